@@ -1,0 +1,7 @@
+-- Entries as bytes.
+use Rattle.fields.specs.Format.{Format, made, ◌then◌}
+use Rattle.fields.specs.Fields.{term}
+use Rattle.machine.specs.declared.entry.Entry.{Entry}
+
+abbrev pub entry : {C : Type 0} → Format C → Format (Entry C)
+entry commands = made (λ p. record { term = p.0; command = p.1 }) (λ e. (e.term, e.command)) (term then commands)

@@ -1,0 +1,7 @@
+pub mod Meaning
+pub mod After
+pub mod TallyState
+pub mod Tally
+pub mod TallyLaws
+pub mod Entries
+pub mod EntryLaws

@@ -1,0 +1,140 @@
+ghost use Rattle.machine.specs.Tally.{tally, tally_command, tally_meaning};
+ghost use Rattle.machine.specs.TallyLaws.{tally_is_lawful, tally_command_lawful, tally_lawful};
+
+use crate::amount::Amount;
+use crate::machine::Machine;
+use fields::{Field, read_index, read_u8, read_whole, write, write_index, write_u8};
+use rows::{Index, NoMemory, Refusal};
+use std::alloc::Global;
+use std::marker::Model;
+
+/// How many commands were applied, and their sum, at most 1,000.
+#[derive(Drop)]
+pub struct Tally {
+    count: Index,
+    sum: Amount,
+}
+
+impl Model for Tally {
+    ghost use Rattle.std.specs.Prelude.{◌<◌, ◌≤◌, ◌^◌};
+    ghost use Rattle.machine.specs.TallyState.{TallyState};
+
+    ghost Value = { TallyState };
+
+    ghost view = { λ t. record { count = t.count; sum = t.sum } };
+
+    ghost invariant = { λ t. (t.count < 2 ^ 40) × (t.sum ≤ 1000) };
+}
+
+#[derive(Drop)]
+pub enum TallyCommand {
+    Noop,
+    Add(Amount),
+}
+
+impl Field for Tally {
+    ghost format = { tally };
+
+    ghost lawful = { tally_is_lawful };
+
+    fn read_at(alloc: Global, bytes: &[u8], at: usize) -> Result<(Tally, usize), Refusal> {
+        let (count, at) = read_index(bytes, at)?;
+        let (sum, at) = Amount::read_at(alloc, bytes, at)?;
+        Ok((Tally { count, sum }, at))
+    }
+
+    fn append(&self, out: &mut Vec<u8>) -> Result<(), NoMemory> {
+        write_index(&self.count, out)?;
+        self.sum.append(out)
+    }
+}
+
+impl Field for TallyCommand {
+    ghost format = { tally_command };
+
+    ghost lawful = { tally_command_lawful };
+
+    fn read_at(alloc: Global, bytes: &[u8], at: usize) -> Result<(TallyCommand, usize), Refusal> {
+        let (tag, next) = read_u8(bytes, at)?;
+        match tag {
+            0 => Ok((TallyCommand::Noop, next)),
+            1 => {
+                let (amount, next) = Amount::read_at(alloc, bytes, next)?;
+                Ok((TallyCommand::Add(amount), next))
+            }
+            _ => Err(Refusal::Frame(at)),
+        }
+    }
+
+    fn append(&self, out: &mut Vec<u8>) -> Result<(), NoMemory> {
+        match self {
+            TallyCommand::Noop => write_u8(&0, out),
+            TallyCommand::Add(amount) => {
+                write_u8(&1, out)?;
+                amount.append(out)
+            }
+        }
+    }
+}
+
+impl Machine for Tally {
+    type Command = TallyCommand;
+
+    ghost meaning = { tally_meaning };
+
+    ghost lawful = { tally_lawful };
+
+    fn empty(_alloc: Global) -> Tally {
+        Tally {
+            count: Index::ZERO,
+            sum: Amount::ZERO,
+        }
+    }
+
+    fn noop() -> TallyCommand {
+        TallyCommand::Noop
+    }
+
+    fn count(&self) -> u64 {
+        self.count.get()
+    }
+
+    fn apply(&mut self, command: &TallyCommand) -> Result<(), NoMemory> {
+        self.count = self.count.next();
+        if let TallyCommand::Add(amount) = command {
+            if let Some(sum) = Amount::new(self.sum.get() + amount.get()) {
+                self.sum = sum;
+            }
+        }
+        Ok(())
+    }
+
+    fn admits(&self, command: &TallyCommand) -> Result<Option<Refusal>, NoMemory> {
+        match command {
+            TallyCommand::Noop => Ok(None),
+            TallyCommand::Add(amount) => {
+                if self.sum.get() + amount.get() <= Amount::MOST {
+                    Ok(None)
+                } else {
+                    Ok(Some(Refusal::OutOfRange))
+                }
+            }
+        }
+    }
+
+    fn save(&self, out: &mut Vec<u8>) -> Result<(), NoMemory> {
+        write(self, out)
+    }
+
+    fn load(alloc: Global, bytes: &[u8]) -> Result<Tally, Refusal> {
+        read_whole(alloc, bytes)
+    }
+
+    fn write_command(command: &TallyCommand, out: &mut Vec<u8>) -> Result<(), NoMemory> {
+        write(command, out)
+    }
+
+    fn read_command(alloc: Global, bytes: &[u8]) -> Result<(TallyCommand, usize), Refusal> {
+        TallyCommand::read_at(alloc, bytes, 0)
+    }
+}
