@@ -1,0 +1,195 @@
+-- Servers, and what one input does to one of them.
+use Rattle.std.specs.Prelude.{ℕ, zero, suc, ◌+◌, ◌-◌, max, min, Bool, true, false, ◌&&◌, ◌||◌, ◌==◌, nat_lt, nat_le, if◌then◌else◌, Option, Some, None, List, [], ◌∷◌, ◌++◌, length, take, drop, replicate, slice_set}
+use Rattle.machine.specs.declared.entry.Entry.{Entry}
+use Rattle.raft_model.specs.Logs.{term_at, last_term, has, merge, install}
+use Rattle.raft_model.specs.Quorums.{is_quorum, marked, number}
+use Rattle.raft_model.specs.Messages.{Message, Body, VoteRequest, Append, AppendReply, Install, to_others}
+
+-- What a server is doing. Lists are by server number: whose vote a candidate has; for each server the index that a leader
+-- sends next, and the last one that it is known to hold (a leader's own places in them are never asked).
+pub data Mode : Type 0 where
+  Down : Mode
+  Follower : Mode
+  Candidate : (votes : List Bool) → Mode
+  Leader : (next match : List ℕ) → Mode
+
+-- Term, vote, log and the number of first entries that the snapshot covers are stored. The rest is lost in a crash: a server
+-- that is down has what a restart begins with.
+pub record Server (C : Type 0) : Type 0 where
+  pub term : ℕ
+  pub vote : Option ℕ
+  pub log : List (Entry C)
+  pub covered : ℕ
+  pub commit : ℕ
+  pub known : Option ℕ
+  pub mode : Mode
+
+-- a server before its first input: up, in term 0, with an empty log
+abbrev pub newcomer : {C : Type 0} → Server C
+newcomer = record { term = 0; vote = None; log = []; covered = 0; commit = 0; known = None; mode = Follower }
+
+abbrev pub is_up : Mode → Bool
+is_up Down = false
+is_up Follower = true
+is_up (Candidate votes) = true
+is_up (Leader next match) = true
+
+abbrev pub is_leader : Mode → Bool
+is_leader Down = false
+is_leader Follower = false
+is_leader (Candidate votes) = false
+is_leader (Leader next match) = true
+
+-- a server, and the messages that it sends
+pub record Turn (C : Type 0) : Type 0 where
+  pub server : Server C
+  pub sent : List (Message C)
+
+abbrev pub silent : {C : Type 0} → Server C → Turn C
+silent s = record { server = s; sent = [] }
+
+abbrev pub reply : {C : Type 0} → ℕ → Server C → ℕ → Body C → Turn C
+reply me s to body = record { server = s; sent = record { from = me; to = to; term = s.term; body = body } ∷ [] }
+
+-- A greater term makes the receiver a follower of that term, without a vote or a known leader.
+abbrev pub met : {C : Type 0} → ℕ → Server C → Server C
+met term s = if nat_lt s.term term then record s { term = term; vote = None; known = None; mode = Follower } else s
+
+-- Timeout: the server stands in the next term, with its own vote, and asks all others.
+abbrev pub stood : {C : Type 0} → ℕ → ℕ → Server C → Server C
+stood n me s = record s { term = suc s.term; vote = Some me; known = None; mode = Candidate (slice_set (replicate n false) me true) }
+
+abbrev pub vote_request : {C : Type 0} → ℕ → Server C → ℕ → Message C
+vote_request me s to = record { from = me; to = to; term = s.term; body = VoteRequest (length s.log) (last_term s.log) }
+
+-- A vote is granted in the voter's own term, where it is free or this candidate's already, and the candidate's log ends in
+-- a greater term, or in the same one and is no shorter.
+abbrev pub is_free_for : Option ℕ → ℕ → Bool
+is_free_for None c = true
+is_free_for (Some v) c = v == c
+
+abbrev pub is_up_to_date : {C : Type 0} → List (Entry C) → ℕ → ℕ → Bool
+is_up_to_date log index term = nat_lt (last_term log) term || ((last_term log == term) && nat_le (length log) index)
+
+abbrev pub grants : {C : Type 0} → Server C → ℕ → ℕ → ℕ → ℕ → Bool
+grants s from term index its_last = (term == s.term) && (is_free_for s.vote from && is_up_to_date s.log index its_last)
+
+abbrev pub granted : {C : Type 0} → Server C → ℕ → Bool → Server C
+granted s from true = record s { vote = Some from }
+granted s from false = s
+
+-- A candidate with a quorum's votes leads: it appends a no-op of its term, and sends nothing yet.
+abbrev pub won : {C : Type 0} → C → ℕ → Server C → Server C
+won noop n s = record s {
+  log = s.log ++ record { term = s.term; command = noop } ∷ [];
+  mode = Leader (replicate n (suc (length s.log))) (replicate n 0);
+}
+
+abbrev pub with_votes : {C : Type 0} → C → ℕ → Server C → List Bool → Server C
+with_votes noop n s votes = if is_quorum n (marked votes) then won noop n s else record s { mode = Candidate votes }
+
+abbrev pub counted : {C : Type 0} → C → ℕ → Server C → ℕ → Mode → Server C
+counted noop n s from Down = s
+counted noop n s from Follower = s
+counted noop n s from (Candidate votes) = with_votes noop n s (slice_set votes from true)
+counted noop n s from (Leader next match) = s
+
+-- An Append or Install of its own term: the server follows the sender.
+abbrev pub following : {C : Type 0} → Server C → ℕ → Server C
+following s from = record s { known = Some from; mode = Follower }
+
+-- Append. What stands at or below commit counts as held with the right term.
+abbrev pub is_held : {C : Type 0} → Server C → ℕ → ℕ → Bool
+is_held s prev prev_term = nat_le prev s.commit || has s.log prev prev_term
+
+abbrev pub appended : {C : Type 0} → Server C → ℕ → ℕ → List (Entry C) → Server C
+appended s prev commit entries = record s {
+  log = merge s.commit prev s.log entries;
+  commit = max s.commit (min commit (prev + length entries));
+}
+
+abbrev pub follows_append : {C : Type 0} → ℕ → Server C → ℕ → ℕ → ℕ → ℕ → List (Entry C) → Turn C
+follows_append me s from prev prev_term commit entries =
+    if is_held s prev prev_term
+    then reply me (appended s prev commit entries) from (AppendReply s.term true (prev + length entries))
+    else reply me s from (AppendReply s.term false (min (prev - 1) (length s.log)))
+
+-- Install. At or below commit there is nothing to take over.
+abbrev pub installed : {C : Type 0} → Server C → List (Entry C) → Server C
+installed s P =
+    if nat_le (length P) s.commit
+    then s
+    else record s { log = install s.log P; covered = length P; commit = length P }
+
+-- A leader hears that server j holds its log up to `at`, or refuses. What is past its last entry counts for nothing.
+abbrev pub acked : {C : Type 0} → Server C → ℕ → ℕ → List ℕ → List ℕ → Server C
+acked s j at next match =
+    if nat_le at (length s.log)
+    then record s { mode = Leader (slice_set next j (suc (max (number match j) at))) (slice_set match j (max (number match j) at)) }
+    else s
+
+abbrev pub backed : {C : Type 0} → Server C → ℕ → ℕ → List ℕ → List ℕ → Server C
+backed s j at next match = record s {
+  mode = Leader (slice_set next j (max (suc (number match j)) (min (number next j - 1) (suc at)))) match;
+}
+
+-- Commit rises to the greatest index with an entry of the own term that a quorum holds; the leader holds all of its log.
+abbrev pub is_chosen : {C : Type 0} → ℕ → ℕ → Server C → List ℕ → ℕ → Bool
+is_chosen n me s match k = (term_at s.log k == s.term) && is_quorum n (λ j. (j == me) || nat_le k (number match j))
+
+-- the greatest number above `low` and up to `high` that passes, or `low`
+unfoldable pub greatest : (ℕ → Bool) → ℕ → ℕ → ℕ
+greatest test low zero = low
+greatest test low (suc high) = if nat_lt low (suc high) && test (suc high) then suc high else greatest test low high
+
+abbrev pub advanced_in : {C : Type 0} → ℕ → ℕ → Server C → Mode → Server C
+advanced_in n me s Down = s
+advanced_in n me s Follower = s
+advanced_in n me s (Candidate votes) = s
+advanced_in n me s (Leader next match) = record s { commit = greatest (is_chosen n me s match) s.commit (length s.log) }
+
+abbrev pub advanced : {C : Type 0} → ℕ → ℕ → Server C → Server C
+advanced n me s = advanced_in n me s s.mode
+
+abbrev pub hears_ok : {C : Type 0} → ℕ → ℕ → Server C → ℕ → ℕ → Mode → Server C
+hears_ok n me s j at Down = s
+hears_ok n me s j at Follower = s
+hears_ok n me s j at (Candidate votes) = s
+hears_ok n me s j at (Leader next match) = advanced n me (acked s j at next match)
+
+abbrev pub hears_refusal : {C : Type 0} → ℕ → ℕ → Server C → ℕ → ℕ → Mode → Server C
+hears_refusal n me s j at Down = s
+hears_refusal n me s j at Follower = s
+hears_refusal n me s j at (Candidate votes) = s
+hears_refusal n me s j at (Leader next match) = advanced n me (backed s j at next match)
+
+-- Beat: an Install of the base to a server that lacks some of it, else an Append of at most 32 entries.
+abbrev pub beat_body : {C : Type 0} → Server C → ℕ → Body C
+beat_body s next =
+    if nat_le next s.covered
+    then Install (take s.covered s.log)
+    else Append (next - 1) (term_at s.log (next - 1)) s.commit (take 32 (drop (next - 1) s.log))
+
+abbrev pub beat_message : {C : Type 0} → ℕ → Server C → List ℕ → ℕ → Message C
+beat_message me s next to = record { from = me; to = to; term = s.term; body = beat_body s (number next to) }
+
+abbrev pub beats : {C : Type 0} → ℕ → ℕ → Server C → Mode → List (Message C)
+beats n me s Down = []
+beats n me s Follower = []
+beats n me s (Candidate votes) = []
+beats n me s (Leader next match) = to_others me (beat_message me s next) n
+
+-- A crash keeps what is stored.
+abbrev pub crashed : {C : Type 0} → Server C → Server C
+crashed s = record s { commit = s.covered; known = None; mode = Down }
+
+abbrev pub restarted : {C : Type 0} → Server C → Server C
+restarted s = record s { commit = s.covered; known = None; mode = Follower }
+
+-- Compact: the snapshot covers all that is applied.
+abbrev pub compacted : {C : Type 0} → Server C → Server C
+compacted s = record s { covered = s.commit }
+
+-- a leader's log grows by a command
+abbrev pub extended : {C : Type 0} → Server C → C → Server C
+extended s command = record s { log = s.log ++ record { term = s.term; command = command } ∷ [] }

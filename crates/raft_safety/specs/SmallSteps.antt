@@ -1,0 +1,80 @@
+-- Each event is a few small steps of one server in a row. What a run keeps is proved for each of these.
+use Rattle.std.specs.Prelude.{◌≡◌, ℕ, ◌+◌, ◌<◌, Bool, true, false, Some, None, List, [], ◌∷◌, length, slice_get, slice_set}
+use Rattle.machine.specs.Meaning.{Meaning}
+use Rattle.machine.specs.declared.entry.Entry.{Entry}
+use Rattle.raft_model.specs.Logs.{MAX}
+use Rattle.raft_model.specs.Quorums.{is_quorum, marked}
+use Rattle.raft_model.specs.Messages.{Message, Body, VoteRequest, VoteReply, Append, AppendReply, Install, InstallReply, to_others}
+use Rattle.raft_model.specs.Servers.{Server, Mode, Down, Follower, Candidate, Leader, is_up, stood, vote_request, is_free_for, is_up_to_date, won, following, is_held, appended, installed, acked, backed, is_chosen, greatest, beat_message, compacted, extended}
+use Rattle.raft_model.specs.Steps.{admitted}
+
+-- replies that refuse: they promise nothing
+abbrev pub OwesNothing : {C : Type 0} → Body C → Type 0
+OwesNothing (VoteRequest index term) = ⊥
+OwesNothing (VoteReply asked true) = ⊥
+OwesNothing (VoteReply asked false) = Unit {0}
+OwesNothing (Append prev prev_term commit entries) = ⊥
+OwesNothing (AppendReply asked true at) = ⊥
+OwesNothing (AppendReply asked false at) = Unit {0}
+OwesNothing (Install covered) = ⊥
+OwesNothing (InstallReply asked at) = at ≡ 0
+
+-- replies that say that the log is held up to `at`
+abbrev pub IsAck : {C : Type 0} → Body C → ℕ → ℕ → Type 0
+IsAck (VoteRequest index term) asked at = ⊥
+IsAck (VoteReply answered granted) asked at = ⊥
+IsAck (Append prev prev_term commit entries) asked at = ⊥
+IsAck (AppendReply answered true place) asked at = (answered ≡ asked) × (place ≡ at)
+IsAck (AppendReply answered false place) asked at = ⊥
+IsAck (Install covered) asked at = ⊥
+IsAck (InstallReply answered place) asked at = (answered ≡ asked) × (place ≡ at)
+
+-- modes in which nothing volatile is known
+abbrev pub IsIdle : Mode → Type 0
+IsIdle Down = Unit {0}
+IsIdle Follower = Unit {0}
+IsIdle (Candidate votes) = ⊥
+IsIdle (Leader next match) = ⊥
+
+-- a message that was sent
+abbrev pub Came : {C : Type 0} → List (Message C) → Message C → Type 0
+Came sent message = (k : ℕ) × (slice_get sent k ≡ Some message)
+
+module _ {S C : Type 0} (m : Meaning S C) (n i : ℕ) (sent : List (Message C)) where
+  -- server i goes from s to t, and says `out`
+  pub data Small (s t : Server C) (out : List (Message C)) : Type 0 where
+    raises : (term : ℕ) → s.term < term → t ≡ record s { term = term; vote = None; known = None; mode = Follower } → out ≡ [] → Small s t out
+    stands : s.term < MAX → length s.log < MAX → t ≡ stood n i s → out ≡ to_others i (vote_request i (stood n i s)) n → Small s t out
+    grants_vote : (from index its_last : ℕ) → Came sent (record { from = from; to = i; term = s.term; body = VoteRequest index its_last }) →
+        is_free_for s.vote from ≡ true → is_up_to_date s.log index its_last ≡ true → t ≡ record s { vote = Some from } →
+        out ≡ record { from = i; to = from; term = s.term; body = VoteReply s.term true } ∷ [] → Small s t out
+    refuses : (message : Message C) → OwesNothing message.body → t ≡ s → out ≡ message ∷ [] → Small s t out
+    counts : (votes : List Bool) (from term : ℕ) → from < n → Came sent (record { from = from; to = i; term = term; body = VoteReply s.term true }) →
+        s.mode ≡ Candidate votes → t ≡ record s { mode = Candidate (slice_set votes from true) } → out ≡ [] → Small s t out
+    wins : (votes : List Bool) → s.mode ≡ Candidate votes → is_quorum n (marked votes) ≡ true → t ≡ won m.noop n s → out ≡ [] → Small s t out
+    extends : (next match : List ℕ) (command : C) → m.commands.Fits command → s.mode ≡ Leader next match → admitted m s command ≡ None → t ≡ extended s command → out ≡ [] → Small s t out
+    follows : (from : ℕ) → t ≡ following s from → out ≡ [] → Small s t out
+    takes_append : (from prev prev_term commit : ℕ) (entries : List (Entry C)) →
+        Came sent (record { from = from; to = i; term = s.term; body = Append prev prev_term commit entries }) → s.mode ≡ Follower →
+        is_held s prev prev_term ≡ true → t ≡ appended s prev commit entries →
+        out ≡ record { from = i; to = from; term = s.term; body = AppendReply s.term true (prev + length entries) } ∷ [] → Small s t out
+    takes_install : (from : ℕ) (P : List (Entry C)) → Came sent (record { from = from; to = i; term = s.term; body = Install P }) → s.mode ≡ Follower →
+        t ≡ installed s P → out ≡ record { from = i; to = from; term = (installed s P).term; body = InstallReply s.term (length P) } ∷ [] → Small s t out
+    acks : (next match : List ℕ) (from term at : ℕ) (body : Body C) → Came sent (record { from = from; to = i; term = term; body = body }) → IsAck body s.term at →
+        s.mode ≡ Leader next match → t ≡ acked s from at next match → out ≡ [] → Small s t out
+    backs : (next match : List ℕ) (from at : ℕ) → s.mode ≡ Leader next match → t ≡ backed s from at next match → out ≡ [] → Small s t out
+    advances : (next match : List ℕ) → s.mode ≡ Leader next match →
+        t ≡ record s { commit = greatest (is_chosen n i s match) s.commit (length s.log) } → out ≡ [] → Small s t out
+    covers : t ≡ compacted s → out ≡ [] → Small s t out
+    beats_all : (next match : List ℕ) → s.mode ≡ Leader next match → t ≡ s → out ≡ to_others i (beat_message i s next) n → Small s t out
+
+  -- small steps in a row, of which the last one speaks
+  pub data Path : Server C → Server C → List (Message C) → Type 0 where
+    still : {s t : Server C} {out : List (Message C)} → t ≡ s → out ≡ [] → Path s t out
+    only : {s t : Server C} {out : List (Message C)} → Small s t out → Path s t out
+    after_one : {s t : Server C} {out : List (Message C)} (r : Server C) → Small s r [] → Path r t out → Path s t out
+
+  -- a server that is up goes a path; or it crashes, or restarts
+  pub data Turns (s t : Server C) (out : List (Message C)) : Type 0 where
+    walks : is_up s.mode ≡ true → Path s t out → Turns s t out
+    resets : (mode : Mode) → IsIdle mode → t ≡ record s { commit = s.covered; known = None; mode = mode } → out ≡ [] → Turns s t out
