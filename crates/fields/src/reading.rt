@@ -1,7 +1,7 @@
 //! Reading a field at a place. A reader answers the value whose text stands there, whatever follows, with the place after
 //! it; else `Frame` with the place of the field. These readers take no memory: they answer no other refusal.
 ghost use Rattle.std.specs.Prelude.{◌≡◌, ◌≤◌, ◌+◌, ◌<◌, length, drop, IfSome, IfNone};
-ghost use Rattle.fields.specs.Format.{GivesExactly};
+ghost use Rattle.fields.specs.Format.{GivesExactly, number};
 ghost use Rattle.fields.specs.Fields.{term, index, server, byte, u16, u32, u64, bool, actor};
 
 use byteorder::{BigEndian, ByteOrder};
@@ -119,5 +119,25 @@ pub fn read_actor(bytes: &[u8], at: usize) -> Result<(Actor, usize), Refusal>
             Some(client) => Ok((Actor::Client(client), next)),
             None => Err(Refusal::Frame(at)),
         }
+    }
+}
+
+/// The count of a list, in one byte. `Frame` names it where it is cut or more than `most`.
+pub(crate) fn read_count(bytes: &[u8], at: usize, most: u8) -> Result<(usize, usize), Refusal>
+    ensures { GivesExactly result ((number 1 0 (most + 1)).read bytes.now at) }
+{
+    match read_u8(bytes, at)? {
+        (count, next) if count <= most => Ok((count as usize, next)),
+        _ => Err(Refusal::Frame(at)),
+    }
+}
+
+/// The count of a list, in four bytes. `Frame` names its first byte where it is cut or more than `most`.
+pub(crate) fn read_long_count(bytes: &[u8], at: usize, most: u32) -> Result<(usize, usize), Refusal>
+    ensures { GivesExactly result ((number 4 0 (most + 1)).read bytes.now at) }
+{
+    match read_u32(bytes, at)? {
+        (count, next) if count <= most => Ok((count as usize, next)),
+        _ => Err(Refusal::Frame(at)),
     }
 }
