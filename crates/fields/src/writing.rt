@@ -52,7 +52,8 @@ pub fn write_u64(value: &u64, out: &mut Vec<u8>) -> Result<(), NoMemory>
 pub fn write_term(value: &Term, out: &mut Vec<u8>) -> Result<(), NoMemory>
     ensures { Writes term value.now result out.old.items out.new.items }
 {
-    write_u64(&value.get(), out)
+    let number = value.get();
+    write_u64(&number, out)
 }
 
 /// A place in the log in eight bytes.
