@@ -1,27 +1,39 @@
 ghost use Rattle.fields.specs.Format.{Format, Gives, Puts, Writes, Lawful, whole};
-ghost use Rattle.fields.specs.Fields.{term, index, server, bool, byte, actor};
-ghost use Rattle.fields.specs.FieldLaws.{term_lawful, index_lawful, server_lawful, bool_lawful, byte_lawful, actor_lawful};
+ghost use Rattle.fields.specs.Fields.{term, index, server, bool, byte, u16, u32, u64, actor};
+ghost use Rattle.fields.specs.FieldLaws.{term_lawful, index_lawful, server_lawful, bool_lawful, byte_lawful, u16_lawful, u32_lawful, u64_lawful, actor_lawful};
 
-use crate::reading::{read_actor, read_bool, read_index, read_server, read_term, read_u8};
-use crate::writing::{write_actor, write_bool, write_index, write_server, write_term, write_u8};
+use crate::reading::{
+    read_actor, read_bool, read_index, read_server, read_term, read_u8, read_u16, read_u32,
+    read_u64,
+};
+use crate::writing::{
+    write_actor, write_bool, write_index, write_server, write_term, write_u8, write_u16, write_u32,
+    write_u64,
+};
 use rows::{Actor, Index, NoMemory, Refusal, ServerId, Term};
 use std::alloc::Global;
 
-/// A type with a format: how a value is read at a place, and how it is written.
+/// A type with a format: how a value is read at a place, and how it is written. The format is lawful: each value has one
+/// text, and each text that is read is the text of its value.
 pub trait Field: Sized + Drop {
+    /// The texts of the values, and how they are read.
     ghost format: { Format Self };
 
+    /// Reads the value whose text stands at a place, whatever follows it, with the place after it. Where none does, `Frame`
+    /// names the first byte of the first field that is cut or out of range. Only a reader that takes memory answers
+    /// `NoMemory`, and none answers another refusal.
     fn read_at(alloc: Global, bytes: &[u8], at: usize) -> Result<(Self, usize), Refusal>
         ensures { Gives result (format.read bytes.now at) };
 
-    /// Puts the text to the end. After an error a part of it may stand there: `write` takes that back.
+    /// Puts the text to the end. After an error a part of a text may stand there: `write` takes that back.
     fn append(&self, out: &mut Vec<u8>) -> Result<(), NoMemory>
         ensures { Puts format self.now result out.old.items out.new.items };
 
+    /// What is read stands there, and what stands there is read.
     ghost lawful: { Lawful format };
 }
 
-/// Reads all of the bytes: one left over is a fault at the first of them.
+/// Reads the value whose text is all of the bytes. Where some are left over, `Frame` names the first of them.
 pub fn read_whole<F: Field>(alloc: Global, bytes: &[u8]) -> Result<F, Refusal>
     ensures { Gives result (whole F.format bytes.now) }
 {
@@ -33,7 +45,7 @@ pub fn read_whole<F: Field>(alloc: Global, bytes: &[u8]) -> Result<F, Refusal>
     }
 }
 
-/// Puts the text to the end, or changes nothing.
+/// Puts the text to the end. Without memory the buffer stays as it was.
 pub fn write<F: Field>(value: &F, out: &mut Vec<u8>) -> Result<(), NoMemory>
     ensures { Writes F.format value.now result out.old.items out.new.items }
 {
@@ -126,5 +138,47 @@ impl Field for Actor {
 
     fn append(&self, out: &mut Vec<u8>) -> Result<(), NoMemory> {
         write_actor(self, out)
+    }
+}
+
+impl Field for u16 {
+    ghost format = { u16 };
+
+    ghost lawful = { u16_lawful };
+
+    fn read_at(_alloc: Global, bytes: &[u8], at: usize) -> Result<(u16, usize), Refusal> {
+        read_u16(bytes, at)
+    }
+
+    fn append(&self, out: &mut Vec<u8>) -> Result<(), NoMemory> {
+        write_u16(self, out)
+    }
+}
+
+impl Field for u32 {
+    ghost format = { u32 };
+
+    ghost lawful = { u32_lawful };
+
+    fn read_at(_alloc: Global, bytes: &[u8], at: usize) -> Result<(u32, usize), Refusal> {
+        read_u32(bytes, at)
+    }
+
+    fn append(&self, out: &mut Vec<u8>) -> Result<(), NoMemory> {
+        write_u32(self, out)
+    }
+}
+
+impl Field for u64 {
+    ghost format = { u64 };
+
+    ghost lawful = { u64_lawful };
+
+    fn read_at(_alloc: Global, bytes: &[u8], at: usize) -> Result<(u64, usize), Refusal> {
+        read_u64(bytes, at)
+    }
+
+    fn append(&self, out: &mut Vec<u8>) -> Result<(), NoMemory> {
+        write_u64(self, out)
     }
 }

@@ -1,14 +1,15 @@
-//! Lists and options of any field.
+//! Lists and options of any field. A list is its count, in one byte or in four, and then its items; an option is a flag, and
+//! the value where there is one.
 ghost use Rattle.std.specs.Prelude.{length, ◌≤◌};
 ghost use Rattle.fields.specs.Format.{Gives, Puts, items_at, items, list, option};
 
 use crate::field::Field;
-use crate::reading::{read_bool, read_u8};
-use crate::writing::write_u8;
+use crate::reading::{read_bool, read_count, read_long_count};
+use crate::writing::{write_u8, write_u32};
 use rows::{NoMemory, Refusal, Sequence};
 use std::alloc::Global;
 
-/// So many values, one after the other.
+/// So many values, one after the other. `Frame` names the first field of an item that is at fault.
 pub fn read_items<F: Field>(
     alloc: Global,
     bytes: &[u8],
@@ -27,7 +28,7 @@ pub fn read_items<F: Field>(
     Ok((Sequence::from_vec(items), at))
 }
 
-/// A count of one byte, at most so many, and that many values.
+/// A count of one byte, and that many values. A count of more than `most` is a fault at the count.
 pub fn read_list<F: Field>(
     alloc: Global,
     bytes: &[u8],
@@ -36,14 +37,24 @@ pub fn read_list<F: Field>(
 ) -> Result<(Sequence<F>, usize), Refusal>
     ensures { Gives result ((list 1 most F.format).read bytes.now at) }
 {
-    let (count, next) = read_u8(bytes, at)?;
-    if count > most {
-        return Err(Refusal::Frame(at));
-    }
-    read_items(alloc, bytes, next, count as usize)
+    let (count, next) = read_count(bytes, at, most)?;
+    read_items(alloc, bytes, next, count)
 }
 
-/// A flag, and the value where there is one.
+/// A count of four bytes, and that many values. A count of more than `most` is a fault at the count.
+pub fn read_long_list<F: Field>(
+    alloc: Global,
+    bytes: &[u8],
+    at: usize,
+    most: u32,
+) -> Result<(Sequence<F>, usize), Refusal>
+    ensures { Gives result ((list 4 most F.format).read bytes.now at) }
+{
+    let (count, next) = read_long_count(bytes, at, most)?;
+    read_items(alloc, bytes, next, count)
+}
+
+/// A flag, 0 for none or 1, and the value where there is one.
 pub fn read_option<F: Field>(
     alloc: Global,
     bytes: &[u8],
@@ -60,7 +71,7 @@ pub fn read_option<F: Field>(
     }
 }
 
-/// Puts the values, one after the other.
+/// Puts the values to the end, one after the other. Without memory some of them may stand there.
 pub fn append_items<F: Field>(values: &[F], out: &mut Vec<u8>) -> Result<(), NoMemory>
     ensures { Puts (items (length values.now) F.format) values.now result out.old.items out.new.items }
 {
@@ -70,7 +81,8 @@ pub fn append_items<F: Field>(values: &[F], out: &mut Vec<u8>) -> Result<(), NoM
     Ok(())
 }
 
-/// Puts their count in one byte, and the values.
+/// Puts the count in one byte to the end, and the values: at most `most` of them. Without memory a part of this may stand
+/// there.
 pub fn append_list<F: Field>(
     values: &Sequence<F>,
     most: u8,
@@ -81,5 +93,20 @@ pub fn append_list<F: Field>(
 {
     let values = values.as_slice();
     write_u8(&(values.len() as u8), out)?;
+    append_items(values, out)
+}
+
+/// Puts the count in four bytes to the end, and the values: at most `most` of them. Without memory a part of this may stand
+/// there.
+pub fn append_long_list<F: Field>(
+    values: &Sequence<F>,
+    most: u32,
+    out: &mut Vec<u8>,
+) -> Result<(), NoMemory>
+    requires { length values.now ≤ most }
+    ensures { Puts (list 4 most F.format) values.now result out.old.items out.new.items }
+{
+    let values = values.as_slice();
+    write_u32(&(values.len() as u32), out)?;
     append_items(values, out)
 }

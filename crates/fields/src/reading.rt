@@ -1,6 +1,8 @@
+//! Reading a field at a place. A reader answers the value whose text stands there, whatever follows, with the place after
+//! it; else `Frame` with the place of the field. These readers take no memory: they answer no other refusal.
 ghost use Rattle.std.specs.Prelude.{◌≡◌, ◌≤◌, ◌+◌, ◌<◌, length, drop, IfSome, IfNone};
-ghost use Rattle.fields.specs.Format.{GivesExactly};
-ghost use Rattle.fields.specs.Fields.{term, index, server, byte, bool, actor};
+ghost use Rattle.fields.specs.Format.{GivesExactly, number};
+ghost use Rattle.fields.specs.Fields.{term, index, server, byte, u16, u32, u64, bool, actor};
 
 use byteorder::{BigEndian, ByteOrder};
 use rows::{Actor, ClientId, Index, Refusal, ServerId, Term};
@@ -17,6 +19,7 @@ fn rest_of(bytes: &[u8], at: usize, count: usize) -> Option<&[u8]>
     }
 }
 
+/// A number of one byte. `Frame` names its place where it is cut.
 pub fn read_u8(bytes: &[u8], at: usize) -> Result<(u8, usize), Refusal>
     ensures { GivesExactly result (byte.read bytes.now at) }
 {
@@ -26,30 +29,59 @@ pub fn read_u8(bytes: &[u8], at: usize) -> Result<(u8, usize), Refusal>
     }
 }
 
+/// A number of two bytes, the highest first. `Frame` names its place where it is cut.
+pub fn read_u16(bytes: &[u8], at: usize) -> Result<(u16, usize), Refusal>
+    ensures { GivesExactly result (u16.read bytes.now at) }
+{
+    match rest_of(bytes, at, 2) {
+        Some(rest) => Ok((BigEndian::read_u16(rest), at + 2)),
+        None => Err(Refusal::Frame(at)),
+    }
+}
+
+/// A number of four bytes, the highest first. `Frame` names its place where it is cut.
+pub fn read_u32(bytes: &[u8], at: usize) -> Result<(u32, usize), Refusal>
+    ensures { GivesExactly result (u32.read bytes.now at) }
+{
+    match rest_of(bytes, at, 4) {
+        Some(rest) => Ok((BigEndian::read_u32(rest), at + 4)),
+        None => Err(Refusal::Frame(at)),
+    }
+}
+
+/// A number of eight bytes, the highest first. `Frame` names its place where it is cut.
+pub fn read_u64(bytes: &[u8], at: usize) -> Result<(u64, usize), Refusal>
+    ensures { GivesExactly result (u64.read bytes.now at) }
+{
+    match rest_of(bytes, at, 8) {
+        Some(rest) => Ok((BigEndian::read_u64(rest), at + 8)),
+        None => Err(Refusal::Frame(at)),
+    }
+}
+
+/// A term: eight bytes, below 2^40. `Frame` names its first byte where it is cut or out of range.
 pub fn read_term(bytes: &[u8], at: usize) -> Result<(Term, usize), Refusal>
     ensures { GivesExactly result (term.read bytes.now at) }
 {
-    let Some(rest) = rest_of(bytes, at, 8) else {
-        return Err(Refusal::Frame(at));
-    };
-    match Term::new(BigEndian::read_u64(rest)) {
-        Some(term) => Ok((term, at + 8)),
+    let (number, next) = read_u64(bytes, at)?;
+    match Term::new(number) {
+        Some(term) => Ok((term, next)),
         None => Err(Refusal::Frame(at)),
     }
 }
 
+/// A place in the log: eight bytes, below 2^40. `Frame` names its first byte where it is cut or out of range.
 pub fn read_index(bytes: &[u8], at: usize) -> Result<(Index, usize), Refusal>
     ensures { GivesExactly result (index.read bytes.now at) }
 {
-    let Some(rest) = rest_of(bytes, at, 8) else {
-        return Err(Refusal::Frame(at));
-    };
-    match Index::new(BigEndian::read_u64(rest)) {
-        Some(index) => Ok((index, at + 8)),
+    let (number, next) = read_u64(bytes, at)?;
+    match Index::new(number) {
+        Some(index) => Ok((index, next)),
         None => Err(Refusal::Frame(at)),
     }
 }
 
+/// A server: one byte, its number from 1 to 5. `Frame` names it where it is cut or out of range.
 pub fn read_server(bytes: &[u8], at: usize) -> Result<(ServerId, usize), Refusal>
     ensures { GivesExactly result (server.read bytes.now at) }
 {
@@ -60,6 +92,7 @@ pub fn read_server(bytes: &[u8], at: usize) -> Result<(ServerId, usize), Refusal
     }
 }
 
+/// A flag: one byte, 0 or 1. `Frame` names it where it is cut or another number.
 pub fn read_bool(bytes: &[u8], at: usize) -> Result<(bool, usize), Refusal>
     ensures { GivesExactly result (bool.read bytes.now at) }
 {
@@ -70,7 +103,8 @@ pub fn read_bool(bytes: &[u8], at: usize) -> Result<(bool, usize), Refusal>
     }
 }
 
-/// An actor's byte: a server is its number, and a client is 128 more than its own.
+/// An actor: one byte, from 1 to 5 for the server of that number, or 128 more than its number for a client, 129 to 192.
+/// `Frame` names it where it is cut or another number.
 pub fn read_actor(bytes: &[u8], at: usize) -> Result<(Actor, usize), Refusal>
     ensures { GivesExactly result (actor.read bytes.now at) }
 {
@@ -85,5 +119,25 @@ pub fn read_actor(bytes: &[u8], at: usize) -> Result<(Actor, usize), Refusal>
             Some(client) => Ok((Actor::Client(client), next)),
             None => Err(Refusal::Frame(at)),
         }
+    }
+}
+
+/// The count of a list, in one byte. `Frame` names it where it is cut or more than `most`.
+pub(crate) fn read_count(bytes: &[u8], at: usize, most: u8) -> Result<(usize, usize), Refusal>
+    ensures { GivesExactly result ((number 1 0 (most + 1)).read bytes.now at) }
+{
+    match read_u8(bytes, at)? {
+        (count, next) if count <= most => Ok((count as usize, next)),
+        _ => Err(Refusal::Frame(at)),
+    }
+}
+
+/// The count of a list, in four bytes. `Frame` names its first byte where it is cut or more than `most`.
+pub(crate) fn read_long_count(bytes: &[u8], at: usize, most: u32) -> Result<(usize, usize), Refusal>
+    ensures { GivesExactly result ((number 4 0 (most + 1)).read bytes.now at) }
+{
+    match read_u32(bytes, at)? {
+        (count, next) if count <= most => Ok((count as usize, next)),
+        _ => Err(Refusal::Frame(at)),
     }
 }

@@ -1,21 +1,24 @@
-//! Lists that keep a rule, as an order.
+//! Lists that keep a rule, as an order or that there are no doubles.
 ghost use Rattle.std.specs.Prelude.{◌≡◌, List, [], Bool};
 ghost use Rattle.fields.specs.Format.{Gives, ruled_at, ruled_list};
 
 use crate::field::Field;
-use crate::reading::read_u8;
+use crate::reading::{read_count, read_long_count};
 use rows::{Refusal, Sequence};
 use std::alloc::Global;
 
-/// A type whose lists keep a rule, as an order: which value may stand behind which others.
+/// A type whose lists keep a rule, as an order or that there are no doubles: which value may stand behind which others.
 pub trait Ruled: Sized {
+    /// Whether a value may stand behind those before it.
     ghost rule: { List Self → Self → Bool };
 
+    /// Whether this value may stand behind those before it.
     fn may_follow(&self, front: &[Self]) -> bool
         ensures { result ≡ rule front.now self.now };
 }
 
-/// So many values that keep their rule: one that does not is a fault at its first byte.
+/// So many values that keep their rule. One that does not is a fault at its first byte, found once its fields have been
+/// read.
 pub fn read_ruled_items<F: Field + Ruled>(
     alloc: Global,
     bytes: &[u8],
@@ -37,7 +40,7 @@ pub fn read_ruled_items<F: Field + Ruled>(
     Ok((Sequence::from_vec(items), at))
 }
 
-/// A count of one byte, at most so many, and that many values that keep their rule.
+/// A count of one byte, and that many values that keep their rule. A count of more than `most` is a fault at the count.
 pub fn read_ruled_list<F: Field + Ruled>(
     alloc: Global,
     bytes: &[u8],
@@ -46,9 +49,19 @@ pub fn read_ruled_list<F: Field + Ruled>(
 ) -> Result<(Sequence<F>, usize), Refusal>
     ensures { Gives result ((ruled_list 1 most F.rule F.format).read bytes.now at) }
 {
-    let (count, next) = read_u8(bytes, at)?;
-    if count > most {
-        return Err(Refusal::Frame(at));
-    }
-    read_ruled_items(alloc, bytes, next, count as usize)
+    let (count, next) = read_count(bytes, at, most)?;
+    read_ruled_items(alloc, bytes, next, count)
+}
+
+/// A count of four bytes, and that many values that keep their rule. A count of more than `most` is a fault at the count.
+pub fn read_long_ruled_list<F: Field + Ruled>(
+    alloc: Global,
+    bytes: &[u8],
+    at: usize,
+    most: u32,
+) -> Result<(Sequence<F>, usize), Refusal>
+    ensures { Gives result ((ruled_list 4 most F.rule F.format).read bytes.now at) }
+{
+    let (count, next) = read_long_count(bytes, at, most)?;
+    read_ruled_items(alloc, bytes, next, count)
 }

@@ -1,4 +1,4 @@
--- Entries as bytes.
+-- Entries as bytes: the term in eight bytes, and then the command.
 use Rattle.fields.specs.Format.{Format, made, ◌then◌}
 use Rattle.fields.specs.Fields.{term}
 use Rattle.machine.specs.declared.entry.Entry.{Entry}

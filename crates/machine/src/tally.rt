@@ -1,3 +1,4 @@
+ghost use Rattle.std.specs.Prelude.{◌≡◌, ◌≤◌};
 ghost use Rattle.machine.specs.Tally.{tally, tally_command, tally_meaning};
 ghost use Rattle.machine.specs.TallyLaws.{tally_is_lawful, tally_command_lawful, tally_lawful};
 
@@ -8,7 +9,7 @@ use rows::{Index, NoMemory, Refusal};
 use std::alloc::Global;
 use std::marker::Model;
 
-/// How many commands were applied, and their sum, at most 1,000.
+/// A small machine: how many commands were applied, below 2^40, and a sum of at most 1,000. Contracts see the two numbers.
 #[derive(Drop)]
 pub struct Tally {
     count: Index,
@@ -26,12 +27,27 @@ impl Model for Tally {
     ghost invariant = { λ t. (t.count < 2 ^ 40) × (t.sum ≤ 1000) };
 }
 
+/// What moves a tally. Each command adds one to the count.
 #[derive(Drop)]
 pub enum TallyCommand {
+    /// Leaves the sum.
     Noop,
+    /// Adds the amount to the sum. A state whose sum would pass 1,000 refuses it with `OutOfRange`; applied all the same, it
+    /// leaves the sum.
     Add(Amount),
 }
 
+impl Tally {
+    /// The sum of the amounts that were added, at most 1,000.
+    pub fn sum(&self) -> u16
+        ensures value { result ≡ self.now.sum }
+        ensures limit { result ≤ 1000 }
+    {
+        self.sum.get()
+    }
+}
+
+/// The count in eight bytes, and then the sum in two.
 impl Field for Tally {
     ghost format = { tally };
 
@@ -49,6 +65,7 @@ impl Field for Tally {
     }
 }
 
+/// A tag in one byte, 0 for the no-op, or 1 and then the amount in two.
 impl Field for TallyCommand {
     ghost format = { tally_command };
 

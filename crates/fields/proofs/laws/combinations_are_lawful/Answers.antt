@@ -1,0 +1,24 @@
+use Rattle.std.proofs.Common.{arith}
+use Rattle.fields.specs.FormatLaws.{number_lawful, string_lawful, then_lawful, depends_lawful, made_lawful, coded_lawful, kept_lawful, choice_lawful, variant_choice, no_choice, one_field_lawful, placed_lawful}
+use Rattle.fields.proofs.laws.combinations_are_lawful.Goals as goal
+
+pub returns : goal.returns
+returns g c =
+    let f = g.F.Field.format in
+    let lf = g.met.F.Field.lawful in
+    let h = g.G.Field.format in
+    let lh = g.met.G.Field.lawful in
+    record {
+      number = number_lawful;
+      string = string_lawful;
+      in_a_row = then_lawful f h lf lh;
+      dependent = λ n low limit some wide. depends_lawful f n _ lf (λ a fits. number_lawful n (low a) (limit a) some (wide a fits)) (λ a fits. omega arith);
+      made = λ make parts there back. made_lawful make parts f there back lf;
+      coded = λ value code own. coded_lawful value code f own lf;
+      kept = λ test. kept_lawful test f lf;
+      tagged = λ tag_of make_first first make_other other is_first is_other tag_first tag_other.
+          choice_lawful tag_of _ _ (number_lawful 1 0 2 (omega arith) (omega arith))
+          (variant_choice tag_of 0 _ _ _ _ is_first tag_first lf (variant_choice tag_of 1 _ _ _ _ is_other tag_other lh (no_choice tag_of)));
+      one_field = one_field_lawful f lf;
+      placed = placed_lawful f lf;
+    }

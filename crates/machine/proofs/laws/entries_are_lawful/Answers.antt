@@ -1,0 +1,10 @@
+use Rattle.std.proofs.Common.{arith}
+use Rattle.fields.specs.FormatLaws.{placed_lawful}
+use Rattle.machine.specs.EntryLaws.{entry_lawful}
+use Rattle.machine.proofs.laws.entries_are_lawful.Goals as goal
+
+pub returns : goal.returns
+returns g c = let m = g.M.Machine.meaning in let law = g.met.M.Machine.lawful in record {
+  lawful = entry_lawful _ (placed_lawful m.commands law.commands_lawful);
+  short = omega (arith, law.commands_short);
+}
