@@ -149,9 +149,9 @@ longer n H past w i v new old I ok here f top low = elim (leb_tells new.commit (
       }
 ]
 
-module _ {S C : Type 0} (m : Meaning S C) (law : LawfulMachine m) (n : ℕ) (past : List (World C)) (w next : World C) (st : Story m n past w) (x : Moves m w next) where
-  g : WorldGoes m n st.history next
-  g = world_goes m law n st.history w next st.ok x
+module _ {S C : Type 0} (m : Meaning S C) (law : LawfulMachine m) (n : ℕ) (past : List (World C)) (w : World C) (event : Event C) (next : World C) (st : Story m n past w) (x : Moves m w event next) where
+  g : WorldGoes m n st.history next x.new
+  g = world_goes m law n st.history w event next st.ok x
 
   now_here : slice_get next.servers x.who ≡ Some x.new
   now_here = subst (λ l. slice_get l x.who ≡ Some x.new) (sym x.servers) (get_set-same w.servers x.who x.new (get-within w.servers x.who x.old x.here))
@@ -251,7 +251,7 @@ module _ {S C : Type 0} (m : Meaning S C) (law : LawfulMachine m) (n : ℕ) wher
     longest = inl refl;
     complete = λ k l i j t s x le a low at leads. subst (λ c. Agree c [] leads.server.log) (sym (first_zero k i s a)) (agree_none [] leads.server.log);
   }
-  story events past w (more {past = before} {w = last} e next r is h) = next_story m law n before last w (story _ before last r) (event_moves m last w e is h)
+  story events past w (more {past = before} {w = last} e next r is h) = next_story m law n before last e w (story _ before last r) (event_moves m last w e is h)
 
   list_sound : (G : History C) (v : ℕ) (list : List (Entry C)) → Fixed n G v (length list) list → ((u : ℕ) → Sound m (G.ledger u)) → Sound m list
   list_sound G v [] f all = none_sound m

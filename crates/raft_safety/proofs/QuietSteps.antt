@@ -77,6 +77,7 @@ module _ {C : Type 0} (P : List (Entry C) → Type 0) (n : ℕ) (G : History C) 
         };
         says = λ k x h. record { vote = v.says k x h; body = bodies_on n G H x.from x.to x.term x.body e (says k x h) };
         sound = λ h. h;
+        writes = λ u. inl refl;
       }
 
   pub no_bodies : (out : List (Message C)) → out ≡ [] → (k : ℕ) (x : Message C) → slice_get out k ≡ Some x → BodyOk n G x.from x.to x.term x.body

@@ -6,7 +6,7 @@ use Rattle.machine.specs.declared.entry.Entry.{Entry}
 use Rattle.raft_model.specs.Logs.{MAX, term_at}
 use Rattle.raft_model.specs.Quorums.{marked, number, is_quorum}
 use Rattle.raft_model.specs.Messages.{Message}
-use Rattle.raft_model.specs.Servers.{Server, Mode, Candidate, Leader, won}
+use Rattle.raft_model.specs.Servers.{Server, Mode, Candidate, Leader, is_leader, won}
 use Rattle.raft_safety.specs.Functions.{with_at, with_both}
 use Rattle.raft_model.specs.Chains.{Agree}
 use Rattle.raft_safety.specs.Agreement.{Rooted}
@@ -247,6 +247,10 @@ module _ {C : Type 0} (P : List (Entry C) → Type 0) (n : ℕ) (G : History C) 
       sound = λ all u. elim (at_cases G.ledger s.term X u) [
         | inl q ↦ subst P (sym q.1) (sound all)
         | inr q ↦ subst P (sym q.1) (all u)
+      ];
+      writes = λ u. elim (at_cases G.ledger s.term X u) [
+        | inl q ↦ inr (sym q.0, ap is_leader is)
+        | inr q ↦ inl q.1
       ];
     }
 
