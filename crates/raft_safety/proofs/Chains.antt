@@ -14,28 +14,12 @@ use Rattle.raft_safety.specs.Invariants.{ModeOk, ServerOk}
 use Rattle.raft_safety.proofs.Logs.{agree_none, agree_sym, agree_trans, agree_less, agree_take}
 use Rattle.raft_safety.proofs.Completeness.{fixed_in, fixed_two}
 use Rattle.raft_safety.proofs.Growth.{fixed_on}
-use Rattle.raft_safety.proofs.Places.{get_set-same, get_set-cases, get-within, get-one, replicate-get}
+use Rattle.raft_safety.proofs.Places.{get_set-same, get_set-cases, get-within, get-one, get-where, get-more, get-last, replicate-get}
 use Rattle.raft_safety.proofs.Paths.{bool_cases, turns_down}
 use Rattle.raft_safety.proofs.Frame.{agree_self, fixed_grow}
 use Rattle.raft_safety.proofs.Election.{Moves, event_moves, no_ballots, first_votes, replicate-length, one_leader}
 use Rattle.raft_safety.proofs.Sound.{Sound, none_sound, first_sound, sound_safe}
 use Rattle.raft_safety.proofs.Steps.{WorldOk, WorldGoes, world_goes}
-
--- in the first part, or past it
-get-where : {A : Type 0} (xs ys : List A) (k : ℕ) (x : A) → slice_get (xs ++ ys) k ≡ Some x →
-    ((k < length xs) × (slice_get xs k ≡ Some x)) ⊎ ((length xs ≤ k) × ((j : ℕ) × (slice_get ys j ≡ Some x)))
-get-where [] ys k x h = inr (omega arith, (k, h))
-get-where (z ∷ zs) ys zero x h = inl (omega arith, h)
-get-where (z ∷ zs) ys (suc k) x h = elim (get-where zs ys k x h) [ inl e ↦ inl (omega (arith, e.0), e.1) | inr e ↦ inr (omega (arith, e.0), e.1) ]
-
-get-append : {A : Type 0} (xs ys : List A) (k : ℕ) (x : A) → slice_get xs k ≡ Some x → slice_get (xs ++ ys) k ≡ Some x
-get-append [] ys k x h = absurd (cc)
-get-append (z ∷ zs) ys zero x h = h
-get-append (z ∷ zs) ys (suc k) x h = get-append zs ys k x h
-
-get-last : {A : Type 0} (xs : List A) (x : A) → slice_get (xs ++ x ∷ []) (length xs) ≡ Some x
-get-last [] x = refl
-get-last (z ∷ zs) x = get-last zs x
 
 no_history : {C : Type 0} → History C
 no_history = record { ballots = no_ballots; stood = λ t c. None; leader = λ t. None; ledger = λ t. []; held = λ u i. 0 }
@@ -116,7 +100,7 @@ module _ {C : Type 0} where
     server = r.server;
     commit = r.commit;
     up = r.up;
-    at = record { world = a.world; world_is = get-append (past ++ w ∷ []) (next ∷ []) r.moment a.world a.world_is; here = a.here };
+    at = record { world = a.world; world_is = get-more (past ++ w ∷ []) (next ∷ []) r.moment a.world a.world_is; here = a.here };
   }
 
   reached_now : (past : List (World C)) (w : World C) (i : ℕ) (s : Server C) → slice_get w.servers i ≡ Some s → is_up s.mode ≡ true → Reached past w s.commit

@@ -170,7 +170,7 @@ module _ {S C : Type 0} (m : Meaning S C) (n i : ℕ) (sent : List (Message C)) 
       PathTo s (receives m.noop n i (met term s) from term body)
   unfolding PathTo
   met_path s from term body less came = elim (bool_cases (nat_lt s.term term)) [
-    | inl e ↦ rw e (after_one (record s { term = term; vote = None; known = None; mode = Follower }) (raises term (ltb-true s.term term e) refl refl) (λ l. absurd (cc))
+    | inl e ↦ rw e (after_one (record s { term = term; vote = None; known = None; mode = Follower }) (raises _ came (ltb-true s.term term e) refl refl) (λ l. absurd (cc))
         (receives_path (record s { term = term; vote = None; known = None; mode = Follower }) from term body less (omega arith) came))
     | inr e ↦ rw e (receives_path s from term body less (omega (arith, ltb-false s.term term e)) came)
   ]
@@ -244,7 +244,7 @@ module _ {S C : Type 0} (m : Meaning S C) (n i : ℕ) (sent : List (Message C)) 
 
   -- a path never takes a server down
   small_up : (s t : Server C) (out : List (Message C)) → is_up s.mode ≡ true → Small m n i sent s t out → is_up t.mode ≡ true
-  small_up s t out up (raises term less e o) = ap (λ (x : Server C). is_up x.mode) e
+  small_up s t out up (raises x came less e o) = ap (λ (x : Server C). is_up x.mode) e
   small_up s t out up (stands term_fits index_fits e o) = ap (λ (x : Server C). is_up x.mode) e
   small_up s t out up (grants_vote from index its_last came free newer e o) = ap (λ (x : Server C). is_up x.mode) e ∙ up
   small_up s t out up (refuses from term request answer came h e o) = ap (λ (x : Server C). is_up x.mode) e ∙ up

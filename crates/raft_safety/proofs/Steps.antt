@@ -31,7 +31,7 @@ module _ {S C : Type 0} (m : Meaning S C) (law : LawfulMachine m) (n i : ℕ) (s
 
   small_keeps : (G : History C) (s t : Server C) (out : List (Message C)) → Ledgers n G → ServerOk n G i s → SentOk n G sent → VotesKept n G.ballots i t out → Small m n i sent s t out → Keeps (Sound m) n G i t out
   unfolding BodyOk
-  small_keeps G s t out I ok given v (raises term less e o) = shift (Sound m) n G i t _ out out e refl v (raise_keeps (Sound m) n G i s I ok term out less o)
+  small_keeps G s t out I ok given v (raises x came less e o) = shift (Sound m) n G i t _ out out e refl v (raise_keeps (Sound m) n G i s I ok x.term out less o)
   small_keeps G s t out I ok given v (stands term_fits index_fits e o) = shift (Sound m) n G i t _ out _ e o v (stand_keeps (Sound m) n G i s I ok index_fits)
   small_keeps G s t out I ok given v (grants_vote from index its_last came free newer e o) = shift (Sound m) n G i t _ out _ e o v
       (grant_keeps (Sound m) n G i s I ok from index its_last (let g = given _ came in g.body) newer)

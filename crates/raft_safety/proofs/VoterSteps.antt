@@ -104,7 +104,7 @@ module _ {S C : Type 0} (m : Meaning S C) (n : ℕ) (B : Ballots) (i : ℕ) (sen
 
   pub small_votes : (t : Server C) (out : List (Message C)) → Small m n i sent s t out → VotesKept n B i t out
   unfolding VoteBody
-  small_votes t out (raises term less e o) = rw e (quiet_out n B i _ out o (votes_raise n B i s.term term s.vote s.mode v less))
+  small_votes t out (raises x came less e o) = rw e (quiet_out n B i _ out o (votes_raise n B i s.term x.term s.vote s.mode v less))
   small_votes t out (stands term_fits index_fits e o) = rw (e, o) (record {
     votes = stands_votes;
     says = λ k x h. let r = to_others_is i (vote_request i (stood n i s)) n k x h in rw r.3 tt;

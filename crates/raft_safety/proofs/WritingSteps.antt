@@ -16,7 +16,7 @@ use Rattle.raft_safety.specs.Invariants.{LogOk, CandidateOk, LeaderOk, ModeOk, S
 use Rattle.raft_safety.proofs.Functions.{at_same, at_cases, at_other, both_cases, both_same, both_other, both_else}
 use Rattle.raft_safety.proofs.Logs.{agree_none, agree_sym, agree_trans, agree_less, agree_term, rooted_at}
 use Rattle.raft_safety.proofs.Quorums.{quorum_told}
-use Rattle.raft_safety.proofs.Places.{number_replicate}
+use Rattle.raft_safety.proofs.Places.{number_replicate, take_append}
 use Rattle.raft_safety.proofs.Growth.{carries_on, carries_grow, fixed_on, win_carries}
 use Rattle.raft_safety.proofs.Voters.{elected_on, one_elected}
 use Rattle.raft_safety.proofs.VoterSteps.{VotesKept}
@@ -26,11 +26,6 @@ use Rattle.raft_safety.proofs.QuietSteps.{as_leader, as_candidate}
 none_is : {A : Type 0} (X : List A) → length X ≤ 0 → X ≡ []
 none_is [] h = refl
 none_is (x ∷ X) h = absurd (omega (arith, h))
-
-take_append : {A : Type 0} (p : ℕ) (X Y : List A) → p ≤ length X → take p X ≡ take p (X ++ Y)
-take_append zero X Y h = refl
-take_append (suc p) [] Y h = absurd (omega (arith, h))
-take_append (suc p) (x ∷ X) Y h = ap (λ l. x ∷ l) (take_append p X Y (omega (arith, h)))
 
 pub led_by : (o : Option ℕ) (i c : ℕ) → (o ≡ None) ⊎ (o ≡ Some i) → o ≡ Some c → c ≡ i
 led_by o i c (inl e) h = absurd (cc)

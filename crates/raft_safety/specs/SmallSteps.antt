@@ -47,7 +47,7 @@ Came sent message = (k : ℕ) × (slice_get sent k ≡ Some message)
 module _ {S C : Type 0} (m : Meaning S C) (n i : ℕ) (sent : List (Message C)) where
   -- server i goes from s to t, and says `out`
   pub data Small (s t : Server C) (out : List (Message C)) : Type 0 where
-    raises : (term : ℕ) → s.term < term → t ≡ record s { term = term; vote = None; known = None; mode = Follower } → out ≡ [] → Small s t out
+    raises : (message : Message C) → Came sent message → s.term < message.term → t ≡ record s { term = message.term; vote = None; known = None; mode = Follower } → out ≡ [] → Small s t out
     stands : s.term < MAX → length s.log < MAX → t ≡ stood n i s → out ≡ to_others i (vote_request i (stood n i s)) n → Small s t out
     grants_vote : (from index its_last : ℕ) → Came sent (record { from = from; to = i; term = s.term; body = VoteRequest index its_last }) →
         is_free_for s.vote from ≡ true → is_up_to_date s.log index its_last ≡ true → t ≡ record s { vote = Some from } →
