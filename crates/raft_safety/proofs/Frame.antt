@@ -194,6 +194,14 @@ module _ {C : Type 0} where
   leader_wrote n G j s (Candidate votes) ok e l = absurd (cc)
   leader_wrote n G j s (Leader next match) ok e l = let h : ModeOk n G j s.term s.log (Leader next match) = subst (λ x. ModeOk n G j s.term s.log x) e ok.role in h.wrote
 
+  -- a leader leads its term
+  pub leader_leads : (n : ℕ) (G : History C) (j : ℕ) (s : Server C) (mode : Mode) → ServerOk n G j s → s.mode ≡ mode → is_leader mode ≡ true → G.leader s.term ≡ Some j
+  unfolding ModeOk
+  leader_leads n G j s Down ok e l = absurd (cc)
+  leader_leads n G j s Follower ok e l = absurd (cc)
+  leader_leads n G j s (Candidate votes) ok e l = absurd (cc)
+  leader_leads n G j s (Leader next match) ok e l = let h : ModeOk n G j s.term s.log (Leader next match) = subst (λ x. ModeOk n G j s.term s.log x) e ok.role in h.leads
+
   -- small steps that pass a leader on leave its ledger
   passed_ledger : (n : ℕ) (G H : History C) (i : ℕ) (s r : Server C) (u : ℕ) → ServerOk n G i s → ServerOk n H i r → Passes s r → r.term ≡ u → is_leader r.mode ≡ true → H.ledger u ≡ G.ledger u
   passed_ledger n G H i s r u old new p e l =

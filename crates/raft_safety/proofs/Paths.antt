@@ -260,7 +260,7 @@ module _ {S C : Type 0} (m : Meaning S C) (n i : ℕ) (sent : List (Message C)) 
   small_up s t out up (covers e o) = ap (λ (x : Server C). is_up x.mode) e ∙ up
   small_up s t out up (beats_all next match mode e o) = ap (λ (x : Server C). is_up x.mode) e ∙ up
 
-  path_up : (t : Server C) (out : List (Message C)) (s : Server C) → is_up s.mode ≡ true → Path m n i sent s t out → is_up t.mode ≡ true
+  pub path_up : (t : Server C) (out : List (Message C)) (s : Server C) → is_up s.mode ≡ true → Path m n i sent s t out → is_up t.mode ≡ true
   path_up t out s up (still e o) = ap (λ (x : Server C). is_up x.mode) e ∙ up
   path_up t out s up (only x) = small_up s t out up x
   path_up t out s up (after_one r x passes p) = path_up t out r (small_up s r [] up x) p

@@ -188,7 +188,8 @@ module _ {C : Type 0} (P : List (Entry C) → Type 0) (n : ℕ) (G : History C) 
   ack_told from to term asked at (Install covered) h b = absurd h
   ack_told from to term asked at (InstallReply answered place) h b = subst (λ u. at ≤ G.held u from) h.0 (omega (arith, h.1, b))
 
-  held_within : (j : ℕ) (next match : List ℕ) → LeaderOk n G i s.term s.log next match → G.held s.term j ≤ length s.log
+  -- nobody holds more than the leader has written
+  pub held_within : (j : ℕ) (next match : List ℕ) → LeaderOk n G i s.term s.log next match → G.held s.term j ≤ length s.log
   held_within j next match l = omega (arith, I.reaches s.term j, ap length l.wrote)
 
   acks_role : (next match : List ℕ) (j at : ℕ) → s.mode ≡ Leader next match → at ≤ G.held s.term j →
