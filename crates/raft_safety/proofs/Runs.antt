@@ -72,3 +72,12 @@ module _ {C : Type 0} where
   -- each earlier moment is there
   pub moment_before : (past : List (World C)) (w : World C) (k l : ℕ) (y : World C) → k ≤ l → moment past w l ≡ Some y → (x : World C) × (moment past w k ≡ Some x)
   moment_before past w k l y le at = get-some (past ++ w ∷ []) k (let q = get-within (past ++ w ∷ []) l y at in omega (arith, le, q))
+
+  -- the moments of a first part are the run's
+  pub moment_front : (past : List (World C)) (w : World C) (l : ℕ) (x : World C) → moment past w l ≡ Some x → (k : ℕ) (y : World C) → moment (take l past) x k ≡ Some y → moment past w k ≡ Some y
+  moment_front [] w zero x at k y h = ap (λ v. slice_get (v ∷ []) k) (get-one w zero x at) ∙ h
+  moment_front [] w (suc l) x at k y h = absurd (let q = get-within (w ∷ []) (suc l) x at in omega (arith, q))
+  moment_front (v ∷ past) w zero x at zero y h = at ∙ h
+  moment_front (v ∷ past) w zero x at (suc k) y h = absurd (cc)
+  moment_front (v ∷ past) w (suc l) x at zero y h = h
+  moment_front (v ∷ past) w (suc l) x at (suc k) y h = moment_front past w l x at k y h

@@ -23,7 +23,7 @@ use Rattle.raft_safety.proofs.VoterSteps.{VotesKept}
 use Rattle.raft_safety.proofs.Frame.{agree_self, fixed_grow, rooted_on}
 use Rattle.raft_safety.proofs.QuietSteps.{as_leader, as_candidate}
 
-none_is : {A : Type 0} (X : List A) → length X ≤ 0 → X ≡ []
+pub none_is : {A : Type 0} (X : List A) → length X ≤ 0 → X ≡ []
 none_is [] h = refl
 none_is (x ∷ X) h = absurd (omega (arith, h))
 
