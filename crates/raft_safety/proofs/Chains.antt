@@ -1,23 +1,20 @@
 -- The one list of a run, and what the story says of logs, states and origins.
-use Rattle.std.proofs.Common.{◌≡◌, ℕ, suc, ◌+◌, ◌<◌, ◌≤◌, ◌⊎◌, inl, inr, true, Some, List, [], ◌∷◌, length, take, refl, sym, ap, ◌∙◌, subst, arith, slice_get, take_all, take-take}
+use Rattle.std.proofs.Common.{◌≡◌, ℕ, suc, ◌<◌, ◌≤◌, inl, inr, Some, List, [], length, take, sym, ap, ◌∙◌, subst, arith, take_all}
 use Rattle.std.proofs.lemmas.Bool.Decides.{leb_tells}
 use Rattle.machine.specs.Meaning.{Meaning, LawfulMachine}
 use Rattle.machine.specs.After.{Admitted}
 use Rattle.machine.specs.declared.entry.Entry.{Entry}
 use Rattle.raft_model.specs.Logs.{term_at, commands, state_after}
-use Rattle.raft_model.specs.Servers.{Server, is_up}
+use Rattle.raft_model.specs.Servers.{Server}
 use Rattle.raft_model.specs.Worlds.{World, Event, Run, moment}
-use Rattle.raft_model.specs.Chains.{Agree, At, Reached, Chain}
-use Rattle.raft_safety.specs.Agreement.{Rooted}
-use Rattle.raft_safety.specs.History.{History, Fixed}
+use Rattle.raft_model.specs.Chains.{Agree, At, Chain}
+use Rattle.raft_safety.specs.History.{Fixed}
 use Rattle.raft_safety.specs.Invariants.{ServerOk}
 use Rattle.raft_safety.specs.Claims.{LogMatching, IsGreatestCommit, Origin}
-use Rattle.raft_safety.proofs.Places.{get-more, get-split}
-use Rattle.raft_safety.proofs.Logs.{agree_none, agree_sym, agree_trans, agree_less, agree_term, rooted_two, rooted_at, agree_take}
+use Rattle.raft_safety.proofs.Logs.{agree_none, agree_sym, agree_trans, agree_less, agree_term, rooted_two, rooted_at}
 use Rattle.raft_safety.proofs.Election.{one_leader}
 use Rattle.raft_safety.proofs.WritingSteps.{log_sound, none_is}
-use Rattle.raft_safety.proofs.Sound.{Sound, none_sound, first_sound, sound_safe}
-use Rattle.raft_safety.proofs.Steps.{WorldOk}
+use Rattle.raft_safety.proofs.Sound.{Sound, none_sound, first_sound, sound_safe, sound_admitted}
 use Rattle.raft_safety.proofs.Origins.{origin_agree}
 use Rattle.raft_safety.proofs.Runs.{run_front, moment_front}
 use Rattle.raft_safety.proofs.Stories.{Story, story}
@@ -39,14 +36,14 @@ module _ {C : Type 0} (past : List (World C)) (w : World C) where
 
   pub chain_length : (A : List (Entry C)) → Chain past w A → IsGreatestCommit past w (length A)
   chain_length A a = record {
-    covers = λ k i s at up. let g = a.agrees k i s at in g.right;
+    bound = λ k i s at up. let g = a.agrees k i s at in g.right;
     reached = elim a.longest [ inl e ↦ inl (ap length e) | inr r ↦ inr r ];
   }
 
   at_most : (c d : ℕ) → IsGreatestCommit past w c → IsGreatestCommit past w d → c ≤ d
   at_most c d a b = elim a.reached [
     | inl e ↦ omega (arith, e)
-    | inr r ↦ omega (arith, r.commit, b.covers r.moment r.who r.server r.at r.up)
+    | inr r ↦ omega (arith, r.commit, b.bound r.moment r.who r.server r.at r.up)
   ]
 
   pub greatest_one : (c d : ℕ) → IsGreatestCommit past w c → IsGreatestCommit past w d → c ≡ d
@@ -119,6 +116,9 @@ module _ {S C : Type 0} (m : Meaning S C) (law : LawfulMachine m) (n : ℕ) (eve
   -- its log was admitted entry by entry
   pub log_admitted : Sound m s.log
   log_admitted = log_sound (Sound m) n at_story.history i s at_story.ok.ledgers server_ok (none_sound m) (first_sound m) at_story.ok.sound
+
+  pub log_commands : Admitted m (commands s.log)
+  log_commands = sound_admitted m s.log log_admitted
 
   pub log_safe : (p : ℕ) → m.safe (state_after m (take p s.log))
   log_safe p = sound_safe m law (take p s.log) (first_sound m p s.log log_admitted)

@@ -1,5 +1,5 @@
 -- While a server is up its commit index never falls; who goes down or comes up keeps what is stored.
-use Rattle.std.proofs.Common.{◌≡◌, ℕ, ◌<◌, ◌≤◌, ◌⊎◌, inl, inr, Bool, true, false, nat_le, List, [], length, refl, sym, ap, ◌∙◌, subst, arith, true≢false}
+use Rattle.std.proofs.Common.{◌≡◌, ℕ, ◌≤◌, ◌⊎◌, inl, inr, Bool, true, false, nat_le, List, [], length, sym, ap, ◌∙◌, arith, true≢false}
 use Rattle.std.proofs.lemmas.Bool.{leb-false}
 use Rattle.machine.specs.Meaning.{Meaning}
 use Rattle.raft_model.specs.Messages.{Message}
@@ -9,7 +9,7 @@ use Rattle.raft_safety.specs.Claims.{SameStored}
 use Rattle.raft_safety.proofs.Paths.{bool_cases, path_up}
 use Rattle.raft_safety.proofs.LeaderSteps.{greatest_told}
 
-greatest_from : (test : ℕ → Bool) (low high : ℕ) → low ≤ greatest test low high
+pub greatest_from : (test : ℕ → Bool) (low high : ℕ) → low ≤ greatest test low high
 greatest_from test low high = elim (greatest_told test low high) [ inl e ↦ omega (arith, e) | inr e ↦ omega (arith, e.0) ]
 
 module _ {S C : Type 0} (m : Meaning S C) (n i : ℕ) (sent : List (Message C)) where

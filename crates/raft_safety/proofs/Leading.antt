@@ -1,11 +1,11 @@
 -- Each step that leaves a leader is one of four kinds.
-use Rattle.std.proofs.Common.{◌≡◌, ℕ, suc, inl, inr, Bool, true, false, ◌&&◌, ◌==◌, nat_lt, nat_le, Option, Some, None, Result, Ok, List, length, refl, ap, subst, sym, ◌∙◌, slice_set}
+use Rattle.std.proofs.Common.{◌≡◌, ℕ, inl, inr, Bool, true, false, ◌&&◌, ◌==◌, nat_lt, nat_le, Option, Some, None, Ok, List, length, refl, ap, subst, sym, ◌∙◌, slice_set}
 use Rattle.rows.specs.declared.refusal.Refusal.{Refusal}
 use Rattle.machine.specs.Meaning.{Meaning}
 use Rattle.raft_model.specs.Logs.{MAX}
 use Rattle.raft_model.specs.Quorums.{is_quorum, marked}
-use Rattle.raft_model.specs.Messages.{Message, Body, VoteRequest, VoteReply, Append, AppendReply, Install, InstallReply}
-use Rattle.raft_model.specs.Servers.{Server, Turn, Mode, Down, Follower, Candidate, Leader, is_up, is_leader, silent, met, grants, counted, with_votes, following, is_held, acked, advanced_in, hears_ok, hears_refusal, extended}
+use Rattle.raft_model.specs.Messages.{Body, VoteRequest, VoteReply, Append, AppendReply, Install, InstallReply}
+use Rattle.raft_model.specs.Servers.{Server, Turn, Mode, Down, Follower, Candidate, Leader, is_up, is_leader, silent, met, grants, counted, is_held, advanced_in, hears_ok, hears_refusal, extended}
 use Rattle.raft_model.specs.Steps.{Input, Arrives, Timeout, Beat, Propose, Compact, Crash, Restart, receives, times_out, proposes, acts, wakes, step, admitted, unless}
 use Rattle.raft_safety.specs.Leading.{Leading, goes_on, hears, wins}
 use Rattle.raft_safety.specs.Leading as leading

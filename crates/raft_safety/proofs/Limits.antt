@@ -1,11 +1,10 @@
 -- Terms stay below 2^40, and every message goes from one server of the group to another.
-use Rattle.std.proofs.Common.{◌≡◌, ◌≢◌, ℕ, suc, ◌<◌, ◌≤◌, inl, inr, Bool, nat_le, Some, List, [], ◌∷◌, ◌++◌, length, refl, sym, ap, ◌∙◌, subst, arith, slice_get, slice_set}
+use Rattle.std.proofs.Common.{◌≡◌, ℕ, suc, ◌<◌, ◌≤◌, inl, inr, nat_le, Some, List, [], ◌∷◌, length, refl, sym, ap, ◌∙◌, subst, arith, slice_get}
 use Rattle.machine.specs.Meaning.{Meaning}
-use Rattle.machine.specs.declared.entry.Entry.{Entry}
 use Rattle.raft_model.specs.Logs.{MAX}
-use Rattle.raft_model.specs.Messages.{Message, Body, VoteReply, to_others}
-use Rattle.raft_model.specs.Servers.{Server, newcomer, stood, vote_request, beat_message, installed}
-use Rattle.raft_model.specs.Worlds.{World, first, Event, Run, start, more}
+use Rattle.raft_model.specs.Messages.{Message, Body, to_others}
+use Rattle.raft_model.specs.Servers.{Server, newcomer, installed}
+use Rattle.raft_model.specs.Worlds.{World, Event, Run, start, more}
 use Rattle.raft_safety.specs.SmallSteps.{Came, Small, raises, stands, grants_vote, refuses, counts, wins, extends, follows, takes_append, takes_install, acks, backs, advances, covers, beats_all, Path, still, only, after_one, Turns, walks, resets}
 use Rattle.raft_safety.specs.Claims.{Within}
 use Rattle.raft_safety.proofs.Places.{get_set-cases, set-length, get-split, get-one, get-within, replicate-get, to_others_is}

@@ -1,23 +1,22 @@
 -- Each entry that a ledger has of its own term was written by the term's leader at some moment.
-use Rattle.std.proofs.Common.{◌≡◌, ◌≢◌, ℕ, zero, suc, ◌+◌, ◌<◌, ◌≤◌, ◌⊎◌, inl, inr, Bool, true, Option, Some, None, List, [], ◌∷◌, ◌++◌, length, take, refl, sym, ap, ◌∙◌, subst, arith, slice_get, slice_set, take_all}
+use Rattle.std.proofs.Common.{◌≡◌, ℕ, suc, ◌<◌, inl, inr, Bool, true, Option, Some, None, List, [], ◌∷◌, ◌++◌, length, take, refl, sym, ap, ◌∙◌, subst, arith, slice_get, take_all}
 use Rattle.std.proofs.lemmas.Bool.Decides.{leb_tells}
 use Rattle.std.proofs.lemmas.Option.{same_Some}
 use Rattle.machine.specs.Meaning.{Meaning}
 use Rattle.machine.specs.declared.entry.Entry.{Entry}
 use Rattle.raft_model.specs.Logs.{term_at}
-use Rattle.raft_model.specs.Servers.{Server, Mode, Candidate, Leader, is_leader}
+use Rattle.raft_model.specs.Servers.{Server, Candidate, is_leader}
 use Rattle.raft_model.specs.Worlds.{World, Event}
 use Rattle.raft_model.specs.Chains.{Agree, At}
 use Rattle.raft_safety.specs.Leading.{Leading, goes_on, hears, proposes, wins}
-use Rattle.raft_safety.specs.Agreement.{Rooted}
-use Rattle.raft_safety.specs.History.{History, Ledgers}
-use Rattle.raft_safety.specs.Invariants.{LogOk, CandidateOk, LeaderOk, ModeOk, ServerOk}
+use Rattle.raft_safety.specs.History.{History}
+use Rattle.raft_safety.specs.Invariants.{CandidateOk, ServerOk}
 use Rattle.raft_safety.specs.Claims.{Origin, Grew, proposed, elected}
 use Rattle.raft_safety.proofs.Places.{get-more, get-last, get_set-same, get-within, take_append, push_length}
 use Rattle.raft_safety.proofs.Leading.{step_leads}
-use Rattle.raft_safety.proofs.Logs.{agree_sym, agree_less, agree_term, rooted_at}
+use Rattle.raft_safety.proofs.Logs.{agree_less, agree_term, rooted_at}
 use Rattle.raft_safety.proofs.Frame.{leader_wrote, leader_leads}
-use Rattle.raft_safety.proofs.QuietSteps.{as_candidate, as_leader}
+use Rattle.raft_safety.proofs.QuietSteps.{as_candidate}
 use Rattle.raft_safety.proofs.WritingSteps.{agree_append}
 use Rattle.raft_safety.proofs.Election.{Moves}
 use Rattle.raft_safety.proofs.Steps.{WorldOk, WorldGoes}

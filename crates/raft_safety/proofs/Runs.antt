@@ -1,18 +1,10 @@
 -- Moments of a run: each first part of it is a run, and between two neighbouring moments lies one event.
-use Rattle.std.proofs.Common.{◌≡◌, ℕ, zero, suc, ◌<◌, ◌≤◌, inl, inr, Some, None, Ok, List, [], ◌∷◌, ◌++◌, length, take, refl, sym, ap, ◌∙◌, subst, arith, slice_get, take_all}
+use Rattle.std.proofs.Common.{◌≡◌, ℕ, zero, suc, ◌≤◌, inl, inr, Some, Ok, List, [], ◌∷◌, ◌++◌, length, take, refl, sym, ap, ◌∙◌, subst, arith, slice_get, take_all}
 use Rattle.std.proofs.lemmas.Option.{same_Some}
 use Rattle.machine.specs.Meaning.{Meaning}
-use Rattle.raft_model.specs.Servers.{Server}
-use Rattle.raft_model.specs.Worlds.{World, first, Event, IsEvent, happens, Run, start, more, moment}
-use Rattle.raft_model.specs.Chains.{At}
+use Rattle.raft_model.specs.Worlds.{World, Event, happens, Run, start, more, moment}
+use Rattle.raft_safety.specs.Claims.{Happened}
 use Rattle.raft_safety.proofs.Places.{get-where, get-more, get-last, get-some, get-one, get-within, take_append, take_none, push_length}
-
--- one event, and the world after it
-pub record Happened {S C : Type 0} (m : Meaning S C) (events : List (Event C)) (k : ℕ) (before after : World C) : Type 0 where
-  pub event : Event C
-  pub at : slice_get events k ≡ Some event
-  pub is : IsEvent m event
-  pub happens : happens m before event ≡ Ok after
 
 module _ {S C : Type 0} (m : Meaning S C) (n : ℕ) where
   pub run_even : (events : List (Event C)) (past : List (World C)) (w : World C) → Run m n events past w → length events ≡ length past

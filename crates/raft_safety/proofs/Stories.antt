@@ -1,12 +1,11 @@
 -- What the induction over a run carries: the history, the invariants by it, and the one list so far.
-use Rattle.std.proofs.Common.{◌≡◌, ℕ, zero, suc, ◌<◌, ◌≤◌, ◌⊎◌, inl, inr, Some, None, List, [], ◌∷◌, ◌++◌, length, take, refl, sym, ap, ◌∙◌, subst, arith, slice_get, true, false, length-take-le, take_all}
+use Rattle.std.proofs.Common.{◌≡◌, ℕ, suc, ◌<◌, ◌≤◌, ◌⊎◌, inl, inr, Some, None, List, [], ◌∷◌, ◌++◌, length, take, refl, sym, ap, ◌∙◌, subst, arith, slice_get, true, false, length-take-le}
 use Rattle.std.proofs.lemmas.Bool.Decides.{leb_tells}
 use Rattle.machine.specs.Meaning.{Meaning, LawfulMachine}
 use Rattle.machine.specs.declared.entry.Entry.{Entry}
-use Rattle.raft_model.specs.Logs.{state_after}
 use Rattle.raft_model.specs.Servers.{Server, Leader, is_up, newcomer}
 use Rattle.raft_model.specs.Worlds.{World, first, Event, Run, start, more, moment, Leads}
-use Rattle.raft_model.specs.Chains.{Agree, At, Reached, Chain}
+use Rattle.raft_model.specs.Chains.{Agree, At, Reached}
 use Rattle.raft_safety.specs.Agreement.{Rooted}
 use Rattle.raft_safety.specs.Ballots.{Voter}
 use Rattle.raft_safety.specs.History.{History, Fixed, Ledgers}
@@ -19,7 +18,7 @@ use Rattle.raft_safety.proofs.Paths.{bool_cases, turns_down}
 use Rattle.raft_safety.proofs.Frame.{agree_self, rooted_on, fixed_grow, leader_wrote, leader_leads}
 use Rattle.raft_safety.proofs.Election.{Moves, event_moves, no_ballots, first_votes, replicate-length}
 use Rattle.raft_safety.proofs.Origins.{Born, now_here, born_next}
-use Rattle.raft_safety.proofs.Sound.{Sound, none_sound, first_sound, sound_safe}
+use Rattle.raft_safety.proofs.Sound.{none_sound}
 use Rattle.raft_safety.proofs.Steps.{WorldOk, WorldGoes, world_goes}
 
 no_history : {C : Type 0} → History C
@@ -192,9 +191,10 @@ module _ {S C : Type 0} (m : Meaning S C) (law : LawfulMachine m) (n : ℕ) (eve
   leads_log : (j t : ℕ) (leads : Leads next j t) → (1 ≤ length (g.after.ledger t)) × (leads.server.log ≡ g.after.ledger t)
   leads_log j t leads =
       let o = g.ok.each j leads.server leads.here in
-      let I = g.ok.ledgers in
-      (subst (λ u. 1 ≤ length (g.after.ledger u)) leads.term (I.led leads.server.term j (leader_leads n g.after j leads.server (Leader leads.next leads.match) o leads.mode refl)),
-      leader_wrote n g.after j leads.server (Leader leads.next leads.match) o leads.mode refl ∙ ap g.after.ledger leads.term)
+      let I = g.ok.ledgers in (
+        subst (λ u. 1 ≤ length (g.after.ledger u)) leads.term (I.led leads.server.term j (leader_leads n g.after j leads.server (Leader leads.next leads.match) o leads.mode refl)),
+        leader_wrote n g.after j leads.server (Leader leads.next leads.match) o leads.mode refl ∙ ap g.after.ledger leads.term,
+      )
 
   last_complete : (k i j t : ℕ) (s : Server C) (y : World C) → At (past ++ w ∷ []) next k i s → s.term ≤ t → next ≡ y → (leads : Leads y j t) →
       Agree s.commit more_list.list leads.server.log

@@ -1,13 +1,24 @@
 -- What the theorems say of a run. Server numbers and moments begin at 0, indexes of entries at 1.
-use Rattle.std.specs.Prelude.{◌≡◌, ◌≢◌, ℕ, suc, ◌≤◌, ◌<◌, ◌⊎◌, Bool, true, ◌==◌, ◌||◌, nat_le, Some, List, [], ◌∷◌, ◌++◌, length, take, slice_get}
+use Rattle.std.specs.Prelude.{◌≡◌, ◌≢◌, ℕ, suc, ◌≤◌, ◌<◌, ◌⊎◌, Bool, true, ◌==◌, ◌||◌, nat_le, Some, Ok, List, [], ◌∷◌, ◌++◌, length, take, slice_get}
 use Rattle.machine.specs.Meaning.{Meaning}
 use Rattle.machine.specs.declared.entry.Entry.{Entry}
 use Rattle.raft_model.specs.Logs.{MAX, term_at}
 use Rattle.raft_model.specs.Quorums.{Quorum, number}
 use Rattle.raft_model.specs.Messages.{Message}
 use Rattle.raft_model.specs.Servers.{Server, Candidate, Leader, is_up, is_leader}
-use Rattle.raft_model.specs.Worlds.{World, Event, Proposes}
+use Rattle.raft_model.specs.Worlds.{World, Event, Proposes, Run, IsEvent, happens}
 use Rattle.raft_model.specs.Chains.{Agree, At, Reached}
+
+-- P holds of each run, of any number of servers and any length: n servers, the events, the worlds before the last one, and that one
+abbrev pub EachRun : {S C : Type 0} → Meaning S C → (ℕ → List (Event C) → List (World C) → World C → Type 0) → Type 0
+EachRun {S} {C} m P = (n : ℕ) (events : List (Event C)) (past : List (World C)) (w : World C) → Run m n events past w → P n events past w
+
+-- The event between a moment and the next one, at which the worlds were these.
+pub record Happened {S C : Type 0} (m : Meaning S C) (events : List (Event C)) (k : ℕ) (before after : World C) : Type 0 where
+  pub event : Event C
+  pub at : slice_get events k ≡ Some event
+  pub is : IsEvent m event
+  pub happens : happens m before event ≡ Ok after
 
 -- Two logs, at one moment or at two, that hold an entry of one index and term are the same up to it. (Raft, Figure 3, log matching.)
 abbrev pub LogMatching : {C : Type 0} → List (World C) → World C → Type 0
@@ -16,7 +27,7 @@ LogMatching {C} past w = (k l i j p : ℕ) (s t : Server C) → At past w k i s 
 
 -- c is the greatest commit index that a server had at some moment while it was up
 pub record IsGreatestCommit {C : Type 0} (past : List (World C)) (w : World C) (c : ℕ) : Type 0 where
-  pub covers : (k i : ℕ) (s : Server C) → At past w k i s → is_up s.mode ≡ true → s.commit ≤ c
+  pub bound : (k i : ℕ) (s : Server C) → At past w k i s → is_up s.mode ≡ true → s.commit ≤ c
   pub reached : (c ≡ 0) ⊎ Reached past w c
 
 -- How a leader's log grew by one entry: it took a proposal; or it was a candidate and wins now, and the entry is its no-op.

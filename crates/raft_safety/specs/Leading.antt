@@ -1,7 +1,7 @@
 -- How a server that leads after a step came to it.
-use Rattle.std.specs.Prelude.{◌≡◌, ℕ, suc, Bool, true, List, length, replicate}
+use Rattle.std.specs.Prelude.{◌≡◌, ℕ, Bool, true, List, length}
 use Rattle.machine.specs.Meaning.{Meaning}
-use Rattle.raft_model.specs.Servers.{Server, Mode, Candidate, Leader, is_leader, won, is_chosen, greatest, extended}
+use Rattle.raft_model.specs.Servers.{Server, Candidate, Leader, is_leader, won, is_chosen, greatest, extended}
 use Rattle.raft_model.specs.Steps.{Input, Propose}
 
 module _ {S C : Type 0} (m : Meaning S C) (n i : ℕ) where
