@@ -17,7 +17,7 @@ record Bounded {C : Type 0} (n : ℕ) (t : Server C) (out : List (Message C)) : 
   says : (k : ℕ) (x : Message C) → slice_get out k ≡ Some x → Within n x
 
 module _ {S C : Type 0} (m : Meaning S C) (n i : ℕ) (less_n : i < n) (sent : List (Message C)) (given : (x : Message C) → Came sent x → Within n x) where
-  -- nothing is said
+  -- a step that sends nothing
   says_none : (t : Server C) (out : List (Message C)) → out ≡ [] → t.term ≤ MAX → Bounded n t out
   says_none t out o le = record { term = le; says = λ k x h. absurd (let q = rw o at h in cc) }
 

@@ -74,7 +74,7 @@ first_ok {C = C} m n =
       sound = λ u. none_sound m;
     }
 
--- an empty log
+-- an empty log is rooted in any ledgers
 first_rooted : {C : Type 0} (log : List (Entry C)) → length log ≡ 0 → let G : History C = no_history in Rooted G.ledger log
 unfolding Rooted
 first_rooted log none p one le = absurd (omega (arith, none, one, le))
@@ -236,7 +236,7 @@ module _ {S C : Type 0} (m : Meaning S C) (law : LawfulMachine m) (n : ℕ) (eve
         last_complete k i j t s y a low same leads
   ]
 
-  -- an event
+  -- an event goes on with it
   pub next_story : Story m n (events ++ event ∷ []) (past ++ w ∷ []) next
   next_story = record {
     even = push_length events event ∙ (ap suc st.even ∙ sym (push_length past w));
@@ -264,7 +264,7 @@ module _ {S C : Type 0} (m : Meaning S C) (law : LawfulMachine m) (n : ℕ) wher
   first_zero : (k i : ℕ) (s : Server C) → At [] (first n) k i s → s.commit ≡ 0
   first_zero k i s a = ap (λ (x : Server C). x.commit) (first_server_is k i s a)
 
-  -- a run
+  -- every run has a story
   pub story : (events : List (Event C)) (past : List (World C)) (w : World C) → Run m n events past w → Story m n events past w
   story events past w start = record {
     even = refl;
