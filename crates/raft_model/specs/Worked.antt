@@ -21,6 +21,7 @@ adds term k = record { term = term; command = Add k }
 abbrev pub begins : ℕ → Entry TallyCommand
 begins term = record { term = term; command = Noop }
 
+-- a message from one server to another
 abbrev pub message : ℕ → ℕ → ℕ → Body TallyCommand → Message TallyCommand
 message from to term body = record { from = from; to = to; term = term; body = body }
 
@@ -38,6 +39,7 @@ abbrev pub after_inputs : ℕ → ℕ → Server TallyCommand → List (Input Ta
 after_inputs n me s [] = s
 after_inputs n me s (input ∷ inputs) = after_inputs n me (or_stays s (step tally_meaning n me s input)) inputs
 
+-- the next world, or the same one where the event is refused
 abbrev pub or_same : World TallyCommand → Result (World TallyCommand) Refusal → World TallyCommand
 or_same w (Ok next) = next
 or_same w (Err refusal) = w
@@ -226,9 +228,11 @@ RestartsFromSnapshot = after_inputs 3 0 (record leader { commit = 2 }) (Crash �
 
 -- ---- runs
 
+-- each server's commit index
 abbrev pub commits : World TallyCommand → List ℕ
 commits w = map (λ (s : Server TallyCommand). s.commit) w.servers
 
+-- each server's log
 abbrev pub logs : World TallyCommand → List (List (Entry TallyCommand))
 logs w = map (λ (s : Server TallyCommand). s.log) w.servers
 
@@ -251,6 +255,7 @@ TailStays = logs late_append_then_install ≡
     (begins 1 ∷ adds 1 1 ∷ adds 1 2 ∷ []) ∷
     (begins 1 ∷ adds 1 1 ∷ adds 1 2 ∷ adds 1 3 ∷ adds 1 4 ∷ []) ∷ []
 
+-- The leader has committed all 5; server 2 has what the Install covered; server 1 has heard of no commit yet.
 abbrev pub TailCommitted : Type 0
 TailCommitted = commits late_append_then_install ≡ 5 ∷ 0 ∷ 3 ∷ []
 

@@ -19,6 +19,7 @@ first n = record { servers = replicate n newcomer; sent = [] }
 -- The message at this place of all that were ever sent comes to its receiver; or a server takes an input of its own.
 -- A loss is a message that never comes, a repeat one that comes twice.
 pub data Event (C : Type 0) : Type 0 where
+  -- places count from 0
   Deliver : (place : ℕ) → Event C
   TimesOut : (server : ℕ) → Event C
   Beats : (server : ℕ) → Event C
@@ -75,7 +76,9 @@ module _ {S C : Type 0} (m : Meaning S C) where
 
   -- A run of n servers: its events, the worlds before the last one, and the last one.
   pub data Run (n : ℕ) : List (Event C) → List (World C) → World C → Type 0 where
+    -- before the first event
     start : Run n [] [] (first n)
+    -- one event more
     more : {events : List (Event C)} {past : List (World C)} {w : World C} (e : Event C) (next : World C) →
         Run n events past w → IsEvent e → happens w e ≡ Ok next → Run n (events ++ e ∷ []) (past ++ w ∷ []) next
 

@@ -33,6 +33,7 @@ module _ {C : Type 0} where
       let same : term_at L p ≡ term_at (take m L) p = agree_term p p L (take m L) a one (omega arith) in
       agree_trans (agree_sym a) (subst (λ t. Agree p L (ledger t)) same (r p one (omega (arith, short, size, le))))
 
+  -- terms of a first part
   pub terms_take : (L : List (Entry C)) (m v : ℕ) → m ≤ length L → ((p : ℕ) → 1 ≤ p → p ≤ length L → term_at L p ≤ v) → (p : ℕ) → 1 ≤ p → p ≤ length (take m L) → term_at (take m L) p ≤ v
   terms_take L m v le h p one short =
       let size : length (take m L) ≡ m = length-take-le m L le in
@@ -59,6 +60,7 @@ module _ {C : Type 0} where
   unfoldable pub hold : History C → Ballots → ℕ → ℕ → ℕ → History C
   hold G B v i x = record { ballots = B; stood = G.stood; leader = G.leader; ledger = G.ledger; held = with_both G.held v i x }
 
+  -- to acknowledge more takes nothing back
   pub hold_extends : (G : History C) (B : Ballots) (v i x : ℕ) → BallotsGrow G.ballots B → G.ballots.term i ≡ v → G.held v i ≤ x → Extends G (hold G B v i x)
   unfolding hold
   hold_extends G B v i x g now le = record {
@@ -76,6 +78,7 @@ module _ {C : Type 0} where
     leaders = λ t c h. h;
   }
 
+  -- nor does it touch a ledger
   pub hold_ledgers : (n : ℕ) (G : History C) (B : Ballots) (v i x : ℕ) → Ledgers n G → Extends G (hold G B v i x) → x ≤ length (G.ledger v) → Ledgers n (hold G B v i x)
   unfolding hold
   hold_ledgers n G B v i x I e le = record {
@@ -94,12 +97,15 @@ module _ {C : Type 0} where
   }
 
 module _ {C : Type 0} (P : List (Entry C) → Type 0) (n : ℕ) (G : History C) (i : ℕ) (s : Server C) (I : Ledgers n G) (ok : ServerOk n G i s) (led : 1 ≤ length (G.ledger s.term)) where
+  -- the leader's ledger
   L : List (Entry C)
   L = G.ledger s.term
 
+  -- what the receiver has committed is the leader's
   committed : Agree s.commit s.log (G.ledger s.term)
   committed = fixed_in n G s.term s.term s.commit s.log I ok.log.fixed (omega arith) led
 
+  -- what was acknowledged is in the new log, or is dead
   new_holds : (B : Ballots) (new : List (Entry C)) (m : ℕ) → BallotsGrow G.ballots B → Adopted (G.ledger s.term) s.log new m →
       (u k : ℕ) → 1 ≤ k → k ≤ with_both G.held s.term i (max (G.held s.term i) m) u i → Carries n (hold G B s.term i (max (G.held s.term i) m)) u k new
   new_holds B new m g ad u k one h =
@@ -114,6 +120,7 @@ module _ {C : Type 0} (P : List (Entry C) → Type 0) (n : ℕ) (G : History C) 
         ]
       ])
 
+  -- its terms
   new_terms : (new : List (Entry C)) (m : ℕ) → Adopted (G.ledger s.term) s.log new m → (p : ℕ) → 1 ≤ p → p ≤ length new → term_at new p ≤ s.term
   new_terms new m ad = elim ad.origin [
     | inl e ↦ subst (λ X. (p : ℕ) → 1 ≤ p → p ≤ length X → term_at X p ≤ s.term) (sym e) ok.log.terms
@@ -121,6 +128,7 @@ module _ {C : Type 0} (P : List (Entry C) → Type 0) (n : ℕ) (G : History C) 
         (terms_take (G.ledger s.term) m s.term (let a = ad.reached in a.left) (I.terms s.term))
   ]
 
+  -- its entries bring their first parts with them
   new_rooted : (new : List (Entry C)) (m : ℕ) → Adopted (G.ledger s.term) s.log new m → Rooted G.ledger new
   new_rooted new m ad = elim ad.origin [
     | inl e ↦ subst (λ X. Rooted G.ledger X) (sym e) ok.log.rooted
@@ -131,6 +139,7 @@ module _ {C : Type 0} (P : List (Entry C) → Type 0) (n : ℕ) (G : History C) 
   pub Brings : ℕ → ℕ → Type 0
   Brings m commit = (commit ≡ s.commit) ⊎ ((commit ≤ m) × Fixed n G s.term commit (G.ledger s.term))
 
+  -- its commit index
   new_commit : (new : List (Entry C)) (m commit : ℕ) → Adopted (G.ledger s.term) s.log new m → Brings m commit → (commit ≤ length new) × Fixed n G s.term commit new
   unfolding Brings
   new_commit new m commit ad (inl e) =
@@ -193,6 +202,7 @@ module _ {C : Type 0} (P : List (Entry C) → Type 0) (n : ℕ) (G : History C) 
         (eqb-true (term_at s.log (suc p)) prev_term c.1 ∙ e)
   ]
 
+  -- the commit index that an Append brings
   append_brings : (commit m : ℕ) → Fixed n G s.term commit (G.ledger s.term) → Brings m (max s.commit (min commit m))
   unfolding Brings
   append_brings commit m f = elim (leb_tells (min commit m) s.commit) [
@@ -200,6 +210,7 @@ module _ {C : Type 0} (P : List (Entry C) → Type 0) (n : ℕ) (G : History C) 
     | inr b ↦ inr (omega (arith, b.1), fixed_less n G s.term commit (max s.commit (min commit m)) (G.ledger s.term) (omega (arith, b.1)) f)
   ]
 
+  -- an Append that is accepted
   pub append_keeps : (from prev prev_term commit : ℕ) (entries : List (Entry C)) → s.mode ≡ Follower → AppendOk n G s.term prev prev_term commit entries → is_held s prev prev_term ≡ true →
       (let out : List (Message C) = record { from = i; to = from; term = s.term; body = AppendReply s.term true (prev + length entries) } ∷ [] in
       VotesKept n G.ballots i (appended s prev commit entries) out → Keeps P n G i (appended s prev commit entries) out)
@@ -212,12 +223,14 @@ module _ {C : Type 0} (P : List (Entry C) → Type 0) (n : ℕ) (G : History C) 
       (append_brings commit m a.fixed) (omega (arith, ok.log.based))
       (λ H le k x h. subst (λ (y : Message C). BodyOk n H y.from y.to y.term y.body) (get-one _ k x h) le)
 
+  -- the answer to an Install
   install_says : (from term : ℕ) (base : List (Entry C)) (H : History C) → length base ≤ H.held s.term i →
       (let out : List (Message C) = record { from = i; to = from; term = term; body = InstallReply s.term (length base) } ∷ [] in
       (k : ℕ) (x : Message C) → slice_get out k ≡ Some x → BodyOk n H x.from x.to x.term x.body)
   unfolding BodyOk
   install_says from term base H le k x h = subst (λ (y : Message C). BodyOk n H y.from y.to y.term y.body) (get-one _ k x h) le
 
+  -- an Install
   pub install_keeps : (from : ℕ) (base : List (Entry C)) → s.mode ≡ Follower → InstallOk n G s.term base →
       (let out : List (Message C) = record { from = i; to = from; term = (installed s base).term; body = InstallReply s.term (length base) } ∷ [] in
       VotesKept n G.ballots i (installed s base) out → Keeps P n G i (installed s base) out)

@@ -23,6 +23,7 @@ record Before {S C : Type 0} (m : Meaning S C) (past : List (World C)) (w : Worl
   goes : (server ≡ t) ⊎ ((n : ℕ) × (sent : List (Message C)) × (out : List (Message C)) × Turns m n i sent server t out)
 
 module _ {S C : Type 0} (m : Meaning S C) (n : ℕ) (events : List (Event C)) (past : List (World C)) (w : World C) (run : Run m n events past w) where
+  -- an event of one server
   moved : (k i : ℕ) (x : World C) (t : Server C) (event : Event C) (y : World C) → moment past w k ≡ Some x → slice_get y.servers i ≡ Some t → Moves m x event y → Before m past w k i t
   moved k i x t event y at here v = elim (get_set-cases x.servers v.who v.new i t (subst (λ l. slice_get l i ≡ Some t) v.servers here)) [
     | inl e ↦ record {
@@ -33,6 +34,7 @@ module _ {S C : Type 0} (m : Meaning S C) (n : ℕ) (events : List (Event C)) (p
     | inr e ↦ record { server = t; at = record { world = x; world_is = at; here = e.1 }; goes = inl refl }
   ]
 
+  -- at each moment but the first, server i was there at the one before
   before : (k i : ℕ) (t : Server C) → At past w (suc k) i t → Before m past w k i t
   before k i t a =
       let x = moment_before past w k (suc k) a.world (omega arith) a.world_is in
@@ -45,6 +47,7 @@ module _ {S C : Type 0} (m : Meaning S C) (n : ℕ) (events : List (Event C)) (p
       let same : a.world ≡ b.world = same_Some a.world b.world (sym a.world_is ∙ b.world_is) in
       same_Some s t (sym a.here ∙ (ap (λ (x : World C). slice_get x.servers i) same ∙ b.here))
 
+  -- who is down at one of two neighbouring moments keeps what is stored
   pub stored_stays : (k i : ℕ) (s t : Server C) → At past w k i s → At past w (suc k) i t → (is_up s.mode ≡ false) ⊎ (is_up t.mode ≡ false) → SameStored s t
   stored_stays k i s t a b down =
       let p = before k i t b in
@@ -55,6 +58,7 @@ module _ {S C : Type 0} (m : Meaning S C) (n : ℕ) (events : List (Event C)) (p
         | inr g ↦ turn_stored m g.0 i g.1 p.server t g.2 g.3 d
       ]) down
 
+  -- who comes up begins from what its snapshot covers
   pub resumes : (k i : ℕ) (s t : Server C) → At past w k i s → At past w (suc k) i t → is_up s.mode ≡ false → is_up t.mode ≡ true → t.commit ≡ s.covered
   resumes k i s t a b down up =
       let p = before k i t b in
@@ -65,9 +69,11 @@ module _ {S C : Type 0} (m : Meaning S C) (n : ℕ) (events : List (Event C)) (p
         | inr g ↦ turn_resumes m g.0 i g.1 p.server t g.2 g.3 d
       ]) down
 
+  -- one moment
   at_same : (k l i : ℕ) (s t : Server C) → k ≡ l → At past w k i s → At past w l i t → s.commit ≤ t.commit
   at_same k l i s t e a b = omega (arith, ap (λ (y : Server C). y.commit) (at_one l i s t (subst (λ j. At past w j i s) e a) b))
 
+  -- commit does not fall while the server is up
   rises : (l k i : ℕ) (s t : Server C) → k ≤ l → At past w k i s → At past w l i t → UpFromTo past w i k l → s.commit ≤ t.commit
   rises zero k i s t le a b up = at_same k zero i s t (omega (arith, le)) a b
   rises (suc l) k i s t le a b up = elim (leb_tells k l) [
@@ -83,6 +89,7 @@ module _ {S C : Type 0} (m : Meaning S C) (n : ℕ) (events : List (Event C)) (p
         ]
   ]
 
+  -- what was committed stands in the log as long as the server is up
   pub applied_stays : LawfulMachine m → (k l i : ℕ) (s t : Server C) → k ≤ l → At past w k i s → At past w l i t → UpFromTo past w i k l → (s.commit ≤ t.commit) × Agree s.commit s.log t.log
   applied_stays law k l i s t le a b up =
       let more : s.commit ≤ t.commit = rises l k i s t le a b up in

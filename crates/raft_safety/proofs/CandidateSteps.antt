@@ -17,6 +17,7 @@ use Rattle.raft_safety.proofs.Frame.{log_on}
 use Rattle.raft_safety.proofs.QuietSteps.{revote, revote_extends, revote_apart, revote_ledgers, quiet, grant_ok}
 
 module _ {C : Type 0} (P : List (Entry C) → Type 0) (n : ℕ) (G : History C) (i : ℕ) (s : Server C) (I : Ledgers n G) (ok : ServerOk n G i s) where
+  -- a granted vote
   pub grant_keeps : (from index its_last : ℕ) → RequestOk n G from s.term index its_last → is_up_to_date s.log index its_last ≡ true →
       (let r : Server C = record s { vote = Some from } in
       let out : List (Message C) = record { from = i; to = from; term = s.term; body = VoteReply s.term true } ∷ [] in
@@ -25,6 +26,7 @@ module _ {C : Type 0} (P : List (Entry C) → Type 0) (n : ℕ) (G : History C) 
   grant_keeps from index its_last r newer v = quiet P n G i s I ok _ _ v (omega arith) ok.log ok.role
       (λ k y q. subst (λ (z : Message C). BodyOk n G z.from z.to z.term z.body) (get-one _ k y q) (grant_ok P n G i s I ok from index its_last r newer))
 
+  -- a new candidate
   pub stand_keeps : length s.log < MAX → VotesKept n G.ballots i (stood n i s) (to_others i (vote_request i (stood n i s)) n) → Keeps P n G i (stood n i s) (to_others i (vote_request i (stood n i s)) n)
   unfolding revote ModeOk BodyOk
   stand_keeps room v =

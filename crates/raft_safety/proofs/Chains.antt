@@ -34,18 +34,21 @@ module _ {C : Type 0} (past : List (World C)) (w : World C) where
       let y = chain_end B A b a.agrees in
       sym (take_all (length A) A (omega arith)) ∙ (x.same ∙ take_all (length A) B y.right)
 
+  -- the list is as long as the greatest commit index of a server that was up
   pub chain_length : (A : List (Entry C)) → Chain past w A → IsGreatestCommit past w (length A)
   chain_length A a = record {
     bound = λ k i s at up. let g = a.agrees k i s at in g.right;
     reached = elim a.longest [ inl e ↦ inl (ap length e) | inr r ↦ inr r ];
   }
 
+  -- two greatest ones are in order
   at_most : (c d : ℕ) → IsGreatestCommit past w c → IsGreatestCommit past w d → c ≤ d
   at_most c d a b = elim a.reached [
     | inl e ↦ omega (arith, e)
     | inr r ↦ omega (arith, r.commit, b.bound r.moment r.who r.server r.at r.up)
   ]
 
+  -- and so there is one
   pub greatest_one : (c d : ℕ) → IsGreatestCommit past w c → IsGreatestCommit past w d → c ≡ d
   greatest_one c d a b = omega (arith, at_most c d a b, at_most d c b a)
 
@@ -60,9 +63,11 @@ module _ {C : Type 0} where
   chain_front past w list l x short a at b = chain_end (take l past) x short list b (λ k i s h. a.agrees k i s (at_front past w l x at k i s h))
 
 module _ {S C : Type 0} (m : Meaning S C) (law : LawfulMachine m) (n : ℕ) (events : List (Event C)) (past : List (World C)) (w : World C) (run : Run m n events past w) where
+  -- the run's story
   pub st : Story m n events past w
   st = story m law n events past w run
 
+  -- log matching
   pub log_matching : LogMatching past w
   log_matching k l i j p s t a b one le_s le_t same =
       rooted_two st.history.ledger s.log t.log p (st.rooted k i s a) (st.rooted l j t b) one le_s le_t same
@@ -72,6 +77,7 @@ module _ {S C : Type 0} (m : Meaning S C) (law : LawfulMachine m) (n : ℕ) (eve
   list_fixed list (inl z) some = absurd (omega (arith, z, some))
   list_fixed list (inr f) some = (f.term, f.agree)
 
+  -- the list was admitted entry by entry
   list_sound : Sound m st.list
   list_sound = elim (leb_tells 1 (length st.list)) [
     | inl a ↦
@@ -80,6 +86,7 @@ module _ {S C : Type 0} (m : Meaning S C) (law : LawfulMachine m) (n : ℕ) (eve
     | inr a ↦ subst (Sound m) (sym (none_is st.list (omega (arith, a.1)))) (none_sound m)
   ]
 
+  -- the story's list is the run's
   pub chain : Chain past w st.list
   chain = record { agrees = st.agrees; longest = st.longest; one_leader = one_leader m n events past w run; complete = st.complete }
 
@@ -87,6 +94,7 @@ module _ {S C : Type 0} (m : Meaning S C) (law : LawfulMachine m) (n : ℕ) (eve
   pub chain_safe : (list : List (Entry C)) → Chain past w list → (k : ℕ) → m.safe (state_after m (take k list))
   chain_safe list a k = sound_safe m law (take k list) (first_sound m k list (subst (Sound m) (chain_one past w st.list list chain a) list_sound))
 
+  -- where the story's list comes from
   list_origin : (p : ℕ) → p < length st.list → Origin m events past w st.list p
   list_origin p less =
       let G = st.history in
@@ -107,9 +115,11 @@ module _ {S C : Type 0} (m : Meaning S C) (law : LawfulMachine m) (n : ℕ) (eve
 -- what holds of a server at any moment
 module _ {S C : Type 0} (m : Meaning S C) (law : LawfulMachine m) (n : ℕ) (events : List (Event C)) (past : List (World C)) (w : World C) (run : Run m n events past w)
     (k i : ℕ) (s : Server C) (a : At past w k i s) where
+  -- the story up to that moment
   pub at_story : Story m n (take k events) (take k past) a.world
   at_story = story m law n (take k events) (take k past) a.world (run_front m n events past w run k a.world a.world_is)
 
+  -- the server is borne out by it
   pub server_ok : ServerOk n at_story.history i s
   server_ok = at_story.ok.each i s a.here
 
@@ -117,8 +127,10 @@ module _ {S C : Type 0} (m : Meaning S C) (law : LawfulMachine m) (n : ℕ) (eve
   pub log_admitted : Sound m s.log
   log_admitted = log_sound (Sound m) n at_story.history i s at_story.ok.ledgers server_ok (none_sound m) (first_sound m) at_story.ok.sound
 
+  -- in the words of the machine
   pub log_commands : Admitted m (commands s.log)
   log_commands = sound_admitted m s.log log_admitted
 
+  -- the state after each first part of the server's log is safe
   pub log_safe : (p : ℕ) → m.safe (state_after m (take p s.log))
   log_safe p = sound_safe m law (take p s.log) (first_sound m p s.log log_admitted)

@@ -9,10 +9,12 @@ use Rattle.raft_safety.specs.Claims.{SameStored}
 use Rattle.raft_safety.proofs.Paths.{bool_cases, path_up}
 use Rattle.raft_safety.proofs.LeaderSteps.{greatest_told}
 
+-- the search never goes below where it begins
 pub greatest_from : (test : ℕ → Bool) (low high : ℕ) → low ≤ greatest test low high
 greatest_from test low high = elim (greatest_told test low high) [ inl e ↦ omega (arith, e) | inr e ↦ omega (arith, e.0) ]
 
 module _ {S C : Type 0} (m : Meaning S C) (n i : ℕ) (sent : List (Message C)) where
+  -- no small step lowers commit
   small_commit : (s t : Server C) (out : List (Message C)) → Small m n i sent s t out → s.commit ≤ t.commit
   small_commit s t out (raises x came less e o) = omega (arith, ap (λ (y : Server C). y.commit) e)
   small_commit s t out (stands term_fits index_fits e o) = omega (arith, ap (λ (y : Server C). y.commit) e)
@@ -36,15 +38,18 @@ module _ {S C : Type 0} (m : Meaning S C) (n i : ℕ) (sent : List (Message C)) 
   small_commit s t out (covers e o) = omega (arith, ap (λ (y : Server C). y.commit) e)
   small_commit s t out (beats_all next match mode e o) = omega (arith, ap (λ (y : Server C). y.commit) e)
 
+  -- nor does a path
   path_commit : (t : Server C) (out : List (Message C)) (s : Server C) → Path m n i sent s t out → s.commit ≤ t.commit
   path_commit t out s (still e o) = omega (arith, ap (λ (y : Server C). y.commit) e)
   path_commit t out s (only x) = small_commit s t out x
   path_commit t out s (after_one r x passes p) = omega (arith, small_commit s r [] x, path_commit t out r p)
 
+  -- nor does a turn of a server that stays up
   pub turn_commit : (s t : Server C) (out : List (Message C)) → Turns m n i sent s t out → is_up s.mode ≡ true → is_up t.mode ≡ true → s.commit ≤ t.commit
   turn_commit s t out (walks up p) a b = path_commit t out s p
   turn_commit s t out (resets mode h down e o) a b = absurd (true≢false (sym a ∙ down (sym (ap (λ (y : Server C). is_up y.mode) e) ∙ b)))
 
+  -- a crash and a restart keep what is stored
   pub turn_stored : (s t : Server C) (out : List (Message C)) → Turns m n i sent s t out → (is_up s.mode ≡ false) ⊎ (is_up t.mode ≡ false) → SameStored s t
   turn_stored s t out (walks up p) (inl a) = absurd (true≢false (sym up ∙ a))
   turn_stored s t out (walks up p) (inr b) = absurd (true≢false (sym (path_up m n i sent t out s up p) ∙ b))

@@ -12,6 +12,7 @@ use Rattle.raft_safety.proofs.Paths.{and_both}
 use Rattle.raft_safety.proofs.Logs.{agree_none, agree_sym, agree_trans, agree_less, agree_term, rooted_at}
 
 module _ {C : Type 0} where
+  -- a log that ends in a term above 0 has an entry
   some_entry : (L : List (Entry C)) → 0 < term_at L (length L) → 1 ≤ length L
   unfolding term_at
   some_entry [] h = absurd (omega (arith, h))
@@ -62,17 +63,20 @@ module _ {C : Type 0} where
     | inr a ↦ carried n G log L u k I rl rL up one own a
   ]
 
+  -- what is chosen is not dead: two quorums meet
   pub chosen_not_dead : (n : ℕ) (G : History C) (u k : ℕ) → Chosen n G u k → Dead n G u k → ⊥
   chosen_not_dead n G u k c d =
       let m = meet n (λ i. nat_le k (G.held u i)) (λ i. nat_lt u (G.ballots.term i) && nat_lt (G.held u i) k) c.quorum d in
       omega (arith, leb-true k (G.held u m.0) m.2, ltb-true (G.held u m.0) k (and_both (nat_lt u (G.ballots.term m.0)) (nat_lt (G.held u m.0) k) m.3).1)
 
+  -- what is chosen is in each later term's ledger
   in_later : (n : ℕ) (G : History C) (t u j : ℕ) → Ledgers n G → Chosen n G u j → u < t → 1 ≤ length (G.ledger t) → Agree j (G.ledger u) (G.ledger t)
   in_later n G t u j I c less some = elim (I.carries t u j some less c.one (λ h. c.own)) [
     | inl d ↦ absurd (chosen_not_dead n G u j c d)
     | inr g ↦ g
   ]
 
+  -- what is fixed is in each later term's ledger
   fixed_by_in : (n : ℕ) (G : History C) (v t k : ℕ) (X : List (Entry C)) → Ledgers n G → FixedBy n G v k X → v ≤ t → 1 ≤ length (G.ledger t) → Agree k X (G.ledger t)
   fixed_by_in n G v t k X I f le some = elim (leb_tells (suc f.term) t) [
     | inl h ↦ agree_trans f.agree (agree_less k f.reach (in_later n G t f.term f.place I f.chosen (omega (arith, h.1)) some))
@@ -84,6 +88,7 @@ module _ {C : Type 0} where
   fixed_in n G v t k X I (inl z) le some = subst (λ j. Agree j X (G.ledger t)) (sym z) (agree_none X (G.ledger t))
   fixed_in n G v t k X I (inr f) le some = fixed_by_in n G v t k X I f le some
 
+  -- two fixed lists, the one of the earlier term first
   ordered : (n : ℕ) (G : History C) (v w k j m : ℕ) (X Y : List (Entry C)) → Ledgers n G → (f : FixedBy n G v k X) → (g : FixedBy n G w j Y) → f.term ≤ g.term → m ≤ k → m ≤ j → Agree m X Y
   ordered n G v w k j m X Y I f g le mk mj =
       let early : FixedBy n G f.term k X = record { term = f.term; place = f.place; early = omega arith; reach = f.reach; chosen = f.chosen; agree = f.agree } in

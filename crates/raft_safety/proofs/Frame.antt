@@ -15,9 +15,11 @@ use Rattle.raft_safety.proofs.Growth.{agree_on, carries_on, fixed_on}
 use Rattle.raft_safety.proofs.Voters.{grow_none, grow_more, apart_none, apart_more, voter_on, body_on}
 
 module _ {C : Type 0} where
+  -- a list is its own first part
   pub agree_self : (X : List (Entry C)) → Agree (length X) X X
   agree_self X = record { left = omega arith; right = omega arith; same = refl }
 
+  -- a history extends itself
   pub extends_none : (G : History C) → Extends G G
   extends_none G = record {
     ballots = grow_none G.ballots;
@@ -28,6 +30,7 @@ module _ {C : Type 0} where
     leaders = λ t c h. h;
   }
 
+  -- and what extends it is extended on
   pub extends_more : (G H K : History C) → Extends G H → Extends H K → Extends G K
   extends_more G H K x y = record {
     ballots = grow_more G.ballots H.ballots K.ballots x.ballots y.ballots;
@@ -38,6 +41,7 @@ module _ {C : Type 0} where
     leaders = λ t c h. y.leaders t c (x.leaders t c h);
   }
 
+  -- nothing differs
   pub apart_self : (i : ℕ) (G : History C) → Apart i G G
   apart_self i G = record {
     ballots = apart_none i G.ballots;
@@ -47,6 +51,7 @@ module _ {C : Type 0} where
     ledgers = λ j t other h. refl;
   }
 
+  -- one server's changes, one after the other
   pub apart_both : (i : ℕ) (G H K : History C) → Extends G H → Apart i G H → Apart i H K → Apart i G K
   apart_both i G H K e x y = record {
     ballots = apart_more i G.ballots H.ballots K.ballots x.ballots y.ballots;
@@ -56,22 +61,27 @@ module _ {C : Type 0} where
     ledgers = λ j t other h. y.ledgers j t other (e.leaders t j h) ∙ x.ledgers j t other h;
   }
 
+  -- entries keep their first parts
   pub rooted_on : (G H : History C) (X : List (Entry C)) → Extends G H → Rooted G.ledger X → Rooted H.ledger X
   unfolding Rooted
   rooted_on G H X e r p one le = agree_sym (agree_on G H (term_at X p) p X e (agree_sym (r p one le)))
 
+  -- what is fixed by a term is so by a later one
   pub fixed_later : (n : ℕ) (G : History C) (v w k : ℕ) (X : List (Entry C)) → v ≤ w → Fixed n G v k X → Fixed n G w k X
   fixed_later n G v w k X le (inl z) = inl z
   fixed_later n G v w k X le (inr f) = inr (record { term = f.term; place = f.place; early = omega (arith, f.early, le); reach = f.reach; chosen = f.chosen; agree = f.agree })
 
+  -- and so is less of it
   pub fixed_less : (n : ℕ) (G : History C) (v k j : ℕ) (X : List (Entry C)) → j ≤ k → Fixed n G v k X → Fixed n G v j X
   fixed_less n G v k j X le (inl z) = inl (omega (arith, le, z))
   fixed_less n G v k j X le (inr f) = inr (record { term = f.term; place = f.place; early = f.early; reach = omega (arith, f.reach, le); chosen = f.chosen; agree = agree_less j le f.agree })
 
+  -- and a list with the same first part
   pub fixed_grow : (n : ℕ) (G : History C) (v k : ℕ) (X Y : List (Entry C)) → Agree k X Y → Fixed n G v k X → Fixed n G v k Y
   fixed_grow n G v k X Y a (inl z) = inl z
   fixed_grow n G v k X Y a (inr f) = inr (record { term = f.term; place = f.place; early = f.early; reach = f.reach; chosen = f.chosen; agree = agree_trans (agree_sym a) f.agree })
 
+  -- a vote stays backed
   pub backed_on : (n : ℕ) (G H : History C) (t i : ℕ) (L : List (Entry C)) → Extends G H → Backed n G t i L → Backed n H t i L
   backed_on n G H t i L e b = record {
     late = omega (arith, b.late, e.ballots.terms i);
@@ -90,6 +100,7 @@ module _ {C : Type 0} where
     fixed = fixed_later n H v w commit log le (fixed_on n G H v commit log e h.fixed);
   }
 
+  -- a candidate whose part of the history stays
   candidate_on : (n : ℕ) (G H : History C) (j t : ℕ) (log : List (Entry C)) (votes : List Bool) → Extends G H → (H.leader t ≡ Some j → G.leader t ≡ Some j) →
       CandidateOk n G j t log votes → CandidateOk n H j t log votes
   candidate_on n G H j t log votes e back h = record {
@@ -99,6 +110,7 @@ module _ {C : Type 0} where
     backed = λ i less mark. backed_on n G H t i log e (h.backed i less mark);
   }
 
+  -- a leader whose ledger stays
   leader_on : (n : ℕ) (G H : History C) (j t : ℕ) (log : List (Entry C)) (next match : List ℕ) → Extends G H → (G.leader t ≡ Some j → H.ledger t ≡ G.ledger t) →
       H.held t j ≡ G.held t j → LeaderOk n G j t log next match → LeaderOk n H j t log next match
   leader_on n G H j t log next match e same held h = record {
@@ -110,6 +122,7 @@ module _ {C : Type 0} where
     next_to = h.next_to;
   }
 
+  -- each mode
   pub role_on : (n : ℕ) (G H : History C) (j t : ℕ) (log : List (Entry C)) (mode : Mode) → Extends G H → (H.leader t ≡ Some j → G.leader t ≡ Some j) →
       (G.leader t ≡ Some j → H.ledger t ≡ G.ledger t) → H.held t j ≡ G.held t j → ModeOk n G j t log mode → ModeOk n H j t log mode
   unfolding ModeOk
@@ -135,6 +148,7 @@ module _ {C : Type 0} where
       let m = length entries in
       h ∙ (sym (drop-take prev m A) ∙ (ap (drop prev) (agree_less (prev + m) le a).same ∙ drop-take prev m B))
 
+  -- there is no entry at 0
   pub term_zero : (A : List (Entry C)) → term_at A 0 ≡ 0
   unfolding term_at
   term_zero [] = refl
@@ -146,12 +160,14 @@ module _ {C : Type 0} where
   term_on A B zero a le = term_zero A ∙ sym (term_zero B)
   term_on A B (suc p) a le = agree_term (length A) (suc p) A B a (omega arith) le
 
+  -- a ledger that grows stays fixed
   fixed_on_ledger : (n : ℕ) (G H : History C) (t v k : ℕ) → Extends G H → Fixed n G v k (G.ledger t) → Fixed n H v k (H.ledger t)
   fixed_on_ledger n G H t v k e (inl z) = inl z
   fixed_on_ledger n G H t v k e (inr f) =
       let g : Fixed n H v k (G.ledger t) = fixed_on n G H v k (G.ledger t) e (inr f) in
       fixed_grow n H v k (G.ledger t) (H.ledger t) (agree_less k (let a = f.agree in a.left) (e.ledgers t)) g
 
+  -- an Append stays true
   append_on : (n : ℕ) (G H : History C) (term prev prev_term commit : ℕ) (entries : List (Entry C)) → Extends G H → AppendOk n G term prev prev_term commit entries → AppendOk n H term prev prev_term commit entries
   append_on n G H term prev prev_term commit entries e h =
       let a = e.ledgers term in
@@ -163,6 +179,7 @@ module _ {C : Type 0} where
         fixed = fixed_on_ledger n G H term term commit e h.fixed;
       }
 
+  -- an Install stays true
   install_on : (n : ℕ) (G H : History C) (term : ℕ) (P : List (Entry C)) → Extends G H → InstallOk n G term P → InstallOk n H term P
   install_on n G H term P e h =
       let a = e.ledgers term in
@@ -172,6 +189,7 @@ module _ {C : Type 0} where
         fixed = fixed_on_ledger n G H term term (length P) e h.fixed;
       }
 
+  -- each message stays true
   pub bodies_on : (n : ℕ) (G H : History C) (from to term : ℕ) (body : Body C) → Extends G H → BodyOk n G from to term body → BodyOk n H from to term body
   unfolding BodyOk
   bodies_on n G H from to term (VoteRequest index its_last) e h = record { log = h.log; stood = e.stood term from h.log h.stood; index_is = h.index_is; last_is = h.last_is }
@@ -183,6 +201,7 @@ module _ {C : Type 0} where
   bodies_on n G H from to term (Install P) e h = install_on n G H term P e h
   bodies_on n G H from to term (InstallReply asked at) e h = omega (arith, h, e.held asked from)
 
+  -- with its votes
   pub message_on : (n : ℕ) (G H : History C) (x : Message C) → Extends G H → MessageOk n G x → MessageOk n H x
   message_on n G H x e h = record { vote = body_on G.ballots H.ballots x.from x.to x.body e.ballots h.vote; body = bodies_on n G H x.from x.to x.term x.body e h.body }
 

@@ -11,19 +11,23 @@ use Rattle.raft_safety.proofs.Quorums.{quorum_more, find}
 use Rattle.raft_safety.proofs.Logs.{agree_sym, agree_trans, agree_less, agree_term}
 use Rattle.raft_safety.proofs.Paths.{and_both}
 
+-- two tests that pass
 pub both : (a b : Bool) → a ≡ true → b ≡ true → (a && b) ≡ true
 both true b p q = q
 both false b p q = absurd (true≢false (sym p))
 
 module _ {C : Type 0} where
+  -- a first part of a ledger
   pub agree_on : (G H : History C) (u k : ℕ) (X : List (Entry C)) → Extends G H → Agree k (G.ledger u) X → Agree k (H.ledger u) X
   agree_on G H u k X e a = agree_trans (agree_sym (agree_less k a.left (e.ledgers u))) a
 
+  -- the term of an entry that the longer ledger has
   pub own_back : (G H : History C) (u k : ℕ) → Extends G H → 1 ≤ k → Own H u k → Own G u k
   own_back G H u k e one own le =
       let g = e.ledgers u in
       agree_term (length (G.ledger u)) k (G.ledger u) (H.ledger u) g one le ∙ own (omega (arith, le, g.right))
 
+  -- what is dead stays dead: who left a term acknowledges nothing in it
   pub dead_on : (n : ℕ) (G H : History C) (u k : ℕ) → Extends G H → Dead n G u k → Dead n H u k
   dead_on n G H u k e d = quorum_more n (λ i. nat_lt u (G.ballots.term i) && nat_lt (G.held u i) k) (λ i. nat_lt u (H.ballots.term i) && nat_lt (H.held u i) k)
       (λ i le h.
@@ -32,6 +36,7 @@ module _ {C : Type 0} where
       both (nat_lt u (H.ballots.term i)) (nat_lt (H.held u i) k) (lt-ltb u (H.ballots.term i) (omega (arith, a, e.ballots.terms i))) (lt-ltb (H.held u i) k (omega (arith, b, e.left u i a))))
       d
 
+  -- what is chosen stays chosen
   pub chosen_on : (n : ℕ) (G H : History C) (u k : ℕ) → Extends G H → Chosen n G u k → Chosen n H u k
   chosen_on n G H u k e c =
       let g = e.ledgers u in
@@ -42,18 +47,21 @@ module _ {C : Type 0} where
         quorum = quorum_more n (λ i. nat_le k (G.held u i)) (λ i. nat_le k (H.held u i)) (λ i le h. le-leb k (H.held u i) (omega (arith, leb-true k (G.held u i) h, e.held u i))) c.quorum;
       }
 
+  -- a list that carries an index goes on to
   pub carries_on : (n : ℕ) (G H : History C) (u k : ℕ) (X : List (Entry C)) → Extends G H → 1 ≤ k → Carries n G u k X → Carries n H u k X
   carries_on n G H u k X e one c own = elim (c (own_back G H u k e one own)) [
     | inl d ↦ inl (dead_on n G H u k e d)
     | inr a ↦ inr (agree_on G H u k X e a)
   ]
 
+  -- so does a longer one
   pub carries_grow : (n : ℕ) (G : History C) (u k : ℕ) (X Y : List (Entry C)) → Agree (length X) X Y → Carries n G u k X → Carries n G u k Y
   carries_grow n G u k X Y g c own = elim (c own) [
     | inl d ↦ inl d
     | inr a ↦ inr (agree_trans a (agree_less k a.right g))
   ]
 
+  -- what is fixed stays fixed
   pub fixed_on : (n : ℕ) (G H : History C) (v k : ℕ) (X : List (Entry C)) → Extends G H → Fixed n G v k X → Fixed n H v k X
   fixed_on n G H v k X e (inl z) = inl z
   fixed_on n G H v k X e (inr f) = inr (record {

@@ -18,6 +18,7 @@ use Rattle.raft_safety.proofs.VoterSteps.{VotesKept}
 use Rattle.raft_safety.proofs.Frame.{agree_self, fixed_less, fixed_grow}
 use Rattle.raft_safety.proofs.QuietSteps.{or_either, quiet, no_bodies, as_leader}
 
+-- the search finds where it begins, or something that passes
 pub greatest_told : (test : ℕ → Bool) (low high : ℕ) → (greatest test low high ≡ low) ⊎ ((low < greatest test low high) × (greatest test low high ≤ high) × (test (greatest test low high) ≡ true))
 unfolding greatest
 greatest_told test low zero = inl refl
@@ -32,17 +33,20 @@ take_short zero X = refl
 take_short (suc k) [] = refl
 take_short (suc k) (x ∷ X) = ap (λ l. x ∷ l) (take_short k X)
 
+-- a first part is no longer
 pub length_take : {A : Type 0} (k : ℕ) (X : List A) → length (take k X) ≤ length X
 length_take zero X = omega arith
 length_take (suc k) [] = omega arith
 length_take (suc k) (x ∷ X) = omega (arith, length_take k X)
 
+-- what follows p entries
 pub length_drop : {A : Type 0} (p : ℕ) (X : List A) → p ≤ length X → p + length (drop p X) ≡ length X
 length_drop zero X h = omega arith
 length_drop (suc p) [] h = absurd (omega (arith, h))
 length_drop (suc p) (x ∷ X) h = omega (arith, length_drop p X (omega (arith, h)))
 
 module _ {C : Type 0} (P : List (Entry C) → Type 0) (n : ℕ) (G : History C) (i : ℕ) (s : Server C) (I : Ledgers n G) (ok : ServerOk n G i s) (next match : List ℕ) (mode : s.mode ≡ Leader next match) where
+  -- the server leads
   leader : LeaderOk n G i s.term s.log next match
   leader = as_leader P n G i s I ok next match mode
 
@@ -66,6 +70,7 @@ module _ {C : Type 0} (P : List (Entry C) → Type 0) (n : ℕ) (G : History C) 
             (quorum_told n (λ j. (j == i) || nat_le k (number match j)) a.1);
       }
 
+  -- the log with a commit index that the rule gives
   advanced_log : (k : ℕ) → (k ≡ s.commit) ⊎ ((s.commit < k) × (k ≤ length s.log) × (is_chosen n i s match k ≡ true)) → LogOk n G i s.term s.log s.covered k
   advanced_log k (inl e) = subst (λ c. LogOk n G i s.term s.log s.covered c) (sym e) ok.log
   advanced_log k (inr r) = record {
@@ -84,19 +89,24 @@ module _ {C : Type 0} (P : List (Entry C) → Type 0) (n : ℕ) (G : History C) 
     });
   }
 
+  -- the commit rule
   pub advance_keeps : (out : List (Message C)) → out ≡ [] →
       (let r : Server C = record s { commit = greatest (is_chosen n i s match) s.commit (length s.log) } in VotesKept n G.ballots i r out → Keeps P n G i r out)
   advance_keeps out o v = quiet P n G i s I ok _ out v (omega arith) (advanced_log _ (greatest_told (is_chosen n i s match) s.commit (length s.log))) ok.role (no_bodies P n G i s I ok out o)
 
+  -- the log is the ledger's
   written : (k : ℕ) → k ≤ length s.log → Agree k s.log (G.ledger s.term)
   written k le = let l = leader in subst (λ L. Agree k s.log L) l.wrote (agree_less k le (agree_self s.log))
 
+  -- the term has a leader
   led : 1 ≤ length (G.ledger s.term)
   led = let l = leader in I.led s.term i l.leads
 
+  -- what is committed is fixed in the ledger
   fixed_ledger : (k : ℕ) → k ≤ s.commit → Fixed n G s.term k (G.ledger s.term)
   fixed_ledger k le = fixed_grow n G s.term k s.log (G.ledger s.term) (written k (omega (arith, le, ok.log.within))) (fixed_less n G s.term s.commit k s.log le ok.log.fixed)
 
+  -- the Install of the base
   install_says : InstallOk n G s.term (take s.covered s.log)
   install_says =
       let size : length (take s.covered s.log) ≡ s.covered = length-take-le s.covered s.log (omega (arith, ok.log.based, ok.log.within)) in
@@ -107,6 +117,7 @@ module _ {C : Type 0} (P : List (Entry C) → Type 0) (n : ℕ) (G : History C) 
         fixed = fixed_ledger _ (omega (arith, size, ok.log.based));
       }
 
+  -- the Append from an index
   append_says : (p : ℕ) → p ≤ length s.log → AppendOk n G s.term p (term_at s.log p) s.commit (take 32 (drop p s.log))
   append_says p le =
       let l = leader in
@@ -118,6 +129,7 @@ module _ {C : Type 0} (P : List (Entry C) → Type 0) (n : ℕ) (G : History C) 
         fixed = fixed_ledger s.commit (omega arith);
       }
 
+  -- what a beat sends
   beat_says : (to next_index : ℕ) → 1 ≤ next_index → next_index ≤ suc (length s.log) → BodyOk n G i to s.term (beat_body s next_index)
   unfolding BodyOk
   beat_says to next_index one le = elim (bool_cases (nat_le next_index s.covered)) [
@@ -125,6 +137,7 @@ module _ {C : Type 0} (P : List (Entry C) → Type 0) (n : ℕ) (G : History C) 
     | inr e ↦ rw e (append_says (next_index - 1) (omega (arith, one, le)))
   ]
 
+  -- a beat
   pub beat_keeps : VotesKept n G.ballots i s (to_others i (beat_message i s next) n) → Keeps P n G i s (to_others i (beat_message i s next) n)
   beat_keeps v = quiet P n G i s I ok s _ v (omega arith) ok.log ok.role
       (λ k x h. let r = to_others_is i (beat_message i s next) n k x h in let l = leader in

@@ -16,10 +16,12 @@ module _ {S C : Type 0} (m : Meaning S C) (n i : ℕ) (s : Server C) (input : In
   LeadingIn : Server C → Type 0
   LeadingIn t = is_leader t.mode ≡ true → Leading m n i s input t
 
+  -- nothing changed
   same : LeadingIn s
   unfolding LeadingIn
   same l = goes_on refl refl refl refl
 
+  -- a vote
   request_leads : (from term index its_last : ℕ) → LeadingIn (receives m.noop n i s from term (VoteRequest index its_last)).server
   unfolding LeadingIn
   request_leads from term index its_last = elim (bool_cases (grants s from term index its_last)) [
@@ -27,6 +29,7 @@ module _ {S C : Type 0} (m : Meaning S C) (n i : ℕ) (s : Server C) (input : In
     | inr e ↦ rw e (λ l. goes_on refl refl refl refl)
   ]
 
+  -- a vote that counts
   counted_leads : (from : ℕ) (mode : Mode) → s.mode ≡ mode → LeadingIn (counted m.noop n s from mode)
   unfolding LeadingIn
   counted_leads from Down e = same
@@ -37,12 +40,14 @@ module _ {S C : Type 0} (m : Meaning S C) (n i : ℕ) (s : Server C) (input : In
   ]
   counted_leads from (Leader next match) e = same
 
+  -- a reply to a request for votes
   vote_leads : (from term asked : ℕ) (granting : Bool) → LeadingIn (receives m.noop n i s from term (VoteReply asked granting)).server
   vote_leads from term asked granting = elim (bool_cases ((asked == s.term) && granting)) [
     | inl e ↦ rw e (counted_leads from s.mode refl)
     | inr e ↦ rw e same
   ]
 
+  -- an Append
   append_leads : (from term prev prev_term commit : ℕ) (entries : List _) → LeadingIn (receives m.noop n i s from term (Append prev prev_term commit entries)).server
   unfolding LeadingIn
   append_leads from term prev prev_term commit entries = elim (bool_cases (nat_lt term s.term)) [
@@ -56,6 +61,7 @@ module _ {S C : Type 0} (m : Meaning S C) (n i : ℕ) (s : Server C) (input : In
     ])
   ]
 
+  -- an Install
   install_leads : (from term : ℕ) (P : List _) → LeadingIn (receives m.noop n i s from term (Install P)).server
   unfolding LeadingIn
   install_leads from term P = elim (bool_cases (nat_lt term s.term)) [
@@ -69,6 +75,7 @@ module _ {S C : Type 0} (m : Meaning S C) (n i : ℕ) (s : Server C) (input : In
     ])
   ]
 
+  -- the commit rule
   advance_leads : (mode : Mode) → s.mode ≡ mode → LeadingIn (advanced_in n i s mode)
   unfolding LeadingIn
   advance_leads Down e = same
@@ -76,6 +83,7 @@ module _ {S C : Type 0} (m : Meaning S C) (n i : ℕ) (s : Server C) (input : In
   advance_leads (Candidate votes) e = same
   advance_leads (Leader next match) e = λ l. hears s next match (ap is_leader e) e refl refl refl
 
+  -- an ok
   ok_leads : (from at : ℕ) (mode : Mode) → s.mode ≡ mode → LeadingIn (hears_ok n i s from at mode)
   unfolding LeadingIn
   ok_leads from at Down e = same
@@ -86,6 +94,7 @@ module _ {S C : Type 0} (m : Meaning S C) (n i : ℕ) (s : Server C) (input : In
     | inr q ↦ rw q (advance_leads s.mode refl)
   ]
 
+  -- a refusal
   refusal_leads : (from at : ℕ) (mode : Mode) → s.mode ≡ mode → LeadingIn (hears_refusal n i s from at mode)
   unfolding LeadingIn
   refusal_leads from at Down e = same
@@ -93,6 +102,7 @@ module _ {S C : Type 0} (m : Meaning S C) (n i : ℕ) (s : Server C) (input : In
   refusal_leads from at (Candidate votes) e = same
   refusal_leads from at (Leader next match) e = λ l. hears _ _ _ (ap is_leader e) refl refl refl refl
 
+  -- each message
   receives_leads : (from term : ℕ) (body : Body C) → LeadingIn (receives m.noop n i s from term body).server
   receives_leads from term (VoteRequest index its_last) = request_leads from term index its_last
   receives_leads from term (VoteReply asked granting) = vote_leads from term asked granting
@@ -119,6 +129,7 @@ followers_follow m n i s input t e l (leading.proposes command leads its is) = l
 followers_follow m n i s input t e l (wins votes mode is) = let q : Follower ≡ Candidate votes = sym e ∙ mode in cc
 
 module _ {S C : Type 0} (m : Meaning S C) (n i : ℕ) (s : Server C) where
+  -- also one of a greater term
   met_leads : (from term : ℕ) (body : Body C) (input : Input C) → LeadingIn m n i s input (receives m.noop n i (met term s) from term body).server
   unfolding LeadingIn
   met_leads from term body input = elim (bool_cases (nat_lt s.term term)) [
@@ -127,6 +138,7 @@ module _ {S C : Type 0} (m : Meaning S C) (n i : ℕ) (s : Server C) where
     | inr e ↦ rw e (receives_leads m n i s input from term body)
   ]
 
+  -- a timeout
   timeout_leads : (turn : Turn C) → times_out n i s ≡ Ok turn → LeadingIn m n i s Timeout turn.server
   unfolding LeadingIn
   timeout_leads turn h = elim (bool_cases (is_leader s.mode)) [
@@ -137,17 +149,20 @@ module _ {S C : Type 0} (m : Meaning S C) (n i : ℕ) (s : Server C) where
     ]
   ]
 
+  -- a proposal of a leader
   admitted_leads : (command : C) (r : Option Refusal) (turn : Turn C) → is_leader s.mode ≡ true → unless r (silent (extended s command)) ≡ Ok turn → LeadingIn m n i s (Propose command) turn.server
   unfolding LeadingIn
   admitted_leads command None turn l h = subst (λ t. LeadingIn m n i s (Propose command) t.server) (same_ok _ _ h) (λ q. leading.proposes command l refl refl)
   admitted_leads command (Some r) turn l h = absurd (cc)
 
+  -- a proposal
   propose_leads : (command : C) (turn : Turn C) → proposes m s command ≡ Ok turn → LeadingIn m n i s (Propose command) turn.server
   propose_leads command turn h = elim (bool_cases (is_leader s.mode)) [
     | inl l ↦ admitted_leads command (admitted m s command) turn l (rw l at h)
     | inr l ↦ absurd (let q = rw l at h in cc)
   ]
 
+  -- each input of a server that is up
   acts_leads : (input : Input C) (turn : Turn C) → acts m n i s input ≡ Ok turn → LeadingIn m n i s input turn.server
   unfolding LeadingIn
   acts_leads (Arrives x) turn h = elim (bool_cases (nat_lt x.from n)) [
@@ -161,6 +176,7 @@ module _ {S C : Type 0} (m : Meaning S C) (n i : ℕ) (s : Server C) where
   acts_leads Crash turn h = subst (λ t. LeadingIn m n i s Crash t.server) (same_ok _ _ h) (λ l. absurd (cc))
   acts_leads Restart turn h = absurd (cc)
 
+  -- of one that is down
   wakes_leads : (input : Input C) (turn : Turn C) → wakes s input ≡ Ok turn → LeadingIn m n i s input turn.server
   unfolding LeadingIn
   wakes_leads (Arrives x) turn h = absurd (cc)
@@ -171,6 +187,7 @@ module _ {S C : Type 0} (m : Meaning S C) (n i : ℕ) (s : Server C) where
   wakes_leads Crash turn h = absurd (cc)
   wakes_leads Restart turn h = subst (λ t. LeadingIn m n i s Restart t.server) (same_ok _ _ h) (λ l. absurd (cc))
 
+  -- each step
   pub step_leads : (input : Input C) (turn : Turn C) → step m n i s input ≡ Ok turn → is_leader turn.server.mode ≡ true → Leading m n i s input turn.server
   unfolding LeadingIn
   step_leads input turn h = elim (bool_cases (is_up s.mode)) [

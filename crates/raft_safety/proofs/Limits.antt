@@ -17,6 +17,7 @@ record Bounded {C : Type 0} (n : ℕ) (t : Server C) (out : List (Message C)) : 
   says : (k : ℕ) (x : Message C) → slice_get out k ≡ Some x → Within n x
 
 module _ {S C : Type 0} (m : Meaning S C) (n i : ℕ) (less_n : i < n) (sent : List (Message C)) (given : (x : Message C) → Came sent x → Within n x) where
+  -- a step that sends nothing
   says_none : (t : Server C) (out : List (Message C)) → out ≡ [] → t.term ≤ MAX → Bounded n t out
   says_none t out o le = record { term = le; says = λ k x h. absurd (let q = rw o at h in cc) }
 
@@ -39,6 +40,7 @@ module _ {S C : Type 0} (m : Meaning S C) (n i : ℕ) (less_n : i < n) (sent : L
         subst (λ z. Within n z) (sym r.3) (record { from = less_n; to = r.1; apart = λ q. r.2 (sym q); term = fits });
   }
 
+  -- each small step
   small_bounded : (s t : Server C) (out : List (Message C)) → s.term ≤ MAX → Small m n i sent s t out → Bounded n t out
   small_bounded s t out le (raises x came less e o) = says_none t out o (let w = given x came in omega (arith, ap (λ (y : Server C). y.term) e, w.term))
   small_bounded s t out le (stands term_fits index_fits e o) =
@@ -62,11 +64,13 @@ module _ {S C : Type 0} (m : Meaning S C) (n i : ℕ) (less_n : i < n) (sent : L
   small_bounded s t out le (covers e o) = says_none t out o (omega (arith, le, ap (λ (y : Server C). y.term) e))
   small_bounded s t out le (beats_all next match mode e o) = says_all t out s.term _ o le (omega (arith, le, ap (λ (y : Server C). y.term) e))
 
+  -- each path
   path_bounded : (t : Server C) (out : List (Message C)) (s : Server C) → s.term ≤ MAX → Path m n i sent s t out → Bounded n t out
   path_bounded t out s le (still e o) = says_none t out o (omega (arith, le, ap (λ (y : Server C). y.term) e))
   path_bounded t out s le (only x) = small_bounded s t out le x
   path_bounded t out s le (after_one r x passes p) = let b = small_bounded s r [] le x in path_bounded t out r b.term p
 
+  -- each turn
   turn_bounded : (s t : Server C) (out : List (Message C)) → s.term ≤ MAX → Turns m n i sent s t out → Bounded n t out
   turn_bounded s t out le (walks up p) = path_bounded t out s le p
   turn_bounded s t out le (resets mode h down e o) = says_none t out o (omega (arith, le, ap (λ (y : Server C). y.term) e))
@@ -78,10 +82,12 @@ pub record Bounds {C : Type 0} (n : ℕ) (w : World C) : Type 0 where
   pub given : (x : Message C) → Came w.sent x → Within n x
 
 module _ {S C : Type 0} (m : Meaning S C) (n : ℕ) (w : World C) (event : Event C) (next : World C) (b : Bounds n w) (x : Moves m w event next) where
+  -- the server that took the event
   now : Bounded n x.new x.out
   now = turn_bounded m n x.who (let q = get-within w.servers x.who x.old x.here in omega (arith, q, b.size)) w.sent b.given x.old x.new x.out (b.terms x.who x.old x.here)
       (subst (λ k. Turns m k x.who w.sent x.old x.new x.out) b.size x.path)
 
+  -- an event
   next_bounds : Bounds n next
   next_bounds = record {
     size = ap length x.servers ∙ (set-length w.servers x.who x.new ∙ b.size);
@@ -96,6 +102,7 @@ module _ {S C : Type 0} (m : Meaning S C) (n : ℕ) (w : World C) (event : Event
   }
 
 module _ {S C : Type 0} (m : Meaning S C) (n : ℕ) where
+  -- a run
   pub run_bounds : (events : List (Event C)) (past : List (World C)) (w : World C) → Run m n events past w → Bounds n w
   run_bounds events past w start = record {
     size = replicate-length n _;

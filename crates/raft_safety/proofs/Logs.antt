@@ -8,15 +8,19 @@ use Rattle.raft_model.specs.Chains.{Agree}
 use Rattle.raft_safety.specs.Agreement.{Rooted, Adopted}
 
 module _ {C : Type 0} where
+  -- the first 0 entries
   pub agree_none : (A B : List (Entry C)) → Agree 0 A B
   agree_none A B = record { left = omega arith; right = omega arith; same = refl }
 
+  -- either way round
   pub agree_sym : {k : ℕ} {A B : List (Entry C)} → Agree k A B → Agree k B A
   agree_sym h = record { left = h.right; right = h.left; same = sym h.same }
 
+  -- by a third one
   pub agree_trans : {k : ℕ} {A B C : List (Entry C)} → Agree k A B → Agree k B C → Agree k A C
   agree_trans g h = record { left = g.left; right = h.right; same = g.same ∙ h.same }
 
+  -- fewer entries
   pub agree_less : {k : ℕ} {A B : List (Entry C)} (j : ℕ) → j ≤ k → Agree k A B → Agree j A B
   agree_less {k} {A} {B} j le h = record {
     left = omega (arith, le, h.left);
@@ -51,6 +55,7 @@ module _ {C : Type 0} where
   passed ledger L log c p e false true false rl rL hc lL he hx hy hz h = absurd (true≢false (sym h))
   passed ledger L log c p e false false z rl rL hc lL he hx hy hz h = absurd (true≢false (sym h))
 
+  -- where the log is cut nothing agrees further
   cut_short : (L log : List (Entry C)) (c p k : ℕ) (e : Entry C) (x y z : Bool) → Agree k L log → e.term ≡ term_at L (suc p) → leb (suc p) (length log) ≡ y → eqb (term_at log (suc p)) e.term ≡ z → (x || (y && z)) ≡ false → k ≤ p
   cut_short L log c p k e true y z hk he hy hz h = absurd (true≢false h)
   cut_short L log c p k e false false z hk he hy hz h = omega (arith, leb-false (suc p) (length log) hy, hk.right)
@@ -58,6 +63,7 @@ module _ {C : Type 0} where
   cut_short L log c p k e false true false hk he hy hz h =
       elim (leb_tells k p) [ inl t ↦ t.1 | inr t ↦ absurd (eqb-false (term_at log (suc p)) e.term hz (sym (agree_term k (suc p) L log hk (omega arith) (omega (arith, t.1))) ∙ sym he)) ]
 
+  -- a part of a list, entry by entry
   segment : (p : ℕ) (L : List (Entry C)) (e : Entry C) (es : List (Entry C)) → e ∷ es ≡ take (suc (length es)) (drop p L) → (e.term ≡ term_at L (suc p)) × (es ≡ take (length es) (drop (suc p) L))
   unfolding term_at
   segment zero [] e es h = absurd (cc (h))
@@ -65,6 +71,7 @@ module _ {C : Type 0} where
   segment (suc p) [] e es h = absurd (cc (h))
   segment (suc p) (x ∷ L) e es h = segment p L e es h
 
+  -- the leader's first m in place of a log that agrees with no more
   adopted_cut : (L log : List (Entry C)) (p m : ℕ) → p ≤ m → m ≤ length L → ((k : ℕ) → Agree k L log → k ≤ p) → Adopted L log (take m L) m
   adopted_cut L log p m le lm short = record {
     reached = agree_take m m L (omega arith) lm;
@@ -72,6 +79,7 @@ module _ {C : Type 0} where
     kept = λ k h. agree_take k m L (omega (arith, short k h, le)) lm;
   }
 
+  -- one entry of the message
   merge_step : (L log : List (Entry C)) (c p m : ℕ) (e : Entry C) (es : List (Entry C)) (t : Bool) → Agree p log L → m ≡ p + suc (length es) → m ≤ length L → e ∷ es ≡ take (suc (length es)) (drop p L) → (leb (suc p) c || (leb (suc p) (length log) && eqb (term_at log (suc p)) e.term)) ≡ t → (t ≡ true → Adopted L log (merge c (suc p) log es) m) → Adopted L log (cond t (merge c (suc p) log es) (take p log ++ e ∷ es)) m
   merge_step L log c p m e es true hp hm hl hs test r = r refl
   merge_step L log c p m e es false hp hm hl hs test r =
@@ -95,11 +103,13 @@ module _ {C : Type 0} where
       (passed ledger L log c p e (leb (suc p) c) (leb (suc p) (length log)) (eqb (term_at log (suc p)) e.term) rl rL hc (omega (arith, hm, hl)) s.0 refl refl refl test)
       (omega (arith, hm)) hl s.1)
 
+  -- the snapshot in place of the log
   installed : (L log P : List (Entry C)) → Agree (length P) P L → ((k : ℕ) → Agree k L log → k < length P) → Adopted L log P (length P)
   installed L log P hP short =
       let q : take (length P) L ≡ P = sym hP.same ∙ take_all (length P) P (omega arith) in
       subst (λ w. Adopted L log w (length P)) q (adopted_cut L log (length P) (length P) (omega arith) hP.right (λ k h. omega (arith, short k h)))
 
+  -- by the two tests
   install_step : (ledger : ℕ → List (Entry C)) (L log P : List (Entry C)) (y z : Bool) → Rooted ledger log → Rooted ledger L → 1 ≤ length P → Agree (length P) P L → leb (length P) (length log) ≡ y → eqb (term_at log (length P)) (term_at P (length P)) ≡ z → Adopted L log (cond (y && z) (P ++ drop (length P) log) P) (length P)
   install_step ledger L log P true true rl rL one hP hy hz =
       let n = length P in
@@ -112,10 +122,12 @@ module _ {C : Type 0} where
       (λ k h. elim (leb_tells (suc k) (length P)) [ inl t ↦ t.1 | inr t ↦ absurd (eqb-false (term_at log (length P)) (term_at P (length P)) hz (sym (agree_term k (length P) L log h one (omega (arith, t.1))) ∙ sym (agree_term (length P) (length P) P L hP one (omega arith)))) ])
   install_step ledger L log P false z rl rL one hP hy hz = installed L log P hP (λ k h. omega (arith, leb-false (length P) (length log) hy, h.right))
 
+  -- Install: the log stays, or becomes the snapshot's entries
   pub install_adopts : (ledger : ℕ → List (Entry C)) (L log P : List (Entry C)) → Rooted ledger log → Rooted ledger L → 1 ≤ length P → Agree (length P) P L → Adopted L log (install log P) (length P)
   unfolding install
   install_adopts ledger L log P rl rL one hP = install_step ledger L log P (leb (length P) (length log)) (eqb (term_at log (length P)) (term_at P (length P))) rl rL one hP refl refl
 
+  -- an entry and its first part
   pub rooted_at : (ledger : ℕ → List (Entry C)) (A : List (Entry C)) (p : ℕ) → Rooted ledger A → 1 ≤ p → p ≤ length A → Agree p A (ledger (term_at A p))
   unfolding Rooted
   rooted_at ledger A p r one le = r p one le

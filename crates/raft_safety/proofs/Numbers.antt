@@ -12,6 +12,7 @@ use Rattle.raft_safety.proofs.Sound.{sound_short}
 use Rattle.raft_safety.proofs.Chains.{server_ok, log_admitted}
 
 module _ {S C : Type 0} (m : Meaning S C) where
+  -- a server at any moment
   pub server_limits : LawfulMachine m → (n : ℕ) (events : List (Event C)) (past : List (World C)) (w : World C) → Run m n events past w → (k i : ℕ) (s : Server C) → At past w k i s → Limits s
   server_limits law n events past w r k i s a =
       let ok = server_ok m law n events past w r k i s a in
@@ -24,5 +25,6 @@ module _ {S C : Type 0} (m : Meaning S C) where
         terms = ok.log.terms;
       }
 
+  -- a message that was ever sent
   pub message_within : (n : ℕ) (events : List (Event C)) (past : List (World C)) (w : World C) → Run m n events past w → (k : ℕ) (x : Message C) → slice_get w.sent k ≡ Some x → Within n x
   message_within n events past w r k x h = let b = run_bounds m n events past w r in b.given x (k, h)

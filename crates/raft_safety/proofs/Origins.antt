@@ -44,6 +44,7 @@ module _ {S C : Type 0} (m : Meaning S C) (events : List (Event C)) (past : List
         grew = o.grew;
       }
 
+  -- a moment stays one while the run goes on
   at_on : (next : World C) (k i : ℕ) (s : Server C) → At past w k i s → At (past ++ w ∷ []) next k i s
   at_on next k i s a = record { world = a.world; world_is = get-more (past ++ w ∷ []) (next ∷ []) k a.world a.world_is; here = a.here }
 
@@ -72,15 +73,19 @@ pub record Born {S C : Type 0} (m : Meaning S C) (events : List (Event C)) (past
 
 module _ {S C : Type 0} (m : Meaning S C) (n : ℕ) (events : List (Event C)) (past : List (World C)) (w : World C) (event : Event C) (next : World C) (even : length events ≡ length past)
     (G : History C) (ok : WorldOk m n G w) (x : Moves m w event next) (g : WorldGoes m n G next x.new) (born : Born m events past w G) where
+  -- the server before the event
   old_ok : ServerOk n G x.who x.old
   old_ok = ok.each x.who x.old x.here
 
+  -- the server after the event
   pub now_here : slice_get next.servers x.who ≡ Some x.new
   now_here = subst (λ l. slice_get l x.who ≡ Some x.new) (sym x.servers) (get_set-same w.servers x.who x.new (get-within w.servers x.who x.old x.here))
 
+  -- is borne out too
   new_ok : ServerOk n g.after x.who x.new
   new_ok = g.ok.each x.who x.new now_here
 
+  -- the entry that follows the first p of the ledger of term u has an origin
   Comes : ℕ → ℕ → Type 0
   Comes u p = Origin m (events ++ event ∷ []) (past ++ w ∷ []) next (g.after.ledger u) p
 
@@ -167,6 +172,7 @@ module _ {S C : Type 0} (m : Meaning S C) (n : ℕ) (events : List (Event C)) (p
         | inr a ↦ now u p e its l term log (omega (arith, a.1, less, ap length (sym log ∙ wrote), push_length x.old.log e)) own (elected votes mode log)
       ]
 
+  -- an event keeps the origins
   pub born_next : Born m (events ++ event ∷ []) (past ++ w ∷ []) next g.after
   unfolding Comes
   born_next = record {

@@ -11,15 +11,18 @@ use Rattle.raft_model.specs.Servers.{Server, Turn, Mode, Down, Follower, Candida
 use Rattle.raft_model.specs.Steps.{Input, Arrives, Timeout, Beat, Propose, Compact, Crash, Restart, receives, times_out, proposes, acts, wakes, step, admitted, unless}
 use Rattle.raft_safety.specs.SmallSteps.{IsAck, Came, Small, raises, stands, grants_vote, refuses, counts, wins, extends, follows, takes_append, takes_install, acks, backs, advances, covers, beats_all, Path, still, only, after_one, Turns, walks, resets}
 
+-- true or false
 pub bool_cases : (b : Bool) → (b ≡ true) ⊎ (b ≡ false)
 bool_cases true = inl refl
 bool_cases false = inr refl
 
+-- two tests that pass
 pub and_both : (a b : Bool) → (a && b) ≡ true → (a ≡ true) × (b ≡ true)
 and_both true true h = (refl, refl)
 and_both true false h = absurd (cc)
 and_both false b h = absurd (cc)
 
+-- one answer
 pub same_ok : {A E : Type 0} (a b : A) → let x : Result A E = Ok a in x ≡ Ok b → a ≡ b
 same_ok a b h = cc
 
@@ -34,6 +37,7 @@ CameIn m sent i Crash = Unit {0}
 CameIn m sent i Restart = Unit {0}
 
 module _ {S C : Type 0} (m : Meaning S C) (n i : ℕ) (sent : List (Message C)) where
+  -- small steps to a turn
   PathTo : Server C → Turn C → Type 0
   PathTo s turn = Path m n i sent s turn.server turn.sent
 
@@ -52,6 +56,7 @@ module _ {S C : Type 0} (m : Meaning S C) (n i : ℕ) (sent : List (Message C)) 
     | inr e ↦ rw e (only (refuses from term _ _ came tt refl refl))
   ]
 
+  -- a vote that counts
   votes_path : (s : Server C) (votes : List Bool) (from term : ℕ) → from < n → Came sent (record { from = from; to = i; term = term; body = VoteReply s.term true }) →
       s.mode ≡ Candidate votes → PathTo s (silent (with_votes m.noop n s (slice_set votes from true)))
   unfolding PathTo
@@ -61,6 +66,7 @@ module _ {S C : Type 0} (m : Meaning S C) (n i : ℕ) (sent : List (Message C)) 
     | inr e ↦ rw e (only (counts votes from term less came mode refl refl))
   ]
 
+  -- a vote, in each mode
   counted_path : (s : Server C) (mode : Mode) (from term : ℕ) → from < n → Came sent (record { from = from; to = i; term = term; body = VoteReply s.term true }) →
       s.mode ≡ mode → PathTo s (silent (counted m.noop n s from mode))
   unfolding PathTo
@@ -69,6 +75,7 @@ module _ {S C : Type 0} (m : Meaning S C) (n i : ℕ) (sent : List (Message C)) 
   counted_path s (Candidate votes) from term less came mode = votes_path s votes from term less came mode
   counted_path s (Leader next match) from term less came mode = still refl refl
 
+  -- a reply to a request for votes
   vote_path : (s : Server C) (from term asked : ℕ) (granting : Bool) → from < n → Came sent (record { from = from; to = i; term = term; body = VoteReply asked granting }) →
       PathTo s (receives m.noop n i s from term (VoteReply asked granting))
   unfolding PathTo
@@ -85,6 +92,7 @@ module _ {S C : Type 0} (m : Meaning S C) (n i : ℕ) (sent : List (Message C)) 
   same_term : (term : ℕ) (s : Server C) → term ≤ s.term → nat_lt term s.term ≡ false → term ≡ s.term
   same_term term s le e = omega (arith, le, ltb-false term s.term e)
 
+  -- an Append
   append_path : (s : Server C) (from term prev prev_term commit : ℕ) (entries : List (Entry C)) → term ≤ s.term →
       Came sent (record { from = from; to = i; term = term; body = Append prev prev_term commit entries }) →
       PathTo s (receives m.noop n i s from term (Append prev prev_term commit entries))
@@ -102,6 +110,7 @@ module _ {S C : Type 0} (m : Meaning S C) (n i : ℕ) (sent : List (Message C)) 
     ])
   ]
 
+  -- an Install
   install_path : (s : Server C) (from term : ℕ) (P : List (Entry C)) → term ≤ s.term →
       Came sent (record { from = from; to = i; term = term; body = Install P }) → PathTo s (receives m.noop n i s from term (Install P))
   unfolding PathTo
@@ -124,6 +133,7 @@ module _ {S C : Type 0} (m : Meaning S C) (n i : ℕ) (sent : List (Message C)) 
   advance_path s (Candidate votes) mode = still refl refl
   advance_path s (Leader next match) mode = only (advances next match mode refl refl)
 
+  -- an ok
   ok_path : (s : Server C) (mode : Mode) (from term at : ℕ) (body : Body C) → Came sent (record { from = from; to = i; term = term; body = body }) → IsAck body s.term at →
       s.mode ≡ mode → PathTo s (silent (hears_ok n i s from at mode))
   unfolding PathTo
@@ -138,6 +148,7 @@ module _ {S C : Type 0} (m : Meaning S C) (n i : ℕ) (sent : List (Message C)) 
     | inr e ↦ rw e (advance_path s s.mode refl)
   ]
 
+  -- a refusal
   refusal_path : (s : Server C) (mode : Mode) (from at : ℕ) → s.mode ≡ mode → PathTo s (silent (hears_refusal n i s from at mode))
   unfolding PathTo
   refusal_path s Down from at mode = still refl refl
@@ -166,6 +177,7 @@ module _ {S C : Type 0} (m : Meaning S C) (n i : ℕ) (sent : List (Message C)) 
     | inr e ↦ rw e (still refl refl)
   ]
 
+  -- also of a greater term
   met_path : (s : Server C) (from term : ℕ) (body : Body C) → from < n → Came sent (record { from = from; to = i; term = term; body = body }) →
       PathTo s (receives m.noop n i (met term s) from term body)
   unfolding PathTo
@@ -175,6 +187,7 @@ module _ {S C : Type 0} (m : Meaning S C) (n i : ℕ) (sent : List (Message C)) 
     | inr e ↦ rw e (receives_path s from term body less (omega (arith, ltb-false s.term term e)) came)
   ]
 
+  -- a timeout
   timeout_path : (s : Server C) (turn : Turn C) → times_out n i s ≡ Ok turn → PathTo s turn
   unfolding PathTo
   timeout_path s turn h = elim (bool_cases (is_leader s.mode)) [
@@ -187,6 +200,7 @@ module _ {S C : Type 0} (m : Meaning S C) (n i : ℕ) (sent : List (Message C)) 
     ]
   ]
 
+  -- a beat
   beats_path : (s : Server C) (mode : Mode) → s.mode ≡ mode → PathTo s (record { server = s; sent = beats n i s mode })
   unfolding PathTo
   beats_path s Down mode = still refl refl
@@ -194,12 +208,14 @@ module _ {S C : Type 0} (m : Meaning S C) (n i : ℕ) (sent : List (Message C)) 
   beats_path s (Candidate votes) mode = still refl refl
   beats_path s (Leader next match) mode = only (beats_all next match mode refl refl)
 
+  -- a proposal of a leader
   admitted_path : (s : Server C) (command : C) (next match : List ℕ) (r : Option Refusal) (turn : Turn C) → m.commands.Fits command → s.mode ≡ Leader next match → admitted m s command ≡ r →
       unless r (silent (extended s command)) ≡ Ok turn → PathTo s turn
   unfolding PathTo
   admitted_path s command next match None turn is mode none h = subst (λ t. PathTo s t) (same_ok _ _ h) (only (extends next match command is mode none refl refl))
   admitted_path s command next match (Some r) turn is mode none h = absurd (cc)
 
+  -- a proposal
   propose_path : (s : Server C) (command : C) (mode : Mode) (turn : Turn C) → m.commands.Fits command → s.mode ≡ mode → proposes m s command ≡ Ok turn → PathTo s turn
   propose_path s command Down turn is mode h = absurd (let g = rw mode at h in cc)
   propose_path s command Follower turn is mode h = absurd (let g = rw mode at h in cc)
@@ -208,9 +224,11 @@ module _ {S C : Type 0} (m : Meaning S C) (n i : ℕ) (sent : List (Message C)) 
       let leads : is_leader s.mode ≡ true = ap is_leader mode in
       admitted_path s command next match (admitted m s command) turn is mode refl (rw leads at h)
 
+  -- a turn
   TurnsTo : Server C → Turn C → Type 0
   TurnsTo s turn = Turns m n i sent s turn.server turn.sent
 
+  -- each input of a server that is up
   acts_path : (s : Server C) (input : Input C) (turn : Turn C) → is_up s.mode ≡ true → CameIn m sent i input → acts m n i s input ≡ Ok turn → TurnsTo s turn
   unfolding PathTo TurnsTo
   acts_path s (Arrives message) turn up came h = elim (bool_cases (nat_lt message.from n)) [
@@ -225,6 +243,7 @@ module _ {S C : Type 0} (m : Meaning S C) (n i : ℕ) (sent : List (Message C)) 
   acts_path s Crash turn up came h = subst (λ t. TurnsTo s t) (same_ok _ _ h) (resets Down tt (λ u. absurd (cc)) refl refl)
   acts_path s Restart turn up came h = absurd (cc)
 
+  -- of one that is down
   wakes_path : (s : Server C) (input : Input C) (turn : Turn C) → is_up s.mode ≡ false → wakes s input ≡ Ok turn → TurnsTo s turn
   unfolding TurnsTo
   wakes_path s (Arrives message) turn down h = absurd (cc)
@@ -235,6 +254,7 @@ module _ {S C : Type 0} (m : Meaning S C) (n i : ℕ) (sent : List (Message C)) 
   wakes_path s Crash turn down h = absurd (cc)
   wakes_path s Restart turn down h = subst (λ t. TurnsTo s t) (same_ok _ _ h) (resets Follower tt (λ u. down) refl refl)
 
+  -- each step is a turn
   pub step_path : (s : Server C) (input : Input C) (turn : Turn C) → CameIn m sent i input → step m n i s input ≡ Ok turn → Turns m n i sent s turn.server turn.sent
   unfolding TurnsTo
   step_path s input turn came h = elim (bool_cases (is_up s.mode)) [
@@ -260,6 +280,7 @@ module _ {S C : Type 0} (m : Meaning S C) (n i : ℕ) (sent : List (Message C)) 
   small_up s t out up (covers e o) = ap (λ (x : Server C). is_up x.mode) e ∙ up
   small_up s t out up (beats_all next match mode e o) = ap (λ (x : Server C). is_up x.mode) e ∙ up
 
+  -- nor does a path
   pub path_up : (t : Server C) (out : List (Message C)) (s : Server C) → is_up s.mode ≡ true → Path m n i sent s t out → is_up t.mode ≡ true
   path_up t out s up (still e o) = ap (λ (x : Server C). is_up x.mode) e ∙ up
   path_up t out s up (only x) = small_up s t out up x

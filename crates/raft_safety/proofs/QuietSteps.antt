@@ -20,6 +20,7 @@ use Rattle.raft_safety.proofs.Completeness.{grant_carries}
 use Rattle.raft_safety.proofs.Growth.{carries_on}
 use Rattle.raft_safety.proofs.Frame.{agree_self, extends_none, fixed_less, log_on, role_on, bodies_on}
 
+-- one of two tests passes
 pub or_either : (a b : Bool) → (a || b) ≡ true → (a ≡ true) ⊎ (b ≡ true)
 or_either true b h = inl refl
 or_either false b h = inr h
@@ -29,16 +30,19 @@ module _ {C : Type 0} where
   unfoldable pub revote : History C → Ballots → (ℕ → ℕ → Option (List (Entry C))) → History C
   revote G B f = record { ballots = B; stood = f; leader = G.leader; ledger = G.ledger; held = G.held }
 
+  -- they take nothing back
   pub revote_extends : (G : History C) (B : Ballots) (f : ℕ → ℕ → Option (List (Entry C))) → BallotsGrow G.ballots B →
       ((t c : ℕ) (L : List (Entry C)) → G.stood t c ≡ Some L → f t c ≡ Some L) → Extends G (revote G B f)
   unfolding revote
   revote_extends G B f g h = record { ballots = g; ledgers = λ t. agree_self (G.ledger t); held = λ u i. omega arith; left = λ u i less. refl; stood = h; leaders = λ t c q. q }
 
+  -- and are of one server
   pub revote_apart : (i : ℕ) (G : History C) (B : Ballots) (f : ℕ → ℕ → Option (List (Entry C))) → BallotsApart i G.ballots B →
       ((j t : ℕ) → j ≢ i → f t j ≡ G.stood t j) → Apart i G (revote G B f)
   unfolding revote
   revote_apart i G B f a h = record { ballots = a; stood = h; held = λ j u other. refl; leaders = λ j t other q. q; ledgers = λ j t other q. refl }
 
+  -- and leave the ledgers
   pub revote_ledgers : (n : ℕ) (G : History C) (B : Ballots) (f : ℕ → ℕ → Option (List (Entry C))) → Ledgers n G → Extends G (revote G B f) →
       ((t c : ℕ) (L : List (Entry C)) → f t c ≡ Some L → Rooted G.ledger L) → Ledgers n (revote G B f)
   unfolding revote
@@ -80,25 +84,31 @@ module _ {C : Type 0} (P : List (Entry C) → Type 0) (n : ℕ) (G : History C) 
         writes = λ u. inl refl;
       }
 
+  -- nothing is said
   pub no_bodies : (out : List (Message C)) → out ≡ [] → (k : ℕ) (x : Message C) → slice_get out k ≡ Some x → BodyOk n G x.from x.to x.term x.body
   no_bodies out o k x h = absurd (let q = rw o at h in cc)
 
+  -- a log in a later term
   log_later : (t : ℕ) → s.term ≤ t → LogOk n G i t s.log s.covered s.commit
   log_later t le = log_on n G G i s.term t s.log s.covered s.commit (extends_none G) (λ u. refl) le ok.log
 
+  -- a greater term
   pub raise_keeps : (t : ℕ) (out : List (Message C)) → s.term < t → out ≡ [] →
       (let r : Server C = record s { term = t; vote = None; known = None; mode = Follower } in VotesKept n G.ballots i r out → Keeps P n G i r out)
   unfolding ModeOk
   raise_keeps t out less o v = quiet _ out v (omega (arith, less)) (log_later t (omega (arith, less))) tt (no_bodies out o)
 
+  -- a follower
   pub follow_keeps : (from : ℕ) (out : List (Message C)) → out ≡ [] → VotesKept n G.ballots i (following s from) out → Keeps P n G i (following s from) out
   unfolding ModeOk
   follow_keeps from out o v = quiet _ out v (omega arith) ok.log tt (no_bodies out o)
 
+  -- a compaction
   pub cover_keeps : (out : List (Message C)) → out ≡ [] → VotesKept n G.ballots i (compacted s) out → Keeps P n G i (compacted s) out
   cover_keeps out o v = quiet _ out v (omega arith)
       (record { terms = ok.log.terms; rooted = ok.log.rooted; holds = ok.log.holds; based = omega arith; within = ok.log.within; fixed = ok.log.fixed }) ok.role (no_bodies out o)
 
+  -- who does nothing owes nothing
   idle_role : (mode : Mode) → IsIdle mode → ModeOk n G i s.term s.log mode
   unfolding ModeOk
   idle_role Down h = tt
@@ -106,6 +116,7 @@ module _ {C : Type 0} (P : List (Entry C) → Type 0) (n : ℕ) (G : History C) 
   idle_role (Candidate votes) h = absurd h
   idle_role (Leader next match) h = absurd h
 
+  -- a crash or a restart
   pub reset_keeps : (mode : Mode) (out : List (Message C)) → IsIdle mode → out ≡ [] →
       (let r : Server C = record s { commit = s.covered; known = None; mode = mode } in VotesKept n G.ballots i r out → Keeps P n G i r out)
   reset_keeps mode out h o v = quiet _ out v (omega arith)
@@ -118,6 +129,7 @@ module _ {C : Type 0} (P : List (Entry C) → Type 0) (n : ℕ) (G : History C) 
         fixed = fixed_less n G s.term s.commit s.covered s.log ok.log.based ok.log.fixed;
       }) (idle_role mode h) (no_bodies out o)
 
+  -- a refusal owes nothing
   refused_body : (from to term : ℕ) (body : Body C) → OwesNothing body → BodyOk n G from to term body
   unfolding BodyOk
   refused_body from to term (VoteRequest index its_last) h = absurd h
@@ -129,18 +141,22 @@ module _ {C : Type 0} (P : List (Entry C) → Type 0) (n : ℕ) (G : History C) 
   refused_body from to term (Install covered) h = absurd h
   refused_body from to term (InstallReply asked at) h = omega (arith, h)
 
+  -- a refusal
   pub refuse_keeps : (x : Message C) → OwesNothing x.body → VotesKept n G.ballots i s (x ∷ []) → Keeps P n G i s (x ∷ [])
   refuse_keeps x h v = quiet s (x ∷ []) v (omega arith) ok.log ok.role
       (λ k y q. subst (λ z. BodyOk n G z.from z.to z.term z.body) (get-one x k y q) (refused_body x.from x.to x.term x.body h))
 
+  -- a candidate is borne out
   pub as_candidate : (votes : List Bool) → s.mode ≡ Candidate votes → CandidateOk n G i s.term s.log votes
   unfolding ModeOk
   as_candidate votes e = let h : ModeOk n G i s.term s.log (Candidate votes) = subst (λ x. ModeOk n G i s.term s.log x) e ok.role in h
 
+  -- a leader is borne out
   pub as_leader : (next match : List ℕ) → s.mode ≡ Leader next match → LeaderOk n G i s.term s.log next match
   unfolding ModeOk
   as_leader next match e = let h : ModeOk n G i s.term s.log (Leader next match) = subst (λ x. ModeOk n G i s.term s.log x) e ok.role in h
 
+  -- the vote's comparison
   up_to_date_told : (L log : List (Entry C)) → is_up_to_date log (length L) (last_term L) ≡ true → UpToDate L log
   up_to_date_told L log h = elim (or_either (nat_lt (last_term log) (last_term L)) ((last_term log == last_term L) && nat_le (length log) (length L)) h) [
     | inl a ↦ inl (ltb-true (last_term log) (last_term L) a)
@@ -148,6 +164,7 @@ module _ {C : Type 0} (P : List (Entry C) → Type 0) (n : ℕ) (G : History C) 
         inr (eqb-true (last_term log) (last_term L) c.0, leb-true (length log) (length L) c.1)
   ]
 
+  -- a granted vote is backed
   pub grant_ok : (from index its_last : ℕ) → RequestOk n G from s.term index its_last → is_up_to_date s.log index its_last ≡ true → GrantOk n G i from s.term
   grant_ok from index its_last r newer =
       let up : UpToDate r.log s.log = up_to_date_told r.log s.log (subst (λ x. is_up_to_date s.log x (last_term r.log) ≡ true) r.index_is (subst (λ x. is_up_to_date s.log index x ≡ true) r.last_is newer)) in
@@ -160,6 +177,7 @@ module _ {C : Type 0} (P : List (Entry C) → Type 0) (n : ℕ) (G : History C) 
         };
       }
 
+  -- a candidate with a further vote
   counts_role : (votes : List Bool) (from : ℕ) → s.mode ≡ Candidate votes → GrantOk n G from i s.term → CandidateOk n G i s.term s.log (slice_set votes from true)
   counts_role votes from mode g =
       let c = as_candidate votes mode in
@@ -173,11 +191,13 @@ module _ {C : Type 0} (P : List (Entry C) → Type 0) (n : ℕ) (G : History C) 
         ];
       }
 
+  -- a vote counted
   pub count_keeps : (votes : List Bool) (from : ℕ) (out : List (Message C)) → s.mode ≡ Candidate votes → GrantOk n G from i s.term → out ≡ [] →
       (let r : Server C = record s { mode = Candidate (slice_set votes from true) } in VotesKept n G.ballots i r out → Keeps P n G i r out)
   unfolding ModeOk
   count_keeps votes from out mode g o v = quiet _ out v (omega arith) ok.log (counts_role votes from mode g) (no_bodies out o)
 
+  -- an ok says what is held
   pub ack_told : (from to term asked at : ℕ) (body : Body C) → IsAck body asked at → BodyOk n G from to term body → at ≤ G.held asked from
   unfolding BodyOk
   ack_told from to term asked at (VoteRequest index its_last) h b = absurd h
@@ -192,6 +212,7 @@ module _ {C : Type 0} (P : List (Entry C) → Type 0) (n : ℕ) (G : History C) 
   pub held_within : (j : ℕ) (next match : List ℕ) → LeaderOk n G i s.term s.log next match → G.held s.term j ≤ length s.log
   held_within j next match l = omega (arith, I.reaches s.term j, ap length l.wrote)
 
+  -- a leader that hears an ok
   acks_role : (next match : List ℕ) (j at : ℕ) → s.mode ≡ Leader next match → at ≤ G.held s.term j →
       LeaderOk n G i s.term s.log (slice_set next j (suc (max (number match j) at))) (slice_set match j (max (number match j) at))
   acks_role next match j at mode le =
@@ -216,6 +237,7 @@ module _ {C : Type 0} (P : List (Entry C) → Type 0) (n : ℕ) (G : History C) 
         ];
       }
 
+  -- a leader that hears a refusal
   backs_role : (next match : List ℕ) (j at : ℕ) → s.mode ≡ Leader next match →
       LeaderOk n G i s.term s.log (slice_set next j (max (suc (number match j)) (min (number next j - 1) (suc at)))) match
   backs_role next match j at mode =
@@ -236,6 +258,7 @@ module _ {C : Type 0} (P : List (Entry C) → Type 0) (n : ℕ) (G : History C) 
         ];
       }
 
+  -- an ok
   pub ack_keeps : (next match : List ℕ) (j at : ℕ) (out : List (Message C)) → s.mode ≡ Leader next match → at ≤ G.held s.term j → out ≡ [] →
       VotesKept n G.ballots i (acked s j at next match) out → Keeps P n G i (acked s j at next match) out
   unfolding ModeOk
@@ -244,6 +267,7 @@ module _ {C : Type 0} (P : List (Entry C) → Type 0) (n : ℕ) (G : History C) 
     | inr e ↦ rw e (λ v. quiet s out v (omega arith) ok.log ok.role (no_bodies out o))
   ]
 
+  -- a refusal heard
   pub back_keeps : (next match : List ℕ) (j at : ℕ) (out : List (Message C)) → s.mode ≡ Leader next match → out ≡ [] →
       VotesKept n G.ballots i (backed s j at next match) out → Keeps P n G i (backed s j at next match) out
   unfolding ModeOk

@@ -22,6 +22,7 @@ use Rattle.raft_safety.proofs.WritingSteps.{agree_append}
 use Rattle.raft_safety.proofs.Election.{Moves, event_moves}
 use Rattle.raft_safety.proofs.Stories.{story}
 
+-- nothing passes
 count_none : (n : ℕ) (f : ℕ → Bool) → ((j : ℕ) → j < n → IsTrue (f j) → ⊥) → count f n ≡ 0
 unfolding count
 count_none zero f h = refl
@@ -58,6 +59,7 @@ greatest_last test low (suc high) k some above le t = elim (bool_cases (nat_lt l
   ]
 ]
 
+-- the test says so
 quorum_test : (n : ℕ) (f : ℕ → Bool) → Quorum n f → is_quorum n f ≡ true
 unfolding is_quorum Quorum
 quorum_test n f q = lt-ltb n (2 * count f n) q
@@ -73,6 +75,7 @@ module _ {S C : Type 0} (m : Meaning S C) (n i : ℕ) (two : 2 ≤ n) where
     ]
   ])
 
+  -- one leader's numbers
   same_match : (next match next2 match2 : List ℕ) → Leader next match ≡ Leader next2 match2 → match ≡ match2
   same_match next match next2 match2 e = cc
 
@@ -103,6 +106,7 @@ module _ {S C : Type 0} (m : Meaning S C) (n i : ℕ) (two : 2 ≤ n) where
       past_match match k (λ j less other. omega (arith, low, ap (λ l. number l j) same, number_replicate n 0 j less)) q
 
 module _ {S C : Type 0} (m : Meaning S C) (law : LawfulMachine m) (n : ℕ) (two : 2 ≤ n) where
+  -- an event
   next_risen : (events : List (Event C)) (past : List (World C)) (w : World C) (event : Event C) (next : World C) → Run m n events past w → Moves m w event next →
       ((i : ℕ) (s : Server C) → slice_get w.servers i ≡ Some s → HasRisen n i s) → (i : ℕ) (t : Server C) → slice_get next.servers i ≡ Some t → HasRisen n i t
   next_risen events past w event next run x old i t here = elim (get_set-cases w.servers x.who x.new i t (subst (λ l. slice_get l i ≡ Some t) x.servers here)) [
@@ -120,6 +124,7 @@ module _ {S C : Type 0} (m : Meaning S C) (law : LawfulMachine m) (n : ℕ) (two
         subst (λ j. HasRisen n j t) (sym e.0) (subst (λ (y : Server C). HasRisen n x.who y) e.1 new)
   ]
 
+  -- a run
   pub run_risen : (events : List (Event C)) (past : List (World C)) (w : World C) → Run m n events past w → (i : ℕ) (s : Server C) → slice_get w.servers i ≡ Some s → HasRisen n i s
   run_risen events past w start i s here = λ next match k e low high own q.
       let same = replicate-get n _ i s here in

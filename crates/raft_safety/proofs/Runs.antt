@@ -7,6 +7,7 @@ use Rattle.raft_safety.specs.Claims.{Happened}
 use Rattle.raft_safety.proofs.Places.{get-where, get-more, get-last, get-some, get-one, get-within, take_append, take_none, push_length}
 
 module _ {S C : Type 0} (m : Meaning S C) (n : ℕ) where
+  -- as many events as worlds before the last one
   pub run_even : (events : List (Event C)) (past : List (World C)) (w : World C) → Run m n events past w → length events ≡ length past
   run_even events past w start = refl
   run_even events past w (more {events = es} {past = before} {w = last} e next r is h) = push_length es e ∙ (ap suc (run_even es before last r) ∙ sym (push_length before last))

@@ -19,6 +19,7 @@ use Rattle.raft_safety.proofs.WritingSteps.{extend_keeps, win_keeps}
 use Rattle.raft_safety.proofs.Election.{Moves}
 use Rattle.raft_safety.proofs.Sound.{Sound, none_sound, first_sound, proposal_sound, noop_sound}
 
+-- a server and messages given by equations
 shift : {C : Type 0} (P : List (Entry C) → Type 0) (n : ℕ) (G : History C) (i : ℕ) (t r : Server C) (out said : List (Message C)) → t ≡ r → out ≡ said → VotesKept n G.ballots i t out →
     (VotesKept n G.ballots i r said → Keeps P n G i r said) → Keeps P n G i t out
 shift P n G i t r out said e o v f =
@@ -26,9 +27,11 @@ shift P n G i t r out said e o v f =
     (f (subst (λ x. VotesKept n G.ballots i r x) o (subst (λ x. VotesKept n G.ballots i x out) e v))))
 
 module _ {S C : Type 0} (m : Meaning S C) (law : LawfulMachine m) (n i : ℕ) (sent : List (Message C)) where
+  -- the votes of a small step
   kept_votes : (G : History C) (s t : Server C) (out : List (Message C)) → ServerOk n G i s → SentOk n G sent → Small m n i sent s t out → VotesKept n G.ballots i t out
   kept_votes G s t out ok given x = small_votes m n G.ballots i sent s ok.voter (λ y came. let g = given y came in g.vote) t out x
 
+  -- each small step
   small_keeps : (G : History C) (s t : Server C) (out : List (Message C)) → Ledgers n G → ServerOk n G i s → SentOk n G sent → VotesKept n G.ballots i t out → Small m n i sent s t out → Keeps (Sound m) n G i t out
   unfolding BodyOk
   small_keeps G s t out I ok given v (raises x came less e o) = shift (Sound m) n G i t _ out out e refl v (raise_keeps (Sound m) n G i s I ok x.term out less o)
@@ -54,6 +57,7 @@ module _ {S C : Type 0} (m : Meaning S C) (law : LawfulMachine m) (n i : ℕ) (s
   small_keeps G s t out I ok given v (covers e o) = shift (Sound m) n G i t _ out out e refl v (cover_keeps (Sound m) n G i s I ok out o)
   small_keeps G s t out I ok given v (beats_all next match mode e o) = shift (Sound m) n G i t _ out _ e o v (beat_keeps (Sound m) n G i s I ok next match mode)
 
+  -- each path
   pub path_keeps : (t : Server C) (out : List (Message C)) (G : History C) (s : Server C) → Ledgers n G → ServerOk n G i s → SentOk n G sent → Path m n i sent s t out → Keeps (Sound m) n G i t out
   path_keeps t out G s I ok given (still e o) = subst (λ x. Keeps (Sound m) n G i x out) (sym e) (subst (λ x. Keeps (Sound m) n G i s x) (sym o) (keeps_same (Sound m) n G i s I ok))
   path_keeps t out G s I ok given (only x) = small_keeps G s t out I ok given (kept_votes G s t out ok given x) x
@@ -62,6 +66,7 @@ module _ {S C : Type 0} (m : Meaning S C) (law : LawfulMachine m) (n i : ℕ) (s
       keeps_more (Sound m) n G i s r t out ok passes one (path_keeps t out one.after r one.ledgers one.own (λ y came. message_on n G one.after y one.extends (given y came)) p)
 
 module _ {S C : Type 0} (m : Meaning S C) (law : LawfulMachine m) (n i : ℕ) (sent : List (Message C)) where
+  -- each turn
   pub turn_keeps : (t : Server C) (out : List (Message C)) (G : History C) (s : Server C) → Ledgers n G → ServerOk n G i s → SentOk n G sent → Turns m n i sent s t out → Keeps (Sound m) n G i t out
   turn_keeps t out G s I ok given (walks up p) = path_keeps m law n i sent t out G s I ok given p
   turn_keeps t out G s I ok given (resets mode h down e o) = shift (Sound m) n G i t _ out out e refl
@@ -83,22 +88,26 @@ pub record WorldGoes {S C : Type 0} (m : Meaning S C) (n : ℕ) (G : History C) 
   pub writes : (u : ℕ) → (after.ledger u ≡ G.ledger u) ⊎ ((new.term ≡ u) × (is_leader new.mode ≡ true))
 
 module _ {S C : Type 0} (m : Meaning S C) (law : LawfulMachine m) (n : ℕ) (G : History C) (w : World C) (event : Event C) (next : World C) (ok : WorldOk m n G w) (x : Moves m w event next) where
+  -- the server that took the event
   kept : Keeps (Sound m) n G x.who x.new x.out
   kept = turn_keeps m law n x.who w.sent x.new x.out G x.old ok.ledgers (ok.each x.who x.old x.here) ok.given
       (subst (λ k. Turns m k x.who w.sent x.old x.new x.out) ok.size x.path)
 
+  -- each server
   goes_each : (j : ℕ) (s : Server C) → slice_get (slice_set w.servers x.who x.new) j ≡ Some s → ServerOk n kept.after j s
   goes_each j s h = elim (get_set-cases w.servers x.who x.new j s h) [
     | inl e ↦ subst (λ k. ServerOk n kept.after k s) (sym e.0) (subst (λ y. ServerOk n kept.after x.who y) e.1 kept.own)
     | inr e ↦ server_on n G kept.after x.who j s kept.extends kept.apart e.0 (ok.each j s e.1)
   ]
 
+  -- each message
   goes_sent : SentOk n kept.after (w.sent ++ x.out)
   goes_sent y came = elim (get-split w.sent x.out came.0 y came.1) [
     | inl e ↦ message_on n G kept.after y kept.extends (ok.given y (came.0, e))
     | inr e ↦ kept.says e.0 y e.1
   ]
 
+  -- each event
   pub world_goes : WorldGoes m n G next x.new
   world_goes = record {
     after = kept.after;

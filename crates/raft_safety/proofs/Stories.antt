@@ -21,9 +21,11 @@ use Rattle.raft_safety.proofs.Origins.{Born, now_here, born_next}
 use Rattle.raft_safety.proofs.Sound.{none_sound}
 use Rattle.raft_safety.proofs.Steps.{WorldOk, WorldGoes, world_goes}
 
+-- before the first event
 no_history : {C : Type 0} → History C
 no_history = record { ballots = no_ballots; stood = λ t c. None; leader = λ t. None; ledger = λ t. []; held = λ u i. 0 }
 
+-- its ledgers are empty
 first_ledgers : {C : Type 0} (n : ℕ) → let G : History C = no_history in Ledgers n G
 unfolding no_history Rooted
 first_ledgers n = record {
@@ -38,6 +40,7 @@ first_ledgers n = record {
   stands = λ t c L h. absurd (cc);
 }
 
+-- each server is borne out by it
 first_server : {C : Type 0} (n j : ℕ) → let s : Server C = newcomer in let G : History C = no_history in Voter n no_ballots j s.term s.vote s.mode → ServerOk n G j s
 unfolding no_history Rooted ModeOk
 first_server n j v = record {
@@ -55,6 +58,7 @@ first_server n j v = record {
   role = tt;
 }
 
+-- and the first world
 first_ok : {S C : Type 0} (m : Meaning S C) (n : ℕ) → let w : World C = first n in let G : History C = no_history in WorldOk m n G w
 unfolding no_history
 first_ok {C = C} m n =
@@ -70,10 +74,12 @@ first_ok {C = C} m n =
       sound = λ u. none_sound m;
     }
 
+-- an empty log is rooted in any ledgers
 first_rooted : {C : Type 0} (log : List (Entry C)) → length log ≡ 0 → let G : History C = no_history in Rooted G.ledger log
 unfolding Rooted
 first_rooted log none p one le = absurd (omega (arith, none, one, le))
 
+-- no entry wants an origin yet
 first_born : {S C : Type 0} (m : Meaning S C) (n : ℕ) → let w : World C = first n in let G : History C = no_history in Born m [] [] w G
 unfolding no_history
 first_born m n = record { own = λ u p less. absurd (omega (arith, less)) }
@@ -104,6 +110,7 @@ module _ {C : Type 0} where
     | inr e ↦ inr (e.0, subst (λ (x : World C). slice_get x.servers i ≡ Some s) (sym (get-one next e.1.0 a.world e.1.1)) a.here)
   ]
 
+  -- what was reached stays so
   reached_on : (past : List (World C)) (w next : World C) (c : ℕ) → Reached past w c → Reached (past ++ w ∷ []) next c
   reached_on past w next c r = let a = r.at in record {
     moment = r.moment;
@@ -114,6 +121,7 @@ module _ {C : Type 0} where
     at = record { world = a.world; world_is = get-more (past ++ w ∷ []) (next ∷ []) r.moment a.world a.world_is; here = a.here };
   }
 
+  -- what is reached now
   reached_now : (past : List (World C)) (w : World C) (i : ℕ) (s : Server C) → slice_get w.servers i ≡ Some s → is_up s.mode ≡ true → Reached past w s.commit
   reached_now past w i s h up = record { up = up; moment = length past; who = i; server = s; commit = refl; at = record { world = w; world_is = get-last past w; here = h } }
 
@@ -126,6 +134,7 @@ record Longer {C : Type 0} (n : ℕ) (H : History C) (past : List (World C)) (w 
   covers : new.commit ≤ length list
   longest : (list ≡ []) ⊎ Reached past w (length list)
 
+-- the list goes on where a server has committed more
 longer : {C : Type 0} (n : ℕ) (H : History C) (past : List (World C)) (w : World C) (i v : ℕ) (new : Server C) (old : List (Entry C)) → Ledgers n H → ServerOk n H i new →
     slice_get w.servers i ≡ Some new → Fixed n H v (length old) old → ((old ≡ []) ⊎ Reached past w (length old)) → (is_up new.mode ≡ false → new.commit ≤ length old) → Longer n H past w new old
 longer n H past w i v new old I ok here f top low = elim (leb_tells new.commit (length old)) [
@@ -145,12 +154,15 @@ longer n H past w i v new old I ok here f top low = elim (leb_tells new.commit (
 ]
 
 module _ {S C : Type 0} (m : Meaning S C) (law : LawfulMachine m) (n : ℕ) (events : List (Event C)) (past : List (World C)) (w : World C) (event : Event C) (next : World C) (st : Story m n events past w) (x : Moves m w event next) where
+  -- the history after the event
   g : WorldGoes m n st.history next x.new
   g = world_goes m law n st.history w event next st.ok x
 
+  -- the server that took the event
   here : slice_get next.servers x.who ≡ Some x.new
   here = now_here m n events past w event next st.even st.history st.ok x g st.born
 
+  -- the list after the event
   more_list : Longer n g.after (past ++ w ∷ []) next x.new st.list
   more_list = longer n g.after (past ++ w ∷ []) next x.who st.term x.new st.list g.ok.ledgers (g.ok.each x.who x.new here) here
       (fixed_on n st.history g.after st.term (length st.list) st.list g.extends st.fixed)
@@ -160,12 +172,14 @@ module _ {S C : Type 0} (m : Meaning S C) (law : LawfulMachine m) (n : ℕ) (eve
       let a = st.agrees (length past) x.who x.old (record { world = w; world_is = get-last past w; here = x.here }) in
       omega (arith, turns_down m (length w.servers) x.who w.sent x.old x.new x.out o.log.based x.path down, a.right))
 
+  -- what was committed is fixed by the newest history
   next_committed : (k i : ℕ) (s : Server C) → At (past ++ w ∷ []) next k i s → Fixed n g.after s.term s.commit s.log
   next_committed k i s a = elim (at_cases past w next k i s a) [
     | inl e ↦ fixed_on n st.history g.after s.term s.commit s.log g.extends (st.committed k i s e.1)
     | inr e ↦ let o = g.ok.each i s e.1 in o.log.fixed
   ]
 
+  -- all logs
   next_rooted : (k i : ℕ) (s : Server C) → At (past ++ w ∷ []) next k i s → Rooted g.after.ledger s.log
   next_rooted k i s a = elim (at_cases past w next k i s a) [
     | inl e ↦ rooted_on st.history g.after s.log g.extends (st.rooted k i s e.1)
@@ -181,6 +195,7 @@ module _ {S C : Type 0} (m : Meaning S C) (law : LawfulMachine m) (n : ℕ) (eve
         let b = more_list.grows in omega (arith, a.right, b.right)
   ]
 
+  -- all have committed a first part of it
   next_agrees : (k i : ℕ) (s : Server C) → At (past ++ w ∷ []) next k i s → Agree s.commit s.log more_list.list
   next_agrees k i s a = elim (at_cases past w next k i s a) [
     | inl e ↦ let b = st.agrees k i s e.1 in agree_trans b (agree_less s.commit b.right more_list.grows)
@@ -188,6 +203,7 @@ module _ {S C : Type 0} (m : Meaning S C) (law : LawfulMachine m) (n : ℕ) (eve
         fixed_two n g.after s.term more_list.term s.commit (length more_list.list) s.commit s.log more_list.list g.ok.ledgers o.log.fixed more_list.fixed (omega arith) (now_covers i s e.1)
   ]
 
+  -- a leader's log is the ledger of its term
   leads_log : (j t : ℕ) (leads : Leads next j t) → (1 ≤ length (g.after.ledger t)) × (leads.server.log ≡ g.after.ledger t)
   leads_log j t leads =
       let o = g.ok.each j leads.server leads.here in
@@ -196,6 +212,7 @@ module _ {S C : Type 0} (m : Meaning S C) (law : LawfulMachine m) (n : ℕ) (eve
         leader_wrote n g.after j leads.server (Leader leads.next leads.match) o leads.mode refl ∙ ap g.after.ledger leads.term,
       )
 
+  -- a leader of the newest world
   last_complete : (k i j t : ℕ) (s : Server C) (y : World C) → At (past ++ w ∷ []) next k i s → s.term ≤ t → next ≡ y → (leads : Leads y j t) →
       Agree s.commit more_list.list leads.server.log
   last_complete k i j t s y a low same leads =
@@ -206,6 +223,7 @@ module _ {S C : Type 0} (m : Meaning S C) (law : LawfulMachine m) (n : ℕ) (eve
       let h : (z : World C) → next ≡ z → (ls : Leads z j t) → Agree s.commit more_list.list ls.server.log = λ z q. subst (λ v. (ls : Leads v j t) → Agree s.commit more_list.list ls.server.log) q f in
       h y same leads
 
+  -- each leader
   next_complete : (k l i j t : ℕ) (s : Server C) (y : World C) → k ≤ l → At (past ++ w ∷ []) next k i s → s.term ≤ t → moment (past ++ w ∷ []) next l ≡ Some y → (leads : Leads y j t) →
       Agree s.commit more_list.list leads.server.log
   next_complete k l i j t s y le a low at leads = elim (get-where (past ++ w ∷ []) (next ∷ []) l y at) [
@@ -218,6 +236,7 @@ module _ {S C : Type 0} (m : Meaning S C) (law : LawfulMachine m) (n : ℕ) (eve
         last_complete k i j t s y a low same leads
   ]
 
+  -- an event goes on with it
   pub next_story : Story m n (events ++ event ∷ []) (past ++ w ∷ []) next
   next_story = record {
     even = push_length events event ∙ (ap suc st.even ∙ sym (push_length past w));
@@ -235,14 +254,17 @@ module _ {S C : Type 0} (m : Meaning S C) (law : LawfulMachine m) (n : ℕ) (eve
   }
 
 module _ {S C : Type 0} (m : Meaning S C) (law : LawfulMachine m) (n : ℕ) where
+  -- the first world has newcomers alone
   first_server_is : (k i : ℕ) (s : Server C) → At [] (first n) k i s → s ≡ newcomer
   first_server_is k i s a =
       let w : first n ≡ a.world = get-one (first n) k a.world a.world_is in
       sym (replicate-get n newcomer i s (ap (λ (x : World C). slice_get x.servers i) w ∙ a.here))
 
+  -- who have committed nothing
   first_zero : (k i : ℕ) (s : Server C) → At [] (first n) k i s → s.commit ≡ 0
   first_zero k i s a = ap (λ (x : Server C). x.commit) (first_server_is k i s a)
 
+  -- every run has a story
   pub story : (events : List (Event C)) (past : List (World C)) (w : World C) → Run m n events past w → Story m n events past w
   story events past w start = record {
     even = refl;

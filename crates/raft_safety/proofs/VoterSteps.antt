@@ -18,13 +18,16 @@ pub record VotesKept {C : Type 0} (n : ℕ) (B : Ballots) (i : ℕ) (t : Server 
   pub votes : Votes n B i t.term t.vote t.mode
   pub says : (k : ℕ) (x : Message C) → slice_get out k ≡ Some x → VoteBody votes.after x.from x.to x.body
 
+-- all messages
 abbrev pub VotesSent : {C : Type 0} → Ballots → List (Message C) → Type 0
 VotesSent {C} B sent = (x : Message C) → Came sent x → VoteBody B x.from x.to x.body
 
+-- a free vote goes to the one that has it
 free_is : (vote : Option ℕ) (c d : ℕ) → is_free_for vote c ≡ true → vote ≡ Some d → c ≡ d
 free_is None c d h e = absurd (cc)
 free_is (Some v) c d h e = let q : v ≡ c = eqb-true v c h in cc
 
+-- a refusal says nothing of votes
 owes : {C : Type 0} (from to : ℕ) (body : Body C) → OwesNothing body → (D : Ballots) → VoteBody D from to body
 unfolding VoteBody
 owes from to (VoteRequest index its_last) h D = tt
@@ -36,12 +39,15 @@ owes from to (Install covered) h D = tt
 owes from to (InstallReply asked at) h D = tt
 
 module _ {C : Type 0} (n : ℕ) (B : Ballots) (i : ℕ) where
+  -- nothing is said
   quiet : (t : Server C) → Votes n B i t.term t.vote t.mode → VotesKept n B i t []
   quiet t v = record { votes = v; says = λ k x h. absurd (cc) }
 
+  -- the same by an equation
   quiet_out : (t : Server C) (out : List (Message C)) → out ≡ [] → Votes n B i t.term t.vote t.mode → VotesKept n B i t out
   quiet_out t out e v = record { votes = v; says = λ k x h. absurd (let q = rw e at h in cc) }
 
+  -- one message
   says_one : (t : Server C) (x : Message C) (v : Votes n B i t.term t.vote t.mode) → VoteBody v.after x.from x.to x.body → VotesKept n B i t (x ∷ [])
   says_one t x v h = record { votes = v; says = λ k y e. subst (λ z. VoteBody v.after z.from z.to z.body) (get-one x k y e) h }
 
@@ -50,23 +56,27 @@ leads_on : (n : ℕ) (B : Ballots) (j t : ℕ) (mode : Mode) (next match next2 m
 unfolding VoterMode
 leads_on n B j t mode next match next2 match2 e h = let a : VoterMode n B j t (Leader next match) = subst (λ x. VoterMode n B j t x) e h in a
 
+-- a beat says nothing of votes
 beat_says : {C : Type 0} (D : Ballots) (s : Server C) (from to next : ℕ) → VoteBody D from to (beat_body s next)
 unfolding VoteBody
 beat_says D s from to next = elim (bool_cases (nat_le next s.covered)) [ inl e ↦ rw e tt | inr e ↦ rw e tt ]
 
 module _ {S C : Type 0} (m : Meaning S C) (n : ℕ) (B : Ballots) (i : ℕ) (sent : List (Message C)) (s : Server C)
     (v : Voter n B i s.term s.vote s.mode) (given : VotesSent B sent) where
+  -- a new candidate votes for itself
   stands_votes : Votes n B i (suc s.term) (Some i) (stood n i s).mode
   unfolding VoterMode
   stands_votes = votes_cast n B i s.term (suc s.term) i s.vote s.mode (stood n i s).mode v (omega arith)
       (λ d h. absurd (let none = v.later (suc s.term) (omega arith) in cc))
       (λ g mine j less mark. subst (λ k. (cast B i (suc s.term) i).ballot (suc s.term) k ≡ Some i) (sym (only_marked n i j mark)) mine)
 
+  -- a vote
   grants_votes : (c : ℕ) → is_free_for s.vote c ≡ true → Votes n B i s.term (Some c) s.mode
   grants_votes c free = votes_cast n B i s.term s.term c s.vote s.mode s.mode v (omega arith)
       (λ d h. free_is s.vote c d free (v.stored ∙ h))
       (λ g mine. mode_on n B (cast B i s.term c) i s.term s.mode g v.role)
 
+  -- a vote counted
   counts_votes : (votes : List Bool) (from term : ℕ) → Came sent (record { from = from; to = i; term = term; body = VoteReply s.term true }) → s.mode ≡ Candidate votes →
       Votes n B i s.term s.vote (Candidate (slice_set votes from true))
   unfolding VoterMode VoteBody
@@ -79,6 +89,7 @@ module _ {S C : Type 0} (m : Meaning S C) (n : ℕ) (B : Ballots) (i : ℕ) (sen
         | inr e ↦ had j less e
       ])
 
+  -- a win: a quorum voted
   wins_votes : (votes : List Bool) (next match : List ℕ) → s.mode ≡ Candidate votes → is_quorum n (marked votes) ≡ true → Votes n B i s.term s.vote (Leader next match)
   unfolding VoterMode Elected
   wins_votes votes next match mode many =
@@ -86,22 +97,28 @@ module _ {S C : Type 0} (m : Meaning S C) (n : ℕ) (B : Ballots) (i : ℕ) (sen
       votes_same n B i s.term s.vote s.mode (Leader next match) v
       (quorum_more n (marked votes) (λ j. is_for i (B.ballot s.term j)) (λ j less mark. for_is i (B.ballot s.term j) (had j less mark)) (quorum_told n (marked votes) many))
 
+  -- a leader goes on
   leader_votes : (next match next2 match2 : List ℕ) → s.mode ≡ Leader next match → Votes n B i s.term s.vote (Leader next2 match2)
   leader_votes next match next2 match2 mode = votes_same n B i s.term s.vote s.mode (Leader next2 match2) v (leads_on n B i s.term s.mode next match next2 match2 mode v.role)
 
+  -- nothing changes
   same_votes : Votes n B i s.term s.vote s.mode
   same_votes = votes_same n B i s.term s.vote s.mode s.mode v v.role
 
+  -- who does nothing
   idle_votes : (mode : Mode) → IsIdle mode → Votes n B i s.term s.vote mode
   idle_votes mode h = votes_same n B i s.term s.vote s.mode mode v (idle_mode n B i s.term mode h)
 
+  -- an Install
   installs_votes : (P : List (Entry C)) → Votes n B i (installed s P).term (installed s P).vote (installed s P).mode
   installs_votes P = elim (bool_cases (nat_le (length P) s.commit)) [ inl e ↦ rw e same_votes | inr e ↦ rw e same_votes ]
 
+  -- an ok
   acks_votes : (next match : List ℕ) (j at : ℕ) → s.mode ≡ Leader next match →
       Votes n B i (acked s j at next match).term (acked s j at next match).vote (acked s j at next match).mode
   acks_votes next match j at mode = elim (bool_cases (nat_le at (length s.log))) [ inl e ↦ rw e (leader_votes next match _ _ mode) | inr e ↦ rw e same_votes ]
 
+  -- each small step
   pub small_votes : (t : Server C) (out : List (Message C)) → Small m n i sent s t out → VotesKept n B i t out
   unfolding VoteBody
   small_votes t out (raises x came less e o) = rw e (quiet_out n B i _ out o (votes_raise n B i s.term x.term s.vote s.mode v less))
@@ -127,12 +144,15 @@ module _ {S C : Type 0} (m : Meaning S C) (n : ℕ) (B : Ballots) (i : ℕ) (sen
     says = λ k x h. let r = to_others_is i (beat_message i s next) n k x h in rw r.3 (beat_says same_votes.after s i r.0 _);
   })
 
+  -- a crash or a restart
   pub reset_votes : (t : Server C) (out : List (Message C)) (mode : Mode) → IsIdle mode → t ≡ record s { commit = s.covered; known = None; mode = mode } → out ≡ [] → VotesKept n B i t out
   reset_votes t out mode h e o = rw e (quiet_out n B i _ out o (idle_votes mode h))
 
+  -- no step
   pub still_votes : (t : Server C) (out : List (Message C)) → t ≡ s → out ≡ [] → VotesKept n B i t out
   still_votes t out e o = rw e (quiet_out n B i s out o same_votes)
 
+-- messages stay true
 pub sent_on : {C : Type 0} (B D : Ballots) (sent : List (Message C)) → BallotsGrow B D → VotesSent B sent → VotesSent D sent
 sent_on B D sent g h x came = body_on B D x.from x.to x.body g (h x came)
 
@@ -148,6 +168,7 @@ chained n B i term vote mode t out v k = record {
   says = k.says;
 }
 
+-- each path
 pub path_votes : {S C : Type 0} (m : Meaning S C) (n i : ℕ) (sent : List (Message C)) (t : Server C) (out : List (Message C)) (B : Ballots) (s : Server C) →
     Voter n B i s.term s.vote s.mode → VotesSent B sent → Path m n i sent s t out → VotesKept n B i t out
 path_votes m n i sent t out B s v given (still e o) = still_votes m n B i sent s v given t out e o
@@ -157,6 +178,7 @@ path_votes m n i sent t out B s v given (after_one r x passes p) =
     chained n B i r.term r.vote r.mode t out one.votes
     (path_votes m n i sent t out one.votes.after r one.votes.own (sent_on B one.votes.after sent one.votes.grow given) p)
 
+-- each turn
 pub turn_votes : {S C : Type 0} (m : Meaning S C) (n i : ℕ) (sent : List (Message C)) (t : Server C) (out : List (Message C)) (B : Ballots) (s : Server C) →
     Voter n B i s.term s.vote s.mode → VotesSent B sent → Turns m n i sent s t out → VotesKept n B i t out
 turn_votes m n i sent t out B s v given (walks up p) = path_votes m n i sent t out B s v given p

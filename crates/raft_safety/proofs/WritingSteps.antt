@@ -23,18 +23,22 @@ use Rattle.raft_safety.proofs.VoterSteps.{VotesKept}
 use Rattle.raft_safety.proofs.Frame.{agree_self, fixed_grow, rooted_on}
 use Rattle.raft_safety.proofs.QuietSteps.{as_leader, as_candidate}
 
+-- a list of no length
 pub none_is : {A : Type 0} (X : List A) → length X ≤ 0 → X ≡ []
 none_is [] h = refl
 none_is (x ∷ X) h = absurd (omega (arith, h))
 
+-- the term has no other leader
 pub led_by : (o : Option ℕ) (i c : ℕ) → (o ≡ None) ⊎ (o ≡ Some i) → o ≡ Some c → c ≡ i
 led_by o i c (inl e) h = absurd (cc)
 led_by o i c (inr e) h = sym (same_Some i c (sym e ∙ h))
 
 module _ {C : Type 0} where
+  -- a first part of a longer list
   pub agree_append : (k : ℕ) (A B : List (Entry C)) → k ≤ length A → Agree k A (A ++ B)
   agree_append k A B le = record { left = le; right = omega (arith, le, length-append A B); same = take_append k A B le }
 
+  -- the last entry's term
   pub term_push : (A : List (Entry C)) (e : Entry C) → term_at (A ++ e ∷ []) (suc (length A)) ≡ e.term
   unfolding term_at
   term_push [] e = refl
@@ -50,6 +54,7 @@ module _ {C : Type 0} (P : List (Entry C) → Type 0) (n : ℕ) (G : History C) 
     (short : G.held s.term i ≤ length (s.log ++ e ∷ []))
     (carry : (u k : ℕ) → u < s.term → 1 ≤ k → Carries n G u k s.log)
     (sound : ((u : ℕ) → P (G.ledger u)) → P (s.log ++ e ∷ [])) where
+  -- the log with its new entry
   X : List (Entry C)
   X = s.log ++ e ∷ []
 
@@ -58,12 +63,15 @@ module _ {C : Type 0} (P : List (Entry C) → Type 0) (n : ℕ) (G : History C) 
       (next_from : (j : ℕ) → j < n → j ≢ i → 1 ≤ number next j)
       (next_to : (j : ℕ) → j < n → j ≢ i → number next j ≤ suc (length (s.log ++ e ∷ [])))
       (v : let r : Server C = record s { log = s.log ++ e ∷ []; mode = mode } in VotesKept n G.ballots i r out) where
+    -- the ballots then
     B : Ballots
     B = v.votes.after
 
+    -- the history then
     H : History C
     H = write G B s.term i X
 
+    -- nothing is taken back
     extends : Extends G H
     unfolding H B X write
     extends = record {
@@ -87,6 +95,7 @@ module _ {C : Type 0} (P : List (Entry C) → Type 0) (n : ℕ) (G : History C) 
       ];
     }
 
+    -- nothing but of this server
     apart : Apart i G H
     unfolding H B X write
     apart = record {
@@ -103,31 +112,38 @@ module _ {C : Type 0} (P : List (Entry C) → Type 0) (n : ℕ) (G : History C) 
       ];
     }
 
+    -- the ledger is the log
     now : H.ledger s.term ≡ X
     unfolding H write
     now = at_same G.ledger s.term X
 
+    -- one more
     size : length X ≡ suc (length s.log)
     unfolding X
     size = push_length s.log e
 
+    -- it begins with the old one
     longer : (k : ℕ) → k ≤ length s.log → Agree k s.log X
     unfolding X
     longer k le = agree_append k s.log (e ∷ []) le
 
+    -- old terms stay
     same_term : (p : ℕ) → 1 ≤ p → p ≤ length s.log → term_at s.log p ≡ term_at X p
     same_term p one le = agree_term p p s.log X (longer p le) one (omega arith)
 
+    -- the new entry's term
     last_term_is : (p : ℕ) → p ≡ suc (length s.log) → term_at X p ≡ s.term
     unfolding X
     last_term_is p h = ap (term_at (s.log ++ e ∷ [])) h ∙ (term_push s.log e ∙ its)
 
+    -- no term is above its own
     X_terms : (p : ℕ) → 1 ≤ p → p ≤ length X → term_at X p ≤ s.term
     X_terms p one le = elim (leb_tells p (length s.log)) [
       | inl a ↦ omega (arith, ok.log.terms p one a.1, same_term p one a.1)
       | inr a ↦ omega (arith, last_term_is p (omega (arith, le, size, a.1)))
     ]
 
+    -- each entry brings its first part
     X_rooted : Rooted H.ledger X
     unfolding Rooted
     X_rooted p one le = elim (leb_tells p (length s.log)) [
@@ -137,13 +153,16 @@ module _ {C : Type 0} (P : List (Entry C) → Type 0) (n : ℕ) (G : History C) 
       | inr a ↦ subst (λ t. Agree p X (H.ledger t)) (sym (last_term_is p (omega (arith, le, size, a.1)))) (subst (λ Y. Agree p X Y) (sym now) (agree_less p le (agree_self X)))
     ]
 
+    -- it carries what earlier terms may have chosen
     X_carries : (u k : ℕ) → u < s.term → 1 ≤ k → Carries n H u k X
     X_carries u k less one = carries_on n G H u k X extends one (carries_grow n G u k s.log X (longer (length s.log) (omega arith)) (carry u k less one))
 
+    -- its leader was elected
     chosen_leader : Elected n B s.term i
     unfolding B VoterMode
     chosen_leader = let a : VoterMode n v.votes.after i s.term (Leader next match) = subst (λ y. VoterMode n v.votes.after i s.term y) is v.votes.own.role in a
 
+    -- all ledgers
     ledgers : Ledgers n H
     unfolding H write
     ledgers = record {
@@ -183,6 +202,7 @@ module _ {C : Type 0} (P : List (Entry C) → Type 0) (n : ℕ) (G : History C) 
       stands = λ t c L h. rooted_on G H L extends (I.stands t c L h);
     }
 
+    -- what it acknowledged
     X_holds : (u k : ℕ) → 1 ≤ k → k ≤ H.held u i → Carries n H u k X
     unfolding H write
     X_holds u k one le own = elim (both_cases G.held s.term i (length X) u i) [
@@ -196,6 +216,7 @@ module _ {C : Type 0} (P : List (Entry C) → Type 0) (n : ℕ) (G : History C) 
       ]
     ]
 
+    -- its log
     X_log : LogOk n H i s.term X s.covered s.commit
     X_log = record {
       terms = X_terms;
@@ -206,6 +227,7 @@ module _ {C : Type 0} (P : List (Entry C) → Type 0) (n : ℕ) (G : History C) 
       fixed = fixed_grow n H s.term s.commit s.log X (longer s.commit ok.log.within) (fixed_on n G H s.term s.commit s.log extends ok.log.fixed);
     }
 
+    -- it leads
     X_leads : LeaderOk n H i s.term X next match
     unfolding H write X
     X_leads = record {
@@ -217,10 +239,12 @@ module _ {C : Type 0} (P : List (Entry C) → Type 0) (n : ℕ) (G : History C) 
       next_to = next_to;
     }
 
+    -- as its mode says
     X_role : ModeOk n H i s.term X mode
     unfolding ModeOk
     X_role = subst (λ y. ModeOk n H i s.term X y) (sym is) X_leads
 
+    -- a leader that writes one entry
     pub write_keeps : let r : Server C = record s { log = s.log ++ e ∷ []; mode = mode } in Keeps P n G i r out
     unfolding H B X write
     write_keeps = record {
@@ -247,6 +271,7 @@ module _ {C : Type 0} (P : List (Entry C) → Type 0) (n : ℕ) (G : History C) 
     }
 
 module _ {C : Type 0} (P : List (Entry C) → Type 0) (n : ℕ) (G : History C) (i : ℕ) (s : Server C) (I : Ledgers n G) (ok : ServerOk n G i s) where
+  -- a proposal
   pub extend_keeps : (next match : List ℕ) (command : C) (out : List (Message C)) → (P s.log → P (s.log ++ record { term = s.term; command = command } ∷ [])) → s.mode ≡ Leader next match → out ≡ [] →
       (let r : Server C = record s { log = s.log ++ record { term = s.term; command = command } ∷ [] } in VotesKept n G.ballots i r out → Keeps P n G i r out)
   extend_keeps next match command out push mode o v =
@@ -260,6 +285,7 @@ module _ {C : Type 0} (P : List (Entry C) → Type 0) (n : ℕ) (G : History C) 
       (λ all. push (subst P (sym l.wrote) (all s.term)))
       next match s.mode mode out o l.matched l.next_from (λ j less other. omega (arith, l.next_to j less other, size)) v
 
+  -- a term that this server is elected in has no other leader
   unled_case : (votes : List Bool) (o : Option ℕ) (B : Ballots) → CandidateOk n G i s.term s.log votes → Extends G (record G { ballots = B }) → Elected n B s.term i → G.leader s.term ≡ o → G.leader s.term ≡ None
   unled_case votes None B c e mine h = h
   unled_case votes (Some d) B c e mine h =
@@ -274,6 +300,7 @@ module _ {C : Type 0} (P : List (Entry C) → Type 0) (n : ℕ) (G : History C) 
         subst P (sym r.same ∙ take_all (length s.log) s.log (omega arith)) (first (length s.log) (G.ledger (term_at s.log (length s.log))) (all (term_at s.log (length s.log))))
   ]
 
+  -- a win
   pub win_keeps : (noop : C) (votes : List Bool) (out : List (Message C)) → P [] → ((k : ℕ) (L : List (Entry C)) → P L → P (take k L)) →
       (length s.log < MAX → P s.log → P (s.log ++ record { term = s.term; command = noop } ∷ [])) → s.mode ≡ Candidate votes → is_quorum n (marked votes) ≡ true → out ≡ [] →
       VotesKept n G.ballots i (won noop n s) out → Keeps P n G i (won noop n s) out

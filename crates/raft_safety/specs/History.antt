@@ -25,6 +25,7 @@ module _ {C : Type 0} where
   abbrev pub Dead : ℕ → History C → ℕ → ℕ → Type 0
   Dead n G u k = Quorum n (λ i. nat_lt u (G.ballots.term i) && nat_lt (G.held u i) k)
 
+  -- a quorum acknowledged index k of term u, whose entry is of that term
   pub record Chosen (n : ℕ) (G : History C) (u k : ℕ) : Type 0 where
     pub one : 1 ≤ k
     pub there : k ≤ length (G.ledger u)
@@ -35,6 +36,7 @@ module _ {C : Type 0} where
   abbrev pub Carries : ℕ → History C → ℕ → ℕ → List (Entry C) → Type 0
   Carries n G u k X = Own G u k → Dead n G u k ⊎ Agree k (G.ledger u) X
 
+  -- the first k of X are those of a ledger, below an index that was chosen in a term up to v
   pub record FixedBy (n : ℕ) (G : History C) (v k : ℕ) (X : List (Entry C)) : Type 0 where
     pub term : ℕ
     pub place : ℕ
@@ -52,6 +54,7 @@ module _ {C : Type 0} where
     pub late : t ≤ G.ballots.term i
     pub carries : (u k : ℕ) → u < t → 1 ≤ k → k ≤ G.held u i → Carries n G u k L
 
+  -- what holds of the history alone
   pub record Ledgers (n : ℕ) (G : History C) : Type 0 where
     pub terms : (t p : ℕ) → 1 ≤ p → p ≤ length (G.ledger t) → term_at (G.ledger t) p ≤ t
     pub rooted : (t : ℕ) → Rooted G.ledger (G.ledger t)

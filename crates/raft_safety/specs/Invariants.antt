@@ -22,12 +22,14 @@ module _ {C : Type 0} (n : ℕ) (G : History C) where
     pub within : commit ≤ length log
     pub fixed : Fixed n G term commit log
 
+  -- a candidate of this term, with the votes that it has
   pub record CandidateOk (j term : ℕ) (log : List (Entry C)) (votes : List Bool) : Type 0 where
     pub stood : G.stood term j ≡ Some log
     pub unled : G.leader term ≢ Some j
     pub room : length log < MAX
     pub backed : (i : ℕ) → i < n → marked votes i ≡ true → Backed n G term i log
 
+  -- the leader of this term, with what it knows of the others
   pub record LeaderOk (j term : ℕ) (log : List (Entry C)) (next match : List ℕ) : Type 0 where
     pub leads : G.leader term ≡ Some j
     pub wrote : log ≡ G.ledger term
@@ -36,12 +38,14 @@ module _ {C : Type 0} (n : ℕ) (G : History C) where
     pub next_from : (i : ℕ) → i < n → i ≢ j → 1 ≤ number next i
     pub next_to : (i : ℕ) → i < n → i ≢ j → number next i ≤ suc (length log)
 
+  -- what a server does is borne out by the history
   unfoldable pub ModeOk : ℕ → ℕ → List (Entry C) → Mode → Type 0
   ModeOk j term log Down = Unit {0}
   ModeOk j term log Follower = Unit {0}
   ModeOk j term log (Candidate votes) = CandidateOk j term log votes
   ModeOk j term log (Leader next match) = LeaderOk j term log next match
 
+  -- server j
   pub record ServerOk (j : ℕ) (s : Server C) : Type 0 where
     pub voter : Voter n G.ballots j s.term s.vote s.mode
     -- nothing was promised for later terms
@@ -50,17 +54,20 @@ module _ {C : Type 0} (n : ℕ) (G : History C) where
     pub log : LogOk j s.term s.log s.covered s.commit
     pub role : ModeOk j s.term s.log s.mode
 
+  -- a request for votes has the end of the log with which its sender stood
   pub record RequestOk (from term index its_last : ℕ) : Type 0 where
     pub log : List (Entry C)
     pub stood : G.stood term from ≡ Some log
     pub index_is : index ≡ length log
     pub last_is : its_last ≡ last_term log
 
+  -- who granted a vote has what it acknowledged before in the log of the candidate
   pub record GrantOk (from to asked : ℕ) : Type 0 where
     pub log : List (Entry C)
     pub stood : G.stood asked to ≡ Some log
     pub backed : Backed n G asked from log
 
+  -- an Append is a part of its term's ledger, and its commit index is fixed
   pub record AppendOk (term prev prev_term commit : ℕ) (entries : List (Entry C)) : Type 0 where
     pub led : 1 ≤ length (G.ledger term)
     pub reach : prev + length entries ≤ length (G.ledger term)
@@ -68,11 +75,13 @@ module _ {C : Type 0} (n : ℕ) (G : History C) where
     pub before : prev_term ≡ term_at (G.ledger term) prev
     pub fixed : Fixed n G term commit (G.ledger term)
 
+  -- an Install is the first part of its term's ledger, and fixed
   pub record InstallOk (term : ℕ) (P : List (Entry C)) : Type 0 where
     pub led : 1 ≤ length (G.ledger term)
     pub part : Agree (length P) P (G.ledger term)
     pub fixed : Fixed n G term (length P) (G.ledger term)
 
+  -- what a message says of logs is so
   unfoldable pub BodyOk : ℕ → ℕ → ℕ → Body C → Type 0
   BodyOk from to term (VoteRequest index its_last) = RequestOk from term index its_last
   BodyOk from to term (VoteReply asked true) = GrantOk from to asked
@@ -83,10 +92,12 @@ module _ {C : Type 0} (n : ℕ) (G : History C) where
   BodyOk from to term (Install P) = InstallOk term P
   BodyOk from to term (InstallReply asked at) = at ≤ G.held asked from
 
+  -- a message
   pub record MessageOk (x : Message C) : Type 0 where
     pub vote : VoteBody G.ballots x.from x.to x.body
     pub body : BodyOk x.from x.to x.term x.body
 
+  -- all messages
   abbrev pub SentOk : List (Message C) → Type 0
   SentOk sent = (x : Message C) → Came sent x → MessageOk x
 

@@ -47,36 +47,54 @@ Came sent message = (k : ℕ) × (slice_get sent k ≡ Some message)
 module _ {S C : Type 0} (m : Meaning S C) (n i : ℕ) (sent : List (Message C)) where
   -- server i goes from s to t, and says `out`
   pub data Small (s t : Server C) (out : List (Message C)) : Type 0 where
+    -- a message of a greater term
     raises : (message : Message C) → Came sent message → s.term < message.term → t ≡ record s { term = message.term; vote = None; known = None; mode = Follower } → out ≡ [] → Small s t out
+    -- a timeout
     stands : s.term < MAX → length s.log < MAX → t ≡ stood n i s → out ≡ to_others i (vote_request i (stood n i s)) n → Small s t out
+    -- a vote that is free, for a candidate that is up to date
     grants_vote : (from index its_last : ℕ) → Came sent (record { from = from; to = i; term = s.term; body = VoteRequest index its_last }) →
         is_free_for s.vote from ≡ true → is_up_to_date s.log index its_last ≡ true → t ≡ record s { vote = Some from } →
         out ≡ record { from = i; to = from; term = s.term; body = VoteReply s.term true } ∷ [] → Small s t out
+    -- an answer that owes nothing
     refuses : (from term : ℕ) (request answer : Body C) → Came sent (record { from = from; to = i; term = term; body = request }) → OwesNothing answer →
         t ≡ s → out ≡ record { from = i; to = from; term = s.term; body = answer } ∷ [] → Small s t out
+    -- a vote that came
     counts : (votes : List Bool) (from term : ℕ) → from < n → Came sent (record { from = from; to = i; term = term; body = VoteReply s.term true }) →
         s.mode ≡ Candidate votes → t ≡ record s { mode = Candidate (slice_set votes from true) } → out ≡ [] → Small s t out
+    -- a quorum's votes
     wins : (votes : List Bool) → s.mode ≡ Candidate votes → is_quorum n (marked votes) ≡ true → t ≡ won m.noop n s → out ≡ [] → Small s t out
+    -- a proposal that is admitted
     extends : (next match : List ℕ) (command : C) → m.commands.Fits command → s.mode ≡ Leader next match → admitted m s command ≡ None → t ≡ extended s command → out ≡ [] → Small s t out
+    -- a message of the leader of its term
     follows : (from : ℕ) → t ≡ following s from → out ≡ [] → Small s t out
+    -- entries that begin where the log is held
     takes_append : (from prev prev_term commit : ℕ) (entries : List (Entry C)) →
         Came sent (record { from = from; to = i; term = s.term; body = Append prev prev_term commit entries }) → s.mode ≡ Follower →
         is_held s prev prev_term ≡ true → t ≡ appended s prev commit entries →
         out ≡ record { from = i; to = from; term = s.term; body = AppendReply s.term true (prev + length entries) } ∷ [] → Small s t out
+    -- a snapshot
     takes_install : (from : ℕ) (P : List (Entry C)) → Came sent (record { from = from; to = i; term = s.term; body = Install P }) → s.mode ≡ Follower →
         t ≡ installed s P → out ≡ record { from = i; to = from; term = (installed s P).term; body = InstallReply s.term (length P) } ∷ [] → Small s t out
+    -- an ok that came
     acks : (next match : List ℕ) (from term at : ℕ) (body : Body C) → Came sent (record { from = from; to = i; term = term; body = body }) → IsAck body s.term at →
         s.mode ≡ Leader next match → t ≡ acked s from at next match → out ≡ [] → Small s t out
+    -- a refusal that came
     backs : (next match : List ℕ) (from at : ℕ) → s.mode ≡ Leader next match → t ≡ backed s from at next match → out ≡ [] → Small s t out
+    -- the commit rule
     advances : (next match : List ℕ) → s.mode ≡ Leader next match →
         t ≡ record s { commit = greatest (is_chosen n i s match) s.commit (length s.log) } → out ≡ [] → Small s t out
+    -- a compaction
     covers : t ≡ compacted s → out ≡ [] → Small s t out
+    -- a beat
     beats_all : (next match : List ℕ) → s.mode ≡ Leader next match → t ≡ s → out ≡ to_others i (beat_message i s next) n → Small s t out
 
   -- small steps in a row, of which the last one speaks and writes
   pub data Path : Server C → Server C → List (Message C) → Type 0 where
+    -- nothing
     still : {s t : Server C} {out : List (Message C)} → t ≡ s → out ≡ [] → Path s t out
+    -- the last small step
     only : {s t : Server C} {out : List (Message C)} → Small s t out → Path s t out
+    -- one before others
     after_one : {s t : Server C} {out : List (Message C)} (r : Server C) → Small s r [] → Passes s r → Path r t out → Path s t out
 
   -- a server that is up goes a path; or it crashes, or restarts
