@@ -1,0 +1,4 @@
+pub mod Logs
+pub mod Sends
+pub mod Quorums
+pub mod Stepping
