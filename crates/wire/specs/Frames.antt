@@ -1,0 +1,60 @@
+-- Frames: the bytes of a message, and how they are read.
+use Rattle.std.specs.Prelude.{◌≡◌, ℕ, ◌+◌, ◌^◌, List, ◌++◌, length, Result, Ok, Err, ◌&&◌, nat_eq, nat_le, if◌then◌else◌}
+use Rattle.fields.specs.Format.{Reading, ◌>>=◌, Format, spelled, number_at}
+use Rattle.rows.specs.declared.actor.Actor.{Actor}
+use Rattle.wire.specs.declared.header.Header.{Header}
+use Rattle.wire.specs.Messages.{Message, kind_of}
+use Rattle.wire.specs.Grammar.{header, body}
+
+-- no frame is longer
+abbrev pub frame_limit : ℕ
+frame_limit = 16777216
+
+-- its length in four bytes, and a text
+abbrev pub sized : List ℕ → List ℕ
+sized text = spelled 4 (length text) ++ text
+
+-- a header, and a body with its length
+abbrev pub frame_text : {H B : Type 0} → Format H → (H → Format B) → H → B → List ℕ
+frame_text head bodies h b = head.text h ++ sized ((bodies h).text b)
+
+-- the length of the body is that of the bytes after it, and the frame is within the limit; else this field is at fault
+abbrev pub size_at : List ℕ → ℕ → Reading ℕ
+size_at bytes at = number_at 4 0 (2 ^ 32) bytes at >>= λ n. if nat_eq (n.0 + 8) (length bytes) && nat_le (length bytes) frame_limit then Ok n else Err at
+
+-- a header, the length, a body, and no byte more: one that is left over is a fault at the first of them
+abbrev pub frame_at : {H B M : Type 0} → Format H → (H → Format B) → (H → B → M) → List ℕ → Result M ℕ
+frame_at head bodies make bytes =
+    head.read bytes 0 >>= λ h.
+    size_at bytes h.1 >>= λ size.
+    (bodies h.0).read bytes size.1 >>= λ b.
+    if nat_eq b.1 (length bytes) then Ok (make h.0 b.0) else Err b.1
+
+abbrev pub header_of : {C : Type 0} → Message C → Header
+header_of m = record { kind = kind_of m.body; from = m.from; to = m.to }
+
+-- the one frame of a message
+abbrev pub message_text : {C : Type 0} → Format C → Message C → List ℕ
+message_text commands m = frame_text header (λ h. body h.kind) (header_of m) m.body
+
+-- which messages have a frame: each part is within its range
+pub record MessageFits {C : Type 0} (commands : Format C) (m : Message C) : Type 0 where
+  pub header_fits : header.Fits (header_of m)
+  pub body_fits : (body (kind_of m.body)).Fits m.body
+
+-- the message of a frame, or the place of its first fault
+unfoldable pub message_at : {C : Type 0} → Format C → List ℕ → Result (Message C) ℕ
+message_at commands bytes = frame_at header (λ h. body h.kind) (λ h b. record { from = h.from; to = h.to; body = b }) bytes
+
+-- a frame on its way: its receiver and its bytes
+pub record Frame : Type 0 where
+  pub to : Actor
+  pub bytes : List ℕ
+
+abbrev pub frame_of : {C : Type 0} → Format C → Message C → Frame
+frame_of commands m = record { to = m.to; bytes = message_text commands m }
+
+-- a frame is that of a message
+pub record FrameOf {C : Type 0} (commands : Format C) (frame : Frame) (m : Message C) : Type 0 where
+  pub fits : MessageFits commands m
+  pub same : frame ≡ frame_of commands m

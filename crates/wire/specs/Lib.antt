@@ -1,0 +1,4 @@
+pub mod Messages
+pub mod Grammar
+pub mod GrammarLaws
+pub mod Frames

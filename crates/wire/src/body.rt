@@ -1,0 +1,63 @@
+ghost use Rattle.std.specs.Prelude.{◌≡◌, IfOk};
+ghost use Rattle.fields.specs.Format.{Gives, Puts};
+ghost use Rattle.wire.specs.Messages.{kind_of};
+ghost use Rattle.wire.specs.Grammar.{body as body_format};
+
+use crate::kind::Kind;
+use crate::vote::{VoteReply, VoteRequest};
+use fields::Field;
+use rows::{NoMemory, Refusal};
+use std::alloc::Global;
+
+/// What a message says, by its kind.
+#[derive(Drop)]
+pub enum Body {
+    /// A candidate asks for a vote.
+    VoteRequest(VoteRequest),
+    /// The answer to a candidate.
+    VoteReply(VoteReply),
+}
+
+impl Body {
+    /// The kind of the message.
+    pub fn kind(&self) -> Kind
+        ensures { result ≡ kind_of self.now }
+    {
+        match self {
+            Body::VoteRequest(_) => Kind::VoteRequest,
+            Body::VoteReply(_) => Kind::VoteReply,
+        }
+    }
+}
+
+/// The body of a message of this kind, and the place after it.
+pub fn read_body(
+    alloc: Global,
+    kind: Kind,
+    bytes: &[u8],
+    at: usize,
+) -> Result<(Body, usize), Refusal>
+    ensures value { Gives result ((body_format kind).read bytes.now at) }
+    ensures same_kind { IfOk result (λ b. kind_of b.0 ≡ kind) }
+{
+    match kind {
+        Kind::VoteRequest => {
+            let (request, end) = VoteRequest::read_at(alloc, bytes, at)?;
+            Ok((Body::VoteRequest(request), end))
+        }
+        Kind::VoteReply => {
+            let (reply, end) = VoteReply::read_at(alloc, bytes, at)?;
+            Ok((Body::VoteReply(reply), end))
+        }
+    }
+}
+
+/// Puts the body to the end.
+pub fn append_body(body: &Body, out: &mut Vec<u8>) -> Result<(), NoMemory>
+    ensures { Puts (body_format (kind_of body.now)) body.now result out.old.items out.new.items }
+{
+    match body {
+        Body::VoteRequest(request) => request.append(out),
+        Body::VoteReply(reply) => reply.append(out),
+    }
+}

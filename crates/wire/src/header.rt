@@ -1,0 +1,52 @@
+ghost use Rattle.std.specs.Prelude.{◌≡◌, true, IfOk};
+ghost use Rattle.fields.specs.Format.{Gives, Puts};
+ghost use Rattle.wire.specs.Messages.{may_go};
+ghost use Rattle.wire.specs.Grammar.{header as header_format};
+
+use crate::kind::Kind;
+use fields::{Field, read_actor, read_u8, write_actor, write_u8};
+use rows::{Actor, NoMemory, Refusal};
+use std::alloc::Global;
+
+/// What a frame begins with, behind its version.
+#[derive(Clone, Copy, Debug)]
+pub struct Header {
+    pub kind: Kind,
+    pub from: Actor,
+    pub to: Actor,
+}
+
+/// The version of frames.
+const VERSION: u8 = 1;
+
+/// The header at a place, and the place after it.
+pub fn read_header(alloc: Global, bytes: &[u8], at: usize) -> Result<(Header, usize), Refusal>
+    ensures value { Gives result (header_format.read bytes.now at) }
+    ensures allowed { IfOk result (λ h. may_go h.0.kind h.0.from h.0.to ≡ true) }
+{
+    let (version, kind_at) = read_u8(bytes, at)?;
+    if version != VERSION {
+        return Err(Refusal::Frame(at));
+    }
+    let (kind, from_at) = Kind::read_at(alloc, bytes, kind_at)?;
+    let (from, to_at) = read_actor(bytes, from_at)?;
+    if !kind.may_come_from(&from) {
+        return Err(Refusal::Frame(from_at));
+    }
+    let (to, end) = read_actor(bytes, to_at)?;
+    if !kind.may_go(&from, &to) {
+        return Err(Refusal::Frame(to_at));
+    }
+    Ok((Header { kind, from, to }, end))
+}
+
+/// Puts the header to the end.
+pub fn append_header(header: &Header, out: &mut Vec<u8>) -> Result<(), NoMemory>
+    requires { may_go header.now.kind header.now.from header.now.to ≡ true }
+    ensures { Puts header_format header.now result out.old.items out.new.items }
+{
+    write_u8(&VERSION, out)?;
+    header.kind.append(out)?;
+    write_actor(&header.from, out)?;
+    write_actor(&header.to, out)
+}

@@ -1,0 +1,127 @@
+ghost use Rattle.std.specs.Prelude.{◌≡◌, true, false, IfSome, IfNone};
+ghost use Rattle.rows.specs.declared.actor.Actor.TheVariants as actors;
+ghost use Rattle.wire.specs.Messages.{kind_of, may_go};
+ghost use Rattle.wire.specs.Frames.{header_of};
+
+use crate::body::Body;
+use crate::header::Header;
+use crate::kind::Kind;
+use machine::Machine;
+use rows::{Actor, ServerId};
+use std::marker::{Model, PhantomData};
+
+/// A message of one actor to another, in a group that replicates the machine `M`. Each message goes between actors
+/// that its kind allows, so it has a frame.
+#[derive(Drop)]
+pub struct Message<M: Machine> {
+    from: Actor,
+    to: Actor,
+    body: Body,
+    machine: PhantomData<M>,
+}
+
+impl<M: Machine> Model for Message<M> {
+    ghost use Rattle.std.specs.Prelude.{◌≡◌, true};
+    ghost use Rattle.wire.specs.Messages.{Message, kind_of, may_go};
+
+    ghost Value = { Message M.Command };
+
+    ghost view = { λ m. record { from = m.from; to = m.to; body = m.body } };
+
+    ghost invariant = { λ m. may_go (kind_of m.body) m.from m.to ≡ true };
+}
+
+impl<M: Machine> Message<M> {
+    /// The message of these parts; none where its kind does not go from there to there.
+    pub fn new(from: Actor, to: Actor, body: Body) -> Option<Message<M>>
+        ensures some { IfSome result (λ m. (m ≡ record { from = from; to = to; body = body }) × (may_go (kind_of body) from to ≡ true)) }
+        ensures none { IfNone result (may_go (kind_of body) from to ≡ false) }
+    {
+        if body.kind().may_go(&from, &to) {
+            Some(Message {
+                from,
+                to,
+                body,
+                machine: PhantomData,
+            })
+        } else {
+            None
+        }
+    }
+
+    /// The message of one server to another, for a kind that goes between servers.
+    pub fn between(from: ServerId, to: ServerId, body: Body) -> Message<M>
+        requires { may_go (kind_of body) (actors.Server from) (actors.Server to) ≡ true }
+        ensures { result ≡ record { from = actors.Server from; to = actors.Server to; body = body } }
+    {
+        Message {
+            from: Actor::Server(from),
+            to: Actor::Server(to),
+            body,
+            machine: PhantomData,
+        }
+    }
+
+    /// Who sends it.
+    pub fn from(&self) -> Actor
+        ensures { result ≡ self.now.from }
+    {
+        self.from
+    }
+
+    /// Who receives it.
+    pub fn to(&self) -> Actor
+        ensures { result ≡ self.now.to }
+    {
+        self.to
+    }
+
+    /// What it says.
+    pub fn body(&self) -> &Body
+        ensures value { result.now ≡ self.now.body }
+        ensures allowed { may_go (kind_of self.now.body) self.now.from self.now.to ≡ true }
+    {
+        &self.body
+    }
+
+    /// What it says, for keeps.
+    pub fn into_body(self) -> Body
+        ensures value { result ≡ self.body }
+        ensures allowed { may_go (kind_of self.body) self.from self.to ≡ true }
+    {
+        let Message { body, .. } = self;
+        body
+    }
+
+    /// Its kind.
+    pub fn kind(&self) -> Kind
+        ensures { result ≡ kind_of self.now.body }
+    {
+        self.body.kind()
+    }
+}
+
+/// What the frame of a message begins with, behind its version.
+pub fn header_of<M: Machine>(message: &Message<M>) -> Header
+    ensures value { result ≡ header_of message.now }
+    ensures allowed { may_go result.kind result.from result.to ≡ true }
+{
+    Header {
+        kind: message.body.kind(),
+        from: message.from,
+        to: message.to,
+    }
+}
+
+/// The message of a header and a body of its kind.
+pub fn message_of<M: Machine>(header: &Header, body: Body) -> Message<M>
+    requires { may_go (kind_of body) header.now.from header.now.to ≡ true }
+    ensures { result ≡ record { from = header.now.from; to = header.now.to; body = body } }
+{
+    Message {
+        from: header.from,
+        to: header.to,
+        body,
+        machine: PhantomData,
+    }
+}

@@ -1,0 +1,130 @@
+ghost use Rattle.std.specs.Prelude.{◌≡◌, ◌++◌, ◌∷◌, [], length, take, ◌==◌, OnOk, OnErr};
+ghost use Rattle.wire.specs.Frames.{Frame as FrameValue, MessageFits, frame_of};
+
+use crate::message::Message;
+use crate::writing::write_message;
+use machine::Machine;
+use rows::{Actor, NoMemory};
+use std::alloc::Global;
+use std::marker::Model;
+
+/// A frame on its way: its bytes, and who is to receive them.
+#[derive(Drop)]
+pub struct Frame {
+    to: Actor,
+    bytes: Vec<u8>,
+}
+
+impl Model for Frame {
+    ghost use Rattle.wire.specs.Frames.{Frame};
+
+    ghost Value = { Frame };
+
+    ghost view = { λ f. record { to = f.to; bytes = f.bytes.items } };
+}
+
+impl Frame {
+    /// The frame of these bytes for this receiver.
+    pub fn new(to: Actor, bytes: Vec<u8>) -> Frame
+        ensures { result ≡ record { to = to; bytes = bytes.items } }
+    {
+        Frame { to, bytes }
+    }
+
+    /// Who is to receive it.
+    pub fn to(&self) -> Actor
+        ensures { result ≡ self.now.to }
+    {
+        self.to
+    }
+
+    /// Its bytes.
+    pub fn bytes(&self) -> &[u8]
+        ensures { result.now ≡ self.now.bytes }
+    {
+        &self.bytes
+    }
+}
+
+/// The frames that a step sends, in order.
+#[derive(Drop)]
+pub struct Outbox {
+    alloc: Global,
+    frames: Vec<Frame>,
+}
+
+impl Model for Outbox {
+    ghost use Rattle.std.specs.Prelude.{List};
+    ghost use Rattle.wire.specs.Frames.{Frame};
+
+    ghost Value = { List Frame };
+
+    ghost view = { λ o. o.frames.items };
+}
+
+impl Outbox {
+    /// The outbox without frames. It takes no memory.
+    pub fn new(alloc: Global) -> Outbox
+        ensures { result ≡ [] }
+    {
+        Outbox {
+            alloc,
+            frames: Vec::new(alloc),
+        }
+    }
+
+    /// Puts a frame to the end, or changes nothing.
+    pub fn push(&mut self, to: Actor, bytes: Vec<u8>) -> Result<(), NoMemory>
+        ensures ok { OnOk result (self.new ≡ self.old ++ record { to = to; bytes = bytes.items } ∷ []) }
+        ensures err { OnErr result (self.new ≡ self.old) }
+    {
+        self.frames.push(Frame { to, bytes })?;
+        Ok(())
+    }
+
+    /// Puts the frame of a message to the end, for the message's receiver, or changes nothing.
+    pub fn send<M: Machine>(&mut self, message: &Message<M>) -> Result<(), NoMemory>
+        ensures ok { OnOk result (MessageFits M.meaning.commands message.now × (self.new ≡ self.old ++ frame_of M.meaning.commands message.now ∷ [])) }
+        ensures err { OnErr result (self.new ≡ self.old) }
+    {
+        let mut bytes = Vec::new(self.alloc);
+        write_message(message, &mut bytes)?;
+        self.push(message.to(), bytes)
+    }
+
+    /// How many frames there are.
+    pub fn len(&self) -> usize
+        ensures { result ≡ length self.now }
+    {
+        self.frames.len()
+    }
+
+    /// Whether there are none.
+    pub fn is_empty(&self) -> bool
+        ensures { result ≡ (length self.now == 0) }
+    {
+        self.frames.is_empty()
+    }
+
+    /// Keeps the first frames, so many, and drops the others.
+    pub fn truncate(&mut self, count: usize)
+        ensures { self.new ≡ take count self.old }
+    {
+        self.frames.truncate(count);
+    }
+
+    /// The frames, in the order in which they were put there.
+    pub fn frames(&self) -> &[Frame]
+        ensures { result.now ≡ self.now }
+    {
+        &self.frames
+    }
+
+    /// The frames, in the order in which they were put there.
+    pub fn into_frames(self) -> Vec<Frame>
+        ensures { result.items ≡ self }
+    {
+        let Outbox { alloc: _, frames } = self;
+        frames
+    }
+}
