@@ -1,5 +1,5 @@
 -- Steps of the definitions, by what the rules leave.
-use Rattle.std.proofs.Common.{◌≡◌, ℕ, ◌+◌, ◌^◌, ◌<◌, ◌≤◌, ◌⊎◌, inl, inr, true, false, ◌&&◌, nat_lt, Result, Ok, Err, Some, None, List, length, refl, sym, ap, ◌∙◌, subst, arith}
+use Rattle.std.proofs.Common.{◌≡◌, ◌≢◌, ℕ, ◌+◌, ◌^◌, ◌<◌, ◌≤◌, ◌⊎◌, inl, inr, true, false, ◌&&◌, nat_lt, Result, Ok, Err, Some, None, List, length, take, refl, sym, ap, ◌∙◌, subst, arith}
 use Rattle.std.proofs.lemmas.Bool.{lt-ltb, le-ltb}
 use Rattle.rows.specs.declared.refusal.Refusal.TheVariants as refusals
 use Rattle.rows.specs.declared.refusal.Refusal.{Refusal}
@@ -10,12 +10,15 @@ use Rattle.wire.specs.Messages.{Message as WireMessage}
 use Rattle.wire.specs.Frames.{Frame, MessageFits, message_text}
 use Rattle.raft_model.specs.Logs.{MAX}
 use Rattle.raft_model.specs.Messages.{Message, to_others}
-use Rattle.raft_model.specs.Servers.{Server, Turn, is_up, is_leader, silent, stood, vote_request, met}
-use Rattle.raft_model.specs.Steps.{step, receives, Input, Arrives, Timeout}
-use Rattle.raft_core.specs.Seen.{Seen}
+use Rattle.raft_model.specs.Servers.{Server, Turn, is_up, is_leader, silent, stood, vote_request, met, crashed, restarted}
+use Rattle.raft_model.specs.Steps.{step, receives, Input, Arrives, Timeout, Crash, Restart}
+use Rattle.raft_core.specs.declared.input.Input.{Input as CodeInput}
+use Rattle.raft_core.specs.declared.input.Input.TheVariants as inputs
+use Rattle.raft_core.specs.Seen.{Seen, with_server}
 use Rattle.raft_core.specs.Frames.{Means, IsFrameOf, term_of, body_of}
 use Rattle.raft_core.specs.Turns.{Turned, Lost, Sent}
-use Rattle.raft_core.specs.Steps.{Represents, Steps, TakesFrame}
+use Rattle.raft_core.specs.Steps.{Represents, Steps, TakesFrame, Takes, refusal, MayLack, LackLeaves, Lacks, Declines}
+use Rattle.raft_core.specs.Stops.{LosesIn, Stops}
 
 module _ {S C : Type 0} (m : Meaning S C) where
   pub steps_by : (old new : Seen C) (before after : List Frame) (input : Input C) (turn : Turn C) → step m old.size old.me old.server input ≡ Ok turn → Turned m old new before after turn → Steps m old old.server input new before after
@@ -31,16 +34,8 @@ module _ {S C : Type 0} (m : Meaning S C) where
         let fits : nat_lt (length s.log) MAX ≡ true = lt-ltb (length s.log) MAX (omega arith) in
         rw (up, other, below, fits) refl
 
-    pub term_exhausted : is_leader s.mode ≡ false → 2 ^ 40 ≤ s.term + 1 → step m n me s Timeout ≡ Err refusals.Exhausted
-    term_exhausted other past =
-        let full : nat_lt s.term MAX ≡ false = le-ltb s.term MAX (omega arith) in
-        rw (up, other, full) refl
+    pub crash_taken : step m n me s Crash ≡ Ok (silent (crashed s))
+    crash_taken = rw up refl
 
-    pub log_exhausted : is_leader s.mode ≡ false → s.term + 1 < 2 ^ 40 → 2 ^ 40 ≤ length s.log + 1 → step m n me s Timeout ≡ Err refusals.Exhausted
-    log_exhausted other term past =
-        let below : nat_lt s.term MAX ≡ true = lt-ltb s.term MAX (omega arith) in
-        let full : nat_lt (length s.log) MAX ≡ false = le-ltb (length s.log) MAX (omega arith) in
-        rw (up, other, below, full) refl
-
-    pub message_taken : (message : Message C) → nat_lt message.from n ≡ true → step m n me s (Arrives message) ≡ Ok (receives m.noop n me (met message.term s) message.from message.term message.body)
-    message_taken message member = rw (up, member) refl
+  pub restart_taken : (n me : ℕ) (s : Server C) → is_up s.mode ≡ false → step m n me s Restart ≡ Ok (silent (restarted s))
+  restart_taken n me s down = rw down refl

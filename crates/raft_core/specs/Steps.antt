@@ -118,7 +118,7 @@ pub record Lacks {S C : Type 0} (m : Meaning S C) (old : Seen C) (input : Input)
 
 -- a refusal changes nothing and sends nothing
 pub record Refuses {S C : Type 0} (m : Meaning S C) (old : Seen C) (input : Input) (cause : Refusal) (new : Seen C) (before after : List Frame) : Type 0 where
-  pub cause : (s : Server C) → Represents m old s → refusal m old.size old.me s input ≡ Some cause
+  pub because : (s : Server C) → Represents m old s → refusal m old.size old.me s input ≡ Some cause
   pub same : new ≡ old
   pub nothing : after ≡ before
 

@@ -8,6 +8,8 @@ mod raft;
 mod role;
 mod sending;
 mod stable;
+#[cfg(test)]
+mod tests;
 
 pub use input::Input;
 pub use raft::{NotRestarted, Raft};

@@ -251,16 +251,11 @@ impl<M: Machine> Raft<M> {
 
     /// One input is taken. After want of memory what is stored is as it was, and frames may stand behind those that were
     /// there.
-    fn take(
-        &mut self,
-        alloc: Global,
-        input: Input,
-        outbox: &mut Outbox,
-    ) -> Result<(), Refusal>
+    fn take(&mut self, alloc: Global, input: Input, outbox: &mut Outbox) -> Result<(), Refusal>
         ensures same { (self.new.me ≡ self.old.me) × (self.new.size ≡ self.old.size) }
-        ensures taken { OnOk result (Takes M.meaning self.old self.old.server input self.new outbox.old outbox.new) }
-        ensures admitted { OnOk result (refusal M.meaning self.old.size self.old.me self.old.server input ≡ None) }
-        ensures stopped { IfErr result (λ cause. Stops M.meaning self.old input cause self.new outbox.old outbox.new) }
+        ensures taken { OnOk result (Takes M.meaning self.old self.old.server input.entry self.new outbox.old outbox.new) }
+        ensures admitted { OnOk result (refusal M.meaning self.old.size self.old.me self.old.server input.entry ≡ None) }
+        ensures stopped { IfErr result (λ cause. Stops M.meaning self.old input.entry cause self.new outbox.old outbox.new) }
     {
         let is_up = self.is_up();
         match input {
@@ -300,16 +295,11 @@ impl<M: Machine> Raft<M> {
     /// `Exhausted` where the term or the last index is 2^40 - 1; a Restart of one that is up with `OutOfRange`. A refusal
     /// changes nothing and sends nothing. With `NoMemory` the server is down, with its stored part as it was and nothing
     /// sent.
-    pub fn step(
-        &mut self,
-        alloc: Global,
-        input: Input,
-        outbox: &mut Outbox,
-    ) -> Result<(), Refusal>
+    pub fn step(&mut self, alloc: Global, input: Input, outbox: &mut Outbox) -> Result<(), Refusal>
         ensures same { (self.new.me ≡ self.old.me) × (self.new.size ≡ self.old.size) }
-        ensures taken { OnOk result ((s : Server M.Command) → Represents M.meaning self.old s → Takes M.meaning self.old s input self.new outbox.old outbox.new) }
-        ensures admitted { OnOk result ((s : Server M.Command) → Represents M.meaning self.old s → refusal M.meaning self.old.size self.old.me s input ≡ None) }
-        ensures refused { IfErr result (λ cause. Declines M.meaning self.old input cause self.new outbox.old outbox.new) }
+        ensures taken { OnOk result ((s : Server M.Command) → Represents M.meaning self.old s → Takes M.meaning self.old s input.entry self.new outbox.old outbox.new) }
+        ensures admitted { OnOk result ((s : Server M.Command) → Represents M.meaning self.old s → refusal M.meaning self.old.size self.old.me s input.entry ≡ None) }
+        ensures refused { IfErr result (λ cause. Declines M.meaning self.old input.entry cause self.new outbox.old outbox.new) }
     {
         let before = outbox.len();
         match self.take(alloc, input, outbox) {

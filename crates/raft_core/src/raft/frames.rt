@@ -17,12 +17,7 @@ use wire::{Body, Message, Outbox, read_message};
 
 impl<M: Machine> Raft<M> {
     /// A message of another server of the group is taken.
-    fn receive(
-        &mut self,
-        from: ServerId,
-        body: &Body,
-        outbox: &mut Outbox,
-    ) -> Result<(), NoMemory>
+    fn receive(&mut self, from: ServerId, body: &Body, outbox: &mut Outbox) -> Result<(), NoMemory>
         requires up { is_up self.old.server.mode ≡ true }
         requires member { from < self.old.size }
         requires other { from ≢ self.old.me }
@@ -38,7 +33,7 @@ impl<M: Machine> Raft<M> {
     /// The sender of a message, if that is another server of the group and the message is for this one; else the refusal
     /// names the address at fault.
     fn sender(&self, message: &Message<M>) -> Result<ServerId, Refusal>
-        ensures ok { IfOk result (λ from. (message.now.from ≡ actors.Server from) × (message.now.to ≡ actors.Server self.now.me) × (from < self.now.size) × (from ≢ self.now.me)) }
+        ensures ok { IfOk result (λ from. (message.now.from ≡ actors.Server from) × (message.now.to ≡ actors.Server self.now.me) × (from < self.now.size)) }
         ensures admitted { OnOk result (misdirected self.now.size self.now.me message.now.from message.now.to ≡ None) }
         ensures refused { IfErr result (λ cause. misdirected self.now.size self.now.me message.now.from message.now.to ≡ Some cause) }
     {

@@ -13,8 +13,8 @@ ghost use Rattle.raft_core.specs.Turns.{Turned, Lost, Sent};
 use super::Raft;
 use crate::input::Input;
 use crate::log::term_of_last;
-use crate::sending::send;
 use crate::role::Role;
+use crate::sending::send;
 use machine::{Coded, Entry, Machine};
 use rows::{Index, NoMemory, Refusal, ServerId, Term};
 use wire::{Body, Outbox, VoteReply, VoteRequest};
@@ -95,7 +95,11 @@ impl<M: Machine> Raft<M> {
         requires { is_up self.now.server.mode ≡ true }
         ensures { result ≡ (met term self.now.server).term }
     {
-        if self.term.get() < term.get() { term } else { self.term }
+        if self.term.get() < term.get() {
+            term
+        } else {
+            self.term
+        }
     }
 
     /// A request for a vote is answered.
