@@ -1,0 +1,3 @@
+pub mod Words
+pub mod Objects
+pub mod Steps
