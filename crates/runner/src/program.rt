@@ -203,7 +203,11 @@ fn print_end<'a, W: Write>(out: &mut W, world: &RaftWorld<Tally>) -> Result<(), 
     said(out.flush())
 }
 
-fn print_server<'a, W: Write>(out: &mut W, server: ServerId, raft: &Raft<Tally>) -> Result<(), Fault<'a>> {
+fn print_server<'a, W: Write>(
+    out: &mut W,
+    server: ServerId,
+    raft: &Raft<Tally>,
+) -> Result<(), Fault<'a>> {
     let term = raft.term().get();
     let last = raft.last().get();
     let (Some(role), Some(applied)) = (raft.role(), raft.applied()) else {
@@ -211,7 +215,10 @@ fn print_server<'a, W: Write>(out: &mut W, server: ServerId, raft: &Raft<Tally>)
     };
     let role = role_word(role);
     let applied = applied.get();
-    said(writeln!(out, "server {server} {role} term {term} last {last} applied {applied}"))
+    said(writeln!(
+        out,
+        "server {server} {role} term {term} last {last} applied {applied}"
+    ))
 }
 
 fn role_word(role: Role) -> &'static str {

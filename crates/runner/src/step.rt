@@ -52,9 +52,7 @@ pub fn read_step(line: &str) -> Option<Step>
 
 // A server's number, from 1 to 5.
 fn read_server(text: &str) -> Option<ServerId>
-    ensures {
-        MatchOption result ((server : ℕ) → server < 5 → decimal (server + 1) ≢ text.now) (λ server. decimal (server + 1) ≡ text.now)
-    }
+    ensures { MatchOption result ((server : ℕ) → server < 5 → decimal (server + 1) ≢ text.now) (λ server. decimal (server + 1) ≡ text.now) }
 {
     let number = read_number(text)?;
     let number = u8::try_from(number).ok()?;
@@ -63,9 +61,7 @@ fn read_server(text: &str) -> Option<ServerId>
 
 // A number in decimal without leading zeros, below 2^64.
 fn read_number(text: &str) -> Option<u64>
-    ensures {
-        MatchOption result ((number : ℕ) → number < 2 ^ 64 → decimal number ≢ text.now) (λ number. decimal number ≡ text.now)
-    }
+    ensures { MatchOption result ((number : ℕ) → number < 2 ^ 64 → decimal number ≢ text.now) (λ number. decimal number ≡ text.now) }
 {
     let number: u64 = text.parse().ok()?;
     if Buffer::new().format(number) == text {

@@ -19,4 +19,3 @@ returns-in-run c =
     let whole : subcommand_rows_of c.args.matches.now ≡ Some (codes "run", rows) =
     met _ _ _ _ _ (sym c.in_ok-name.ensures.name ∙ ap Some c.in-run.is) (sym c.in_ok-name.ensures.rows) in
     rw whole c.run_line.ensures
-

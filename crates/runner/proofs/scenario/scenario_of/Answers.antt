@@ -9,7 +9,10 @@ returns-in_err-steps-clause-refused c =
     let same : c.from_residual.result ≡ Err c.in_err-steps.field-0.0 = search rules in
     rw same (elim c.in_err-steps.ensures.refused [
       | inl memory ↦ inl memory
-      | inr none ↦ inr (none.0, λ s is.
-        let items : items_view c.in-Some-list_of.steps.now.items ≡ items_of (strings (map string_bytes s.steps.items)) = search (rules, is.steps) in
-        none.1 (map string_bytes s.steps.items) (search (rules, same_items _ _ items)))
+      | inr none ↦ inr (
+        none.0,
+        λ s is.
+            let items : items_view c.in-Some-list_of.steps.now.items ≡ items_of (strings (map string_bytes s.steps.items)) = search (rules, is.steps) in
+            none.1 (map string_bytes s.steps.items) (search (rules, same_items _ _ items)),
+      )
     ])

@@ -15,8 +15,11 @@ returns-in_default-clause-refused c =
     let lt : i < length xs = search rules in
     let at : get_or (map view xs) i (view v) ≡ view v = get_or-map view xs i v (view v) lt ∙ ap view (sym c.value-item.is) in
     let none : as_str (view v) ≡ None = search rules in
-    inr (refl, λ texts e.
-      let len : length (map view xs) ≡ length (strings texts) = ap (λ ds. length ds) e in
-      let within : i < length texts = omega (arith, len, length-map xs view, length-map texts string) in
-      let text_at : get_or (strings texts) i (view v) ≡ view v = rw (← e) at in
-      is_string_at texts i (view v) within text_at none)
+    inr (
+      refl,
+      λ texts e.
+          let len : length (map view xs) ≡ length (strings texts) = ap (λ ds. length ds) e in
+          let within : i < length texts = omega (arith, len, length-map xs view, length-map texts string) in
+          let text_at : get_or (strings texts) i (view v) ≡ view v = rw (← e) at in
+          is_string_at texts i (view v) within text_at none,
+    )

@@ -6,8 +6,8 @@ pub returns-in_err-number : goal.returns-in_err-number
 returns-in_err-number c =
     let none : c.from_residual.result ≡ None = search rules in
     rw none (λ n lt e.
-      let same : c.parse.result ≡ Ok n = parse-decimal 64 n _ _ lt lt (sym e) c.parse.ensures.value.0 in
-      search rules)
+    let same : c.parse.result ≡ Ok n = parse-decimal 64 n _ _ lt lt (sym e) c.parse.ensures.value.0 in
+    search rules)
 
 pub returns-else-eq : goal.returns-else-eq
 returns-else-eq c n lt e =
