@@ -32,11 +32,16 @@ Example:
   {\"servers\": 3, \"nodes\": [], \"key\": 0, \"drop\": 0, \"repeat\": 0,
    \"order\": \"sent\", \"steps\": [\"timeout 1\", \"flow\"]}
 
-For each step that is refused a line says so, with the number of the refusal.
-Then there is a line for each server, and one with the number of events and
-of messages.";
+For each step that is refused a line says so, with the number of the refusal,
+and the exit status is 1. Then there is a line for each server, and one with
+the number of events and of messages.";
 
-const STATUSES: &str = "\
+const ENDS: &str = "\
+Example:
+  nomadsim run data/first-election.json
+
+'nomadsim run --help' says what a scenario's file holds.
+
 Exit status:
   0  every step was taken
   1  a step was refused
@@ -72,7 +77,7 @@ fn program<'a>(alloc: Global) -> Result<Command<'a>, Error>
     let run = run_command(alloc)?;
     let bare = Command::new(alloc, "nomadsim")
         .about(ABOUT)
-        .after_help(STATUSES)
+        .after_help(ENDS)
         .subcommand_required(true);
     let whole = bare.subcommand(run)?;
     Ok(whole)

@@ -158,7 +158,7 @@ impl Play {
 
     fn event(&mut self, event: RaftEvent<Tally>) -> Result<(), Refusal> {
         self.world.step(event)?;
-        self.flight.admit(self.world.sent().len())?;
+        self.flight.admit(self.world.sent().len() as u64)?;
         Ok(())
     }
 
