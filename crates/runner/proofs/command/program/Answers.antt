@@ -1,0 +1,11 @@
+use Rattle.std.proofs.Common.{◌∙◌, ◌≡◌, ap, ap₂, rules, true}
+use Rattle.clap.specs.Words.{App, app_of, with_subcommand}
+use Rattle.clap.specs.Simple.{app_of_fields}
+use Rattle.runner.specs.Words.{bare_app}
+use Rattle.runner.proofs.command.program.Goals as goal
+
+pub returns : goal.returns
+returns c =
+    let top = λ (a : App). a.top in
+    let bare_is : app_of c.subcommand_required-bare.result ≡ bare_app = search rules in
+    c.in_ok-whole.ensures.shape c.in_ok-run.ensures.1 ∙ ap₂ with_subcommand bare_is (ap top c.in_ok-run.ensures.0)

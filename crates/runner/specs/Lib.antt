@@ -1,0 +1,4 @@
+pub mod Words
+pub mod Flight
+pub mod Objects
+pub mod Steps

@@ -1,0 +1,113 @@
+//! The command line.
+ghost use Rattle.std.specs.Prelude.{◌≡◌, false, IfOk, IfSome, map, codes};
+ghost use Rattle.clap.specs.Words.{app_of, found_of, rows_of, subcommand_rows_of};
+ghost use Rattle.clap.specs.declared.builder.command.Command.TheViews.{out-Command};
+ghost use Rattle.runner.specs.Words.{IsAsked, IsNamed, Names, nomadsim_app, run_app};
+
+use clap::error::ErrorKind;
+use clap::{Arg, ArgMatches, Command, Error};
+use std::alloc::Global;
+
+const ABOUT: &str =
+    "Plays scenarios on a group of replicated servers, every step of which is proved";
+
+const STEPS: &str = "\
+The file is a JSON object with exactly these keys:
+  \"servers\"  3 or 5
+  \"nodes\"    []
+  \"key\"      0 to 18446744073709551615
+  \"drop\"     0
+  \"repeat\"   0
+  \"order\"    \"sent\"
+  \"steps\"    a list of texts, each one of these steps:
+    timeout S   server S has heard of no leader for too long
+    deliver K   the K-th message ever sent comes, the first being 1
+    crash S     server S stops, and keeps what it stored
+    restart S   server S begins again from what it stored
+    flow        messages in flight come, the first sent first, until none
+                is left or 10000 have come
+    flow N      the same, for up to N of them
+
+Example:
+  {\"servers\": 3, \"nodes\": [], \"key\": 0, \"drop\": 0, \"repeat\": 0,
+   \"order\": \"sent\", \"steps\": [\"timeout 1\", \"flow\"]}
+
+For each step that is refused a line says so, with the number of the refusal,
+and the exit status is 1. Then there is a line for each server, and one with
+the number of events and of messages.";
+
+const ENDS: &str = "\
+Example:
+  nomadsim run data/first-election.json
+
+'nomadsim run --help' says what a scenario's file holds.
+
+Exit status:
+  0  every step was taken
+  1  a step was refused
+  2  the command line or the file is bad, or the output failed
+  3  there was no memory";
+
+/// What the words of a command line ask for.
+#[derive(Clone, Copy, Debug, PartialEq, Eq)]
+pub enum CommandLine<'a> {
+    /// `run FILE`: the scenario in that file is played.
+    Run {
+        /// The name of the file, as it was given.
+        file: &'a str,
+    },
+}
+
+fn run_command<'a>(alloc: Global) -> Result<Command<'a>, Error>
+    ensures { IfOk result (λ c. (app_of c ≡ run_app) × ((out-Command c).has_globals ≡ false)) }
+{
+    let file = Arg::new(alloc, "FILE")
+        .help("The scenario's file")
+        .required(true);
+    let command = Command::new(alloc, "run")
+        .about("Plays a scenario, and says how it ends")
+        .after_help(STEPS)
+        .arg(file)?;
+    Ok(command)
+}
+
+fn program<'a>(alloc: Global) -> Result<Command<'a>, Error>
+    ensures { IfOk result (λ c. app_of c ≡ nomadsim_app) }
+{
+    let run = run_command(alloc)?;
+    let bare = Command::new(alloc, "nomadsim")
+        .about(ABOUT)
+        .after_help(ENDS)
+        .subcommand_required(true);
+    let whole = bare.subcommand(run)?;
+    Ok(whole)
+}
+
+fn run_line<'a>(given: &ArgMatches<'a>) -> Option<CommandLine<'a>>
+    ensures { IfSome result (IsNamed (codes "run") (rows_of (found_of given.now))) }
+{
+    let file = given.get_str("FILE")?;
+    Some(CommandLine::Run { file })
+}
+
+fn line_of<'a>(matches: &ArgMatches<'a>) -> Option<CommandLine<'a>>
+    ensures { IfSome result (IsAsked (subcommand_rows_of matches.now)) }
+{
+    let (name, given) = matches.subcommand()?;
+    match name {
+        "run" => run_line(given),
+        _ => None,
+    }
+}
+
+/// Reads the words of a command line, of which the first names the program.
+pub fn command<'a>(alloc: Global, words: &'a [&'a str]) -> Result<CommandLine<'a>, Error>
+    ensures { IfOk result (Names (map (λ w. w.now) words.entry.now)) }
+{
+    let mut program = program(alloc)?;
+    let matches = program.try_get_matches_from_mut(words)?;
+    match line_of(&matches) {
+        Some(line) => Ok(line),
+        None => Err(program.error(ErrorKind::MissingSubcommand, "no subcommand is complete")?),
+    }
+}

@@ -1,0 +1,44 @@
+//! Why a run ends before its last line.
+ghost use Rattle.std.specs.Prelude.{◌≤◌};
+
+use rows::NoMemory;
+use thiserror::Error;
+
+/// A fault of the program. Its text is what the standard error is told, with its line's end.
+#[derive(Debug, Drop, Error)]
+pub enum Fault<'a> {
+    /// The words of the command line ask for nothing that the program does; or they ask for its help.
+    #[error("{0}")]
+    CommandLine(clap::Error),
+    /// The file of this name cannot be read.
+    #[error("nomadsim: cannot read {0}\n")]
+    CannotRead(&'a str),
+    /// The file that was read is no scenario, or one of its steps is none.
+    #[error("nomadsim: bad scenario\n")]
+    BadScenario,
+    /// There was no memory.
+    #[error("nomadsim: no memory\n")]
+    NoMemory,
+    /// The standard output failed. Nothing more is said.
+    #[error("")]
+    Output,
+}
+
+impl<'a> From<NoMemory> for Fault<'a> {
+    fn from(_e: NoMemory) -> Fault<'a> {
+        Fault::NoMemory
+    }
+}
+
+impl Fault<'_> {
+    /// The exit status of a run that ends by this fault: 0 where help was asked for, 3 where there was no memory, else 2.
+    pub fn status(&self) -> u8
+        ensures { result ≤ 3 }
+    {
+        match self {
+            Fault::CommandLine(error) if !error.use_stderr() => 0,
+            Fault::NoMemory => 3,
+            _ => 2,
+        }
+    }
+}

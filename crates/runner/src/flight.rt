@@ -1,0 +1,56 @@
+//! Messages in flight.
+ghost use Rattle.std.specs.Prelude.{◌≡◌, ◌++◌, [], OnOk, max, option_to_list};
+ghost use Rattle.runner.specs.Flight.{newly_sent};
+
+use rows::NoMemory;
+use std::alloc::Global;
+use std::collections::VecDeque;
+use std::marker::Model;
+
+/// The numbers of the messages that were sent and that no flow has taken, in the order in which they are taken.
+#[derive(Drop)]
+pub(crate) struct Flight {
+    waiting: VecDeque<u64>,
+    // How many of the messages ever sent have been put in flight.
+    seen: u64,
+}
+
+impl Model for Flight {
+    ghost use Rattle.runner.specs.Flight.{InFlight};
+
+    ghost Value = { InFlight };
+
+    ghost view = { λ f. record { waiting = f.waiting.items; seen = f.seen } };
+}
+
+impl Flight {
+    /// No message.
+    pub(crate) fn new(alloc: Global) -> Flight
+        ensures { (result.waiting ≡ []) × (result.seen ≡ 0) }
+    {
+        Flight {
+            waiting: VecDeque::new(alloc),
+            seen: 0,
+        }
+    }
+
+    /// Puts the messages sent since the last call behind the others, `sent` being the number of all that were ever sent.
+    pub(crate) fn admit(&mut self, sent: u64) -> Result<(), NoMemory>
+        ensures order { OnOk result (self.new.waiting ≡ self.old.waiting ++ newly_sent self.old.seen sent) }
+        ensures seen { OnOk result (self.new.seen ≡ max self.old.seen sent) }
+    {
+        for number in self.seen..sent {
+            self.waiting.push_back(number + 1)?;
+        }
+        self.seen = self.seen.max(sent);
+        Ok(())
+    }
+
+    /// Takes the message at the front.
+    pub(crate) fn take(&mut self) -> Option<u64>
+        ensures front { self.old.waiting ≡ option_to_list result ++ self.new.waiting }
+        ensures seen { self.new.seen ≡ self.old.seen }
+    {
+        self.waiting.pop_front()
+    }
+}

@@ -1,0 +1,13 @@
+//! The program `nomadsim`: its command line, its scenario files, and a run over files and streams that are handed in.
+#![tactic(auto)]
+
+pub mod command;
+pub mod fault;
+mod flight;
+pub mod program;
+pub mod reading;
+pub mod scenario;
+pub mod shelf;
+pub mod step;
+
+pub use program::nomadsim;

@@ -1,0 +1,237 @@
+//! The whole program, over files and streams that are handed in.
+ghost use Rattle.std.specs.Prelude.{◌≤◌, IfOk};
+
+use crate::command::{CommandLine, command};
+use crate::fault::Fault;
+use crate::flight::Flight;
+use crate::reading::scenario;
+use crate::scenario::{Order, Scenario, Settings};
+use crate::shelf::{Shelf, ShelfFault};
+use crate::step::{Step, read_step};
+use clap::error::ErrorKind;
+use machine::Tally;
+use raft_core::{Raft, Role};
+use rows::{Index, NoMemory, Refusal, ServerId};
+use std::alloc::Global;
+use std::io::{self, Write};
+use world::{RaftEvent, RaftWorld};
+
+/// How many messages a `flow` without a number takes at most.
+pub const FLOW: u64 = 10_000;
+
+/// Runs the program on the words of its command line, of which the first is its own name, and answers its exit status:
+/// 0 where every step was taken, 1 where one was refused, 2 for a bad command line, a bad file, or an output that
+/// failed, 3 where there was no memory. What is said is flushed before the status is answered.
+pub fn nomadsim<'a, F: Shelf, W: Write, E: Write>(
+    alloc: Global,
+    words: &'a [&'a str],
+    shelf: &mut F,
+    out: &mut W,
+    err: &mut E,
+) -> u8
+    ensures { result ≤ 3 }
+{
+    match run(alloc, words, shelf, out) {
+        Ok(status) => status,
+        Err(fault) => report(&fault, out, err),
+    }
+}
+
+// Help goes to the standard output, and a fault to the standard error, after what was said before it.
+fn report<W: Write, E: Write>(fault: &Fault<'_>, out: &mut W, err: &mut E) -> u8
+    ensures { result ≤ 3 }
+{
+    let status = fault.status();
+    if status == 0 && write!(out, "{fault}").is_err() {
+        return 2;
+    }
+    if out.flush().is_err() {
+        return 2;
+    }
+    if status != 0 {
+        // Where the standard error fails too, the status still says what went wrong.
+        let _ = write!(err, "{fault}");
+        let _ = err.flush();
+    }
+    status
+}
+
+fn run<'a, F: Shelf, W: Write>(
+    alloc: Global,
+    words: &'a [&'a str],
+    shelf: &mut F,
+    out: &mut W,
+) -> Result<u8, Fault<'a>>
+    ensures { IfOk result (λ status. status ≤ 1) }
+{
+    match command(alloc, words) {
+        Ok(CommandLine::Run { file }) => run_scenario(alloc, shelf, out, file),
+        Err(error) if error.kind() == ErrorKind::OutOfMemory => Err(Fault::NoMemory),
+        Err(error) => Err(Fault::CommandLine(error)),
+    }
+}
+
+fn run_scenario<'a, F: Shelf, W: Write>(
+    alloc: Global,
+    shelf: &mut F,
+    out: &mut W,
+    file: &'a str,
+) -> Result<u8, Fault<'a>>
+    ensures { IfOk result (λ status. status ≤ 1) }
+{
+    let scenario = load(alloc, shelf, file)?;
+    let steps = steps_of(alloc, &scenario)?;
+    let mut play = Play::new(alloc, scenario.settings.servers)?;
+    let mut status = 0;
+    for (step, line) in steps.iter().zip(scenario.steps.iter()) {
+        if let Err(refusal) = play.take(*step) {
+            print_refusal(out, refusal, line.as_str())?;
+            status = 1;
+        }
+    }
+    print_end(out, &play.world)?;
+    Ok(status)
+}
+
+fn load<'a, F: Shelf>(alloc: Global, shelf: &mut F, file: &'a str) -> Result<Scenario, Fault<'a>> {
+    let bytes = match shelf.read(file) {
+        Ok(bytes) => bytes,
+        Err(ShelfFault::NoMemory) => return Err(Fault::NoMemory),
+        Err(ShelfFault::Failed) => return Err(Fault::CannotRead(file)),
+    };
+    let Ok(text) = std::str::from_utf8(bytes.as_slice()) else {
+        return Err(Fault::BadScenario);
+    };
+    match scenario(alloc, text) {
+        Ok(scenario) if is_served(&scenario.settings) => Ok(scenario),
+        Err(Refusal::NoMemory) => Err(Fault::NoMemory),
+        _ => Err(Fault::BadScenario),
+    }
+}
+
+// Messages are not yet lost, repeated or taken out of order.
+fn is_served(settings: &Settings) -> bool {
+    settings.drop == 0 && settings.repeat == 0 && settings.order == Order::Sent
+}
+
+fn steps_of<'a>(alloc: Global, scenario: &Scenario) -> Result<Vec<Step>, Fault<'a>> {
+    let mut steps = Vec::new(alloc);
+    for line in &scenario.steps {
+        let Some(step) = read_step(line.as_str()) else {
+            return Err(Fault::BadScenario);
+        };
+        if steps.push(step).is_err() {
+            return Err(Fault::NoMemory);
+        }
+    }
+    Ok(steps)
+}
+
+// A group of servers, and its messages in flight.
+#[derive(Drop)]
+struct Play {
+    world: RaftWorld<Tally>,
+    flight: Flight,
+}
+
+impl Play {
+    fn new(alloc: Global, servers: u8) -> Result<Play, NoMemory> {
+        match RaftWorld::new(alloc, usize::from(servers)) {
+            Ok(world) => Ok(Play {
+                world,
+                flight: Flight::new(alloc),
+            }),
+            // The size of the group is one that a scenario may have.
+            Err(_) => Err(NoMemory),
+        }
+    }
+
+    fn take(&mut self, step: Step) -> Result<(), Refusal> {
+        match step {
+            Step::Deliver(message) => self.event(RaftEvent::Deliver(message)),
+            Step::Timeout(server) => self.event(RaftEvent::Timeout(server)),
+            Step::Crash(server) => self.event(RaftEvent::Crash(server)),
+            Step::Restart(server) => self.event(RaftEvent::Restart(server)),
+            Step::Flow(count) => Ok(self.flow(count.unwrap_or(FLOW))?),
+        }
+    }
+
+    fn event(&mut self, event: RaftEvent<Tally>) -> Result<(), Refusal> {
+        self.world.step(event)?;
+        self.flight.admit(self.world.sent().len() as u64)?;
+        Ok(())
+    }
+
+    fn flow(&mut self, count: u64) -> Result<(), NoMemory> {
+        for _ in 0..count {
+            let Some(message) = self.flight.take() else {
+                return Ok(());
+            };
+            match self.event(RaftEvent::Deliver(message)) {
+                Err(Refusal::NoMemory) => return Err(NoMemory),
+                // One to a server that is down is lost.
+                Ok(()) | Err(_) => {}
+            }
+        }
+        Ok(())
+    }
+}
+
+// Want of memory is no refusal of a step: it ends the run.
+fn print_refusal<'a, W: Write>(out: &mut W, refusal: Refusal, line: &str) -> Result<(), Fault<'a>> {
+    if refusal == Refusal::NoMemory {
+        return Err(Fault::NoMemory);
+    }
+    let number = refusal.number();
+    said(writeln!(out, "refused {number} {line}"))?;
+    said(out.flush())
+}
+
+fn print_end<'a, W: Write>(out: &mut W, world: &RaftWorld<Tally>) -> Result<(), Fault<'a>> {
+    for number in 1..=5 {
+        let Some(server) = ServerId::from_number(number) else {
+            break;
+        };
+        let Some(raft) = world.raft(server) else {
+            break;
+        };
+        print_server(out, server, raft)?;
+    }
+    let events = world.trace().len();
+    let messages = world.sent().len();
+    said(writeln!(out, "events {events} messages {messages}"))?;
+    said(out.flush())
+}
+
+fn print_server<'a, W: Write>(
+    out: &mut W,
+    server: ServerId,
+    raft: &Raft<Tally>,
+) -> Result<(), Fault<'a>> {
+    let term = raft.term().get();
+    let last = raft.last().get();
+    let (Some(role), Some(applied)) = (raft.role(), raft.applied()) else {
+        return said(writeln!(out, "server {server} down term {term} last {last}"));
+    };
+    let role = role_word(role);
+    let applied = applied.get();
+    said(writeln!(
+        out,
+        "server {server} {role} term {term} last {last} applied {applied}"
+    ))
+}
+
+fn role_word(role: Role) -> &'static str {
+    match role {
+        Role::Follower => "follower",
+        Role::Candidate => "candidate",
+        Role::Leader => "leader",
+    }
+}
+
+fn said<'a>(written: io::Result<()>) -> Result<(), Fault<'a>> {
+    match written {
+        Ok(()) => Ok(()),
+        Err(_) => Err(Fault::Output),
+    }
+}

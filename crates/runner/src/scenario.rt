@@ -1,0 +1,179 @@
+//! Scenario files.
+ghost use Rattle.std.specs.Prelude.{◌≡◌, ◌≢◌, ◌≤◌, ◌<◌, ◌⊎◌, ℕ, List, Some, IfOk, IfErr, MatchOption, codes, map, option_map, string_bytes};
+ghost use Rattle.rows.specs.declared.refusal.Refusal.TheVariants.{NoMemory, OutOfRange};
+ghost use Rattle.serde_json.specs.Data.{no_items};
+ghost use Rattle.serde_json.specs.Find.{as_object};
+ghost use Rattle.serde_json.specs.View.{view, items_view};
+ghost use Rattle.runner.specs.declared.scenario.Order.{Order};
+ghost use Rattle.runner.specs.declared.scenario.Settings.{Settings};
+ghost use Rattle.runner.specs.declared.scenario.Scenario.{Scenario};
+ghost use Rattle.runner.specs.Objects.{HasSettings, IsGroup, IsScenario, list_at, members_count, number_at, order_text, strings, text_at};
+
+use rows::Refusal;
+use serde_json::Value;
+use std::alloc::Global;
+
+/// Which message in flight a flow takes next.
+#[derive(Clone, Copy, Debug, PartialEq, Eq)]
+pub enum Order {
+    /// `"sent"`: the one that was sent first.
+    Sent,
+    /// `"any"`: one drawn from all of them.
+    Any,
+}
+
+/// What a scenario says beside its steps.
+#[derive(Clone, Copy, Debug, PartialEq, Eq)]
+pub struct Settings {
+    /// How many servers there are, 3 or 5.
+    pub servers: u8,
+    /// The key that what is drawn by lot is drawn from.
+    pub key: u64,
+    /// How many of a hundred messages are lost. With `repeat` at most 100.
+    pub drop: u8,
+    /// How many of a hundred messages come again.
+    pub repeat: u8,
+    /// Which message in flight is taken next.
+    pub order: Order,
+}
+
+/// A scenario: its settings, and its steps as texts.
+#[derive(Drop)]
+pub struct Scenario {
+    /// What is said beside the steps.
+    pub settings: Settings,
+    /// The lines of the steps, in order.
+    pub steps: Vec<String>,
+}
+
+fn number_of(value: &Value, key: &str) -> Option<u64>
+    ensures { result ≡ number_at key.now (view value.now) }
+{
+    value.get(key).and_then(Value::as_u64)
+}
+
+fn text_of<'v>(value: &'v Value, key: &str) -> Option<&'v str>
+    ensures { option_map (λ s. s.now) result ≡ text_at key.now (view value.now) }
+{
+    match value.get(key) {
+        Some(found) => found.as_str(),
+        None => None,
+    }
+}
+
+fn list_of<'v>(value: &'v Value, key: &str) -> Option<&'v Vec<Value>>
+    ensures { option_map (λ v. items_view v.now.items) result ≡ list_at key.now (view value.now) }
+{
+    match value.get(key) {
+        Some(found) => found.as_array(),
+        None => None,
+    }
+}
+
+fn keys_of(value: &Value) -> Option<usize>
+    ensures { result ≡ option_map members_count (as_object (view value.now)) }
+{
+    match value.as_object() {
+        Some(members) => Some(members.len()),
+        None => None,
+    }
+}
+
+fn percent_of(value: &Value, key: &str) -> Option<u8>
+    ensures { MatchOption result ((n : ℕ) → number_at key.now (view value.now) ≡ Some n → 100 < n) (λ n. (number_at key.now (view value.now) ≡ Some n) × (n ≤ 100)) }
+{
+    let number = number_of(value, key)?;
+    if 100 < number {
+        return None;
+    }
+    Some(number as u8)
+}
+
+fn servers_of(value: &Value) -> Option<u8>
+    ensures { MatchOption result ((n : ℕ) → number_at (codes "servers") (view value.now) ≡ Some n → IsGroup n → ⊥) (λ n. (number_at (codes "servers") (view value.now) ≡ Some n) × IsGroup n) }
+{
+    let number = number_of(value, "servers")?;
+    if number != 3 && number != 5 {
+        return None;
+    }
+    Some(number as u8)
+}
+
+fn order_of(value: &Value) -> Option<Order>
+    ensures { MatchOption result ((o : Order) → text_at (codes "order") (view value.now) ≢ Some (order_text o)) (λ o. text_at (codes "order") (view value.now) ≡ Some (order_text o)) }
+{
+    match text_of(value, "order")? {
+        "sent" => Some(Order::Sent),
+        "any" => Some(Order::Any),
+        _ => None,
+    }
+}
+
+// The list of nodes, which is empty.
+fn nodes_of(value: &Value) -> Option<()>
+    ensures { MatchOption result (list_at (codes "nodes") (view value.now) ≢ Some no_items) (λ _. list_at (codes "nodes") (view value.now) ≡ Some no_items) }
+{
+    let nodes = list_of(value, "nodes")?;
+    if nodes.is_empty() { Some(()) } else { None }
+}
+
+fn settings_of(value: &Value) -> Option<Settings>
+    ensures { MatchOption result ((s : Settings) → ¬ HasSettings (view value.now) s) (HasSettings (view value.now)) }
+{
+    if keys_of(value)? != 7 {
+        return None;
+    }
+    nodes_of(value)?;
+    let servers = servers_of(value)?;
+    let key = number_of(value, "key")?;
+    let drop = percent_of(value, "drop")?;
+    let repeat = percent_of(value, "repeat")?;
+    if 100 < drop + repeat {
+        return None;
+    }
+    let order = order_of(value)?;
+    Some(Settings {
+        servers,
+        key,
+        drop,
+        repeat,
+        order,
+    })
+}
+
+fn copied(alloc: Global, text: &str) -> Result<String, Refusal>
+    ensures ok { IfOk result (λ s. string_bytes s ≡ text.now) }
+    ensures refused { IfErr result (λ refusal. refusal ≡ NoMemory) }
+{
+    Ok(String::from_str(alloc, text)?)
+}
+
+fn texts_of(alloc: Global, list: &[Value]) -> Result<Vec<String>, Refusal>
+    ensures ok { IfOk result (λ texts. map view list.now ≡ strings (map string_bytes texts.items)) }
+    ensures refused { IfErr result (λ refusal. (refusal ≡ NoMemory) ⊎ ((refusal ≡ OutOfRange) × ((texts : List (List ℕ)) → map view list.now ≢ strings texts))) }
+{
+    let mut texts = Vec::new(alloc);
+    for value in list {
+        let Some(text) = value.as_str() else {
+            return Err(Refusal::OutOfRange);
+        };
+        let text = copied(alloc, text)?;
+        texts.push(text)?;
+    }
+    Ok(texts)
+}
+
+/// The scenario that a JSON value is.
+pub(crate) fn scenario_of(alloc: Global, value: &Value) -> Result<Scenario, Refusal>
+    ensures ok { IfOk result (IsScenario (view value.now)) }
+    ensures refused { IfErr result (λ refusal. (refusal ≡ NoMemory) ⊎ ((refusal ≡ OutOfRange) × ((s : Scenario) → ¬ IsScenario (view value.now) s))) }
+{
+    let Some(settings) = settings_of(value) else {
+        return Err(Refusal::OutOfRange);
+    };
+    let Some(steps) = list_of(value, "steps") else {
+        return Err(Refusal::OutOfRange);
+    };
+    let steps = texts_of(alloc, steps)?;
+    Ok(Scenario { settings, steps })
+}
