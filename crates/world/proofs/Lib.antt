@@ -1,0 +1,9 @@
+pub mod Zips
+pub mod Posts
+pub mod Heights
+pub mod Inputs
+pub mod Taken
+pub mod Refused
+pub mod Sleeping
+pub mod Acts
+pub mod Events

@@ -1,0 +1,4 @@
+pub mod Events
+pub mod Inputs
+pub mod Seen
+pub mod Keeps
