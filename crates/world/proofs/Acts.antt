@@ -1,5 +1,5 @@
 -- What a server did with an event, as what the world did.
-use Rattle.std.proofs.Common.{◌≡◌, ◌≢◌, ℕ, zero, suc, ◌<◌, ◌≤◌, ◌⊎◌, inl, inr, max, Bool, true, false, Option, Some, None, Result, Ok, Err, List, [], ◌∷◌, ◌++◌, length, append-nil, refl, sym, ap, ◌∙◌, subst, arith, slice_get, slice_set, get_or}
+use Rattle.std.proofs.Common.{◌≡◌, ◌≢◌, ℕ, zero, suc, ◌<◌, ◌≤◌, max, true, false, Some, Ok, Err, List, [], ◌∷◌, ◌++◌, length, append-nil, refl, sym, ap, ◌∙◌, subst, arith, slice_get, slice_set, get_or}
 use Rattle.std.proofs.lemmas.Option.{slice_get_read}
 use Rattle.rows.specs.declared.refusal.Refusal.{Refusal}
 use Rattle.rows.specs.declared.refusal.Refusal.TheVariants as refusals
@@ -7,10 +7,10 @@ use Rattle.machine.specs.Meaning.{Meaning}
 use Rattle.wire.specs.Messages.{Message as WireMessage}
 use Rattle.wire.specs.Frames.{Frame, MessageFits, message_at, message_text}
 use Rattle.raft_model.specs.Messages.{Message}
-use Rattle.raft_model.specs.Servers.{Server, Turn, silent, is_up, crashed, restarted}
+use Rattle.raft_model.specs.Servers.{Server, Turn, silent, is_up, restarted}
 use Rattle.raft_model.specs.Steps as model
 use Rattle.raft_model.specs.Steps.{step}
-use Rattle.raft_model.specs.Worlds.{World, Event, Deliver, TimesOut, Beats, Proposes, Compacts, Crashes, Restarts, Run, IsEvent, IsRestart, happens}
+use Rattle.raft_model.specs.Worlds.{World, Event, Deliver, TimesOut, Beats, Proposes, Compacts, Crashes, Restarts, Run, IsEvent, IsRestart}
 use Rattle.raft_core.specs.Seen.{Seen as Held}
 use Rattle.raft_core.specs.Frames.{Carries}
 use Rattle.raft_core.specs.Steps.{Represents, Steps, Takes, Lacks, Declines}
@@ -20,7 +20,7 @@ use Rattle.raft_safety.specs.Claims.{Within}
 use Rattle.raft_safety.proofs.Places.{get-within}
 use Rattle.world.specs.Inputs.{Reads, ActsIn, Came, Brings, Feeds, is_restart, restarts, committed}
 use Rattle.world.specs.Seen.{Seen, Stands, RunsTo, Numbered, Reached}
-use Rattle.world.specs.Keeps.{Goes, Falls, StaysDown, Refuses}
+use Rattle.world.specs.Keeps.{Goes, StaysDown, Refuses}
 use Rattle.world.proofs.Zips.{zip_at, zip_length}
 use Rattle.world.proofs.Posts.{Posts, step_posts}
 use Rattle.world.proofs.Taken.{steps_on, took, Moved, moved, numbered_on, goes_by, reached_on, carry_zip}
@@ -53,12 +53,12 @@ pub record Act {S C : Type 0} (m : Meaning S C) (old now : Seen C) (e : Event C)
 pub act_of : {S C : Type 0} (m : Meaning S C) (old now : Seen C) (e : Event C) (i p : ℕ) (h : Held C) (input : Input) (sent before : List Frame) → old ≡ now → Reached m old →
     p ≡ i → i < length now.servers → h ≡ get_or old.servers p h → ActsIn m now.sent e i → sent ≡ old.sent → Feeds m sent e input → before ≡ [] → Act m old now e i h input before
 act_of m old now e i p h input sent before same r is inside got acts sent_is feeds empty = record {
-    view = same;
-    reached = r;
-    here = slice_get_read old.servers _ i h refl (subst (λ (x : Seen _). i < length x.servers) (sym same) inside) (subst (λ k. h ≡ get_or old.servers k h) is got);
-    acts = subst (λ (x : Seen _). ActsIn m x.sent e i) (sym same) acts;
-    feeds = subst (λ l. Feeds m l e input) sent_is feeds;
-    empty = empty;
+  view = same;
+  reached = r;
+  here = slice_get_read old.servers _ i h refl (subst (λ (x : Seen _). i < length x.servers) (sym same) inside) (subst (λ k. h ≡ get_or old.servers k h) is got);
+  acts = subst (λ (x : Seen _). ActsIn m x.sent e i) (sym same) acts;
+  feeds = subst (λ l. Feeds m l e input) sent_is feeds;
+  empty = empty;
 }
 
 module _ {S C : Type 0} (m : Meaning S C) (old now : Seen C) (e : Event C) (i : ℕ) (h h2 : Held C) (input : Input) (before : List Frame) (a : Act m old now e i h input before) where
@@ -113,7 +113,7 @@ module _ {S C : Type 0} (m : Meaning S C) (old now : Seen C) (e : Event C) (i : 
         ((s : Server C) → Represents m h2 s → new.chain ≡ max old.chain (committed s)) → Happened e new
     taken_goes new servers sent trace is same chain =
         let move : (w : World C) → Stands m old w → (turn : Turn C) × Moved m old new e i h h2 frames a.reached.numbered a.here servers sent w turn =
-            λ w st. let c = scene w st in let b = c.brings in let t = steps_in w st in (t.turn, moved m old new e i h h2 frames a.reached.numbered a.here servers sent w st c.server b.what c.at b.takes t) in
+        λ w st. let c = scene w st in let b = c.brings in let t = steps_in w st in (t.turn, moved m old new e i h h2 frames a.reached.numbered a.here servers sent w st c.server b.what c.at b.takes t) in
         let goes = goes_by m old new e i h h2 frames a.reached.numbered a.here servers sent is trace move (λ w st. let q = move w st in let d = q.1 in chain q.0.server d.represents) in
         happened e new goes (numbered_on m old new e i h h2 frames a.reached.numbered a.here servers sent same)
 
@@ -123,9 +123,9 @@ module _ {S C : Type 0} (m : Meaning S C) (old now : Seen C) (e : Event C) (i : 
       let f = a.feeds in
       let none : new.sent ≡ old.sent ++ [] = sent ∙ sym (append-nil old.sent) in
       let fall : (w : World C) (st : Stands m old w) → let c = scene w st in (t : Steps m h c.server model.Crash h2 [] []) × (committed t.turn.server ≡ 0) =
-          λ w st. let c = scene w st in crash_steps m h h2 input after (subst (λ l. Lacks m h input h2 l after) a.empty lacks) (f.kind ∙ other) c.server c.represents in
+      λ w st. let c = scene w st in crash_steps m h h2 input after (subst (λ l. Lacks m h input h2 l after) a.empty lacks) (f.kind ∙ other) c.server c.represents in
       let move : (w : World C) → Stands m old w → (turn : Turn C) × Moved m old new (Crashes i) i h h2 [] a.reached.numbered a.here servers none w turn =
-          λ w st. let c = scene w st in let t = fall w st in let u = t.0 in (u.turn, moved m old new (Crashes i) i h h2 [] a.reached.numbered a.here servers none w st c.server model.Crash c.at refl u) in
+      λ w st. let c = scene w st in let t = fall w st in let u = t.0 in (u.turn, moved m old new (Crashes i) i h h2 [] a.reached.numbered a.here servers none w st c.server model.Crash c.at refl u) in
       let goes = goes_by m old new (Crashes i) i h h2 [] a.reached.numbered a.here servers none tt trace move (λ w st. let t = fall w st in omega (arith, chain, t.1)) in
       happened (Crashes i) new goes (numbered_on m old new (Crashes i) i h h2 [] a.reached.numbered a.here servers none same)
 
@@ -158,18 +158,18 @@ module _ {S C : Type 0} (m : Meaning S C) (old now : Seen C) (e : Event C) (i : 
   stays_down new after lacks so is =
       let f = a.feeds in
       record {
-          restart = is_a_restart m e so;
-          could = λ w st.
-              let stood = subst (λ x. Stands m x w) (sym a.view) st in
-              let c = scene w stood in
-              let b = c.brings in
-              let left = left_in after lacks so w stood in
-              let down : is_up c.server.mode ≡ false = left.0 in
-              let is : b.what ≡ model.Restart = reads_restart input b.what (f.kind ∙ so) b.reads in
-              let stepped : step m (length w.servers) i c.server b.what ≡ Ok (silent (restarted c.server)) =
-                  subst (λ x. step m (length w.servers) i c.server x ≡ Ok (silent (restarted c.server))) (sym is) (rw down refl) in
-              (record { servers = slice_set w.servers i (restarted c.server); sent = w.sent ++ [] }, b.takes ∙ took m w i b.what c.server (Ok (silent (restarted c.server))) c.at stepped);
-          same = is ∙ a.view;
+        restart = is_a_restart m e so;
+        could = λ w st.
+            let stood = subst (λ x. Stands m x w) (sym a.view) st in
+            let c = scene w stood in
+            let b = c.brings in
+            let left = left_in after lacks so w stood in
+            let down : is_up c.server.mode ≡ false = left.0 in
+            let is : b.what ≡ model.Restart = reads_restart input b.what (f.kind ∙ so) b.reads in
+            let stepped : step m (length w.servers) i c.server b.what ≡ Ok (silent (restarted c.server)) =
+            subst (λ x. step m (length w.servers) i c.server x ≡ Ok (silent (restarted c.server))) (sym is) (rw down refl) in
+            (record { servers = slice_set w.servers i (restarted c.server); sent = w.sent ++ [] }, b.takes ∙ took m w i b.what c.server (Ok (silent (restarted c.server))) c.at stepped);
+        same = is ∙ a.view;
       }
 
   -- nor does a refusal
@@ -194,9 +194,8 @@ module _ {S C : Type 0} (m : Meaning S C) (old now : Seen C) (e : Event C) (i : 
         let b = c.brings in
         let why = declined m h h2 input after refusal other (subst (λ l. Declines m h input refusal h2 l after) a.empty d) in
         let no_step : step m h.size h.me c.server b.what ≡ Err refusal =
-            refused_is m h.size h.me again c.server input b.what refusal b.reads (for_it past w run b.what b.came) (why.because c.server c.represents) in
+        refused_is m h.size h.me again c.server input b.what refusal b.reads (for_it past w run b.what b.came) (why.because c.server c.represents) in
         let n : h.size ≡ length w.servers = size_is ∙ zip_length (Represents m) old.servers w.servers run.stands.servers in
         let here_too : step m (length w.servers) i c.server b.what ≡ Err refusal =
-            subst (λ (k : ℕ). step m k i c.server b.what ≡ Err refusal) n (subst (λ (j : ℕ). step m h.size j c.server b.what ≡ Err refusal) me_is no_step) in
+        subst (λ (k : ℕ). step m k i c.server b.what ≡ Err refusal) n (subst (λ (j : ℕ). step m h.size j c.server b.what ≡ Err refusal) me_is no_step) in
         b.takes ∙ took m w i b.what c.server (Err refusal) c.at here_too
-

@@ -1,5 +1,5 @@
 -- Events of the program's world as the model's.
-use Rattle.std.proofs.Common.{◌≡◌, ◌∙◌, ap, sym, List, [], ◌∷◌, ◌++◌, map}
+use Rattle.std.proofs.Common.{◌≡◌, ◌∙◌, ap, List, [], ◌∷◌, ◌++◌}
 use Rattle.std.proofs.lemmas.List.{map-append}
 use Rattle.machine.specs.Meaning.{Meaning}
 use Rattle.raft_model.specs.Worlds.{IsEvent}

@@ -7,3 +7,5 @@ pub mod Refused
 pub mod Sleeping
 pub mod Acts
 pub mod Events
+pub mod Begins
+pub mod Playing

@@ -1,13 +1,19 @@
 -- Events for a server that is not there, or is down.
-use Rattle.std.proofs.Common.{◌≡◌, ℕ, Bool, true, false, Option, Some, None, Err, refl, sym, ap, ◌∙◌, subst, slice_get}
-use Rattle.std.proofs.lemmas.Option.{same_Some}
+use Rattle.std.proofs.Common.{◌≡◌, ℕ, false, Option, Some, None, Err, is_some, List, length, ◌<◌, ◌≤◌, refl, sym, ap, ◌∙◌, subst, slice_get, get_or}
+use Rattle.std.proofs.lemmas.Option.{same_Some, slice_get_past, slice_get_read}
 use Rattle.rows.specs.declared.refusal.Refusal.TheVariants as refusals
 use Rattle.machine.specs.Meaning.{Meaning}
 use Rattle.raft_model.specs.Messages.{Message}
-use Rattle.raft_model.specs.Servers.{Server, is_up}
+use Rattle.raft_model.specs.Servers.{Server, Mode, Down, Follower, Candidate, Leader, is_up}
 use Rattle.raft_model.specs.Steps.{Input, Arrives, Timeout, Beat, Propose, Compact, Crash, Restart, step}
 use Rattle.raft_model.specs.Worlds.{World, Event, Deliver, TimesOut, Beats, Proposes, Compacts, Crashes, Restarts, happens, takes, receiver, delivers, actor}
-use Rattle.world.specs.Inputs.{is_restart}
+use Rattle.raft_core.specs.Seen.{Seen as Held}
+use Rattle.raft_core.specs.Steps.{Represents, role_of}
+use Rattle.raft_core.specs.declared.role.Role.{Role}
+use Rattle.world.specs.Inputs.{ActsIn, is_restart}
+use Rattle.world.specs.Seen.{Seen}
+use Rattle.world.specs.Keeps.{Refuses}
+use Rattle.world.proofs.Zips.{zip_at, zip_none}
 use Rattle.world.proofs.Taken.{took}
 
 module _ {S C : Type 0} (m : Meaning S C) (w : World C) where
@@ -38,3 +44,28 @@ module _ {S C : Type 0} (m : Meaning S C) (w : World C) where
 
   pub sleeping : (e : Event C) (i : ℕ) (s : Server C) → actor m w e ≡ Some i → slice_get w.servers i ≡ Some s → is_up s.mode ≡ false → is_restart e ≡ false → happens m w e ≡ Err refusals.Down
   sleeping e i s who here down other = let g = given e i who in g.takes ∙ took m w i g.what s (Err refusals.Down) here (g.sleeps other _ i s down)
+
+-- what a server says that it does, where it does nothing
+asleep : (mode : Mode) → is_some (role_of mode) ≡ false → is_up mode ≡ false
+asleep Down h = refl
+asleep Follower h = absurd (cc)
+asleep (Candidate votes) h = absurd (cc)
+asleep (Leader next match) h = absurd (cc)
+
+module _ {S C : Type 0} (m : Meaning S C) (now : Seen C) (list : List (Held C)) (e : Event C) (i p : ℕ) (same : list ≡ now.servers) (is : p ≡ i) (acts : ActsIn m now.sent e i) where
+  pub refuses_absent : length list ≤ p → Refuses m now e refusals.OutOfRange
+  refuses_absent past_it past w r =
+      let st = r.stands in
+      let out : length now.servers ≤ i = subst (λ k. length now.servers ≤ k) is (subst (λ (l : List (Held C)). length l ≤ p) same past_it) in
+      absent m w e i (acts w st.sent) (zip_none (Represents m) now.servers w.servers i st.servers (slice_get_past now.servers i out))
+
+  pub refuses_sleeping : (h : Held C) (role : Option Role) → p < length list → h ≡ get_or list p h → ((s : Server C) → Represents m h s → role ≡ role_of s.mode) → is_some role ≡ false →
+      is_restart e ≡ false → Refuses m now e refusals.Down
+  refuses_sleeping h role inside got says none other past w r =
+      let st = r.stands in
+      let here : slice_get now.servers i ≡ Some h =
+      slice_get_read now.servers (length now.servers) i h refl (subst (λ k. k < length now.servers) is (subst (λ (l : List (Held C)). p < length l) same inside))
+      (subst (λ k. h ≡ get_or now.servers k h) is (subst (λ (l : List (Held C)). h ≡ get_or l p h) same got)) in
+      let s = zip_at (Represents m) now.servers w.servers i h st.servers here in
+      let down : is_up s.0.mode ≡ false = asleep s.0.mode (ap is_some (sym (says s.0 s.2)) ∙ none) in
+      sleeping m w e i s.0 (acts w st.sent) s.1 down other

@@ -11,6 +11,7 @@ use Rattle.world.specs.Seen.{Seen, Stands, RunsTo}
 -- The event happens in each world that `old` stands for, and makes it one that `new` stands for. Each run of the old value
 -- goes on to one of the new value, by this event.
 pub record Goes {S C : Type 0} (m : Meaning S C) (old : Seen C) (e : Event C) (new : Seen C) : Type 0 where
+  pub size : length new.servers ≡ length old.servers
   pub trace : new.trace ≡ old.trace ++ e ∷ []
   pub worlds : (w : World C) → Stands m old w → (next : World C) × (happens m w e ≡ Ok next) × Stands m new next
   pub runs : (past : List (World C)) (w : World C) → RunsTo m old past w → (next : World C) × (happens m w e ≡ Ok next) × RunsTo m new (past ++ w ∷ []) next

@@ -196,11 +196,7 @@ impl<M: Machine> RaftWorld<M> {
 
     /// The group after these events, from its beginning; those that are refused are passed over. It is refused with
     /// `OutOfRange` where `n` is not 3 or 5, and with `NoMemory` where the world lacks memory.
-    pub fn run(
-        alloc: Global,
-        n: usize,
-        events: &[RaftEvent<M>],
-    ) -> Result<RaftWorld<M>, Refusal>
+    pub fn run(alloc: Global, n: usize, events: &[RaftEvent<M>]) -> Result<RaftWorld<M>, Refusal>
         ensures played { IfOk result (λ w. Played M.meaning n (events_of events.now) w) }
         ensures refused { IfErr result (λ refusal. IsNoGroup n refusal) }
         ensures one_leader { IfOk result (λ w. OneLeaderEver M.meaning w) }

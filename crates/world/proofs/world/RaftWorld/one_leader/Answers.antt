@@ -7,4 +7,4 @@ pub returns : goal.returns
 returns g c =
     let i = c.self.invariant in
     subst (λ (x : Seen g.row.M-Command.Denot). OneLeaderEver g.M.Machine.meaning x) c.self.view_is
-        (record { past = i.past; world = i.world; runs = i.runs; ever = λ past w r. c.one_leader_a_term.ensures _ _ past w r.run })
+    (record { past = i.past; world = i.world; runs = i.runs; ever = λ past w r. c.one_leader_a_term.ensures _ _ past w r.run })
