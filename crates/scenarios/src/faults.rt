@@ -155,51 +155,25 @@ fn says_what_is_wrong(rt: HostRuntime) {
     fail(&rt, alloc, &present, true, 3, "nomadsim: no memory\n");
 }
 
+// The words of a later stage are a bad command line too.
 #[test]
 fn refuses_other_words(rt: HostRuntime) {
     let alloc = rt.alloc();
     fail(&rt, alloc, &[], true, 2, "");
     fail(&rt, alloc, &["nomadsim"], true, 2, "error");
-    fail(
-        &rt,
-        alloc,
-        &["nomadsim", "run"],
-        true,
-        2,
-        "error: the following required arguments were not provided:\n  <FILE>\n",
-    );
-    fail(
-        &rt,
-        alloc,
-        &["nomadsim", "run", "s.json", "t.json"],
-        true,
-        2,
-        "error: unexpected argument 't.json' found\n",
-    );
-    fail(
-        &rt,
-        alloc,
-        &["nomadsim", "run", "s.json", "--out", "t"],
-        true,
-        2,
-        "error: unexpected argument '--out' found\n",
-    );
-    fail(
-        &rt,
-        alloc,
-        &["nomadsim", "replay", "t"],
-        true,
-        2,
-        "error: unrecognized subcommand 'replay'\n",
-    );
-    fail(
-        &rt,
-        alloc,
-        &["nomadsim", "threads", "s.json"],
-        true,
-        2,
-        "error: unrecognized subcommand 'threads'\n",
-    );
+    let no_file = "error: the following required arguments were not provided:\n  <FILE>\n";
+    fail(&rt, alloc, &["nomadsim", "run"], true, 2, no_file);
+    let two_files = ["nomadsim", "run", "s.json", "t.json"];
+    let second = "error: unexpected argument 't.json' found\n";
+    fail(&rt, alloc, &two_files, true, 2, second);
+    let transcript = ["nomadsim", "run", "s.json", "--out", "t"];
+    let option = "error: unexpected argument '--out' found\n";
+    fail(&rt, alloc, &transcript, true, 2, option);
+    let replay = "error: unrecognized subcommand 'replay'\n";
+    fail(&rt, alloc, &["nomadsim", "replay", "t"], true, 2, replay);
+    let threads = ["nomadsim", "threads", "s.json"];
+    let command = "error: unrecognized subcommand 'threads'\n";
+    fail(&rt, alloc, &threads, true, 2, command);
 }
 
 // Help is said on the standard output, and is no fault.

@@ -78,6 +78,7 @@ pub(crate) struct Case {
     pub(crate) err: &'static str,
 }
 
+/// Runs the program on the scenario, and compares its status and all that it says.
 pub(crate) fn play(rt: &impl Abort, alloc: Global, case: &Case) {
     let words = ["nomadsim", "run", "s.json"];
     let mut shelf = OneFile {

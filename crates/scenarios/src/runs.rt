@@ -61,8 +61,7 @@ events 6 messages 6
     }
 }
 
-// Messages flow in the order in which they were sent; one to a server that is down is lost; a step that delivers takes
-// nothing out of flight.
+// Messages flow in the order in which they were sent; one to a server that is down is lost.
 #[test]
 fn flows(rt: HostRuntime) {
     let cases = [
@@ -102,6 +101,16 @@ events 4 messages 3
 ",
             err: "",
         },
+    ];
+    for case in &cases {
+        play(&rt, rt.alloc(), case);
+    }
+}
+
+// A message that a step delivered flows all the same, and a second election flows as the first.
+#[test]
+fn flows_again(rt: HostRuntime) {
+    let cases = [
         Case {
             head: THREE,
             steps: "\"timeout 1\", \"deliver 1\", \"flow\"",
