@@ -1,0 +1,5 @@
+pub mod Zips
+pub mod Posts
+pub mod Heights
+pub mod Inputs
+pub mod Taken

@@ -1,0 +1,50 @@
+-- What a step of a world does, and what becomes of a list of events.
+use Rattle.std.specs.Prelude.{◌≡◌, ℕ, ◌⊎◌, Some, Ok, Err, List, [], ◌∷◌, ◌++◌}
+use Rattle.rows.specs.declared.refusal.Refusal.{Refusal}
+use Rattle.machine.specs.Meaning.{Meaning}
+use Rattle.raft_model.specs.Worlds.{World, Event, Crashes, Outcome, Trace, OneLeader, happens, actor, IsRestart}
+use Rattle.world.specs.declared.world.Done.{Done}
+use Rattle.world.specs.declared.world.Done.TheVariants.{Taken, Crashed}
+use Rattle.world.specs.Seen.{Seen, Stands, RunsTo}
+
+-- The event happens in each world that `old` stands for, and makes it one that `new` stands for. Each run of the old value
+-- goes on to one of the new value, by this event.
+pub record Goes {S C : Type 0} (m : Meaning S C) (old : Seen C) (e : Event C) (new : Seen C) : Type 0 where
+  pub trace : new.trace ≡ old.trace ++ e ∷ []
+  pub worlds : (w : World C) → Stands m old w → (next : World C) × (happens m w e ≡ Ok next) × Stands m new next
+  pub runs : (past : List (World C)) (w : World C) → RunsTo m old past w → (next : World C) × (happens m w e ≡ Ok next) × RunsTo m new (past ++ w ∷ []) next
+
+-- the event's actor crashes in its place
+pub record Falls {S C : Type 0} (m : Meaning S C) (old : Seen C) (e : Event C) (new : Seen C) : Type 0 where
+  pub who : ℕ
+  pub actor : (w : World C) → Stands m old w → actor m w e ≡ Some who
+  pub goes : Goes m old (Crashes who) new
+
+-- a restart that could be, of a server that finds no memory: it stays down
+pub record StaysDown {S C : Type 0} (m : Meaning S C) (old : Seen C) (e : Event C) (new : Seen C) : Type 0 where
+  pub restart : IsRestart m e
+  pub could : (w : World C) → Stands m old w → (next : World C) × (happens m w e ≡ Ok next)
+  pub same : new ≡ old
+
+abbrev pub Went : {S C : Type 0} → Meaning S C → Seen C → Event C → Done → Seen C → Type 0
+Went m old e Taken new = Goes m old e new
+Went m old e Crashed new = Falls m old e new ⊎ StaysDown m old e new
+
+-- the model refuses the event in the same way, in each run of the value
+abbrev pub Refuses : {S C : Type 0} → Meaning S C → Seen C → Event C → Refusal → Type 0
+Refuses {S} {C} m seen e r = (past : List (World C)) (w : World C) → RunsTo m seen past w → happens m w e ≡ Err r
+
+-- the value's trace is that of the events handed in: each was kept, was replaced by its actor's crash, or was left out
+pub record Played {S C : Type 0} (m : Meaning S C) (n : ℕ) (handed : List (Event C)) (seen : Seen C) : Type 0 where
+  pub outcomes : List Outcome
+  pub past : List (World C)
+  pub world : World C
+  pub trace : Trace m n handed outcomes seen.trace past world
+  pub runs : RunsTo m seen past world
+
+-- The value has a run, and in each of its runs no two servers ever led one term.
+pub record OneLeaderEver {S C : Type 0} (m : Meaning S C) (seen : Seen C) : Type 0 where
+  pub past : List (World C)
+  pub world : World C
+  pub runs : RunsTo m seen past world
+  pub ever : (past : List (World C)) (w : World C) → RunsTo m seen past w → OneLeader past w
