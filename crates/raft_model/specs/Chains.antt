@@ -1,4 +1,4 @@
--- The one list of a run.
+-- The one list of a run. (Raft, Figure 3: log matching, leader completeness and state machine safety.)
 use Rattle.std.specs.Prelude.{◌≡◌, ℕ, ◌≤◌, ◌⊎◌, true, Some, List, [], length, take, slice_get}
 use Rattle.machine.specs.declared.entry.Entry.{Entry}
 use Rattle.raft_model.specs.Servers.{Server, is_up}
@@ -16,6 +16,7 @@ pub record At {C : Type 0} (past : List (World C)) (w : World C) (k i : ℕ) (s 
   pub world_is : moment past w k ≡ Some world
   pub here : slice_get world.servers i ≡ Some s
 
+-- a server that was up had this commit index at some moment
 pub record Reached {C : Type 0} (past : List (World C)) (w : World C) (index : ℕ) : Type 0 where
   pub moment : ℕ
   pub who : ℕ

@@ -7,6 +7,7 @@ use Rattle.raft_model.specs.Logs.{MAX, state_after}
 use Rattle.raft_model.specs.Messages.{Message, Body, VoteRequest, VoteReply, Append, AppendReply, Install, InstallReply, to_others}
 use Rattle.raft_model.specs.Servers.{Server, Turn, is_up, is_leader, silent, reply, met, stood, vote_request, grants, granted, counted, following, follows_append, installed, hears_ok, hears_refusal, beats, crashed, restarted, compacted, extended}
 
+-- what a server takes: a message that came, or an input of its own
 pub data Input (C : Type 0) : Type 0 where
   Arrives : (message : Message C) → Input C
   Timeout : Input C
@@ -39,6 +40,7 @@ receives noop n me s from term (Install P) =
 receives noop n me s from term (InstallReply asked at) =
     silent (if asked == s.term then hears_ok n me s from at s.mode else s)
 
+-- Timeout: a leader does nothing; any other stands and asks all others, in rising number, if there is a further term and a further index
 abbrev pub times_out : {C : Type 0} → ℕ → ℕ → Server C → Result (Turn C) Refusal
 times_out n me s =
     if is_leader s.mode then Ok (silent s)
@@ -50,17 +52,19 @@ times_out n me s =
 abbrev pub admitted : {S C : Type 0} → Meaning S C → Server C → C → Option Refusal
 admitted m s command = if nat_lt (length s.log) MAX then m.admission (state_after m s.log) command else Some refusals.Exhausted
 
+-- a, if there is no refusal
 abbrev pub unless : {A : Type 0} → Option Refusal → A → Result A Refusal
 unless None a = Ok a
 unless (Some r) a = Err r
 
+-- Propose: a leader appends a command that nothing refuses; others refuse it with the leader that they know
 abbrev pub proposes : {S C : Type 0} → Meaning S C → Server C → C → Result (Turn C) Refusal
 proposes m s command =
     if is_leader s.mode
     then unless (admitted m s command) (silent (extended s command))
     else Err (refusals.NotLeader s.known)
 
--- a server that is up
+-- a server that is up; a message from outside the group is none of its own
 abbrev pub acts : {S C : Type 0} → Meaning S C → ℕ → ℕ → Server C → Input C → Result (Turn C) Refusal
 acts m n me s (Arrives message) =
     if nat_lt message.from n
@@ -73,7 +77,7 @@ acts m n me s Compact = Ok (silent (compacted s))
 acts m n me s Crash = Ok (silent (crashed s))
 acts m n me s Restart = Err refusals.OutOfRange
 
--- a server that is down
+-- a server that is down takes a restart alone
 abbrev pub wakes : {C : Type 0} → Server C → Input C → Result (Turn C) Refusal
 wakes s (Arrives message) = Err refusals.Down
 wakes s Timeout = Err refusals.Down
@@ -83,5 +87,6 @@ wakes s Compact = Err refusals.Down
 wakes s Crash = Err refusals.Down
 wakes s Restart = Ok (silent (restarted s))
 
+-- one input: the turn, or the refusal that leaves the server as it was and sends nothing
 abbrev pub step : {S C : Type 0} → Meaning S C → ℕ → ℕ → Server C → Input C → Result (Turn C) Refusal
 step m n me s input = if is_up s.mode then acts m n me s input else wakes s input

@@ -1,4 +1,4 @@
--- The group, its events and its runs.
+-- The group, its events and its runs. The network loses, repeats, delays and reorders messages as it likes, but alters none.
 use Rattle.std.specs.Prelude.{◌≡◌, ℕ, ◌⊎◌, Option, Some, None, Result, Ok, Err, List, [], ◌∷◌, ◌++◌, length, replicate, slice_get, slice_set}
 use Rattle.rows.specs.declared.refusal.Refusal.{Refusal}
 use Rattle.rows.specs.declared.refusal.Refusal.TheVariants as refusals
@@ -12,6 +12,7 @@ pub record World (C : Type 0) : Type 0 where
   pub servers : List (Server C)
   pub sent : List (Message C)
 
+-- n servers before the first event, and no message
 abbrev pub first : {C : Type 0} → ℕ → World C
 first n = record { servers = replicate n newcomer; sent = [] }
 
@@ -33,10 +34,12 @@ pub data Outcome : Type 0 where
   LeftOut : (refusal : Refusal) → Outcome
 
 module _ {S C : Type 0} (m : Meaning S C) where
+  -- the world after a server's turn: that server alone changed, and what it sent was added
   abbrev pub after_turn : World C → ℕ → Result (Turn C) Refusal → Result (World C) Refusal
   after_turn w i (Ok turn) = Ok (record { servers = slice_set w.servers i turn.server; sent = w.sent ++ turn.sent })
   after_turn w i (Err r) = Err r
 
+  -- an input comes to server i, which is s, if there is one
   abbrev pub input_to : World C → ℕ → Input C → Option (Server C) → Result (World C) Refusal
   input_to w i input None = Err refusals.OutOfRange
   input_to w i input (Some s) = after_turn w i (step m (length w.servers) i s input)
@@ -45,6 +48,7 @@ module _ {S C : Type 0} (m : Meaning S C) where
   abbrev pub takes : World C → ℕ → Input C → Result (World C) Refusal
   takes w i input = input_to w i input (slice_get w.servers i)
 
+  -- the message comes to its receiver, if there is one
   abbrev pub delivers : World C → Option (Message C) → Result (World C) Refusal
   delivers w None = Err refusals.OutOfRange
   delivers w (Some message) = takes w message.to (Arrives message)
@@ -75,11 +79,12 @@ module _ {S C : Type 0} (m : Meaning S C) where
     more : {events : List (Event C)} {past : List (World C)} {w : World C} (e : Event C) (next : World C) →
         Run n events past w → IsEvent e → happens w e ≡ Ok next → Run n (events ++ e ∷ []) (past ++ w ∷ []) next
 
-  -- the server that takes the event
+  -- the server that takes the message
   abbrev pub receiver : Option (Message C) → Option ℕ
   receiver None = None
   receiver (Some message) = Some message.to
 
+  -- the server that takes the event
   abbrev pub actor : World C → Event C → Option ℕ
   actor w (Deliver k) = receiver (slice_get w.sent k)
   actor w (TimesOut i) = Some i
@@ -89,6 +94,7 @@ module _ {S C : Type 0} (m : Meaning S C) where
   actor w (Crashes i) = Some i
   actor w (Restarts i) = Some i
 
+  -- the event is a restart
   abbrev pub IsRestart : Event C → Type 0
   IsRestart (Deliver k) = ⊥
   IsRestart (TimesOut i) = ⊥
@@ -98,9 +104,9 @@ module _ {S C : Type 0} (m : Meaning S C) where
   IsRestart (Crashes i) = ⊥
   IsRestart (Restarts i) = Unit {0}
 
-  -- the event is refused, or it is a restart without memory
+  -- The event is refused; or it is a restart that could be, of a server that finds no memory: it stays down.
   abbrev pub IsLeftOut : World C → Event C → Refusal → Type 0
-  IsLeftOut w e r = (happens w e ≡ Err r) ⊎ (IsRestart e × (r ≡ refusals.NoMemory))
+  IsLeftOut w e r = (happens w e ≡ Err r) ⊎ (IsRestart e × ((next : World C) × (happens w e ≡ Ok next)) × (r ≡ refusals.NoMemory))
 
   -- A list of events handed in, what became of each, and its trace: each event is kept, or is replaced by the crash of its
   -- actor, if that is up, or is left out with its refusal.

@@ -179,6 +179,7 @@ module _ {C : Type 0} (P : List (Entry C) → Type 0) (n : ℕ) (G : History C) 
         };
         says = λ k y h. record { vote = v.says k y h; body = says H (omega (arith, mine)) k y h };
         sound = λ h. h;
+        writes = λ u. inl refl;
       }
 
   -- where the entries begin, the log is the leader's

@@ -67,4 +67,5 @@ module _ {C : Type 0} (P : List (Entry C) → Type 0) (n : ℕ) (G : History C) 
               (record { log = s.log; stood = both_same G.stood t i (Some s.log); index_is = refl; last_is = refl });
         };
         sound = λ h. h;
+        writes = λ u. inl refl;
       }

@@ -1,268 +1,124 @@
--- Through every run there is one list.
-use Rattle.std.proofs.Common.{◌≡◌, ℕ, zero, suc, ◌<◌, ◌≤◌, ◌⊎◌, inl, inr, Some, None, List, [], ◌∷◌, ◌++◌, length, take, refl, sym, ap, ◌∙◌, subst, arith, slice_get, true, false, length-take-le, take_all}
+-- The one list of a run, and what the story says of logs, states and origins.
+use Rattle.std.proofs.Common.{◌≡◌, ℕ, suc, ◌<◌, ◌≤◌, inl, inr, Some, List, [], length, take, sym, ap, ◌∙◌, subst, arith, take_all}
 use Rattle.std.proofs.lemmas.Bool.Decides.{leb_tells}
 use Rattle.machine.specs.Meaning.{Meaning, LawfulMachine}
+use Rattle.machine.specs.After.{Admitted}
 use Rattle.machine.specs.declared.entry.Entry.{Entry}
-use Rattle.raft_model.specs.Logs.{state_after}
-use Rattle.raft_model.specs.Servers.{Server, Leader, is_up, newcomer}
-use Rattle.raft_model.specs.Worlds.{World, first, Event, Run, start, more, moment, Leads}
-use Rattle.raft_model.specs.Chains.{Agree, At, Reached, Chain}
-use Rattle.raft_safety.specs.Agreement.{Rooted}
-use Rattle.raft_safety.specs.Ballots.{Voter}
-use Rattle.raft_safety.specs.History.{History, Fixed, Ledgers}
-use Rattle.raft_safety.specs.Invariants.{ModeOk, ServerOk}
-use Rattle.raft_safety.proofs.Logs.{agree_none, agree_sym, agree_trans, agree_less, agree_take}
-use Rattle.raft_safety.proofs.Completeness.{fixed_in, fixed_two}
-use Rattle.raft_safety.proofs.Growth.{fixed_on}
-use Rattle.raft_safety.proofs.Places.{get_set-same, get_set-cases, get-within, get-one, replicate-get}
-use Rattle.raft_safety.proofs.Paths.{bool_cases, turns_down}
-use Rattle.raft_safety.proofs.Frame.{agree_self, fixed_grow}
-use Rattle.raft_safety.proofs.Election.{Moves, event_moves, no_ballots, first_votes, replicate-length, one_leader}
-use Rattle.raft_safety.proofs.Sound.{Sound, none_sound, first_sound, sound_safe}
-use Rattle.raft_safety.proofs.Steps.{WorldOk, WorldGoes, world_goes}
+use Rattle.raft_model.specs.Logs.{term_at, commands, state_after}
+use Rattle.raft_model.specs.Servers.{Server}
+use Rattle.raft_model.specs.Worlds.{World, Event, Run, moment}
+use Rattle.raft_model.specs.Chains.{Agree, At, Chain}
+use Rattle.raft_safety.specs.History.{Fixed}
+use Rattle.raft_safety.specs.Invariants.{ServerOk}
+use Rattle.raft_safety.specs.Claims.{LogMatching, IsGreatestCommit, Origin}
+use Rattle.raft_safety.proofs.Logs.{agree_none, agree_sym, agree_trans, agree_less, agree_term, rooted_two, rooted_at}
+use Rattle.raft_safety.proofs.Election.{one_leader}
+use Rattle.raft_safety.proofs.WritingSteps.{log_sound, none_is}
+use Rattle.raft_safety.proofs.Sound.{Sound, none_sound, first_sound, sound_safe, sound_admitted}
+use Rattle.raft_safety.proofs.Origins.{origin_agree}
+use Rattle.raft_safety.proofs.Runs.{run_front, moment_front}
+use Rattle.raft_safety.proofs.Stories.{Story, story}
 
--- in the first part, or past it
-get-where : {A : Type 0} (xs ys : List A) (k : ℕ) (x : A) → slice_get (xs ++ ys) k ≡ Some x →
-    ((k < length xs) × (slice_get xs k ≡ Some x)) ⊎ ((length xs ≤ k) × ((j : ℕ) × (slice_get ys j ≡ Some x)))
-get-where [] ys k x h = inr (omega arith, (k, h))
-get-where (z ∷ zs) ys zero x h = inl (omega arith, h)
-get-where (z ∷ zs) ys (suc k) x h = elim (get-where zs ys k x h) [ inl e ↦ inl (omega (arith, e.0), e.1) | inr e ↦ inr (omega (arith, e.0), e.1) ]
+module _ {C : Type 0} (past : List (World C)) (w : World C) where
+  -- the list of a run ends where a server's commit index was
+  chain_end : (A B : List (Entry C)) → Chain past w A → ((k i : ℕ) (s : Server C) → At past w k i s → Agree s.commit s.log B) → Agree (length A) A B
+  chain_end A B a b = elim a.longest [
+    | inl e ↦ subst (λ X. Agree (length X) X B) (sym e) (agree_none [] B)
+    | inr r ↦ subst (λ c. Agree c A B) r.commit (agree_trans (agree_sym (a.agrees r.moment r.who r.server r.at)) (b r.moment r.who r.server r.at))
+  ]
 
-get-append : {A : Type 0} (xs ys : List A) (k : ℕ) (x : A) → slice_get xs k ≡ Some x → slice_get (xs ++ ys) k ≡ Some x
-get-append [] ys k x h = absurd (cc)
-get-append (z ∷ zs) ys zero x h = h
-get-append (z ∷ zs) ys (suc k) x h = get-append zs ys k x h
+  -- one run has one list
+  pub chain_one : (A B : List (Entry C)) → Chain past w A → Chain past w B → A ≡ B
+  chain_one A B a b =
+      let x = chain_end A B a b.agrees in
+      let y = chain_end B A b a.agrees in
+      sym (take_all (length A) A (omega arith)) ∙ (x.same ∙ take_all (length A) B y.right)
 
-get-last : {A : Type 0} (xs : List A) (x : A) → slice_get (xs ++ x ∷ []) (length xs) ≡ Some x
-get-last [] x = refl
-get-last (z ∷ zs) x = get-last zs x
+  pub chain_length : (A : List (Entry C)) → Chain past w A → IsGreatestCommit past w (length A)
+  chain_length A a = record {
+    bound = λ k i s at up. let g = a.agrees k i s at in g.right;
+    reached = elim a.longest [ inl e ↦ inl (ap length e) | inr r ↦ inr r ];
+  }
 
-no_history : {C : Type 0} → History C
-no_history = record { ballots = no_ballots; stood = λ t c. None; leader = λ t. None; ledger = λ t. []; held = λ u i. 0 }
+  at_most : (c d : ℕ) → IsGreatestCommit past w c → IsGreatestCommit past w d → c ≤ d
+  at_most c d a b = elim a.reached [
+    | inl e ↦ omega (arith, e)
+    | inr r ↦ omega (arith, r.commit, b.bound r.moment r.who r.server r.at r.up)
+  ]
 
-first_ledgers : {C : Type 0} (n : ℕ) → let G : History C = no_history in Ledgers n G
-unfolding no_history Rooted
-first_ledgers n = record {
-  terms = λ t p one le. absurd (omega (arith, one, le));
-  rooted = λ t p one le. absurd (omega (arith, one, le));
-  unled = λ t h. refl;
-  led = λ t c h. absurd (cc);
-  elected = λ t c h. absurd (cc);
-  late = λ t c h. absurd (cc);
-  carries = λ t u k some less one. absurd (omega (arith, some));
-  reaches = λ u i. omega arith;
-  stands = λ t c L h. absurd (cc);
-}
-
-first_server : {C : Type 0} (n j : ℕ) → let s : Server C = newcomer in let G : History C = no_history in Voter n no_ballots j s.term s.vote s.mode → ServerOk n G j s
-unfolding no_history Rooted ModeOk
-first_server n j v = record {
-  voter = v;
-  unstood = λ t less. refl;
-  unheld = λ t less. refl;
-  log = record {
-    terms = λ p one le. absurd (omega (arith, one, le));
-    rooted = λ p one le. absurd (omega (arith, one, le));
-    holds = λ u k one le. absurd (omega (arith, one, le));
-    based = omega arith;
-    within = omega arith;
-    fixed = inl refl;
-  };
-  role = tt;
-}
-
-first_ok : {S C : Type 0} (m : Meaning S C) (n : ℕ) → let w : World C = first n in let G : History C = no_history in WorldOk m n G w
-unfolding no_history
-first_ok {C = C} m n =
-    let G : History C = no_history in
-    let w : World C = first n in
-    let start_votes = first_votes {C = C} n in
-    record {
-      size = replicate-length n _;
-      ledgers = first_ledgers n;
-      each = λ j s h. subst (λ x. ServerOk n G j x) (replicate-get n _ j s h)
-          (first_server n j (start_votes.each j newcomer (h ∙ ap Some (sym (replicate-get n _ j s h)))));
-      given = λ x came. absurd (let e = came.1 in cc);
-      sound = λ u. none_sound m;
-    }
-
--- what the induction over a run carries
-pub record Story {S C : Type 0} (m : Meaning S C) (n : ℕ) (past : List (World C)) (w : World C) : Type 0 where
-  pub history : History C
-  pub ok : WorldOk m n history w
-  pub list : List (Entry C)
-  pub term : ℕ
-  pub fixed : Fixed n history term (length list) list
-  -- all servers at all moments, by the newest history
-  pub committed : (k i : ℕ) (s : Server C) → At past w k i s → Fixed n history s.term s.commit s.log
-  pub agrees : (k i : ℕ) (s : Server C) → At past w k i s → Agree s.commit s.log list
-  pub longest : (list ≡ []) ⊎ Reached past w (length list)
-  pub complete : (k l i j t : ℕ) (s : Server C) (x : World C) → k ≤ l → At past w k i s → s.term ≤ t → moment past w l ≡ Some x → (leads : Leads x j t) →
-      Agree s.commit list leads.server.log
+  pub greatest_one : (c d : ℕ) → IsGreatestCommit past w c → IsGreatestCommit past w d → c ≡ d
+  greatest_one c d a b = omega (arith, at_most c d a b, at_most d c b a)
 
 module _ {C : Type 0} where
-  -- a moment is an old one, or the newest
-  at_cases : (past : List (World C)) (w next : World C) (k i : ℕ) (s : Server C) → At (past ++ w ∷ []) next k i s →
-      ((k < length (past ++ w ∷ [])) × At past w k i s) ⊎ ((length (past ++ w ∷ []) ≤ k) × (slice_get next.servers i ≡ Some s))
-  at_cases past w next k i s a = elim (get-where (past ++ w ∷ []) (next ∷ []) k a.world a.world_is) [
-    | inl e ↦ inl (e.0, record { world = a.world; world_is = e.1; here = a.here })
-    | inr e ↦ inr (e.0, subst (λ (x : World C). slice_get x.servers i ≡ Some s) (sym (get-one next e.1.0 a.world e.1.1)) a.here)
+  -- a server at an earlier moment of a part of the run is one of the run
+  at_front : (past : List (World C)) (w : World C) (l : ℕ) (x : World C) → moment past w l ≡ Some x → (k i : ℕ) (s : Server C) → At (take l past) x k i s → At past w k i s
+  at_front past w l x at k i s a = record { world = a.world; world_is = moment_front past w l x at k a.world a.world_is; here = a.here }
+
+  -- the list of a run begins with that of each first part of it
+  pub chain_front : (past : List (World C)) (w : World C) (list : List (Entry C)) (l : ℕ) (x : World C) (short : List (Entry C)) → Chain past w list → moment past w l ≡ Some x →
+      Chain (take l past) x short → Agree (length short) short list
+  chain_front past w list l x short a at b = chain_end (take l past) x short list b (λ k i s h. a.agrees k i s (at_front past w l x at k i s h))
+
+module _ {S C : Type 0} (m : Meaning S C) (law : LawfulMachine m) (n : ℕ) (events : List (Event C)) (past : List (World C)) (w : World C) (run : Run m n events past w) where
+  pub st : Story m n events past w
+  st = story m law n events past w run
+
+  pub log_matching : LogMatching past w
+  log_matching k l i j p s t a b one le_s le_t same =
+      rooted_two st.history.ledger s.log t.log p (st.rooted k i s a) (st.rooted l j t b) one le_s le_t same
+
+  -- the list is the first part of a ledger
+  list_fixed : (list : List (Entry C)) → Fixed n st.history st.term (length list) list → (1 ≤ length list) → (v : ℕ) × Agree (length list) list (st.history.ledger v)
+  list_fixed list (inl z) some = absurd (omega (arith, z, some))
+  list_fixed list (inr f) some = (f.term, f.agree)
+
+  list_sound : Sound m st.list
+  list_sound = elim (leb_tells 1 (length st.list)) [
+    | inl a ↦
+        let f = list_fixed st.list st.fixed a.1 in
+        subst (Sound m) (sym f.1.same ∙ take_all (length st.list) st.list (omega arith)) (first_sound m (length st.list) (st.history.ledger f.0) (st.ok.sound f.0))
+    | inr a ↦ subst (Sound m) (sym (none_is st.list (omega (arith, a.1)))) (none_sound m)
   ]
 
-  reached_on : (past : List (World C)) (w next : World C) (c : ℕ) → Reached past w c → Reached (past ++ w ∷ []) next c
-  reached_on past w next c r = let a = r.at in record {
-    moment = r.moment;
-    who = r.who;
-    server = r.server;
-    commit = r.commit;
-    up = r.up;
-    at = record { world = a.world; world_is = get-append (past ++ w ∷ []) (next ∷ []) r.moment a.world a.world_is; here = a.here };
-  }
+  pub chain : Chain past w st.list
+  chain = record { agrees = st.agrees; longest = st.longest; one_leader = one_leader m n events past w run; complete = st.complete }
 
-  reached_now : (past : List (World C)) (w : World C) (i : ℕ) (s : Server C) → slice_get w.servers i ≡ Some s → is_up s.mode ≡ true → Reached past w s.commit
-  reached_now past w i s h up = record { up = up; moment = length past; who = i; server = s; commit = refl; at = record { world = w; world_is = get-last past w; here = h } }
+  -- the state after each first part of the list is safe
+  pub chain_safe : (list : List (Entry C)) → Chain past w list → (k : ℕ) → m.safe (state_after m (take k list))
+  chain_safe list a k = sound_safe m law (take k list) (first_sound m k list (subst (Sound m) (chain_one past w st.list list chain a) list_sound))
 
--- a longer list, if a server has committed more
-record Longer {C : Type 0} (n : ℕ) (H : History C) (past : List (World C)) (w : World C) (new : Server C) (old : List (Entry C)) : Type 0 where
-  list : List (Entry C)
-  term : ℕ
-  fixed : Fixed n H term (length list) list
-  grows : Agree (length old) old list
-  covers : new.commit ≤ length list
-  longest : (list ≡ []) ⊎ Reached past w (length list)
+  list_origin : (p : ℕ) → p < length st.list → Origin m events past w st.list p
+  list_origin p less =
+      let G = st.history in
+      let f = list_fixed st.list st.fixed (omega (arith, less)) in
+      let I = st.ok.ledgers in
+      let at_v : Agree (suc p) st.list (G.ledger f.0) = agree_less (suc p) (omega (arith, less)) f.1 in
+      let u = term_at (G.ledger f.0) (suc p) in
+      let at_u : Agree (suc p) (G.ledger f.0) (G.ledger u) = rooted_at G.ledger (G.ledger f.0) (suc p) (I.rooted f.0) (omega arith) at_v.right in
+      origin_agree m events past w (G.ledger u) st.list p (agree_sym (agree_trans at_v at_u))
+      (st.born.own u p (omega (arith, at_u.right)) (sym (agree_term (suc p) (suc p) (G.ledger f.0) (G.ledger u) at_u (omega arith) (omega arith))))
 
-longer : {C : Type 0} (n : ℕ) (H : History C) (past : List (World C)) (w : World C) (i v : ℕ) (new : Server C) (old : List (Entry C)) → Ledgers n H → ServerOk n H i new →
-    slice_get w.servers i ≡ Some new → Fixed n H v (length old) old → ((old ≡ []) ⊎ Reached past w (length old)) → (is_up new.mode ≡ false → new.commit ≤ length old) → Longer n H past w new old
-longer n H past w i v new old I ok here f top low = elim (leb_tells new.commit (length old)) [
-  | inl a ↦ record { list = old; term = v; fixed = f; grows = agree_self old; covers = a.1; longest = top }
-  | inr a ↦
-      let c = new.commit in
-      let size : length (take c new.log) ≡ c = length-take-le c new.log ok.log.within in
-      let part : Agree c new.log (take c new.log) = agree_take c c new.log (omega arith) ok.log.within in
-      record {
-        list = take c new.log;
-        term = new.term;
-        fixed = subst (λ k. Fixed n H new.term k (take c new.log)) (sym size) (fixed_grow n H new.term c new.log (take c new.log) part ok.log.fixed);
-        grows = agree_trans (fixed_two n H v new.term (length old) c (length old) old new.log I f ok.log.fixed (omega arith) (omega (arith, a.1))) (agree_less (length old) (omega (arith, a.1)) part);
-        covers = omega (arith, size);
-        longest = inr (subst (λ k. Reached past w k) (sym size) (reached_now past w i new here (elim (bool_cases (is_up new.mode)) [ inl b ↦ b | inr b ↦ absurd (omega (arith, a.1, low b)) ])));
-      }
-]
+  -- each of the list's entries was appended by its term's leader
+  pub chain_origin : (list : List (Entry C)) → Chain past w list → (p : ℕ) → p < length list → Origin m events past w list p
+  chain_origin list a p less =
+      let same = chain_one past w st.list list chain a in
+      subst (λ L. Origin m events past w L p) same (list_origin p (omega (arith, less, ap length same)))
 
-module _ {S C : Type 0} (m : Meaning S C) (law : LawfulMachine m) (n : ℕ) (past : List (World C)) (w next : World C) (st : Story m n past w) (x : Moves m w next) where
-  g : WorldGoes m n st.history next
-  g = world_goes m law n st.history w next st.ok x
+-- what holds of a server at any moment
+module _ {S C : Type 0} (m : Meaning S C) (law : LawfulMachine m) (n : ℕ) (events : List (Event C)) (past : List (World C)) (w : World C) (run : Run m n events past w)
+    (k i : ℕ) (s : Server C) (a : At past w k i s) where
+  pub at_story : Story m n (take k events) (take k past) a.world
+  at_story = story m law n (take k events) (take k past) a.world (run_front m n events past w run k a.world a.world_is)
 
-  now_here : slice_get next.servers x.who ≡ Some x.new
-  now_here = subst (λ l. slice_get l x.who ≡ Some x.new) (sym x.servers) (get_set-same w.servers x.who x.new (get-within w.servers x.who x.old x.here))
+  pub server_ok : ServerOk n at_story.history i s
+  server_ok = at_story.ok.each i s a.here
 
-  more_list : Longer n g.after (past ++ w ∷ []) next x.new st.list
-  more_list = longer n g.after (past ++ w ∷ []) next x.who st.term x.new st.list g.ok.ledgers (g.ok.each x.who x.new now_here) now_here
-      (fixed_on n st.history g.after st.term (length st.list) st.list g.extends st.fixed)
-      (elim st.longest [ inl e ↦ inl e | inr r ↦ inr (reached_on past w next (length st.list) r) ])
-      (λ down.
-      let o = st.ok.each x.who x.old x.here in
-      let a = st.agrees (length past) x.who x.old (record { world = w; world_is = get-last past w; here = x.here }) in
-      omega (arith, turns_down m (length w.servers) x.who w.sent x.old x.new x.out o.log.based x.path down, a.right))
+  -- its log was admitted entry by entry
+  pub log_admitted : Sound m s.log
+  log_admitted = log_sound (Sound m) n at_story.history i s at_story.ok.ledgers server_ok (none_sound m) (first_sound m) at_story.ok.sound
 
-  next_committed : (k i : ℕ) (s : Server C) → At (past ++ w ∷ []) next k i s → Fixed n g.after s.term s.commit s.log
-  next_committed k i s a = elim (at_cases past w next k i s a) [
-    | inl e ↦ fixed_on n st.history g.after s.term s.commit s.log g.extends (st.committed k i s e.1)
-    | inr e ↦ let o = g.ok.each i s e.1 in o.log.fixed
-  ]
+  pub log_commands : Admitted m (commands s.log)
+  log_commands = sound_admitted m s.log log_admitted
 
-  -- nobody has committed more than the list
-  now_covers : (i : ℕ) (s : Server C) → slice_get next.servers i ≡ Some s → s.commit ≤ length more_list.list
-  now_covers i s h = elim (get_set-cases w.servers x.who x.new i s (subst (λ l. slice_get l i ≡ Some s) x.servers h)) [
-    | inl e ↦ omega (arith, more_list.covers, ap (λ (y : Server C). y.commit) e.1)
-    | inr e ↦
-        let a = st.agrees (length past) i s (record { world = w; world_is = get-last past w; here = e.1 }) in
-        let b = more_list.grows in omega (arith, a.right, b.right)
-  ]
-
-  next_agrees : (k i : ℕ) (s : Server C) → At (past ++ w ∷ []) next k i s → Agree s.commit s.log more_list.list
-  next_agrees k i s a = elim (at_cases past w next k i s a) [
-    | inl e ↦ let b = st.agrees k i s e.1 in agree_trans b (agree_less s.commit b.right more_list.grows)
-    | inr e ↦ let o = g.ok.each i s e.1 in
-        fixed_two n g.after s.term more_list.term s.commit (length more_list.list) s.commit s.log more_list.list g.ok.ledgers o.log.fixed more_list.fixed (omega arith) (now_covers i s e.1)
-  ]
-
-  leads_log : (j t : ℕ) (leads : Leads next j t) → (1 ≤ length (g.after.ledger t)) × (leads.server.log ≡ g.after.ledger t)
-  unfolding ModeOk
-  leads_log j t leads =
-      let o = g.ok.each j leads.server leads.here in
-      let l : ModeOk n g.after j leads.server.term leads.server.log (Leader leads.next leads.match) = subst (λ y. ModeOk n g.after j leads.server.term leads.server.log y) leads.mode o.role in
-      let I = g.ok.ledgers in
-      (subst (λ u. 1 ≤ length (g.after.ledger u)) leads.term (I.led leads.server.term j l.leads), l.wrote ∙ ap g.after.ledger leads.term)
-
-  last_complete : (k i j t : ℕ) (s : Server C) (y : World C) → At (past ++ w ∷ []) next k i s → s.term ≤ t → next ≡ y → (leads : Leads y j t) →
-      Agree s.commit more_list.list leads.server.log
-  last_complete k i j t s y a low same leads =
-      let f : (ls : Leads next j t) → Agree s.commit more_list.list ls.server.log = λ ls.
-      let q = leads_log j t ls in
-      subst (λ L. Agree s.commit more_list.list L) (sym q.1)
-      (agree_trans (agree_sym (next_agrees k i s a)) (fixed_in n g.after s.term t s.commit s.log g.ok.ledgers (next_committed k i s a) low q.0)) in
-      let h : (z : World C) → next ≡ z → (ls : Leads z j t) → Agree s.commit more_list.list ls.server.log = λ z q. subst (λ v. (ls : Leads v j t) → Agree s.commit more_list.list ls.server.log) q f in
-      h y same leads
-
-  next_complete : (k l i j t : ℕ) (s : Server C) (y : World C) → k ≤ l → At (past ++ w ∷ []) next k i s → s.term ≤ t → moment (past ++ w ∷ []) next l ≡ Some y → (leads : Leads y j t) →
-      Agree s.commit more_list.list leads.server.log
-  next_complete k l i j t s y le a low at leads = elim (get-where (past ++ w ∷ []) (next ∷ []) l y at) [
-    | inl e ↦ elim (at_cases past w next k i s a) [
-      | inl b ↦ let c = st.complete k l i j t s y le b.1 low e.1 leads in agree_trans (agree_sym (agree_less s.commit c.left more_list.grows)) c
-      | inr b ↦ absurd (omega (arith, le, e.0, b.0))
-    ]
-    | inr e ↦
-        let same : next ≡ y = get-one next e.1.0 y e.1.1 in
-        last_complete k i j t s y a low same leads
-  ]
-
-  pub next_story : Story m n (past ++ w ∷ []) next
-  next_story = record {
-    history = g.after;
-    ok = g.ok;
-    list = more_list.list;
-    term = more_list.term;
-    fixed = more_list.fixed;
-    committed = next_committed;
-    agrees = next_agrees;
-    longest = more_list.longest;
-    complete = next_complete;
-  }
-
-module _ {S C : Type 0} (m : Meaning S C) (law : LawfulMachine m) (n : ℕ) where
-  first_commit : (k i : ℕ) (s : Server C) → At [] (first n) k i s → s ≡ newcomer
-  first_commit k i s a =
-      let w : first n ≡ a.world = get-one (first n) k a.world a.world_is in
-      sym (replicate-get n newcomer i s (ap (λ (x : World C). slice_get x.servers i) w ∙ a.here))
-
-  first_zero : (k i : ℕ) (s : Server C) → At [] (first n) k i s → s.commit ≡ 0
-  first_zero k i s a = ap (λ (x : Server C). x.commit) (first_commit k i s a)
-
-  pub story : (events : List (Event C)) (past : List (World C)) (w : World C) → Run m n events past w → Story m n past w
-  story events past w start = record {
-    history = no_history;
-    ok = first_ok m n;
-    list = [];
-    term = 0;
-    fixed = inl refl;
-    committed = λ k i s a. inl (first_zero k i s a);
-    agrees = λ k i s a. subst (λ c. Agree c s.log []) (sym (first_zero k i s a)) (agree_none s.log []);
-    longest = inl refl;
-    complete = λ k l i j t s x le a low at leads. subst (λ c. Agree c [] leads.server.log) (sym (first_zero k i s a)) (agree_none [] leads.server.log);
-  }
-  story events past w (more {past = before} {w = last} e next r is h) = next_story m law n before last w (story _ before last r) (event_moves m last w e is h)
-
-  list_sound : (G : History C) (v : ℕ) (list : List (Entry C)) → Fixed n G v (length list) list → ((u : ℕ) → Sound m (G.ledger u)) → Sound m list
-  list_sound G v [] f all = none_sound m
-  list_sound G v (e ∷ list) (inl z) all = absurd (omega (arith, z))
-  list_sound G v (e ∷ list) (inr f) all =
-      let a : Agree (length (e ∷ list)) (e ∷ list) (G.ledger f.term) = f.agree in
-      subst (Sound m) (sym a.same ∙ take_all (length (e ∷ list)) (e ∷ list) (omega arith)) (first_sound m (length (e ∷ list)) (G.ledger f.term) (all f.term))
-
-  pub chain : (events : List (Event C)) (past : List (World C)) (w : World C) → Run m n events past w →
-      (list : List (Entry C)) × Chain past w list × ((k : ℕ) → m.safe (state_after m (take k list)))
-  chain events past w r =
-      let st = story events past w r in
-      let sound : Sound m st.list = list_sound st.history st.term st.list st.fixed st.ok.sound in
-      (st.list, record { agrees = st.agrees; longest = st.longest; one_leader = one_leader m n events past w r; complete = st.complete }, λ k. sound_safe m law (take k st.list) (first_sound m k st.list sound))
+  pub log_safe : (p : ℕ) → m.safe (state_after m (take p s.log))
+  log_safe p = sound_safe m law (take p s.log) (first_sound m p s.log log_admitted)

@@ -1,5 +1,5 @@
 -- Leader completeness: at a vote, and for what is committed.
-use Rattle.std.proofs.Common.{ℕ, suc, ◌<◌, ◌≤◌, ◌≡◌, ◌⊎◌, List, [], ◌∷◌, length, refl, sym, ◌∙◌, subst, arith, inl, inr, Bool, true, false, ◌&&◌, true≢false, nat_le, nat_lt}
+use Rattle.std.proofs.Common.{ℕ, suc, ◌<◌, ◌≤◌, ◌≡◌, ◌⊎◌, List, [], ◌∷◌, length, sym, ◌∙◌, subst, arith, inl, inr, ◌&&◌, nat_le, nat_lt}
 use Rattle.std.proofs.lemmas.Bool.{leb-true, ltb-true}
 use Rattle.std.proofs.lemmas.Bool.Decides.{leb_tells}
 use Rattle.machine.specs.declared.entry.Entry.{Entry}
@@ -8,15 +8,8 @@ use Rattle.raft_model.specs.Chains.{Agree}
 use Rattle.raft_safety.specs.Agreement.{Rooted}
 use Rattle.raft_safety.specs.History.{History, Own, Dead, Chosen, Carries, FixedBy, Fixed, Ledgers, UpToDate}
 use Rattle.raft_safety.proofs.Quorums.{meet}
+use Rattle.raft_safety.proofs.Paths.{and_both}
 use Rattle.raft_safety.proofs.Logs.{agree_none, agree_sym, agree_trans, agree_less, agree_term, rooted_at}
-
-pub and_left : (a b : Bool) → (a && b) ≡ true → a ≡ true
-and_left true b h = refl
-and_left false b h = h
-
-pub and_right : (a b : Bool) → (a && b) ≡ true → b ≡ true
-and_right true b h = h
-and_right false b h = absurd (true≢false (sym h))
 
 module _ {C : Type 0} where
   some_entry : (L : List (Entry C)) → 0 < term_at L (length L) → 1 ≤ length L
@@ -72,7 +65,7 @@ module _ {C : Type 0} where
   pub chosen_not_dead : (n : ℕ) (G : History C) (u k : ℕ) → Chosen n G u k → Dead n G u k → ⊥
   chosen_not_dead n G u k c d =
       let m = meet n (λ i. nat_le k (G.held u i)) (λ i. nat_lt u (G.ballots.term i) && nat_lt (G.held u i) k) c.quorum d in
-      omega (arith, leb-true k (G.held u m.0) m.2, ltb-true (G.held u m.0) k (and_right (nat_lt u (G.ballots.term m.0)) (nat_lt (G.held u m.0) k) m.3))
+      omega (arith, leb-true k (G.held u m.0) m.2, ltb-true (G.held u m.0) k (and_both (nat_lt u (G.ballots.term m.0)) (nat_lt (G.held u m.0) k) m.3).1)
 
   in_later : (n : ℕ) (G : History C) (t u j : ℕ) → Ledgers n G → Chosen n G u j → u < t → 1 ≤ length (G.ledger t) → Agree j (G.ledger u) (G.ledger t)
   in_later n G t u j I c less some = elim (I.carries t u j some less c.one (λ h. c.own)) [

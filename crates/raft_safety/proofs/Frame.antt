@@ -1,10 +1,11 @@
 -- What survives when the history grows.
-use Rattle.std.proofs.Common.{◌≡◌, ◌≢◌, ℕ, zero, suc, ◌+◌, ◌≤◌, inl, inr, Bool, true, false, Some, List, [], ◌∷◌, length, take, drop, refl, sym, ap, ◌∙◌, arith}
+use Rattle.std.proofs.Common.{◌≡◌, ◌≢◌, ℕ, zero, suc, ◌+◌, ◌≤◌, inl, inr, Bool, true, false, Some, List, [], ◌∷◌, length, take, drop, refl, sym, ap, ◌∙◌, subst, arith}
 use Rattle.machine.specs.declared.entry.Entry.{Entry}
 use Rattle.raft_model.specs.Logs.{term_at}
 use Rattle.raft_model.specs.Messages.{Message, Body, VoteRequest, VoteReply, Append, AppendReply, Install, InstallReply}
-use Rattle.raft_model.specs.Servers.{Server, Mode, Down, Follower, Candidate, Leader}
+use Rattle.raft_model.specs.Servers.{Server, Mode, Down, Follower, Candidate, Leader, is_leader}
 use Rattle.raft_model.specs.Chains.{Agree}
+use Rattle.raft_safety.specs.SmallSteps.{Passes}
 use Rattle.raft_safety.specs.Agreement.{Rooted}
 use Rattle.raft_safety.specs.History.{History, Fixed, Backed, Ledgers, Extends, Apart}
 use Rattle.raft_safety.specs.Invariants.{LogOk, CandidateOk, LeaderOk, ModeOk, ServerOk, AppendOk, InstallOk, BodyOk, MessageOk, Keeps}
@@ -185,9 +186,32 @@ module _ {C : Type 0} where
   pub message_on : (n : ℕ) (G H : History C) (x : Message C) → Extends G H → MessageOk n G x → MessageOk n H x
   message_on n G H x e h = record { vote = body_on G.ballots H.ballots x.from x.to x.body e.ballots h.vote; body = bodies_on n G H x.from x.to x.term x.body e h.body }
 
+  -- a leader's log is the ledger of its term
+  pub leader_wrote : (n : ℕ) (G : History C) (j : ℕ) (s : Server C) (mode : Mode) → ServerOk n G j s → s.mode ≡ mode → is_leader mode ≡ true → s.log ≡ G.ledger s.term
+  unfolding ModeOk
+  leader_wrote n G j s Down ok e l = absurd (cc)
+  leader_wrote n G j s Follower ok e l = absurd (cc)
+  leader_wrote n G j s (Candidate votes) ok e l = absurd (cc)
+  leader_wrote n G j s (Leader next match) ok e l = let h : ModeOk n G j s.term s.log (Leader next match) = subst (λ x. ModeOk n G j s.term s.log x) e ok.role in h.wrote
+
+  -- a leader leads its term
+  pub leader_leads : (n : ℕ) (G : History C) (j : ℕ) (s : Server C) (mode : Mode) → ServerOk n G j s → s.mode ≡ mode → is_leader mode ≡ true → G.leader s.term ≡ Some j
+  unfolding ModeOk
+  leader_leads n G j s Down ok e l = absurd (cc)
+  leader_leads n G j s Follower ok e l = absurd (cc)
+  leader_leads n G j s (Candidate votes) ok e l = absurd (cc)
+  leader_leads n G j s (Leader next match) ok e l = let h : ModeOk n G j s.term s.log (Leader next match) = subst (λ x. ModeOk n G j s.term s.log x) e ok.role in h.leads
+
+  -- small steps that pass a leader on leave its ledger
+  passed_ledger : (n : ℕ) (G H : History C) (i : ℕ) (s r : Server C) (u : ℕ) → ServerOk n G i s → ServerOk n H i r → Passes s r → r.term ≡ u → is_leader r.mode ≡ true → H.ledger u ≡ G.ledger u
+  passed_ledger n G H i s r u old new p e l =
+      let q = p l in
+      ap H.ledger (sym e) ∙ (sym (leader_wrote n H i r r.mode new refl l) ∙ (q.2 ∙ (leader_wrote n G i s s.mode old refl q.0 ∙ ap G.ledger (sym q.1 ∙ e))))
+
   -- one change after another
-  pub keeps_more : (P : List (Entry C) → Type 0) (n : ℕ) (G : History C) (i : ℕ) (r t : Server C) (out : List (Message C)) (x : Keeps P n G i r []) → Keeps P n x.after i t out → Keeps P n G i t out
-  keeps_more P n G i r t out x y = record {
+  pub keeps_more : (P : List (Entry C) → Type 0) (n : ℕ) (G : History C) (i : ℕ) (s r t : Server C) (out : List (Message C)) → ServerOk n G i s → Passes s r →
+      (x : Keeps P n G i r []) → Keeps P n x.after i t out → Keeps P n G i t out
+  keeps_more P n G i s r t out ok p x y = record {
     after = y.after;
     extends = extends_more G x.after y.after x.extends y.extends;
     apart = apart_both i G x.after y.after x.extends x.apart y.apart;
@@ -195,6 +219,13 @@ module _ {C : Type 0} where
     own = y.own;
     says = y.says;
     sound = λ h. y.sound (x.sound h);
+    writes = λ u. elim (y.writes u) [
+      | inr now ↦ inr now
+      | inl same ↦ elim (x.writes u) [
+        | inl before ↦ inl (same ∙ before)
+        | inr led ↦ inl (same ∙ passed_ledger n G x.after i s r u ok x.own p led.0 led.1)
+      ]
+    ];
   }
 
   -- the history stays
@@ -207,4 +238,5 @@ module _ {C : Type 0} where
     own = own;
     says = λ k x h. absurd (cc);
     sound = λ h. h;
+    writes = λ u. inl refl;
   }

@@ -9,7 +9,7 @@ use Rattle.raft_safety.specs.Agreement.{Adopted}
 use Rattle.raft_safety.specs.History.{History, Own, Dead, Chosen, Carries, Fixed, Ledgers, Extends}
 use Rattle.raft_safety.proofs.Quorums.{quorum_more, find}
 use Rattle.raft_safety.proofs.Logs.{agree_sym, agree_trans, agree_less, agree_term}
-use Rattle.raft_safety.proofs.Completeness.{and_left, and_right}
+use Rattle.raft_safety.proofs.Paths.{and_both}
 
 pub both : (a b : Bool) → a ≡ true → b ≡ true → (a && b) ≡ true
 both true b p q = q
@@ -27,8 +27,8 @@ module _ {C : Type 0} where
   pub dead_on : (n : ℕ) (G H : History C) (u k : ℕ) → Extends G H → Dead n G u k → Dead n H u k
   dead_on n G H u k e d = quorum_more n (λ i. nat_lt u (G.ballots.term i) && nat_lt (G.held u i) k) (λ i. nat_lt u (H.ballots.term i) && nat_lt (H.held u i) k)
       (λ i le h.
-      let a : u < G.ballots.term i = ltb-true u (G.ballots.term i) (and_left (nat_lt u (G.ballots.term i)) (nat_lt (G.held u i) k) h) in
-      let b : G.held u i < k = ltb-true (G.held u i) k (and_right (nat_lt u (G.ballots.term i)) (nat_lt (G.held u i) k) h) in
+      let a : u < G.ballots.term i = ltb-true u (G.ballots.term i) (and_both (nat_lt u (G.ballots.term i)) (nat_lt (G.held u i) k) h).0 in
+      let b : G.held u i < k = ltb-true (G.held u i) k (and_both (nat_lt u (G.ballots.term i)) (nat_lt (G.held u i) k) h).1 in
       both (nat_lt u (H.ballots.term i)) (nat_lt (H.held u i) k) (lt-ltb u (H.ballots.term i) (omega (arith, a, e.ballots.terms i))) (lt-ltb (H.held u i) k (omega (arith, b, e.left u i a))))
       d
 

@@ -49,14 +49,14 @@ module _ {S C : Type 0} (m : Meaning S C) (n i : ℕ) (sent : List (Message C)) 
         rw e (only (grants_vote from index its_last
         (subst (λ t. Came sent (record { from = from; to = i; term = t; body = VoteRequest index its_last })) same came) b.0 b.1 refl
         (ap (λ t. record { from = i; to = from; term = s.term; body = VoteReply t true } ∷ []) same)))
-    | inr e ↦ rw e (only (refuses _ tt refl refl))
+    | inr e ↦ rw e (only (refuses from term _ _ came tt refl refl))
   ]
 
   votes_path : (s : Server C) (votes : List Bool) (from term : ℕ) → from < n → Came sent (record { from = from; to = i; term = term; body = VoteReply s.term true }) →
       s.mode ≡ Candidate votes → PathTo s (silent (with_votes m.noop n s (slice_set votes from true)))
   unfolding PathTo
   votes_path s votes from term less came mode = elim (bool_cases (is_quorum n (marked (slice_set votes from true)))) [
-    | inl e ↦ rw e (after_one (record s { mode = Candidate (slice_set votes from true) }) (counts votes from term less came mode refl refl)
+    | inl e ↦ rw e (after_one (record s { mode = Candidate (slice_set votes from true) }) (counts votes from term less came mode refl refl) (λ l. absurd (cc))
         (only (wins (slice_set votes from true) refl e refl refl)))
     | inr e ↦ rw e (only (counts votes from term less came mode refl refl))
   ]
@@ -90,14 +90,14 @@ module _ {S C : Type 0} (m : Meaning S C) (n i : ℕ) (sent : List (Message C)) 
       PathTo s (receives m.noop n i s from term (Append prev prev_term commit entries))
   unfolding PathTo
   append_path s from term prev prev_term commit entries le came = elim (bool_cases (nat_lt term s.term)) [
-    | inl e ↦ rw e (only (refuses _ tt refl refl))
+    | inl e ↦ rw e (only (refuses from term _ _ came tt refl refl))
     | inr e ↦ rw e (elim (bool_cases (is_leader s.mode)) [
       | inl l ↦ rw l (still refl refl)
       | inr l ↦ rw l (elim (bool_cases (is_held s prev prev_term)) [
-        | inl h ↦ rw h (after_one (following s from) (follows from refl refl)
+        | inl h ↦ rw h (after_one (following s from) (follows from refl refl) (λ l. absurd (cc))
             (only (takes_append from prev prev_term commit entries
             (subst (λ t. Came sent (record { from = from; to = i; term = t; body = Append prev prev_term commit entries })) (same_term term s le e) came) refl h refl refl)))
-        | inr h ↦ rw h (after_one (following s from) (follows from refl refl) (only (refuses _ tt refl refl)))
+        | inr h ↦ rw h (after_one (following s from) (follows from refl refl) (λ l. absurd (cc)) (only (refuses from term _ _ came tt refl refl)))
       ])
     ])
   ]
@@ -106,10 +106,10 @@ module _ {S C : Type 0} (m : Meaning S C) (n i : ℕ) (sent : List (Message C)) 
       Came sent (record { from = from; to = i; term = term; body = Install P }) → PathTo s (receives m.noop n i s from term (Install P))
   unfolding PathTo
   install_path s from term P le came = elim (bool_cases (nat_lt term s.term)) [
-    | inl e ↦ rw e (only (refuses _ refl refl refl))
+    | inl e ↦ rw e (only (refuses from term _ _ came refl refl refl))
     | inr e ↦ rw e (elim (bool_cases (is_leader s.mode)) [
       | inl l ↦ rw l (still refl refl)
-      | inr l ↦ rw l (after_one (following s from) (follows from refl refl)
+      | inr l ↦ rw l (after_one (following s from) (follows from refl refl) (λ l. absurd (cc))
           (only (takes_install from P
           (subst (λ t. Came sent (record { from = from; to = i; term = t; body = Install P })) (same_term term s le e) came) refl refl
           (ap (λ t. record { from = i; to = from; term = (installed (following s from) P).term; body = InstallReply t (length P) } ∷ []) (same_term term s le e)))))
@@ -134,7 +134,7 @@ module _ {S C : Type 0} (m : Meaning S C) (n i : ℕ) (sent : List (Message C)) 
     | inl e ↦
         let r : Server C = record s { mode = Leader (slice_set next from (suc (max (number match from) at))) (slice_set match from (max (number match from) at)) } in
         let q : r ≡ acked s from at next match = rw e refl in
-        rw e (after_one {s = s} r (acks next match from term at body came ack mode q refl) (only (advances _ _ refl refl refl)))
+        rw e (after_one {s = s} r (acks next match from term at body came ack mode q refl) (λ l. (ap is_leader mode, refl, refl)) (only (advances _ _ refl refl refl)))
     | inr e ↦ rw e (advance_path s s.mode refl)
   ]
 
@@ -143,7 +143,7 @@ module _ {S C : Type 0} (m : Meaning S C) (n i : ℕ) (sent : List (Message C)) 
   refusal_path s Down from at mode = still refl refl
   refusal_path s Follower from at mode = still refl refl
   refusal_path s (Candidate votes) from at mode = still refl refl
-  refusal_path s (Leader next match) from at mode = after_one _ (backs next match from at mode refl refl) (only (advances _ _ refl refl refl))
+  refusal_path s (Leader next match) from at mode = after_one _ (backs next match from at mode refl refl) (λ l. (ap is_leader mode, refl, refl)) (only (advances _ _ refl refl refl))
 
   -- a message of a term up to the server's own
   receives_path : (s : Server C) (from term : ℕ) (body : Body C) → from < n → term ≤ s.term → Came sent (record { from = from; to = i; term = term; body = body }) →
@@ -170,7 +170,7 @@ module _ {S C : Type 0} (m : Meaning S C) (n i : ℕ) (sent : List (Message C)) 
       PathTo s (receives m.noop n i (met term s) from term body)
   unfolding PathTo
   met_path s from term body less came = elim (bool_cases (nat_lt s.term term)) [
-    | inl e ↦ rw e (after_one (record s { term = term; vote = None; known = None; mode = Follower }) (raises term (ltb-true s.term term e) refl refl)
+    | inl e ↦ rw e (after_one (record s { term = term; vote = None; known = None; mode = Follower }) (raises _ came (ltb-true s.term term e) refl refl) (λ l. absurd (cc))
         (receives_path (record s { term = term; vote = None; known = None; mode = Follower }) from term body less (omega arith) came))
     | inr e ↦ rw e (receives_path s from term body less (omega (arith, ltb-false s.term term e)) came)
   ]
@@ -222,32 +222,32 @@ module _ {S C : Type 0} (m : Meaning S C) (n i : ℕ) (sent : List (Message C)) 
   acts_path s Beat turn up came h = subst (λ t. TurnsTo s t) (same_ok _ _ h) (walks up (beats_path s s.mode refl))
   acts_path s (Propose command) turn up came h = walks up (propose_path s command s.mode turn came refl h)
   acts_path s Compact turn up came h = subst (λ t. TurnsTo s t) (same_ok _ _ h) (walks up (only (covers refl refl)))
-  acts_path s Crash turn up came h = subst (λ t. TurnsTo s t) (same_ok _ _ h) (resets Down tt refl refl)
+  acts_path s Crash turn up came h = subst (λ t. TurnsTo s t) (same_ok _ _ h) (resets Down tt (λ u. absurd (cc)) refl refl)
   acts_path s Restart turn up came h = absurd (cc)
 
-  wakes_path : (s : Server C) (input : Input C) (turn : Turn C) → wakes s input ≡ Ok turn → TurnsTo s turn
+  wakes_path : (s : Server C) (input : Input C) (turn : Turn C) → is_up s.mode ≡ false → wakes s input ≡ Ok turn → TurnsTo s turn
   unfolding TurnsTo
-  wakes_path s (Arrives message) turn h = absurd (cc)
-  wakes_path s Timeout turn h = absurd (cc)
-  wakes_path s Beat turn h = absurd (cc)
-  wakes_path s (Propose command) turn h = absurd (cc)
-  wakes_path s Compact turn h = absurd (cc)
-  wakes_path s Crash turn h = absurd (cc)
-  wakes_path s Restart turn h = subst (λ t. TurnsTo s t) (same_ok _ _ h) (resets Follower tt refl refl)
+  wakes_path s (Arrives message) turn down h = absurd (cc)
+  wakes_path s Timeout turn down h = absurd (cc)
+  wakes_path s Beat turn down h = absurd (cc)
+  wakes_path s (Propose command) turn down h = absurd (cc)
+  wakes_path s Compact turn down h = absurd (cc)
+  wakes_path s Crash turn down h = absurd (cc)
+  wakes_path s Restart turn down h = subst (λ t. TurnsTo s t) (same_ok _ _ h) (resets Follower tt (λ u. down) refl refl)
 
   pub step_path : (s : Server C) (input : Input C) (turn : Turn C) → CameIn m sent i input → step m n i s input ≡ Ok turn → Turns m n i sent s turn.server turn.sent
   unfolding TurnsTo
   step_path s input turn came h = elim (bool_cases (is_up s.mode)) [
     | inl e ↦ acts_path s input turn e came (rw e at h)
-    | inr e ↦ wakes_path s input turn (rw e at h)
+    | inr e ↦ wakes_path s input turn e (rw e at h)
   ]
 
   -- a path never takes a server down
   small_up : (s t : Server C) (out : List (Message C)) → is_up s.mode ≡ true → Small m n i sent s t out → is_up t.mode ≡ true
-  small_up s t out up (raises term less e o) = ap (λ (x : Server C). is_up x.mode) e
+  small_up s t out up (raises x came less e o) = ap (λ (x : Server C). is_up x.mode) e
   small_up s t out up (stands term_fits index_fits e o) = ap (λ (x : Server C). is_up x.mode) e
   small_up s t out up (grants_vote from index its_last came free newer e o) = ap (λ (x : Server C). is_up x.mode) e ∙ up
-  small_up s t out up (refuses x h e o) = ap (λ (x : Server C). is_up x.mode) e ∙ up
+  small_up s t out up (refuses from term request answer came h e o) = ap (λ (x : Server C). is_up x.mode) e ∙ up
   small_up s t out up (counts votes from term less came mode e o) = ap (λ (x : Server C). is_up x.mode) e
   small_up s t out up (wins votes mode many e o) = ap (λ (x : Server C). is_up x.mode) e
   small_up s t out up (extends next match command is mode none e o) = ap (λ (x : Server C). is_up x.mode) e ∙ up
@@ -260,12 +260,12 @@ module _ {S C : Type 0} (m : Meaning S C) (n i : ℕ) (sent : List (Message C)) 
   small_up s t out up (covers e o) = ap (λ (x : Server C). is_up x.mode) e ∙ up
   small_up s t out up (beats_all next match mode e o) = ap (λ (x : Server C). is_up x.mode) e ∙ up
 
-  path_up : (t : Server C) (out : List (Message C)) (s : Server C) → is_up s.mode ≡ true → Path m n i sent s t out → is_up t.mode ≡ true
+  pub path_up : (t : Server C) (out : List (Message C)) (s : Server C) → is_up s.mode ≡ true → Path m n i sent s t out → is_up t.mode ≡ true
   path_up t out s up (still e o) = ap (λ (x : Server C). is_up x.mode) e ∙ up
   path_up t out s up (only x) = small_up s t out up x
-  path_up t out s up (after_one r x p) = path_up t out r (small_up s r [] up x) p
+  path_up t out s up (after_one r x passes p) = path_up t out r (small_up s r [] up x) p
 
   -- who goes down has committed no more than before
   pub turns_down : (s t : Server C) (out : List (Message C)) → s.covered ≤ s.commit → Turns m n i sent s t out → is_up t.mode ≡ false → t.commit ≤ s.commit
   turns_down s t out based (walks up p) down = absurd (true≢false (sym (path_up t out s up p) ∙ down))
-  turns_down s t out based (resets mode h e o) down = let c = ap (λ (x : Server C). x.commit) e in omega (arith, c, based)
+  turns_down s t out based (resets mode h up e o) down = let c = ap (λ (x : Server C). x.commit) e in omega (arith, c, based)

@@ -77,6 +77,7 @@ module _ {C : Type 0} (P : List (Entry C) → Type 0) (n : ℕ) (G : History C) 
         };
         says = λ k x h. record { vote = v.says k x h; body = bodies_on n G H x.from x.to x.term x.body e (says k x h) };
         sound = λ h. h;
+        writes = λ u. inl refl;
       }
 
   pub no_bodies : (out : List (Message C)) → out ≡ [] → (k : ℕ) (x : Message C) → slice_get out k ≡ Some x → BodyOk n G x.from x.to x.term x.body
@@ -187,7 +188,8 @@ module _ {C : Type 0} (P : List (Entry C) → Type 0) (n : ℕ) (G : History C) 
   ack_told from to term asked at (Install covered) h b = absurd h
   ack_told from to term asked at (InstallReply answered place) h b = subst (λ u. at ≤ G.held u from) h.0 (omega (arith, h.1, b))
 
-  held_within : (j : ℕ) (next match : List ℕ) → LeaderOk n G i s.term s.log next match → G.held s.term j ≤ length s.log
+  -- nobody holds more than the leader has written
+  pub held_within : (j : ℕ) (next match : List ℕ) → LeaderOk n G i s.term s.log next match → G.held s.term j ≤ length s.log
   held_within j next match l = omega (arith, I.reaches s.term j, ap length l.wrote)
 
   acks_role : (next match : List ℕ) (j at : ℕ) → s.mode ≡ Leader next match → at ≤ G.held s.term j →

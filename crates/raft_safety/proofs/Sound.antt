@@ -67,3 +67,11 @@ module _ {S C : Type 0} (m : Meaning S C) where
   pub sound_safe : LawfulMachine m → (log : List (Entry C)) → Sound m log → m.safe (state_after m log)
   unfolding Sound
   sound_safe law log h = let good = after_good m law (commands log) h in good.safe
+
+  pub sound_short : (log : List (Entry C)) → Sound m log → length log ≤ MAX
+  unfolding Sound
+  sound_short log h = omega (arith, h.short, commands_length log)
+
+  pub sound_admitted : (log : List (Entry C)) → Sound m log → Admitted m (commands log)
+  unfolding Sound
+  sound_admitted log h = h

@@ -1,10 +1,10 @@
 -- Each small step, each path and each event keeps the invariants, with a history that grows.
-use Rattle.std.proofs.Common.{◌≡◌, ℕ, inl, inr, Some, List, [], ◌++◌, length, refl, sym, ap, ◌∙◌, subst, slice_get, slice_set}
+use Rattle.std.proofs.Common.{◌≡◌, ℕ, ◌⊎◌, true, inl, inr, Some, List, [], ◌++◌, length, refl, sym, ap, ◌∙◌, subst, slice_get, slice_set}
 use Rattle.machine.specs.Meaning.{Meaning, LawfulMachine}
 use Rattle.machine.specs.declared.entry.Entry.{Entry}
 use Rattle.raft_model.specs.Messages.{Message}
-use Rattle.raft_model.specs.Servers.{Server}
-use Rattle.raft_model.specs.Worlds.{World}
+use Rattle.raft_model.specs.Servers.{Server, is_leader}
+use Rattle.raft_model.specs.Worlds.{World, Event}
 use Rattle.raft_safety.specs.SmallSteps.{Small, raises, stands, grants_vote, refuses, counts, wins, extends, follows, takes_append, takes_install, acks, backs, advances, covers, beats_all, Path, still, only, after_one, Turns, walks, resets}
 use Rattle.raft_safety.specs.History.{History, Ledgers, Extends}
 use Rattle.raft_safety.specs.Invariants.{ServerOk, BodyOk, SentOk, Keeps}
@@ -31,11 +31,11 @@ module _ {S C : Type 0} (m : Meaning S C) (law : LawfulMachine m) (n i : ℕ) (s
 
   small_keeps : (G : History C) (s t : Server C) (out : List (Message C)) → Ledgers n G → ServerOk n G i s → SentOk n G sent → VotesKept n G.ballots i t out → Small m n i sent s t out → Keeps (Sound m) n G i t out
   unfolding BodyOk
-  small_keeps G s t out I ok given v (raises term less e o) = shift (Sound m) n G i t _ out out e refl v (raise_keeps (Sound m) n G i s I ok term out less o)
+  small_keeps G s t out I ok given v (raises x came less e o) = shift (Sound m) n G i t _ out out e refl v (raise_keeps (Sound m) n G i s I ok x.term out less o)
   small_keeps G s t out I ok given v (stands term_fits index_fits e o) = shift (Sound m) n G i t _ out _ e o v (stand_keeps (Sound m) n G i s I ok index_fits)
   small_keeps G s t out I ok given v (grants_vote from index its_last came free newer e o) = shift (Sound m) n G i t _ out _ e o v
       (grant_keeps (Sound m) n G i s I ok from index its_last (let g = given _ came in g.body) newer)
-  small_keeps G s t out I ok given v (refuses x h e o) = shift (Sound m) n G i t _ out _ e o v (refuse_keeps (Sound m) n G i s I ok x h)
+  small_keeps G s t out I ok given v (refuses from term request answer came h e o) = shift (Sound m) n G i t _ out _ e o v (refuse_keeps (Sound m) n G i s I ok _ h)
   small_keeps G s t out I ok given v (counts votes from term less came mode e o) = shift (Sound m) n G i t _ out out e refl v
       (count_keeps (Sound m) n G i s I ok votes from out mode (let g = given _ came in g.body) o)
   small_keeps G s t out I ok given v (wins votes mode many e o) = shift (Sound m) n G i t _ out out e refl v (win_keeps (Sound m) n G i s I ok m.noop votes out (none_sound m) (first_sound m) (noop_sound m law s.log s.term) mode many o)
@@ -57,14 +57,14 @@ module _ {S C : Type 0} (m : Meaning S C) (law : LawfulMachine m) (n i : ℕ) (s
   pub path_keeps : (t : Server C) (out : List (Message C)) (G : History C) (s : Server C) → Ledgers n G → ServerOk n G i s → SentOk n G sent → Path m n i sent s t out → Keeps (Sound m) n G i t out
   path_keeps t out G s I ok given (still e o) = subst (λ x. Keeps (Sound m) n G i x out) (sym e) (subst (λ x. Keeps (Sound m) n G i s x) (sym o) (keeps_same (Sound m) n G i s I ok))
   path_keeps t out G s I ok given (only x) = small_keeps G s t out I ok given (kept_votes G s t out ok given x) x
-  path_keeps t out G s I ok given (after_one r x p) =
+  path_keeps t out G s I ok given (after_one r x passes p) =
       let one = small_keeps G s r [] I ok given (kept_votes G s r [] ok given x) x in
-      keeps_more (Sound m) n G i r t out one (path_keeps t out one.after r one.ledgers one.own (λ y came. message_on n G one.after y one.extends (given y came)) p)
+      keeps_more (Sound m) n G i s r t out ok passes one (path_keeps t out one.after r one.ledgers one.own (λ y came. message_on n G one.after y one.extends (given y came)) p)
 
 module _ {S C : Type 0} (m : Meaning S C) (law : LawfulMachine m) (n i : ℕ) (sent : List (Message C)) where
   pub turn_keeps : (t : Server C) (out : List (Message C)) (G : History C) (s : Server C) → Ledgers n G → ServerOk n G i s → SentOk n G sent → Turns m n i sent s t out → Keeps (Sound m) n G i t out
   turn_keeps t out G s I ok given (walks up p) = path_keeps m law n i sent t out G s I ok given p
-  turn_keeps t out G s I ok given (resets mode h e o) = shift (Sound m) n G i t _ out out e refl
+  turn_keeps t out G s I ok given (resets mode h down e o) = shift (Sound m) n G i t _ out out e refl
       (reset_votes m n G.ballots i sent s ok.voter (λ y came. let g = given y came in g.vote) t out mode h e o) (reset_keeps (Sound m) n G i s I ok mode out h o)
 
 -- the invariants of a world
@@ -75,12 +75,14 @@ pub record WorldOk {S C : Type 0} (m : Meaning S C) (n : ℕ) (G : History C) (w
   pub given : SentOk n G w.sent
   pub sound : (u : ℕ) → Sound m (G.ledger u)
 
-pub record WorldGoes {S C : Type 0} (m : Meaning S C) (n : ℕ) (G : History C) (w : World C) : Type 0 where
+-- after a step of one server, which is `new` then
+pub record WorldGoes {S C : Type 0} (m : Meaning S C) (n : ℕ) (G : History C) (w : World C) (new : Server C) : Type 0 where
   pub after : History C
   pub extends : Extends G after
   pub ok : WorldOk m n after w
+  pub writes : (u : ℕ) → (after.ledger u ≡ G.ledger u) ⊎ ((new.term ≡ u) × (is_leader new.mode ≡ true))
 
-module _ {S C : Type 0} (m : Meaning S C) (law : LawfulMachine m) (n : ℕ) (G : History C) (w next : World C) (ok : WorldOk m n G w) (x : Moves m w next) where
+module _ {S C : Type 0} (m : Meaning S C) (law : LawfulMachine m) (n : ℕ) (G : History C) (w : World C) (event : Event C) (next : World C) (ok : WorldOk m n G w) (x : Moves m w event next) where
   kept : Keeps (Sound m) n G x.who x.new x.out
   kept = turn_keeps m law n x.who w.sent x.new x.out G x.old ok.ledgers (ok.each x.who x.old x.here) ok.given
       (subst (λ k. Turns m k x.who w.sent x.old x.new x.out) ok.size x.path)
@@ -97,7 +99,7 @@ module _ {S C : Type 0} (m : Meaning S C) (law : LawfulMachine m) (n : ℕ) (G :
     | inr e ↦ kept.says e.0 y e.1
   ]
 
-  pub world_goes : WorldGoes m n G next
+  pub world_goes : WorldGoes m n G next x.new
   world_goes = record {
     after = kept.after;
     extends = kept.extends;
@@ -108,4 +110,5 @@ module _ {S C : Type 0} (m : Meaning S C) (law : LawfulMachine m) (n : ℕ) (G :
       given = λ y came. goes_sent y (came.0, subst (λ l. slice_get l came.0 ≡ Some y) x.sent came.1);
       sound = kept.sound ok.sound;
     };
+    writes = kept.writes;
   }

@@ -42,9 +42,6 @@ module _ {C : Type 0} (n : ℕ) (B : Ballots) (i : ℕ) where
   quiet_out : (t : Server C) (out : List (Message C)) → out ≡ [] → Votes n B i t.term t.vote t.mode → VotesKept n B i t out
   quiet_out t out e v = record { votes = v; says = λ k x h. absurd (let q = rw e at h in cc) }
 
-  idle_body : (x : Message C) → OwesNothing x.body → (D : Ballots) → VoteBody D x.from x.to x.body
-  idle_body x h D = owes x.from x.to x.body h D
-
   says_one : (t : Server C) (x : Message C) (v : Votes n B i t.term t.vote t.mode) → VoteBody v.after x.from x.to x.body → VotesKept n B i t (x ∷ [])
   says_one t x v h = record { votes = v; says = λ k y e. subst (λ z. VoteBody v.after z.from z.to z.body) (get-one x k y e) h }
 
@@ -107,14 +104,14 @@ module _ {S C : Type 0} (m : Meaning S C) (n : ℕ) (B : Ballots) (i : ℕ) (sen
 
   pub small_votes : (t : Server C) (out : List (Message C)) → Small m n i sent s t out → VotesKept n B i t out
   unfolding VoteBody
-  small_votes t out (raises term less e o) = rw e (quiet_out n B i _ out o (votes_raise n B i s.term term s.vote s.mode v less))
+  small_votes t out (raises x came less e o) = rw e (quiet_out n B i _ out o (votes_raise n B i s.term x.term s.vote s.mode v less))
   small_votes t out (stands term_fits index_fits e o) = rw (e, o) (record {
     votes = stands_votes;
     says = λ k x h. let r = to_others_is i (vote_request i (stood n i s)) n k x h in rw r.3 tt;
   })
   small_votes t out (grants_vote from index its_last came free newer e o) =
       rw (e, o) (says_one n B i _ _ (grants_votes from free) (sym (grants_votes from free).own.stored))
-  small_votes t out (refuses x h e o) = rw (e, o) (says_one n B i s x same_votes (idle_body n B i x h same_votes.after))
+  small_votes t out (refuses from term request answer came h e o) = rw (e, o) (says_one n B i s _ same_votes (owes i from answer h same_votes.after))
   small_votes t out (counts votes from term less came mode e o) = rw e (quiet_out n B i _ out o (counts_votes votes from term came mode))
   small_votes t out (wins votes mode many e o) = rw e (quiet_out n B i _ out o (wins_votes votes _ _ mode many))
   small_votes t out (extends next match command is mode none e o) = rw e (quiet_out n B i _ out o same_votes)
@@ -155,7 +152,7 @@ pub path_votes : {S C : Type 0} (m : Meaning S C) (n i : ℕ) (sent : List (Mess
     Voter n B i s.term s.vote s.mode → VotesSent B sent → Path m n i sent s t out → VotesKept n B i t out
 path_votes m n i sent t out B s v given (still e o) = still_votes m n B i sent s v given t out e o
 path_votes m n i sent t out B s v given (only x) = small_votes m n B i sent s v given t out x
-path_votes m n i sent t out B s v given (after_one r x p) =
+path_votes m n i sent t out B s v given (after_one r x passes p) =
     let one = small_votes m n B i sent s v given r [] x in
     chained n B i r.term r.vote r.mode t out one.votes
     (path_votes m n i sent t out one.votes.after r one.votes.own (sent_on B one.votes.after sent one.votes.grow given) p)
@@ -163,4 +160,4 @@ path_votes m n i sent t out B s v given (after_one r x p) =
 pub turn_votes : {S C : Type 0} (m : Meaning S C) (n i : ℕ) (sent : List (Message C)) (t : Server C) (out : List (Message C)) (B : Ballots) (s : Server C) →
     Voter n B i s.term s.vote s.mode → VotesSent B sent → Turns m n i sent s t out → VotesKept n B i t out
 turn_votes m n i sent t out B s v given (walks up p) = path_votes m n i sent t out B s v given p
-turn_votes m n i sent t out B s v given (resets mode h e o) = reset_votes m n B i sent s v given t out mode h e o
+turn_votes m n i sent t out B s v given (resets mode h down e o) = reset_votes m n B i sent s v given t out mode h e o

@@ -1,12 +1,12 @@
 -- A leader writes: the win with its no-op, and a proposal.
-use Rattle.std.proofs.Common.{◌≡◌, ◌≢◌, ℕ, zero, suc, ◌<◌, ◌≤◌, ◌⊎◌, inl, inr, Bool, true, Option, Some, None, List, [], ◌∷◌, ◌++◌, length, take, refl, sym, ap, ◌∙◌, subst, arith, replicate, length-append, take_all}
+use Rattle.std.proofs.Common.{◌≡◌, ◌≢◌, ℕ, suc, ◌<◌, ◌≤◌, ◌⊎◌, inl, inr, Bool, true, Option, Some, None, List, [], ◌∷◌, ◌++◌, length, take, refl, sym, ap, ◌∙◌, subst, arith, replicate, length-append, take_all}
 use Rattle.std.proofs.lemmas.Bool.Decides.{leb_tells}
 use Rattle.std.proofs.lemmas.Option.{same_Some}
 use Rattle.machine.specs.declared.entry.Entry.{Entry}
 use Rattle.raft_model.specs.Logs.{MAX, term_at}
 use Rattle.raft_model.specs.Quorums.{marked, number, is_quorum}
 use Rattle.raft_model.specs.Messages.{Message}
-use Rattle.raft_model.specs.Servers.{Server, Mode, Candidate, Leader, won}
+use Rattle.raft_model.specs.Servers.{Server, Mode, Candidate, Leader, is_leader, won}
 use Rattle.raft_safety.specs.Functions.{with_at, with_both}
 use Rattle.raft_model.specs.Chains.{Agree}
 use Rattle.raft_safety.specs.Agreement.{Rooted}
@@ -16,21 +16,16 @@ use Rattle.raft_safety.specs.Invariants.{LogOk, CandidateOk, LeaderOk, ModeOk, S
 use Rattle.raft_safety.proofs.Functions.{at_same, at_cases, at_other, both_cases, both_same, both_other, both_else}
 use Rattle.raft_safety.proofs.Logs.{agree_none, agree_sym, agree_trans, agree_less, agree_term, rooted_at}
 use Rattle.raft_safety.proofs.Quorums.{quorum_told}
-use Rattle.raft_safety.proofs.Places.{number_replicate}
+use Rattle.raft_safety.proofs.Places.{number_replicate, take_append, push_length}
 use Rattle.raft_safety.proofs.Growth.{carries_on, carries_grow, fixed_on, win_carries}
 use Rattle.raft_safety.proofs.Voters.{elected_on, one_elected}
 use Rattle.raft_safety.proofs.VoterSteps.{VotesKept}
 use Rattle.raft_safety.proofs.Frame.{agree_self, fixed_grow, rooted_on}
 use Rattle.raft_safety.proofs.QuietSteps.{as_leader, as_candidate}
 
-none_is : {A : Type 0} (X : List A) → length X ≤ 0 → X ≡ []
+pub none_is : {A : Type 0} (X : List A) → length X ≤ 0 → X ≡ []
 none_is [] h = refl
 none_is (x ∷ X) h = absurd (omega (arith, h))
-
-take_append : {A : Type 0} (p : ℕ) (X Y : List A) → p ≤ length X → take p X ≡ take p (X ++ Y)
-take_append zero X Y h = refl
-take_append (suc p) [] Y h = absurd (omega (arith, h))
-take_append (suc p) (x ∷ X) Y h = ap (λ l. x ∷ l) (take_append p X Y (omega (arith, h)))
 
 pub led_by : (o : Option ℕ) (i c : ℕ) → (o ≡ None) ⊎ (o ≡ Some i) → o ≡ Some c → c ≡ i
 led_by o i c (inl e) h = absurd (cc)
@@ -39,9 +34,6 @@ led_by o i c (inr e) h = sym (same_Some i c (sym e ∙ h))
 module _ {C : Type 0} where
   pub agree_append : (k : ℕ) (A B : List (Entry C)) → k ≤ length A → Agree k A (A ++ B)
   agree_append k A B le = record { left = le; right = omega (arith, le, length-append A B); same = take_append k A B le }
-
-  pub length_push : (A : List (Entry C)) (e : Entry C) → length (A ++ e ∷ []) ≡ suc (length A)
-  length_push A e = omega (arith, length-append A (e ∷ []))
 
   pub term_push : (A : List (Entry C)) (e : Entry C) → term_at (A ++ e ∷ []) (suc (length A)) ≡ e.term
   unfolding term_at
@@ -117,7 +109,7 @@ module _ {C : Type 0} (P : List (Entry C) → Type 0) (n : ℕ) (G : History C) 
 
     size : length X ≡ suc (length s.log)
     unfolding X
-    size = length_push s.log e
+    size = push_length s.log e
 
     longer : (k : ℕ) → k ≤ length s.log → Agree k s.log X
     unfolding X
@@ -248,6 +240,10 @@ module _ {C : Type 0} (P : List (Entry C) → Type 0) (n : ℕ) (G : History C) 
         | inl q ↦ subst P (sym q.1) (sound all)
         | inr q ↦ subst P (sym q.1) (all u)
       ];
+      writes = λ u. elim (at_cases G.ledger s.term X u) [
+        | inl q ↦ inr (sym q.0, ap is_leader is)
+        | inr q ↦ inl q.1
+      ];
     }
 
 module _ {C : Type 0} (P : List (Entry C) → Type 0) (n : ℕ) (G : History C) (i : ℕ) (s : Server C) (I : Ledgers n G) (ok : ServerOk n G i s) where
@@ -256,7 +252,7 @@ module _ {C : Type 0} (P : List (Entry C) → Type 0) (n : ℕ) (G : History C) 
   extend_keeps next match command out push mode o v =
       let l = as_leader P n G i s I ok next match mode in
       let e : Entry C = record { term = s.term; command = command } in
-      let size : length (s.log ++ e ∷ []) ≡ suc (length s.log) = length_push s.log e in
+      let size : length (s.log ++ e ∷ []) ≡ suc (length s.log) = push_length s.log e in
       write_keeps P n G i s I ok e refl (inr l.leads)
       (subst (λ L. Agree (length L) L (s.log ++ e ∷ [])) l.wrote (agree_append (length s.log) s.log (e ∷ []) (omega arith)))
       (omega (arith, l.whole, size))
@@ -285,7 +281,7 @@ module _ {C : Type 0} (P : List (Entry C) → Type 0) (n : ℕ) (G : History C) 
   win_keeps noop votes out none_sound first_sound push mode many o v =
       let c = as_candidate P n G i s I ok votes mode in
       let e : Entry C = record { term = s.term; command = noop } in
-      let size : length (s.log ++ e ∷ []) ≡ suc (length s.log) = length_push s.log e in
+      let size : length (s.log ++ e ∷ []) ≡ suc (length s.log) = push_length s.log e in
       let mine : Elected n v.votes.after s.term i = v.votes.own.role in
       let none : G.leader s.term ≡ None = unled_case votes (G.leader s.term) v.votes.after c
       (record { ballots = v.votes.grow; ledgers = λ t. agree_self (G.ledger t); held = λ u j. omega arith; left = λ u j less. refl; stood = λ t d L h. h; leaders = λ t d h. h }) mine refl in

@@ -1,10 +1,10 @@
 -- What each server and each message bears out of the history.
-use Rattle.std.specs.Prelude.{ℕ, suc, ◌+◌, ◌≤◌, ◌<◌, ◌≡◌, ◌≢◌, Bool, true, false, Some, None, List, length, take, drop, slice_get}
+use Rattle.std.specs.Prelude.{ℕ, suc, ◌+◌, ◌≤◌, ◌<◌, ◌≡◌, ◌≢◌, ◌⊎◌, Bool, true, false, Some, None, List, length, take, drop, slice_get}
 use Rattle.machine.specs.declared.entry.Entry.{Entry}
 use Rattle.raft_model.specs.Logs.{MAX, term_at, last_term}
 use Rattle.raft_model.specs.Quorums.{marked, number}
 use Rattle.raft_model.specs.Messages.{Message, Body, VoteRequest, VoteReply, Append, AppendReply, Install, InstallReply}
-use Rattle.raft_model.specs.Servers.{Server, Mode, Down, Follower, Candidate, Leader}
+use Rattle.raft_model.specs.Servers.{Server, Mode, Down, Follower, Candidate, Leader, is_leader}
 use Rattle.raft_safety.specs.SmallSteps.{Came}
 use Rattle.raft_model.specs.Chains.{Agree}
 use Rattle.raft_safety.specs.Agreement.{Rooted}
@@ -99,3 +99,5 @@ pub record Keeps {C : Type 0} (P : List (Entry C) → Type 0) (n : ℕ) (G : His
   pub own : ServerOk n after i t
   pub says : (k : ℕ) (x : Message C) → slice_get out k ≡ Some x → MessageOk n after x
   pub sound : ((u : ℕ) → P (G.ledger u)) → (u : ℕ) → P (after.ledger u)
+  -- a ledger grows only under its leader
+  pub writes : (u : ℕ) → (after.ledger u ≡ G.ledger u) ⊎ ((t.term ≡ u) × (is_leader t.mode ≡ true))

@@ -5,7 +5,7 @@ use Rattle.machine.specs.declared.entry.Entry.{Entry}
 use Rattle.raft_model.specs.Logs.{MAX}
 use Rattle.raft_model.specs.Quorums.{is_quorum, marked}
 use Rattle.raft_model.specs.Messages.{Message, Body, VoteRequest, VoteReply, Append, AppendReply, Install, InstallReply, to_others}
-use Rattle.raft_model.specs.Servers.{Server, Mode, Down, Follower, Candidate, Leader, is_up, stood, vote_request, is_free_for, is_up_to_date, won, following, is_held, appended, installed, acked, backed, is_chosen, greatest, beat_message, compacted, extended}
+use Rattle.raft_model.specs.Servers.{Server, Mode, Down, Follower, Candidate, Leader, is_up, is_leader, stood, vote_request, is_free_for, is_up_to_date, won, following, is_held, appended, installed, acked, backed, is_chosen, greatest, beat_message, compacted, extended}
 use Rattle.raft_model.specs.Steps.{admitted}
 
 -- replies that refuse: they promise nothing
@@ -36,6 +36,10 @@ IsIdle Follower = Unit {0}
 IsIdle (Candidate votes) = ⊥
 IsIdle (Leader next match) = ⊥
 
+-- who leads after these small steps led before them, in the same term and with the same log
+abbrev pub Passes : {C : Type 0} → Server C → Server C → Type 0
+Passes s r = is_leader r.mode ≡ true → (is_leader s.mode ≡ true) × (r.term ≡ s.term) × (r.log ≡ s.log)
+
 -- a message that was sent
 abbrev pub Came : {C : Type 0} → List (Message C) → Message C → Type 0
 Came sent message = (k : ℕ) × (slice_get sent k ≡ Some message)
@@ -43,12 +47,13 @@ Came sent message = (k : ℕ) × (slice_get sent k ≡ Some message)
 module _ {S C : Type 0} (m : Meaning S C) (n i : ℕ) (sent : List (Message C)) where
   -- server i goes from s to t, and says `out`
   pub data Small (s t : Server C) (out : List (Message C)) : Type 0 where
-    raises : (term : ℕ) → s.term < term → t ≡ record s { term = term; vote = None; known = None; mode = Follower } → out ≡ [] → Small s t out
+    raises : (message : Message C) → Came sent message → s.term < message.term → t ≡ record s { term = message.term; vote = None; known = None; mode = Follower } → out ≡ [] → Small s t out
     stands : s.term < MAX → length s.log < MAX → t ≡ stood n i s → out ≡ to_others i (vote_request i (stood n i s)) n → Small s t out
     grants_vote : (from index its_last : ℕ) → Came sent (record { from = from; to = i; term = s.term; body = VoteRequest index its_last }) →
         is_free_for s.vote from ≡ true → is_up_to_date s.log index its_last ≡ true → t ≡ record s { vote = Some from } →
         out ≡ record { from = i; to = from; term = s.term; body = VoteReply s.term true } ∷ [] → Small s t out
-    refuses : (message : Message C) → OwesNothing message.body → t ≡ s → out ≡ message ∷ [] → Small s t out
+    refuses : (from term : ℕ) (request answer : Body C) → Came sent (record { from = from; to = i; term = term; body = request }) → OwesNothing answer →
+        t ≡ s → out ≡ record { from = i; to = from; term = s.term; body = answer } ∷ [] → Small s t out
     counts : (votes : List Bool) (from term : ℕ) → from < n → Came sent (record { from = from; to = i; term = term; body = VoteReply s.term true }) →
         s.mode ≡ Candidate votes → t ≡ record s { mode = Candidate (slice_set votes from true) } → out ≡ [] → Small s t out
     wins : (votes : List Bool) → s.mode ≡ Candidate votes → is_quorum n (marked votes) ≡ true → t ≡ won m.noop n s → out ≡ [] → Small s t out
@@ -68,13 +73,13 @@ module _ {S C : Type 0} (m : Meaning S C) (n i : ℕ) (sent : List (Message C)) 
     covers : t ≡ compacted s → out ≡ [] → Small s t out
     beats_all : (next match : List ℕ) → s.mode ≡ Leader next match → t ≡ s → out ≡ to_others i (beat_message i s next) n → Small s t out
 
-  -- small steps in a row, of which the last one speaks
+  -- small steps in a row, of which the last one speaks and writes
   pub data Path : Server C → Server C → List (Message C) → Type 0 where
     still : {s t : Server C} {out : List (Message C)} → t ≡ s → out ≡ [] → Path s t out
     only : {s t : Server C} {out : List (Message C)} → Small s t out → Path s t out
-    after_one : {s t : Server C} {out : List (Message C)} (r : Server C) → Small s r [] → Path r t out → Path s t out
+    after_one : {s t : Server C} {out : List (Message C)} (r : Server C) → Small s r [] → Passes s r → Path r t out → Path s t out
 
   -- a server that is up goes a path; or it crashes, or restarts
   pub data Turns (s t : Server C) (out : List (Message C)) : Type 0 where
     walks : is_up s.mode ≡ true → Path s t out → Turns s t out
-    resets : (mode : Mode) → IsIdle mode → t ≡ record s { commit = s.covered; known = None; mode = mode } → out ≡ [] → Turns s t out
+    resets : (mode : Mode) → IsIdle mode → (is_up mode ≡ true → is_up s.mode ≡ false) → t ≡ record s { commit = s.covered; known = None; mode = mode } → out ≡ [] → Turns s t out
