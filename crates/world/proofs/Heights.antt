@@ -7,12 +7,13 @@ use Rattle.raft_model.specs.Worlds.{World, first, moment}
 use Rattle.raft_model.specs.Chains.{At, Reached}
 use Rattle.raft_safety.proofs.Places.{get_set-cases, get_set-same, get-more, get-later, get-split, get-one, get-within, replicate-get}
 use Rattle.raft_safety.proofs.Paths.{bool_cases}
-use Rattle.world.specs.Heights.{IsHeight, committed}
+use Rattle.raft_safety.specs.Claims.{IsGreatestCommit}
+use Rattle.world.specs.Inputs.{committed}
 
 up_committed : {C : Type 0} (s : Server C) → is_up s.mode ≡ true → committed s ≡ s.commit
 up_committed s up = rw up refl
 
-pub first_height : {C : Type 0} (n : ℕ) → IsHeight {C = C} [] (first n) 0
+pub first_height : {C : Type 0} (n : ℕ) → IsGreatestCommit {C = C} [] (first n) 0
 first_height {C} n = record {
     bound = λ k i s at up.
         let w : first n ≡ at.world = get-one (first n) k at.world at.world_is in
@@ -75,7 +76,7 @@ module _ {C : Type 0} (past : List (World C)) (w next : World C) (i : ℕ) (t : 
       ]
   ]
 
-  pub height_next : (s : Server C) → IsHeight past w height → slice_get w.servers i ≡ Some s → next.servers ≡ slice_set w.servers i t → IsHeight (past ++ w ∷ []) next (max height (committed t))
+  pub height_next : (s : Server C) → IsGreatestCommit past w height → slice_get w.servers i ≡ Some s → next.servers ≡ slice_set w.servers i t → IsGreatestCommit (past ++ w ∷ []) next (max height (committed t))
   height_next s h old is = record {
       bound = λ k j x at up. elim (at_next k j x at is) [
           inl e ↦ let here : committed x ≡ x.commit = up_committed x up in let c : committed t ≡ committed x = ap (λ (y : Server C). committed y) e in omega arith

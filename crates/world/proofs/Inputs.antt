@@ -1,5 +1,5 @@
 -- Which server a message goes to, and what it is for it.
-use Rattle.std.proofs.Common.{◌≡◌, ℕ, Option, Some, None, Err, List, refl, sym, ap, ◌∙◌, slice_get}
+use Rattle.std.proofs.Common.{◌≡◌, ℕ, Option, Some, None, Err, List, refl, sym, ap, ◌∙◌, slice_get, Bor}
 use Rattle.std.proofs.lemmas.Option.{same_Some}
 use Rattle.std.specs.List.{AllZip}
 use Rattle.rows.specs.declared.actor.Actor.TheVariants as actors
@@ -10,7 +10,8 @@ use Rattle.raft_model.specs.Messages.{Message}
 use Rattle.raft_model.specs.Steps.{Arrives}
 use Rattle.raft_model.specs.Worlds.{World, Deliver, takes, actor, happens}
 use Rattle.raft_core.specs.Frames.{Carries, IsFrameOf}
-use Rattle.world.specs.Inputs.{ActsIn, NobodyActsIn}
+use Rattle.raft_core.specs.declared.input.Input.TheVariants as inputs
+use Rattle.world.specs.Inputs.{ActsIn, NobodyActsIn, Brings}
 use Rattle.world.proofs.Zips.{zip_at, zip_none}
 
 module _ {S C : Type 0} (m : Meaning S C) (sent : List Frame) (k : ℕ) where
@@ -30,11 +31,16 @@ module _ {S C : Type 0} (m : Meaning S C) (sent : List Frame) (k : ℕ) where
       absurd (let c = x.2 in let e : actors.Server x.0.to ≡ actors.Client client = sym c.to ∙ to in cc)
 
   -- what arrives is the message that the frame carries
-  pub carried : (frame : Frame) (w : World C) (i : ℕ) → slice_get sent k ≡ Some frame → AllZip (Carries m) sent w.sent →
-      actor m w (Deliver k) ≡ Some i → (message : Message C) × IsFrameOf m frame.bytes message × (happens m w (Deliver k) ≡ takes m w i (Arrives message))
-  carried frame w i h z who =
+  pub carried : (frame : Frame) (bytes : Bor (List ℕ)) (w : World C) (i : ℕ) → slice_get sent k ≡ Some frame → bytes.now ≡ frame.bytes → AllZip (Carries m) sent w.sent →
+      actor m w (Deliver k) ≡ Some i → Brings m w (Deliver k) i (inputs.Frame bytes)
+  carried frame bytes w i h same z who =
       let x = zip_at (Carries m) sent w.sent k frame z h in
       let here : slice_get w.sent k ≡ Some x.0 = x.1 in
       let to : x.0.to ≡ i = same_Some x.0.to i (rw here at who) in
       let c = x.2 in
-      (x.0, c.bytes, rw here (ap (λ j. takes m w j (Arrives x.0)) to))
+      record {
+          what = Arrives x.0;
+          reads = (x.0, rw same c.bytes, refl);
+          came = (k, here, to);
+          takes = rw here (ap (λ j. takes m w j (Arrives x.0)) to);
+      }

@@ -3,3 +3,4 @@ pub mod Posts
 pub mod Heights
 pub mod Inputs
 pub mod Taken
+pub mod Refused

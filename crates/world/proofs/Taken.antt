@@ -14,9 +14,9 @@ use Rattle.raft_core.specs.Frames.{Carries, Carry, Sends}
 use Rattle.raft_core.specs.Steps.{Represents, Steps, Takes}
 use Rattle.raft_core.specs.declared.input.Input.{Input}
 use Rattle.raft_core.specs.declared.input.Input.TheVariants as inputs
+use Rattle.raft_safety.specs.Claims.{IsGreatestCommit}
 use Rattle.raft_safety.proofs.Places.{get_set-cases, set-length, get-within}
-use Rattle.world.specs.Heights.{IsHeight, committed}
-use Rattle.world.specs.Inputs.{Reads, ActsIn, Feeds}
+use Rattle.world.specs.Inputs.{Reads, committed}
 use Rattle.world.specs.Seen.{Seen, Stands, RunsTo, Numbered, Reached}
 use Rattle.world.specs.Keeps.{Goes}
 use Rattle.world.proofs.Zips.{zip_length, zip_at, zip_set, zip_append}
@@ -48,8 +48,8 @@ module _ {S C : Type 0} (m : Meaning S C) (old new : Seen C) (e : Event C) (i : 
     pub server : Server C
     pub turn : Turn C
     pub next : World C
-    pub here : slice_get w.servers i ≡ Some server
-    pub servers : next.servers ≡ slice_set w.servers i turn.server
+    pub at : slice_get w.servers i ≡ Some server
+    pub list : next.servers ≡ slice_set w.servers i turn.server
     pub happens : happens m w e ≡ Ok next
     pub represents : Represents m h2 turn.server
     pub stands : Stands m new next
@@ -65,7 +65,7 @@ module _ {S C : Type 0} (m : Meaning S C) (old new : Seen C) (e : Event C) (i : 
       let next : World C = record { servers = slice_set w.servers i t.turn.server; sent = w.sent ++ t.turn.sent } in
       let carried : AllZip (Carries m) frames t.turn.sent = subst (λ fs. AllZip (Carries m) fs t.turn.sent) (sym t.sent.added) (carry_zip m t.sent.frames t.turn.sent t.sent.carry) in
       record {
-          server = s; turn = t.turn; next = next; here = at; servers = refl;
+          server = s; turn = t.turn; next = next; at = at; list = refl;
           happens = feed ∙ took m w i x s (Ok t.turn) at stepped;
           represents = t.stands;
           stands = record {
@@ -82,18 +82,19 @@ module _ {S C : Type 0} (m : Meaning S C) (old new : Seen C) (e : Event C) (i : 
           | inr q ↦ let k = numbered j a q.1 in (k.0, k.1 ∙ sym count_kept)
       ]
 
-  pub goes_by : IsEvent m e → new.trace ≡ old.trace ++ e ∷ [] → ((s : Server C) → Represents m h2 s → new.chain ≡ max old.chain (committed s)) → ((w : World C) → Stands m old w → Moved w) → Goes m old e new
-  goes_by is trace chain move = record {
+  pub goes_by : IsEvent m e → new.trace ≡ old.trace ++ e ∷ [] → (move : (w : World C) → Stands m old w → Moved w) →
+      ((w : World C) (st : Stands m old w) → let a = move w st in new.chain ≡ max old.chain (committed a.turn.server)) → Goes m old e new
+  goes_by is trace move chain = record {
       trace = trace;
       worlds = λ w st. let a = move w st in (a.next, a.happens, a.stands);
       runs = λ past w r.
           let a = move w r.stands in
           let run : Run m (length old.servers) (old.trace ++ e ∷ []) (past ++ w ∷ []) a.next = more e a.next r.run is a.happens in
-          let height : IsHeight (past ++ w ∷ []) a.next (max old.chain (committed a.turn.server)) = height_next past w a.next i a.turn.server old.chain a.server r.height a.here a.servers in
+          let height : IsGreatestCommit (past ++ w ∷ []) a.next (max old.chain (committed a.turn.server)) = height_next past w a.next i a.turn.server old.chain a.server r.chain a.at a.list in
           (a.next, a.happens, record {
               run = subst (λ n. Run m n new.trace (past ++ w ∷ []) a.next) (sym count_kept) (subst (λ es. Run m (length old.servers) es (past ++ w ∷ []) a.next) (sym trace) run);
               stands = a.stands;
-              height = subst (λ c. IsHeight (past ++ w ∷ []) a.next c) (sym (chain a.turn.server a.represents)) height;
+              chain = subst (λ c. IsGreatestCommit (past ++ w ∷ []) a.next c) (sym (chain w r.stands)) height;
           });
   }
 

@@ -1,10 +1,11 @@
 -- What an event gives the server that takes it.
-use Rattle.std.specs.Prelude.{◌≡◌, ℕ, Bool, true, false, Some, Err, List}
+use Rattle.std.specs.Prelude.{◌≡◌, ℕ, if◌then◌else◌, Bool, true, false, Some, Err, List, slice_get}
 use Rattle.std.specs.List.{AllZip}
 use Rattle.rows.specs.declared.refusal.Refusal.{Refusal}
 use Rattle.machine.specs.Meaning.{Meaning}
 use Rattle.wire.specs.Frames.{Frame}
 use Rattle.raft_model.specs.Messages.{Message}
+use Rattle.raft_model.specs.Servers.{Server, is_up}
 use Rattle.raft_model.specs.Steps as model
 use Rattle.raft_model.specs.Worlds.{World, Event, Deliver, TimesOut, Beats, Proposes, Compacts, Crashes, Restarts, happens, takes, actor}
 use Rattle.raft_core.specs.Frames.{IsFrameOf, Carries}
@@ -41,7 +42,28 @@ ActsIn {C = C} m sent e i = (w : World C) → AllZip (Carries m) sent w.sent →
 abbrev pub NobodyActsIn : {S C : Type 0} → Meaning S C → List Frame → Event C → Refusal → Type 0
 NobodyActsIn {C = C} m sent e r = (w : World C) → AllZip (Carries m) sent w.sent → happens m w e ≡ Err r
 
+-- what arrives was sent, and is for server i
+abbrev pub Came : {C : Type 0} → World C → ℕ → model.Input C → Type 0
+Came w i (model.Arrives message) = (k : ℕ) × (slice_get w.sent k ≡ Some message) × (message.to ≡ i)
+Came w i model.Timeout = Unit {0}
+Came w i model.Beat = Unit {0}
+Came w i (model.Propose command) = Unit {0}
+Came w i model.Compact = Unit {0}
+Came w i model.Crash = Unit {0}
+Came w i model.Restart = Unit {0}
+
+-- in this world the event is that server i takes the input
+pub record Brings {S C : Type 0} (m : Meaning S C) (w : World C) (e : Event C) (i : ℕ) (input : Input) : Type 0 where
+  pub what : model.Input C
+  pub reads : Reads m input what
+  pub came : Came w i what
+  pub takes : happens m w e ≡ takes m w i what
+
 -- for the server that takes it the event is this input
 pub record Feeds {S C : Type 0} (m : Meaning S C) (sent : List Frame) (e : Event C) (input : Input) : Type 0 where
   pub kind : restarts input ≡ is_restart e
-  pub reads : (w : World C) (i : ℕ) → AllZip (Carries m) sent w.sent → actor m w e ≡ Some i → (x : model.Input C) × Reads m input x × (happens m w e ≡ takes m w i x)
+  pub brings : (w : World C) (i : ℕ) → AllZip (Carries m) sent w.sent → actor m w e ≡ Some i → Brings m w e i input
+
+-- what a server has committed, while it is up
+abbrev pub committed : {C : Type 0} → Server C → ℕ
+committed s = if is_up s.mode then s.commit else 0

@@ -7,7 +7,7 @@ use Rattle.raft_model.specs.Worlds.{World, Event, Run}
 use Rattle.raft_core.specs.Seen.{Seen as Held}
 use Rattle.raft_core.specs.Frames.{Carries}
 use Rattle.raft_core.specs.Steps.{Represents}
-use Rattle.world.specs.Heights.{IsHeight}
+use Rattle.raft_safety.specs.Claims.{IsGreatestCommit}
 
 -- the servers, all frames that were ever sent, all events that happened, and how many entries were ever applied
 pub record Seen (C : Type 0) : Type 0 where
@@ -26,7 +26,7 @@ pub record Stands {S C : Type 0} (m : Meaning S C) (seen : Seen C) (w : World C)
 pub record RunsTo {S C : Type 0} (m : Meaning S C) (seen : Seen C) (past : List (World C)) (w : World C) : Type 0 where
   pub run : Run m (length seen.servers) seen.trace past w
   pub stands : Stands m seen w
-  pub height : IsHeight past w seen.chain
+  pub chain : IsGreatestCommit past w seen.chain
 
 -- each server knows its place and the size of the group
 abbrev pub Numbered : {C : Type 0} → Seen C → Type 0

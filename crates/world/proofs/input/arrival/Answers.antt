@@ -1,5 +1,4 @@
 use Rattle.std.proofs.Common.{refl, sym}
-use Rattle.raft_model.specs.Steps.{Arrives}
 use Rattle.world.specs.Events.{place}
 use Rattle.world.proofs.Inputs.{gone, carried}
 use Rattle.world.proofs.input.arrival.Goals as goal
@@ -10,7 +9,6 @@ returns-in_err-frame_at-clause-none g c = rw c.from_residual.ensures (gone g.M.M
 pub returns-clause-some : goal.returns-clause-some
 returns-clause-some g c = record {
     kind = refl;
-    reads = λ w i z who.
-        let x = carried g.M.Machine.meaning c.args.sent.now (place c.args.k) c.in_ok-frame_at.field-0.now w i (sym c.in_ok-frame_at.ensures) z who in
-        (Arrives x.0, (x.0, rw c.bytes.ensures x.1, refl), x.2);
+    brings = λ w i z who.
+        carried g.M.Machine.meaning c.args.sent.now (place c.args.k) c.in_ok-frame_at.field-0.now c.bytes.result w i (sym c.in_ok-frame_at.ensures) c.bytes.ensures z who;
 }
