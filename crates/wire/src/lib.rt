@@ -8,6 +8,8 @@ mod laws;
 mod message;
 mod outbox;
 mod reading;
+#[cfg(test)]
+mod tests;
 mod vote;
 mod writing;
 

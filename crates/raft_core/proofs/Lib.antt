@@ -1,0 +1,6 @@
+pub mod Logs
+pub mod Sends
+pub mod Quorums
+pub mod Stepping
+pub mod Lives
+pub mod Members

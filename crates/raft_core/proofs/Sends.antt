@@ -1,0 +1,66 @@
+-- Frames sent one after the other.
+use Rattle.std.proofs.Common.{◌≡◌, ◌≢◌, ℕ, zero, suc, ◌+◌, ◌==◌, true, false, List, [], ◌∷◌, ◌++◌, length, take, refl, sym, ap, ◌∙◌, append_assoc, arith}
+use Rattle.std.proofs.lemmas.Bool.{eq-eqb, ne_eqb}
+use Rattle.std.proofs.Math.Seq.{take-append_seam, take-length}
+use Rattle.std.proofs.lemmas.List.{append-nil}
+use Rattle.machine.specs.Meaning.{Meaning}
+use Rattle.raft_model.specs.Messages.{Message, to_others}
+use Rattle.rows.specs.declared.actor.Actor.TheVariants.{Server}
+use Rattle.wire.specs.Frames.{Frame}
+use Rattle.wire.specs.Messages.{may_go, kind_of, is_another_server}
+use Rattle.wire.specs.declared.body.Body.{Body}
+use Rattle.wire.specs.declared.body.Body.TheVariants as bodies
+use Rattle.raft_core.specs.Frames.{Carry, Sends}
+use Rattle.raft_core.specs.Turns.{Sent}
+
+module _ {S C : Type 0} (m : Meaning S C) where
+  pub sends-none : (all : List Frame) → Sends m all all []
+  sends-none all = record { frames = []; added = sym (append-nil all); carry = tt }
+
+  carry-more : (fs gs : List Frame) (xs ys : List (Message C)) → Carry m fs xs → Carry m gs ys → Carry m (fs ++ gs) (xs ++ ys)
+  carry-more [] gs [] ys p q = q
+  carry-more [] gs (x ∷ xs) ys p q = absurd p
+  carry-more (f ∷ fs) gs [] ys p q = absurd p
+  carry-more (f ∷ fs) gs (x ∷ xs) ys p q = (p.0, carry-more fs gs xs ys p.1 q)
+
+  pub sends-more : (a b c : List Frame) (xs ys : List (Message C)) → Sends m a b xs → Sends m b c ys → Sends m a c (xs ++ ys)
+  sends-more a b c xs ys p q = record {
+    frames = p.frames ++ q.frames;
+    added = q.added ∙ ap (λ (z : List Frame). z ++ q.frames) p.added ∙ append_assoc a p.frames q.frames;
+    carry = carry-more p.frames q.frames xs ys p.carry q.carry;
+  }
+
+module _ {S C : Type 0} (m : Meaning S C) (me : ℕ) (f : ℕ → Message C) where
+  others_skip : (k : ℕ) → k ≡ me → to_others me f (k + 1) ≡ to_others me f k ++ []
+  unfolding to_others
+  others_skip k e = let q : k + 1 ≡ suc k = omega arith in let b : (k == me) ≡ true = eq-eqb k me e in rw q (rw b refl)
+
+  others_next : (k : ℕ) → k ≢ me → to_others me f (k + 1) ≡ to_others me f k ++ f k ∷ []
+  unfolding to_others
+  others_next k e = let q : k + 1 ≡ suc k = omega arith in let b : (k == me) ≡ false = ne_eqb k me e in rw q (rw b refl)
+
+  -- no message goes to the sender itself
+  pub asks_skip : (a b : List Frame) (k : ℕ) → k ≡ me → Sends m a b (to_others me f k) → Sends m a b (to_others me f (k + 1))
+  asks_skip a b k e p = rw (others_skip k e, append-nil (to_others me f k)) p
+
+  pub asks_next : (a b c : List Frame) (k : ℕ) → k ≢ me → Sends m a b (to_others me f k) → Sends m b c (f k ∷ []) → Sends m a c (to_others me f (k + 1))
+  asks_next a b c k e p q = rw (others_next k e) (sends-more m a b c (to_others me f k) (f k ∷ []) p q)
+
+  pub asks_none : (a : List Frame) → Sends m a a (to_others me f 0)
+  unfolding to_others
+  asks_none a = sends-none m a
+
+module _ {S C : Type 0} (m : Meaning S C) where
+  pub sent_front : (a b : List Frame) (xs : List (Message C)) → Sends m a b xs → Sent a b
+  sent_front a b xs p = rw p.added (take-append_seam a p.frames)
+
+pub sent_all : (a : List Frame) → Sent a a
+sent_all a = take-length a
+
+another : (from to : ℕ) → from ≢ to → is_another_server (Server from) (Server to) ≡ true
+another from to other = let e : (to == from) ≡ false = ne_eqb to from (λ q. other (sym q)) in rw e refl
+
+-- messages between servers go to another one
+pub may_go_between : (from to : ℕ) (body : Body) → from ≢ to → may_go (kind_of body) (Server from) (Server to) ≡ true
+may_go_between from to (bodies.VoteRequest v) other = another from to other
+may_go_between from to (bodies.VoteReply v) other = another from to other

@@ -1,0 +1,41 @@
+-- Steps of the definitions, by what the rules leave.
+use Rattle.std.proofs.Common.{◌≡◌, ◌≢◌, ℕ, ◌+◌, ◌^◌, ◌<◌, ◌≤◌, ◌⊎◌, inl, inr, true, false, ◌&&◌, nat_lt, Result, Ok, Err, Some, None, List, length, take, refl, sym, ap, ◌∙◌, subst, arith}
+use Rattle.std.proofs.lemmas.Bool.{lt-ltb, le-ltb}
+use Rattle.rows.specs.declared.refusal.Refusal.TheVariants as refusals
+use Rattle.rows.specs.declared.refusal.Refusal.{Refusal}
+use Rattle.rows.specs.declared.actor.Actor.{Actor}
+use Rattle.rows.specs.declared.actor.Actor.TheVariants.{Server as ServerActor}
+use Rattle.machine.specs.Meaning.{Meaning}
+use Rattle.wire.specs.Messages.{Message as WireMessage}
+use Rattle.wire.specs.Frames.{Frame, MessageFits, message_text}
+use Rattle.raft_model.specs.Logs.{MAX}
+use Rattle.raft_model.specs.Messages.{Message, to_others}
+use Rattle.raft_model.specs.Servers.{Server, Turn, is_up, is_leader, silent, stood, vote_request, met, crashed, restarted}
+use Rattle.raft_model.specs.Steps.{step, receives, Input, Arrives, Timeout, Crash, Restart}
+use Rattle.raft_core.specs.declared.input.Input.{Input as CodeInput}
+use Rattle.raft_core.specs.declared.input.Input.TheVariants as inputs
+use Rattle.raft_core.specs.Seen.{Seen, with_server}
+use Rattle.raft_core.specs.Frames.{Means, IsFrameOf, term_of, body_of}
+use Rattle.raft_core.specs.Turns.{Turned, Lost, Sent}
+use Rattle.raft_core.specs.Steps.{Represents, Steps, TakesFrame, Takes, refusal, MayLack, LackLeaves, Lacks, Declines}
+use Rattle.raft_core.specs.Stops.{LosesIn, Stops}
+
+module _ {S C : Type 0} (m : Meaning S C) where
+  pub steps_by : (old new : Seen C) (before after : List Frame) (input : Input C) (turn : Turn C) → step m old.size old.me old.server input ≡ Ok turn → Turned m old new before after turn → Steps m old old.server input new before after
+  steps_by old new before after input turn is t = record { turn = turn; step = is; stands = t.server; sent = t.sent }
+
+  module _ (n me : ℕ) (s : Server C) (up : is_up s.mode ≡ true) where
+    pub leader_waits : is_leader s.mode ≡ true → step m n me s Timeout ≡ Ok (silent s)
+    leader_waits leads = rw (up, leads) refl
+
+    pub other_stands : is_leader s.mode ≡ false → s.term + 1 < 2 ^ 40 → length s.log + 1 < 2 ^ 40 → step m n me s Timeout ≡ Ok (record { server = stood n me s; sent = to_others me (vote_request me (stood n me s)) n })
+    other_stands other term room =
+        let below : nat_lt s.term MAX ≡ true = lt-ltb s.term MAX (omega arith) in
+        let fits : nat_lt (length s.log) MAX ≡ true = lt-ltb (length s.log) MAX (omega arith) in
+        rw (up, other, below, fits) refl
+
+    pub crash_taken : step m n me s Crash ≡ Ok (silent (crashed s))
+    crash_taken = rw up refl
+
+  pub restart_taken : (n me : ℕ) (s : Server C) → is_up s.mode ≡ false → step m n me s Restart ≡ Ok (silent (restarted s))
+  restart_taken n me s down = rw down refl

@@ -1,0 +1,24 @@
+use Rattle.std.proofs.Common.{◌≡◌, true, false, refl, sym, ap, ◌∙◌}
+use Rattle.raft_model.specs.Steps.{Crash, Restart}
+use Rattle.raft_core.specs.Seen.{Seen}
+use Rattle.raft_core.proofs.Sends.{sends-none}
+use Rattle.raft_core.proofs.Stepping.{steps_by, crash_taken, restart_taken}
+use Rattle.raft_core.proofs.raft.Raft.take.Goals as goal
+
+pub returns-else-is_up-clause-taken : goal.returns-else-is_up-clause-taken
+returns-else-is_up-clause-taken g c =
+    let m = g.M.Machine.meaning in
+    let old = c.args.self.now in
+    let is = restart_taken m old.size old.me old.server (sym c.is_up-is_up.ensures ∙ c.if-is_up.false) in
+    let made = c.revive.ensures in
+    rw c.in-Restart.is (steps_by m old c.revive.new.self c.args.outbox.now c.args.outbox.now Restart _ is
+    (record { server = ap (λ x. x.server) made; me = ap (λ x. x.me) made; size = ap (λ x. x.size) made; sent = sends-none m c.args.outbox.now }))
+
+pub returns-else-not-is_up-clause-taken : goal.returns-else-not-is_up-clause-taken
+returns-else-not-is_up-clause-taken g c =
+    let m = g.M.Machine.meaning in
+    let old = c.args.self.now in
+    let is = crash_taken m old.size old.me old.server (sym c.is_up-is_up.ensures ∙ c.if-not-is_up.false) in
+    let made = c.crash.ensures in
+    rw c.in-Crash.is (steps_by m old c.crash.new.self c.args.outbox.now c.args.outbox.now Crash _ is
+    (record { server = ap (λ x. x.server) made; me = ap (λ x. x.me) made; size = ap (λ x. x.size) made; sent = sends-none m c.args.outbox.now }))

@@ -1,0 +1,51 @@
+-- Messages between servers, and the frames that carry them.
+use Rattle.std.specs.Prelude.{◌≡◌, ℕ, List, [], ◌∷◌, ◌++◌}
+use Rattle.rows.specs.declared.actor.Actor.{Actor}
+use Rattle.rows.specs.declared.actor.Actor.TheVariants.{Server}
+use Rattle.machine.specs.Meaning.{Meaning}
+use Rattle.wire.specs.Messages.{Message as WireMessage}
+use Rattle.wire.specs.Frames.{Frame, MessageFits, message_text}
+use Rattle.wire.specs.declared.body.Body.{Body as WireBody}
+use Rattle.wire.specs.declared.body.Body.TheVariants.{VoteRequest, VoteReply}
+use Rattle.raft_model.specs.Messages.{Message, Body}
+use Rattle.raft_model.specs.Messages.{VoteRequest as VoteRequestBody, VoteReply as VoteReplyBody}
+
+-- what the body of a frame says: the sender's term, and the rest
+abbrev pub term_of : WireBody → ℕ
+term_of (VoteRequest v) = v.term
+term_of (VoteReply v) = v.term
+
+abbrev pub body_of : {C : Type 0} → WireBody → Body C
+body_of (VoteRequest v) = VoteRequestBody v.last_index v.last_term
+body_of (VoteReply v) = VoteReplyBody v.asked v.granted
+
+-- the message that is read from a frame is this one
+pub record Means {C : Type 0} (read : WireMessage C) (message : Message C) : Type 0 where
+  pub from : read.from ≡ Server message.from
+  pub to : read.to ≡ Server message.to
+  pub term : message.term ≡ term_of read.body
+  pub body : message.body ≡ body_of read.body
+
+-- the bytes are the message's frame
+pub record IsFrameOf {S C : Type 0} (m : Meaning S C) (bytes : List ℕ) (message : Message C) : Type 0 where
+  pub read : WireMessage C
+  pub fits : MessageFits m.commands read
+  pub text : bytes ≡ message_text m.commands read
+  pub means : Means read message
+
+-- a frame on its way carries the message, to its receiver
+pub record Carries {S C : Type 0} (m : Meaning S C) (frame : Frame) (message : Message C) : Type 0 where
+  pub to : frame.to ≡ Server message.to
+  pub bytes : IsFrameOf m frame.bytes message
+
+-- the frames carry the messages, one for one
+abbrev pub Carry : {S C : Type 0} → Meaning S C → List Frame → List (Message C) → Type 0
+Carry m [] [] = Unit {0}
+Carry m (frame ∷ frames) (message ∷ messages) = Carries m frame message × Carry m frames messages
+Carry m _ _ = ⊥
+
+-- to the frames that were there, those of the messages were added, in order, and nothing else
+pub record Sends {S C : Type 0} (m : Meaning S C) (before after : List Frame) (messages : List (Message C)) : Type 0 where
+  pub frames : List Frame
+  pub added : after ≡ before ++ frames
+  pub carry : Carry m frames messages

@@ -1,0 +1,52 @@
+-- What a contract sees of a server, and what its type keeps.
+use Rattle.std.specs.Prelude.{◌≡◌, ℕ, ◌+◌, ◌^◌, ◌<◌, ◌≤◌, Bool, Option, Some, None, List, length, take, slice_index, IfSome}
+use Rattle.machine.specs.Meaning.{Meaning}
+use Rattle.machine.specs.declared.entry.Entry.{Entry}
+use Rattle.raft_model.specs.Logs.{state_after}
+use Rattle.raft_model.specs.Servers.{Server, Mode, crashed}
+use Rattle.raft_model.specs.Servers.{Follower as FollowerMode, Candidate as CandidateMode, Leader as LeaderMode}
+use Rattle.raft_core.specs.declared.role.Role.{Role}
+use Rattle.raft_core.specs.declared.role.Role.TheVariants.{Follower, Candidate, Leader}
+use Rattle.raft_core.specs.Stored.{Stored}
+
+-- its place among the servers, how many they are, and the server that it is
+pub record Seen (C : Type 0) : Type 0 where
+  pub me : ℕ
+  pub size : ℕ
+  pub server : Server C
+
+abbrev pub mode_of : Role → List Bool → List ℕ → List ℕ → Mode
+mode_of Follower votes next matched = FollowerMode
+mode_of Candidate votes next matched = CandidateMode votes
+mode_of Leader votes next matched = LeaderMode next matched
+
+-- a server is up while it has a machine
+abbrev pub while_up : {S C : Type 0} → Option S → Server C → Server C
+while_up None s = crashed s
+while_up (Some machine) s = s
+
+-- While it is up, its machine is in the state after the committed entries.
+pub record IsLive {S C : Type 0} (m : Meaning S C) (log : List (Entry C)) (commit : ℕ) (matched : List ℕ) (machine : S) : Type 0 where
+  pub committed : commit ≤ length log
+  pub state : machine ≡ state_after m (take commit log)
+  pub levels : (j : ℕ) → slice_index matched j < 2 ^ 40
+
+-- a candidate has room for the no-op of its election
+abbrev pub HasRoom : {C : Type 0} → Role → List (Entry C) → Type 0
+HasRoom Follower log = Unit {0}
+HasRoom Candidate log = length log + 1 < 2 ^ 40
+HasRoom Leader log = Unit {0}
+
+-- Each of the lists by server number has an item for each server.
+pub record IsRaft {S C : Type 0} (m : Meaning S C) (me size : ℕ) (log : List (Entry C)) (role : Role) (commit : ℕ) (votes : List Bool) (next matched : List ℕ) (machine : Option S) : Type 0 where
+  pub number : me < size
+  pub group : size ≤ 5
+  pub short : length log < 2 ^ 40
+  pub room : HasRoom role log
+  pub votes_each : length votes ≡ size
+  pub next_each : length next ≡ size
+  pub matched_each : length matched ≡ size
+  pub live : IfSome machine (IsLive m log commit matched)
+
+abbrev pub with_server : {C : Type 0} → Seen C → Server C → Seen C
+with_server seen server = record seen { server = server }

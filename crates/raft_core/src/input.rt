@@ -1,0 +1,12 @@
+/// What comes to a server.
+#[derive(Clone, Copy, Debug)]
+pub enum Input<'a> {
+    /// A frame from the net: all of its bytes.
+    Frame(&'a [u8]),
+    /// It has heard of no leader for long enough to stand for election.
+    Timeout,
+    /// It stops, and loses what it does not store.
+    Crash,
+    /// It starts again with what it stored.
+    Restart,
+}

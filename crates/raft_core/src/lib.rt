@@ -1,0 +1,17 @@
+//! One server of a replicated log: what it stores, what it keeps in memory, and what it does with each input. (Raft,
+//! extended version 2014, section 5 and Figure 2.)
+#![tactic(auto)]
+
+mod input;
+mod log;
+mod raft;
+mod role;
+mod sending;
+mod stable;
+#[cfg(test)]
+mod tests;
+
+pub use input::Input;
+pub use raft::{NotRestarted, Raft};
+pub use role::Role;
+pub use stable::Stable;

@@ -1,0 +1,317 @@
+mod frames;
+mod votes;
+
+ghost use Rattle.std.specs.Prelude.{◌≡◌, true, false, None, length, take, replicate, OnOk, IfOk, IfErr, MatchOption};
+ghost use Rattle.raft_model.specs.Logs.{state_after};
+ghost use Rattle.raft_model.specs.Servers.{Server, is_up, is_leader, met, crashed, restarted};
+ghost use Rattle.raft_core.specs.Seen.{with_server};
+ghost use Rattle.raft_core.specs.Steps.{Represents, Stores, Takes, Declines, refusal, role_of, is_member};
+ghost use Rattle.raft_core.specs.Stops.{Stops};
+ghost use Rattle.raft_core.specs.Restarts.{WhyNot};
+
+use crate::input::Input;
+use crate::role::Role;
+use crate::stable::Stable;
+use machine::{Coded, Entry, Machine};
+use rows::{Index, NoMemory, Refusal, ServerId, Term};
+use std::alloc::Global;
+use std::marker::Model;
+use wire::Outbox;
+
+/// One server of a group of 3 or 5. Term, vote and log are stored; the rest is lost in a crash. It is down while it has no
+/// machine.
+#[derive(Drop)]
+pub struct Raft<M: Machine> {
+    me: ServerId,
+    size: usize,
+    term: Term,
+    vote: Option<ServerId>,
+    log: Vec<Entry<Coded<M>>>,
+    machine: Option<M>,
+    role: Role,
+    commit: Index,
+    known: Option<ServerId>,
+    votes: Vec<bool>,
+    next: Vec<u64>,
+    matched: Vec<u64>,
+}
+
+impl<M: Machine> Model for Raft<M> {
+    ghost use Rattle.raft_core.specs.Seen.{Seen, while_up, mode_of, IsRaft};
+
+    ghost Value = { Seen M.Command };
+
+    ghost view = { λ a. record { me = a.me; size = a.size; server = while_up a.machine (record { term = a.term; vote = a.vote; log = a.log.items; covered = 0; commit = a.commit; known = a.known; mode = mode_of a.role a.votes.items a.next.items a.matched.items }) } };
+
+    ghost invariant = { λ a. IsRaft M.meaning a.me a.size a.log.items a.role a.commit a.votes.items a.next.items a.matched.items a.machine };
+}
+
+/// A stored part that could not be started, and why: the number is past the group's size, or that is not 3 or 5
+/// (`OutOfRange`), or memory was wanting (`NoMemory`).
+#[derive(Drop)]
+pub struct NotRestarted<M: Machine> {
+    /// Why it was refused.
+    pub refusal: Refusal,
+    /// What was handed in.
+    pub stable: Stable<M>,
+}
+
+/// The lists by server number: votes, next indexes and match indexes.
+#[derive(Drop)]
+struct Levels {
+    votes: Vec<bool>,
+    next: Vec<u64>,
+    matched: Vec<u64>,
+}
+
+fn no_levels(alloc: Global, size: usize) -> Result<Levels, NoMemory>
+    ensures votes { IfOk result (λ l. l.votes.items ≡ replicate size false) }
+    ensures next { IfOk result (λ l. l.next.items ≡ replicate size 0) }
+    ensures matched { IfOk result (λ l. l.matched.items ≡ replicate size 0) }
+{
+    Ok(Levels {
+        votes: vec![in alloc; false; size]?,
+        next: vec![in alloc; 0; size]?,
+        matched: vec![in alloc; 0; size]?,
+    })
+}
+
+fn is_member(size: usize, me: ServerId) -> bool
+    ensures { result ≡ is_member size me }
+{
+    (size == 3 || size == 5) && me.place() < size
+}
+
+impl<M: Machine> Raft<M> {
+    /// The server of this number in a group of `size` that starts with what it stored: a follower that knows no leader.
+    ///
+    /// It is refused with `OutOfRange` where `size` is not 3 or 5 or the number is past it, and with `NoMemory`; the stored
+    /// part is handed back then.
+    pub fn restart(
+        alloc: Global,
+        me: ServerId,
+        size: usize,
+        stable: Stable<M>,
+    ) -> Result<Raft<M>, NotRestarted<M>>
+        ensures member { OnOk result (is_member size me ≡ true) }
+        ensures number { IfOk result (λ r. (r.me ≡ me) × (r.size ≡ size)) }
+        ensures server { IfOk result (λ r. (s : Server M.Command) → Stores M.meaning stable s → Represents M.meaning r (restarted s)) }
+        ensures refused { IfErr result (λ e. (e.stable ≡ stable) × WhyNot size me e.refusal) }
+    {
+        if !is_member(size, me) {
+            return Err(NotRestarted {
+                refusal: Refusal::OutOfRange,
+                stable,
+            });
+        }
+        let Ok(levels) = no_levels(alloc, size) else {
+            return Err(NotRestarted {
+                refusal: Refusal::NoMemory,
+                stable,
+            });
+        };
+        let Levels {
+            votes,
+            next,
+            matched,
+        } = levels;
+        let Stable { term, vote, log } = stable;
+        Ok(Raft {
+            me,
+            size,
+            term,
+            vote,
+            log,
+            machine: Some(M::empty(alloc)),
+            role: Role::Follower,
+            commit: Index::ZERO,
+            known: None,
+            votes,
+            next,
+            matched,
+        })
+    }
+
+    /// What it stores; the rest is gone.
+    pub fn into_stable(self) -> Stable<M>
+        ensures { (s : Server M.Command) → Represents M.meaning self s → Stores M.meaning result s }
+    {
+        let Raft {
+            me: _,
+            size: _,
+            term,
+            vote,
+            log,
+            machine: _,
+            role: _,
+            commit: _,
+            known: _,
+            votes: _,
+            next: _,
+            matched: _,
+        } = self;
+        Stable { term, vote, log }
+    }
+
+    /// What it is doing, while it is up.
+    pub fn role(&self) -> Option<Role>
+        ensures { (s : Server M.Command) → Represents M.meaning self.now s → result ≡ role_of s.mode }
+    {
+        match self.machine {
+            Some(_) => Some(self.role),
+            None => None,
+        }
+    }
+
+    /// Its current term, also while it is down.
+    pub fn term(&self) -> Term
+        ensures { (s : Server M.Command) → Represents M.meaning self.now s → result ≡ s.term }
+    {
+        self.term
+    }
+
+    /// The index of the last entry of its log, also while it is down; 0 where there is none.
+    pub fn last(&self) -> Index
+        ensures { (s : Server M.Command) → Represents M.meaning self.now s → result ≡ length s.log }
+    {
+        match Index::new(self.log.len() as u64) {
+            Some(last) => last,
+            None => unreachable!(),
+        }
+    }
+
+    /// How many entries are applied, while it is up: all that are committed.
+    pub fn applied(&self) -> Option<Index>
+        ensures { (s : Server M.Command) → Represents M.meaning self.now s → MatchOption result (is_up s.mode ≡ false) (λ n. (is_up s.mode ≡ true) × (n ≡ s.commit)) }
+    {
+        match self.machine {
+            Some(_) => Some(self.commit),
+            None => None,
+        }
+    }
+
+    /// The machine after the committed entries, while it is up.
+    pub fn machine(&self) -> Option<&M>
+        ensures { (s : Server M.Command) → Represents M.meaning self.now s → MatchOption result (is_up s.mode ≡ false) (λ r. (is_up s.mode ≡ true) × (r.now ≡ state_after M.meaning (take s.commit s.log))) }
+    {
+        self.machine.as_ref()
+    }
+
+    fn is_up(&self) -> bool
+        ensures { result ≡ is_up self.now.server.mode }
+    {
+        match self.machine {
+            Some(_) => true,
+            None => false,
+        }
+    }
+
+    fn is_leader(&self) -> bool
+        requires { is_up self.now.server.mode ≡ true }
+        ensures { result ≡ is_leader self.now.server.mode }
+    {
+        match self.role {
+            Role::Leader => true,
+            Role::Follower => false,
+            Role::Candidate => false,
+        }
+    }
+
+    /// It stops: what it does not store is lost.
+    fn crash(&mut self)
+        ensures { self.new ≡ with_server self.old (crashed self.old.server) }
+    {
+        self.machine = None;
+    }
+
+    /// It starts again: a follower that knows no leader, with nothing applied.
+    fn revive(&mut self, alloc: Global)
+        requires { is_up self.old.server.mode ≡ false }
+        ensures { self.new ≡ with_server self.old (restarted self.old.server) }
+    {
+        self.role = Role::Follower;
+        self.commit = Index::ZERO;
+        self.known = None;
+        self.matched.fill(0);
+        self.machine = Some(M::empty(alloc));
+    }
+
+    /// A greater term makes the server a follower of that term, without a vote or a known leader.
+    fn meet(&mut self, term: Term)
+        requires { is_up self.old.server.mode ≡ true }
+        ensures { self.new ≡ with_server self.old (met term self.old.server) }
+    {
+        if self.term.get() < term.get() {
+            self.term = term;
+            self.vote = None;
+            self.known = None;
+            self.role = Role::Follower;
+        }
+    }
+
+    /// One input is taken. After want of memory what is stored is as it was, and frames may stand behind those that were
+    /// there.
+    fn take(&mut self, alloc: Global, input: Input, outbox: &mut Outbox) -> Result<(), Refusal>
+        ensures same { (self.new.me ≡ self.old.me) × (self.new.size ≡ self.old.size) }
+        ensures taken { OnOk result (Takes M.meaning self.old self.old.server input.entry self.new outbox.old outbox.new) }
+        ensures admitted { OnOk result (refusal M.meaning self.old.size self.old.me self.old.server input.entry ≡ None) }
+        ensures stopped { IfErr result (λ cause. Stops M.meaning self.old input.entry cause self.new outbox.old outbox.new) }
+    {
+        let is_up = self.is_up();
+        match input {
+            Input::Restart => {
+                if is_up {
+                    return Err(Refusal::OutOfRange);
+                }
+                self.revive(alloc);
+                Ok(())
+            }
+            Input::Crash => {
+                if !is_up {
+                    return Err(Refusal::Down);
+                }
+                self.crash();
+                Ok(())
+            }
+            Input::Timeout => {
+                if !is_up {
+                    return Err(Refusal::Down);
+                }
+                self.timeout(outbox)
+            }
+            Input::Frame(bytes) => {
+                if !is_up {
+                    return Err(Refusal::Down);
+                }
+                self.frame(alloc, bytes, outbox)
+            }
+        }
+    }
+
+    /// One step: the server takes an input, and the frames of the messages that it sends are put behind those in the outbox.
+    ///
+    /// One that is down refuses every input but Restart with `Down`. Then of a frame `Frame` names the offset of its first
+    /// fault, or 2 where its sender is not of the group, or 3 where it is for another server; a Timeout is refused with
+    /// `Exhausted` where the term or the last index is 2^40 - 1; a Restart of one that is up with `OutOfRange`. A refusal
+    /// changes nothing and sends nothing. With `NoMemory` the server is down, with its stored part as it was and nothing
+    /// sent.
+    pub fn step(&mut self, alloc: Global, input: Input, outbox: &mut Outbox) -> Result<(), Refusal>
+        ensures same { (self.new.me ≡ self.old.me) × (self.new.size ≡ self.old.size) }
+        ensures taken { OnOk result ((s : Server M.Command) → Represents M.meaning self.old s → Takes M.meaning self.old s input.entry self.new outbox.old outbox.new) }
+        ensures admitted { OnOk result ((s : Server M.Command) → Represents M.meaning self.old s → refusal M.meaning self.old.size self.old.me s input.entry ≡ None) }
+        ensures refused { IfErr result (λ cause. Declines M.meaning self.old input.entry cause self.new outbox.old outbox.new) }
+    {
+        let before = outbox.len();
+        match self.take(alloc, input, outbox) {
+            Ok(()) => Ok(()),
+            Err(cause) => match cause {
+                Refusal::NoMemory => {
+                    outbox.truncate(before);
+                    self.crash();
+                    Err(Refusal::NoMemory)
+                }
+                other => Err(other),
+            },
+        }
+    }
+}

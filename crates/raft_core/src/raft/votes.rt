@@ -1,0 +1,235 @@
+//! Elections. (Raft, section 5.2, and section 5.4.1.)
+
+ghost use Rattle.std.specs.Prelude.{◌≡◌, ◌≢◌, ◌+◌, ◌^◌, ◌<◌, ◌≤◌, true, length, None, OnOk, OnErr, IfErr};
+ghost use Rattle.raft_model.specs.Servers.{is_up, met, grants, stood, vote_request, counted, won, crashed};
+ghost use Rattle.raft_model.specs.Steps.{receives};
+ghost use Rattle.raft_model.specs.Messages.{to_others, VoteRequest as VoteRequestBody, VoteReply as VoteReplyBody};
+ghost use Rattle.raft_model.specs.Quorums.{count, is_quorum, marked};
+ghost use Rattle.raft_core.specs.Frames.{Sends};
+ghost use Rattle.raft_core.specs.Steps.{Takes, refusal};
+ghost use Rattle.raft_core.specs.Stops.{Stops};
+ghost use Rattle.raft_core.specs.Turns.{Turned, Lost, Sent};
+
+use super::Raft;
+use crate::input::Input;
+use crate::log::term_of_last;
+use crate::role::Role;
+use crate::sending::send;
+use machine::{Coded, Entry, Machine};
+use rows::{Index, NoMemory, Refusal, ServerId, Term};
+use wire::{Body, Outbox, VoteReply, VoteRequest};
+
+/// The server at a place, from 0.
+fn server_at(place: usize) -> ServerId
+    requires { place < 5 }
+    ensures { result ≡ place }
+{
+    match ServerId::from_number(place as u8 + 1) {
+        Some(server) => server,
+        None => unreachable!(),
+    }
+}
+
+/// How many servers gave their vote.
+fn count_votes(votes: &[bool]) -> usize
+    ensures count { result ≡ count (marked votes.now) (length votes.now) }
+    ensures bound { result ≤ length votes.now }
+{
+    let mut held = 0;
+    for vote in votes {
+        if *vote {
+            held += 1;
+        }
+    }
+    held
+}
+
+/// Whether more than half of the servers gave their vote.
+#[tactic(auto, unfolding(raft_model::specs::Quorums::is_quorum))]
+fn is_quorum(votes: &[bool]) -> bool
+    requires { length votes.now ≤ 5 }
+    ensures { result ≡ is_quorum (length votes.now) (marked votes.now) }
+{
+    2 * count_votes(votes) > votes.len()
+}
+
+/// Asks all others for their votes, in rising number.
+fn ask<M: Machine>(
+    me: ServerId,
+    size: usize,
+    request: &VoteRequest,
+    outbox: &mut Outbox,
+) -> Result<(), NoMemory>
+    requires { size ≤ 5 }
+    ensures ok { OnOk result (Sends M.meaning outbox.old outbox.new (to_others me (λ to. record { from = me; to = to; term = request.now.term; body = VoteRequestBody request.now.last_index request.now.last_term }) size)) }
+    ensures err { OnErr result (Sent outbox.old outbox.new) }
+{
+    for place in 0..size {
+        if place != me.place() {
+            send::<M>(outbox, me, server_at(place), Body::VoteRequest(*request))?;
+        }
+    }
+    Ok(())
+}
+
+impl<M: Machine> Raft<M> {
+    /// Whether a request gets this server's vote.
+    fn may_grant(&self, from: ServerId, request: &VoteRequest) -> bool
+        requires { is_up self.now.server.mode ≡ true }
+        ensures { result ≡ grants (met request.now.term self.now.server) from request.now.term request.now.last_index request.now.last_term }
+    {
+        let last_term = term_of_last(&self.log).get();
+        let its_last_term = request.last_term.get();
+        let is_up_to_date = last_term < its_last_term
+            || last_term == its_last_term && self.log.len() as u64 <= request.last_index.get();
+        let is_free = match self.vote {
+            None => true,
+            Some(other) => other.place() == from.place(),
+        };
+        let (term, its_term) = (self.term.get(), request.term.get());
+        is_up_to_date && (term < its_term || term == its_term && is_free)
+    }
+
+    /// Its term, once it has met that of a message.
+    fn later(&self, term: Term) -> Term
+        requires { is_up self.now.server.mode ≡ true }
+        ensures { result ≡ (met term self.now.server).term }
+    {
+        if self.term.get() < term.get() {
+            term
+        } else {
+            self.term
+        }
+    }
+
+    /// A request for a vote is answered.
+    pub(super) fn vote_request(
+        &mut self,
+        from: ServerId,
+        request: &VoteRequest,
+        outbox: &mut Outbox,
+    ) -> Result<(), NoMemory>
+        requires up { is_up self.old.server.mode ≡ true }
+        requires other { from ≢ self.old.me }
+        ensures taken { OnOk result (Turned M.meaning self.old self.new outbox.old outbox.new (receives M.meaning.noop self.old.size self.old.me (met request.now.term self.old.server) from request.now.term (VoteRequestBody request.now.last_index request.now.last_term))) }
+        ensures lost { OnErr result (Lost self.old self.new outbox.old outbox.new) }
+    {
+        let granted = self.may_grant(from, request);
+        let asked = request.term;
+        let term = self.later(asked);
+        let reply = VoteReply {
+            term,
+            asked,
+            granted,
+        };
+        send::<M>(outbox, self.me, from, Body::VoteReply(reply))?;
+        self.meet(asked);
+        if granted {
+            self.vote = Some(from);
+        }
+        Ok(())
+    }
+
+    /// It leads, and appends a no-op of its term.
+    fn lead(&mut self) -> Result<(), NoMemory>
+        requires up { is_up self.old.server.mode ≡ true }
+        requires room { length self.old.server.log + 1 < 2 ^ 40 }
+        ensures same { (self.new.me ≡ self.old.me) × (self.new.size ≡ self.old.size) }
+        ensures won { OnOk result (self.new.server ≡ won M.meaning.noop self.old.size self.old.server) }
+        ensures lost { OnErr result (crashed self.new.server ≡ crashed self.old.server) }
+    {
+        let first = self.log.len() as u64 + 1;
+        self.next.fill(first);
+        self.matched.fill(0);
+        self.log.push(Entry {
+            term: self.term,
+            command: Coded::new(M::noop()),
+        })?;
+        self.role = Role::Leader;
+        Ok(())
+    }
+
+    /// A candidate counts a vote, and leads with those of a quorum.
+    fn count_vote(&mut self, from: ServerId) -> Result<(), NoMemory>
+        requires up { is_up self.old.server.mode ≡ true }
+        requires member { from < self.old.size }
+        ensures same { (self.new.me ≡ self.old.me) × (self.new.size ≡ self.old.size) }
+        ensures counted { OnOk result (self.new.server ≡ counted M.meaning.noop self.old.size self.old.server from self.old.server.mode) }
+        ensures lost { OnErr result (crashed self.new.server ≡ crashed self.old.server) }
+    {
+        match self.role {
+            Role::Follower => Ok(()),
+            Role::Leader => Ok(()),
+            Role::Candidate => {
+                self.votes[from.place()] = true;
+                if !is_quorum(&self.votes) {
+                    return Ok(());
+                }
+                self.lead()
+            }
+        }
+    }
+
+    /// The answer to a request for a vote counts where it answers one of this term.
+    pub(super) fn vote_reply(&mut self, from: ServerId, reply: &VoteReply) -> Result<(), NoMemory>
+        requires up { is_up self.old.server.mode ≡ true }
+        requires member { from < self.old.size }
+        ensures same { (self.new.me ≡ self.old.me) × (self.new.size ≡ self.old.size) }
+        ensures taken { OnOk result (self.new.server ≡ (receives M.meaning.noop self.old.size self.old.me (met reply.now.term self.old.server) from reply.now.term (VoteReplyBody reply.now.asked reply.now.granted)).server) }
+        ensures lost { OnErr result (crashed self.new.server ≡ crashed self.old.server) }
+    {
+        if self.term.get() < reply.term.get() {
+            self.meet(reply.term);
+            return Ok(());
+        }
+        if reply.asked.get() == self.term.get() && reply.granted {
+            return self.count_vote(from);
+        }
+        Ok(())
+    }
+
+    /// It stands in the next term, with its own vote, and asks all others for theirs.
+    pub(super) fn stand(&mut self, outbox: &mut Outbox) -> Result<(), NoMemory>
+        requires up { is_up self.old.server.mode ≡ true }
+        requires term { self.old.server.term + 1 < 2 ^ 40 }
+        requires room { length self.old.server.log + 1 < 2 ^ 40 }
+        ensures taken { OnOk result (Turned M.meaning self.old self.new outbox.old outbox.new (record { server = stood self.old.size self.old.me self.old.server; sent = to_others self.old.me (vote_request self.old.me (stood self.old.size self.old.me self.old.server)) self.old.size })) }
+        ensures lost { OnErr result (Lost self.old self.new outbox.old outbox.new) }
+    {
+        let term = self.term.next();
+        let request = VoteRequest {
+            term,
+            last_index: self.last(),
+            last_term: term_of_last(&self.log),
+        };
+        ask::<M>(self.me, self.size, &request, outbox)?;
+        self.term = term;
+        self.vote = Some(self.me);
+        self.known = None;
+        self.votes.fill(false);
+        self.votes[self.me.place()] = true;
+        self.role = Role::Candidate;
+        Ok(())
+    }
+
+    /// It has heard of no leader: unless it leads, it stands for election.
+    pub(super) fn timeout(&mut self, outbox: &mut Outbox) -> Result<(), Refusal>
+        requires { is_up self.old.server.mode ≡ true }
+        ensures same { (self.new.me ≡ self.old.me) × (self.new.size ≡ self.old.size) }
+        ensures taken { OnOk result (Takes M.meaning self.old self.old.server Input.Timeout self.new outbox.old outbox.new) }
+        ensures admitted { OnOk result (refusal M.meaning self.old.size self.old.me self.old.server Input.Timeout ≡ None) }
+        ensures stopped { IfErr result (λ cause. Stops M.meaning self.old Input.Timeout cause self.new outbox.old outbox.new) }
+    {
+        if self.is_leader() {
+            return Ok(());
+        }
+        if self.term.get() + 1 >= Term::LIMIT {
+            return Err(Refusal::Exhausted);
+        }
+        if self.log.len() as u64 + 1 >= Index::LIMIT {
+            return Err(Refusal::Exhausted);
+        }
+        self.stand(outbox)?;
+        Ok(())
+    }
+}

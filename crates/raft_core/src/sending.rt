@@ -1,0 +1,21 @@
+ghost use Rattle.std.specs.Prelude.{◌≡◌, ◌≢◌, ◌∷◌, [], OnOk, OnErr};
+ghost use Rattle.raft_core.specs.Frames.{Sends, term_of, body_of};
+
+use machine::Machine;
+use rows::{NoMemory, ServerId};
+use wire::{Body, Message, Outbox};
+
+/// Sends the frame of a message from one server to another.
+#[tactic(auto, using(crate::proofs::Sends::may_go_between))]
+pub fn send<M: Machine>(
+    outbox: &mut Outbox,
+    from: ServerId,
+    to: ServerId,
+    body: Body,
+) -> Result<(), NoMemory>
+    requires { from ≢ to }
+    ensures ok { OnOk result (Sends M.meaning outbox.old outbox.new (record { from = from; to = to; term = term_of body; body = body_of body } ∷ [])) }
+    ensures err { OnErr result (outbox.new ≡ outbox.old) }
+{
+    outbox.send(&Message::<M>::between(from, to, body))
+}
