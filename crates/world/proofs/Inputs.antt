@@ -1,15 +1,14 @@
 -- Which server a message goes to, and what it is for it.
-use Rattle.std.proofs.Common.{◌≡◌, ℕ, Option, Some, None, Err, List, refl, sym, ap, ◌∙◌, slice_get, Bor}
+use Rattle.std.proofs.Common.{◌≡◌, ℕ, Some, None, List, refl, sym, ap, ◌∙◌, slice_get, Bor}
 use Rattle.std.proofs.lemmas.Option.{same_Some}
 use Rattle.std.specs.List.{AllZip}
 use Rattle.rows.specs.declared.actor.Actor.TheVariants as actors
 use Rattle.rows.specs.declared.refusal.Refusal.TheVariants as refusals
 use Rattle.machine.specs.Meaning.{Meaning}
 use Rattle.wire.specs.Frames.{Frame}
-use Rattle.raft_model.specs.Messages.{Message}
 use Rattle.raft_model.specs.Steps.{Arrives}
-use Rattle.raft_model.specs.Worlds.{World, Deliver, takes, actor, happens}
-use Rattle.raft_core.specs.Frames.{Carries, IsFrameOf}
+use Rattle.raft_model.specs.Worlds.{World, Deliver, takes, actor}
+use Rattle.raft_core.specs.Frames.{Carries}
 use Rattle.raft_core.specs.declared.input.Input.TheVariants as inputs
 use Rattle.world.specs.Inputs.{ActsIn, NobodyActsIn, Brings}
 use Rattle.world.proofs.Zips.{zip_at, zip_none}
@@ -39,8 +38,8 @@ module _ {S C : Type 0} (m : Meaning S C) (sent : List Frame) (k : ℕ) where
       let to : x.0.to ≡ i = same_Some x.0.to i (rw here at who) in
       let c = x.2 in
       record {
-          what = Arrives x.0;
-          reads = (x.0, rw same c.bytes, refl);
-          came = (k, here, to);
-          takes = rw here (ap (λ j. takes m w j (Arrives x.0)) to);
+        what = Arrives x.0;
+        reads = (x.0, rw same c.bytes, refl);
+        came = (k, here, to);
+        takes = rw here (ap (λ j. takes m w j (Arrives x.0)) to);
       }

@@ -4,3 +4,8 @@ pub mod Heights
 pub mod Inputs
 pub mod Taken
 pub mod Refused
+pub mod Sleeping
+pub mod Acts
+pub mod Events
+pub mod Begins
+pub mod Playing

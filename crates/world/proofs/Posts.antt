@@ -1,13 +1,12 @@
 -- A step of a server sends no more messages than there are servers.
-use Rattle.std.proofs.Common.{◌≡◌, ℕ, zero, suc, ◌<◌, ◌≤◌, ◌&&◌, ◌==◌, ◌-◌, ◌+◌, min, nat_lt, nat_le, Bool, true, false, if◌then◌else◌, inl, inr, Option, Some, None, Result, Ok, Err, List, [], ◌∷◌, ◌++◌, length, length-append, take, refl, sym, subst, arith, slice_get}
+use Rattle.std.proofs.Common.{ℕ, zero, suc, ◌<◌, ◌≤◌, ◌&&◌, ◌==◌, nat_lt, Bool, true, false, if◌then◌else◌, Option, Some, None, Result, Ok, Err, List, [], ◌∷◌, ◌++◌, length, length-append, arith}
 use Rattle.rows.specs.declared.refusal.Refusal.{Refusal}
-use Rattle.rows.specs.declared.refusal.Refusal.TheVariants as refusals
 use Rattle.machine.specs.Meaning.{Meaning}
 use Rattle.machine.specs.declared.entry.Entry.{Entry}
 use Rattle.raft_model.specs.Logs.{MAX}
 use Rattle.raft_model.specs.Messages.{Message, Body, VoteRequest, VoteReply, Append, AppendReply, Install, InstallReply, to_others}
-use Rattle.raft_model.specs.Servers.{Server, Mode, Down, Follower, Candidate, Leader, Turn, is_up, is_leader, silent, reply, met, stood, vote_request, following, follows_append, installed, appended, is_held, beats, beat_message}
-use Rattle.raft_model.specs.Steps.{Input, Arrives, Timeout, Beat, Propose, Compact, Crash, Restart, receives, times_out, unless, admitted, proposes, acts, wakes, step}
+use Rattle.raft_model.specs.Servers.{Server, Mode, Down, Follower, Candidate, Leader, Turn, is_up, is_leader, met, stood, vote_request, following, follows_append, is_held, beats, beat_message}
+use Rattle.raft_model.specs.Steps.{Input, Arrives, Timeout, Beat, Propose, Compact, Crash, Restart, receives, unless, admitted, acts, wakes, step}
 
 module _ {C : Type 0} (me : ℕ) (message : ℕ → Message C) where
   one_more : (b : Bool) (k : ℕ) → length (to_others me message k) ≤ k → length (to_others me message k ++ (if b then [] else (message k ∷ []))) ≤ suc k

@@ -1,5 +1,5 @@
 -- Inputs that a server refuses, or lacks memory for.
-use Rattle.std.proofs.Common.{◌≡◌, ◌≢◌, ℕ, ◌<◌, inl, inr, Bool, true, false, nat_lt, ◌==◌, if◌then◌else◌, Option, Some, None, Result, Ok, Err, List, [], ◌∷◌, ◌++◌, refl, sym, ap, ◌∙◌, subst, slice_get, slice_set}
+use Rattle.std.proofs.Common.{◌≡◌, ◌≢◌, ℕ, ◌<◌, Bool, true, false, nat_lt, ◌==◌, if◌then◌else◌, Some, None, Result, Ok, Err, List, [], refl, sym, ap, ◌∙◌, subst}
 use Rattle.std.proofs.lemmas.Bool.{lt-ltb, eq-eqb}
 use Rattle.rows.specs.declared.refusal.Refusal.{Refusal}
 use Rattle.rows.specs.declared.refusal.Refusal.TheVariants as refusals
@@ -7,16 +7,15 @@ use Rattle.machine.specs.Meaning.{Meaning}
 use Rattle.wire.specs.Messages.{Message as WireMessage}
 use Rattle.wire.specs.Frames.{Frame, MessageFits, message_at, message_text}
 use Rattle.raft_model.specs.Messages.{Message}
-use Rattle.raft_model.specs.Servers.{Server, Turn, Mode, is_up, silent, crashed}
+use Rattle.raft_model.specs.Servers.{Server, Turn, is_up, silent, crashed}
 use Rattle.raft_model.specs.Steps as model
 use Rattle.raft_model.specs.Steps.{step}
 use Rattle.raft_core.specs.Seen.{Seen as Held}
 use Rattle.raft_core.specs.Frames.{IsFrameOf}
-use Rattle.raft_core.specs.Steps.{Represents, Steps, refusal, refusal_by, frame_refusal, unreadable, misdirected, Lacks, LackLeaves, MayLack, Refuses, Declines}
+use Rattle.raft_core.specs.Steps.{Represents, Steps, refusal, refusal_by, frame_refusal, Lacks, LackLeaves, MayLack, Refuses, Declines}
 use Rattle.raft_core.specs.declared.input.Input.{Input}
 use Rattle.raft_core.specs.declared.input.Input.TheVariants as inputs
-use Rattle.raft_safety.proofs.Paths.{bool_cases}
-use Rattle.world.specs.Inputs.{Reads, restarts}
+use Rattle.world.specs.Inputs.{Reads, restarts, committed}
 
 refusal_is : {C : Type 0} (q : Result (Turn C) Refusal) (r : Refusal) → refusal_by q ≡ Some r → q ≡ Err r
 refusal_is (Ok turn) r h = absurd (cc)
@@ -76,15 +75,16 @@ module _ {S C : Type 0} (m : Meaning S C) (h h2 : Held C) (input : Input) (after
   left_of s inputs.Restart not_so left = absurd (cc)
 
   -- want of memory is a crash
-  pub crash_steps : Lacks m h input h2 [] after → restarts input ≡ false → (s : Server C) → Represents m h s → Steps m h s model.Crash h2 [] []
+  pub crash_steps : Lacks m h input h2 [] after → restarts input ≡ false → (s : Server C) → Represents m h s → (t : Steps m h s model.Crash h2 [] []) × (committed t.turn.server ≡ 0)
   crash_steps lacks not_so s r =
       let up : is_up s.mode ≡ true = up_of s input not_so (lacks.may s r) in
-      record {
-          turn = silent (crashed s);
-          step = rw up refl;
-          stands = left_of s input not_so (lacks.left s r);
-          sent = record { frames = []; added = refl; carry = tt };
-      }
+      let t : Steps m h s model.Crash h2 [] [] = record {
+        turn = silent (crashed s);
+        step = rw up refl;
+        stands = left_of s input not_so (lacks.left s r);
+        sent = record { frames = []; added = refl; carry = tt };
+      } in
+      (t, refl)
 
   down_of : (s : Server C) (i : Input) → restarts i ≡ true → MayLack s.mode i → is_up s.mode ≡ false
   down_of s (inputs.Frame bytes) so may = absurd (cc)

@@ -1,5 +1,5 @@
 -- An input that a server took, as an event of the world.
-use Rattle.std.proofs.Common.{◌≡◌, ℕ, ◌<◌, ◌≤◌, ◌⊎◌, inl, inr, max, Bool, true, false, Option, Some, None, Result, Ok, Err, List, [], ◌∷◌, ◌++◌, length, append-nil, refl, sym, ap, ◌∙◌, subst, arith, slice_get, slice_set}
+use Rattle.std.proofs.Common.{◌≡◌, ℕ, inl, inr, max, Some, Result, Ok, List, [], ◌∷◌, ◌++◌, length, refl, sym, ap, ◌∙◌, subst, slice_get, slice_set}
 use Rattle.std.specs.List.{AllZip}
 use Rattle.rows.specs.declared.refusal.Refusal.{Refusal}
 use Rattle.machine.specs.Meaning.{Meaning}
@@ -8,18 +8,18 @@ use Rattle.raft_model.specs.Messages.{Message}
 use Rattle.raft_model.specs.Servers.{Server, Turn}
 use Rattle.raft_model.specs.Steps as model
 use Rattle.raft_model.specs.Steps.{step}
-use Rattle.raft_model.specs.Worlds.{World, Event, Run, more, IsEvent, happens, takes, after_turn, input_to}
+use Rattle.raft_model.specs.Worlds.{World, Event, Run, more, IsEvent, happens, takes, after_turn}
 use Rattle.raft_core.specs.Seen.{Seen as Held}
-use Rattle.raft_core.specs.Frames.{Carries, Carry, Sends}
+use Rattle.raft_core.specs.Frames.{Carries, Carry}
 use Rattle.raft_core.specs.Steps.{Represents, Steps, Takes}
 use Rattle.raft_core.specs.declared.input.Input.{Input}
 use Rattle.raft_core.specs.declared.input.Input.TheVariants as inputs
 use Rattle.raft_safety.specs.Claims.{IsGreatestCommit}
-use Rattle.raft_safety.proofs.Places.{get_set-cases, set-length, get-within}
+use Rattle.raft_safety.proofs.Places.{get_set-cases, set-length}
 use Rattle.world.specs.Inputs.{Reads, committed}
-use Rattle.world.specs.Seen.{Seen, Stands, RunsTo, Numbered, Reached}
+use Rattle.world.specs.Seen.{Seen, Stands, Numbered, Reached}
 use Rattle.world.specs.Keeps.{Goes}
-use Rattle.world.proofs.Zips.{zip_length, zip_at, zip_set, zip_append}
+use Rattle.world.proofs.Zips.{zip_length, zip_set, zip_append}
 use Rattle.world.proofs.Heights.{height_next}
 
 pub carry_zip : {S C : Type 0} (m : Meaning S C) (frames : List Frame) (messages : List (Message C)) → Carry m frames messages → AllZip (Carries m) frames messages
@@ -29,7 +29,7 @@ carry_zip m (f ∷ frames) [] c = absurd c
 carry_zip m (f ∷ frames) (x ∷ messages) c = (c.0, carry_zip m frames messages c.1)
 
 module _ {S C : Type 0} (m : Meaning S C) where
-  steps_on : (h h2 : Held C) (s : Server C) (input : Input) (x : model.Input C) (before after : List Frame) → Reads m input x → Takes m h s input h2 before after → Steps m h s x h2 before after
+  pub steps_on : (h h2 : Held C) (s : Server C) (input : Input) (x : model.Input C) (before after : List Frame) → Reads m input x → Takes m h s input h2 before after → Steps m h s x h2 before after
   steps_on h h2 s (inputs.Frame bytes) x before after r t = subst (λ y. Steps m h s y h2 before after) (sym r.2) (t r.0 r.1)
   steps_on h h2 s inputs.Timeout x before after r t = subst (λ y. Steps m h s y h2 before after) (sym r) t
   steps_on h h2 s inputs.Crash x before after r t = subst (λ y. Steps m h s y h2 before after) (sym r) t
@@ -44,9 +44,8 @@ module _ {S C : Type 0} (m : Meaning S C) (old new : Seen C) (e : Event C) (i : 
     (numbered : Numbered old) (here : slice_get old.servers i ≡ Some h)
     (servers : new.servers ≡ slice_set old.servers i h2) (sent : new.sent ≡ old.sent ++ frames) where
   -- the world after the step, and that the event leads there
-  pub record Moved (w : World C) : Type 0 where
+  pub record Moved (w : World C) (turn : Turn C) : Type 0 where
     pub server : Server C
-    pub turn : Turn C
     pub next : World C
     pub at : slice_get w.servers i ≡ Some server
     pub list : next.servers ≡ slice_set w.servers i turn.server
@@ -57,7 +56,7 @@ module _ {S C : Type 0} (m : Meaning S C) (old new : Seen C) (e : Event C) (i : 
   pub count_kept : length new.servers ≡ length old.servers
   count_kept = ap length servers ∙ set-length old.servers i h2
 
-  pub moved : (w : World C) (st : Stands m old w) (s : Server C) (x : model.Input C) → slice_get w.servers i ≡ Some s → happens m w e ≡ takes m w i x → Steps m h s x h2 [] frames → Moved w
+  pub moved : (w : World C) (st : Stands m old w) (s : Server C) (x : model.Input C) → slice_get w.servers i ≡ Some s → happens m w e ≡ takes m w i x → (t : Steps m h s x h2 [] frames) → Moved w t.turn
   moved w st s x at feed t =
       let n = numbered i h here in
       let size : h.size ≡ length w.servers = n.1 ∙ zip_length (Represents m) old.servers w.servers st.servers in
@@ -65,37 +64,45 @@ module _ {S C : Type 0} (m : Meaning S C) (old new : Seen C) (e : Event C) (i : 
       let next : World C = record { servers = slice_set w.servers i t.turn.server; sent = w.sent ++ t.turn.sent } in
       let carried : AllZip (Carries m) frames t.turn.sent = subst (λ fs. AllZip (Carries m) fs t.turn.sent) (sym t.sent.added) (carry_zip m t.sent.frames t.turn.sent t.sent.carry) in
       record {
-          server = s; turn = t.turn; next = next; at = at; list = refl;
-          happens = feed ∙ took m w i x s (Ok t.turn) at stepped;
-          represents = t.stands;
-          stands = record {
-              servers = subst (λ l. AllZip (Represents m) l next.servers) (sym servers) (zip_set (Represents m) old.servers w.servers i h2 t.turn.server st.servers t.stands);
-              sent = subst (λ l. AllZip (Carries m) l next.sent) (sym sent) (zip_append (Carries m) old.sent w.sent frames t.turn.sent st.sent carried);
-          };
+        server = s;
+        next = next;
+        at = at;
+        list = refl;
+        happens = feed ∙ took m w i x s (Ok t.turn) at stepped;
+        represents = t.stands;
+        stands = record {
+          servers = subst (λ l. AllZip (Represents m) l next.servers) (sym servers) (zip_set (Represents m) old.servers w.servers i h2 t.turn.server st.servers t.stands);
+          sent = subst (λ l. AllZip (Carries m) l next.sent) (sym sent) (zip_append (Carries m) old.sent w.sent frames t.turn.sent st.sent carried);
+        };
       }
 
   pub numbered_on : (h2.me ≡ h.me) × (h2.size ≡ h.size) → Numbered new
   numbered_on same j a at =
       let n = numbered i h here in
       elim (get_set-cases old.servers i h2 j a (subst (λ l. slice_get l j ≡ Some a) servers at)) [
-          inl q ↦ subst (λ (b : Held C). (b.me ≡ j) × (b.size ≡ length new.servers)) q.1 (same.0 ∙ n.0 ∙ sym q.0, same.1 ∙ n.1 ∙ sym count_kept)
-          | inr q ↦ let k = numbered j a q.1 in (k.0, k.1 ∙ sym count_kept)
+        | inl q ↦ subst (λ (b : Held C). (b.me ≡ j) × (b.size ≡ length new.servers)) q.1 (same.0 ∙ n.0 ∙ sym q.0, same.1 ∙ n.1 ∙ sym count_kept)
+        | inr q ↦ let k = numbered j a q.1 in (k.0, k.1 ∙ sym count_kept)
       ]
 
-  pub goes_by : IsEvent m e → new.trace ≡ old.trace ++ e ∷ [] → (move : (w : World C) → Stands m old w → Moved w) →
-      ((w : World C) (st : Stands m old w) → let a = move w st in new.chain ≡ max old.chain (committed a.turn.server)) → Goes m old e new
+  pub goes_by : IsEvent m e → new.trace ≡ old.trace ++ e ∷ [] → (move : (w : World C) → Stands m old w → (turn : Turn C) × Moved w turn) →
+      ((w : World C) (st : Stands m old w) → let q = move w st in new.chain ≡ max old.chain (committed q.0.server)) → Goes m old e new
   goes_by is trace move chain = record {
-      trace = trace;
-      worlds = λ w st. let a = move w st in (a.next, a.happens, a.stands);
-      runs = λ past w r.
-          let a = move w r.stands in
-          let run : Run m (length old.servers) (old.trace ++ e ∷ []) (past ++ w ∷ []) a.next = more e a.next r.run is a.happens in
-          let height : IsGreatestCommit (past ++ w ∷ []) a.next (max old.chain (committed a.turn.server)) = height_next past w a.next i a.turn.server old.chain a.server r.chain a.at a.list in
-          (a.next, a.happens, record {
-              run = subst (λ n. Run m n new.trace (past ++ w ∷ []) a.next) (sym count_kept) (subst (λ es. Run m (length old.servers) es (past ++ w ∷ []) a.next) (sym trace) run);
-              stands = a.stands;
-              chain = subst (λ c. IsGreatestCommit (past ++ w ∷ []) a.next c) (sym (chain w r.stands)) height;
-          });
+    size = count_kept;
+    trace = trace;
+    worlds = λ w st. let q = move w st in let a = q.1 in (a.next, a.happens, a.stands);
+    runs = λ past w r.
+        let q = move w r.stands in
+        let a = q.1 in
+        let run : Run m (length old.servers) (old.trace ++ e ∷ []) (past ++ w ∷ []) a.next = more e a.next r.run is a.happens in
+        let height : IsGreatestCommit (past ++ w ∷ []) a.next (max old.chain (committed q.0.server)) = height_next past w a.next i q.0.server old.chain a.server r.chain a.at a.list in (
+          a.next,
+          a.happens,
+          record {
+            run = subst (λ n. Run m n new.trace (past ++ w ∷ []) a.next) (sym count_kept) (subst (λ es. Run m (length old.servers) es (past ++ w ∷ []) a.next) (sym trace) run);
+            stands = a.stands;
+            chain = subst (λ c. IsGreatestCommit (past ++ w ∷ []) a.next c) (sym (chain w r.stands)) height;
+          },
+        );
   }
 
 -- what a value that was reached goes to is reached

@@ -1,8 +1,9 @@
 -- What a step of a world does, and what becomes of a list of events.
-use Rattle.std.specs.Prelude.{◌≡◌, ℕ, ◌⊎◌, Some, Ok, Err, List, [], ◌∷◌, ◌++◌}
+use Rattle.std.specs.Prelude.{◌≡◌, ◌≢◌, ℕ, ◌⊎◌, Some, Ok, Err, List, [], ◌∷◌, ◌++◌, length}
 use Rattle.rows.specs.declared.refusal.Refusal.{Refusal}
+use Rattle.rows.specs.declared.refusal.Refusal.TheVariants as refusals
 use Rattle.machine.specs.Meaning.{Meaning}
-use Rattle.raft_model.specs.Worlds.{World, Event, Crashes, Outcome, Trace, OneLeader, happens, actor, IsRestart}
+use Rattle.raft_model.specs.Worlds.{World, Event, first, Crashes, Outcome, Trace, OneLeader, happens, actor, IsRestart}
 use Rattle.world.specs.declared.world.Done.{Done}
 use Rattle.world.specs.declared.world.Done.TheVariants.{Taken, Crashed}
 use Rattle.world.specs.Seen.{Seen, Stands, RunsTo}
@@ -10,6 +11,7 @@ use Rattle.world.specs.Seen.{Seen, Stands, RunsTo}
 -- The event happens in each world that `old` stands for, and makes it one that `new` stands for. Each run of the old value
 -- goes on to one of the new value, by this event.
 pub record Goes {S C : Type 0} (m : Meaning S C) (old : Seen C) (e : Event C) (new : Seen C) : Type 0 where
+  pub size : length new.servers ≡ length old.servers
   pub trace : new.trace ≡ old.trace ++ e ∷ []
   pub worlds : (w : World C) → Stands m old w → (next : World C) × (happens m w e ≡ Ok next) × Stands m new next
   pub runs : (past : List (World C)) (w : World C) → RunsTo m old past w → (next : World C) × (happens m w e ≡ Ok next) × RunsTo m new (past ++ w ∷ []) next
@@ -34,8 +36,21 @@ Went m old e Crashed new = Falls m old e new ⊎ StaysDown m old e new
 abbrev pub Refuses : {S C : Type 0} → Meaning S C → Seen C → Event C → Refusal → Type 0
 Refuses {S} {C} m seen e r = (past : List (World C)) (w : World C) → RunsTo m seen past w → happens m w e ≡ Err r
 
+-- the group before its first event: n servers that never did anything
+pub record IsNew {S C : Type 0} (m : Meaning S C) (n : ℕ) (seen : Seen C) : Type 0 where
+  pub size : (n ≡ 3) ⊎ (n ≡ 5)
+  pub count : length seen.servers ≡ n
+  pub trace : seen.trace ≡ []
+  pub chain : seen.chain ≡ 0
+  pub stands : Stands m seen (first n)
+
+-- why there is no group: the size, or want of memory
+abbrev pub IsNoGroup : ℕ → Refusal → Type 0
+IsNoGroup n r = (r ≡ refusals.NoMemory) ⊎ ((r ≡ refusals.OutOfRange) × (n ≢ 3) × (n ≢ 5))
+
 -- the value's trace is that of the events handed in: each was kept, was replaced by its actor's crash, or was left out
 pub record Played {S C : Type 0} (m : Meaning S C) (n : ℕ) (handed : List (Event C)) (seen : Seen C) : Type 0 where
+  pub count : length seen.servers ≡ n
   pub outcomes : List Outcome
   pub past : List (World C)
   pub world : World C

@@ -1,4 +1,6 @@
-ghost use Rattle.std.specs.Prelude.{◌≡◌, true};
+ghost use Rattle.std.specs.Prelude.{◌≡◌};
+ghost use Rattle.world.specs.Events.{event_of};
+ghost use Rattle.world.specs.Inputs.{is_restart};
 
 use machine::Machine;
 use rows::ServerId;
@@ -32,6 +34,19 @@ impl<M: Machine> RaftEvent<M> {
             RaftEvent::Timeout(server) => RaftEvent::Timeout(*server),
             RaftEvent::Crash(server) => RaftEvent::Crash(*server),
             RaftEvent::Restart(server) => RaftEvent::Restart(*server),
+            RaftEvent::Never(never, _) => match *never {},
+        }
+    }
+
+    /// Whether a server starts again.
+    pub(crate) fn is_restart(&self) -> bool
+        ensures { result ≡ is_restart (event_of self.now) }
+    {
+        match self {
+            RaftEvent::Restart(_) => true,
+            RaftEvent::Deliver(_) => false,
+            RaftEvent::Timeout(_) => false,
+            RaftEvent::Crash(_) => false,
             RaftEvent::Never(never, _) => match *never {},
         }
     }

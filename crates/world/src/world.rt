@@ -1,15 +1,24 @@
-ghost use Rattle.std.specs.Prelude.{◌≡◌, ◌++◌, ◌∷◌, []};
+ghost use Rattle.std.specs.Prelude.{◌≡◌, ◌≢◌, ◌⊎◌, ◌++◌, ◌∷◌, ◌+◌, ◌<◌, ◌≤◌, [], max, length, slice_get, vec_len, vec_capacity, true, Err, List, MatchBool, IfOk, OnErr, IfErr};
 ghost use Rattle.std.specs.Option.{option_copied};
-ghost use Rattle.std.specs.Prelude.{slice_get};
-ghost use Rattle.world.specs.Events.{events_of};
+ghost use Rattle.rows.specs.declared.refusal.Refusal.TheVariants as refusals;
+ghost use Rattle.raft_model.specs.Servers.{Server, newcomer};
+ghost use Rattle.raft_model.specs.Worlds.{World};
+ghost use Rattle.raft_core.specs.Steps.{Represents, is_member};
+ghost use Rattle.raft_safety.specs.Claims.{IsGreatestCommit};
+ghost use Rattle.world.specs.Events.{event_of, events_of};
+ghost use Rattle.world.specs.Inputs.{ActsIn, committed};
+ghost use Rattle.world.specs.Seen.{RunsTo};
+ghost use Rattle.world.specs.Keeps.{Went, Refuses, IsNew, IsNoGroup, Played, OneLeaderEver};
 
 use crate::event::RaftEvent;
+use crate::input::{actor, input};
 use machine::Machine;
-use raft_core::Raft;
-use rows::{Index, ServerId};
+use raft_core::{Raft, Stable};
+use raft_safety::{one_leader_a_term, within_limits};
+use rows::{Index, NoMemory, Refusal, ServerId};
 use std::alloc::Global;
 use std::marker::Model;
-use wire::Frame;
+use wire::{Frame, Outbox, frames_are_whole};
 
 /// What became of an event that was not refused.
 #[derive(Clone, Copy, Debug, PartialEq, Eq)]
@@ -42,7 +51,184 @@ impl<M: Machine> Model for RaftWorld<M> {
     ghost invariant = { λ a. Reached M.meaning (record { servers = a.servers.items; sent = a.sent.items; trace = events_of a.trace.items; chain = a.chain }) };
 }
 
+/// The greater of the chain so far and what a server has applied.
+fn longer<M: Machine>(chain: Index, raft: &Raft<M>) -> Index
+    ensures { (s : Server M.Command) → Represents M.meaning raft.now s → result ≡ max chain (committed s) }
+{
+    match raft.applied() {
+        Some(applied) if applied.get() > chain.get() => applied,
+        _ => chain,
+    }
+}
+
+/// Moves frames to the end of those that were sent, where room was made for them.
+fn keep_frames(sent: &mut Vec<Frame>, outbox: Outbox)
+    requires { vec_len sent.old + length outbox ≤ vec_capacity sent.old }
+    ensures { sent.new.items ≡ sent.old.items ++ outbox }
+{
+    let mut frames = outbox.into_frames();
+    let _ = sent.append(&mut frames);
+}
+
+/// The server at this place, before its first input.
+fn newcomer<M: Machine>(alloc: Global, place: usize, n: usize) -> Result<Raft<M>, NoMemory>
+    requires { is_member n place ≡ true }
+    ensures number { IfOk result (λ r. (r.me ≡ place) × (r.size ≡ n)) }
+    ensures server { IfOk result (λ r. Represents M.meaning r newcomer) }
+{
+    let Some(me) = ServerId::from_number(place as u8 + 1) else {
+        return Err(NoMemory);
+    };
+    match Raft::restart(alloc, me, n, Stable::new(alloc)) {
+        Ok(raft) => Ok(raft),
+        Err(_) => Err(NoMemory),
+    }
+}
+
+fn lacks_memory(done: &Result<Done, Refusal>) -> bool
+    ensures { MatchBool result (done.now ≡ Err refusals.NoMemory) (done.now ≢ Err refusals.NoMemory) }
+{
+    match done {
+        Ok(_) => false,
+        Err(Refusal::NoMemory) => true,
+        Err(_) => false,
+    }
+}
+
 impl<M: Machine> RaftWorld<M> {
+    /// A server takes an event.
+    fn act(&mut self, server: ServerId, event: RaftEvent<M>) -> Result<Done, Refusal>
+        requires actor { ActsIn M.meaning self.old.sent (event_of event) server }
+        requires member { server < length self.old.servers }
+        ensures ok { IfOk result (λ done. Went M.meaning self.old (event_of event) done self.new) }
+        ensures err { OnErr result (self.new ≡ self.old) }
+        ensures cause { IfErr result (λ refusal. refusal ≢ refusals.NoMemory → Refuses M.meaning self.old (event_of event) refusal) }
+    {
+        self.trace.reserve(1)?;
+        self.sent.reserve(self.servers.len())?;
+        let Some(input) = input(&self.sent, &event) else {
+            return Err(Refusal::OutOfRange);
+        };
+        let mut outbox = Outbox::new(self.alloc);
+        let raft = &mut self.servers[server.place()];
+        match raft.step(self.alloc, input, &mut outbox) {
+            Ok(()) => {
+                self.chain = longer(self.chain, raft);
+                self.trace.push_reserved(event);
+                keep_frames(&mut self.sent, outbox);
+                Ok(Done::Taken)
+            }
+            Err(refusal) => match refusal {
+                Refusal::NoMemory => {
+                    if event.is_restart() {
+                        return Ok(Done::Crashed);
+                    }
+                    self.trace.push_reserved(RaftEvent::Crash(server));
+                    Ok(Done::Crashed)
+                }
+                other => {
+                    // The refusal is not for the frame's bytes: they were sent, by a server of the group.
+                    frames_are_whole::<M>();
+                    within_limits::<M>();
+                    Err(other)
+                }
+            },
+        }
+    }
+
+    /// An event happens, if its actor is there and up.
+    fn take(&mut self, event: RaftEvent<M>) -> Result<Done, Refusal>
+        ensures ok { IfOk result (λ done. Went M.meaning self.old (event_of event) done self.new) }
+        ensures err { OnErr result (self.new ≡ self.old) }
+        ensures cause { IfErr result (λ refusal. refusal ≢ refusals.NoMemory → Refuses M.meaning self.old (event_of event) refusal) }
+    {
+        let Some(server) = actor(&self.sent, &event) else {
+            return Err(Refusal::OutOfRange);
+        };
+        let Some(raft) = self.servers.get(server.place()) else {
+            return Err(Refusal::OutOfRange);
+        };
+        if raft.role().is_none() && !event.is_restart() {
+            return Err(Refusal::Down);
+        }
+        self.act(server, event)
+    }
+
+    /// One event happens.
+    ///
+    /// It is refused with `OutOfRange` where no such message was sent, where the group has no such server, and where a server
+    /// that is up is to restart; with `Down` where its actor is down; with `Exhausted` where a server of the greatest term or
+    /// index is to stand for election. With `NoMemory` the world itself lacks memory. A refusal changes nothing.
+    pub fn step(&mut self, event: RaftEvent<M>) -> Result<Done, Refusal>
+        // It is a step of the definitions; or the event's actor crashed for want of memory, in a restart with nothing changed.
+        ensures ok { IfOk result (λ done. Went M.meaning self.old (event_of event) done self.new) }
+        ensures err { OnErr result (self.new ≡ self.old) }
+        // The definitions refuse it too, for the same reason.
+        ensures cause { IfErr result (λ refusal. refusal ≢ refusals.NoMemory → Refuses M.meaning self.old (event_of event) refusal) }
+        ensures one_leader { OneLeaderEver M.meaning self.new }
+    {
+        let done = self.take(event);
+        self.one_leader();
+        done
+    }
+
+    /// A group of `n` servers before its first event: followers in term 0 with empty logs. It is refused with `OutOfRange`
+    /// where `n` is not 3 or 5, and with `NoMemory`.
+    pub fn new(alloc: Global, n: usize) -> Result<RaftWorld<M>, Refusal>
+        ensures ok { IfOk result (λ w. IsNew M.meaning n w) }
+        ensures refused { IfErr result (λ refusal. IsNoGroup n refusal) }
+    {
+        if n != 3 && n != 5 {
+            return Err(Refusal::OutOfRange);
+        }
+        let mut servers = Vec::new(alloc);
+        for place in 0..n {
+            servers.push(newcomer(alloc, place, n)?)?;
+        }
+        Ok(RaftWorld {
+            alloc,
+            servers,
+            sent: Vec::new(alloc),
+            trace: Vec::new(alloc),
+            chain: Index::ZERO,
+        })
+    }
+
+    /// The group after these events, from its beginning; those that are refused are passed over. It is refused with
+    /// `OutOfRange` where `n` is not 3 or 5, and with `NoMemory` where the world lacks memory.
+    pub fn run(alloc: Global, n: usize, events: &[RaftEvent<M>]) -> Result<RaftWorld<M>, Refusal>
+        ensures played { IfOk result (λ w. Played M.meaning n (events_of events.now) w) }
+        ensures refused { IfErr result (λ refusal. IsNoGroup n refusal) }
+        ensures one_leader { IfOk result (λ w. OneLeaderEver M.meaning w) }
+    {
+        let mut world = Self::new(alloc, n)?;
+        for event in events {
+            let done = world.step(event.again());
+            if lacks_memory(&done) {
+                return Err(Refusal::NoMemory);
+            }
+        }
+        world.one_leader();
+        Ok(world)
+    }
+
+    /// No two servers ever led one term, at no two moments of the run that led here. (Raft, Figure 3, election safety.)
+    pub fn one_leader(&self)
+        ensures { OneLeaderEver M.meaning self.now }
+    {
+        // The type's own promise is known where a field is looked at.
+        let _ = &self.chain;
+        one_leader_a_term::<M>();
+    }
+
+    /// The greatest number of entries that any server has applied so far; 0 while nothing is applied.
+    pub fn chain(&self) -> Index
+        ensures value { result ≡ self.now.chain }
+        ensures greatest { (past : List (World M.Command)) (w : World M.Command) → RunsTo M.meaning self.now past w → IsGreatestCommit past w result }
+    {
+        self.chain
+    }
+
     /// The events that happened, in order, with a crash in place of each in which an actor found no memory.
     pub fn trace(&self) -> &[RaftEvent<M>]
         ensures { events_of result.now ≡ self.now.trace }
