@@ -1,6 +1,6 @@
 -- What a server did with an event, as what the world did.
 use Rattle.std.proofs.Common.{◌≡◌, ◌≢◌, ℕ, zero, suc, ◌<◌, ◌≤◌, max, true, false, Some, Ok, Err, List, [], ◌∷◌, ◌++◌, length, append-nil, refl, sym, ap, ◌∙◌, subst, arith, slice_get, slice_set, get_or}
-use Rattle.std.proofs.lemmas.Option.{slice_get_read}
+use Rattle.std.proofs.lemmas.Option.{same_Some, slice_get_read}
 use Rattle.rows.specs.declared.refusal.Refusal.{Refusal}
 use Rattle.rows.specs.declared.refusal.Refusal.TheVariants as refusals
 use Rattle.machine.specs.Meaning.{Meaning}
@@ -18,7 +18,7 @@ use Rattle.raft_core.specs.declared.input.Input.{Input}
 use Rattle.raft_core.specs.declared.input.Input.TheVariants as inputs
 use Rattle.raft_safety.specs.Claims.{Within}
 use Rattle.raft_safety.proofs.Places.{get-within}
-use Rattle.world.specs.Inputs.{Reads, ActsIn, Came, Brings, Feeds, is_restart, restarts, committed}
+use Rattle.world.specs.Inputs.{Reads, ActsIn, Came, Brings, Feeds, MayLack, is_restart, restarts, committed}
 use Rattle.world.specs.Seen.{Seen, Stands, RunsTo, Numbered, Reached}
 use Rattle.world.specs.Keeps.{Goes, StaysDown, Refuses}
 use Rattle.world.proofs.Zips.{zip_at, zip_length}
@@ -143,6 +143,14 @@ module _ {S C : Type 0} (m : Meaning S C) (old now : Seen C) (e : Event C) (i : 
 
   pub reached_as_it_was : (new : Seen C) → new ≡ old → Reached m new
   reached_as_it_was new same = subst (λ x. Reached m x) (sym same) a.reached
+
+  -- a crash for want of memory is that of an event that may want it
+  pub crash_lacks : (after : List Frame) → Lacks m h input h2 before after → (w : World C) (s : Server C) → Stands m now w → slice_get w.servers i ≡ Some s → MayLack s e
+  crash_lacks after lacks w s given at =
+      let c = scene w (subst (λ x. Stands m x w) (sym a.view) given) in
+      let f = a.feeds in
+      let same : c.server ≡ s = same_Some c.server s (sym c.at ∙ at) in
+      subst (λ x. MayLack x e) same (f.lacks c.server (lacks.may c.server c.represents))
 
   left_in : (after : List Frame) → Lacks m h input h2 before after → is_restart e ≡ true → (w : World C) (st : Stands m old w) → let c = scene w st in (is_up c.server.mode ≡ false) × (h2 ≡ h)
   left_in after lacks so w st =

@@ -5,10 +5,11 @@ use Rattle.rows.specs.declared.refusal.Refusal.{Refusal}
 use Rattle.machine.specs.Meaning.{Meaning}
 use Rattle.wire.specs.Frames.{Frame}
 use Rattle.raft_model.specs.Messages.{Message}
-use Rattle.raft_model.specs.Servers.{Server, is_up}
+use Rattle.raft_model.specs.Servers.{Server, is_up, is_leader}
 use Rattle.raft_model.specs.Steps as model
 use Rattle.raft_model.specs.Worlds.{World, Event, Deliver, TimesOut, Beats, Proposes, Compacts, Crashes, Restarts, happens, takes, actor}
 use Rattle.raft_core.specs.Frames.{IsFrameOf, Carries}
+use Rattle.raft_core.specs.Steps as core
 use Rattle.raft_core.specs.declared.input.Input.{Input}
 use Rattle.raft_core.specs.declared.input.Input.TheVariants as inputs
 
@@ -33,6 +34,16 @@ restarts (inputs.Frame bytes) = false
 restarts inputs.Timeout = false
 restarts inputs.Crash = false
 restarts inputs.Restart = true
+
+-- whether a server may want memory for an event: not for a crash, nor for a beat where it does not lead
+abbrev pub MayLack : {C : Type 0} → Server C → Event C → Type 0
+MayLack s (Deliver k) = is_up s.mode ≡ true
+MayLack s (TimesOut i) = is_up s.mode ≡ true
+MayLack s (Beats i) = is_leader s.mode ≡ true
+MayLack s (Proposes i command) = is_up s.mode ≡ true
+MayLack s (Compacts i) = is_up s.mode ≡ true
+MayLack s (Crashes i) = ⊥
+MayLack s (Restarts i) = is_up s.mode ≡ false
 
 -- server i takes the event
 abbrev pub ActsIn : {S C : Type 0} → Meaning S C → List Frame → Event C → ℕ → Type 0
@@ -62,6 +73,7 @@ pub record Brings {S C : Type 0} (m : Meaning S C) (w : World C) (e : Event C) (
 -- for the server that takes it the event is this input
 pub record Feeds {S C : Type 0} (m : Meaning S C) (sent : List Frame) (e : Event C) (input : Input) : Type 0 where
   pub kind : restarts input ≡ is_restart e
+  pub lacks : (s : Server C) → core.MayLack s.mode input → MayLack s e
   pub brings : (w : World C) (i : ℕ) → AllZip (Carries m) sent w.sent → actor m w e ≡ Some i → Brings m w e i input
 
 -- what a server has committed, while it is up

@@ -1,11 +1,13 @@
 -- What a step of a world does, and what becomes of a list of events.
-use Rattle.std.specs.Prelude.{◌≡◌, ◌≢◌, ℕ, ◌⊎◌, Some, Ok, Err, List, [], ◌∷◌, ◌++◌, length}
+use Rattle.std.specs.Prelude.{◌≡◌, ◌≢◌, ℕ, ◌⊎◌, Some, Ok, Err, List, [], ◌∷◌, ◌++◌, length, slice_get}
 use Rattle.rows.specs.declared.refusal.Refusal.{Refusal}
 use Rattle.rows.specs.declared.refusal.Refusal.TheVariants as refusals
 use Rattle.machine.specs.Meaning.{Meaning}
+use Rattle.raft_model.specs.Servers.{Server}
 use Rattle.raft_model.specs.Worlds.{World, Event, first, Crashes, Outcome, Trace, OneLeader, happens, actor, IsRestart}
 use Rattle.world.specs.declared.world.Done.{Done}
 use Rattle.world.specs.declared.world.Done.TheVariants.{Taken, Crashed}
+use Rattle.world.specs.Inputs.{MayLack}
 use Rattle.world.specs.Seen.{Seen, Stands, RunsTo}
 
 -- The event happens in each world that `old` stands for, and makes it one that `new` stands for. Each run of the old value
@@ -20,6 +22,7 @@ pub record Goes {S C : Type 0} (m : Meaning S C) (old : Seen C) (e : Event C) (n
 pub record Falls {S C : Type 0} (m : Meaning S C) (old : Seen C) (e : Event C) (new : Seen C) : Type 0 where
   pub who : ℕ
   pub actor : (w : World C) → Stands m old w → actor m w e ≡ Some who
+  pub lacking : (w : World C) (s : Server C) → Stands m old w → slice_get w.servers who ≡ Some s → MayLack s e
   pub goes : Goes m old (Crashes who) new
 
 -- a restart that could be, of a server that finds no memory: it stays down
@@ -35,6 +38,10 @@ Went m old e Crashed new = Falls m old e new ⊎ StaysDown m old e new
 -- the model refuses the event in the same way, in each run of the value
 abbrev pub Refuses : {S C : Type 0} → Meaning S C → Seen C → Event C → Refusal → Type 0
 Refuses {S} {C} m seen e r = (past : List (World C)) (w : World C) → RunsTo m seen past w → happens m w e ≡ Err r
+
+-- the event's actor is up, or is to restart: the model does not refuse the event for its being down
+abbrev pub IsAwake : {S C : Type 0} → Meaning S C → Seen C → Event C → Type 0
+IsAwake {S} {C} m seen e = (past : List (World C)) (w : World C) → RunsTo m seen past w → happens m w e ≢ Err refusals.Down
 
 -- the group before its first event: n servers that never did anything
 pub record IsNew {S C : Type 0} (m : Meaning S C) (n : ℕ) (seen : Seen C) : Type 0 where

@@ -8,7 +8,7 @@ ghost use Rattle.raft_safety.specs.Claims.{IsGreatestCommit};
 ghost use Rattle.world.specs.Events.{event_of, events_of};
 ghost use Rattle.world.specs.Inputs.{ActsIn, committed};
 ghost use Rattle.world.specs.Seen.{RunsTo};
-ghost use Rattle.world.specs.Keeps.{Went, Refuses, IsNew, IsNoGroup, Played, OneLeaderEver};
+ghost use Rattle.world.specs.Keeps.{Went, Refuses, IsAwake, IsNew, IsNoGroup, Played, OneLeaderEver};
 
 use crate::event::RaftEvent;
 use crate::input::{actor, input};
@@ -100,9 +100,11 @@ impl<M: Machine> RaftWorld<M> {
     fn act(&mut self, server: ServerId, event: RaftEvent<M>) -> Result<Done, Refusal>
         requires actor { ActsIn M.meaning self.old.sent (event_of event) server }
         requires member { server < length self.old.servers }
+        requires awake { IsAwake M.meaning self.old (event_of event) }
         ensures ok { IfOk result (λ done. Went M.meaning self.old (event_of event) done self.new) }
         ensures err { OnErr result (self.new ≡ self.old) }
         ensures cause { IfErr result (λ refusal. refusal ≢ refusals.NoMemory → Refuses M.meaning self.old (event_of event) refusal) }
+        ensures memory { IfErr result (λ refusal. refusal ≡ refusals.NoMemory → IsAwake M.meaning self.old (event_of event)) }
     {
         self.trace.reserve(1)?;
         self.sent.reserve(self.servers.len())?;
@@ -141,6 +143,7 @@ impl<M: Machine> RaftWorld<M> {
         ensures ok { IfOk result (λ done. Went M.meaning self.old (event_of event) done self.new) }
         ensures err { OnErr result (self.new ≡ self.old) }
         ensures cause { IfErr result (λ refusal. refusal ≢ refusals.NoMemory → Refuses M.meaning self.old (event_of event) refusal) }
+        ensures memory { IfErr result (λ refusal. refusal ≡ refusals.NoMemory → IsAwake M.meaning self.old (event_of event)) }
     {
         let Some(server) = actor(&self.sent, &event) else {
             return Err(Refusal::OutOfRange);
@@ -165,6 +168,8 @@ impl<M: Machine> RaftWorld<M> {
         ensures err { OnErr result (self.new ≡ self.old) }
         // The definitions refuse it too, for the same reason.
         ensures cause { IfErr result (λ refusal. refusal ≢ refusals.NoMemory → Refuses M.meaning self.old (event_of event) refusal) }
+        // Want of memory is not answered for an actor that is down.
+        ensures memory { IfErr result (λ refusal. refusal ≡ refusals.NoMemory → IsAwake M.meaning self.old (event_of event)) }
         ensures one_leader { OneLeaderEver M.meaning self.new }
     {
         let done = self.take(event);

@@ -4,7 +4,7 @@ use Rattle.world.specs.Events.{event_of, events_of}
 use Rattle.world.specs.declared.event.RaftEvent.TheVariants as events
 use Rattle.world.specs.Seen.{Seen}
 use Rattle.world.proofs.Events.{is_event, one_event_more}
-use Rattle.world.proofs.Acts.{act_of, few, taken_goes, crash_goes, restart_same, stays_down, refused_same, refused_so, as_it_was, reached_as_it_was}
+use Rattle.world.proofs.Acts.{act_of, few, taken_goes, crash_goes, crash_lacks, restart_same, stays_down, refused_same, refused_so, as_it_was, reached_as_it_was}
 use Rattle.world.proofs.world.RaftWorld.act.Goals as goal
 
 pub keep_frames-requires : goal.keep_frames-requires
@@ -66,7 +66,7 @@ returns-in-NoMemory-clause-ok g c =
     (record { servers = slice_set c.self.inside.servers.items c.place.result c.step.new.self; sent = c.reserve-2.new.self.items; trace = events_of c.push_reserved-in-NoMemory.new.self.items; chain = c.self.inside.chain })
     c.step.new.outbox lacks (sym c.is_restart.ensures ∙ c.if-is_restart.false) c.step.ensures.same (ap (λ k. slice_set c.self.inside.servers.items k c.step.new.self) c.place.ensures.value)
     c.in_ok-reserve-2.ensures.items (one_event_more c.reserve.new.self.items c.push_reserved-in-NoMemory.new.self.items c.self.inside.trace.items (events.Crash c.args.server) c.in_ok-reserve.ensures.items c.push_reserved-in-NoMemory.ensures.items) refl in
-    inl (record { who = c.args.server; actor = λ w st. c.requires.actor w st.sent; goes = h.goes })
+    inl (record { who = c.args.server; actor = λ w st. c.requires.actor w st.sent; lacking = crash_lacks m old c.args.self.now (event_of c.args.event) c.args.server c.index_mut-raft.result.now c.step.new.self c.in-Some.input c.new-outbox.result a c.step.new.outbox lacks; goes = h.goes })
 
 pub invariant_of-self-then-is_restart : goal.invariant_of-self-then-is_restart
 invariant_of-self-then-is_restart g c =
@@ -119,4 +119,5 @@ returns g c =
       err = same ∙ c.self.view_is;
       cause = λ _. refused_so m old c.args.self.now (event_of c.args.event) c.args.server c.index_mut-raft.result.now c.step.new.self c.in-Some.input c.new-outbox.result a
           c.frames_are_whole.ensures.again (λ n events past w r. c.within_limits.ensures.messages n events past w r) c.in-Err.refusal c.step.new.outbox other c.in-Err.ensures.refused;
+      memory = λ lack. absurd (other lack);
     }
