@@ -9,3 +9,6 @@ pub mod Acts
 pub mod Events
 pub mod Begins
 pub mod Playing
+pub mod Runs
+pub mod Histories
+pub mod Replays

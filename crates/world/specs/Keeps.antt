@@ -4,11 +4,12 @@ use Rattle.rows.specs.declared.refusal.Refusal.{Refusal}
 use Rattle.rows.specs.declared.refusal.Refusal.TheVariants as refusals
 use Rattle.machine.specs.Meaning.{Meaning}
 use Rattle.raft_model.specs.Servers.{Server}
-use Rattle.raft_model.specs.Worlds.{World, Event, first, Crashes, Outcome, Trace, OneLeader, happens, actor, IsRestart}
+use Rattle.raft_model.specs.Worlds.{World, Event, first, Crashes, Outcome, Kept, LeftOut, Trace, happens, actor, IsRestart}
+use Rattle.raft_model.specs.Worlds.{Crashed as OutcomeCrashed}
 use Rattle.world.specs.declared.world.Done.{Done}
 use Rattle.world.specs.declared.world.Done.TheVariants.{Taken, Crashed}
 use Rattle.world.specs.Inputs.{MayLack}
-use Rattle.world.specs.Seen.{Seen, Stands, RunsTo}
+use Rattle.world.specs.Seen.{Seen, Stands, RunsTo, Reached}
 
 -- The event happens in each world that `old` stands for, and makes it one that `new` stands for. Each run of the old value
 -- goes on to one of the new value, by this event.
@@ -64,9 +65,29 @@ pub record Played {S C : Type 0} (m : Meaning S C) (n : ℕ) (handed : List (Eve
   pub trace : Trace m n handed outcomes seen.trace past world
   pub runs : RunsTo m seen past world
 
--- The value has a run, and in each of its runs no two servers ever led one term.
-pub record OneLeaderEver {S C : Type 0} (m : Meaning S C) (seen : Seen C) : Type 0 where
+-- memory was wanting for the event of this outcome
+abbrev pub Lacked : Outcome → Type 0
+Lacked Kept = ⊥
+Lacked OutcomeCrashed = Unit {0}
+Lacked (LeftOut r) = r ≡ refusals.NoMemory
+
+-- memory was wanting for one of the events handed in
+pub record PlayedShort {S C : Type 0} (m : Meaning S C) (n : ℕ) (handed : List (Event C)) (seen : Seen C) : Type 0 where
+  pub outcomes : List Outcome
   pub past : List (World C)
   pub world : World C
-  pub runs : RunsTo m seen past world
-  pub ever : (past : List (World C)) (w : World C) → RunsTo m seen past w → OneLeader past w
+  pub trace : Trace m n handed outcomes seen.trace past world
+  pub place : ℕ
+  pub outcome : Outcome
+  pub at : slice_get outcomes place ≡ Some outcome
+  pub lacked : Lacked outcome
+
+-- two values of one run: it leads to the same servers, the same messages and the same chain
+pub record SameRun {S C : Type 0} (m : Meaning S C) (one other : Seen C) : Type 0 where
+  pub trace : other.trace ≡ one.trace
+  pub chain : other.chain ≡ one.chain
+  pub runs : (past : List (World C)) (w : World C) → RunsTo m one past w → RunsTo m other past w
+
+-- A value of this trace and this many servers comes again from its trace, unless memory was wanting for one of the events.
+abbrev pub Replays : {S C : Type 0} → Meaning S C → ℕ → List (Event C) → Seen C → Type 0
+Replays {S} {C} m n handed seen = (old : Seen C) → Reached m old → length old.servers ≡ n → old.trace ≡ handed → SameRun m old seen ⊎ PlayedShort m n handed seen

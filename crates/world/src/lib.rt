@@ -3,6 +3,7 @@
 
 mod event;
 mod input;
+mod machines;
 mod world;
 
 pub use event::RaftEvent;

@@ -8,13 +8,14 @@ ghost use Rattle.raft_safety.specs.Claims.{IsGreatestCommit};
 ghost use Rattle.world.specs.Events.{event_of, events_of};
 ghost use Rattle.world.specs.Inputs.{ActsIn, committed};
 ghost use Rattle.world.specs.Seen.{RunsTo};
-ghost use Rattle.world.specs.Keeps.{Went, Refuses, IsAwake, IsNew, IsNoGroup, Played, OneLeaderEver};
+ghost use Rattle.world.specs.Keeps.{Went, Refuses, IsAwake, IsNew, IsNoGroup, Played, Replays};
+ghost use Rattle.world.specs.Claims.{OneLeaderEver, LogsMatchEver, OneListEver, StatesSafeEver};
 
 use crate::event::RaftEvent;
 use crate::input::{actor, input};
 use machine::Machine;
 use raft_core::{Raft, Stable};
-use raft_safety::{one_leader_a_term, within_limits};
+use raft_safety::{log_matching, one_leader_a_term, one_list, states_are_safe, within_limits};
 use rows::{Index, NoMemory, Refusal, ServerId};
 use std::alloc::Global;
 use std::marker::Model;
@@ -170,10 +171,17 @@ impl<M: Machine> RaftWorld<M> {
         ensures cause { IfErr result (λ refusal. refusal ≢ refusals.NoMemory → Refuses M.meaning self.old (event_of event) refusal) }
         // Want of memory is not answered for an actor that is down.
         ensures memory { IfErr result (λ refusal. refusal ≡ refusals.NoMemory → IsAwake M.meaning self.old (event_of event)) }
+        // And these hold whatever happened so far, whether or not this event was refused.
         ensures one_leader { OneLeaderEver M.meaning self.new }
+        ensures log_matching { LogsMatchEver M.meaning self.new }
+        ensures one_list { OneListEver M.meaning self.new }
+        ensures safe_states { StatesSafeEver M.meaning self.new }
     {
         let done = self.take(event);
         self.one_leader();
+        self.log_matching();
+        self.one_list();
+        self.safe_states();
         done
     }
 
@@ -203,8 +211,13 @@ impl<M: Machine> RaftWorld<M> {
     /// `OutOfRange` where `n` is not 3 or 5, and with `NoMemory` where the world lacks memory.
     pub fn run(alloc: Global, n: usize, events: &[RaftEvent<M>]) -> Result<RaftWorld<M>, Refusal>
         ensures played { IfOk result (λ w. Played M.meaning n (events_of events.now) w) }
+        // The trace of a group leads to that group again.
+        ensures replays { IfOk result (λ w. Replays M.meaning n (events_of events.now) w) }
         ensures refused { IfErr result (λ refusal. IsNoGroup n refusal) }
         ensures one_leader { IfOk result (λ w. OneLeaderEver M.meaning w) }
+        ensures log_matching { IfOk result (λ w. LogsMatchEver M.meaning w) }
+        ensures one_list { IfOk result (λ w. OneListEver M.meaning w) }
+        ensures safe_states { IfOk result (λ w. StatesSafeEver M.meaning w) }
     {
         let mut world = Self::new(alloc, n)?;
         for event in events {
@@ -214,6 +227,9 @@ impl<M: Machine> RaftWorld<M> {
             }
         }
         world.one_leader();
+        world.log_matching();
+        world.one_list();
+        world.safe_states();
         Ok(world)
     }
 
@@ -224,6 +240,33 @@ impl<M: Machine> RaftWorld<M> {
         // The type's own promise is known where a field is looked at.
         let _ = &self.chain;
         one_leader_a_term::<M>();
+    }
+
+    /// Two logs that hold an entry of one index and term, of any two servers at any two moments of the run that led here, are
+    /// the same up to it. (Raft, Figure 3, log matching.)
+    pub fn log_matching(&self)
+        ensures { LogsMatchEver M.meaning self.now }
+    {
+        let _ = &self.chain;
+        log_matching::<M>();
+    }
+
+    /// There is one list of entries, of length `chain()`, of which every server that was up had applied a first part, at every
+    /// moment of the run that led here. Whoever led a term had in its log what was applied in the terms up to it. (Raft,
+    /// Figure 3, leader completeness and state machine safety.)
+    pub fn one_list(&self)
+        ensures { OneListEver M.meaning self.now }
+    {
+        let _ = &self.chain;
+        one_list::<M>();
+    }
+
+    /// The state after each first part of that list is safe, in the sense of the machine.
+    pub fn safe_states(&self)
+        ensures { StatesSafeEver M.meaning self.now }
+    {
+        let _ = &self.chain;
+        states_are_safe::<M>();
     }
 
     /// The greatest number of entries that any server has applied so far; 0 while nothing is applied.

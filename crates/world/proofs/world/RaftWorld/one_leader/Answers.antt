@@ -1,6 +1,6 @@
 use Rattle.std.proofs.Common.{subst}
 use Rattle.world.specs.Seen.{Seen}
-use Rattle.world.specs.Keeps.{OneLeaderEver}
+use Rattle.world.specs.Claims.{OneLeaderEver}
 use Rattle.world.proofs.world.RaftWorld.one_leader.Goals as goal
 
 pub returns : goal.returns

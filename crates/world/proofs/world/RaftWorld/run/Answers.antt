@@ -1,10 +1,20 @@
-use Rattle.std.proofs.Common.{◌≡◌, ◌<◌, ◌+◌, [], ◌∷◌, ◌++◌, length, take, ap, ◌∙◌, sym, refl, subst, arith}
+use Rattle.std.proofs.Common.{◌≡◌, ◌<◌, ◌+◌, take_all, [], ◌∷◌, ◌++◌, length, take, ap, ◌∙◌, sym, refl, subst, arith}
 use Rattle.std.proofs.lemmas.List.{take_more}
 use Rattle.world.specs.Events.{event_of, events_of}
 use Rattle.world.specs.Keeps.{Played}
 use Rattle.world.proofs.Events.{is_event, one_event_more}
 use Rattle.world.proofs.Playing.{play_begins, play_next}
+use Rattle.world.proofs.Replays.{replays}
 use Rattle.world.proofs.world.RaftWorld.run.Goals as goal
+
+pub returns-clause-played : goal.returns-clause-played
+returns-clause-played g c =
+    subst (λ es. Played g.M.Machine.meaning c.args.n (events_of es) c.loop-event.world) (take_all c.loop-event.event-index c.args.events.now (omega arith)) c.loop-event.invariant
+
+pub returns-clause-replays : goal.returns-clause-replays
+returns-clause-replays g c =
+    replays g.M.Machine.meaning c.args.n (events_of c.args.events.now) c.loop-event.world
+    (subst (λ es. Played g.M.Machine.meaning c.args.n (events_of es) c.loop-event.world) (take_all c.loop-event.event-index c.args.events.now (omega arith)) c.loop-event.invariant)
 
 pub loop-event-init : goal.loop-event-init
 loop-event-init g c = play_begins g.M.Machine.meaning c.args.n _ c.in_ok-world.ensures.ok
