@@ -6,7 +6,7 @@ use Rattle.rows.specs.NameLaws.{name_by_test}
 
 pub put_in_front : (s cells : List ℕ) → cells ≡ s → is_name s ≡ true
     → (length (cells ++ drop (length s) (replicate 32 0)) ≡ 32) × (length s ≤ 32) × NameFits (take (length s) (cells ++ drop (length s) (replicate 32 0)))
-      × (drop (length s) (cells ++ drop (length s) (replicate 32 0)) ≡ replicate (32 - length s) 0)
+    × (drop (length s) (cells ++ drop (length s) (replicate 32 0)) ≡ replicate (32 - length s) 0)
 put_in_front s cells e name =
     let fits = name_by_test s name in
     let none : ℕ = 0 in

@@ -1,6 +1,6 @@
 -- Which values the types hold: the ranges of the parts of ids, rows and commands.
-use Rattle.std.specs.Prelude.{ℕ, ◌≡◌, ◌<◌, ◌≤◌, ◌^◌, List, length, map, Bool, true, not, ◌&&◌, bytes_eq, IsTrue}
-use Rattle.std.specs.List.{AllByRecursion, list_all, list_any}
+use Rattle.std.specs.Prelude.{ℕ, ◌<◌, ◌≤◌, ◌^◌, List, length}
+use Rattle.std.specs.List.{AllByRecursion}
 use Rattle.rows.specs.Names.{NameFits}
 use Rattle.rows.specs.Groups.{AreGroups}
 use Rattle.rows.specs.Batches.{BatchFits}

@@ -1,5 +1,5 @@
 -- The order of allocation ids, and lists of them in strictly rising order.
-use Rattle.std.specs.Prelude.{ℕ, ◌≤◌, ◌≡◌, Bool, true, List, [], length, IsTrue}
+use Rattle.std.specs.Prelude.{◌≤◌, ◌≡◌, Bool, true, List, [], length}
 use Rattle.std.specs.declared.cmp.Ordering.{Ordering}
 use Rattle.std.specs.Ordering.{nat_cmp, ordering_then}
 use Rattle.rows.specs.declared.allocation.AllocId.{AllocId}

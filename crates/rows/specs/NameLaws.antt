@@ -1,5 +1,5 @@
 -- What a name holds is its bytes and the zeros behind them; the test of a name is the fact.
-use Rattle.std.proofs.Common.{◌≡◌, ℕ, ◌-◌, ◌≤◌, ◌&&◌, List, ◌++◌, length, take, drop, replicate, arith, IsTrue, leb, true}
+use Rattle.std.proofs.Common.{◌≡◌, ℕ, ◌-◌, ◌≤◌, ◌&&◌, List, ◌++◌, length, take, drop, replicate, arith, leb, true}
 use Rattle.std.specs.Cmp.{first_so, second_so}
 use Rattle.std.specs.List.{list_all}
 use Rattle.std.proofs.lemmas.Bool.{leb-true}
@@ -18,7 +18,8 @@ bytes_back size bytes full le zeros =
 pub name_by_test : (s : List ℕ) → is_name s ≡ true → NameFits s
 name_by_test s name =
     let letters = list_all is_name_byte s in
-    let counts = first_so (leb 1 (length s) && leb (length s) 32) letters name in
-    (leb-true 1 (length s) (first_so (leb 1 (length s)) (leb (length s) 32) counts),
-        leb-true (length s) 32 (second_so (leb 1 (length s)) (leb (length s) 32) counts),
-        second_so (leb 1 (length s) && leb (length s) 32) letters name)
+    let counts = first_so (leb 1 (length s) && leb (length s) 32) letters name in (
+      leb-true 1 (length s) (first_so (leb 1 (length s)) (leb (length s) 32) counts),
+      leb-true (length s) 32 (second_so (leb 1 (length s)) (leb (length s) 32) counts),
+      second_so (leb 1 (length s) && leb (length s) 32) letters name,
+    )

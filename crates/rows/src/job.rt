@@ -276,7 +276,11 @@ impl Job {
         ensures err { IfErr result (λ e. (e ≡ refusals.OutOfRange) × (PriorityFits priority → AreGroups groups → ⊥)) }
     {
         match (Priority::new(priority), Groups::check(groups)) {
-            (Some(priority), Ok(groups)) => Ok(JobSpec { name, priority, groups }),
+            (Some(priority), Ok(groups)) => Ok(JobSpec {
+                name,
+                priority,
+                groups,
+            }),
             _ => Err(Refusal::OutOfRange),
         }
     }
