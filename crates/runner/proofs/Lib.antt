@@ -1,3 +1,4 @@
 pub mod Numbers
 pub mod Objects
-pub mod Steps
+pub mod Groups
+pub mod Words

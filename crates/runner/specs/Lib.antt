@@ -1,4 +1,5 @@
 pub mod Words
 pub mod Flight
 pub mod Objects
+pub mod Requests
 pub mod Steps

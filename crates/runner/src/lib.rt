@@ -6,8 +6,10 @@ pub mod fault;
 mod flight;
 pub mod program;
 pub mod reading;
+pub mod request;
 pub mod scenario;
 pub mod shelf;
 pub mod step;
+mod word;
 
 pub use program::nomadsim;

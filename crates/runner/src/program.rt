@@ -83,8 +83,8 @@ fn run_scenario<'a, F: Shelf, W: Write>(
     let steps = steps_of(alloc, &scenario)?;
     let mut play = Play::new(alloc, scenario.settings.servers)?;
     let mut status = 0;
-    for (step, line) in steps.iter().zip(scenario.steps.iter()) {
-        if let Err(refusal) = play.take(*step) {
+    for (step, line) in steps.into_iter().zip(scenario.steps.iter()) {
+        if let Err(refusal) = play.take(step) {
             print_refusal(out, refusal, line.as_str())?;
             status = 1;
         }
@@ -117,7 +117,7 @@ fn is_served(settings: &Settings) -> bool {
 fn steps_of<'a>(alloc: Global, scenario: &Scenario) -> Result<Vec<Step>, Fault<'a>> {
     let mut steps = Vec::new(alloc);
     for line in &scenario.steps {
-        let Some(step) = read_step(line.as_str()) else {
+        let Some(step) = read_step(alloc, line.as_str())? else {
             return Err(Fault::BadScenario);
         };
         if steps.push(step).is_err() {
@@ -153,6 +153,8 @@ impl Play {
             Step::Crash(server) => self.event(RaftEvent::Crash(server)),
             Step::Restart(server) => self.event(RaftEvent::Restart(server)),
             Step::Flow(count) => Ok(self.flow(count.unwrap_or(FLOW))?),
+            // The group replicates a tally, which takes no request.
+            Step::Request(..) => Err(Refusal::OutOfRange),
         }
     }
 

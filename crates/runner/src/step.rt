@@ -1,12 +1,18 @@
 //! The steps of a scenario.
-ghost use Rattle.std.specs.Prelude.{◌≡◌, ◌≢◌, ◌<◌, ◌+◌, ◌^◌, ℕ, Some, IfSome, MatchOption, decimal};
+ghost use Rattle.std.specs.Prelude.{◌≡◌, ◌≢◌, ◌<◌, ◌+◌, ◌++◌, ◌∷◌, ℕ, List, Some, IfOk, IfSome, codes, decimal};
+ghost use Rattle.runner.specs.declared.request.Request.{Request};
+ghost use Rattle.runner.specs.declared.step.Step.{Step};
+ghost use Rattle.runner.specs.declared.step.Step.TheVariants as steps;
+ghost use Rattle.runner.specs.Requests.{RequestFits, request_text};
 ghost use Rattle.runner.specs.Steps.{IsLine};
 
-use itoa::Buffer;
-use rows::ServerId;
+use crate::request::{Request, read_request};
+use crate::word::{cut, read_number, read_server};
+use rows::{NoMemory, ServerId};
+use std::alloc::Global;
 
 /// One step of a scenario: an event of the group, or a flow of messages.
-#[derive(Clone, Copy, Debug, PartialEq, Eq)]
+#[derive(Drop)]
 pub enum Step {
     /// `deliver K`: the K-th message ever sent comes, K being from 1 to 2^64 - 1.
     Deliver(u64),
@@ -18,13 +24,43 @@ pub enum Step {
     Restart(ServerId),
     /// `flow N`: up to N messages in flight are taken, one after the other; `flow` alone leaves the number out.
     Flow(Option<u64>),
+    /// `request S REQUEST`: the request is put to server S.
+    Request(ServerId, Request),
 }
 
 /// Reads the line of a step: exactly the one text of each step, with one space between words and numbers in decimal
 /// without leading zeros.
-pub fn read_step(line: &str) -> Option<Step>
+pub fn read_step(alloc: Global, line: &str) -> Result<Option<Step>, NoMemory>
+    ensures named { IfOk result (λ read. IfSome read (λ step. IsLine step line.now)) }
+    ensures read { (step : Step) → IsLine step line.now → IfOk result (λ read. read ≡ Some step) }
+{
+    if let Some(words) = line.strip_prefix("request ") {
+        return read_request_step(alloc, words);
+    }
+    Ok(read_event(line))
+}
+
+// What stands behind `request`.
+fn read_request_step(alloc: Global, words: &str) -> Result<Option<Step>, NoMemory>
+    ensures named { IfOk result (λ read. IfSome read (λ step. (server : ℕ) × (request : Request) × (step ≡ steps.Request server request) × (server < 5) × RequestFits request × (words.now ≡ decimal (server + 1) ++ 32 ∷ request_text request))) }
+    ensures read { (server : ℕ) (request : Request) → server < 5 → RequestFits request → words.now ≡ decimal (server + 1) ++ 32 ∷ request_text request → IfOk result (λ read. read ≡ Some (steps.Request server request)) }
+{
+    let Some((server, text)) = cut(words, ' ') else {
+        return Ok(None);
+    };
+    let Some(server) = read_server(server) else {
+        return Ok(None);
+    };
+    match read_request(alloc, text)? {
+        Some(request) => Ok(Some(Step::Request(server, request))),
+        None => Ok(None),
+    }
+}
+
+// A step other than a request: it takes no memory.
+fn read_event(line: &str) -> Option<Step>
     ensures named { IfSome result (λ step. IsLine step line.now) }
-    ensures read { (step : Step) → IsLine step line.now → result ≡ Some step }
+    ensures read { (step : Step) → IsLine step line.now → ((words : List ℕ) → line.now ≢ codes "request " ++ words) → result ≡ Some step }
 {
     if line == "flow" {
         return Some(Step::Flow(None));
@@ -48,25 +84,4 @@ pub fn read_step(line: &str) -> Option<Step>
     }
     let server = line.strip_prefix("restart ")?;
     Some(Step::Restart(read_server(server)?))
-}
-
-// A server's number, from 1 to 5.
-fn read_server(text: &str) -> Option<ServerId>
-    ensures { MatchOption result ((server : ℕ) → server < 5 → decimal (server + 1) ≢ text.now) (λ server. decimal (server + 1) ≡ text.now) }
-{
-    let number = read_number(text)?;
-    let number = u8::try_from(number).ok()?;
-    ServerId::from_number(number)
-}
-
-// A number in decimal without leading zeros, below 2^64.
-fn read_number(text: &str) -> Option<u64>
-    ensures { MatchOption result ((number : ℕ) → number < 2 ^ 64 → decimal number ≢ text.now) (λ number. decimal number ≡ text.now) }
-{
-    let number: u64 = text.parse().ok()?;
-    if Buffer::new().format(number) == text {
-        Some(number)
-    } else {
-        None
-    }
 }

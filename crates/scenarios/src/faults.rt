@@ -68,15 +68,73 @@ fn refuses_other_steps(rt: HostRuntime) {
         "\"crash c1\"",
         "\"restart\"",
         "\"beat 1\"",
-        "\"request 1 stop web\"",
         "\"work 1\"",
         "\"compact 1\"",
         "\"crash 4\", \"nonsense\"",
     ];
-    for step in &steps {
+    refuse_steps(&rt, rt.alloc(), &steps);
+}
+
+// Requests of which one word is at fault.
+#[test]
+fn refuses_other_requests(rt: HostRuntime) {
+    let steps = [
+        "\"request\"",
+        "\"request 1\"",
+        "\"request 1 \"",
+        "\"request 0 stop web\"",
+        "\"request 6 stop web\"",
+        "\"request 01 stop web\"",
+        "\"request 1  stop web\"",
+        "\"request 1 stop web \"",
+        "\"request 1 stop Web\"",
+        "\"request 1 stop web_1\"",
+        "\"request 1 stop\"",
+        "\"request 1 stop \"",
+        "\"request 1 stop abcdefghijklmnopqrstuvwxyz0123456\"",
+        "\"request 1 evals web\"",
+        "\"request 1 eval web web\"",
+        "\"request 1 drain 0 slow\"",
+        "\"request 1 drain 65 slow\"",
+        "\"request 1 drain 1\"",
+        "\"request 1 drain 1 fast\"",
+        "\"request 1 drain slow 1\"",
+    ];
+    refuse_steps(&rt, rt.alloc(), &steps);
+}
+
+// Jobs of which one word is at fault, or whose groups are none, too many or of one name.
+#[test]
+fn refuses_other_jobs(rt: HostRuntime) {
+    let steps = [
+        "\"request 1 put web 50\"",
+        "\"request 1 put web 50 \"",
+        "\"request 1 put web 0 main:2:linux:600:300\"",
+        "\"request 1 put web 101 main:2:linux:600:300\"",
+        "\"request 1 put web 050 main:2:linux:600:300\"",
+        "\"request 1 put Web 50 main:2:linux:600:300\"",
+        "\"request 1 put web 50 Main:2:linux:600:300\"",
+        "\"request 1 put web 50 main:65:linux:600:300\"",
+        "\"request 1 put web 50 main:02:linux:600:300\"",
+        "\"request 1 put web 50 main:2::600:300\"",
+        "\"request 1 put web 50 main:2:linux:0:300\"",
+        "\"request 1 put web 50 main:2:linux:600:1000001\"",
+        "\"request 1 put web 50 main:2:linux:600\"",
+        "\"request 1 put web 50 main:2:linux:600:300:1\"",
+        "\"request 1 put web 50 main:2:linux:600:300,\"",
+        "\"request 1 put web 50 main:2:linux:600:300,,side:2:linux:600:300\"",
+        "\"request 1 put web 50 main:2:linux:600:300,main:1:linux:1:1\"",
+        "\"request 1 put web 50 main:2:linux:600:300, side:1:linux:1:1\"",
+        "\"request 1 put web 50 a:1:x:1:1,b:1:x:1:1,c:1:x:1:1,d:1:x:1:1,e:1:x:1:1,f:1:x:1:1,g:1:x:1:1,h:1:x:1:1,i:1:x:1:1\"",
+    ];
+    refuse_steps(&rt, rt.alloc(), &steps);
+}
+
+fn refuse_steps(rt: &impl Abort, alloc: Global, steps: &[&'static str]) {
+    for step in steps {
         refuse(
-            &rt,
-            rt.alloc(),
+            rt,
+            alloc,
             [THREE.as_bytes(), step.as_bytes(), END.as_bytes()],
         );
     }

@@ -8,4 +8,6 @@ mod faults;
 #[cfg(test)]
 mod memory;
 #[cfg(test)]
+mod requests;
+#[cfg(test)]
 mod runs;

@@ -1,0 +1,154 @@
+//! Requests to the leader, as a line of a scenario says them.
+ghost use Rattle.std.specs.Prelude.{◌≡◌, ◌++◌, ◌∷◌, ℕ, Bool, List, Some, IfOk, IfSome, IsSomeAnd, codes, decimal};
+ghost use Rattle.rows.specs.Fits.{GroupFits, GroupsFit, JobSpecFits, NodeIdFits, PriorityFits};
+ghost use Rattle.rows.specs.Names.{NameFits};
+ghost use Rattle.rows.specs.declared.job.Group.{Group};
+ghost use Rattle.rows.specs.declared.job.JobSpec.{JobSpec};
+ghost use Rattle.runner.specs.declared.request.Request.{Request};
+ghost use Rattle.runner.specs.declared.request.Request.TheVariants.{Drain, Eval, Stop};
+ghost use Rattle.runner.specs.Requests.{RequestFits, command_of, drain_text, group_text, groups_text, job_text, request_text};
+
+use crate::word::{cut, read_count, read_name, read_node, read_priority, read_quantity};
+use rows::{Command, Group, Groups, JobName, JobSpec, NoMemory, NodeId, Priority, Sequence, Size};
+use std::alloc::Global;
+
+/// What a scenario asks of a server. (Nomad documentation, "jobs HTTP API", "nodes HTTP API".)
+#[derive(Drop)]
+pub enum Request {
+    /// `put NAME PRIORITY GROUPS`: the job is put, in place of the one of its name. A group is written as
+    /// `NAME:COUNT:CLASS:CPU:MEMORY`, with commas between groups.
+    Put(JobSpec),
+    /// `stop NAME`: nothing of the job is to run any more.
+    Stop(JobName),
+    /// `eval NAME`: the job is looked at once more.
+    Eval(JobName),
+    /// `drain NODE slow` or `drain NODE force`: the node takes no more, and what runs there moves; the second says whether
+    /// all at once.
+    Drain(NodeId, bool),
+}
+
+impl Request {
+    /// The command that is proposed for it.
+    pub fn into_command(self) -> Command
+        ensures { result ≡ command_of self }
+    {
+        match self {
+            Request::Put(job) => Command::JobPut(job),
+            Request::Stop(name) => Command::JobStop(name),
+            Request::Eval(name) => Command::EvalPut(name),
+            Request::Drain(node, force) => Command::Drain(node, force),
+        }
+    }
+}
+
+/// Reads the text of a request: exactly the one text of each, with one space between words and numbers in decimal
+/// without leading zeros.
+pub fn read_request(alloc: Global, text: &str) -> Result<Option<Request>, NoMemory>
+    ensures named { IfOk result (λ read. IfSome read (λ request. RequestFits request × (text.now ≡ request_text request))) }
+    ensures read { (request : Request) → RequestFits request → text.now ≡ request_text request → IfOk result (λ read. read ≡ Some request) }
+{
+    let Some((verb, words)) = cut(text, ' ') else {
+        return Ok(None);
+    };
+    if verb != "put" {
+        return Ok(read_small_request(verb, words));
+    }
+    match read_job(alloc, words)? {
+        Some(job) => Ok(Some(Request::Put(job))),
+        None => Ok(None),
+    }
+}
+
+// A request other than `put`: it takes no memory.
+fn read_small_request(verb: &str, words: &str) -> Option<Request>
+    ensures named { IfSome result (λ request. RequestFits request × (verb.now ++ 32 ∷ words.now ≡ request_text request)) }
+    ensures stop { (name : List ℕ) → NameFits name → verb.now ≡ codes "stop" → words.now ≡ name → result ≡ Some (Stop name) }
+    ensures eval { (name : List ℕ) → NameFits name → verb.now ≡ codes "eval" → words.now ≡ name → result ≡ Some (Eval name) }
+    ensures drain { (node : ℕ) (force : Bool) → NodeIdFits node → verb.now ≡ codes "drain" → words.now ≡ drain_text node force → result ≡ Some (Drain node force) }
+{
+    match verb {
+        "stop" => Some(Request::Stop(read_name(words)?)),
+        "eval" => Some(Request::Eval(read_name(words)?)),
+        "drain" => read_drain(words),
+        _ => None,
+    }
+}
+
+// What stands behind `drain`.
+fn read_drain(words: &str) -> Option<Request>
+    ensures named { IfSome result (λ request. (node : ℕ) × (force : Bool) × NodeIdFits node × (words.now ≡ drain_text node force) × (request ≡ Drain node force)) }
+    ensures read { (node : ℕ) (force : Bool) → NodeIdFits node → words.now ≡ drain_text node force → result ≡ Some (Drain node force) }
+{
+    let (node, mode) = cut(words, ' ')?;
+    let node = read_node(node)?;
+    match mode {
+        "slow" => Some(Request::Drain(node, false)),
+        "force" => Some(Request::Drain(node, true)),
+        _ => None,
+    }
+}
+
+// What stands behind `put`.
+fn read_job(alloc: Global, text: &str) -> Result<Option<JobSpec>, NoMemory>
+    ensures named { IfOk result (λ read. IfSome read (λ job. JobSpecFits job × (text.now ≡ job_text job))) }
+    ensures read { (job : JobSpec) → JobSpecFits job → text.now ≡ job_text job → IfOk result (λ read. read ≡ Some job) }
+{
+    let Some((name, priority, groups)) = read_head(text) else {
+        return Ok(None);
+    };
+    let Some(groups) = read_groups(alloc, groups)? else {
+        return Ok(None);
+    };
+    Ok(Some(JobSpec {
+        name,
+        priority,
+        groups,
+    }))
+}
+
+// The name and the priority of a job, and the text of its groups.
+fn read_head(text: &str) -> Option<(JobName, Priority, &str)>
+    ensures named { IfSome result (λ head. NameFits head.0 × PriorityFits head.1 × (text.now ≡ head.0 ++ 32 ∷ (decimal head.1 ++ 32 ∷ head.2.now))) }
+    ensures read { (name : List ℕ) (priority : ℕ) (groups : List ℕ) → NameFits name → PriorityFits priority
+        → text.now ≡ name ++ 32 ∷ (decimal priority ++ 32 ∷ groups)
+        → IsSomeAnd result (λ head. (head.0 ≡ name) × (head.1 ≡ priority) × (head.2.now ≡ groups)) }
+{
+    let (name, rest) = cut(text, ' ')?;
+    let (priority, groups) = cut(rest, ' ')?;
+    Some((read_name(name)?, read_priority(priority)?, groups))
+}
+
+// The groups of a job.
+fn read_groups(alloc: Global, text: &str) -> Result<Option<Groups>, NoMemory>
+    ensures named { IfOk result (λ read. IfSome read (λ groups. GroupsFit groups × (text.now ≡ groups_text groups))) }
+    ensures read { (groups : List Group) → GroupsFit groups → text.now ≡ groups_text groups → IfOk result (λ read. read ≡ Some groups) }
+{
+    let mut groups = Sequence::new(alloc);
+    for part in text.split(',') {
+        let Some(group) = read_group(part) else {
+            return Ok(None);
+        };
+        groups.push(group)?;
+    }
+    Ok(Groups::check(groups).ok())
+}
+
+// One group.
+fn read_group(text: &str) -> Option<Group>
+    ensures named { IfSome result (λ group. GroupFits group × (text.now ≡ group_text group)) }
+    ensures read { (group : Group) → GroupFits group → text.now ≡ group_text group → result ≡ Some group }
+{
+    let (name, rest) = cut(text, ':')?;
+    let (count, rest) = cut(rest, ':')?;
+    let (class, rest) = cut(rest, ':')?;
+    let (cpu, mem) = cut(rest, ':')?;
+    Some(Group {
+        name: read_name(name)?,
+        count: read_count(count)?,
+        class: read_name(class)?,
+        size: Size {
+            cpu: read_quantity(cpu)?,
+            mem: read_quantity(mem)?,
+        },
+    })
+}
