@@ -14,6 +14,10 @@ pub enum Kind {
     VoteRequest,
     /// 2: the answer to a candidate.
     VoteReply,
+    /// 3: a leader sends entries.
+    Append,
+    /// 4: the answer to a leader.
+    AppendReply,
 }
 
 impl Kind {
@@ -22,7 +26,7 @@ impl Kind {
         ensures { result ≡ may_come_from self from.now }
     {
         match self {
-            Kind::VoteRequest | Kind::VoteReply => is_server(from),
+            Kind::VoteRequest | Kind::VoteReply | Kind::Append | Kind::AppendReply => is_server(from),
         }
     }
 
@@ -31,7 +35,7 @@ impl Kind {
         ensures { result ≡ may_go self from.now to.now }
     {
         match self {
-            Kind::VoteRequest | Kind::VoteReply => is_server(from) && is_server(to) && to != from,
+            Kind::VoteRequest | Kind::VoteReply | Kind::Append | Kind::AppendReply => is_server(from) && is_server(to) && to != from,
         }
     }
 }
@@ -51,6 +55,8 @@ impl Field for Kind {
         match read_u8(bytes, at)? {
             (1, next) => Ok((Kind::VoteRequest, next)),
             (2, next) => Ok((Kind::VoteReply, next)),
+            (3, next) => Ok((Kind::Append, next)),
+            (4, next) => Ok((Kind::AppendReply, next)),
             _ => Err(Refusal::Frame(at)),
         }
     }
@@ -59,6 +65,8 @@ impl Field for Kind {
         match self {
             Kind::VoteRequest => write_u8(&1, out),
             Kind::VoteReply => write_u8(&2, out),
+            Kind::Append => write_u8(&3, out),
+            Kind::AppendReply => write_u8(&4, out),
         }
     }
 }
