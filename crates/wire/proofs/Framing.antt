@@ -8,9 +8,11 @@ use Rattle.fields.specs.Format.{Gives, ◌>>=◌, Format, spelled, number_at, nu
 use Rattle.fields.specs.FormatLaws.{bind_ok, guard_in, past, length-spelled, number_lawful, no_text_begins_another}
 use Rattle.rows.specs.declared.actor.Actor.{Actor}
 use Rattle.wire.specs.declared.header.Header.{Header}
+use Rattle.wire.specs.Appends.{Append}
 use Rattle.wire.specs.declared.body.Body.{Body}
+use Rattle.wire.specs.declared.body.Body.TheVariants as bodies
 use Rattle.wire.specs.Messages.{Message, kind_of}
-use Rattle.wire.specs.Grammar.{header, body}
+use Rattle.wire.specs.Grammar.{header, append, body}
 use Rattle.wire.specs.GrammarLaws.{header_lawful, body_lawful, body_has_kind, body_is_short}
 use Rattle.wire.specs.Frames.{frame_limit, sized, frame_text, size_at, frame_at, header_of, message_text, MessageFits, message_at}
 
@@ -89,6 +91,13 @@ pub record ShortCommands {C : Type 0} (commands : Format C) : Type 0 where
 
 pub body_within : {S C : Type 0} (commands : Format C) → ShortCommands commands → (b : Body S C) → (body commands (kind_of b)).Fits b → length ((body commands (kind_of b)).text b) ≤ 16777208
 body_within {S} commands law b fits = omega (arith, (body_lawful commands law.lawful (kind_of b)).short b fits, body_is_short S commands law.short (kind_of b))
+
+-- behind some bytes an Append takes up no more room
+pub append_room : {C : Type 0} (commands : Format C) → ShortCommands commands → (a : Append C) (old new : List ℕ) → (append commands).Fits a → new ≡ old ++ (append commands).text a → length new ≤ length old + 16777208
+append_room commands law a old new fits e =
+    let within = body_within {S = ℕ} commands law (bodies.Append a) fits in
+    let grown : length new ≡ length old + length ((append commands).text a) = ap length e ∙ length-append old ((append commands).text a) in
+    omega arith
 
 pub message_is_short : {S C : Type 0} (commands : Format C) → ShortCommands commands → (m : Message S C) → MessageFits commands m → length (message_text commands m) ≤ frame_limit
 message_is_short commands law m fits =

@@ -1,5 +1,5 @@
 -- The laws of a frame's parts.
-use Rattle.std.proofs.Common.{◌≡◌, ℕ, ◌≤◌, ◌<◌, ◌^◌, Some, sym, ap, ◌∙◌, refl, arith, inl, inr}
+use Rattle.std.proofs.Common.{◌≡◌, ℕ, ◌≤◌, Some, sym, ap, ◌∙◌, refl, arith, inl, inr}
 use Rattle.std.proofs.lemmas.Bool.{cases_eq, eq-eqb, ne_eqb}
 use Rattle.std.proofs.Math.Nat.{le_refl, mul-le-mul_right}
 use Rattle.fields.specs.Format.{Format, number, placed, Lawful}
@@ -12,7 +12,6 @@ use Rattle.wire.specs.declared.vote.VoteRequest.{VoteRequest}
 use Rattle.wire.specs.declared.vote.VoteReply.{VoteReply}
 use Rattle.machine.specs.Entries.{entry}
 use Rattle.machine.specs.EntryLaws.{entry_lawful}
-use Rattle.wire.specs.declared.append.AppendHead.{AppendHead}
 use Rattle.wire.specs.declared.append.AppendReply.{AppendReply}
 use Rattle.wire.specs.Appends.{Append}
 use Rattle.wire.specs.declared.body.Body.{Body}
@@ -72,7 +71,7 @@ append_reply_lawful = made_lawful _ _ _ (λ _. refl) (λ _ _. refl) (then_lawful
 pub most_entries_is_few : (prev_index : ℕ) → most_entries prev_index ≤ 32
 most_entries_is_few prev_index = omega arith
 
-entries_lawful : {C : Type 0} (commands : Format C) (most : ℕ) → most ≤ 32 → Lawful commands → Lawful (entries commands most)
+pub entries_lawful : {C : Type 0} (commands : Format C) (most : ℕ) → most ≤ 32 → Lawful commands → Lawful (entries commands most)
 entries_lawful commands most few lc = list_lawful 1 most (entry (placed commands)) (omega arith) (omega arith) (entry_lawful (placed commands) (placed_lawful commands lc))
 
 entries_are_short : {C : Type 0} (commands : Format C) (most : ℕ) → most ≤ 32 → (entries commands most).most ≤ (entries commands 32).most

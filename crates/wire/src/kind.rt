@@ -1,5 +1,5 @@
 ghost use Rattle.std.specs.Prelude.{◌≡◌};
-ghost use Rattle.wire.specs.Messages.{may_come_from, may_go, is_server};
+ghost use Rattle.wire.specs.Messages.{may_come_from, may_go, is_server, is_another_server};
 ghost use Rattle.wire.specs.Grammar.{kind};
 ghost use Rattle.wire.specs.GrammarLaws.{kind_lawful};
 
@@ -26,7 +26,8 @@ impl Kind {
         ensures { result ≡ may_come_from self from.now }
     {
         match self {
-            Kind::VoteRequest | Kind::VoteReply | Kind::Append | Kind::AppendReply => is_server(from),
+            Kind::VoteRequest | Kind::VoteReply => is_server(from),
+            Kind::Append | Kind::AppendReply => is_server(from),
         }
     }
 
@@ -35,7 +36,8 @@ impl Kind {
         ensures { result ≡ may_go self from.now to.now }
     {
         match self {
-            Kind::VoteRequest | Kind::VoteReply | Kind::Append | Kind::AppendReply => is_server(from) && is_server(to) && to != from,
+            Kind::VoteRequest | Kind::VoteReply => is_another_server(from, to),
+            Kind::Append | Kind::AppendReply => is_another_server(from, to),
         }
     }
 }
@@ -44,6 +46,12 @@ fn is_server(actor: &Actor) -> bool
     ensures { result ≡ is_server actor.now }
 {
     matches!(actor, Actor::Server(_))
+}
+
+fn is_another_server(from: &Actor, to: &Actor) -> bool
+    ensures { result ≡ is_another_server from.now to.now }
+{
+    is_server(from) && is_server(to) && to != from
 }
 
 impl Field for Kind {

@@ -14,7 +14,7 @@ mod tests;
 mod vote;
 mod writing;
 
-pub use append::{Append, AppendHead, AppendReply};
+pub use append::{Append, AppendHead, AppendReply, MOST_ENTRIES};
 pub use body::Body;
 pub use kind::Kind;
 pub use laws::frames_are_whole;

@@ -37,11 +37,7 @@ impl<M: Machine> Message<M> {
         ensures none { IfNone result (may_go (kind_of body) from to ≡ false) }
     {
         if body.kind().may_go(&from, &to) {
-            Some(Message {
-                from,
-                to,
-                body,
-                })
+            Some(Message { from, to, body })
         } else {
             None
         }

@@ -1,5 +1,5 @@
 ghost use Rattle.std.specs.Prelude.{◌≡◌, ◌++◌, ◌+◌, ◌<◌, ◌≤◌, ◌^◌, true, length, take, drop, OnOk, OnErr};
-ghost use Rattle.fields.specs.Format.{Grows, spelled};
+ghost use Rattle.fields.specs.Format.{Grows};
 ghost use Rattle.rows.specs.declared.actor.Actor.TheVariants as actors;
 ghost use Rattle.wire.specs.declared.kind.Kind.TheVariants as kinds;
 ghost use Rattle.wire.specs.Messages.{kind_of, may_go, append_message};
@@ -14,12 +14,14 @@ use crate::message::{Message, header_of};
 use machine::{Coded, Entry, Machine};
 use rows::{Actor, NoMemory, ServerId};
 
-/// Puts a length in place of the four bytes that stand at a place.
+/// Puts the number of the bytes behind the four at a place into those four.
 #[tactic(auto, unfolding(fields::specs::Format::spelled), using(crate::proofs::Rules::drops))]
-fn put_size(bytes: &mut [u8], at: usize, size: u32)
-    requires { at + 4 ≤ length bytes.old }
-    ensures { bytes.new ≡ take at bytes.old ++ (spelled 4 size ++ drop (at + 4) bytes.old) }
+fn put_size(bytes: &mut [u8], at: usize)
+    requires room { at + 4 ≤ length bytes.old }
+    requires short { length bytes.old < at + 4 + 2 ^ 32 }
+    ensures { bytes.new ≡ take at bytes.old ++ sized (drop (at + 4) bytes.old) }
 {
+    let size = (bytes.len() - at - 4) as u32;
     bytes[at..at + 4].copy_from_slice(&size.to_be_bytes());
 }
 
@@ -33,8 +35,7 @@ fn append_sized<M: Machine>(body: &Body<M>, out: &mut Vec<u8>) -> Result<(), NoM
     let size_at = out.len();
     out.extend_from_slice(&[0; 4])?;
     append_body(body, out)?;
-    let size = (out.len() - size_at - 4) as u32;
-    put_size(out, size_at, size);
+    put_size(out, size_at);
     Ok(())
 }
 
@@ -54,8 +55,7 @@ fn append_sized_entries<M: Machine>(
     let size_at = out.len();
     out.extend_from_slice(&[0; 4])?;
     append_append(head, entries, out)?;
-    let size = (out.len() - size_at - 4) as u32;
-    put_size(out, size_at, size);
+    put_size(out, size_at);
     Ok(())
 }
 
