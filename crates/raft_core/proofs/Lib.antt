@@ -4,3 +4,4 @@ pub mod Quorums
 pub mod Stepping
 pub mod Lives
 pub mod Members
+pub mod Applies

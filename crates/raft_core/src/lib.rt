@@ -2,6 +2,7 @@
 //! extended version 2014, section 5 and Figure 2.)
 #![tactic(auto)]
 
+mod apply;
 mod input;
 mod log;
 mod raft;
