@@ -5,6 +5,8 @@
 mod apply;
 mod input;
 mod log;
+mod merge;
+mod project;
 mod raft;
 mod role;
 mod sending;

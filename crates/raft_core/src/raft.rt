@@ -1,4 +1,6 @@
+mod beats;
 mod frames;
+mod propose;
 mod votes;
 
 ghost use Rattle.std.specs.Prelude.{◌≡◌, true, false, None, length, take, replicate, OnOk, IfOk, IfErr, MatchOption};
@@ -22,6 +24,7 @@ use wire::Outbox;
 /// machine.
 #[derive(Drop)]
 pub struct Raft<M: Machine> {
+    alloc: Global,
     me: ServerId,
     size: usize,
     term: Term,
@@ -34,6 +37,8 @@ pub struct Raft<M: Machine> {
     votes: Vec<bool>,
     next: Vec<u64>,
     matched: Vec<u64>,
+    /// A leader's machine after its whole log, as the last call that asked for it left it.
+    ahead: Option<M>,
 }
 
 impl<M: Machine> Model for Raft<M> {
@@ -117,6 +122,7 @@ impl<M: Machine> Raft<M> {
         } = levels;
         let Stable { term, vote, log } = stable;
         Ok(Raft {
+            alloc,
             me,
             size,
             term,
@@ -129,6 +135,7 @@ impl<M: Machine> Raft<M> {
             votes,
             next,
             matched,
+            ahead: None,
         })
     }
 
@@ -137,6 +144,7 @@ impl<M: Machine> Raft<M> {
         ensures { (s : Server M.Command) → Represents M.meaning self s → Stores M.meaning result s }
     {
         let Raft {
+            alloc: _,
             me: _,
             size: _,
             term,
@@ -149,6 +157,7 @@ impl<M: Machine> Raft<M> {
             votes: _,
             next: _,
             matched: _,
+            ahead: _,
         } = self;
         Stable { term, vote, log }
     }
