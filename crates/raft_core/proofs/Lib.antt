@@ -6,3 +6,4 @@ pub mod Lives
 pub mod Members
 pub mod Applies
 pub mod Merges
+pub mod Loads

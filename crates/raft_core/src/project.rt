@@ -16,8 +16,10 @@ fn reloaded<M: Machine>(alloc: Global, machine: &M) -> Result<M, NoMemory>
     machine.save(&mut text)?;
     match M::load(alloc, &text) {
         Ok(copy) => Ok(copy),
-        Err(Refusal::NoMemory) => Err(NoMemory),
-        Err(_) => unreachable!(),
+        Err(cause) => match cause {
+            Refusal::NoMemory => Err(NoMemory),
+            _ => unreachable!(),
+        },
     }
 }
 

@@ -62,11 +62,13 @@ impl<M: Machine> Raft<M> {
             term: self.term,
             command: Coded::new(command),
         };
-        if self.log.push(entry).is_err() {
-            self.crash();
-            return Err(Refusal::NoMemory);
+        match self.log.push(entry) {
+            Ok(()) => Ok(()),
+            Err(_) => {
+                self.crash();
+                Err(Refusal::NoMemory)
+            }
         }
-        Ok(())
     }
 
     /// A leader's machine after its whole log, committed or not. The server stays as it was, also on a refusal.
