@@ -5,3 +5,4 @@ pub mod Stepping
 pub mod Lives
 pub mod Members
 pub mod Applies
+pub mod Commits

@@ -5,3 +5,4 @@ pub mod Turns
 pub mod Steps
 pub mod Stops
 pub mod Restarts
+pub mod Commits
