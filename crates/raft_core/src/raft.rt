@@ -66,12 +66,12 @@ struct Levels {
 
 fn no_levels(alloc: Global, size: usize) -> Result<Levels, NoMemory>
     ensures votes { IfOk result (λ l. l.votes.items ≡ replicate size false) }
-    ensures next { IfOk result (λ l. l.next.items ≡ replicate size 0) }
+    ensures next { IfOk result (λ l. l.next.items ≡ replicate size 1) }
     ensures matched { IfOk result (λ l. l.matched.items ≡ replicate size 0) }
 {
     Ok(Levels {
         votes: vec![in alloc; false; size]?,
-        next: vec![in alloc; 0; size]?,
+        next: vec![in alloc; 1; size]?,
         matched: vec![in alloc; 0; size]?,
     })
 }
@@ -278,6 +278,13 @@ impl<M: Machine> Raft<M> {
                     return Err(Refusal::Down);
                 }
                 self.timeout(outbox)
+            }
+            Input::Beat => {
+                if !is_up {
+                    return Err(Refusal::Down);
+                }
+                self.beat(outbox)?;
+                Ok(())
             }
             Input::Frame(bytes) => {
                 if !is_up {
