@@ -6,3 +6,4 @@ pub mod Steps
 pub mod Proposals
 pub mod Stops
 pub mod Restarts
+pub mod Commits

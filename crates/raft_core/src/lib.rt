@@ -3,6 +3,7 @@
 #![tactic(auto)]
 
 mod apply;
+mod commit;
 mod input;
 mod log;
 mod merge;
@@ -14,6 +15,7 @@ mod stable;
 #[cfg(test)]
 mod tests;
 
+pub use commit::commit_is_greatest;
 pub use input::Input;
 pub use raft::{NotRestarted, Raft};
 pub use role::Role;
