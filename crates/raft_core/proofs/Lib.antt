@@ -8,3 +8,4 @@ pub mod Merges
 pub mod Quorums
 pub mod Sends
 pub mod Stepping
+pub mod Follows

@@ -1,6 +1,8 @@
+mod appends;
 mod beats;
 mod frames;
 mod propose;
+mod replies;
 mod votes;
 
 ghost use Rattle.std.specs.Prelude.{◌≡◌, true, false, None, length, take, replicate, OnOk, IfOk, IfErr, MatchOption};
