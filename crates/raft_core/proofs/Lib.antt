@@ -6,3 +6,4 @@ pub mod Lives
 pub mod Members
 pub mod Applies
 pub mod Commits
+pub mod Replies

@@ -7,3 +7,4 @@ pub mod Proposals
 pub mod Stops
 pub mod Restarts
 pub mod Commits
+pub mod Replies

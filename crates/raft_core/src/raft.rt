@@ -1,4 +1,6 @@
+mod beats;
 mod frames;
+mod replies;
 mod votes;
 
 ghost use Rattle.std.specs.Prelude.{◌≡◌, true, false, None, length, take, replicate, OnOk, IfOk, IfErr, MatchOption};
