@@ -1,9 +1,11 @@
-pub mod Logs
-pub mod Sends
-pub mod Quorums
-pub mod Stepping
-pub mod Lives
-pub mod Members
 pub mod Applies
 pub mod Commits
+pub mod Lives
+pub mod Loads
+pub mod Logs
+pub mod Members
+pub mod Merges
+pub mod Quorums
 pub mod Replies
+pub mod Sends
+pub mod Stepping

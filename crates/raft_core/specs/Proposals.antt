@@ -14,6 +14,11 @@ pub record Proposes {S C : Type 0} (m : Meaning S C) (old : Seen C) (s : Server 
   pub step : step m old.size old.me s (Propose command) ≡ Ok (silent next)
   pub stands : Represents m new next
 
+-- why a proposal is not taken: want of memory comes to a leader alone, else the step is refused
+abbrev pub IsRefused : {S C : Type 0} → Meaning S C → Seen C → C → Refusal → Type 0
+IsRefused m seen command refusals.NoMemory = is_leader seen.server.mode ≡ true
+IsRefused m seen command cause = step m seen.size seen.me seen.server (Propose command) ≡ Err cause
+
 -- a refusal is that of the step, and changes nothing
 pub record RefusesProposal {S C : Type 0} (m : Meaning S C) (old : Seen C) (command : C) (cause : Refusal) (new : Seen C) : Type 0 where
   pub because : (s : Server C) → Represents m old s → step m old.size old.me s (Propose command) ≡ Err cause

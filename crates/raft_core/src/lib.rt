@@ -6,6 +6,8 @@ mod apply;
 mod commit;
 mod input;
 mod log;
+mod merge;
+mod project;
 mod raft;
 mod role;
 mod sending;

@@ -1,5 +1,6 @@
 mod beats;
 mod frames;
+mod propose;
 mod replies;
 mod votes;
 
@@ -24,6 +25,7 @@ use wire::Outbox;
 /// machine.
 #[derive(Drop)]
 pub struct Raft<M: Machine> {
+    alloc: Global,
     me: ServerId,
     size: usize,
     term: Term,
@@ -36,6 +38,8 @@ pub struct Raft<M: Machine> {
     votes: Vec<bool>,
     next: Vec<u64>,
     matched: Vec<u64>,
+    /// A leader's machine after its whole log, as the last call that asked for it left it.
+    ahead: Option<M>,
 }
 
 impl<M: Machine> Model for Raft<M> {
@@ -119,6 +123,7 @@ impl<M: Machine> Raft<M> {
         } = levels;
         let Stable { term, vote, log } = stable;
         Ok(Raft {
+            alloc,
             me,
             size,
             term,
@@ -131,6 +136,7 @@ impl<M: Machine> Raft<M> {
             votes,
             next,
             matched,
+            ahead: None,
         })
     }
 
@@ -139,6 +145,7 @@ impl<M: Machine> Raft<M> {
         ensures { (s : Server M.Command) → Represents M.meaning self s → Stores M.meaning result s }
     {
         let Raft {
+            alloc: _,
             me: _,
             size: _,
             term,
@@ -151,6 +158,7 @@ impl<M: Machine> Raft<M> {
             votes: _,
             next: _,
             matched: _,
+            ahead: _,
         } = self;
         Stable { term, vote, log }
     }
