@@ -1,4 +1,5 @@
 pub mod Applies
+pub mod Beats
 pub mod Commits
 pub mod Lives
 pub mod Loads

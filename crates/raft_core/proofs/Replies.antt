@@ -25,7 +25,7 @@ length-slice_set [] i v = refl
 length-slice_set (x ∷ xs) zero v = refl
 length-slice_set (x ∷ xs) (suc i) v = ap suc (length-slice_set xs i v)
 
-number-index : (xs : List ℕ) (i : ℕ) → number xs i ≡ slice_index xs i
+pub number-index : (xs : List ℕ) (i : ℕ) → number xs i ≡ slice_index xs i
 number-index [] i = refl
 number-index (x ∷ xs) zero = refl
 number-index (x ∷ xs) (suc i) = number-index xs i

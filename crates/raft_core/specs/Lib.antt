@@ -8,3 +8,4 @@ pub mod Stops
 pub mod Restarts
 pub mod Commits
 pub mod Replies
+pub mod Beats

@@ -1,7 +1,9 @@
 //! Answers to what a leader sent. (Raft, extended version 2014, section 5.3, and section 5.4.2.)
 
 ghost use Rattle.std.specs.Prelude.{◌≡◌, ◌^◌, ◌<◌, ◌≤◌, true, length, max, min, suc, ◌-◌, nat_le, if◌then◌else◌, slice_set, OnOk, OnErr};
-ghost use Rattle.raft_model.specs.Servers.{is_up, crashed};
+ghost use Rattle.raft_model.specs.Servers.{is_up, met, crashed};
+ghost use Rattle.raft_model.specs.Steps.{receives};
+ghost use Rattle.raft_model.specs.Messages.{AppendReply as AppendReplyBody};
 ghost use Rattle.raft_model.specs.Quorums.{number};
 ghost use Rattle.raft_core.specs.Replies.{hears, next_after, match_after};
 
@@ -10,6 +12,7 @@ use crate::commit::advance;
 use crate::role::Role;
 use machine::Machine;
 use rows::{Index, NoMemory, ServerId};
+use wire::AppendReply;
 
 /// Another server holds its log up to `at`: its match index is no less, and its next index follows. What is past the
 /// leader's last entry counts for nothing.
@@ -93,5 +96,26 @@ impl<M: Machine> Raft<M> {
                 Ok(())
             }
         }
+    }
+    /// An answer to an Append counts where it answers one of this term, and the server leads.
+    pub(super) fn append_reply(
+        &mut self,
+        from: ServerId,
+        reply: &AppendReply,
+    ) -> Result<(), NoMemory>
+        requires up { is_up self.old.server.mode ≡ true }
+        requires member { from < self.old.size }
+        ensures same { (self.new.me ≡ self.old.me) × (self.new.size ≡ self.old.size) }
+        ensures taken { OnOk result (self.new.server ≡ (receives M.meaning.noop self.old.size self.old.me (met reply.now.term self.old.server) from reply.now.term (AppendReplyBody reply.now.asked reply.now.ok reply.now.at)).server) }
+        ensures lost { OnErr result (crashed self.new.server ≡ crashed self.old.server) }
+    {
+        if self.term.get() < reply.term.get() {
+            self.meet(reply.term);
+            return Ok(());
+        }
+        if reply.asked.get() != self.term.get() {
+            return Ok(());
+        }
+        self.hear(from, reply.ok, reply.at)
     }
 }
