@@ -10,3 +10,4 @@ pub mod Quorums
 pub mod Replies
 pub mod Sends
 pub mod Stepping
+pub mod Follows

@@ -4,7 +4,7 @@ use Rattle.std.proofs.lemmas.List.{length-replicate, take-append-le}
 use Rattle.machine.specs.Meaning.{Meaning}
 use Rattle.machine.specs.declared.entry.Entry.{Entry}
 use Rattle.raft_model.specs.Logs.{commands, state_after}
-use Rattle.raft_model.specs.Servers.{is_leader}
+use Rattle.raft_model.specs.Servers.{Server, is_leader}
 use Rattle.raft_core.specs.Seen.{IsLive, HasRoom, IsRaft, while_up, mode_of}
 use Rattle.raft_core.specs.declared.role.Role.{Role}
 use Rattle.raft_core.specs.declared.role.Role.TheVariants as roles
@@ -71,16 +71,16 @@ module _ {S C : Type 0} (m : Meaning S C) where
   live_reset log commit matched levels n (Some s) is live = record { committed = live.committed; state = live.state; levels = λ j. rw is (zero_levels n j) }
 
   -- nothing is known of what others hold
-  pub reset : (me size : ℕ) (log : List (Entry C)) (role : Role) (commit : ℕ) (votes : List Bool) (old_next old_matched next matched : List ℕ) (n k : ℕ) (machine : Option S) → IsRaft m me size log role commit votes old_next old_matched machine → next ≡ replicate n (length log + 1) → matched ≡ replicate k 0 → length next ≡ size → length matched ≡ size → IsRaft m me size log role commit votes next matched machine
-  reset me size log role commit votes old_next old_matched next matched n k machine is begins none next_each matched_each = record {
+  pub reset : (me size : ℕ) (log : List (Entry C)) (role : Role) (commit : ℕ) (votes : List Bool) (old_next old_matched next matched : List ℕ) (first n k : ℕ) (machine : Option S) → IsRaft m me size log role commit votes old_next old_matched machine → 1 ≤ first → first ≤ 2 ^ 40 → next ≡ replicate n first → matched ≡ replicate k 0 → length next ≡ size → length matched ≡ size → IsRaft m me size log role commit votes next matched machine
+  reset me size log role commit votes old_next old_matched next matched first n k machine is least most begins none next_each matched_each = record {
     number = is.number;
     group = is.group;
     short = is.short;
     room = is.room;
     votes_each = is.votes_each;
     next_each = next_each;
-    next_least = filled_least next n (length log + 1) size begins (omega arith) next_each;
-    next_most = filled_most next n (length log + 1) begins (omega (arith, is.short));
+    next_least = filled_least next n first size begins least next_each;
+    next_most = filled_most next n first begins most;
     matched_each = matched_each;
     live = live_reset log commit old_matched matched k machine none is.live;
   }
@@ -91,3 +91,8 @@ leader_room None term vote log more covered commit known role votes next matched
 leader_room (Some s) term vote log more covered commit known roles.Follower votes next matched leads = tt
 leader_room (Some s) term vote log more covered commit known roles.Candidate votes next matched leads = absurd (cc leads)
 leader_room (Some s) term vote log more covered commit known roles.Leader votes next matched leads = tt
+
+-- what is stored is seen also of a server that is down
+pub term_up : {S C : Type 0} (machine : Option S) (s : Server C) → (while_up machine s).term ≡ s.term
+term_up None s = refl
+term_up (Some machine) s = refl

@@ -86,12 +86,12 @@ misdirected n me from to =
     else Some (refusals.Frame 2)
 
 -- a message that was read, or the place of a frame's first fault
-abbrev pub unreadable : {C : Type 0} → ℕ → ℕ → Result (WireMessage C) ℕ → Option Refusal
+abbrev pub unreadable : {S C : Type 0} → ℕ → ℕ → Result (WireMessage S C) ℕ → Option Refusal
 unreadable n me (Ok message) = misdirected n me message.from message.to
 unreadable n me (Err place) = Some (refusals.Frame place)
 
 abbrev pub frame_refusal : {S C : Type 0} → Meaning S C → ℕ → ℕ → List ℕ → Option Refusal
-frame_refusal m n me bytes = unreadable n me (message_at m.commands bytes)
+frame_refusal {S = S} m n me bytes = unreadable {S = S} n me (message_at m.commands bytes)
 
 -- why server `me` of n refuses an input, if it does: it is down; a frame is none, or for another; a step is refused
 abbrev pub refusal : {S C : Type 0} → Meaning S C → ℕ → ℕ → Server C → Input → Option Refusal

@@ -1,3 +1,4 @@
+mod appends;
 mod beats;
 mod frames;
 mod propose;

@@ -2,7 +2,7 @@
 
 ghost use Rattle.std.specs.Prelude.{◌≡◌, ◌+◌, ◌^◌, ◌<◌, true, length, Ok, OnOk, IfOk, IfErr};
 ghost use Rattle.raft_model.specs.Logs.{state_after};
-ghost use Rattle.raft_model.specs.Servers.{Server, is_leader, silent, extended};
+ghost use Rattle.raft_model.specs.Servers.{Server, is_up, is_leader, silent, extended};
 ghost use Rattle.raft_model.specs.Steps.{step, Propose};
 ghost use Rattle.raft_core.specs.Steps.{Represents};
 ghost use Rattle.raft_core.specs.Proposals.{Proposes, DeclinesProposal, IsRefused, HasNoProjection};
@@ -10,12 +10,23 @@ ghost use Rattle.raft_core.specs.Proposals.{Proposes, DeclinesProposal, IsRefuse
 use super::Raft;
 use crate::project::projection;
 use machine::{Coded, Entry, Machine};
-use rows::{Index, Leader, Refusal};
+use rows::{Index, Leader, NoMemory, Refusal};
 
 impl<M: Machine> Raft<M> {
     ghost use Rattle.raft_core.specs.contracts.raft.Raft.{the_row};
     ghost use Rattle.std.specs.Borrow.{sem};
     ghost use Rattle.std.specs.Io.BufRead.{Rests};
+
+    /// The machine after the whole log.
+    fn project(&self) -> Result<M, NoMemory>
+        requires { is_up self.now.server.mode ≡ true }
+        ensures { IfOk result (λ ahead. ahead ≡ state_after M.meaning self.now.server.log) }
+    {
+        let Some(machine) = &self.machine else {
+            unreachable!()
+        };
+        projection(self.alloc, machine, self.commit.get(), &self.log)
+    }
 
     /// Whether a proposal is taken, or why not.
     fn weigh(&self, command: &M::Command) -> Result<(), Refusal>
@@ -24,16 +35,16 @@ impl<M: Machine> Raft<M> {
         ensures taken { OnOk result (step M.meaning self.now.size self.now.me self.now.server (Propose command.now) ≡ Ok (silent (extended self.now.server command.now))) }
         ensures refused { IfErr result (λ cause. IsRefused M.meaning self.now command.now cause) }
     {
-        let Some(machine) = &self.machine else {
+        if !self.is_up() {
             return Err(Refusal::Down);
-        };
+        }
         if !self.is_leader() {
             return Err(Refusal::NotLeader(Leader::new(self.known)));
         }
         if self.log.len() as u64 + 1 >= Index::LIMIT {
             return Err(Refusal::Exhausted);
         }
-        let ahead = projection(self.alloc, machine, self.commit.get(), &self.log)?;
+        let ahead = self.project()?;
         match ahead.admits(command)? {
             None => Ok(()),
             Some(refusal) => Err(refusal),
@@ -79,13 +90,13 @@ impl<M: Machine> Raft<M> {
         ensures refused { IfErr result (λ cause. (s : Server M.Command) → Represents M.meaning self.old s → HasNoProjection s cause) }
         ensures* same { sem 𝓛 (Rests (the_row M.row M.Command.row M.Machine) self.entry (λ n. n ≡ self.old)) }
     {
-        let Some(machine) = &self.machine else {
+        if !self.is_up() {
             return Err(Refusal::Down);
-        };
+        }
         if !self.is_leader() {
             return Err(Refusal::NotLeader(Leader::new(self.known)));
         }
-        let ahead = projection(self.alloc, machine, self.commit.get(), &self.log)?;
+        let ahead = self.project()?;
         Ok(self.ahead.insert(ahead))
     }
 }
