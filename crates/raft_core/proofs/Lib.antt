@@ -1,4 +1,5 @@
 pub mod Applies
+pub mod Beats
 pub mod Commits
 pub mod Lives
 pub mod Loads
@@ -6,6 +7,7 @@ pub mod Logs
 pub mod Members
 pub mod Merges
 pub mod Quorums
+pub mod Replies
 pub mod Sends
 pub mod Stepping
 pub mod Follows

@@ -7,3 +7,5 @@ pub mod Proposals
 pub mod Stops
 pub mod Restarts
 pub mod Commits
+pub mod Replies
+pub mod Beats

@@ -1,13 +1,15 @@
 //! How far a leader's commit index rises. (Raft, extended version 2014, section 5.3, and section 5.4.2.)
 
-ghost use Rattle.std.specs.Prelude.{◌≡◌, ◌≢◌, ◌<◌, ◌≤◌, ℕ, Bool, List, length};
+ghost use Rattle.std.specs.Prelude.{◌≡◌, ◌≢◌, ◌^◌, ◌<◌, ◌≤◌, ℕ, Bool, List, length, take, IfOk};
+ghost use Rattle.raft_model.specs.Logs.{state_after};
 ghost use Rattle.raft_model.specs.Quorums.{count, is_quorum, number};
 ghost use Rattle.raft_model.specs.Servers.{Server, Leader, advanced, is_chosen, greatest};
 ghost use Rattle.raft_core.specs.Commits.{holds, is_chosen_in, IsGreatest, IsRisen};
 
+use crate::apply::apply_range;
 use crate::log::term_at;
 use machine::{Coded, Entry, Machine};
-use rows::{Index, ServerId, Term};
+use rows::{Index, NoMemory, ServerId, Term};
 
 /// How many servers hold an index: the leader `me`, and each that is known to.
 fn count_holders(me: ServerId, matched: &[u64], index: u64) -> usize
@@ -51,7 +53,7 @@ fn next_lower(me: ServerId, matched: &[u64], index: u64) -> u64
 /// The commit index of a leader: it rises to the greatest index whose entry is of its own term and held by more than half
 /// of the servers. Only what stands above commit is looked at, and of the indexes that no quorum holds at most one for each
 /// server.
-pub fn risen<M: Machine>(
+fn risen<M: Machine>(
     me: ServerId,
     commit: Index,
     term: Term,
@@ -74,6 +76,31 @@ pub fn risen<M: Machine>(
         }
     }
     commit.get()
+}
+
+/// A leader's commit index rises, the machine being brought on first by what is newly committed.
+pub fn advance<M: Machine>(
+    machine: &mut M,
+    me: ServerId,
+    commit: Index,
+    term: Term,
+    log: &[Entry<Coded<M>>],
+    matched: &[u64],
+) -> Result<Index, NoMemory>
+    requires group { length matched.now ≤ 5 }
+    requires short { length log.now < 2 ^ 40 }
+    requires committed { commit ≤ length log.now }
+    requires state { machine.old ≡ state_after M.meaning (take commit log.now) }
+    ensures value { IfOk result (λ n. n ≡ greatest (is_chosen_in (length matched.now) me term log.now matched.now) commit (length log.now)) }
+    ensures within { IfOk result (λ n. n ≤ length log.now) }
+    ensures state { IfOk result (λ n. machine.new ≡ state_after M.meaning (take n log.now)) }
+{
+    let to = risen::<M>(me, commit, term, log, matched);
+    let Some(to) = Index::new(to) else {
+        unreachable!()
+    };
+    apply_range(machine, log, commit.get() as usize, to.get() as usize)?;
+    Ok(to)
 }
 
 /// A leader's commit index never falls, and rises to the greatest index whose entry is of the leader's own term and held by
