@@ -96,3 +96,7 @@ leader_room (Some s) term vote log more covered commit known roles.Leader votes 
 pub term_up : {S C : Type 0} (machine : Option S) (s : Server C) → (while_up machine s).term ≡ s.term
 term_up None s = refl
 term_up (Some machine) s = refl
+
+pub log_up : {S C : Type 0} (machine : Option S) (s : Server C) → (while_up machine s).log ≡ s.log
+log_up None s = refl
+log_up (Some machine) s = refl

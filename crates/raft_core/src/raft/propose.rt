@@ -90,13 +90,13 @@ impl<M: Machine> Raft<M> {
         ensures refused { IfErr result (λ cause. (s : Server M.Command) → Represents M.meaning self.old s → HasNoProjection s cause) }
         ensures* same { sem 𝓛 (Rests (the_row M.row M.Command.row M.Machine) self.entry (λ n. n ≡ self.old)) }
     {
-        if !self.is_up() {
+        let Some(machine) = &self.machine else {
             return Err(Refusal::Down);
-        }
-        if !self.is_leader() {
+        };
+        if !self.role.leads() {
             return Err(Refusal::NotLeader(Leader::new(self.known)));
         }
-        let ahead = self.project()?;
+        let ahead = projection(self.alloc, machine, self.commit.get(), &self.log)?;
         Ok(self.ahead.insert(ahead))
     }
 }
