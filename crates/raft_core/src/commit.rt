@@ -3,7 +3,7 @@
 ghost use Rattle.std.specs.Prelude.{◌≡◌, ◌≢◌, ◌^◌, ◌<◌, ◌≤◌, ℕ, Bool, List, length, take, IfOk};
 ghost use Rattle.raft_model.specs.Logs.{state_after};
 ghost use Rattle.raft_model.specs.Quorums.{count, is_quorum, number};
-ghost use Rattle.raft_model.specs.Servers.{Server, Leader, advanced, is_chosen, greatest};
+ghost use Rattle.raft_model.specs.Servers.{Server, Leader, advanced, greatest};
 ghost use Rattle.raft_core.specs.Commits.{holds, is_chosen_in, IsGreatest, IsRisen};
 
 use crate::apply::apply_range;

@@ -1,6 +1,6 @@
 //! Answers to what a leader sent. (Raft, extended version 2014, section 5.3, and section 5.4.2.)
 
-ghost use Rattle.std.specs.Prelude.{◌≡◌, ◌^◌, ◌<◌, ◌≤◌, true, length, max, min, suc, ◌-◌, nat_le, if◌then◌else◌, slice_set, OnOk, OnErr};
+ghost use Rattle.std.specs.Prelude.{◌≡◌, ◌^◌, ◌<◌, true, length, max, min, suc, ◌-◌, nat_le, if◌then◌else◌, slice_set, OnOk, OnErr};
 ghost use Rattle.raft_model.specs.Servers.{is_up, met, crashed};
 ghost use Rattle.raft_model.specs.Steps.{receives};
 ghost use Rattle.raft_model.specs.Messages.{AppendReply as AppendReplyBody};

@@ -1,4 +1,4 @@
-use Rattle.std.proofs.Common.{◌≡◌, ◌||◌, arith, true, false, eqb, leb, get_or, refl, sym, ◌∙◌}
+use Rattle.std.proofs.Common.{◌≡◌, ◌||◌, arith, true, false, eqb, leb, get_or, sym, ◌∙◌}
 use Rattle.std.proofs.lemmas.Bool.{eq-eqb, ne_eqb}
 use Rattle.raft_core.specs.Commits.{holds}
 use Rattle.raft_core.proofs.Quorums.{count-none}

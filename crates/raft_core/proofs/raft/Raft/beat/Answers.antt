@@ -1,4 +1,3 @@
-use Rattle.std.proofs.Common.{◌≡◌}
 use Rattle.raft_core.proofs.Applies.{on_ok}
 use Rattle.raft_core.proofs.Beats.{beats_by}
 use Rattle.raft_core.proofs.raft.Raft.beat.Goals as goal

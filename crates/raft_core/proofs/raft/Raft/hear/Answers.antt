@@ -1,7 +1,4 @@
-use Rattle.std.proofs.Common.{◌≡◌, arith, sym, ap, refl, ◌∙◌, length, Some}
-use Rattle.raft_model.specs.Servers.{Leader, greatest}
-use Rattle.raft_core.specs.Commits.{is_chosen_in}
-use Rattle.raft_core.specs.Seen.{Seen}
+use Rattle.std.proofs.Common.{◌≡◌, arith, ap, ◌∙◌, length, Some}
 use Rattle.raft_core.specs.Replies.{next_after, match_after}
 use Rattle.raft_core.proofs.Replies.{next-length, match-length, put_back, keeps, heard_by}
 use Rattle.raft_core.proofs.raft.Raft.hear.Goals as goal

@@ -1,4 +1,4 @@
-use Rattle.std.proofs.Common.{◌≡◌, ◌≢◌, arith, sym, ◌∙◌}
+use Rattle.std.proofs.Common.{◌≢◌, sym, ◌∙◌}
 use Rattle.raft_core.proofs.Commits.{number-read}
 use Rattle.raft_core.proofs.Sends.{asks_none, asks_skip, asks_next, sent_front, sent_all}
 use Rattle.raft_core.proofs.raft.beats.send_to_others.Goals as goal

@@ -1,4 +1,3 @@
-use Rattle.std.proofs.Common.{◌≡◌, ◌≤◌}
 use Rattle.raft_model.specs.Messages.{to_others}
 use Rattle.raft_model.specs.Quorums.{number}
 use Rattle.raft_core.specs.Beats.{append_from}
