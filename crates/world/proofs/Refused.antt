@@ -36,7 +36,7 @@ IsFor n me model.Crash = Unit {0}
 IsFor n me model.Restart = Unit {0}
 
 module _ {S C : Type 0} (m : Meaning S C) (n me : ℕ)
-    (again : (y : WireMessage C) → MessageFits m.commands y → message_at m.commands (message_text m.commands y) ≡ Ok y) where
+    (again : (y : WireMessage S C) → MessageFits m.commands y → message_at m.commands (message_text m.commands y) ≡ Ok y) where
   -- a frame that was sent to this server is not refused for its bytes
   readable : (bytes : List ℕ) (x : Message C) → IsFrameOf m bytes x → x.from < n → x.to ≡ me → frame_refusal m n me bytes ≡ None
   readable bytes x f from to =
@@ -87,7 +87,7 @@ module _ {S C : Type 0} (m : Meaning S C) (h h2 : Held C) (after : List Frame) w
   declined_same (givens.Command command) r other d = let why = proposal_declined m h h2 command r other d.0 in why.same
 
   -- and is the model's
-  pub declined_so : ((y : WireMessage C) → MessageFits m.commands y → message_at m.commands (message_text m.commands y) ≡ Ok y) → (given : Given S C) (r : Refusal) → r ≢ refusals.NoMemory → Declines m h given r h2 [] after →
+  pub declined_so : ((y : WireMessage S C) → MessageFits m.commands y → message_at m.commands (message_text m.commands y) ≡ Ok y) → (given : Given S C) (r : Refusal) → r ≢ refusals.NoMemory → Declines m h given r h2 [] after →
       (s : Server C) → Represents m h s → (x : model.Input C) → Reads m given x → IsFor h.size h.me x → step m h.size h.me s x ≡ Err r
   declined_so again (givens.Input input) r other d s represents x reads for =
       let why = input_declined m h h2 input [] after r other d in
