@@ -2,8 +2,12 @@
 //! extended version 2014, section 5 and Figure 2.)
 #![tactic(auto)]
 
+mod apply;
+mod commit;
 mod input;
 mod log;
+mod merge;
+mod project;
 mod raft;
 mod role;
 mod sending;
@@ -11,6 +15,7 @@ mod stable;
 #[cfg(test)]
 mod tests;
 
+pub use commit::commit_is_greatest;
 pub use input::Input;
 pub use raft::{NotRestarted, Raft};
 pub use role::Role;
