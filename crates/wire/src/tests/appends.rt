@@ -227,18 +227,31 @@ fn two_entries(alloc: Global) -> Result<Vec<Entry<Coded<Tally>>>, Fail> {
     Ok(entries)
 }
 
+/// The `Append`, as a value.
+fn append(alloc: Global) -> Result<Append<Tally>, Fail> {
+    Ok(Append::new(head()?, two_entries(alloc)?).ok_or("no append")?)
+}
+
+/// The message of one server to another.
+fn message(from: u8, to: u8, body: Body<Tally>) -> Result<Message<Tally>, Fail> {
+    let from = Actor::Server(server(from)?);
+    let to = Actor::Server(server(to)?);
+    Ok(Message::new(from, to, body).ok_or("no message")?)
+}
+
 /// Sent from its parts, and as a message.
 #[test]
 fn append_sent(rt: HostRuntime) -> Result<(), Fail> {
     let mut outbox = Outbox::new(rt.alloc());
-    let entries = two_entries(rt.alloc())?;
-    outbox.send_append::<Tally>(server(1)?, server(2)?, &head()?, &entries)?;
-    let append = Append::<Tally>::new(head()?, entries).ok_or("no append")?;
-    let message = Message::between(server(1)?, server(2)?, Body::Append(append));
-    outbox.send(&message)?;
+    let (from, to) = (server(1)?, server(2)?);
+    let append = append(rt.alloc())?;
+    if to != from {
+        outbox.send_append(from, to, &append.head(), append.entries())?;
+    }
+    outbox.send(&message(1, 2, Body::Append(append))?)?;
     assert_eq!(rt; outbox.len(), 2);
     for frame in outbox.frames() {
-        assert_eq!(rt; frame.to(), Actor::Server(server(2)?));
+        assert_eq!(rt; frame.to(), Actor::Server(to));
         assert!(rt; frame.bytes() == APPEND.as_slice());
     }
     Ok(())
@@ -283,9 +296,8 @@ fn reply_sent_and_read(rt: HostRuntime) -> Result<(), Fail> {
         ok: true,
         at: index(5)?,
     };
-    let message = Message::<Tally>::between(server(2)?, server(1)?, Body::AppendReply(reply));
     let mut frame = Vec::new(rt.alloc());
-    write_message(&message, &mut frame)?;
+    write_message(&message(2, 1, Body::AppendReply(reply))?, &mut frame)?;
     assert_eq!(rt; frame.as_slice(), REPLY.as_slice());
     let again = read_message::<Tally>(rt.alloc(), &REPLY)?;
     assert_eq!(rt; again.from(), Actor::Server(server(2)?));
