@@ -8,6 +8,8 @@ mod faults;
 #[cfg(test)]
 mod groups;
 #[cfg(test)]
+mod histories;
+#[cfg(test)]
 mod memory;
 #[cfg(test)]
 mod runs;
