@@ -5,6 +5,8 @@ use Rattle.rows.specs.declared.refusal.Refusal.TheVariants as refusals
 use Rattle.machine.specs.Meaning.{Meaning}
 use Rattle.raft_model.specs.Servers.{Server, is_up, is_leader, silent, crashed}
 use Rattle.raft_model.specs.Steps.{step, Propose}
+use Rattle.raft_core.specs.declared.no_projection.NoProjection.{NoProjection}
+use Rattle.raft_core.specs.declared.no_projection.NoProjection.TheVariants as reasons
 use Rattle.raft_core.specs.Seen.{Seen}
 use Rattle.raft_core.specs.Steps.{Represents}
 
@@ -34,6 +36,12 @@ DeclinesProposal m old command refusals.NoMemory new = LacksForProposal m old ne
 DeclinesProposal m old command cause new = RefusesProposal m old command cause new
 
 -- why a server has no machine after its whole log
+abbrev pub LacksProjection : {C : Type 0} → Server C → NoProjection → Type 0
+LacksProjection s reasons.NoMemory = is_leader s.mode ≡ true
+LacksProjection s reasons.NotLeader = (is_up s.mode ≡ true) × (is_leader s.mode ≡ false)
+LacksProjection s reasons.Down = is_up s.mode ≡ false
+
+-- the same by the refusal
 abbrev pub HasNoProjection : {C : Type 0} → Server C → Refusal → Type 0
 HasNoProjection s refusals.NoMemory = is_leader s.mode ≡ true
 HasNoProjection s refusals.Down = is_up s.mode ≡ false

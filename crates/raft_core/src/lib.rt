@@ -7,6 +7,7 @@ mod commit;
 mod input;
 mod log;
 mod merge;
+mod no_projection;
 mod project;
 mod raft;
 mod role;
@@ -17,6 +18,7 @@ mod tests;
 
 pub use commit::commit_is_greatest;
 pub use input::Input;
+pub use no_projection::NoProjection;
 pub use raft::{NotRestarted, Raft};
 pub use role::Role;
 pub use stable::Stable;

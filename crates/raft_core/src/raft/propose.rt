@@ -5,9 +5,10 @@ ghost use Rattle.raft_model.specs.Logs.{state_after};
 ghost use Rattle.raft_model.specs.Servers.{Server, is_up, is_leader, silent, extended};
 ghost use Rattle.raft_model.specs.Steps.{step, Propose};
 ghost use Rattle.raft_core.specs.Steps.{Represents};
-ghost use Rattle.raft_core.specs.Proposals.{Proposes, DeclinesProposal, IsRefused, HasNoProjection};
+ghost use Rattle.raft_core.specs.Proposals.{Proposes, DeclinesProposal, IsRefused, LacksProjection, HasNoProjection};
 
 use super::Raft;
+use crate::no_projection::NoProjection;
 use crate::project::projection;
 use machine::{Coded, Entry, Machine};
 use rows::{Index, Leader, NoMemory, Refusal};
@@ -18,7 +19,7 @@ impl<M: Machine> Raft<M> {
     ghost use Rattle.std.specs.Io.BufRead.{Rests};
 
     /// The machine after the whole log.
-    fn project(&self) -> Result<M, NoMemory>
+    fn machine_ahead(&self) -> Result<M, NoMemory>
         requires { is_up self.now.server.mode ≡ true }
         ensures { IfOk result (λ ahead. ahead ≡ state_after M.meaning self.now.server.log) }
     {
@@ -44,7 +45,7 @@ impl<M: Machine> Raft<M> {
         if self.log.len() as u64 + 1 >= Index::LIMIT {
             return Err(Refusal::Exhausted);
         }
-        let ahead = self.project()?;
+        let ahead = self.machine_ahead()?;
         match ahead.admits(command)? {
             None => Ok(()),
             Some(refusal) => Err(refusal),
@@ -82,21 +83,35 @@ impl<M: Machine> Raft<M> {
         }
     }
 
-    /// A leader's machine after its whole log, committed or not. The server stays as it was, also on a refusal.
-    ///
-    /// One that is down refuses with `Down`, one that does not lead with `NotLeader` and the leader that it knows.
-    pub fn projected(&mut self) -> Result<&M, Refusal>
+    /// A leader's machine after its whole log, committed or not, or why there is none. The server stays as it was, also
+    /// where there is none.
+    pub fn project(&mut self) -> Result<&M, NoProjection>
         ensures value { IfOk result (λ r. (s : Server M.Command) → Represents M.meaning self.old s → (is_leader s.mode ≡ true) × (r.now ≡ state_after M.meaning s.log)) }
-        ensures refused { IfErr result (λ cause. (s : Server M.Command) → Represents M.meaning self.old s → HasNoProjection s cause) }
+        ensures refused { IfErr result (λ why. (s : Server M.Command) → Represents M.meaning self.old s → LacksProjection s why) }
         ensures* same { sem 𝓛 (Rests (the_row M.row M.Command.row M.Machine) self.entry (λ n. n ≡ self.old)) }
     {
         let Some(machine) = &self.machine else {
-            return Err(Refusal::Down);
+            return Err(NoProjection::Down);
         };
         if !self.role.leads() {
-            return Err(Refusal::NotLeader(Leader::new(self.known)));
+            return Err(NoProjection::NotLeader);
         }
         let ahead = projection(self.alloc, machine, self.commit.get(), &self.log)?;
         Ok(self.ahead.insert(ahead))
+    }
+
+    /// The same as `project`, with the refusal in place of the reason: `Down` of one that is down, `NotLeader` and the
+    /// leader that it knows of one that does not lead, or `NoMemory`.
+    pub fn projected(&mut self) -> Result<&M, Refusal>
+        ensures value { IfOk result (λ r. (s : Server M.Command) → Represents M.meaning self.old s → (is_leader s.mode ≡ true) × (r.now ≡ state_after M.meaning s.log)) }
+        ensures refused { IfErr result (λ cause. (s : Server M.Command) → Represents M.meaning self.old s → HasNoProjection s cause) }
+    {
+        let known = self.known;
+        match self.project() {
+            Ok(machine) => Ok(machine),
+            Err(NoProjection::NoMemory) => Err(Refusal::NoMemory),
+            Err(NoProjection::NotLeader) => Err(Refusal::NotLeader(Leader::new(known))),
+            Err(NoProjection::Down) => Err(Refusal::Down),
+        }
     }
 }
