@@ -63,7 +63,7 @@ pub evaluation_is_ruled : IsRuled (λ front e. is_behind eval_cmp eval_key front
 evaluation_is_ruled = keyed_is_ruled _ _ _ _ _ (λ _. refl) (λ _. refl) eval_id_lawful (then_lawful _ _ name_lawful (then_lawful _ _ priority_lawful (then_lawful _ _ eval_status_lawful index_lawful)))
 
 pub allocation_lawful : Lawful allocation
-allocation_lawful = made_lawful _ _ _ (λ _. refl) (λ _ _. refl) (then_lawful _ _ alloc_id_lawful (then_lawful _ _ name_lawful (then_lawful _ _ name_lawful (then_lawful _ _ ordinal_lawful (then_lawful _ _ node_id_lawful (then_lawful _ _ size_lawful (then_lawful _ _ desired_lawful (then_lawful _ _ client_state_lawful (then_lawful _ _ bool_lawful eval_id_lawful)))))))))
+allocation_lawful = made_lawful _ _ _ (λ _. refl) (λ _ _. refl) (then_lawful _ _ alloc_id_lawful (then_lawful _ _ name_lawful (then_lawful _ _ (then_lawful _ _ name_lawful (then_lawful _ _ ordinal_lawful (then_lawful _ _ node_id_lawful size_lawful))) (then_lawful _ _ desired_lawful (then_lawful _ _ client_state_lawful (then_lawful _ _ bool_lawful eval_id_lawful))))))
 
 pub allocation_is_ruled : IsRuled (λ front a. is_behind alloc_cmp alloc_key front a.id) allocation allocation_behind
-allocation_is_ruled = keyed_is_ruled _ _ _ _ _ (λ _. refl) (λ _. refl) alloc_id_lawful (then_lawful _ _ name_lawful (then_lawful _ _ name_lawful (then_lawful _ _ ordinal_lawful (then_lawful _ _ node_id_lawful (then_lawful _ _ size_lawful (then_lawful _ _ desired_lawful (then_lawful _ _ client_state_lawful (then_lawful _ _ bool_lawful eval_id_lawful))))))))
+allocation_is_ruled = keyed_is_ruled _ _ _ _ _ (λ _. refl) (λ _. refl) alloc_id_lawful (then_lawful _ _ name_lawful (then_lawful _ _ (then_lawful _ _ name_lawful (then_lawful _ _ ordinal_lawful (then_lawful _ _ node_id_lawful size_lawful))) (then_lawful _ _ desired_lawful (then_lawful _ _ client_state_lawful (then_lawful _ _ bool_lawful eval_id_lawful)))))

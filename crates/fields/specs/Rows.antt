@@ -135,8 +135,11 @@ make_node p = record { number = p.0; class = p.1.0; size = p.1.1.0; status = p.1
 abbrev pub node_parts : Node → ℕ × NodeOthers
 node_parts n = (n.number, (n.class, (n.size, (n.status, (n.eligible, (n.drain, n.room))))))
 
+abbrev pub node_end : Format (NodeStatus × (Bool × (DrainMode × ℕ)))
+node_end = node_status then bool then drain_mode then index
+
 abbrev pub node_others : Format NodeOthers
-node_others = name then size then node_status then bool then drain_mode then index
+node_others = name then size then node_end
 
 abbrev pub node : Format Node
 node = keyed make_node node_parts node_id node_others
@@ -172,16 +175,25 @@ evaluation_of = after_key make_evaluation evaluation_others
 -- an allocation: its id, job, group, index, node, size, what is wanted and known of it, whether it is to move, and its
 -- evaluation; in a table its id is above the last
 abbrev pub AllocationOthers : Type 0
-AllocationOthers = List ℕ × (List ℕ × (ℕ × (ℕ × (Size × (Desired × (ClientState × (Bool × EvalId)))))))
+AllocationOthers = List ℕ × ((List ℕ × (ℕ × (ℕ × Size))) × (Desired × (ClientState × (Bool × EvalId))))
 
 abbrev pub make_allocation : AllocId × AllocationOthers → Allocation
-make_allocation p = record { id = p.0; job = p.1.0; group = p.1.1.0; index = p.1.1.1.0; node = p.1.1.1.1.0; size = p.1.1.1.1.1.0; desired = p.1.1.1.1.1.1.0; client = p.1.1.1.1.1.1.1.0; migrate = p.1.1.1.1.1.1.1.1.0; eval = p.1.1.1.1.1.1.1.1.1 }
+make_allocation p =
+    let place = p.1.1.0 in
+    let end = p.1.1.1 in
+    record { id = p.0; job = p.1.0; group = place.0; index = place.1.0; node = place.1.1.0; size = place.1.1.1; desired = end.0; client = end.1.0; migrate = end.1.1.0; eval = end.1.1.1 }
 
 abbrev pub allocation_parts : Allocation → AllocId × AllocationOthers
-allocation_parts a = (a.id, (a.job, (a.group, (a.index, (a.node, (a.size, (a.desired, (a.client, (a.migrate, a.eval)))))))))
+allocation_parts a = (a.id, (a.job, ((a.group, (a.index, (a.node, a.size))), (a.desired, (a.client, (a.migrate, a.eval))))))
+
+abbrev pub allocation_place : Format (List ℕ × (ℕ × (ℕ × Size)))
+allocation_place = name then ordinal then node_id then size
+
+abbrev pub allocation_end : Format (Desired × (ClientState × (Bool × EvalId)))
+allocation_end = desired then client_state then bool then eval_id
 
 abbrev pub allocation_others : Format AllocationOthers
-allocation_others = name then name then ordinal then node_id then size then desired then client_state then bool then eval_id
+allocation_others = name then allocation_place then allocation_end
 
 abbrev pub allocation : Format Allocation
 allocation = keyed make_allocation allocation_parts alloc_id allocation_others

@@ -3,8 +3,8 @@ ghost use Rattle.std.specs.Prelude.{◌≡◌};
 ghost use Rattle.std.specs.Ordering.{nat_cmp};
 ghost use Rattle.rows.specs.Rising.{is_behind};
 ghost use Rattle.rows.specs.Keys.{name_cmp, eval_cmp, alloc_cmp, job_name, node_number, eval_id as eval_key, alloc_id as alloc_key};
-ghost use Rattle.fields.specs.Format.{Gives};
-ghost use Rattle.fields.specs.Rows.{job, job_of, job_behind, node, node_of, node_behind, evaluation, evaluation_of, evaluation_behind, allocation, allocation_of, allocation_behind};
+ghost use Rattle.fields.specs.Format.{Gives, Puts};
+ghost use Rattle.fields.specs.Rows.{job, job_of, job_behind, node, node_of, node_behind, node_end, evaluation, evaluation_of, evaluation_behind, allocation, allocation_of, allocation_behind, allocation_place, allocation_end};
 ghost use Rattle.fields.specs.RowLaws.{job_lawful, job_is_ruled, node_lawful, node_is_ruled, evaluation_lawful, evaluation_is_ruled, allocation_lawful, allocation_is_ruled};
 
 use crate::field::Field;
@@ -87,6 +87,16 @@ fn read_node_of(alloc: Global, number: NodeId, bytes: &[u8], at: usize) -> Resul
     Ok((Node { number, class, size, status, eligible, drain, room }, at))
 }
 
+/// Whether a node is heard of, whether it is eligible, its drain and its room.
+fn append_node_end(node: &Node, out: &mut Vec<u8>) -> Result<(), NoMemory>
+    ensures { Puts node_end (node.now.status, (node.now.eligible, (node.now.drain, node.now.room))) result out.old.items out.new.items }
+{
+    node.status.append(out)?;
+    node.eligible.append(out)?;
+    node.drain.append(out)?;
+    node.room.append(out)
+}
+
 /// A node's row: its number, class, size, status, whether it is eligible, its drain and room.
 impl Field for Node {
     ghost format = { node };
@@ -102,10 +112,7 @@ impl Field for Node {
         self.number.append(out)?;
         self.class.append(out)?;
         self.size.append(out)?;
-        self.status.append(out)?;
-        self.eligible.append(out)?;
-        self.drain.append(out)?;
-        self.room.append(out)
+        append_node_end(self, out)
     }
 }
 
@@ -212,6 +219,26 @@ fn read_allocation_of(alloc: Global, id: AllocId, bytes: &[u8], at: usize) -> Re
     Ok((Allocation { id, job, group, index, node, size, desired, client, migrate, eval }, at))
 }
 
+/// The group, the index, the node and the size.
+fn append_allocation_place(row: &Allocation, out: &mut Vec<u8>) -> Result<(), NoMemory>
+    ensures { Puts allocation_place (row.now.group, (row.now.index, (row.now.node, row.now.size))) result out.old.items out.new.items }
+{
+    row.group.append(out)?;
+    row.index.append(out)?;
+    row.node.append(out)?;
+    row.size.append(out)
+}
+
+/// What is wanted and known, whether it is to move, and the evaluation.
+fn append_allocation_end(row: &Allocation, out: &mut Vec<u8>) -> Result<(), NoMemory>
+    ensures { Puts allocation_end (row.now.desired, (row.now.client, (row.now.migrate, row.now.eval))) result out.old.items out.new.items }
+{
+    row.desired.append(out)?;
+    row.client.append(out)?;
+    row.migrate.append(out)?;
+    row.eval.append(out)
+}
+
 /// An allocation's row: its id, job, group, index, node, size, what is wanted and known of it, whether it is to move, and its
 /// evaluation.
 impl Field for Allocation {
@@ -227,14 +254,8 @@ impl Field for Allocation {
     fn append(&self, out: &mut Vec<u8>) -> Result<(), NoMemory> {
         self.id.append(out)?;
         self.job.append(out)?;
-        self.group.append(out)?;
-        self.index.append(out)?;
-        self.node.append(out)?;
-        self.size.append(out)?;
-        self.desired.append(out)?;
-        self.client.append(out)?;
-        self.migrate.append(out)?;
-        self.eval.append(out)
+        append_allocation_place(self, out)?;
+        append_allocation_end(self, out)
     }
 }
 
