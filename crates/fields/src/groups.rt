@@ -9,17 +9,33 @@ ghost use Rattle.fields.specs.RowLaws.{group_lawful, group_is_ruled, groups_lawf
 use crate::field::Field;
 use crate::list::append_counted;
 use crate::ruled::{RuledField, read_ruled_list};
-use rows::{AllocId, ClassName, Group, GroupCount, GroupName, Groups, NoMemory, Refusal, Ruled, Size, is_new_name};
+use rows::{
+    AllocId, ClassName, Group, GroupCount, GroupName, Groups, NoMemory, Refusal, Ruled, Size,
+    is_new_name,
+};
 use std::alloc::Global;
 
 /// What follows the name.
-fn read_group_of(alloc: Global, name: GroupName, bytes: &[u8], at: usize) -> Result<(Group, usize), Refusal>
+fn read_group_of(
+    alloc: Global,
+    name: GroupName,
+    bytes: &[u8],
+    at: usize,
+) -> Result<(Group, usize), Refusal>
     ensures { Gives result (group_of name bytes.now at) }
 {
     let (count, at) = GroupCount::read_at(alloc, bytes, at)?;
     let (class, at) = ClassName::read_at(alloc, bytes, at)?;
     let (size, at) = Size::read_at(alloc, bytes, at)?;
-    Ok((Group { name, count, class, size }, at))
+    Ok((
+        Group {
+            name,
+            count,
+            class,
+            size,
+        },
+        at,
+    ))
 }
 
 /// A group: its name, count, class and size.
@@ -49,7 +65,12 @@ impl RuledField for Group {
 
     ghost ruled = { group_is_ruled };
 
-    fn read_behind(alloc: Global, bytes: &[u8], at: usize, front: &[Group]) -> Result<(Group, usize), Refusal> {
+    fn read_behind(
+        alloc: Global,
+        bytes: &[u8],
+        at: usize,
+        front: &[Group],
+    ) -> Result<(Group, usize), Refusal> {
         let (name, next) = GroupName::read_at(alloc, bytes, at)?;
         if is_new_name(front, &name) {
             read_group_of(alloc, name, bytes, next)
@@ -86,7 +107,12 @@ impl RuledField for AllocId {
 
     ghost ruled = { alloc_id_is_ruled };
 
-    fn read_behind(alloc: Global, bytes: &[u8], at: usize, front: &[AllocId]) -> Result<(AllocId, usize), Refusal> {
+    fn read_behind(
+        alloc: Global,
+        bytes: &[u8],
+        at: usize,
+        front: &[AllocId],
+    ) -> Result<(AllocId, usize), Refusal> {
         let (id, next) = AllocId::read_at(alloc, bytes, at)?;
         if id.may_follow(front) {
             Ok((id, next))

@@ -6,8 +6,8 @@ use crate::field::Field;
 use crate::reading::{read_name, read_u8, read_u16, read_u32, read_u64};
 use crate::writing::{write_u8, write_u16, write_u32, write_u64};
 use rows::{
-    AllocId, Delivery, EntryIndex, EvalId, GroupCount, Index, LeaderTerm, Name, NoMemory, NodeId, Ordinal,
-    Priority, Quantity, Refusal, Serial, Size, Token,
+    AllocId, Delivery, EntryIndex, EvalId, GroupCount, Index, LeaderTerm, Name, NoMemory, NodeId,
+    Ordinal, Priority, Quantity, Refusal, Serial, Size, Token,
 };
 use std::alloc::Global;
 
@@ -208,7 +208,13 @@ impl Field for EvalId {
     fn read_at(alloc: Global, bytes: &[u8], at: usize) -> Result<(EvalId, usize), Refusal> {
         let (index, at) = EntryIndex::read_at(alloc, bytes, at)?;
         match read_u16(bytes, at)? {
-            (slot, next) if slot < 256 => Ok((EvalId { index, slot: slot as u8 }, next)),
+            (slot, next) if slot < 256 => Ok((
+                EvalId {
+                    index,
+                    slot: slot as u8,
+                },
+                next,
+            )),
             _ => Err(Refusal::Frame(at)),
         }
     }

@@ -10,20 +10,35 @@ ghost use Rattle.fields.specs.RowLaws.{job_lawful, job_is_ruled, node_lawful, no
 use crate::field::Field;
 use crate::ruled::RuledField;
 use rows::{
-    AllocId, Allocation, ClassName, ClientState, Desired, DrainMode, EvalId, EvalStatus, Evaluation, GroupName, Groups,
-    Index, Job, JobName, NoMemory, Node, NodeId, NodeStatus, Ordinal, Priority, Refusal, Size,
+    AllocId, Allocation, ClassName, ClientState, Desired, DrainMode, EvalId, EvalStatus,
+    Evaluation, GroupName, Groups, Index, Job, JobName, NoMemory, Node, NodeId, NodeStatus,
+    Ordinal, Priority, Refusal, Size,
 };
 use std::alloc::Global;
 
 /// What follows the name.
-fn read_job_of(alloc: Global, name: JobName, bytes: &[u8], at: usize) -> Result<(Job, usize), Refusal>
+fn read_job_of(
+    alloc: Global,
+    name: JobName,
+    bytes: &[u8],
+    at: usize,
+) -> Result<(Job, usize), Refusal>
     ensures { Gives result (job_of name bytes.now at) }
 {
     let (priority, at) = Priority::read_at(alloc, bytes, at)?;
     let (stopped, at) = bool::read_at(alloc, bytes, at)?;
     let (version, at) = Index::read_at(alloc, bytes, at)?;
     let (groups, at) = Groups::read_at(alloc, bytes, at)?;
-    Ok((Job { name, priority, stopped, version, groups }, at))
+    Ok((
+        Job {
+            name,
+            priority,
+            stopped,
+            version,
+            groups,
+        },
+        at,
+    ))
 }
 
 /// A job's row: its name, priority, whether it was stopped, its version and groups.
@@ -64,7 +79,12 @@ impl RuledField for Job {
 
     ghost ruled = { job_is_ruled };
 
-    fn read_behind(alloc: Global, bytes: &[u8], at: usize, front: &[Job]) -> Result<(Job, usize), Refusal> {
+    fn read_behind(
+        alloc: Global,
+        bytes: &[u8],
+        at: usize,
+        front: &[Job],
+    ) -> Result<(Job, usize), Refusal> {
         let (name, next) = JobName::read_at(alloc, bytes, at)?;
         if is_job_above(front, &name) {
             read_job_of(alloc, name, bytes, next)
@@ -75,7 +95,12 @@ impl RuledField for Job {
 }
 
 /// What follows the number.
-fn read_node_of(alloc: Global, number: NodeId, bytes: &[u8], at: usize) -> Result<(Node, usize), Refusal>
+fn read_node_of(
+    alloc: Global,
+    number: NodeId,
+    bytes: &[u8],
+    at: usize,
+) -> Result<(Node, usize), Refusal>
     ensures { Gives result (node_of number bytes.now at) }
 {
     let (class, at) = ClassName::read_at(alloc, bytes, at)?;
@@ -84,7 +109,18 @@ fn read_node_of(alloc: Global, number: NodeId, bytes: &[u8], at: usize) -> Resul
     let (eligible, at) = bool::read_at(alloc, bytes, at)?;
     let (drain, at) = DrainMode::read_at(alloc, bytes, at)?;
     let (room, at) = Index::read_at(alloc, bytes, at)?;
-    Ok((Node { number, class, size, status, eligible, drain, room }, at))
+    Ok((
+        Node {
+            number,
+            class,
+            size,
+            status,
+            eligible,
+            drain,
+            room,
+        },
+        at,
+    ))
 }
 
 /// Whether a node is heard of, whether it is eligible, its drain and its room.
@@ -134,7 +170,12 @@ impl RuledField for Node {
 
     ghost ruled = { node_is_ruled };
 
-    fn read_behind(alloc: Global, bytes: &[u8], at: usize, front: &[Node]) -> Result<(Node, usize), Refusal> {
+    fn read_behind(
+        alloc: Global,
+        bytes: &[u8],
+        at: usize,
+        front: &[Node],
+    ) -> Result<(Node, usize), Refusal> {
         let (number, next) = NodeId::read_at(alloc, bytes, at)?;
         if is_node_above(front, &number) {
             read_node_of(alloc, number, bytes, next)
@@ -145,14 +186,28 @@ impl RuledField for Node {
 }
 
 /// What follows the id.
-fn read_evaluation_of(alloc: Global, id: EvalId, bytes: &[u8], at: usize) -> Result<(Evaluation, usize), Refusal>
+fn read_evaluation_of(
+    alloc: Global,
+    id: EvalId,
+    bytes: &[u8],
+    at: usize,
+) -> Result<(Evaluation, usize), Refusal>
     ensures { Gives result (evaluation_of id bytes.now at) }
 {
     let (job, at) = JobName::read_at(alloc, bytes, at)?;
     let (priority, at) = Priority::read_at(alloc, bytes, at)?;
     let (status, at) = EvalStatus::read_at(alloc, bytes, at)?;
     let (snapshot, at) = Index::read_at(alloc, bytes, at)?;
-    Ok((Evaluation { id, job, priority, status, snapshot }, at))
+    Ok((
+        Evaluation {
+            id,
+            job,
+            priority,
+            status,
+            snapshot,
+        },
+        at,
+    ))
 }
 
 /// An evaluation's row: its id, job, priority, status and snapshot.
@@ -193,7 +248,12 @@ impl RuledField for Evaluation {
 
     ghost ruled = { evaluation_is_ruled };
 
-    fn read_behind(alloc: Global, bytes: &[u8], at: usize, front: &[Evaluation]) -> Result<(Evaluation, usize), Refusal> {
+    fn read_behind(
+        alloc: Global,
+        bytes: &[u8],
+        at: usize,
+        front: &[Evaluation],
+    ) -> Result<(Evaluation, usize), Refusal> {
         let (id, next) = EvalId::read_at(alloc, bytes, at)?;
         if is_evaluation_above(front, &id) {
             read_evaluation_of(alloc, id, bytes, next)
@@ -204,7 +264,12 @@ impl RuledField for Evaluation {
 }
 
 /// What follows the id.
-fn read_allocation_of(alloc: Global, id: AllocId, bytes: &[u8], at: usize) -> Result<(Allocation, usize), Refusal>
+fn read_allocation_of(
+    alloc: Global,
+    id: AllocId,
+    bytes: &[u8],
+    at: usize,
+) -> Result<(Allocation, usize), Refusal>
     ensures { Gives result (allocation_of id bytes.now at) }
 {
     let (job, at) = JobName::read_at(alloc, bytes, at)?;
@@ -216,7 +281,21 @@ fn read_allocation_of(alloc: Global, id: AllocId, bytes: &[u8], at: usize) -> Re
     let (client, at) = ClientState::read_at(alloc, bytes, at)?;
     let (migrate, at) = bool::read_at(alloc, bytes, at)?;
     let (eval, at) = EvalId::read_at(alloc, bytes, at)?;
-    Ok((Allocation { id, job, group, index, node, size, desired, client, migrate, eval }, at))
+    Ok((
+        Allocation {
+            id,
+            job,
+            group,
+            index,
+            node,
+            size,
+            desired,
+            client,
+            migrate,
+            eval,
+        },
+        at,
+    ))
 }
 
 /// The group, the index, the node and the size.
@@ -277,7 +356,12 @@ impl RuledField for Allocation {
 
     ghost ruled = { allocation_is_ruled };
 
-    fn read_behind(alloc: Global, bytes: &[u8], at: usize, front: &[Allocation]) -> Result<(Allocation, usize), Refusal> {
+    fn read_behind(
+        alloc: Global,
+        bytes: &[u8],
+        at: usize,
+        front: &[Allocation],
+    ) -> Result<(Allocation, usize), Refusal> {
         let (id, next) = AllocId::read_at(alloc, bytes, at)?;
         if is_allocation_above(front, &id) {
             read_allocation_of(alloc, id, bytes, next)
