@@ -147,9 +147,9 @@ module _ {C : Type 0} (n me term : ℕ) (log : List (Entry C)) (matched : List �
   pub step_down : (commit p : ℕ) → 0 < p → term_at log p ≢ term → greatest (is_chosen_in n me term log matched) commit p ≡ greatest (is_chosen_in n me term log matched) commit (p - 1)
   step_down commit p pos other =
       greatest-skip (is_chosen_in n me term log matched) commit (p - 1) p (omega arith) (λ q lt below.
-        let same : q ≡ p = omega arith in
-        let no : (term_at log q == term) ≡ false = ne_eqb (term_at log q) term (λ e. other (ap (term_at log) (sym same) ∙ e)) in
-        rw no refl)
+      let same : q ≡ p = omega arith in
+      let no : (term_at log q == term) ≡ false = ne_eqb (term_at log q) term (λ e. other (ap (term_at log) (sym same) ∙ e)) in
+      rw no refl)
 
   -- what is found is the greatest
   pub found : (commit p : ℕ) → commit < p → is_quorum n (holds me matched p) ≡ true → term_at log p ≡ term → greatest (is_chosen_in n me term log matched) commit p ≡ p

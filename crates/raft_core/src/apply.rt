@@ -8,10 +8,7 @@ use machine::{Coded, Entry, Machine};
 use rows::NoMemory;
 
 /// Applies the entries, one after the other.
-pub fn apply_all<M: Machine>(
-    machine: &mut M,
-    entries: &[Entry<Coded<M>>],
-) -> Result<(), NoMemory>
+pub fn apply_all<M: Machine>(machine: &mut M, entries: &[Entry<Coded<M>>]) -> Result<(), NoMemory>
     requires { M.meaning.count machine.old + length entries.now < 2 ^ 40 }
     ensures { OnOk result (machine.new ≡ after_from M.meaning machine.old (commands entries.now)) }
 {

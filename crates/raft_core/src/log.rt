@@ -29,6 +29,5 @@ pub fn term_of_last<M: Machine>(log: &[Entry<Coded<M>>]) -> Term
 pub fn stays<M: Machine>(log: &[Entry<Coded<M>>], commit: u64, index: u64, term: Term) -> bool
     ensures { result ≡ (nat_le index commit || has log.now index term) }
 {
-    index <= commit
-        || index <= log.len() as u64 && term_at(log, index).get() == term.get()
+    index <= commit || index <= log.len() as u64 && term_at(log, index).get() == term.get()
 }

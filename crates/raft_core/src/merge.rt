@@ -32,11 +32,7 @@ fn first_new<M: Machine>(
 }
 
 /// Cuts the list and puts others behind what stays, or changes nothing.
-fn replace_tail<T: Drop>(
-    all: &mut Vec<T>,
-    keep: usize,
-    mut more: Vec<T>,
-) -> Result<(), NoMemory>
+fn replace_tail<T: Drop>(all: &mut Vec<T>, keep: usize, mut more: Vec<T>) -> Result<(), NoMemory>
     ensures ok { OnOk result (all.new.items ≡ take keep all.old.items ++ more.items) }
     ensures err { OnErr result (all.new.items ≡ all.old.items) }
 {

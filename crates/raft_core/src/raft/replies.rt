@@ -44,14 +44,7 @@ fn back_off(next: &mut [u64], matched: &[u64], from: ServerId, at: Index)
 }
 
 /// What an answer tells of another server's log.
-fn learn(
-    next: &mut [u64],
-    matched: &mut [u64],
-    last: u64,
-    from: ServerId,
-    ok: bool,
-    at: Index,
-)
+fn learn(next: &mut [u64], matched: &mut [u64], last: u64, from: ServerId, ok: bool, at: Index)
     requires next_each { from < length next.old }
     requires matched_each { from < length matched.old }
     requires level { number matched.old from < 2 ^ 40 }

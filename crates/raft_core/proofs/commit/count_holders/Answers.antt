@@ -15,10 +15,10 @@ loop-place-preserved c =
     let i = c.loop-place.place in
     let at = c.place.ensures.value in
     let tells : (eqb i a.me || leb a.index (get_or a.matched.now i 0)) ≡ c.if-place.is_holder =
-      elim c.if-place.branch [
-        | then-place w ↦ rw (eq-eqb i a.me (w.if-place.true ∙ at)) (sym (w.is_holder-is ∙ eq-eqb i c.place.result w.if-place.true))
-        | else-place w ↦ rw (ne_eqb i a.me (λ e. w.if-place.false (e ∙ sym at))) (sym w.is_holder-is)
-      ] in
+    elim c.if-place.branch [
+      | then-place w ↦ rw (eq-eqb i a.me (w.if-place.true ∙ at)) (sym (w.is_holder-is ∙ eq-eqb i c.place.result w.if-place.true))
+      | else-place w ↦ rw (ne_eqb i a.me (λ e. w.if-place.false (e ∙ sym at))) (sym w.is_holder-is)
+    ] in
     elim c.if-is_holder.branch [
       | then-is_holder w ↦
           let next = count-holder a.me a.matched.now a.index i 0 true c.loop-place-test.true (tells ∙ w.if-is_holder.true) in
