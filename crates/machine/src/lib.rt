@@ -6,9 +6,9 @@ mod coded;
 mod entry;
 mod laws;
 mod machine;
-mod tally;
 #[cfg(test)]
 mod row_tests;
+mod tally;
 #[cfg(test)]
 mod tests;
 

@@ -29,7 +29,10 @@ fn names_and_sizes(rt: HostRuntime) -> Result<(), Fail> {
     assert_eq!(rt; linux.as_str(), "linux");
     assert_eq!(rt; Name::read("Linux"), Err(Refusal::BadName));
     assert_eq!(rt; Name::read(""), Err(Refusal::BadName));
-    assert_eq!(rt; Name::read("a-name-of-33-bytes-is-one-too-many"), Err(Refusal::BadName));
+    assert_eq!(rt;
+        Name::read("a-name-of-33-bytes-is-one-too-many"),
+        Err(Refusal::BadName)
+    );
     assert!(rt; Name::read("a")? < Name::read("ab")?);
     assert!(rt; is_text::<Name>(alloc, b"\x05linux")?);
     assert!(rt; is_refused_at::<Name>(alloc, b"\x05Linux", 0));
@@ -45,7 +48,8 @@ fn names_and_sizes(rt: HostRuntime) -> Result<(), Fail> {
 fn ids_and_tokens(rt: HostRuntime) -> Result<(), Fail> {
     let alloc: Global = rt.alloc();
     let text = [
-        0, 0, 0, 0, 0, 0, 0, 4, 0, 0, 0, 0, 0, 0, 0, 0, 0, 1, 0, 0, 0, 0, 0, 0, 0, 1, 0, 0, 0, 0, 0, 0, 0, 4,
+        0, 0, 0, 0, 0, 0, 0, 4, 0, 0, 0, 0, 0, 0, 0, 0, 0, 1, 0, 0, 0, 0, 0, 0, 0, 1, 0, 0, 0, 0,
+        0, 0, 0, 4,
     ];
     assert!(rt; is_text::<Delivery>(alloc, &text)?);
     assert!(rt; is_text::<EvalId>(alloc, &[0, 0, 0, 0, 0, 0, 0, 4, 0, 255])?);
@@ -112,20 +116,36 @@ fn refused_place(read: Result<(Sequence<Evaluation>, usize), Refusal>) -> Option
 fn tables(rt: HostRuntime) -> Result<(), Fail> {
     let alloc: Global = rt.alloc();
     // Evaluation 4.0 of job a with priority 50, blocked at 3; and then 5.0, or one that does not rise.
-    let row = b"\x00\x00\x00\x00\x00\x00\x00\x04\x00\x00\x01a\x32\x01\x00\x00\x00\x00\x00\x00\x00\x03";
+    let row =
+        b"\x00\x00\x00\x00\x00\x00\x00\x04\x00\x00\x01a\x32\x01\x00\x00\x00\x00\x00\x00\x00\x03";
     let mut text = Vec::new(alloc);
     text.extend_from_slice(&[0, 0, 0, 2])?;
     text.extend_from_slice(row)?;
     text.extend_from_slice(row)?;
-    assert_eq!(rt; refused_place(read_long_ruled_list(alloc, &text, 0, 2)), Some(26));
+    assert_eq!(rt;
+        refused_place(read_long_ruled_list(alloc, &text, 0, 2)),
+        Some(26)
+    );
     text[33] = 5;
-    assert_eq!(rt; refused_place(read_long_ruled_list(alloc, &text, 0, 2)), None);
-    assert_eq!(rt; refused_place(read_long_ruled_list(alloc, &text, 0, 1)), Some(0));
+    assert_eq!(rt;
+        refused_place(read_long_ruled_list(alloc, &text, 0, 2)),
+        None
+    );
+    assert_eq!(rt;
+        refused_place(read_long_ruled_list(alloc, &text, 0, 1)),
+        Some(0)
+    );
     // The id is above the last, and what follows is at fault: its priority.
     text[38] = 0;
-    assert_eq!(rt; refused_place(read_long_ruled_list(alloc, &text, 0, 2)), Some(38));
+    assert_eq!(rt;
+        refused_place(read_long_ruled_list(alloc, &text, 0, 2)),
+        Some(38)
+    );
     // The id is not above the last, and the priority is at fault too.
     text[33] = 4;
-    assert_eq!(rt; refused_place(read_long_ruled_list(alloc, &text, 0, 2)), Some(26));
+    assert_eq!(rt;
+        refused_place(read_long_ruled_list(alloc, &text, 0, 2)),
+        Some(26)
+    );
     Ok(())
 }
