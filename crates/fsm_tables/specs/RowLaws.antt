@@ -57,6 +57,10 @@ module _ {K X : Type 0} (R : K → K → Ordering) (key : X → K) where
       (subst (λ q. T (is_below R key q (map f ys))) (sym (keeps y)) (below_mapped f keeps (key y) ys (first _ _ h)))
       (rising_mapped f keeps ys (second _ _ h))
 
+  -- where there is room, the limit is nothing
+  pub within_room : (most : ℕ) (x : X) (ys : List X) → T (has_row R key (key x) ys || nat_lt (length ys) most) → put_within R key most x ys ≡ put R key x ys
+  within_room most x ys room = elim (has_row R key (key x) ys || nat_lt (length ys) most) as (λ b. T b → cond b (put R key x ys) ys ≡ put R key x ys) [ true ↦ λ _. refl | false ↦ λ h. absurd h ] room
+
   module _ (o : IsTotalOrder R) where
     pub below_less : (j k : K) (ys : List X) → R j k ≡ Less → T (is_below R key k ys) → T (is_below R key j ys)
     below_less j k [] p h = tt
@@ -143,6 +147,12 @@ module _ {K X : Type 0} (R : K → K → Ordering) (key : X → K) where
     few_put_within most x ys h le =
         let bound = length_bound (has_row R key (key x) ys) (nat_lt (length ys) most) (length ys) most le (below_most (length ys) most) in
         subst (λ (n : ℕ). n ≤ most) (sym (at_length (has_row R key (key x) ys || nat_lt (length ys) most) (put R key x ys) ys ∙ ap (λ (n : ℕ). cond (has_row R key (key x) ys || nat_lt (length ys) most) n (length ys)) (length-put x ys h))) bound
+
+  -- nor where there was room for the row
+    pub few_put : (most : ℕ) (x : X) (ys : List X) → T (is_rising R key ys) → T (has_row R key (key x) ys || nat_lt (length ys) most) → length ys ≤ most → length (put R key x ys) ≤ most
+    few_put most x ys h room le =
+        let all : length (put_within R key most x ys) ≤ most = few_put_within most x ys h le in
+        subst (λ (n : ℕ). n ≤ most) (ap length (within_room most x ys room)) all
 
   -- what holds of each row and of the row put holds of each row then
   pub all_put : (P : X → Type 0) (x : X) (ys : List X) → P x → AllByRecursion P ys → AllByRecursion P (put R key x ys)
