@@ -8,9 +8,10 @@ use Rattle.rows.specs.declared.size.Size.{Size}
 use Rattle.rows.specs.declared.allocation.AllocId.{AllocId}
 use Rattle.rows.specs.declared.allocation.Allocation.{Allocation}
 use Rattle.rows.specs.Fits.{AllocationFits}
-use Rattle.fsm_tables.specs.Rows.{row_of, put, is_rising}
+use Rattle.rows.specs.Rising.{is_rising}
+use Rattle.fsm_tables.specs.Rows.{row_of, put}
 use Rattle.fsm_tables.specs.RowLaws.{weight_of as row_weight, sum_by-put}
-use Rattle.fsm_tables.specs.Keys.{alloc_cmp, alloc_id}
+use Rattle.rows.specs.Keys.{alloc_cmp, alloc_id}
 use Rattle.fsm_tables.specs.Claims.{Claim, claim_of, claims, on_node, is_live}
 use Rattle.fsm_tables.specs.Sums.{AreSummed, weight, weight_of, IsShare}
 use Rattle.fsm_tables.specs.declared.usage.Share.{Share}

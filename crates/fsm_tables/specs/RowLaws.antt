@@ -7,7 +7,8 @@ use Rattle.std.specs.declared.cmp.Ordering.TheVariants.{Less, Equal, Greater}
 use Rattle.std.specs.List.{AllByRecursion}
 use Rattle.std.specs.Ordering.{is_lt, is_eq, ordering_reverse}
 use Rattle.std.specs.Cmp.{IsTotalOrder, alike_right}
-use Rattle.fsm_tables.specs.Rows.{by_order, row_of, has_row, put, put_within, is_below, is_rising}
+use Rattle.rows.specs.Rising.{is_below, is_rising}
+use Rattle.fsm_tables.specs.Rows.{by_order, row_of, has_row, put, put_within}
 
 pub both : (a b : Bool) → T a → T b → T (a && b)
 both true b p q = q

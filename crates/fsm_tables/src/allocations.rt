@@ -1,10 +1,12 @@
 ghost use Rattle.std.specs.Prelude.{◌≡◌, List, [], OnOk, OnErr, option_map, length, nat_lt, ◌||◌, T as Holds};
 ghost use Rattle.fsm_tables.specs.Rows.{row_of, has_row, put as with_row, put_within as with_row_within};
-ghost use Rattle.fsm_tables.specs.Keys.{alloc_cmp, alloc_id};
+ghost use Rattle.rows.specs.Keys.{alloc_cmp, alloc_id};
 ghost use Rattle.fsm_tables.specs.Claims.{claims, used};
+ghost use Rattle.fsm_tables.specs.LiveNames.{is_called as has_name, live_named};
 
+use crate::name::AllocName;
 use crate::table::Table;
-use crate::usage::{Usage, held_by, shift};
+use crate::usage::{Usage, held_by, is_live, shift};
 use rows::{AllocId, Allocation, NoMemory, NodeId};
 use std::alloc::Global;
 use std::marker::Model;
@@ -35,6 +37,25 @@ impl Model for Allocations {
     } };
 }
 
+/// Whether an allocation has the name.
+fn is_called(row: &Allocation, name: &AllocName) -> bool
+    ensures { result ≡ has_name name.now row.now }
+{
+    row.job == name.job && row.group == name.group && row.index == name.index
+}
+
+/// The first live one of a name.
+fn first_named<'a>(rows: &'a [Allocation], name: &AllocName) -> Option<&'a Allocation>
+    ensures { option_map (λ row. row.now) result ≡ live_named name.now rows.now }
+{
+    for row in rows {
+        if is_live(row) && is_called(row, name) {
+            return Some(row);
+        }
+    }
+    None
+}
+
 impl Allocations {
     /// The greatest number of rows: 65,536.
     pub const MOST: usize = 65_536;
@@ -50,11 +71,25 @@ impl Allocations {
         }
     }
 
-    /// All rows.
-    pub fn rows(&self) -> &[Allocation]
+    /// The number of rows.
+    pub fn len(&self) -> usize
+        ensures { result ≡ length self.now }
+    {
+        self.rows.len()
+    }
+
+    /// The rows.
+    pub fn rows(&self) -> &Table<Allocation>
         ensures { result.now ≡ self.now }
     {
-        self.rows.rows()
+        &self.rows
+    }
+
+    /// The live allocation of a name.
+    pub fn live_named(&self, name: &AllocName) -> Option<&Allocation>
+        ensures { option_map (λ row. row.now) result ≡ live_named name.now self.now }
+    {
+        first_named(self.rows.rows(), name)
     }
 
     /// The row of an id.
@@ -66,7 +101,8 @@ impl Allocations {
 
     /// What the live allocations take of a node.
     pub fn used(&self, node: NodeId) -> Usage
-        ensures { result ≡ used node (claims self.now) }
+        ensures cpu { result.cpu ≡ (used node (claims self.now)).cpu }
+        ensures mem { result.mem ≡ (used node (claims self.now)).mem }
     {
         let place = node.number() as usize;
         Usage {

@@ -1,8 +1,18 @@
 ghost use Rattle.std.specs.Prelude.{◌≡◌};
-ghost use Rattle.rows.specs.Fits.{NodeFits, AllocationFits};
 
 use crate::table::Row;
-use rows::{AllocId, Allocation, Node, NodeId};
+use rows::{AllocId, Allocation, EvalId, Evaluation, Job, JobName, Node, NodeId};
+
+/// Jobs by name.
+impl Row for Job {
+    type Key = JobName;
+
+    ghost key_of = { λ j. j.name };
+
+    fn key(&self) -> &JobName {
+        &self.name
+    }
+}
 
 /// Nodes by number.
 impl Row for Node {
@@ -10,14 +20,19 @@ impl Row for Node {
 
     ghost key_of = { λ n. n.number };
 
-    ghost fits = { NodeFits };
-
     fn key(&self) -> &NodeId {
         &self.number
     }
+}
 
-    fn ranges(&self) {
-        Node::ranges(self);
+/// Evaluations by id.
+impl Row for Evaluation {
+    type Key = EvalId;
+
+    ghost key_of = { λ e. e.id };
+
+    fn key(&self) -> &EvalId {
+        &self.id
     }
 }
 
@@ -27,13 +42,7 @@ impl Row for Allocation {
 
     ghost key_of = { λ a. a.id };
 
-    ghost fits = { AllocationFits };
-
     fn key(&self) -> &AllocId {
         &self.id
-    }
-
-    fn ranges(&self) {
-        Allocation::ranges(self);
     }
 }

@@ -5,8 +5,10 @@ mod allocations;
 mod keys;
 mod name;
 mod table;
+mod tables;
 mod usage;
 
 pub use name::AllocName;
 pub use table::{Row, Table};
+pub use tables::Tables;
 pub use usage::{Usage, is_live};

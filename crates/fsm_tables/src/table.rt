@@ -1,29 +1,24 @@
 ghost use Rattle.std.specs.Prelude.{◌≡◌, ◌≤◌, ◌<◌, List, [], ℕ, OnOk, OnErr, option_map, length, T as Holds};
 ghost use Rattle.std.specs.List.{AllByRecursion};
-ghost use Rattle.fsm_tables.specs.Rows.{row_of, put as with_row, put_within as with_row_within, is_rising, PlaceOf};
+ghost use Rattle.std.specs.List.{slice_get};
+ghost use Rattle.rows.specs.Rising.{is_rising};
+ghost use Rattle.fsm_tables.specs.Rows.{row_of, put as with_row, put_within as with_row_within, PlaceOf};
 
-use rows::NoMemory;
+use rows::{NoMemory, Ranged};
 use std::alloc::Global;
 use std::marker::Model;
 
 /// A row of a table: it holds its own key.
-pub trait Row: Drop {
+pub trait Row: Drop + Ranged {
     /// What a row is found by.
     type Key: Ord;
 
     /// The key that a row holds.
     ghost key_of: { Self → Self.Key };
 
-    /// The ranges of the row's parts.
-    ghost fits: { Self → Type 0 };
-
     /// The row's key.
     fn key(&self) -> &Self::Key
         ensures { result.now ≡ key_of self.now };
-
-    /// Says that the row's parts are within their ranges, as their types keep them. It does nothing.
-    fn ranges(&self)
-        ensures { fits self.now };
 }
 
 /// A table: at most one row of each key. Contracts see the list of its rows in strictly rising key.
@@ -34,7 +29,7 @@ pub struct Table<T: Row> {
 impl<T: Row> Model for Table<T> {
     ghost use Rattle.std.specs.Prelude.{List, T as Holds};
     ghost use Rattle.std.specs.List.{AllByRecursion};
-    ghost use Rattle.fsm_tables.specs.Rows.{is_rising};
+    ghost use Rattle.rows.specs.Rising.{is_rising};
 
     ghost Value = { List T };
 
@@ -42,7 +37,7 @@ impl<T: Row> Model for Table<T> {
 
     ghost invariant = { λ a. record {
         rising : Holds (is_rising T.Key.cmp T.key_of a.rows.items);
-        fit : AllByRecursion T.fits a.rows.items
+        fit : AllByRecursion T.Fits a.rows.items
     } };
 }
 
@@ -81,9 +76,16 @@ impl<T: Row> Table<T> {
     pub fn rows(&self) -> &[T]
         ensures rows { result.now ≡ self.now }
         ensures rising { Holds (is_rising T.Key.cmp T.key_of self.now) }
-        ensures fit { AllByRecursion T.fits self.now }
+        ensures fit { AllByRecursion T.Fits self.now }
     {
         &self.rows
+    }
+
+    /// The row at a place in the order of the keys, from 0; none past the last.
+    pub fn at(&self, place: usize) -> Option<&T>
+        ensures { option_map (λ row. row.now) result ≡ slice_get self.now place }
+    {
+        self.rows.get(place)
     }
 
     /// The row of a key, if there is one. It takes time in the logarithm of the table.

@@ -3,7 +3,7 @@ use Rattle.std.specs.Prelude.{nat_lt, ◌||◌}
 use Rattle.rows.specs.declared.allocation.Allocation.{Allocation}
 use Rattle.fsm_tables.specs.Rows.{has_row, put}
 use Rattle.fsm_tables.specs.RowLaws.{few_put}
-use Rattle.fsm_tables.specs.Keys.{alloc_cmp, alloc_id}
+use Rattle.rows.specs.Keys.{alloc_cmp, alloc_id}
 use Rattle.fsm_tables.specs.Sums.{AreSummed, IsShare}
 use Rattle.fsm_tables.proofs.Sums.{alloc_cmp_total, summed_put, covered, room}
 use Rattle.fsm_tables.proofs.allocations.Allocations.store.Goals as goal
