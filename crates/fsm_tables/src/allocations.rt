@@ -1,4 +1,4 @@
-ghost use Rattle.std.specs.Prelude.{◌≡◌, List, [], OnOk, OnErr, option_map, length, nat_lt, ◌||◌, T as Holds};
+ghost use Rattle.std.specs.Prelude.{◌≡◌, List, [], ◌≤◌, OnOk, OnErr, option_map, length, nat_lt, ◌||◌, T as Holds};
 ghost use Rattle.fsm_tables.specs.Rows.{row_of, has_row, put as with_row, put_within as with_row_within};
 ghost use Rattle.rows.specs.Keys.{alloc_cmp, alloc_id};
 ghost use Rattle.fsm_tables.specs.Claims.{claims, used};
@@ -80,7 +80,8 @@ impl Allocations {
 
     /// The rows.
     pub fn rows(&self) -> &Table<Allocation>
-        ensures { result.now ≡ self.now }
+        ensures rows { result.now ≡ self.now }
+        ensures few { length result.now ≤ 65536 }
     {
         &self.rows
     }

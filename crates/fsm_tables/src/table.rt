@@ -120,6 +120,7 @@ impl<T: Row> Table<T> {
     pub fn put_within(&mut self, most: usize, row: T) -> Result<(), NoMemory>
         ensures ok { OnOk result (self.new ≡ with_row_within T.Key.cmp T.key_of most row self.old) }
         ensures err { OnErr result (self.new ≡ self.old) }
+        ensures few { length self.old ≤ most → length self.new ≤ most }
     {
         let has_row = self.get(row.key()).is_some();
         if has_row || self.rows.len() < most {

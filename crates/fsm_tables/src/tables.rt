@@ -5,7 +5,7 @@ ghost use Rattle.rows.specs.Keys.{name_cmp, eval_cmp, alloc_cmp, job_name, node_
 ghost use Rattle.fsm_tables.specs.Rows.{row_of, put_within as with_row};
 ghost use Rattle.fsm_tables.specs.Claims.{claims, used};
 ghost use Rattle.fsm_tables.specs.LiveNames.{live_named};
-ghost use Rattle.fsm_tables.specs.TableRows.{no_rows};
+ghost use Rattle.fsm_tables.specs.TableRows.{no_rows, TablesFit};
 
 use crate::allocations::Allocations;
 use crate::name::AllocName;
@@ -131,6 +131,16 @@ impl Tables {
         ensures { result.now ≡ self.now.allocs }
     {
         self.allocs.rows()
+    }
+
+    /// Says what the tables keep: strictly rising keys, their limits, and the ranges of their rows' parts. It does nothing.
+    pub fn ranges(&self)
+        ensures { TablesFit self.now }
+    {
+        let _jobs = self.jobs.rows();
+        let _nodes = self.nodes.rows();
+        let _evals = self.evals.rows();
+        let _allocs = self.allocs.rows().rows();
     }
 
     /// Makes or replaces the row of the job, and changes no other; a new row is not made where there are 256. Without memory
