@@ -1,0 +1,4 @@
+pub mod Words
+pub mod Safe
+pub mod Effect
+pub mod Admission

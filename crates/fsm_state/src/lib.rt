@@ -1,0 +1,2 @@
+//! The replicated state.
+#![tactic(auto)]
