@@ -1,0 +1,6 @@
+//! The replicated state of a Nomad server group: its commands, what they do, and which a state refuses.
+#![tactic(auto)]
+
+mod laws;
+
+pub use laws::{commands_are_lawful, empty_is_lawful};
