@@ -1,1 +1,11 @@
 pub mod Refusals
+pub mod Names
+pub mod NameLaws
+pub mod Rising
+pub mod Ids
+pub mod Groups
+pub mod Batches
+pub mod Keys
+pub mod Fits
+pub mod State
+pub mod Changes
