@@ -90,8 +90,8 @@ tests s (commands.JobStop name) =
     ∷ (is_stopped name s, refusals.JobStopped)
     ∷ (evals_pass (those_jobs (is_named name) s) s, refusals.TableFull)
     ∷ []
-tests s (commands.NodePut n spec) =
-    (holds (differs spec) (node_of n s), refusals.NodeDiffers)
+tests s (commands.NodePut spec) =
+    (holds (differs spec) (node_of spec.number s), refusals.NodeDiffers)
     ∷ []
 tests s (commands.NodeDown n) =
     (no_node n s, refusals.UnknownNode)

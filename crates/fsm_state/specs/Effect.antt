@@ -182,7 +182,7 @@ abbrev pub applied : State → Command → State
 applied s commands.Noop = counted s
 applied s (commands.JobPut j) = touched (is_named j.name) (with_job j (counted s))
 applied s (commands.JobStop name) = touched (is_named name) (without_job name (counted s))
-applied s (commands.NodePut n spec) = with_node n spec (counted s)
+applied s (commands.NodePut spec) = with_node spec.number spec (counted s)
 applied s (commands.NodeDown n) = without_node n (counted s)
 applied s (commands.Drain n force) = record (counted s) { nodes = map (draining n force) s.nodes }
 applied s (commands.DrainDone n) = record (counted s) { nodes = map (drained n) s.nodes }

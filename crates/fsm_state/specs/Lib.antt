@@ -5,3 +5,4 @@ pub mod Admission
 pub mod SafeFacts
 pub mod SafeLaws
 pub mod StateLaws
+pub mod Steps

@@ -297,7 +297,7 @@ pub admitted_is_safe : (s : State) (c : Command) → T (is_safe s) → admission
 admitted_is_safe s commands.Noop h e = h
 admitted_is_safe s (commands.JobPut j) h e = h
 admitted_is_safe s (commands.JobStop name) h e = h
-admitted_is_safe s (commands.NodePut n spec) h e = with_node_safe n spec (counted s) h
+admitted_is_safe s (commands.NodePut spec) h e = with_node_safe spec.number spec (counted s) h
 admitted_is_safe s (commands.NodeDown n) h e = kept_safe (down n) (down_keeps n) s.nodes (claims (map (lost n) s.allocs)) (released_safe (lost n) (lost_releases n) s.nodes s.allocs h)
 admitted_is_safe s (commands.Drain n force) h e = kept_safe (draining n force) (draining_keeps n force) s.nodes (claims s.allocs) h
 admitted_is_safe s (commands.DrainDone n) h e = kept_safe (drained n) (drained_keeps n) s.nodes (claims s.allocs) h

@@ -42,7 +42,7 @@ pub applied_has_count : (s : State) (c : Command) → (applied s c).count ≡ s.
 applied_has_count s commands.Noop = refl
 applied_has_count s (commands.JobPut j) = refl
 applied_has_count s (commands.JobStop name) = refl
-applied_has_count s (commands.NodePut n spec) = refl
+applied_has_count s (commands.NodePut spec) = refl
 applied_has_count s (commands.NodeDown n) = refl
 applied_has_count s (commands.Drain n force) = refl
 applied_has_count s (commands.DrainDone n) = refl
@@ -112,7 +112,7 @@ pub applied_are_tables : (s : State) (c : Command) → AreTables s → AreTables
 applied_are_tables s commands.Noop h = record { jobs = h.jobs; nodes = h.nodes; evals = h.evals; allocs = h.allocs }
 applied_are_tables s (commands.JobPut j) h = record { jobs = put_in_order name_cmp job_name nat_list_cmp_total 256 (job_row (s.count + 1) j) s.jobs h.jobs; nodes = h.nodes; evals = touch_in_order (is_named j.name) (with_job j (counted s)) h.evals; allocs = h.allocs }
 applied_are_tables s (commands.JobStop name) h = record { jobs = map_in_order name_cmp job_name 256 (stop_job (s.count + 1) name) (kept_where job_name (is_named name) (λ j. record j { stopped = true; version = s.count + 1 }) (λ j. refl)) s.jobs h.jobs; nodes = h.nodes; evals = touch_in_order (is_named name) (without_job name (counted s)) h.evals; allocs = h.allocs }
-applied_are_tables s (commands.NodePut n spec) h = record { jobs = h.jobs; nodes = put_in_order nat_cmp node_number nat_cmp_total 64 (node_row (s.count + 1) n spec (node_of n s)) s.nodes h.nodes; evals = h.evals; allocs = h.allocs }
+applied_are_tables s (commands.NodePut spec) h = record { jobs = h.jobs; nodes = put_in_order nat_cmp node_number nat_cmp_total 64 (node_row (s.count + 1) spec.number spec (node_of spec.number s)) s.nodes h.nodes; evals = h.evals; allocs = h.allocs }
 applied_are_tables s (commands.NodeDown n) h = record {
   jobs = h.jobs;
   nodes = map_in_order nat_cmp node_number 64 (down n) (kept_where node_number (λ r. nat_eq r.number n) (λ r. record r { status = statuses.Down }) (λ r. refl)) s.nodes h.nodes;
@@ -175,7 +175,7 @@ all_own : (s : State) (c : Command) → AllOwn (tests s c)
 all_own s commands.Noop = tt
 all_own s (commands.JobPut j) = (tt, tt)
 all_own s (commands.JobStop name) = (tt, (tt, (tt, tt)))
-all_own s (commands.NodePut n spec) = (tt, tt)
+all_own s (commands.NodePut spec) = (tt, tt)
 all_own s (commands.NodeDown n) = (tt, (tt, (tt, tt)))
 all_own s (commands.Drain n force) = (tt, tt)
 all_own s (commands.DrainDone n) = (tt, (tt, tt))

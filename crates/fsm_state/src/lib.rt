@@ -1,6 +1,8 @@
 //! The replicated state of a Nomad server group: its commands, what they do, and which a state refuses.
 #![tactic(auto)]
 
+mod cluster;
 mod laws;
 
+pub use cluster::Cluster;
 pub use laws::{commands_are_lawful, empty_is_lawful};
