@@ -22,6 +22,7 @@ use std::marker::Model;
 /// "Consensus Protocol": what the servers replicate.)
 #[derive(Drop)]
 pub struct Cluster {
+    alloc: Global,
     count: Index,
     tables: Tables,
 }
@@ -40,6 +41,7 @@ impl Cluster {
         ensures { result ≡ no_rows }
     {
         Cluster {
+            alloc,
             count: Index::ZERO,
             tables: Tables::empty(alloc),
         }
@@ -130,6 +132,11 @@ impl Cluster {
     {
         let _count = self.count.get();
         self.tables.ranges();
+    }
+
+    /// Where it takes its memory from.
+    pub(crate) fn memory(&self) -> Global {
+        self.alloc
     }
 
     /// One more command.

@@ -1,8 +1,10 @@
 //! The replicated state of a Nomad server group: its commands, what they do, and which a state refuses.
 #![tactic(auto)]
 
+mod allocs;
 mod cluster;
 mod laws;
+mod touch;
 
 pub use cluster::Cluster;
 pub use laws::{commands_are_lawful, empty_is_lawful};
