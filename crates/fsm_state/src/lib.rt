@@ -3,4 +3,4 @@
 
 mod laws;
 
-pub use laws::{commands_are_lawful, empty_is_lawful};
+pub use laws::{commands_are_lawful, empty_is_lawful, plans_are_decided, safety_is_decided};
