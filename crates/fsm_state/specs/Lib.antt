@@ -8,3 +8,4 @@ pub mod StateLaws
 pub mod UseLaws
 pub mod PlanLaws
 pub mod Steps
+pub mod StepLaws

@@ -33,10 +33,10 @@ use Rattle.fsm_state.specs.Words.{State, no_rows, same_eval, same_alloc, node_of
 use Rattle.fsm_state.specs.Effect.{applied, counted, new_eval, with_evals, touched, is_named, owns, with_job, job_row, stop_job, without_job, node_row, down, draining, drained, lost, lives_on, moves, marked, migrated, set_status, stop, ends, frees, with_room, altered, alloc_row, with_places, state_of, told, told_all}
 use Rattle.fsm_state.specs.Admission.{first_of, tests, admission}
 
-alloc_cmp_total : IsTotalOrder alloc_cmp
+pub alloc_cmp_total : IsTotalOrder alloc_cmp
 alloc_cmp_total = then_total (on_total (λ (a : AllocId). a.index) nat_cmp_total) (on_total (λ (a : AllocId). a.slot) nat_cmp_total)
 
-eval_cmp_total : IsTotalOrder eval_cmp
+pub eval_cmp_total : IsTotalOrder eval_cmp
 eval_cmp_total = then_total (on_total (λ (e : EvalId). e.index) nat_cmp_total) (on_total (λ (e : EvalId). e.slot) nat_cmp_total)
 
 pub applied_has_count : (s : State) (c : Command) → (applied s c).count ≡ s.count + 1
