@@ -46,7 +46,7 @@ abbrev pub same_size : Size → Size → Bool
 same_size a b = nat_eq a.cpu b.cpu && nat_eq a.mem b.mem
 
 abbrev pub differs : NodeSpec → Node → Bool
-differs spec old = not (bytes_eq old.class spec.class && same_size old.size spec.size)
+differs n old = not (bytes_eq old.class n.class && same_size old.size n.size)
 
 abbrev pub drains : ℕ → State → Bool
 drains n s = holds (λ r. is_draining r.drain) (node_of n s)
@@ -90,8 +90,8 @@ tests s (commands.JobStop name) =
     ∷ (is_stopped name s, refusals.JobStopped)
     ∷ (evals_pass (those_jobs (is_named name) s) s, refusals.TableFull)
     ∷ []
-tests s (commands.NodePut spec) =
-    (holds (differs spec) (node_of spec.number s), refusals.NodeDiffers)
+tests s (commands.NodePut n) =
+    (holds (differs n) (node_of n.number s), refusals.NodeDiffers)
     ∷ []
 tests s (commands.NodeDown n) =
     (no_node n s, refusals.UnknownNode)

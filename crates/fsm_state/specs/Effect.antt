@@ -73,12 +73,12 @@ without_job name s = record s { jobs = map (stop_job s.count name) s.jobs }
 -- ---- nodes
 
 -- a node that comes: its first row, or its old row, of which all but the status and the room stays
-abbrev pub node_row : ℕ → ℕ → NodeSpec → Option Node → Node
-node_row x n spec None = record { number = n; class = spec.class; size = spec.size; status = statuses.Ready; eligible = true; drain = drains.Off; room = x }
-node_row x n spec (Some old) = record old { status = statuses.Ready; room = x }
+abbrev pub node_row : ℕ → NodeSpec → Option Node → Node
+node_row x n None = record { number = n.number; class = n.class; size = n.size; status = statuses.Ready; eligible = true; drain = drains.Off; room = x }
+node_row x n (Some old) = record old { status = statuses.Ready; room = x }
 
-abbrev pub with_node : ℕ → NodeSpec → State → State
-with_node n spec s = record s { nodes = put_within nat_cmp node_number 64 (node_row s.count n spec (node_of n s)) s.nodes }
+abbrev pub with_node : NodeSpec → State → State
+with_node n s = record s { nodes = put_within nat_cmp node_number 64 (node_row s.count n (node_of n.number s)) s.nodes }
 
 abbrev pub down : ℕ → Node → Node
 down n r = cond (nat_eq r.number n) (record r { status = statuses.Down }) r
@@ -182,7 +182,7 @@ abbrev pub applied : State → Command → State
 applied s commands.Noop = counted s
 applied s (commands.JobPut j) = touched (is_named j.name) (with_job j (counted s))
 applied s (commands.JobStop name) = touched (is_named name) (without_job name (counted s))
-applied s (commands.NodePut spec) = with_node spec.number spec (counted s)
+applied s (commands.NodePut n) = with_node n (counted s)
 applied s (commands.NodeDown n) = without_node n (counted s)
 applied s (commands.Drain n force) = record (counted s) { nodes = map (draining n force) s.nodes }
 applied s (commands.DrainDone n) = record (counted s) { nodes = map (drained n) s.nodes }

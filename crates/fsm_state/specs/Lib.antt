@@ -5,4 +5,7 @@ pub mod Admission
 pub mod SafeFacts
 pub mod SafeLaws
 pub mod StateLaws
+pub mod UseLaws
+pub mod PlanLaws
 pub mod Steps
+pub mod StepLaws

@@ -9,6 +9,7 @@ use Rattle.fsm_tables.specs.Rows.{has_row}
 use Rattle.fsm_tables.specs.Claims.{Claim, claims, used}
 use Rattle.fsm_state.specs.Words.{State}
 
+-- so much use is within a size
 abbrev pub fits : Size → Size → Bool
 fits load room = nat_le load.cpu room.cpu && nat_le load.mem room.mem
 

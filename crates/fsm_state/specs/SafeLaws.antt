@@ -60,7 +60,7 @@ fewer_any p _ _ nothing h = tt
 fewer_any p _ _ (kept x xs ys f) h = let n = neither _ _ h in none_of _ _ n.0 (fewer_any p xs ys f n.1)
 fewer_any p _ _ (gone y xs ys f) h = fewer_any p xs ys f (neither _ _ h).1
 
-fewer_distinct : (xs ys : List Claim) → Fewer xs ys → T (are_distinct ys) → T (are_distinct xs)
+pub fewer_distinct : (xs ys : List Claim) → Fewer xs ys → T (are_distinct ys) → T (are_distinct xs)
 fewer_distinct _ _ nothing h = tt
 fewer_distinct _ _ (kept x xs ys f) h = both _ _ (fewer_any (same_name x) xs ys f (first _ _ h)) (fewer_distinct xs ys f (second _ _ h))
 fewer_distinct _ _ (gone y xs ys f) h = fewer_distinct xs ys f (second _ _ h)
@@ -79,16 +79,16 @@ fewer_within cs ds f n h = both _ _
 
 -- ---- the three parts of a safe state
 
-within_of : (nodes : List Node) (cs : List Claim) → T (are_safe nodes cs) → T (list_all (is_within cs) nodes)
+pub within_of : (nodes : List Node) (cs : List Claim) → T (are_safe nodes cs) → T (list_all (is_within cs) nodes)
 within_of nodes cs h = first (list_all (is_within cs) nodes) (list_all (is_placed nodes) cs) (first (list_all (is_within cs) nodes && list_all (is_placed nodes) cs) (are_distinct cs) h)
 
-placed_of : (nodes : List Node) (cs : List Claim) → T (are_safe nodes cs) → T (list_all (is_placed nodes) cs)
+pub placed_of : (nodes : List Node) (cs : List Claim) → T (are_safe nodes cs) → T (list_all (is_placed nodes) cs)
 placed_of nodes cs h = second (list_all (is_within cs) nodes) (list_all (is_placed nodes) cs) (first (list_all (is_within cs) nodes && list_all (is_placed nodes) cs) (are_distinct cs) h)
 
-distinct_of : (nodes : List Node) (cs : List Claim) → T (are_safe nodes cs) → T (are_distinct cs)
+pub distinct_of : (nodes : List Node) (cs : List Claim) → T (are_safe nodes cs) → T (are_distinct cs)
 distinct_of nodes cs h = second _ _ h
 
-from_parts : (nodes : List Node) (cs : List Claim) → T (list_all (is_within cs) nodes) → T (list_all (is_placed nodes) cs) → T (are_distinct cs) → T (are_safe nodes cs)
+pub from_parts : (nodes : List Node) (cs : List Claim) → T (list_all (is_within cs) nodes) → T (list_all (is_placed nodes) cs) → T (are_distinct cs) → T (are_safe nodes cs)
 from_parts nodes cs w p d = both _ _ (both _ _ w p) d
 
 -- with fewer claims a safe state is safe
@@ -212,7 +212,7 @@ put_safe x nodes cs w h = from_parts (put nat_cmp node_number x nodes) cs
     (distinct_of nodes cs h)
 
 -- a row that is found passes each test that all pass
-found_passes : (p : Node → Bool) (i : ℕ) (x : Node) (ys : List Node) → row_of nat_cmp node_number i ys ≡ Some x → T (list_all p ys) → T (p x)
+pub found_passes : (p : Node → Bool) (i : ℕ) (x : Node) (ys : List Node) → row_of nat_cmp node_number i ys ≡ Some x → T (list_all p ys) → T (p x)
 found_passes p i x [] e h = absurd cc
 found_passes p i x (y ∷ ys) e h =
     elim (is_eq (nat_cmp i y.number)) as (λ b. cond b (Some y) (row_of nat_cmp node_number i ys) ≡ Some x → T (p x)) [
@@ -220,7 +220,7 @@ found_passes p i x (y ∷ ys) e h =
       | false ↦ λ e. found_passes p i x ys e (second _ _ h)
     ] e
 
-apart_adds_nothing : (b : Bool) (part : ℕ) → (T b → ⊥) → cond b part 0 ≡ 0
+pub apart_adds_nothing : (b : Bool) (part : ℕ) → (T b → ⊥) → cond b part 0 ≡ 0
 apart_adds_nothing true part h = absurd (h tt)
 apart_adds_nothing false part h = refl
 
@@ -228,26 +228,26 @@ same_number : (i j : ℕ) → T (nat_eq j i) → j ≡ i
 same_number i j h = grind arith
 
 -- on a node without a row nothing is used
-unused : (i : ℕ) (nodes : List Node) (w : Claim → ℕ) → row_of nat_cmp node_number i nodes ≡ None → ((c : Claim) → (T (nat_eq c.node i) → ⊥) → w c ≡ 0) → (cs : List Claim) → T (list_all (is_placed nodes) cs) → sum_by w cs ≡ 0
+pub unused : (i : ℕ) (nodes : List Node) (w : Claim → ℕ) → row_of nat_cmp node_number i nodes ≡ None → ((c : Claim) → (T (nat_eq c.node i) → ⊥) → w c ≡ 0) → (cs : List Claim) → T (list_all (is_placed nodes) cs) → sum_by w cs ≡ 0
 unused i nodes w none apart [] h = omega arith
 unused i nodes w none apart (c ∷ cs) h =
     let rest : sum_by w cs ≡ 0 = unused i nodes w none apart cs (second _ _ h) in
     let here : w c ≡ 0 = apart c (λ same. subst (λ o. T (is_some o)) (ap (λ j. row_of nat_cmp node_number j nodes) (same_number i c.node same) ∙ none) (first _ _ h)) in
     omega (arith, sum_by-cons w c cs)
 
-none_fits : (a b : ℕ) → a ≡ 0 → T (nat_le a b)
+pub none_fits : (a b : ℕ) → a ≡ 0 → T (nat_le a b)
 none_fits a b e = le-T a b (omega arith)
 
-node_row_within : (x n : ℕ) (spec : NodeSpec) (nodes : List Node) (cs : List Claim) → T (are_safe nodes cs) → (old : Option Node) → row_of nat_cmp node_number n nodes ≡ old → T (is_within cs (node_row x n spec old))
-node_row_within x n spec nodes cs h None e = both _ _
-    (none_fits _ _ (unused n nodes (on_node n (λ z. z.cpu)) e (λ c apart. apart_adds_nothing _ _ apart) cs (placed_of nodes cs h)))
-    (none_fits _ _ (unused n nodes (on_node n (λ z. z.mem)) e (λ c apart. apart_adds_nothing _ _ apart) cs (placed_of nodes cs h)))
-node_row_within x n spec nodes cs h (Some old) e = found_passes (is_within cs) n old nodes e (within_of nodes cs h)
+node_row_within : (x : ℕ) (n : NodeSpec) (nodes : List Node) (cs : List Claim) → T (are_safe nodes cs) → (old : Option Node) → row_of nat_cmp node_number n.number nodes ≡ old → T (is_within cs (node_row x n old))
+node_row_within x n nodes cs h None e = both _ _
+    (none_fits _ _ (unused n.number nodes (on_node n.number (λ z. z.cpu)) e (λ c apart. apart_adds_nothing _ _ apart) cs (placed_of nodes cs h)))
+    (none_fits _ _ (unused n.number nodes (on_node n.number (λ z. z.mem)) e (λ c apart. apart_adds_nothing _ _ apart) cs (placed_of nodes cs h)))
+node_row_within x n nodes cs h (Some old) e = found_passes (is_within cs) n.number old nodes e (within_of nodes cs h)
 
-with_node_safe : (n : ℕ) (spec : NodeSpec) (s : State) → T (is_safe s) → T (is_safe (with_node n spec s))
-with_node_safe n spec s h =
-    let row = node_row s.count n spec (node_of n s) in
-    let w : T (is_within (claims s.allocs) row) = node_row_within s.count n spec s.nodes (claims s.allocs) h (node_of n s) refl in
+with_node_safe : (n : NodeSpec) (s : State) → T (is_safe s) → T (is_safe (with_node n s))
+with_node_safe n s h =
+    let row = node_row s.count n (node_of n.number s) in
+    let w : T (is_within (claims s.allocs) row) = node_row_within s.count n s.nodes (claims s.allocs) h (node_of n.number s) refl in
     elim (has_row nat_cmp node_number row.number s.nodes || nat_lt (length s.nodes) 64) as (λ b. T (are_safe (cond b (put nat_cmp node_number row s.nodes) s.nodes) (claims s.allocs))) [
       | true ↦ put_safe row s.nodes (claims s.allocs) w h
       | false ↦ h
@@ -267,7 +267,7 @@ drained_keeps n = record {
   size = λ r. elim (nat_eq r.number n) as (λ b. (cond b (record r { drain = drains.Off }) r).size ≡ r.size) [ true ↦ refl | false ↦ refl ];
 }
 
-with_room_keeps : (freed : ℕ → Bool) (x : ℕ) → KeepsSize (with_room freed x)
+pub with_room_keeps : (freed : ℕ → Bool) (x : ℕ) → KeepsSize (with_room freed x)
 with_room_keeps freed x = record {
   number = λ r. elim (freed r.number) as (λ b. (cond b (record r { room = x }) r).number ≡ r.number) [ true ↦ refl | false ↦ refl ];
   size = λ r. elim (freed r.number) as (λ b. (cond b (record r { room = x }) r).size ≡ r.size) [ true ↦ refl | false ↦ refl ];
@@ -297,7 +297,7 @@ pub admitted_is_safe : (s : State) (c : Command) → T (is_safe s) → admission
 admitted_is_safe s commands.Noop h e = h
 admitted_is_safe s (commands.JobPut j) h e = h
 admitted_is_safe s (commands.JobStop name) h e = h
-admitted_is_safe s (commands.NodePut spec) h e = with_node_safe spec.number spec (counted s) h
+admitted_is_safe s (commands.NodePut n) h e = with_node_safe n (counted s) h
 admitted_is_safe s (commands.NodeDown n) h e = kept_safe (down n) (down_keeps n) s.nodes (claims (map (lost n) s.allocs)) (released_safe (lost n) (lost_releases n) s.nodes s.allocs h)
 admitted_is_safe s (commands.Drain n force) h e = kept_safe (draining n force) (draining_keeps n force) s.nodes (claims s.allocs) h
 admitted_is_safe s (commands.DrainDone n) h e = kept_safe (drained n) (drained_keeps n) s.nodes (claims s.allocs) h

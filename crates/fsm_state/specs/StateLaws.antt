@@ -25,24 +25,25 @@ use Rattle.rows.specs.declared.refusal.Refusal.{Refusal}
 use Rattle.rows.specs.declared.refusal.Refusal.TheVariants as refusals
 use Rattle.rows.specs.Changes.{status_of, snapshot_of}
 use Rattle.rows.specs.Keys.{name_cmp, eval_cmp, alloc_cmp, job_name, node_number, eval_id, alloc_id}
-use Rattle.fsm_tables.specs.Rows.{is_rising, put_within}
+use Rattle.rows.specs.Rising.{is_rising}
+use Rattle.fsm_tables.specs.Rows.{put_within}
 use Rattle.fsm_tables.specs.RowLaws.{rising_put_within, few_put_within, rising_mapped}
 use Rattle.fsm_tables.specs.Claims.{is_active, is_wanted}
 use Rattle.fsm_state.specs.Words.{State, no_rows, same_eval, same_alloc, node_of, is_open}
 use Rattle.fsm_state.specs.Effect.{applied, counted, new_eval, with_evals, touched, is_named, owns, with_job, job_row, stop_job, without_job, node_row, down, draining, drained, lost, lives_on, moves, marked, migrated, set_status, stop, ends, frees, with_room, altered, alloc_row, with_places, state_of, told, told_all}
 use Rattle.fsm_state.specs.Admission.{first_of, tests, admission}
 
-alloc_cmp_total : IsTotalOrder alloc_cmp
+pub alloc_cmp_total : IsTotalOrder alloc_cmp
 alloc_cmp_total = then_total (on_total (λ (a : AllocId). a.index) nat_cmp_total) (on_total (λ (a : AllocId). a.slot) nat_cmp_total)
 
-eval_cmp_total : IsTotalOrder eval_cmp
+pub eval_cmp_total : IsTotalOrder eval_cmp
 eval_cmp_total = then_total (on_total (λ (e : EvalId). e.index) nat_cmp_total) (on_total (λ (e : EvalId). e.slot) nat_cmp_total)
 
 pub applied_has_count : (s : State) (c : Command) → (applied s c).count ≡ s.count + 1
 applied_has_count s commands.Noop = refl
 applied_has_count s (commands.JobPut j) = refl
 applied_has_count s (commands.JobStop name) = refl
-applied_has_count s (commands.NodePut spec) = refl
+applied_has_count s (commands.NodePut n) = refl
 applied_has_count s (commands.NodeDown n) = refl
 applied_has_count s (commands.Drain n force) = refl
 applied_has_count s (commands.DrainDone n) = refl
@@ -112,7 +113,7 @@ pub applied_are_tables : (s : State) (c : Command) → AreTables s → AreTables
 applied_are_tables s commands.Noop h = record { jobs = h.jobs; nodes = h.nodes; evals = h.evals; allocs = h.allocs }
 applied_are_tables s (commands.JobPut j) h = record { jobs = put_in_order name_cmp job_name nat_list_cmp_total 256 (job_row (s.count + 1) j) s.jobs h.jobs; nodes = h.nodes; evals = touch_in_order (is_named j.name) (with_job j (counted s)) h.evals; allocs = h.allocs }
 applied_are_tables s (commands.JobStop name) h = record { jobs = map_in_order name_cmp job_name 256 (stop_job (s.count + 1) name) (kept_where job_name (is_named name) (λ j. record j { stopped = true; version = s.count + 1 }) (λ j. refl)) s.jobs h.jobs; nodes = h.nodes; evals = touch_in_order (is_named name) (without_job name (counted s)) h.evals; allocs = h.allocs }
-applied_are_tables s (commands.NodePut spec) h = record { jobs = h.jobs; nodes = put_in_order nat_cmp node_number nat_cmp_total 64 (node_row (s.count + 1) spec.number spec (node_of spec.number s)) s.nodes h.nodes; evals = h.evals; allocs = h.allocs }
+applied_are_tables s (commands.NodePut n) h = record { jobs = h.jobs; nodes = put_in_order nat_cmp node_number nat_cmp_total 64 (node_row (s.count + 1) n (node_of n.number s)) s.nodes h.nodes; evals = h.evals; allocs = h.allocs }
 applied_are_tables s (commands.NodeDown n) h = record {
   jobs = h.jobs;
   nodes = map_in_order nat_cmp node_number 64 (down n) (kept_where node_number (λ r. nat_eq r.number n) (λ r. record r { status = statuses.Down }) (λ r. refl)) s.nodes h.nodes;
@@ -175,7 +176,7 @@ all_own : (s : State) (c : Command) → AllOwn (tests s c)
 all_own s commands.Noop = tt
 all_own s (commands.JobPut j) = (tt, tt)
 all_own s (commands.JobStop name) = (tt, (tt, (tt, tt)))
-all_own s (commands.NodePut spec) = (tt, tt)
+all_own s (commands.NodePut n) = (tt, tt)
 all_own s (commands.NodeDown n) = (tt, (tt, (tt, tt)))
 all_own s (commands.Drain n force) = (tt, tt)
 all_own s (commands.DrainDone n) = (tt, (tt, tt))

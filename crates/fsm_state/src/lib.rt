@@ -7,4 +7,4 @@ mod laws;
 mod touch;
 
 pub use cluster::Cluster;
-pub use laws::{commands_are_lawful, empty_is_lawful};
+pub use laws::{commands_are_lawful, empty_is_lawful, plans_are_decided, safety_is_decided};
