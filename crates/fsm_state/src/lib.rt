@@ -4,6 +4,8 @@
 mod allocs;
 mod cluster;
 mod laws;
+mod lists;
+mod nodes;
 mod touch;
 
 pub use cluster::Cluster;
