@@ -1,7 +1,9 @@
 //! Changes of several allocations, one after the other.
 ghost use Rattle.std.specs.Prelude.{◌≡◌, ◌++◌, ◌∷◌, [], List, ℕ, OnOk, IfOk, option_map, map};
+ghost use Rattle.std.specs.List.{slice_get};
+ghost use Rattle.rows.specs.Keys.{alloc_cmp, alloc_id};
 ghost use Rattle.fsm_state.specs.Effect.{lost, alloc_row, placed};
-ghost use Rattle.fsm_state.specs.Steps.{stopped_all, told_steps, ended_job, ended_jobs, tell_one, marked_all, live_job, live_jobs, jobs_on};
+ghost use Rattle.fsm_state.specs.Steps.{put_changed, job_on, stopped_all, told_steps, ended_job, ended_jobs, tell_one, marked_all, live_job, live_jobs, jobs_on};
 
 use crate::allocs::{lost_with, told};
 use crate::cluster::Cluster;
@@ -60,13 +62,12 @@ fn add_ended(
 }
 
 /// Adds the job of a row that is live on the node.
-fn add_on(names: &mut Sequence<JobName>, row: &Allocation, node: NodeId) -> Result<(), NoMemory>
-    ensures { OnOk result ((rest : List (List ℕ)) → names.new ++ rest ≡ names.old ++ jobs_on node (row.now ∷ []) ++ rest) }
+fn add_on(names: &mut Sequence<JobName>, row: Option<&Allocation>, node: NodeId) -> Result<(), NoMemory>
+    ensures { OnOk result ((rest : List (List ℕ)) → names.new ++ rest ≡ names.old ++ job_on node (option_map (λ r. r.now) row.entry) rest) }
 {
-    if row.node == node && is_live(row) {
-        names.push(row.job)
-    } else {
-        Ok(())
+    match row {
+        Some(row) if row.node == node && is_live(row) => names.push(row.job),
+        _ => Ok(()),
     }
 }
 
@@ -121,11 +122,22 @@ impl Cluster {
     {
         let mut names = Sequence::new(self.memory());
         for place in 0..self.alloc_table().len() {
-            if let Some(row) = self.alloc_table().at(place) {
-                add_on(&mut names, row, node)?;
-            }
+            add_on(&mut names, self.alloc_table().at(place), node)?;
         }
         Ok(names)
+    }
+
+    /// The allocation at a place is lost, if it waits or runs on the node.
+    fn lose_at(&mut self, place: usize, node: NodeId) -> Result<(), NoMemory>
+        ensures { OnOk result (self.new ≡ record self.old { allocs = put_changed alloc_cmp alloc_id 65536 (lost node) (slice_get self.old.allocs place) self.old.allocs }) }
+    {
+        match self.alloc_table().at(place) {
+            Some(row) => {
+                let row = lost_with(row, node);
+                self.put_alloc(row)
+            }
+            None => Ok(()),
+        }
     }
 
     /// What waits or runs on a node is lost.
@@ -134,10 +146,7 @@ impl Cluster {
     {
         self.ranges();
         for place in 0..self.alloc_table().len() {
-            if let Some(row) = self.alloc_table().at(place) {
-                let row = lost_with(row, node);
-                self.put_alloc(row)?;
-            }
+            self.lose_at(place, node)?;
         }
         Ok(())
     }

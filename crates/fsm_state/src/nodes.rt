@@ -4,6 +4,7 @@ ghost use Rattle.std.specs.Ordering.{nat_cmp};
 ghost use Rattle.rows.specs.Keys.{name_cmp, eval_cmp, job_name, node_number, eval_id};
 ghost use Rattle.rows.specs.declared.node.NodeStatus.TheVariants as statuses;
 ghost use Rattle.rows.specs.declared.node.DrainMode.TheVariants as drains;
+ghost use Rattle.rows.specs.Changes.{status_of, snapshot_of};
 ghost use Rattle.fsm_state.specs.Words.{is_open as is_not_final};
 ghost use Rattle.fsm_state.specs.Effect.{with_job, job_row, with_node, node_row};
 ghost use Rattle.fsm_state.specs.Steps.{changed};
@@ -75,21 +76,38 @@ fn is_open(status: EvalStatus) -> bool
     }
 }
 
-/// The row of an evaluation whose status is set; complete and failed ones stay.
-fn settled(row: &Evaluation, change: StatusChange) -> Evaluation
-    ensures { result ≡ set_one change row.now }
+/// The status that a change sets.
+fn status_after(change: &StatusChange) -> EvalStatus
+    ensures { result ≡ status_of change.now }
 {
-    if is_open(row.status) {
-        Evaluation {
-            id: row.id,
-            job: row.job,
-            priority: row.priority,
-            status: change.status(),
-            snapshot: change.snapshot(),
-        }
-    } else {
-        *row
+    match change {
+        StatusChange::Pending => EvalStatus::Pending,
+        StatusChange::Blocked(_) => EvalStatus::Blocked,
+        StatusChange::Complete => EvalStatus::Complete,
+        StatusChange::Failed => EvalStatus::Failed,
     }
+}
+
+/// The snapshot that a change sets: 0 unless blocked.
+fn snapshot_after(change: &StatusChange) -> Index
+    ensures { result ≡ snapshot_of change.now }
+{
+    match change {
+        StatusChange::Blocked(snapshot) => *snapshot,
+        _ => Index::ZERO,
+    }
+}
+
+/// The row of an evaluation whose status is set; complete and failed ones stay.
+fn settled(row: &Evaluation, change: &StatusChange) -> Evaluation
+    ensures { result ≡ set_one change.now row.now }
+{
+    let mut row = *row;
+    if is_open(row.status) {
+        row.status = status_after(change);
+        row.snapshot = snapshot_after(change);
+    }
+    row
 }
 
 impl Cluster {
@@ -166,8 +184,8 @@ impl Cluster {
     }
 
     /// Sets the status of an evaluation.
-    pub(crate) fn settle(&mut self, id: EvalId, change: StatusChange) -> Result<(), NoMemory>
-        ensures { OnOk result (self.new ≡ record self.old { evals = changed eval_cmp eval_id 65536 (set_one change) id self.old.evals }) }
+    pub(crate) fn settle(&mut self, id: EvalId, change: &StatusChange) -> Result<(), NoMemory>
+        ensures { OnOk result (self.new ≡ record self.old { evals = changed eval_cmp eval_id 65536 (set_one change.now) id self.old.evals }) }
     {
         match self.eval(id) {
             Some(row) => {
