@@ -9,3 +9,4 @@ pub mod UseLaws
 pub mod PlanLaws
 pub mod Steps
 pub mod StepLaws
+pub mod StopLaws
