@@ -10,3 +10,4 @@ pub mod PlanLaws
 pub mod Steps
 pub mod StepLaws
 pub mod StopLaws
+pub mod RangeLaws
