@@ -11,3 +11,4 @@ pub mod Steps
 pub mod StepLaws
 pub mod StopLaws
 pub mod RangeLaws
+pub mod Worked
