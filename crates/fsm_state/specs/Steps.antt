@@ -1,10 +1,11 @@
 -- The effects once more, as puts of one row after the other at its key: the form in which the code makes them.
-use Rattle.std.specs.Prelude.{ℕ, Bool, true, cond, ◌&&◌, List, [], ◌∷◌, filter, Option, Some, None, nat_eq, bytes_eq}
+use Rattle.std.specs.Prelude.{ℕ, true, cond, not, ◌&&◌, List, [], ◌∷◌, filter, Option, Some, None, nat_eq, bytes_eq}
 use Rattle.std.specs.List.{list_any}
 use Rattle.std.specs.declared.cmp.Ordering.{Ordering}
 use Rattle.std.specs.Ordering.{nat_cmp}
 use Rattle.rows.specs.declared.job.Job.{Job}
 use Rattle.rows.specs.declared.node.Node.{Node}
+use Rattle.rows.specs.declared.evaluation.Evaluation.{Evaluation}
 use Rattle.rows.specs.declared.allocation.Desired.TheVariants as desires
 use Rattle.rows.specs.declared.allocation.AllocId.{AllocId}
 use Rattle.rows.specs.declared.allocation.Allocation.{Allocation}
@@ -13,7 +14,7 @@ use Rattle.rows.specs.Keys.{alloc_cmp, node_number, alloc_id}
 use Rattle.fsm_tables.specs.Rows.{row_of, put_within}
 use Rattle.fsm_tables.specs.Claims.{is_active, is_live}
 use Rattle.fsm_state.specs.Words.{State, alloc_of}
-use Rattle.fsm_state.specs.Effect.{ends, state_of, with_evals, lives_on}
+use Rattle.fsm_state.specs.Effect.{ends, state_of, new_eval, with_evals, lives_on}
 
 -- the row with a change, put in its place; without a row nothing changes
 abbrev pub put_changed : {K X : Type 0} → (K → K → Ordering) → (X → K) → ℕ → (X → X) → Option X → List X → List X
@@ -93,3 +94,14 @@ live_jobs (id ∷ ids) s = live_job (alloc_of id s) (live_jobs ids s)
 abbrev pub jobs_on : ℕ → List Allocation → List (List ℕ)
 jobs_on n [] = []
 jobs_on n (a ∷ rows) = cond (lives_on n a) (a.job ∷ jobs_on n rows) (jobs_on n rows)
+
+-- ---- parts of the steps
+
+-- one allocation's row is put; if it was live and is not now, its node has room
+abbrev pub revised_to : Allocation → Allocation → State → State
+revised_to a b s = record s { nodes = cond (is_live a && not (is_live b)) (room_at s.count a.node s.nodes) s.nodes; allocs = put_within alloc_cmp alloc_id 65536 b s.allocs }
+
+-- the evaluation that touches a job, if it is one of the names
+abbrev pub eval_for : ℕ → ℕ → List (List ℕ) → Option Job → Option Evaluation
+eval_for x slot names None = None
+eval_for x slot names (Some j) = cond (list_any (λ name. bytes_eq j.name name) names) (Some (new_eval x slot j)) None
