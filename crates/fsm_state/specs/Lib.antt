@@ -9,3 +9,6 @@ pub mod UseLaws
 pub mod PlanLaws
 pub mod Steps
 pub mod StepLaws
+pub mod StopLaws
+pub mod RangeLaws
+pub mod Worked

@@ -140,7 +140,7 @@ was_active : (d : Desired) (to from : ClientState) → T (is_active from) → T 
 was_active desires.Run to from p h = p
 was_active desires.Stop to from p h = h
 
-told_releases : (n : ℕ) (r : Report) → Releases (told n r)
+pub told_releases : (n : ℕ) (r : Report) → Releases (told n r)
 told_releases n r = record {
   same_claim = λ a. elim (same_alloc a.id r.id && nat_eq a.node n && is_active a.client) as (λ b. claim_of (cond b (record a { client = state_of r.state }) a) ≡ claim_of a) [ true ↦ refl | false ↦ refl ];
   lives = λ a. elim (same_alloc a.id r.id && nat_eq a.node n && is_active a.client) as (λ b. (same_alloc a.id r.id && nat_eq a.node n && is_active a.client) ≡ b → T (is_live (cond b (record a { client = state_of r.state }) a)) → T (is_live a)) [

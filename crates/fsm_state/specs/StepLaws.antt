@@ -34,45 +34,45 @@ use Rattle.fsm_state.specs.Steps.{put_changed, changed, room_at, touched_names, 
 
 -- ---- lists and tests
 
-maps : {A B C : Type 0} (g : B → C) (f : A → B) (xs : List A) → map g (map f xs) ≡ map (λ x. g (f x)) xs
+pub maps : {A B C : Type 0} (g : B → C) (f : A → B) (xs : List A) → map g (map f xs) ≡ map (λ x. g (f x)) xs
 maps g f [] = refl
 maps g f (x ∷ xs) = ap (λ zs. g (f x) ∷ zs) (maps g f xs)
 
-map_itself : {A : Type 0} (xs : List A) → map (λ x. x) xs ≡ xs
+pub map_itself : {A : Type 0} (xs : List A) → map (λ x. x) xs ≡ xs
 map_itself [] = refl
 map_itself (x ∷ xs) = ap (λ zs. x ∷ zs) (map_itself xs)
 
-maps_same : {A : Type 0} (f g : A → A) → ((x : A) → f x ≡ g x) → (xs : List A) → map f xs ≡ map g xs
+pub maps_same : {A : Type 0} (f g : A → A) → ((x : A) → f x ≡ g x) → (xs : List A) → map f xs ≡ map g xs
 maps_same f g h xs = λ i. map (λ x. h x i) xs
 
-anys_same : {A : Type 0} (p q : A → Bool) → ((x : A) → p x ≡ q x) → (xs : List A) → list_any p xs ≡ list_any q xs
+pub anys_same : {A : Type 0} (p q : A → Bool) → ((x : A) → p x ≡ q x) → (xs : List A) → list_any p xs ≡ list_any q xs
 anys_same p q h xs = λ i. list_any (λ x. h x i) xs
 
-or_false : (b : Bool) → (b || false) ≡ b
+pub or_false : (b : Bool) → (b || false) ≡ b
 or_false true = refl
 or_false false = refl
 
-and_false : (b : Bool) → (b && false) ≡ false
+pub and_false : (b : Bool) → (b && false) ≡ false
 and_false true = refl
 and_false false = refl
 
-and_true : (b : Bool) → (b && true) ≡ b
+pub and_true : (b : Bool) → (b && true) ≡ b
 and_true true = refl
 and_true false = refl
 
-never : (b : Bool) → (b && not b) ≡ false
+pub never : (b : Bool) → (b && not b) ≡ false
 never true = refl
 never false = refl
 
-swap : (a b : Bool) → (a && b) ≡ (b && a)
+pub swap : (a b : Bool) → (a && b) ≡ (b && a)
 swap true b = sym (and_true b)
 swap false b = sym (and_false b)
 
-and_assoc : (a b c : Bool) → (a && b && c) ≡ (a && (b && c))
+pub and_assoc : (a b c : Bool) → (a && b && c) ≡ (a && (b && c))
 and_assoc true b c = refl
 and_assoc false b c = refl
 
-both_tests : {A : Type 0} (a b : Bool) (x y : A) → cond a (cond b x y) y ≡ cond (a && b) x y
+pub both_tests : {A : Type 0} (a b : Bool) (x y : A) → cond a (cond b x y) y ≡ cond (a && b) x y
 both_tests true b x y = refl
 both_tests false b x y = refl
 
@@ -92,7 +92,7 @@ module _ {K X : Type 0} (R : K → K → Ordering) (key : X → K) where
   pub only_keeps : (f : X → X) → ((x : X) → key (f x) ≡ key x) → (k : K) (y : X) → key (only R key f k y) ≡ key y
   only_keeps f keeps k y = elim (is_eq (R k (key y))) as (λ b. key (cond b (f y) y) ≡ key y) [ true ↦ keeps y | false ↦ refl ]
 
-  none_only : (f : X → X) (k : K) (ys : List X) → row_of R key k ys ≡ None → map (only R key f k) ys ≡ ys
+  pub none_only : (f : X → X) (k : K) (ys : List X) → row_of R key k ys ≡ None → map (only R key f k) ys ≡ ys
   none_only f k [] e = refl
   none_only f k (y ∷ ys) e =
       elim (is_eq (R k (key y))) as (λ b. cond b (Some y) (row_of R key k ys) ≡ None → cond b (f y) y ∷ map (only R key f k) ys ≡ y ∷ ys) [
@@ -208,7 +208,7 @@ names_turn a b = sym (is_eq-slice_cmp a b) ∙ ap is_eq (nat_list_cmp_total.anti
 at_name : (name : List ℕ) (j : Job) → is_eq (name_cmp name j.name) ≡ is_named name j
 at_name name j = is_eq-slice_cmp name j.name ∙ names_turn name j.name
 
-at_number : (n m : ℕ) → is_eq (nat_cmp n m) ≡ nat_eq m n
+pub at_number : (n m : ℕ) → is_eq (nat_cmp n m) ≡ nat_eq m n
 at_number n m = grind arith
 
 two_keys : (r q : Ordering) → is_eq (ordering_then r q) ≡ (is_eq r && is_eq q)
@@ -216,7 +216,7 @@ two_keys Less q = refl
 two_keys Equal q = refl
 two_keys Greater q = refl
 
-at_alloc : (id : AllocId) (a : Allocation) → is_eq (alloc_cmp id a.id) ≡ same_alloc a.id id
+pub at_alloc : (id : AllocId) (a : Allocation) → is_eq (alloc_cmp id a.id) ≡ same_alloc a.id id
 at_alloc id a = two_keys (nat_cmp id.index a.id.index) (nat_cmp id.slot a.id.slot) ∙ (λ i. at_number id.index a.id.index i && at_number id.slot a.id.slot i)
 
 at_eval : (id : EvalId) (e : Evaluation) → is_eq (eval_cmp id e.id) ≡ same_eval e.id id
@@ -229,7 +229,7 @@ stopped_job x name jobs h =
     changed_is name_cmp job_name nat_list_cmp_total 256 (λ j. record j { stopped = true; version = x }) (λ j. refl) name jobs h
     ∙ maps_same _ (stop_job x name) (λ j. ap (λ b. cond b (record j { stopped = true; version = x }) j) (at_name name j)) jobs
 
-node_changed : (f : Node → Node) → ((r : Node) → (f r).number ≡ r.number) → (n : ℕ) (nodes : List Node) → T (is_rising nat_cmp node_number nodes) → changed nat_cmp node_number 64 f n nodes ≡ map (λ r. cond (nat_eq r.number n) (f r) r) nodes
+pub node_changed : (f : Node → Node) → ((r : Node) → (f r).number ≡ r.number) → (n : ℕ) (nodes : List Node) → T (is_rising nat_cmp node_number nodes) → changed nat_cmp node_number 64 f n nodes ≡ map (λ r. cond (nat_eq r.number n) (f r) r) nodes
 node_changed f keeps n nodes h =
     changed_is nat_cmp node_number nat_cmp_total 64 f keeps n nodes h
     ∙ maps_same _ (λ r. cond (nat_eq r.number n) (f r) r) (λ r. ap (λ b. cond b (f r) r) (at_number n r.number)) nodes

@@ -7,6 +7,8 @@ mod laws;
 mod lists;
 mod nodes;
 mod touch;
+mod worked;
 
 pub use cluster::Cluster;
 pub use laws::{commands_are_lawful, empty_is_lawful, plans_are_decided, safety_is_decided};
+pub use worked::{worked_drain, worked_loss, worked_move};
