@@ -1,2 +1,3 @@
 pub mod Touching
 pub mod Rows
+pub mod Turns

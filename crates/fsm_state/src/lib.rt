@@ -2,6 +2,7 @@
 #![tactic(auto)]
 
 mod allocs;
+mod apply;
 mod cluster;
 mod laws;
 mod lists;
