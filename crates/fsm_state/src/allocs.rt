@@ -44,7 +44,7 @@ pub(crate) fn told(row: &Allocation, node: NodeId, report: &Report) -> Allocatio
     ensures { result ≡ tell_one node report.now row.now }
 {
     let mut row = *row;
-    if row.node == node && is_active(row.client) {
+    if is_active(row.client) && row.node == node {
         row.client = told_state(report.state);
     }
     row

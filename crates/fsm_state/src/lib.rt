@@ -4,6 +4,7 @@
 mod allocs;
 mod apply;
 mod cluster;
+mod fill;
 mod laws;
 mod lists;
 mod nodes;
