@@ -7,7 +7,9 @@ ghost use Rattle.fsm_state.specs.Steps.{room_at, revised, revised_to, alloc_chan
 
 use crate::cluster::Cluster;
 use fsm_tables::is_live;
-use rows::{AllocId, Allocation, ClientState, Desired, Index, NoMemory, NodeId, Report, ReportedState};
+use rows::{
+    AllocId, Allocation, ClientState, Desired, Index, NoMemory, NodeId, Report, ReportedState,
+};
 
 /// Whether a node says of an allocation that it waits or runs.
 fn is_active(state: ClientState) -> bool

@@ -15,6 +15,6 @@ loop-row-preserved c =
     let lt : c.loop-row.row-index < length rows = omega arith in
     let step = fill_step name_cmp job_name nat_list_cmp_total 256 rows c.loop-row.row-index row c.requires.rising c.requires.few lt c.row-item.is in
     c.in_ok-put_job.ensures
-        ∙ ap (λ (r : Job). record c.loop-row.self { jobs = put_within name_cmp job_name 256 r c.loop-row.self.jobs }) c.in_ok-row.ensures
-        ∙ ap (λ (z : State). record z { jobs = put_within name_cmp job_name 256 row z.jobs }) c.loop-row.invariant
-        ∙ (λ i. record s0 { jobs = step i })
+    ∙ ap (λ (r : Job). record c.loop-row.self { jobs = put_within name_cmp job_name 256 r c.loop-row.self.jobs }) c.in_ok-row.ensures
+    ∙ ap (λ (z : State). record z { jobs = put_within name_cmp job_name 256 row z.jobs }) c.loop-row.invariant
+    ∙ (λ i. record s0 { jobs = step i })
