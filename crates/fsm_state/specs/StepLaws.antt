@@ -205,7 +205,7 @@ turned Greater = refl
 pub names_turn : (a b : List ℕ) → bytes_eq a b ≡ bytes_eq b a
 names_turn a b = sym (is_eq-slice_cmp a b) ∙ ap is_eq (nat_list_cmp_total.antisymm a b) ∙ turned (name_cmp b a) ∙ is_eq-slice_cmp b a
 
-at_name : (name : List ℕ) (j : Job) → is_eq (name_cmp name j.name) ≡ is_named name j
+pub at_name : (name : List ℕ) (j : Job) → is_eq (name_cmp name j.name) ≡ is_named name j
 at_name name j = is_eq-slice_cmp name j.name ∙ names_turn name j.name
 
 pub at_number : (n m : ℕ) → is_eq (nat_cmp n m) ≡ nat_eq m n

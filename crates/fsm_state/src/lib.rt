@@ -1,6 +1,7 @@
 //! The replicated state of a Nomad server group: its commands, what they do, and which a state refuses.
 #![tactic(auto)]
 
+mod admission;
 mod allocs;
 mod cluster;
 mod laws;
