@@ -1,2 +1,4 @@
 pub mod Touching
+pub mod Rows
+pub mod Turns
 pub mod Admitting

@@ -40,7 +40,7 @@ fn stopped(row: &Allocation) -> Allocation
 }
 
 /// A row after a report of a node: complete, failed and lost stay.
-fn told(row: &Allocation, node: NodeId, report: &Report) -> Allocation
+pub(crate) fn told(row: &Allocation, node: NodeId, report: &Report) -> Allocation
     ensures { result ≡ tell_one node report.now row.now }
 {
     let mut row = *row;

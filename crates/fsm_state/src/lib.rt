@@ -3,8 +3,11 @@
 
 mod admission;
 mod allocs;
+mod apply;
 mod cluster;
 mod laws;
+mod lists;
+mod nodes;
 mod touch;
 mod worked;
 

@@ -3,7 +3,7 @@ use Rattle.std.specs.List.{slice_get}
 use Rattle.fsm_state.specs.Words.{State}
 use Rattle.fsm_state.specs.Steps.{touched_names, eval_for}
 use Rattle.fsm_state.proofs.Touching.{Kept, kept, moved}
-use Rattle.fsm_state.proofs.cluster.Cluster.touch.Goals.{in-Some+in_ok-put_eval, in-None}
+use Rattle.fsm_state.proofs.cluster.Cluster.touch.Goals.{in-Some+in_ok-put_eval-in-Some, in-None}
 use Rattle.fsm_state.proofs.cluster.Cluster.touch.Goals as goal
 
 pub loop-place-preserved : goal.loop-place-preserved
@@ -18,6 +18,6 @@ loop-place-preserved c =
     let next = kept c.args.entry c.args.names.now all s0 s c.loop-place.slot c.loop-place.place c.evaluation_for.result h.same h.evals h.slots lt is in
     let place = c.loop-place.place + 1 in
     elim c.match-evaluation_for.branch [
-      | in-Some+in_ok-put_eval w ↦ moved c.args.entry c.args.names.now all s0 s c.loop-place.slot place c.evaluation_for.result (Some w.in-Some.eval) c.match-evaluation_for.self c.match-evaluation_for.slot w.in-Some.is (w.self-is ∙ w.in_ok-put_eval.ensures) w.slot-is next
+      | in-Some+in_ok-put_eval-in-Some w ↦ moved c.args.entry c.args.names.now all s0 s c.loop-place.slot place c.evaluation_for.result (Some w.in-Some.eval) c.match-evaluation_for.self c.match-evaluation_for.slot w.in-Some.is (w.self-is ∙ w.in_ok-put_eval-in-Some.ensures) w.slot-is next
       | in-None w ↦ moved c.args.entry c.args.names.now all s0 s c.loop-place.slot place c.evaluation_for.result None c.match-evaluation_for.self c.match-evaluation_for.slot w.in-None.is w.self-is w.slot-is next
     ]
