@@ -263,7 +263,7 @@ touched_same those names h t = λ i. record t { evals = with_evals t.count 0 (fi
 pub touched_name : (name : List ℕ) (t : State) → touched (is_named name) t ≡ touched_names (name ∷ []) t
 touched_name name t = touched_same (is_named name) (name ∷ []) (λ j. sym (or_false (is_named name j))) t
 
-on_node_jobs : (n : ℕ) (rows : List Allocation) (j : Job) → owns (lives_on n) rows j ≡ is_one_of (jobs_on n rows) j
+pub on_node_jobs : (n : ℕ) (rows : List Allocation) (j : Job) → owns (lives_on n) rows j ≡ is_one_of (jobs_on n rows) j
 on_node_jobs n [] j = refl
 on_node_jobs n (a ∷ rows) j =
     elim (lives_on n a) as (λ b. ((b && bytes_eq a.job j.name) || owns (lives_on n) rows j) ≡ is_one_of (cond b (a.job ∷ jobs_on n rows) (jobs_on n rows)) j) [

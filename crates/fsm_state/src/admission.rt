@@ -21,7 +21,7 @@ fn differs(spec: &NodeSpec, row: &Node) -> bool
 }
 
 /// Whether a node is being emptied.
-fn is_drained(row: &Node) -> bool
+pub(crate) fn is_drained(row: &Node) -> bool
     ensures { result ≡ is_draining row.now.drain }
 {
     match row.drain {
