@@ -15,7 +15,9 @@ use Rattle.fsm_tables.specs.Rows.{row_of, has_row}
 use Rattle.fsm_tables.specs.RowLaws.{first, second, none_below, below_tied}
 use Rattle.fsm_tables.specs.Claims.{claim_of, claims, on_node, is_live}
 use Rattle.fsm_state.specs.Effect.{is_named, lives_on}
-use Rattle.fsm_state.specs.StepLaws.{at_name}
+use Rattle.fsm_state.specs.Words.{State}
+use Rattle.fsm_state.specs.Admission.{evals_pass, those_jobs}
+use Rattle.fsm_state.specs.StepLaws.{at_name, is_one_of}
 
 none_named : (name : List ℕ) (jobs : List Job) → row_of name_cmp job_name name jobs ≡ None → length (filter (is_named name) jobs) ≡ 0
 none_named name [] e = refl
@@ -59,3 +61,7 @@ one_more n a rows = elim (is_live a) as (λ b. sum_by (on_node n (λ z. z.cpu)) 
 pub used_where_live : (n : ℕ) (rows : List Allocation) → AllByRecursion AllocationFits rows → nat_lt 0 (cpu_on n rows) ≡ list_any (lives_on n) rows
 used_where_live n [] h = refl
 used_where_live n (a ∷ rows) h = ap (nat_lt 0) (one_more n a rows) ∙ in_use (is_live a) (nat_eq a.node n) a.size.cpu (cpu_on n rows) (list_any (lives_on n) rows) h.0.5.0.0 (used_where_live n rows h.1)
+
+-- jobs told by names
+pub names_are : (those : Job → Bool) (names others : List (List ℕ)) (s : State) → names ≡ others → ((j : Job) → those j ≡ is_one_of others j) → evals_pass (those_jobs (is_one_of names) s) s ≡ evals_pass (those_jobs those s) s
+names_are those names others s e h = ap (λ ns. evals_pass (those_jobs (is_one_of ns) s) s) e ∙ sym (λ i. evals_pass (those_jobs (λ j. h j i) s) s)

@@ -30,8 +30,10 @@ pub(crate) fn is_ready(status: NodeStatus) -> bool
 }
 
 /// How many of the jobs are of these names.
+#[tactic(auto, using(crate::specs::RangeLaws::no_more))]
 fn count_of(jobs: &[Job], names: &[JobName]) -> usize
-    ensures { result ≡ length (filter (is_one_of names.now) jobs.now) }
+    ensures count { result ≡ length (filter (is_one_of names.now) jobs.now) }
+    ensures few { result ≤ length jobs.now }
 {
     jobs.iter().filter(|job| is_among(&job.name, names)).count()
 }
@@ -51,11 +53,11 @@ fn after_report(row: &Allocation, node: NodeId, report: &Report) -> Allocation
 fn after_reports(row: &Allocation, node: NodeId, reports: &[Report]) -> Allocation
     ensures { result ≡ told_all node reports.now row.now }
 {
-    let mut row = *row;
+    let mut after = *row;
     for report in reports {
-        row = after_report(&row, node, report);
+        after = after_report(&after, node, report);
     }
-    row
+    after
 }
 
 impl Cluster {

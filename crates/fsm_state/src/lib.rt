@@ -2,6 +2,7 @@
 #![tactic(auto)]
 
 mod admission;
+mod admission_plan;
 mod admission_touch;
 mod allocs;
 mod apply;
