@@ -2,3 +2,4 @@ pub mod Touching
 pub mod Rows
 pub mod Turns
 pub mod Filling
+pub mod Admitting

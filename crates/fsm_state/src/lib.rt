@@ -1,6 +1,9 @@
 //! The replicated state of a Nomad server group: its commands, what they do, and which a state refuses.
 #![tactic(auto)]
 
+mod admission;
+mod admission_plan;
+mod admission_touch;
 mod allocs;
 mod apply;
 mod cluster;
