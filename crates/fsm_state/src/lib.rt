@@ -11,6 +11,7 @@ mod fill;
 mod laws;
 mod lists;
 mod nodes;
+mod text;
 mod touch;
 mod worked;
 
