@@ -6,6 +6,8 @@ mod coded;
 mod entry;
 mod laws;
 mod machine;
+#[cfg(test)]
+mod row_tests;
 mod tally;
 #[cfg(test)]
 mod tests;

@@ -21,6 +21,7 @@ The file is a JSON object with exactly these keys:
   \"order\"    \"sent\"
   \"steps\"    a list of texts, each one of these steps:
     timeout S   server S has heard of no leader for too long
+    beat S      server S, if it leads, sends the others what they may lack
     deliver K   the K-th message ever sent comes, the first being 1
     crash S     server S stops, and keeps what it stored
     restart S   server S begins again from what it stored

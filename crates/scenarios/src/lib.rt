@@ -6,6 +6,10 @@ pub mod claims;
 #[cfg(test)]
 mod faults;
 #[cfg(test)]
+mod groups;
+#[cfg(test)]
+mod histories;
+#[cfg(test)]
 mod memory;
 #[cfg(test)]
 mod requests;
