@@ -117,11 +117,14 @@ fn is_served(settings: &Settings) -> bool {
 fn steps_of<'a>(alloc: Global, scenario: &Scenario) -> Result<Vec<Step>, Fault<'a>> {
     let mut steps = Vec::new(alloc);
     for line in &scenario.steps {
-        let Some(step) = read_step(alloc, line.as_str())? else {
-            return Err(Fault::BadScenario);
-        };
-        if steps.push(step).is_err() {
-            return Err(Fault::NoMemory);
+        match read_step(alloc, line.as_str())? {
+            // The group replicates a tally, which takes no request.
+            None | Some(Step::Request(..)) => return Err(Fault::BadScenario),
+            Some(step) => {
+                if steps.push(step).is_err() {
+                    return Err(Fault::NoMemory);
+                }
+            }
         }
     }
     Ok(steps)
@@ -153,7 +156,7 @@ impl Play {
             Step::Crash(server) => self.event(RaftEvent::Crash(server)),
             Step::Restart(server) => self.event(RaftEvent::Restart(server)),
             Step::Flow(count) => Ok(self.flow(count.unwrap_or(FLOW))?),
-            // The group replicates a tally, which takes no request.
+            // No scenario with a request is played yet.
             Step::Request(..) => Err(Refusal::OutOfRange),
         }
     }

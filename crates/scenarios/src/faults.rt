@@ -68,6 +68,7 @@ fn refuses_other_steps(rt: HostRuntime) {
         "\"crash c1\"",
         "\"restart\"",
         "\"beat 1\"",
+        "\"request 1 stop web\"",
         "\"work 1\"",
         "\"compact 1\"",
         "\"crash 4\", \"nonsense\"",
