@@ -1,6 +1,13 @@
-pub mod Logs
-pub mod Sends
-pub mod Quorums
-pub mod Stepping
+pub mod Applies
+pub mod Beats
+pub mod Commits
 pub mod Lives
+pub mod Loads
+pub mod Logs
 pub mod Members
+pub mod Merges
+pub mod Quorums
+pub mod Replies
+pub mod Sends
+pub mod Stepping
+pub mod Follows

@@ -1,14 +1,37 @@
 -- What a server that starts keeps.
-use Rattle.std.proofs.Common.{◌≡◌, ℕ, zero, suc, ◌^◌, ◌<◌, lit<, slice_index, replicate, List, length, refl, ap, ◌∙◌, arith}
+use Rattle.std.proofs.Common.{◌≡◌, ℕ, zero, suc, ◌+◌, ◌^◌, ◌<◌, ◌≤◌, lit<, Bool, true, Option, Some, None, IfSome, slice_index, replicate, List, [], ◌∷◌, ◌++◌, length, length-append, refl, sym, ap, ◌∙◌, arith}
+use Rattle.std.proofs.lemmas.List.{length-replicate, take-append-le}
 use Rattle.machine.specs.Meaning.{Meaning}
 use Rattle.machine.specs.declared.entry.Entry.{Entry}
-use Rattle.raft_model.specs.Logs.{commands}
-use Rattle.raft_core.specs.Seen.{IsLive}
+use Rattle.raft_model.specs.Logs.{commands, state_after}
+use Rattle.raft_model.specs.Servers.{Server, is_up, is_leader}
+use Rattle.raft_core.specs.Seen.{IsLive, HasRoom, IsRaft, while_up, mode_of}
+use Rattle.raft_core.specs.declared.role.Role.{Role}
+use Rattle.raft_core.specs.declared.role.Role.TheVariants as roles
 
 zero_levels : (n j : ℕ) → slice_index (replicate n 0) j < 2 ^ 40
 zero_levels zero j = lit< tt
 zero_levels (suc n) zero = lit< tt
 zero_levels (suc n) (suc j) = zero_levels n j
+
+replicate_least : (n k j : ℕ) → 1 ≤ k → j < n → 1 ≤ slice_index (replicate n k) j
+replicate_least zero k j some below = absurd (omega arith)
+replicate_least (suc n) k zero some below = some
+replicate_least (suc n) k (suc j) some below = replicate_least n k j some (omega arith)
+
+replicate_most : (n k b j : ℕ) → k ≤ b → slice_index (replicate n k) j ≤ b
+replicate_most zero k b j most = omega arith
+replicate_most (suc n) k b zero most = most
+replicate_most (suc n) k b (suc j) most = replicate_most n k b j most
+
+-- lists that were filled with one index
+pub filled_least : (next : List ℕ) (n k size : ℕ) → next ≡ replicate n k → 1 ≤ k → length next ≡ size → (j : ℕ) → j < size → 1 ≤ slice_index next j
+filled_least next n k size is some each j below =
+    let all : length next ≡ n = ap length is ∙ length-replicate n k in
+    rw is (replicate_least n k j some (omega (arith, all, each, below)))
+
+pub filled_most : (next : List ℕ) (n k : ℕ) → next ≡ replicate n k → k ≤ 2 ^ 40 → (j : ℕ) → slice_index next j ≤ 2 ^ 40
+filled_most next n k is most j = rw is (replicate_most n k (2 ^ 40) j most)
 
 -- nothing is applied yet
 pub fresh : {S C : Type 0} (m : Meaning S C) (log : List (Entry C)) (n : ℕ) (matched : List ℕ) (s : S) → s ≡ m.empty → matched ≡ replicate n 0 → IsLive m log 0 matched s
@@ -18,3 +41,67 @@ fresh m log n matched s empty levels = record {
   state = empty;
   levels = λ j. rw levels (zero_levels n j);
 }
+
+module _ {S C : Type 0} (m : Meaning S C) where
+  live_grown : (log : List (Entry C)) (e : Entry C) (commit : ℕ) (matched : List ℕ) (machine : Option S) → IfSome machine (IsLive m log commit matched) → IfSome machine (IsLive m (log ++ e ∷ []) commit matched)
+  live_grown log e commit matched None live = tt
+  live_grown log e commit matched (Some s) live = record {
+    committed = omega (arith, live.committed, length-append log (e ∷ []));
+    state = live.state ∙ sym (ap (state_after m) (take-append-le commit log (e ∷ []) live.committed));
+    levels = live.levels;
+  }
+
+  -- one more entry
+  pub grown : (me size : ℕ) (log : List (Entry C)) (e : Entry C) (old new : Role) (commit : ℕ) (votes : List Bool) (next matched : List ℕ) (machine : Option S) → IsRaft m me size log old commit votes next matched machine → length log + 1 < 2 ^ 40 → HasRoom new (log ++ e ∷ []) → IsRaft m me size (log ++ e ∷ []) new commit votes next matched machine
+  grown me size log e old new commit votes next matched machine is short room = record {
+    number = is.number;
+    group = is.group;
+    short = omega (arith, length-append log (e ∷ []));
+    room = room;
+    votes_each = is.votes_each;
+    next_each = is.next_each;
+    next_least = is.next_least;
+    next_most = is.next_most;
+    matched_each = is.matched_each;
+    live = live_grown log e commit matched machine is.live;
+  }
+
+  live_reset : (log : List (Entry C)) (commit : ℕ) (matched levels : List ℕ) (n : ℕ) (machine : Option S) → levels ≡ replicate n 0 → IfSome machine (IsLive m log commit matched) → IfSome machine (IsLive m log commit levels)
+  live_reset log commit matched levels n None is live = tt
+  live_reset log commit matched levels n (Some s) is live = record { committed = live.committed; state = live.state; levels = λ j. rw is (zero_levels n j) }
+
+  -- nothing is known of what others hold
+  pub reset : (me size : ℕ) (log : List (Entry C)) (role : Role) (commit : ℕ) (votes : List Bool) (old_next old_matched next matched : List ℕ) (first n k : ℕ) (machine : Option S) → IsRaft m me size log role commit votes old_next old_matched machine → 1 ≤ first → first ≤ 2 ^ 40 → next ≡ replicate n first → matched ≡ replicate k 0 → length next ≡ size → length matched ≡ size → IsRaft m me size log role commit votes next matched machine
+  reset me size log role commit votes old_next old_matched next matched first n k machine is least most begins none next_each matched_each = record {
+    number = is.number;
+    group = is.group;
+    short = is.short;
+    room = is.room;
+    votes_each = is.votes_each;
+    next_each = next_each;
+    next_least = filled_least next n first size begins least next_each;
+    next_most = filled_most next n first begins most;
+    matched_each = matched_each;
+    live = live_reset log commit old_matched matched k machine none is.live;
+  }
+
+-- a leader needs no further room
+pub leader_room : {S C : Type 0} (machine : Option S) (term : ℕ) (vote : Option ℕ) (log more : List (Entry C)) (covered commit : ℕ) (known : Option ℕ) (role : Role) (votes : List Bool) (next matched : List ℕ) → is_leader (while_up machine (record { term = term; vote = vote; log = log; covered = covered; commit = commit; known = known; mode = mode_of role votes next matched })).mode ≡ true → HasRoom role more
+leader_room None term vote log more covered commit known role votes next matched leads = absurd (cc leads)
+leader_room (Some s) term vote log more covered commit known roles.Follower votes next matched leads = tt
+leader_room (Some s) term vote log more covered commit known roles.Candidate votes next matched leads = absurd (cc leads)
+leader_room (Some s) term vote log more covered commit known roles.Leader votes next matched leads = tt
+
+-- what is stored is seen also of a server that is down
+pub term_up : {S C : Type 0} (machine : Option S) (s : Server C) → (while_up machine s).term ≡ s.term
+term_up None s = refl
+term_up (Some machine) s = refl
+
+pub log_up : {S C : Type 0} (machine : Option S) (s : Server C) → (while_up machine s).log ≡ s.log
+log_up None s = refl
+log_up (Some machine) s = refl
+
+-- while it is up, the leader that it knows is seen
+pub known_up : {S C : Type 0} (machine : Option S) (s : Server C) → is_up (while_up machine s).mode ≡ true → (while_up machine s).known ≡ s.known
+known_up None s up = absurd (cc up)
+known_up (Some machine) s up = refl

@@ -61,6 +61,8 @@ another : (from to : ℕ) → from ≢ to → is_another_server (Server from) (S
 another from to other = let e : (to == from) ≡ false = ne_eqb to from (λ q. other (sym q)) in rw e refl
 
 -- messages between servers go to another one
-pub may_go_between : (from to : ℕ) (body : Body) → from ≢ to → may_go (kind_of body) (Server from) (Server to) ≡ true
+pub may_go_between : {S C : Type 0} (from to : ℕ) (body : Body S C) → from ≢ to → may_go (kind_of body) (Server from) (Server to) ≡ true
 may_go_between from to (bodies.VoteRequest v) other = another from to other
 may_go_between from to (bodies.VoteReply v) other = another from to other
+may_go_between from to (bodies.Append a) other = another from to other
+may_go_between from to (bodies.AppendReply r) other = another from to other

@@ -10,8 +10,8 @@ use Rattle.wire.specs.Messages.{Message as WireMessage}
 use Rattle.wire.specs.Frames.{Frame, MessageFits, message_text}
 use Rattle.raft_model.specs.Logs.{MAX}
 use Rattle.raft_model.specs.Messages.{Message, to_others}
-use Rattle.raft_model.specs.Servers.{Server, Turn, is_up, is_leader, silent, stood, vote_request, met, crashed, restarted}
-use Rattle.raft_model.specs.Steps.{step, receives, Input, Arrives, Timeout, Crash, Restart}
+use Rattle.raft_model.specs.Servers.{Server, Turn, is_up, is_leader, silent, stood, vote_request, met, beats, crashed, restarted}
+use Rattle.raft_model.specs.Steps.{step, receives, Input, Arrives, Timeout, Beat, Crash, Restart}
 use Rattle.raft_core.specs.declared.input.Input.{Input as CodeInput}
 use Rattle.raft_core.specs.declared.input.Input.TheVariants as inputs
 use Rattle.raft_core.specs.Seen.{Seen, with_server}
@@ -33,6 +33,9 @@ module _ {S C : Type 0} (m : Meaning S C) where
         let below : nat_lt s.term MAX ≡ true = lt-ltb s.term MAX (omega arith) in
         let fits : nat_lt (length s.log) MAX ≡ true = lt-ltb (length s.log) MAX (omega arith) in
         rw (up, other, below, fits) refl
+
+    pub beat_taken : step m n me s Beat ≡ Ok (record { server = s; sent = beats n me s s.mode })
+    beat_taken = rw up refl
 
     pub crash_taken : step m n me s Crash ≡ Ok (silent (crashed s))
     crash_taken = rw up refl

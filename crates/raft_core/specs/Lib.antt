@@ -3,5 +3,9 @@ pub mod Seen
 pub mod Frames
 pub mod Turns
 pub mod Steps
+pub mod Proposals
 pub mod Stops
 pub mod Restarts
+pub mod Commits
+pub mod Replies
+pub mod Beats

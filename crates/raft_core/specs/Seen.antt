@@ -37,7 +37,7 @@ HasRoom Follower log = Unit {0}
 HasRoom Candidate log = length log + 1 < 2 ^ 40
 HasRoom Leader log = Unit {0}
 
--- Each of the lists by server number has an item for each server.
+-- Each of the lists by server number has an item for each server. A next index is one that a log may grow to.
 pub record IsRaft {S C : Type 0} (m : Meaning S C) (me size : ℕ) (log : List (Entry C)) (role : Role) (commit : ℕ) (votes : List Bool) (next matched : List ℕ) (machine : Option S) : Type 0 where
   pub number : me < size
   pub group : size ≤ 5
@@ -45,6 +45,8 @@ pub record IsRaft {S C : Type 0} (m : Meaning S C) (me size : ℕ) (log : List (
   pub room : HasRoom role log
   pub votes_each : length votes ≡ size
   pub next_each : length next ≡ size
+  pub next_least : (j : ℕ) → j < size → 1 ≤ slice_index next j
+  pub next_most : (j : ℕ) → slice_index next j ≤ 2 ^ 40
   pub matched_each : length matched ≡ size
   pub live : IfSome machine (IsLive m log commit matched)
 

@@ -8,14 +8,14 @@ use Rattle.machine.specs.Meaning.{Meaning}
 use Rattle.wire.specs.Messages.{Message as WireMessage}
 use Rattle.wire.specs.Frames.{Frame, message_at}
 use Rattle.raft_model.specs.Messages.{Message}
-use Rattle.raft_model.specs.Servers.{Server, Turn, Mode, is_up, crashed}
+use Rattle.raft_model.specs.Servers.{Server, Turn, Mode, is_up, is_leader, crashed}
 use Rattle.raft_model.specs.Servers.{Down as DownMode, Follower as FollowerMode, Candidate as CandidateMode, Leader as LeaderMode}
 use Rattle.raft_model.specs.Steps as model
 use Rattle.raft_model.specs.Steps.{step}
 use Rattle.raft_core.specs.declared.role.Role.{Role}
 use Rattle.raft_core.specs.declared.role.Role.TheVariants as roles
 use Rattle.raft_core.specs.declared.input.Input.{Input}
-use Rattle.raft_core.specs.declared.input.Input.TheVariants.{Timeout, Crash, Restart}
+use Rattle.raft_core.specs.declared.input.Input.TheVariants.{Timeout, Beat, Crash, Restart}
 use Rattle.raft_core.specs.declared.input.Input.TheVariants.{Frame as FrameInput}
 use Rattle.raft_core.specs.Stored.{Stored}
 use Rattle.raft_core.specs.Seen.{Seen}
@@ -59,6 +59,7 @@ TakesFrame {C = C} m old s bytes new before after = (message : Message C) → Is
 abbrev pub Takes : {S C : Type 0} → Meaning S C → Seen C → Server C → Input → Seen C → List Frame → List Frame → Type 0
 Takes m old s (FrameInput bytes) new before after = TakesFrame m old s bytes.now new before after
 Takes m old s Timeout new before after = Steps m old s model.Timeout new before after
+Takes m old s Beat new before after = Steps m old s model.Beat new before after
 Takes m old s Crash new before after = Steps m old s model.Crash new before after
 Takes m old s Restart new before after = Steps m old s model.Restart new before after
 
@@ -85,17 +86,18 @@ misdirected n me from to =
     else Some (refusals.Frame 2)
 
 -- a message that was read, or the place of a frame's first fault
-abbrev pub unreadable : {C : Type 0} → ℕ → ℕ → Result (WireMessage C) ℕ → Option Refusal
+abbrev pub unreadable : {S C : Type 0} → ℕ → ℕ → Result (WireMessage S C) ℕ → Option Refusal
 unreadable n me (Ok message) = misdirected n me message.from message.to
 unreadable n me (Err place) = Some (refusals.Frame place)
 
 abbrev pub frame_refusal : {S C : Type 0} → Meaning S C → ℕ → ℕ → List ℕ → Option Refusal
-frame_refusal m n me bytes = unreadable n me (message_at m.commands bytes)
+frame_refusal {S = S} m n me bytes = unreadable {S = S} n me (message_at m.commands bytes)
 
 -- why server `me` of n refuses an input, if it does: it is down; a frame is none, or for another; a step is refused
 abbrev pub refusal : {S C : Type 0} → Meaning S C → ℕ → ℕ → Server C → Input → Option Refusal
 refusal m n me s (FrameInput bytes) = if is_up s.mode then frame_refusal m n me bytes.now else Some refusals.Down
 refusal m n me s Timeout = refusal_by (step m n me s model.Timeout)
+refusal m n me s Beat = refusal_by (step m n me s model.Beat)
 refusal m n me s Crash = refusal_by (step m n me s model.Crash)
 refusal m n me s Restart = refusal_by (step m n me s model.Restart)
 
@@ -103,6 +105,7 @@ refusal m n me s Restart = refusal_by (step m n me s model.Restart)
 abbrev pub MayLack : Mode → Input → Type 0
 MayLack mode (FrameInput bytes) = is_up mode ≡ true
 MayLack mode Timeout = is_up mode ≡ true
+MayLack mode Beat = is_leader mode ≡ true
 MayLack mode Crash = ⊥
 MayLack mode Restart = is_up mode ≡ false
 

@@ -4,9 +4,9 @@ use Rattle.rows.specs.declared.refusal.Refusal.{Refusal}
 use Rattle.rows.specs.declared.refusal.Refusal.TheVariants as refusals
 use Rattle.machine.specs.Meaning.{Meaning}
 use Rattle.wire.specs.Frames.{Frame}
-use Rattle.raft_model.specs.Servers.{is_up}
+use Rattle.raft_model.specs.Servers.{is_up, is_leader}
 use Rattle.raft_core.specs.declared.input.Input.{Input}
-use Rattle.raft_core.specs.declared.input.Input.TheVariants.{Timeout, Crash, Restart}
+use Rattle.raft_core.specs.declared.input.Input.TheVariants.{Timeout, Beat, Crash, Restart}
 use Rattle.raft_core.specs.declared.input.Input.TheVariants.{Frame as FrameInput}
 use Rattle.raft_core.specs.Seen.{Seen}
 use Rattle.raft_core.specs.Turns.{Lost}
@@ -16,6 +16,7 @@ use Rattle.raft_core.specs.Steps.{refusal, frame_refusal}
 abbrev pub LosesIn : {C : Type 0} → Seen C → Input → Seen C → List Frame → List Frame → Type 0
 LosesIn old (FrameInput bytes) new before after = (is_up old.server.mode ≡ true) × Lost old new before after
 LosesIn old Timeout new before after = (is_up old.server.mode ≡ true) × Lost old new before after
+LosesIn old Beat new before after = (is_leader old.server.mode ≡ true) × Lost old new before after
 LosesIn old Crash new before after = ⊥
 LosesIn old Restart new before after = ⊥
 

@@ -2,8 +2,13 @@
 //! extended version 2014, section 5 and Figure 2.)
 #![tactic(auto)]
 
+mod apply;
+mod commit;
 mod input;
 mod log;
+mod merge;
+mod no_projection;
+mod project;
 mod raft;
 mod role;
 mod sending;
@@ -11,7 +16,9 @@ mod stable;
 #[cfg(test)]
 mod tests;
 
+pub use commit::commit_is_greatest;
 pub use input::Input;
+pub use no_projection::NoProjection;
 pub use raft::{NotRestarted, Raft};
 pub use role::Role;
 pub use stable::Stable;

@@ -1,5 +1,5 @@
-ghost use Rattle.std.specs.Prelude.{◌≡◌};
-ghost use Rattle.raft_model.specs.Logs.{term_at, last_term};
+ghost use Rattle.std.specs.Prelude.{◌≡◌, ◌||◌, nat_le};
+ghost use Rattle.raft_model.specs.Logs.{term_at, last_term, has};
 
 use machine::{Coded, Entry, Machine};
 use rows::Term;
@@ -23,4 +23,12 @@ pub fn term_of_last<M: Machine>(log: &[Entry<Coded<M>>]) -> Term
     ensures { result ≡ last_term log.now }
 {
     term_at(log, log.len() as u64)
+}
+
+/// Whether what stands at an index stays: it is committed, or in the log with this term.
+pub fn stays<M: Machine>(log: &[Entry<Coded<M>>], commit: u64, index: u64, term: Term) -> bool
+    ensures { result ≡ (nat_le index commit || has log.now index term) }
+{
+    index <= commit
+        || index <= log.len() as u64 && term_at(log, index).get() == term.get()
 }

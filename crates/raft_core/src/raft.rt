@@ -1,4 +1,8 @@
+mod appends;
+mod beats;
 mod frames;
+mod propose;
+mod replies;
 mod votes;
 
 ghost use Rattle.std.specs.Prelude.{◌≡◌, true, false, None, length, take, replicate, OnOk, IfOk, IfErr, MatchOption};
@@ -22,6 +26,7 @@ use wire::Outbox;
 /// machine.
 #[derive(Drop)]
 pub struct Raft<M: Machine> {
+    alloc: Global,
     me: ServerId,
     size: usize,
     term: Term,
@@ -34,6 +39,8 @@ pub struct Raft<M: Machine> {
     votes: Vec<bool>,
     next: Vec<u64>,
     matched: Vec<u64>,
+    /// A leader's machine after its whole log, as the last call that asked for it left it.
+    ahead: Option<M>,
 }
 
 impl<M: Machine> Model for Raft<M> {
@@ -66,12 +73,12 @@ struct Levels {
 
 fn no_levels(alloc: Global, size: usize) -> Result<Levels, NoMemory>
     ensures votes { IfOk result (λ l. l.votes.items ≡ replicate size false) }
-    ensures next { IfOk result (λ l. l.next.items ≡ replicate size 0) }
+    ensures next { IfOk result (λ l. l.next.items ≡ replicate size 1) }
     ensures matched { IfOk result (λ l. l.matched.items ≡ replicate size 0) }
 {
     Ok(Levels {
         votes: vec![in alloc; false; size]?,
-        next: vec![in alloc; 0; size]?,
+        next: vec![in alloc; 1; size]?,
         matched: vec![in alloc; 0; size]?,
     })
 }
@@ -117,6 +124,7 @@ impl<M: Machine> Raft<M> {
         } = levels;
         let Stable { term, vote, log } = stable;
         Ok(Raft {
+            alloc,
             me,
             size,
             term,
@@ -129,6 +137,7 @@ impl<M: Machine> Raft<M> {
             votes,
             next,
             matched,
+            ahead: None,
         })
     }
 
@@ -137,6 +146,7 @@ impl<M: Machine> Raft<M> {
         ensures { (s : Server M.Command) → Represents M.meaning self s → Stores M.meaning result s }
     {
         let Raft {
+            alloc: _,
             me: _,
             size: _,
             term,
@@ -149,6 +159,7 @@ impl<M: Machine> Raft<M> {
             votes: _,
             next: _,
             matched: _,
+            ahead: _,
         } = self;
         Stable { term, vote, log }
     }
@@ -278,6 +289,13 @@ impl<M: Machine> Raft<M> {
                     return Err(Refusal::Down);
                 }
                 self.timeout(outbox)
+            }
+            Input::Beat => {
+                if !is_up {
+                    return Err(Refusal::Down);
+                }
+                self.beat(outbox)?;
+                Ok(())
             }
             Input::Frame(bytes) => {
                 if !is_up {

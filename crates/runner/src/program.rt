@@ -150,6 +150,7 @@ impl Play {
         match step {
             Step::Deliver(message) => self.event(RaftEvent::Deliver(message)),
             Step::Timeout(server) => self.event(RaftEvent::Timeout(server)),
+            Step::Beat(server) => self.event(RaftEvent::Beat(server)),
             Step::Crash(server) => self.event(RaftEvent::Crash(server)),
             Step::Restart(server) => self.event(RaftEvent::Restart(server)),
             Step::Flow(count) => Ok(self.flow(count.unwrap_or(FLOW))?),

@@ -18,6 +18,8 @@ pub enum Step {
     Deliver(u64),
     /// `timeout S`: server S has heard of no leader for too long.
     Timeout(ServerId),
+    /// `beat S`: server S, if it leads, sends to each other server the entries that it may lack.
+    Beat(ServerId),
     /// `crash S`: server S stops, and keeps what it stored.
     Crash(ServerId),
     /// `restart S`: server S, which is down, begins again from what it stored.
@@ -78,6 +80,9 @@ fn read_event(line: &str) -> Option<Step>
     }
     if let Some(server) = line.strip_prefix("timeout ") {
         return Some(Step::Timeout(read_server(server)?));
+    }
+    if let Some(server) = line.strip_prefix("beat ") {
+        return Some(Step::Beat(read_server(server)?));
     }
     if let Some(server) = line.strip_prefix("crash ") {
         return Some(Step::Crash(read_server(server)?));

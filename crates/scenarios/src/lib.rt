@@ -6,6 +6,8 @@ pub mod claims;
 #[cfg(test)]
 mod faults;
 #[cfg(test)]
+mod groups;
+#[cfg(test)]
 mod memory;
 #[cfg(test)]
 mod requests;

@@ -141,6 +141,55 @@ events 10 messages 8
     }
 }
 
+// A leader's no-op is committed by the first beat's answers, and the second beat tells the others.
+#[test]
+fn beats(rt: HostRuntime) {
+    let cases = [
+        Case {
+            head: THREE,
+            steps: "\"timeout 1\", \"flow\", \"beat 1\", \"flow\", \"beat 1\", \"flow\"",
+            status: 0,
+            out: "\
+server 1 leader term 1 last 1 applied 1
+server 2 follower term 1 last 1 applied 1
+server 3 follower term 1 last 1 applied 1
+events 15 messages 12
+",
+            err: "",
+        },
+        Case {
+            head: THREE,
+            steps: "\"timeout 1\", \"flow\", \"beat 1\", \"flow\"",
+            status: 0,
+            out: "\
+server 1 leader term 1 last 1 applied 1
+server 2 follower term 1 last 1 applied 0
+server 3 follower term 1 last 1 applied 0
+events 10 messages 8
+",
+            err: "",
+        },
+        // Only a leader sends anything.
+        Case {
+            head: THREE,
+            steps: "\"timeout 1\", \"flow\", \"beat 2\", \"crash 3\", \"beat 3\", \"beat 4\"",
+            status: 1,
+            out: "\
+refused 16 beat 3
+refused 12 beat 4
+server 1 leader term 1 last 1 applied 0
+server 2 follower term 1 last 0 applied 0
+server 3 down term 1 last 0
+events 7 messages 4
+",
+            err: "",
+        },
+    ];
+    for case in &cases {
+        play(&rt, rt.alloc(), case);
+    }
+}
+
 // A refused step is named at once with its number, the run goes on, and its status is 1.
 #[test]
 fn names_refused_steps(rt: HostRuntime) {

@@ -8,9 +8,11 @@ use Rattle.fields.specs.Format.{Gives, ◌>>=◌, Format, spelled, number_at, nu
 use Rattle.fields.specs.FormatLaws.{bind_ok, guard_in, past, length-spelled, number_lawful, no_text_begins_another}
 use Rattle.rows.specs.declared.actor.Actor.{Actor}
 use Rattle.wire.specs.declared.header.Header.{Header}
+use Rattle.wire.specs.Appends.{Append}
 use Rattle.wire.specs.declared.body.Body.{Body}
+use Rattle.wire.specs.declared.body.Body.TheVariants as bodies
 use Rattle.wire.specs.Messages.{Message, kind_of}
-use Rattle.wire.specs.Grammar.{header, body}
+use Rattle.wire.specs.Grammar.{header, append, body}
 use Rattle.wire.specs.GrammarLaws.{header_lawful, body_lawful, body_has_kind, body_is_short}
 use Rattle.wire.specs.Frames.{frame_limit, sized, frame_text, size_at, frame_at, header_of, message_text, MessageFits, message_at}
 
@@ -82,35 +84,47 @@ frame_only head bodies make lh lb four bytes h b holds short =
 
 -- ---- messages
 
-pub body_within : (b : Body) → (body (kind_of b)).Fits b → length ((body (kind_of b)).text b) ≤ 16777208
-body_within b fits = omega (arith, (body_lawful (kind_of b)).short b fits, body_is_short (kind_of b))
+-- the commands have a lawful format, and no text of more than 65,536 bytes
+pub record ShortCommands {C : Type 0} (commands : Format C) : Type 0 where
+  pub lawful : Lawful commands
+  pub short : commands.most ≤ 65536
 
-pub message_is_short : {C : Type 0} (commands : Format C) (m : Message C) → MessageFits commands m → length (message_text commands m) ≤ frame_limit
-message_is_short commands m fits =
-    omega (arith, frame_length header (λ (h : Header). body h.kind) (header_of m) m.body (header_length (header_of m)), body_within m.body fits.body_fits)
+pub body_within : {S C : Type 0} (commands : Format C) → ShortCommands commands → (b : Body S C) → (body commands (kind_of b)).Fits b → length ((body commands (kind_of b)).text b) ≤ 16777208
+body_within {S} commands law b fits = omega (arith, (body_lawful commands law.lawful (kind_of b)).short b fits, body_is_short S commands law.short (kind_of b))
 
-pub message_found : {C : Type 0} (commands : Format C) → (bytes : List ℕ) (m : Message C) → IsBytes bytes → message_at commands bytes ≡ Ok m → MessageFits commands m × (bytes ≡ message_text commands m)
+-- behind some bytes an Append takes up no more room
+pub append_room : {C : Type 0} (commands : Format C) → ShortCommands commands → (a : Append C) (old new : List ℕ) → (append commands).Fits a → new ≡ old ++ (append commands).text a → length new ≤ length old + 16777208
+append_room commands law a old new fits e =
+    let within = body_within {S = ℕ} commands law (bodies.Append a) fits in
+    let grown : length new ≡ length old + length ((append commands).text a) = ap length e ∙ length-append old ((append commands).text a) in
+    omega arith
+
+pub message_is_short : {S C : Type 0} (commands : Format C) → ShortCommands commands → (m : Message S C) → MessageFits commands m → length (message_text commands m) ≤ frame_limit
+message_is_short commands law m fits =
+    omega (arith, frame_length header (λ (h : Header). body commands h.kind) (header_of m) m.body (header_length (header_of m)), body_within commands law m.body fits.body_fits)
+
+pub message_found : {S C : Type 0} (commands : Format C) → ShortCommands commands → (bytes : List ℕ) (m : Message S C) → IsBytes bytes → message_at commands bytes ≡ Ok m → MessageFits commands m × (bytes ≡ message_text commands m)
 unfolding message_at
-message_found {C} commands bytes m fits e =
-    let f = frame_found header (λ (h : Header). body h.kind) (λ h b. record { from = h.from; to = h.to; body = b }) header_lawful (λ h. body_lawful h.kind) header_length bytes m fits e in
+message_found {S} {C} commands law bytes m fits e =
+    let f = frame_found header (λ (h : Header). body commands h.kind) (λ h b. record { from = h.from; to = h.to; body = b }) header_lawful (λ h. body_lawful commands law.lawful h.kind) header_length bytes m fits e in
     let h = f.0 in
     let b = f.1 in
     let holds = f.2 in
-    let same : kind_of b ≡ h.kind = body_has_kind h.kind b holds.body_fits in
-    let made : Message C = record { from = h.from; to = h.to; body = b } in
+    let same : kind_of b ≡ h.kind = body_has_kind commands h.kind b holds.body_fits in
+    let made : Message S C = record { from = h.from; to = h.to; body = b } in
     let head_is : h ≡ header_of made = ap (λ k. let made : Header = record { kind = k; from = h.from; to = h.to } in made) (sym same) in
-    let moved = subst (λ (g : Header). Holds header (λ h. body h.kind) bytes g b) head_is holds in
-    subst (λ (m : Message C). MessageFits commands m × (bytes ≡ message_text commands m)) f.3 (record { header_fits = moved.head_fits; body_fits = moved.body_fits }, moved.text)
+    let moved = subst (λ (g : Header). Holds header (λ h. body commands h.kind) bytes g b) head_is holds in
+    subst (λ (m : Message S C). MessageFits commands m × (bytes ≡ message_text commands m)) f.3 (record { header_fits = moved.head_fits; body_fits = moved.body_fits }, moved.text)
 
-pub message_only : {C : Type 0} (commands : Format C) → (m : Message C) → MessageFits commands m → message_at commands (message_text commands m) ≡ Ok m
+pub message_only : {S C : Type 0} (commands : Format C) → ShortCommands commands → (m : Message S C) → MessageFits commands m → message_at commands (message_text commands m) ≡ Ok m
 unfolding message_at
-message_only {C} commands m fits =
-    frame_only header (λ (h : Header). body h.kind) (λ h b. record { from = h.from; to = h.to; body = b }) header_lawful (λ h. body_lawful h.kind) header_length (message_text commands m) (header_of m) m.body
-    (record { head_fits = fits.header_fits; body_fits = fits.body_fits; text = refl }) (body_within m.body fits.body_fits)
+message_only {S} {C} commands law m fits =
+    frame_only header (λ (h : Header). body commands h.kind) (λ h b. record { from = h.from; to = h.to; body = b }) header_lawful (λ h. body_lawful commands law.lawful h.kind) header_length (message_text commands m) (header_of m) m.body
+    (record { head_fits = fits.header_fits; body_fits = fits.body_fits; text = refl }) (body_within commands law m.body fits.body_fits)
 
-pub found_of : {C : Type 0} (commands : Format C) → (bytes : List ℕ) (r : Result (Message C) Refusal) → IsBytes bytes → Gives r (message_at commands bytes) → IfOk r (λ m. MessageFits commands m × (bytes ≡ message_text commands m))
-found_of commands bytes (Ok m) fits given = message_found commands bytes m fits given
-found_of commands bytes (Err e) fits given = tt
+pub found_of : {S C : Type 0} (commands : Format C) → ShortCommands commands → (bytes : List ℕ) (r : Result (Message S C) Refusal) → IsBytes bytes → Gives r (message_at commands bytes) → IfOk r (λ m. MessageFits commands m × (bytes ≡ message_text commands m))
+found_of commands law bytes (Ok m) fits given = message_found commands law bytes m fits given
+found_of commands law bytes (Err e) fits given = tt
 
 -- ---- no frame begins another
 
@@ -123,24 +137,24 @@ same_body : {H B : Type 0} (bodies : H → Format B) → ((h : H) → Lawful (bo
 same_body bodies lb h k b c x y same fb fc e =
     no_text_begins_another (bodies h) (lb h) b c x y fb (subst (λ g. (bodies g).Fits c) (sym same) fc) (e ∙ ap (λ g. (bodies g).text c ++ y) (sym same))
 
-same_message : {C : Type 0} (m n : Message C) → m.from ≡ n.from → m.to ≡ n.to → m.body ≡ n.body → m ≡ n
-same_message {C} m n f t b =
-    let made : Actor → Actor → Body → Message C = λ from to body. record { from = from; to = to; body = body } in
+same_message : {S C : Type 0} (m n : Message S C) → m.from ≡ n.from → m.to ≡ n.to → m.body ≡ n.body → m ≡ n
+same_message {S} {C} m n f t b =
+    let made : Actor → Actor → Body S C → Message S C = λ from to body. record { from = from; to = to; body = body } in
     ap (λ x. made x m.to m.body) f ∙ ap (λ x. made n.from x m.body) t ∙ ap (λ x. made n.from n.to x) b
 
 frame_parts : {H B : Type 0} (head : Format H) (bodies : H → Format B) (h : H) (b : B) (x : List ℕ) → frame_text head bodies h b ++ x ≡ head.text h ++ (spelled 4 (length ((bodies h).text b)) ++ ((bodies h).text b ++ x))
 frame_parts head bodies h b x = simp append_assoc
 
-pub frames_apart : {C : Type 0} (commands : Format C) → (m n : Message C) (x y : List ℕ) → MessageFits commands m → MessageFits commands n → message_text commands m ++ x ≡ message_text commands n ++ y → m ≡ n
-frames_apart {C} commands m n x y fm fn e =
-    let bodies : Header → Format Body = λ (h : Header). body h.kind in
+pub frames_apart : {S C : Type 0} (commands : Format C) → ShortCommands commands → (m n : Message S C) (x y : List ℕ) → MessageFits commands m → MessageFits commands n → message_text commands m ++ x ≡ message_text commands n ++ y → m ≡ n
+frames_apart {S} {C} commands law m n x y fm fn e =
+    let bodies : Header → Format (Body S C) = λ (h : Header). body commands h.kind in
     let tm = (bodies (header_of m)).text m.body in
     let tn = (bodies (header_of n)).text n.body in
     let parts = sym (frame_parts header bodies (header_of m) m.body x) ∙ e ∙ frame_parts header bodies (header_of n) n.body y in
     let heads = first_is header header_lawful (header_of m) (header_of n) (spelled 4 (length tm) ++ (tm ++ x)) (spelled 4 (length tn) ++ (tn ++ y)) fm.header_fits fn.header_fits parts in
     let number_is = number_lawful 4 0 (2 ^ 32) (omega arith) (omega arith) in
-    let short_m = body_within m.body fm.body_fits in
-    let short_n = body_within n.body fn.body_fits in
+    let short_m = body_within commands law m.body fm.body_fits in
+    let short_n = body_within commands law n.body fn.body_fits in
     let sizes = first_is (number 4 0 (2 ^ 32)) number_is (length tm) (length tn) (tm ++ x) (tn ++ y) (omega arith, omega arith) (omega arith, omega arith) heads.1 in
-    let same = same_body bodies (λ h. body_lawful h.kind) (header_of m) (header_of n) m.body n.body x y heads.0 fm.body_fits fn.body_fits sizes.1 in
+    let same = same_body bodies (λ h. body_lawful commands law.lawful h.kind) (header_of m) (header_of n) m.body n.body x y heads.0 fm.body_fits fn.body_fits sizes.1 in
     same_message m n (ap (λ (h : Header). h.from) heads.0) (ap (λ (h : Header). h.to) heads.0) same

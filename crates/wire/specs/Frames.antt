@@ -30,31 +30,31 @@ frame_at head bodies make bytes =
     (bodies h.0).read bytes size.1 >>= λ b.
     if nat_eq b.1 (length bytes) then Ok (make h.0 b.0) else Err b.1
 
-abbrev pub header_of : {C : Type 0} → Message C → Header
+abbrev pub header_of : {S C : Type 0} → Message S C → Header
 header_of m = record { kind = kind_of m.body; from = m.from; to = m.to }
 
 -- the one frame of a message
-abbrev pub message_text : {C : Type 0} → Format C → Message C → List ℕ
-message_text commands m = frame_text header (λ h. body h.kind) (header_of m) m.body
+abbrev pub message_text : {S C : Type 0} → Format C → Message S C → List ℕ
+message_text commands m = frame_text header (λ h. body commands h.kind) (header_of m) m.body
 
 -- which messages have a frame: each part is within its range
-pub record MessageFits {C : Type 0} (commands : Format C) (m : Message C) : Type 0 where
+pub record MessageFits {S C : Type 0} (commands : Format C) (m : Message S C) : Type 0 where
   pub header_fits : header.Fits (header_of m)
-  pub body_fits : (body (kind_of m.body)).Fits m.body
+  pub body_fits : (body commands (kind_of m.body)).Fits m.body
 
 -- the message of a frame, or the place of its first fault
-unfoldable pub message_at : {C : Type 0} → Format C → List ℕ → Result (Message C) ℕ
-message_at commands bytes = frame_at header (λ h. body h.kind) (λ h b. record { from = h.from; to = h.to; body = b }) bytes
+unfoldable pub message_at : {S C : Type 0} → Format C → List ℕ → Result (Message S C) ℕ
+message_at commands bytes = frame_at header (λ h. body commands h.kind) (λ h b. record { from = h.from; to = h.to; body = b }) bytes
 
 -- a frame on its way: its receiver and its bytes
 pub record Frame : Type 0 where
   pub to : Actor
   pub bytes : List ℕ
 
-abbrev pub frame_of : {C : Type 0} → Format C → Message C → Frame
+abbrev pub frame_of : {S C : Type 0} → Format C → Message S C → Frame
 frame_of commands m = record { to = m.to; bytes = message_text commands m }
 
 -- a frame is that of a message
-pub record FrameOf {C : Type 0} (commands : Format C) (frame : Frame) (m : Message C) : Type 0 where
+pub record FrameOf {S C : Type 0} (commands : Format C) (frame : Frame) (m : Message S C) : Type 0 where
   pub fits : MessageFits commands m
   pub same : frame ≡ frame_of commands m

@@ -1,13 +1,18 @@
 -- The parts of a frame: version, kind, addresses and bodies, each by what it is made of.
-use Rattle.std.specs.Prelude.{ℕ, Option, Some, None, ◌==◌, if◌then◌else◌}
-use Rattle.fields.specs.Format.{Format, number, ◌then◌, depends, made, variant, coded, kept}
+use Rattle.std.specs.Prelude.{ℕ, ◌-◌, ◌^◌, min, List, Option, Some, None, ◌==◌, if◌then◌else◌}
+use Rattle.fields.specs.Format.{Format, number, ◌then◌, depends, made, list, placed, variant, coded, kept}
 use Rattle.fields.specs.Fields.{byte, term, index, bool, actor}
 use Rattle.rows.specs.declared.actor.Actor.{Actor}
+use Rattle.machine.specs.declared.entry.Entry.{Entry}
+use Rattle.machine.specs.Entries.{entry}
 use Rattle.wire.specs.declared.kind.Kind.{Kind}
 use Rattle.wire.specs.declared.kind.Kind.TheVariants as kinds
 use Rattle.wire.specs.declared.header.Header.{Header}
 use Rattle.wire.specs.declared.vote.VoteRequest.{VoteRequest}
 use Rattle.wire.specs.declared.vote.VoteReply.{VoteReply}
+use Rattle.wire.specs.declared.append.AppendHead.{AppendHead}
+use Rattle.wire.specs.declared.append.AppendReply.{AppendReply}
+use Rattle.wire.specs.Appends.{Append}
 use Rattle.wire.specs.declared.body.Body.{Body}
 use Rattle.wire.specs.declared.body.Body.TheVariants as bodies
 use Rattle.wire.specs.Messages.{may_come_from, may_go}
@@ -23,11 +28,15 @@ abbrev pub kind_of_number : ℕ → Option Kind
 kind_of_number n =
     if n == 1 then Some kinds.VoteRequest
     else if n == 2 then Some kinds.VoteReply
+    else if n == 3 then Some kinds.Append
+    else if n == 4 then Some kinds.AppendReply
     else None
 
 abbrev pub number_of_kind : Kind → ℕ
 number_of_kind kinds.VoteRequest = 1
 number_of_kind kinds.VoteReply = 2
+number_of_kind kinds.Append = 3
+number_of_kind kinds.AppendReply = 4
 
 abbrev pub kind : Format Kind
 kind = coded kind_of_number number_of_kind byte
@@ -56,15 +65,51 @@ vote_reply = made
     (λ v. (v.term, (v.asked, v.granted)))
     (term then term then bool)
 
-abbrev pub vote_request_of : Body → Option VoteRequest
+abbrev pub append_head : Format AppendHead
+append_head = made
+    (λ p. record { term = p.0; prev_index = p.1.0; prev_term = p.1.1.0; commit = p.1.1.1 })
+    (λ v. (v.term, (v.prev_index, (v.prev_term, v.commit))))
+    (term then index then term then index)
+
+-- at most 32 entries, and no more than there are places behind that one: the last place is below 2^40
+abbrev pub most_entries : ℕ → ℕ
+most_entries prev_index = min 32 (2 ^ 40 - 1 - prev_index)
+
+-- each entry is its term and its command
+abbrev pub entries : {C : Type 0} → Format C → ℕ → Format (List (Entry C))
+entries commands most = list 1 most (entry (placed commands))
+
+abbrev pub append : {C : Type 0} → Format C → Format (Append C)
+append commands = made
+    (λ p. record { head = p.0; entries = p.1 })
+    (λ v. (v.head, v.entries))
+    (depends append_head (entries commands 32).most (λ h. entries commands (most_entries h.prev_index)))
+
+abbrev pub append_reply : Format AppendReply
+append_reply = made
+    (λ p. record { term = p.0; asked = p.1.0; ok = p.1.1.0; at = p.1.1.1 })
+    (λ v. (v.term, (v.asked, (v.ok, v.at))))
+    (term then term then bool then index)
+
+abbrev pub vote_request_of : {S C : Type 0} → Body S C → Option VoteRequest
 vote_request_of (bodies.VoteRequest v) = Some v
 vote_request_of _ = None
 
-abbrev pub vote_reply_of : Body → Option VoteReply
+abbrev pub vote_reply_of : {S C : Type 0} → Body S C → Option VoteReply
 vote_reply_of (bodies.VoteReply v) = Some v
 vote_reply_of _ = None
 
+abbrev pub append_of : {S C : Type 0} → Body S C → Option (Append C)
+append_of (bodies.Append v) = Some v
+append_of _ = None
+
+abbrev pub append_reply_of : {S C : Type 0} → Body S C → Option AppendReply
+append_reply_of (bodies.AppendReply v) = Some v
+append_reply_of _ = None
+
 -- what stands behind the header of each kind
-abbrev pub body : Kind → Format Body
-body kinds.VoteRequest = variant (λ v. bodies.VoteRequest v) vote_request_of vote_request
-body kinds.VoteReply = variant (λ v. bodies.VoteReply v) vote_reply_of vote_reply
+abbrev pub body : {S C : Type 0} → Format C → Kind → Format (Body S C)
+body commands kinds.VoteRequest = variant (λ v. bodies.VoteRequest v) vote_request_of vote_request
+body commands kinds.VoteReply = variant (λ v. bodies.VoteReply v) vote_reply_of vote_reply
+body commands kinds.Append = variant (λ v. bodies.Append v) append_of (append commands)
+body commands kinds.AppendReply = variant (λ v. bodies.AppendReply v) append_reply_of append_reply

@@ -1,19 +1,23 @@
 -- The laws of a frame's parts.
 use Rattle.std.proofs.Common.{◌≡◌, ℕ, ◌≤◌, Some, sym, ap, ◌∙◌, refl, arith, inl, inr}
 use Rattle.std.proofs.lemmas.Bool.{cases_eq, eq-eqb, ne_eqb}
-use Rattle.std.proofs.Math.Nat.{le_refl}
-use Rattle.fields.specs.Format.{number, Lawful}
+use Rattle.std.proofs.Math.Nat.{le_refl, mul-le-mul_right}
+use Rattle.fields.specs.Format.{Format, number, placed, Lawful}
 use Rattle.fields.specs.Fields.{byte, actor}
-use Rattle.fields.specs.FormatLaws.{number_lawful, then_lawful, depends_lawful, made_lawful, coded_lawful, kept_lawful, IsVariant, variant_lawful}
+use Rattle.fields.specs.FormatLaws.{number_lawful, then_lawful, depends_lawful, made_lawful, list_lawful, placed_lawful, coded_lawful, kept_lawful, IsVariant, variant_lawful}
 use Rattle.fields.specs.FieldLaws.{byte_lawful, term_lawful, index_lawful, bool_lawful, actor_lawful}
 use Rattle.wire.specs.declared.kind.Kind.{Kind}
 use Rattle.wire.specs.declared.kind.Kind.TheVariants as kinds
 use Rattle.wire.specs.declared.vote.VoteRequest.{VoteRequest}
 use Rattle.wire.specs.declared.vote.VoteReply.{VoteReply}
+use Rattle.machine.specs.Entries.{entry}
+use Rattle.machine.specs.EntryLaws.{entry_lawful}
+use Rattle.wire.specs.declared.append.AppendReply.{AppendReply}
+use Rattle.wire.specs.Appends.{Append}
 use Rattle.wire.specs.declared.body.Body.{Body}
 use Rattle.wire.specs.declared.body.Body.TheVariants as bodies
 use Rattle.wire.specs.Messages.{kind_of, may_come_from, may_go}
-use Rattle.wire.specs.Grammar.{version, kind_of_number, number_of_kind, kind, addresses, header, vote_request, vote_reply, vote_request_of, vote_reply_of, body}
+use Rattle.wire.specs.Grammar.{version, kind_of_number, number_of_kind, kind, addresses, header, vote_request, vote_reply, append_head, most_entries, entries, append, append_reply, vote_request_of, vote_reply_of, append_of, append_reply_of, body}
 
 -- ---- the header
 
@@ -31,7 +35,13 @@ kind_again n k fits e = elim (cases_eq n 1) [
   | inl one ↦ let f = rw (eq-eqb n 1 one) at e in ap number_of_kind (sym (some_is kinds.VoteRequest k f)) ∙ sym one
   | inr not_one ↦ elim (cases_eq n 2) [
     | inl two ↦ let f = rw (ne_eqb n 1 not_one, eq-eqb n 2 two) at e in ap number_of_kind (sym (some_is kinds.VoteReply k f)) ∙ sym two
-    | inr not_two ↦ let f = rw (ne_eqb n 1 not_one, ne_eqb n 2 not_two) at e in absurd cc
+    | inr not_two ↦ elim (cases_eq n 3) [
+      | inl three ↦ let f = rw (ne_eqb n 1 not_one, ne_eqb n 2 not_two, eq-eqb n 3 three) at e in ap number_of_kind (sym (some_is kinds.Append k f)) ∙ sym three
+      | inr not_three ↦ elim (cases_eq n 4) [
+        | inl four ↦ let f = rw (ne_eqb n 1 not_one, ne_eqb n 2 not_two, ne_eqb n 3 not_three, eq-eqb n 4 four) at e in ap number_of_kind (sym (some_is kinds.AppendReply k f)) ∙ sym four
+        | inr not_four ↦ let f = rw (ne_eqb n 1 not_one, ne_eqb n 2 not_two, ne_eqb n 3 not_three, ne_eqb n 4 not_four) at e in absurd cc
+      ]
+    ]
   ]
 ]
 
@@ -52,30 +62,70 @@ vote_request_lawful = made_lawful _ _ _ (λ _. refl) (λ _ _. refl) (then_lawful
 pub vote_reply_lawful : Lawful vote_reply
 vote_reply_lawful = made_lawful _ _ _ (λ _. refl) (λ _ _. refl) (then_lawful _ _ term_lawful (then_lawful _ _ term_lawful bool_lawful))
 
-is_vote_request : IsVariant {V = Body} (λ v. bodies.VoteRequest v) vote_request_of
-is_vote_request = record { back = λ _. refl; there = λ v a e. there v a e } where
-  there : (v : Body) (a : VoteRequest) → vote_request_of v ≡ Some a → bodies.VoteRequest a ≡ v
+pub append_head_lawful : Lawful append_head
+append_head_lawful = made_lawful _ _ _ (λ _. refl) (λ _ _. refl) (then_lawful _ _ term_lawful (then_lawful _ _ index_lawful (then_lawful _ _ term_lawful index_lawful)))
+
+pub append_reply_lawful : Lawful append_reply
+append_reply_lawful = made_lawful _ _ _ (λ _. refl) (λ _ _. refl) (then_lawful _ _ term_lawful (then_lawful _ _ term_lawful (then_lawful _ _ bool_lawful index_lawful)))
+
+pub most_entries_is_few : (prev_index : ℕ) → most_entries prev_index ≤ 32
+most_entries_is_few prev_index = omega arith
+
+pub entries_lawful : {C : Type 0} (commands : Format C) (most : ℕ) → most ≤ 32 → Lawful commands → Lawful (entries commands most)
+entries_lawful commands most few lc = list_lawful 1 most (entry (placed commands)) (omega arith) (omega arith) (entry_lawful (placed commands) (placed_lawful commands lc))
+
+entries_are_short : {C : Type 0} (commands : Format C) (most : ℕ) → most ≤ 32 → (entries commands most).most ≤ (entries commands 32).most
+entries_are_short commands most few = let more = mul-le-mul_right (entry (placed commands)).most few in omega arith
+
+pub append_lawful : {C : Type 0} (commands : Format C) → Lawful commands → Lawful (append commands)
+append_lawful commands lc = made_lawful _ _ _ (λ _. refl) (λ _ _. refl) (depends_lawful append_head _ (λ h. entries commands (most_entries h.prev_index)) append_head_lawful
+    (λ h fits. entries_lawful commands (most_entries h.prev_index) (most_entries_is_few h.prev_index) lc)
+    (λ h fits. entries_are_short commands (most_entries h.prev_index) (most_entries_is_few h.prev_index)))
+
+is_vote_request : {S C : Type 0} → IsVariant {V = Body S C} (λ v. bodies.VoteRequest v) vote_request_of
+is_vote_request {S} {C} = record { back = λ _. refl; there = λ v a e. there v a e } where
+  there : (v : Body S C) (a : VoteRequest) → vote_request_of v ≡ Some a → bodies.VoteRequest a ≡ v
   there (bodies.VoteRequest _) a e = cc
   there _ a e = absurd cc
 
-is_vote_reply : IsVariant {V = Body} (λ v. bodies.VoteReply v) vote_reply_of
-is_vote_reply = record { back = λ _. refl; there = λ v a e. there v a e } where
-  there : (v : Body) (a : VoteReply) → vote_reply_of v ≡ Some a → bodies.VoteReply a ≡ v
+is_vote_reply : {S C : Type 0} → IsVariant {V = Body S C} (λ v. bodies.VoteReply v) vote_reply_of
+is_vote_reply {S} {C} = record { back = λ _. refl; there = λ v a e. there v a e } where
+  there : (v : Body S C) (a : VoteReply) → vote_reply_of v ≡ Some a → bodies.VoteReply a ≡ v
   there (bodies.VoteReply _) a e = cc
   there _ a e = absurd cc
 
-pub body_lawful : (k : Kind) → Lawful (body k)
-body_lawful kinds.VoteRequest = variant_lawful _ _ _ is_vote_request vote_request_lawful
-body_lawful kinds.VoteReply = variant_lawful _ _ _ is_vote_reply vote_reply_lawful
+is_append : {S C : Type 0} → IsVariant {V = Body S C} (λ v. bodies.Append v) append_of
+is_append {S} {C} = record { back = λ _. refl; there = λ v a e. there v a e } where
+  there : (v : Body S C) (a : Append C) → append_of v ≡ Some a → bodies.Append a ≡ v
+  there (bodies.Append _) a e = cc
+  there _ a e = absurd cc
+
+is_append_reply : {S C : Type 0} → IsVariant {V = Body S C} (λ v. bodies.AppendReply v) append_reply_of
+is_append_reply {S} {C} = record { back = λ _. refl; there = λ v a e. there v a e } where
+  there : (v : Body S C) (a : AppendReply) → append_reply_of v ≡ Some a → bodies.AppendReply a ≡ v
+  there (bodies.AppendReply _) a e = cc
+  there _ a e = absurd cc
+
+pub body_lawful : {S C : Type 0} (commands : Format C) → Lawful commands → (k : Kind) → Lawful (body {S = S} commands k)
+body_lawful commands lc kinds.VoteRequest = variant_lawful _ _ _ is_vote_request vote_request_lawful
+body_lawful commands lc kinds.VoteReply = variant_lawful _ _ _ is_vote_reply vote_reply_lawful
+body_lawful commands lc kinds.Append = variant_lawful _ _ _ is_append (append_lawful commands lc)
+body_lawful commands lc kinds.AppendReply = variant_lawful _ _ _ is_append_reply append_reply_lawful
 
 -- a body is one of its own kind alone
-pub body_has_kind : (k : Kind) (b : Body) → (body k).Fits b → kind_of b ≡ k
-body_has_kind kinds.VoteRequest (bodies.VoteRequest _) fits = refl
-body_has_kind kinds.VoteReply (bodies.VoteReply _) fits = refl
-body_has_kind kinds.VoteRequest (bodies.VoteReply _) fits = absurd fits
-body_has_kind kinds.VoteReply (bodies.VoteRequest _) fits = absurd fits
+pub body_has_kind : {S C : Type 0} (commands : Format C) (k : Kind) (b : Body S C) → (body commands k).Fits b → kind_of b ≡ k
+body_has_kind commands kinds.VoteRequest (bodies.VoteRequest _) fits = refl
+body_has_kind commands kinds.VoteReply (bodies.VoteReply _) fits = refl
+body_has_kind commands kinds.Append (bodies.Append _) fits = refl
+body_has_kind commands kinds.AppendReply (bodies.AppendReply _) fits = refl
+body_has_kind commands kinds.VoteRequest _ fits = absurd fits
+body_has_kind commands kinds.VoteReply _ fits = absurd fits
+body_has_kind commands kinds.Append _ fits = absurd fits
+body_has_kind commands kinds.AppendReply _ fits = absurd fits
 
--- no body is longer than a frame has room for
-pub body_is_short : (k : Kind) → (body k).most ≤ 16777208
-body_is_short kinds.VoteRequest = omega arith
-body_is_short kinds.VoteReply = omega arith
+-- no body is longer than a frame has room for, where no command is longer than 65,536 bytes
+pub body_is_short : (S : Type 0) {C : Type 0} (commands : Format C) → commands.most ≤ 65536 → (k : Kind) → (body {S = S} commands k).most ≤ 16777208
+body_is_short S commands short kinds.VoteRequest = omega arith
+body_is_short S commands short kinds.VoteReply = omega arith
+body_is_short S commands short kinds.Append = omega arith
+body_is_short S commands short kinds.AppendReply = omega arith

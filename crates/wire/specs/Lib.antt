@@ -1,3 +1,4 @@
+pub mod Appends
 pub mod Messages
 pub mod Grammar
 pub mod GrammarLaws

@@ -3,22 +3,28 @@ ghost use Rattle.fields.specs.Format.{Gives, Puts};
 ghost use Rattle.wire.specs.Messages.{kind_of};
 ghost use Rattle.wire.specs.Grammar.{body as body_format};
 
+use crate::append::{Append, AppendReply, append_append, read_append};
 use crate::kind::Kind;
 use crate::vote::{VoteReply, VoteRequest};
 use fields::Field;
+use machine::Machine;
 use rows::{NoMemory, Refusal};
 use std::alloc::Global;
 
 /// What a message says, by its kind.
 #[derive(Drop)]
-pub enum Body {
+pub enum Body<M: Machine> {
     /// A candidate asks for a vote.
     VoteRequest(VoteRequest),
     /// The answer to a candidate.
     VoteReply(VoteReply),
+    /// A leader sends entries.
+    Append(Append<M>),
+    /// The answer to a leader.
+    AppendReply(AppendReply),
 }
 
-impl Body {
+impl<M: Machine> Body<M> {
     /// The kind of the message.
     pub fn kind(&self) -> Kind
         ensures { result ≡ kind_of self.now }
@@ -26,18 +32,20 @@ impl Body {
         match self {
             Body::VoteRequest(_) => Kind::VoteRequest,
             Body::VoteReply(_) => Kind::VoteReply,
+            Body::Append(_) => Kind::Append,
+            Body::AppendReply(_) => Kind::AppendReply,
         }
     }
 }
 
 /// The body of a message of this kind, and the place after it.
-pub fn read_body(
+pub fn read_body<M: Machine>(
     alloc: Global,
     kind: Kind,
     bytes: &[u8],
     at: usize,
-) -> Result<(Body, usize), Refusal>
-    ensures value { Gives result ((body_format kind).read bytes.now at) }
+) -> Result<(Body<M>, usize), Refusal>
+    ensures value { Gives result ((body_format M.meaning.commands kind).read bytes.now at) }
     ensures same_kind { IfOk result (λ b. kind_of b.0 ≡ kind) }
 {
     match kind {
@@ -49,15 +57,25 @@ pub fn read_body(
             let (reply, end) = VoteReply::read_at(alloc, bytes, at)?;
             Ok((Body::VoteReply(reply), end))
         }
+        Kind::Append => {
+            let (append, end) = read_append(alloc, bytes, at)?;
+            Ok((Body::Append(append), end))
+        }
+        Kind::AppendReply => {
+            let (reply, end) = AppendReply::read_at(alloc, bytes, at)?;
+            Ok((Body::AppendReply(reply), end))
+        }
     }
 }
 
 /// Puts the body to the end.
-pub fn append_body(body: &Body, out: &mut Vec<u8>) -> Result<(), NoMemory>
-    ensures { Puts (body_format (kind_of body.now)) body.now result out.old.items out.new.items }
+pub fn append_body<M: Machine>(body: &Body<M>, out: &mut Vec<u8>) -> Result<(), NoMemory>
+    ensures { Puts (body_format M.meaning.commands (kind_of body.now)) body.now result out.old.items out.new.items }
 {
     match body {
         Body::VoteRequest(request) => request.append(out),
         Body::VoteReply(reply) => reply.append(out),
+        Body::Append(append) => append_append(&append.head(), append.entries(), out),
+        Body::AppendReply(reply) => reply.append(out),
     }
 }

@@ -1,5 +1,5 @@
 ghost use Rattle.std.specs.Prelude.{◌≡◌};
-ghost use Rattle.wire.specs.Messages.{may_come_from, may_go, is_server};
+ghost use Rattle.wire.specs.Messages.{may_come_from, may_go, is_server, is_another_server};
 ghost use Rattle.wire.specs.Grammar.{kind};
 ghost use Rattle.wire.specs.GrammarLaws.{kind_lawful};
 
@@ -14,6 +14,10 @@ pub enum Kind {
     VoteRequest,
     /// 2: the answer to a candidate.
     VoteReply,
+    /// 3: a leader sends entries.
+    Append,
+    /// 4: the answer to a leader.
+    AppendReply,
 }
 
 impl Kind {
@@ -23,6 +27,7 @@ impl Kind {
     {
         match self {
             Kind::VoteRequest | Kind::VoteReply => is_server(from),
+            Kind::Append | Kind::AppendReply => is_server(from),
         }
     }
 
@@ -31,7 +36,8 @@ impl Kind {
         ensures { result ≡ may_go self from.now to.now }
     {
         match self {
-            Kind::VoteRequest | Kind::VoteReply => is_server(from) && is_server(to) && to != from,
+            Kind::VoteRequest | Kind::VoteReply => is_another_server(from, to),
+            Kind::Append | Kind::AppendReply => is_another_server(from, to),
         }
     }
 }
@@ -40,6 +46,12 @@ fn is_server(actor: &Actor) -> bool
     ensures { result ≡ is_server actor.now }
 {
     matches!(actor, Actor::Server(_))
+}
+
+fn is_another_server(from: &Actor, to: &Actor) -> bool
+    ensures { result ≡ is_another_server from.now to.now }
+{
+    is_server(from) && is_server(to) && to != from
 }
 
 impl Field for Kind {
@@ -51,6 +63,8 @@ impl Field for Kind {
         match read_u8(bytes, at)? {
             (1, next) => Ok((Kind::VoteRequest, next)),
             (2, next) => Ok((Kind::VoteReply, next)),
+            (3, next) => Ok((Kind::Append, next)),
+            (4, next) => Ok((Kind::AppendReply, next)),
             _ => Err(Refusal::Frame(at)),
         }
     }
@@ -59,6 +73,8 @@ impl Field for Kind {
         match self {
             Kind::VoteRequest => write_u8(&1, out),
             Kind::VoteReply => write_u8(&2, out),
+            Kind::Append => write_u8(&3, out),
+            Kind::AppendReply => write_u8(&4, out),
         }
     }
 }

@@ -9,12 +9,12 @@ use machine::Machine;
 /// Each frame that is written is read again as its message, what is read is the message of just these bytes, no frame
 /// begins another, and none is longer than the limit of 16,777,216 bytes.
 pub fn frames_are_whole<M: Machine>()
-    ensures again { (m : Message M.Command) → MessageFits M.meaning.commands m
+    ensures again { (m : Message M M.Command) → MessageFits M.meaning.commands m
         → message_at M.meaning.commands (message_text M.meaning.commands m) ≡ Ok m }
-    ensures found { (bytes : List ℕ) (m : Message M.Command) → IsBytes bytes → message_at M.meaning.commands bytes ≡ Ok m
+    ensures found { (bytes : List ℕ) (m : Message M M.Command) → IsBytes bytes → message_at M.meaning.commands bytes ≡ Ok m
         → MessageFits M.meaning.commands m × (bytes ≡ message_text M.meaning.commands m) }
-    ensures apart { (m n : Message M.Command) (x y : List ℕ) → MessageFits M.meaning.commands m → MessageFits M.meaning.commands n
+    ensures apart { (m n : Message M M.Command) (x y : List ℕ) → MessageFits M.meaning.commands m → MessageFits M.meaning.commands n
         → message_text M.meaning.commands m ++ x ≡ message_text M.meaning.commands n ++ y → m ≡ n }
-    ensures short { (m : Message M.Command) → MessageFits M.meaning.commands m
+    ensures short { (m : Message M M.Command) → MessageFits M.meaning.commands m
         → length (message_text M.meaning.commands m) ≤ frame_limit }
 {}

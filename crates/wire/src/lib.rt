@@ -1,6 +1,7 @@
 //! Messages as frames of bytes, and the frames that a step sends.
 #![tactic(auto)]
 
+mod append;
 mod body;
 mod header;
 mod kind;
@@ -13,6 +14,7 @@ mod tests;
 mod vote;
 mod writing;
 
+pub use append::{Append, AppendHead, AppendReply, MOST_ENTRIES};
 pub use body::Body;
 pub use kind::Kind;
 pub use laws::frames_are_whole;

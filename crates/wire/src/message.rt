@@ -8,7 +8,7 @@ use crate::header::Header;
 use crate::kind::Kind;
 use machine::Machine;
 use rows::{Actor, ServerId};
-use std::marker::{Model, PhantomData};
+use std::marker::Model;
 
 /// A message of one actor to another, in a group that replicates the machine `M`. Each message goes between actors
 /// that its kind allows, so it has a frame.
@@ -16,15 +16,14 @@ use std::marker::{Model, PhantomData};
 pub struct Message<M: Machine> {
     from: Actor,
     to: Actor,
-    body: Body,
-    machine: PhantomData<M>,
+    body: Body<M>,
 }
 
 impl<M: Machine> Model for Message<M> {
     ghost use Rattle.std.specs.Prelude.{◌≡◌, true};
     ghost use Rattle.wire.specs.Messages.{Message, kind_of, may_go};
 
-    ghost Value = { Message M.Command };
+    ghost Value = { Message M M.Command };
 
     ghost view = { λ m. record { from = m.from; to = m.to; body = m.body } };
 
@@ -33,24 +32,19 @@ impl<M: Machine> Model for Message<M> {
 
 impl<M: Machine> Message<M> {
     /// The message of these parts; none where its kind does not go from there to there.
-    pub fn new(from: Actor, to: Actor, body: Body) -> Option<Message<M>>
+    pub fn new(from: Actor, to: Actor, body: Body<M>) -> Option<Message<M>>
         ensures some { IfSome result (λ m. (m ≡ record { from = from; to = to; body = body }) × (may_go (kind_of body) from to ≡ true)) }
         ensures none { IfNone result (may_go (kind_of body) from to ≡ false) }
     {
         if body.kind().may_go(&from, &to) {
-            Some(Message {
-                from,
-                to,
-                body,
-                machine: PhantomData,
-            })
+            Some(Message { from, to, body })
         } else {
             None
         }
     }
 
     /// The message of one server to another, for a kind that goes between servers.
-    pub fn between(from: ServerId, to: ServerId, body: Body) -> Message<M>
+    pub fn between(from: ServerId, to: ServerId, body: Body<M>) -> Message<M>
         requires { may_go (kind_of body) (actors.Server from) (actors.Server to) ≡ true }
         ensures { result ≡ record { from = actors.Server from; to = actors.Server to; body = body } }
     {
@@ -58,7 +52,6 @@ impl<M: Machine> Message<M> {
             from: Actor::Server(from),
             to: Actor::Server(to),
             body,
-            machine: PhantomData,
         }
     }
 
@@ -77,7 +70,7 @@ impl<M: Machine> Message<M> {
     }
 
     /// What it says.
-    pub fn body(&self) -> &Body
+    pub fn body(&self) -> &Body<M>
         ensures value { result.now ≡ self.now.body }
         ensures allowed { may_go (kind_of self.now.body) self.now.from self.now.to ≡ true }
     {
@@ -85,7 +78,7 @@ impl<M: Machine> Message<M> {
     }
 
     /// What it says, for keeps.
-    pub fn into_body(self) -> Body
+    pub fn into_body(self) -> Body<M>
         ensures value { result ≡ self.body }
         ensures allowed { may_go (kind_of self.body) self.from self.to ≡ true }
     {
@@ -114,7 +107,7 @@ pub fn header_of<M: Machine>(message: &Message<M>) -> Header
 }
 
 /// The message of a header and a body of its kind.
-pub fn message_of<M: Machine>(header: &Header, body: Body) -> Message<M>
+pub fn message_of<M: Machine>(header: &Header, body: Body<M>) -> Message<M>
     requires { may_go (kind_of body) header.now.from header.now.to ≡ true }
     ensures { result ≡ record { from = header.now.from; to = header.now.to; body = body } }
 {
@@ -122,6 +115,5 @@ pub fn message_of<M: Machine>(header: &Header, body: Body) -> Message<M>
         from: header.from,
         to: header.to,
         body,
-        machine: PhantomData,
     }
 }

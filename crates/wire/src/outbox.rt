@@ -1,10 +1,14 @@
-ghost use Rattle.std.specs.Prelude.{◌≡◌, ◌++◌, ◌∷◌, [], length, take, ◌==◌, OnOk, OnErr};
+ghost use Rattle.std.specs.Prelude.{◌≡◌, ◌++◌, ◌∷◌, [], ◌+◌, ◌<◌, ◌≤◌, ◌^◌, true, length, take, ◌==◌, OnOk, OnErr};
+ghost use Rattle.rows.specs.declared.actor.Actor.TheVariants as actors;
+ghost use Rattle.wire.specs.declared.kind.Kind.TheVariants as kinds;
+ghost use Rattle.wire.specs.Messages.{append_message, may_go};
 ghost use Rattle.wire.specs.Frames.{Frame as FrameValue, MessageFits, frame_of};
 
+use crate::append::AppendHead;
 use crate::message::Message;
-use crate::writing::write_message;
-use machine::Machine;
-use rows::{Actor, NoMemory};
+use crate::writing::{append_entries_frame, write_message};
+use machine::{Coded, Entry, Machine};
+use rows::{Actor, NoMemory, ServerId};
 use std::alloc::Global;
 use std::marker::Model;
 
@@ -90,6 +94,27 @@ impl Outbox {
         let mut bytes = Vec::new(self.alloc);
         write_message(message, &mut bytes)?;
         self.push(message.to(), bytes)
+    }
+
+    /// Puts the frame of an `Append` of these parts to the end, or changes nothing. The entries stay with the caller: at
+    /// most 32, each with a place in the log, below 2^40. It goes to another server.
+    pub fn send_append<M: Machine>(
+        &mut self,
+        from: ServerId,
+        to: ServerId,
+        head: &AppendHead,
+        entries: &[Entry<Coded<M>>],
+    ) -> Result<(), NoMemory>
+        requires allowed { may_go kinds.Append (actors.Server from) (actors.Server to) ≡ true }
+        requires few { length entries.now ≤ 32 }
+        requires places { head.now.prev_index + length entries.now < 2 ^ 40 }
+        ensures ok { OnOk result (MessageFits M.meaning.commands (append_message {S = M} from to head.now entries.now)
+            × (self.new ≡ self.old ++ frame_of M.meaning.commands (append_message {S = M} from to head.now entries.now) ∷ [])) }
+        ensures err { OnErr result (self.new ≡ self.old) }
+    {
+        let mut bytes = Vec::new(self.alloc);
+        append_entries_frame(from, to, head, entries, &mut bytes)?;
+        self.push(Actor::Server(to), bytes)
     }
 
     /// How many frames there are.

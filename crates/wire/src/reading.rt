@@ -53,7 +53,7 @@ pub fn read_message<M: Machine>(alloc: Global, bytes: &[u8]) -> Result<Message<M
     // What is read has just these bytes.
     ensures found { IfOk result (λ m. MessageFits M.meaning.commands m × (bytes.now ≡ message_text M.meaning.commands m)) }
     // A message's bytes are read, unless memory runs out.
-    ensures only { (m : MessageOf M.Command) → MessageFits M.meaning.commands m → bytes.now ≡ message_text M.meaning.commands m
+    ensures only { (m : MessageOf M M.Command) → MessageFits M.meaning.commands m → bytes.now ≡ message_text M.meaning.commands m
         → Gives result (Ok m) }
     // Which field is at fault.
     ensures exact { Gives result (message_at M.meaning.commands bytes.now) }

@@ -5,6 +5,8 @@ use std::alloc::Global;
 use std::process::Abort;
 use std::test::*;
 
+mod appends;
+
 /// The published frame of a vote request from server 1 to server 2, of term 1 and an empty log.
 const VOTE: [u8; 32] = [
     1, 1, 1, 2, 0, 0, 0, 24, 0, 0, 0, 0, 0, 0, 0, 1, 0, 0, 0, 0, 0, 0, 0, 0, 0, 0, 0, 0, 0, 0, 0, 0,
@@ -28,8 +30,11 @@ fn fault_of(rt: &impl Abort, alloc: Global, bytes: &[u8]) -> Result<Option<usize
 fn fault_of_change(at: usize, value: u8) -> Option<usize> {
     match at {
         0 => Some(0),
-        // A vote reply has a flag at 24, and ends there.
+        // A vote reply has a flag at 24, and ends there; an `Append` has one more field in front of its count, and a reply to
+        // it a place behind the flag, and both are cut.
         1 if value == 2 => Some(25),
+        1 if value == 3 => Some(32),
+        1 if value == 4 => Some(25),
         1 => Some(1),
         2 if value == 2 => Some(3),
         2 if value < 1 || value > 5 => Some(2),

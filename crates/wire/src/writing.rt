@@ -1,37 +1,87 @@
-ghost use Rattle.std.specs.Prelude.{◌≡◌, ◌++◌, ◌+◌, ◌≤◌, length, take, drop, OnOk, OnErr};
-ghost use Rattle.fields.specs.Format.{Grows, spelled};
-ghost use Rattle.wire.specs.Messages.{kind_of};
-ghost use Rattle.wire.specs.Grammar.{body as body_format};
+ghost use Rattle.std.specs.Prelude.{◌≡◌, ◌++◌, ◌+◌, ◌<◌, ◌≤◌, ◌^◌, true, length, take, drop, OnOk, OnErr};
+ghost use Rattle.fields.specs.Format.{Grows};
+ghost use Rattle.rows.specs.declared.actor.Actor.TheVariants as actors;
+ghost use Rattle.wire.specs.declared.kind.Kind.TheVariants as kinds;
+ghost use Rattle.wire.specs.Messages.{kind_of, may_go, append_message};
+ghost use Rattle.wire.specs.Grammar.{body as body_format, append as append_format};
 ghost use Rattle.wire.specs.Frames.{sized, message_text, MessageFits};
 
+use crate::append::{AppendHead, append_append};
 use crate::body::{Body, append_body};
-use crate::header::append_header;
+use crate::header::{Header, append_header};
+use crate::kind::Kind;
 use crate::message::{Message, header_of};
-use machine::Machine;
-use rows::NoMemory;
+use machine::{Coded, Entry, Machine};
+use rows::{Actor, NoMemory, ServerId};
 
-/// Puts a length in place of the four bytes that stand at a place.
+/// Puts the number of the bytes behind the four at a place into those four.
 #[tactic(auto, unfolding(fields::specs::Format::spelled), using(crate::proofs::Rules::drops))]
-fn put_size(bytes: &mut [u8], at: usize, size: u32)
-    requires { at + 4 ≤ length bytes.old }
-    ensures { bytes.new ≡ take at bytes.old ++ (spelled 4 size ++ drop (at + 4) bytes.old) }
+fn put_size(bytes: &mut [u8], at: usize)
+    requires room { at + 4 ≤ length bytes.old }
+    requires short { length bytes.old < at + 4 + 2 ^ 32 }
+    ensures { bytes.new ≡ take at bytes.old ++ sized (drop (at + 4) bytes.old) }
 {
+    let size = (bytes.len() - at - 4) as u32;
     bytes[at..at + 4].copy_from_slice(&size.to_be_bytes());
 }
 
 /// Puts the body to the end, behind its length.
 #[tactic(auto, using(crate::proofs::Rules::appends))]
-fn append_sized(body: &Body, out: &mut Vec<u8>) -> Result<(), NoMemory>
-    ensures ok { OnOk result ((body_format (kind_of body.now)).Fits body.now
-        × (out.new.items ≡ out.old.items ++ sized ((body_format (kind_of body.now)).text body.now))) }
+fn append_sized<M: Machine>(body: &Body<M>, out: &mut Vec<u8>) -> Result<(), NoMemory>
+    ensures ok { OnOk result ((body_format M.meaning.commands (kind_of body.now)).Fits body.now
+        × (out.new.items ≡ out.old.items ++ sized ((body_format M.meaning.commands (kind_of body.now)).text body.now))) }
     ensures err { OnErr result (Grows out.old.items out.new.items) }
 {
     let size_at = out.len();
     out.extend_from_slice(&[0; 4])?;
     append_body(body, out)?;
-    let size = (out.len() - size_at - 4) as u32;
-    put_size(out, size_at, size);
+    put_size(out, size_at);
     Ok(())
+}
+
+/// Puts the body of an `Append` of these parts to the end, behind its length.
+#[tactic(auto, using(crate::proofs::Rules::appends))]
+fn append_sized_entries<M: Machine>(
+    head: &AppendHead,
+    entries: &[Entry<Coded<M>>],
+    out: &mut Vec<u8>,
+) -> Result<(), NoMemory>
+    requires few { length entries.now ≤ 32 }
+    requires places { head.now.prev_index + length entries.now < 2 ^ 40 }
+    ensures ok { OnOk result ((append_format M.meaning.commands).Fits (record { head = head.now; entries = entries.now })
+        × (out.new.items ≡ out.old.items ++ sized ((append_format M.meaning.commands).text (record { head = head.now; entries = entries.now })))) }
+    ensures err { OnErr result (Grows out.old.items out.new.items) }
+{
+    let size_at = out.len();
+    out.extend_from_slice(&[0; 4])?;
+    append_append(head, entries, out)?;
+    put_size(out, size_at);
+    Ok(())
+}
+
+/// Puts the frame of an `Append` to the end; after an error a part of it may stand there.
+#[tactic(auto, using(crate::proofs::Rules::appends))]
+pub fn append_entries_frame<M: Machine>(
+    from: ServerId,
+    to: ServerId,
+    head: &AppendHead,
+    entries: &[Entry<Coded<M>>],
+    out: &mut Vec<u8>,
+) -> Result<(), NoMemory>
+    requires allowed { may_go kinds.Append (actors.Server from) (actors.Server to) ≡ true }
+    requires few { length entries.now ≤ 32 }
+    requires places { head.now.prev_index + length entries.now < 2 ^ 40 }
+    ensures ok { OnOk result (MessageFits M.meaning.commands (append_message {S = M} from to head.now entries.now)
+        × (out.new.items ≡ out.old.items ++ message_text M.meaning.commands (append_message {S = M} from to head.now entries.now))) }
+    ensures err { OnErr result (Grows out.old.items out.new.items) }
+{
+    let header = Header {
+        kind: Kind::Append,
+        from: Actor::Server(from),
+        to: Actor::Server(to),
+    };
+    append_header(&header, out)?;
+    append_sized_entries(head, entries, out)
 }
 
 /// Puts the frame to the end; after an error a part of it may stand there.

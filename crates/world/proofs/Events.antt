@@ -1,18 +1,22 @@
 -- Events of the program's world as the model's.
-use Rattle.std.proofs.Common.{◌≡◌, ◌∙◌, ap, List, [], ◌∷◌, ◌++◌}
+use Rattle.std.proofs.Common.{◌≡◌, ◌∙◌, ap, sym, ℕ, Result, Ok, Err, List, [], ◌∷◌, ◌++◌, length, append-nil}
 use Rattle.std.proofs.lemmas.List.{map-append}
-use Rattle.machine.specs.Meaning.{Meaning}
-use Rattle.raft_model.specs.Worlds.{IsEvent}
+use Rattle.fields.specs.Format.{Format}
 use Rattle.world.specs.declared.event.RaftEvent.{RaftEvent}
-use Rattle.world.specs.declared.event.RaftEvent.TheVariants as events
 use Rattle.world.specs.Events.{event_of, events_of}
-
-pub is_event : {S C : Type 0} (m : Meaning S C) (e : RaftEvent S C) → IsEvent m (event_of e)
-is_event m (events.Deliver k) = tt
-is_event m (events.Timeout i) = tt
-is_event m (events.Crash i) = tt
-is_event m (events.Restart i) = tt
-is_event m (events.Never never x) = elim never [ ]
 
 pub one_event_more : {S C : Type 0} (before after was : List (RaftEvent S C)) (e : RaftEvent S C) → before ≡ was → after ≡ before ++ e ∷ [] → events_of after ≡ events_of was ++ event_of e ∷ []
 one_event_more before after was e same is = ap events_of is ∙ (map-append event_of before (e ∷ []) ∙ ap (λ l. events_of l ++ event_of e ∷ []) same)
+
+first_or : {A : Type 0} → A → Result (A × ℕ) ℕ → A
+first_or d (Ok p) = p.0
+first_or d (Err e) = d
+
+-- what was written reads as what it was
+pub read_again : {C : Type 0} (commands : Format C) (c again : C) (size : ℕ) (bytes before after : List ℕ) → before ≡ [] → after ≡ before ++ commands.text c → bytes ≡ after → commands.read bytes 0 ≡ Ok (again, size) →
+    commands.read (commands.text c ++ []) 0 ≡ Ok (c, length (commands.text c)) → again ≡ c
+unfolding first_or
+read_again commands c again size bytes before after empty wrote same reads law =
+    let is : bytes ≡ commands.text c ++ [] = same ∙ (wrote ∙ (ap (λ l. l ++ commands.text c) empty ∙ sym (append-nil (commands.text c)))) in
+    let both : Ok (again, size) ≡ Ok (c, length (commands.text c)) = sym reads ∙ (ap (λ l. commands.read l 0) is ∙ law) in
+    ap (λ q. first_or c q) both

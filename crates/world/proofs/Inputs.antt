@@ -10,6 +10,7 @@ use Rattle.raft_model.specs.Steps.{Arrives}
 use Rattle.raft_model.specs.Worlds.{World, Deliver, takes, actor}
 use Rattle.raft_core.specs.Frames.{Carries}
 use Rattle.raft_core.specs.declared.input.Input.TheVariants as inputs
+use Rattle.world.specs.declared.input.Given.TheVariants as givens
 use Rattle.world.specs.Inputs.{ActsIn, NobodyActsIn, Brings}
 use Rattle.world.proofs.Zips.{zip_at, zip_none}
 
@@ -31,7 +32,7 @@ module _ {S C : Type 0} (m : Meaning S C) (sent : List Frame) (k : ℕ) where
 
   -- what arrives is the message that the frame carries
   pub carried : (frame : Frame) (bytes : Bor (List ℕ)) (w : World C) (i : ℕ) → slice_get sent k ≡ Some frame → bytes.now ≡ frame.bytes → AllZip (Carries m) sent w.sent →
-      actor m w (Deliver k) ≡ Some i → Brings m w (Deliver k) i (inputs.Frame bytes)
+      actor m w (Deliver k) ≡ Some i → Brings m w (Deliver k) i (givens.Input (inputs.Frame bytes))
   carried frame bytes w i h same z who =
       let x = zip_at (Carries m) sent w.sent k frame z h in
       let here : slice_get w.sent k ≡ Some x.0 = x.1 in

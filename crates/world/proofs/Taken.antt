@@ -1,22 +1,23 @@
 -- An input that a server took, as an event of the world.
-use Rattle.std.proofs.Common.{◌≡◌, ℕ, inl, inr, max, Some, Result, Ok, List, [], ◌∷◌, ◌++◌, length, refl, sym, ap, ◌∙◌, subst, slice_get, slice_set}
+use Rattle.std.proofs.Common.{◌≡◌, ℕ, inl, inr, max, Some, Result, Ok, List, [], ◌∷◌, ◌++◌, length, append-nil, refl, sym, ap, ◌∙◌, subst, slice_get, slice_set}
 use Rattle.std.specs.List.{AllZip}
 use Rattle.rows.specs.declared.refusal.Refusal.{Refusal}
 use Rattle.machine.specs.Meaning.{Meaning}
 use Rattle.wire.specs.Frames.{Frame}
 use Rattle.raft_model.specs.Messages.{Message}
-use Rattle.raft_model.specs.Servers.{Server, Turn}
+use Rattle.raft_model.specs.Servers.{Server, Turn, silent}
 use Rattle.raft_model.specs.Steps as model
 use Rattle.raft_model.specs.Steps.{step}
 use Rattle.raft_model.specs.Worlds.{World, Event, Run, more, IsEvent, happens, takes, after_turn}
 use Rattle.raft_core.specs.Seen.{Seen as Held}
 use Rattle.raft_core.specs.Frames.{Carries, Carry}
-use Rattle.raft_core.specs.Steps.{Represents, Steps, Takes}
-use Rattle.raft_core.specs.declared.input.Input.{Input}
+use Rattle.raft_core.specs.Steps.{Represents, Steps}
 use Rattle.raft_core.specs.declared.input.Input.TheVariants as inputs
+use Rattle.world.specs.declared.input.Given.{Given}
+use Rattle.world.specs.declared.input.Given.TheVariants as givens
 use Rattle.raft_safety.specs.Claims.{IsGreatestCommit}
 use Rattle.raft_safety.proofs.Places.{get_set-cases, set-length}
-use Rattle.world.specs.Inputs.{Reads, committed}
+use Rattle.world.specs.Inputs.{Reads, Takes, committed}
 use Rattle.world.specs.Seen.{Seen, Stands, Numbered, Reached}
 use Rattle.world.specs.Keeps.{Goes}
 use Rattle.world.proofs.Zips.{zip_length, zip_set, zip_append}
@@ -29,11 +30,16 @@ carry_zip m (f ∷ frames) [] c = absurd c
 carry_zip m (f ∷ frames) (x ∷ messages) c = (c.0, carry_zip m frames messages c.1)
 
 module _ {S C : Type 0} (m : Meaning S C) where
-  pub steps_on : (h h2 : Held C) (s : Server C) (input : Input) (x : model.Input C) (before after : List Frame) → Reads m input x → Takes m h s input h2 before after → Steps m h s x h2 before after
-  steps_on h h2 s (inputs.Frame bytes) x before after r t = subst (λ y. Steps m h s y h2 before after) (sym r.2) (t r.0 r.1)
-  steps_on h h2 s inputs.Timeout x before after r t = subst (λ y. Steps m h s y h2 before after) (sym r) t
-  steps_on h h2 s inputs.Crash x before after r t = subst (λ y. Steps m h s y h2 before after) (sym r) t
-  steps_on h h2 s inputs.Restart x before after r t = subst (λ y. Steps m h s y h2 before after) (sym r) t
+  pub steps_on : (h h2 : Held C) (s : Server C) (given : Given S C) (x : model.Input C) (before after : List Frame) → Reads m given x → Takes m h s given h2 before after → Steps m h s x h2 before after
+  steps_on h h2 s (givens.Input (inputs.Frame bytes)) x before after r t = subst (λ y. Steps m h s y h2 before after) (sym r.2) (t r.0 r.1)
+  steps_on h h2 s (givens.Input inputs.Timeout) x before after r t = subst (λ y. Steps m h s y h2 before after) (sym r) t
+  steps_on h h2 s (givens.Input inputs.Beat) x before after r t = subst (λ y. Steps m h s y h2 before after) (sym r) t
+  steps_on h h2 s (givens.Input inputs.Crash) x before after r t = subst (λ y. Steps m h s y h2 before after) (sym r) t
+  steps_on h h2 s (givens.Input inputs.Restart) x before after r t = subst (λ y. Steps m h s y h2 before after) (sym r) t
+  steps_on h h2 s (givens.Command command) x before after r t =
+      let p = t.0 in
+      subst (λ y. Steps m h s y h2 before after) (sym r)
+      (record { turn = silent p.next; step = p.step; stands = p.stands; sent = record { frames = []; added = t.1 ∙ sym (append-nil before); carry = tt } })
 
   -- what a server's step makes of the world
   pub took : (w : World C) (i : ℕ) (x : model.Input C) (s : Server C) (r : Result (Turn C) Refusal) → slice_get w.servers i ≡ Some s → step m (length w.servers) i s x ≡ r → takes m w i x ≡ after_turn m w i r

@@ -13,9 +13,10 @@ place (suc k) = k
 abbrev pub event_of : {S C : Type 0} → RaftEvent S C → Event C
 event_of (events.Deliver k) = model.Deliver (place k)
 event_of (events.Timeout i) = model.TimesOut i
+event_of (events.Beat i) = model.Beats i
+event_of (events.Propose i command) = model.Proposes i command
 event_of (events.Crash i) = model.Crashes i
 event_of (events.Restart i) = model.Restarts i
-event_of (events.Never never m) = elim never [ ]
 
 abbrev pub events_of : {S C : Type 0} → List (RaftEvent S C) → List (Event C)
 events_of = map event_of

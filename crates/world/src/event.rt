@@ -1,11 +1,11 @@
-ghost use Rattle.std.specs.Prelude.{◌≡◌};
+ghost use Rattle.std.specs.Prelude.{◌≡◌, IfOk};
+ghost use Rattle.raft_model.specs.Worlds.{IsEvent};
 ghost use Rattle.world.specs.Events.{event_of};
 ghost use Rattle.world.specs.Inputs.{is_restart};
 
-use machine::Machine;
-use rows::ServerId;
-use std::convert::Infallible;
-use std::marker::PhantomData;
+use machine::{Machine, commands_are_whole};
+use rows::{NoMemory, ServerId};
+use std::alloc::Global;
 
 /// What can happen to a group of servers. A loss is a message that is never delivered, a repeat one that is delivered
 /// twice. (Raft, extended version 2014, section 5.)
@@ -15,26 +15,49 @@ pub enum RaftEvent<M: Machine> {
     Deliver(u64),
     /// A server's election timer ends.
     Timeout(ServerId),
+    /// A server's heartbeat timer ends: a leader sends to each other server the entries that it may lack. (Raft, section
+    /// 5.2.)
+    Beat(ServerId),
+    /// A command is proposed to a server. (Raft, section 5.3.)
+    Propose(ServerId, M::Command),
     /// A server stops, and keeps what it stores.
     Crash(ServerId),
     /// A server that is down starts again from what it stores.
     Restart(ServerId),
-    /// No event yet brings a command of the machine.
-    #[doc(hidden)]
-    Never(Infallible, PhantomData<M>),
+}
+
+/// The same command, read from its own text.
+pub(crate) fn command_again<M: Machine>(
+    alloc: Global,
+    command: &M::Command,
+) -> Result<M::Command, NoMemory>
+    ensures { IfOk result (λ again. (again ≡ command.now) × M.meaning.commands.Fits again) }
+{
+    let mut text = Vec::new(alloc);
+    M::write_command(command, &mut text)?;
+    commands_are_whole::<M>();
+    match M::read_command(alloc, &text) {
+        Ok((again, _)) => Ok(again),
+        // The bytes are the command's text, so memory was wanting.
+        Err(_) => Err(NoMemory),
+    }
 }
 
 impl<M: Machine> RaftEvent<M> {
     /// The same event.
-    pub(crate) fn again(&self) -> RaftEvent<M>
-        ensures { result ≡ self.now }
+    pub(crate) fn again(&self, alloc: Global) -> Result<RaftEvent<M>, NoMemory>
+        ensures { IfOk result (λ again. (again ≡ self.now) × IsEvent M.meaning (event_of again)) }
     {
         match self {
-            RaftEvent::Deliver(k) => RaftEvent::Deliver(*k),
-            RaftEvent::Timeout(server) => RaftEvent::Timeout(*server),
-            RaftEvent::Crash(server) => RaftEvent::Crash(*server),
-            RaftEvent::Restart(server) => RaftEvent::Restart(*server),
-            RaftEvent::Never(never, _) => match *never {},
+            RaftEvent::Deliver(k) => Ok(RaftEvent::Deliver(*k)),
+            RaftEvent::Timeout(server) => Ok(RaftEvent::Timeout(*server)),
+            RaftEvent::Beat(server) => Ok(RaftEvent::Beat(*server)),
+            RaftEvent::Propose(server, command) => {
+                let command = command_again::<M>(alloc, command)?;
+                Ok(RaftEvent::Propose(*server, command))
+            }
+            RaftEvent::Crash(server) => Ok(RaftEvent::Crash(*server)),
+            RaftEvent::Restart(server) => Ok(RaftEvent::Restart(*server)),
         }
     }
 
@@ -46,8 +69,9 @@ impl<M: Machine> RaftEvent<M> {
             RaftEvent::Restart(_) => true,
             RaftEvent::Deliver(_) => false,
             RaftEvent::Timeout(_) => false,
+            RaftEvent::Beat(_) => false,
+            RaftEvent::Propose(_, _) => false,
             RaftEvent::Crash(_) => false,
-            RaftEvent::Never(never, _) => match *never {},
         }
     }
 }

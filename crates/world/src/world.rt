@@ -12,7 +12,7 @@ ghost use Rattle.world.specs.Keeps.{Went, Refuses, IsAwake, IsNew, IsNoGroup, Pl
 ghost use Rattle.world.specs.Claims.{OneLeaderEver, LogsMatchEver, OneListEver, StatesSafeEver};
 
 use crate::event::RaftEvent;
-use crate::input::{actor, input};
+use crate::input::{actor, give, given_by};
 use machine::Machine;
 use raft_core::{Raft, Stable};
 use raft_safety::{log_matching, one_leader_a_term, one_list, states_are_safe, within_limits};
@@ -109,12 +109,10 @@ impl<M: Machine> RaftWorld<M> {
     {
         self.trace.reserve(1)?;
         self.sent.reserve(self.servers.len())?;
-        let Some(input) = input(&self.sent, &event) else {
-            return Err(Refusal::OutOfRange);
-        };
+        let given = given_by(self.alloc, &self.sent, &event)?;
         let mut outbox = Outbox::new(self.alloc);
         let raft = &mut self.servers[server.place()];
-        match raft.step(self.alloc, input, &mut outbox) {
+        match give(raft, self.alloc, given, &mut outbox) {
             Ok(()) => {
                 self.chain = longer(self.chain, raft);
                 self.trace.push_reserved(event);
@@ -221,7 +219,7 @@ impl<M: Machine> RaftWorld<M> {
     {
         let mut world = Self::new(alloc, n)?;
         for event in events {
-            let done = world.step(event.again());
+            let done = world.step(event.again(alloc)?);
             if lacks_memory(&done) {
                 return Err(Refusal::NoMemory);
             }

@@ -17,16 +17,23 @@ use wire::{Body, Message, Outbox, read_message};
 
 impl<M: Machine> Raft<M> {
     /// A message of another server of the group is taken.
-    fn receive(&mut self, from: ServerId, body: &Body, outbox: &mut Outbox) -> Result<(), NoMemory>
+    fn receive(
+        &mut self,
+        from: ServerId,
+        body: Body<M>,
+        outbox: &mut Outbox,
+    ) -> Result<(), NoMemory>
         requires up { is_up self.old.server.mode ≡ true }
         requires member { from < self.old.size }
         requires other { from ≢ self.old.me }
-        ensures taken { OnOk result (Turned M.meaning self.old self.new outbox.old outbox.new (receives M.meaning.noop self.old.size self.old.me (met (term_of body.now) self.old.server) from (term_of body.now) (body_of body.now))) }
+        ensures taken { OnOk result (Turned M.meaning self.old self.new outbox.old outbox.new (receives M.meaning.noop self.old.size self.old.me (met (term_of body) self.old.server) from (term_of body) (body_of body))) }
         ensures lost { OnErr result (Lost self.old self.new outbox.old outbox.new) }
     {
         match body {
-            Body::VoteRequest(request) => self.vote_request(from, request, outbox),
-            Body::VoteReply(reply) => self.vote_reply(from, reply),
+            Body::VoteRequest(request) => self.vote_request(from, &request, outbox),
+            Body::VoteReply(reply) => self.vote_reply(from, &reply),
+            Body::Append(append) => self.append(from, append, outbox),
+            Body::AppendReply(reply) => self.append_reply(from, &reply),
         }
     }
 
@@ -67,7 +74,7 @@ impl<M: Machine> Raft<M> {
     {
         let message = read_message::<M>(alloc, bytes)?;
         let from = self.sender(&message)?;
-        self.receive(from, message.body(), outbox)?;
+        self.receive(from, message.into_body(), outbox)?;
         Ok(())
     }
 }

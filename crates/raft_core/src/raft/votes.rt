@@ -20,7 +20,7 @@ use rows::{Index, NoMemory, Refusal, ServerId, Term};
 use wire::{Body, Outbox, VoteReply, VoteRequest};
 
 /// The server at a place, from 0.
-fn server_at(place: usize) -> ServerId
+pub(super) fn server_at(place: usize) -> ServerId
     requires { place < 5 }
     ensures { result ≡ place }
 {

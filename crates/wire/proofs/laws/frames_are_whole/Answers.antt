@@ -1,10 +1,13 @@
-use Rattle.wire.proofs.Framing.{message_only, message_found, frames_apart, message_is_short}
+use Rattle.wire.proofs.Framing.{ShortCommands, message_only, message_found, frames_apart, message_is_short}
 use Rattle.wire.proofs.laws.frames_are_whole.Goals as goal
 
 pub returns : goal.returns
-returns g c = let commands = g.M.Machine.meaning.commands in record {
-  again = λ m fits. message_only commands m fits;
-  found = λ bytes m fits e. message_found commands bytes m fits e;
-  apart = λ m n x y fm fn e. frames_apart commands m n x y fm fn e;
-  short = λ m fits. message_is_short commands m fits;
-}
+returns g c =
+    let commands = g.M.Machine.meaning.commands in
+    let law : ShortCommands commands = record { lawful = g.met.M.Machine.lawful.commands_lawful; short = g.met.M.Machine.lawful.commands_short } in
+    record {
+      again = λ m fits. message_only commands law m fits;
+      found = λ bytes m fits e. message_found commands law bytes m fits e;
+      apart = λ m n x y fm fn e. frames_apart commands law m n x y fm fn e;
+      short = λ m fits. message_is_short commands law m fits;
+    }

@@ -1,7 +1,7 @@
 use Rattle.std.proofs.Common.{arith, ◌≡◌, ◌<◌, ◌≤◌, true, length, replicate, ap, sym, ◌∙◌}
 use Rattle.std.proofs.lemmas.List.{length-replicate}
 use Rattle.raft_core.specs.Steps.{is_member}
-use Rattle.raft_core.proofs.Lives.{fresh}
+use Rattle.raft_core.proofs.Lives.{fresh, filled_least, filled_most}
 use Rattle.raft_core.proofs.Members.{member-below, member-small}
 use Rattle.raft_core.proofs.raft.Raft.restart.Goals as goal
 
@@ -17,6 +17,8 @@ invariant_of-result-2 g c =
       room = tt;
       votes_each = ap length made.votes ∙ length-replicate size _;
       next_each = ap length made.next ∙ length-replicate size _;
+      next_least = filled_least c.in-Ok.levels.next.items size 1 size made.next (omega arith) (ap length made.next ∙ length-replicate size _);
+      next_most = filled_most c.in-Ok.levels.next.items size 1 made.next (omega arith);
       matched_each = ap length made.matched ∙ length-replicate size _;
       live = fresh g.M.Machine.meaning c.stable.inside.log.items size c.in-Ok.levels.matched.items c.empty.result c.empty.ensures made.matched;
     }

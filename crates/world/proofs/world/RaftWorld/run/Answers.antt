@@ -2,7 +2,7 @@ use Rattle.std.proofs.Common.{◌≡◌, ◌<◌, ◌+◌, take_all, [], ◌∷�
 use Rattle.std.proofs.lemmas.List.{take_more}
 use Rattle.world.specs.Events.{event_of, events_of}
 use Rattle.world.specs.Keeps.{Played}
-use Rattle.world.proofs.Events.{is_event, one_event_more}
+use Rattle.world.proofs.Events.{one_event_more}
 use Rattle.world.proofs.Playing.{play_begins, play_next}
 use Rattle.world.proofs.Replays.{replays}
 use Rattle.world.proofs.world.RaftWorld.run.Goals as goal
@@ -24,8 +24,8 @@ loop-event-preserved g c =
     let m = g.M.Machine.meaning in
     let inside : c.loop-event.event-index < length c.args.events.now = omega arith in
     let item = c.event-item.result in
-    let more : take (c.loop-event.event-index + 1) c.args.events.now ≡ take c.loop-event.event-index c.args.events.now ++ c.again.result ∷ [] =
-    take_more c.args.events.now c.loop-event.event-index item inside ∙ ap (λ e. take c.loop-event.event-index c.args.events.now ++ e ∷ []) (sym c.event-item.is ∙ sym c.again.ensures) in
-    subst (λ es. Played m c.args.n es c.step-done.new.self) (sym (one_event_more (take c.loop-event.event-index c.args.events.now) _ (take c.loop-event.event-index c.args.events.now) c.again.result refl more))
-    (play_next m c.args.n (events_of (take c.loop-event.event-index c.args.events.now)) c.loop-event.world c.step-done.new.self (event_of c.again.result) c.step-done.result (is_event m c.again.result)
+    let more : take (c.loop-event.event-index + 1) c.args.events.now ≡ take c.loop-event.event-index c.args.events.now ++ c.in_ok-again.field-0 ∷ [] =
+    take_more c.args.events.now c.loop-event.event-index item inside ∙ ap (λ e. take c.loop-event.event-index c.args.events.now ++ e ∷ []) (sym c.event-item.is ∙ sym c.in_ok-again.ensures.0) in
+    subst (λ es. Played m c.args.n es c.step-done.new.self) (sym (one_event_more (take c.loop-event.event-index c.args.events.now) _ (take c.loop-event.event-index c.args.events.now) c.in_ok-again.field-0 refl more))
+    (play_next m c.args.n (events_of (take c.loop-event.event-index c.args.events.now)) c.loop-event.world c.step-done.new.self (event_of c.in_ok-again.field-0) c.step-done.result c.in_ok-again.ensures.1
     c.loop-event.invariant c.step-done.ensures.ok c.step-done.ensures.err c.step-done.ensures.cause c.if-lacks_memory.ensures)

@@ -1,0 +1,55 @@
+-- What a leader sends at a beat.
+use Rattle.std.proofs.Common.{◌≡◌, ℕ, zero, suc, ◌+◌, ◌-◌, ◌^◌, ◌<◌, ◌≤◌, min, Bool, true, false, nat_le, Option, Some, None, List, length, slice_index, take, drop, refl, ap, ◌∙◌, arith}
+use Rattle.std.proofs.lemmas.Bool.{lt-leb}
+use Rattle.std.proofs.lemmas.List.{length-take, length-drop, take_min, drop_min}
+use Rattle.machine.specs.Meaning.{Meaning}
+use Rattle.machine.specs.declared.entry.Entry.{Entry}
+use Rattle.wire.specs.Frames.{Frame}
+use Rattle.raft_model.specs.Messages.{Message, to_others}
+use Rattle.raft_model.specs.Quorums.{number}
+use Rattle.raft_model.specs.Servers.{Server, Leader, is_up, beats, beat_message}
+use Rattle.raft_core.specs.declared.role.Role.{Role}
+use Rattle.raft_core.specs.declared.role.Role.TheVariants as roles
+use Rattle.raft_core.specs.Beats.{append_from}
+use Rattle.raft_core.specs.Frames.{Sends}
+use Rattle.raft_core.specs.Seen.{Seen, while_up, mode_of}
+use Rattle.raft_core.specs.Turns.{Turned}
+use Rattle.raft_core.proofs.Replies.{number-index}
+
+module _ {C : Type 0} (log : List (Entry C)) where
+  -- a part of the log from an index that may be past its end
+  pub part_behind : (index start end : ℕ) → start ≡ min index (length log) → end ≡ min (start + 32) (length log) → take (end - start) (drop start log) ≡ take 32 (drop index log)
+  part_behind index start end s e =
+      let size : end - start ≡ min 32 (length (drop start log)) = omega (arith, s, e, length-drop start log) in
+      ap (λ (k : ℕ). take k (drop start log)) size ∙ take_min 32 (drop start log) ∙ ap (take 32) (ap (λ (k : ℕ). drop k log) s ∙ drop_min index log)
+
+  pub few_behind : (index : ℕ) → length (take 32 (drop index log)) ≤ 32
+  few_behind index = omega (arith, length-take 32 (drop index log))
+
+  -- the last index sent is one of the log, or none is sent
+  pub behind_fits : (index : ℕ) → index < 2 ^ 40 → length log < 2 ^ 40 → index + length (take 32 (drop index log)) < 2 ^ 40
+  behind_fits index fits short = omega (arith, length-take 32 (drop index log), length-drop index log)
+
+others-same : {C : Type 0} (me : ℕ) (f g : ℕ → Message C) (n : ℕ) → ((j : ℕ) → j < n → f j ≡ g j) → to_others me f n ≡ to_others me g n
+unfolding to_others
+others-same me f g zero same = refl
+others-same me f g (suc n) same =
+    let e : f n ≡ g n = same n (omega arith) in
+    let r : to_others me f n ≡ to_others me g n = others-same me f g n (λ j below. same j (omega arith)) in rw (e, r) refl
+
+module _ {C : Type 0} (me term : ℕ) (vote : Option ℕ) (log : List (Entry C)) (commit : ℕ) (known : Option ℕ) (next match : List ℕ) where
+  abbrev pub sender : Server C
+  sender = record { term = term; vote = vote; log = log; covered = 0; commit = commit; known = known; mode = Leader next match }
+
+  -- a next index is past the snapshot, which covers nothing
+  appends : (to : ℕ) → 1 ≤ number next to → append_from me term commit log (number next to) to ≡ beat_message me sender next to
+  appends to least = let past : nat_le (number next to) 0 ≡ false = lt-leb (number next to) 0 least in rw past refl
+
+  pub all_append : (n : ℕ) → ((j : ℕ) → j < n → 1 ≤ slice_index next j) → to_others me (λ to. append_from me term commit log (number next to) to) n ≡ to_others me (beat_message me sender next) n
+  all_append n least = others-same me (λ to. append_from me term commit log (number next to) to) (beat_message me sender next) n (λ j below. appends j (rw (number-index next j) (least j below)))
+
+-- what the code sends is what the leader owes
+pub beats_by : {S C : Type 0} (m : Meaning S C) (old : Seen C) (machine : Option S) (me size term : ℕ) (vote : Option ℕ) (log : List (Entry C)) (commit : ℕ) (known : Option ℕ) (role : Role) (votes : List Bool) (next match : List ℕ) (before after : List Frame) → record { me = me; size = size; server = while_up machine (record { term = term; vote = vote; log = log; covered = 0; commit = commit; known = known; mode = mode_of role votes next match }) } ≡ old → is_up old.server.mode ≡ true → role ≡ roles.Leader → length next ≡ size → ((j : ℕ) → j < size → 1 ≤ slice_index next j) → Sends m before after (to_others me (λ to. append_from me term commit log (number next to) to) (length next)) → Turned m old old before after (record { server = old.server; sent = beats old.size old.me old.server old.server.mode })
+beats_by m old None me size term vote log commit known role votes next match before after old-is up leads each least sent = absurd (let down : false ≡ true = rw (← old-is) at up in cc)
+beats_by m old (Some machine) me size term vote log commit known role votes next match before after old-is up leads each least sent =
+    rw (← old-is, leads) (record { server = refl; me = refl; size = refl; sent = rw (each, all_append me term vote log commit known next match size least) at sent })

@@ -1,0 +1,112 @@
+-- What a leader knows of the others' logs, after an answer.
+use Rattle.std.proofs.Common.{◌≡◌, ℕ, zero, suc, ◌-◌, ◌^◌, ◌<◌, ◌≤◌, max, min, Bool, true, false, nat_le, Option, Some, None, IfSome, List, [], ◌∷◌, ◌++◌, length, take, drop, slice_index, slice_set, refl, sym, ap, ◌∙◌, arith}
+use Rattle.std.proofs.Math.Seq.{take-append_seam}
+use Rattle.machine.specs.Meaning.{Meaning}
+use Rattle.machine.specs.declared.entry.Entry.{Entry}
+use Rattle.raft_model.specs.Logs.{state_after}
+use Rattle.raft_model.specs.Quorums.{number}
+use Rattle.raft_model.specs.Servers.{Server, Leader, greatest}
+use Rattle.raft_core.specs.Commits.{is_chosen_in}
+use Rattle.raft_core.specs.declared.role.Role.{Role}
+use Rattle.raft_core.specs.declared.role.Role.TheVariants as roles
+use Rattle.raft_core.specs.Seen.{Seen, mode_of, IsLive, IsRaft}
+use Rattle.raft_core.specs.Replies.{hears, next_after, match_after}
+
+-- what holds of each item holds of each after a write
+set-each : (P : ℕ → Type 0) (xs : List ℕ) (i v j : ℕ) → P v → P (slice_index xs j) → P (slice_index (slice_set xs i v) j)
+set-each P [] i v j new old = old
+set-each P (x ∷ xs) zero v zero new old = new
+set-each P (x ∷ xs) zero v (suc j) new old = old
+set-each P (x ∷ xs) (suc i) v zero new old = old
+set-each P (x ∷ xs) (suc i) v (suc j) new old = set-each P xs i v j new old
+
+length-slice_set : (xs : List ℕ) (i v : ℕ) → length (slice_set xs i v) ≡ length xs
+length-slice_set [] i v = refl
+length-slice_set (x ∷ xs) zero v = refl
+length-slice_set (x ∷ xs) (suc i) v = ap suc (length-slice_set xs i v)
+
+pub number-index : (xs : List ℕ) (i : ℕ) → number xs i ≡ slice_index xs i
+number-index [] i = refl
+number-index (x ∷ xs) zero = refl
+number-index (x ∷ xs) (suc i) = number-index xs i
+
+module _ (last i at : ℕ) where
+  next-each : (P : ℕ → Type 0) (ok t : Bool) (next match : List ℕ) → nat_le at last ≡ t → (t ≡ true → P (suc (max (number match i) at))) → P (max (suc (number match i)) (min (number next i - 1) (suc at))) → (j : ℕ) → P (slice_index next j) → P (slice_index (next_after last i ok at next match) j)
+  next-each P true true next match is up down j old = rw is (set-each P next i (suc (max (number match i) at)) j (up refl) old)
+  next-each P true false next match is up down j old = rw is old
+  next-each P false t next match is up down j old = set-each P next i _ j down old
+
+  pub next-least : (ok : Bool) (next match : List ℕ) (size : ℕ) → ((j : ℕ) → j < size → 1 ≤ slice_index next j) → (j : ℕ) → j < size → 1 ≤ slice_index (next_after last i ok at next match) j
+  next-least ok next match size old j below = next-each (λ x. 1 ≤ x) ok (nat_le at last) next match refl (λ e. omega arith) (omega arith) j (old j below)
+
+  pub next-most : (ok : Bool) (next match : List ℕ) → at < 2 ^ 40 → ((j : ℕ) → slice_index match j < 2 ^ 40) → ((j : ℕ) → slice_index next j ≤ 2 ^ 40) → (j : ℕ) → slice_index (next_after last i ok at next match) j ≤ 2 ^ 40
+  next-most ok next match short levels old j =
+      let level : number match i < 2 ^ 40 = rw (number-index match i) (levels i) in
+      next-each (λ x. x ≤ 2 ^ 40) ok (nat_le at last) next match refl (λ e. omega arith) (omega arith) j (old j)
+
+  match-each : (ok t : Bool) (match : List ℕ) → nat_le at last ≡ t → at < 2 ^ 40 → number match i < 2 ^ 40 → (j : ℕ) → slice_index match j < 2 ^ 40 → slice_index (match_after last i ok at match) j < 2 ^ 40
+  match-each true true match is short level j old = rw is (set-each (λ x. x < 2 ^ 40) match i (max (number match i) at) j (omega arith) old)
+  match-each true false match is short level j old = rw is old
+  match-each false t match is short level j old = old
+
+  pub match-below : (ok : Bool) (match : List ℕ) → at < 2 ^ 40 → ((j : ℕ) → slice_index match j < 2 ^ 40) → (j : ℕ) → slice_index (match_after last i ok at match) j < 2 ^ 40
+  match-below ok match short levels j = match-each ok (nat_le at last) match refl short (rw (number-index match i) (levels i)) j (levels j)
+
+  next-length_at : (ok t : Bool) (next match : List ℕ) → nat_le at last ≡ t → length (next_after last i ok at next match) ≡ length next
+  next-length_at true true next match is = rw is (length-slice_set next i _)
+  next-length_at true false next match is = rw is refl
+  next-length_at false t next match is = length-slice_set next i _
+
+  pub next-length : (ok : Bool) (next match : List ℕ) → length (next_after last i ok at next match) ≡ length next
+  next-length ok next match = next-length_at ok (nat_le at last) next match refl
+
+  match-length_at : (ok t : Bool) (match : List ℕ) → nat_le at last ≡ t → length (match_after last i ok at match) ≡ length match
+  match-length_at true true match is = rw is (length-slice_set match i _)
+  match-length_at true false match is = rw is refl
+  match-length_at false t match is = refl
+
+  pub match-length : (ok : Bool) (match : List ℕ) → length (match_after last i ok at match) ≡ length match
+  match-length ok match = match-length_at ok (nat_le at last) match refl
+
+module _ {C : Type 0} (n me term : ℕ) (vote : Option ℕ) (log : List (Entry C)) (covered commit : ℕ) (known : Option ℕ) (next match : List ℕ) (i at : ℕ) where
+  abbrev pub leader : List ℕ → List ℕ → ℕ → Server C
+  leader next match commit = record { term = term; vote = vote; log = log; covered = covered; commit = commit; known = known; mode = Leader next match }
+
+  hears_at : (ok t : Bool) → nat_le at (length log) ≡ t → hears n me (leader next match commit) i ok at (Leader next match) ≡ leader (next_after (length log) i ok at next match) (match_after (length log) i ok at match) (greatest (is_chosen_in n me term log (match_after (length log) i ok at match)) commit (length log))
+  hears_at true true is = rw is refl
+  hears_at true false is = rw is refl
+  hears_at false t is = refl
+
+  -- a leader that has heard
+  pub leader_hears : (ok : Bool) → hears n me (leader next match commit) i ok at (Leader next match) ≡ leader (next_after (length log) i ok at next match) (match_after (length log) i ok at match) (greatest (is_chosen_in n me term log (match_after (length log) i ok at match)) commit (length log))
+  leader_hears ok = hears_at ok (nat_le at (length log)) refl
+
+-- a list that was lent out is put back whole
+pub put_back : (xs ys : List ℕ) (len : ℕ) → len ≡ length ys → take len (ys ++ drop (length ys) xs) ≡ ys
+put_back xs ys len is = ap (λ (n : ℕ). take n (ys ++ drop (length ys) xs)) is ∙ take-append_seam ys (drop (length ys) xs)
+
+live_at : {S C : Type 0} (m : Meaning S C) (log : List (Entry C)) (commit : ℕ) (match : List ℕ) (new : Option S) → IfSome new (λ s. (commit ≤ length log) × (s ≡ state_after m (take commit log))) → ((j : ℕ) → slice_index match j < 2 ^ 40) → IfSome new (IsLive m log commit match)
+live_at m log commit match None live levels = tt
+live_at m log commit match (Some s) live levels = record { committed = live.0; state = live.1; levels = levels }
+
+module _ {S C : Type 0} (m : Meaning S C) (me size : ℕ) (log : List (Entry C)) (role : Role) (votes : List Bool) (next match : List ℕ) (i at : ℕ) where
+  -- a server keeps what its type asks, whatever an answer says
+  pub keeps : (ok : Bool) (before after : ℕ) (old new : Option S) → IsRaft m me size log role before votes next match old → ((j : ℕ) → slice_index match j < 2 ^ 40) → at < 2 ^ 40 → IfSome new (λ s. (after ≤ length log) × (s ≡ state_after m (take after log))) → IsRaft m me size log role after votes (next_after (length log) i ok at next match) (match_after (length log) i ok at match) new
+  keeps ok before after old new kept levels short live = record {
+    number = kept.number;
+    group = kept.group;
+    short = kept.short;
+    room = kept.room;
+    votes_each = kept.votes_each;
+    next_each = next-length (length log) i at ok next match ∙ kept.next_each;
+    next_least = next-least (length log) i at ok next match size kept.next_least;
+    next_most = next-most (length log) i at ok next match short levels kept.next_most;
+    matched_each = match-length (length log) i at ok match ∙ kept.matched_each;
+    live = live_at m log after (match_after (length log) i ok at match) new live (match-below (length log) i at ok match short levels);
+  }
+
+-- what the code leaves is a leader that has heard
+pub heard_by : {C : Type 0} (old : Seen C) (me size term : ℕ) (vote : Option ℕ) (log : List (Entry C)) (commit : ℕ) (known : Option ℕ) (role : Role) (votes : List Bool) (next match new_next new_match : List ℕ) (new_commit i at : ℕ) (ok : Bool) → record { me = me; size = size; server = record { term = term; vote = vote; log = log; covered = 0; commit = commit; known = known; mode = mode_of role votes next match } } ≡ old → role ≡ roles.Leader → new_next ≡ next_after (length log) i ok at next match → new_match ≡ match_after (length log) i ok at match → length match ≡ size → new_commit ≡ greatest (is_chosen_in (length new_match) me term log new_match) commit (length log) → record { term = term; vote = vote; log = log; covered = 0; commit = new_commit; known = known; mode = mode_of role votes new_next new_match } ≡ hears old.size old.me old.server i ok at old.server.mode
+heard_by old me size term vote log commit known role votes next match new_next new_match new_commit i at ok old-is leads next-is match-is each risen =
+    let n : length new_match ≡ size = ap length match-is ∙ match-length (length log) i at ok match ∙ each in
+    rw (← old-is, leads, risen, n, next-is, match-is) (sym (leader_hears size me term vote log 0 commit known next match i at ok))

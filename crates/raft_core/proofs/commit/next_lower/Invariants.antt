@@ -1,0 +1,9 @@
+use Rattle.std.proofs.Common.{◌≢◌, ℕ, ◌<◌, ◌≤◌}
+use Rattle.raft_model.specs.Quorums.{number}
+use Rattle.raft_core.proofs.commit.next_lower.Given as goal
+
+abbrev pub invariant-loop-place : goal.invariant-loop-place
+invariant-loop-place l = record {
+  below : l.low < l.index;
+  others : (j : ℕ) → j < l.place → j ≢ l.me → number l.matched j < l.index → number l.matched j ≤ l.low;
+}

@@ -1,0 +1,12 @@
+use Rattle.raft_model.specs.Messages.{to_others}
+use Rattle.raft_model.specs.Quorums.{number}
+use Rattle.raft_core.specs.Beats.{append_from}
+use Rattle.raft_core.specs.Frames.{Sends}
+use Rattle.raft_core.specs.Turns.{Sent}
+use Rattle.raft_core.proofs.raft.beats.send_to_others.Given as goal
+
+abbrev pub invariant-loop-place : goal.invariant-loop-place
+invariant-loop-place g l = record {
+  sent : Sends g.M.Machine.meaning l.initial.outbox l.outbox (to_others l.me (λ to. append_from l.me l.term l.commit l.log (number l.next to) to) l.place);
+  front : Sent l.initial.outbox l.outbox;
+}

@@ -1,0 +1,111 @@
+//! How far a leader's commit index rises. (Raft, extended version 2014, section 5.3, and section 5.4.2.)
+
+ghost use Rattle.std.specs.Prelude.{◌≡◌, ◌≢◌, ◌^◌, ◌<◌, ◌≤◌, ℕ, Bool, List, length, take, IfOk};
+ghost use Rattle.raft_model.specs.Logs.{state_after};
+ghost use Rattle.raft_model.specs.Quorums.{count, is_quorum, number};
+ghost use Rattle.raft_model.specs.Servers.{Server, Leader, advanced, greatest};
+ghost use Rattle.raft_core.specs.Commits.{holds, is_chosen_in, IsGreatest, IsRisen};
+
+use crate::apply::apply_range;
+use crate::log::term_at;
+use machine::{Coded, Entry, Machine};
+use rows::{Index, NoMemory, ServerId, Term};
+
+/// How many servers hold an index: the leader `me`, and each that is known to.
+fn count_holders(me: ServerId, matched: &[u64], index: u64) -> usize
+    ensures count { result ≡ count (holds me matched.now index) (length matched.now) }
+    ensures bound { result ≤ length matched.now }
+{
+    let mut held = 0;
+    for (place, level) in matched.iter().enumerate() {
+        let is_holder = place == me.place() || index <= *level;
+        if is_holder {
+            held += 1;
+        }
+    }
+    held
+}
+
+/// Whether more than half of the servers hold an index.
+#[tactic(auto, unfolding(raft_model::specs::Quorums::is_quorum))]
+fn is_quorum(me: ServerId, matched: &[u64], index: u64) -> bool
+    requires { length matched.now ≤ 5 }
+    ensures { result ≡ is_quorum (length matched.now) (holds me matched.now index) }
+{
+    2 * count_holders(me, matched, index) > matched.len()
+}
+
+/// The greatest match index of another server below an index, or 0: above it and up to the index the same servers hold.
+fn next_lower(me: ServerId, matched: &[u64], index: u64) -> u64
+    requires { 0 < index }
+    ensures below { result < index }
+    ensures others { (j : ℕ) → j < length matched.now → j ≢ me → number matched.now j < index → number matched.now j ≤ result }
+{
+    let mut low = 0;
+    for (place, level) in matched.iter().enumerate() {
+        if place != me.place() && low < *level && *level < index {
+            low = *level;
+        }
+    }
+    low
+}
+
+/// The commit index of a leader: it rises to the greatest index whose entry is of its own term and held by more than half
+/// of the servers. Only what stands above commit is looked at, and of the indexes that no quorum holds at most one for each
+/// server.
+fn risen<M: Machine>(
+    me: ServerId,
+    commit: Index,
+    term: Term,
+    log: &[Entry<Coded<M>>],
+    matched: &[u64],
+) -> u64
+    requires group { length matched.now ≤ 5 }
+    ensures value { result ≡ greatest (is_chosen_in (length matched.now) me term log.now matched.now) commit (length log.now) }
+    ensures rises { commit ≤ result }
+    ensures within { commit ≤ length log.now → result ≤ length log.now }
+{
+    let mut index = log.len() as u64;
+    while commit.get() < index {
+        if !is_quorum(me, matched, index) {
+            index = next_lower(me, matched, index);
+        } else if term_at(log, index).get() == term.get() {
+            return index;
+        } else {
+            index -= 1;
+        }
+    }
+    commit.get()
+}
+
+/// A leader's commit index rises, the machine being brought on first by what is newly committed.
+pub fn advance<M: Machine>(
+    machine: &mut M,
+    me: ServerId,
+    commit: Index,
+    term: Term,
+    log: &[Entry<Coded<M>>],
+    matched: &[u64],
+) -> Result<Index, NoMemory>
+    requires group { length matched.now ≤ 5 }
+    requires short { length log.now < 2 ^ 40 }
+    requires committed { commit ≤ length log.now }
+    requires state { machine.old ≡ state_after M.meaning (take commit log.now) }
+    ensures value { IfOk result (λ n. n ≡ greatest (is_chosen_in (length matched.now) me term log.now matched.now) commit (length log.now)) }
+    ensures within { IfOk result (λ n. n ≤ length log.now) }
+    ensures state { IfOk result (λ n. machine.new ≡ state_after M.meaning (take n log.now)) }
+{
+    let to = risen::<M>(me, commit, term, log, matched);
+    let Some(to) = Index::new(to) else {
+        unreachable!()
+    };
+    apply_range(machine, log, commit.get() as usize, to.get() as usize)?;
+    Ok(to)
+}
+
+/// A leader's commit index never falls, and rises to the greatest index whose entry is of the leader's own term and held by
+/// a quorum, and to no other. The function has an empty body: what it says is its contract.
+pub fn commit_is_greatest<M: Machine>()
+    ensures greatest { (test : ℕ → Bool) (low high : ℕ) → IsGreatest test low high (greatest test low high) }
+    ensures risen { (n me : ℕ) (s : Server M.Command) (next matched : List ℕ) → s.mode ≡ Leader next matched → IsRisen n me s matched (advanced n me s).commit }
+{}

@@ -1,0 +1,41 @@
+//! A machine after a whole log, beside the one after its committed entries.
+
+ghost use Rattle.std.specs.Prelude.{◌≡◌, ◌^◌, ◌<◌, ◌≤◌, length, take, IfOk};
+ghost use Rattle.raft_model.specs.Logs.{state_after};
+
+use crate::apply::apply_range;
+use machine::{Coded, Entry, Machine};
+use rows::{NoMemory, Refusal};
+use std::alloc::Global;
+
+/// A second machine in the same state, by way of its text.
+fn reloaded<M: Machine>(alloc: Global, machine: &M) -> Result<M, NoMemory>
+    ensures { IfOk result (λ copy. copy ≡ machine.now) }
+{
+    let mut text = Vec::new(alloc);
+    machine.save(&mut text)?;
+    match M::load(alloc, &text) {
+        Ok(copy) => Ok(copy),
+        Err(cause) => match cause {
+            Refusal::NoMemory => Err(NoMemory),
+            _ => unreachable!(),
+        },
+    }
+}
+
+/// A second machine, brought on from commit to the end of the log.
+pub fn projection<M: Machine>(
+    alloc: Global,
+    machine: &M,
+    commit: u64,
+    log: &[Entry<Coded<M>>],
+) -> Result<M, NoMemory>
+    requires committed { commit ≤ length log.now }
+    requires short { length log.now < 2 ^ 40 }
+    requires state { machine.now ≡ state_after M.meaning (take commit log.now) }
+    ensures { IfOk result (λ ahead. ahead ≡ state_after M.meaning log.now) }
+{
+    let mut ahead = reloaded(alloc, machine)?;
+    apply_range(&mut ahead, log, commit as usize, log.len())?;
+    Ok(ahead)
+}

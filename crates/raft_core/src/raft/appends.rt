@@ -1,0 +1,145 @@
+//! Entries that a leader sends. (Raft, Figure 2, AppendEntries, receiver; section 5.3.)
+
+ghost use Rattle.std.specs.Prelude.{◌≡◌, ◌≢◌, ◌+◌, ◌^◌, ◌<◌, ◌≤◌, ◌||◌, nat_le, true, false, List, length, OnOk, OnErr};
+ghost use Rattle.machine.specs.declared.entry.Entry.{Entry};
+ghost use Rattle.raft_model.specs.Logs.{has};
+ghost use Rattle.raft_model.specs.Servers.{is_up, is_leader, met, following, follows_append};
+ghost use Rattle.raft_model.specs.Steps.{receives};
+ghost use Rattle.raft_model.specs.Messages.{Append as AppendBody};
+ghost use Rattle.raft_core.specs.Seen.{with_server};
+ghost use Rattle.raft_core.specs.Turns.{Turned, Lost};
+
+use super::Raft;
+use crate::log::stays;
+use crate::merge::adopt;
+use crate::role::Role;
+use crate::sending::send;
+use machine::{Coded, Entry, Machine};
+use rows::{Index, NoMemory, ServerId, Term};
+use wire::{Append, AppendHead, AppendReply, Body, Outbox};
+
+impl<M: Machine> Raft<M> {
+    /// It follows the sender of an Append or of a snapshot, in the sender's term.
+    fn follow(&mut self, from: ServerId, term: Term)
+        requires { is_up self.old.server.mode ≡ true }
+        ensures { self.new ≡ with_server self.old (following (met term self.old.server) from) }
+    {
+        self.meet(term);
+        self.known = Some(from);
+        self.role = Role::Follower;
+    }
+
+    /// The entry before those that came is not held: the reply says where to try again.
+    fn refuse_append(
+        &mut self,
+        from: ServerId,
+        head: &AppendHead,
+        outbox: &mut Outbox,
+    ) -> Result<(), NoMemory>
+        requires up { is_up self.old.server.mode ≡ true }
+        requires other { from ≢ self.old.me }
+        requires later { self.old.server.term ≤ head.now.term }
+        requires missing { (nat_le head.now.prev_index self.old.server.commit || has self.old.server.log head.now.prev_index head.now.prev_term) ≡ false }
+        ensures taken { OnOk result ((entries : List (Entry M.Command)) → Turned M.meaning self.old self.new outbox.old outbox.new (follows_append self.old.me (following (met head.now.term self.old.server) from) from head.now.prev_index head.now.prev_term head.now.commit entries)) }
+        ensures lost { OnErr result (Lost self.old self.new outbox.old outbox.new) }
+    {
+        let last = self.log.len() as u64;
+        let at = (head.prev_index.get() - 1).min(last);
+        let Some(at) = Index::new(at) else {
+            unreachable!()
+        };
+        let reply = AppendReply {
+            term: head.term,
+            asked: head.term,
+            ok: false,
+            at,
+        };
+        send(outbox, self.me, from, Body::<M>::AppendReply(reply))?;
+        self.follow(from, head.term);
+        Ok(())
+    }
+
+    /// The entry before those that came is held: the log takes them up, and what the leader committed of them is applied.
+    fn accept_append(
+        &mut self,
+        from: ServerId,
+        head: &AppendHead,
+        entries: Vec<Entry<Coded<M>>>,
+        outbox: &mut Outbox,
+    ) -> Result<(), NoMemory>
+        requires up { is_up self.old.server.mode ≡ true }
+        requires other { from ≢ self.old.me }
+        requires later { self.old.server.term ≤ head.now.term }
+        requires held { (nat_le head.now.prev_index self.old.server.commit || has self.old.server.log head.now.prev_index head.now.prev_term) ≡ true }
+        requires places { head.now.prev_index + length entries.items < 2 ^ 40 }
+        ensures taken { OnOk result (Turned M.meaning self.old self.new outbox.old outbox.new (follows_append self.old.me (following (met head.now.term self.old.server) from) from head.now.prev_index head.now.prev_term head.now.commit entries.items)) }
+        ensures lost { OnErr result (Lost self.old self.new outbox.old outbox.new) }
+    {
+        // From here on an early return leaves the server down.
+        let Some(mut machine) = self.machine.take() else {
+            unreachable!()
+        };
+        let Some(reached) = Index::new(head.prev_index.get() + entries.len() as u64) else {
+            unreachable!()
+        };
+        let reply = AppendReply {
+            term: head.term,
+            asked: head.term,
+            ok: true,
+            at: reached,
+        };
+        send(outbox, self.me, from, Body::<M>::AppendReply(reply))?;
+        let commit = self.commit.get();
+        let Some(risen) = Index::new(commit.max(head.commit.get().min(reached.get()))) else {
+            unreachable!()
+        };
+        // The one change of the log comes last, and is whole or not at all.
+        adopt(
+            &mut self.log,
+            &mut machine,
+            commit,
+            risen.get(),
+            head.prev_index.get(),
+            entries,
+        )?;
+        self.commit = risen;
+        self.role = Role::Follower;
+        self.machine = Some(machine);
+        self.follow(from, head.term);
+        Ok(())
+    }
+
+    /// Entries come, or none: a leader is heard of.
+    pub(super) fn append(
+        &mut self,
+        from: ServerId,
+        message: Append<M>,
+        outbox: &mut Outbox,
+    ) -> Result<(), NoMemory>
+        requires up { is_up self.old.server.mode ≡ true }
+        requires other { from ≢ self.old.me }
+        ensures taken { OnOk result (Turned M.meaning self.old self.new outbox.old outbox.new (receives M.meaning.noop self.old.size self.old.me (met message.head.term self.old.server) from message.head.term (AppendBody message.head.prev_index message.head.prev_term message.head.commit message.entries))) }
+        ensures lost { OnErr result (Lost self.old self.new outbox.old outbox.new) }
+    {
+        let (head, entries) = message.into_parts();
+        let (term, its_term) = (self.term.get(), head.term.get());
+        if its_term < term {
+            let reply = AppendReply {
+                term: self.term,
+                asked: head.term,
+                ok: false,
+                at: Index::ZERO,
+            };
+            return send(outbox, self.me, from, Body::<M>::AppendReply(reply));
+        }
+        if its_term == term && self.is_leader() {
+            return Ok(());
+        }
+        let prev = head.prev_index.get();
+        if stays(&self.log, self.commit.get(), prev, head.prev_term) {
+            self.accept_append(from, &head, entries, outbox)
+        } else {
+            self.refuse_append(from, &head, outbox)
+        }
+    }
+}

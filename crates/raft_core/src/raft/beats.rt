@@ -1,0 +1,103 @@
+//! What a leader sends at a beat. (Raft, extended version 2014, section 5.3, and Figure 2, leaders.)
+
+ghost use Rattle.std.specs.Prelude.{◌≡◌, ◌≢◌, ◌-◌, ◌^◌, ◌<◌, ◌≤◌, ◌∷◌, [], true, ℕ, length, slice_index, take, drop, OnOk, OnErr};
+ghost use Rattle.raft_model.specs.Messages.{to_others};
+ghost use Rattle.raft_model.specs.Quorums.{number};
+ghost use Rattle.raft_model.specs.Servers.{is_up, is_leader, beats};
+ghost use Rattle.raft_core.specs.Beats.{append_from};
+ghost use Rattle.raft_core.specs.Frames.{Sends};
+ghost use Rattle.raft_core.specs.Turns.{Turned, Lost, Sent};
+
+use super::Raft;
+use super::votes::server_at;
+use crate::log::term_at;
+use crate::role::Role;
+use machine::{Coded, Entry, Machine};
+use rows::{Index, NoMemory, ServerId, Term};
+use wire::{AppendHead, Outbox};
+
+/// The entries behind an index, at most 32: no Append has more.
+fn entries_behind<M: Machine>(log: &[Entry<Coded<M>>], index: u64) -> &[Entry<Coded<M>>]
+    requires { index < 2 ^ 40 }
+    ensures { result.now ≡ take 32 (drop index log.now) }
+{
+    let start = (index as usize).min(log.len());
+    let end = (start + 32).min(log.len());
+    &log[start..end]
+}
+
+/// Sends another server the entries of the log from index `next` on, at most 32.
+#[tactic(auto, using(crate::proofs::Sends::may_go_between))]
+fn send_from<M: Machine>(
+    outbox: &mut Outbox,
+    me: ServerId,
+    to: ServerId,
+    term: Term,
+    commit: Index,
+    log: &[Entry<Coded<M>>],
+    next: u64,
+) -> Result<(), NoMemory>
+    requires other { me ≢ to }
+    requires least { 1 ≤ next }
+    requires most { next ≤ 2 ^ 40 }
+    requires short { length log.now < 2 ^ 40 }
+    ensures ok { OnOk result (Sends M.meaning outbox.old outbox.new (append_from me term commit log.now next to ∷ [])) }
+    ensures err { OnErr result (outbox.new ≡ outbox.old) }
+{
+    let Some(prev_index) = Index::new(next - 1) else {
+        unreachable!()
+    };
+    let head = AppendHead {
+        term,
+        prev_index,
+        prev_term: term_at(log, prev_index.get()),
+        commit,
+    };
+    outbox.send_append(me, to, &head, entries_behind(log, prev_index.get()))
+}
+
+/// Sends all others the entries from their next indexes on, in rising number.
+fn send_to_others<M: Machine>(
+    outbox: &mut Outbox,
+    me: ServerId,
+    term: Term,
+    commit: Index,
+    log: &[Entry<Coded<M>>],
+    next: &[u64],
+) -> Result<(), NoMemory>
+    requires few { length next.now ≤ 5 }
+    requires least { (j : ℕ) → j < length next.now → 1 ≤ slice_index next.now j }
+    requires most { (j : ℕ) → slice_index next.now j ≤ 2 ^ 40 }
+    requires short { length log.now < 2 ^ 40 }
+    ensures ok { OnOk result (Sends M.meaning outbox.old outbox.new (to_others me (λ to. append_from me term commit log.now (number next.now to) to) (length next.now))) }
+    ensures err { OnErr result (Sent outbox.old outbox.new) }
+{
+    for (place, first) in next.iter().enumerate() {
+        if place != me.place() {
+            send_from(outbox, me, server_at(place), term, commit, log, *first)?;
+        }
+    }
+    Ok(())
+}
+
+impl<M: Machine> Raft<M> {
+    /// A leader sends to each other server; others send nothing, and take no memory.
+    pub(super) fn beat(&self, outbox: &mut Outbox) -> Result<(), NoMemory>
+        requires { is_up self.now.server.mode ≡ true }
+        ensures taken { OnOk result (Turned M.meaning self.now self.now outbox.old outbox.new (record { server = self.now.server; sent = beats self.now.size self.now.me self.now.server self.now.server.mode })) }
+        ensures lost { OnErr result ((is_leader self.now.server.mode ≡ true) × Lost self.now self.now outbox.old outbox.new) }
+    {
+        match self.role {
+            Role::Follower => Ok(()),
+            Role::Candidate => Ok(()),
+            Role::Leader => send_to_others(
+                outbox,
+                self.me,
+                self.term,
+                self.commit,
+                &self.log,
+                &self.next,
+            ),
+        }
+    }
+}

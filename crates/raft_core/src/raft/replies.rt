@@ -1,0 +1,121 @@
+//! Answers to what a leader sent. (Raft, extended version 2014, section 5.3, and section 5.4.2.)
+
+ghost use Rattle.std.specs.Prelude.{◌≡◌, ◌^◌, ◌<◌, true, length, max, min, suc, ◌-◌, nat_le, if◌then◌else◌, slice_set, OnOk, OnErr};
+ghost use Rattle.raft_model.specs.Servers.{is_up, met, crashed};
+ghost use Rattle.raft_model.specs.Steps.{receives};
+ghost use Rattle.raft_model.specs.Messages.{AppendReply as AppendReplyBody};
+ghost use Rattle.raft_model.specs.Quorums.{number};
+ghost use Rattle.raft_core.specs.Replies.{hears, next_after, match_after};
+
+use super::Raft;
+use crate::commit::advance;
+use crate::role::Role;
+use machine::Machine;
+use rows::{Index, NoMemory, ServerId};
+use wire::AppendReply;
+
+/// Another server holds its log up to `at`: its match index is no less, and its next index follows. What is past the
+/// leader's last entry counts for nothing.
+fn acknowledge(next: &mut [u64], matched: &mut [u64], last: u64, from: ServerId, at: Index)
+    requires next_each { from < length next.old }
+    requires matched_each { from < length matched.old }
+    requires level { number matched.old from < 2 ^ 40 }
+    ensures next { next.new ≡ if nat_le at last then slice_set next.old from (suc (max (number matched.old from) at)) else next.old }
+    ensures matched { matched.new ≡ if nat_le at last then slice_set matched.old from (max (number matched.old from) at) else matched.old }
+{
+    let place = from.place();
+    if at.get() <= last {
+        let level = matched[place].max(at.get());
+        matched[place] = level;
+        next[place] = level + 1;
+    }
+}
+
+/// Another server refuses: the leader tries one earlier at least, and no earlier than what that server is known to hold.
+fn back_off(next: &mut [u64], matched: &[u64], from: ServerId, at: Index)
+    requires next_each { from < length next.old }
+    requires matched_each { from < length matched.now }
+    requires level { number matched.now from < 2 ^ 40 }
+    ensures { next.new ≡ slice_set next.old from (max (suc (number matched.now from)) (min (number next.old from - 1) (suc at))) }
+{
+    let place = from.place();
+    let earlier = next[place].saturating_sub(1).min(at.get() + 1);
+    next[place] = earlier.max(matched[place] + 1);
+}
+
+/// What an answer tells of another server's log.
+fn learn(
+    next: &mut [u64],
+    matched: &mut [u64],
+    last: u64,
+    from: ServerId,
+    ok: bool,
+    at: Index,
+)
+    requires next_each { from < length next.old }
+    requires matched_each { from < length matched.old }
+    requires level { number matched.old from < 2 ^ 40 }
+    ensures next { next.new ≡ next_after last from ok at next.old matched.old }
+    ensures matched { matched.new ≡ match_after last from ok at matched.old }
+{
+    if ok {
+        acknowledge(next, matched, last, from, at);
+    } else {
+        back_off(next, matched, from, at);
+    }
+}
+
+impl<M: Machine> Raft<M> {
+    /// A leader hears what another server holds, or that it refuses; then its commit index rises.
+    fn hear(&mut self, from: ServerId, ok: bool, at: Index) -> Result<(), NoMemory>
+        requires up { is_up self.old.server.mode ≡ true }
+        requires member { from < self.old.size }
+        ensures same { (self.new.me ≡ self.old.me) × (self.new.size ≡ self.old.size) }
+        ensures heard { OnOk result (self.new.server ≡ hears self.old.size self.old.me self.old.server from ok at self.old.server.mode) }
+        ensures lost { OnErr result (crashed self.new.server ≡ crashed self.old.server) }
+    {
+        match self.role {
+            Role::Follower => Ok(()),
+            Role::Candidate => Ok(()),
+            Role::Leader => {
+                // From here on an early return leaves the server down.
+                let Some(mut machine) = self.machine.take() else {
+                    unreachable!()
+                };
+                let last = self.log.len() as u64;
+                learn(&mut self.next, &mut self.matched, last, from, ok, at);
+                self.commit = advance(
+                    &mut machine,
+                    self.me,
+                    self.commit,
+                    self.term,
+                    &self.log,
+                    &self.matched,
+                )?;
+                self.machine = Some(machine);
+                Ok(())
+            }
+        }
+    }
+    /// An answer to an Append counts where it answers one of this term, and the server leads.
+    pub(super) fn append_reply(
+        &mut self,
+        from: ServerId,
+        reply: &AppendReply,
+    ) -> Result<(), NoMemory>
+        requires up { is_up self.old.server.mode ≡ true }
+        requires member { from < self.old.size }
+        ensures same { (self.new.me ≡ self.old.me) × (self.new.size ≡ self.old.size) }
+        ensures taken { OnOk result (self.new.server ≡ (receives M.meaning.noop self.old.size self.old.me (met reply.now.term self.old.server) from reply.now.term (AppendReplyBody reply.now.asked reply.now.ok reply.now.at)).server) }
+        ensures lost { OnErr result (crashed self.new.server ≡ crashed self.old.server) }
+    {
+        if self.term.get() < reply.term.get() {
+            self.meet(reply.term);
+            return Ok(());
+        }
+        if reply.asked.get() != self.term.get() {
+            return Ok(());
+        }
+        self.hear(from, reply.ok, reply.at)
+    }
+}

@@ -1,0 +1,12 @@
+use Rattle.std.proofs.Common.{◌≡◌, [], sym, subst}
+use Rattle.world.proofs.Events.{read_again}
+use Rattle.world.proofs.event.command_again.Goals as goal
+
+pub returns-in-Ok : goal.returns-in-Ok
+returns-in-Ok g c =
+    let commands = g.M.Machine.meaning.commands in
+    let wrote = c.in_ok-write_command.ensures in
+    let same : c.in-Ok.again ≡ c.args.command.now =
+    read_again commands c.args.command.now c.in-Ok.again c.in-Ok.field-0-1 c.deref.result.now c.new-text.result.items c.write_command.new.out.items c.new-text.ensures.items wrote.1 c.deref.ensures.value c.in-Ok.ensures
+    (c.commands_are_whole.ensures.read c.args.command.now [] wrote.0) in
+    (same, subst (λ x. commands.Fits x) (sym same) wrote.0)
