@@ -1,0 +1,23 @@
+use Rattle.std.proofs.Common.{◌≡◌, sym, ap, ◌∙◌}
+use Rattle.fsm_state.specs.Words.{State}
+use Rattle.fsm_state.specs.Effect.{altered, told_all}
+use Rattle.fsm_state.specs.StopLaws.{told_is, touched_told}
+use Rattle.fsm_state.proofs.Turns.{turned, touched_both}
+use Rattle.fsm_state.proofs.cluster.Cluster.report.Goals as goal
+
+pub touch-requires : goal.touch-requires
+touch-requires c =
+    let s = c.args.self.now in
+    let e : c.take_reports.new.self ≡ altered (told_all c.args.node c.args.reports.now) s = c.in_ok-names.ensures.state ∙ told_is c.args.node c.args.reports.now s (record { nodes = c.ranges-2.ensures.tables.nodes.rising; allocs = c.ranges-2.ensures.tables.allocs.rising }) in
+    c.requires ∙ sym (ap (λ (t : State). t.count) e)
+
+pub returns : goal.returns
+returns c =
+    let s = c.args.self.now in
+    let n = c.args.node in
+    let rs = c.args.reports.now in
+    let e : c.take_reports.new.self ≡ altered (told_all n rs) s = c.in_ok-names.ensures.state ∙ told_is n rs s (record { nodes = c.ranges-2.ensures.tables.nodes.rising; allocs = c.ranges-2.ensures.tables.allocs.rising }) in
+    turned c.touch.result c.touch.new.self _ _
+    (touched_both _ _ _ _ (c.as_slice.ensures ∙ c.in_ok-names.ensures.names) e
+    ∙ sym (touched_told n rs s (altered (told_all n rs) s) (record { nodes = c.ranges-2.ensures.tables.nodes.rising; allocs = c.ranges-2.ensures.tables.allocs.rising })))
+    c.touch.ensures

@@ -1,0 +1,12 @@
+use Rattle.fsm_state.specs.SafeLaws.{keeps_safe}
+use Rattle.fsm_state.specs.StateLaws.{applied_are_tables, refusal_is_its_own}
+use Rattle.fsm_state.proofs.laws.commands_are_lawful.Goals as goal
+
+pub returns-clause-safe : goal.returns-clause-safe
+returns-clause-safe c = keeps_safe
+
+pub returns-clause-tables : goal.returns-clause-tables
+returns-clause-tables c = applied_are_tables
+
+pub returns-clause-own : goal.returns-clause-own
+returns-clause-own c = refusal_is_its_own

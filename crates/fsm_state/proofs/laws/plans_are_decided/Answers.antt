@@ -1,0 +1,11 @@
+use Rattle.fsm_state.specs.PlanLaws.{plan_is_safe, safe_is_plan, used_planned}
+use Rattle.fsm_state.proofs.laws.plans_are_decided.Goals as goal
+
+pub returns-clause-safe : goal.returns-clause-safe
+returns-clause-safe c = plan_is_safe
+
+pub returns-clause-needs : goal.returns-clause-needs
+returns-clause-needs c = safe_is_plan
+
+pub returns-clause-uses : goal.returns-clause-uses
+returns-clause-uses c = used_planned

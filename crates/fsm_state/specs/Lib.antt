@@ -1,0 +1,16 @@
+pub mod Words
+pub mod Safe
+pub mod Effect
+pub mod Admission
+pub mod SafeFacts
+pub mod SafeLaws
+pub mod StateLaws
+pub mod UseLaws
+pub mod PlanLaws
+pub mod Steps
+pub mod StepLaws
+pub mod StopLaws
+pub mod RangeLaws
+pub mod Worked
+pub mod Reports
+pub mod ClusterMachine

@@ -1,0 +1,135 @@
+//! The effect of each command.
+ghost use Rattle.std.specs.Prelude.{◌≡◌, ◌+◌, ◌<◌, ◌^◌, OnOk, map};
+ghost use Rattle.fsm_state.specs.Effect.{applied as after_command, touched, is_named, with_job, without_job, without_node, draining, drained, migrated, with_status, planned, reported};
+
+use crate::cluster::Cluster;
+use rows::{
+    AcceptedPlan, AllocId, Command, EntryIndex, EvalId, JobName, JobSpec, NoMemory, NodeId, Report,
+    StatusChange,
+};
+
+impl Cluster {
+    /// Makes or replaces a job, and touches it.
+    #[tactic(auto, using(crate::specs::StepLaws::touched_name))]
+    fn job_put(&mut self, entry: EntryIndex, spec: &JobSpec) -> Result<(), NoMemory>
+        requires { entry ≡ self.old.count }
+        ensures { OnOk result (self.new ≡ touched (is_named spec.now.name) (with_job spec.now self.old)) }
+    {
+        self.make_job(spec)?;
+        self.touch(entry, &[spec.name])
+    }
+
+    /// Stops a job, and touches it.
+    #[tactic(auto, using(crate::specs::StepLaws::touched_name))]
+    fn job_stop(&mut self, entry: EntryIndex, name: &JobName) -> Result<(), NoMemory>
+        requires { entry ≡ self.old.count }
+        ensures { OnOk result (self.new ≡ touched (is_named name.now) (without_job name.now self.old)) }
+    {
+        self.ranges();
+        self.end_job(name)?;
+        self.touch(entry, &[*name])
+    }
+
+    /// A node is down: what waits or runs on it is lost, and the jobs of what was live are touched.
+    fn node_down(&mut self, entry: EntryIndex, number: NodeId) -> Result<(), NoMemory>
+        requires { entry ≡ self.old.count }
+        ensures { OnOk result (self.new ≡ without_node number self.old) }
+    {
+        self.ranges();
+        let names = self.jobs_on(number)?;
+        self.set_down(number)?;
+        self.lose(number)?;
+        self.touch(entry, names.as_slice())
+    }
+
+    /// Begins to empty a node.
+    fn begin_drain(&mut self, number: NodeId, force: bool) -> Result<(), NoMemory>
+        ensures { OnOk result (self.new ≡ record self.old { nodes = map (draining number force) self.old.nodes }) }
+    {
+        self.ranges();
+        self.set_draining(number, force)
+    }
+
+    /// Ends the emptying of a node.
+    fn end_drain(&mut self, number: NodeId) -> Result<(), NoMemory>
+        ensures { OnOk result (self.new ≡ record self.old { nodes = map (drained number) self.old.nodes }) }
+    {
+        self.ranges();
+        self.set_drained(number)
+    }
+
+    /// Marks allocations, and touches their jobs.
+    fn migrate(&mut self, entry: EntryIndex, ids: &[AllocId]) -> Result<(), NoMemory>
+        requires { entry ≡ self.old.count }
+        ensures { OnOk result (self.new ≡ migrated ids.now self.old) }
+    {
+        self.ranges();
+        let names = self.jobs_of(ids)?;
+        self.mark_all(ids)?;
+        self.touch(entry, names.as_slice())
+    }
+
+    /// Touches a job.
+    #[tactic(auto, using(crate::specs::StepLaws::touched_name))]
+    fn eval_put(&mut self, entry: EntryIndex, name: &JobName) -> Result<(), NoMemory>
+        requires { entry ≡ self.old.count }
+        ensures { OnOk result (self.new ≡ touched (is_named name.now) self.old) }
+    {
+        self.touch(entry, &[*name])
+    }
+
+    /// Sets the status of an evaluation.
+    fn eval_status(&mut self, id: EvalId, change: &StatusChange) -> Result<(), NoMemory>
+        ensures { OnOk result (self.new ≡ with_status id change.now self.old) }
+    {
+        self.ranges();
+        self.settle(id, change)
+    }
+
+    /// Stops what a plan stops, and then makes what it places.
+    fn plan(&mut self, entry: EntryIndex, plan: &AcceptedPlan) -> Result<(), NoMemory>
+        requires { entry ≡ self.old.count }
+        ensures { OnOk result (self.new ≡ planned plan.now self.old) }
+    {
+        self.ranges();
+        self.stop_all(plan.stops.as_slice())?;
+        self.place_all(entry, plan)
+    }
+
+    /// Takes what a node reports, and touches the jobs of the allocations that ended.
+    fn report(
+        &mut self,
+        entry: EntryIndex,
+        node: NodeId,
+        reports: &[Report],
+    ) -> Result<(), NoMemory>
+        requires { entry ≡ self.old.count }
+        ensures { OnOk result (self.new ≡ reported node reports.now self.old) }
+    {
+        self.ranges();
+        let names = self.take_reports(node, reports)?;
+        self.touch(entry, names.as_slice())
+    }
+
+    /// Applies a command, whether or not the state admits it. Without memory the value is fit only to be dropped.
+    pub fn execute(&mut self, command: &Command) -> Result<(), NoMemory>
+        requires { self.old.count + 1 < 2 ^ 40 }
+        ensures { OnOk result (self.new ≡ after_command self.old command.now) }
+    {
+        let entry = self.advance();
+        match command {
+            Command::Noop => Ok(()),
+            Command::JobPut(spec) => self.job_put(entry, spec),
+            Command::JobStop(name) => self.job_stop(entry, name),
+            Command::NodePut(spec) => self.make_node(spec),
+            Command::NodeDown(number) => self.node_down(entry, *number),
+            Command::Drain(number, force) => self.begin_drain(*number, *force),
+            Command::DrainDone(number) => self.end_drain(*number),
+            Command::Migrate(ids) => self.migrate(entry, ids.as_slice()),
+            Command::EvalPut(name) => self.eval_put(entry, name),
+            Command::EvalStatus(id, change) => self.eval_status(*id, change),
+            Command::Plan(plan) => self.plan(entry, plan),
+            Command::Report(node, reports) => self.report(entry, *node, reports.as_slice()),
+        }
+    }
+}

@@ -1,0 +1,191 @@
+ghost use Rattle.std.specs.Prelude.{◌≡◌, ◌+◌, ◌<◌, ◌≤◌, ◌^◌, OnOk, option_map};
+ghost use Rattle.std.specs.Ordering.{nat_cmp};
+ghost use Rattle.std.specs.List.{slice_get};
+ghost use Rattle.rows.specs.Keys.{name_cmp, eval_cmp, alloc_cmp, job_name, node_number, eval_id, alloc_id};
+ghost use Rattle.fsm_tables.specs.Rows.{put_within as with_row};
+ghost use Rattle.fsm_tables.specs.Claims.{claims, used};
+ghost use Rattle.fsm_tables.specs.LiveNames.{live_named};
+ghost use Rattle.fsm_tables.specs.TableRows.{TablesFit};
+ghost use Rattle.fsm_state.specs.Words.{no_rows, job_of, node_of, eval_of, alloc_of};
+ghost use Rattle.fsm_state.specs.Effect.{counted};
+
+use fsm_tables::{AllocName, Table, Tables, Usage};
+use rows::{
+    AllocId, Allocation, EntryIndex, EvalId, Evaluation, Index, Job, JobName, NoMemory, Node,
+    NodeId,
+};
+use std::alloc::Global;
+use std::marker::Model;
+
+/// The replicated state of a server group: how many commands were applied, and the rows of jobs, nodes, evaluations and
+/// allocations. Contracts see the number and the four lists of rows, each in strictly rising key. (Nomad documentation,
+/// "Consensus Protocol": what the servers replicate.)
+#[derive(Drop)]
+pub struct Cluster {
+    alloc: Global,
+    count: Index,
+    tables: Tables,
+}
+
+impl Model for Cluster {
+    ghost use Rattle.rows.specs.State.{State};
+
+    ghost Value = { State };
+
+    ghost view = { λ c. record { count = c.count; jobs = c.tables.jobs; nodes = c.tables.nodes; evals = c.tables.evals; allocs = c.tables.allocs } };
+}
+
+impl Cluster {
+    /// The state before the first command. It takes no memory.
+    pub fn new(alloc: Global) -> Cluster
+        ensures { result ≡ no_rows }
+    {
+        Cluster {
+            alloc,
+            count: Index::ZERO,
+            tables: Tables::empty(alloc),
+        }
+    }
+
+    /// A state without rows, after so many commands.
+    pub(crate) fn at_count(alloc: Global, count: Index) -> Cluster
+        ensures { result ≡ record no_rows { count = count } }
+    {
+        Cluster {
+            alloc,
+            count,
+            tables: Tables::empty(alloc),
+        }
+    }
+
+    /// How many commands were applied.
+    pub fn applied(&self) -> Index
+        ensures { result ≡ self.now.count }
+    {
+        self.count
+    }
+
+    /// The row of a job, if there is one.
+    pub fn job(&self, name: &JobName) -> Option<&Job>
+        ensures { option_map (λ row. row.now) result ≡ job_of name.now self.now }
+    {
+        self.tables.job(name)
+    }
+
+    /// The row of a node, if there is one.
+    pub fn node(&self, number: NodeId) -> Option<&Node>
+        ensures { option_map (λ row. row.now) result ≡ node_of number self.now }
+    {
+        self.tables.node(number)
+    }
+
+    /// The row of an evaluation, if there is one.
+    pub fn eval(&self, id: EvalId) -> Option<&Evaluation>
+        ensures { option_map (λ row. row.now) result ≡ eval_of id self.now }
+    {
+        self.tables.eval(id)
+    }
+
+    /// The row of an allocation, if there is one.
+    pub fn alloc(&self, id: AllocId) -> Option<&Allocation>
+        ensures { option_map (λ row. row.now) result ≡ alloc_of id self.now }
+    {
+        self.tables.alloc(id)
+    }
+
+    /// The live allocation of a name, if there is one: that of the least id, where several have the name.
+    pub fn live_named(&self, name: &AllocName) -> Option<&Allocation>
+        ensures { option_map (λ row. row.now) result ≡ live_named name.now self.now.allocs }
+    {
+        self.tables.live_named(name)
+    }
+
+    /// What the live allocations on a node take of it: the sums of their processor time and of their memory.
+    pub fn used(&self, node: NodeId) -> Usage
+        ensures cpu { result.cpu ≡ (used node (claims self.now.allocs)).cpu }
+        ensures mem { result.mem ≡ (used node (claims self.now.allocs)).mem }
+    {
+        self.tables.used(node)
+    }
+
+    /// The jobs, by name.
+    pub fn job_table(&self) -> &Table<Job>
+        ensures rows { result.now ≡ self.now.jobs }
+    {
+        self.tables.jobs()
+    }
+
+    /// The nodes, by number.
+    pub fn node_table(&self) -> &Table<Node>
+        ensures rows { result.now ≡ self.now.nodes }
+    {
+        self.tables.nodes()
+    }
+
+    /// The evaluations, by id.
+    pub fn eval_table(&self) -> &Table<Evaluation>
+        ensures rows { result.now ≡ self.now.evals }
+    {
+        self.tables.evals()
+    }
+
+    /// The allocations, by id.
+    pub fn alloc_table(&self) -> &Table<Allocation>
+        ensures rows { result.now ≡ self.now.allocs }
+    {
+        self.tables.allocs()
+    }
+
+    /// Says what the tables keep. It does nothing.
+    pub(crate) fn ranges(&self)
+        ensures count { self.now.count < 2 ^ 40 }
+        ensures tables { TablesFit (record { jobs = self.now.jobs; nodes = self.now.nodes; evals = self.now.evals; allocs = self.now.allocs }) }
+    {
+        let _count = self.count.get();
+        self.tables.ranges();
+    }
+
+    /// Where it takes its memory from.
+    pub(crate) fn memory(&self) -> Global {
+        self.alloc
+    }
+
+    /// One more command.
+    pub(crate) fn advance(&mut self) -> EntryIndex
+        requires { self.old.count + 1 < 2 ^ 40 }
+        ensures state { self.new ≡ counted self.old }
+        ensures entry { result ≡ self.old.count + 1 }
+    {
+        let entry = EntryIndex::after(self.count);
+        self.count = entry.index();
+        entry
+    }
+
+    /// Makes or replaces the row of the job.
+    pub(crate) fn put_job(&mut self, row: Job) -> Result<(), NoMemory>
+        ensures { OnOk result (self.new ≡ record self.old { jobs = with_row name_cmp job_name 256 row self.old.jobs }) }
+    {
+        self.tables.put_job(row)
+    }
+
+    /// Makes or replaces the row of the node.
+    pub(crate) fn put_node(&mut self, row: Node) -> Result<(), NoMemory>
+        ensures { OnOk result (self.new ≡ record self.old { nodes = with_row nat_cmp node_number 64 row self.old.nodes }) }
+    {
+        self.tables.put_node(row)
+    }
+
+    /// Makes or replaces the row of the evaluation.
+    pub(crate) fn put_eval(&mut self, row: Evaluation) -> Result<(), NoMemory>
+        ensures { OnOk result (self.new ≡ record self.old { evals = with_row eval_cmp eval_id 65536 row self.old.evals }) }
+    {
+        self.tables.put_eval(row)
+    }
+
+    /// Makes or replaces the row of the allocation.
+    pub(crate) fn put_alloc(&mut self, row: Allocation) -> Result<(), NoMemory>
+        ensures { OnOk result (self.new ≡ record self.old { allocs = with_row alloc_cmp alloc_id 65536 row self.old.allocs }) }
+    {
+        self.tables.put_alloc(row)
+    }
+}

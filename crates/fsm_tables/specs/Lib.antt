@@ -1,0 +1,7 @@
+pub mod Rows
+pub mod RowLaws
+pub mod SetLaws
+pub mod TableRows
+pub mod Claims
+pub mod LiveNames
+pub mod Sums

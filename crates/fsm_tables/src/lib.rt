@@ -1,0 +1,14 @@
+//! Tables of the replicated state: rows in the order of their keys, the look-ups, and what the live allocations use.
+#![tactic(auto)]
+
+mod allocations;
+mod keys;
+mod name;
+mod table;
+mod tables;
+mod usage;
+
+pub use name::AllocName;
+pub use table::{Row, Table};
+pub use tables::Tables;
+pub use usage::{Usage, is_live};

@@ -1,0 +1,181 @@
+ghost use Rattle.std.specs.Prelude.{◌≡◌, List, [], OnOk, OnErr, option_map, length};
+ghost use Rattle.std.specs.List.{slice_get};
+ghost use Rattle.std.specs.Ordering.{nat_cmp};
+ghost use Rattle.rows.specs.Keys.{name_cmp, eval_cmp, alloc_cmp, job_name, node_number, eval_id, alloc_id};
+ghost use Rattle.fsm_tables.specs.Rows.{row_of, put_within as with_row};
+ghost use Rattle.fsm_tables.specs.Claims.{claims, used};
+ghost use Rattle.fsm_tables.specs.LiveNames.{live_named};
+ghost use Rattle.fsm_tables.specs.TableRows.{no_rows, TablesFit};
+
+use crate::allocations::Allocations;
+use crate::name::AllocName;
+use crate::table::Table;
+use crate::usage::Usage;
+use rows::{AllocId, Allocation, EvalId, Evaluation, Job, JobName, NoMemory, Node, NodeId};
+use std::alloc::Global;
+use std::marker::Model;
+
+/// The four tables: at most 256 jobs by name, 64 nodes by number, 65,536 evaluations and 65,536 allocations by id. Contracts
+/// see the lists of their rows, each in strictly rising key.
+#[derive(Drop)]
+pub struct Tables {
+    jobs: Table<Job>,
+    nodes: Table<Node>,
+    evals: Table<Evaluation>,
+    allocs: Allocations,
+}
+
+impl Model for Tables {
+    ghost use Rattle.std.specs.Prelude.{◌≤◌, length};
+    ghost use Rattle.fsm_tables.specs.TableRows.{TableRows};
+
+    ghost Value = { TableRows };
+
+    ghost view = { λ t. record { jobs = t.jobs; nodes = t.nodes; evals = t.evals; allocs = t.allocs } };
+
+    ghost invariant = { λ t. record { jobs : length t.jobs ≤ 256; nodes : length t.nodes ≤ 64; evals : length t.evals ≤ 65536 } };
+}
+
+impl Tables {
+    /// The greatest number of jobs: 256.
+    pub const MOST_JOBS: usize = 256;
+
+    /// The greatest number of nodes: 64.
+    pub const MOST_NODES: usize = 64;
+
+    /// The greatest number of evaluations: 65,536.
+    pub const MOST_EVALS: usize = 65_536;
+
+    /// The greatest number of allocations: 65,536.
+    pub const MOST_ALLOCS: usize = Allocations::MOST;
+
+    /// The tables without rows. It takes no memory.
+    pub fn empty(alloc: Global) -> Tables
+        ensures { result ≡ no_rows }
+    {
+        Tables {
+            jobs: Table::empty(alloc),
+            nodes: Table::empty(alloc),
+            evals: Table::empty(alloc),
+            allocs: Allocations::empty(alloc),
+        }
+    }
+
+    /// The row of a job, if there is one.
+    pub fn job(&self, name: &JobName) -> Option<&Job>
+        ensures { option_map (λ row. row.now) result ≡ row_of name_cmp job_name name.now self.now.jobs }
+    {
+        self.jobs.get(name)
+    }
+
+    /// The row of a node, if there is one.
+    pub fn node(&self, number: NodeId) -> Option<&Node>
+        ensures { option_map (λ row. row.now) result ≡ row_of nat_cmp node_number number self.now.nodes }
+    {
+        self.nodes.get(&number)
+    }
+
+    /// The row of an evaluation, if there is one.
+    pub fn eval(&self, id: EvalId) -> Option<&Evaluation>
+        ensures { option_map (λ row. row.now) result ≡ row_of eval_cmp eval_id id self.now.evals }
+    {
+        self.evals.get(&id)
+    }
+
+    /// The row of an allocation, if there is one.
+    pub fn alloc(&self, id: AllocId) -> Option<&Allocation>
+        ensures { option_map (λ row. row.now) result ≡ row_of alloc_cmp alloc_id id self.now.allocs }
+    {
+        self.allocs.get(&id)
+    }
+
+    /// The live allocation of a name, if there is one: that of the least id, where several have the name.
+    pub fn live_named(&self, name: &AllocName) -> Option<&Allocation>
+        ensures { option_map (λ row. row.now) result ≡ live_named name.now self.now.allocs }
+    {
+        self.allocs.live_named(name)
+    }
+
+    /// What the live allocations on a node take of it: the sums of their processor time and of their memory. It takes one
+    /// step.
+    pub fn used(&self, node: NodeId) -> Usage
+        ensures cpu { result.cpu ≡ (used node (claims self.now.allocs)).cpu }
+        ensures mem { result.mem ≡ (used node (claims self.now.allocs)).mem }
+    {
+        self.allocs.used(node)
+    }
+
+    /// The jobs, by name.
+    pub fn jobs(&self) -> &Table<Job>
+        ensures { result.now ≡ self.now.jobs }
+    {
+        &self.jobs
+    }
+
+    /// The nodes, by number.
+    pub fn nodes(&self) -> &Table<Node>
+        ensures { result.now ≡ self.now.nodes }
+    {
+        &self.nodes
+    }
+
+    /// The evaluations, by id.
+    pub fn evals(&self) -> &Table<Evaluation>
+        ensures { result.now ≡ self.now.evals }
+    {
+        &self.evals
+    }
+
+    /// The allocations, by id.
+    pub fn allocs(&self) -> &Table<Allocation>
+        ensures { result.now ≡ self.now.allocs }
+    {
+        self.allocs.rows()
+    }
+
+    /// Says what the tables keep: strictly rising keys, their limits, and the ranges of their rows' parts. It does nothing.
+    pub fn ranges(&self)
+        ensures { TablesFit self.now }
+    {
+        let _jobs = self.jobs.rows();
+        let _nodes = self.nodes.rows();
+        let _evals = self.evals.rows();
+        let _allocs = self.allocs.rows().rows();
+    }
+
+    /// Makes or replaces the row of the job, and changes no other; a new row is not made where there are 256. Without memory
+    /// nothing changes.
+    pub fn put_job(&mut self, row: Job) -> Result<(), NoMemory>
+        ensures ok { OnOk result (self.new ≡ record self.old { jobs = with_row name_cmp job_name 256 row self.old.jobs }) }
+        ensures err { OnErr result (self.new ≡ self.old) }
+    {
+        self.jobs.put_within(Tables::MOST_JOBS, row)
+    }
+
+    /// Makes or replaces the row of the node, and changes no other; a new row is not made where there are 64. Without memory
+    /// nothing changes.
+    pub fn put_node(&mut self, row: Node) -> Result<(), NoMemory>
+        ensures ok { OnOk result (self.new ≡ record self.old { nodes = with_row nat_cmp node_number 64 row self.old.nodes }) }
+        ensures err { OnErr result (self.new ≡ self.old) }
+    {
+        self.nodes.put_within(Tables::MOST_NODES, row)
+    }
+
+    /// Makes or replaces the row of the evaluation, and changes no other; a new row is not made where there are 65,536.
+    /// Without memory nothing changes.
+    pub fn put_eval(&mut self, row: Evaluation) -> Result<(), NoMemory>
+        ensures ok { OnOk result (self.new ≡ record self.old { evals = with_row eval_cmp eval_id 65536 row self.old.evals }) }
+        ensures err { OnErr result (self.new ≡ self.old) }
+    {
+        self.evals.put_within(Tables::MOST_EVALS, row)
+    }
+
+    /// Makes or replaces the row of the allocation, and changes no other; a new row is not made where there are 65,536.
+    /// Without memory nothing changes.
+    pub fn put_alloc(&mut self, row: Allocation) -> Result<(), NoMemory>
+        ensures ok { OnOk result (self.new ≡ record self.old { allocs = with_row alloc_cmp alloc_id 65536 row self.old.allocs }) }
+        ensures err { OnErr result (self.new ≡ self.old) }
+    {
+        self.allocs.put(row)
+    }
+}

@@ -1,0 +1,77 @@
+ghost use Rattle.std.specs.Prelude.{◌≡◌, ◌≤◌, ◌<◌, ◌+◌, ◌^◌, ℕ, Some, cond, nat_eq, slice_index, option_map};
+ghost use Rattle.fsm_tables.specs.Claims.{is_live as lives};
+ghost use Rattle.fsm_tables.specs.Sums.{IsShare};
+
+use rows::{Allocation, ClientState, Desired};
+
+/// What the live allocations on a node take of it together: sums of processor time in MHz and of memory in MB.
+#[derive(Clone, Copy, Debug, PartialEq, Eq)]
+pub struct Usage {
+    /// Processor time, in MHz.
+    pub cpu: u64,
+    /// Memory, in MB.
+    pub mem: u64,
+}
+
+/// What one row takes of its node; of node 0, which is none, where it takes nothing of any.
+#[derive(Clone, Copy)]
+pub(crate) struct Share {
+    pub node: usize,
+    pub cpu: u64,
+    pub mem: u64,
+}
+
+/// Whether an allocation is live: it is to run, and its node says that it waits or runs. Only live ones hold room and a
+/// name. (Nomad documentation, "Allocations": desired status and client status.)
+pub fn is_live(row: &Allocation) -> bool
+    ensures { result ≡ lives row.now }
+{
+    let is_active = match row.client {
+        ClientState::Pending | ClientState::Running => true,
+        ClientState::Complete | ClientState::Failed | ClientState::Lost => false,
+    };
+    match row.desired {
+        Desired::Run => is_active,
+        Desired::Stop => false,
+    }
+}
+
+/// What a row takes of its node.
+#[tactic(auto, using(crate::proofs::Sums::share_is))]
+fn held(row: &Allocation) -> Share
+    ensures { IsShare (Some row.now) result }
+{
+    let live = is_live(row);
+    let cpu = row.size.cpu.get() as u64;
+    let mem = row.size.mem.get() as u64;
+    Share {
+        node: row.node.number() as usize,
+        cpu: if live { cpu } else { 0 },
+        mem: if live { mem } else { 0 },
+    }
+}
+
+/// The same, where there may be no row.
+pub(crate) fn held_by(row: Option<&Allocation>) -> Share
+    ensures { IsShare (option_map (λ r. r.now) row.entry) result }
+{
+    match row {
+        Some(row) => held(row),
+        None => Share {
+            node: 0,
+            cpu: 0,
+            mem: 0,
+        },
+    }
+}
+
+/// Gives one node's sum more, and then takes from another's.
+pub(crate) fn shift(sums: &mut [u64; 65], to: (usize, u64), from: (usize, u64))
+    requires places { (to.0 < 65) × (from.0 < 65) }
+    requires fits { slice_index sums.old to.0 + to.1 < 2 ^ 64 }
+    requires covers { from.1 ≤ slice_index sums.old from.0 + cond (nat_eq to.0 from.0) to.1 0 }
+    ensures { (n : ℕ) → n < 65 → slice_index sums.new n + cond (nat_eq from.0 n) from.1 0 ≡ slice_index sums.old n + cond (nat_eq to.0 n) to.1 0 }
+{
+    sums[to.0] += to.1;
+    sums[from.0] -= from.1;
+}
