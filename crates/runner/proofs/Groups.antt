@@ -1,5 +1,5 @@
 -- The text of groups, cut at its commas.
-use Rattle.std.proofs.Common.{◌≡◌, Bor, ◌≢◌, ◌<◌, ◌≤◌, ◌+◌, ◌∙◌, ◌++◌, ℕ, List, [], ◌∷◌, ap, arith, codes, decimal, eqb, false, get_or, length, map, refl, sym, take, true, zero, suc}
+use Rattle.std.proofs.Common.{◌≡◌, Bor, ◌≢◌, ◌<◌, ◌≤◌, ◌∙◌, ◌++◌, ℕ, List, [], ◌∷◌, ap, arith, decimal, eqb, false, get_or, length, map, refl, take, zero, suc}
 use Rattle.std.specs.List.{All, AllByRecursion, join_with_byte, slice_split}
 use Rattle.std.proofs.lemmas.Bool.{ne_eqb}
 use Rattle.std.proofs.lemmas.List.{map-append}
@@ -19,7 +19,7 @@ group_lacks g fits =
     colon (decimal g.count) _ (decimal_lacks 44 g.count (λ h. omega arith) (omega arith)) (
     colon g.class _ (name_lacks 44 g.class refl fits.2.2) (
     colon (decimal g.size.cpu) _ (decimal_lacks 44 g.size.cpu (λ h. omega arith) (omega arith))
-        (decimal_lacks 44 g.size.mem (λ h. omega arith) (omega arith)))))
+    (decimal_lacks 44 g.size.mem (λ h. omega arith) (omega arith)))))
 
 no_comma : (text : List ℕ) → Lacks 44 text → All (λ b. eqb b 44 ≡ false) text
 no_comma text lacks k d lt = ne_eqb (get_or text k d) 44 (lacks k d lt)

@@ -1,7 +1,7 @@
 -- Names, numbers and groups hold no separator, and texts that differ in a byte are not equal.
-use Rattle.std.proofs.Common.{◌≡◌, ◌==◌, ◌≢◌, ◌<◌, ◌≤◌, ◌^◌, ◌++◌, ℕ, ◌∷◌, List, IsTrue, ap, arith, decimal, false, get_or, length, rules, true}
+use Rattle.std.proofs.Common.{◌≡◌, ◌==◌, ◌≢◌, ◌<◌, ◌^◌, ℕ, List, ap, decimal, false, get_or, rules, true}
 use Rattle.std.specs.Int.{IsInRange}
-use Rattle.std.specs.List.{All, list_all}
+use Rattle.std.specs.List.{list_all}
 use Rattle.std.proofs.lemmas.Fmt.{decimal_is_IsNumeral}
 use Rattle.std.proofs.lemmas.List.Elements.{All-from_get_or}
 use Rattle.std.proofs.lemmas.List.Sums.{AllPass-from_list_all}

@@ -1,5 +1,5 @@
 -- The text of requests.
-use Rattle.std.specs.Prelude.{◌≡◌, ◌≢◌, ◌++◌, ℕ, List, [], ◌∷◌, true, false, Bool, map, codes, decimal}
+use Rattle.std.specs.Prelude.{◌≢◌, ℕ, List, [], ◌∷◌, true, false, Bool, map, codes, decimal}
 use Rattle.std.specs.List.{All, join_with_byte}
 use Rattle.rows.specs.Fits.{JobSpecFits, NodeIdFits}
 use Rattle.rows.specs.Names.{NameFits}

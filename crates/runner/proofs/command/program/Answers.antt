@@ -1,6 +1,5 @@
-use Rattle.std.proofs.Common.{◌∙◌, ◌≡◌, ap, ap₂, rules, true}
+use Rattle.std.proofs.Common.{◌∙◌, ◌≡◌, ap, ap₂, rules}
 use Rattle.clap.specs.Words.{App, app_of, with_subcommand}
-use Rattle.clap.specs.Simple.{app_of_fields}
 use Rattle.runner.specs.Words.{bare_app}
 use Rattle.runner.proofs.command.program.Goals as goal
 

@@ -1,4 +1,4 @@
-use Rattle.std.proofs.Common.{◌≡◌, ◌∙◌, ◌++◌, ◌∷◌, [], ℕ, List, Result, Ok, Err, add-one, ap, arith, eqb, length, lit<, map, refl, rules, sym, take}
+use Rattle.std.proofs.Common.{◌≡◌, ◌∙◌, ◌++◌, ◌∷◌, [], List, Result, Ok, Err, add-one, ap, arith, eqb, length, lit<, map, refl, rules, sym, take}
 use Rattle.std.specs.Result.{IfErr, IfOk}
 use Rattle.std.proofs.lemmas.List.{length-map, length_push, take_all}
 use Rattle.rows.specs.Groups.{AreGroups}
@@ -44,13 +44,13 @@ loop-part-preserved c =
       texts = rw pushed (more_texts _ _ _ _ c.loop-part.invariant.texts named.1);
       fit = rw pushed (more_fit _ _ c.loop-part.invariant.fit named.0);
       read = λ gs fits is.
-        let here = rw (← is) at turn in
-        let found = at_part gs (length c.loop-part.yielded) c.in-Some.part.now fits here.0 here.1 in
-        let read = c.read_group.ensures.read found.0 found.1 found.2 in
-        let same : c.in-Some-read_group.group ≡ found.0 = search rules in
-        let before = c.loop-part.invariant.read gs fits is in
-        let after = found.3 in
-        rw (pushed, before, same, counted, add-one, after) refl;
+          let here = rw (← is) at turn in
+          let found = at_part gs (length c.loop-part.yielded) c.in-Some.part.now fits here.0 here.1 in
+          let read = c.read_group.ensures.read found.0 found.1 found.2 in
+          let same : c.in-Some-read_group.group ≡ found.0 = search rules in
+          let before = c.loop-part.invariant.read gs fits is in
+          let after = found.3 in
+          rw (pushed, before, same, counted, add-one, after) refl;
     }
 
 pub returns-clause-read : goal.returns-clause-read

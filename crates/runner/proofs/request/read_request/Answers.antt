@@ -43,4 +43,4 @@ pub returns-then-ne-clause-read : goal.returns-then-ne-clause-read
 returns-then-ne-clause-read c r fits is =
     let called = c.read_small_request.ensures in
     small r _ _ c.read_small_request.result fits (λ front back lacks e. c.in-Some.ensures.first front back lacks (is ∙ e))
-        (λ e. search rules) called.stop called.eval called.drain
+    (λ e. search rules) called.stop called.eval called.drain

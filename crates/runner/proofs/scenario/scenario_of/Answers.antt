@@ -1,5 +1,5 @@
 use Rattle.std.proofs.Common.{◌≡◌, Err, inl, inr, map, rules, string_bytes}
-use Rattle.serde_json.specs.View.{items_of, items_view, view}
+use Rattle.serde_json.specs.View.{items_of, items_view}
 use Rattle.runner.specs.Objects.{strings}
 use Rattle.runner.proofs.Objects.{same_items}
 use Rattle.runner.proofs.scenario.scenario_of.Goals as goal

@@ -1,4 +1,4 @@
-use Rattle.std.proofs.Common.{ℕ, Option, Some, None}
+use Rattle.std.proofs.Common.{Option, Some, None}
 use Rattle.std.specs.Option.{IfSome, IsSomeAnd, MatchOption}
 use Rattle.std.proofs.lemmas.Str.Pattern.{split_after, split_parts}
 use Rattle.runner.proofs.word.cut.Goals as goal

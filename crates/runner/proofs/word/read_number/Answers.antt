@@ -1,4 +1,4 @@
-use Rattle.std.proofs.Common.{◌≡◌, ◌^◌, None, Ok, decimal, rules, sym}
+use Rattle.std.proofs.Common.{◌≡◌, Ok, decimal, rules, sym}
 use Rattle.std.proofs.lemmas.Fmt.{parse-decimal}
 use Rattle.runner.proofs.word.read_number.Goals as goal
 
