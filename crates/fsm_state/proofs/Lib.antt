@@ -3,3 +3,4 @@ pub mod Rows
 pub mod Turns
 pub mod Filling
 pub mod Admitting
+pub mod StateTexts

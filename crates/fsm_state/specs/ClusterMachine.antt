@@ -12,8 +12,8 @@ use Rattle.fields.specs.CommandLaws.{command_lawful}
 use Rattle.fields.specs.RangeLaws.{fits_state, state_fits, fits_command, command_fits}
 use Rattle.machine.specs.Meaning.{Meaning, LawfulMachine, IsMachineRefusal}
 use Rattle.fsm_state.specs.Words.{State, no_rows}
-use Rattle.fsm_state.specs.SafeFacts.{Safe, safe_by_test, test_by_safe}
-use Rattle.fsm_state.specs.SafeLaws.{admitted_is_safe}
+use Rattle.fsm_state.specs.SafeFacts.{Safe, safe_by_test}
+use Rattle.fsm_state.specs.SafeLaws.{keeps_safe}
 use Rattle.fsm_state.specs.Effect.{applied}
 use Rattle.fsm_state.specs.Admission.{admission}
 use Rattle.fsm_state.specs.StateLaws.{AreTables, IsOwn, applied_has_count, refusal_is_its_own}
@@ -95,6 +95,6 @@ cluster_lawful = record {
   count_is_below = λ s fits. (state_fits s fits).0;
   applied_fits = λ s c fits ok below. fits_state (applied s c) (fits_of_state (applied s c) (applied_is_state s c (state_of_fits s (state_fits s fits)) (command_fits c ok) below));
   applied_has_count = applied_has_count;
-  admitted_is_safe = λ s c fits ok safe none. safe_by_test (applied s c) (admitted_is_safe s c (test_by_safe s safe) none);
+  admitted_is_safe = λ s c fits ok safe none. keeps_safe s c safe none;
   refusal_is_its_own = λ s c r e. own_refusal r (refusal_is_its_own s c r e);
 }

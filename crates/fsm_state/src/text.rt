@@ -1,11 +1,29 @@
 //! A state as bytes.
+ghost use Rattle.std.specs.Prelude.{◌≡◌};
+ghost use Rattle.fields.specs.Commands.{command as text_of_command};
 ghost use Rattle.fields.specs.StateText.{state};
 ghost use Rattle.fields.specs.StateTextLaws.{state_lawful};
 
 use crate::cluster::Cluster;
 use fields::{Field, append_long_counted, read_long_ruled_list};
-use rows::{Allocation, Evaluation, Index, Job, NoMemory, Node, Refusal};
+use rows::{Allocation, Command, Evaluation, Index, Job, NoMemory, Node, Ranged, Refusal};
 use std::alloc::Global;
+
+impl Cluster {
+    /// Says that the state is one that has a text. It does nothing.
+    pub(crate) fn fits(&self)
+        ensures { state.Fits self.now }
+    {
+        self.ranges();
+    }
+}
+
+/// Says that a command is one that has a text. It does nothing.
+pub(crate) fn has_text(command: &Command)
+    ensures { text_of_command.Fits command.now }
+{
+    command.ranges();
+}
 
 /// The count in eight bytes, and then the rows of jobs, nodes, evaluations and allocations: each list is its length in four
 /// bytes, and its rows in rising key.
@@ -32,6 +50,7 @@ impl Field for Cluster {
     }
 
     fn append(&self, out: &mut Vec<u8>) -> Result<(), NoMemory> {
+        self.fits();
         self.ranges();
         self.applied().append(out)?;
         append_long_counted(self.job_table().rows(), 256, out)?;
