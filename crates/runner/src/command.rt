@@ -28,6 +28,17 @@ The file is a JSON object with exactly these keys:
     flow        messages in flight come, the first sent first, until none
                 is left or 10000 have come
     flow N      the same, for up to N of them
+    request S put NAME PRIORITY GROUPS
+                a job is put to server S; its priority is from 1 to 100; GROUPS
+                are 1 to 8 of GROUP:COUNT:CLASS:CPU:MEMORY, joined by commas,
+                with a COUNT from 0 to 64, CPU in MHz and MEMORY in MB
+    request S stop NAME
+                nothing of the job is to run any more
+    request S eval NAME
+                the job is looked at once more
+    request S drain NODE slow
+                node NODE, 1 to 64, takes no more, and what it runs moves away;
+                with 'force' in place of 'slow', all at once
 
 Example:
   {\"servers\": 3, \"nodes\": [], \"key\": 0, \"drop\": 0, \"repeat\": 0,

@@ -9,7 +9,7 @@ use crate::scenario::{Order, Scenario, Settings};
 use crate::shelf::{Shelf, ShelfFault};
 use crate::step::{Step, read_step};
 use clap::error::ErrorKind;
-use machine::Tally;
+use fsm_state::Cluster;
 use raft_core::{Raft, Role};
 use rows::{Index, NoMemory, Refusal, ServerId};
 use std::alloc::Global;
@@ -117,14 +117,11 @@ fn is_served(settings: &Settings) -> bool {
 fn steps_of<'a>(alloc: Global, scenario: &Scenario) -> Result<Vec<Step>, Fault<'a>> {
     let mut steps = Vec::new(alloc);
     for line in &scenario.steps {
-        match read_step(alloc, line.as_str())? {
-            // The group replicates a tally, which takes no request.
-            None | Some(Step::Request(..)) => return Err(Fault::BadScenario),
-            Some(step) => {
-                if steps.push(step).is_err() {
-                    return Err(Fault::NoMemory);
-                }
-            }
+        let Some(step) = read_step(alloc, line.as_str())? else {
+            return Err(Fault::BadScenario);
+        };
+        if steps.push(step).is_err() {
+            return Err(Fault::NoMemory);
         }
     }
     Ok(steps)
@@ -133,7 +130,7 @@ fn steps_of<'a>(alloc: Global, scenario: &Scenario) -> Result<Vec<Step>, Fault<'
 // A group of servers, and its messages in flight.
 #[derive(Drop)]
 struct Play {
-    world: RaftWorld<Tally>,
+    world: RaftWorld<Cluster>,
     flight: Flight,
 }
 
@@ -157,12 +154,13 @@ impl Play {
             Step::Crash(server) => self.event(RaftEvent::Crash(server)),
             Step::Restart(server) => self.event(RaftEvent::Restart(server)),
             Step::Flow(count) => Ok(self.flow(count.unwrap_or(FLOW))?),
-            // No scenario with a request is played yet.
-            Step::Request(..) => Err(Refusal::OutOfRange),
+            Step::Request(server, request) => {
+                self.event(RaftEvent::Propose(server, request.into_command()))
+            }
         }
     }
 
-    fn event(&mut self, event: RaftEvent<Tally>) -> Result<(), Refusal> {
+    fn event(&mut self, event: RaftEvent<Cluster>) -> Result<(), Refusal> {
         self.world.step(event)?;
         self.flight.admit(self.world.sent().len() as u64)?;
         Ok(())
@@ -193,7 +191,7 @@ fn print_refusal<'a, W: Write>(out: &mut W, refusal: Refusal, line: &str) -> Res
     said(out.flush())
 }
 
-fn print_end<'a, W: Write>(out: &mut W, world: &RaftWorld<Tally>) -> Result<(), Fault<'a>> {
+fn print_end<'a, W: Write>(out: &mut W, world: &RaftWorld<Cluster>) -> Result<(), Fault<'a>> {
     for number in 1..=5 {
         let Some(server) = ServerId::from_number(number) else {
             break;
@@ -212,7 +210,7 @@ fn print_end<'a, W: Write>(out: &mut W, world: &RaftWorld<Tally>) -> Result<(), 
 fn print_server<'a, W: Write>(
     out: &mut W,
     server: ServerId,
-    raft: &Raft<Tally>,
+    raft: &Raft<Cluster>,
 ) -> Result<(), Fault<'a>> {
     let term = raft.term().get();
     let last = raft.last().get();

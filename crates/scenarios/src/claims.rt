@@ -1,6 +1,8 @@
-//! What the theorems say at the tally, as functions that answer true by proof.
-ghost use Rattle.std.specs.Prelude.{◌≡◌, true};
+//! What the theorems say at the tally, as functions that answer true by proof, and at the replicated state.
+ghost use Rattle.std.specs.Prelude.{◌≡◌, true, IfSome};
+ghost use Rattle.fsm_state.specs.SafeFacts.{Safe};
 
+use fsm_state::Cluster;
 use machine::{Machine, Tally};
 use rows::ServerId;
 use world::RaftWorld;
@@ -23,4 +25,11 @@ pub fn agree(world: &RaftWorld<Tally>, one: ServerId, other: ServerId) -> bool
         Some((a, b)) => a.count() != b.count() || a.sum() == b.sum(),
         None => true,
     }
+}
+
+/// The replicated state of a server that runs: it is safe, whatever happened.
+pub fn safe_state(world: &RaftWorld<Cluster>, server: ServerId) -> Option<&Cluster>
+    ensures { IfSome result (λ state. Safe state.now) }
+{
+    world.machine(server)
 }

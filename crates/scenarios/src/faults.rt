@@ -71,7 +71,6 @@ fn refuses_other_steps(rt: HostRuntime) {
         "\"beat 0\"",
         "\"beat 6\"",
         "\"beats 1\"",
-        "\"request 1 stop web\"",
         "\"work 1\"",
         "\"compact 1\"",
         "\"crash 4\", \"nonsense\"",

@@ -1,8 +1,10 @@
-//! Requests, as they are read from the lines of a scenario.
-use rows::{Groups, Name};
+//! Requests, as they are read from the lines of a scenario, and what they leave in the replicated state.
+use fsm_state::Cluster;
+use rows::{EntryIndex, EvalId, EvalStatus, Groups, Name, ServerId};
 use runner::request::{Request, read_request};
 use std::alloc::Global;
 use std::process::Abort;
+use world::{Done, RaftEvent, RaftWorld};
 
 fn is_named(name: &Name, text: &str) -> bool {
     name.as_str() == text
@@ -84,4 +86,60 @@ fn reads_drains(rt: HostRuntime) {
             _ => assert!(rt; false, "{text}"),
         }
     }
+}
+
+fn cluster_event(
+    rt: &impl Abort,
+    alloc: Global,
+    leader: ServerId,
+    text: &str,
+) -> RaftEvent<Cluster> {
+    match read_request(alloc, text) {
+        Ok(Some(request)) => RaftEvent::Propose(leader, request.into_command()),
+        _ => panic!(rt; "no request"),
+    }
+}
+
+fn take(rt: &impl Abort, world: &mut RaftWorld<Cluster>, event: RaftEvent<Cluster>) {
+    assert!(rt; matches!(world.step(event), Ok(Done::Taken)));
+}
+
+fn deliver(rt: &impl Abort, world: &mut RaftWorld<Cluster>, first: u64, last: u64) {
+    for message in first..=last {
+        take(rt, world, RaftEvent::Deliver(message));
+    }
+}
+
+fn is_pending(cluster: &Cluster, entry: u64) -> bool {
+    let Some(index) = EntryIndex::new(entry) else {
+        return false;
+    };
+    match cluster.eval(EvalId { index, slot: 0 }) {
+        Some(eval) => eval.status == EvalStatus::Pending && is_named(&eval.job, "web"),
+        None => false,
+    }
+}
+
+// The put and the stop of a job each leave an evaluation of it, which is pending.
+#[test]
+fn leaves_pending_evaluations(rt: HostRuntime) {
+    let alloc = rt.alloc();
+    let mut world: RaftWorld<Cluster> = match RaftWorld::new(alloc, 3) {
+        Ok(world) => world,
+        Err(_) => panic!(&rt; "no group"),
+    };
+    let leader = ServerId::from_number(1).expect(&rt, "a server's number");
+    take(&rt, &mut world, RaftEvent::Timeout(leader));
+    deliver(&rt, &mut world, 1, 4);
+    for text in ["put web 50 main:2:linux:600:300", "stop web"] {
+        let event = cluster_event(&rt, alloc, leader, text);
+        take(&rt, &mut world, event);
+    }
+    take(&rt, &mut world, RaftEvent::Beat(leader));
+    deliver(&rt, &mut world, 5, 8);
+    let cluster = world.machine(leader).expect(&rt, "a state");
+    assert_eq!(rt; cluster.applied().get(), 3);
+    assert_eq!(rt; cluster.eval_table().rows().len(), 2);
+    assert!(rt; is_pending(cluster, 2));
+    assert!(rt; is_pending(cluster, 3));
 }

@@ -282,3 +282,39 @@ fn denies_the_second_candidate(rt: HostRuntime) {
     ];
     assert_eq!(rt; reply.bytes(), &wanted[..]);
 }
+
+// A stop is refused where the leader's log stops the job already, committed or not.
+#[test]
+fn takes_requests(rt: HostRuntime) {
+    let cases = [
+        Case {
+            head: THREE,
+            steps: "\"timeout 1\", \"flow\", \"request 1 put web 50 main:2:linux:600:300\", \"request 1 stop web\", \"request 1 stop web\", \"beat 1\", \"flow\"",
+            status: 1,
+            out: "\
+refused 18 request 1 stop web
+server 1 leader term 1 last 3 applied 3
+server 2 follower term 1 last 3 applied 0
+server 3 follower term 1 last 3 applied 0
+events 12 messages 8
+",
+            err: "",
+        },
+        Case {
+            head: THREE,
+            steps: "\"request 1 stop web\"",
+            status: 1,
+            out: "\
+refused 2 request 1 stop web
+server 1 follower term 0 last 0 applied 0
+server 2 follower term 0 last 0 applied 0
+server 3 follower term 0 last 0 applied 0
+events 0 messages 0
+",
+            err: "",
+        },
+    ];
+    for case in &cases {
+        play(&rt, rt.alloc(), case);
+    }
+}

@@ -160,7 +160,9 @@ impl<M: Machine> RaftWorld<M> {
     ///
     /// It is refused with `OutOfRange` where no such message was sent, where the group has no such server, and where a server
     /// that is up is to restart; with `Down` where its actor is down; with `Exhausted` where a server of the greatest term or
-    /// index is to stand for election. With `NoMemory` the world itself lacks memory. A refusal changes nothing.
+    /// index is to stand for election. A proposal is refused with `NotLeader` and the leader that is known where its server does
+    /// not lead, with `Exhausted` where the log has no further index, and with the machine's own refusal where the state after
+    /// the whole log does not admit the command. With `NoMemory` the world itself lacks memory. A refusal changes nothing.
     pub fn step(&mut self, event: RaftEvent<M>) -> Result<Done, Refusal>
         // It is a step of the definitions; or the event's actor crashed for want of memory, in a restart with nothing changed.
         ensures ok { IfOk result (λ done. Went M.meaning self.old (event_of event) done self.new) }
