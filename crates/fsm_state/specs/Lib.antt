@@ -12,3 +12,5 @@ pub mod StepLaws
 pub mod StopLaws
 pub mod RangeLaws
 pub mod Worked
+pub mod Reports
+pub mod ClusterMachine

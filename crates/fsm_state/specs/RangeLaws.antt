@@ -57,7 +57,7 @@ all_kept : {X : Type 0} (P : X → Type 0) (test : X → Bool) (xs : List X) →
 all_kept P test [] h = tt
 all_kept P test (x ∷ xs) h = elim (test x) as (λ b. AllByRecursion P (cond b (x ∷ filter test xs) (filter test xs))) [ true ↦ (h.0, all_kept P test xs h.1) | false ↦ all_kept P test xs h.1 ]
 
-no_more : {X : Type 0} (test : X → Bool) (xs : List X) → length (filter test xs) ≤ length xs
+pub no_more : {X : Type 0} (test : X → Bool) (xs : List X) → length (filter test xs) ≤ length xs
 no_more test [] = omega arith
 no_more test (x ∷ xs) = let rest = no_more test xs in elim (test x) as (λ b. length (cond b (x ∷ filter test xs) (filter test xs)) ≤ suc (length xs)) [ true ↦ omega (arith, rest) | false ↦ omega (arith, rest) ]
 

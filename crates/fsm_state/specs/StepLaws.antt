@@ -200,7 +200,7 @@ turned Greater = refl
 pub names_turn : (a b : List ℕ) → bytes_eq a b ≡ bytes_eq b a
 names_turn a b = sym (is_eq-slice_cmp a b) ∙ ap is_eq (nat_list_cmp_total.antisymm a b) ∙ turned (name_cmp b a) ∙ is_eq-slice_cmp b a
 
-at_name : (name : List ℕ) (j : Job) → is_eq (name_cmp name j.name) ≡ is_named name j
+pub at_name : (name : List ℕ) (j : Job) → is_eq (name_cmp name j.name) ≡ is_named name j
 at_name name j = is_eq-slice_cmp name j.name ∙ names_turn name j.name
 
 pub at_number : (n m : ℕ) → is_eq (nat_cmp n m) ≡ nat_eq m n
@@ -258,7 +258,7 @@ touched_same those names h t = λ i. record t { evals = with_evals t.count 0 (fi
 pub touched_name : (name : List ℕ) (t : State) → touched (is_named name) t ≡ touched_names (name ∷ []) t
 touched_name name t = touched_same (is_named name) (name ∷ []) (λ j. sym (or_false (is_named name j))) t
 
-on_node_jobs : (n : ℕ) (rows : List Allocation) (j : Job) → owns (lives_on n) rows j ≡ is_one_of (jobs_on n rows) j
+pub on_node_jobs : (n : ℕ) (rows : List Allocation) (j : Job) → owns (lives_on n) rows j ≡ is_one_of (jobs_on n rows) j
 on_node_jobs n [] j = refl
 on_node_jobs n (a ∷ rows) j =
     elim (lives_on n a) as (λ b. ((b && bytes_eq a.job j.name) || owns (lives_on n) rows j) ≡ is_one_of (cond b (a.job ∷ jobs_on n rows) (jobs_on n rows)) j) [

@@ -28,7 +28,7 @@ at_id f id = only alloc_cmp alloc_id f id
 
 -- ---- tests of what a change ends
 
-live_stays : (b : Bool) → (b && not b) ≡ false
+pub live_stays : (b : Bool) → (b && not b) ≡ false
 live_stays true = refl
 live_stays false = refl
 
@@ -206,7 +206,7 @@ tell_is n r a =
 told_step : (n : ℕ) (r : Report) (s : State) → AreRising s → revised (tell_one n r) r.id s ≡ altered (told n r) s
 told_step n r s h = revised_is (tell_one n r) (tell_keeps n r) r.id s h ∙ altered_same (at_id (tell_one n r) r.id) (told n r) (tell_is n r) s
 
-told_id : (n : ℕ) (r : Report) (a : Allocation) → (told n r a).id ≡ a.id
+pub told_id : (n : ℕ) (r : Report) (a : Allocation) → (told n r a).id ≡ a.id
 told_id n r a = elim (same_alloc a.id r.id && nat_eq a.node n && is_active a.client) as (λ b. (cond b (record a { client = state_of r.state }) a).id ≡ a.id) [ true ↦ refl | false ↦ refl ]
 
 pub told_is : (n : ℕ) (rs : List Report) (s : State) → AreRising s → told_steps n rs s ≡ altered (told_all n rs) s
@@ -216,7 +216,7 @@ told_is n (r ∷ rs) s h =
     ∙ told_is n rs (altered (told n r) s) (altered_rising (told n r) (told_id n r) s h)
     ∙ altered_twice (told_all n rs) (told n r) (told_all_releases n rs) (told_releases n r) s
 
-one_ended : (f : Allocation → Allocation) (m : Option Allocation) (names : List (List ℕ)) (j : Job) → is_one_of (ended_job f m names) j ≡ (holds (λ a. ends f a && bytes_eq a.job j.name) m || is_one_of names j)
+pub one_ended : (f : Allocation → Allocation) (m : Option Allocation) (names : List (List ℕ)) (j : Job) → is_one_of (ended_job f m names) j ≡ (holds (λ a. ends f a && bytes_eq a.job j.name) m || is_one_of names j)
 one_ended f None names j = refl
 one_ended f (Some a) names j = elim (ends f a) as (λ b. is_one_of (cond b (a.job ∷ names) names) j ≡ ((b && bytes_eq a.job j.name) || is_one_of names j)) [
   | true ↦ ap (λ b. b || is_one_of names j) (names_turn j.name a.job)
@@ -296,7 +296,7 @@ no_moves : (rows : List Allocation) (j : Job) → owns (moves []) rows j ≡ fal
 no_moves [] j = refl
 no_moves (a ∷ rows) j = no_moves rows j
 
-moved_jobs : (ids : List AllocId) (s : State) → AreRising s → (j : Job) → owns (moves ids) s.allocs j ≡ is_one_of (live_jobs ids s) j
+pub moved_jobs : (ids : List AllocId) (s : State) → AreRising s → (j : Job) → owns (moves ids) s.allocs j ≡ is_one_of (live_jobs ids s) j
 moved_jobs [] s h j = no_moves s.allocs j
 moved_jobs (id ∷ ids) s h j =
     let here : list_any (λ a. same_alloc a.id id && (is_live a && bytes_eq a.job j.name)) s.allocs ≡ holds (λ a. is_live a && bytes_eq a.job j.name) (alloc_of id s) =

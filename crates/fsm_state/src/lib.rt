@@ -1,6 +1,9 @@
 //! The replicated state of a Nomad server group: its commands, what they do, and which a state refuses.
 #![tactic(auto)]
 
+mod admission;
+mod admission_plan;
+mod admission_touch;
 mod allocs;
 mod apply;
 mod cluster;
@@ -8,6 +11,7 @@ mod fill;
 mod laws;
 mod lists;
 mod nodes;
+mod text;
 mod touch;
 mod worked;
 

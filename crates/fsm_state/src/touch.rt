@@ -8,7 +8,7 @@ use crate::cluster::Cluster;
 use rows::{EntryIndex, EvalId, EvalStatus, Evaluation, Index, Job, JobName, NoMemory};
 
 /// Whether a name is one of these.
-fn is_among(name: &JobName, names: &[JobName]) -> bool
+pub(crate) fn is_among(name: &JobName, names: &[JobName]) -> bool
     ensures { result ≡ list_any (λ other. bytes_eq name.now other) names.now }
 {
     names.iter().any(|other| *name == *other)

@@ -1,5 +1,6 @@
 use Rattle.fsm_state.specs.SafeLaws.{keeps_safe}
 use Rattle.fsm_state.specs.StateLaws.{applied_are_tables, refusal_is_its_own}
+use Rattle.fsm_state.specs.RangeLaws.{applied_is_state}
 use Rattle.fsm_state.proofs.laws.commands_are_lawful.Goals as goal
 
 pub returns-clause-safe : goal.returns-clause-safe
@@ -10,3 +11,6 @@ returns-clause-tables c = applied_are_tables
 
 pub returns-clause-own : goal.returns-clause-own
 returns-clause-own c = refusal_is_its_own
+
+pub returns-clause-state : goal.returns-clause-state
+returns-clause-state c = applied_is_state

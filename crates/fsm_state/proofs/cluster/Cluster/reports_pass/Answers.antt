@@ -1,0 +1,14 @@
+use Rattle.std.proofs.Common.{◌∙◌}
+use Rattle.fsm_state.specs.Effect.{owns, ends, told_all}
+use Rattle.fsm_state.specs.Reports.{ended_now, ended_are}
+use Rattle.fsm_state.proofs.Admitting.{names_are}
+use Rattle.fsm_state.proofs.cluster.Cluster.reports_pass.Goals as goal
+
+pub returns : goal.returns
+returns c =
+    let s = c.args.self.now in
+    let tables = c.ranges-2.ensures.tables in
+    let n = c.args.node in
+    let rs = c.args.reports.now in
+    c.names_pass.ensures ∙ names_are (owns (ends (told_all n rs)) s.allocs) _ (ended_now (told_all n rs) rs s) s (c.as_slice.ensures ∙ c.in_ok-names.ensures)
+      (ended_are n rs s (record { nodes = tables.nodes.rising; allocs = tables.allocs.rising }))
