@@ -52,11 +52,19 @@ state_of_fits s h = record {
 }
 
 pub fits_of_state : (s : State) → IsState s → StateFits s
-fits_of_state s h = (h.count,
-    ((h.tables.jobs.few, passed _ h.tables.jobs.rising, h.rows.jobs),
-    ((h.tables.nodes.few, passed _ h.tables.nodes.rising, h.rows.nodes),
-    ((h.tables.evals.few, passed _ h.tables.evals.rising, h.rows.evals),
-    (h.tables.allocs.few, passed _ h.tables.allocs.rising, h.rows.allocs)))))
+fits_of_state s h = (
+  h.count,
+  (
+    (h.tables.jobs.few, passed _ h.tables.jobs.rising, h.rows.jobs),
+    (
+      (h.tables.nodes.few, passed _ h.tables.nodes.rising, h.rows.nodes),
+      (
+        (h.tables.evals.few, passed _ h.tables.evals.rising, h.rows.evals),
+        (h.tables.allocs.few, passed _ h.tables.allocs.rising, h.rows.allocs),
+      ),
+    ),
+  ),
+)
 
 own_refusal : (r : Refusal) → IsOwn r → IsMachineRefusal r
 own_refusal refusals.NoMemory h = h

@@ -1,6 +1,6 @@
 -- How the sums change as one allocation's row is made or replaced.
-use Rattle.std.proofs.Common.{◌≡◌, ℕ, ◌+◌, ◌*◌, ◌<◌, ◌≤◌, length, ◌∷◌, Bool, true, false, cond, T, List, [], Option, Some, None, refl, sym, ap, subst, zero, suc, replicate, ◌∙◌, ◌^◌, arith}
-use Rattle.std.specs.Prelude.{sum_by, slice_index, nat_eq, nat_le}
+use Rattle.std.proofs.Common.{◌≡◌, ℕ, ◌+◌, ◌*◌, ◌<◌, ◌≤◌, length, ◌∷◌, Bool, true, false, cond, T, List, [], Option, Some, refl, sym, ap, zero, suc, replicate, ◌∙◌, ◌^◌, arith}
+use Rattle.std.specs.Prelude.{sum_by, slice_index, nat_eq}
 use Rattle.std.specs.List.{AllByRecursion}
 use Rattle.std.specs.Cmp.{IsTotalOrder, nat_cmp_total, on_total, then_total}
 use Rattle.std.proofs.lemmas.List.Sums.{sum_by-cons}
@@ -10,7 +10,7 @@ use Rattle.rows.specs.declared.allocation.Allocation.{Allocation}
 use Rattle.rows.specs.Fits.{AllocationFits}
 use Rattle.rows.specs.Rising.{is_rising}
 use Rattle.fsm_tables.specs.Rows.{row_of, put}
-use Rattle.fsm_tables.specs.RowLaws.{weight_of as row_weight, sum_by-put}
+use Rattle.fsm_tables.specs.RowLaws.{sum_by-put}
 use Rattle.rows.specs.Keys.{alloc_cmp, alloc_id}
 use Rattle.fsm_tables.specs.Claims.{Claim, claim_of, claims, on_node, is_live}
 use Rattle.fsm_tables.specs.Sums.{AreSummed, weight, weight_of, IsShare}

@@ -5,3 +5,4 @@ pub mod TableRows
 pub mod Claims
 pub mod LiveNames
 pub mod Sums
+pub mod LiveIndex

@@ -2,13 +2,15 @@ ghost use Rattle.std.specs.Prelude.{◌≡◌, List, [], ◌≤◌, OnOk, OnErr,
 ghost use Rattle.fsm_tables.specs.Rows.{row_of, has_row, put as with_row, put_within as with_row_within};
 ghost use Rattle.rows.specs.Keys.{alloc_cmp, alloc_id};
 ghost use Rattle.fsm_tables.specs.Claims.{claims, used};
-ghost use Rattle.fsm_tables.specs.LiveNames.{is_called as has_name, live_named};
+ghost use Rattle.fsm_tables.specs.LiveNames.{live_named};
 
+use crate::live_names::{LiveEntry, put_indexed};
 use crate::name::AllocName;
 use crate::table::Table;
-use crate::usage::{Usage, held_by, is_live, shift};
+use crate::usage::{Usage, held_by, shift};
 use rows::{AllocId, Allocation, NoMemory, NodeId};
 use std::alloc::Global;
+use std::collections::BTreeSet;
 use std::marker::Model;
 
 /// The allocations' rows, at most 65,536, with what the live ones take of each node. Contracts see the list of the rows.
@@ -19,41 +21,26 @@ pub(crate) struct Allocations {
     cpu: [u64; 65],
     /// By node number.
     mem: [u64; 65],
+    /// The live ones, by name and then by id.
+    live: BTreeSet<LiveEntry>,
 }
 
 impl Model for Allocations {
     ghost use Rattle.std.specs.Prelude.{List, ◌≤◌, length};
     ghost use Rattle.rows.specs.declared.allocation.Allocation.{Allocation};
     ghost use Rattle.fsm_tables.specs.Sums.{AreSummed};
+    ghost use Rattle.fsm_tables.specs.LiveIndex.{AreIndexed};
 
     ghost Value = { List Allocation };
 
     ghost view = { λ a. a.rows };
 
     ghost invariant = { λ a. record {
-        cpu : AreSummed (λ z. z.cpu) a.rows a.cpu;
-        mem : AreSummed (λ z. z.mem) a.rows a.mem;
-        few : length a.rows ≤ 65536
+      cpu : AreSummed (λ z. z.cpu) a.rows a.cpu;
+      mem : AreSummed (λ z. z.mem) a.rows a.mem;
+      live : AreIndexed a.rows a.live;
+      few : length a.rows ≤ 65536;
     } };
-}
-
-/// Whether an allocation has the name.
-fn is_called(row: &Allocation, name: &AllocName) -> bool
-    ensures { result ≡ has_name name.now row.now }
-{
-    row.job == name.job && row.group == name.group && row.index == name.index
-}
-
-/// The first live one of a name.
-fn first_named<'a>(rows: &'a [Allocation], name: &AllocName) -> Option<&'a Allocation>
-    ensures { option_map (λ row. row.now) result ≡ live_named name.now rows.now }
-{
-    for row in rows {
-        if is_live(row) && is_called(row, name) {
-            return Some(row);
-        }
-    }
-    None
 }
 
 impl Allocations {
@@ -68,6 +55,7 @@ impl Allocations {
             rows: Table::empty(alloc),
             cpu: [0; 65],
             mem: [0; 65],
+            live: BTreeSet::new(alloc),
         }
     }
 
@@ -86,11 +74,16 @@ impl Allocations {
         &self.rows
     }
 
-    /// The live allocation of a name.
+    /// The live allocation of a name: that of the least id, where several have it. It takes time in the logarithm of the
+    /// table.
     pub fn live_named(&self, name: &AllocName) -> Option<&Allocation>
         ensures { option_map (λ row. row.now) result ≡ live_named name.now self.now }
     {
-        first_named(self.rows.rows(), name)
+        let _rows = self.rows.rows();
+        match self.live.range(LiveEntry::least(name)..).next() {
+            Some(entry) if entry.name == *name => self.rows.get(&entry.id),
+            _ => None,
+        }
     }
 
     /// The row of an id.
@@ -133,7 +126,7 @@ impl Allocations {
         let _rows = self.rows.rows();
         let to = held_by(Some(&row));
         let from = held_by(self.rows.get(&row.id));
-        self.rows.put(row)?;
+        put_indexed(&mut self.rows, &mut self.live, row)?;
         shift(&mut self.cpu, (to.node, to.cpu), (from.node, from.cpu));
         shift(&mut self.mem, (to.node, to.mem), (from.node, from.mem));
         Ok(())

@@ -3,6 +3,7 @@
 
 mod allocations;
 mod keys;
+mod live_names;
 mod name;
 mod table;
 mod tables;

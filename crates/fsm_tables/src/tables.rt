@@ -89,7 +89,8 @@ impl Tables {
         self.allocs.get(&id)
     }
 
-    /// The live allocation of a name, if there is one: that of the least id, where several have the name.
+    /// The live allocation of a name, if there is one: that of the least id, where several have the name. It takes time in the
+    /// logarithm of the table.
     pub fn live_named(&self, name: &AllocName) -> Option<&Allocation>
         ensures { option_map (λ row. row.now) result ≡ live_named name.now self.now.allocs }
     {

@@ -1,7 +1,6 @@
-use Rattle.std.proofs.Common.{T, subst, sym, ◌∙◌, ◌≡◌, List}
+use Rattle.std.proofs.Common.{T, subst, sym, ◌∙◌}
 use Rattle.std.specs.List.{AllByRecursion}
 use Rattle.rows.specs.Rising.{is_rising}
-use Rattle.fsm_tables.specs.Rows.{put}
 use Rattle.fsm_tables.specs.RowLaws.{rising_put, all_put}
 use Rattle.fsm_tables.proofs.table.Table.put.Goals as goal
 

@@ -1,4 +1,4 @@
-use Rattle.std.proofs.Common.{◌≡◌, ◌≤◌, ℕ, List, length, subst, sym, rules, arith}
+use Rattle.std.proofs.Common.{◌≡◌, ◌≤◌, List, length, subst, sym, rules, arith}
 use Rattle.std.proofs.lemmas.Grind.{common_steps}
 use Rattle.fsm_tables.specs.Rows.{put_within}
 use Rattle.fsm_tables.specs.RowLaws.{few_put_within}
