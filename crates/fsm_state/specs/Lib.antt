@@ -13,3 +13,4 @@ pub mod StopLaws
 pub mod RangeLaws
 pub mod Worked
 pub mod Reports
+pub mod AfterLaws
