@@ -13,15 +13,20 @@ use Rattle.rows.specs.declared.allocation.AllocId.{AllocId}
 use Rattle.rows.specs.declared.allocation.Allocation.{Allocation}
 use Rattle.rows.specs.declared.command.AcceptedPlace.{AcceptedPlace}
 use Rattle.rows.specs.declared.command.AcceptedPlan.{AcceptedPlan}
-use Rattle.rows.specs.Keys.{alloc_cmp, alloc_id}
+use Rattle.rows.specs.Keys.{alloc_cmp, alloc_id, node_number}
+use Rattle.rows.specs.Fits.{NodeFits, AllocationFits, AcceptedPlaceFits}
 use Rattle.rows.specs.Rising.{is_rising}
 use Rattle.fsm_tables.specs.Rows.{row_of, has_row, put, put_within}
 use Rattle.fsm_tables.specs.RowLaws.{first, second, weight_of, none_below, below_tied, rising_put, rising_mapped, length-put, sum_by-put}
-use Rattle.fsm_tables.specs.Claims.{Claim, claim_of, claims, is_live}
+use Rattle.fsm_tables.specs.Claims.{Claim, claim_of, claims, on_node, used, is_live}
 use Rattle.fsm_state.specs.Words.{State, same_alloc}
-use Rattle.fsm_state.specs.Effect.{counted, stop, alloc_row, with_places, planned}
+use Rattle.fsm_state.specs.Safe.{fits, are_distinct, is_safe}
+use Rattle.fsm_state.specs.Effect.{counted, stop, frees, with_room, alloc_row, with_places, planned}
 use Rattle.fsm_state.specs.StateLaws.{alloc_cmp_total}
-use Rattle.fsm_state.specs.SafeLaws.{stop_releases}
+use Rattle.fsm_state.specs.SafeLaws.{stop_releases, kept_safe, with_room_keeps, distinct_of}
+use Rattle.fsm_state.specs.UseLaws.{room_of, fits_number, Counts, number_fits, safe_by_numbers, low_numbers, kept_numbers}
+use Rattle.fsm_state.specs.NameLaws.{distinct_same}
+use Rattle.fsm_state.specs.RangeLaws.{all_within, all_mapped}
 use Rattle.fsm_state.specs.StepLaws.{at_alloc}
 use Rattle.fsm_state.specs.PlanLaws.{place_claim, wanted, has_room, stop_id}
 
@@ -200,3 +205,68 @@ sums_planned w p s rising few =
     let all = places_sum w (s.count + 1) 0 p p.places rows (rising_mapped alloc_cmp alloc_id (stop p.stops) (stop_id p.stops) s.allocs rising) (omega (arith, few, size)) in
     let rest = left_sum w (s.count + 1) 0 (length p.places) rows in
     claims_sum w (planned p (counted s)).allocs ∙ all ∙ ap (λ (m : ℕ). m + sum_by w (wanted p)) (sym rest) ∙ sym (sum_by-append w (left_by p s) (wanted p))
+
+-- ---- its safety
+
+-- what is asked of a plan on any state
+pub record AfterIsSafe (p : AcceptedPlan) (s : State) : Type 0 where
+  pub fit : (n : ℕ) → n < 65 → T (fits_number s.nodes (left_by p s ++ wanted p) n)
+  pub distinct : T (are_distinct (left_by p s ++ wanted p))
+
+-- what is known where the code asks
+pub record IsKnown (p : AcceptedPlan) (s : State) : Type 0 where
+  pub few : length s.allocs + length p.places ≤ 65536
+  pub nodes_rising : T (is_rising nat_cmp node_number s.nodes)
+  pub allocs_rising : T (is_rising alloc_cmp alloc_id s.allocs)
+  pub nodes : AllByRecursion NodeFits s.nodes
+  pub allocs : AllByRecursion AllocationFits s.allocs
+  pub places : AllByRecursion AcceptedPlaceFits p.places
+
+-- a row whose claim names a node and takes some cpu
+abbrev RowCounts : Allocation → Type 0
+RowCounts a = Counts (claim_of a)
+
+rows_count : (rows : List Allocation) → AllByRecursion AllocationFits rows → AllByRecursion RowCounts rows
+rows_count [] h = tt
+rows_count (a ∷ rows) h = let low = h.0.4.1 in let some = h.0.5.0.0 in ((omega (arith, low), some), rows_count rows h.1)
+
+claims_count : (rows : List Allocation) → AllByRecursion RowCounts rows → AllByRecursion Counts (claims rows)
+claims_count [] h = tt
+claims_count (a ∷ rows) h = elim (is_live a) as (λ b. AllByRecursion Counts (cond b (claim_of a ∷ claims rows) (claims rows))) [ true ↦ (h.0, claims_count rows h.1) | false ↦ claims_count rows h.1 ]
+
+places_count : (x slot : ℕ) (p : AcceptedPlan) (ks : List AcceptedPlace) (rows : List Allocation) → AllByRecursion AcceptedPlaceFits ks → AllByRecursion RowCounts rows → AllByRecursion RowCounts (with_places x slot p ks rows)
+places_count x slot p [] rows g h = h
+places_count x slot p (k ∷ ks) rows g h =
+    let low = g.0.2.1 in
+    let some = g.0.3.0.0 in
+    places_count x (slot + 1) p ks _ g.1 (all_within alloc_cmp alloc_id RowCounts 65536 (alloc_row x slot p k) rows (omega (arith, low), some) h)
+
+same_use : (cs ds : List Claim) → ((w : Claim → ℕ) → sum_by w cs ≡ sum_by w ds) → (n : ℕ) → used n cs ≡ used n ds
+same_use cs ds same n = λ i. record { cpu = same (on_node n (λ z. z.cpu)) i; mem = same (on_node n (λ z. z.mem)) i }
+
+pub planned_is_safe : (p : AcceptedPlan) (s : State) → IsKnown p s → AfterIsSafe p s → T (is_safe (planned p (counted s)))
+planned_is_safe p s k h =
+    let g = with_room (frees (stop p.stops) s.allocs) (s.count + 1) in
+    let keeps = with_room_keeps (frees (stop p.stops) s.allocs) (s.count + 1) in
+    let cs = claims (planned p (counted s)).allocs in
+    let ds = left_by p s ++ wanted p in
+    let same : (w : Claim → ℕ) → sum_by w cs ≡ sum_by w ds = λ w. sums_planned w p s k.allocs_rising k.few in
+    let rows = map (stop p.stops) s.allocs in
+    let kept = all_mapped RowCounts (stop p.stops) (λ a c. subst Counts (sym ((stop_releases p.stops).same_claim a)) c) s.allocs (rows_count s.allocs k.allocs) in
+    let counts = claims_count (planned p (counted s)).allocs (places_count (s.count + 1) 0 p p.places rows k.places kept) in
+    kept_safe g keeps s.nodes cs
+      (safe_by_numbers s.nodes cs k.nodes_rising (low_numbers s.nodes k.nodes) counts
+        (λ n lt. subst (λ z. T (fits z (room_of (row_of nat_cmp node_number n s.nodes)))) (sym (same_use cs ds same n)) (h.fit n lt))
+        (distinct_same ds cs (λ w. sym (same w)) h.distinct))
+
+pub safe_is_planned : (p : AcceptedPlan) (s : State) → IsKnown p s → T (is_safe (planned p (counted s))) → AfterIsSafe p s
+safe_is_planned p s k h =
+    let g = with_room (frees (stop p.stops) s.allocs) (s.count + 1) in
+    let keeps = with_room_keeps (frees (stop p.stops) s.allocs) (s.count + 1) in
+    let cs = claims (planned p (counted s)).allocs in
+    let ds = left_by p s ++ wanted p in
+    let same : (w : Claim → ℕ) → sum_by w cs ≡ sum_by w ds = λ w. sums_planned w p s k.allocs_rising k.few in
+    record {
+      fit = λ n lt. subst (λ z. T (fits z (room_of (row_of nat_cmp node_number n s.nodes)))) (same_use cs ds same n) (kept_numbers g keeps s.nodes cs n (number_fits (map g s.nodes) cs h n));
+      distinct = distinct_same cs ds same (distinct_of (map g s.nodes) cs h);
+    }
