@@ -91,7 +91,14 @@ pub fn append_list<F: Field>(
     requires { length values.now ≤ most }
     ensures { Puts (list 1 most F.format) values.now result out.old.items out.new.items }
 {
-    let values = values.as_slice();
+    append_counted(values.as_slice(), most, out)
+}
+
+/// The same, of values that stand in a row.
+pub fn append_counted<F: Field>(values: &[F], most: u8, out: &mut Vec<u8>) -> Result<(), NoMemory>
+    requires { length values.now ≤ most }
+    ensures { Puts (list 1 most F.format) values.now result out.old.items out.new.items }
+{
     write_u8(&(values.len() as u8), out)?;
     append_items(values, out)
 }
@@ -106,7 +113,18 @@ pub fn append_long_list<F: Field>(
     requires { length values.now ≤ most }
     ensures { Puts (list 4 most F.format) values.now result out.old.items out.new.items }
 {
-    let values = values.as_slice();
+    append_long_counted(values.as_slice(), most, out)
+}
+
+/// The same, of values that stand in a row.
+pub fn append_long_counted<F: Field>(
+    values: &[F],
+    most: u32,
+    out: &mut Vec<u8>,
+) -> Result<(), NoMemory>
+    requires { length values.now ≤ most }
+    ensures { Puts (list 4 most F.format) values.now result out.old.items out.new.items }
+{
     write_u32(&(values.len() as u32), out)?;
     append_items(values, out)
 }

@@ -2,10 +2,11 @@
 //! it; else `Frame` with the place of the field. These readers take no memory: they answer no other refusal.
 ghost use Rattle.std.specs.Prelude.{◌≡◌, ◌≤◌, ◌+◌, ◌<◌, length, drop, IfSome, IfNone};
 ghost use Rattle.fields.specs.Format.{GivesExactly, number};
+ghost use Rattle.fields.specs.Ids.{name};
 ghost use Rattle.fields.specs.Fields.{term, index, server, byte, u16, u32, u64, bool, actor};
 
 use byteorder::{BigEndian, ByteOrder};
-use rows::{Actor, ClientId, Index, Refusal, ServerId, Term};
+use rows::{Actor, ClientId, Index, Name, Refusal, ServerId, Term};
 
 /// The bytes from a place on, where at least so many stand there.
 fn rest_of(bytes: &[u8], at: usize, count: usize) -> Option<&[u8]>
@@ -139,5 +140,20 @@ pub(crate) fn read_long_count(bytes: &[u8], at: usize, most: u32) -> Result<(usi
     match read_u32(bytes, at)? {
         (count, next) if count <= most => Ok((count as usize, next)),
         _ => Err(Refusal::Frame(at)),
+    }
+}
+
+/// A name: its length in one byte, from 1 to 32, and its bytes. `Frame` names the length, whatever is wrong.
+pub fn read_name(bytes: &[u8], at: usize) -> Result<(Name, usize), Refusal>
+    ensures { GivesExactly result (name.read bytes.now at) }
+{
+    let (size, start) = read_u8(bytes, at)?;
+    let size = size as usize;
+    match rest_of(bytes, start, size) {
+        Some(rest) => match Name::from_bytes(&rest[..size]) {
+            Some(name) => Ok((name, start + size)),
+            None => Err(Refusal::Frame(at)),
+        },
+        None => Err(Refusal::Frame(at)),
     }
 }

@@ -1,11 +1,11 @@
 -- Loops over all allocations, place by place.
-use Rattle.std.proofs.Common.{◌≡◌, ℕ, zero, suc, ◌+◌, ◌<◌, List, [], ◌∷◌, ◌++◌, Bool, true, false, cond, T, map, take, drop, length, Option, Some, None, refl, sym, ap, subst, ◌∙◌, arith, add-one}
+use Rattle.std.proofs.Common.{◌≡◌, ℕ, zero, suc, ◌<◌, List, [], ◌∷◌, ◌++◌, true, false, cond, T, map, take, drop, length, Some, refl, sym, ap, subst, ◌∙◌, arith}
 use Rattle.std.specs.List.{slice_get}
 use Rattle.rows.specs.declared.allocation.Allocation.{Allocation}
 use Rattle.rows.specs.Keys.{alloc_cmp, alloc_id}
 use Rattle.rows.specs.Rising.{is_rising}
 use Rattle.fsm_tables.specs.Claims.{is_active}
-use Rattle.fsm_state.specs.Effect.{lost, lives_on}
+use Rattle.fsm_state.specs.Effect.{lost}
 use Rattle.fsm_state.specs.Steps.{put_changed, jobs_on, job_on}
 use Rattle.rows.specs.declared.allocation.ClientState.TheVariants as clients
 use Rattle.std.specs.Prelude.{nat_eq, ◌&&◌}

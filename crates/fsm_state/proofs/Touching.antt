@@ -29,7 +29,7 @@ here : (x slot : ℕ) (names : List (List ℕ)) (j : Job) (js : List Job) (evals
     ≡ with_evals x (next_slot (eval_for x slot names (Some j)) slot) (filter (of_names names) js) (next_evals (eval_for x slot names (Some j)) evals)
 here x slot names j js evals =
     elim (of_names names j) as (λ b. with_evals x slot (cond b (j ∷ filter (of_names names) js) (filter (of_names names) js)) evals
-        ≡ with_evals x (next_slot (cond b (Some (new_eval x slot j)) None) slot) (filter (of_names names) js) (next_evals (cond b (Some (new_eval x slot j)) None) evals)) [
+    ≡ with_evals x (next_slot (cond b (Some (new_eval x slot j)) None) slot) (filter (of_names names) js) (next_evals (cond b (Some (new_eval x slot j)) None) evals)) [
       | true ↦ refl
       | false ↦ refl
     ]

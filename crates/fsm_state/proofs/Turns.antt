@@ -1,5 +1,5 @@
 -- What a call's answer says of the state, told in other words.
-use Rattle.std.proofs.Common.{◌≡◌, List, ℕ, subst, ap, ◌∙◌}
+use Rattle.std.proofs.Common.{◌≡◌, List, ℕ, subst}
 use Rattle.std.specs.Prelude.{Result, OnOk}
 use Rattle.fsm_state.specs.Words.{State}
 use Rattle.fsm_state.specs.Steps.{touched_names}

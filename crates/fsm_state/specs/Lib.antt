@@ -15,3 +15,4 @@ pub mod Worked
 pub mod Reports
 pub mod NameLaws
 pub mod AfterLaws
+pub mod ClusterMachine

@@ -1,15 +1,13 @@
 -- When the state after a plan is safe, told by what the plan stops and places: each node's use, and the names.
-use Rattle.std.proofs.Common.{◌≡◌, ℕ, ◌+◌, ◌<◌, ◌≤◌, Bool, true, false, cond, not, ◌&&◌, ◌||◌, T, List, [], ◌∷◌, ◌++◌, length, map, Option, Some, None, is_some, refl, sym, ap, subst, ◌∙◌, arith, suc, ◌⊎◌, inl, inr}
-use Rattle.std.specs.Prelude.{sum_by, nat_eq, nat_le, nat_lt}
+use Rattle.std.proofs.Common.{◌≡◌, ℕ, ◌+◌, ◌<◌, ◌≤◌, Bool, true, false, cond, not, ◌&&◌, ◌||◌, T, List, [], ◌∷◌, ◌++◌, length, map, refl, sym, ap, subst, ◌∙◌, arith, ◌⊎◌, inl, inr}
+use Rattle.std.specs.Prelude.{sum_by, nat_lt}
 use Rattle.std.specs.List.{AllByRecursion, list_all, list_any}
-use Rattle.std.specs.Cmp.{nat_cmp_total, nat_cmp_is}
-use Rattle.std.specs.Ordering.{nat_cmp, is_eq, is_gt, ordering_then}
-use Rattle.std.specs.declared.cmp.Ordering.TheVariants.{Less, Equal, Greater}
+use Rattle.std.specs.Cmp.{nat_cmp_is}
+use Rattle.std.specs.Ordering.{nat_cmp, ordering_then}
+use Rattle.std.specs.declared.cmp.Ordering.TheVariants.{Equal, Greater}
 use Rattle.std.proofs.lemmas.List.{length-append, append_assoc, append-nil, length-map}
 use Rattle.std.proofs.lemmas.List.Folds.{list_any-append}
-use Rattle.std.proofs.lemmas.List.Sums.{sum_by-cons, sum_by-append}
-use Rattle.rows.specs.declared.node.Node.{Node}
-use Rattle.rows.specs.declared.size.Size.{Size}
+use Rattle.std.proofs.lemmas.List.Sums.{sum_by-append}
 use Rattle.rows.specs.declared.allocation.AllocId.{AllocId}
 use Rattle.rows.specs.declared.allocation.Desired.TheVariants as desires
 use Rattle.rows.specs.declared.allocation.Allocation.{Allocation}
@@ -18,14 +16,14 @@ use Rattle.rows.specs.declared.command.AcceptedPlan.{AcceptedPlan}
 use Rattle.rows.specs.Keys.{alloc_cmp, alloc_id, node_number}
 use Rattle.rows.specs.Rising.{is_rising}
 use Rattle.rows.specs.Fits.{NodeFits, AllocationFits, AcceptedPlaceFits}
-use Rattle.fsm_tables.specs.Rows.{row_of, has_row, put, put_within, by_order}
+use Rattle.fsm_tables.specs.Rows.{has_row, put, put_within, by_order}
 use Rattle.fsm_tables.specs.RowLaws.{both, first, second}
-use Rattle.fsm_tables.specs.Claims.{Claim, claim_of, claims, on_node, used, is_live, is_wanted}
+use Rattle.fsm_tables.specs.Claims.{Claim, claim_of, claims, is_live, is_wanted}
 use Rattle.fsm_state.specs.Words.{State, same_alloc}
-use Rattle.fsm_state.specs.Safe.{fits, is_within, is_placed, same_name, are_distinct, are_safe, is_safe}
+use Rattle.fsm_state.specs.Safe.{same_name, are_distinct, are_safe, is_safe}
 use Rattle.fsm_state.specs.SafeLaws.{Fewer, nothing, kept as kept_first, gone, Releases, released, stop_releases, fewer_distinct, kept_safe, with_room_keeps, distinct_of}
 use Rattle.fsm_state.specs.UseLaws.{fits_number, Counts, number_fits, safe_by_numbers, low_numbers, all_count, kept_numbers, ended, released_sum}
-use Rattle.fsm_state.specs.Effect.{counted, stop, ends, frees, with_room, alloc_row, with_places, planned}
+use Rattle.fsm_state.specs.Effect.{counted, stop, frees, with_room, alloc_row, with_places, planned}
 
 -- ---- words
 
@@ -98,7 +96,7 @@ places_last x slot p [] rows h few = sym (append-nil rows)
 places_last x slot p (k ∷ ks) rows h few =
     let a = alloc_row x slot p k in
     let here : put_within alloc_cmp alloc_id 65536 a rows ≡ rows ++ a ∷ [] =
-          has_room (has_row alloc_cmp alloc_id a.id rows) (length rows) 65536 (put alloc_cmp alloc_id a rows) rows (omega (arith, few)) ∙ put_last x slot a rows refl h in
+    has_room (has_row alloc_cmp alloc_id a.id rows) (length rows) 65536 (put alloc_cmp alloc_id a rows) rows (omega (arith, few)) ∙ put_last x slot a rows refl h in
     let size : length (rows ++ a ∷ []) ≡ length rows + 1 = length-append rows (a ∷ []) in
     ap (λ zs. with_places x (slot + 1) p ks zs) here
     ∙ places_last x (slot + 1) p ks (rows ++ a ∷ []) (all_before x slot rows a h (inr (refl, omega arith))) (omega (arith, few, size))
@@ -193,8 +191,8 @@ fewer_claims P _ _ (gone y xs ys f) h = fewer_claims P xs ys f h.1
 pub plan_is_safe : (p : AcceptedPlan) (s : State) → IsAskable p s → PlanIsSafe p s → T (is_safe (planned p (counted s)))
 plan_is_safe p s a h =
     let counts = all_append Counts (kept p s) (wanted p)
-          (fewer_claims Counts (kept p s) (claims s.allocs) (released (stop p.stops) (stop_releases p.stops) s.allocs) (all_count s.allocs a.allocs))
-          (all_wanted_count p p.places a.places) in
+    (fewer_claims Counts (kept p s) (claims s.allocs) (released (stop p.stops) (stop_releases p.stops) s.allocs) (all_count s.allocs a.allocs))
+    (all_wanted_count p p.places a.places) in
     let apart = subst T (sym (distinct-append (kept p s) (wanted p))) (three _ _ _ h.kept_distinct h.wanted_distinct h.free) in
     let safe = safe_by_numbers s.nodes (kept p s ++ wanted p) a.rising (low_numbers s.nodes a.nodes) counts h.fit apart in
     subst (λ cs. T (are_safe (map (with_room (frees (stop p.stops) s.allocs) (s.count + 1)) s.nodes) cs)) (sym (claims_planned p s a.dated a.few))

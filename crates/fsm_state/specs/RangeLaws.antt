@@ -5,14 +5,12 @@ use Rattle.std.specs.List.{AllByRecursion, list_any}
 use Rattle.std.specs.Ordering.{nat_cmp, is_eq}
 use Rattle.std.specs.declared.cmp.Ordering.{Ordering}
 use Rattle.rows.specs.declared.job.Job.{Job}
-use Rattle.rows.specs.declared.job.JobSpec.{JobSpec}
 use Rattle.rows.specs.declared.node.Node.{Node}
 use Rattle.rows.specs.declared.node.NodeSpec.{NodeSpec}
 use Rattle.rows.specs.declared.node.NodeStatus.TheVariants as statuses
 use Rattle.rows.specs.declared.node.DrainMode.TheVariants as drains
 use Rattle.rows.specs.declared.evaluation.EvalId.{EvalId}
 use Rattle.rows.specs.declared.evaluation.Evaluation.{Evaluation}
-use Rattle.rows.specs.declared.allocation.AllocId.{AllocId}
 use Rattle.rows.specs.declared.allocation.Allocation.{Allocation}
 use Rattle.rows.specs.declared.allocation.Desired.TheVariants as desires
 use Rattle.rows.specs.declared.allocation.ClientState.TheVariants as clients
@@ -25,7 +23,7 @@ use Rattle.rows.specs.declared.command.Command.{Command}
 use Rattle.rows.specs.declared.command.Command.TheVariants as commands
 use Rattle.rows.specs.Changes.{status_of, snapshot_of}
 use Rattle.rows.specs.Keys.{name_cmp, eval_cmp, alloc_cmp, job_name, node_number, eval_id, alloc_id}
-use Rattle.rows.specs.Fits.{IndexFits, FromOneFits, JobSpecFits, JobFits, NodeSpecFits, NodeFits, EvalIdFits, EvaluationFits, AllocationFits, AcceptedPlaceFits, AcceptedPlanFits, StatusChangeFits, CommandFits}
+use Rattle.rows.specs.Fits.{IndexFits, FromOneFits, JobFits, NodeSpecFits, NodeFits, EvaluationFits, AllocationFits, AcceptedPlaceFits, AcceptedPlanFits, StatusChangeFits, CommandFits}
 use Rattle.fsm_tables.specs.Rows.{row_of, has_row, put, put_within}
 use Rattle.fsm_tables.specs.RowLaws.{all_put}
 use Rattle.fsm_tables.specs.Claims.{is_active, is_wanted}
@@ -84,7 +82,7 @@ evals_fit x slot (j ∷ js) evals fx few fj fe =
     let name = fj.0.0 in
     let priority = fj.0.1 in
     evals_fit x (slot + 1) js _ fx (omega (arith, few)) fj.1
-      (all_within eval_cmp eval_id EvaluationFits 65536 (new_eval x slot j) evals ((fx, omega (arith, few)), name, priority, omega arith) fe)
+    (all_within eval_cmp eval_id EvaluationFits 65536 (new_eval x slot j) evals ((fx, omega (arith, few)), name, priority, omega arith) fe)
 
 touch_fits : (those : Job → Bool) (t : State) → FromOneFits t.count → length t.jobs ≤ 256 → AllByRecursion JobFits t.jobs → AllByRecursion EvaluationFits t.evals → AllByRecursion EvaluationFits (touched those t).evals
 touch_fits those t fx few fj fe = let most = no_more those t.jobs in evals_fit t.count 0 (filter those t.jobs) t.evals fx (omega (arith, few, most)) (all_kept JobFits those t.jobs fj) fe
@@ -93,7 +91,7 @@ places_fit : (x slot : ℕ) (p : AcceptedPlan) (ks : List AcceptedPlace) (rows :
 places_fit x slot p [] rows fx fp few fk fa = fa
 places_fit x slot p (k ∷ ks) rows fx fp few fk fa =
     places_fit x (slot + 1) p ks _ fx fp (omega (arith, few)) fk.1
-      (all_within alloc_cmp alloc_id AllocationFits 65536 (alloc_row x slot p k) rows ((fx, omega (arith, few)), fp.2, fk.0.0, fk.0.1, fk.0.2, fk.0.3, fp.0) fa)
+    (all_within alloc_cmp alloc_id AllocationFits 65536 (alloc_row x slot p k) rows ((fx, omega (arith, few)), fp.2, fk.0.0, fk.0.1, fk.0.2, fk.0.3, fp.0) fa)
 
 node_row_fits : (x : ℕ) (n : NodeSpec) (nodes : List Node) → x < 2 ^ 40 → NodeSpecFits n → AllByRecursion NodeFits nodes → (old : Option Node) → row_of nat_cmp node_number n.number nodes ≡ old → NodeFits (node_row x n old)
 node_row_fits x n nodes fx fn h None e = (fn.0, fn.1, fn.2, fx)
@@ -160,7 +158,7 @@ applied_fit s (commands.Plan p) t h f below = record {
   nodes = rooms_fit (frees (stop p.stops) s.allocs) (s.count + 1) s.nodes below h.nodes;
   evals = h.evals;
   allocs = places_fit (s.count + 1) 0 p p.places (map (stop p.stops) s.allocs) (omega arith, below) f (few_places p f) f.5.1
-    (all_mapped AllocationFits (stop p.stops) (λ a g. either AllocationFits (list_any (same_alloc a.id) p.stops && is_wanted a.desired) (record a { desired = desires.Stop }) a g g) s.allocs h.allocs);
+      (all_mapped AllocationFits (stop p.stops) (λ a g. either AllocationFits (list_any (same_alloc a.id) p.stops && is_wanted a.desired) (record a { desired = desires.Stop }) a g g) s.allocs h.allocs);
 }
 applied_fit s (commands.Report n rs) t h f below = record {
   jobs = h.jobs;

@@ -1,5 +1,5 @@
 -- What a safe state is: what the live allocations hold fits the nodes, and no name is held twice.
-use Rattle.std.specs.Prelude.{ℕ, Bool, true, not, ◌&&◌, List, [], ◌∷◌, nat_eq, nat_le, bytes_eq}
+use Rattle.std.specs.Prelude.{Bool, true, not, ◌&&◌, List, [], ◌∷◌, nat_eq, nat_le, bytes_eq}
 use Rattle.std.specs.List.{list_all, list_any}
 use Rattle.std.specs.Ordering.{nat_cmp}
 use Rattle.rows.specs.declared.size.Size.{Size}

@@ -30,7 +30,7 @@ use Rattle.fsm_tables.specs.Rows.{put_within}
 use Rattle.fsm_tables.specs.RowLaws.{rising_put_within, few_put_within, rising_mapped}
 use Rattle.fsm_tables.specs.Claims.{is_active, is_wanted}
 use Rattle.fsm_state.specs.Words.{State, no_rows, same_eval, same_alloc, node_of, is_open}
-use Rattle.fsm_state.specs.Effect.{applied, counted, new_eval, with_evals, touched, is_named, owns, with_job, job_row, stop_job, without_job, node_row, down, draining, drained, lost, lives_on, moves, marked, migrated, set_status, stop, ends, frees, with_room, altered, alloc_row, with_places, state_of, told, told_all}
+use Rattle.fsm_state.specs.Effect.{applied, counted, new_eval, with_evals, touched, is_named, owns, with_job, job_row, stop_job, without_job, node_row, down, draining, drained, lost, lives_on, moves, marked, set_status, stop, ends, frees, with_room, altered, alloc_row, with_places, state_of, told, told_all}
 use Rattle.fsm_state.specs.Admission.{first_of, tests, admission}
 
 pub alloc_cmp_total : IsTotalOrder alloc_cmp

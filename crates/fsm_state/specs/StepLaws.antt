@@ -1,5 +1,5 @@
 -- The effects as puts of one row after the other are the effects as changes of all rows.
-use Rattle.std.proofs.Common.{◌≡◌, ℕ, ◌+◌, Bool, true, false, cond, not, ◌&&◌, ◌||◌, T, List, [], ◌∷◌, ◌++◌, length, map, Option, Some, None, is_some, refl, sym, ap, subst, ◌∙◌, arith}
+use Rattle.std.proofs.Common.{◌≡◌, ℕ, Bool, true, false, cond, not, ◌&&◌, ◌||◌, T, List, [], ◌∷◌, ◌++◌, length, map, Option, Some, None, is_some, refl, sym, ap, subst, ◌∙◌, arith}
 use Rattle.std.specs.Prelude.{nat_eq, nat_lt, bytes_eq, filter}
 use Rattle.std.specs.List.{list_any}
 use Rattle.std.specs.Cmp.{IsTotalOrder, nat_cmp_total, tied_itself}
@@ -14,23 +14,18 @@ use Rattle.rows.specs.declared.node.NodeStatus.TheVariants as statuses
 use Rattle.rows.specs.declared.node.DrainMode.TheVariants as drains
 use Rattle.rows.specs.declared.evaluation.EvalId.{EvalId}
 use Rattle.rows.specs.declared.evaluation.Evaluation.{Evaluation}
-use Rattle.rows.specs.declared.allocation.Desired.{Desired}
-use Rattle.rows.specs.declared.allocation.Desired.TheVariants as desires
 use Rattle.rows.specs.declared.allocation.AllocId.{AllocId}
 use Rattle.rows.specs.declared.allocation.Allocation.{Allocation}
-use Rattle.rows.specs.declared.command.Report.{Report}
 use Rattle.rows.specs.declared.command.StatusChange.{StatusChange}
 use Rattle.rows.specs.Changes.{status_of, snapshot_of}
-use Rattle.rows.specs.Keys.{name_cmp, eval_cmp, alloc_cmp, job_name, node_number, eval_id, alloc_id}
+use Rattle.rows.specs.Keys.{name_cmp, eval_cmp, alloc_cmp, job_name, node_number, eval_id}
 use Rattle.rows.specs.Rising.{is_below, is_rising}
 use Rattle.fsm_tables.specs.Rows.{by_order, row_of, has_row, put, put_within}
-use Rattle.fsm_tables.specs.RowLaws.{both, less, first, second, none_below, below_less, below_tied, rising_mapped}
-use Rattle.fsm_tables.specs.Claims.{Claim, claim_of, is_active, is_live, is_wanted}
-use Rattle.fsm_state.specs.Words.{State, alloc_of, holds, same_alloc, same_eval, is_open}
-use Rattle.fsm_state.specs.Effect.{touched, with_evals, is_named, owns, stop_job, down, draining, drained, lives_on, moves, marked, set_status, ends, frees, with_room, altered, stop, state_of, told, told_all}
-use Rattle.fsm_state.specs.SafeLaws.{Releases}
-use Rattle.fsm_state.specs.StateLaws.{alloc_cmp_total, eval_cmp_total}
-use Rattle.fsm_state.specs.Steps.{put_changed, changed, room_at, touched_names, alloc_changed, revised_row, revised, ended_job, stop_one, stopped_all, tell_one, told_steps, ended_jobs, mark_one, marked_all, live_job, live_jobs, jobs_on}
+use Rattle.fsm_tables.specs.RowLaws.{both, less, first, second, none_below, below_less, below_tied}
+use Rattle.fsm_state.specs.Words.{State, holds, same_alloc, same_eval, is_open}
+use Rattle.fsm_state.specs.Effect.{touched, with_evals, is_named, owns, stop_job, down, draining, drained, lives_on, set_status}
+use Rattle.fsm_state.specs.StateLaws.{eval_cmp_total}
+use Rattle.fsm_state.specs.Steps.{put_changed, changed, touched_names, jobs_on}
 
 -- ---- lists and tests
 

@@ -1,14 +1,12 @@
 -- Stops, reports and marks one after the other are one change of all allocations.
-use Rattle.std.proofs.Common.{◌≡◌, ℕ, ◌+◌, Bool, true, false, cond, not, ◌&&◌, ◌||◌, T, List, [], ◌∷◌, map, Option, Some, None, refl, sym, ap, subst, ◌∙◌, arith}
-use Rattle.std.specs.Prelude.{nat_eq, bytes_eq, filter}
+use Rattle.std.proofs.Common.{◌≡◌, ℕ, Bool, true, false, cond, not, ◌&&◌, ◌||◌, T, List, [], ◌∷◌, map, Option, Some, None, refl, sym, ap, ◌∙◌, arith}
+use Rattle.std.specs.Prelude.{nat_eq, bytes_eq}
 use Rattle.std.specs.List.{list_any}
-use Rattle.std.specs.Cmp.{nat_cmp_total}
 use Rattle.std.specs.Ordering.{nat_cmp, is_eq}
 use Rattle.rows.specs.declared.job.Job.{Job}
 use Rattle.rows.specs.declared.node.Node.{Node}
 use Rattle.rows.specs.declared.allocation.Desired.{Desired}
 use Rattle.rows.specs.declared.allocation.Desired.TheVariants as desires
-use Rattle.rows.specs.declared.allocation.ClientState.TheVariants as clients
 use Rattle.rows.specs.declared.allocation.AllocId.{AllocId}
 use Rattle.rows.specs.declared.allocation.Allocation.{Allocation}
 use Rattle.rows.specs.declared.command.Report.{Report}
@@ -19,10 +17,10 @@ use Rattle.fsm_tables.specs.RowLaws.{rising_mapped}
 use Rattle.fsm_tables.specs.Claims.{Claim, claim_of, is_active, is_live, is_wanted}
 use Rattle.fsm_state.specs.Words.{State, alloc_of, holds, same_alloc}
 use Rattle.fsm_state.specs.Effect.{touched, owns, moves, marked, ends, frees, with_room, altered, stop, state_of, told, told_all}
-use Rattle.fsm_state.specs.SafeLaws.{Releases, KeepsSize, with_room_keeps, stop_releases, told_releases, told_all_releases}
+use Rattle.fsm_state.specs.SafeLaws.{Releases, with_room_keeps, stop_releases, told_releases, told_all_releases}
 use Rattle.fsm_state.specs.StateLaws.{alloc_cmp_total}
-use Rattle.fsm_state.specs.Steps.{put_changed, changed, room_at, touched_names, alloc_changed, revised_row, revised, ended_job, stop_one, stopped_all, tell_one, told_steps, ended_jobs, mark_one, marked_all, live_job, live_jobs}
-use Rattle.fsm_state.specs.StepLaws.{maps, map_itself, maps_same, anys_same, or_false, and_false, and_true, never, swap, and_assoc, both_tests, only, only_keeps, none_only, changed_is, any_at, names_turn, at_number, at_alloc, node_changed, is_one_of, touched_same}
+use Rattle.fsm_state.specs.Steps.{put_changed, room_at, touched_names, alloc_changed, revised_row, revised, ended_job, stop_one, stopped_all, tell_one, told_steps, ended_jobs, mark_one, marked_all, live_job, live_jobs}
+use Rattle.fsm_state.specs.StepLaws.{maps, map_itself, maps_same, anys_same, and_false, swap, and_assoc, both_tests, only, only_keeps, none_only, changed_is, any_at, names_turn, at_alloc, node_changed, is_one_of, touched_same}
 
 -- the change of the allocation of an id
 abbrev pub at_id : (Allocation → Allocation) → AllocId → Allocation → Allocation
@@ -69,7 +67,7 @@ ends_twice q g f r t (a ∷ rows) =
 ends_one_at : (q : Claim → Bool) (f : Allocation → Allocation) (id : AllocId) (rows : List Allocation) → T (is_rising alloc_cmp alloc_id rows) → ends_one q (at_id f id) rows ≡ holds (λ a. ends f a && q (claim_of a)) (row_of alloc_cmp alloc_id id rows)
 ends_one_at q f id rows h =
     anys_same (λ a. ends (at_id f id) a && q (claim_of a)) (λ a. is_eq (alloc_cmp id a.id) && (ends f a && q (claim_of a)))
-      (λ a. ap (λ b. b && q (claim_of a)) (ends_at f id a) ∙ and_assoc (is_eq (alloc_cmp id a.id)) (ends f a) (q (claim_of a))) rows
+    (λ a. ap (λ b. b && q (claim_of a)) (ends_at f id a) ∙ and_assoc (is_eq (alloc_cmp id a.id)) (ends f a) (q (claim_of a))) rows
     ∙ any_at alloc_cmp alloc_id alloc_cmp_total (λ a. ends f a && q (claim_of a)) id rows h
 
 ends_none : (q : Claim → Bool) (rows : List Allocation) → ends_one q (λ a. a) rows ≡ false
@@ -111,7 +109,7 @@ altered_same f g h s = λ i. altered (λ a. h a i) s
 altered_none : (s : State) → altered (λ a. a) s ≡ s
 altered_none s =
     let nodes : map (with_room (frees (λ a. a) s.allocs) s.count) s.nodes ≡ s.nodes =
-          rooms_same (frees (λ a. a) s.allocs) (λ n. false) s.count (λ n. frees_is (λ a. a) s.allocs n ∙ ends_none (λ c. nat_eq c.node n) s.allocs) s.nodes ∙ no_room s.count s.nodes in
+    rooms_same (frees (λ a. a) s.allocs) (λ n. false) s.count (λ n. frees_is (λ a. a) s.allocs n ∙ ends_none (λ c. nat_eq c.node n) s.allocs) s.nodes ∙ no_room s.count s.nodes in
     λ i. record s { nodes = nodes i; allocs = map_itself s.allocs i }
 
 altered_twice : (g f : Allocation → Allocation) → Releases g → Releases f → (s : State) → altered g (altered f s) ≡ altered (λ a. g (f a)) s
@@ -119,11 +117,11 @@ altered_twice g f r t s =
     let p = frees f s.allocs in
     let q = frees g (map f s.allocs) in
     let either : (n : ℕ) → (p n || q n) ≡ frees (λ a. g (f a)) s.allocs n = λ n.
-          sym (frees_is (λ a. g (f a)) s.allocs n ∙ ends_twice (λ c. nat_eq c.node n) g f r t s.allocs ∙ (λ i. sym (frees_is f s.allocs n) i || sym (frees_is g (map f s.allocs) n) i)) in
+    sym (frees_is (λ a. g (f a)) s.allocs n ∙ ends_twice (λ c. nat_eq c.node n) g f r t s.allocs ∙ (λ i. sym (frees_is f s.allocs n) i || sym (frees_is g (map f s.allocs) n) i)) in
     let nodes : map (with_room q s.count) (map (with_room p s.count) s.nodes) ≡ map (with_room (frees (λ a. g (f a)) s.allocs) s.count) s.nodes =
-          maps (with_room q s.count) (with_room p s.count) s.nodes
-          ∙ maps_same (λ r. with_room q s.count (with_room p s.count r)) (with_room (λ n. p n || q n) s.count) (room_twice p q s.count) s.nodes
-          ∙ rooms_same (λ n. p n || q n) (frees (λ a. g (f a)) s.allocs) s.count either s.nodes in
+    maps (with_room q s.count) (with_room p s.count) s.nodes
+    ∙ maps_same (λ r. with_room q s.count (with_room p s.count r)) (with_room (λ n. p n || q n) s.count) (room_twice p q s.count) s.nodes
+    ∙ rooms_same (λ n. p n || q n) (frees (λ a. g (f a)) s.allocs) s.count either s.nodes in
     λ i. record s { nodes = nodes i; allocs = maps g f s.allocs i }
 
 -- ---- one allocation changed at its id
@@ -152,15 +150,15 @@ revised_is f keeps id s h =
     elim (alloc_of id s) as (λ m. alloc_of id s ≡ m → revised_row f m s ≡ altered (at_id f id) s) [
       | None ↦ λ e.
           let nodes : map (with_room (frees (at_id f id) s.allocs) s.count) s.nodes ≡ s.nodes =
-                rooms_same (frees (at_id f id) s.allocs) (λ n. false) s.count (λ n. freed_at f id s h n ∙ ap (holds (λ a. ends f a && nat_eq a.node n)) e) s.nodes ∙ no_room s.count s.nodes in
+          rooms_same (frees (at_id f id) s.allocs) (λ n. false) s.count (λ n. freed_at f id s h n ∙ ap (holds (λ a. ends f a && nat_eq a.node n)) e) s.nodes ∙ no_room s.count s.nodes in
           let allocs = none_only alloc_cmp alloc_id f id s.allocs e in
           λ i. record s { nodes = sym nodes i; allocs = sym allocs i }
       | Some a ↦ λ e.
           let nodes : cond (ends f a) (room_at s.count a.node s.nodes) s.nodes ≡ map (with_room (frees (at_id f id) s.allocs) s.count) s.nodes =
-                room_here (ends f a) s.count a.node s.nodes h.nodes
-                ∙ rooms_same (λ n. ends f a && nat_eq a.node n) (frees (at_id f id) s.allocs) s.count (λ n. sym (freed_at f id s h n ∙ ap (holds (λ a. ends f a && nat_eq a.node n)) e)) s.nodes in
+          room_here (ends f a) s.count a.node s.nodes h.nodes
+          ∙ rooms_same (λ n. ends f a && nat_eq a.node n) (frees (at_id f id) s.allocs) s.count (λ n. sym (freed_at f id s h n ∙ ap (holds (λ a. ends f a && nat_eq a.node n)) e)) s.nodes in
           let allocs : put_within alloc_cmp alloc_id 65536 (f a) s.allocs ≡ map (at_id f id) s.allocs =
-                ap (λ m. put_changed alloc_cmp alloc_id 65536 f m s.allocs) (sym e) ∙ changed_is alloc_cmp alloc_id alloc_cmp_total 65536 f keeps id s.allocs h.allocs in
+          ap (λ m. put_changed alloc_cmp alloc_id 65536 f m s.allocs) (sym e) ∙ changed_is alloc_cmp alloc_id alloc_cmp_total 65536 f keeps id s.allocs h.allocs in
           λ i. record s { nodes = nodes i; allocs = allocs i }
     ] refl
 
@@ -221,18 +219,18 @@ told_is n (r ∷ rs) s h =
 pub one_ended : (f : Allocation → Allocation) (m : Option Allocation) (names : List (List ℕ)) (j : Job) → is_one_of (ended_job f m names) j ≡ (holds (λ a. ends f a && bytes_eq a.job j.name) m || is_one_of names j)
 one_ended f None names j = refl
 one_ended f (Some a) names j = elim (ends f a) as (λ b. is_one_of (cond b (a.job ∷ names) names) j ≡ ((b && bytes_eq a.job j.name) || is_one_of names j)) [
-    | true ↦ ap (λ b. b || is_one_of names j) (names_turn j.name a.job)
-    | false ↦ refl
-  ]
+  | true ↦ ap (λ b. b || is_one_of names j) (names_turn j.name a.job)
+  | false ↦ refl
+]
 
 told_jobs : (n : ℕ) (rs : List Report) (s : State) → AreRising s → (j : Job) → owns (ends (told_all n rs)) s.allocs j ≡ is_one_of (ended_jobs n rs s) j
 told_jobs n [] s h j = ends_none (λ c. bytes_eq c.job j.name) s.allocs
 told_jobs n (r ∷ rs) s h j =
     let q : Claim → Bool = λ c. bytes_eq c.job j.name in
     let here : ends_one q (told n r) s.allocs ≡ holds (λ a. ends (tell_one n r) a && bytes_eq a.job j.name) (alloc_of r.id s) =
-          (λ i. ends_one q (λ a. sym (tell_is n r a) i) s.allocs) ∙ ends_one_at q (tell_one n r) r.id s.allocs h.allocs in
+    (λ i. ends_one q (λ a. sym (tell_is n r a) i) s.allocs) ∙ ends_one_at q (tell_one n r) r.id s.allocs h.allocs in
     let rest : ends_one q (told_all n rs) (map (told n r) s.allocs) ≡ is_one_of (ended_jobs n rs (revised (tell_one n r) r.id s)) j =
-          told_jobs n rs (altered (told n r) s) (altered_rising (told n r) (told_id n r) s h) j ∙ ap (λ t. is_one_of (ended_jobs n rs t) j) (sym (told_step n r s h)) in
+    told_jobs n rs (altered (told n r) s) (altered_rising (told n r) (told_id n r) s h) j ∙ ap (λ t. is_one_of (ended_jobs n rs t) j) (sym (told_step n r s h)) in
     ends_twice q (told_all n rs) (told n r) (told_all_releases n rs) (told_releases n r) s.allocs
     ∙ (λ i. here i || rest i)
     ∙ sym (one_ended (tell_one n r) (alloc_of r.id s) (ended_jobs n rs (revised (tell_one n r) r.id s)) j)
@@ -250,9 +248,9 @@ mark_more id ids a =
     ap (λ b. marked ids (cond b (mark_one a) a)) (at_alloc id a)
     ∙ elim (same_alloc a.id id) as (λ b. marked ids (cond b (mark_one a) a) ≡ cond ((b || list_any (same_alloc a.id) ids) && is_live a) (record a { migrate = true }) a) [
       | true ↦ elim (is_live a) as (λ b. is_live a ≡ b → marked ids (cond b (record a { migrate = true }) a) ≡ cond b (record a { migrate = true }) a) [
-          | true ↦ λ e. elim (list_any (same_alloc a.id) ids && is_live a) as (λ b. cond b (record a { migrate = true }) (record a { migrate = true }) ≡ record a { migrate = true }) [ true ↦ refl | false ↦ refl ]
-          | false ↦ λ e. ap (λ b. cond (list_any (same_alloc a.id) ids && b) (record a { migrate = true }) a) e ∙ ap (λ b. cond b (record a { migrate = true }) a) (and_false (list_any (same_alloc a.id) ids))
-        ] refl
+        | true ↦ λ e. elim (list_any (same_alloc a.id) ids && is_live a) as (λ b. cond b (record a { migrate = true }) (record a { migrate = true }) ≡ record a { migrate = true }) [ true ↦ refl | false ↦ refl ]
+        | false ↦ λ e. ap (λ b. cond (list_any (same_alloc a.id) ids && b) (record a { migrate = true }) a) e ∙ ap (λ b. cond b (record a { migrate = true }) a) (and_false (list_any (same_alloc a.id) ids))
+      ] refl
       | false ↦ refl
     ]
 
@@ -271,9 +269,9 @@ marked_is (id ∷ ids) s h =
 one_live : (m : Option Allocation) (names : List (List ℕ)) (j : Job) → is_one_of (live_job m names) j ≡ (holds (λ a. is_live a && bytes_eq a.job j.name) m || is_one_of names j)
 one_live None names j = refl
 one_live (Some a) names j = elim (is_live a) as (λ b. is_one_of (cond b (a.job ∷ names) names) j ≡ ((b && bytes_eq a.job j.name) || is_one_of names j)) [
-    | true ↦ ap (λ b. b || is_one_of names j) (names_turn j.name a.job)
-    | false ↦ refl
-  ]
+  | true ↦ ap (λ b. b || is_one_of names j) (names_turn j.name a.job)
+  | false ↦ refl
+]
 
 split : (s t l q x y : Bool) → ((((s || t) && l) && q) || (x || y)) ≡ (((s && (l && q)) || x) || (((t && l) && q) || y))
 split true true true true x y = refl
@@ -302,8 +300,8 @@ pub moved_jobs : (ids : List AllocId) (s : State) → AreRising s → (j : Job) 
 moved_jobs [] s h j = no_moves s.allocs j
 moved_jobs (id ∷ ids) s h j =
     let here : list_any (λ a. same_alloc a.id id && (is_live a && bytes_eq a.job j.name)) s.allocs ≡ holds (λ a. is_live a && bytes_eq a.job j.name) (alloc_of id s) =
-          anys_same (λ a. same_alloc a.id id && (is_live a && bytes_eq a.job j.name)) (λ a. is_eq (alloc_cmp id a.id) && (is_live a && bytes_eq a.job j.name)) (λ a. ap (λ b. b && (is_live a && bytes_eq a.job j.name)) (sym (at_alloc id a))) s.allocs
-          ∙ any_at alloc_cmp alloc_id alloc_cmp_total (λ a. is_live a && bytes_eq a.job j.name) id s.allocs h.allocs in
+    anys_same (λ a. same_alloc a.id id && (is_live a && bytes_eq a.job j.name)) (λ a. is_eq (alloc_cmp id a.id) && (is_live a && bytes_eq a.job j.name)) (λ a. ap (λ b. b && (is_live a && bytes_eq a.job j.name)) (sym (at_alloc id a))) s.allocs
+    ∙ any_at alloc_cmp alloc_id alloc_cmp_total (λ a. is_live a && bytes_eq a.job j.name) id s.allocs h.allocs in
     moves_more id ids s.allocs j
     ∙ (λ i. here i || moved_jobs ids s h j i)
     ∙ sym (one_live (alloc_of id s) (live_jobs ids s) j)

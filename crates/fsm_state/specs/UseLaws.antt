@@ -1,11 +1,10 @@
 -- Safety told by the numbers of nodes: with ids and sizes in their ranges, a state is safe where each number's use is within what
 -- that number has, and no two claims are of one name.
 use Rattle.std.proofs.Common.{◌≡◌, ℕ, ◌+◌, ◌<◌, ◌≤◌, Bool, true, false, cond, not, ◌&&◌, T, List, [], ◌∷◌, ◌++◌, map, Option, Some, None, is_some, refl, sym, ap, subst, ◌∙◌, arith}
-use Rattle.std.specs.Prelude.{sum_by, nat_eq, nat_le, filter}
+use Rattle.std.specs.Prelude.{sum_by, nat_eq}
 use Rattle.std.specs.List.{AllByRecursion, list_all}
 use Rattle.std.specs.Cmp.{nat_cmp_total, tied_itself}
 use Rattle.std.specs.Ordering.{nat_cmp, is_eq, ordering_reverse}
-use Rattle.std.specs.declared.cmp.Ordering.TheVariants.{Less, Equal, Greater}
 use Rattle.std.proofs.lemmas.List.{append_assoc}
 use Rattle.std.proofs.lemmas.List.Sums.{sum_by-cons, sum_by-append}
 use Rattle.std.proofs.lemmas.Map.Lookups.{exact_unsigned}
@@ -15,11 +14,11 @@ use Rattle.rows.specs.declared.allocation.Allocation.{Allocation}
 use Rattle.rows.specs.Keys.{node_number}
 use Rattle.rows.specs.Rising.{is_below, is_rising}
 use Rattle.rows.specs.Fits.{AllocationFits, NodeFits}
-use Rattle.fsm_tables.specs.Rows.{row_of, has_row}
+use Rattle.fsm_tables.specs.Rows.{row_of}
 use Rattle.fsm_tables.specs.RowLaws.{both, first, second, less, equal}
 use Rattle.fsm_tables.specs.Claims.{Claim, claim_of, claims, on_node, used, is_live}
-use Rattle.fsm_state.specs.Safe.{fits, is_within, is_placed, same_name, are_distinct, are_safe}
-use Rattle.fsm_state.specs.SafeFacts.{T-le, le-T}
+use Rattle.fsm_state.specs.Safe.{fits, is_within, is_placed, are_distinct, are_safe}
+use Rattle.fsm_state.specs.SafeFacts.{T-le}
 use Rattle.fsm_state.specs.SafeLaws.{KeepsSize, Releases, found_passes, unused, none_fits, within_of, placed_of, from_parts, apart_adds_nothing}
 use Rattle.fsm_state.specs.Effect.{ends}
 
@@ -55,15 +54,17 @@ number_fits nodes cs h n =
 -- each row of a rising list is found by its number
 found_behind : (y : Node) (ys zs : List Node) → T (is_below nat_cmp node_number y.number zs) → AllByRecursion (λ z. row_of nat_cmp node_number z.number ys ≡ Some z) zs → AllByRecursion (λ z. row_of nat_cmp node_number z.number (y ∷ ys) ≡ Some z) zs
 found_behind y ys [] h f = tt
-found_behind y ys (z ∷ zs) h f =
-    (ap (λ r. cond (is_eq r) (Some y) (row_of nat_cmp node_number z.number ys)) (nat_cmp_total.antisymm z.number y.number ∙ ap ordering_reverse (less _ (first _ _ h))) ∙ f.0,
-     found_behind y ys zs (second _ _ h) f.1)
+found_behind y ys (z ∷ zs) h f = (
+  ap (λ r. cond (is_eq r) (Some y) (row_of nat_cmp node_number z.number ys)) (nat_cmp_total.antisymm z.number y.number ∙ ap ordering_reverse (less _ (first _ _ h))) ∙ f.0,
+  found_behind y ys zs (second _ _ h) f.1,
+)
 
 each_found : (ys : List Node) → T (is_rising nat_cmp node_number ys) → AllByRecursion (λ z. row_of nat_cmp node_number z.number ys ≡ Some z) ys
 each_found [] h = tt
-each_found (y ∷ ys) h =
-    (ap (λ r. cond (is_eq r) (Some y) (row_of nat_cmp node_number y.number ys)) (tied_itself nat_cmp_total y.number),
-     found_behind y ys ys (first _ _ h) (each_found ys (second _ _ h)))
+each_found (y ∷ ys) h = (
+  ap (λ r. cond (is_eq r) (Some y) (row_of nat_cmp node_number y.number ys)) (tied_itself nat_cmp_total y.number),
+  found_behind y ys ys (first _ _ h) (each_found ys (second _ _ h)),
+)
 
 within_by_number : (nodes : List Node) (cs : List Claim) → ((n : ℕ) → n < 65 → T (fits_number nodes cs n))
     → (ys : List Node) → AllByRecursion (λ z. row_of nat_cmp node_number z.number nodes ≡ Some z) ys → AllByRecursion (λ z. z.number < 65) ys → T (list_all (is_within cs) ys)
@@ -85,9 +86,10 @@ uses_some (c ∷ cs) ds h =
     let one : on_node c.node (λ z. z.cpu) c ≡ c.size.cpu = itself c.node c.size.cpu in
     let some : 1 ≤ c.size.cpu = h.0.1 in
     let all = sum_by-append (on_node c.node (λ z. z.cpu)) ds (c ∷ cs) in
-    let more = sum_by-cons (on_node c.node (λ z. z.cpu)) c cs in
-    (omega (arith, one, some, all, more),
-     subst (λ es. AllByRecursion (λ d. 1 ≤ sum_by (on_node d.node (λ z. z.cpu)) es) cs) (append_assoc ds (c ∷ []) cs) (uses_some cs (ds ++ c ∷ []) h.1))
+    let more = sum_by-cons (on_node c.node (λ z. z.cpu)) c cs in (
+      omega (arith, one, some, all, more),
+      subst (λ es. AllByRecursion (λ d. 1 ≤ sum_by (on_node d.node (λ z. z.cpu)) es) cs) (append_assoc ds (c ∷ []) cs) (uses_some cs (ds ++ c ∷ []) h.1),
+    )
 
 placed_by_number : (nodes : List Node) (cs : List Claim) → ((n : ℕ) → n < 65 → T (fits_number nodes cs n))
     → (ds : List Claim) → AllByRecursion Counts ds → AllByRecursion (λ c. 1 ≤ sum_by (on_node c.node (λ z. z.cpu)) cs) ds → T (list_all (is_placed nodes) ds)

@@ -1,11 +1,9 @@
 -- Worked commands: what the definitions answer for states and commands written out.
-use Rattle.std.specs.Prelude.{◌≡◌, ℕ, true, false, Some, None, List, [], ◌∷◌, map}
+use Rattle.std.specs.Prelude.{◌≡◌, ℕ, true, false, Some, None, List, [], ◌∷◌}
 use Rattle.rows.specs.declared.refusal.Refusal.TheVariants as refusals
 use Rattle.rows.specs.declared.size.Size.{Size}
 use Rattle.rows.specs.declared.job.Group.{Group}
-use Rattle.rows.specs.declared.job.Job.{Job}
 use Rattle.rows.specs.declared.node.Node.{Node}
-use Rattle.rows.specs.declared.node.NodeStatus.{NodeStatus}
 use Rattle.rows.specs.declared.node.NodeStatus.TheVariants as statuses
 use Rattle.rows.specs.declared.node.DrainMode.TheVariants as drains
 use Rattle.rows.specs.declared.evaluation.EvalId.{EvalId}
@@ -19,7 +17,6 @@ use Rattle.rows.specs.declared.allocation.Desired.TheVariants as desires
 use Rattle.rows.specs.declared.allocation.ClientState.{ClientState}
 use Rattle.rows.specs.declared.allocation.ClientState.TheVariants as clients
 use Rattle.rows.specs.declared.command.AcceptedPlace.{AcceptedPlace}
-use Rattle.rows.specs.declared.command.Report.{Report}
 use Rattle.rows.specs.declared.command.ReportedState.TheVariants as reported_states
 use Rattle.rows.specs.declared.command.StatusChange.TheVariants as changes
 use Rattle.rows.specs.declared.command.Command.{Command}

@@ -7,7 +7,9 @@ ghost use Rattle.fsm_state.specs.Steps.{room_at, revised, revised_to, alloc_chan
 
 use crate::cluster::Cluster;
 use fsm_tables::is_live;
-use rows::{AllocId, Allocation, ClientState, Desired, Index, NoMemory, NodeId, Report, ReportedState};
+use rows::{
+    AllocId, Allocation, ClientState, Desired, Index, NoMemory, NodeId, Report, ReportedState,
+};
 
 /// Whether a node says of an allocation that it waits or runs.
 fn is_active(state: ClientState) -> bool
@@ -44,7 +46,7 @@ pub(crate) fn told(row: &Allocation, node: NodeId, report: &Report) -> Allocatio
     ensures { result ≡ tell_one node report.now row.now }
 {
     let mut row = *row;
-    if row.node == node && is_active(row.client) {
+    if is_active(row.client) && row.node == node {
         row.client = told_state(report.state);
     }
     row

@@ -97,7 +97,12 @@ impl Cluster {
     }
 
     /// Takes what a node reports, and touches the jobs of the allocations that ended.
-    fn report(&mut self, entry: EntryIndex, node: NodeId, reports: &[Report]) -> Result<(), NoMemory>
+    fn report(
+        &mut self,
+        entry: EntryIndex,
+        node: NodeId,
+        reports: &[Report],
+    ) -> Result<(), NoMemory>
         requires { entry ≡ self.old.count }
         ensures { OnOk result (self.new ≡ reported node reports.now self.old) }
     {

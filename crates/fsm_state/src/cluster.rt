@@ -47,6 +47,17 @@ impl Cluster {
         }
     }
 
+    /// A state without rows, after so many commands.
+    pub(crate) fn at_count(alloc: Global, count: Index) -> Cluster
+        ensures { result ≡ record no_rows { count = count } }
+    {
+        Cluster {
+            alloc,
+            count,
+            tables: Tables::empty(alloc),
+        }
+    }
+
     /// How many commands were applied.
     pub fn applied(&self) -> Index
         ensures { result ≡ self.now.count }

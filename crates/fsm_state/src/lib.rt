@@ -7,9 +7,11 @@ mod admission_touch;
 mod allocs;
 mod apply;
 mod cluster;
+mod fill;
 mod laws;
 mod lists;
 mod nodes;
+mod text;
 mod touch;
 mod worked;
 

@@ -62,7 +62,11 @@ fn add_ended(
 }
 
 /// Adds the job of a row that is live on the node.
-fn add_on(names: &mut Sequence<JobName>, row: Option<&Allocation>, node: NodeId) -> Result<(), NoMemory>
+fn add_on(
+    names: &mut Sequence<JobName>,
+    row: Option<&Allocation>,
+    node: NodeId,
+) -> Result<(), NoMemory>
     ensures { OnOk result ((rest : List (List ℕ)) → names.new ++ rest ≡ names.old ++ job_on node (option_map (λ r. r.now) row.entry) rest) }
 {
     match row {
@@ -93,7 +97,11 @@ impl Cluster {
     }
 
     /// Takes reports, one after the other, and says the jobs of the allocations that they end.
-    pub(crate) fn take_reports(&mut self, node: NodeId, reports: &[Report]) -> Result<Sequence<JobName>, NoMemory>
+    pub(crate) fn take_reports(
+        &mut self,
+        node: NodeId,
+        reports: &[Report],
+    ) -> Result<Sequence<JobName>, NoMemory>
         ensures names { IfOk result (λ names. names ≡ ended_jobs node reports.now self.old) }
         ensures state { OnOk result (self.new ≡ told_steps node reports.now self.old) }
     {
@@ -152,7 +160,11 @@ impl Cluster {
     }
 
     /// Makes the allocations that a plan places, one after the other.
-    pub(crate) fn place_all(&mut self, entry: EntryIndex, plan: &AcceptedPlan) -> Result<(), NoMemory>
+    pub(crate) fn place_all(
+        &mut self,
+        entry: EntryIndex,
+        plan: &AcceptedPlan,
+    ) -> Result<(), NoMemory>
         requires { entry ≡ self.old.count }
         ensures { OnOk result (self.new ≡ placed plan.now self.old) }
     {

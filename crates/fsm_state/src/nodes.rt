@@ -162,7 +162,11 @@ impl Cluster {
             Some(row) => {
                 let mut row = *row;
                 row.eligible = false;
-                row.drain = if force { DrainMode::Force } else { DrainMode::Slow };
+                row.drain = if force {
+                    DrainMode::Force
+                } else {
+                    DrainMode::Slow
+                };
                 self.put_node(row)
             }
             None => Ok(()),

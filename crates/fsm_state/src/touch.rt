@@ -28,7 +28,12 @@ fn evaluation(entry: EntryIndex, slot: u8, job: &Job) -> Evaluation
 }
 
 /// The evaluation that touches a job, where it is one of the names.
-fn evaluation_for(entry: EntryIndex, slot: u8, names: &[JobName], job: Option<&Job>) -> Option<Evaluation>
+fn evaluation_for(
+    entry: EntryIndex,
+    slot: u8,
+    names: &[JobName],
+    job: Option<&Job>,
+) -> Option<Evaluation>
     ensures { result ≡ eval_for entry slot names.now (option_map (λ j. j.now) job.entry) }
 {
     match job {

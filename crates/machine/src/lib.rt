@@ -8,6 +8,8 @@ mod laws;
 mod machine;
 mod tally;
 #[cfg(test)]
+mod row_tests;
+#[cfg(test)]
 mod tests;
 
 pub use amount::Amount;

@@ -2,10 +2,13 @@ pub mod Refusals
 pub mod Names
 pub mod NameLaws
 pub mod Rising
+pub mod RisingLaws
 pub mod Ids
 pub mod Groups
 pub mod Batches
 pub mod Keys
+pub mod KeyLaws
 pub mod Fits
 pub mod State
+pub mod Tables
 pub mod Changes

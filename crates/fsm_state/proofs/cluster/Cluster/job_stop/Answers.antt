@@ -12,6 +12,6 @@ returns c =
     let names = name ∷ [] in
     turned c.touch.result c.touch.new.self _ _
     (ap (touched_names names) c.in_ok-end_job.ensures
-        ∙ (λ i. touched_names names (record s { jobs = stopped_job s.count name s.jobs c.ranges-2.ensures.tables.jobs.rising i }))
-        ∙ sym (touched_name name (without_job name s)))
+    ∙ (λ i. touched_names names (record s { jobs = stopped_job s.count name s.jobs c.ranges-2.ensures.tables.jobs.rising i }))
+    ∙ sym (touched_name name (without_job name s)))
     c.touch.ensures

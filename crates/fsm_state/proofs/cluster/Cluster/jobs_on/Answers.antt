@@ -1,4 +1,4 @@
-use Rattle.std.proofs.Common.{◌≡◌, ◌++◌, drop, suc, ap, ◌∙◌, add-one, List, ℕ}
+use Rattle.std.proofs.Common.{◌++◌, drop, suc, ap, ◌∙◌, add-one, List, ℕ}
 use Rattle.std.specs.List.{slice_get}
 use Rattle.fsm_state.specs.Steps.{jobs_on, job_on}
 use Rattle.fsm_state.proofs.Rows.{on_place}

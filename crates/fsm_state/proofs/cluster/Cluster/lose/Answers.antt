@@ -1,4 +1,4 @@
-use Rattle.std.proofs.Common.{◌≡◌, ◌<◌, ◌++◌, length, map, take, drop, suc, ap, ◌∙◌, add-one, arith}
+use Rattle.std.proofs.Common.{◌≡◌, ◌<◌, length, ap, ◌∙◌, add-one, arith}
 use Rattle.std.specs.List.{slice_get}
 use Rattle.rows.specs.Keys.{alloc_cmp, alloc_id}
 use Rattle.fsm_state.specs.Words.{State}
@@ -17,5 +17,5 @@ loop-place-preserved c =
     let lt : place < length rows = omega arith in
     let step = lost_step n rows place c.ranges-2.ensures.tables.allocs.rising lt in
     rw add-one (c.in_ok-lose_at.ensures
-        ∙ ap (λ (z : State). record z { allocs = put_changed alloc_cmp alloc_id 65536 (lost n) (slice_get z.allocs place) z.allocs }) c.loop-place.invariant
-        ∙ (λ i. record s0 { allocs = step i }))
+    ∙ ap (λ (z : State). record z { allocs = put_changed alloc_cmp alloc_id 65536 (lost n) (slice_get z.allocs place) z.allocs }) c.loop-place.invariant
+    ∙ (λ i. record s0 { allocs = step i }))

@@ -11,8 +11,8 @@ returns c =
     let n = c.args.number in
     let t = record s { nodes = map (down n) s.nodes; allocs = map (lost n) s.allocs } in
     let e : c.lose.new.self ≡ t = c.in_ok-lose.ensures
-        ∙ ap (λ (z : State). record z { allocs = map (lost n) z.allocs }) c.in_ok-set_down.ensures
-        ∙ (λ i. record s { nodes = downed_node n s.nodes c.ranges-2.ensures.tables.nodes.rising i; allocs = map (lost n) s.allocs }) in
+    ∙ ap (λ (z : State). record z { allocs = map (lost n) z.allocs }) c.in_ok-set_down.ensures
+    ∙ (λ i. record s { nodes = downed_node n s.nodes c.ranges-2.ensures.tables.nodes.rising i; allocs = map (lost n) s.allocs }) in
     turned c.touch.result c.touch.new.self _ _
     (touched_both _ _ _ _ (c.as_slice.ensures ∙ c.in_ok-names.ensures) e ∙ sym (touched_on n s.allocs t))
     c.touch.ensures

@@ -19,5 +19,5 @@ returns c =
     let e : c.take_reports.new.self ≡ altered (told_all n rs) s = c.in_ok-names.ensures.state ∙ told_is n rs s (record { nodes = c.ranges-2.ensures.tables.nodes.rising; allocs = c.ranges-2.ensures.tables.allocs.rising }) in
     turned c.touch.result c.touch.new.self _ _
     (touched_both _ _ _ _ (c.as_slice.ensures ∙ c.in_ok-names.ensures.names) e
-        ∙ sym (touched_told n rs s (altered (told_all n rs) s) (record { nodes = c.ranges-2.ensures.tables.nodes.rising; allocs = c.ranges-2.ensures.tables.allocs.rising })))
+    ∙ sym (touched_told n rs s (altered (told_all n rs) s) (record { nodes = c.ranges-2.ensures.tables.nodes.rising; allocs = c.ranges-2.ensures.tables.allocs.rising })))
     c.touch.ensures

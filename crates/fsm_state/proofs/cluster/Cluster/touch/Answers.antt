@@ -1,8 +1,7 @@
-use Rattle.std.proofs.Common.{◌≡◌, ◌+◌, ◌<◌, length, Some, None, subst, sym, ap, ◌∙◌, arith}
+use Rattle.std.proofs.Common.{◌≡◌, ◌+◌, ◌<◌, length, Some, None, ap, ◌∙◌, arith}
 use Rattle.std.specs.List.{slice_get}
-use Rattle.fsm_state.specs.Words.{State}
 use Rattle.fsm_state.specs.Steps.{touched_names, eval_for}
-use Rattle.fsm_state.proofs.Touching.{Kept, kept, moved}
+use Rattle.fsm_state.proofs.Touching.{kept, moved}
 use Rattle.fsm_state.proofs.cluster.Cluster.touch.Goals.{in-Some+in_ok-put_eval-in-Some, in-None}
 use Rattle.fsm_state.proofs.cluster.Cluster.touch.Goals as goal
 

@@ -1,0 +1,136 @@
+//! What stands in rows as one byte by a code.
+ghost use Rattle.fields.specs.Rows.{node_status, drain_mode, eval_status, desired, client_state};
+ghost use Rattle.fields.specs.RowLaws.{node_status_lawful, drain_mode_lawful, eval_status_lawful, desired_lawful, client_state_lawful};
+
+use crate::field::Field;
+use crate::reading::read_u8;
+use crate::writing::write_u8;
+use rows::{ClientState, Desired, DrainMode, EvalStatus, NoMemory, NodeStatus, Refusal};
+use std::alloc::Global;
+
+/// One byte: 0 ready, 1 down.
+impl Field for NodeStatus {
+    ghost format = { node_status };
+
+    ghost lawful = { node_status_lawful };
+
+    fn read_at(_alloc: Global, bytes: &[u8], at: usize) -> Result<(NodeStatus, usize), Refusal> {
+        match read_u8(bytes, at)? {
+            (0, next) => Ok((NodeStatus::Ready, next)),
+            (1, next) => Ok((NodeStatus::Down, next)),
+            _ => Err(Refusal::Frame(at)),
+        }
+    }
+
+    fn append(&self, out: &mut Vec<u8>) -> Result<(), NoMemory> {
+        let code = match self {
+            NodeStatus::Ready => 0,
+            NodeStatus::Down => 1,
+        };
+        write_u8(&code, out)
+    }
+}
+
+/// One byte: 0 none, 1 slow, 2 force.
+impl Field for DrainMode {
+    ghost format = { drain_mode };
+
+    ghost lawful = { drain_mode_lawful };
+
+    fn read_at(_alloc: Global, bytes: &[u8], at: usize) -> Result<(DrainMode, usize), Refusal> {
+        match read_u8(bytes, at)? {
+            (0, next) => Ok((DrainMode::Off, next)),
+            (1, next) => Ok((DrainMode::Slow, next)),
+            (2, next) => Ok((DrainMode::Force, next)),
+            _ => Err(Refusal::Frame(at)),
+        }
+    }
+
+    fn append(&self, out: &mut Vec<u8>) -> Result<(), NoMemory> {
+        let code = match self {
+            DrainMode::Off => 0,
+            DrainMode::Slow => 1,
+            DrainMode::Force => 2,
+        };
+        write_u8(&code, out)
+    }
+}
+
+/// One byte: 0 pending, 1 blocked, 2 complete, 3 failed.
+impl Field for EvalStatus {
+    ghost format = { eval_status };
+
+    ghost lawful = { eval_status_lawful };
+
+    fn read_at(_alloc: Global, bytes: &[u8], at: usize) -> Result<(EvalStatus, usize), Refusal> {
+        match read_u8(bytes, at)? {
+            (0, next) => Ok((EvalStatus::Pending, next)),
+            (1, next) => Ok((EvalStatus::Blocked, next)),
+            (2, next) => Ok((EvalStatus::Complete, next)),
+            (3, next) => Ok((EvalStatus::Failed, next)),
+            _ => Err(Refusal::Frame(at)),
+        }
+    }
+
+    fn append(&self, out: &mut Vec<u8>) -> Result<(), NoMemory> {
+        let code = match self {
+            EvalStatus::Pending => 0,
+            EvalStatus::Blocked => 1,
+            EvalStatus::Complete => 2,
+            EvalStatus::Failed => 3,
+        };
+        write_u8(&code, out)
+    }
+}
+
+/// One byte: 0 run, 1 stop.
+impl Field for Desired {
+    ghost format = { desired };
+
+    ghost lawful = { desired_lawful };
+
+    fn read_at(_alloc: Global, bytes: &[u8], at: usize) -> Result<(Desired, usize), Refusal> {
+        match read_u8(bytes, at)? {
+            (0, next) => Ok((Desired::Run, next)),
+            (1, next) => Ok((Desired::Stop, next)),
+            _ => Err(Refusal::Frame(at)),
+        }
+    }
+
+    fn append(&self, out: &mut Vec<u8>) -> Result<(), NoMemory> {
+        let code = match self {
+            Desired::Run => 0,
+            Desired::Stop => 1,
+        };
+        write_u8(&code, out)
+    }
+}
+
+/// One byte: 0 pending, 1 running, 2 complete, 3 failed, 4 lost.
+impl Field for ClientState {
+    ghost format = { client_state };
+
+    ghost lawful = { client_state_lawful };
+
+    fn read_at(_alloc: Global, bytes: &[u8], at: usize) -> Result<(ClientState, usize), Refusal> {
+        match read_u8(bytes, at)? {
+            (0, next) => Ok((ClientState::Pending, next)),
+            (1, next) => Ok((ClientState::Running, next)),
+            (2, next) => Ok((ClientState::Complete, next)),
+            (3, next) => Ok((ClientState::Failed, next)),
+            (4, next) => Ok((ClientState::Lost, next)),
+            _ => Err(Refusal::Frame(at)),
+        }
+    }
+
+    fn append(&self, out: &mut Vec<u8>) -> Result<(), NoMemory> {
+        let code = match self {
+            ClientState::Pending => 0,
+            ClientState::Running => 1,
+            ClientState::Complete => 2,
+            ClientState::Failed => 3,
+            ClientState::Lost => 4,
+        };
+        write_u8(&code, out)
+    }
+}

@@ -1,0 +1,484 @@
+//! Commands, and what a worker submits, as bytes.
+ghost use Rattle.std.specs.Prelude.{◌≡◌};
+ghost use Rattle.fields.specs.Format.{Gives, GivesExactly, Puts, list, number};
+ghost use Rattle.fields.specs.FormatLaws.{list_lawful};
+ghost use Rattle.fields.specs.Commands.{job_spec, node_spec, rising_ids, place, accepted_place, plan, plan_end, accepted_plan, accepted_end, reported_state, report, reports, status_change, command, bodies, later_bodies, tag_of};
+ghost use Rattle.fields.specs.CommandLaws.{job_spec_lawful, node_spec_lawful, rising_ids_lawful, place_lawful, accepted_place_lawful, plan_lawful, accepted_plan_lawful, reported_state_lawful, report_lawful, reports_lawful, status_change_lawful, command_lawful};
+
+use crate::field::Field;
+use crate::list::{append_counted, read_list};
+use crate::reading::{read_bool, read_count, read_index, read_u8, read_u64};
+use crate::ruled::read_ruled_list;
+use crate::writing::write_u8;
+use rows::{
+    AcceptedPlace, AcceptedPlan, AllocId, Batch, ClassName, Command, EvalId, EvalStatus, GroupName,
+    Groups, Index, JobName, JobSpec, NoMemory, NodeId, NodeSpec, Ordinal, Place, Plan, Priority,
+    Refusal, Report, ReportedState, Reports, RisingIds, Size, StatusChange, Token,
+};
+use std::alloc::Global;
+
+/// What is asked of a job: its name, priority and groups.
+impl Field for JobSpec {
+    ghost format = { job_spec };
+
+    ghost lawful = { job_spec_lawful };
+
+    fn read_at(alloc: Global, bytes: &[u8], at: usize) -> Result<(JobSpec, usize), Refusal> {
+        let (name, at) = JobName::read_at(alloc, bytes, at)?;
+        let (priority, at) = Priority::read_at(alloc, bytes, at)?;
+        let (groups, at) = Groups::read_at(alloc, bytes, at)?;
+        Ok((
+            JobSpec {
+                name,
+                priority,
+                groups,
+            },
+            at,
+        ))
+    }
+
+    fn append(&self, out: &mut Vec<u8>) -> Result<(), NoMemory> {
+        self.name.append(out)?;
+        self.priority.append(out)?;
+        self.groups.append(out)
+    }
+}
+
+/// What a node says of itself: its number, class and size.
+impl Field for NodeSpec {
+    ghost format = { node_spec };
+
+    ghost lawful = { node_spec_lawful };
+
+    fn read_at(alloc: Global, bytes: &[u8], at: usize) -> Result<(NodeSpec, usize), Refusal> {
+        let (number, at) = NodeId::read_at(alloc, bytes, at)?;
+        let (class, at) = ClassName::read_at(alloc, bytes, at)?;
+        let (size, at) = Size::read_at(alloc, bytes, at)?;
+        Ok((
+            NodeSpec {
+                number,
+                class,
+                size,
+            },
+            at,
+        ))
+    }
+
+    fn append(&self, out: &mut Vec<u8>) -> Result<(), NoMemory> {
+        self.number.append(out)?;
+        self.class.append(out)?;
+        self.size.append(out)
+    }
+}
+
+/// A count of one byte, at most 64, and that many items.
+impl<F: Field> Field for Batch<F> {
+    ghost use Rattle.fields.specs.BatchLaws.{batch, batch_lawful};
+
+    ghost format = { batch F.format };
+
+    ghost lawful = { batch_lawful F.format F.lawful };
+
+    fn read_at(alloc: Global, bytes: &[u8], at: usize) -> Result<(Batch<F>, usize), Refusal> {
+        let (items, next) = read_list(alloc, bytes, at, 64)?;
+        match Batch::check(items) {
+            Ok(batch) => Ok((batch, next)),
+            Err(_) => Err(Refusal::Frame(at)),
+        }
+    }
+
+    fn append(&self, out: &mut Vec<u8>) -> Result<(), NoMemory> {
+        append_counted(self.as_slice(), 64, out)
+    }
+}
+
+/// A count of one byte, from 1 to 64, and that many ids that rise strictly.
+impl Field for RisingIds {
+    ghost format = { rising_ids };
+
+    ghost lawful = { rising_ids_lawful };
+
+    fn read_at(alloc: Global, bytes: &[u8], at: usize) -> Result<(RisingIds, usize), Refusal> {
+        let (items, next) = read_ruled_list(alloc, bytes, at, 64)?;
+        match RisingIds::check(items) {
+            Ok(items) => Ok((items, next)),
+            Err(_) => Err(Refusal::Frame(at)),
+        }
+    }
+
+    fn append(&self, out: &mut Vec<u8>) -> Result<(), NoMemory> {
+        append_counted(self.as_slice(), 64, out)
+    }
+}
+
+/// A place of a plan: the group, the index and the node.
+impl Field for Place {
+    ghost format = { place };
+
+    ghost lawful = { place_lawful };
+
+    fn read_at(alloc: Global, bytes: &[u8], at: usize) -> Result<(Place, usize), Refusal> {
+        let (group, at) = GroupName::read_at(alloc, bytes, at)?;
+        let (index, at) = Ordinal::read_at(alloc, bytes, at)?;
+        let (node, at) = NodeId::read_at(alloc, bytes, at)?;
+        Ok((Place { group, index, node }, at))
+    }
+
+    fn append(&self, out: &mut Vec<u8>) -> Result<(), NoMemory> {
+        self.group.append(out)?;
+        self.index.append(out)?;
+        self.node.append(out)
+    }
+}
+
+/// A place that was accepted: the group, the index, the node and the size.
+impl Field for AcceptedPlace {
+    ghost format = { accepted_place };
+
+    ghost lawful = { accepted_place_lawful };
+
+    fn read_at(alloc: Global, bytes: &[u8], at: usize) -> Result<(AcceptedPlace, usize), Refusal> {
+        let (group, at) = GroupName::read_at(alloc, bytes, at)?;
+        let (index, at) = Ordinal::read_at(alloc, bytes, at)?;
+        let (node, at) = NodeId::read_at(alloc, bytes, at)?;
+        let (size, at) = Size::read_at(alloc, bytes, at)?;
+        Ok((
+            AcceptedPlace {
+                group,
+                index,
+                node,
+                size,
+            },
+            at,
+        ))
+    }
+
+    fn append(&self, out: &mut Vec<u8>) -> Result<(), NoMemory> {
+        self.group.append(out)?;
+        self.index.append(out)?;
+        self.node.append(out)?;
+        self.size.append(out)
+    }
+}
+
+/// The version, the snapshot, the stops and the places.
+fn append_plan_end(plan: &Plan, out: &mut Vec<u8>) -> Result<(), NoMemory>
+    ensures { Puts plan_end (plan.now.version, (plan.now.snapshot, (plan.now.stops, plan.now.places))) result out.old.items out.new.items }
+{
+    plan.version.append(out)?;
+    plan.snapshot.append(out)?;
+    plan.stops.append(out)?;
+    plan.places.append(out)
+}
+
+/// What a worker submits: evaluation, token, job, version, snapshot, stops and places.
+impl Field for Plan {
+    ghost format = { plan };
+
+    ghost lawful = { plan_lawful };
+
+    fn read_at(alloc: Global, bytes: &[u8], at: usize) -> Result<(Plan, usize), Refusal> {
+        let (eval, at) = EvalId::read_at(alloc, bytes, at)?;
+        let (token, at) = Token::read_at(alloc, bytes, at)?;
+        let (job, at) = JobName::read_at(alloc, bytes, at)?;
+        let (version, at) = Index::read_at(alloc, bytes, at)?;
+        let (snapshot, at) = Index::read_at(alloc, bytes, at)?;
+        let (stops, at) = Batch::read_at(alloc, bytes, at)?;
+        let (places, at) = Batch::read_at(alloc, bytes, at)?;
+        Ok((
+            Plan {
+                eval,
+                token,
+                job,
+                version,
+                snapshot,
+                stops,
+                places,
+            },
+            at,
+        ))
+    }
+
+    fn append(&self, out: &mut Vec<u8>) -> Result<(), NoMemory> {
+        self.eval.append(out)?;
+        self.token.append(out)?;
+        self.job.append(out)?;
+        append_plan_end(self, out)
+    }
+}
+
+/// The snapshot, the stops and the places.
+fn append_accepted_end(plan: &AcceptedPlan, out: &mut Vec<u8>) -> Result<(), NoMemory>
+    ensures { Puts accepted_end (plan.now.snapshot, (plan.now.stops, plan.now.places)) result out.old.items out.new.items }
+{
+    plan.snapshot.append(out)?;
+    plan.stops.append(out)?;
+    plan.places.append(out)
+}
+
+/// What was accepted of a plan: evaluation, token, job, snapshot, stops and places.
+impl Field for AcceptedPlan {
+    ghost format = { accepted_plan };
+
+    ghost lawful = { accepted_plan_lawful };
+
+    fn read_at(alloc: Global, bytes: &[u8], at: usize) -> Result<(AcceptedPlan, usize), Refusal> {
+        let (eval, at) = EvalId::read_at(alloc, bytes, at)?;
+        let (token, at) = Token::read_at(alloc, bytes, at)?;
+        let (job, at) = JobName::read_at(alloc, bytes, at)?;
+        let (snapshot, at) = Index::read_at(alloc, bytes, at)?;
+        let (stops, at) = Batch::read_at(alloc, bytes, at)?;
+        let (places, at) = Batch::read_at(alloc, bytes, at)?;
+        Ok((
+            AcceptedPlan {
+                eval,
+                token,
+                job,
+                snapshot,
+                stops,
+                places,
+            },
+            at,
+        ))
+    }
+
+    fn append(&self, out: &mut Vec<u8>) -> Result<(), NoMemory> {
+        self.eval.append(out)?;
+        self.token.append(out)?;
+        self.job.append(out)?;
+        append_accepted_end(self, out)
+    }
+}
+
+/// One byte: 1 running, 2 complete, 3 failed.
+impl Field for ReportedState {
+    ghost format = { reported_state };
+
+    ghost lawful = { reported_state_lawful };
+
+    fn read_at(_alloc: Global, bytes: &[u8], at: usize) -> Result<(ReportedState, usize), Refusal> {
+        match read_u8(bytes, at)? {
+            (1, next) => Ok((ReportedState::Running, next)),
+            (2, next) => Ok((ReportedState::Complete, next)),
+            (3, next) => Ok((ReportedState::Failed, next)),
+            _ => Err(Refusal::Frame(at)),
+        }
+    }
+
+    fn append(&self, out: &mut Vec<u8>) -> Result<(), NoMemory> {
+        let code = match self {
+            ReportedState::Running => 1,
+            ReportedState::Complete => 2,
+            ReportedState::Failed => 3,
+        };
+        write_u8(&code, out)
+    }
+}
+
+/// An item of a report: the allocation and its state.
+impl Field for Report {
+    ghost format = { report };
+
+    ghost lawful = { report_lawful };
+
+    fn read_at(alloc: Global, bytes: &[u8], at: usize) -> Result<(Report, usize), Refusal> {
+        let (id, at) = AllocId::read_at(alloc, bytes, at)?;
+        let (state, at) = ReportedState::read_at(alloc, bytes, at)?;
+        Ok((Report { id, state }, at))
+    }
+
+    fn append(&self, out: &mut Vec<u8>) -> Result<(), NoMemory> {
+        self.id.append(out)?;
+        self.state.append(out)
+    }
+}
+
+/// A count of one byte, from 1 to 64, and that many items.
+impl Field for Reports {
+    ghost format = { reports };
+
+    ghost lawful = { reports_lawful };
+
+    fn read_at(alloc: Global, bytes: &[u8], at: usize) -> Result<(Reports, usize), Refusal> {
+        let (items, next) = read_list(alloc, bytes, at, 64)?;
+        match Reports::check(items) {
+            Ok(items) => Ok((items, next)),
+            Err(_) => Err(Refusal::Frame(at)),
+        }
+    }
+
+    fn append(&self, out: &mut Vec<u8>) -> Result<(), NoMemory> {
+        append_counted(self.as_slice(), 64, out)
+    }
+}
+
+/// Eight bytes that are all 0. `Frame` names the first where they are cut or another number.
+fn read_zero(bytes: &[u8], at: usize) -> Result<(u64, usize), Refusal>
+    ensures { GivesExactly result ((number 8 0 1).read bytes.now at) }
+{
+    match read_u64(bytes, at)? {
+        (0, next) => Ok((0, next)),
+        _ => Err(Refusal::Frame(at)),
+    }
+}
+
+/// The status, and the index of the state at which an evaluation was found blocked, which is 0 for any other.
+impl Field for StatusChange {
+    ghost format = { status_change };
+
+    ghost lawful = { status_change_lawful };
+
+    fn read_at(alloc: Global, bytes: &[u8], at: usize) -> Result<(StatusChange, usize), Refusal> {
+        let (status, at) = EvalStatus::read_at(alloc, bytes, at)?;
+        if status == EvalStatus::Blocked {
+            let (snapshot, next) = read_index(bytes, at)?;
+            return Ok((StatusChange::Blocked(snapshot), next));
+        }
+        let (_, next) = read_zero(bytes, at)?;
+        match status {
+            EvalStatus::Complete => Ok((StatusChange::Complete, next)),
+            EvalStatus::Failed => Ok((StatusChange::Failed, next)),
+            _ => Ok((StatusChange::Pending, next)),
+        }
+    }
+
+    fn append(&self, out: &mut Vec<u8>) -> Result<(), NoMemory> {
+        self.status().append(out)?;
+        self.snapshot().append(out)
+    }
+}
+
+/// The tag of a command, from 0 to 11.
+fn tag(command: &Command) -> u8
+    ensures { result ≡ tag_of command.now }
+{
+    match command {
+        Command::Noop => 0,
+        Command::JobPut(_) => 1,
+        Command::JobStop(_) => 2,
+        Command::NodePut(_) => 3,
+        Command::NodeDown(_) => 4,
+        Command::Drain(_, _) => 5,
+        Command::DrainDone(_) => 6,
+        Command::Migrate(_) => 7,
+        Command::EvalPut(_) => 8,
+        Command::EvalStatus(_, _) => 9,
+        Command::Plan(_) => 10,
+        Command::Report(_, _) => 11,
+    }
+}
+
+/// What follows a tag.
+fn read_body(
+    alloc: Global,
+    tag: usize,
+    bytes: &[u8],
+    at: usize,
+) -> Result<(Command, usize), Refusal>
+    ensures { Gives result ((bodies tag).read bytes.now at) }
+{
+    match tag {
+        0 => Ok((Command::Noop, at)),
+        1 => {
+            let (job, at) = JobSpec::read_at(alloc, bytes, at)?;
+            Ok((Command::JobPut(job), at))
+        }
+        2 => {
+            let (name, at) = JobName::read_at(alloc, bytes, at)?;
+            Ok((Command::JobStop(name), at))
+        }
+        3 => {
+            let (node, at) = NodeSpec::read_at(alloc, bytes, at)?;
+            Ok((Command::NodePut(node), at))
+        }
+        4 => {
+            let (node, at) = NodeId::read_at(alloc, bytes, at)?;
+            Ok((Command::NodeDown(node), at))
+        }
+        5 => {
+            let (node, at) = NodeId::read_at(alloc, bytes, at)?;
+            let (force, at) = read_bool(bytes, at)?;
+            Ok((Command::Drain(node, force), at))
+        }
+        6 => {
+            let (node, at) = NodeId::read_at(alloc, bytes, at)?;
+            Ok((Command::DrainDone(node), at))
+        }
+        _ => read_later_body(alloc, tag, bytes, at),
+    }
+}
+
+/// What follows a tag from 7 on.
+fn read_later_body(
+    alloc: Global,
+    tag: usize,
+    bytes: &[u8],
+    at: usize,
+) -> Result<(Command, usize), Refusal>
+    ensures { Gives result ((later_bodies tag).read bytes.now at) }
+{
+    match tag {
+        7 => {
+            let (ids, at) = RisingIds::read_at(alloc, bytes, at)?;
+            Ok((Command::Migrate(ids), at))
+        }
+        8 => {
+            let (name, at) = JobName::read_at(alloc, bytes, at)?;
+            Ok((Command::EvalPut(name), at))
+        }
+        9 => {
+            let (eval, at) = EvalId::read_at(alloc, bytes, at)?;
+            let (change, at) = StatusChange::read_at(alloc, bytes, at)?;
+            Ok((Command::EvalStatus(eval, change), at))
+        }
+        10 => {
+            let (plan, at) = AcceptedPlan::read_at(alloc, bytes, at)?;
+            Ok((Command::Plan(plan), at))
+        }
+        11 => {
+            let (node, at) = NodeId::read_at(alloc, bytes, at)?;
+            let (items, at) = Reports::read_at(alloc, bytes, at)?;
+            Ok((Command::Report(node, items), at))
+        }
+        _ => Err(Refusal::Frame(at)),
+    }
+}
+
+/// A tag in one byte, from 0 to 11, and then what it says.
+impl Field for Command {
+    ghost format = { command };
+
+    ghost lawful = { command_lawful };
+
+    fn read_at(alloc: Global, bytes: &[u8], at: usize) -> Result<(Command, usize), Refusal> {
+        let (tag, next) = read_count(bytes, at, 11)?;
+        read_body(alloc, tag, bytes, next)
+    }
+
+    fn append(&self, out: &mut Vec<u8>) -> Result<(), NoMemory> {
+        write_u8(&tag(self), out)?;
+        match self {
+            Command::Noop => Ok(()),
+            Command::JobPut(job) => job.append(out),
+            Command::JobStop(name) => name.append(out),
+            Command::NodePut(node) => node.append(out),
+            Command::NodeDown(node) => node.append(out),
+            Command::Drain(node, force) => {
+                node.append(out)?;
+                force.append(out)
+            }
+            Command::DrainDone(node) => node.append(out),
+            Command::Migrate(ids) => ids.append(out),
+            Command::EvalPut(name) => name.append(out),
+            Command::EvalStatus(eval, change) => {
+                eval.append(out)?;
+                change.append(out)
+            }
+            Command::Plan(plan) => plan.append(out),
+            Command::Report(node, items) => {
+                node.append(out)?;
+                items.append(out)
+            }
+        }
+    }
+}

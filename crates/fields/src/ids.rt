@@ -1,0 +1,282 @@
+//! Names, sizes, ids and tokens as bytes.
+ghost use Rattle.fields.specs.Ids.{name, quantity, size, node_id, ordinal, priority, group_count, from_one, eval_id, alloc_id, token, delivery};
+ghost use Rattle.fields.specs.IdLaws.{name_lawful, quantity_lawful, size_lawful, node_id_lawful, ordinal_lawful, priority_lawful, group_count_lawful, from_one_lawful, eval_id_lawful, alloc_id_lawful, token_lawful, delivery_lawful};
+
+use crate::field::Field;
+use crate::reading::{read_name, read_u8, read_u16, read_u32, read_u64};
+use crate::writing::{write_u8, write_u16, write_u32, write_u64};
+use rows::{
+    AllocId, Delivery, EntryIndex, EvalId, GroupCount, Index, LeaderTerm, Name, NoMemory, NodeId,
+    Ordinal, Priority, Quantity, Refusal, Serial, Size, Token,
+};
+use std::alloc::Global;
+
+/// One byte from 1 to 32, and that many bytes of `a` to `z`, `0` to `9` and `-`. Whatever is wrong is a fault at the first.
+impl Field for Name {
+    ghost format = { name };
+
+    ghost lawful = { name_lawful };
+
+    fn read_at(_alloc: Global, bytes: &[u8], at: usize) -> Result<(Name, usize), Refusal> {
+        read_name(bytes, at)
+    }
+
+    fn append(&self, out: &mut Vec<u8>) -> Result<(), NoMemory> {
+        let bytes = self.as_bytes();
+        write_u8(&(bytes.len() as u8), out)?;
+        out.extend_from_slice(bytes)?;
+        Ok(())
+    }
+}
+
+/// Four bytes, from 1 to 1,000,000.
+impl Field for Quantity {
+    ghost format = { quantity };
+
+    ghost lawful = { quantity_lawful };
+
+    fn read_at(_alloc: Global, bytes: &[u8], at: usize) -> Result<(Quantity, usize), Refusal> {
+        let (number, next) = read_u32(bytes, at)?;
+        match Quantity::new(number) {
+            Some(value) => Ok((value, next)),
+            None => Err(Refusal::Frame(at)),
+        }
+    }
+
+    fn append(&self, out: &mut Vec<u8>) -> Result<(), NoMemory> {
+        write_u32(&self.get(), out)
+    }
+}
+
+/// One byte, from 1 to 64.
+impl Field for NodeId {
+    ghost format = { node_id };
+
+    ghost lawful = { node_id_lawful };
+
+    fn read_at(_alloc: Global, bytes: &[u8], at: usize) -> Result<(NodeId, usize), Refusal> {
+        let (number, next) = read_u8(bytes, at)?;
+        match NodeId::from_number(number) {
+            Some(value) => Ok((value, next)),
+            None => Err(Refusal::Frame(at)),
+        }
+    }
+
+    fn append(&self, out: &mut Vec<u8>) -> Result<(), NoMemory> {
+        write_u8(&self.number(), out)
+    }
+}
+
+/// One byte, at most 63.
+impl Field for Ordinal {
+    ghost format = { ordinal };
+
+    ghost lawful = { ordinal_lawful };
+
+    fn read_at(_alloc: Global, bytes: &[u8], at: usize) -> Result<(Ordinal, usize), Refusal> {
+        let (number, next) = read_u8(bytes, at)?;
+        match Ordinal::new(number) {
+            Some(value) => Ok((value, next)),
+            None => Err(Refusal::Frame(at)),
+        }
+    }
+
+    fn append(&self, out: &mut Vec<u8>) -> Result<(), NoMemory> {
+        write_u8(&self.get(), out)
+    }
+}
+
+/// One byte, from 1 to 100.
+impl Field for Priority {
+    ghost format = { priority };
+
+    ghost lawful = { priority_lawful };
+
+    fn read_at(_alloc: Global, bytes: &[u8], at: usize) -> Result<(Priority, usize), Refusal> {
+        let (number, next) = read_u8(bytes, at)?;
+        match Priority::new(number) {
+            Some(value) => Ok((value, next)),
+            None => Err(Refusal::Frame(at)),
+        }
+    }
+
+    fn append(&self, out: &mut Vec<u8>) -> Result<(), NoMemory> {
+        write_u8(&self.get(), out)
+    }
+}
+
+/// One byte, at most 64.
+impl Field for GroupCount {
+    ghost format = { group_count };
+
+    ghost lawful = { group_count_lawful };
+
+    fn read_at(_alloc: Global, bytes: &[u8], at: usize) -> Result<(GroupCount, usize), Refusal> {
+        let (number, next) = read_u8(bytes, at)?;
+        match GroupCount::new(number) {
+            Some(value) => Ok((value, next)),
+            None => Err(Refusal::Frame(at)),
+        }
+    }
+
+    fn append(&self, out: &mut Vec<u8>) -> Result<(), NoMemory> {
+        write_u8(&self.get(), out)
+    }
+}
+
+/// Eight bytes, from 1 to 2^40 - 1.
+impl Field for EntryIndex {
+    ghost format = { from_one };
+
+    ghost lawful = { from_one_lawful };
+
+    fn read_at(_alloc: Global, bytes: &[u8], at: usize) -> Result<(EntryIndex, usize), Refusal> {
+        let (number, next) = read_u64(bytes, at)?;
+        match EntryIndex::new(number) {
+            Some(value) => Ok((value, next)),
+            None => Err(Refusal::Frame(at)),
+        }
+    }
+
+    fn append(&self, out: &mut Vec<u8>) -> Result<(), NoMemory> {
+        write_u64(&self.get(), out)
+    }
+}
+
+/// Eight bytes, from 1 to 2^40 - 1.
+impl Field for LeaderTerm {
+    ghost format = { from_one };
+
+    ghost lawful = { from_one_lawful };
+
+    fn read_at(_alloc: Global, bytes: &[u8], at: usize) -> Result<(LeaderTerm, usize), Refusal> {
+        let (number, next) = read_u64(bytes, at)?;
+        match LeaderTerm::new(number) {
+            Some(value) => Ok((value, next)),
+            None => Err(Refusal::Frame(at)),
+        }
+    }
+
+    fn append(&self, out: &mut Vec<u8>) -> Result<(), NoMemory> {
+        write_u64(&self.get(), out)
+    }
+}
+
+/// Eight bytes, from 1 to 2^40 - 1.
+impl Field for Serial {
+    ghost format = { from_one };
+
+    ghost lawful = { from_one_lawful };
+
+    fn read_at(_alloc: Global, bytes: &[u8], at: usize) -> Result<(Serial, usize), Refusal> {
+        let (number, next) = read_u64(bytes, at)?;
+        match Serial::new(number) {
+            Some(value) => Ok((value, next)),
+            None => Err(Refusal::Frame(at)),
+        }
+    }
+
+    fn append(&self, out: &mut Vec<u8>) -> Result<(), NoMemory> {
+        write_u64(&self.get(), out)
+    }
+}
+
+/// The processor time, and then the memory.
+impl Field for Size {
+    ghost format = { size };
+
+    ghost lawful = { size_lawful };
+
+    fn read_at(alloc: Global, bytes: &[u8], at: usize) -> Result<(Size, usize), Refusal> {
+        let (cpu, at) = Quantity::read_at(alloc, bytes, at)?;
+        let (mem, at) = Quantity::read_at(alloc, bytes, at)?;
+        Ok((Size { cpu, mem }, at))
+    }
+
+    fn append(&self, out: &mut Vec<u8>) -> Result<(), NoMemory> {
+        self.cpu.append(out)?;
+        self.mem.append(out)
+    }
+}
+
+/// The entry, and then the place in two bytes, below 256.
+impl Field for EvalId {
+    ghost format = { eval_id };
+
+    ghost lawful = { eval_id_lawful };
+
+    fn read_at(alloc: Global, bytes: &[u8], at: usize) -> Result<(EvalId, usize), Refusal> {
+        let (index, at) = EntryIndex::read_at(alloc, bytes, at)?;
+        match read_u16(bytes, at)? {
+            (slot, next) if slot < 256 => Ok((
+                EvalId {
+                    index,
+                    slot: slot as u8,
+                },
+                next,
+            )),
+            _ => Err(Refusal::Frame(at)),
+        }
+    }
+
+    fn append(&self, out: &mut Vec<u8>) -> Result<(), NoMemory> {
+        self.index.append(out)?;
+        write_u16(&(self.slot as u16), out)
+    }
+}
+
+/// The entry, and then the place in one byte.
+impl Field for AllocId {
+    ghost format = { alloc_id };
+
+    ghost lawful = { alloc_id_lawful };
+
+    fn read_at(alloc: Global, bytes: &[u8], at: usize) -> Result<(AllocId, usize), Refusal> {
+        let (index, at) = EntryIndex::read_at(alloc, bytes, at)?;
+        let (slot, at) = Ordinal::read_at(alloc, bytes, at)?;
+        Ok((AllocId { index, slot }, at))
+    }
+
+    fn append(&self, out: &mut Vec<u8>) -> Result<(), NoMemory> {
+        self.index.append(out)?;
+        self.slot.append(out)
+    }
+}
+
+/// The term, and then the serial.
+impl Field for Token {
+    ghost format = { token };
+
+    ghost lawful = { token_lawful };
+
+    fn read_at(alloc: Global, bytes: &[u8], at: usize) -> Result<(Token, usize), Refusal> {
+        let (term, at) = LeaderTerm::read_at(alloc, bytes, at)?;
+        let (serial, at) = Serial::read_at(alloc, bytes, at)?;
+        Ok((Token { term, serial }, at))
+    }
+
+    fn append(&self, out: &mut Vec<u8>) -> Result<(), NoMemory> {
+        self.term.append(out)?;
+        self.serial.append(out)
+    }
+}
+
+/// The evaluation, the token, and then the index to wait for.
+impl Field for Delivery {
+    ghost format = { delivery };
+
+    ghost lawful = { delivery_lawful };
+
+    fn read_at(alloc: Global, bytes: &[u8], at: usize) -> Result<(Delivery, usize), Refusal> {
+        let (eval, at) = EvalId::read_at(alloc, bytes, at)?;
+        let (token, at) = Token::read_at(alloc, bytes, at)?;
+        let (wait, at) = Index::read_at(alloc, bytes, at)?;
+        Ok((Delivery { eval, token, wait }, at))
+    }
+
+    fn append(&self, out: &mut Vec<u8>) -> Result<(), NoMemory> {
+        self.eval.append(out)?;
+        self.token.append(out)?;
+        self.wait.append(out)
+    }
+}
