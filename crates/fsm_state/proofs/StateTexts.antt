@@ -1,5 +1,5 @@
 -- The text of a state, part by part.
-use Rattle.std.proofs.Common.{◌≡◌, ◌<◌, ◌≤◌, ◌^◌, ℕ, Bool, true, false, T, List, ◌++◌, length, refl, sym, ap, subst, ◌∙◌, Ok, Err}
+use Rattle.std.proofs.Common.{◌≡◌, ◌<◌, ◌^◌, ℕ, Bool, true, false, T, List, ◌++◌, refl, ap, ◌∙◌, Ok, Err}
 use Rattle.std.specs.Prelude.{Result}
 use Rattle.std.proofs.lemmas.List.{append_assoc}
 use Rattle.rows.specs.declared.refusal.NoMemory.{NoMemory}
@@ -20,11 +20,19 @@ passed true h = refl
 passed false h = absurd h
 
 pub all_fit : (s : State) → s.count < 2 ^ 40 → TablesFit (record { jobs = s.jobs; nodes = s.nodes; evals = s.evals; allocs = s.allocs }) → state.Fits s
-all_fit s low t = fits_state s (low,
-    ((t.jobs.few, passed _ t.jobs.rising, t.jobs.fit),
-    ((t.nodes.few, passed _ t.nodes.rising, t.nodes.fit),
-    ((t.evals.few, passed _ t.evals.rising, t.evals.fit),
-    (t.allocs.few, passed _ t.allocs.rising, t.allocs.fit)))))
+all_fit s low t = fits_state s (
+  low,
+  (
+    (t.jobs.few, passed _ t.jobs.rising, t.jobs.fit),
+    (
+      (t.nodes.few, passed _ t.nodes.rising, t.nodes.fit),
+      (
+        (t.evals.few, passed _ t.evals.rising, t.evals.fit),
+        (t.allocs.few, passed _ t.allocs.rising, t.allocs.fit),
+      ),
+    ),
+  ),
+)
 
 -- five parts, one after the other
 parts : (o0 o1 o2 o3 o4 a b c d e : List ℕ) → o1 ≡ o0 ++ a → o2 ≡ o1 ++ b → o3 ≡ o2 ++ c → o4 ≡ o3 ++ d → o4 ++ e ≡ o0 ++ (a ++ (b ++ (c ++ (d ++ e))))
@@ -37,6 +45,7 @@ pub put_state : (s : State) (r : Result (Unit {0}) NoMemory) (o0 o1 o2 o3 o4 new
     → Puts (list 4 65536 allocation) s.allocs r o4 new → Puts state s r o0 new
 put_state s (Ok u) o0 o1 o2 o3 o4 new fits p q r t h =
     (fits, h.1 ∙ parts o0 o1 o2 o3 o4 (index.text s.count) (jobs.text s.jobs) (nodes.text s.nodes) (evaluations.text s.evals) (allocations.text s.allocs) p q r t)
-put_state s (Err e) o0 o1 o2 o3 o4 new fits p q r t h =
-    (index.text s.count ++ (jobs.text s.jobs ++ (nodes.text s.nodes ++ (evaluations.text s.evals ++ h.0))),
-    h.1 ∙ parts o0 o1 o2 o3 o4 (index.text s.count) (jobs.text s.jobs) (nodes.text s.nodes) (evaluations.text s.evals) h.0 p q r t)
+put_state s (Err e) o0 o1 o2 o3 o4 new fits p q r t h = (
+  index.text s.count ++ (jobs.text s.jobs ++ (nodes.text s.nodes ++ (evaluations.text s.evals ++ h.0))),
+  h.1 ∙ parts o0 o1 o2 o3 o4 (index.text s.count) (jobs.text s.jobs) (nodes.text s.nodes) (evaluations.text s.evals) h.0 p q r t,
+)

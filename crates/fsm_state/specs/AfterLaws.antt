@@ -1,8 +1,8 @@
 -- When the state after a plan is safe, on every state: also where a row stands under an id that the plan makes, which only a
 -- loaded text can have. What is claimed then are, in some order, the claims of what the plan neither stops nor replaces, and what it wants.
-use Rattle.std.proofs.Common.{◌≡◌, ℕ, ◌+◌, ◌<◌, ◌≤◌, Bool, true, false, cond, not, ◌&&◌, ◌||◌, T, List, [], ◌∷◌, ◌++◌, length, map, Option, Some, None, is_some, refl, sym, ap, subst, ◌∙◌, arith, suc}
+use Rattle.std.proofs.Common.{◌≡◌, ℕ, ◌+◌, ◌<◌, ◌≤◌, Bool, true, false, cond, not, ◌&&◌, T, List, [], ◌∷◌, ◌++◌, length, map, Some, None, refl, sym, ap, subst, ◌∙◌, arith, suc}
 use Rattle.std.specs.Prelude.{sum_by, nat_eq, nat_le, nat_lt}
-use Rattle.std.specs.List.{AllByRecursion, list_all, list_any}
+use Rattle.std.specs.List.{AllByRecursion}
 use Rattle.std.specs.Cmp.{IsTotalOrder}
 use Rattle.std.specs.Ordering.{nat_cmp, is_eq}
 use Rattle.std.specs.declared.cmp.Ordering.{Ordering}
@@ -91,15 +91,15 @@ first_slot k slot n e = grind arith
 
 made_apart : (i x k slot n : ℕ) → (nat_eq i x && nat_eq k slot) ≡ false → (nat_eq i x && (nat_le slot k && nat_lt k (slot + suc n))) ≡ (nat_eq i x && (nat_le (slot + 1) k && nat_lt k (slot + 1 + n)))
 made_apart i x k slot n e = elim (nat_eq i x) as (λ b. (b && nat_eq k slot) ≡ false → (b && (nat_le slot k && nat_lt k (slot + suc n))) ≡ (b && (nat_le (slot + 1) k && nat_lt k (slot + 1 + n)))) [
-    | true ↦ λ e. slots_step k slot n e
-    | false ↦ λ e. refl
-  ] e
+  | true ↦ λ e. slots_step k slot n e
+  | false ↦ λ e. refl
+] e
 
 made_here : (i x k slot n : ℕ) → (nat_eq i x && nat_eq k slot) ≡ true → (nat_eq i x && (nat_le slot k && nat_lt k (slot + suc n))) ≡ true
 made_here i x k slot n e = elim (nat_eq i x) as (λ b. (b && nat_eq k slot) ≡ true → (b && (nat_le slot k && nat_lt k (slot + suc n))) ≡ true) [
-    | true ↦ λ e. first_slot k slot n e
-    | false ↦ λ e. absurd cc
-  ] e
+  | true ↦ λ e. first_slot k slot n e
+  | false ↦ λ e. absurd cc
+] e
 
 none_if : (b : Bool) (n : ℕ) → cond (b && false) n 0 ≡ 0
 none_if true n = refl
@@ -152,7 +152,7 @@ places_sum : (w : Claim → ℕ) (x slot : ℕ) (p : AcceptedPlan) (ks : List Ac
     → sum_by (weight w) (with_places x slot p ks rows) ≡ sum_by (left_weight w x slot (length ks)) rows + sum_by w (map (place_claim p) ks)
 places_sum w x slot p [] rows rising few =
     let same : sum_by (weight w) rows ≡ sum_by (left_weight w x slot 0) rows =
-          sums_same (weight w) (left_weight w x slot 0) (λ a. ap (λ b. cond b (w (claim_of a)) 0) (sym (ap (λ b. is_live a && not b) (none_made x slot a) ∙ and_true (is_live a)))) rows in
+    sums_same (weight w) (left_weight w x slot 0) (λ a. ap (λ b. cond b (w (claim_of a)) 0) (sym (ap (λ b. is_live a && not b) (none_made x slot a) ∙ and_true (is_live a)))) rows in
     omega (arith, same)
 places_sum w x slot p (k ∷ ks) rows rising few =
     let a = alloc_row x slot p k in
@@ -162,13 +162,13 @@ places_sum w x slot p (k ∷ ks) rows rising few =
     let room : put_within alloc_cmp alloc_id 65536 a rows ≡ put alloc_cmp alloc_id a rows = has_room (has_row alloc_cmp alloc_id a.id rows) (length rows) 65536 (put alloc_cmp alloc_id a rows) rows (omega (arith, few)) in
     let size : length (put alloc_cmp alloc_id a rows) ≤ length rows + 1 = subst (λ (m : ℕ). m ≤ length rows + 1) (sym (length-put alloc_cmp alloc_id alloc_cmp_total a rows rising)) (grown (has_row alloc_cmp alloc_id a.id rows) (length rows)) in
     let rest : sum_by (weight w) (with_places x (slot + 1) p ks (put alloc_cmp alloc_id a rows)) ≡ sum_by u (put alloc_cmp alloc_id a rows) + sum_by w (map (place_claim p) ks) =
-          places_sum w x (slot + 1) p ks (put alloc_cmp alloc_id a rows) (rising_put alloc_cmp alloc_id alloc_cmp_total a rows rising) (omega (arith, few, size)) in
+    places_sum w x (slot + 1) p ks (put alloc_cmp alloc_id a rows) (rising_put alloc_cmp alloc_id alloc_cmp_total a rows rising) (omega (arith, few, size)) in
     let one : sum_by u (put alloc_cmp alloc_id a rows) + weight_of u (row_of alloc_cmp alloc_id id rows) ≡ sum_by u rows + u a = sum_by-put alloc_cmp alloc_id alloc_cmp_total u a rows rising in
     let new : u a ≡ w (place_claim p k) = ap (λ b. cond (not b) (w (place_claim p k)) 0) (not_made x slot n p k) in
     let old : sum_by u rows ≡ sum_by (left_weight w x slot (suc n)) rows + weight_of u (row_of alloc_cmp alloc_id id rows) =
-          sums_same u (λ b. left_weight w x slot (suc n) b + cond (is_eq (alloc_cmp id b.id)) (u b) 0) (left_step w x slot n) rows
-          ∙ sums_two (left_weight w x slot (suc n)) (λ b. cond (is_eq (alloc_cmp id b.id)) (u b) 0) rows
-          ∙ ap (λ (m : ℕ). sum_by (left_weight w x slot (suc n)) rows + m) (sum_at alloc_cmp alloc_id alloc_cmp_total u id rows rising) in
+    sums_same u (λ b. left_weight w x slot (suc n) b + cond (is_eq (alloc_cmp id b.id)) (u b) 0) (left_step w x slot n) rows
+    ∙ sums_two (left_weight w x slot (suc n)) (λ b. cond (is_eq (alloc_cmp id b.id)) (u b) 0) rows
+    ∙ ap (λ (m : ℕ). sum_by (left_weight w x slot (suc n)) rows + m) (sum_at alloc_cmp alloc_id alloc_cmp_total u id rows rising) in
     let front = sum_by-cons w (place_claim p k) (map (place_claim p) ks) in
     ap (λ zs. sum_by (weight w) (with_places x (slot + 1) p ks zs)) room ∙ omega (arith, rest, one, new, old, front)
 
@@ -223,10 +223,10 @@ pub record IsKnown (p : AcceptedPlan) (s : State) : Type 0 where
   pub places : AllByRecursion AcceptedPlaceFits p.places
 
 -- a row whose claim names a node and takes some cpu
-abbrev RowCounts : Allocation → Type 0
+abbrev pub RowCounts : Allocation → Type 0
 RowCounts a = Counts (claim_of a)
 
-rows_count : (rows : List Allocation) → AllByRecursion AllocationFits rows → AllByRecursion RowCounts rows
+pub rows_count : (rows : List Allocation) → AllByRecursion AllocationFits rows → AllByRecursion RowCounts rows
 rows_count [] h = tt
 rows_count (a ∷ rows) h = let low = h.0.4.1 in let some = h.0.5.0.0 in ((omega (arith, low), some), rows_count rows h.1)
 
@@ -255,9 +255,9 @@ planned_is_safe p s k h =
     let kept = all_mapped RowCounts (stop p.stops) (λ a c. subst Counts (sym ((stop_releases p.stops).same_claim a)) c) s.allocs (rows_count s.allocs k.allocs) in
     let counts = claims_count (planned p (counted s)).allocs (places_count (s.count + 1) 0 p p.places rows k.places kept) in
     kept_safe g keeps s.nodes cs
-      (safe_by_numbers s.nodes cs k.nodes_rising (low_numbers s.nodes k.nodes) counts
-        (λ n lt. subst (λ z. T (fits z (room_of (row_of nat_cmp node_number n s.nodes)))) (sym (same_use cs ds same n)) (h.fit n lt))
-        (distinct_same ds cs (λ w. sym (same w)) h.distinct))
+    (safe_by_numbers s.nodes cs k.nodes_rising (low_numbers s.nodes k.nodes) counts
+    (λ n lt. subst (λ z. T (fits z (room_of (row_of nat_cmp node_number n s.nodes)))) (sym (same_use cs ds same n)) (h.fit n lt))
+    (distinct_same ds cs (λ w. sym (same w)) h.distinct))
 
 pub safe_is_planned : (p : AcceptedPlan) (s : State) → IsKnown p s → T (is_safe (planned p (counted s))) → AfterIsSafe p s
 safe_is_planned p s k h =

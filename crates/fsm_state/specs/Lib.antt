@@ -15,4 +15,5 @@ pub mod Worked
 pub mod Reports
 pub mod NameLaws
 pub mod AfterLaws
+pub mod Claimed
 pub mod ClusterMachine

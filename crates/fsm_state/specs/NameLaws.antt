@@ -11,7 +11,6 @@ use Rattle.std.proofs.lemmas.Map.Text.{is_eq-slice_cmp}
 use Rattle.fsm_tables.specs.RowLaws.{both, first, second, equal}
 use Rattle.fsm_tables.specs.Claims.{Claim}
 use Rattle.fsm_state.specs.Safe.{same_name, are_distinct}
-use Rattle.fsm_state.specs.StepLaws.{names_turn}
 
 -- how many claims are of the name of q
 abbrev pub named : Claim → List Claim → ℕ
@@ -32,9 +31,9 @@ join q c d g h =
     let front = first (bytes_eq q.job c.job && bytes_eq q.group c.group) (nat_eq q.index c.index) g in
     let other = first (bytes_eq q.job d.job && bytes_eq q.group d.group) (nat_eq q.index d.index) h in
     both _ _ (both _ _
-      (names_join q.job c.job d.job (first (bytes_eq q.job c.job) (bytes_eq q.group c.group) front) (first (bytes_eq q.job d.job) (bytes_eq q.group d.group) other))
-      (names_join q.group c.group d.group (second (bytes_eq q.job c.job) (bytes_eq q.group c.group) front) (second (bytes_eq q.job d.job) (bytes_eq q.group d.group) other)))
-      (numbers_join q.index c.index d.index (second (bytes_eq q.job c.job && bytes_eq q.group c.group) (nat_eq q.index c.index) g) (second (bytes_eq q.job d.job && bytes_eq q.group d.group) (nat_eq q.index d.index) h))
+    (names_join q.job c.job d.job (first (bytes_eq q.job c.job) (bytes_eq q.group c.group) front) (first (bytes_eq q.job d.job) (bytes_eq q.group d.group) other))
+    (names_join q.group c.group d.group (second (bytes_eq q.job c.job) (bytes_eq q.group c.group) front) (second (bytes_eq q.job d.job) (bytes_eq q.group d.group) other)))
+    (numbers_join q.index c.index d.index (second (bytes_eq q.job c.job && bytes_eq q.group c.group) (nat_eq q.index c.index) g) (second (bytes_eq q.job d.job && bytes_eq q.group d.group) (nat_eq q.index d.index) h))
 
 names_itself : (a : List ℕ) → T (bytes_eq a a)
 names_itself a = let e : is_eq (slice_cmp nat_cmp a a) ≡ true = ap is_eq (tied_itself nat_list_cmp_total a) in subst T (sym (sym (is_eq-slice_cmp a a) ∙ e)) tt

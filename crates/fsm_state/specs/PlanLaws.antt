@@ -175,11 +175,11 @@ pub record IsAskable (p : AcceptedPlan) (s : State) : Type 0 where
 three : (a b c : Bool) → T a → T b → T c → T (a && b && c)
 three a b c p q r = both (a && b) c (both a b p q) r
 
-all_wanted_count : (p : AcceptedPlan) (ks : List AcceptedPlace) → AllByRecursion AcceptedPlaceFits ks → AllByRecursion Counts (map (place_claim p) ks)
+pub all_wanted_count : (p : AcceptedPlan) (ks : List AcceptedPlace) → AllByRecursion AcceptedPlaceFits ks → AllByRecursion Counts (map (place_claim p) ks)
 all_wanted_count p [] h = tt
 all_wanted_count p (k ∷ ks) h = let low = h.0.2.1 in let some = h.0.3.0.0 in ((omega (arith, low), some), all_wanted_count p ks h.1)
 
-all_append : {A : Type 0} (P : A → Type 0) (xs ys : List A) → AllByRecursion P xs → AllByRecursion P ys → AllByRecursion P (xs ++ ys)
+pub all_append : {A : Type 0} (P : A → Type 0) (xs ys : List A) → AllByRecursion P xs → AllByRecursion P ys → AllByRecursion P (xs ++ ys)
 all_append P [] ys g h = h
 all_append P (x ∷ xs) ys g h = (g.0, all_append P xs ys g.1 h)
 

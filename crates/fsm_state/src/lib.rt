@@ -3,6 +3,7 @@
 
 mod admission;
 mod admission_plan;
+mod admission_safe;
 mod admission_touch;
 mod allocs;
 mod apply;
