@@ -149,7 +149,7 @@ module _ {K X : Type 0} (R : K → K → Ordering) (key : X → K) where
         let bound = length_bound (has_row R key (key x) ys) (nat_lt (length ys) most) (length ys) most le (below_most (length ys) most) in
         subst (λ (n : ℕ). n ≤ most) (sym (at_length (has_row R key (key x) ys || nat_lt (length ys) most) (put R key x ys) ys ∙ ap (λ (n : ℕ). cond (has_row R key (key x) ys || nat_lt (length ys) most) n (length ys)) (length-put x ys h))) bound
 
-  -- nor where there was room for the row
+    -- nor where there was room for the row
     pub few_put : (most : ℕ) (x : X) (ys : List X) → T (is_rising R key ys) → T (has_row R key (key x) ys || nat_lt (length ys) most) → length ys ≤ most → length (put R key x ys) ≤ most
     few_put most x ys h room le =
         let all : length (put_within R key most x ys) ≤ most = few_put_within most x ys h le in

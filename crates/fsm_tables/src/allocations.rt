@@ -31,9 +31,9 @@ impl Model for Allocations {
     ghost view = { λ a. a.rows };
 
     ghost invariant = { λ a. record {
-        cpu : AreSummed (λ z. z.cpu) a.rows a.cpu;
-        mem : AreSummed (λ z. z.mem) a.rows a.mem;
-        few : length a.rows ≤ 65536
+      cpu : AreSummed (λ z. z.cpu) a.rows a.cpu;
+      mem : AreSummed (λ z. z.mem) a.rows a.mem;
+      few : length a.rows ≤ 65536;
     } };
 }
 

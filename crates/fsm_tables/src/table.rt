@@ -36,8 +36,8 @@ impl<T: Row> Model for Table<T> {
     ghost view = { λ a. a.rows.items };
 
     ghost invariant = { λ a. record {
-        rising : Holds (is_rising T.Key.cmp T.key_of a.rows.items);
-        fit : AllByRecursion T.Fits a.rows.items
+      rising : Holds (is_rising T.Key.cmp T.key_of a.rows.items);
+      fit : AllByRecursion T.Fits a.rows.items;
     } };
 }
 
