@@ -12,6 +12,7 @@ mod fill;
 mod laws;
 mod lists;
 mod nodes;
+mod replicated;
 mod text;
 mod touch;
 mod worked;
