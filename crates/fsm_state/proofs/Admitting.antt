@@ -1,6 +1,6 @@
 -- What the code of admission asks of tables is what admission tests.
-use Rattle.std.proofs.Common.{◌≡◌, ℕ, ◌+◌, ◌≤◌, Bool, true, false, cond, ◌&&◌, ◌||◌, T, List, [], ◌∷◌, length, Option, Some, None, is_some, refl, sym, ap, subst, ◌∙◌, arith, suc}
-use Rattle.std.specs.Prelude.{nat_eq, nat_lt, sum_by, filter, bytes_eq, option_map}
+use Rattle.std.proofs.Common.{◌≡◌, ℕ, ◌+◌, ◌≤◌, Bool, true, false, cond, ◌&&◌, ◌||◌, T, List, [], ◌∷◌, length, Option, Some, None, is_some, refl, sym, ap, ◌∙◌, arith, suc}
+use Rattle.std.specs.Prelude.{nat_eq, nat_lt, sum_by, filter, option_map}
 use Rattle.std.specs.List.{AllByRecursion, list_any}
 use Rattle.std.specs.Ordering.{is_eq}
 use Rattle.std.specs.Cmp.Lexicographic.{nat_list_cmp_total}
@@ -54,9 +54,9 @@ cpu_on n rows = sum_by (on_node n (λ z. z.cpu)) (claims rows)
 
 one_more : (n : ℕ) (a : Allocation) (rows : List Allocation) → cpu_on n (a ∷ rows) ≡ cond (is_live a) (cond (nat_eq a.node n) a.size.cpu 0) 0 + cpu_on n rows
 one_more n a rows = elim (is_live a) as (λ b. sum_by (on_node n (λ z. z.cpu)) (cond b (claim_of a ∷ claims rows) (claims rows)) ≡ cond b (cond (nat_eq a.node n) a.size.cpu 0) 0 + cpu_on n rows) [
-    | true ↦ sum_by-cons (on_node n (λ z. z.cpu)) (claim_of a) (claims rows)
-    | false ↦ omega arith
-  ]
+  | true ↦ sum_by-cons (on_node n (λ z. z.cpu)) (claim_of a) (claims rows)
+  | false ↦ omega arith
+]
 
 pub used_where_live : (n : ℕ) (rows : List Allocation) → AllByRecursion AllocationFits rows → nat_lt 0 (cpu_on n rows) ≡ list_any (lives_on n) rows
 used_where_live n [] h = refl

@@ -1,5 +1,5 @@
 -- The replicated state as a machine, and that it is lawful.
-use Rattle.std.proofs.Common.{◌≡◌, ℕ, ◌+◌, ◌<◌, ◌≤◌, ◌^◌, Bool, true, false, T, List, Some, None, refl, sym, subst, arith}
+use Rattle.std.proofs.Common.{◌≡◌, Bool, true, false, T, refl, arith}
 use Rattle.rows.specs.declared.command.Command.{Command}
 use Rattle.rows.specs.declared.command.Command.TheVariants as commands
 use Rattle.rows.specs.declared.refusal.Refusal.{Refusal}
@@ -16,8 +16,8 @@ use Rattle.fsm_state.specs.SafeFacts.{Safe, safe_by_test}
 use Rattle.fsm_state.specs.SafeLaws.{keeps_safe}
 use Rattle.fsm_state.specs.Effect.{applied}
 use Rattle.fsm_state.specs.Admission.{admission}
-use Rattle.fsm_state.specs.StateLaws.{AreTables, IsOwn, applied_has_count, refusal_is_its_own}
-use Rattle.fsm_state.specs.RangeLaws.{AllFit, IsState, empty_is_state, applied_is_state}
+use Rattle.fsm_state.specs.StateLaws.{IsOwn, applied_has_count, refusal_is_its_own}
+use Rattle.fsm_state.specs.RangeLaws.{IsState, empty_is_state, applied_is_state}
 
 abbrev pub cluster_meaning : Meaning State Command
 cluster_meaning = record {

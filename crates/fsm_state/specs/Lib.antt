@@ -13,4 +13,7 @@ pub mod StopLaws
 pub mod RangeLaws
 pub mod Worked
 pub mod Reports
+pub mod NameLaws
+pub mod AfterLaws
+pub mod Claimed
 pub mod ClusterMachine

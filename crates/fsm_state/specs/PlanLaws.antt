@@ -87,7 +87,7 @@ all_before : (x slot : ℕ) (rows : List Allocation) (a : Allocation) → AllByR
 all_before x slot [] a h b = (b, tt)
 all_before x slot (c ∷ rows) a h b = (still_before x slot c h.0, all_before x slot rows a h.1 b)
 
-has_room : {A : Type 0} (b : Bool) (n most : ℕ) (xs ys : A) → n < most → cond (b || nat_lt n most) xs ys ≡ xs
+pub has_room : {A : Type 0} (b : Bool) (n most : ℕ) (xs ys : A) → n < most → cond (b || nat_lt n most) xs ys ≡ xs
 has_room true n most xs ys lt = refl
 has_room false n most xs ys lt = let yes : nat_lt n most ≡ true = grind arith in rw yes refl
 
@@ -118,7 +118,7 @@ dated_before : (x : ℕ) (rows : List Allocation) → T (are_dated x rows) → A
 dated_before x [] h = tt
 dated_before x (a ∷ rows) h = (inl (below a.id.index x (first _ _ h)), dated_before x rows (second _ _ h))
 
-stop_id : (ids : List AllocId) (a : Allocation) → (stop ids a).id ≡ a.id
+pub stop_id : (ids : List AllocId) (a : Allocation) → (stop ids a).id ≡ a.id
 stop_id ids a = elim (list_any (same_alloc a.id) ids && is_wanted a.desired) as (λ b. (cond b (record a { desired = desires.Stop }) a).id ≡ a.id) [ true ↦ refl | false ↦ refl ]
 
 stop_dated : (x : ℕ) (ids : List AllocId) (rows : List Allocation) → T (are_dated x rows) → T (are_dated x (map (stop ids) rows))
@@ -175,11 +175,11 @@ pub record IsAskable (p : AcceptedPlan) (s : State) : Type 0 where
 three : (a b c : Bool) → T a → T b → T c → T (a && b && c)
 three a b c p q r = both (a && b) c (both a b p q) r
 
-all_wanted_count : (p : AcceptedPlan) (ks : List AcceptedPlace) → AllByRecursion AcceptedPlaceFits ks → AllByRecursion Counts (map (place_claim p) ks)
+pub all_wanted_count : (p : AcceptedPlan) (ks : List AcceptedPlace) → AllByRecursion AcceptedPlaceFits ks → AllByRecursion Counts (map (place_claim p) ks)
 all_wanted_count p [] h = tt
 all_wanted_count p (k ∷ ks) h = let low = h.0.2.1 in let some = h.0.3.0.0 in ((omega (arith, low), some), all_wanted_count p ks h.1)
 
-all_append : {A : Type 0} (P : A → Type 0) (xs ys : List A) → AllByRecursion P xs → AllByRecursion P ys → AllByRecursion P (xs ++ ys)
+pub all_append : {A : Type 0} (P : A → Type 0) (xs ys : List A) → AllByRecursion P xs → AllByRecursion P ys → AllByRecursion P (xs ++ ys)
 all_append P [] ys g h = h
 all_append P (x ∷ xs) ys g h = (g.0, all_append P xs ys g.1 h)
 

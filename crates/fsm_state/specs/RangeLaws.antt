@@ -46,10 +46,10 @@ pub record IsState (s : State) : Type 0 where
 
 -- ---- rows put and changed
 
-all_within : {K X : Type 0} (R : K → K → Ordering) (key : X → K) (P : X → Type 0) (most : ℕ) (x : X) (ys : List X) → P x → AllByRecursion P ys → AllByRecursion P (put_within R key most x ys)
+pub all_within : {K X : Type 0} (R : K → K → Ordering) (key : X → K) (P : X → Type 0) (most : ℕ) (x : X) (ys : List X) → P x → AllByRecursion P ys → AllByRecursion P (put_within R key most x ys)
 all_within R key P most x ys p h = elim (has_row R key (key x) ys || nat_lt (length ys) most) as (λ b. AllByRecursion P (cond b (put R key x ys) ys)) [ true ↦ all_put R key P x ys p h | false ↦ h ]
 
-all_mapped : {X : Type 0} (P : X → Type 0) (f : X → X) → ((x : X) → P x → P (f x)) → (xs : List X) → AllByRecursion P xs → AllByRecursion P (map f xs)
+pub all_mapped : {X : Type 0} (P : X → Type 0) (f : X → X) → ((x : X) → P x → P (f x)) → (xs : List X) → AllByRecursion P xs → AllByRecursion P (map f xs)
 all_mapped P f keeps [] h = tt
 all_mapped P f keeps (x ∷ xs) h = (keeps x h.0, all_mapped P f keeps xs h.1)
 

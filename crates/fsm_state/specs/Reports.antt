@@ -1,22 +1,19 @@
 -- The jobs of the allocations that reports end, told from the rows as they are before the reports.
-use Rattle.std.proofs.Common.{◌≡◌, ℕ, Bool, true, false, cond, not, ◌&&◌, ◌||◌, List, [], ◌∷◌, map, Option, refl, sym, ap, ◌∙◌}
+use Rattle.std.proofs.Common.{◌≡◌, ℕ, Bool, true, false, cond, not, ◌&&◌, ◌||◌, List, [], ◌∷◌, refl, sym, ap, ◌∙◌}
 use Rattle.std.specs.Prelude.{nat_eq, bytes_eq}
 use Rattle.std.specs.List.{list_any}
 use Rattle.std.specs.Ordering.{is_eq}
 use Rattle.rows.specs.declared.job.Job.{Job}
-use Rattle.rows.specs.declared.allocation.AllocId.{AllocId}
 use Rattle.rows.specs.declared.allocation.Allocation.{Allocation}
 use Rattle.rows.specs.declared.command.Report.{Report}
 use Rattle.rows.specs.Keys.{alloc_cmp, alloc_id}
-use Rattle.rows.specs.Rising.{is_rising}
 use Rattle.fsm_tables.specs.Claims.{is_active, is_live}
-use Rattle.fsm_tables.specs.Rows.{row_of}
 use Rattle.fsm_state.specs.Words.{State, alloc_of, holds, same_alloc}
 use Rattle.fsm_state.specs.Effect.{owns, ends, state_of, told, told_all}
 use Rattle.fsm_state.specs.Steps.{ended_job}
 use Rattle.fsm_state.specs.StateLaws.{alloc_cmp_total}
 use Rattle.fsm_state.specs.StepLaws.{anys_same, and_assoc, any_at, at_alloc, is_one_of}
-use Rattle.fsm_state.specs.StopLaws.{AreRising, live_stays, one_ended, told_id}
+use Rattle.fsm_state.specs.StopLaws.{AreRising, live_stays, one_ended}
 
 abbrev pub ended_now : (Allocation → Allocation) → List Report → State → List (List ℕ)
 ended_now f [] s = []
@@ -71,8 +68,8 @@ told_names f [] s h j = none_told (λ a. ends f a && bytes_eq a.job j.name) s.al
 told_names f (r ∷ rs) s h j =
     let p : Allocation → Bool = λ a. ends f a && bytes_eq a.job j.name in
     let here : list_any (λ a. same_alloc a.id r.id && p a) s.allocs ≡ holds p (alloc_of r.id s) =
-          anys_same (λ a. same_alloc a.id r.id && p a) (λ a. is_eq (alloc_cmp r.id a.id) && p a) (λ a. ap (λ b. b && p a) (sym (at_alloc r.id a))) s.allocs
-          ∙ any_at alloc_cmp alloc_id alloc_cmp_total p r.id s.allocs h.allocs in
+    anys_same (λ a. same_alloc a.id r.id && p a) (λ a. is_eq (alloc_cmp r.id a.id) && p a) (λ a. ap (λ b. b && p a) (sym (at_alloc r.id a))) s.allocs
+    ∙ any_at alloc_cmp alloc_id alloc_cmp_total p r.id s.allocs h.allocs in
     one_more p r rs s.allocs
     ∙ (λ i. here i || told_names f rs s h j i)
     ∙ sym (one_ended f (alloc_of r.id s) (ended_now f rs s) j)
@@ -80,5 +77,5 @@ told_names f (r ∷ rs) s h j =
 pub ended_are : (n : ℕ) (rs : List Report) (s : State) → AreRising s → (j : Job) → owns (ends (told_all n rs)) s.allocs j ≡ is_one_of (ended_now (told_all n rs) rs s) j
 ended_are n rs s h j =
     anys_same (λ a. ends (told_all n rs) a && bytes_eq a.job j.name) (λ a. is_told rs a && (ends (told_all n rs) a && bytes_eq a.job j.name))
-      (λ a. ap (λ b. b && bytes_eq a.job j.name) (ends_told n rs a) ∙ and_assoc (is_told rs a) (ends (told_all n rs) a) (bytes_eq a.job j.name)) s.allocs
+    (λ a. ap (λ b. b && bytes_eq a.job j.name) (ends_told n rs a) ∙ and_assoc (is_told rs a) (ends (told_all n rs) a) (bytes_eq a.job j.name)) s.allocs
     ∙ told_names (told_all n rs) rs s h j

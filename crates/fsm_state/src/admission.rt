@@ -1,5 +1,5 @@
 //! Why a state refuses a command.
-ghost use Rattle.std.specs.Prelude.{◌≡◌, ◌≤◌, ◌&&◌, Option, Some, None, option_map, nat_lt, is_none};
+ghost use Rattle.std.specs.Prelude.{◌≡◌, ◌≤◌, ◌&&◌, Option, Some, None, IfOk, option_map, nat_lt, is_none};
 ghost use Rattle.std.specs.List.{list_any};
 ghost use Rattle.rows.specs.declared.command.Command.TheVariants as commands;
 ghost use Rattle.fsm_state.specs.Words.{holds, is_draining, is_pending, is_blocked};
@@ -9,8 +9,8 @@ ghost use Rattle.fsm_state.specs.Effect.{lives_on, is_named};
 use crate::cluster::Cluster;
 use fsm_tables::Tables;
 use rows::{
-    DrainMode, EvalId, EvalStatus, JobName, JobSpec, Node, NodeId, NodeSpec, Refusal,
-    StatusChange,
+    Command, DrainMode, EvalId, EvalStatus, JobName, JobSpec, NoMemory, Node, NodeId, NodeSpec,
+    Refusal, StatusChange,
 };
 
 /// Whether a node's row is of another class or size than it registers with.
@@ -153,6 +153,26 @@ impl Cluster {
         match self.eval(id) {
             Some(row) if allows(change, row.status) => None,
             _ => Some(Refusal::NotOutstanding),
+        }
+    }
+
+    /// Why the state refuses a command, if it does.
+    pub(crate) fn admission(&self, command: &Command) -> Result<Option<Refusal>, NoMemory>
+        ensures { IfOk result (λ r. r ≡ admission self.now command.now) }
+    {
+        match command {
+            Command::Noop => Ok(None),
+            Command::JobPut(spec) => Ok(self.job_put_refusal(spec)),
+            Command::JobStop(name) => Ok(self.job_stop_refusal(name)),
+            Command::NodePut(spec) => Ok(self.node_put_refusal(spec)),
+            Command::NodeDown(number) => self.node_down_refusal(*number),
+            Command::Drain(number, force) => Ok(self.drain_refusal(*number, *force)),
+            Command::DrainDone(number) => Ok(self.drain_done_refusal(*number)),
+            Command::Migrate(ids) => self.migrate_refusal(ids),
+            Command::EvalPut(name) => Ok(self.eval_put_refusal(name)),
+            Command::EvalStatus(id, change) => Ok(self.eval_status_refusal(*id, change)),
+            Command::Plan(plan) => self.plan_refusal(plan),
+            Command::Report(node, reports) => self.report_refusal(*node, reports),
         }
     }
 }

@@ -1,13 +1,17 @@
 //! Why a state refuses a plan.
-ghost use Rattle.std.specs.Prelude.{◌≡◌, ◌≤◌, ◌&&◌, ◌+◌, Bool, Option, Some, None, length, nat_lt, not};
+ghost use Rattle.std.specs.Prelude.{◌≡◌, ◌≤◌, ◌&&◌, ◌+◌, Bool, Option, Some, None, IfOk, length, nat_lt, not};
 ghost use Rattle.std.specs.List.{list_any, list_all};
 ghost use Rattle.fsm_state.specs.Words.{holds, is_pending as waits, eval_of, node_of};
-ghost use Rattle.fsm_state.specs.Admission.{is_stopped, is_live_of, takes as node_takes, is_asked, fits_job, same_size};
+ghost use Rattle.rows.specs.declared.command.Command.TheVariants as commands;
+ghost use Rattle.fsm_state.specs.Admission.{admission, is_stopped, is_live_of, takes as node_takes, is_asked, fits_job, same_size};
 
 use crate::admission_touch::is_ready;
 use crate::cluster::Cluster;
 use fsm_tables::{Tables, is_live};
-use rows::{AcceptedPlace, AcceptedPlan, AllocId, EvalId, EvalStatus, Group, JobName, Node};
+use rows::{
+    AcceptedPlace, AcceptedPlan, AllocId, EvalId, EvalStatus, Group, JobName, NoMemory, Node,
+    Refusal,
+};
 
 /// Whether an evaluation is pending.
 fn is_pending(status: EvalStatus) -> bool
@@ -130,5 +134,27 @@ impl Cluster {
     {
         self.ranges();
         self.alloc_table().len() + more > Tables::MOST_ALLOCS
+    }
+
+    /// Why a plan may not be applied.
+    pub(crate) fn plan_refusal(&self, plan: &AcceptedPlan) -> Result<Option<Refusal>, NoMemory>
+        ensures { IfOk result (λ r. r ≡ admission self.now (commands.Plan plan.now)) }
+    {
+        let places = plan.places.as_slice();
+        if !self.is_waiting(plan.eval) {
+            Ok(Some(Refusal::NotOutstanding))
+        } else if self.job(&plan.job).is_none() {
+            Ok(Some(Refusal::UnknownJob))
+        } else if !self.are_live_of(&plan.job, plan.stops.as_slice()) {
+            Ok(Some(Refusal::UnknownAlloc))
+        } else if self.allocs_pass(places.len()) {
+            Ok(Some(Refusal::TableFull))
+        } else if self.is_stopped(&plan.job) && !places.is_empty() {
+            Ok(Some(Refusal::JobStopped))
+        } else if !self.fit_job(&plan.job, places) || !self.bears_plan(plan)? {
+            Ok(Some(Refusal::OutOfRange))
+        } else {
+            Ok(None)
+        }
     }
 }

@@ -182,11 +182,7 @@ impl Cluster {
     }
 
     /// The jobs of the allocations that the reports end, one after the other.
-    fn jobs_ended(
-        &self,
-        node: NodeId,
-        reports: &[Report],
-    ) -> Result<Sequence<JobName>, NoMemory>
+    fn jobs_ended(&self, node: NodeId, reports: &[Report]) -> Result<Sequence<JobName>, NoMemory>
         ensures { IfOk result (λ names. names ≡ ended_now (told_all node reports.now) reports.now self.now) }
     {
         let mut names = Sequence::new(self.memory());
@@ -236,7 +232,9 @@ fn add_ended(
     ensures { OnOk result ((rest : List (List ℕ)) → names.new ++ rest ≡ names.old ++ ended_job (told_all node reports.now) (option_map (λ r. r.now) row.entry) rest) }
 {
     match row {
-        Some(row) if is_live(row) && !is_live(&after_reports(row, node, reports)) => names.push(row.job),
+        Some(row) if is_live(row) && !is_live(&after_reports(row, node, reports)) => names.push(
+            row.job,
+        ),
         _ => Ok(()),
     }
 }

@@ -10,6 +10,7 @@ ghost use Rattle.fsm_tables.specs.Claims.{Claim, claims};
 ghost use Rattle.fsm_state.specs.Effect.{applied, counted, planned, stop};
 ghost use Rattle.fsm_state.specs.UseLaws.{ended};
 ghost use Rattle.fsm_state.specs.PlanLaws.{kept, wanted, IsAskable, PlanIsSafe};
+ghost use Rattle.fsm_state.specs.AfterLaws.{IsKnown, AfterIsSafe};
 ghost use Rattle.fsm_state.specs.Safe.{is_safe};
 ghost use Rattle.fsm_state.specs.Admission.{admission};
 ghost use Rattle.rows.specs.Fits.{CommandFits};
@@ -44,10 +45,13 @@ pub fn safety_is_decided()
 
 /// When the state after a plan is safe, on every state whose allocations were made by entries before this one, be it
 /// safe or not: where each node's use, of what the plan keeps and what it wants, is within the node's size, and no name
-/// is claimed twice among these. That use is the present one, without what the plan ends, with what it wants.
+/// is claimed twice among these. That use is the present one, without what the plan ends, with what it wants. Where a row
+/// stands under an id that the plan makes, it is replaced, and counts no more than one that is stopped.
 pub fn plans_are_decided()
     ensures safe { (p : AnyPlan) (s : State) → IsAskable p s → PlanIsSafe p s → Holds (is_safe (planned p (counted s))) }
     ensures needs { (p : AnyPlan) (s : State) → IsAskable p s → Holds (is_safe (planned p (counted s))) → PlanIsSafe p s }
+    ensures safe_always { (p : AnyPlan) (s : State) → IsKnown p s → AfterIsSafe p s → Holds (is_safe (planned p (counted s))) }
+    ensures needs_always { (p : AnyPlan) (s : State) → IsKnown p s → Holds (is_safe (planned p (counted s))) → AfterIsSafe p s }
     ensures uses { (w : Claim → ℕ) (p : AnyPlan) (s : State)
         → sum_by w (kept p s ++ wanted p) + sum_by w (ended (stop p.stops) s.allocs) ≡ sum_by w (claims s.allocs) + sum_by w (wanted p) }
 {}

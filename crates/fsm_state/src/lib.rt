@@ -3,6 +3,7 @@
 
 mod admission;
 mod admission_plan;
+mod admission_safe;
 mod admission_touch;
 mod allocs;
 mod apply;
@@ -11,6 +12,7 @@ mod fill;
 mod laws;
 mod lists;
 mod nodes;
+mod replicated;
 mod text;
 mod touch;
 mod worked;

@@ -10,4 +10,4 @@ returns c =
     let s = c.args.self.now in
     let tables = c.ranges-2.ensures.tables in
     c.names_pass.ensures ∙ names_are (owns (moves c.args.ids.now) s.allocs) _ (live_jobs c.args.ids.now s) s (c.as_slice.ensures ∙ c.in_ok-names.ensures)
-      (moved_jobs c.args.ids.now s (record { nodes = tables.nodes.rising; allocs = tables.allocs.rising }))
+    (moved_jobs c.args.ids.now s (record { nodes = tables.nodes.rising; allocs = tables.allocs.rising }))

@@ -11,4 +11,4 @@ returns c =
     let n = c.args.node in
     let rs = c.args.reports.now in
     c.names_pass.ensures ∙ names_are (owns (ends (told_all n rs)) s.allocs) _ (ended_now (told_all n rs) rs s) s (c.as_slice.ensures ∙ c.in_ok-names.ensures)
-      (ended_are n rs s (record { nodes = tables.nodes.rising; allocs = tables.allocs.rising }))
+    (ended_are n rs s (record { nodes = tables.nodes.rising; allocs = tables.allocs.rising }))

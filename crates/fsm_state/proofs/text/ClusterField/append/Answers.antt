@@ -1,4 +1,4 @@
-use Rattle.std.proofs.Common.{◌≡◌, ◌++◌, subst, ap, ◌∙◌}
+use Rattle.std.proofs.Common.{◌++◌, subst, ap, ◌∙◌}
 use Rattle.fields.specs.Format.{Puts, list}
 use Rattle.fields.specs.Fields.{index}
 use Rattle.fields.specs.Rows.{allocation}

@@ -1,4 +1,4 @@
-use Rattle.std.proofs.Common.{◌≡◌, ◌≤◌, T, length, subst, sym, arith}
+use Rattle.std.proofs.Common.{◌≤◌, T, length, subst, sym, arith}
 use Rattle.std.specs.Ordering.{nat_cmp}
 use Rattle.rows.specs.Rising.{is_rising}
 use Rattle.rows.specs.Keys.{name_cmp, eval_cmp, alloc_cmp, job_name, node_number, eval_id, alloc_id}

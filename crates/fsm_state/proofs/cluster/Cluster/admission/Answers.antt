@@ -1,0 +1,8 @@
+use Rattle.std.proofs.Common.{◌≡◌, Option, sym, ap, subst}
+use Rattle.std.specs.Prelude.{IfOk}
+use Rattle.rows.specs.declared.refusal.Refusal.{Refusal}
+use Rattle.fsm_state.specs.Admission.{admission}
+use Rattle.fsm_state.proofs.cluster.Cluster.admission.Goals as goal
+
+pub returns-in-Report : goal.returns-in-Report
+returns-in-Report c = subst (λ (w : Option Refusal). IfOk c.report_refusal.result (λ r. r ≡ w)) (ap (admission c.args.self.now) (sym c.in-Report.is)) c.report_refusal.ensures

@@ -1,0 +1,230 @@
+//! Whether the state after a plan is safe.
+ghost use Rattle.std.specs.Prelude.{◌≡◌, ◌≤◌, ◌+◌, ◌++◌, ◌∷◌, ◌&&◌, List, IfOk, OnOk, length, cond, map, not};
+ghost use Rattle.std.specs.List.{list_any, list_all};
+ghost use Rattle.fsm_tables.specs.Claims.{Claim as AnyClaim, claim_of, is_live as lives};
+ghost use Rattle.fsm_state.specs.Safe.{is_safe, is_placed, same_name, are_distinct, are_safe};
+ghost use Rattle.fsm_state.specs.Words.{same_alloc};
+ghost use Rattle.fsm_state.specs.Effect.{counted, planned, stop as stop_those};
+ghost use Rattle.fsm_state.specs.PlanLaws.{place_claim, wanted};
+ghost use Rattle.fsm_state.specs.AfterLaws.{is_made, left_by};
+ghost use Rattle.fsm_state.specs.Claimed.{bears_node, left_one};
+ghost use Rattle.rows.specs.declared.allocation.Allocation.{Allocation as Row};
+
+use crate::cluster::Cluster;
+use fsm_tables::is_live;
+use rows::{
+    AcceptedPlace, AcceptedPlan, AllocId, Allocation, Desired, GroupName, JobName, NoMemory, Node,
+    NodeId, Ordinal, Ranged, Sequence, Size,
+};
+use std::marker::Model;
+
+/// What a live allocation holds: a name, and room on a node.
+#[derive(Drop)]
+struct Claim {
+    job: JobName,
+    group: GroupName,
+    index: Ordinal,
+    node: NodeId,
+    size: Size,
+}
+
+impl Model for Claim {
+    ghost use Rattle.fsm_tables.specs.Claims.{Claim as AnyClaim};
+
+    ghost Value = { AnyClaim };
+
+    ghost view = { λ c. record { job = c.job; group = c.group; index = c.index; node = c.node; size = c.size } };
+}
+
+/// What a row claims.
+fn claim_by(row: &Allocation) -> Claim
+    ensures { result ≡ claim_of row.now }
+{
+    Claim {
+        job: row.job,
+        group: row.group,
+        index: row.index,
+        node: row.node,
+        size: row.size,
+    }
+}
+
+/// What a place of a plan is to claim.
+fn wanted_claim(plan: &AcceptedPlan, place: &AcceptedPlace) -> Claim
+    ensures { result ≡ place_claim plan.now place.now }
+{
+    Claim {
+        job: plan.job,
+        group: place.group,
+        index: place.index,
+        node: place.node,
+        size: place.size,
+    }
+}
+
+/// Whether the id is among these.
+fn is_among(id: AllocId, ids: &[AllocId]) -> bool
+    ensures { result ≡ list_any (same_alloc id) ids.now }
+{
+    for other in ids {
+        if id == *other {
+            return true;
+        }
+    }
+    false
+}
+
+/// A row after the stops of a plan.
+fn after_stops(row: &Allocation, stops: &[AllocId]) -> Allocation
+    ensures { result ≡ stop_those stops.now row.now }
+{
+    let mut row = *row;
+    if is_among(row.id, stops) && row.desired == Desired::Run {
+        row.desired = Desired::Stop;
+    }
+    row
+}
+
+/// Whether what is claimed of a node is within its size.
+fn is_within(node: &Node, claims: &[Claim]) -> bool
+    ensures { result ≡ bears_node claims.now node.now }
+{
+    let mut cpu = node.size.cpu.get();
+    let mut mem = node.size.mem.get();
+    for claim in claims {
+        if claim.node == node.number {
+            if claim.size.cpu.get() > cpu || claim.size.mem.get() > mem {
+                return false;
+            }
+            cpu -= claim.size.cpu.get();
+            mem -= claim.size.mem.get();
+        }
+    }
+    true
+}
+
+/// Whether what is claimed of each node is within its size.
+fn are_within(nodes: &[Node], claims: &[Claim]) -> bool
+    ensures { result ≡ list_all (bears_node claims.now) nodes.now }
+{
+    for node in nodes {
+        if !is_within(node, claims) {
+            return false;
+        }
+    }
+    true
+}
+
+/// Whether two claims are of one name.
+fn is_same_name(claim: &Claim, other: &Claim) -> bool
+    ensures { result ≡ same_name claim.now other.now }
+{
+    claim.job == other.job && claim.group == other.group && claim.index == other.index
+}
+
+/// Whether one of the claims is of the name of this one.
+fn is_claimed(claim: &Claim, claims: &[Claim]) -> bool
+    ensures { result ≡ list_any (same_name claim.now) claims.now }
+{
+    for other in claims {
+        if is_same_name(claim, other) {
+            return true;
+        }
+    }
+    false
+}
+
+/// Whether no two claims are of one name.
+fn are_distinct(claims: &[Claim]) -> bool
+    ensures { result ≡ are_distinct claims.now }
+{
+    for place in 0..claims.len() {
+        if is_claimed(&claims[place], &claims[place + 1..]) {
+            return false;
+        }
+    }
+    true
+}
+
+impl Cluster {
+    /// Whether each claim is of a node that has a row.
+    fn are_placed(&self, claims: &[Claim]) -> bool
+        ensures { result ≡ list_all (is_placed self.now.nodes) claims.now }
+    {
+        for claim in claims {
+            if self.node(claim.node).is_none() {
+                return false;
+            }
+        }
+        true
+    }
+
+    /// Whether the nodes bear what is claimed.
+    #[tactic(auto, using(crate::specs::Claimed::all_within))]
+    fn bears(&self, claims: &[Claim]) -> bool
+        ensures { result ≡ are_safe self.now.nodes claims.now }
+    {
+        are_within(self.node_table().rows(), claims)
+            && self.are_placed(claims)
+            && are_distinct(claims)
+    }
+
+    /// Whether the row stands under an id that a plan of so many places makes.
+    fn is_made(&self, id: AllocId, places: usize) -> bool
+        ensures { (row : Row) → row.id ≡ id → result ≡ is_made (self.now.count + 1) 0 places row }
+    {
+        id.index.get() == self.applied().get() + 1 && (id.slot.get() as usize) < places
+    }
+
+    /// Adds what a row claims after the stops of a plan, but for a row that the plan replaces.
+    fn add_left(
+        &self,
+        claims: &mut Sequence<Claim>,
+        row: &Allocation,
+        plan: &AcceptedPlan,
+    ) -> Result<(), NoMemory>
+        ensures { OnOk result ((rest : List AnyClaim) → claims.new ++ rest ≡ claims.old ++ left_one (self.now.count + 1) (length plan.now.places) (stop_those plan.now.stops row.now) rest) }
+    {
+        let row = after_stops(row, plan.stops.as_slice());
+        if is_live(&row) && !self.is_made(row.id, plan.places.as_slice().len()) {
+            claims.push(claim_by(&row))
+        } else {
+            Ok(())
+        }
+    }
+
+    /// What is claimed by what a plan neither stops nor replaces.
+    fn left_by(&self, plan: &AcceptedPlan) -> Result<Sequence<Claim>, NoMemory>
+        ensures { IfOk result (λ claims. claims ≡ left_by plan.now self.now) }
+    {
+        let mut claims = Sequence::new(self.memory());
+        for row in self.alloc_table().rows() {
+            self.add_left(&mut claims, row, plan)?;
+        }
+        Ok(claims)
+    }
+}
+
+/// Adds what a plan wants.
+fn add_wanted(claims: &mut Sequence<Claim>, plan: &AcceptedPlan) -> Result<(), NoMemory>
+    ensures { OnOk result (claims.new ≡ claims.old ++ wanted plan.now) }
+{
+    for place in plan.places.as_slice() {
+        claims.push(wanted_claim(plan, place))?;
+    }
+    Ok(())
+}
+
+impl Cluster {
+    /// Whether the state after a plan is safe. It looks at all that is claimed then.
+    pub(crate) fn bears_plan(&self, plan: &AcceptedPlan) -> Result<bool, NoMemory>
+        requires { length self.now.allocs + length plan.now.places ≤ 65536 }
+        ensures { IfOk result (λ b. b ≡ is_safe (planned plan.now (counted self.now))) }
+    {
+        self.ranges();
+        plan.ranges();
+        let mut claims = self.left_by(plan)?;
+        add_wanted(&mut claims, plan)?;
+        Ok(self.bears(claims.as_slice()))
+    }
+}

@@ -1,0 +1,56 @@
+//! The replicated state as a machine.
+ghost use Rattle.fsm_state.specs.ClusterMachine.{cluster_meaning, cluster_lawful};
+
+use crate::cluster::Cluster;
+use crate::text::has_text;
+use fields::{Field, read_whole, write};
+use machine::Machine;
+use rows::{Command, NoMemory, Refusal};
+use std::alloc::Global;
+
+impl Machine for Cluster {
+    type Command = Command;
+
+    ghost meaning = { cluster_meaning };
+
+    ghost lawful = { cluster_lawful };
+
+    fn empty(alloc: Global) -> Cluster {
+        Cluster::new(alloc)
+    }
+
+    fn noop() -> Command {
+        Command::Noop
+    }
+
+    fn count(&self) -> u64 {
+        self.fits();
+        self.applied().get()
+    }
+
+    fn apply(&mut self, command: &Command) -> Result<(), NoMemory> {
+        self.execute(command)
+    }
+
+    fn admits(&self, command: &Command) -> Result<Option<Refusal>, NoMemory> {
+        self.fits();
+        has_text(command);
+        self.admission(command)
+    }
+
+    fn save(&self, out: &mut Vec<u8>) -> Result<(), NoMemory> {
+        write(self, out)
+    }
+
+    fn load(alloc: Global, bytes: &[u8]) -> Result<Cluster, Refusal> {
+        read_whole(alloc, bytes)
+    }
+
+    fn write_command(command: &Command, out: &mut Vec<u8>) -> Result<(), NoMemory> {
+        write(command, out)
+    }
+
+    fn read_command(alloc: Global, bytes: &[u8]) -> Result<(Command, usize), Refusal> {
+        Command::read_at(alloc, bytes, 0)
+    }
+}
