@@ -1,17 +1,17 @@
 //! Whether the state after a plan is safe.
-ghost use Rattle.std.specs.Prelude.{◌≡◌, ◌≤◌, ◌+◌, ◌++◌, ◌∷◌, ◌&&◌, List, IfOk, OnOk, length, cond, map, not};
+ghost use Rattle.std.specs.Prelude.{◌≡◌, ◌≤◌, ◌+◌, ◌++◌, ◌∷◌, ◌&&◌, List, IfOk, OnOk, length, cond, map, not, take, T as Holds};
 ghost use Rattle.std.specs.List.{list_any, list_all};
-ghost use Rattle.fsm_tables.specs.Claims.{Claim as AnyClaim, claim_of, is_live as lives};
-ghost use Rattle.fsm_state.specs.Safe.{is_safe, is_placed, same_name, are_distinct, are_safe};
+ghost use Rattle.fsm_tables.specs.Claims.{Claim as AnyClaim, claim_of, claims as claims_of, is_live as lives};
+ghost use Rattle.fsm_state.specs.Safe.{is_safe, is_placed, same_name, are_distinct as distinct_claims, are_safe};
 ghost use Rattle.fsm_state.specs.Words.{same_alloc};
 ghost use Rattle.fsm_state.specs.Effect.{counted, planned, stop as stop_those};
-ghost use Rattle.fsm_state.specs.PlanLaws.{place_claim, wanted};
+ghost use Rattle.fsm_state.specs.PlanLaws.{place_claim, wanted, are_free};
 ghost use Rattle.fsm_state.specs.AfterLaws.{is_made, left_by};
-ghost use Rattle.fsm_state.specs.Claimed.{bears_node, left_one};
+ghost use Rattle.fsm_state.specs.Claimed.{bears_node, left_one, is_first};
 ghost use Rattle.rows.specs.declared.allocation.Allocation.{Allocation as Row};
 
 use crate::cluster::Cluster;
-use fsm_tables::is_live;
+use fsm_tables::{AllocName, is_live};
 use rows::{
     AcceptedPlace, AcceptedPlan, AllocId, Allocation, Desired, GroupName, JobName, NoMemory, Node,
     NodeId, Ordinal, Ranged, Sequence, Size,
@@ -136,7 +136,7 @@ fn is_claimed(claim: &Claim, claims: &[Claim]) -> bool
 
 /// Whether no two claims are of one name.
 fn are_distinct(claims: &[Claim]) -> bool
-    ensures { result ≡ are_distinct claims.now }
+    ensures { result ≡ distinct_claims claims.now }
 {
     for place in 0..claims.len() {
         if is_claimed(&claims[place], &claims[place + 1..]) {
@@ -146,7 +146,65 @@ fn are_distinct(claims: &[Claim]) -> bool
     true
 }
 
+/// Whether no claim is of the name of one of the others.
+fn are_free(claims: &[Claim], others: &[Claim]) -> bool
+    ensures { result ≡ are_free claims.now others.now }
+{
+    for claim in claims {
+        if is_claimed(claim, others) {
+            return false;
+        }
+    }
+    true
+}
+
 impl Cluster {
+    /// Whether a row, where it is live, is the one that its name finds.
+    fn is_first(&self, row: &Allocation) -> bool
+        ensures { result ≡ is_first self.now.allocs row.now }
+    {
+        if is_live(row) {
+            let name = AllocName {
+                job: row.job,
+                group: row.group,
+                index: row.index,
+            };
+            match self.live_named(&name) {
+                Some(other) => row.id == other.id,
+                None => false,
+            }
+        } else {
+            true
+        }
+    }
+
+    /// Whether each live row is the one that its name finds: then no two are of one name.
+    fn are_named_once(&self) -> bool
+        ensures { result ≡ list_all (is_first self.now.allocs) self.now.allocs }
+    {
+        for row in self.alloc_table().rows() {
+            if !self.is_first(row) {
+                return false;
+            }
+        }
+        true
+    }
+
+    /// Whether no two claims are of one name, where the first `held` are of rows of this state: if names are held once
+    /// in it, the others are looked at alone.
+    fn are_held_once(&self, claims: &[Claim], held: usize) -> bool
+        requires few { held ≤ length claims.now }
+        requires held { Holds (distinct_claims (claims_of self.now.allocs)) → Holds (distinct_claims (take held claims.now)) }
+        ensures { result ≡ distinct_claims claims.now }
+    {
+        self.ranges();
+        if self.are_named_once() {
+            are_distinct(&claims[held..]) && are_free(&claims[..held], &claims[held..])
+        } else {
+            are_distinct(claims)
+        }
+    }
+
     /// Whether each claim is of a node that has a row.
     fn are_placed(&self, claims: &[Claim]) -> bool
         ensures { result ≡ list_all (is_placed self.now.nodes) claims.now }
@@ -159,14 +217,16 @@ impl Cluster {
         true
     }
 
-    /// Whether the nodes bear what is claimed.
+    /// Whether the nodes bear what is claimed, of which the first `held` are of rows of this state.
     #[tactic(auto, using(crate::specs::Claimed::all_within))]
-    fn bears(&self, claims: &[Claim]) -> bool
+    fn bears(&self, claims: &[Claim], held: usize) -> bool
+        requires few { held ≤ length claims.now }
+        requires held { Holds (distinct_claims (claims_of self.now.allocs)) → Holds (distinct_claims (take held claims.now)) }
         ensures { result ≡ are_safe self.now.nodes claims.now }
     {
         are_within(self.node_table().rows(), claims)
             && self.are_placed(claims)
-            && are_distinct(claims)
+            && self.are_held_once(claims, held)
     }
 
     /// Whether the row stands under an id that a plan of so many places makes.
@@ -224,7 +284,8 @@ impl Cluster {
         self.ranges();
         plan.ranges();
         let mut claims = self.left_by(plan)?;
+        let held = claims.len();
         add_wanted(&mut claims, plan)?;
-        Ok(self.bears(claims.as_slice()))
+        Ok(self.bears(claims.as_slice(), held))
     }
 }
