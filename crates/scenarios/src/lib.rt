@@ -2,7 +2,13 @@
 //! callers of the group know by its contracts.
 #![tactic(auto)]
 
+#[cfg(test)]
+mod admission;
 pub mod claims;
+#[cfg(test)]
+mod commands;
+#[cfg(test)]
+mod effects;
 #[cfg(test)]
 mod faults;
 #[cfg(test)]
@@ -15,3 +21,5 @@ mod memory;
 mod requests;
 #[cfg(test)]
 mod runs;
+#[cfg(test)]
+mod state_texts;
