@@ -62,30 +62,49 @@ fn reads_second_group(rt: HostRuntime) {
     }
 }
 
+fn is_stop(request: &Request, text: &str) -> bool {
+    match request {
+        Request::Stop(name) => is_named(name, text),
+        _ => false,
+    }
+}
+
+fn is_eval(request: &Request, text: &str) -> bool {
+    match request {
+        Request::Eval(name) => is_named(name, text),
+        _ => false,
+    }
+}
+
+fn is_drain(request: &Request, number: u8, force: bool) -> bool {
+    match request {
+        Request::Drain(node, forced) => node.number() == number && *forced == force,
+        _ => false,
+    }
+}
+
+fn request(rt: &impl Abort, alloc: Global, text: &str) -> Request {
+    match read_request(alloc, text) {
+        Ok(Some(request)) => request,
+        _ => panic!(rt; "no request"),
+    }
+}
+
 // What the other requests name.
 #[test]
 fn reads_other_requests(rt: HostRuntime) {
-    match read_request(rt.alloc(), "stop web-1") {
-        Ok(Some(Request::Stop(name))) => assert!(rt; is_named(&name, "web-1")),
-        _ => assert!(rt; false),
-    }
-    match read_request(rt.alloc(), "eval 0") {
-        Ok(Some(Request::Eval(name))) => assert!(rt; is_named(&name, "0")),
-        _ => assert!(rt; false),
-    }
+    let stop = request(&rt, rt.alloc(), "stop web-1");
+    assert!(rt; is_stop(&stop, "web-1"));
+    let eval = request(&rt, rt.alloc(), "eval 0");
+    assert!(rt; is_eval(&eval, "0"));
 }
 
 #[test]
 fn reads_drains(rt: HostRuntime) {
-    for (text, number, force) in [("drain 64 slow", 64, false), ("drain 1 force", 1, true)] {
-        match read_request(rt.alloc(), text) {
-            Ok(Some(Request::Drain(node, forced))) => {
-                assert_eq!(rt; node.number(), number);
-                assert_eq!(rt; forced, force);
-            }
-            _ => assert!(rt; false, "{text}"),
-        }
-    }
+    let slow = request(&rt, rt.alloc(), "drain 64 slow");
+    assert!(rt; is_drain(&slow, 64, false));
+    let forced = request(&rt, rt.alloc(), "drain 1 force");
+    assert!(rt; is_drain(&forced, 1, true));
 }
 
 fn cluster_event(
@@ -94,10 +113,7 @@ fn cluster_event(
     leader: ServerId,
     text: &str,
 ) -> RaftEvent<Cluster> {
-    match read_request(alloc, text) {
-        Ok(Some(request)) => RaftEvent::Propose(leader, request.into_command()),
-        _ => panic!(rt; "no request"),
-    }
+    RaftEvent::Propose(leader, request(rt, alloc, text).into_command())
 }
 
 fn take(rt: &impl Abort, world: &mut RaftWorld<Cluster>, event: RaftEvent<Cluster>) {
