@@ -1,7 +1,6 @@
 //! Commands, and what a worker submits, as bytes.
 ghost use Rattle.std.specs.Prelude.{◌≡◌};
 ghost use Rattle.fields.specs.Format.{Gives, GivesExactly, Puts, list, number};
-ghost use Rattle.fields.specs.FormatLaws.{list_lawful};
 ghost use Rattle.fields.specs.Commands.{job_spec, node_spec, rising_ids, place, accepted_place, plan, plan_end, accepted_plan, accepted_end, reported_state, report, reports, status_change, command, bodies, later_bodies, tag_of};
 ghost use Rattle.fields.specs.CommandLaws.{job_spec_lawful, node_spec_lawful, rising_ids_lawful, place_lawful, accepted_place_lawful, plan_lawful, accepted_plan_lawful, reported_state_lawful, report_lawful, reports_lawful, status_change_lawful, command_lawful};
 
@@ -83,7 +82,7 @@ impl<F: Field> Field for Batch<F> {
         let (items, next) = read_list(alloc, bytes, at, 64)?;
         match Batch::check(items) {
             Ok(batch) => Ok((batch, next)),
-            Err(_) => Err(Refusal::Frame(at)),
+            Err(_) => unreachable!(),
         }
     }
 
@@ -330,16 +329,17 @@ impl Field for StatusChange {
 
     fn read_at(alloc: Global, bytes: &[u8], at: usize) -> Result<(StatusChange, usize), Refusal> {
         let (status, at) = EvalStatus::read_at(alloc, bytes, at)?;
-        if status == EvalStatus::Blocked {
-            let (snapshot, next) = read_index(bytes, at)?;
-            return Ok((StatusChange::Blocked(snapshot), next));
-        }
+        let change = match status {
+            EvalStatus::Blocked => {
+                let (snapshot, next) = read_index(bytes, at)?;
+                return Ok((StatusChange::Blocked(snapshot), next));
+            }
+            EvalStatus::Pending => StatusChange::Pending,
+            EvalStatus::Complete => StatusChange::Complete,
+            EvalStatus::Failed => StatusChange::Failed,
+        };
         let (_, next) = read_zero(bytes, at)?;
-        match status {
-            EvalStatus::Complete => Ok((StatusChange::Complete, next)),
-            EvalStatus::Failed => Ok((StatusChange::Failed, next)),
-            _ => Ok((StatusChange::Pending, next)),
-        }
+        Ok((change, next))
     }
 
     fn append(&self, out: &mut Vec<u8>) -> Result<(), NoMemory> {

@@ -1,5 +1,4 @@
 //! Groups of a job, and ids that rise, as bytes.
-ghost use Rattle.std.specs.Prelude.{◌≡◌};
 ghost use Rattle.rows.specs.Groups.{group_is_new};
 ghost use Rattle.rows.specs.Ids.{id_rises};
 ghost use Rattle.fields.specs.Format.{Gives};

@@ -16,18 +16,18 @@ mod writing;
 
 pub use field::{Field, read_whole, write};
 pub use laws::{
-    combinations_are_lawful, fields_are_lawful, lists_are_lawful, rows_are_lawful,
-    ruled_lists_are_lawful, texts_are_whole, texts_are_within_limits,
+    actors_are_lawful, combinations_are_lawful, lists_are_lawful, numbers_are_lawful,
+    rows_are_lawful, ruled_lists_are_lawful, texts_are_whole, texts_are_within_limits,
 };
 pub use list::{
     append_counted, append_items, append_list, append_long_counted, append_long_list, read_items,
     read_list, read_long_list, read_option,
 };
 pub use reading::{
-    read_actor, read_bool, read_index, read_name, read_server, read_term, read_u8, read_u16,
-    read_u32, read_u64,
+    read_actor, read_bool, read_index, read_server, read_term, read_u8, read_u16, read_u32,
+    read_u64,
 };
-pub use ruled::{RuledField, read_long_ruled_list, read_ruled_items, read_ruled_list};
+pub use ruled::{RuledField, read_long_ruled_list, read_ruled_list};
 pub use writing::{
     write_actor, write_bool, write_index, write_server, write_term, write_u8, write_u16, write_u32,
     write_u64,

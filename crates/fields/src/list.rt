@@ -94,7 +94,8 @@ pub fn append_list<F: Field>(
     append_counted(values.as_slice(), most, out)
 }
 
-/// The same, of values that stand in a row.
+/// Puts the count of a slice in one byte to the end, and its values: at most `most` of them. Without memory a part of this
+/// may stand there.
 pub fn append_counted<F: Field>(values: &[F], most: u8, out: &mut Vec<u8>) -> Result<(), NoMemory>
     requires { length values.now ≤ most }
     ensures { Puts (list 1 most F.format) values.now result out.old.items out.new.items }
@@ -116,7 +117,8 @@ pub fn append_long_list<F: Field>(
     append_long_counted(values.as_slice(), most, out)
 }
 
-/// The same, of values that stand in a row.
+/// Puts the count of a slice in four bytes to the end, and its values: at most `most` of them. Without memory a part of this
+/// may stand there.
 pub fn append_long_counted<F: Field>(
     values: &[F],
     most: u32,

@@ -144,7 +144,7 @@ pub(crate) fn read_long_count(bytes: &[u8], at: usize, most: u32) -> Result<(usi
 }
 
 /// A name: its length in one byte, from 1 to 32, and its bytes. `Frame` names the length, whatever is wrong.
-pub fn read_name(bytes: &[u8], at: usize) -> Result<(Name, usize), Refusal>
+pub(crate) fn read_name(bytes: &[u8], at: usize) -> Result<(Name, usize), Refusal>
     ensures { GivesExactly result (name.read bytes.now at) }
 {
     let (size, start) = read_u8(bytes, at)?;

@@ -28,8 +28,9 @@ pub trait RuledField: Field {
     ghost ruled: { IsRuled rule Self.format behind };
 }
 
-/// So many values that keep their rule.
-pub fn read_ruled_items<F: RuledField>(
+/// So many values that keep their rule. `Frame` names the first field at fault, or the first byte of a value that the rule
+/// forbids where it stands.
+fn read_ruled_items<F: RuledField>(
     alloc: Global,
     bytes: &[u8],
     at: usize,

@@ -1,4 +1,5 @@
 pub mod Refusals
+pub mod Words
 pub mod Names
 pub mod NameLaws
 pub mod Rising

@@ -1,8 +1,8 @@
-ghost use Rattle.std.specs.Prelude.{◌≡◌, ◌≤◌, ◌<◌, ◌++◌, ◌∷◌, [], length, IfOk, IfErr, OnOk, OnErr};
+ghost use Rattle.std.specs.Prelude.{◌≡◌, ◌≤◌, ◌<◌, [], length, IfOk, IfErr};
 ghost use Rattle.rows.specs.declared.refusal.Refusal.TheVariants as refusals;
 
 use crate::list_rules::{Ranged, all_ranges};
-use crate::refusal::{NoMemory, Refusal};
+use crate::refusal::Refusal;
 use crate::sequence::Sequence;
 use std::alloc::Global;
 use std::marker::Model;
@@ -24,9 +24,6 @@ impl<T> Model for Batch<T> {
 }
 
 impl<T> Batch<T> {
-    /// The greatest number of items: 64.
-    pub const MOST: usize = 64;
-
     /// The list without items. It takes no memory.
     pub fn new(alloc: Global) -> Batch<T>
         ensures { result ≡ [] }
@@ -43,14 +40,6 @@ impl<T> Batch<T> {
     {
         &self.items
     }
-
-    /// The items as a list of any length.
-    pub fn into_sequence(self) -> Sequence<T>
-        ensures { result ≡ self }
-    {
-        let Batch { items } = self;
-        Sequence::from_vec(items)
-    }
 }
 
 impl<T: Drop> Batch<T> {
@@ -65,16 +54,6 @@ impl<T: Drop> Batch<T> {
         } else {
             Err(Refusal::OutOfRange)
         }
-    }
-
-    /// Puts an item to the end of a list of fewer than 64. Without memory the item is let go, and the list stays as it was.
-    pub fn push(&mut self, item: T) -> Result<(), NoMemory>
-        requires { length self.old < 64 }
-        ensures ok { OnOk result (self.new ≡ self.old ++ item ∷ []) }
-        ensures err { OnErr result (self.new ≡ self.old) }
-    {
-        self.items.push(item)?;
-        Ok(())
     }
 }
 

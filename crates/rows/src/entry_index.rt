@@ -53,9 +53,6 @@ impl EntryIndex {
     pub fn index(self) -> Index
         ensures { result ≡ self }
     {
-        match Index::new(self.0) {
-            Some(index) => index,
-            None => Index::ZERO,
-        }
+        Index::new(self.get()).unwrap()
     }
 }

@@ -77,10 +77,7 @@ impl Name {
     pub fn as_str(&self) -> &str
         ensures { result.now ≡ self.now }
     {
-        match str::from_utf8(self.as_bytes()) {
-            Ok(text) => text,
-            Err(_) => "",
-        }
+        str::from_utf8(self.as_bytes()).unwrap()
     }
 
     /// The bytes, in their order.
@@ -107,7 +104,7 @@ fn are_name_bytes(bytes: &[u8]) -> bool
 }
 
 /// Whether the bytes are a name: 1 to 32 bytes of `a` to `z`, `0` to `9` and `-`.
-pub fn is_name(bytes: &[u8]) -> bool
+fn is_name(bytes: &[u8]) -> bool
     ensures { result ≡ are_name bytes.now }
 {
     !bytes.is_empty() && bytes.len() <= Name::MOST && are_name_bytes(bytes)
