@@ -19,6 +19,7 @@ use Rattle.rows.specs.declared.allocation.AllocId.{AllocId}
 use Rattle.rows.specs.declared.allocation.Allocation.{Allocation}
 use Rattle.rows.specs.Fits.{AllocationFits}
 use Rattle.rows.specs.Keys.{name_cmp, alloc_cmp, alloc_id}
+use Rattle.rows.specs.KeyLaws.{alloc_cmp_total}
 use Rattle.rows.specs.Rising.{is_rising}
 use Rattle.fsm_tables.specs.declared.live_names.LiveEntry.{LiveEntry}
 use Rattle.fsm_tables.specs.declared.name.AllocName.{AllocName}
@@ -28,7 +29,6 @@ use Rattle.fsm_tables.specs.LiveIndex.{alloc_name_cmp, entry_cmp, name_of, entry
 use Rattle.fsm_tables.specs.Rows.{row_of, put}
 use Rattle.fsm_tables.specs.RowLaws.{first, second, equal, none_below, below_less, below_tied, row_of-put}
 use Rattle.fsm_tables.specs.SetLaws.{found_first}
-use Rattle.fsm_tables.proofs.Sums.{alloc_cmp_total}
 
 -- ---- ids, names and entries that compare alike are one
 

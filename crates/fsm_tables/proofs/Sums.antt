@@ -2,22 +2,18 @@
 use Rattle.std.proofs.Common.{◌≡◌, ℕ, ◌+◌, ◌*◌, ◌<◌, ◌≤◌, length, ◌∷◌, Bool, true, false, cond, T, List, [], Option, Some, refl, sym, ap, zero, suc, replicate, ◌∙◌, ◌^◌, arith}
 use Rattle.std.specs.Prelude.{sum_by, slice_index, nat_eq}
 use Rattle.std.specs.List.{AllByRecursion}
-use Rattle.std.specs.Cmp.{IsTotalOrder, nat_cmp_total, on_total, then_total}
 use Rattle.std.proofs.lemmas.List.Sums.{sum_by-cons}
 use Rattle.rows.specs.declared.size.Size.{Size}
-use Rattle.rows.specs.declared.allocation.AllocId.{AllocId}
 use Rattle.rows.specs.declared.allocation.Allocation.{Allocation}
 use Rattle.rows.specs.Fits.{AllocationFits}
 use Rattle.rows.specs.Rising.{is_rising}
-use Rattle.fsm_tables.specs.Rows.{row_of, put}
+use Rattle.fsm_tables.specs.Rows.{row_of, put, weight_of}
 use Rattle.fsm_tables.specs.RowLaws.{sum_by-put}
 use Rattle.rows.specs.Keys.{alloc_cmp, alloc_id}
+use Rattle.rows.specs.KeyLaws.{alloc_cmp_total}
 use Rattle.fsm_tables.specs.Claims.{Claim, claim_of, claims, on_node, is_live}
-use Rattle.fsm_tables.specs.Sums.{AreSummed, weight, weight_of, IsShare}
+use Rattle.fsm_tables.specs.Sums.{AreSummed, weight, IsShare}
 use Rattle.fsm_tables.specs.declared.usage.Share.{Share}
-
-pub alloc_cmp_total : IsTotalOrder alloc_cmp
-alloc_cmp_total = then_total (on_total (λ (a : AllocId). a.index) nat_cmp_total) (on_total (λ (a : AllocId). a.slot) nat_cmp_total)
 
 more : (w : Claim → ℕ) (c : Claim) (b : Bool) (cs : List Claim) (n : ℕ) → sum_by w cs ≡ n → sum_by w (cond b (c ∷ cs) cs) ≡ cond b (w c) 0 + n
 more w c true cs n e = omega (arith, sum_by-cons w c cs)

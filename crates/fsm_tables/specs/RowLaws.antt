@@ -9,6 +9,7 @@ use Rattle.std.specs.Ordering.{is_lt, is_eq, ordering_reverse}
 use Rattle.std.specs.Cmp.{IsTotalOrder, alike_right}
 use Rattle.rows.specs.Rising.{is_below, is_rising}
 use Rattle.fsm_tables.specs.Rows.{by_order, row_of, has_row, put, put_within}
+pub use Rattle.fsm_tables.specs.Rows.{weight_of}
 
 pub both : (a b : Bool) → T a → T b → T (a && b)
 both true b p q = q
@@ -40,11 +41,6 @@ swapped : {A : Type 0} (a b : Bool) (x y z : A) → (T a → T b → ⊥) → co
 swapped true true x y z apart = absurd (apart tt tt)
 swapped true false x y z apart = refl
 swapped false b x y z apart = refl
-
--- what a row adds to a sum, and no row adds nothing
-abbrev pub weight_of : {X : Type 0} → (X → ℕ) → Option X → ℕ
-weight_of w None = 0
-weight_of w (Some x) = w x
 
 module _ {K X : Type 0} (R : K → K → Ordering) (key : X → K) where
   -- a change of rows that keeps their keys

@@ -1,7 +1,8 @@
 -- Running sums: one number for each node, which is what the live allocations hold of it.
-use Rattle.std.specs.Prelude.{ℕ, ◌≡◌, ◌<◌, ◌≤◌, cond, List, Option, Some, None, nat_eq, slice_index, sum_by}
+use Rattle.std.specs.Prelude.{ℕ, ◌≡◌, ◌<◌, ◌≤◌, cond, List, Option, nat_eq, slice_index, sum_by}
 use Rattle.rows.specs.declared.size.Size.{Size}
 use Rattle.rows.specs.declared.allocation.Allocation.{Allocation}
+use Rattle.fsm_tables.specs.Rows.{weight_of}
 use Rattle.fsm_tables.specs.Claims.{Claim, claim_of, claims, on_node, is_live}
 use Rattle.fsm_tables.specs.declared.usage.Share.{Share}
 
@@ -12,10 +13,6 @@ AreSummed part rows sums = (n : ℕ) → n < 65 → slice_index sums n ≡ sum_b
 -- what one row adds to a sum over the claims
 abbrev pub weight : (Claim → ℕ) → Allocation → ℕ
 weight w a = cond (is_live a) (w (claim_of a)) 0
-
-abbrev pub weight_of : {X : Type 0} → (X → ℕ) → Option X → ℕ
-weight_of w None = 0
-weight_of w (Some x) = w x
 
 -- a share is what the row, or no row, adds to each node's sum
 pub record IsShare (row : Option Allocation) (s : Share) : Type 0 where

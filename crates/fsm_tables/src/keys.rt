@@ -1,5 +1,3 @@
-ghost use Rattle.std.specs.Prelude.{◌≡◌};
-
 use crate::table::Row;
 use rows::{AllocId, Allocation, EvalId, Evaluation, Job, JobName, Node, NodeId};
 

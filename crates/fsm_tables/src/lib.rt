@@ -3,12 +3,14 @@
 
 mod allocations;
 mod keys;
+mod laws;
 mod live_names;
 mod name;
 mod table;
 mod tables;
 mod usage;
 
+pub use laws::tables_are_sets;
 pub use name::AllocName;
 pub use table::{Row, Table};
 pub use tables::Tables;

@@ -13,7 +13,9 @@ use std::collections::BTreeSet;
 /// A live allocation by its name. Entries are ordered by name, and those of one name by id.
 #[derive(Clone, Copy, PartialEq, Eq, PartialOrd, Ord)]
 pub(crate) struct LiveEntry {
+    /// The name that it holds.
     pub name: AllocName,
+    /// Its id.
     pub id: AllocId,
 }
 

@@ -16,8 +16,11 @@ pub struct Usage {
 /// What one row takes of its node; of node 0, which is none, where it takes nothing of any.
 #[derive(Clone, Copy)]
 pub(crate) struct Share {
+    /// The node's number, or 0.
     pub node: usize,
+    /// Processor time, in MHz.
     pub cpu: u64,
+    /// Memory, in MB.
     pub mem: u64,
 }
 
