@@ -1,6 +1,4 @@
 //! Rows, plans and commands against bytes that were put together by hand.
-ghost use Rattle.std.specs.Prelude.{◌≡◌};
-
 use fields::*;
 use rows::*;
 use std::alloc::Global;

@@ -1,5 +1,5 @@
 -- Frames: the bytes of a message, and how they are read.
-use Rattle.std.specs.Prelude.{◌≡◌, ℕ, ◌+◌, ◌^◌, List, ◌++◌, length, Result, Ok, Err, ◌&&◌, nat_eq, nat_le, if◌then◌else◌}
+use Rattle.std.specs.Prelude.{ℕ, ◌+◌, ◌^◌, List, ◌++◌, length, Result, Ok, Err, ◌&&◌, nat_eq, nat_le, if◌then◌else◌}
 use Rattle.fields.specs.Format.{Reading, ◌>>=◌, Format, spelled, number_at}
 use Rattle.rows.specs.declared.actor.Actor.{Actor}
 use Rattle.wire.specs.declared.header.Header.{Header}
@@ -53,8 +53,3 @@ pub record Frame : Type 0 where
 
 abbrev pub frame_of : {S C : Type 0} → Format C → Message S C → Frame
 frame_of commands m = record { to = m.to; bytes = message_text commands m }
-
--- a frame is that of a message
-pub record FrameOf {S C : Type 0} (commands : Format C) (frame : Frame) (m : Message S C) : Type 0 where
-  pub fits : MessageFits commands m
-  pub same : frame ≡ frame_of commands m

@@ -11,8 +11,11 @@ use std::alloc::Global;
 /// What a frame begins with, behind its version.
 #[derive(Clone, Copy, Debug)]
 pub struct Header {
+    /// What the message is.
     pub kind: Kind,
+    /// Who sends it.
     pub from: Actor,
+    /// Who is to receive it.
     pub to: Actor,
 }
 

@@ -2,7 +2,7 @@ ghost use Rattle.std.specs.Prelude.{◌≡◌, ◌++◌, ◌∷◌, [], ◌+◌,
 ghost use Rattle.rows.specs.declared.actor.Actor.TheVariants as actors;
 ghost use Rattle.wire.specs.declared.kind.Kind.TheVariants as kinds;
 ghost use Rattle.wire.specs.Messages.{append_message, may_go};
-ghost use Rattle.wire.specs.Frames.{Frame as FrameValue, MessageFits, frame_of};
+ghost use Rattle.wire.specs.Frames.{MessageFits, frame_of};
 
 use crate::append::AppendHead;
 use crate::message::Message;

@@ -31,6 +31,7 @@ fn read_size(bytes: &[u8], at: usize) -> Result<(u32, usize), Refusal>
     Ok((size, at + 4))
 }
 
+/// The message of a frame, or its first fault.
 #[tactic(auto, unfolding(crate::specs::Frames::message_at))]
 fn read_frame<M: Machine>(alloc: Global, bytes: &[u8]) -> Result<Message<M>, Refusal>
     ensures { Gives result (message_at M.meaning.commands bytes.now) }

@@ -12,6 +12,11 @@ const VOTE: [u8; 32] = [
     1, 1, 1, 2, 0, 0, 0, 24, 0, 0, 0, 0, 0, 0, 0, 1, 0, 0, 0, 0, 0, 0, 0, 0, 0, 0, 0, 0, 0, 0, 0, 0,
 ];
 
+/// Server 2 tells server 1, in term 3, that it has its vote, which was asked for in term 2.
+const GRANTED: [u8; 25] = [
+    1, 2, 2, 1, 0, 0, 0, 17, 0, 0, 0, 0, 0, 0, 0, 3, 0, 0, 0, 0, 0, 0, 0, 2, 1,
+];
+
 /// Where the bytes are at fault; nowhere if they are the frame of the message that is read.
 fn fault_of(rt: &impl Abort, alloc: Global, bytes: &[u8]) -> Result<Option<usize>, Fail> {
     match read_message::<Tally>(alloc, bytes) {
@@ -75,6 +80,20 @@ fn vote_request(rt: HostRuntime) -> Result<(), Fail> {
     let frame = vote_frame(rt.alloc())?;
     assert_eq!(rt; frame.as_slice(), VOTE.as_slice());
     assert_eq!(rt; fault_of(&rt, rt.alloc(), &VOTE)?, None);
+    Ok(())
+}
+
+#[test]
+fn vote_reply(rt: HostRuntime) -> Result<(), Fail> {
+    let reply = VoteReply {
+        term: Term::new(3).ok_or("no term")?,
+        asked: Term::new(2).ok_or("no term")?,
+        granted: true,
+    };
+    let message = read_message::<Tally>(rt.alloc(), &GRANTED)?;
+    assert_eq!(rt; message.kind(), Kind::VoteReply);
+    assert!(rt; matches!(message.body(), Body::VoteReply(same) if *same == reply));
+    assert_eq!(rt; fault_of(&rt, rt.alloc(), &GRANTED)?, None);
     Ok(())
 }
 
