@@ -1,12 +1,12 @@
 -- What an Append does to a server, by cases.
-use Rattle.std.proofs.Common.{◌≡◌, ◌≢◌, ℕ, ◌+◌, ◌-◌, ◌<◌, ◌≤◌, ◌||◌, nat_le, nat_lt, min, max, Bool, true, false, cond, inl, inr, Option, Some, List, [], ◌∷◌, length, refl, sym, ap, subst, ◌∙◌, arith}
+use Rattle.std.proofs.Common.{◌≡◌, ℕ, ◌+◌, ◌-◌, ◌≤◌, ◌||◌, nat_le, nat_lt, min, max, true, false, inl, inr, Option, Some, List, [], ◌∷◌, length, refl, sym, ap, subst, ◌∙◌, arith}
 use Rattle.std.proofs.lemmas.Bool.{lt-ltb, le-ltb}
 use Rattle.std.proofs.lemmas.Bool.Decides.{leb_tells}
 use Rattle.machine.specs.Meaning.{Meaning}
 use Rattle.machine.specs.declared.entry.Entry.{Entry}
 use Rattle.raft_model.specs.Logs.{has, merge}
 use Rattle.raft_model.specs.Messages.{Append, AppendReply}
-use Rattle.raft_model.specs.Servers.{Server, Turn, is_leader, met, following, appended, follows_append, reply, silent}
+use Rattle.raft_model.specs.Servers.{Server, is_leader, met, following, appended, follows_append, reply, silent}
 use Rattle.raft_model.specs.Servers.{Follower as FollowerMode}
 use Rattle.raft_model.specs.Steps.{receives}
 use Rattle.wire.specs.Frames.{Frame}
@@ -57,13 +57,6 @@ module _ {S C : Type 0} (m : Meaning S C) (old new : Seen C) (before after : Lis
       (record { server = ap (λ x. x.server) is ∙ last ∙ taken; me = ap (λ x. x.me) is; size = ap (λ x. x.size) is; sent = sent })
 
 module _ {C : Type 0} (noop : C) (n me : ℕ) (s : Server C) (from term prev prev_term commit : ℕ) (entries : List (Entry C)) where
-  -- one of a lower term is refused
-  pub append_low : term < s.term → receives noop n me (met term s) from term (Append prev prev_term commit entries) ≡ reply me s from (AppendReply term false 0)
-  append_low low =
-      let a : nat_lt s.term term ≡ false = le-ltb s.term term (omega (arith, low)) in
-      let b : nat_lt term s.term ≡ true = lt-ltb term s.term low in
-      rw a (rw b refl)
-
   -- a leader is silent to one of its own term
   pub append_own : s.term ≡ term → is_leader s.mode ≡ true → receives noop n me (met term s) from term (Append prev prev_term commit entries) ≡ silent s
   append_own same leads =

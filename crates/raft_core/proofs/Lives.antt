@@ -4,7 +4,7 @@ use Rattle.std.proofs.lemmas.List.{length-replicate, take-append-le}
 use Rattle.machine.specs.Meaning.{Meaning}
 use Rattle.machine.specs.declared.entry.Entry.{Entry}
 use Rattle.raft_model.specs.Logs.{commands, state_after}
-use Rattle.raft_model.specs.Servers.{Server, is_up, is_leader}
+use Rattle.raft_model.specs.Servers.{Server, is_leader}
 use Rattle.raft_core.specs.Seen.{IsLive, HasRoom, IsRaft, while_up, mode_of}
 use Rattle.raft_core.specs.declared.role.Role.{Role}
 use Rattle.raft_core.specs.declared.role.Role.TheVariants as roles
@@ -100,8 +100,3 @@ term_up (Some machine) s = refl
 pub log_up : {S C : Type 0} (machine : Option S) (s : Server C) → (while_up machine s).log ≡ s.log
 log_up None s = refl
 log_up (Some machine) s = refl
-
--- while it is up, the leader that it knows is seen
-pub known_up : {S C : Type 0} (machine : Option S) (s : Server C) → is_up (while_up machine s).mode ≡ true → (while_up machine s).known ≡ s.known
-known_up None s up = absurd (cc up)
-known_up (Some machine) s up = refl

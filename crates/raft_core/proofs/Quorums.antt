@@ -1,7 +1,7 @@
 -- Counting the servers that pass a test.
-use Rattle.std.proofs.Common.{◌≡◌, ℕ, zero, suc, ◌+◌, ◌<◌, ◌≤◌, Bool, true, false, cond, List, [], ◌∷◌, length, refl, ap, ◌∙◌, arith, slice_get, get_or, Some, None}
+use Rattle.std.proofs.Common.{◌≡◌, ℕ, suc, ◌+◌, ◌<◌, Bool, false, cond, List, length, refl, ap, ◌∙◌, arith, get_or}
 use Rattle.std.proofs.lemmas.Option.{slice_get-get_or}
-use Rattle.raft_model.specs.Quorums.{count, marked, number, or_else}
+use Rattle.raft_model.specs.Quorums.{count, marked, or_else}
 
 pub count-next : (f : ℕ → Bool) (i : ℕ) → count f (i + 1) ≡ cond (f i) 1 0 + count f i
 unfolding count

@@ -1,24 +1,15 @@
 -- Steps of the definitions, by what the rules leave.
-use Rattle.std.proofs.Common.{◌≡◌, ◌≢◌, ℕ, ◌+◌, ◌^◌, ◌<◌, ◌≤◌, ◌⊎◌, inl, inr, true, false, ◌&&◌, nat_lt, Result, Ok, Err, Some, None, List, length, take, refl, sym, ap, ◌∙◌, subst, arith}
-use Rattle.std.proofs.lemmas.Bool.{lt-ltb, le-ltb}
-use Rattle.rows.specs.declared.refusal.Refusal.TheVariants as refusals
-use Rattle.rows.specs.declared.refusal.Refusal.{Refusal}
-use Rattle.rows.specs.declared.actor.Actor.{Actor}
-use Rattle.rows.specs.declared.actor.Actor.TheVariants.{Server as ServerActor}
+use Rattle.std.proofs.Common.{◌≡◌, ℕ, ◌+◌, ◌^◌, ◌<◌, true, false, nat_lt, Ok, List, length, refl, arith}
+use Rattle.std.proofs.lemmas.Bool.{lt-ltb}
 use Rattle.machine.specs.Meaning.{Meaning}
-use Rattle.wire.specs.Messages.{Message as WireMessage}
-use Rattle.wire.specs.Frames.{Frame, MessageFits, message_text}
+use Rattle.wire.specs.Frames.{Frame}
 use Rattle.raft_model.specs.Logs.{MAX}
-use Rattle.raft_model.specs.Messages.{Message, to_others}
-use Rattle.raft_model.specs.Servers.{Server, Turn, is_up, is_leader, silent, stood, vote_request, met, beats, crashed, restarted}
-use Rattle.raft_model.specs.Steps.{step, receives, Input, Arrives, Timeout, Beat, Crash, Restart}
-use Rattle.raft_core.specs.declared.input.Input.{Input as CodeInput}
-use Rattle.raft_core.specs.declared.input.Input.TheVariants as inputs
-use Rattle.raft_core.specs.Seen.{Seen, with_server}
-use Rattle.raft_core.specs.Frames.{Means, IsFrameOf, term_of, body_of}
-use Rattle.raft_core.specs.Turns.{Turned, Lost, Sent}
-use Rattle.raft_core.specs.Steps.{Represents, Steps, TakesFrame, Takes, refusal, MayLack, LackLeaves, Lacks, Declines}
-use Rattle.raft_core.specs.Stops.{LosesIn, Stops}
+use Rattle.raft_model.specs.Messages.{to_others}
+use Rattle.raft_model.specs.Servers.{Server, Turn, is_up, is_leader, silent, stood, vote_request, beats, crashed, restarted}
+use Rattle.raft_model.specs.Steps.{step, Input, Timeout, Beat, Crash, Restart}
+use Rattle.raft_core.specs.Seen.{Seen}
+use Rattle.raft_core.specs.Turns.{Turned}
+use Rattle.raft_core.specs.Steps.{Steps}
 
 module _ {S C : Type 0} (m : Meaning S C) where
   pub steps_by : (old new : Seen C) (before after : List Frame) (input : Input C) (turn : Turn C) → step m old.size old.me old.server input ≡ Ok turn → Turned m old new before after turn → Steps m old old.server input new before after

@@ -1,6 +1,5 @@
 -- Messages between servers, and the frames that carry them.
 use Rattle.std.specs.Prelude.{◌≡◌, ℕ, List, [], ◌∷◌, ◌++◌}
-use Rattle.rows.specs.declared.actor.Actor.{Actor}
 use Rattle.rows.specs.declared.actor.Actor.TheVariants.{Server}
 use Rattle.machine.specs.Meaning.{Meaning}
 use Rattle.wire.specs.Messages.{Message as WireMessage}

@@ -1,5 +1,5 @@
 -- What comes of a command that is proposed, and why a server has no machine after its whole log.
-use Rattle.std.specs.Prelude.{◌≡◌, true, false, Result, Ok, Err}
+use Rattle.std.specs.Prelude.{◌≡◌, true, false, Ok, Err}
 use Rattle.rows.specs.declared.refusal.Refusal.{Refusal}
 use Rattle.rows.specs.declared.refusal.Refusal.TheVariants as refusals
 use Rattle.machine.specs.Meaning.{Meaning}
@@ -40,10 +40,3 @@ abbrev pub LacksProjection : {C : Type 0} → Server C → NoProjection → Type
 LacksProjection s reasons.NoMemory = is_leader s.mode ≡ true
 LacksProjection s reasons.NotLeader = (is_up s.mode ≡ true) × (is_leader s.mode ≡ false)
 LacksProjection s reasons.Down = is_up s.mode ≡ false
-
--- the same by the refusal
-abbrev pub HasNoProjection : {C : Type 0} → Server C → Refusal → Type 0
-HasNoProjection s refusals.NoMemory = is_leader s.mode ≡ true
-HasNoProjection s refusals.Down = is_up s.mode ≡ false
-HasNoProjection s (refusals.NotLeader known) = (is_up s.mode ≡ true) × (is_leader s.mode ≡ false) × (known ≡ s.known)
-HasNoProjection s _ = ⊥

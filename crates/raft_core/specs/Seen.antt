@@ -7,7 +7,6 @@ use Rattle.raft_model.specs.Servers.{Server, Mode, crashed}
 use Rattle.raft_model.specs.Servers.{Follower as FollowerMode, Candidate as CandidateMode, Leader as LeaderMode}
 use Rattle.raft_core.specs.declared.role.Role.{Role}
 use Rattle.raft_core.specs.declared.role.Role.TheVariants.{Follower, Candidate, Leader}
-use Rattle.raft_core.specs.Stored.{Stored}
 
 -- its place among the servers, how many they are, and the server that it is
 pub record Seen (C : Type 0) : Type 0 where

@@ -1,5 +1,5 @@
 -- What a server does with an input, and why it refuses one.
-use Rattle.std.specs.Prelude.{◌≡◌, ℕ, ◌==◌, ◌||◌, ◌&&◌, Bool, true, false, nat_lt, if◌then◌else◌, Option, Some, None, Result, Ok, Err, List, ◌++◌}
+use Rattle.std.specs.Prelude.{◌≡◌, ℕ, ◌==◌, ◌||◌, ◌&&◌, Bool, true, false, nat_lt, if◌then◌else◌, Option, Some, None, Result, Ok, Err, List}
 use Rattle.rows.specs.declared.actor.Actor.{Actor}
 use Rattle.rows.specs.declared.actor.Actor.TheVariants.{Server as ServerActor, Client}
 use Rattle.rows.specs.declared.refusal.Refusal.{Refusal}
@@ -20,7 +20,6 @@ use Rattle.raft_core.specs.declared.input.Input.TheVariants.{Frame as FrameInput
 use Rattle.raft_core.specs.Stored.{Stored}
 use Rattle.raft_core.specs.Seen.{Seen}
 use Rattle.raft_core.specs.Frames.{IsFrameOf, Sends}
-use Rattle.raft_core.specs.Turns.{Turned, Lost}
 
 -- which server of the definitions a value is
 abbrev pub Represents : {S C : Type 0} → Meaning S C → Seen C → Server C → Type 0

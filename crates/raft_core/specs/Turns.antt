@@ -1,7 +1,7 @@
 -- What a rule does to a server and to its frames.
-use Rattle.std.specs.Prelude.{◌≡◌, ℕ, List, length, take}
+use Rattle.std.specs.Prelude.{◌≡◌, List, length, take}
 use Rattle.machine.specs.Meaning.{Meaning}
-use Rattle.raft_model.specs.Servers.{Server, Turn, crashed}
+use Rattle.raft_model.specs.Servers.{Turn, crashed}
 use Rattle.wire.specs.Frames.{Frame}
 use Rattle.raft_core.specs.Seen.{Seen}
 use Rattle.raft_core.specs.Frames.{Sends}

@@ -146,20 +146,10 @@ impl<M: Machine> Raft<M> {
         ensures { (s : Server M.Command) → Represents M.meaning self s → Stores M.meaning result s }
     {
         let Raft {
-            alloc: _,
-            me: _,
-            size: _,
             term,
             vote,
             log,
-            machine: _,
-            role: _,
-            commit: _,
-            known: _,
-            votes: _,
-            next: _,
-            matched: _,
-            ahead: _,
+            ..
         } = self;
         Stable { term, vote, log }
     }
@@ -170,6 +160,17 @@ impl<M: Machine> Raft<M> {
     {
         match self.machine {
             Some(_) => Some(self.role),
+            None => None,
+        }
+    }
+
+    /// The leader of its term, where it has followed an Append of that server's; none while it is down. A server that leads or
+    /// stands for election knows none, and a greater term or a restart makes it forget.
+    pub fn known_leader(&self) -> Option<ServerId>
+        ensures { (s : Server M.Command) → Represents M.meaning self.now s → result ≡ s.known }
+    {
+        match self.machine {
+            Some(_) => self.known,
             None => None,
         }
     }
@@ -221,11 +222,7 @@ impl<M: Machine> Raft<M> {
         requires { is_up self.now.server.mode ≡ true }
         ensures { result ≡ is_leader self.now.server.mode }
     {
-        match self.role {
-            Role::Leader => true,
-            Role::Follower => false,
-            Role::Candidate => false,
-        }
+        self.role.leads()
     }
 
     /// It stops: what it does not store is lost.

@@ -163,12 +163,33 @@ fn begins_after(alloc: Global, raft: &mut Raft<Tally>) -> Result<u64, Refusal> {
     }
 }
 
+/// The answer to an Append that was sent first.
+fn first_reply(alloc: Global, sent: &Outbox) -> Result<AppendReply, Refusal> {
+    let Some(frame) = sent.frames().first() else {
+        return Err(Refusal::OutOfRange);
+    };
+    let message = read_message::<Tally>(alloc, frame.bytes())?;
+    match message.body() {
+        Body::AppendReply(reply) => Ok(*reply),
+        _ => Err(Refusal::OutOfRange),
+    }
+}
+
 /// How many entries are applied.
 fn applied(raft: &Raft<Tally>) -> Option<u64> {
     match raft.applied() {
         Some(applied) => Some(applied.get()),
         None => None,
     }
+}
+
+/// The terms of the entries that are stored.
+fn terms_of(alloc: Global, stable: &Stable<Tally>) -> Result<Vec<u64>, Refusal> {
+    let mut terms = Vec::new(alloc);
+    for entry in &stable.log {
+        terms.push(entry.term.get())?;
+    }
+    Ok(terms)
 }
 
 fn add(number: u16) -> Result<TallyCommand, Refusal> {
@@ -260,11 +281,7 @@ fn leads_twice(rt: HostRuntime) -> Result<(), Fail> {
     grant(alloc, 2, 3, &mut raft)?;
     grant(alloc, 3, 3, &mut raft)?;
     assert!(rt; matches!(raft.role(), Some(Role::Leader)));
-    let stable = raft.into_stable();
-    let mut terms = Vec::new(alloc);
-    for entry in &stable.log {
-        terms.push(entry.term.get())?;
-    }
+    let terms = terms_of(alloc, &raft.into_stable())?;
     assert_eq!(rt; terms.as_slice(), [1, 3].as_slice());
     Ok(())
 }
@@ -344,11 +361,7 @@ fn committed_entries_are_passed_over(rt: HostRuntime) -> Result<(), Fail> {
     extend(alloc, 1, 0, 2, 2, &mut raft, &mut sent)?;
     assert_eq!(rt; applied(&raft), Some(2));
     extend(alloc, 2, 0, 3, 0, &mut raft, &mut sent)?;
-    let stable = raft.into_stable();
-    let mut terms = Vec::new(alloc);
-    for entry in &stable.log {
-        terms.push(entry.term.get())?;
-    }
+    let terms = terms_of(alloc, &raft.into_stable())?;
     assert_eq!(rt; terms.as_slice(), [1, 1, 2].as_slice());
     Ok(())
 }
@@ -360,13 +373,8 @@ fn missing_entry_before(rt: HostRuntime) -> Result<(), Fail> {
     let mut sent = Outbox::new(alloc);
     extend(alloc, 1, 5, 1, 0, &mut raft, &mut sent)?;
     assert_eq!(rt; raft.last().get(), 0);
-    let Some(frame) = sent.frames().first() else {
-        return Ok(());
-    };
-    let message = read_message::<Tally>(alloc, frame.bytes())?;
-    let Body::AppendReply(reply) = message.body() else {
-        return Ok(());
-    };
+    assert_eq!(rt; sent.len(), 1);
+    let reply = first_reply(alloc, &sent)?;
     assert!(rt; !reply.ok);
     assert_eq!(rt; reply.at.get(), 0);
     Ok(())
@@ -395,6 +403,7 @@ fn machine_after_the_whole_log(rt: HostRuntime) -> Result<(), Fail> {
     assert_eq!(rt; ahead.count(), 3);
     assert_eq!(rt; ahead.sum(), 600);
     assert_eq!(rt; applied(&raft), Some(0));
+    assert!(rt; matches!(raft.role(), Some(Role::Leader)));
     Ok(())
 }
 
@@ -405,10 +414,14 @@ fn follower_refuses_proposals(rt: HostRuntime) -> Result<(), Fail> {
     let mut sent = Outbox::new(alloc);
     let unknown = Refusal::NotLeader(Leader::new(None));
     assert!(rt; raft.propose(add(1)?) == Err(unknown));
+    assert!(rt; raft.known_leader().is_none());
     extend(alloc, 1, 0, 1, 0, &mut raft, &mut sent)?;
-    let known = Refusal::NotLeader(Leader::new(Some(server(2)?)));
+    let second = Some(server(2)?);
+    let known = Refusal::NotLeader(Leader::new(second));
     assert!(rt; raft.propose(add(1)?) == Err(known));
+    assert!(rt; raft.known_leader() == second);
     raft.step(alloc, Input::Crash, &mut sent)?;
     assert!(rt; raft.propose(add(1)?) == Err(Refusal::Down));
+    assert!(rt; raft.known_leader().is_none());
     Ok(())
 }

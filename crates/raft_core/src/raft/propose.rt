@@ -5,7 +5,7 @@ ghost use Rattle.raft_model.specs.Logs.{state_after};
 ghost use Rattle.raft_model.specs.Servers.{Server, is_up, is_leader, silent, extended};
 ghost use Rattle.raft_model.specs.Steps.{step, Propose};
 ghost use Rattle.raft_core.specs.Steps.{Represents};
-ghost use Rattle.raft_core.specs.Proposals.{Proposes, DeclinesProposal, IsRefused, LacksProjection, HasNoProjection};
+ghost use Rattle.raft_core.specs.Proposals.{Proposes, DeclinesProposal, IsRefused, LacksProjection};
 
 use super::Raft;
 use crate::no_projection::NoProjection;
@@ -83,9 +83,11 @@ impl<M: Machine> Raft<M> {
         }
     }
 
-    /// A leader's machine after its whole log, committed or not, or why there is none. The server stays as it was, also
-    /// where there is none.
-    pub fn project(&mut self) -> Result<&M, NoProjection>
+    /// A leader's machine after its whole log, committed or not.
+    ///
+    /// There is none, with `Down`, of one that is down, with `NotLeader` of one that does not lead (`known_leader` says who
+    /// may be asked), and with `NoMemory`. The server stays as it was on every answer, want of memory among them.
+    pub fn projected(&mut self) -> Result<&M, NoProjection>
         ensures value { IfOk result (λ r. (s : Server M.Command) → Represents M.meaning self.old s → (is_leader s.mode ≡ true) × (r.now ≡ state_after M.meaning s.log)) }
         ensures refused { IfErr result (λ why. (s : Server M.Command) → Represents M.meaning self.old s → LacksProjection s why) }
         ensures* same { sem 𝓛 (Rests (the_row M.row M.Command.row M.Machine) self.entry (λ n. n ≡ self.old)) }
@@ -98,20 +100,5 @@ impl<M: Machine> Raft<M> {
         }
         let ahead = projection(self.alloc, machine, self.commit.get(), &self.log)?;
         Ok(self.ahead.insert(ahead))
-    }
-
-    /// The same as `project`, with the refusal in place of the reason: `Down` of one that is down, `NotLeader` and the
-    /// leader that it knows of one that does not lead, or `NoMemory`.
-    pub fn projected(&mut self) -> Result<&M, Refusal>
-        ensures value { IfOk result (λ r. (s : Server M.Command) → Represents M.meaning self.old s → (is_leader s.mode ≡ true) × (r.now ≡ state_after M.meaning s.log)) }
-        ensures refused { IfErr result (λ cause. (s : Server M.Command) → Represents M.meaning self.old s → HasNoProjection s cause) }
-    {
-        let known = self.known;
-        match self.project() {
-            Ok(machine) => Ok(machine),
-            Err(NoProjection::NoMemory) => Err(Refusal::NoMemory),
-            Err(NoProjection::NotLeader) => Err(Refusal::NotLeader(Leader::new(known))),
-            Err(NoProjection::Down) => Err(Refusal::Down),
-        }
     }
 }

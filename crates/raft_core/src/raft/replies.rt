@@ -90,6 +90,7 @@ impl<M: Machine> Raft<M> {
             }
         }
     }
+
     /// An answer to an Append counts where it answers one of this term, and the server leads.
     pub(super) fn append_reply(
         &mut self,

@@ -1,4 +1,4 @@
-use Rattle.std.proofs.Common.{◌≡◌, ◌+◌, length, arith, refl, sym, ◌∙◌}
+use Rattle.std.proofs.Common.{◌≡◌, ◌+◌, length, arith}
 use Rattle.raft_core.proofs.Follows.{accepts}
 use Rattle.raft_core.proofs.raft.Raft.accept_append.Goals as goal
 

@@ -1,4 +1,4 @@
-use Rattle.std.proofs.Common.{arith, ◌≡◌, ◌<◌, ◌≤◌, true, length, replicate, ap, sym, ◌∙◌}
+use Rattle.std.proofs.Common.{arith, ◌≡◌, true, length, ap, sym, ◌∙◌}
 use Rattle.std.proofs.lemmas.List.{length-replicate}
 use Rattle.raft_core.specs.Steps.{is_member}
 use Rattle.raft_core.proofs.Lives.{fresh, filled_least, filled_most}

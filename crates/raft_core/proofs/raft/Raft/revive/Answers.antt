@@ -1,4 +1,4 @@
-use Rattle.std.proofs.Common.{arith, ◌∙◌}
+use Rattle.std.proofs.Common.{arith}
 use Rattle.raft_core.proofs.Lives.{fresh}
 use Rattle.raft_core.proofs.raft.Raft.revive.Goals as goal
 

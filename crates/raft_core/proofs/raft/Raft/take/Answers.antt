@@ -1,6 +1,5 @@
-use Rattle.std.proofs.Common.{◌≡◌, true, false, refl, sym, ap, ◌∙◌}
+use Rattle.std.proofs.Common.{sym, ap, ◌∙◌}
 use Rattle.raft_model.specs.Steps.{Beat, Crash, Restart}
-use Rattle.raft_core.specs.Seen.{Seen}
 use Rattle.raft_core.proofs.Sends.{sends-none}
 use Rattle.raft_core.proofs.Stepping.{steps_by, beat_taken, crash_taken, restart_taken}
 use Rattle.raft_core.proofs.raft.Raft.take.Goals as goal

@@ -1,5 +1,4 @@
-use Rattle.std.proofs.Common.{rules, ◌≡◌, ◌+◌, ◌^◌, ◌<◌, length, true, false, refl, sym, ◌∙◌}
-use Rattle.raft_model.specs.Servers.{is_leader}
+use Rattle.std.proofs.Common.{rules, ◌+◌, ◌^◌, ◌<◌, length, refl, sym, ◌∙◌}
 use Rattle.raft_model.specs.Steps.{Timeout}
 use Rattle.raft_core.proofs.Sends.{sends-none}
 use Rattle.raft_core.proofs.Stepping.{steps_by, leader_waits, other_stands}

@@ -1,4 +1,4 @@
-use Rattle.std.proofs.Common.{arith, ◌≡◌, ◌≢◌, sym, ◌∙◌}
+use Rattle.std.proofs.Common.{◌≢◌, sym, ◌∙◌}
 use Rattle.raft_core.proofs.Sends.{asks_none, asks_skip, asks_next, sent_front, sent_all}
 use Rattle.raft_core.proofs.raft.votes.ask.Goals as goal
 use Rattle.raft_core.proofs.raft.votes.ask.Goals.{then-place+in_ok-send, else-place}

@@ -1,4 +1,3 @@
-use Rattle.std.proofs.Common.{◌≡◌, ◌≤◌}
 use Rattle.raft_model.specs.Messages.{to_others, VoteRequest as VoteRequestBody}
 use Rattle.raft_core.specs.Frames.{Sends}
 use Rattle.raft_core.specs.Turns.{Sent}
