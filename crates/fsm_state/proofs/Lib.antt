@@ -4,3 +4,4 @@ pub mod Turns
 pub mod Filling
 pub mod Admitting
 pub mod StateTexts
+pub mod Alone

@@ -1,5 +1,5 @@
 -- The text of a state, part by part.
-use Rattle.std.proofs.Common.{◌≡◌, ◌<◌, ◌^◌, ℕ, Bool, true, false, T, List, ◌++◌, refl, ap, ◌∙◌, Ok, Err}
+use Rattle.std.proofs.Common.{◌≡◌, ◌<◌, ◌^◌, ℕ, List, ◌++◌, ap, ◌∙◌, Ok, Err}
 use Rattle.std.specs.Prelude.{Result}
 use Rattle.std.proofs.lemmas.List.{append_assoc}
 use Rattle.rows.specs.declared.refusal.NoMemory.{NoMemory}
@@ -10,25 +10,18 @@ use Rattle.fields.specs.StateText.{jobs, nodes, evaluations, allocations, state}
 use Rattle.fields.specs.RangeLaws.{fits_state}
 use Rattle.fsm_tables.specs.TableRows.{TablesFit}
 use Rattle.fsm_state.specs.Words.{State}
-
-pub passes : (b : Bool) → b ≡ true → T b
-passes true e = tt
-passes false e = absurd cc
-
-passed : (b : Bool) → T b → b ≡ true
-passed true h = refl
-passed false h = absurd h
+use Rattle.fsm_state.specs.Claimed.{is_true}
 
 pub all_fit : (s : State) → s.count < 2 ^ 40 → TablesFit (record { jobs = s.jobs; nodes = s.nodes; evals = s.evals; allocs = s.allocs }) → state.Fits s
 all_fit s low t = fits_state s (
   low,
   (
-    (t.jobs.few, passed _ t.jobs.rising, t.jobs.fit),
+    (t.jobs.few, is_true _ t.jobs.rising, t.jobs.fit),
     (
-      (t.nodes.few, passed _ t.nodes.rising, t.nodes.fit),
+      (t.nodes.few, is_true _ t.nodes.rising, t.nodes.fit),
       (
-        (t.evals.few, passed _ t.evals.rising, t.evals.fit),
-        (t.allocs.few, passed _ t.allocs.rising, t.allocs.fit),
+        (t.evals.few, is_true _ t.evals.rising, t.evals.fit),
+        (t.allocs.few, is_true _ t.allocs.rising, t.allocs.fit),
       ),
     ),
   ),

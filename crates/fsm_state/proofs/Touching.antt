@@ -1,7 +1,7 @@
 -- A loop over the jobs touches those of the names.
-use Rattle.std.proofs.Common.{◌≡◌, ℕ, zero, suc, ◌+◌, ◌<◌, List, [], ◌∷◌, Bool, true, false, cond, drop, length, Option, Some, None, refl, sym, ap, subst, ◌∙◌, ◌≤◌, arith, add-one}
-use Rattle.std.specs.Prelude.{filter, bytes_eq}
-use Rattle.std.specs.List.{list_any, slice_get}
+use Rattle.std.proofs.Common.{◌≡◌, ℕ, zero, suc, ◌+◌, ◌<◌, List, [], ◌∷◌, true, false, cond, drop, length, Option, Some, None, refl, sym, ap, subst, ◌∙◌, ◌≤◌, arith, add-one}
+use Rattle.std.specs.Prelude.{filter}
+use Rattle.std.specs.List.{slice_get}
 use Rattle.rows.specs.declared.job.Job.{Job}
 use Rattle.rows.specs.declared.evaluation.Evaluation.{Evaluation}
 use Rattle.rows.specs.Keys.{eval_cmp, eval_id}
@@ -9,12 +9,10 @@ use Rattle.fsm_tables.specs.Rows.{put_within}
 use Rattle.fsm_state.specs.Words.{State}
 use Rattle.fsm_state.specs.Effect.{new_eval, with_evals}
 use Rattle.fsm_state.specs.Steps.{eval_for}
-
-abbrev pub of_names : List (List ℕ) → Job → Bool
-of_names names j = list_any (λ name. bytes_eq j.name name) names
+use Rattle.fsm_state.specs.StepLaws.{is_one_of}
 
 abbrev pub After : ℕ → ℕ → List (List ℕ) → ℕ → List Job → List Evaluation → List Evaluation → Type 0
-After x slot names place jobs evals all = with_evals x slot (filter (of_names names) (drop place jobs)) evals ≡ all
+After x slot names place jobs evals all = with_evals x slot (filter (is_one_of names) (drop place jobs)) evals ≡ all
 
 abbrev pub next_slot : Option Evaluation → ℕ → ℕ
 next_slot None slot = slot
@@ -25,24 +23,24 @@ next_evals None evals = evals
 next_evals (Some e) evals = put_within eval_cmp eval_id 65536 e evals
 
 here : (x slot : ℕ) (names : List (List ℕ)) (j : Job) (js : List Job) (evals : List Evaluation)
-    → with_evals x slot (filter (of_names names) (j ∷ js)) evals
-    ≡ with_evals x (next_slot (eval_for x slot names (Some j)) slot) (filter (of_names names) js) (next_evals (eval_for x slot names (Some j)) evals)
+    → with_evals x slot (filter (is_one_of names) (j ∷ js)) evals
+    ≡ with_evals x (next_slot (eval_for x slot names (Some j)) slot) (filter (is_one_of names) js) (next_evals (eval_for x slot names (Some j)) evals)
 here x slot names j js evals =
-    elim (of_names names j) as (λ b. with_evals x slot (cond b (j ∷ filter (of_names names) js) (filter (of_names names) js)) evals
-    ≡ with_evals x (next_slot (cond b (Some (new_eval x slot j)) None) slot) (filter (of_names names) js) (next_evals (cond b (Some (new_eval x slot j)) None) evals)) [
+    elim (is_one_of names j) as (λ b. with_evals x slot (cond b (j ∷ filter (is_one_of names) js) (filter (is_one_of names) js)) evals
+    ≡ with_evals x (next_slot (cond b (Some (new_eval x slot j)) None) slot) (filter (is_one_of names) js) (next_evals (cond b (Some (new_eval x slot j)) None) evals)) [
       | true ↦ refl
       | false ↦ refl
     ]
 
 pub touch_step : (x slot : ℕ) (names : List (List ℕ)) (place : ℕ) (jobs : List Job) (evals : List Evaluation) → place < length jobs
-    → with_evals x slot (filter (of_names names) (drop place jobs)) evals
-    ≡ with_evals x (next_slot (eval_for x slot names (slice_get jobs place)) slot) (filter (of_names names) (drop (suc place) jobs)) (next_evals (eval_for x slot names (slice_get jobs place)) evals)
+    → with_evals x slot (filter (is_one_of names) (drop place jobs)) evals
+    ≡ with_evals x (next_slot (eval_for x slot names (slice_get jobs place)) slot) (filter (is_one_of names) (drop (suc place) jobs)) (next_evals (eval_for x slot names (slice_get jobs place)) evals)
 touch_step x slot names place [] evals lt = absurd (omega arith)
 touch_step x slot names zero (j ∷ js) evals lt = here x slot names j js evals
 touch_step x slot names (suc place) (j ∷ js) evals lt = touch_step x slot names place js evals (omega arith)
 
 pub all_touched : (x slot : ℕ) (names : List (List ℕ)) (place : ℕ) (jobs : List Job) (evals : List Evaluation) → length jobs ≡ place
-    → with_evals x slot (filter (of_names names) (drop place jobs)) evals ≡ evals
+    → with_evals x slot (filter (is_one_of names) (drop place jobs)) evals ≡ evals
 all_touched x slot names zero [] evals e = refl
 all_touched x slot names (suc place) [] evals e = absurd (omega arith)
 all_touched x slot names zero (j ∷ js) evals e = absurd (omega arith)
@@ -65,7 +63,7 @@ kept x names all s0 s slot place o same after le lt is =
     let at : o ≡ eval_for x slot names (slice_get s0.jobs place) = is ∙ ap (λ (z : State). eval_for x slot names (slice_get z.jobs place)) same in
     record {
       same = ap (λ (z : State). record z { evals = next_evals o s.evals }) same;
-      evals = rw add-one (subst (λ (p : Option Evaluation). with_evals x (next_slot p slot) (filter (of_names names) (drop (suc place) s0.jobs)) (next_evals p s.evals) ≡ all) (sym at)
+      evals = rw add-one (subst (λ (p : Option Evaluation). with_evals x (next_slot p slot) (filter (is_one_of names) (drop (suc place) s0.jobs)) (next_evals p s.evals) ≡ all) (sym at)
           (sym (touch_step x slot names place s0.jobs s.evals lt) ∙ after));
       slots = slots_kept o slot place le;
     }

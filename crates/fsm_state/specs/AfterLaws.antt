@@ -18,6 +18,7 @@ use Rattle.rows.specs.Fits.{NodeFits, AllocationFits, AcceptedPlaceFits}
 use Rattle.rows.specs.Rising.{is_rising}
 use Rattle.fsm_tables.specs.Rows.{row_of, has_row, put, put_within}
 use Rattle.fsm_tables.specs.RowLaws.{first, second, weight_of, none_below, below_tied, rising_put, rising_mapped, length-put, sum_by-put}
+use Rattle.fsm_tables.specs.Sums.{weight}
 use Rattle.fsm_tables.specs.Claims.{Claim, claim_of, claims, on_node, used, is_live}
 use Rattle.fsm_state.specs.Words.{State, same_alloc}
 use Rattle.fsm_state.specs.Safe.{fits, are_distinct, is_safe}
@@ -27,7 +28,7 @@ use Rattle.fsm_state.specs.SafeLaws.{stop_releases, kept_safe, with_room_keeps, 
 use Rattle.fsm_state.specs.UseLaws.{room_of, fits_number, Counts, number_fits, safe_by_numbers, low_numbers, kept_numbers}
 use Rattle.fsm_state.specs.NameLaws.{distinct_same}
 use Rattle.fsm_state.specs.RangeLaws.{all_within, all_mapped}
-use Rattle.fsm_state.specs.StepLaws.{at_alloc}
+use Rattle.fsm_state.specs.StepLaws.{and_true, and_false, at_alloc}
 use Rattle.fsm_state.specs.PlanLaws.{place_claim, wanted, has_room, stop_id}
 
 -- whether a row stands under one of n ids of entry x, from a slot on
@@ -45,10 +46,10 @@ left x slot n (a ∷ rows) = cond (is_live a && not (is_made x slot n a)) (claim
 
 -- ---- sums
 
-sums_same : {A : Type 0} (f g : A → ℕ) → ((x : A) → f x ≡ g x) → (xs : List A) → sum_by f xs ≡ sum_by g xs
+pub sums_same : {A : Type 0} (f g : A → ℕ) → ((x : A) → f x ≡ g x) → (xs : List A) → sum_by f xs ≡ sum_by g xs
 sums_same f g h xs = λ i. sum_by (λ x. h x i) xs
 
-sums_two : {A : Type 0} (f g : A → ℕ) (xs : List A) → sum_by (λ x. f x + g x) xs ≡ sum_by f xs + sum_by g xs
+pub sums_two : {A : Type 0} (f g : A → ℕ) (xs : List A) → sum_by (λ x. f x + g x) xs ≡ sum_by f xs + sum_by g xs
 sums_two f g [] = omega arith
 sums_two f g (x ∷ xs) =
     let rest : sum_by (λ x. f x + g x) xs ≡ sum_by f xs + sum_by g xs = sums_two f g xs in
@@ -119,14 +120,6 @@ left_step w x slot n a =
           omega (arith, same, here)
     ] refl
 
-none_and : (b : Bool) → (b && false) ≡ false
-none_and true = refl
-none_and false = refl
-
--- what one row adds
-abbrev weight : (Claim → ℕ) → Allocation → ℕ
-weight w a = cond (is_live a) (w (claim_of a)) 0
-
 past : (slot : ℕ) → nat_le (slot + 1) slot ≡ false
 past slot = grind arith
 
@@ -134,14 +127,10 @@ no_slot : (k slot : ℕ) → (nat_le slot k && nat_lt k (slot + 0)) ≡ false
 no_slot k slot = grind arith
 
 not_made : (x slot n : ℕ) (p : AcceptedPlan) (k : AcceptedPlace) → is_made x (slot + 1) n (alloc_row x slot p k) ≡ false
-not_made x slot n p k = ap (λ b. nat_eq x x && (b && nat_lt slot (slot + 1 + n))) (past slot) ∙ none_and (nat_eq x x)
+not_made x slot n p k = ap (λ b. nat_eq x x && (b && nat_lt slot (slot + 1 + n))) (past slot) ∙ and_false (nat_eq x x)
 
 none_made : (x slot : ℕ) (a : Allocation) → is_made x slot 0 a ≡ false
-none_made x slot a = ap (λ b. nat_eq a.id.index x && b) (no_slot a.id.slot slot) ∙ none_and (nat_eq a.id.index x)
-
-and_true : (b : Bool) → (b && true) ≡ b
-and_true true = refl
-and_true false = refl
+none_made x slot a = ap (λ b. nat_eq a.id.index x && b) (no_slot a.id.slot slot) ∙ and_false (nat_eq a.id.index x)
 
 grown : (b : Bool) (n : ℕ) → cond b n (n + 1) ≤ n + 1
 grown true n = omega arith
@@ -172,7 +161,7 @@ places_sum w x slot p (k ∷ ks) rows rising few =
     let front = sum_by-cons w (place_claim p k) (map (place_claim p) ks) in
     ap (λ zs. sum_by (weight w) (with_places x (slot + 1) p ks zs)) room ∙ omega (arith, rest, one, new, old, front)
 
-claims_sum : (w : Claim → ℕ) (rows : List Allocation) → sum_by w (claims rows) ≡ sum_by (weight w) rows
+pub claims_sum : (w : Claim → ℕ) (rows : List Allocation) → sum_by w (claims rows) ≡ sum_by (weight w) rows
 claims_sum w [] = refl
 claims_sum w (a ∷ rows) =
     let rest : sum_by w (claims rows) ≡ sum_by (weight w) rows = claims_sum w rows in
@@ -228,7 +217,7 @@ RowCounts a = Counts (claim_of a)
 
 pub rows_count : (rows : List Allocation) → AllByRecursion AllocationFits rows → AllByRecursion RowCounts rows
 rows_count [] h = tt
-rows_count (a ∷ rows) h = let low = h.0.4.1 in let some = h.0.5.0.0 in ((omega (arith, low), some), rows_count rows h.1)
+rows_count (a ∷ rows) h = let low = h.0.4.1 in let some = h.0.5.0.0 in ((omega (arith, low), some, h.0.4.0), rows_count rows h.1)
 
 claims_count : (rows : List Allocation) → AllByRecursion RowCounts rows → AllByRecursion Counts (claims rows)
 claims_count [] h = tt
@@ -239,7 +228,7 @@ places_count x slot p [] rows g h = h
 places_count x slot p (k ∷ ks) rows g h =
     let low = g.0.2.1 in
     let some = g.0.3.0.0 in
-    places_count x (slot + 1) p ks _ g.1 (all_within alloc_cmp alloc_id RowCounts 65536 (alloc_row x slot p k) rows (omega (arith, low), some) h)
+    places_count x (slot + 1) p ks _ g.1 (all_within alloc_cmp alloc_id RowCounts 65536 (alloc_row x slot p k) rows (omega (arith, low), some, g.0.2.0) h)
 
 same_use : (cs ds : List Claim) → ((w : Claim → ℕ) → sum_by w cs ≡ sum_by w ds) → (n : ℕ) → used n cs ≡ used n ds
 same_use cs ds same n = λ i. record { cpu = same (on_node n (λ z. z.cpu)) i; mem = same (on_node n (λ z. z.mem)) i }

@@ -81,7 +81,7 @@ left_count : (x slot n : ℕ) (rows : List Allocation) → AllByRecursion RowCou
 left_count x slot n [] h = tt
 left_count x slot n (a ∷ rows) h = elim (is_live a && not (is_made x slot n a)) as (λ b. AllByRecursion Counts (cond b (claim_of a ∷ left x slot n rows) (left x slot n rows))) [ true ↦ (h.0, left_count x slot n rows h.1) | false ↦ left_count x slot n rows h.1 ]
 
-same_truth : (a b : Bool) → (T a → T b) → (T b → T a) → a ≡ b
+pub same_truth : (a b : Bool) → (T a → T b) → (T b → T a) → a ≡ b
 same_truth true true f g = refl
 same_truth true false f g = absurd (f tt)
 same_truth false true f g = absurd (g tt)
@@ -113,7 +113,11 @@ is_other : (l s o : Bool) → s ≡ false → T (not l || s) → T (not l || o)
 is_other false s o e g = tt
 is_other true s o e g = absurd (subst T e g)
 
-is_true : (b : Bool) → T b → b ≡ true
+pub passes : (b : Bool) → b ≡ true → T b
+passes true e = tt
+passes false e = absurd cc
+
+pub is_true : (b : Bool) → T b → b ≡ true
 is_true true h = refl
 is_true false h = absurd h
 

@@ -1,22 +1,21 @@
 -- The replicated state as a machine, and that it is lawful.
-use Rattle.std.proofs.Common.{◌≡◌, Bool, true, false, T, refl, arith}
+use Rattle.std.proofs.Common.{refl, arith}
 use Rattle.rows.specs.declared.command.Command.{Command}
 use Rattle.rows.specs.declared.command.Command.TheVariants as commands
-use Rattle.rows.specs.declared.refusal.Refusal.{Refusal}
-use Rattle.rows.specs.declared.refusal.Refusal.TheVariants as refusals
 use Rattle.rows.specs.Tables.{StateFits}
 use Rattle.fields.specs.StateText.{state}
 use Rattle.fields.specs.StateTextLaws.{state_lawful}
 use Rattle.fields.specs.Commands.{command}
 use Rattle.fields.specs.CommandLaws.{command_lawful}
 use Rattle.fields.specs.RangeLaws.{fits_state, state_fits, fits_command, command_fits}
-use Rattle.machine.specs.Meaning.{Meaning, LawfulMachine, IsMachineRefusal}
+use Rattle.machine.specs.Meaning.{Meaning, LawfulMachine}
 use Rattle.fsm_state.specs.Words.{State, no_rows}
 use Rattle.fsm_state.specs.SafeFacts.{Safe, safe_by_test}
 use Rattle.fsm_state.specs.SafeLaws.{keeps_safe}
 use Rattle.fsm_state.specs.Effect.{applied}
+use Rattle.fsm_state.specs.Claimed.{is_true, passes}
 use Rattle.fsm_state.specs.Admission.{admission}
-use Rattle.fsm_state.specs.StateLaws.{IsOwn, applied_has_count, refusal_is_its_own}
+use Rattle.fsm_state.specs.StateLaws.{applied_has_count, refusal_is_its_own}
 use Rattle.fsm_state.specs.RangeLaws.{IsState, empty_is_state, applied_is_state}
 
 abbrev pub cluster_meaning : Meaning State Command
@@ -30,14 +29,6 @@ cluster_meaning = record {
   applied = applied;
   admission = admission;
 }
-
-passes : (b : Bool) → b ≡ true → T b
-passes true e = tt
-passes false e = absurd cc
-
-passed : (b : Bool) → T b → b ≡ true
-passed true h = refl
-passed false h = absurd h
 
 pub state_of_fits : (s : State) → StateFits s → IsState s
 state_of_fits s h = record {
@@ -55,39 +46,16 @@ pub fits_of_state : (s : State) → IsState s → StateFits s
 fits_of_state s h = (
   h.count,
   (
-    (h.tables.jobs.few, passed _ h.tables.jobs.rising, h.rows.jobs),
+    (h.tables.jobs.few, is_true _ h.tables.jobs.rising, h.rows.jobs),
     (
-      (h.tables.nodes.few, passed _ h.tables.nodes.rising, h.rows.nodes),
+      (h.tables.nodes.few, is_true _ h.tables.nodes.rising, h.rows.nodes),
       (
-        (h.tables.evals.few, passed _ h.tables.evals.rising, h.rows.evals),
-        (h.tables.allocs.few, passed _ h.tables.allocs.rising, h.rows.allocs),
+        (h.tables.evals.few, is_true _ h.tables.evals.rising, h.rows.evals),
+        (h.tables.allocs.few, is_true _ h.tables.allocs.rising, h.rows.allocs),
       ),
     ),
   ),
 )
-
-own_refusal : (r : Refusal) → IsOwn r → IsMachineRefusal r
-own_refusal refusals.NoMemory h = h
-own_refusal (refusals.NotLeader leader) h = h
-own_refusal refusals.NotOpen h = h
-own_refusal refusals.Exhausted h = h
-own_refusal (refusals.Frame offset) h = h
-own_refusal refusals.Down h = h
-own_refusal refusals.NotOutstanding h = tt
-own_refusal refusals.TokenDiffers h = tt
-own_refusal refusals.SnapshotTooOld h = tt
-own_refusal refusals.JobChanged h = tt
-own_refusal refusals.UnknownJob h = tt
-own_refusal refusals.UnknownNode h = tt
-own_refusal refusals.NodeDiffers h = tt
-own_refusal refusals.BadName h = tt
-own_refusal refusals.OutOfRange h = tt
-own_refusal refusals.TableFull h = tt
-own_refusal refusals.QueueFull h = tt
-own_refusal refusals.JobStopped h = tt
-own_refusal refusals.StaleExpiry h = tt
-own_refusal refusals.NotDraining h = tt
-own_refusal refusals.UnknownAlloc h = tt
 
 pub cluster_lawful : LawfulMachine cluster_meaning
 cluster_lawful = record {
@@ -104,5 +72,5 @@ cluster_lawful = record {
   applied_fits = λ s c fits ok below. fits_state (applied s c) (fits_of_state (applied s c) (applied_is_state s c (state_of_fits s (state_fits s fits)) (command_fits c ok) below));
   applied_has_count = applied_has_count;
   admitted_is_safe = λ s c fits ok safe none. keeps_safe s c safe none;
-  refusal_is_its_own = λ s c r e. own_refusal r (refusal_is_its_own s c r e);
+  refusal_is_its_own = refusal_is_its_own;
 }

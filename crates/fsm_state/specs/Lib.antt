@@ -16,4 +16,5 @@ pub mod Reports
 pub mod NameLaws
 pub mod AfterLaws
 pub mod Claimed
+pub mod Alone
 pub mod ClusterMachine

@@ -26,7 +26,7 @@ names_join a b c p q =
 numbers_join : (a b c : ℕ) → T (nat_eq a b) → T (nat_eq a c) → T (nat_eq b c)
 numbers_join a b c p q = grind arith
 
-join : (q c d : Claim) → T (same_name q c) → T (same_name q d) → T (same_name c d)
+pub join : (q c d : Claim) → T (same_name q c) → T (same_name q d) → T (same_name c d)
 join q c d g h =
     let front = first (bytes_eq q.job c.job && bytes_eq q.group c.group) (nat_eq q.index c.index) g in
     let other = first (bytes_eq q.job d.job && bytes_eq q.group d.group) (nat_eq q.index d.index) h in
@@ -41,14 +41,14 @@ names_itself a = let e : is_eq (slice_cmp nat_cmp a a) ≡ true = ap is_eq (tied
 number_itself : (n : ℕ) → T (nat_eq n n)
 number_itself n = grind arith
 
-itself : (c : Claim) → T (same_name c c)
+pub itself : (c : Claim) → T (same_name c c)
 itself c = both _ _ (both _ _ (names_itself c.job) (names_itself c.group)) (number_itself c.index)
 
-no_other : (a b : Bool) → T a → T (not (a || b)) → ⊥
+pub no_other : (a b : Bool) → T a → T (not (a || b)) → ⊥
 no_other true b p h = h
 no_other false b p h = p
 
-rest_other : (a b : Bool) → T (not (a || b)) → T (not b)
+pub rest_other : (a b : Bool) → T (not (a || b)) → T (not b)
 rest_other true b h = absurd h
 rest_other false b h = h
 

@@ -23,6 +23,7 @@ use Rattle.fsm_state.specs.Words.{State, same_alloc}
 use Rattle.fsm_state.specs.Safe.{same_name, are_distinct, are_safe, is_safe}
 use Rattle.fsm_state.specs.SafeLaws.{Fewer, nothing, kept as kept_first, gone, Releases, released, stop_releases, fewer_distinct, kept_safe, with_room_keeps, distinct_of}
 use Rattle.fsm_state.specs.UseLaws.{fits_number, Counts, number_fits, safe_by_numbers, low_numbers, all_count, kept_numbers, ended, released_sum}
+use Rattle.fsm_state.specs.StepLaws.{and_true}
 use Rattle.fsm_state.specs.Effect.{counted, stop, frees, with_room, alloc_row, with_places, planned}
 
 -- ---- words
@@ -48,10 +49,6 @@ are_dated x rows = list_all (λ a. nat_lt a.id.index x) rows
 
 below : (a b : ℕ) → T (nat_lt a b) → a < b
 below a b h = grind arith
-
-and_true : (b : Bool) → (b && true) ≡ b
-and_true true = refl
-and_true false = refl
 
 -- ---- places are put behind all rows
 
@@ -177,7 +174,7 @@ three a b c p q r = both (a && b) c (both a b p q) r
 
 pub all_wanted_count : (p : AcceptedPlan) (ks : List AcceptedPlace) → AllByRecursion AcceptedPlaceFits ks → AllByRecursion Counts (map (place_claim p) ks)
 all_wanted_count p [] h = tt
-all_wanted_count p (k ∷ ks) h = let low = h.0.2.1 in let some = h.0.3.0.0 in ((omega (arith, low), some), all_wanted_count p ks h.1)
+all_wanted_count p (k ∷ ks) h = let low = h.0.2.1 in let some = h.0.3.0.0 in ((omega (arith, low), some, h.0.2.0), all_wanted_count p ks h.1)
 
 pub all_append : {A : Type 0} (P : A → Type 0) (xs ys : List A) → AllByRecursion P xs → AllByRecursion P ys → AllByRecursion P (xs ++ ys)
 all_append P [] ys g h = h
@@ -188,13 +185,15 @@ fewer_claims P _ _ nothing h = tt
 fewer_claims P _ _ (kept_first x xs ys f) h = (h.0, fewer_claims P xs ys f h.1)
 fewer_claims P _ _ (gone y xs ys f) h = fewer_claims P xs ys f h.1
 
+pub planned_count : (p : AcceptedPlan) (s : State) → IsAskable p s → AllByRecursion Counts (kept p s ++ wanted p)
+planned_count p s a = all_append Counts (kept p s) (wanted p)
+    (fewer_claims Counts (kept p s) (claims s.allocs) (released (stop p.stops) (stop_releases p.stops) s.allocs) (all_count s.allocs a.allocs))
+    (all_wanted_count p p.places a.places)
+
 pub plan_is_safe : (p : AcceptedPlan) (s : State) → IsAskable p s → PlanIsSafe p s → T (is_safe (planned p (counted s)))
 plan_is_safe p s a h =
-    let counts = all_append Counts (kept p s) (wanted p)
-    (fewer_claims Counts (kept p s) (claims s.allocs) (released (stop p.stops) (stop_releases p.stops) s.allocs) (all_count s.allocs a.allocs))
-    (all_wanted_count p p.places a.places) in
     let apart = subst T (sym (distinct-append (kept p s) (wanted p))) (three _ _ _ h.kept_distinct h.wanted_distinct h.free) in
-    let safe = safe_by_numbers s.nodes (kept p s ++ wanted p) a.rising (low_numbers s.nodes a.nodes) counts h.fit apart in
+    let safe = safe_by_numbers s.nodes (kept p s ++ wanted p) a.rising (low_numbers s.nodes a.nodes) (planned_count p s a) h.fit apart in
     subst (λ cs. T (are_safe (map (with_room (frees (stop p.stops) s.allocs) (s.count + 1)) s.nodes) cs)) (sym (claims_planned p s a.dated a.few))
     (kept_safe (with_room (frees (stop p.stops) s.allocs) (s.count + 1)) (with_room_keeps (frees (stop p.stops) s.allocs) (s.count + 1)) s.nodes (kept p s ++ wanted p) safe)
 

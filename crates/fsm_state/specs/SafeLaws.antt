@@ -55,7 +55,7 @@ fewer_all p _ _ nothing h = tt
 fewer_all p _ _ (kept x xs ys f) h = both _ _ (first _ _ h) (fewer_all p xs ys f (second _ _ h))
 fewer_all p _ _ (gone y xs ys f) h = fewer_all p xs ys f (second _ _ h)
 
-fewer_any : {A : Type 0} (p : A → Bool) (xs ys : List A) → Fewer xs ys → T (not (list_any p ys)) → T (not (list_any p xs))
+pub fewer_any : {A : Type 0} (p : A → Bool) (xs ys : List A) → Fewer xs ys → T (not (list_any p ys)) → T (not (list_any p xs))
 fewer_any p _ _ nothing h = tt
 fewer_any p _ _ (kept x xs ys f) h = let n = neither _ _ h in none_of _ _ n.0 (fewer_any p xs ys f n.1)
 fewer_any p _ _ (gone y xs ys f) h = fewer_any p xs ys f (neither _ _ h).1

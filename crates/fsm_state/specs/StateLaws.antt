@@ -3,14 +3,12 @@
 use Rattle.std.proofs.Common.{◌≡◌, ℕ, ◌+◌, ◌≤◌, ◌∙◌, Bool, true, false, cond, nat_eq, T, List, [], ◌∷◌, length, map, Some, refl, sym, ap, subst, suc, arith}
 use Rattle.std.specs.Prelude.{filter, ◌&&◌}
 use Rattle.std.specs.List.{list_any}
-use Rattle.std.specs.Cmp.{IsTotalOrder, nat_cmp_total, on_total, then_total}
+use Rattle.std.specs.Cmp.{IsTotalOrder, nat_cmp_total}
 use Rattle.std.specs.Cmp.Lexicographic.{nat_list_cmp_total}
 use Rattle.std.specs.Ordering.{nat_cmp}
 use Rattle.std.specs.declared.cmp.Ordering.{Ordering}
 use Rattle.rows.specs.declared.job.Job.{Job}
 use Rattle.rows.specs.declared.evaluation.Evaluation.{Evaluation}
-use Rattle.rows.specs.declared.evaluation.EvalId.{EvalId}
-use Rattle.rows.specs.declared.allocation.AllocId.{AllocId}
 use Rattle.rows.specs.declared.allocation.Allocation.{Allocation}
 use Rattle.rows.specs.declared.node.NodeStatus.TheVariants as statuses
 use Rattle.rows.specs.declared.node.DrainMode.TheVariants as drains
@@ -22,22 +20,17 @@ use Rattle.rows.specs.declared.command.Report.{Report}
 use Rattle.rows.specs.declared.command.Command.{Command}
 use Rattle.rows.specs.declared.command.Command.TheVariants as commands
 use Rattle.rows.specs.declared.refusal.Refusal.{Refusal}
-use Rattle.rows.specs.declared.refusal.Refusal.TheVariants as refusals
 use Rattle.rows.specs.Changes.{status_of, snapshot_of}
 use Rattle.rows.specs.Keys.{name_cmp, eval_cmp, alloc_cmp, job_name, node_number, eval_id, alloc_id}
 use Rattle.rows.specs.Rising.{is_rising}
+pub use Rattle.rows.specs.KeyLaws.{alloc_cmp_total, eval_cmp_total}
+use Rattle.machine.specs.Meaning.{IsMachineRefusal}
 use Rattle.fsm_tables.specs.Rows.{put_within}
 use Rattle.fsm_tables.specs.RowLaws.{rising_put_within, few_put_within, rising_mapped}
 use Rattle.fsm_tables.specs.Claims.{is_active, is_wanted}
 use Rattle.fsm_state.specs.Words.{State, no_rows, same_eval, same_alloc, node_of, is_open}
 use Rattle.fsm_state.specs.Effect.{applied, counted, new_eval, with_evals, touched, is_named, owns, with_job, job_row, stop_job, without_job, node_row, down, draining, drained, lost, lives_on, moves, marked, set_status, stop, ends, frees, with_room, altered, alloc_row, with_places, state_of, told, told_all}
 use Rattle.fsm_state.specs.Admission.{first_of, tests, admission}
-
-pub alloc_cmp_total : IsTotalOrder alloc_cmp
-alloc_cmp_total = then_total (on_total (λ (a : AllocId). a.index) nat_cmp_total) (on_total (λ (a : AllocId). a.slot) nat_cmp_total)
-
-pub eval_cmp_total : IsTotalOrder eval_cmp
-eval_cmp_total = then_total (on_total (λ (e : EvalId). e.index) nat_cmp_total) (on_total (λ (e : EvalId). e.slot) nat_cmp_total)
 
 pub applied_has_count : (s : State) (c : Command) → (applied s c).count ≡ s.count + 1
 applied_has_count s commands.Noop = refl
@@ -150,25 +143,15 @@ applied_are_tables s (commands.Report n rs) h = record {
 
 -- ---- refusals
 
--- what a machine refuses for reasons of its own
-abbrev pub IsOwn : Refusal → Type 0
-IsOwn refusals.NoMemory = ⊥
-IsOwn (refusals.NotLeader leader) = ⊥
-IsOwn refusals.NotOpen = ⊥
-IsOwn refusals.Exhausted = ⊥
-IsOwn (refusals.Frame offset) = ⊥
-IsOwn refusals.Down = ⊥
-IsOwn _ = Unit {0}
-
 abbrev AllOwn : List (Bool × Refusal) → Type 0
 AllOwn [] = Unit {0}
-AllOwn (test ∷ others) = IsOwn test.1 × AllOwn others
+AllOwn (test ∷ others) = IsMachineRefusal test.1 × AllOwn others
 
-first_is_own : (all : List (Bool × Refusal)) (r : Refusal) → AllOwn all → first_of all ≡ Some r → IsOwn r
+first_is_own : (all : List (Bool × Refusal)) (r : Refusal) → AllOwn all → first_of all ≡ Some r → IsMachineRefusal r
 first_is_own [] r own e = absurd cc
 first_is_own (test ∷ others) r own e =
-    elim test.0 as (λ b. cond b (Some test.1) (first_of others) ≡ Some r → IsOwn r) [
-      | true ↦ λ e. let same : test.1 ≡ r = cc in subst IsOwn same own.0
+    elim test.0 as (λ b. cond b (Some test.1) (first_of others) ≡ Some r → IsMachineRefusal r) [
+      | true ↦ λ e. let same : test.1 ≡ r = cc in subst IsMachineRefusal same own.0
       | false ↦ λ e. first_is_own others r own.1 e
     ] e
 
@@ -186,5 +169,5 @@ all_own s (commands.EvalStatus id to) = (tt, tt)
 all_own s (commands.Plan p) = (tt, (tt, (tt, (tt, (tt, (tt, (tt, tt)))))))
 all_own s (commands.Report n rs) = (tt, (tt, (tt, tt)))
 
-pub refusal_is_its_own : (s : State) (c : Command) (r : Refusal) → admission s c ≡ Some r → IsOwn r
+pub refusal_is_its_own : (s : State) (c : Command) (r : Refusal) → admission s c ≡ Some r → IsMachineRefusal r
 refusal_is_its_own s c r e = first_is_own (tests s c) r (all_own s c) e

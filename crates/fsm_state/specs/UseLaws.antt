@@ -73,9 +73,9 @@ within_by_number nodes cs f (y ∷ ys) found low = both _ _
     (subst (λ o. T (fits (used y.number cs) (room_of o))) found.0 (f y.number low.0))
     (within_by_number nodes cs f ys found.1 low.1)
 
--- what a claim needs for that: a number of a node, and some cpu
+-- what a claim needs for that: a number of a node, which is not 0, and some cpu
 abbrev pub Counts : Claim → Type 0
-Counts c = (c.node < 65) × (1 ≤ c.size.cpu)
+Counts c = (c.node < 65) × (1 ≤ c.size.cpu) × (1 ≤ c.node)
 
 itself : (n x : ℕ) → cond (nat_eq n n) x 0 ≡ x
 itself n x = grind arith
@@ -119,7 +119,7 @@ all_count (a ∷ rows) h =
     let low = h.0.4.1 in
     let some = h.0.5.0.0 in
     elim (is_live a) as (λ b. AllByRecursion Counts (cond b (claim_of a ∷ claims rows) (claims rows))) [
-      | true ↦ ((omega (arith, low), some), all_count rows h.1)
+      | true ↦ ((omega (arith, low), some, h.0.4.0), all_count rows h.1)
       | false ↦ all_count rows h.1
     ]
 

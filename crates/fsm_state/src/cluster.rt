@@ -1,15 +1,18 @@
-ghost use Rattle.std.specs.Prelude.{◌≡◌, ◌+◌, ◌<◌, ◌≤◌, ◌^◌, OnOk, option_map};
+ghost use Rattle.std.specs.Prelude.{◌≡◌, ◌∷◌, [], ◌+◌, ◌<◌, ◌≤◌, ◌^◌, ◌||◌, not, OnOk, option_map, T as Holds};
 ghost use Rattle.std.specs.Ordering.{nat_cmp};
 ghost use Rattle.std.specs.List.{slice_get};
 ghost use Rattle.rows.specs.Keys.{name_cmp, eval_cmp, alloc_cmp, job_name, node_number, eval_id, alloc_id};
 ghost use Rattle.fsm_tables.specs.Rows.{put_within as with_row};
-ghost use Rattle.fsm_tables.specs.Claims.{claims, used};
+ghost use Rattle.fsm_tables.specs.Claims.{claim_of, claims, used, is_live as lives};
 ghost use Rattle.fsm_tables.specs.LiveNames.{live_named};
 ghost use Rattle.fsm_tables.specs.TableRows.{TablesFit};
 ghost use Rattle.fsm_state.specs.Words.{no_rows, job_of, node_of, eval_of, alloc_of};
 ghost use Rattle.fsm_state.specs.Effect.{counted};
+ghost use Rattle.fsm_state.specs.Safe.{are_distinct};
+ghost use Rattle.fsm_state.specs.Alone.{is_free_but, is_free};
 
-use fsm_tables::{AllocName, Table, Tables, Usage};
+use crate::admission_safe::is_among;
+use fsm_tables::{AllocName, Table, Tables, Usage, is_live};
 use rows::{
     AllocId, Allocation, EntryIndex, EvalId, Evaluation, Index, Job, JobName, NoMemory, Node,
     NodeId,
@@ -25,14 +28,21 @@ pub struct Cluster {
     alloc: Global,
     count: Index,
     tables: Tables,
+    /// Whether it is known that no two live allocations are of one name: each put keeps it by a look at the row's own name.
+    named_once: bool,
 }
 
 impl Model for Cluster {
+    ghost use Rattle.std.specs.Prelude.{T as Holds};
     ghost use Rattle.rows.specs.State.{State};
+    ghost use Rattle.fsm_tables.specs.Claims.{claims};
+    ghost use Rattle.fsm_state.specs.Safe.{are_distinct};
 
     ghost Value = { State };
 
     ghost view = { λ c. record { count = c.count; jobs = c.tables.jobs; nodes = c.tables.nodes; evals = c.tables.evals; allocs = c.tables.allocs } };
+
+    ghost invariant = { λ c. Holds c.named_once → Holds (are_distinct (claims c.tables.allocs)) };
 }
 
 impl Cluster {
@@ -44,6 +54,7 @@ impl Cluster {
             alloc,
             count: Index::ZERO,
             tables: Tables::empty(alloc),
+            named_once: true,
         }
     }
 
@@ -55,6 +66,7 @@ impl Cluster {
             alloc,
             count,
             tables: Tables::empty(alloc),
+            named_once: true,
         }
     }
 
@@ -182,10 +194,42 @@ impl Cluster {
         self.tables.put_eval(row)
     }
 
+    /// Whether it is known that no two live allocations are of one name. It is known of each state that was made by puts
+    /// none of which gave a live row the name of another; where it is not known, names may be held once all the same.
+    pub(crate) fn is_named_once(&self) -> bool
+        ensures { Holds result → Holds (are_distinct (claims self.now.allocs)) }
+    {
+        self.named_once
+    }
+
+    /// Whether the live allocation that the name finds, if there is one, is among these.
+    pub(crate) fn is_free_but(&self, name: &AllocName, ids: &[AllocId]) -> bool
+        ensures { result ≡ is_free_but ids.now (live_named name.now self.now.allocs) }
+    {
+        match self.live_named(name) {
+            Some(row) => is_among(row.id, ids),
+            None => true,
+        }
+    }
+
+    /// Whether a row takes no name from another: it is not live, or its name finds no other row.
+    fn takes_no_name(&self, row: &Allocation) -> bool
+        ensures { result ≡ (not (lives row.now) || is_free (row.now.id ∷ []) self.now.allocs (claim_of row.now)) }
+    {
+        let name = AllocName {
+            job: row.job,
+            group: row.group,
+            index: row.index,
+        };
+        !is_live(row) || self.is_free_but(&name, &[row.id])
+    }
+
     /// Makes or replaces the row of the allocation.
     pub(crate) fn put_alloc(&mut self, row: Allocation) -> Result<(), NoMemory>
         ensures { OnOk result (self.new ≡ record self.old { allocs = with_row alloc_cmp alloc_id 65536 row self.old.allocs }) }
     {
+        self.ranges();
+        self.named_once = self.named_once && self.takes_no_name(&row);
         self.tables.put_alloc(row)
     }
 }

@@ -14,7 +14,8 @@ ghost use Rattle.fsm_state.specs.AfterLaws.{IsKnown, AfterIsSafe};
 ghost use Rattle.fsm_state.specs.Safe.{is_safe};
 ghost use Rattle.fsm_state.specs.Admission.{admission};
 ghost use Rattle.rows.specs.Fits.{CommandFits};
-ghost use Rattle.fsm_state.specs.StateLaws.{AreTables, IsOwn};
+ghost use Rattle.machine.specs.Meaning.{IsMachineRefusal};
+ghost use Rattle.fsm_state.specs.StateLaws.{AreTables};
 ghost use Rattle.fsm_state.specs.RangeLaws.{IsState};
 
 /// The empty state is safe, its count is 0, its tables are in order, with every row in its ranges, and each state admits
@@ -34,7 +35,7 @@ pub fn commands_are_lawful()
     ensures count { (s : State) (c : AnyCommand) → (applied s c).count ≡ s.count + 1 }
     ensures tables { (s : State) (c : AnyCommand) → AreTables s → AreTables (applied s c) }
     ensures state { (s : State) (c : AnyCommand) → IsState s → CommandFits c → s.count + 1 < 2 ^ 40 → IsState (applied s c) }
-    ensures own { (s : State) (c : AnyCommand) (r : AnyRefusal) → admission s c ≡ Some r → IsOwn r }
+    ensures own { (s : State) (c : AnyCommand) (r : AnyRefusal) → admission s c ≡ Some r → IsMachineRefusal r }
 {}
 
 /// A state is safe exactly where the test says so.

@@ -1,32 +1,19 @@
-use Rattle.std.proofs.Common.{◌≡◌, ◌++◌, T, List, length, take, sym, ap, subst, ◌∙◌}
-use Rattle.std.proofs.Math.Seq.{take-append_seam}
-use Rattle.fsm_tables.specs.Claims.{Claim}
-use Rattle.fsm_state.specs.Safe.{are_safe, are_distinct}
-use Rattle.fsm_state.specs.PlanLaws.{wanted}
-use Rattle.fsm_state.specs.AfterLaws.{left_by}
-use Rattle.fsm_state.specs.Claimed.{bears_is_safe, left_is_distinct}
+use Rattle.std.proofs.Common.{◌≡◌, Bool, T, sym, subst}
+use Rattle.std.specs.Prelude.{IfOk}
+use Rattle.fsm_state.proofs.Alone.{alone_is_safe}
 use Rattle.fsm_state.proofs.cluster.Cluster.bears_plan.Goals as goal
 
-pub bears-requires-clause-held : goal.bears-requires-clause-held
-bears-requires-clause-held c =
-    let s = c.args.self.now in
-    let p = c.args.plan.now in
-    let claimed : c.add_wanted.new.claims ≡ left_by p s ++ wanted p = c.in_ok-add_wanted.ensures ∙ ap (λ (cs : List Claim). cs ++ wanted p) c.in_ok-claims.ensures in
-    let size : c.len-held.result ≡ length (left_by p s) = c.len-held.ensures ∙ ap length c.in_ok-claims.ensures in
-    let front : take c.len-held.result c.as_slice.result.now ≡ left_by p s = (λ i. take (size i) ((c.as_slice.ensures ∙ claimed) i)) ∙ take-append_seam (left_by p s) (wanted p) in
-    λ h. subst (λ cs. T (are_distinct cs)) (sym front) (left_is_distinct p s h)
-
-pub returns : goal.returns
-returns c =
-    let s = c.args.self.now in
-    let p = c.args.plan.now in
-    let claimed : c.add_wanted.new.claims ≡ left_by p s ++ wanted p = c.in_ok-add_wanted.ensures ∙ ap (λ (cs : List Claim). cs ++ wanted p) c.in_ok-claims.ensures in
-    c.bears.ensures ∙ ap (are_safe s.nodes) (c.as_slice.ensures ∙ claimed)
-    ∙ bears_is_safe p s (record {
+pub returns-then-are_dated : goal.returns-then-are_dated
+returns-then-are_dated c =
+    let tables = c.ranges-2.ensures.tables in
+    let once = c.is_named_once.ensures (subst T (sym c.if-is_named_once.true) tt) in
+    subst (λ (safe : Bool). IfOk c.passes_alone.result (λ b. b ≡ safe))
+    (alone_is_safe c.args.plan.now c.args.self.now (record {
+      dated = subst T c.if-are_dated.ensures tt;
       few = c.requires;
-      nodes_rising = c.ranges-2.ensures.tables.nodes.rising;
-      allocs_rising = c.ranges-2.ensures.tables.allocs.rising;
-      nodes = c.ranges-2.ensures.tables.nodes.fit;
-      allocs = c.ranges-2.ensures.tables.allocs.fit;
+      rising = tables.nodes.rising;
+      nodes = tables.nodes.fit;
+      allocs = tables.allocs.fit;
       places = c.ranges-3.ensures.5.1;
-    })
+    }) tables.allocs.rising once)
+    c.passes_alone.ensures
