@@ -3,3 +3,4 @@ pub mod Flight
 pub mod Objects
 pub mod Requests
 pub mod Steps
+pub mod Faults

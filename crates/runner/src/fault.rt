@@ -1,5 +1,6 @@
 //! Why a run ends before its last line.
 ghost use Rattle.std.specs.Prelude.{◌≤◌};
+ghost use Rattle.runner.specs.Faults.{IsStatus};
 
 use rows::NoMemory;
 use thiserror::Error;
@@ -33,12 +34,15 @@ impl<'a> From<NoMemory> for Fault<'a> {
 impl Fault<'_> {
     /// The exit status of a run that ends by this fault: 0 where help was asked for, 3 where there was no memory, else 2.
     pub fn status(&self) -> u8
-        ensures { result ≤ 3 }
+        ensures status { IsStatus self.now result }
+        ensures most { result ≤ 3 }
     {
         match self {
-            Fault::CommandLine(error) if !error.use_stderr() => 0,
+            Fault::CommandLine(error) => { if error.use_stderr() { 2 } else { 0 } }
+            Fault::CannotRead(_) => 2,
+            Fault::BadScenario => 2,
             Fault::NoMemory => 3,
-            _ => 2,
+            Fault::Output => 2,
         }
     }
 }

@@ -11,13 +11,13 @@ use crate::step::{Step, read_step};
 use clap::error::ErrorKind;
 use fsm_state::Cluster;
 use raft_core::{Raft, Role};
-use rows::{Index, NoMemory, Refusal, ServerId};
+use rows::{NoMemory, Refusal, ServerId};
 use std::alloc::Global;
 use std::io::{self, Write};
 use world::{RaftEvent, RaftWorld};
 
-/// How many messages a `flow` without a number takes at most.
-pub const FLOW: u64 = 10_000;
+// How many messages a `flow` without a number takes at most.
+const FLOW: u64 = 10_000;
 
 /// Runs the program on the words of its command line, of which the first is its own name, and answers its exit status:
 /// 0 where every step was taken, 1 where one was refused, 2 for a bad command line, a bad file, or an output that

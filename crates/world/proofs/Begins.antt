@@ -18,9 +18,6 @@ pub record Begun {S C : Type 0} (m : Meaning S C) (n made : ℕ) (servers : List
   pub stand : AllZip (Represents m) servers (replicate made newcomer)
   pub numbered : (j : ℕ) (h : Held C) → slice_get servers j ≡ Some h → (h.me ≡ j) × (h.size ≡ n)
 
-pub none_begun : {S C : Type 0} (m : Meaning S C) (n : ℕ) → Begun m n 0 []
-none_begun m n = record { count = refl; stand = tt; numbered = λ j h at. absurd (cc) }
-
 get_end : {A : Type 0} (xs : List A) (x : A) (j : ℕ) (y : A) → slice_get (xs ++ x ∷ []) j ≡ Some y → (slice_get xs j ≡ Some y) ⊎ ((j ≡ length xs) × (x ≡ y))
 get_end [] x zero y h = inr (refl, cc)
 get_end [] x (suc j) y h = absurd (cc)

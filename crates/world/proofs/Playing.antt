@@ -3,7 +3,7 @@ use Rattle.std.proofs.Common.{◌≡◌, ◌≢◌, ℕ, inl, inr, Result, Ok, E
 use Rattle.rows.specs.declared.refusal.Refusal.{Refusal}
 use Rattle.rows.specs.declared.refusal.Refusal.TheVariants as refusals
 use Rattle.machine.specs.Meaning.{Meaning}
-use Rattle.raft_model.specs.Worlds.{World, Event, Crashes, first, Outcome, Kept, LeftOut, IsEvent, Trace, nothing, kept, crashed, left_out}
+use Rattle.raft_model.specs.Worlds.{Event, first, Kept, LeftOut, IsEvent, Trace, nothing, kept, crashed, left_out}
 use Rattle.raft_model.specs.Worlds as model
 use Rattle.world.specs.declared.world.Done.{Done}
 use Rattle.world.specs.declared.world.Done.TheVariants.{Taken, Crashed}
