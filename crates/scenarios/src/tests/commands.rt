@@ -1,4 +1,4 @@
-//! Commands of the replicated state, in short.
+//! Commands of the replicated state, in short, and states that they lead to.
 use fsm_state::Cluster;
 use machine::Machine;
 use rows::{
@@ -10,13 +10,13 @@ use runner::request::read_request;
 use std::alloc::Global;
 use std::process::Abort;
 
-// The id of an allocation: the entry that made it, and its place there.
+/// The id of an allocation: the entry that made it, and its place there.
 pub(crate) type Id = (u64, u8);
 
-// Group, which of the group's, node, processor time and memory.
+/// Group, which of the group's, node, processor time and memory.
 pub(crate) type Spot = (&'static str, u8, u8, u32, u32);
 
-// What becomes of an evaluation, in short.
+/// What becomes of an evaluation, in short.
 #[derive(Clone, Copy)]
 pub(crate) enum Change {
     Pending,
@@ -25,7 +25,7 @@ pub(crate) enum Change {
     Failed,
 }
 
-// A command, in short. Evaluations are named by the entry that made them, each in place 0 there.
+/// A command, in short. Evaluations are named by the entry that made them, each in place 0 there.
 #[derive(Clone, Copy)]
 pub(crate) enum Step {
     Noop,
@@ -42,32 +42,31 @@ pub(crate) enum Step {
     Report(u8, &'static [(Id, ReportedState)]),
 }
 
+/// The name of this text.
 pub(crate) fn name(rt: &impl Abort, text: &str) -> Name {
-    match Name::read(text) {
-        Ok(name) => name,
-        Err(_) => panic!(rt; "no name"),
-    }
+    Name::read(text).ok().expect(rt, "a name")
 }
 
+/// The node of this number.
 pub(crate) fn node(rt: &impl Abort, number: u8) -> NodeId {
     NodeId::from_number(number).expect(rt, "a node's number")
 }
 
-pub(crate) fn size(rt: &impl Abort, cpu: u32, mem: u32) -> Size {
-    match Size::check(cpu, mem) {
-        Ok(size) => size,
-        Err(_) => panic!(rt; "no size"),
-    }
-}
-
-pub(crate) fn entry(rt: &impl Abort, number: u64) -> EntryIndex {
-    EntryIndex::new(number).expect(rt, "an entry")
-}
-
+/// The number of an allocation within its group, or within its entry.
 pub(crate) fn ordinal(rt: &impl Abort, number: u8) -> Ordinal {
     Ordinal::new(number).expect(rt, "an ordinal")
 }
 
+/// A size.
+pub(crate) fn size(rt: &impl Abort, cpu: u32, mem: u32) -> Size {
+    Size::check(cpu, mem).ok().expect(rt, "a size")
+}
+
+fn entry(rt: &impl Abort, number: u64) -> EntryIndex {
+    EntryIndex::new(number).expect(rt, "an entry")
+}
+
+/// The id of the evaluation that an entry made in a place.
 pub(crate) fn eval_id(rt: &impl Abort, number: u64, slot: u8) -> EvalId {
     EvalId {
         index: entry(rt, number),
@@ -75,6 +74,7 @@ pub(crate) fn eval_id(rt: &impl Abort, number: u64, slot: u8) -> EvalId {
     }
 }
 
+/// The id of an allocation.
 pub(crate) fn alloc_id(rt: &impl Abort, id: Id) -> AllocId {
     AllocId {
         index: entry(rt, id.0),
@@ -82,23 +82,14 @@ pub(crate) fn alloc_id(rt: &impl Abort, id: Id) -> AllocId {
     }
 }
 
-pub(crate) fn index(rt: &impl Abort, number: u64) -> Index {
-    Index::new(number).expect(rt, "an index")
-}
-
 fn status_change(rt: &impl Abort, change: Change) -> StatusChange {
     match change {
         Change::Pending => StatusChange::Pending,
-        Change::Blocked(snapshot) => StatusChange::Blocked(index(rt, snapshot)),
+        Change::Blocked(snapshot) => {
+            StatusChange::Blocked(Index::new(snapshot).expect(rt, "an index"))
+        }
         Change::Complete => StatusChange::Complete,
         Change::Failed => StatusChange::Failed,
-    }
-}
-
-fn token(rt: &impl Abort) -> Token {
-    Token {
-        term: LeaderTerm::new(1).expect(rt, "a term"),
-        serial: Serial::new(1).expect(rt, "a serial"),
     }
 }
 
@@ -111,59 +102,41 @@ fn ids(rt: &impl Abort, alloc: Global, list: &[Id]) -> Sequence<AllocId> {
     items
 }
 
-fn migrate(rt: &impl Abort, alloc: Global, list: &[Id]) -> Command {
-    match RisingIds::check(ids(rt, alloc, list)) {
-        Ok(ids) => Command::Migrate(ids),
-        Err(_) => panic!(rt; "no rising ids"),
-    }
-}
-
-fn stops(rt: &impl Abort, alloc: Global, list: &[Id]) -> Batch<AllocId> {
-    match Batch::check(ids(rt, alloc, list)) {
-        Ok(stops) => stops,
-        Err(_) => panic!(rt; "too many stops"),
-    }
-}
-
-pub(crate) fn place(rt: &impl Abort, spot: &Spot) -> AcceptedPlace {
-    AcceptedPlace {
-        group: name(rt, spot.0),
-        index: ordinal(rt, spot.1),
-        node: node(rt, spot.2),
-        size: size(rt, spot.3, spot.4),
-    }
-}
-
 fn places(rt: &impl Abort, alloc: Global, list: &[Spot]) -> Batch<AcceptedPlace> {
     let mut items = Sequence::new(alloc);
     for spot in list {
-        let pushed = items.push(place(rt, spot));
+        let pushed = items.push(AcceptedPlace {
+            group: name(rt, spot.0),
+            index: ordinal(rt, spot.1),
+            node: node(rt, spot.2),
+            size: size(rt, spot.3, spot.4),
+        });
         assert!(rt; pushed.is_ok());
     }
-    match Batch::check(items) {
-        Ok(places) => places,
-        Err(_) => panic!(rt; "too many places"),
-    }
+    Batch::check(items).ok().expect(rt, "at most 64 places")
 }
 
-pub(crate) fn plan(
+fn plan(
     rt: &impl Abort,
+    job: &str,
     eval: EvalId,
-    job: Name,
-    stops: Batch<AllocId>,
+    stops: Sequence<AllocId>,
     places: Batch<AcceptedPlace>,
 ) -> Command {
     Command::Plan(AcceptedPlan {
         eval,
-        token: token(rt),
-        job,
+        token: Token {
+            term: LeaderTerm::new(1).expect(rt, "a term"),
+            serial: Serial::new(1).expect(rt, "a serial"),
+        },
+        job: name(rt, job),
         snapshot: Index::ZERO,
-        stops,
+        stops: Batch::check(stops).ok().expect(rt, "at most 64 stops"),
         places,
     })
 }
 
-fn report(rt: &impl Abort, alloc: Global, number: u8, list: &[(Id, ReportedState)]) -> Command {
+fn reports(rt: &impl Abort, alloc: Global, list: &[(Id, ReportedState)]) -> Reports {
     let mut items = Sequence::new(alloc);
     for item in list {
         let pushed = items.push(Report {
@@ -172,46 +145,46 @@ fn report(rt: &impl Abort, alloc: Global, number: u8, list: &[(Id, ReportedState
         });
         assert!(rt; pushed.is_ok());
     }
-    match Reports::check(items) {
-        Ok(reports) => Command::Report(node(rt, number), reports),
-        Err(_) => panic!(rt; "no reports"),
-    }
+    Reports::check(items).ok().expect(rt, "1 to 64 reports")
 }
 
-fn request(rt: &impl Abort, alloc: Global, text: &str) -> Command {
-    match read_request(alloc, text) {
-        Ok(Some(request)) => request.into_command(),
-        _ => panic!(rt; "no request"),
-    }
+/// The command of a request's text.
+pub(crate) fn request(rt: &impl Abort, alloc: Global, text: &str) -> Command {
+    let Ok(Some(request)) = read_request(alloc, text) else {
+        panic!(rt; "no request");
+    };
+    request.into_command()
 }
 
-fn join(rt: &impl Abort, number: u8, class: &str, cpu: u32, mem: u32) -> Command {
-    Command::NodePut(NodeSpec {
-        number: node(rt, number),
-        class: name(rt, class),
-        size: size(rt, cpu, mem),
-    })
-}
-
+/// The command that is meant.
 pub(crate) fn command(rt: &impl Abort, alloc: Global, step: &Step) -> Command {
     match *step {
         Step::Noop => Command::Noop,
         Step::Ask(text) => request(rt, alloc, text),
-        Step::Join(number, class, cpu, mem) => join(rt, number, class, cpu, mem),
+        Step::Join(number, class, cpu, mem) => Command::NodePut(NodeSpec {
+            number: node(rt, number),
+            class: name(rt, class),
+            size: size(rt, cpu, mem),
+        }),
         Step::Lose(number) => Command::NodeDown(node(rt, number)),
         Step::Emptied(number) => Command::DrainDone(node(rt, number)),
-        Step::Migrate(list) => migrate(rt, alloc, list),
-        Step::Status(number, status) => {
-            Command::EvalStatus(eval_id(rt, number, 0), status_change(rt, status))
+        Step::Migrate(list) => {
+            let ids = RisingIds::check(ids(rt, alloc, list));
+            Command::Migrate(ids.ok().expect(rt, "rising ids"))
+        }
+        Step::Status(number, change) => {
+            Command::EvalStatus(eval_id(rt, number, 0), status_change(rt, change))
         }
         Step::Plan(number, job, gone, made) => plan(
             rt,
+            job,
             eval_id(rt, number, 0),
-            name(rt, job),
-            stops(rt, alloc, gone),
+            ids(rt, alloc, gone),
             places(rt, alloc, made),
         ),
-        Step::Report(number, list) => report(rt, alloc, number, list),
+        Step::Report(number, list) => {
+            Command::Report(node(rt, number), reports(rt, alloc, list))
+        }
     }
 }
 
@@ -224,6 +197,7 @@ pub(crate) fn answer(rt: &impl Abort, state: &Cluster, command: &Command) -> u8 
     }
 }
 
+/// Applies a command, admitted or not.
 pub(crate) fn apply(rt: &impl Abort, state: &mut Cluster, command: &Command) {
     if state.applied().get() + 1 >= Index::LIMIT {
         panic!(rt; "too many commands");
@@ -232,13 +206,14 @@ pub(crate) fn apply(rt: &impl Abort, state: &mut Cluster, command: &Command) {
     assert!(rt; applied.is_ok());
 }
 
-// Applies a command that is admitted.
+/// Applies a command that is admitted.
 pub(crate) fn take(rt: &impl Abort, alloc: Global, state: &mut Cluster, step: &Step) {
     let command = command(rt, alloc, step);
     assert_eq!(rt; answer(rt, state, &command), 0);
     apply(rt, state, &command);
 }
 
+/// The state after commands that are all admitted, from the empty state.
 pub(crate) fn after(rt: &impl Abort, alloc: Global, steps: &[Step]) -> Cluster {
     let mut state = Cluster::new(alloc);
     for step in steps {

@@ -1,6 +1,6 @@
 //! Histories of logs, their ends worked out by hand from the rules: entries sent, committed, cut and caught up with. Each is a
 //! scenario file of the program too.
-use crate::memory::{Case, FIVE, THREE, play};
+use crate::tests::program::{Case, FIVE, THREE, play};
 
 // A leader's no-op is sent by one beat, and the next tells that it is committed.
 const COMMITTED_NO_OP: Case = Case {
@@ -13,7 +13,6 @@ server 2 follower term 1 last 1 applied 1
 server 3 follower term 1 last 1 applied 1
 events 15 messages 12
 ",
-    err: "",
 };
 
 // Server 1 led term 1 and wrote a no-op that it never sent; the leader of term 2 puts its own in that place.
@@ -27,7 +26,6 @@ server 2 leader term 2 last 1 applied 1
 server 3 follower term 2 last 1 applied 1
 events 20 messages 16
 ",
-    err: "",
 };
 
 // Two candidates of one term, and server 2, which voted before its crash; the next term has a leader.
@@ -42,7 +40,6 @@ server 2 leader term 2 last 1 applied 1
 server 3 follower term 2 last 1 applied 1
 events 31 messages 22
 ",
-    err: "",
 };
 
 // Every message comes a second time, late: replies and frames are counted, and no server's log or commit moves.
@@ -58,7 +55,6 @@ server 2 follower term 1 last 1 applied 1
 server 3 follower term 1 last 1 applied 1
 events 33 messages 18
 ",
-    err: "",
 };
 
 // Appends that come again and late, one of them from before the commit, leave the logs as they are.
@@ -74,7 +70,6 @@ server 2 follower term 1 last 1 applied 1
 server 3 follower term 1 last 1 applied 0
 events 13 messages 15
 ",
-    err: "",
 };
 
 // The leader of term 1 commits its no-op and crashes; the next leader has that entry, and brings all to its own.
@@ -91,7 +86,6 @@ server 4 follower term 2 last 2 applied 2
 server 5 follower term 2 last 2 applied 2
 events 45 messages 39
 ",
-    err: "",
 };
 
 // Server 3 is down while 34 leaders each commit a no-op; it comes back, is refused once, and takes 32 entries and then two.
@@ -123,7 +117,6 @@ server 2 leader term 34 last 34 applied 34
 server 3 follower term 34 last 34 applied 34
 events 226 messages 220
 ",
-    err: "",
 };
 
 // A leader that sent its entry to one server alone is overtaken, cut, stands in vain, and follows in a later term.
@@ -141,7 +134,6 @@ server 4 follower term 3 last 2 applied 2
 server 5 follower term 3 last 2 applied 2
 events 62 messages 56
 ",
-    err: "",
 };
 
 // A beat of a server that is down is refused, one of a server that does not exist too; a follower's beat sends nothing.
@@ -158,12 +150,11 @@ server 2 follower term 1 last 1 applied 0
 server 3 follower term 1 last 1 applied 0
 events 14 messages 8
 ",
-    err: "",
 };
 
 #[test]
 fn plays_histories(rt: HostRuntime) {
-    let cases = [
+    for case in [
         &COMMITTED_NO_OP,
         &TAIL_IS_CUT,
         &SPLIT_VOTE,
@@ -173,8 +164,7 @@ fn plays_histories(rt: HostRuntime) {
         &FAR_BEHIND,
         &OLD_LEADER_RETURNS,
         &REFUSED_BEATS,
-    ];
-    for case in cases {
+    ] {
         play(&rt, rt.alloc(), case);
     }
 }
