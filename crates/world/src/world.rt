@@ -77,7 +77,7 @@ fn newcomer<M: Machine>(alloc: Global, place: usize, n: usize) -> Result<Raft<M>
     ensures number { IfOk result (λ r. (r.me ≡ place) × (r.size ≡ n)) }
     ensures server { IfOk result (λ r. Represents M.meaning r newcomer) }
 {
-    let Some(me) = ServerId::from_number(place as u8 + 1) else {
+    let Some(me) = ServerId::from_place(place) else {
         return Err(NoMemory);
     };
     match Raft::restart(alloc, me, n, Stable::new(alloc)) {

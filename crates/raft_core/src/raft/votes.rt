@@ -24,7 +24,7 @@ pub(super) fn server_at(place: usize) -> ServerId
     requires { place < 5 }
     ensures { result ≡ place }
 {
-    match ServerId::from_number(place as u8 + 1) {
+    match ServerId::from_place(place) {
         Some(server) => server,
         None => unreachable!(),
     }
