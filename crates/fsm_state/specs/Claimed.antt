@@ -9,9 +9,8 @@ use Rattle.rows.specs.declared.node.Node.{Node}
 use Rattle.rows.specs.declared.allocation.Allocation.{Allocation}
 use Rattle.rows.specs.declared.command.AcceptedPlan.{AcceptedPlan}
 use Rattle.fsm_tables.specs.Claims.{Claim, claim_of, claims, on_node, is_live}
-use Rattle.fsm_tables.specs.LiveNames.{is_called, live_named}
+use Rattle.fsm_tables.specs.LiveNames.{is_called, live_named, name_of}
 use Rattle.fsm_tables.specs.RowLaws.{both, first, second, less}
-use Rattle.fsm_tables.specs.declared.name.AllocName.{AllocName}
 use Rattle.rows.specs.declared.allocation.AllocId.{AllocId}
 use Rattle.rows.specs.Keys.{alloc_cmp, alloc_id}
 use Rattle.rows.specs.Rising.{is_below, is_rising}
@@ -98,9 +97,6 @@ bears_is_safe p s k =
     (λ h. let a = safe_is_planned p s k h in safe_by_numbers s.nodes cs k.nodes_rising (low_numbers s.nodes k.nodes) counts a.fit a.distinct)
 
 -- ---- names
-
-abbrev pub name_of : Allocation → AllocName
-name_of a = record { job = a.job; group = a.group; index = a.index }
 
 -- whether a row that is live is the one that its name finds
 abbrev pub is_first : List Allocation → Allocation → Bool

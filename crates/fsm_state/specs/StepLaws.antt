@@ -21,7 +21,7 @@ use Rattle.rows.specs.Changes.{status_of, snapshot_of}
 use Rattle.rows.specs.Keys.{name_cmp, eval_cmp, alloc_cmp, job_name, node_number, eval_id}
 use Rattle.rows.specs.Rising.{is_below, is_rising}
 use Rattle.fsm_tables.specs.Rows.{by_order, row_of, has_row, put, put_within}
-use Rattle.fsm_tables.specs.RowLaws.{both, less, first, second, none_below, below_less, below_tied}
+use Rattle.fsm_tables.specs.RowLaws.{both, less, first, second, none_below, below_less, below_tied, some_none, some_same}
 use Rattle.fsm_state.specs.Words.{State, holds, same_alloc, same_eval, is_open}
 use Rattle.fsm_state.specs.Effect.{touched, with_evals, is_named, owns, stop_job, down, draining, drained, lives_on, set_status}
 use Rattle.fsm_state.specs.StateLaws.{eval_cmp_total}
@@ -68,12 +68,6 @@ both_tests true b x y = refl
 both_tests false b x y = refl
 
 -- ---- a change at a key is a map, in a table of rising keys
-
-some_none : {A : Type 0} (x : A) → Some x ≡ None → ⊥
-some_none x e = cc
-
-some_same : {A : Type 0} (x y : A) → Some x ≡ Some y → x ≡ y
-some_same x y e = cc
 
 -- the change of the row of a key
 abbrev pub only : {K X : Type 0} → (K → K → Ordering) → (X → K) → (X → X) → K → X → X

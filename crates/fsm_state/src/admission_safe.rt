@@ -177,12 +177,7 @@ impl Cluster {
         ensures { result ≡ is_first self.now.allocs row.now }
     {
         if is_live(row) {
-            let name = AllocName {
-                job: row.job,
-                group: row.group,
-                index: row.index,
-            };
-            match self.live_named(&name) {
+            match self.live_named(&AllocName::of(row)) {
                 Some(other) => row.id == other.id,
                 None => false,
             }

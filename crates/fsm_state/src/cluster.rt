@@ -216,12 +216,7 @@ impl Cluster {
     fn takes_no_name(&self, row: &Allocation) -> bool
         ensures { result ≡ (not (lives row.now) || is_free (row.now.id ∷ []) self.now.allocs (claim_of row.now)) }
     {
-        let name = AllocName {
-            job: row.job,
-            group: row.group,
-            index: row.index,
-        };
-        !is_live(row) || self.is_free_but(&name, &[row.id])
+        !is_live(row) || self.is_free_but(&AllocName::of(row), &[row.id])
     }
 
     /// Makes or replaces the row of the allocation.

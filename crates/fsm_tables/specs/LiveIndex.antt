@@ -9,6 +9,7 @@ use Rattle.fsm_tables.specs.declared.name.AllocName.{AllocName}
 use Rattle.fsm_tables.specs.declared.live_names.LiveEntry.{LiveEntry}
 use Rattle.fsm_tables.specs.Claims.{is_live}
 use Rattle.fsm_tables.specs.Rows.{row_of}
+pub use Rattle.fsm_tables.specs.LiveNames.{name_of}
 
 -- names by job, group and index, in this order
 abbrev pub alloc_name_cmp : AllocName → AllocName → Ordering
@@ -16,9 +17,6 @@ alloc_name_cmp a b = ordering_then (name_cmp a.job b.job) (ordering_then (name_c
 
 abbrev pub entry_cmp : LiveEntry → LiveEntry → Ordering
 entry_cmp a b = ordering_then (alloc_name_cmp a.name b.name) (alloc_cmp a.id b.id)
-
-abbrev pub name_of : Allocation → AllocName
-name_of a = record { job = a.job; group = a.group; index = a.index }
 
 -- the entry of a row, where there is a row and it is live
 abbrev pub entry_of : Option Allocation → Option LiveEntry

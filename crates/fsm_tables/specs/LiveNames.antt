@@ -4,6 +4,10 @@ use Rattle.rows.specs.declared.allocation.Allocation.{Allocation}
 use Rattle.fsm_tables.specs.declared.name.AllocName.{AllocName}
 use Rattle.fsm_tables.specs.Claims.{is_live}
 
+-- the name of an allocation
+abbrev pub name_of : Allocation → AllocName
+name_of a = record { job = a.job; group = a.group; index = a.index }
+
 -- whether an allocation has the name
 abbrev pub is_called : AllocName → Allocation → Bool
 is_called n a = bytes_eq a.job n.job && bytes_eq a.group n.group && nat_eq a.index n.index

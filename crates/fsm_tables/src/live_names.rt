@@ -40,11 +40,7 @@ fn entry_of(row: Option<&Allocation>) -> Option<LiveEntry>
 {
     match row {
         Some(row) if is_live(row) => Some(LiveEntry {
-            name: AllocName {
-                job: row.job,
-                group: row.group,
-                index: row.index,
-            },
+            name: AllocName::of(row),
             id: row.id,
         }),
         _ => None,
