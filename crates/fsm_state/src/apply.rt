@@ -112,7 +112,7 @@ impl Cluster {
     }
 
     /// Applies a command, whether or not the state admits it. Without memory the value is fit only to be dropped.
-    pub fn execute(&mut self, command: &Command) -> Result<(), NoMemory>
+    pub(crate) fn execute(&mut self, command: &Command) -> Result<(), NoMemory>
         requires { self.old.count + 1 < 2 ^ 40 }
         ensures { OnOk result (self.new ≡ after_command self.old command.now) }
     {
