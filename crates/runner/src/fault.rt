@@ -32,7 +32,7 @@ impl<'a> From<NoMemory> for Fault<'a> {
 }
 
 impl Fault<'_> {
-    /// The exit status of a run that ends by this fault: 0 where help was asked for, 3 where there was no memory, else 2.
+    /// The exit status of a run that ends by this fault: 0 where help or the version was asked for, 3 where there was no memory, else 2.
     pub fn status(&self) -> u8
         ensures status { IsStatus self.now result }
         ensures most { result ≤ 3 }
