@@ -1,3 +1,5 @@
+pub mod Turns
+pub mod Lines
 pub mod Numbers
 pub mod Objects
 pub mod Groups

@@ -1,6 +1,6 @@
--- The exit status of a fault.
-use Rattle.std.specs.Prelude.{◌≡◌, ◌⊎◌, ℕ}
-use Rattle.clap.specs.Values.{kind_of}
+-- The exit status of a fault, and what an exit status says of the words of a command line.
+use Rattle.std.specs.Prelude.{◌≡◌, ◌⊎◌, ℕ, [], ⊤}
+use Rattle.clap.specs.Words.{IsAmong, Kinds, kind_of}
 use Rattle.clap.specs.declared.error.Error.{Error}
 use Rattle.clap.specs.declared.error.kind.ErrorKind.TheVariants as kinds
 use Rattle.runner.specs.declared.fault.Fault.{Fault}
@@ -16,3 +16,20 @@ IsStatus (CannotRead name) status = status ≡ 2
 IsStatus BadScenario status = status ≡ 2
 IsStatus NoMemory status = status ≡ 3
 IsStatus Output status = status ≡ 2
+
+-- a fault of the words is one that `clap` finds in them
+abbrev pub IsFound : Kinds → Fault → Type 0
+IsFound found (CommandLine error) = IsAmong (kind_of error) found
+IsFound found _ = ⊤
+
+-- a run ends by a fault of its words, or `clap` takes them
+abbrev pub MayEndBy : Kinds → Fault → Type 0
+MayEndBy found fault = (found ≡ []) ⊎ IsFound found fault
+
+-- the words ask for help, or for the version
+abbrev pub AskForHelp : Kinds → Type 0
+AskForHelp found = IsAmong kinds.DisplayHelp found ⊎ IsAmong kinds.DisplayVersion found
+
+-- 0 comes only where `clap` takes the words, or they ask for help; 1 only where it takes them
+abbrev pub IsExit : Kinds → ℕ → Type 0
+IsExit found status = (status ≡ 0 → (found ≡ []) ⊎ AskForHelp found) × (status ≡ 1 → found ≡ [])

@@ -1,5 +1,6 @@
 -- What the words of a command line ask for, by the reading of words that `clap` defines.
-use Rattle.std.specs.Prelude.{◌≡◌, true, List, Option, Some, None, codes}
+use Rattle.std.specs.Prelude.{◌≡◌, Bool, true, false, ◌&&◌, List, Option, Some, None, is_some, codes}
+use Rattle.std.specs.Str.{bytes_eq}
 use Rattle.clap.specs.Words.{App, Row, Rule, Text, first_of, new_app, new_rule, subcommand_of, with_rule, with_subcommand}
 use Rattle.runner.specs.declared.command.CommandLine.{CommandLine}
 use Rattle.runner.specs.declared.command.CommandLine.TheVariants.{Run}
@@ -28,6 +29,11 @@ IsNamed name rows (Run file) =
 abbrev pub IsAsked : Option (Text × List Row) → CommandLine → Type 0
 IsAsked None line = ⊥
 IsAsked (Some named) line = IsNamed named.0 named.1 line
+
+-- whether a subcommand's name with its values asks for a line
+abbrev pub is_line : Option (Text × List Row) → Bool
+is_line None = false
+is_line (Some named) = bytes_eq named.0 (codes "run") && is_some (first_of (codes "FILE") named.1)
 
 -- what the words name, the program's own name first
 abbrev pub Names : List Text → CommandLine → Type 0

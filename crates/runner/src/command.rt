@@ -1,10 +1,10 @@
 //! The command line.
-ghost use Rattle.std.specs.Prelude.{◌≡◌, false, IfOk, IfSome, map, codes};
-ghost use Rattle.clap.specs.Words.{app_of, found_of, rows_of, subcommand_rows_of};
+ghost use Rattle.std.specs.Prelude.{◌≡◌, true, false, IfOk, IfErr, IfSome, IfNone, Some, map, codes};
+ghost use Rattle.clap.specs.Words.{FailsBy, app_of, fault_of, found_of, kind_of, rows_of, subcommand_rows_of};
 ghost use Rattle.clap.specs.declared.builder.command.Command.TheViews.{out-Command};
-ghost use Rattle.runner.specs.Words.{IsAsked, IsNamed, Names, nomadsim_app, run_app};
+ghost use Rattle.clap.specs.declared.error.kind.ErrorKind.TheVariants.{OutOfMemory};
+ghost use Rattle.runner.specs.Words.{IsAsked, IsNamed, Names, is_line, nomadsim_app, run_app};
 
-use clap::error::ErrorKind;
 use clap::{Arg, ArgMatches, Command, Error};
 use std::alloc::Global;
 
@@ -71,7 +71,8 @@ pub enum CommandLine<'a> {
 }
 
 fn run_command<'a>(alloc: Global) -> Result<Command<'a>, Error>
-    ensures { IfOk result (λ c. (app_of c ≡ run_app) × ((out-Command c).has_globals ≡ false)) }
+    ensures ok { IfOk result (λ c. (app_of c ≡ run_app) × ((out-Command c).has_globals ≡ false)) }
+    ensures err { IfErr result (λ e. kind_of e ≡ OutOfMemory) }
 {
     let file = Arg::new(alloc, "FILE")
         .help("The scenario's file")
@@ -84,7 +85,8 @@ fn run_command<'a>(alloc: Global) -> Result<Command<'a>, Error>
 }
 
 fn program<'a>(alloc: Global) -> Result<Command<'a>, Error>
-    ensures { IfOk result (λ c. app_of c ≡ nomadsim_app) }
+    ensures ok { IfOk result (λ c. app_of c ≡ nomadsim_app) }
+    ensures err { IfErr result (λ e. kind_of e ≡ OutOfMemory) }
 {
     let run = run_command(alloc)?;
     let bare = Command::new(alloc, "nomadsim")
@@ -96,14 +98,16 @@ fn program<'a>(alloc: Global) -> Result<Command<'a>, Error>
 }
 
 fn run_line<'a>(given: &ArgMatches<'a>) -> Option<CommandLine<'a>>
-    ensures { IfSome result (IsNamed (codes "run") (rows_of (found_of given.now))) }
+    ensures some { IfSome result (IsNamed (codes "run") (rows_of (found_of given.now))) }
+    ensures none { IfNone result (is_line (Some (codes "run", rows_of (found_of given.now))) ≡ false) }
 {
     let file = given.get_str("FILE")?;
     Some(CommandLine::Run { file })
 }
 
 fn line_of<'a>(matches: &ArgMatches<'a>) -> Option<CommandLine<'a>>
-    ensures { IfSome result (IsAsked (subcommand_rows_of matches.now)) }
+    ensures some { IfSome result (IsAsked (subcommand_rows_of matches.now)) }
+    ensures none { IfNone result (is_line (subcommand_rows_of matches.now) ≡ false) }
 {
     let (name, given) = matches.subcommand()?;
     match name {
@@ -114,12 +118,13 @@ fn line_of<'a>(matches: &ArgMatches<'a>) -> Option<CommandLine<'a>>
 
 /// Reads the words of a command line, of which the first names the program.
 pub fn command<'a>(alloc: Global, words: &'a [&'a str]) -> Result<CommandLine<'a>, Error>
-    ensures { IfOk result (Names (map (λ w. w.now) words.entry.now)) }
+    ensures named { IfOk result (Names (map (λ w. w.now) words.entry.now)) }
+    ensures faults { FailsBy (fault_of nomadsim_app (map (λ w. w.now) words.entry.now)) result }
 {
     let mut program = program(alloc)?;
     let matches = program.try_get_matches_from_mut(words)?;
     match line_of(&matches) {
         Some(line) => Ok(line),
-        None => Err(program.error(ErrorKind::MissingSubcommand, "no subcommand is complete")?),
+        None => unreachable!(),
     }
 }

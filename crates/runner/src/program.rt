@@ -1,5 +1,8 @@
 //! The whole program, over files and streams that are handed in.
-ghost use Rattle.std.specs.Prelude.{◌≤◌, IfOk};
+ghost use Rattle.std.specs.Prelude.{◌≡◌, ◌≤◌, ◌⊎◌, [], IfErr, IfOk, map};
+ghost use Rattle.clap.specs.Words.{fault_of};
+ghost use Rattle.runner.specs.Faults.{IsExit, IsStatus, MayEndBy};
+ghost use Rattle.runner.specs.Words.{nomadsim_app};
 
 use crate::command::{CommandLine, command};
 use crate::fault::Fault;
@@ -29,7 +32,8 @@ pub fn nomadsim<'a, F: Shelf, W: Write, E: Write>(
     out: &mut W,
     err: &mut E,
 ) -> u8
-    ensures { result ≤ 3 }
+    ensures most { result ≤ 3 }
+    ensures exit { IsExit (fault_of nomadsim_app (map (λ w. w.now) words.entry.now)) result }
 {
     match run(alloc, words, shelf, out) {
         Ok(status) => status,
@@ -39,7 +43,8 @@ pub fn nomadsim<'a, F: Shelf, W: Write, E: Write>(
 
 // Help goes to the standard output, and a fault to the standard error, after what was said before it.
 fn report<W: Write, E: Write>(fault: &Fault<'_>, out: &mut W, err: &mut E) -> u8
-    ensures { result ≤ 3 }
+    ensures most { result ≤ 3 }
+    ensures status { (result ≡ 2) ⊎ IsStatus fault.now result }
 {
     let status = fault.status();
     if status == 0 && write!(out, "{fault}").is_err() {
@@ -62,7 +67,8 @@ fn run<'a, F: Shelf, W: Write>(
     shelf: &mut F,
     out: &mut W,
 ) -> Result<u8, Fault<'a>>
-    ensures { IfOk result (λ status. status ≤ 1) }
+    ensures ok { IfOk result (λ status. (status ≤ 1) × (fault_of nomadsim_app (map (λ w. w.now) words.entry.now) ≡ [])) }
+    ensures err { IfErr result (MayEndBy (fault_of nomadsim_app (map (λ w. w.now) words.entry.now))) }
 {
     match command(alloc, words) {
         Ok(CommandLine::Run { file }) => run_scenario(alloc, shelf, out, file),

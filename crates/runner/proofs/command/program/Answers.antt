@@ -3,8 +3,8 @@ use Rattle.clap.specs.Words.{App, app_of, with_subcommand}
 use Rattle.runner.specs.Words.{bare_app}
 use Rattle.runner.proofs.command.program.Goals as goal
 
-pub returns : goal.returns
-returns c =
+pub returns-clause-ok : goal.returns-clause-ok
+returns-clause-ok c =
     let top = λ (a : App). a.top in
     let bare_is : app_of c.subcommand_required-bare.result ≡ bare_app = search rules in
-    c.in_ok-whole.ensures.shape c.in_ok-run.ensures.1 ∙ ap₂ with_subcommand bare_is (ap top c.in_ok-run.ensures.0)
+    c.in_ok-whole.ensures.shape c.in_ok-run.ensures.ok.1 ∙ ap₂ with_subcommand bare_is (ap top c.in_ok-run.ensures.ok.0)
