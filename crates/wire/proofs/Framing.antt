@@ -92,12 +92,8 @@ pub record ShortCommands {C : Type 0} (commands : Format C) : Type 0 where
 pub body_within : {S C : Type 0} (commands : Format C) → ShortCommands commands → (b : Body S C) → (body commands (kind_of b)).Fits b → length ((body commands (kind_of b)).text b) ≤ 16777208
 body_within {S} commands law b fits = omega (arith, (body_lawful commands law.lawful (kind_of b)).short b fits, body_is_short S commands law.short (kind_of b))
 
--- behind some bytes an Append takes up no more room
-pub append_room : {C : Type 0} (commands : Format C) → ShortCommands commands → (a : Append C) (old new : List ℕ) → (append commands).Fits a → new ≡ old ++ (append commands).text a → length new ≤ length old + 16777208
-append_room commands law a old new fits e =
-    let within = body_within {S = ℕ} commands law (bodies.Append a) fits in
-    let grown : length new ≡ length old + length ((append commands).text a) = ap length e ∙ length-append old ((append commands).text a) in
-    omega arith
+pub append_within : {C : Type 0} (commands : Format C) → ShortCommands commands → (a : Append C) → (append commands).Fits a → length ((append commands).text a) ≤ 16777208
+append_within commands law a fits = body_within {S = ℕ} commands law (bodies.Append a) fits
 
 pub message_is_short : {S C : Type 0} (commands : Format C) → ShortCommands commands → (m : Message S C) → MessageFits commands m → length (message_text commands m) ≤ frame_limit
 message_is_short commands law m fits =

@@ -16,17 +16,16 @@ use rows::{Actor, NoMemory, ServerId};
 
 /// Puts the number of the bytes behind the four at a place into those four.
 #[tactic(auto, unfolding(fields::specs::Format::spelled), using(crate::proofs::Rules::drops))]
-fn put_size(bytes: &mut [u8], at: usize)
-    requires room { at + 4 ≤ length bytes.old }
-    requires short { length bytes.old < at + 4 + 2 ^ 32 }
-    ensures { bytes.new ≡ take at bytes.old ++ sized (drop (at + 4) bytes.old) }
+fn put_size(out: &mut Vec<u8>, at: usize)
+    requires room { at + 4 ≤ length out.old.items }
+    requires short { length out.old.items < at + 4 + 2 ^ 32 }
+    ensures { out.new.items ≡ take at out.old.items ++ sized (drop (at + 4) out.old.items) }
 {
-    let size = (bytes.len() - at - 4) as u32;
-    bytes[at..at + 4].copy_from_slice(&size.to_be_bytes());
+    let size = (out.len() - at - 4) as u32;
+    out[at..at + 4].copy_from_slice(&size.to_be_bytes());
 }
 
 /// Puts the body to the end, behind its length.
-#[tactic(auto, using(crate::proofs::Rules::appends))]
 fn append_sized<M: Machine>(body: &Body<M>, out: &mut Vec<u8>) -> Result<(), NoMemory>
     ensures ok { OnOk result ((body_format M.meaning.commands (kind_of body.now)).Fits body.now
         × (out.new.items ≡ out.old.items ++ sized ((body_format M.meaning.commands (kind_of body.now)).text body.now))) }
@@ -40,7 +39,6 @@ fn append_sized<M: Machine>(body: &Body<M>, out: &mut Vec<u8>) -> Result<(), NoM
 }
 
 /// Puts the body of an `Append` of these parts to the end, behind its length.
-#[tactic(auto, using(crate::proofs::Rules::appends))]
 fn append_sized_entries<M: Machine>(
     head: &AppendHead,
     entries: &[Entry<Coded<M>>],

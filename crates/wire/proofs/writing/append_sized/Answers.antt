@@ -1,13 +1,29 @@
-use Rattle.std.proofs.Common.{arith, ap, length, length-append}
+use Rattle.std.proofs.Common.{refl, ◌∙◌}
+use Rattle.std.proofs.lemmas.Result.{IfOk-from_err}
 use Rattle.wire.proofs.Framing.{ShortCommands, body_within}
+use Rattle.wire.proofs.Sizes.{Behind, four_inside, length_fits, sized_text, nothing_came, part_came}
 use Rattle.wire.proofs.writing.append_sized.Goals as goal
 
-pub put_size-requires-clause-short : goal.put_size-requires-clause-short
-put_size-requires-clause-short g c =
+pub returns-in_err-extend_from_slice : goal.returns-in_err-extend_from_slice
+returns-in_err-extend_from_slice g c = record {
+  ok = IfOk-from_err c.from_residual.result _ c.from_residual.ensures.0;
+  err = nothing_came c.from_residual.result c.in_err-extend_from_slice.ensures.items;
+}
+
+pub returns-in_err-append_body : goal.returns-in_err-append_body
+returns-in_err-append_body g c = record {
+  ok = IfOk-from_err c.from_residual-in_err-append_body.result _ c.from_residual-in_err-append_body.ensures.0;
+  err = part_came _ _ c.from_residual-in_err-append_body.result c.in_ok-extend_from_slice.ensures.items c.in_err-append_body.ensures;
+}
+
+pub put_size-requires : goal.put_size-requires
+put_size-requires g c =
     let commands = g.M.Machine.meaning.commands in
     let law : ShortCommands commands = record { lawful = g.met.M.Machine.lawful.commands_lawful; short = g.met.M.Machine.lawful.commands_short } in
-    let done = c.in_ok-append_body.ensures in
-    let short = body_within commands law c.args.body.now done.0 in
-    let grown = simp length-append at (ap length done.1) in
-    let room = simp length-append at (ap length c.in_ok-extend_from_slice.ensures.items) in
-    omega arith
+    let behind : Behind _ _ _ _ _ _ = record { place = c.len-size_at.ensures ∙ c.args.out.now.ok.0; four_are = refl; four_came = c.in_ok-extend_from_slice.ensures.items; text_came = c.in_ok-append_body.ensures.1 } in
+    record { room = four_inside behind; short = length_fits behind (body_within commands law c.args.body.now c.in_ok-append_body.ensures.0) }
+
+pub returns : goal.returns
+returns g c =
+    let behind : Behind _ _ _ _ _ _ = record { place = c.len-size_at.ensures ∙ c.args.out.now.ok.0; four_are = refl; four_came = c.in_ok-extend_from_slice.ensures.items; text_came = c.in_ok-append_body.ensures.1 } in
+    record { ok = (c.in_ok-append_body.ensures.0, sized_text behind _ c.put_size.ensures); err = tt }

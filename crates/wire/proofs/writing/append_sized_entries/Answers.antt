@@ -1,13 +1,29 @@
-use Rattle.std.proofs.Common.{arith, ap, length, length-append}
-use Rattle.wire.proofs.Framing.{ShortCommands, append_room}
+use Rattle.std.proofs.Common.{refl, ◌∙◌}
+use Rattle.std.proofs.lemmas.Result.{IfOk-from_err}
+use Rattle.wire.proofs.Framing.{ShortCommands, append_within}
+use Rattle.wire.proofs.Sizes.{Behind, four_inside, length_fits, sized_text, nothing_came, part_came}
 use Rattle.wire.proofs.writing.append_sized_entries.Goals as goal
 
-pub put_size-requires-clause-short : goal.put_size-requires-clause-short
-put_size-requires-clause-short g c =
+pub returns-in_err-extend_from_slice : goal.returns-in_err-extend_from_slice
+returns-in_err-extend_from_slice g c = record {
+  ok = IfOk-from_err c.from_residual.result _ c.from_residual.ensures.0;
+  err = nothing_came c.from_residual.result c.in_err-extend_from_slice.ensures.items;
+}
+
+pub returns-in_err-append_append : goal.returns-in_err-append_append
+returns-in_err-append_append g c = record {
+  ok = IfOk-from_err c.from_residual-in_err-append_append.result _ c.from_residual-in_err-append_append.ensures.0;
+  err = part_came _ _ c.from_residual-in_err-append_append.result c.in_ok-extend_from_slice.ensures.items c.in_err-append_append.ensures;
+}
+
+pub put_size-requires : goal.put_size-requires
+put_size-requires g c =
     let commands = g.M.Machine.meaning.commands in
     let law : ShortCommands commands = record { lawful = g.met.M.Machine.lawful.commands_lawful; short = g.met.M.Machine.lawful.commands_short } in
-    let done = c.in_ok-append_append.ensures in
-    let short = append_room commands law (record { head = c.args.head.now; entries = c.args.entries.now }) c.extend_from_slice.new.self.items c.append_append.new.out.items done.0 done.1 in
-    let room = simp length-append at (ap length c.in_ok-extend_from_slice.ensures.items) in
-    let all = ap length c.deref_mut.ensures.value in
-    omega arith
+    let behind : Behind _ _ _ _ _ _ = record { place = c.len-size_at.ensures ∙ c.args.out.now.ok.0; four_are = refl; four_came = c.in_ok-extend_from_slice.ensures.items; text_came = c.in_ok-append_append.ensures.1 } in
+    record { room = four_inside behind; short = length_fits behind (append_within commands law (record { head = c.args.head.now; entries = c.args.entries.now }) c.in_ok-append_append.ensures.0) }
+
+pub returns : goal.returns
+returns g c =
+    let behind : Behind _ _ _ _ _ _ = record { place = c.len-size_at.ensures ∙ c.args.out.now.ok.0; four_are = refl; four_came = c.in_ok-extend_from_slice.ensures.items; text_came = c.in_ok-append_append.ensures.1 } in
+    record { ok = (c.in_ok-append_append.ensures.0, sized_text behind _ c.put_size.ensures); err = tt }
