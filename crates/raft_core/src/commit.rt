@@ -1,6 +1,6 @@
 //! How far a leader's commit index rises. (Raft, extended version 2014, section 5.3, and section 5.4.2.)
 
-ghost use Rattle.std.specs.Prelude.{◌≡◌, ◌≢◌, ◌^◌, ◌<◌, ◌≤◌, ℕ, Bool, List, length, take, IfOk};
+ghost use Rattle.std.specs.Prelude.{◌≡◌, ◌≢◌, ◌^◌, ◌<◌, ◌≤◌, ◌⊎◌, ℕ, Bool, List, length, take, IfOk};
 ghost use Rattle.raft_model.specs.Logs.{state_after};
 ghost use Rattle.raft_model.specs.Quorums.{count, is_quorum, number};
 ghost use Rattle.raft_model.specs.Servers.{Server, Leader, advanced, greatest};
@@ -40,6 +40,7 @@ fn next_lower(me: ServerId, matched: &[u64], index: u64) -> u64
     requires { 0 < index }
     ensures below { result < index }
     ensures others { (j : ℕ) → j < length matched.now → j ≢ me → number matched.now j < index → number matched.now j ≤ result }
+    ensures one { (result ≡ 0) ⊎ ((j : ℕ) × (j < length matched.now) × (j ≢ me) × (number matched.now j ≡ result)) }
 {
     let mut low = 0;
     for (place, level) in matched.iter().enumerate() {
