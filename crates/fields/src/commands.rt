@@ -444,6 +444,35 @@ fn read_later_body(
     }
 }
 
+/// Puts what follows the tag to the end.
+fn append_body(command: &Command, out: &mut Vec<u8>) -> Result<(), NoMemory>
+    ensures { Puts (bodies (tag_of command.now)) command.now result out.old.items out.new.items }
+{
+    match command {
+        Command::Noop => Ok(()),
+        Command::JobPut(job) => job.append(out),
+        Command::JobStop(name) => name.append(out),
+        Command::NodePut(node) => node.append(out),
+        Command::NodeDown(node) => node.append(out),
+        Command::Drain(node, force) => {
+            node.append(out)?;
+            force.append(out)
+        }
+        Command::DrainDone(node) => node.append(out),
+        Command::Migrate(ids) => ids.append(out),
+        Command::EvalPut(name) => name.append(out),
+        Command::EvalStatus(eval, change) => {
+            eval.append(out)?;
+            change.append(out)
+        }
+        Command::Plan(plan) => plan.append(out),
+        Command::Report(node, items) => {
+            node.append(out)?;
+            items.append(out)
+        }
+    }
+}
+
 /// A tag in one byte, from 0 to 11, and then what it says.
 impl Field for Command {
     ghost format = { command };
@@ -457,28 +486,6 @@ impl Field for Command {
 
     fn append(&self, out: &mut Vec<u8>) -> Result<(), NoMemory> {
         write_u8(&tag(self), out)?;
-        match self {
-            Command::Noop => Ok(()),
-            Command::JobPut(job) => job.append(out),
-            Command::JobStop(name) => name.append(out),
-            Command::NodePut(node) => node.append(out),
-            Command::NodeDown(node) => node.append(out),
-            Command::Drain(node, force) => {
-                node.append(out)?;
-                force.append(out)
-            }
-            Command::DrainDone(node) => node.append(out),
-            Command::Migrate(ids) => ids.append(out),
-            Command::EvalPut(name) => name.append(out),
-            Command::EvalStatus(eval, change) => {
-                eval.append(out)?;
-                change.append(out)
-            }
-            Command::Plan(plan) => plan.append(out),
-            Command::Report(node, items) => {
-                node.append(out)?;
-                items.append(out)
-            }
-        }
+        append_body(self, out)
     }
 }
