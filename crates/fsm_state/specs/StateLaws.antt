@@ -23,7 +23,7 @@ use Rattle.rows.specs.declared.refusal.Refusal.{Refusal}
 use Rattle.rows.specs.Changes.{status_of, snapshot_of}
 use Rattle.rows.specs.Keys.{name_cmp, eval_cmp, alloc_cmp, job_name, node_number, eval_id, alloc_id}
 use Rattle.rows.specs.Rising.{is_rising}
-pub use Rattle.rows.specs.KeyLaws.{alloc_cmp_total, eval_cmp_total}
+pub use Rattle.rows.proofs.KeyLaws.{alloc_cmp_total, eval_cmp_total}
 use Rattle.machine.specs.Meaning.{IsMachineRefusal}
 use Rattle.fsm_tables.specs.Rows.{put_within}
 use Rattle.fsm_tables.specs.RowLaws.{rising_put_within, few_put_within, rising_mapped}

@@ -83,7 +83,8 @@ module _ {C : Type 0} where
     ]
   ]
 
-  -- the win: a quorum that voted in t has carried to the log all that it acknowledged before, or acknowledges it no more
+  -- the win: a quorum that voted in t has carried to the log all that it acknowledged before, or
+  -- acknowledges it no more
   pub win_carries : (n : ℕ) (G : History C) (t : ℕ) (votes : ℕ → Bool) (log : List (Entry C)) → Quorum n votes → ((i : ℕ) → i < n → IsTrue (votes i) → t ≤ G.ballots.term i) → ((i u k : ℕ) → i < n → IsTrue (votes i) → u < t → 1 ≤ k → k ≤ G.held u i → Carries n G u k log) → (u k : ℕ) → u < t → 1 ≤ k → Carries n G u k log
   win_carries n G t votes log q late voted u k less one own =
       elim (find n votes (λ i. nat_le k (G.held u i))) [

@@ -1,4 +1,5 @@
--- What the induction over a run carries: the history, the invariants by it, and the one list so far.
+-- What the induction over a run carries: the history, the invariants by it, and the one list so
+-- far.
 use Rattle.std.proofs.Common.{◌≡◌, ℕ, suc, ◌<◌, ◌≤◌, ◌⊎◌, inl, inr, Some, None, List, [], ◌∷◌, ◌++◌, length, take, refl, sym, ap, ◌∙◌, subst, arith, slice_get, true, false, length-take-le}
 use Rattle.std.proofs.lemmas.Bool.Decides.{leb_tells}
 use Rattle.machine.specs.Meaning.{Meaning, LawfulMachine}

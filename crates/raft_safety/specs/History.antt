@@ -7,8 +7,9 @@ use Rattle.raft_model.specs.Chains.{Agree}
 use Rattle.raft_safety.specs.Agreement.{Rooted}
 use Rattle.raft_safety.specs.Ballots.{Ballots, Elected, BallotsGrow, BallotsApart}
 
--- ballots: terms and votes. stood: the log with which a server stood in a term. leader: who won a term. ledger: the log of
--- a term's leader, as far as it got while it led. held: the greatest index that a server acknowledged in a term.
+-- ballots: terms and votes. stood: the log with which a server stood in a term. leader: who won a
+-- term. ledger: the log of a term's leader, as far as it got while it led. held: the greatest index
+-- that a server acknowledged in a term.
 pub record History (C : Type 0) : Type 0 where
   pub ballots : Ballots
   pub stood : ℕ → ℕ → Option (List (Entry C))

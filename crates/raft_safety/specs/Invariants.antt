@@ -101,7 +101,8 @@ module _ {C : Type 0} (n : ℕ) (G : History C) where
   abbrev pub SentOk : List (Message C) → Type 0
   SentOk sent = (x : Message C) → Came sent x → MessageOk x
 
--- the history after a step of server i, which is t then and has said `out`; P is what each ledger keeps besides
+-- the history after a step of server i, which is t then and has said `out`; P is what each ledger
+-- keeps besides
 pub record Keeps {C : Type 0} (P : List (Entry C) → Type 0) (n : ℕ) (G : History C) (i : ℕ) (t : Server C) (out : List (Message C)) : Type 0 where
   pub after : History C
   pub extends : Extends G after

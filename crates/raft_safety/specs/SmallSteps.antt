@@ -1,4 +1,5 @@
--- Each event is a few small steps of one server in a row. What a run keeps is proved for each of these.
+-- Each event is a few small steps of one server in a row. What a run keeps is proved for each of
+-- these.
 use Rattle.std.specs.Prelude.{◌≡◌, ℕ, ◌+◌, ◌<◌, Bool, true, false, Some, None, List, [], ◌∷◌, length, slice_get, slice_set}
 use Rattle.machine.specs.Meaning.{Meaning}
 use Rattle.machine.specs.declared.entry.Entry.{Entry}
