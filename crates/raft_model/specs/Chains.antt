@@ -18,7 +18,7 @@ pub record At {C : Type 0} (past : List (World C)) (w : World C) (k i : ℕ) (s 
   pub here : slice_get world.servers i ≡ Some s
 
 -- a server that was up had this commit index at some moment
-pub record Reached {C : Type 0} (past : List (World C)) (w : World C) (index : ℕ) : Type 0 where
+pub record WasCommitted {C : Type 0} (past : List (World C)) (w : World C) (index : ℕ) : Type 0 where
   pub moment : ℕ
   pub who : ℕ
   pub server : Server C
@@ -31,7 +31,7 @@ pub record Reached {C : Type 0} (past : List (World C)) (w : World C) (index : �
 -- and whoever leads a term has what a server in a term up to it had applied by then.
 pub record Chain {C : Type 0} (past : List (World C)) (w : World C) (list : List (Entry C)) : Type 0 where
   pub agrees : (k i : ℕ) (s : Server C) → At past w k i s → Agree s.commit s.log list
-  pub longest : (list ≡ []) ⊎ Reached past w (length list)
+  pub longest : (list ≡ []) ⊎ WasCommitted past w (length list)
   pub one_leader : OneLeader past w
   pub complete : (k l i j t : ℕ) (s : Server C) (x : World C) → k ≤ l → At past w k i s → s.term ≤ t → moment past w l ≡ Some x → (leads : Leads x j t) →
       Agree s.commit list leads.server.log

@@ -7,7 +7,7 @@ use Rattle.raft_model.specs.Quorums.{Quorum, number}
 use Rattle.raft_model.specs.Messages.{Message}
 use Rattle.raft_model.specs.Servers.{Server, Candidate, Leader, is_up, is_leader}
 use Rattle.raft_model.specs.Worlds.{World, Event, Proposes, Run, IsEvent, happens}
-use Rattle.raft_model.specs.Chains.{Agree, At, Reached}
+use Rattle.raft_model.specs.Chains.{Agree, At, WasCommitted}
 
 -- P holds of each run, of any number of servers and any length: n servers, the events, the worlds
 -- before the last one, and that one
@@ -30,7 +30,7 @@ LogMatching {C} past w = (k l i j p : ℕ) (s t : Server C) → At past w k i s 
 -- c is the greatest commit index that a server had at some moment while it was up
 pub record IsGreatestCommit {C : Type 0} (past : List (World C)) (w : World C) (c : ℕ) : Type 0 where
   pub bound : (k i : ℕ) (s : Server C) → At past w k i s → is_up s.mode ≡ true → s.commit ≤ c
-  pub reached : (c ≡ 0) ⊎ Reached past w c
+  pub reached : (c ≡ 0) ⊎ WasCommitted past w c
 
 -- How a leader's log grew by one entry: it took a proposal; or it was a candidate and wins now, and
 -- the entry is its no-op.
@@ -79,7 +79,7 @@ pub record Limits {C : Type 0} (s : Server C) : Type 0 where
   pub terms : (p : ℕ) → 1 ≤ p → p ≤ length s.log → term_at s.log p ≤ s.term
 
 -- a message from one server of the group to another
-pub record Within {C : Type 0} (n : ℕ) (x : Message C) : Type 0 where
+pub record IsAmongMembers {C : Type 0} (n : ℕ) (x : Message C) : Type 0 where
   pub from : x.from < n
   pub to : x.to < n
   pub apart : x.from ≢ x.to

@@ -4,7 +4,7 @@ ghost use Rattle.std.specs.Prelude.{◌≡◌, ◌≤◌, ◌⊎◌, ℕ, suc, t
 ghost use Rattle.raft_model.specs.Messages.{Message};
 ghost use Rattle.raft_model.specs.Servers.{Server, is_up};
 ghost use Rattle.raft_model.specs.Chains.{Agree, At};
-ghost use Rattle.raft_safety.specs.Claims.{EachRun, UpFromTo, SameStored, Limits, Within, HasRisen};
+ghost use Rattle.raft_safety.specs.Claims.{EachRun, UpFromTo, SameStored, Limits, IsAmongMembers, HasRisen};
 
 use machine::Machine;
 
@@ -32,5 +32,5 @@ pub fn commit_has_risen<M: Machine>()
 /// the log. Every message goes from one server of the group to another.
 pub fn within_limits<M: Machine>()
     ensures servers { EachRun M.meaning (λ n events past w. (k i : ℕ) (s : Server M.Command) → At past w k i s → Limits s) }
-    ensures messages { EachRun M.meaning (λ n events past w. (k : ℕ) (x : Message M.Command) → slice_get w.sent k ≡ Some x → Within n x) }
+    ensures messages { EachRun M.meaning (λ n events past w. (k : ℕ) (x : Message M.Command) → slice_get w.sent k ≡ Some x → IsAmongMembers n x) }
 {}
