@@ -1,4 +1,5 @@
 //! What stands in rows as one byte by a code.
+ghost use Rattle.fields.specs.Format.{GivesExactly};
 ghost use Rattle.fields.specs.Rows.{node_status, drain_mode, eval_status, desired, client_state};
 ghost use Rattle.fields.specs.RowLaws.{node_status_lawful, drain_mode_lawful, eval_status_lawful, desired_lawful, client_state_lawful};
 
@@ -14,7 +15,9 @@ impl Field for NodeStatus {
 
     ghost lawful = { node_status_lawful };
 
-    fn read_at(_alloc: Global, bytes: &[u8], at: usize) -> Result<(NodeStatus, usize), Refusal> {
+    fn read_at(_alloc: Global, bytes: &[u8], at: usize) -> Result<(NodeStatus, usize), Refusal>
+        ensures { GivesExactly result (node_status.read bytes.now at) }
+    {
         match read_u8(bytes, at)? {
             (0, next) => Ok((NodeStatus::Ready, next)),
             (1, next) => Ok((NodeStatus::Down, next)),
@@ -37,7 +40,9 @@ impl Field for DrainMode {
 
     ghost lawful = { drain_mode_lawful };
 
-    fn read_at(_alloc: Global, bytes: &[u8], at: usize) -> Result<(DrainMode, usize), Refusal> {
+    fn read_at(_alloc: Global, bytes: &[u8], at: usize) -> Result<(DrainMode, usize), Refusal>
+        ensures { GivesExactly result (drain_mode.read bytes.now at) }
+    {
         match read_u8(bytes, at)? {
             (0, next) => Ok((DrainMode::Off, next)),
             (1, next) => Ok((DrainMode::Slow, next)),
@@ -62,7 +67,9 @@ impl Field for EvalStatus {
 
     ghost lawful = { eval_status_lawful };
 
-    fn read_at(_alloc: Global, bytes: &[u8], at: usize) -> Result<(EvalStatus, usize), Refusal> {
+    fn read_at(_alloc: Global, bytes: &[u8], at: usize) -> Result<(EvalStatus, usize), Refusal>
+        ensures { GivesExactly result (eval_status.read bytes.now at) }
+    {
         match read_u8(bytes, at)? {
             (0, next) => Ok((EvalStatus::Pending, next)),
             (1, next) => Ok((EvalStatus::Blocked, next)),
@@ -89,7 +96,9 @@ impl Field for Desired {
 
     ghost lawful = { desired_lawful };
 
-    fn read_at(_alloc: Global, bytes: &[u8], at: usize) -> Result<(Desired, usize), Refusal> {
+    fn read_at(_alloc: Global, bytes: &[u8], at: usize) -> Result<(Desired, usize), Refusal>
+        ensures { GivesExactly result (desired.read bytes.now at) }
+    {
         match read_u8(bytes, at)? {
             (0, next) => Ok((Desired::Run, next)),
             (1, next) => Ok((Desired::Stop, next)),
@@ -112,7 +121,9 @@ impl Field for ClientState {
 
     ghost lawful = { client_state_lawful };
 
-    fn read_at(_alloc: Global, bytes: &[u8], at: usize) -> Result<(ClientState, usize), Refusal> {
+    fn read_at(_alloc: Global, bytes: &[u8], at: usize) -> Result<(ClientState, usize), Refusal>
+        ensures { GivesExactly result (client_state.read bytes.now at) }
+    {
         match read_u8(bytes, at)? {
             (0, next) => Ok((ClientState::Pending, next)),
             (1, next) => Ok((ClientState::Running, next)),

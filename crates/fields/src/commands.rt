@@ -49,7 +49,9 @@ impl Field for NodeSpec {
 
     ghost lawful = { node_spec_lawful };
 
-    fn read_at(alloc: Global, bytes: &[u8], at: usize) -> Result<(NodeSpec, usize), Refusal> {
+    fn read_at(alloc: Global, bytes: &[u8], at: usize) -> Result<(NodeSpec, usize), Refusal>
+        ensures { GivesExactly result (node_spec.read bytes.now at) }
+    {
         let (number, at) = NodeId::read_at(alloc, bytes, at)?;
         let (class, at) = ClassName::read_at(alloc, bytes, at)?;
         let (size, at) = Size::read_at(alloc, bytes, at)?;
@@ -116,7 +118,9 @@ impl Field for Place {
 
     ghost lawful = { place_lawful };
 
-    fn read_at(alloc: Global, bytes: &[u8], at: usize) -> Result<(Place, usize), Refusal> {
+    fn read_at(alloc: Global, bytes: &[u8], at: usize) -> Result<(Place, usize), Refusal>
+        ensures { GivesExactly result (place.read bytes.now at) }
+    {
         let (group, at) = GroupName::read_at(alloc, bytes, at)?;
         let (index, at) = Ordinal::read_at(alloc, bytes, at)?;
         let (node, at) = NodeId::read_at(alloc, bytes, at)?;
@@ -136,7 +140,9 @@ impl Field for AcceptedPlace {
 
     ghost lawful = { accepted_place_lawful };
 
-    fn read_at(alloc: Global, bytes: &[u8], at: usize) -> Result<(AcceptedPlace, usize), Refusal> {
+    fn read_at(alloc: Global, bytes: &[u8], at: usize) -> Result<(AcceptedPlace, usize), Refusal>
+        ensures { GivesExactly result (accepted_place.read bytes.now at) }
+    {
         let (group, at) = GroupName::read_at(alloc, bytes, at)?;
         let (index, at) = Ordinal::read_at(alloc, bytes, at)?;
         let (node, at) = NodeId::read_at(alloc, bytes, at)?;
@@ -255,7 +261,9 @@ impl Field for ReportedState {
 
     ghost lawful = { reported_state_lawful };
 
-    fn read_at(_alloc: Global, bytes: &[u8], at: usize) -> Result<(ReportedState, usize), Refusal> {
+    fn read_at(_alloc: Global, bytes: &[u8], at: usize) -> Result<(ReportedState, usize), Refusal>
+        ensures { GivesExactly result (reported_state.read bytes.now at) }
+    {
         match read_u8(bytes, at)? {
             (1, next) => Ok((ReportedState::Running, next)),
             (2, next) => Ok((ReportedState::Complete, next)),
@@ -280,7 +288,9 @@ impl Field for Report {
 
     ghost lawful = { report_lawful };
 
-    fn read_at(alloc: Global, bytes: &[u8], at: usize) -> Result<(Report, usize), Refusal> {
+    fn read_at(alloc: Global, bytes: &[u8], at: usize) -> Result<(Report, usize), Refusal>
+        ensures { GivesExactly result (report.read bytes.now at) }
+    {
         let (id, at) = AllocId::read_at(alloc, bytes, at)?;
         let (state, at) = ReportedState::read_at(alloc, bytes, at)?;
         Ok((Report { id, state }, at))
@@ -327,7 +337,9 @@ impl Field for StatusChange {
 
     ghost lawful = { status_change_lawful };
 
-    fn read_at(alloc: Global, bytes: &[u8], at: usize) -> Result<(StatusChange, usize), Refusal> {
+    fn read_at(alloc: Global, bytes: &[u8], at: usize) -> Result<(StatusChange, usize), Refusal>
+        ensures { GivesExactly result (status_change.read bytes.now at) }
+    {
         let (status, at) = EvalStatus::read_at(alloc, bytes, at)?;
         let change = match status {
             EvalStatus::Blocked => {

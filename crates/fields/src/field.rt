@@ -1,4 +1,4 @@
-ghost use Rattle.fields.specs.Format.{Format, Gives, Puts, Writes, Lawful, whole};
+ghost use Rattle.fields.specs.Format.{Format, Gives, GivesExactly, Puts, Writes, Lawful, whole};
 ghost use Rattle.fields.specs.Fields.{term, index, server, bool, byte, u16, u32, u64, actor};
 ghost use Rattle.fields.specs.FieldLaws.{term_lawful, index_lawful, server_lawful, bool_lawful, byte_lawful, u16_lawful, u32_lawful, u64_lawful, actor_lawful};
 
@@ -7,8 +7,8 @@ use crate::reading::{
     read_u64,
 };
 use crate::writing::{
-    write_actor, write_bool, write_index, write_server, write_term, write_u8, write_u16, write_u32,
-    write_u64,
+    take_back, write_actor, write_bool, write_index, write_server, write_term, write_u8, write_u16,
+    write_u32, write_u64,
 };
 use rows::{Actor, Index, NoMemory, Refusal, ServerId, Term};
 use std::alloc::Global;
@@ -51,10 +51,7 @@ pub fn write<F: Field>(value: &F, out: &mut Vec<u8>) -> Result<(), NoMemory>
 {
     let start = out.len();
     let done = value.append(out);
-    if done.is_err() {
-        out.truncate(start);
-    }
-    done
+    take_back(done, start, out)
 }
 
 impl Field for Term {
@@ -62,7 +59,9 @@ impl Field for Term {
 
     ghost lawful = { term_lawful };
 
-    fn read_at(_alloc: Global, bytes: &[u8], at: usize) -> Result<(Term, usize), Refusal> {
+    fn read_at(_alloc: Global, bytes: &[u8], at: usize) -> Result<(Term, usize), Refusal>
+        ensures { GivesExactly result (term.read bytes.now at) }
+    {
         read_term(bytes, at)
     }
 
@@ -76,7 +75,9 @@ impl Field for Index {
 
     ghost lawful = { index_lawful };
 
-    fn read_at(_alloc: Global, bytes: &[u8], at: usize) -> Result<(Index, usize), Refusal> {
+    fn read_at(_alloc: Global, bytes: &[u8], at: usize) -> Result<(Index, usize), Refusal>
+        ensures { GivesExactly result (index.read bytes.now at) }
+    {
         read_index(bytes, at)
     }
 
@@ -90,7 +91,9 @@ impl Field for ServerId {
 
     ghost lawful = { server_lawful };
 
-    fn read_at(_alloc: Global, bytes: &[u8], at: usize) -> Result<(ServerId, usize), Refusal> {
+    fn read_at(_alloc: Global, bytes: &[u8], at: usize) -> Result<(ServerId, usize), Refusal>
+        ensures { GivesExactly result (server.read bytes.now at) }
+    {
         read_server(bytes, at)
     }
 
@@ -104,7 +107,9 @@ impl Field for bool {
 
     ghost lawful = { bool_lawful };
 
-    fn read_at(_alloc: Global, bytes: &[u8], at: usize) -> Result<(bool, usize), Refusal> {
+    fn read_at(_alloc: Global, bytes: &[u8], at: usize) -> Result<(bool, usize), Refusal>
+        ensures { GivesExactly result (bool.read bytes.now at) }
+    {
         read_bool(bytes, at)
     }
 
@@ -118,7 +123,9 @@ impl Field for u8 {
 
     ghost lawful = { byte_lawful };
 
-    fn read_at(_alloc: Global, bytes: &[u8], at: usize) -> Result<(u8, usize), Refusal> {
+    fn read_at(_alloc: Global, bytes: &[u8], at: usize) -> Result<(u8, usize), Refusal>
+        ensures { GivesExactly result (byte.read bytes.now at) }
+    {
         read_u8(bytes, at)
     }
 
@@ -132,7 +139,9 @@ impl Field for Actor {
 
     ghost lawful = { actor_lawful };
 
-    fn read_at(_alloc: Global, bytes: &[u8], at: usize) -> Result<(Actor, usize), Refusal> {
+    fn read_at(_alloc: Global, bytes: &[u8], at: usize) -> Result<(Actor, usize), Refusal>
+        ensures { GivesExactly result (actor.read bytes.now at) }
+    {
         read_actor(bytes, at)
     }
 
@@ -146,7 +155,9 @@ impl Field for u16 {
 
     ghost lawful = { u16_lawful };
 
-    fn read_at(_alloc: Global, bytes: &[u8], at: usize) -> Result<(u16, usize), Refusal> {
+    fn read_at(_alloc: Global, bytes: &[u8], at: usize) -> Result<(u16, usize), Refusal>
+        ensures { GivesExactly result (u16.read bytes.now at) }
+    {
         read_u16(bytes, at)
     }
 
@@ -160,7 +171,9 @@ impl Field for u32 {
 
     ghost lawful = { u32_lawful };
 
-    fn read_at(_alloc: Global, bytes: &[u8], at: usize) -> Result<(u32, usize), Refusal> {
+    fn read_at(_alloc: Global, bytes: &[u8], at: usize) -> Result<(u32, usize), Refusal>
+        ensures { GivesExactly result (u32.read bytes.now at) }
+    {
         read_u32(bytes, at)
     }
 
@@ -174,7 +187,9 @@ impl Field for u64 {
 
     ghost lawful = { u64_lawful };
 
-    fn read_at(_alloc: Global, bytes: &[u8], at: usize) -> Result<(u64, usize), Refusal> {
+    fn read_at(_alloc: Global, bytes: &[u8], at: usize) -> Result<(u64, usize), Refusal>
+        ensures { GivesExactly result (u64.read bytes.now at) }
+    {
         read_u64(bytes, at)
     }
 

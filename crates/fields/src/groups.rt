@@ -1,7 +1,7 @@
 //! Groups of a job, and ids that rise, as bytes.
 ghost use Rattle.rows.specs.Groups.{group_is_new};
 ghost use Rattle.rows.specs.Ids.{id_rises};
-ghost use Rattle.fields.specs.Format.{Gives};
+ghost use Rattle.fields.specs.Format.{GivesExactly};
 ghost use Rattle.fields.specs.Rows.{group, group_of, group_behind, groups, alloc_id_behind};
 ghost use Rattle.fields.specs.RowLaws.{group_lawful, group_is_ruled, groups_lawful, alloc_id_is_ruled};
 
@@ -21,7 +21,7 @@ fn read_group_of(
     bytes: &[u8],
     at: usize,
 ) -> Result<(Group, usize), Refusal>
-    ensures { Gives result (group_of name bytes.now at) }
+    ensures { GivesExactly result (group_of name bytes.now at) }
 {
     let (count, at) = GroupCount::read_at(alloc, bytes, at)?;
     let (class, at) = ClassName::read_at(alloc, bytes, at)?;
@@ -43,7 +43,9 @@ impl Field for Group {
 
     ghost lawful = { group_lawful };
 
-    fn read_at(alloc: Global, bytes: &[u8], at: usize) -> Result<(Group, usize), Refusal> {
+    fn read_at(alloc: Global, bytes: &[u8], at: usize) -> Result<(Group, usize), Refusal>
+        ensures { GivesExactly result (group.read bytes.now at) }
+    {
         let (name, next) = GroupName::read_at(alloc, bytes, at)?;
         read_group_of(alloc, name, bytes, next)
     }
@@ -69,7 +71,9 @@ impl RuledField for Group {
         bytes: &[u8],
         at: usize,
         front: &[Group],
-    ) -> Result<(Group, usize), Refusal> {
+    ) -> Result<(Group, usize), Refusal>
+        ensures { GivesExactly result ((group_behind front.now).read bytes.now at) }
+    {
         let (name, next) = GroupName::read_at(alloc, bytes, at)?;
         if is_new_name(front, &name) {
             read_group_of(alloc, name, bytes, next)
@@ -111,7 +115,9 @@ impl RuledField for AllocId {
         bytes: &[u8],
         at: usize,
         front: &[AllocId],
-    ) -> Result<(AllocId, usize), Refusal> {
+    ) -> Result<(AllocId, usize), Refusal>
+        ensures { GivesExactly result ((alloc_id_behind front.now).read bytes.now at) }
+    {
         let (id, next) = AllocId::read_at(alloc, bytes, at)?;
         if id.may_follow(front) {
             Ok((id, next))

@@ -1,4 +1,5 @@
 //! Names, sizes, ids and tokens as bytes.
+ghost use Rattle.fields.specs.Format.{GivesExactly};
 ghost use Rattle.fields.specs.Ids.{name, quantity, size, node_id, ordinal, priority, group_count, from_one, eval_id, alloc_id, token, delivery};
 ghost use Rattle.fields.specs.IdLaws.{name_lawful, quantity_lawful, size_lawful, node_id_lawful, ordinal_lawful, priority_lawful, group_count_lawful, from_one_lawful, eval_id_lawful, alloc_id_lawful, token_lawful, delivery_lawful};
 
@@ -17,7 +18,9 @@ impl Field for Name {
 
     ghost lawful = { name_lawful };
 
-    fn read_at(_alloc: Global, bytes: &[u8], at: usize) -> Result<(Name, usize), Refusal> {
+    fn read_at(_alloc: Global, bytes: &[u8], at: usize) -> Result<(Name, usize), Refusal>
+        ensures { GivesExactly result (name.read bytes.now at) }
+    {
         read_name(bytes, at)
     }
 
@@ -35,7 +38,9 @@ impl Field for Quantity {
 
     ghost lawful = { quantity_lawful };
 
-    fn read_at(_alloc: Global, bytes: &[u8], at: usize) -> Result<(Quantity, usize), Refusal> {
+    fn read_at(_alloc: Global, bytes: &[u8], at: usize) -> Result<(Quantity, usize), Refusal>
+        ensures { GivesExactly result (quantity.read bytes.now at) }
+    {
         let (number, next) = read_u32(bytes, at)?;
         match Quantity::new(number) {
             Some(value) => Ok((value, next)),
@@ -54,7 +59,9 @@ impl Field for NodeId {
 
     ghost lawful = { node_id_lawful };
 
-    fn read_at(_alloc: Global, bytes: &[u8], at: usize) -> Result<(NodeId, usize), Refusal> {
+    fn read_at(_alloc: Global, bytes: &[u8], at: usize) -> Result<(NodeId, usize), Refusal>
+        ensures { GivesExactly result (node_id.read bytes.now at) }
+    {
         let (number, next) = read_u8(bytes, at)?;
         match NodeId::from_number(number) {
             Some(value) => Ok((value, next)),
@@ -73,7 +80,9 @@ impl Field for Ordinal {
 
     ghost lawful = { ordinal_lawful };
 
-    fn read_at(_alloc: Global, bytes: &[u8], at: usize) -> Result<(Ordinal, usize), Refusal> {
+    fn read_at(_alloc: Global, bytes: &[u8], at: usize) -> Result<(Ordinal, usize), Refusal>
+        ensures { GivesExactly result (ordinal.read bytes.now at) }
+    {
         let (number, next) = read_u8(bytes, at)?;
         match Ordinal::new(number) {
             Some(value) => Ok((value, next)),
@@ -92,7 +101,9 @@ impl Field for Priority {
 
     ghost lawful = { priority_lawful };
 
-    fn read_at(_alloc: Global, bytes: &[u8], at: usize) -> Result<(Priority, usize), Refusal> {
+    fn read_at(_alloc: Global, bytes: &[u8], at: usize) -> Result<(Priority, usize), Refusal>
+        ensures { GivesExactly result (priority.read bytes.now at) }
+    {
         let (number, next) = read_u8(bytes, at)?;
         match Priority::new(number) {
             Some(value) => Ok((value, next)),
@@ -111,7 +122,9 @@ impl Field for GroupCount {
 
     ghost lawful = { group_count_lawful };
 
-    fn read_at(_alloc: Global, bytes: &[u8], at: usize) -> Result<(GroupCount, usize), Refusal> {
+    fn read_at(_alloc: Global, bytes: &[u8], at: usize) -> Result<(GroupCount, usize), Refusal>
+        ensures { GivesExactly result (group_count.read bytes.now at) }
+    {
         let (number, next) = read_u8(bytes, at)?;
         match GroupCount::new(number) {
             Some(value) => Ok((value, next)),
@@ -130,7 +143,9 @@ impl Field for EntryIndex {
 
     ghost lawful = { from_one_lawful };
 
-    fn read_at(_alloc: Global, bytes: &[u8], at: usize) -> Result<(EntryIndex, usize), Refusal> {
+    fn read_at(_alloc: Global, bytes: &[u8], at: usize) -> Result<(EntryIndex, usize), Refusal>
+        ensures { GivesExactly result (from_one.read bytes.now at) }
+    {
         let (number, next) = read_u64(bytes, at)?;
         match EntryIndex::new(number) {
             Some(value) => Ok((value, next)),
@@ -149,7 +164,9 @@ impl Field for LeaderTerm {
 
     ghost lawful = { from_one_lawful };
 
-    fn read_at(_alloc: Global, bytes: &[u8], at: usize) -> Result<(LeaderTerm, usize), Refusal> {
+    fn read_at(_alloc: Global, bytes: &[u8], at: usize) -> Result<(LeaderTerm, usize), Refusal>
+        ensures { GivesExactly result (from_one.read bytes.now at) }
+    {
         let (number, next) = read_u64(bytes, at)?;
         match LeaderTerm::new(number) {
             Some(value) => Ok((value, next)),
@@ -168,7 +185,9 @@ impl Field for Serial {
 
     ghost lawful = { from_one_lawful };
 
-    fn read_at(_alloc: Global, bytes: &[u8], at: usize) -> Result<(Serial, usize), Refusal> {
+    fn read_at(_alloc: Global, bytes: &[u8], at: usize) -> Result<(Serial, usize), Refusal>
+        ensures { GivesExactly result (from_one.read bytes.now at) }
+    {
         let (number, next) = read_u64(bytes, at)?;
         match Serial::new(number) {
             Some(value) => Ok((value, next)),
@@ -187,7 +206,9 @@ impl Field for Size {
 
     ghost lawful = { size_lawful };
 
-    fn read_at(alloc: Global, bytes: &[u8], at: usize) -> Result<(Size, usize), Refusal> {
+    fn read_at(alloc: Global, bytes: &[u8], at: usize) -> Result<(Size, usize), Refusal>
+        ensures { GivesExactly result (size.read bytes.now at) }
+    {
         let (cpu, at) = Quantity::read_at(alloc, bytes, at)?;
         let (mem, at) = Quantity::read_at(alloc, bytes, at)?;
         Ok((Size { cpu, mem }, at))
@@ -205,7 +226,9 @@ impl Field for EvalId {
 
     ghost lawful = { eval_id_lawful };
 
-    fn read_at(alloc: Global, bytes: &[u8], at: usize) -> Result<(EvalId, usize), Refusal> {
+    fn read_at(alloc: Global, bytes: &[u8], at: usize) -> Result<(EvalId, usize), Refusal>
+        ensures { GivesExactly result (eval_id.read bytes.now at) }
+    {
         let (index, at) = EntryIndex::read_at(alloc, bytes, at)?;
         match read_u16(bytes, at)? {
             (slot, next) if slot < 256 => Ok((
@@ -231,7 +254,9 @@ impl Field for AllocId {
 
     ghost lawful = { alloc_id_lawful };
 
-    fn read_at(alloc: Global, bytes: &[u8], at: usize) -> Result<(AllocId, usize), Refusal> {
+    fn read_at(alloc: Global, bytes: &[u8], at: usize) -> Result<(AllocId, usize), Refusal>
+        ensures { GivesExactly result (alloc_id.read bytes.now at) }
+    {
         let (index, at) = EntryIndex::read_at(alloc, bytes, at)?;
         let (slot, at) = Ordinal::read_at(alloc, bytes, at)?;
         Ok((AllocId { index, slot }, at))
@@ -249,7 +274,9 @@ impl Field for Token {
 
     ghost lawful = { token_lawful };
 
-    fn read_at(alloc: Global, bytes: &[u8], at: usize) -> Result<(Token, usize), Refusal> {
+    fn read_at(alloc: Global, bytes: &[u8], at: usize) -> Result<(Token, usize), Refusal>
+        ensures { GivesExactly result (token.read bytes.now at) }
+    {
         let (term, at) = LeaderTerm::read_at(alloc, bytes, at)?;
         let (serial, at) = Serial::read_at(alloc, bytes, at)?;
         Ok((Token { term, serial }, at))
@@ -267,7 +294,9 @@ impl Field for Delivery {
 
     ghost lawful = { delivery_lawful };
 
-    fn read_at(alloc: Global, bytes: &[u8], at: usize) -> Result<(Delivery, usize), Refusal> {
+    fn read_at(alloc: Global, bytes: &[u8], at: usize) -> Result<(Delivery, usize), Refusal>
+        ensures { GivesExactly result (delivery.read bytes.now at) }
+    {
         let (eval, at) = EvalId::read_at(alloc, bytes, at)?;
         let (token, at) = Token::read_at(alloc, bytes, at)?;
         let (wait, at) = Index::read_at(alloc, bytes, at)?;

@@ -20,8 +20,8 @@ pub use laws::{
     rows_are_lawful, ruled_lists_are_lawful, texts_are_whole, texts_are_within_limits,
 };
 pub use list::{
-    append_counted, append_items, append_list, append_long_counted, append_long_list, read_items,
-    read_list, read_long_list, read_option,
+    read_items, read_list, read_long_list, read_option, write_counted, write_items, write_list,
+    write_long_counted, write_long_list, write_option,
 };
 pub use reading::{
     read_actor, read_bool, read_index, read_server, read_term, read_u8, read_u16, read_u32,

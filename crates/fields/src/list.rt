@@ -1,11 +1,11 @@
 //! Lists and options of any field. A list is its count, in one byte or in four, and then its items; an option is a flag, and
 //! the value where there is one.
 ghost use Rattle.std.specs.Prelude.{length, ◌≤◌};
-ghost use Rattle.fields.specs.Format.{Gives, Puts, items_at, items, list, option};
+ghost use Rattle.fields.specs.Format.{Gives, Puts, Writes, items_at, items, list, option};
 
 use crate::field::Field;
 use crate::reading::{read_bool, read_count, read_long_count};
-use crate::writing::{write_u8, write_u32};
+use crate::writing::{take_back, write_bool, write_u8, write_u32};
 use rows::{NoMemory, Refusal, Sequence};
 use std::alloc::Global;
 
@@ -72,7 +72,7 @@ pub fn read_option<F: Field>(
 }
 
 /// Puts the values to the end, one after the other. Without memory some of them may stand there.
-pub fn append_items<F: Field>(values: &[F], out: &mut Vec<u8>) -> Result<(), NoMemory>
+fn append_items<F: Field>(values: &[F], out: &mut Vec<u8>) -> Result<(), NoMemory>
     ensures { Puts (items (length values.now) F.format) values.now result out.old.items out.new.items }
 {
     for value in values {
@@ -81,22 +81,12 @@ pub fn append_items<F: Field>(values: &[F], out: &mut Vec<u8>) -> Result<(), NoM
     Ok(())
 }
 
-/// Puts the count in one byte to the end, and the values: at most `most` of them. Without memory a part of this may stand
-/// there.
-pub fn append_list<F: Field>(
-    values: &Sequence<F>,
+/// Puts the count in one byte to the end, and the values. Without memory a part of this may stand there.
+pub(crate) fn append_counted<F: Field>(
+    values: &[F],
     most: u8,
     out: &mut Vec<u8>,
 ) -> Result<(), NoMemory>
-    requires { length values.now ≤ most }
-    ensures { Puts (list 1 most F.format) values.now result out.old.items out.new.items }
-{
-    append_counted(values.as_slice(), most, out)
-}
-
-/// Puts the count of a slice in one byte to the end, and its values: at most `most` of them. Without memory a part of this
-/// may stand there.
-pub fn append_counted<F: Field>(values: &[F], most: u8, out: &mut Vec<u8>) -> Result<(), NoMemory>
     requires { length values.now ≤ most }
     ensures { Puts (list 1 most F.format) values.now result out.old.items out.new.items }
 {
@@ -104,29 +94,93 @@ pub fn append_counted<F: Field>(values: &[F], most: u8, out: &mut Vec<u8>) -> Re
     append_items(values, out)
 }
 
-/// Puts the count in four bytes to the end, and the values: at most `most` of them. Without memory a part of this may stand
-/// there.
-pub fn append_long_list<F: Field>(
-    values: &Sequence<F>,
-    most: u32,
-    out: &mut Vec<u8>,
-) -> Result<(), NoMemory>
-    requires { length values.now ≤ most }
-    ensures { Puts (list 4 most F.format) values.now result out.old.items out.new.items }
-{
-    append_long_counted(values.as_slice(), most, out)
-}
-
-/// Puts the count of a slice in four bytes to the end, and its values: at most `most` of them. Without memory a part of this
-/// may stand there.
-pub fn append_long_counted<F: Field>(
-    values: &[F],
-    most: u32,
-    out: &mut Vec<u8>,
-) -> Result<(), NoMemory>
+/// Puts the count in four bytes to the end, and the values. Without memory a part of this may stand there.
+fn append_long_counted<F: Field>(values: &[F], most: u32, out: &mut Vec<u8>) -> Result<(), NoMemory>
     requires { length values.now ≤ most }
     ensures { Puts (list 4 most F.format) values.now result out.old.items out.new.items }
 {
     write_u32(&(values.len() as u32), out)?;
     append_items(values, out)
+}
+
+/// Puts a flag to the end, and the value where there is one. Without memory a part of this may stand there.
+fn append_option<F: Field>(value: &Option<F>, out: &mut Vec<u8>) -> Result<(), NoMemory>
+    ensures { Puts (option F.format) value.now result out.old.items out.new.items }
+{
+    match value {
+        None => write_bool(&false, out),
+        Some(value) => {
+            write_bool(&true, out)?;
+            value.append(out)
+        }
+    }
+}
+
+/// Puts the values to the end, one after the other. Without memory the buffer stays as it was.
+pub fn write_items<F: Field>(values: &[F], out: &mut Vec<u8>) -> Result<(), NoMemory>
+    ensures { Writes (items (length values.now) F.format) values.now result out.old.items out.new.items }
+{
+    let start = out.len();
+    let done = append_items(values, out);
+    take_back(done, start, out)
+}
+
+/// Puts the count of a slice in one byte to the end, and its values: at most `most` of them. Without memory the buffer stays
+/// as it was.
+pub fn write_counted<F: Field>(values: &[F], most: u8, out: &mut Vec<u8>) -> Result<(), NoMemory>
+    requires { length values.now ≤ most }
+    ensures { Writes (list 1 most F.format) values.now result out.old.items out.new.items }
+{
+    let start = out.len();
+    let done = append_counted(values, most, out);
+    take_back(done, start, out)
+}
+
+/// Puts the count in one byte to the end, and the values: at most `most` of them. Without memory the buffer stays as it was.
+pub fn write_list<F: Field>(
+    values: &Sequence<F>,
+    most: u8,
+    out: &mut Vec<u8>,
+) -> Result<(), NoMemory>
+    requires { length values.now ≤ most }
+    ensures { Writes (list 1 most F.format) values.now result out.old.items out.new.items }
+{
+    write_counted(values.as_slice(), most, out)
+}
+
+/// Puts the count of a slice in four bytes to the end, and its values: at most `most` of them. Without memory the buffer stays
+/// as it was.
+pub fn write_long_counted<F: Field>(
+    values: &[F],
+    most: u32,
+    out: &mut Vec<u8>,
+) -> Result<(), NoMemory>
+    requires { length values.now ≤ most }
+    ensures { Writes (list 4 most F.format) values.now result out.old.items out.new.items }
+{
+    let start = out.len();
+    let done = append_long_counted(values, most, out);
+    take_back(done, start, out)
+}
+
+/// Puts the count in four bytes to the end, and the values: at most `most` of them. Without memory the buffer stays as it
+/// was.
+pub fn write_long_list<F: Field>(
+    values: &Sequence<F>,
+    most: u32,
+    out: &mut Vec<u8>,
+) -> Result<(), NoMemory>
+    requires { length values.now ≤ most }
+    ensures { Writes (list 4 most F.format) values.now result out.old.items out.new.items }
+{
+    write_long_counted(values.as_slice(), most, out)
+}
+
+/// Puts a flag to the end, 0 for none or 1, and the value where there is one. Without memory the buffer stays as it was.
+pub fn write_option<F: Field>(value: &Option<F>, out: &mut Vec<u8>) -> Result<(), NoMemory>
+    ensures { Writes (option F.format) value.now result out.old.items out.new.items }
+{
+    let start = out.len();
+    let done = append_option(value, out);
+    take_back(done, start, out)
 }

@@ -3,7 +3,7 @@ ghost use Rattle.std.specs.Prelude.{◌≡◌};
 ghost use Rattle.std.specs.Ordering.{nat_cmp};
 ghost use Rattle.rows.specs.Rising.{is_behind};
 ghost use Rattle.rows.specs.Keys.{name_cmp, eval_cmp, alloc_cmp, job_name, node_number, eval_id as eval_key, alloc_id as alloc_key};
-ghost use Rattle.fields.specs.Format.{Gives, Puts};
+ghost use Rattle.fields.specs.Format.{Gives, GivesExactly, Puts};
 ghost use Rattle.fields.specs.Rows.{job, job_of, job_behind, node, node_of, node_behind, node_end, evaluation, evaluation_of, evaluation_behind, allocation, allocation_of, allocation_behind, allocation_place, allocation_end};
 ghost use Rattle.fields.specs.RowLaws.{job_lawful, job_is_ruled, node_lawful, node_is_ruled, evaluation_lawful, evaluation_is_ruled, allocation_lawful, allocation_is_ruled};
 
@@ -101,7 +101,7 @@ fn read_node_of(
     bytes: &[u8],
     at: usize,
 ) -> Result<(Node, usize), Refusal>
-    ensures { Gives result (node_of number bytes.now at) }
+    ensures { GivesExactly result (node_of number bytes.now at) }
 {
     let (class, at) = ClassName::read_at(alloc, bytes, at)?;
     let (size, at) = Size::read_at(alloc, bytes, at)?;
@@ -139,7 +139,9 @@ impl Field for Node {
 
     ghost lawful = { node_lawful };
 
-    fn read_at(alloc: Global, bytes: &[u8], at: usize) -> Result<(Node, usize), Refusal> {
+    fn read_at(alloc: Global, bytes: &[u8], at: usize) -> Result<(Node, usize), Refusal>
+        ensures { GivesExactly result (node.read bytes.now at) }
+    {
         let (number, next) = NodeId::read_at(alloc, bytes, at)?;
         read_node_of(alloc, number, bytes, next)
     }
@@ -175,7 +177,9 @@ impl RuledField for Node {
         bytes: &[u8],
         at: usize,
         front: &[Node],
-    ) -> Result<(Node, usize), Refusal> {
+    ) -> Result<(Node, usize), Refusal>
+        ensures { GivesExactly result ((node_behind front.now).read bytes.now at) }
+    {
         let (number, next) = NodeId::read_at(alloc, bytes, at)?;
         if is_node_above(front, &number) {
             read_node_of(alloc, number, bytes, next)
@@ -192,7 +196,7 @@ fn read_evaluation_of(
     bytes: &[u8],
     at: usize,
 ) -> Result<(Evaluation, usize), Refusal>
-    ensures { Gives result (evaluation_of id bytes.now at) }
+    ensures { GivesExactly result (evaluation_of id bytes.now at) }
 {
     let (job, at) = JobName::read_at(alloc, bytes, at)?;
     let (priority, at) = Priority::read_at(alloc, bytes, at)?;
@@ -216,7 +220,9 @@ impl Field for Evaluation {
 
     ghost lawful = { evaluation_lawful };
 
-    fn read_at(alloc: Global, bytes: &[u8], at: usize) -> Result<(Evaluation, usize), Refusal> {
+    fn read_at(alloc: Global, bytes: &[u8], at: usize) -> Result<(Evaluation, usize), Refusal>
+        ensures { GivesExactly result (evaluation.read bytes.now at) }
+    {
         let (id, next) = EvalId::read_at(alloc, bytes, at)?;
         read_evaluation_of(alloc, id, bytes, next)
     }
@@ -253,7 +259,9 @@ impl RuledField for Evaluation {
         bytes: &[u8],
         at: usize,
         front: &[Evaluation],
-    ) -> Result<(Evaluation, usize), Refusal> {
+    ) -> Result<(Evaluation, usize), Refusal>
+        ensures { GivesExactly result ((evaluation_behind front.now).read bytes.now at) }
+    {
         let (id, next) = EvalId::read_at(alloc, bytes, at)?;
         if is_evaluation_above(front, &id) {
             read_evaluation_of(alloc, id, bytes, next)
@@ -270,7 +278,7 @@ fn read_allocation_of(
     bytes: &[u8],
     at: usize,
 ) -> Result<(Allocation, usize), Refusal>
-    ensures { Gives result (allocation_of id bytes.now at) }
+    ensures { GivesExactly result (allocation_of id bytes.now at) }
 {
     let (job, at) = JobName::read_at(alloc, bytes, at)?;
     let (group, at) = GroupName::read_at(alloc, bytes, at)?;
@@ -325,7 +333,9 @@ impl Field for Allocation {
 
     ghost lawful = { allocation_lawful };
 
-    fn read_at(alloc: Global, bytes: &[u8], at: usize) -> Result<(Allocation, usize), Refusal> {
+    fn read_at(alloc: Global, bytes: &[u8], at: usize) -> Result<(Allocation, usize), Refusal>
+        ensures { GivesExactly result (allocation.read bytes.now at) }
+    {
         let (id, next) = AllocId::read_at(alloc, bytes, at)?;
         read_allocation_of(alloc, id, bytes, next)
     }
@@ -361,7 +371,9 @@ impl RuledField for Allocation {
         bytes: &[u8],
         at: usize,
         front: &[Allocation],
-    ) -> Result<(Allocation, usize), Refusal> {
+    ) -> Result<(Allocation, usize), Refusal>
+        ensures { GivesExactly result ((allocation_behind front.now).read bytes.now at) }
+    {
         let (id, next) = AllocId::read_at(alloc, bytes, at)?;
         if is_allocation_above(front, &id) {
             read_allocation_of(alloc, id, bytes, next)

@@ -1,10 +1,27 @@
 //! Writing a field to the end of a buffer. A writer puts the one text of the value there; without memory it leaves the
 //! buffer as it was.
+ghost use Rattle.std.specs.Prelude.{◌≡◌, take, OnOk, OnErr};
 ghost use Rattle.fields.specs.Format.{Writes};
 ghost use Rattle.fields.specs.Fields.{term, index, server, byte, u16, u32, u64, bool, actor};
 
 use byteorder::{BigEndian, ByteOrder};
 use rows::{Actor, Index, NoMemory, ServerId, Term};
+
+/// Cuts the buffer back to a length, where what was put behind it came to an error.
+pub(crate) fn take_back(
+    done: Result<(), NoMemory>,
+    start: usize,
+    out: &mut Vec<u8>,
+) -> Result<(), NoMemory>
+    ensures same { result ≡ done }
+    ensures ok { OnOk done (out.new.items ≡ out.old.items) }
+    ensures err { OnErr done (out.new.items ≡ take start out.old.items) }
+{
+    if done.is_err() {
+        out.truncate(start);
+    }
+    done
+}
 
 /// A number in one byte.
 #[tactic(auto, unfolding(crate::specs::Format::spelled))]

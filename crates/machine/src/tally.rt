@@ -1,4 +1,5 @@
 ghost use Rattle.std.specs.Prelude.{◌≡◌, ◌≤◌};
+ghost use Rattle.fields.specs.Format.{GivesExactly};
 ghost use Rattle.machine.specs.Tally.{tally, tally_command, tally_meaning};
 ghost use Rattle.machine.specs.Laws.TallyLaws.{tally_is_lawful, tally_command_lawful, tally_lawful};
 
@@ -54,7 +55,9 @@ impl Field for Tally {
 
     ghost lawful = { tally_is_lawful };
 
-    fn read_at(alloc: Global, bytes: &[u8], at: usize) -> Result<(Tally, usize), Refusal> {
+    fn read_at(alloc: Global, bytes: &[u8], at: usize) -> Result<(Tally, usize), Refusal>
+        ensures { GivesExactly result (tally.read bytes.now at) }
+    {
         let (count, at) = read_index(bytes, at)?;
         let (sum, at) = Amount::read_at(alloc, bytes, at)?;
         Ok((Tally { count, sum }, at))
@@ -72,7 +75,9 @@ impl Field for TallyCommand {
 
     ghost lawful = { tally_command_lawful };
 
-    fn read_at(alloc: Global, bytes: &[u8], at: usize) -> Result<(TallyCommand, usize), Refusal> {
+    fn read_at(alloc: Global, bytes: &[u8], at: usize) -> Result<(TallyCommand, usize), Refusal>
+        ensures { GivesExactly result (tally_command.read bytes.now at) }
+    {
         let (tag, next) = read_u8(bytes, at)?;
         match tag {
             0 => Ok((TallyCommand::Noop, next)),

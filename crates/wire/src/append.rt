@@ -1,10 +1,10 @@
 ghost use Rattle.std.specs.Prelude.{◌≡◌, ◌<◌, ◌≤◌, ◌+◌, ◌^◌, ◌⊎◌, length, IfSome, IfNone};
-ghost use Rattle.fields.specs.Format.{Gives, Puts};
+ghost use Rattle.fields.specs.Format.{Gives, GivesExactly, Puts};
 ghost use Rattle.wire.specs.Grammar.{append_head, append_reply, append as append_format, most_entries};
 ghost use Rattle.wire.specs.Laws.GrammarLaws.{append_head_lawful, append_reply_lawful};
 
 use fields::{
-    Field, append_items, read_bool, read_index, read_list, read_term, write_bool, write_index,
+    Field, read_bool, read_index, read_list, read_term, write_bool, write_index, write_items,
     write_term, write_u8,
 };
 use machine::{Coded, Entry, Machine};
@@ -125,7 +125,9 @@ impl Field for AppendHead {
 
     ghost lawful = { append_head_lawful };
 
-    fn read_at(_alloc: Global, bytes: &[u8], at: usize) -> Result<(AppendHead, usize), Refusal> {
+    fn read_at(_alloc: Global, bytes: &[u8], at: usize) -> Result<(AppendHead, usize), Refusal>
+        ensures { GivesExactly result (append_head.read bytes.now at) }
+    {
         let (term, at) = read_term(bytes, at)?;
         let (prev_index, at) = read_index(bytes, at)?;
         let (prev_term, at) = read_term(bytes, at)?;
@@ -154,7 +156,9 @@ impl Field for AppendReply {
 
     ghost lawful = { append_reply_lawful };
 
-    fn read_at(_alloc: Global, bytes: &[u8], at: usize) -> Result<(AppendReply, usize), Refusal> {
+    fn read_at(_alloc: Global, bytes: &[u8], at: usize) -> Result<(AppendReply, usize), Refusal>
+        ensures { GivesExactly result (append_reply.read bytes.now at) }
+    {
         let (term, at) = read_term(bytes, at)?;
         let (asked, at) = read_term(bytes, at)?;
         let (ok, at) = read_bool(bytes, at)?;
@@ -205,5 +209,5 @@ pub fn append_append<M: Machine>(
 {
     head.append(out)?;
     write_u8(&(entries.len() as u8), out)?;
-    append_items(entries, out)
+    write_items(entries, out)
 }

@@ -1,4 +1,5 @@
 ghost use Rattle.std.specs.Prelude.{◌≡◌};
+ghost use Rattle.fields.specs.Format.{GivesExactly};
 ghost use Rattle.wire.specs.Messages.{may_come_from, may_go, is_server, is_another_server};
 ghost use Rattle.wire.specs.Grammar.{kind};
 ghost use Rattle.wire.specs.Laws.GrammarLaws.{kind_lawful};
@@ -60,7 +61,9 @@ impl Field for Kind {
 
     ghost lawful = { kind_lawful };
 
-    fn read_at(_alloc: Global, bytes: &[u8], at: usize) -> Result<(Kind, usize), Refusal> {
+    fn read_at(_alloc: Global, bytes: &[u8], at: usize) -> Result<(Kind, usize), Refusal>
+        ensures { GivesExactly result (kind.read bytes.now at) }
+    {
         match read_u8(bytes, at)? {
             (1, next) => Ok((Kind::VoteRequest, next)),
             (2, next) => Ok((Kind::VoteReply, next)),

@@ -1,3 +1,4 @@
+ghost use Rattle.fields.specs.Format.{GivesExactly};
 ghost use Rattle.wire.specs.Grammar.{vote_request, vote_reply};
 ghost use Rattle.wire.specs.Laws.GrammarLaws.{vote_request_lawful, vote_reply_lawful};
 
@@ -32,7 +33,9 @@ impl Field for VoteRequest {
 
     ghost lawful = { vote_request_lawful };
 
-    fn read_at(_alloc: Global, bytes: &[u8], at: usize) -> Result<(VoteRequest, usize), Refusal> {
+    fn read_at(_alloc: Global, bytes: &[u8], at: usize) -> Result<(VoteRequest, usize), Refusal>
+        ensures { GivesExactly result (vote_request.read bytes.now at) }
+    {
         let (term, at) = read_term(bytes, at)?;
         let (last_index, at) = read_index(bytes, at)?;
         let (last_term, at) = read_term(bytes, at)?;
@@ -58,7 +61,9 @@ impl Field for VoteReply {
 
     ghost lawful = { vote_reply_lawful };
 
-    fn read_at(_alloc: Global, bytes: &[u8], at: usize) -> Result<(VoteReply, usize), Refusal> {
+    fn read_at(_alloc: Global, bytes: &[u8], at: usize) -> Result<(VoteReply, usize), Refusal>
+        ensures { GivesExactly result (vote_reply.read bytes.now at) }
+    {
         let (term, at) = read_term(bytes, at)?;
         let (asked, at) = read_term(bytes, at)?;
         let (granted, at) = read_bool(bytes, at)?;
