@@ -7,10 +7,10 @@ use Rattle.std.specs.Ordering.{nat_cmp}
 use Rattle.std.specs.declared.cmp.Ordering.{Ordering}
 use Rattle.std.proofs.lemmas.Bool.{lt-ltb, ltb-true}
 use Rattle.rows.specs.Fits.{QuantityFits, NodeIdFits, OrdinalFits, PriorityFits, GroupCountFits, SizeFits, EvalIdFits, AllocIdFits, TokenFits, GroupFits, GroupsFit, JobSpecFits, JobFits, NodeSpecFits, NodeFits, EvaluationFits, AllocationFits, StatusChangeFits, AcceptedPlaceFits, AcceptedPlanFits, ReportFits, ReportsFit, RisingIdsFit, CommandFits}
-use Rattle.rows.specs.KeyLaws.{eval_cmp_total, alloc_cmp_total}
+use Rattle.rows.proofs.KeyLaws.{eval_cmp_total, alloc_cmp_total}
 use Rattle.rows.specs.Keys.{name_cmp, eval_cmp, alloc_cmp, job_name, node_number, eval_id as eval_key, alloc_id as alloc_key}
 use Rattle.rows.specs.Rising.{is_behind}
-use Rattle.rows.specs.RisingLaws.{keeps_rising}
+use Rattle.rows.proofs.RisingLaws.{keeps_rising}
 use Rattle.rows.specs.State.{State}
 use Rattle.rows.specs.Tables.{TableFits, StateFits}
 use Rattle.rows.specs.declared.allocation.AllocId.{AllocId}

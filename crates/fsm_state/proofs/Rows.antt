@@ -6,18 +6,12 @@ use Rattle.rows.specs.Keys.{alloc_cmp, alloc_id}
 use Rattle.rows.specs.Rising.{is_rising}
 use Rattle.fsm_tables.specs.Claims.{is_active}
 use Rattle.fsm_state.specs.Effect.{lost}
-use Rattle.fsm_state.specs.Steps.{put_changed, jobs_on, job_on}
+use Rattle.fsm_state.specs.Steps.{put_changed}
 use Rattle.rows.specs.declared.allocation.ClientState.TheVariants as clients
 use Rattle.std.specs.Prelude.{nat_eq, ◌&&◌}
 use Rattle.std.proofs.lemmas.List.{append_assoc}
 use Rattle.fsm_state.specs.StateLaws.{alloc_cmp_total}
 use Rattle.fsm_state.specs.StepLaws.{one_more}
-
-pub on_place : (n : ℕ) (place : ℕ) (rows : List Allocation) → job_on n (slice_get rows place) (jobs_on n (drop (suc place) rows)) ≡ jobs_on n (drop place rows)
-on_place n zero [] = refl
-on_place n (suc place) [] = refl
-on_place n zero (a ∷ rows) = refl
-on_place n (suc place) (a ∷ rows) = on_place n place rows
 
 -- a list at a place within it
 split_at : {A : Type 0} (f : A → A) (xs : List A) (i : ℕ) → i < length xs → (y : A) × ((xs ≡ take i xs ++ y ∷ drop (suc i) xs) × (drop i xs ≡ y ∷ drop (suc i) xs) × (map f (take (suc i) xs) ≡ map f (take i xs) ++ f y ∷ []) × (slice_get (map f (take i xs) ++ drop i xs) i ≡ Some y))

@@ -1,6 +1,6 @@
 -- What each command does to a state. It does so to every state, safe or not, admitted or not: nothing here tests capacity or
 -- names, and what names no row changes nothing.
-use Rattle.std.specs.Prelude.{ℕ, ◌+◌, Bool, true, false, cond, not, ◌&&◌, List, [], ◌∷◌, map, filter, Option, Some, None, nat_eq, bytes_eq}
+use Rattle.std.specs.Prelude.{ℕ, ◌+◌, Bool, true, false, cond, not, ◌&&◌, List, [], ◌∷◌, map, filter, Option, Some, None, nat_eq, bytes_eq, if◌then◌else◌}
 use Rattle.std.specs.List.{list_any}
 use Rattle.std.specs.Ordering.{nat_cmp}
 use Rattle.rows.specs.declared.job.Job.{Job}
@@ -29,7 +29,7 @@ use Rattle.rows.specs.Changes.{status_of, snapshot_of}
 use Rattle.rows.specs.Keys.{name_cmp, eval_cmp, alloc_cmp, job_name, node_number, eval_id, alloc_id}
 use Rattle.fsm_tables.specs.Rows.{put_within}
 use Rattle.fsm_tables.specs.Claims.{is_wanted, is_active, is_live}
-use Rattle.fsm_state.specs.Words.{State, same_eval, same_alloc, node_of, is_open}
+use Rattle.fsm_state.specs.Words.{State, same_eval, same_alloc, node_of, no_node, is_open}
 
 -- one more command was applied
 abbrev pub counted : State → State
@@ -95,9 +95,13 @@ lost n a = cond (nat_eq a.node n && is_active a.client) (record a { client = cli
 abbrev pub lives_on : ℕ → Allocation → Bool
 lives_on n a = nat_eq a.node n && is_live a
 
--- a node is down: what was not final on it is lost, and the jobs of what was live are touched
+-- a node that has a row is down: what was not final on it is lost, and the jobs of what was live are touched
+abbrev pub downed : ℕ → State → State
+downed n s = touched (owns (lives_on n) s.allocs) (record s { nodes = map (down n) s.nodes; allocs = map (lost n) s.allocs })
+
+-- A node's loss. Without a row of the node nothing changes, also where allocations name it.
 abbrev pub without_node : ℕ → State → State
-without_node n s = touched (owns (lives_on n) s.allocs) (record s { nodes = map (down n) s.nodes; allocs = map (lost n) s.allocs })
+without_node n s = if no_node n s then s else downed n s
 
 -- ---- allocations that are to move
 

@@ -27,9 +27,9 @@ use Rattle.rows.specs.Fits.{IndexFits, FromOneFits, JobFits, NodeSpecFits, NodeF
 use Rattle.fsm_tables.specs.Rows.{row_of, has_row, put, put_within}
 use Rattle.fsm_tables.specs.RowLaws.{all_put}
 use Rattle.fsm_tables.specs.Claims.{is_active, is_wanted}
-use Rattle.fsm_state.specs.Words.{State, no_rows, same_eval, same_alloc, node_of, is_open}
-use Rattle.fsm_state.specs.Effect.{applied, counted, new_eval, with_evals, touched, is_named, owns, with_job, job_row, stop_job, without_job, node_row, down, draining, drained, lost, lives_on, moves, marked, set_status, stop, ends, frees, with_room, altered, alloc_row, with_places, state_of, told, told_all}
-use Rattle.fsm_state.specs.StateLaws.{AreTables, applied_has_count, applied_are_tables, empty_are_tables}
+use Rattle.fsm_state.specs.Words.{State, no_rows, same_eval, same_alloc, node_of, no_node, is_open}
+use Rattle.fsm_state.specs.Effect.{applied, counted, new_eval, with_evals, touched, is_named, owns, with_job, job_row, stop_job, without_job, node_row, down, draining, drained, lost, lives_on, moves, marked, set_status, stop, ends, frees, with_room, altered, alloc_row, with_places, state_of, told, told_all, downed}
+use Rattle.fsm_state.specs.StateLaws.{AreTables, either, applied_has_count, applied_are_tables, empty_are_tables}
 
 -- every row is within its ranges
 pub record AllFit (s : State) : Type 0 where
@@ -68,11 +68,6 @@ found_fits R key P k r (y ∷ ys) e h =
       | true ↦ λ e. let same : y ≡ r = cc in subst P same h.0
       | false ↦ λ e. found_fits R key P k r ys e h.1
     ] e
-
--- the row stays, or is changed
-either : {X : Type 0} (P : X → Type 0) (b : Bool) (x y : X) → P x → P y → P (cond b x y)
-either P true x y p q = p
-either P false x y p q = q
 
 -- ---- what the commands make
 
@@ -121,8 +116,19 @@ few_places p f = let few = f.5.0 in omega (arith, few)
 
 -- ---- the commands
 
+downed_fit : (n : ℕ) (s : State) → FromOneFits s.count → length s.jobs ≤ 256 → AllFit s → AllFit (downed n s)
+downed_fit n s fx few h = record {
+  jobs = h.jobs;
+  nodes = all_mapped NodeFits (down n) (λ r g. either NodeFits (nat_eq r.number n) (record r { status = statuses.Down }) r g g) s.nodes h.nodes;
+  evals = touch_fits (owns (lives_on n) s.allocs) (record s { nodes = map (down n) s.nodes; allocs = map (lost n) s.allocs }) fx few h.jobs h.evals;
+  allocs = all_mapped AllocationFits (lost n) (λ a g. either AllocationFits (nat_eq a.node n && is_active a.client) (record a { client = clients.Lost }) a g g) s.allocs h.allocs;
+}
+
+counted_fit : (s : State) → AllFit s → AllFit (counted s)
+counted_fit s h = record { jobs = h.jobs; nodes = h.nodes; evals = h.evals; allocs = h.allocs }
+
 pub applied_fit : (s : State) (c : Command) → AreTables s → AllFit s → CommandFits c → s.count + 1 < 2 ^ 40 → AllFit (applied s c)
-applied_fit s commands.Noop t h f below = record { jobs = h.jobs; nodes = h.nodes; evals = h.evals; allocs = h.allocs }
+applied_fit s commands.Noop t h f below = counted_fit s h
 applied_fit s (commands.JobPut j) t h f below =
     let after = with_job j (counted s) in
     let jobs : AllByRecursion JobFits after.jobs = all_within name_cmp job_name JobFits 256 (job_row (s.count + 1) j) s.jobs (f.0, f.1, below, f.2) h.jobs in
@@ -135,12 +141,9 @@ applied_fit s (commands.JobStop name) t h f below =
     record { jobs = jobs; nodes = h.nodes; evals = touch_fits (is_named name) after (omega arith, below) few jobs h.evals; allocs = h.allocs }
 applied_fit s (commands.NodePut n) t h f below =
     record { jobs = h.jobs; nodes = all_within nat_cmp node_number NodeFits 64 (node_row (s.count + 1) n (node_of n.number s)) s.nodes (node_row_fits (s.count + 1) n s.nodes below f h.nodes (node_of n.number s) refl) h.nodes; evals = h.evals; allocs = h.allocs }
-applied_fit s (commands.NodeDown n) t h f below = record {
-  jobs = h.jobs;
-  nodes = all_mapped NodeFits (down n) (λ r g. either NodeFits (nat_eq r.number n) (record r { status = statuses.Down }) r g g) s.nodes h.nodes;
-  evals = touch_fits (owns (lives_on n) s.allocs) (record (counted s) { nodes = map (down n) s.nodes; allocs = map (lost n) s.allocs }) (omega arith, below) t.jobs.few h.jobs h.evals;
-  allocs = all_mapped AllocationFits (lost n) (λ a g. either AllocationFits (nat_eq a.node n && is_active a.client) (record a { client = clients.Lost }) a g g) s.allocs h.allocs;
-}
+applied_fit s (commands.NodeDown n) t h f below =
+    let before = counted_fit s h in
+    either AllFit (no_node n s) (counted s) (downed n (counted s)) before (downed_fit n (counted s) (omega arith, below) t.jobs.few before)
 applied_fit s (commands.Drain n force) t h f below =
     record { jobs = h.jobs; nodes = all_mapped NodeFits (draining n force) (λ r g. either NodeFits (nat_eq r.number n) (record r { eligible = false; drain = cond force drains.Force drains.Slow }) r g g) s.nodes h.nodes; evals = h.evals; allocs = h.allocs }
 applied_fit s (commands.DrainDone n) t h f below =

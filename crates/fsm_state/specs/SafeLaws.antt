@@ -24,11 +24,12 @@ use Rattle.rows.specs.Keys.{node_number}
 use Rattle.fsm_tables.specs.Rows.{row_of, has_row, put, by_order}
 use Rattle.fsm_tables.specs.RowLaws.{both, first, second, row_of-put}
 use Rattle.fsm_tables.specs.Claims.{Claim, claim_of, claims, on_node, used, is_live, is_wanted, is_active}
-use Rattle.fsm_state.specs.Words.{State, no_rows, node_of, same_alloc}
+use Rattle.fsm_state.specs.Words.{State, no_rows, node_of, no_node, same_alloc}
 use Rattle.fsm_state.specs.Safe.{fits, is_within, is_placed, same_name, are_distinct, are_safe, is_safe}
 use Rattle.fsm_state.specs.SafeFacts.{Safe, safe_by_test, test_by_safe, T-le, le-T}
-use Rattle.fsm_state.specs.Effect.{applied, counted, node_row, with_node, down, draining, drained, lost, moves, marked, stop, state_of, told, told_all, frees, with_room}
+use Rattle.fsm_state.specs.Effect.{applied, counted, node_row, with_node, down, draining, drained, lost, moves, marked, stop, state_of, told, told_all, frees, with_room, downed}
 use Rattle.fsm_state.specs.Admission.{first_of, admission, tests}
+use Rattle.fsm_state.specs.StateLaws.{either}
 
 -- ---- some of the elements of a list, in their order
 
@@ -298,7 +299,9 @@ admitted_is_safe s commands.Noop h e = h
 admitted_is_safe s (commands.JobPut j) h e = h
 admitted_is_safe s (commands.JobStop name) h e = h
 admitted_is_safe s (commands.NodePut n) h e = with_node_safe n (counted s) h
-admitted_is_safe s (commands.NodeDown n) h e = kept_safe (down n) (down_keeps n) s.nodes (claims (map (lost n) s.allocs)) (released_safe (lost n) (lost_releases n) s.nodes s.allocs h)
+admitted_is_safe s (commands.NodeDown n) h e =
+    let lost_safe = released_safe (lost n) (lost_releases n) s.nodes s.allocs h in
+    either (λ (t : State). T (is_safe t)) (no_node n s) (counted s) (downed n (counted s)) h (kept_safe (down n) (down_keeps n) s.nodes (claims (map (lost n) s.allocs)) lost_safe)
 admitted_is_safe s (commands.Drain n force) h e = kept_safe (draining n force) (draining_keeps n force) s.nodes (claims s.allocs) h
 admitted_is_safe s (commands.DrainDone n) h e = kept_safe (drained n) (drained_keeps n) s.nodes (claims s.allocs) h
 admitted_is_safe s (commands.Migrate ids) h e = released_safe (marked ids) (marked_releases ids) s.nodes s.allocs h

@@ -1,6 +1,6 @@
 -- The other laws of the commands: each adds one to the count, keeps each table's order and limit, and is refused for the machine's
 -- own reasons.
-use Rattle.std.proofs.Common.{◌≡◌, ℕ, ◌+◌, ◌≤◌, ◌∙◌, Bool, true, false, cond, nat_eq, T, List, [], ◌∷◌, length, map, Some, refl, sym, ap, subst, suc, arith}
+use Rattle.std.proofs.Common.{◌≡◌, ℕ, ◌+◌, ◌≤◌, ◌∙◌, Bool, true, false, cond, nat_eq, T, List, [], ◌∷◌, length, map, Some, refl, sym, ap, subst, suc, arith, if◌then◌else◌}
 use Rattle.std.specs.Prelude.{filter, ◌&&◌}
 use Rattle.std.specs.List.{list_any}
 use Rattle.std.specs.Cmp.{IsTotalOrder, nat_cmp_total}
@@ -23,21 +23,26 @@ use Rattle.rows.specs.declared.refusal.Refusal.{Refusal}
 use Rattle.rows.specs.Changes.{status_of, snapshot_of}
 use Rattle.rows.specs.Keys.{name_cmp, eval_cmp, alloc_cmp, job_name, node_number, eval_id, alloc_id}
 use Rattle.rows.specs.Rising.{is_rising}
-pub use Rattle.rows.specs.KeyLaws.{alloc_cmp_total, eval_cmp_total}
+pub use Rattle.rows.proofs.KeyLaws.{alloc_cmp_total, eval_cmp_total}
 use Rattle.machine.specs.Meaning.{IsMachineRefusal}
 use Rattle.fsm_tables.specs.Rows.{put_within}
 use Rattle.fsm_tables.specs.RowLaws.{rising_put_within, few_put_within, rising_mapped}
 use Rattle.fsm_tables.specs.Claims.{is_active, is_wanted}
-use Rattle.fsm_state.specs.Words.{State, no_rows, same_eval, same_alloc, node_of, is_open}
-use Rattle.fsm_state.specs.Effect.{applied, counted, new_eval, with_evals, touched, is_named, owns, with_job, job_row, stop_job, without_job, node_row, down, draining, drained, lost, lives_on, moves, marked, set_status, stop, ends, frees, with_room, altered, alloc_row, with_places, state_of, told, told_all}
+use Rattle.fsm_state.specs.Words.{State, no_rows, same_eval, same_alloc, node_of, no_node, is_open}
+use Rattle.fsm_state.specs.Effect.{applied, counted, new_eval, with_evals, touched, is_named, owns, with_job, job_row, stop_job, without_job, node_row, down, draining, drained, lost, lives_on, moves, marked, set_status, stop, ends, frees, with_room, altered, alloc_row, with_places, state_of, told, told_all, downed}
 use Rattle.fsm_state.specs.Admission.{first_of, tests, admission}
+
+-- what holds of both holds of the one that is taken
+pub either : {X : Type 0} (P : X → Type 0) (b : Bool) (x y : X) → P x → P y → P (if b then x else y)
+either P true x y p q = p
+either P false x y p q = q
 
 pub applied_has_count : (s : State) (c : Command) → (applied s c).count ≡ s.count + 1
 applied_has_count s commands.Noop = refl
 applied_has_count s (commands.JobPut j) = refl
 applied_has_count s (commands.JobStop name) = refl
 applied_has_count s (commands.NodePut n) = refl
-applied_has_count s (commands.NodeDown n) = refl
+applied_has_count s (commands.NodeDown n) = either (λ (t : State). t.count ≡ s.count + 1) (no_node n s) (counted s) (downed n (counted s)) refl refl
 applied_has_count s (commands.Drain n force) = refl
 applied_has_count s (commands.DrainDone n) = refl
 applied_has_count s (commands.Migrate ids) = refl
@@ -102,17 +107,25 @@ told_all_keeps n (r ∷ rs) a = told_all_keeps n rs (told n r a) ∙ told_keeps 
 rooms_in_order : (freed : ℕ → Bool) (x : ℕ) (s : State) → AreTables s → InOrder nat_cmp node_number 64 (map (with_room freed x) s.nodes)
 rooms_in_order freed x s h = map_in_order nat_cmp node_number 64 (with_room freed x) (kept_where node_number (λ r. freed r.number) (λ r. record r { room = x }) (λ r. refl)) s.nodes h.nodes
 
+downed_are_tables : (n : ℕ) (s : State) → AreTables s → AreTables (downed n s)
+downed_are_tables n s h = record {
+  jobs = h.jobs;
+  nodes = map_in_order nat_cmp node_number 64 (down n) (kept_where node_number (λ r. nat_eq r.number n) (λ r. record r { status = statuses.Down }) (λ r. refl)) s.nodes h.nodes;
+  evals = touch_in_order (owns (lives_on n) s.allocs) (record s { nodes = map (down n) s.nodes; allocs = map (lost n) s.allocs }) h.evals;
+  allocs = map_in_order alloc_cmp alloc_id 65536 (lost n) (kept_where alloc_id (λ a. nat_eq a.node n && is_active a.client) (λ a. record a { client = clients.Lost }) (λ a. refl)) s.allocs h.allocs;
+}
+
+counted_are_tables : (s : State) → AreTables s → AreTables (counted s)
+counted_are_tables s h = record { jobs = h.jobs; nodes = h.nodes; evals = h.evals; allocs = h.allocs }
+
 pub applied_are_tables : (s : State) (c : Command) → AreTables s → AreTables (applied s c)
-applied_are_tables s commands.Noop h = record { jobs = h.jobs; nodes = h.nodes; evals = h.evals; allocs = h.allocs }
+applied_are_tables s commands.Noop h = counted_are_tables s h
 applied_are_tables s (commands.JobPut j) h = record { jobs = put_in_order name_cmp job_name nat_list_cmp_total 256 (job_row (s.count + 1) j) s.jobs h.jobs; nodes = h.nodes; evals = touch_in_order (is_named j.name) (with_job j (counted s)) h.evals; allocs = h.allocs }
 applied_are_tables s (commands.JobStop name) h = record { jobs = map_in_order name_cmp job_name 256 (stop_job (s.count + 1) name) (kept_where job_name (is_named name) (λ j. record j { stopped = true; version = s.count + 1 }) (λ j. refl)) s.jobs h.jobs; nodes = h.nodes; evals = touch_in_order (is_named name) (without_job name (counted s)) h.evals; allocs = h.allocs }
 applied_are_tables s (commands.NodePut n) h = record { jobs = h.jobs; nodes = put_in_order nat_cmp node_number nat_cmp_total 64 (node_row (s.count + 1) n (node_of n.number s)) s.nodes h.nodes; evals = h.evals; allocs = h.allocs }
-applied_are_tables s (commands.NodeDown n) h = record {
-  jobs = h.jobs;
-  nodes = map_in_order nat_cmp node_number 64 (down n) (kept_where node_number (λ r. nat_eq r.number n) (λ r. record r { status = statuses.Down }) (λ r. refl)) s.nodes h.nodes;
-  evals = touch_in_order (owns (lives_on n) s.allocs) (record (counted s) { nodes = map (down n) s.nodes; allocs = map (lost n) s.allocs }) h.evals;
-  allocs = map_in_order alloc_cmp alloc_id 65536 (lost n) (kept_where alloc_id (λ a. nat_eq a.node n && is_active a.client) (λ a. record a { client = clients.Lost }) (λ a. refl)) s.allocs h.allocs;
-}
+applied_are_tables s (commands.NodeDown n) h =
+    let before = counted_are_tables s h in
+    either AreTables (no_node n s) (counted s) (downed n (counted s)) before (downed_are_tables n (counted s) before)
 applied_are_tables s (commands.Drain n force) h = record { jobs = h.jobs; nodes = map_in_order nat_cmp node_number 64 (draining n force) (kept_where node_number (λ r. nat_eq r.number n) (λ r. record r { eligible = false; drain = cond force drains.Force drains.Slow }) (λ r. refl)) s.nodes h.nodes; evals = h.evals; allocs = h.allocs }
 applied_are_tables s (commands.DrainDone n) h = record { jobs = h.jobs; nodes = map_in_order nat_cmp node_number 64 (drained n) (kept_where node_number (λ r. nat_eq r.number n) (λ r. record r { drain = drains.Off }) (λ r. refl)) s.nodes h.nodes; evals = h.evals; allocs = h.allocs }
 applied_are_tables s (commands.Migrate ids) h = record {

@@ -105,8 +105,3 @@ revised_to a b s = record s { nodes = cond (is_live a && not (is_live b)) (room_
 abbrev pub eval_for : ℕ → ℕ → List (List ℕ) → Option Job → Option Evaluation
 eval_for x slot names None = None
 eval_for x slot names (Some j) = cond (list_any (λ name. bytes_eq j.name name) names) (Some (new_eval x slot j)) None
-
--- the job of a row that is live on the node, before others
-abbrev pub job_on : ℕ → Option Allocation → List (List ℕ) → List (List ℕ)
-job_on n None names = names
-job_on n (Some a) names = cond (lives_on n a) (a.job ∷ names) names

@@ -126,6 +126,19 @@ NodeLost = one_down (size 1200 1000) ≡ record {
   allocs = alloc_row (alloc_id 5 0) web 0 1 (size 600 300) desires.Run clients.Lost (eval_id 4 0) ∷ alloc_row (alloc_id 5 1) web 1 2 (size 600 300) desires.Run clients.Running (eval_id 4 0) ∷ [];
 }
 
+-- A node without a row is lost, of which an allocation is all the same: only the count rises.
+abbrev pub placed_on_none : State
+placed_on_none = after_all no_rows (runs web 1 (size 600 300) ∷ plans (eval_id 1 0) web 1 [] (place 0 7 (size 600 300) ∷ []) ∷ [])
+
+abbrev pub StaysWithoutRow : Type 0
+StaysWithoutRow = applied placed_on_none (commands.NodeDown 7) ≡ record {
+  count = 3;
+  jobs = record { name = web; priority = 50; stopped = false; version = 1; groups = mains 1 (size 600 300) } ∷ [];
+  nodes = [];
+  evals = eval_row (eval_id 1 0) web eval_statuses.Pending ∷ [];
+  allocs = alloc_row (alloc_id 2 0) web 0 7 (size 600 300) desires.Run clients.Pending (eval_id 1 0) ∷ [];
+}
+
 -- A late report that it runs is admitted, and leaves it lost: only the count rises.
 abbrev pub LateReport : Type 0
 LateReport = applied (one_down (size 1200 1000)) (tells_running 1 (alloc_id 5 0)) ≡ record (one_down (size 1200 1000)) { count = 10 }

@@ -363,7 +363,7 @@ impl Cluster {
     {
         match NodeId::from_number(number) {
             Some(node) => self.has_room(node, ended, wanted),
-            None => true,
+            None => unreachable!(),
         }
     }
 

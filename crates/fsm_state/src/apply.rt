@@ -1,6 +1,6 @@
 //! The effect of each command.
 ghost use Rattle.std.specs.Prelude.{◌≡◌, ◌+◌, ◌<◌, ◌^◌, OnOk, map};
-ghost use Rattle.fsm_state.specs.Effect.{applied as after_command, touched, is_named, with_job, without_job, without_node, draining, drained, migrated, with_status, planned, reported};
+ghost use Rattle.fsm_state.specs.Effect.{applied as after_command, touched, is_named, with_job, without_job, without_node, downed, draining, drained, migrated, with_status, planned, reported};
 
 use crate::cluster::Cluster;
 use rows::{
@@ -30,16 +30,27 @@ impl Cluster {
         self.touch(entry, &[*name])
     }
 
-    /// A node is down: what waits or runs on it is lost, and the jobs of what was live are touched.
-    fn node_down(&mut self, entry: EntryIndex, number: NodeId) -> Result<(), NoMemory>
+    /// A node that has a row is down: what waits or runs on it is lost, and the jobs of what was live are touched.
+    fn take_down(&mut self, entry: EntryIndex, number: NodeId) -> Result<(), NoMemory>
         requires { entry ≡ self.old.count }
-        ensures { OnOk result (self.new ≡ without_node number self.old) }
+        ensures { OnOk result (self.new ≡ downed number self.old) }
     {
         self.ranges();
         let names = self.jobs_on(number)?;
         self.set_down(number)?;
         self.lose(number)?;
         self.touch(entry, names.as_slice())
+    }
+
+    /// A node's loss. Without a row of the node nothing changes.
+    fn node_down(&mut self, entry: EntryIndex, number: NodeId) -> Result<(), NoMemory>
+        requires { entry ≡ self.old.count }
+        ensures { OnOk result (self.new ≡ without_node number self.old) }
+    {
+        if self.node(number).is_none() {
+            return Ok(());
+        }
+        self.take_down(entry, number)
     }
 
     /// Begins to empty a node.

@@ -100,8 +100,10 @@ impl Cluster {
 
     /// All jobs, by name.
     pub fn jobs(&self, alloc: Global) -> Result<Sequence<Job>, NoMemory>
-        ensures { IfOk result (λ rows. rows ≡ self.now.jobs) }
+        ensures rows { IfOk result (λ rows. rows ≡ self.now.jobs) }
+        ensures rising { IfOk result (λ rows. Holds (is_rising name_cmp job_name rows)) }
     {
+        self.ranges();
         let mut rows = Sequence::new(alloc);
         for job in self.job_table().rows() {
             rows.push(copied(alloc, job)?)?;
@@ -111,8 +113,10 @@ impl Cluster {
 
     /// All nodes, by number.
     pub fn nodes(&self, alloc: Global) -> Result<Sequence<Node>, NoMemory>
-        ensures { IfOk result (λ rows. rows ≡ self.now.nodes) }
+        ensures rows { IfOk result (λ rows. rows ≡ self.now.nodes) }
+        ensures rising { IfOk result (λ rows. Holds (is_rising nat_cmp node_number rows)) }
     {
+        self.ranges();
         let mut rows = Vec::new(alloc);
         rows.extend_from_slice(self.node_table().rows())?;
         Ok(Sequence::from_vec(rows))
@@ -120,8 +124,10 @@ impl Cluster {
 
     /// All evaluations, by id.
     pub fn evals(&self, alloc: Global) -> Result<Sequence<Evaluation>, NoMemory>
-        ensures { IfOk result (λ rows. rows ≡ self.now.evals) }
+        ensures rows { IfOk result (λ rows. rows ≡ self.now.evals) }
+        ensures rising { IfOk result (λ rows. Holds (is_rising eval_cmp eval_id rows)) }
     {
+        self.ranges();
         let mut rows = Vec::new(alloc);
         rows.extend_from_slice(self.eval_table().rows())?;
         Ok(Sequence::from_vec(rows))
@@ -129,8 +135,10 @@ impl Cluster {
 
     /// All allocations, by id.
     pub fn allocs(&self, alloc: Global) -> Result<Sequence<Allocation>, NoMemory>
-        ensures { IfOk result (λ rows. rows ≡ self.now.allocs) }
+        ensures rows { IfOk result (λ rows. rows ≡ self.now.allocs) }
+        ensures rising { IfOk result (λ rows. Holds (is_rising alloc_cmp alloc_id rows)) }
     {
+        self.ranges();
         let mut rows = Vec::new(alloc);
         rows.extend_from_slice(self.alloc_table().rows())?;
         Ok(Sequence::from_vec(rows))

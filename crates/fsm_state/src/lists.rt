@@ -1,16 +1,16 @@
 //! Changes of several allocations, one after the other.
-ghost use Rattle.std.specs.Prelude.{◌≡◌, ◌++◌, ◌∷◌, [], List, ℕ, OnOk, IfOk, option_map, map};
+ghost use Rattle.std.specs.Prelude.{◌≡◌, ◌<◌, length, ◌++◌, ◌∷◌, [], List, ℕ, OnOk, IfOk, option_map, map};
 ghost use Rattle.std.specs.List.{slice_get};
 ghost use Rattle.rows.specs.Keys.{alloc_cmp, alloc_id};
 ghost use Rattle.fsm_state.specs.Effect.{lost, alloc_row, placed};
-ghost use Rattle.fsm_state.specs.Steps.{put_changed, job_on, stopped_all, told_steps, ended_job, ended_jobs, tell_one, marked_all, live_job, live_jobs, jobs_on};
+ghost use Rattle.fsm_state.specs.Steps.{put_changed, stopped_all, told_steps, ended_job, ended_jobs, tell_one, marked_all, live_job, live_jobs, jobs_on};
 
 use crate::allocs::{lost_with, told};
 use crate::cluster::Cluster;
 use fsm_tables::is_live;
 use rows::{
     AcceptedPlace, AcceptedPlan, AllocId, Allocation, ClientState, Desired, EntryIndex, JobName,
-    NoMemory, NodeId, Ordinal, Report, Sequence,
+    NoMemory, NodeId, Ordinal, Ranged, Report, Sequence,
 };
 
 /// The allocation that a place of a plan makes.
@@ -57,20 +57,6 @@ fn add_ended(
 {
     match row {
         Some(row) if is_live(row) && !is_live(&told(row, node, report)) => names.push(row.job),
-        _ => Ok(()),
-    }
-}
-
-/// Adds the job of a row that is live on the node.
-fn add_on(
-    names: &mut Sequence<JobName>,
-    row: Option<&Allocation>,
-    node: NodeId,
-) -> Result<(), NoMemory>
-    ensures { OnOk result ((rest : List (List ℕ)) → names.new ++ rest ≡ names.old ++ job_on node (option_map (λ r. r.now) row.entry) rest) }
-{
-    match row {
-        Some(row) if row.node == node && is_live(row) => names.push(row.job),
         _ => Ok(()),
     }
 }
@@ -129,23 +115,24 @@ impl Cluster {
         ensures { IfOk result (λ names. names ≡ jobs_on node self.now.allocs) }
     {
         let mut names = Sequence::new(self.memory());
-        for place in 0..self.alloc_table().len() {
-            add_on(&mut names, self.alloc_table().at(place), node)?;
+        for row in self.alloc_table().rows() {
+            if row.node == node && is_live(row) {
+                names.push(row.job)?;
+            }
         }
         Ok(names)
     }
 
     /// The allocation at a place is lost, if it waits or runs on the node.
     fn lose_at(&mut self, place: usize, node: NodeId) -> Result<(), NoMemory>
+        requires { place < length self.old.allocs }
         ensures { OnOk result (self.new ≡ record self.old { allocs = put_changed alloc_cmp alloc_id 65536 (lost node) (slice_get self.old.allocs place) self.old.allocs }) }
     {
-        match self.alloc_table().at(place) {
-            Some(row) => {
-                let row = lost_with(row, node);
-                self.put_alloc(row)
-            }
-            None => Ok(()),
-        }
+        let Some(row) = self.alloc_table().at(place) else {
+            unreachable!()
+        };
+        let row = lost_with(row, node);
+        self.put_alloc(row)
     }
 
     /// What waits or runs on a node is lost.
@@ -168,12 +155,14 @@ impl Cluster {
         requires { entry ≡ self.old.count }
         ensures { OnOk result (self.new ≡ placed plan.now self.old) }
     {
+        plan.ranges();
         let places = plan.places.as_slice();
         for slot in 0..places.len() {
-            if let Some(ordinal) = Ordinal::new(slot as u8) {
-                let row = new_alloc(entry, ordinal, plan, &places[slot]);
-                self.put_alloc(row)?;
-            }
+            let Some(ordinal) = Ordinal::new(slot as u8) else {
+                unreachable!()
+            };
+            let row = new_alloc(entry, ordinal, plan, &places[slot]);
+            self.put_alloc(row)?;
         }
         Ok(())
     }

@@ -1,5 +1,5 @@
 //! Evaluations that are made to touch jobs.
-ghost use Rattle.std.specs.Prelude.{◌≡◌, ◌<◌, OnOk, option_map, bytes_eq};
+ghost use Rattle.std.specs.Prelude.{◌≡◌, ◌<◌, OnOk, Some, bytes_eq};
 ghost use Rattle.std.specs.List.{list_any, slice_get};
 ghost use Rattle.fsm_state.specs.Effect.{new_eval};
 ghost use Rattle.fsm_state.specs.Steps.{touched_names, eval_for};
@@ -28,17 +28,13 @@ fn evaluation(entry: EntryIndex, slot: u8, job: &Job) -> Evaluation
 }
 
 /// The evaluation that touches a job, where it is one of the names.
-fn evaluation_for(
-    entry: EntryIndex,
-    slot: u8,
-    names: &[JobName],
-    job: Option<&Job>,
-) -> Option<Evaluation>
-    ensures { result ≡ eval_for entry slot names.now (option_map (λ j. j.now) job.entry) }
+fn evaluation_for(entry: EntryIndex, slot: u8, names: &[JobName], job: &Job) -> Option<Evaluation>
+    ensures { result ≡ eval_for entry slot names.now (Some job.now) }
 {
-    match job {
-        Some(job) if is_among(&job.name, names) => Some(evaluation(entry, slot, job)),
-        _ => None,
+    if is_among(&job.name, names) {
+        Some(evaluation(entry, slot, job))
+    } else {
+        None
     }
 }
 
@@ -51,7 +47,9 @@ impl Cluster {
         self.ranges();
         let mut slot: usize = 0;
         for place in 0..self.job_table().len() {
-            let job = self.job_table().at(place);
+            let Some(job) = self.job_table().at(place) else {
+                unreachable!()
+            };
             match evaluation_for(entry, slot as u8, names, job) {
                 Some(eval) => {
                     self.put_eval(eval)?;

@@ -1,5 +1,5 @@
 //! Worked commands: what the definitions answer for states and commands written out, each a law by computation.
-ghost use Rattle.fsm_state.specs.Worked.{TwoRun, NodeLost, LateReport, LateReportPasses, PlacedAgain, AllInUse, LastPasses, OneTooMany};
+ghost use Rattle.fsm_state.specs.Worked.{TwoRun, NodeLost, StaysWithoutRow, LateReport, LateReportPasses, PlacedAgain, AllInUse, LastPasses, OneTooMany};
 ghost use Rattle.fsm_state.specs.Worked.{NameMoves, RoomWhereStopped, MovePasses, MoveTooLarge, NameTwice, OtherJob};
 ghost use Rattle.fsm_state.specs.Worked.{RisingNames, DownAlready, ComesBack, Marked, MarkTouches, NotDrained, NotEmpty, Drained, Blocked, FinalStays, BlockedComesBack};
 
@@ -8,6 +8,7 @@ ghost use Rattle.fsm_state.specs.Worked.{RisingNames, DownAlready, ComesBack, Ma
 pub fn worked_loss()
     ensures two_run { TwoRun }
     ensures node_lost { NodeLost }
+    ensures stays_without_row { StaysWithoutRow }
     ensures late_report { LateReport }
     ensures late_report_passes { LateReportPasses }
     ensures placed_again { PlacedAgain }

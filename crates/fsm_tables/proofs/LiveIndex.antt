@@ -19,7 +19,7 @@ use Rattle.rows.specs.declared.allocation.AllocId.{AllocId}
 use Rattle.rows.specs.declared.allocation.Allocation.{Allocation}
 use Rattle.rows.specs.Fits.{AllocationFits}
 use Rattle.rows.specs.Keys.{name_cmp, alloc_cmp, alloc_id}
-use Rattle.rows.specs.KeyLaws.{alloc_cmp_total}
+use Rattle.rows.proofs.KeyLaws.{alloc_cmp_total}
 use Rattle.rows.specs.Rising.{is_rising}
 use Rattle.fsm_tables.specs.declared.live_names.LiveEntry.{LiveEntry}
 use Rattle.fsm_tables.specs.declared.name.AllocName.{AllocName}

@@ -10,7 +10,7 @@ use Rattle.rows.specs.Rising.{is_rising}
 use Rattle.fsm_tables.specs.Rows.{row_of, put, weight_of}
 use Rattle.fsm_tables.specs.RowLaws.{sum_by-put}
 use Rattle.rows.specs.Keys.{alloc_cmp, alloc_id}
-use Rattle.rows.specs.KeyLaws.{alloc_cmp_total}
+use Rattle.rows.proofs.KeyLaws.{alloc_cmp_total}
 use Rattle.fsm_tables.specs.Claims.{Claim, claim_of, claims, on_node, is_live}
 use Rattle.fsm_tables.specs.Sums.{AreSummed, weight, IsShare}
 use Rattle.fsm_tables.specs.declared.usage.Share.{Share}

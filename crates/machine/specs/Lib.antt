@@ -2,6 +2,5 @@ pub mod Meaning
 pub mod After
 pub mod TallyState
 pub mod Tally
-pub mod TallyLaws
 pub mod Entries
-pub mod EntryLaws
+pub mod Laws

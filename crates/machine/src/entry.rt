@@ -1,13 +1,13 @@
 ghost use Rattle.machine.specs.Entries.{entry};
-ghost use Rattle.machine.specs.EntryLaws.{entry_lawful};
+ghost use Rattle.machine.specs.Laws.EntryLaws.{entry_lawful};
 
 use fields::{Field, read_term, write_term};
 use rows::{NoMemory, Refusal, Term};
 use std::alloc::Global;
 
-/// One entry of a replicated log: a command for the machine, with the term of the leader that appended it. (Raft, extended
-/// version 2014, Figure 2.) A log whose entries are read or written as bytes holds `Entry<Coded<M>>`, which contracts see
-/// as entries of the command itself.
+/// One entry of a replicated log: a command for the machine, with the term of the leader that
+/// appended it. (Raft, extended version 2014, Figure 2.) A log whose entries are read or written as
+/// bytes holds `Entry<Coded<M>>`, which contracts see as entries of the command itself.
 #[derive(Drop)]
 pub struct Entry<C> {
     /// The term in which a leader appended it.

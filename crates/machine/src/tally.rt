@@ -1,7 +1,7 @@
 ghost use Rattle.std.specs.Prelude.{◌≡◌, ◌≤◌};
 ghost use Rattle.fields.specs.Format.{GivesExactly};
 ghost use Rattle.machine.specs.Tally.{tally, tally_command, tally_meaning};
-ghost use Rattle.machine.specs.TallyLaws.{tally_is_lawful, tally_command_lawful, tally_lawful};
+ghost use Rattle.machine.specs.Laws.TallyLaws.{tally_is_lawful, tally_command_lawful, tally_lawful};
 
 use crate::amount::Amount;
 use crate::machine::Machine;
@@ -10,7 +10,8 @@ use rows::{Index, NoMemory, Refusal};
 use std::alloc::Global;
 use std::marker::Model;
 
-/// A small machine: how many commands were applied, below 2^40, and a sum of at most 1,000. Contracts see the two numbers.
+/// A small machine: how many commands were applied, below 2^40, and a sum of at most 1,000.
+/// Contracts see the two numbers.
 #[derive(Drop)]
 pub struct Tally {
     count: Index,
@@ -33,8 +34,8 @@ impl Model for Tally {
 pub enum TallyCommand {
     /// Leaves the sum.
     Noop,
-    /// Adds the amount to the sum. A state whose sum would pass 1,000 refuses it with `OutOfRange`; applied all the same, it
-    /// leaves the sum.
+    /// Adds the amount to the sum. A state whose sum would pass 1,000 refuses it with `OutOfRange`;
+    /// applied all the same, it leaves the sum.
     Add(Amount),
 }
 

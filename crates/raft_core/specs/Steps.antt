@@ -103,7 +103,7 @@ refusal m n me s Restart = refusal_by (step m n me s model.Restart)
 -- which inputs may want memory: no other takes any
 abbrev pub MayLack : Mode → Input → Type 0
 MayLack mode (FrameInput bytes) = is_up mode ≡ true
-MayLack mode Timeout = is_up mode ≡ true
+MayLack mode Timeout = (is_up mode ≡ true) × (is_leader mode ≡ false)
 MayLack mode Beat = is_leader mode ≡ true
 MayLack mode Crash = ⊥
 MayLack mode Restart = is_up mode ≡ false

@@ -1,5 +1,5 @@
 -- A step that is broken off, before what it left is put away.
-use Rattle.std.specs.Prelude.{◌≡◌, ℕ, true, List, Some}
+use Rattle.std.specs.Prelude.{◌≡◌, ℕ, true, false, List, Some}
 use Rattle.rows.specs.declared.refusal.Refusal.{Refusal}
 use Rattle.rows.specs.declared.refusal.Refusal.TheVariants as refusals
 use Rattle.machine.specs.Meaning.{Meaning}
@@ -15,7 +15,7 @@ use Rattle.raft_core.specs.Steps.{refusal, frame_refusal}
 -- crashes and restarts take no memory
 abbrev pub LosesIn : {C : Type 0} → Seen C → Input → Seen C → List Frame → List Frame → Type 0
 LosesIn old (FrameInput bytes) new before after = (is_up old.server.mode ≡ true) × Lost old new before after
-LosesIn old Timeout new before after = (is_up old.server.mode ≡ true) × Lost old new before after
+LosesIn old Timeout new before after = (is_up old.server.mode ≡ true) × (is_leader old.server.mode ≡ false) × Lost old new before after
 LosesIn old Beat new before after = (is_leader old.server.mode ≡ true) × Lost old new before after
 LosesIn old Crash new before after = ⊥
 LosesIn old Restart new before after = ⊥

@@ -230,10 +230,11 @@ impl<M: Machine> Raft<M> {
         ensures { self.new ≡ with_server self.old (crashed self.old.server) }
     {
         self.machine = None;
+        self.ahead = None;
     }
 
     /// It starts again: a follower that knows no leader, with nothing applied.
-    fn revive(&mut self, alloc: Global)
+    fn revive(&mut self)
         requires { is_up self.old.server.mode ≡ false }
         ensures { self.new ≡ with_server self.old (restarted self.old.server) }
     {
@@ -241,7 +242,7 @@ impl<M: Machine> Raft<M> {
         self.commit = Index::ZERO;
         self.known = None;
         self.matched.fill(0);
-        self.machine = Some(M::empty(alloc));
+        self.machine = Some(M::empty(self.alloc));
     }
 
     /// A greater term makes the server a follower of that term, without a vote or a known leader.
@@ -254,12 +255,13 @@ impl<M: Machine> Raft<M> {
             self.vote = None;
             self.known = None;
             self.role = Role::Follower;
+            self.ahead = None;
         }
     }
 
     /// One input is taken. After want of memory what is stored is as it was, and frames may stand behind those that were
     /// there.
-    fn take(&mut self, alloc: Global, input: Input, outbox: &mut Outbox) -> Result<(), Refusal>
+    fn take(&mut self, input: Input, outbox: &mut Outbox) -> Result<(), Refusal>
         ensures same { (self.new.me ≡ self.old.me) × (self.new.size ≡ self.old.size) }
         ensures taken { OnOk result (Takes M.meaning self.old self.old.server input.entry self.new outbox.old outbox.new) }
         ensures admitted { OnOk result (refusal M.meaning self.old.size self.old.me self.old.server input.entry ≡ None) }
@@ -271,7 +273,7 @@ impl<M: Machine> Raft<M> {
                 if is_up {
                     return Err(Refusal::OutOfRange);
                 }
-                self.revive(alloc);
+                self.revive();
                 Ok(())
             }
             Input::Crash => {
@@ -298,7 +300,7 @@ impl<M: Machine> Raft<M> {
                 if !is_up {
                     return Err(Refusal::Down);
                 }
-                self.frame(alloc, bytes, outbox)
+                self.frame(bytes, outbox)
             }
         }
     }
@@ -310,14 +312,14 @@ impl<M: Machine> Raft<M> {
     /// `Exhausted` where the term or the last index is 2^40 - 1; a Restart of one that is up with `OutOfRange`. A refusal
     /// changes nothing and sends nothing. With `NoMemory` the server is down, with its stored part as it was and nothing
     /// sent.
-    pub fn step(&mut self, alloc: Global, input: Input, outbox: &mut Outbox) -> Result<(), Refusal>
+    pub fn step(&mut self, input: Input, outbox: &mut Outbox) -> Result<(), Refusal>
         ensures same { (self.new.me ≡ self.old.me) × (self.new.size ≡ self.old.size) }
         ensures taken { OnOk result ((s : Server M.Command) → Represents M.meaning self.old s → Takes M.meaning self.old s input.entry self.new outbox.old outbox.new) }
         ensures admitted { OnOk result ((s : Server M.Command) → Represents M.meaning self.old s → refusal M.meaning self.old.size self.old.me s input.entry ≡ None) }
         ensures refused { IfErr result (λ cause. Declines M.meaning self.old input.entry cause self.new outbox.old outbox.new) }
     {
         let before = outbox.len();
-        match self.take(alloc, input, outbox) {
+        match self.take(input, outbox) {
             Ok(()) => Ok(()),
             Err(cause) => match cause {
                 Refusal::NoMemory => {

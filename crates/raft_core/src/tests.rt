@@ -32,7 +32,7 @@ fn hand(
     replies: &mut Outbox,
 ) -> Result<(), Refusal> {
     match sent.frames().get(place) {
-        Some(frame) => raft.step(alloc, Input::Frame(frame.bytes()), replies),
+        Some(frame) => raft.step(Input::Frame(frame.bytes()), replies),
         None => Err(Refusal::OutOfRange),
     }
 }
@@ -72,7 +72,7 @@ fn deliver(
     };
     let mut bytes = Vec::new(alloc);
     write_message(&message, &mut bytes)?;
-    raft.step(alloc, Input::Frame(&bytes), sent)
+    raft.step(Input::Frame(&bytes), sent)
 }
 
 /// Hands a granted vote to server 1.
@@ -137,13 +137,13 @@ fn extend(
 fn leader(alloc: Global) -> Result<Raft<Tally>, Refusal> {
     let mut raft = started(alloc, 1, 5, Stable::new(alloc))?;
     let mut sent = Outbox::new(alloc);
-    raft.step(alloc, Input::Timeout, &mut sent)?;
+    raft.step(Input::Timeout, &mut sent)?;
     grant(alloc, 2, 1, &mut raft)?;
     grant(alloc, 3, 1, &mut raft)?;
-    raft.step(alloc, Input::Crash, &mut sent)?;
-    raft.step(alloc, Input::Restart, &mut sent)?;
-    raft.step(alloc, Input::Timeout, &mut sent)?;
-    raft.step(alloc, Input::Timeout, &mut sent)?;
+    raft.step(Input::Crash, &mut sent)?;
+    raft.step(Input::Restart, &mut sent)?;
+    raft.step(Input::Timeout, &mut sent)?;
+    raft.step(Input::Timeout, &mut sent)?;
     grant(alloc, 2, 3, &mut raft)?;
     grant(alloc, 3, 3, &mut raft)?;
     Ok(raft)
@@ -152,7 +152,7 @@ fn leader(alloc: Global) -> Result<Raft<Tally>, Refusal> {
 /// The index before the entries that a leader sends to server 2 at its next beat.
 fn begins_after(alloc: Global, raft: &mut Raft<Tally>) -> Result<u64, Refusal> {
     let mut sent = Outbox::new(alloc);
-    raft.step(alloc, Input::Beat, &mut sent)?;
+    raft.step(Input::Beat, &mut sent)?;
     let Some(frame) = sent.frames().first() else {
         return Err(Refusal::OutOfRange);
     };
@@ -210,7 +210,7 @@ fn greatest_term(rt: HostRuntime) -> Result<(), Fail> {
     };
     let mut raft = started(alloc, 1, 3, stable)?;
     let mut sent = Outbox::new(alloc);
-    let refused = raft.step(alloc, Input::Timeout, &mut sent);
+    let refused = raft.step(Input::Timeout, &mut sent);
     assert!(rt; matches!(refused, Err(Refusal::Exhausted)));
     assert!(rt; sent.is_empty());
     assert_eq!(rt; raft.term().get(), 1_099_511_627_775);
@@ -224,7 +224,7 @@ fn three_elect(rt: HostRuntime) -> Result<(), Fail> {
     let mut first = started(alloc, 1, 3, Stable::new(alloc))?;
     let mut third = started(alloc, 3, 3, Stable::new(alloc))?;
     let mut sent = Outbox::new(alloc);
-    first.step(alloc, Input::Timeout, &mut sent)?;
+    first.step(Input::Timeout, &mut sent)?;
     assert_eq!(rt; sent.len(), 2);
     let mut replies = Outbox::new(alloc);
     let refused = hand(alloc, &sent, 0, &mut third, &mut replies);
@@ -246,7 +246,7 @@ fn five_elect(rt: HostRuntime) -> Result<(), Fail> {
     let mut second = started(alloc, 2, 5, Stable::new(alloc))?;
     let mut third = started(alloc, 3, 5, Stable::new(alloc))?;
     let mut sent = Outbox::new(alloc);
-    first.step(alloc, Input::Timeout, &mut sent)?;
+    first.step(Input::Timeout, &mut sent)?;
     assert_eq!(rt; sent.len(), 4);
     let mut replies = Outbox::new(alloc);
     hand(alloc, &sent, 0, &mut second, &mut replies)?;
@@ -266,18 +266,18 @@ fn leads_twice(rt: HostRuntime) -> Result<(), Fail> {
     let alloc = rt.alloc();
     let mut raft = started(alloc, 1, 5, Stable::new(alloc))?;
     let mut sent = Outbox::new(alloc);
-    raft.step(alloc, Input::Timeout, &mut sent)?;
+    raft.step(Input::Timeout, &mut sent)?;
     grant(alloc, 2, 1, &mut raft)?;
     grant(alloc, 3, 1, &mut raft)?;
-    raft.step(alloc, Input::Crash, &mut sent)?;
-    let down = raft.step(alloc, Input::Timeout, &mut sent);
+    raft.step(Input::Crash, &mut sent)?;
+    let down = raft.step(Input::Timeout, &mut sent);
     assert!(rt; matches!(down, Err(Refusal::Down)));
     assert!(rt; raft.role().is_none() && raft.applied().is_none() && raft.machine().is_none());
-    raft.step(alloc, Input::Restart, &mut sent)?;
-    let up = raft.step(alloc, Input::Restart, &mut sent);
+    raft.step(Input::Restart, &mut sent)?;
+    let up = raft.step(Input::Restart, &mut sent);
     assert!(rt; matches!(up, Err(Refusal::OutOfRange)));
-    raft.step(alloc, Input::Timeout, &mut sent)?;
-    raft.step(alloc, Input::Timeout, &mut sent)?;
+    raft.step(Input::Timeout, &mut sent)?;
+    raft.step(Input::Timeout, &mut sent)?;
     grant(alloc, 2, 3, &mut raft)?;
     grant(alloc, 3, 3, &mut raft)?;
     assert!(rt; matches!(raft.role(), Some(Role::Leader)));
@@ -420,7 +420,7 @@ fn follower_refuses_proposals(rt: HostRuntime) -> Result<(), Fail> {
     let known = Refusal::NotLeader(Leader::new(second));
     assert!(rt; raft.propose(add(1)?) == Err(known));
     assert!(rt; raft.known_leader() == second);
-    raft.step(alloc, Input::Crash, &mut sent)?;
+    raft.step(Input::Crash, &mut sent)?;
     assert!(rt; raft.propose(add(1)?) == Err(Refusal::Down));
     assert!(rt; raft.known_leader().is_none());
     Ok(())

@@ -1,4 +1,5 @@
--- The one list of a run. (Raft, Figure 3: log matching, leader completeness and state machine safety.)
+-- The one list of a run. (Raft, Figure 3: log matching, leader completeness and state machine
+-- safety.)
 use Rattle.std.specs.Prelude.{◌≡◌, ℕ, ◌≤◌, ◌⊎◌, true, Some, List, [], length, take, slice_get}
 use Rattle.machine.specs.declared.entry.Entry.{Entry}
 use Rattle.raft_model.specs.Servers.{Server, is_up}
@@ -17,7 +18,7 @@ pub record At {C : Type 0} (past : List (World C)) (w : World C) (k i : ℕ) (s 
   pub here : slice_get world.servers i ≡ Some s
 
 -- a server that was up had this commit index at some moment
-pub record Reached {C : Type 0} (past : List (World C)) (w : World C) (index : ℕ) : Type 0 where
+pub record WasCommitted {C : Type 0} (past : List (World C)) (w : World C) (index : ℕ) : Type 0 where
   pub moment : ℕ
   pub who : ℕ
   pub server : Server C
@@ -25,12 +26,12 @@ pub record Reached {C : Type 0} (past : List (World C)) (w : World C) (index : �
   pub up : is_up server.mode ≡ true
   pub commit : server.commit ≡ index
 
--- At each moment the first `commit` entries of each server's log are the first of `list`, which is no longer than what some
--- server had committed while it was up. No two servers ever lead one term, and whoever leads a term has what a server in a
--- term up to it had applied by then.
+-- At each moment the first `commit` entries of each server's log are the first of `list`, which is
+-- no longer than what some server had committed while it was up. No two servers ever lead one term,
+-- and whoever leads a term has what a server in a term up to it had applied by then.
 pub record Chain {C : Type 0} (past : List (World C)) (w : World C) (list : List (Entry C)) : Type 0 where
   pub agrees : (k i : ℕ) (s : Server C) → At past w k i s → Agree s.commit s.log list
-  pub longest : (list ≡ []) ⊎ Reached past w (length list)
+  pub longest : (list ≡ []) ⊎ WasCommitted past w (length list)
   pub one_leader : OneLeader past w
   pub complete : (k l i j t : ℕ) (s : Server C) (x : World C) → k ≤ l → At past w k i s → s.term ≤ t → moment past w l ≡ Some x → (leads : Leads x j t) →
       Agree s.commit list leads.server.log

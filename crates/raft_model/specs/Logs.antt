@@ -1,4 +1,5 @@
--- Logs: lists of entries. Indexes begin at 1; an empty log ends at index 0 with term 0. (Raft, extended version 2014, Figure 2.)
+-- Logs: lists of entries. Indexes begin at 1; an empty log ends at index 0 with term 0. (Raft,
+-- extended version 2014, Figure 2.)
 use Rattle.std.specs.Prelude.{ℕ, zero, suc, ◌-◌, ◌^◌, List, [], ◌∷◌, ◌++◌, length, take, drop, Bool, ◌&&◌, ◌||◌, nat_le, ◌==◌, cond}
 use Rattle.machine.specs.Meaning.{Meaning}
 use Rattle.machine.specs.After.{after}
@@ -23,15 +24,16 @@ last_term log = term_at log (length log)
 abbrev pub has : {C : Type 0} → List (Entry C) → ℕ → ℕ → Bool
 has log p term = nat_le p (length log) && (term_at log p == term)
 
--- The log of a receiver whose commit is c, after entries that follow index p: those at or below commit, and those whose
--- index and term are there, are passed over; at the first that differs or is missing the log is cut, and the rest appended.
--- (Raft, Figure 2, AppendEntries, receiver 3 and 4; that commit bounds the comparison is this project's own.)
+-- The log of a receiver whose commit is c, after entries that follow index p: those at or below
+-- commit, and those whose index and term are there, are passed over; at the first that differs or
+-- is missing the log is cut, and the rest appended. (Raft, Figure 2, AppendEntries, receiver 3 and
+-- 4; that commit bounds the comparison is this project's own.)
 unfoldable pub merge : {C : Type 0} → ℕ → ℕ → List (Entry C) → List (Entry C) → List (Entry C)
 merge c p log [] = log
 merge c p log (e ∷ es) = cond (nat_le (suc p) c || has log (suc p) e.term) (merge c (suc p) log es) (take p log ++ e ∷ es)
 
--- The log after a snapshot of the entries P: where it holds P's last index with P's last term, what follows is kept, else the
--- whole log is discarded. (Raft, Figure 13, receiver 6 and 7.)
+-- The log after a snapshot of the entries P: where it holds P's last index with P's last term, what
+-- follows is kept, else the whole log is discarded. (Raft, Figure 13, receiver 6 and 7.)
 unfoldable pub install : {C : Type 0} → List (Entry C) → List (Entry C) → List (Entry C)
 install log P = cond (has log (length P) (last_term P)) (P ++ drop (length P) log) P
 

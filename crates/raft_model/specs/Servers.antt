@@ -1,22 +1,25 @@
--- Servers, and the rules by which an input changes one. (Raft, extended version 2014, Figures 2 and 13.)
+-- Servers, and the rules by which an input changes one. (Raft, extended version 2014, Figures 2 and
+-- 13.)
 use Rattle.std.specs.Prelude.{ℕ, zero, suc, ◌+◌, ◌-◌, max, min, Bool, true, false, ◌&&◌, ◌||◌, ◌==◌, nat_lt, nat_le, if◌then◌else◌, Option, Some, None, List, [], ◌∷◌, ◌++◌, length, take, drop, replicate, slice_set}
 use Rattle.machine.specs.declared.entry.Entry.{Entry}
 use Rattle.raft_model.specs.Logs.{term_at, last_term, has, merge, install}
 use Rattle.raft_model.specs.Quorums.{is_quorum, marked, number}
 use Rattle.raft_model.specs.Messages.{Message, Body, VoteRequest, Append, AppendReply, Install, to_others}
 
--- What a server is doing: nothing, while it is down; else its role. Lists are by server number: whose vote a candidate has; for
--- each server the index that a leader sends next, and the last one that it is known to hold (nextIndex and matchIndex of Figure 2; a
--- leader's own places in them are never asked).
+-- What a server is doing: nothing, while it is down; else its role. Lists are by server number:
+-- whose vote a candidate has; for each server the index that a leader sends next, and the last one
+-- that it is known to hold (nextIndex and matchIndex of Figure 2; a leader's own places in them are
+-- never asked).
 pub data Mode : Type 0 where
   Down : Mode
   Follower : Mode
   Candidate : (votes : List Bool) → Mode
   Leader : (next match : List ℕ) → Mode
 
--- Term, vote, log and the number of first entries that the snapshot covers are stored. The rest (commit index, known leader, mode) is
--- lost in a crash: a server that is down has what a restart begins with. All committed entries are applied, so the server's state is
--- that after the first `commit` entries of its log.
+-- Term, vote, log and the number of first entries that the snapshot covers are stored. The rest
+-- (commit index, known leader, mode) is lost in a crash: a server that is down has what a restart
+-- begins with. All committed entries are applied, so the server's state is that after the first
+-- `commit` entries of its log.
 pub record Server (C : Type 0) : Type 0 where
   pub term : ℕ
   pub vote : Option ℕ
@@ -57,11 +60,13 @@ silent s = record { server = s; sent = [] }
 abbrev pub reply : {C : Type 0} → ℕ → Server C → ℕ → Body C → Turn C
 reply me s to body = record { server = s; sent = record { from = me; to = to; term = s.term; body = body } ∷ [] }
 
--- A greater term makes the receiver a follower of that term, without a vote or a known leader. (Figure 2, all servers.)
+-- A greater term makes the receiver a follower of that term, without a vote or a known leader.
+-- (Figure 2, all servers.)
 abbrev pub met : {C : Type 0} → ℕ → Server C → Server C
 met term s = if nat_lt s.term term then record s { term = term; vote = None; known = None; mode = Follower } else s
 
--- Timeout: the server stands in the next term, with its own vote, and knows no leader. (Figure 2, candidates; section 5.2.)
+-- Timeout: the server stands in the next term, with its own vote, and knows no leader. (Figure 2,
+-- candidates; section 5.2.)
 abbrev pub stood : {C : Type 0} → ℕ → ℕ → Server C → Server C
 stood n me s = record s { term = suc s.term; vote = Some me; known = None; mode = Candidate (slice_set (replicate n false) me true) }
 
@@ -74,13 +79,13 @@ abbrev pub is_free_for : Option ℕ → ℕ → Bool
 is_free_for None c = true
 is_free_for (Some v) c = v == c
 
--- a log that ends at this index with this term is no older than `log`: its last term is greater, or the same and it is no shorter
--- (section 5.4.1)
+-- a log that ends at this index with this term is no older than `log`: its last term is greater, or
+-- the same and it is no shorter (section 5.4.1)
 abbrev pub is_up_to_date : {C : Type 0} → List (Entry C) → ℕ → ℕ → Bool
 is_up_to_date log index term = nat_lt (last_term log) term || ((last_term log == term) && nat_le (length log) index)
 
--- A vote is granted in the voter's own term, where it is free or this candidate's already, and the candidate's log is no older.
--- (Figure 2, RequestVote.)
+-- A vote is granted in the voter's own term, where it is free or this candidate's already, and the
+-- candidate's log is no older. (Figure 2, RequestVote.)
 abbrev pub grants : {C : Type 0} → Server C → ℕ → ℕ → ℕ → ℕ → Bool
 grants s from term index its_last = (term == s.term) && (is_free_for s.vote from && is_up_to_date s.log index its_last)
 
@@ -89,8 +94,8 @@ abbrev pub granted : {C : Type 0} → Server C → ℕ → Bool → Server C
 granted s from true = record s { vote = Some from }
 granted s from false = s
 
--- A candidate with a quorum's votes leads: next is past its last entry and match 0 for each server; then it appends a no-op of its
--- term (section 8). It sends nothing yet.
+-- A candidate with a quorum's votes leads: next is past its last entry and match 0 for each server;
+-- then it appends a no-op of its term (section 8). It sends nothing yet.
 abbrev pub won : {C : Type 0} → C → ℕ → Server C → Server C
 won noop n s = record s {
   log = s.log ++ record { term = s.term; command = noop } ∷ [];
@@ -108,51 +113,58 @@ counted noop n s from Follower = s
 counted noop n s from (Candidate votes) = with_votes noop n s (slice_set votes from true)
 counted noop n s from (Leader next match) = s
 
--- An Append or Install of its own term: the server follows the sender, also where it was a candidate. (Figure 2, candidates.)
+-- An Append or Install of its own term: the server follows the sender, also where it was a
+-- candidate. (Figure 2, candidates.)
 abbrev pub following : {C : Type 0} → Server C → ℕ → Server C
 following s from = record s { known = Some from; mode = Follower }
 
--- Append: the entry before those that came is held, with its term. What stands at or below commit counts as held with the right term.
+-- Append: the entry before those that came is held, with its term. What stands at or below commit
+-- counts as held with the right term.
 abbrev pub is_held : {C : Type 0} → Server C → ℕ → ℕ → Bool
 is_held s prev prev_term = nat_le prev s.commit || has s.log prev prev_term
 
--- Append, accepted: the log takes up the entries, and commit is the leader's, as far as the message reaches. (Figure 2, receiver 3 to 5.)
+-- Append, accepted: the log takes up the entries, and commit is the leader's, as far as the message
+-- reaches. (Figure 2, receiver 3 to 5.)
 abbrev pub appended : {C : Type 0} → Server C → ℕ → ℕ → List (Entry C) → Server C
 appended s prev commit entries = record s {
   log = merge s.commit prev s.log entries;
   commit = max s.commit (min commit (prev + length entries));
 }
 
--- Append, of a leader of the receiver's own term: accepted, or refused with the place at which to try again (the smaller of prev - 1
--- and the last index; an Append with prev = 0 is never refused)
+-- Append, of a leader of the receiver's own term: accepted, or refused with the place at which to
+-- try again (the smaller of prev - 1 and the last index; an Append with prev = 0 is never refused)
 abbrev pub follows_append : {C : Type 0} → ℕ → Server C → ℕ → ℕ → ℕ → ℕ → List (Entry C) → Turn C
 follows_append me s from prev prev_term commit entries =
     if is_held s prev prev_term
     then reply me (appended s prev commit entries) from (AppendReply s.term true (prev + length entries))
     else reply me s from (AppendReply s.term false (min (prev - 1) (length s.log)))
 
--- Install: at or below commit there is nothing to take over; above it log, base and commit are the snapshot's, and what follows it in
--- the log is kept where the log holds its last entry. (Figure 13.)
+-- Install: at or below commit there is nothing to take over; above it log, base and commit are the
+-- snapshot's, and what follows it in the log is kept where the log holds its last entry. (Figure
+-- 13.)
 abbrev pub installed : {C : Type 0} → Server C → List (Entry C) → Server C
 installed s P =
     if nat_le (length P) s.commit
     then s
     else record s { log = install s.log P; covered = length P; commit = length P }
 
--- A leader hears that server j holds its log up to `at`. What is past its last entry counts for nothing.
+-- A leader hears that server j holds its log up to `at`. What is past its last entry counts for
+-- nothing.
 abbrev pub acked : {C : Type 0} → Server C → ℕ → ℕ → List ℕ → List ℕ → Server C
 acked s j at next match =
     if nat_le at (length s.log)
     then record s { mode = Leader (slice_set next j (suc (max (number match j) at))) (slice_set match j (max (number match j) at)) }
     else s
 
--- A leader hears that server j refuses: it will try one earlier at least, and no earlier than what j is known to hold.
+-- A leader hears that server j refuses: it will try one earlier at least, and no earlier than what
+-- j is known to hold.
 abbrev pub backed : {C : Type 0} → Server C → ℕ → ℕ → List ℕ → List ℕ → Server C
 backed s j at next match = record s {
   mode = Leader (slice_set next j (max (suc (number match j)) (min (number next j - 1) (suc at)))) match;
 }
 
--- The entry at index k is of the leader's term, and a quorum holds it; the leader holds all of its log. (Section 5.4.2.)
+-- The entry at index k is of the leader's term, and a quorum holds it; the leader holds all of its
+-- log. (Section 5.4.2.)
 abbrev pub is_chosen : {C : Type 0} → ℕ → ℕ → Server C → List ℕ → ℕ → Bool
 is_chosen n me s match k = (term_at s.log k == s.term) && is_quorum n (λ j. (j == me) || nat_le k (number match j))
 
@@ -186,8 +198,9 @@ hears_refusal n me s j at Follower = s
 hears_refusal n me s j at (Candidate votes) = s
 hears_refusal n me s j at (Leader next match) = advanced n me (backed s j at next match)
 
--- Beat: what a leader sends to a server whose next index is `next`: all that its snapshot covers, where next is at or below that, else
--- at most 32 entries from next on. (Figure 2, leaders; section 7.)
+-- Beat: what a leader sends to a server whose next index is `next`: all that its snapshot covers,
+-- where next is at or below that, else at most 32 entries from next on. (Figure 2, leaders; section
+-- 7.)
 abbrev pub beat_body : {C : Type 0} → Server C → ℕ → Body C
 beat_body s next =
     if nat_le next s.covered

@@ -17,9 +17,9 @@ pub data Input (C : Type 0) : Type 0 where
   Crash : Input C
   Restart : Input C
 
--- A message of term `term` comes from server `from`, and has made the receiver s of that term, if it was in a lower one.
--- A reply counts only where `asked` is the receiver's term and its role is the asking one. A leader is silent to an Append
--- and an Install of its own term.
+-- A message of term `term` comes from server `from`, and has made the receiver s of that term, if
+-- it was in a lower one. A reply counts only where `asked` is the receiver's term and its role is
+-- the asking one. A leader is silent to an Append and an Install of its own term.
 abbrev pub receives : {C : Type 0} → C → ℕ → ℕ → Server C → ℕ → ℕ → Body C → Turn C
 receives noop n me s from term (VoteRequest index its_last) =
     reply me (granted s from (grants s from term index its_last)) from (VoteReply term (grants s from term index its_last))
@@ -40,7 +40,8 @@ receives noop n me s from term (Install P) =
 receives noop n me s from term (InstallReply asked at) =
     silent (if asked == s.term then hears_ok n me s from at s.mode else s)
 
--- Timeout: a leader does nothing; any other stands and asks all others, in rising number, if there is a further term and a further index
+-- Timeout: a leader does nothing; any other stands and asks all others, in rising number, if there
+-- is a further term and a further index
 abbrev pub times_out : {C : Type 0} → ℕ → ℕ → Server C → Result (Turn C) Refusal
 times_out n me s =
     if is_leader s.mode then Ok (silent s)
@@ -48,7 +49,8 @@ times_out n me s =
     then Ok (record { server = stood n me s; sent = to_others me (vote_request me (stood n me s)) n })
     else Err refusals.Exhausted
 
--- the first refusal of a leader's proposal: no more room, then the machine's own against the whole log, committed or not
+-- the first refusal of a leader's proposal: no more room, then the machine's own against the whole
+-- log, committed or not
 abbrev pub admitted : {S C : Type 0} → Meaning S C → Server C → C → Option Refusal
 admitted m s command = if nat_lt (length s.log) MAX then m.admission (state_after m s.log) command else Some refusals.Exhausted
 
@@ -57,7 +59,8 @@ abbrev pub unless : {A : Type 0} → Option Refusal → A → Result A Refusal
 unless None a = Ok a
 unless (Some r) a = Err r
 
--- Propose: a leader appends a command that nothing refuses; others refuse it with the leader that they know
+-- Propose: a leader appends a command that nothing refuses; others refuse it with the leader that
+-- they know
 abbrev pub proposes : {S C : Type 0} → Meaning S C → Server C → C → Result (Turn C) Refusal
 proposes m s command =
     if is_leader s.mode

@@ -1,5 +1,6 @@
--- Worked steps: what the definitions answer for servers, messages and events written out. The machine is the tally: its command
--- Add k adds k to a sum of at most 1,000. Servers are numbered from 0 here, as everywhere in definitions.
+-- Worked steps: what the definitions answer for servers, messages and events written out. The
+-- machine is the tally: its command Add k adds k to a sum of at most 1,000. Servers are numbered
+-- from 0 here, as everywhere in definitions.
 use Rattle.std.specs.Prelude.{◌≡◌, ℕ, true, false, Some, None, Result, Ok, Err, List, [], ◌∷◌, ◌++◌, map, replicate, take}
 use Rattle.rows.specs.declared.refusal.Refusal.{Refusal}
 use Rattle.rows.specs.declared.refusal.Refusal.TheVariants as refusals
@@ -236,13 +237,15 @@ commits w = map (λ (s : Server TallyCommand). s.commit) w.servers
 abbrev pub logs : World TallyCommand → List (List (Entry TallyCommand))
 logs w = map (λ (s : Server TallyCommand). s.log) w.servers
 
--- Three servers elect server 0, which commits its no-op and a proposal; server 2 hears of it at the next beat.
+-- Three servers elect server 0, which commits its no-op and a proposal; server 2 hears of it at the
+-- next beat.
 abbrev pub ThreeServersCommit : Type 0
 ThreeServersCommit = commits (after_events (first 3)
     (TimesOut 0 ∷ Deliver 0 ∷ Deliver 2 ∷ Proposes 0 (Add 4) ∷ Beats 0 ∷ Deliver 3 ∷ Deliver 5 ∷ Beats 0 ∷ Deliver 7 ∷ [])) ≡ 2 ∷ 0 ∷ 2 ∷ []
 
--- Server 0 leads with 5 entries, of which it has committed 3 with server 1 and covered them by a snapshot. Server 2 gets the
--- Append of all 5 late, then the Install of 3, and then its ok of 5 counts.
+-- Server 0 leads with 5 entries, of which it has committed 3 with server 1 and covered them by a
+-- snapshot. Server 2 gets the Append of all 5 late, then the Install of 3, and then its ok of 5
+-- counts.
 abbrev pub late_append_then_install : World TallyCommand
 late_append_then_install = after_events (first 3)
     (TimesOut 0 ∷ Deliver 0 ∷ Deliver 2 ∷ Proposes 0 (Add 1) ∷ Proposes 0 (Add 2) ∷ Beats 0 ∷ Proposes 0 (Add 3) ∷ Proposes 0 (Add 4) ∷ Beats 0 ∷
@@ -255,11 +258,13 @@ TailStays = logs late_append_then_install ≡
     (begins 1 ∷ adds 1 1 ∷ adds 1 2 ∷ []) ∷
     (begins 1 ∷ adds 1 1 ∷ adds 1 2 ∷ adds 1 3 ∷ adds 1 4 ∷ []) ∷ []
 
--- The leader has committed all 5; server 2 has what the Install covered; server 1 has heard of no commit yet.
+-- The leader has committed all 5; server 2 has what the Install covered; server 1 has heard of no
+-- commit yet.
 abbrev pub TailCommitted : Type 0
 TailCommitted = commits late_append_then_install ≡ 5 ∷ 0 ∷ 3 ∷ []
 
--- the leader of term 3 with 34 entries, all committed; server 2 holds the first 33, and then another entry
+-- the leader of term 3 with 34 entries, all committed; server 2 holds the first 33, and then
+-- another entry
 abbrev pub shared : List (Entry TallyCommand)
 shared = replicate 33 (adds 1 1)
 
@@ -286,7 +291,8 @@ RefusalTwice = (after_inputs 3 0 long_leader (refusal ∷ refusal ∷ [])).mode 
 abbrev pub RefusalOften : Type 0
 RefusalOften = (after_inputs 3 0 long_leader (replicate 34 refusal)).mode ≡ Leader (35 ∷ 35 ∷ 1 ∷ []) (0 ∷ 34 ∷ 0 ∷ [])
 
--- The Append from there reaches 32 entries, all of which agree: commit rises to 32 and not to the leader's 34, since entry 34 differs.
+-- The Append from there reaches 32 entries, all of which agree: commit rises to 32 and not to the
+-- leader's 34, since entry 34 differs.
 abbrev pub CommitWithinAppend : Type 0
 CommitWithinAppend = step tally_meaning 3 2 (follower 3 (shared ++ adds 2 6 ∷ [])) (Arrives (message 0 2 3 (Append 0 0 34 (take 32 shared)))) ≡ Ok (record {
   server = record { term = 3; vote = None; log = shared ++ adds 2 6 ∷ []; covered = 0; commit = 32; known = Some 0; mode = Follower };

@@ -1,4 +1,5 @@
--- The group, its events and its runs. The network loses, repeats, delays and reorders messages as it likes, but alters none.
+-- The group, its events and its runs. The network loses, repeats, delays and reorders messages as
+-- it likes, but alters none.
 use Rattle.std.specs.Prelude.{◌≡◌, ℕ, ◌⊎◌, Option, Some, None, Result, Ok, Err, List, [], ◌∷◌, ◌++◌, length, replicate, slice_get, slice_set}
 use Rattle.rows.specs.declared.refusal.Refusal.{Refusal}
 use Rattle.rows.specs.declared.refusal.Refusal.TheVariants as refusals
@@ -16,8 +17,8 @@ pub record World (C : Type 0) : Type 0 where
 abbrev pub first : {C : Type 0} → ℕ → World C
 first n = record { servers = replicate n newcomer; sent = [] }
 
--- The message at this place of all that were ever sent comes to its receiver; or a server takes an input of its own.
--- A loss is a message that never comes, a repeat one that comes twice.
+-- The message at this place of all that were ever sent comes to its receiver; or a server takes an
+-- input of its own. A loss is a message that never comes, a repeat one that comes twice.
 pub data Event (C : Type 0) : Type 0 where
   -- places count from 0
   Deliver : (place : ℕ) → Event C
@@ -107,12 +108,13 @@ module _ {S C : Type 0} (m : Meaning S C) where
   IsRestart (Crashes i) = ⊥
   IsRestart (Restarts i) = Unit {0}
 
-  -- The event is refused; or it is a restart that could be, of a server that finds no memory: it stays down.
+  -- The event is refused; or it is a restart that could be, of a server that finds no memory: it
+  -- stays down.
   abbrev pub IsLeftOut : World C → Event C → Refusal → Type 0
   IsLeftOut w e r = (happens w e ≡ Err r) ⊎ (IsRestart e × ((next : World C) × (happens w e ≡ Ok next)) × (r ≡ refusals.NoMemory))
 
-  -- A list of events handed in, what became of each, and its trace: each event is kept, or is replaced by the crash of its
-  -- actor, if that is up, or is left out with its refusal.
+  -- A list of events handed in, what became of each, and its trace: each event is kept, or is
+  -- replaced by the crash of its actor, if that is up, or is left out with its refusal.
   pub data Trace (n : ℕ) : List (Event C) → List Outcome → List (Event C) → List (World C) → World C → Type 0 where
     nothing : Trace n [] [] [] [] (first n)
     kept : {events trace : List (Event C)} {outcomes : List Outcome} {past : List (World C)} {w : World C} (e : Event C) (next : World C) →

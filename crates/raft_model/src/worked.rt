@@ -1,10 +1,12 @@
-//! Worked steps: what the definitions answer for servers, messages and events written out, each a law by computation.
+//! Worked steps: what the definitions answer for servers, messages and events written out, each a
+//! law by computation.
 ghost use Rattle.raft_model.specs.Worked.{CandidateAsks, VoterGrants, NewerVoterDenies, LongerVoterDenies, VoteOutlastsCrash, TwoVotesOfFive, ThreeVotesOfFive, LateVote, LastTerm};
 ghost use Rattle.raft_model.specs.Worked.{HeldAlready, LateAppend, DiffersAtFirst, CommittedStays, OtherPrevious, MissingPrevious, LowerTerm, InstallKeeps, InstallDiscards};
 ghost use Rattle.raft_model.specs.Worked.{LeaderBeats, OlderTerm, OwnTerm, PastLast, OtherTerm, NextGoesBack, NextStaysPastMatch, WholeLog, NotLeader, IsDown, IsUp, RestartsFromSnapshot};
 ghost use Rattle.raft_model.specs.Worked.{ThreeServersCommit, TailStays, TailCommitted, RefusalTwice, RefusalOften, CommitWithinAppend};
 
-/// Standing for election, granting and denying votes, and winning. (Raft, extended version 2014, Figure 2 and section 5.2.)
+/// Standing for election, granting and denying votes, and winning. (Raft, extended version 2014,
+/// Figure 2 and section 5.2.)
 pub fn worked_votes()
     ensures candidate_asks { CandidateAsks }
     ensures voter_grants { VoterGrants }
@@ -17,7 +19,8 @@ pub fn worked_votes()
     ensures last_term { LastTerm }
 {}
 
-/// What an Append and an Install do to the receiver's log. (Raft, Figures 2 and 13, sections 5.3 and 7.)
+/// What an Append and an Install do to the receiver's log. (Raft, Figures 2 and 13, sections 5.3
+/// and 7.)
 pub fn worked_logs()
     ensures held_already { HeldAlready }
     ensures late_append { LateAppend }
@@ -30,7 +33,8 @@ pub fn worked_logs()
     ensures install_discards { InstallDiscards }
 {}
 
-/// A leader, its followers' replies, its commit index and its proposals. (Raft, Figure 2, sections 5.3 and 5.4.2.)
+/// A leader, its followers' replies, its commit index and its proposals. (Raft, Figure 2, sections
+/// 5.3 and 5.4.2.)
 pub fn worked_leader()
     ensures leader_beats { LeaderBeats }
     ensures older_term { OlderTerm }
@@ -51,13 +55,15 @@ pub fn worked_run()
     ensures { ThreeServersCommit }
 {}
 
-/// A late Append, then an Install of a first part of it, and then the late Append's ok: what that ok commits is there.
+/// A late Append, then an Install of a first part of it, and then the late Append's ok: what that
+/// ok commits is there.
 pub fn late_append_then_install()
     ensures tail_stays { TailStays }
     ensures tail_committed { TailCommitted }
 {}
 
-/// A refusal that comes again moves next too low; the Append from there commits no further than it reaches.
+/// A refusal that comes again moves next too low; the Append from there commits no further than it
+/// reaches.
 pub fn refusal_comes_again()
     ensures twice { RefusalTwice }
     ensures often { RefusalOften }

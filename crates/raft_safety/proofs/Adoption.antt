@@ -10,7 +10,7 @@ use Rattle.raft_safety.specs.Functions.{with_both}
 use Rattle.raft_model.specs.Chains.{Agree}
 use Rattle.raft_safety.specs.Agreement.{Rooted, Adopted}
 use Rattle.raft_safety.specs.Ballots.{Ballots, BallotsGrow}
-use Rattle.raft_safety.specs.History.{History, Carries, Fixed, Ledgers, Extends}
+use Rattle.raft_safety.specs.History.{History, HasOrDead, Fixed, Ledgers, Extends}
 use Rattle.raft_safety.specs.Invariants.{ModeOk, ServerOk, AppendOk, InstallOk, BodyOk, Keeps}
 use Rattle.raft_safety.proofs.Functions.{both_cases, both_same, both_other, both_else}
 use Rattle.raft_safety.proofs.Logs.{agree_none, agree_sym, agree_trans, agree_less, agree_term, agree_take, rooted_two, merge_adopts, install_adopts}
@@ -42,7 +42,7 @@ module _ {C : Type 0} where
 
   -- what was acknowledged before is still there, or can't be chosen any more
   old_holds : (n : ℕ) (G : History C) (v i r u k : ℕ) (log new : List (Entry C)) → Ledgers n G → ((w : ℕ) → v < w → G.held w i ≡ 0) → 1 ≤ length (G.ledger v) →
-      Adopted (G.ledger v) log new r → 1 ≤ k → Carries n G u k log → k ≤ G.held u i → Carries n G u k new
+      Adopted (G.ledger v) log new r → 1 ≤ k → HasOrDead n G u k log → k ≤ G.held u i → HasOrDead n G u k new
   old_holds n G v i r u k log new I none some ad one old x own = elim (leb_tells (suc u) v) [
     | inl a ↦ adopted_carries n G u v k r log new I a.1 one some ad old own
     | inr a ↦ elim (leb_tells (suc v) u) [
@@ -107,10 +107,10 @@ module _ {C : Type 0} (P : List (Entry C) → Type 0) (n : ℕ) (G : History C) 
 
   -- what was acknowledged is in the new log, or is dead
   new_holds : (B : Ballots) (new : List (Entry C)) (m : ℕ) → BallotsGrow G.ballots B → Adopted (G.ledger s.term) s.log new m →
-      (u k : ℕ) → 1 ≤ k → k ≤ with_both G.held s.term i (max (G.held s.term i) m) u i → Carries n (hold G B s.term i (max (G.held s.term i) m)) u k new
+      (u k : ℕ) → 1 ≤ k → k ≤ with_both G.held s.term i (max (G.held s.term i) m) u i → HasOrDead n (hold G B s.term i (max (G.held s.term i) m)) u k new
   new_holds B new m g ad u k one h =
       let x = max (G.held s.term i) m in
-      let old : k ≤ G.held u i → Carries n G u k new = λ le. old_holds n G s.term i m u k s.log new I ok.unheld led ad one (ok.log.holds u k one le) le in
+      let old : k ≤ G.held u i → HasOrDead n G u k new = λ le. old_holds n G s.term i m u k s.log new I ok.unheld led ad one (ok.log.holds u k one le) le in
       carries_on n G (hold G B s.term i x) u k new (hold_extends G B s.term i x g (sym ok.voter.now) (omega arith)) one
       (λ own. elim (both_cases G.held s.term i x u i) [
         | inr q ↦ old (omega (arith, h, q.1)) own

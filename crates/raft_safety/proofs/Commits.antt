@@ -1,4 +1,5 @@
--- While a server is up its commit index never falls; who goes down or comes up keeps what is stored.
+-- While a server is up its commit index never falls; who goes down or comes up keeps what is
+-- stored.
 use Rattle.std.proofs.Common.{◌≡◌, ℕ, ◌≤◌, ◌⊎◌, inl, inr, Bool, true, false, nat_le, List, [], length, sym, ap, ◌∙◌, arith, true≢false}
 use Rattle.std.proofs.lemmas.Bool.{leb-false}
 use Rattle.machine.specs.Meaning.{Meaning}

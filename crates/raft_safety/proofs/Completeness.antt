@@ -6,7 +6,7 @@ use Rattle.machine.specs.declared.entry.Entry.{Entry}
 use Rattle.raft_model.specs.Logs.{term_at}
 use Rattle.raft_model.specs.Chains.{Agree}
 use Rattle.raft_safety.specs.Agreement.{Rooted}
-use Rattle.raft_safety.specs.History.{History, Own, Dead, Chosen, Carries, FixedBy, Fixed, Ledgers, UpToDate}
+use Rattle.raft_safety.specs.History.{History, Own, Dead, Chosen, HasOrDead, FixedBy, Fixed, Ledgers, UpToDate}
 use Rattle.raft_safety.proofs.Quorums.{meet}
 use Rattle.raft_safety.proofs.Paths.{and_both}
 use Rattle.raft_safety.proofs.Logs.{agree_none, agree_sym, agree_trans, agree_less, agree_term, rooted_at}
@@ -57,7 +57,7 @@ module _ {C : Type 0} where
       ]
 
   -- the vote's comparison: what the voter's log carries, the candidate's does
-  pub grant_carries : (n : ℕ) (G : History C) (log L : List (Entry C)) → Ledgers n G → Rooted G.ledger log → Rooted G.ledger L → UpToDate L log → (u k : ℕ) → 1 ≤ k → Carries n G u k log → Carries n G u k L
+  pub grant_carries : (n : ℕ) (G : History C) (log L : List (Entry C)) → Ledgers n G → Rooted G.ledger log → Rooted G.ledger L → UpToDate L log → (u k : ℕ) → 1 ≤ k → HasOrDead n G u k log → HasOrDead n G u k L
   grant_carries n G log L I rl rL up u k one c own = elim (c own) [
     | inl d ↦ inl d
     | inr a ↦ carried n G log L u k I rl rL up one own a

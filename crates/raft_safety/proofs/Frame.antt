@@ -7,7 +7,7 @@ use Rattle.raft_model.specs.Servers.{Server, Mode, Down, Follower, Candidate, Le
 use Rattle.raft_model.specs.Chains.{Agree}
 use Rattle.raft_safety.specs.SmallSteps.{Passes}
 use Rattle.raft_safety.specs.Agreement.{Rooted}
-use Rattle.raft_safety.specs.History.{History, Fixed, Backed, Ledgers, Extends, Apart}
+use Rattle.raft_safety.specs.History.{History, Fixed, Backed, Ledgers, Extends, DiffersAt}
 use Rattle.raft_safety.specs.Invariants.{LogOk, CandidateOk, LeaderOk, ModeOk, ServerOk, AppendOk, InstallOk, BodyOk, MessageOk, Keeps}
 use Rattle.raft_safety.proofs.Logs.{agree_sym, agree_trans, agree_less, agree_term}
 use Rattle.std.proofs.lemmas.List.{drop-take}
@@ -42,7 +42,7 @@ module _ {C : Type 0} where
   }
 
   -- nothing differs
-  pub apart_self : (i : ℕ) (G : History C) → Apart i G G
+  pub apart_self : (i : ℕ) (G : History C) → DiffersAt i G G
   apart_self i G = record {
     ballots = apart_none i G.ballots;
     stood = λ j t other. refl;
@@ -52,7 +52,7 @@ module _ {C : Type 0} where
   }
 
   -- one server's changes, one after the other
-  pub apart_both : (i : ℕ) (G H K : History C) → Extends G H → Apart i G H → Apart i H K → Apart i G K
+  pub apart_both : (i : ℕ) (G H K : History C) → Extends G H → DiffersAt i G H → DiffersAt i H K → DiffersAt i G K
   apart_both i G H K e x y = record {
     ballots = apart_more i G.ballots H.ballots K.ballots x.ballots y.ballots;
     stood = λ j t other. y.stood j t other ∙ x.stood j t other;
@@ -132,7 +132,7 @@ module _ {C : Type 0} where
   role_on n G H j t log (Leader next match) e back same held h = leader_on n G H j t log next match e same held h
 
   -- another server
-  pub server_on : (n : ℕ) (G H : History C) (i j : ℕ) (s : Server C) → Extends G H → Apart i G H → j ≢ i → ServerOk n G j s → ServerOk n H j s
+  pub server_on : (n : ℕ) (G H : History C) (i j : ℕ) (s : Server C) → Extends G H → DiffersAt i G H → j ≢ i → ServerOk n G j s → ServerOk n H j s
   server_on n G H i j s e a other h = record {
     voter = voter_on n G.ballots H.ballots i j s.term s.vote s.mode e.ballots a.ballots other h.voter;
     unstood = λ t less. a.stood j t other ∙ h.unstood t less;

@@ -6,7 +6,7 @@ use Rattle.machine.specs.declared.entry.Entry.{Entry}
 use Rattle.raft_model.specs.Quorums.{Quorum}
 use Rattle.raft_model.specs.Chains.{Agree}
 use Rattle.raft_safety.specs.Agreement.{Adopted}
-use Rattle.raft_safety.specs.History.{History, Own, Dead, Chosen, Carries, Fixed, Ledgers, Extends}
+use Rattle.raft_safety.specs.History.{History, Own, Dead, Chosen, HasOrDead, Fixed, Ledgers, Extends}
 use Rattle.raft_safety.proofs.Quorums.{quorum_more, find}
 use Rattle.raft_safety.proofs.Logs.{agree_sym, agree_trans, agree_less, agree_term}
 use Rattle.raft_safety.proofs.Paths.{and_both}
@@ -48,14 +48,14 @@ module _ {C : Type 0} where
       }
 
   -- a list that carries an index goes on to
-  pub carries_on : (n : ℕ) (G H : History C) (u k : ℕ) (X : List (Entry C)) → Extends G H → 1 ≤ k → Carries n G u k X → Carries n H u k X
+  pub carries_on : (n : ℕ) (G H : History C) (u k : ℕ) (X : List (Entry C)) → Extends G H → 1 ≤ k → HasOrDead n G u k X → HasOrDead n H u k X
   carries_on n G H u k X e one c own = elim (c (own_back G H u k e one own)) [
     | inl d ↦ inl (dead_on n G H u k e d)
     | inr a ↦ inr (agree_on G H u k X e a)
   ]
 
   -- so does a longer one
-  pub carries_grow : (n : ℕ) (G : History C) (u k : ℕ) (X Y : List (Entry C)) → Agree (length X) X Y → Carries n G u k X → Carries n G u k Y
+  pub carries_grow : (n : ℕ) (G : History C) (u k : ℕ) (X Y : List (Entry C)) → Agree (length X) X Y → HasOrDead n G u k X → HasOrDead n G u k Y
   carries_grow n G u k X Y g c own = elim (c own) [
     | inl d ↦ inl d
     | inr a ↦ inr (agree_trans a (agree_less k a.right g))
@@ -74,7 +74,7 @@ module _ {C : Type 0} where
   })
 
   -- an accepted Append or Install of a leader of v keeps what was acknowledged in an earlier term
-  pub adopted_carries : (n : ℕ) (G : History C) (u v k m : ℕ) (log new : List (Entry C)) → Ledgers n G → u < v → 1 ≤ k → 1 ≤ length (G.ledger v) → Adopted (G.ledger v) log new m → Carries n G u k log → Carries n G u k new
+  pub adopted_carries : (n : ℕ) (G : History C) (u v k m : ℕ) (log new : List (Entry C)) → Ledgers n G → u < v → 1 ≤ k → 1 ≤ length (G.ledger v) → Adopted (G.ledger v) log new m → HasOrDead n G u k log → HasOrDead n G u k new
   adopted_carries n G u v k m log new I less one some ad c own = elim (c own) [
     | inl d ↦ inl d
     | inr a ↦ elim (I.carries v u k some less one own) [
@@ -83,8 +83,9 @@ module _ {C : Type 0} where
     ]
   ]
 
-  -- the win: a quorum that voted in t has carried to the log all that it acknowledged before, or acknowledges it no more
-  pub win_carries : (n : ℕ) (G : History C) (t : ℕ) (votes : ℕ → Bool) (log : List (Entry C)) → Quorum n votes → ((i : ℕ) → i < n → IsTrue (votes i) → t ≤ G.ballots.term i) → ((i u k : ℕ) → i < n → IsTrue (votes i) → u < t → 1 ≤ k → k ≤ G.held u i → Carries n G u k log) → (u k : ℕ) → u < t → 1 ≤ k → Carries n G u k log
+  -- the win: a quorum that voted in t has carried to the log all that it acknowledged before, or
+  -- acknowledges it no more
+  pub win_carries : (n : ℕ) (G : History C) (t : ℕ) (votes : ℕ → Bool) (log : List (Entry C)) → Quorum n votes → ((i : ℕ) → i < n → IsTrue (votes i) → t ≤ G.ballots.term i) → ((i u k : ℕ) → i < n → IsTrue (votes i) → u < t → 1 ≤ k → k ≤ G.held u i → HasOrDead n G u k log) → (u k : ℕ) → u < t → 1 ≤ k → HasOrDead n G u k log
   win_carries n G t votes log q late voted u k less one own =
       elim (find n votes (λ i. nat_le k (G.held u i))) [
         | inl x ↦ voted x.0 u k x.1 x.2 less one (leb-true k (G.held u x.0) x.3) own

@@ -5,8 +5,8 @@ use Rattle.raft_model.specs.Logs.{MAX}
 use Rattle.raft_model.specs.Messages.{Message, Body, to_others}
 use Rattle.raft_model.specs.Servers.{Server, newcomer, installed}
 use Rattle.raft_model.specs.Worlds.{World, Event, Run, start, more}
-use Rattle.raft_safety.specs.SmallSteps.{Came, Small, raises, stands, grants_vote, refuses, counts, wins, extends, follows, takes_append, takes_install, acks, backs, advances, covers, beats_all, Path, still, only, after_one, Turns, walks, resets}
-use Rattle.raft_safety.specs.Claims.{Within}
+use Rattle.raft_safety.specs.SmallSteps.{WasSent, Small, raises, stands, grants_vote, refuses, counts, wins, extends, follows, takes_append, takes_install, acks, backs, advances, covers, beats_all, Path, still, only, after_one, Turns, walks, resets}
+use Rattle.raft_safety.specs.Claims.{IsAmongMembers}
 use Rattle.raft_safety.proofs.Places.{get_set-cases, set-length, get-split, get-one, get-within, replicate-get, to_others_is}
 use Rattle.raft_safety.proofs.Paths.{bool_cases}
 use Rattle.raft_safety.proofs.Election.{Moves, event_moves, replicate-length}
@@ -14,21 +14,21 @@ use Rattle.raft_safety.proofs.Election.{Moves, event_moves, replicate-length}
 -- a server, and what it says
 record Bounded {C : Type 0} (n : ℕ) (t : Server C) (out : List (Message C)) : Type 0 where
   term : t.term ≤ MAX
-  says : (k : ℕ) (x : Message C) → slice_get out k ≡ Some x → Within n x
+  says : (k : ℕ) (x : Message C) → slice_get out k ≡ Some x → IsAmongMembers n x
 
-module _ {S C : Type 0} (m : Meaning S C) (n i : ℕ) (less_n : i < n) (sent : List (Message C)) (given : (x : Message C) → Came sent x → Within n x) where
+module _ {S C : Type 0} (m : Meaning S C) (n i : ℕ) (less_n : i < n) (sent : List (Message C)) (given : (x : Message C) → WasSent sent x → IsAmongMembers n x) where
   -- a step that sends nothing
   says_none : (t : Server C) (out : List (Message C)) → out ≡ [] → t.term ≤ MAX → Bounded n t out
   says_none t out o le = record { term = le; says = λ k x h. absurd (let q = rw o at h in cc) }
 
   -- an answer to what came
-  says_back : (t : Server C) (out : List (Message C)) (from term its : ℕ) (request answer : Body C) → Came sent (record { from = from; to = i; term = term; body = request }) →
+  says_back : (t : Server C) (out : List (Message C)) (from term its : ℕ) (request answer : Body C) → WasSent sent (record { from = from; to = i; term = term; body = request }) →
       out ≡ record { from = i; to = from; term = its; body = answer } ∷ [] → its ≤ MAX → t.term ≤ MAX → Bounded n t out
   says_back t out from term its request answer came o fits le =
       let g = given (record { from = from; to = i; term = term; body = request }) came in
       let y : Message C = record { from = i; to = from; term = its; body = answer } in
-      let w : Within n y = record { from = less_n; to = g.from; apart = λ q. g.apart (sym q); term = fits } in
-      record { term = le; says = λ k x h. subst (λ z. Within n z) (get-one y k x (ap (λ l. slice_get l k) (sym o) ∙ h)) w }
+      let w : IsAmongMembers n y = record { from = less_n; to = g.from; apart = λ q. g.apart (sym q); term = fits } in
+      record { term = le; says = λ k x h. subst (λ z. IsAmongMembers n z) (get-one y k x (ap (λ l. slice_get l k) (sym o) ∙ h)) w }
 
   -- one message to each other server
   says_all : (t : Server C) (out : List (Message C)) (its : ℕ) (body : ℕ → Body C) →
@@ -37,7 +37,7 @@ module _ {S C : Type 0} (m : Meaning S C) (n i : ℕ) (less_n : i < n) (sent : L
     term = le;
     says = λ k x h.
         let r = to_others_is i (λ to. record { from = i; to = to; term = its; body = body to }) n k x (ap (λ l. slice_get l k) (sym o) ∙ h) in
-        subst (λ z. Within n z) (sym r.3) (record { from = less_n; to = r.1; apart = λ q. r.2 (sym q); term = fits });
+        subst (λ z. IsAmongMembers n z) (sym r.3) (record { from = less_n; to = r.1; apart = λ q. r.2 (sym q); term = fits });
   }
 
   -- each small step
@@ -79,7 +79,7 @@ module _ {S C : Type 0} (m : Meaning S C) (n i : ℕ) (less_n : i < n) (sent : L
 pub record Bounds {C : Type 0} (n : ℕ) (w : World C) : Type 0 where
   pub size : length w.servers ≡ n
   pub terms : (j : ℕ) (s : Server C) → slice_get w.servers j ≡ Some s → s.term ≤ MAX
-  pub given : (x : Message C) → Came w.sent x → Within n x
+  pub given : (x : Message C) → WasSent w.sent x → IsAmongMembers n x
 
 module _ {S C : Type 0} (m : Meaning S C) (n : ℕ) (w : World C) (event : Event C) (next : World C) (b : Bounds n w) (x : Moves m w event next) where
   -- the server that took the event

@@ -5,7 +5,7 @@ use Rattle.raft_model.specs.Messages.{Message}
 use Rattle.raft_model.specs.Servers.{Server}
 use Rattle.raft_model.specs.Worlds.{World, Event, Run}
 use Rattle.raft_model.specs.Chains.{At}
-use Rattle.raft_safety.specs.Claims.{Limits, Within}
+use Rattle.raft_safety.specs.Claims.{Limits, IsAmongMembers}
 use Rattle.raft_safety.proofs.Runs.{run_front}
 use Rattle.raft_safety.proofs.Limits.{run_bounds}
 use Rattle.raft_safety.proofs.Sound.{sound_short}
@@ -26,5 +26,5 @@ module _ {S C : Type 0} (m : Meaning S C) where
       }
 
   -- a message that was ever sent
-  pub message_within : (n : ℕ) (events : List (Event C)) (past : List (World C)) (w : World C) → Run m n events past w → (k : ℕ) (x : Message C) → slice_get w.sent k ≡ Some x → Within n x
+  pub message_within : (n : ℕ) (events : List (Event C)) (past : List (World C)) (w : World C) → Run m n events past w → (k : ℕ) (x : Message C) → slice_get w.sent k ≡ Some x → IsAmongMembers n x
   message_within n events past w r k x h = let b = run_bounds m n events past w r in b.given x (k, h)

@@ -9,7 +9,7 @@ use Rattle.raft_model.specs.Quorums.{is_quorum, marked, number}
 use Rattle.raft_model.specs.Messages.{Message, Body, VoteRequest, VoteReply, Append, AppendReply, Install, InstallReply}
 use Rattle.raft_model.specs.Servers.{Server, Turn, Mode, Down, Follower, Candidate, Leader, is_up, is_leader, silent, met, grants, is_free_for, is_up_to_date, counted, with_votes, following, is_held, installed, acked, advanced_in, hears_ok, hears_refusal, beats, extended}
 use Rattle.raft_model.specs.Steps.{Input, Arrives, Timeout, Beat, Propose, Compact, Crash, Restart, receives, times_out, proposes, acts, wakes, step, admitted, unless}
-use Rattle.raft_safety.specs.SmallSteps.{IsAck, Came, Small, raises, stands, grants_vote, refuses, counts, wins, extends, follows, takes_append, takes_install, acks, backs, advances, covers, beats_all, Path, still, only, after_one, Turns, walks, resets}
+use Rattle.raft_safety.specs.SmallSteps.{IsAck, WasSent, Small, raises, stands, grants_vote, refuses, counts, wins, extends, follows, takes_append, takes_install, acks, backs, advances, covers, beats_all, Path, still, only, after_one, Turns, walks, resets}
 
 -- true or false
 pub bool_cases : (b : Bool) → (b ≡ true) ⊎ (b ≡ false)
@@ -28,7 +28,7 @@ same_ok a b h = cc
 
 -- what came to the server
 abbrev pub CameIn : {S C : Type 0} → Meaning S C → List (Message C) → ℕ → Input C → Type 0
-CameIn m sent i (Arrives message) = Came sent message × (message.to ≡ i)
+CameIn m sent i (Arrives message) = WasSent sent message × (message.to ≡ i)
 CameIn m sent i Timeout = Unit {0}
 CameIn m sent i Beat = Unit {0}
 CameIn m sent i (Propose command) = m.commands.Fits command
@@ -42,7 +42,7 @@ module _ {S C : Type 0} (m : Meaning S C) (n i : ℕ) (sent : List (Message C)) 
   PathTo s turn = Path m n i sent s turn.server turn.sent
 
   -- the vote
-  request_path : (s : Server C) (from term index its_last : ℕ) → Came sent (record { from = from; to = i; term = term; body = VoteRequest index its_last }) →
+  request_path : (s : Server C) (from term index its_last : ℕ) → WasSent sent (record { from = from; to = i; term = term; body = VoteRequest index its_last }) →
       PathTo s (receives m.noop n i s from term (VoteRequest index its_last))
   unfolding PathTo
   request_path s from term index its_last came = elim (bool_cases (grants s from term index its_last)) [
@@ -51,13 +51,13 @@ module _ {S C : Type 0} (m : Meaning S C) (n i : ℕ) (sent : List (Message C)) 
         let b = and_both (is_free_for s.vote from) (is_up_to_date s.log index its_last) a.1 in
         let same : term ≡ s.term = eqb-true term s.term a.0 in
         rw e (only (grants_vote from index its_last
-        (subst (λ t. Came sent (record { from = from; to = i; term = t; body = VoteRequest index its_last })) same came) b.0 b.1 refl
+        (subst (λ t. WasSent sent (record { from = from; to = i; term = t; body = VoteRequest index its_last })) same came) b.0 b.1 refl
         (ap (λ t. record { from = i; to = from; term = s.term; body = VoteReply t true } ∷ []) same)))
     | inr e ↦ rw e (only (refuses from term _ _ came tt refl refl))
   ]
 
   -- a vote that counts
-  votes_path : (s : Server C) (votes : List Bool) (from term : ℕ) → from < n → Came sent (record { from = from; to = i; term = term; body = VoteReply s.term true }) →
+  votes_path : (s : Server C) (votes : List Bool) (from term : ℕ) → from < n → WasSent sent (record { from = from; to = i; term = term; body = VoteReply s.term true }) →
       s.mode ≡ Candidate votes → PathTo s (silent (with_votes m.noop n s (slice_set votes from true)))
   unfolding PathTo
   votes_path s votes from term less came mode = elim (bool_cases (is_quorum n (marked (slice_set votes from true)))) [
@@ -67,7 +67,7 @@ module _ {S C : Type 0} (m : Meaning S C) (n i : ℕ) (sent : List (Message C)) 
   ]
 
   -- a vote, in each mode
-  counted_path : (s : Server C) (mode : Mode) (from term : ℕ) → from < n → Came sent (record { from = from; to = i; term = term; body = VoteReply s.term true }) →
+  counted_path : (s : Server C) (mode : Mode) (from term : ℕ) → from < n → WasSent sent (record { from = from; to = i; term = term; body = VoteReply s.term true }) →
       s.mode ≡ mode → PathTo s (silent (counted m.noop n s from mode))
   unfolding PathTo
   counted_path s Down from term less came mode = still refl refl
@@ -76,15 +76,15 @@ module _ {S C : Type 0} (m : Meaning S C) (n i : ℕ) (sent : List (Message C)) 
   counted_path s (Leader next match) from term less came mode = still refl refl
 
   -- a reply to a request for votes
-  vote_path : (s : Server C) (from term asked : ℕ) (granting : Bool) → from < n → Came sent (record { from = from; to = i; term = term; body = VoteReply asked granting }) →
+  vote_path : (s : Server C) (from term asked : ℕ) (granting : Bool) → from < n → WasSent sent (record { from = from; to = i; term = term; body = VoteReply asked granting }) →
       PathTo s (receives m.noop n i s from term (VoteReply asked granting))
   unfolding PathTo
   vote_path s from term asked granting less came = elim (bool_cases ((asked == s.term) && granting)) [
     | inl e ↦
         let a = and_both (asked == s.term) granting e in
         rw e (counted_path s s.mode from term less
-        (subst (λ t. Came sent (record { from = from; to = i; term = term; body = VoteReply t true })) (eqb-true asked s.term a.0)
-        (subst (λ b. Came sent (record { from = from; to = i; term = term; body = VoteReply asked b })) a.1 came)) refl)
+        (subst (λ t. WasSent sent (record { from = from; to = i; term = term; body = VoteReply t true })) (eqb-true asked s.term a.0)
+        (subst (λ b. WasSent sent (record { from = from; to = i; term = term; body = VoteReply asked b })) a.1 came)) refl)
     | inr e ↦ rw e (still refl refl)
   ]
 
@@ -94,7 +94,7 @@ module _ {S C : Type 0} (m : Meaning S C) (n i : ℕ) (sent : List (Message C)) 
 
   -- an Append
   append_path : (s : Server C) (from term prev prev_term commit : ℕ) (entries : List (Entry C)) → term ≤ s.term →
-      Came sent (record { from = from; to = i; term = term; body = Append prev prev_term commit entries }) →
+      WasSent sent (record { from = from; to = i; term = term; body = Append prev prev_term commit entries }) →
       PathTo s (receives m.noop n i s from term (Append prev prev_term commit entries))
   unfolding PathTo
   append_path s from term prev prev_term commit entries le came = elim (bool_cases (nat_lt term s.term)) [
@@ -104,7 +104,7 @@ module _ {S C : Type 0} (m : Meaning S C) (n i : ℕ) (sent : List (Message C)) 
       | inr l ↦ rw l (elim (bool_cases (is_held s prev prev_term)) [
         | inl h ↦ rw h (after_one (following s from) (follows from refl refl) (λ l. absurd (cc))
             (only (takes_append from prev prev_term commit entries
-            (subst (λ t. Came sent (record { from = from; to = i; term = t; body = Append prev prev_term commit entries })) (same_term term s le e) came) refl h refl refl)))
+            (subst (λ t. WasSent sent (record { from = from; to = i; term = t; body = Append prev prev_term commit entries })) (same_term term s le e) came) refl h refl refl)))
         | inr h ↦ rw h (after_one (following s from) (follows from refl refl) (λ l. absurd (cc)) (only (refuses from term _ _ came tt refl refl)))
       ])
     ])
@@ -112,7 +112,7 @@ module _ {S C : Type 0} (m : Meaning S C) (n i : ℕ) (sent : List (Message C)) 
 
   -- an Install
   install_path : (s : Server C) (from term : ℕ) (P : List (Entry C)) → term ≤ s.term →
-      Came sent (record { from = from; to = i; term = term; body = Install P }) → PathTo s (receives m.noop n i s from term (Install P))
+      WasSent sent (record { from = from; to = i; term = term; body = Install P }) → PathTo s (receives m.noop n i s from term (Install P))
   unfolding PathTo
   install_path s from term P le came = elim (bool_cases (nat_lt term s.term)) [
     | inl e ↦ rw e (only (refuses from term _ _ came refl refl refl))
@@ -120,7 +120,7 @@ module _ {S C : Type 0} (m : Meaning S C) (n i : ℕ) (sent : List (Message C)) 
       | inl l ↦ rw l (still refl refl)
       | inr l ↦ rw l (after_one (following s from) (follows from refl refl) (λ l. absurd (cc))
           (only (takes_install from P
-          (subst (λ t. Came sent (record { from = from; to = i; term = t; body = Install P })) (same_term term s le e) came) refl refl
+          (subst (λ t. WasSent sent (record { from = from; to = i; term = t; body = Install P })) (same_term term s le e) came) refl refl
           (ap (λ t. record { from = i; to = from; term = (installed (following s from) P).term; body = InstallReply t (length P) } ∷ []) (same_term term s le e)))))
     ])
   ]
@@ -134,7 +134,7 @@ module _ {S C : Type 0} (m : Meaning S C) (n i : ℕ) (sent : List (Message C)) 
   advance_path s (Leader next match) mode = only (advances next match mode refl refl)
 
   -- an ok
-  ok_path : (s : Server C) (mode : Mode) (from term at : ℕ) (body : Body C) → Came sent (record { from = from; to = i; term = term; body = body }) → IsAck body s.term at →
+  ok_path : (s : Server C) (mode : Mode) (from term at : ℕ) (body : Body C) → WasSent sent (record { from = from; to = i; term = term; body = body }) → IsAck body s.term at →
       s.mode ≡ mode → PathTo s (silent (hears_ok n i s from at mode))
   unfolding PathTo
   ok_path s Down from term at body came ack mode = still refl refl
@@ -157,7 +157,7 @@ module _ {S C : Type 0} (m : Meaning S C) (n i : ℕ) (sent : List (Message C)) 
   refusal_path s (Leader next match) from at mode = after_one _ (backs next match from at mode refl refl) (λ l. (ap is_leader mode, refl, refl)) (only (advances _ _ refl refl refl))
 
   -- a message of a term up to the server's own
-  receives_path : (s : Server C) (from term : ℕ) (body : Body C) → from < n → term ≤ s.term → Came sent (record { from = from; to = i; term = term; body = body }) →
+  receives_path : (s : Server C) (from term : ℕ) (body : Body C) → from < n → term ≤ s.term → WasSent sent (record { from = from; to = i; term = term; body = body }) →
       PathTo s (receives m.noop n i s from term body)
   unfolding PathTo
   receives_path s from term (VoteRequest index its_last) less le came = request_path s from term index its_last came
@@ -178,7 +178,7 @@ module _ {S C : Type 0} (m : Meaning S C) (n i : ℕ) (sent : List (Message C)) 
   ]
 
   -- also of a greater term
-  met_path : (s : Server C) (from term : ℕ) (body : Body C) → from < n → Came sent (record { from = from; to = i; term = term; body = body }) →
+  met_path : (s : Server C) (from term : ℕ) (body : Body C) → from < n → WasSent sent (record { from = from; to = i; term = term; body = body }) →
       PathTo s (receives m.noop n i (met term s) from term body)
   unfolding PathTo
   met_path s from term body less came = elim (bool_cases (nat_lt s.term term)) [
@@ -233,7 +233,7 @@ module _ {S C : Type 0} (m : Meaning S C) (n i : ℕ) (sent : List (Message C)) 
   unfolding PathTo TurnsTo
   acts_path s (Arrives message) turn up came h = elim (bool_cases (nat_lt message.from n)) [
     | inl e ↦ subst (λ t. TurnsTo s t) (same_ok _ _ (rw e at h)) (walks up (met_path s message.from message.term message.body (ltb-true message.from n e)
-        (subst (λ k. Came sent (record { from = message.from; to = k; term = message.term; body = message.body })) came.1 came.0)))
+        (subst (λ k. WasSent sent (record { from = message.from; to = k; term = message.term; body = message.body })) came.1 came.0)))
     | inr e ↦ absurd (let g = rw e at h in cc)
   ]
   acts_path s Timeout turn up came h = walks up (timeout_path s turn h)

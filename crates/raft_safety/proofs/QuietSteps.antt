@@ -10,7 +10,7 @@ use Rattle.raft_model.specs.Servers.{Server, Mode, Down, Follower, Candidate, Le
 use Rattle.raft_safety.specs.SmallSteps.{IsAck, OwesNothing, IsIdle}
 use Rattle.raft_safety.specs.Agreement.{Rooted}
 use Rattle.raft_safety.specs.Ballots.{Ballots, BallotsGrow, BallotsApart}
-use Rattle.raft_safety.specs.History.{History, Backed, Ledgers, UpToDate, Extends, Apart}
+use Rattle.raft_safety.specs.History.{History, Backed, Ledgers, UpToDate, Extends, DiffersAt}
 use Rattle.raft_safety.specs.Invariants.{LogOk, CandidateOk, LeaderOk, ModeOk, ServerOk, RequestOk, GrantOk, BodyOk, Keeps}
 use Rattle.raft_safety.proofs.Places.{marked_set, number_set, get-one}
 use Rattle.raft_safety.proofs.Paths.{bool_cases, and_both}
@@ -38,7 +38,7 @@ module _ {C : Type 0} where
 
   -- and are of one server
   pub revote_apart : (i : ℕ) (G : History C) (B : Ballots) (f : ℕ → ℕ → Option (List (Entry C))) → BallotsApart i G.ballots B →
-      ((j t : ℕ) → j ≢ i → f t j ≡ G.stood t j) → Apart i G (revote G B f)
+      ((j t : ℕ) → j ≢ i → f t j ≡ G.stood t j) → DiffersAt i G (revote G B f)
   unfolding revote
   revote_apart i G B f a h = record { ballots = a; stood = h; held = λ j u other. refl; leaders = λ j t other q. q; ledgers = λ j t other q. refl }
 

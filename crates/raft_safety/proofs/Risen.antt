@@ -1,4 +1,5 @@
--- Commit has risen as far as its rule lets it, at each moment: only a reply can make the rule's condition true, and there it is applied.
+-- Commit has risen as far as its rule lets it, at each moment: only a reply can make the rule's
+-- condition true, and there it is applied.
 use Rattle.std.proofs.Common.{◌≡◌, ◌≢◌, ℕ, zero, suc, ◌*◌, ◌<◌, ◌≤◌, inl, inr, Bool, true, ◌&&◌, ◌||◌, ◌==◌, nat_le, nat_lt, IsTrue, Some, List, [], ◌∷◌, ◌++◌, length, replicate, refl, sym, ap, ◌∙◌, subst, arith, slice_get, true≢false}
 use Rattle.std.proofs.lemmas.Bool.{eqb-true, eqb-false, leb-true, lt-ltb, eq-eqb}
 use Rattle.std.proofs.lemmas.Bool.Decides.{leb_tells}

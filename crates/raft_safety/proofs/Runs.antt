@@ -1,4 +1,5 @@
--- Moments of a run: each first part of it is a run, and between two neighbouring moments lies one event.
+-- Moments of a run: each first part of it is a run, and between two neighbouring moments lies one
+-- event.
 use Rattle.std.proofs.Common.{◌≡◌, ℕ, zero, suc, ◌≤◌, inl, inr, Some, Ok, List, [], ◌∷◌, ◌++◌, length, take, refl, sym, ap, ◌∙◌, subst, arith, slice_get, take_all}
 use Rattle.std.proofs.lemmas.Option.{same_Some}
 use Rattle.machine.specs.Meaning.{Meaning}

@@ -1,11 +1,12 @@
--- What the induction over a run carries: the history, the invariants by it, and the one list so far.
+-- What the induction over a run carries: the history, the invariants by it, and the one list so
+-- far.
 use Rattle.std.proofs.Common.{◌≡◌, ℕ, suc, ◌<◌, ◌≤◌, ◌⊎◌, inl, inr, Some, None, List, [], ◌∷◌, ◌++◌, length, take, refl, sym, ap, ◌∙◌, subst, arith, slice_get, true, false, length-take-le}
 use Rattle.std.proofs.lemmas.Bool.Decides.{leb_tells}
 use Rattle.machine.specs.Meaning.{Meaning, LawfulMachine}
 use Rattle.machine.specs.declared.entry.Entry.{Entry}
 use Rattle.raft_model.specs.Servers.{Server, Leader, is_up, newcomer}
 use Rattle.raft_model.specs.Worlds.{World, first, Event, Run, start, more, moment, Leads}
-use Rattle.raft_model.specs.Chains.{Agree, At, Reached}
+use Rattle.raft_model.specs.Chains.{Agree, At, WasCommitted}
 use Rattle.raft_safety.specs.Agreement.{Rooted}
 use Rattle.raft_safety.specs.Ballots.{Voter}
 use Rattle.raft_safety.specs.History.{History, Fixed, Ledgers}
@@ -97,7 +98,7 @@ pub record Story {S C : Type 0} (m : Meaning S C) (n : ℕ) (events : List (Even
   pub committed : (k i : ℕ) (s : Server C) → At past w k i s → Fixed n history s.term s.commit s.log
   pub rooted : (k i : ℕ) (s : Server C) → At past w k i s → Rooted history.ledger s.log
   pub agrees : (k i : ℕ) (s : Server C) → At past w k i s → Agree s.commit s.log list
-  pub longest : (list ≡ []) ⊎ Reached past w (length list)
+  pub longest : (list ≡ []) ⊎ WasCommitted past w (length list)
   pub complete : (k l i j t : ℕ) (s : Server C) (x : World C) → k ≤ l → At past w k i s → s.term ≤ t → moment past w l ≡ Some x → (leads : Leads x j t) →
       Agree s.commit list leads.server.log
 
@@ -111,7 +112,7 @@ module _ {C : Type 0} where
   ]
 
   -- what was reached stays so
-  reached_on : (past : List (World C)) (w next : World C) (c : ℕ) → Reached past w c → Reached (past ++ w ∷ []) next c
+  reached_on : (past : List (World C)) (w next : World C) (c : ℕ) → WasCommitted past w c → WasCommitted (past ++ w ∷ []) next c
   reached_on past w next c r = let a = r.at in record {
     moment = r.moment;
     who = r.who;
@@ -122,7 +123,7 @@ module _ {C : Type 0} where
   }
 
   -- what is reached now
-  reached_now : (past : List (World C)) (w : World C) (i : ℕ) (s : Server C) → slice_get w.servers i ≡ Some s → is_up s.mode ≡ true → Reached past w s.commit
+  reached_now : (past : List (World C)) (w : World C) (i : ℕ) (s : Server C) → slice_get w.servers i ≡ Some s → is_up s.mode ≡ true → WasCommitted past w s.commit
   reached_now past w i s h up = record { up = up; moment = length past; who = i; server = s; commit = refl; at = record { world = w; world_is = get-last past w; here = h } }
 
 -- a longer list, if a server has committed more
@@ -132,11 +133,11 @@ record Longer {C : Type 0} (n : ℕ) (H : History C) (past : List (World C)) (w 
   fixed : Fixed n H term (length list) list
   grows : Agree (length old) old list
   covers : new.commit ≤ length list
-  longest : (list ≡ []) ⊎ Reached past w (length list)
+  longest : (list ≡ []) ⊎ WasCommitted past w (length list)
 
 -- the list goes on where a server has committed more
 longer : {C : Type 0} (n : ℕ) (H : History C) (past : List (World C)) (w : World C) (i v : ℕ) (new : Server C) (old : List (Entry C)) → Ledgers n H → ServerOk n H i new →
-    slice_get w.servers i ≡ Some new → Fixed n H v (length old) old → ((old ≡ []) ⊎ Reached past w (length old)) → (is_up new.mode ≡ false → new.commit ≤ length old) → Longer n H past w new old
+    slice_get w.servers i ≡ Some new → Fixed n H v (length old) old → ((old ≡ []) ⊎ WasCommitted past w (length old)) → (is_up new.mode ≡ false → new.commit ≤ length old) → Longer n H past w new old
 longer n H past w i v new old I ok here f top low = elim (leb_tells new.commit (length old)) [
   | inl a ↦ record { list = old; term = v; fixed = f; grows = agree_self old; covers = a.1; longest = top }
   | inr a ↦
@@ -149,7 +150,7 @@ longer n H past w i v new old I ok here f top low = elim (leb_tells new.commit (
         fixed = subst (λ k. Fixed n H new.term k (take c new.log)) (sym size) (fixed_grow n H new.term c new.log (take c new.log) part ok.log.fixed);
         grows = agree_trans (fixed_two n H v new.term (length old) c (length old) old new.log I f ok.log.fixed (omega arith) (omega (arith, a.1))) (agree_less (length old) (omega (arith, a.1)) part);
         covers = omega (arith, size);
-        longest = inr (subst (λ k. Reached past w k) (sym size) (reached_now past w i new here (elim (bool_cases (is_up new.mode)) [ inl b ↦ b | inr b ↦ absurd (omega (arith, a.1, low b)) ])));
+        longest = inr (subst (λ k. WasCommitted past w k) (sym size) (reached_now past w i new here (elim (bool_cases (is_up new.mode)) [ inl b ↦ b | inr b ↦ absurd (omega (arith, a.1, low b)) ])));
       }
 ]
 

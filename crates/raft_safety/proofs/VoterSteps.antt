@@ -6,7 +6,7 @@ use Rattle.machine.specs.declared.entry.Entry.{Entry}
 use Rattle.raft_model.specs.Quorums.{marked, is_quorum}
 use Rattle.raft_model.specs.Messages.{Message, Body, VoteRequest, VoteReply, Append, AppendReply, Install, InstallReply}
 use Rattle.raft_model.specs.Servers.{Server, Mode, Follower, Candidate, Leader, stood, vote_request, is_free_for, installed, acked, beat_message, beat_body}
-use Rattle.raft_safety.specs.SmallSteps.{OwesNothing, IsIdle, Came, Small, raises, stands, grants_vote, refuses, counts, wins, extends, follows, takes_append, takes_install, acks, backs, advances, covers, beats_all, Path, still, only, after_one, Turns, walks, resets}
+use Rattle.raft_safety.specs.SmallSteps.{OwesNothing, IsIdle, WasSent, Small, raises, stands, grants_vote, refuses, counts, wins, extends, follows, takes_append, takes_install, acks, backs, advances, covers, beats_all, Path, still, only, after_one, Turns, walks, resets}
 use Rattle.raft_safety.specs.Ballots.{Ballots, cast, is_for, Elected, VoterMode, Voter, VoteBody, BallotsGrow}
 use Rattle.raft_safety.proofs.Quorums.{quorum_more, quorum_told}
 use Rattle.raft_safety.proofs.Places.{marked_set, only_marked, to_others_is, get-one}
@@ -20,7 +20,7 @@ pub record VotesKept {C : Type 0} (n : ℕ) (B : Ballots) (i : ℕ) (t : Server 
 
 -- all messages
 abbrev pub VotesSent : {C : Type 0} → Ballots → List (Message C) → Type 0
-VotesSent {C} B sent = (x : Message C) → Came sent x → VoteBody B x.from x.to x.body
+VotesSent {C} B sent = (x : Message C) → WasSent sent x → VoteBody B x.from x.to x.body
 
 -- a free vote goes to the one that has it
 free_is : (vote : Option ℕ) (c d : ℕ) → is_free_for vote c ≡ true → vote ≡ Some d → c ≡ d
@@ -77,7 +77,7 @@ module _ {S C : Type 0} (m : Meaning S C) (n : ℕ) (B : Ballots) (i : ℕ) (sen
       (λ g mine. mode_on n B (cast B i s.term c) i s.term s.mode g v.role)
 
   -- a vote counted
-  counts_votes : (votes : List Bool) (from term : ℕ) → Came sent (record { from = from; to = i; term = term; body = VoteReply s.term true }) → s.mode ≡ Candidate votes →
+  counts_votes : (votes : List Bool) (from term : ℕ) → WasSent sent (record { from = from; to = i; term = term; body = VoteReply s.term true }) → s.mode ≡ Candidate votes →
       Votes n B i s.term s.vote (Candidate (slice_set votes from true))
   unfolding VoterMode VoteBody
   counts_votes votes from term came mode =

@@ -11,7 +11,7 @@ use Rattle.raft_safety.specs.Functions.{with_at, with_both}
 use Rattle.raft_model.specs.Chains.{Agree}
 use Rattle.raft_safety.specs.Agreement.{Rooted}
 use Rattle.raft_safety.specs.Ballots.{Ballots, Elected, VoterMode}
-use Rattle.raft_safety.specs.History.{History, Carries, Ledgers, Extends, Apart}
+use Rattle.raft_safety.specs.History.{History, HasOrDead, Ledgers, Extends, DiffersAt}
 use Rattle.raft_safety.specs.Invariants.{LogOk, CandidateOk, LeaderOk, ModeOk, ServerOk, Keeps}
 use Rattle.raft_safety.proofs.Functions.{at_same, at_cases, at_other, both_cases, both_same, both_other, both_else}
 use Rattle.raft_safety.proofs.Logs.{agree_none, agree_sym, agree_trans, agree_less, agree_term, rooted_at}
@@ -52,7 +52,7 @@ module _ {C : Type 0} (P : List (Entry C) → Type 0) (n : ℕ) (G : History C) 
     (told : (G.leader s.term ≡ None) ⊎ (G.leader s.term ≡ Some i))
     (grows : Agree (length (G.ledger s.term)) (G.ledger s.term) (s.log ++ e ∷ []))
     (short : G.held s.term i ≤ length (s.log ++ e ∷ []))
-    (carry : (u k : ℕ) → u < s.term → 1 ≤ k → Carries n G u k s.log)
+    (carry : (u k : ℕ) → u < s.term → 1 ≤ k → HasOrDead n G u k s.log)
     (sound : ((u : ℕ) → P (G.ledger u)) → P (s.log ++ e ∷ [])) where
   -- the log with its new entry
   X : List (Entry C)
@@ -96,7 +96,7 @@ module _ {C : Type 0} (P : List (Entry C) → Type 0) (n : ℕ) (G : History C) 
     }
 
     -- nothing but of this server
-    apart : Apart i G H
+    apart : DiffersAt i G H
     unfolding H B X write
     apart = record {
       ballots = v.votes.apart;
@@ -154,7 +154,7 @@ module _ {C : Type 0} (P : List (Entry C) → Type 0) (n : ℕ) (G : History C) 
     ]
 
     -- it carries what earlier terms may have chosen
-    X_carries : (u k : ℕ) → u < s.term → 1 ≤ k → Carries n H u k X
+    X_carries : (u k : ℕ) → u < s.term → 1 ≤ k → HasOrDead n H u k X
     X_carries u k less one = carries_on n G H u k X extends one (carries_grow n G u k s.log X (longer (length s.log) (omega arith)) (carry u k less one))
 
     -- its leader was elected
@@ -192,8 +192,8 @@ module _ {C : Type 0} (P : List (Entry C) → Type 0) (n : ℕ) (G : History C) 
         | inr q ↦ omega (arith, I.late u c (sym q.1 ∙ h), extends.ballots.terms c)
       ];
       carries = λ w u k some less one. elim (at_cases G.ledger s.term X w) [
-        | inl q ↦ subst (λ Y. Carries n H u k Y) (sym q.1) (X_carries u k (omega (arith, less, q.0)) one)
-        | inr q ↦ subst (λ Y. Carries n H u k Y) (sym q.1) (carries_on n G H u k (G.ledger w) extends one (I.carries w u k (omega (arith, some, ap length q.1)) less one))
+        | inl q ↦ subst (λ Y. HasOrDead n H u k Y) (sym q.1) (X_carries u k (omega (arith, less, q.0)) one)
+        | inr q ↦ subst (λ Y. HasOrDead n H u k Y) (sym q.1) (carries_on n G H u k (G.ledger w) extends one (I.carries w u k (omega (arith, some, ap length q.1)) less one))
       ];
       reaches = λ u j. elim (both_cases G.held s.term i (length X) u j) [
         | inl q ↦ omega (arith, q.2, ap (λ w. length (with_at G.ledger s.term X w)) q.0, ap length (at_same G.ledger s.term X))
@@ -203,7 +203,7 @@ module _ {C : Type 0} (P : List (Entry C) → Type 0) (n : ℕ) (G : History C) 
     }
 
     -- what it acknowledged
-    X_holds : (u k : ℕ) → 1 ≤ k → k ≤ H.held u i → Carries n H u k X
+    X_holds : (u k : ℕ) → 1 ≤ k → k ≤ H.held u i → HasOrDead n H u k X
     unfolding H write
     X_holds u k one le own = elim (both_cases G.held s.term i (length X) u i) [
       | inl q ↦ inr (subst (λ Y. Agree k Y X) (sym (ap (with_at G.ledger s.term X) q.0 ∙ at_same G.ledger s.term X)) (agree_less k (omega (arith, le, q.2)) (agree_self X)))
@@ -281,7 +281,7 @@ module _ {C : Type 0} (P : List (Entry C) → Type 0) (n : ℕ) (G : History C) 
       write_keeps P n G i s I ok e refl (inr l.leads)
       (subst (λ L. Agree (length L) L (s.log ++ e ∷ [])) l.wrote (agree_append (length s.log) s.log (e ∷ []) (omega arith)))
       (omega (arith, l.whole, size))
-      (λ u k less one. subst (λ L. Carries n G u k L) (sym l.wrote) (I.carries s.term u k (I.led s.term i l.leads) less one))
+      (λ u k less one. subst (λ L. HasOrDead n G u k L) (sym l.wrote) (I.carries s.term u k (I.led s.term i l.leads) less one))
       (λ all. push (subst P (sym l.wrote) (all s.term)))
       next match s.mode mode out o l.matched l.next_from (λ j less other. omega (arith, l.next_to j less other, size)) v
 

@@ -7,8 +7,9 @@ use Rattle.raft_model.specs.Chains.{Agree}
 use Rattle.raft_safety.specs.Agreement.{Rooted}
 use Rattle.raft_safety.specs.Ballots.{Ballots, Elected, BallotsGrow, BallotsApart}
 
--- ballots: terms and votes. stood: the log with which a server stood in a term. leader: who won a term. ledger: the log of
--- a term's leader, as far as it got while it led. held: the greatest index that a server acknowledged in a term.
+-- ballots: terms and votes. stood: the log with which a server stood in a term. leader: who won a
+-- term. ledger: the log of a term's leader, as far as it got while it led. held: the greatest index
+-- that a server acknowledged in a term.
 pub record History (C : Type 0) : Type 0 where
   pub ballots : Ballots
   pub stood : ℕ → ℕ → Option (List (Entry C))
@@ -33,8 +34,8 @@ module _ {C : Type 0} where
     pub quorum : Quorum n (λ i. nat_le k (G.held u i))
 
   -- X has what index k of term u stands for, or it can't be chosen any more
-  abbrev pub Carries : ℕ → History C → ℕ → ℕ → List (Entry C) → Type 0
-  Carries n G u k X = Own G u k → Dead n G u k ⊎ Agree k (G.ledger u) X
+  abbrev pub HasOrDead : ℕ → History C → ℕ → ℕ → List (Entry C) → Type 0
+  HasOrDead n G u k X = Own G u k → Dead n G u k ⊎ Agree k (G.ledger u) X
 
   -- the first k of X are those of a ledger, below an index that was chosen in a term up to v
   pub record FixedBy (n : ℕ) (G : History C) (v k : ℕ) (X : List (Entry C)) : Type 0 where
@@ -52,7 +53,7 @@ module _ {C : Type 0} where
   -- what i had acknowledged before it voted in t is in L
   pub record Backed (n : ℕ) (G : History C) (t i : ℕ) (L : List (Entry C)) : Type 0 where
     pub late : t ≤ G.ballots.term i
-    pub carries : (u k : ℕ) → u < t → 1 ≤ k → k ≤ G.held u i → Carries n G u k L
+    pub carries : (u k : ℕ) → u < t → 1 ≤ k → k ≤ G.held u i → HasOrDead n G u k L
 
   -- what holds of the history alone
   pub record Ledgers (n : ℕ) (G : History C) : Type 0 where
@@ -62,7 +63,7 @@ module _ {C : Type 0} where
     pub led : (t c : ℕ) → G.leader t ≡ Some c → 1 ≤ length (G.ledger t)
     pub elected : (t c : ℕ) → G.leader t ≡ Some c → Elected n G.ballots t c
     pub late : (t c : ℕ) → G.leader t ≡ Some c → t ≤ G.ballots.term c
-    pub carries : (t u k : ℕ) → 1 ≤ length (G.ledger t) → u < t → 1 ≤ k → Carries n G u k (G.ledger t)
+    pub carries : (t u k : ℕ) → 1 ≤ length (G.ledger t) → u < t → 1 ≤ k → HasOrDead n G u k (G.ledger t)
     pub reaches : (u i : ℕ) → G.held u i ≤ length (G.ledger u)
     pub stands : (t c : ℕ) (L : List (Entry C)) → G.stood t c ≡ Some L → Rooted G.ledger L
 
@@ -80,7 +81,7 @@ module _ {C : Type 0} where
     pub leaders : (t c : ℕ) → G.leader t ≡ Some c → H.leader t ≡ Some c
 
   -- only server i's part differs
-  pub record Apart (i : ℕ) (G H : History C) : Type 0 where
+  pub record DiffersAt (i : ℕ) (G H : History C) : Type 0 where
     pub ballots : BallotsApart i G.ballots H.ballots
     pub stood : (j t : ℕ) → j ≢ i → H.stood t j ≡ G.stood t j
     pub held : (j u : ℕ) → j ≢ i → H.held u j ≡ G.held u j

@@ -5,11 +5,11 @@ use Rattle.raft_model.specs.Logs.{MAX, term_at, last_term}
 use Rattle.raft_model.specs.Quorums.{marked, number}
 use Rattle.raft_model.specs.Messages.{Message, Body, VoteRequest, VoteReply, Append, AppendReply, Install, InstallReply}
 use Rattle.raft_model.specs.Servers.{Server, Mode, Down, Follower, Candidate, Leader, is_leader}
-use Rattle.raft_safety.specs.SmallSteps.{Came}
+use Rattle.raft_safety.specs.SmallSteps.{WasSent}
 use Rattle.raft_model.specs.Chains.{Agree}
 use Rattle.raft_safety.specs.Agreement.{Rooted}
 use Rattle.raft_safety.specs.Ballots.{Voter, VoteBody}
-use Rattle.raft_safety.specs.History.{History, Carries, Fixed, Backed, Ledgers, Extends, Apart}
+use Rattle.raft_safety.specs.History.{History, HasOrDead, Fixed, Backed, Ledgers, Extends, DiffersAt}
 
 module _ {C : Type 0} (n : ℕ) (G : History C) where
   -- the log of server j in this term
@@ -17,7 +17,7 @@ module _ {C : Type 0} (n : ℕ) (G : History C) where
     pub terms : (p : ℕ) → 1 ≤ p → p ≤ length log → term_at log p ≤ term
     pub rooted : Rooted G.ledger log
     -- what was acknowledged is still there, or can't be chosen any more
-    pub holds : (u k : ℕ) → 1 ≤ k → k ≤ G.held u j → Carries n G u k log
+    pub holds : (u k : ℕ) → 1 ≤ k → k ≤ G.held u j → HasOrDead n G u k log
     pub based : covered ≤ commit
     pub within : commit ≤ length log
     pub fixed : Fixed n G term commit log
@@ -99,13 +99,14 @@ module _ {C : Type 0} (n : ℕ) (G : History C) where
 
   -- all messages
   abbrev pub SentOk : List (Message C) → Type 0
-  SentOk sent = (x : Message C) → Came sent x → MessageOk x
+  SentOk sent = (x : Message C) → WasSent sent x → MessageOk x
 
--- the history after a step of server i, which is t then and has said `out`; P is what each ledger keeps besides
+-- the history after a step of server i, which is t then and has said `out`; P is what each ledger
+-- keeps besides
 pub record Keeps {C : Type 0} (P : List (Entry C) → Type 0) (n : ℕ) (G : History C) (i : ℕ) (t : Server C) (out : List (Message C)) : Type 0 where
   pub after : History C
   pub extends : Extends G after
-  pub apart : Apart i G after
+  pub apart : DiffersAt i G after
   pub ledgers : Ledgers n after
   pub own : ServerOk n after i t
   pub says : (k : ℕ) (x : Message C) → slice_get out k ≡ Some x → MessageOk n after x

@@ -1,4 +1,5 @@
--- Each event is a few small steps of one server in a row. What a run keeps is proved for each of these.
+-- Each event is a few small steps of one server in a row. What a run keeps is proved for each of
+-- these.
 use Rattle.std.specs.Prelude.{◌≡◌, ℕ, ◌+◌, ◌<◌, Bool, true, false, Some, None, List, [], ◌∷◌, length, slice_get, slice_set}
 use Rattle.machine.specs.Meaning.{Meaning}
 use Rattle.machine.specs.declared.entry.Entry.{Entry}
@@ -41,25 +42,25 @@ abbrev pub Passes : {C : Type 0} → Server C → Server C → Type 0
 Passes s r = is_leader r.mode ≡ true → (is_leader s.mode ≡ true) × (r.term ≡ s.term) × (r.log ≡ s.log)
 
 -- a message that was sent
-abbrev pub Came : {C : Type 0} → List (Message C) → Message C → Type 0
-Came sent message = (k : ℕ) × (slice_get sent k ≡ Some message)
+abbrev pub WasSent : {C : Type 0} → List (Message C) → Message C → Type 0
+WasSent sent message = (k : ℕ) × (slice_get sent k ≡ Some message)
 
 module _ {S C : Type 0} (m : Meaning S C) (n i : ℕ) (sent : List (Message C)) where
   -- server i goes from s to t, and says `out`
   pub data Small (s t : Server C) (out : List (Message C)) : Type 0 where
     -- a message of a greater term
-    raises : (message : Message C) → Came sent message → s.term < message.term → t ≡ record s { term = message.term; vote = None; known = None; mode = Follower } → out ≡ [] → Small s t out
+    raises : (message : Message C) → WasSent sent message → s.term < message.term → t ≡ record s { term = message.term; vote = None; known = None; mode = Follower } → out ≡ [] → Small s t out
     -- a timeout
     stands : s.term < MAX → length s.log < MAX → t ≡ stood n i s → out ≡ to_others i (vote_request i (stood n i s)) n → Small s t out
     -- a vote that is free, for a candidate that is up to date
-    grants_vote : (from index its_last : ℕ) → Came sent (record { from = from; to = i; term = s.term; body = VoteRequest index its_last }) →
+    grants_vote : (from index its_last : ℕ) → WasSent sent (record { from = from; to = i; term = s.term; body = VoteRequest index its_last }) →
         is_free_for s.vote from ≡ true → is_up_to_date s.log index its_last ≡ true → t ≡ record s { vote = Some from } →
         out ≡ record { from = i; to = from; term = s.term; body = VoteReply s.term true } ∷ [] → Small s t out
     -- an answer that owes nothing
-    refuses : (from term : ℕ) (request answer : Body C) → Came sent (record { from = from; to = i; term = term; body = request }) → OwesNothing answer →
+    refuses : (from term : ℕ) (request answer : Body C) → WasSent sent (record { from = from; to = i; term = term; body = request }) → OwesNothing answer →
         t ≡ s → out ≡ record { from = i; to = from; term = s.term; body = answer } ∷ [] → Small s t out
     -- a vote that came
-    counts : (votes : List Bool) (from term : ℕ) → from < n → Came sent (record { from = from; to = i; term = term; body = VoteReply s.term true }) →
+    counts : (votes : List Bool) (from term : ℕ) → from < n → WasSent sent (record { from = from; to = i; term = term; body = VoteReply s.term true }) →
         s.mode ≡ Candidate votes → t ≡ record s { mode = Candidate (slice_set votes from true) } → out ≡ [] → Small s t out
     -- a quorum's votes
     wins : (votes : List Bool) → s.mode ≡ Candidate votes → is_quorum n (marked votes) ≡ true → t ≡ won m.noop n s → out ≡ [] → Small s t out
@@ -69,14 +70,14 @@ module _ {S C : Type 0} (m : Meaning S C) (n i : ℕ) (sent : List (Message C)) 
     follows : (from : ℕ) → t ≡ following s from → out ≡ [] → Small s t out
     -- entries that begin where the log is held
     takes_append : (from prev prev_term commit : ℕ) (entries : List (Entry C)) →
-        Came sent (record { from = from; to = i; term = s.term; body = Append prev prev_term commit entries }) → s.mode ≡ Follower →
+        WasSent sent (record { from = from; to = i; term = s.term; body = Append prev prev_term commit entries }) → s.mode ≡ Follower →
         is_held s prev prev_term ≡ true → t ≡ appended s prev commit entries →
         out ≡ record { from = i; to = from; term = s.term; body = AppendReply s.term true (prev + length entries) } ∷ [] → Small s t out
     -- a snapshot
-    takes_install : (from : ℕ) (P : List (Entry C)) → Came sent (record { from = from; to = i; term = s.term; body = Install P }) → s.mode ≡ Follower →
+    takes_install : (from : ℕ) (P : List (Entry C)) → WasSent sent (record { from = from; to = i; term = s.term; body = Install P }) → s.mode ≡ Follower →
         t ≡ installed s P → out ≡ record { from = i; to = from; term = (installed s P).term; body = InstallReply s.term (length P) } ∷ [] → Small s t out
     -- an ok that came
-    acks : (next match : List ℕ) (from term at : ℕ) (body : Body C) → Came sent (record { from = from; to = i; term = term; body = body }) → IsAck body s.term at →
+    acks : (next match : List ℕ) (from term at : ℕ) (body : Body C) → WasSent sent (record { from = from; to = i; term = term; body = body }) → IsAck body s.term at →
         s.mode ≡ Leader next match → t ≡ acked s from at next match → out ≡ [] → Small s t out
     -- a refusal that came
     backs : (next match : List ℕ) (from at : ℕ) → s.mode ≡ Leader next match → t ≡ backed s from at next match → out ≡ [] → Small s t out

@@ -1,2 +1,4 @@
 mod Names
 mod Ascii
+pub mod KeyLaws
+pub mod RisingLaws

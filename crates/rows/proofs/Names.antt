@@ -1,8 +1,20 @@
 -- A name's bytes, put in front of zeros.
-use Rattle.std.proofs.Common.{◌≡◌, ℕ, ◌-◌, ◌≤◌, List, ◌++◌, length, take, drop, replicate, refl, sym, arith, subst, length-append, true}
+use Rattle.std.proofs.Common.{◌≡◌, ℕ, ◌-◌, ◌≤◌, ◌&&◌, List, ◌++◌, length, take, drop, replicate, refl, sym, arith, subst, length-append, leb, true}
+use Rattle.std.specs.Cmp.{first_so, second_so}
+use Rattle.std.specs.List.{list_all}
+use Rattle.std.proofs.lemmas.Bool.{leb-true}
 use Rattle.std.proofs.lemmas.List.{take_at, drop_at, drop-replicate, length-replicate}
-use Rattle.rows.specs.Names.{is_name, NameFits}
-use Rattle.rows.specs.NameLaws.{name_by_test}
+use Rattle.rows.specs.Names.{is_name, is_name_byte, NameFits}
+
+-- the test of a name is the fact
+name_by_test : (s : List ℕ) → is_name s ≡ true → NameFits s
+name_by_test s name =
+    let letters = list_all is_name_byte s in
+    let counts = first_so (leb 1 (length s) && leb (length s) 32) letters name in (
+      leb-true 1 (length s) (first_so (leb 1 (length s)) (leb (length s) 32) counts),
+      leb-true (length s) 32 (second_so (leb 1 (length s)) (leb (length s) 32) counts),
+      second_so (leb 1 (length s) && leb (length s) 32) letters name,
+    )
 
 pub put_in_front : (s cells : List ℕ) → cells ≡ s → is_name s ≡ true
     → (length (cells ++ drop (length s) (replicate 32 0)) ≡ 32) × (length s ≤ 32) × NameFits (take (length s) (cells ++ drop (length s) (replicate 32 0)))

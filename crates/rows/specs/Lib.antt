@@ -1,15 +1,13 @@
 pub mod Refusals
 pub mod Words
 pub mod Names
-pub mod NameLaws
 pub mod Rising
-pub mod RisingLaws
 pub mod Ids
 pub mod Groups
 pub mod Batches
 pub mod Keys
-pub mod KeyLaws
 pub mod Fits
 pub mod State
 pub mod Tables
 pub mod Changes
+pub mod Laws

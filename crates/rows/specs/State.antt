@@ -1,4 +1,5 @@
--- The replicated state: how many entries were applied, and four tables, each in strictly rising key.
+-- The replicated state: how many entries were applied, and four tables, each in strictly rising
+-- key.
 use Rattle.std.specs.Prelude.{ℕ, List}
 use Rattle.rows.specs.declared.job.Job.{Job}
 use Rattle.rows.specs.declared.node.Node.{Node}

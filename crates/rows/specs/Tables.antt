@@ -1,4 +1,5 @@
--- Which states there are: each table within its limit, in rising key, and each row's parts within their limits.
+-- Which states there are: each table within its limit, in rising key, and each row's parts within
+-- their limits.
 use Rattle.std.specs.Prelude.{ℕ, ◌≡◌, ◌≤◌, true, List, length}
 use Rattle.std.specs.List.{AllByRecursion}
 use Rattle.std.specs.Ordering.{nat_cmp}

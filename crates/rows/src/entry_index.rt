@@ -3,8 +3,8 @@ ghost use Rattle.std.specs.Prelude.{◌≡◌, ◌<◌, ◌≤◌, ◌^◌, ◌+
 use crate::index::Index;
 use std::marker::Model;
 
-/// The place of an entry in the log, from 1 to 2^40 - 1; ids of evaluations and allocations name the entry that made them.
-/// (Raft, extended version 2014, section 5.3.) Contracts see its number.
+/// The place of an entry in the log, from 1 to 2^40 - 1; ids of evaluations and allocations name
+/// the entry that made them. (Raft, extended version 2014, section 5.3.) Contracts see its number.
 #[derive(Clone, Copy, Debug, PartialEq, Eq, PartialOrd, Ord)]
 pub struct EntryIndex(u64);
 

@@ -13,7 +13,8 @@ use crate::size::Size;
 use std::alloc::Global;
 use std::marker::Model;
 
-/// How urgent a job is, from 1 to 100, the greatest first. (Nomad documentation, "job block".) Contracts see its number.
+/// How urgent a job is, from 1 to 100, the greatest first. (Nomad documentation, "job block".)
+/// Contracts see its number.
 #[derive(Clone, Copy, Debug, PartialEq, Eq, PartialOrd, Ord)]
 pub struct Priority(u8);
 
@@ -54,7 +55,8 @@ impl Priority {
     }
 }
 
-/// How many allocations a group is to have, from 0 to 64. (Nomad documentation, "group block".) Contracts see its number.
+/// How many allocations a group is to have, from 0 to 64. (Nomad documentation, "group block".)
+/// Contracts see its number.
 #[derive(Clone, Copy, Debug, PartialEq, Eq, PartialOrd, Ord)]
 pub struct GroupCount(u8);
 
@@ -269,8 +271,8 @@ impl Ranged for Job {
 }
 
 impl Job {
-    /// What is asked of a job, from its parts. `OutOfRange` where the priority is not from 1 to 100, or the groups are not 1
-    /// to 8 with distinct names.
+    /// What is asked of a job, from its parts. `OutOfRange` where the priority is not from 1 to
+    /// 100, or the groups are not 1 to 8 with distinct names.
     pub fn check(name: JobName, priority: u8, groups: Sequence<Group>) -> Result<JobSpec, Refusal>
         ensures ok { IfOk result (λ job. (job.name ≡ name) × (job.priority ≡ priority) × (job.groups ≡ groups) × PriorityFits priority × AreGroups groups) }
         ensures err { IfErr result (λ e. (e ≡ refusals.OutOfRange) × (PriorityFits priority → AreGroups groups → ⊥)) }

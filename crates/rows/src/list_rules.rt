@@ -22,7 +22,8 @@ pub fn all_ranges<T: Ranged>(items: &[T])
     }
 }
 
-/// A type whose lists keep a rule, as an order or that there are no doubles: which value may stand behind which others.
+/// A type whose lists keep a rule, as an order or that there are no doubles: which value may stand
+/// behind which others.
 pub trait Ruled: Sized {
     /// Whether a value may stand behind those in front of it.
     ghost rule: { List Self → Self → Bool };

@@ -8,8 +8,8 @@ use std::cmp::Ordering;
 use std::fmt;
 use std::marker::Model;
 
-/// A name of a job, a group or a class: 1 to 32 bytes of `a` to `z`, `0` to `9` and `-`. Contracts see the list of its
-/// bytes. Names are ordered by their bytes.
+/// A name of a job, a group or a class: 1 to 32 bytes of `a` to `z`, `0` to `9` and `-`. Contracts
+/// see the list of its bytes. Names are ordered by their bytes.
 #[derive(Clone, Copy, Debug)]
 pub struct Name {
     /// The bytes, and zeros behind them.
@@ -29,7 +29,7 @@ pub type ClassName = Name;
 impl Model for Name {
     ghost use Rattle.std.specs.Prelude.{ℕ, List, ◌≡◌, ◌++◌, ◌-◌, ◌≤◌, length, take, drop, replicate};
     ghost use Rattle.rows.specs.Names.{NameFits};
-    ghost use Rattle.rows.specs.NameLaws.{bytes_back, size_back};
+    ghost use Rattle.rows.specs.Laws.NameLaws.{bytes_back, size_back};
 
     ghost Value = { List ℕ };
 

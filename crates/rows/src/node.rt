@@ -7,7 +7,8 @@ use crate::size::Size;
 use std::fmt;
 use std::marker::Model;
 
-/// A node, numbered from 1 to 64: the one whose agent is the client of its number. Contracts see its number.
+/// A node, numbered from 1 to 64: the one whose agent is the client of its number. Contracts see
+/// its number.
 #[derive(Clone, Copy, Debug, PartialEq, Eq, PartialOrd, Ord)]
 pub struct NodeId(u8);
 

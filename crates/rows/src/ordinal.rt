@@ -2,8 +2,8 @@ ghost use Rattle.std.specs.Prelude.{◌≡◌, ◌<◌, ◌≤◌, IfSome, IfNon
 
 use std::marker::Model;
 
-/// Which of at most 64, counted from 0: the index of an allocation among those of its group, and the place of an allocation
-/// among those that one entry makes. Contracts see its number.
+/// Which of at most 64, counted from 0: the index of an allocation among those of its group, and
+/// the place of an allocation among those that one entry makes. Contracts see its number.
 #[derive(Clone, Copy, Debug, PartialEq, Eq, PartialOrd, Ord)]
 pub struct Ordinal(u8);
 

@@ -31,8 +31,8 @@ impl Ranged for Place {
     }
 }
 
-/// What a scheduling worker submits for an evaluation: stops and places for its job. (Nomad documentation, "Scheduling in
-/// Nomad": allocation plan.)
+/// What a scheduling worker submits for an evaluation: stops and places for its job. (Nomad
+/// documentation, "Scheduling in Nomad": allocation plan.)
 #[derive(Drop)]
 pub struct Plan {
     /// The evaluation that was worked on.

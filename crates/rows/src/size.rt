@@ -47,8 +47,8 @@ impl Quantity {
     }
 }
 
-/// What a node has, or an allocation takes: processor time in MHz and memory in MB. (Nomad documentation, "resources
-/// block".)
+/// What a node has, or an allocation takes: processor time in MHz and memory in MB. (Nomad
+/// documentation, "resources block".)
 #[derive(Clone, Copy, Debug, PartialEq, Eq)]
 pub struct Size {
     /// Processor time, in MHz.

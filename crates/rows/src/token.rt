@@ -5,8 +5,8 @@ use crate::index::Index;
 use crate::list_rules::Ranged;
 use std::marker::Model;
 
-/// The term of a leader, from 1 to 2^40 - 1: term 0 has none. (Raft, extended version 2014, section 5.1.) Contracts see its
-/// number.
+/// The term of a leader, from 1 to 2^40 - 1: term 0 has none. (Raft, extended version 2014, section
+/// 5.1.) Contracts see its number.
 #[derive(Clone, Copy, Debug, PartialEq, Eq, PartialOrd, Ord)]
 pub struct LeaderTerm(u64);
 
@@ -82,8 +82,9 @@ impl Serial {
     }
 }
 
-/// What tells one delivery of an evaluation from all others: the term of the leader that delivered it, and a serial of that
-/// leader's. (Nomad documentation, "Scheduling": a dequeued evaluation has a token.)
+/// What tells one delivery of an evaluation from all others: the term of the leader that delivered
+/// it, and a serial of that leader's. (Nomad documentation, "Scheduling": a dequeued evaluation has
+/// a token.)
 #[derive(Clone, Copy, Debug, PartialEq, Eq)]
 pub struct Token {
     /// The term of the leader that delivered.
@@ -92,8 +93,8 @@ pub struct Token {
     pub serial: Serial,
 }
 
-/// An evaluation that a scheduling worker was given, under which token, and the least index of the state from which it may
-/// plan.
+/// An evaluation that a scheduling worker was given, under which token, and the least index of the
+/// state from which it may plan.
 #[derive(Clone, Copy, Debug, PartialEq, Eq)]
 pub struct Delivery {
     /// The evaluation.

@@ -7,13 +7,13 @@ use Rattle.std.proofs.lemmas.List.Elements.{All-append, All-cons}
 use Rattle.std.proofs.lemmas.List.Splits.{slice_split_at, slice_split_none}
 use Rattle.rows.specs.declared.job.Group.{Group}
 use Rattle.rows.specs.Fits.{GroupFits}
-use Rattle.runner.specs.Requests.{Lacks, group_text}
+use Rattle.runner.specs.Requests.{IsWithout, group_text}
 use Rattle.runner.proofs.Words.{decimal_lacks, name_lacks}
 
-colon : (front back : List ℕ) → Lacks 44 front → Lacks 44 back → Lacks 44 (front ++ 58 ∷ back)
+colon : (front back : List ℕ) → IsWithout 44 front → IsWithout 44 back → IsWithout 44 (front ++ 58 ∷ back)
 colon front back f b = All-append (λ c. c ≢ 44) front (58 ∷ back) f (All-cons (λ c. c ≢ 44) 58 back (λ e. omega arith) b)
 
-group_lacks : (g : Group) → GroupFits g → Lacks 44 (group_text g)
+group_lacks : (g : Group) → GroupFits g → IsWithout 44 (group_text g)
 group_lacks g fits =
     colon g.name _ (name_lacks 44 g.name refl fits.0.2) (
     colon (decimal g.count) _ (decimal_lacks 44 g.count (λ h. omega arith) (omega arith)) (
@@ -21,7 +21,7 @@ group_lacks g fits =
     colon (decimal g.size.cpu) _ (decimal_lacks 44 g.size.cpu (λ h. omega arith) (omega arith))
     (decimal_lacks 44 g.size.mem (λ h. omega arith) (omega arith)))))
 
-no_comma : (text : List ℕ) → Lacks 44 text → All (λ b. eqb b 44 ≡ false) text
+no_comma : (text : List ℕ) → IsWithout 44 text → All (λ b. eqb b 44 ≡ false) text
 no_comma text lacks k d lt = ne_eqb (get_or text k d) 44 (lacks k d lt)
 
 pub parts_of : (gs : List Group) → AllByRecursion GroupFits gs → 1 ≤ length gs

@@ -11,8 +11,8 @@ use Rattle.runner.specs.declared.request.Request.{Request}
 use Rattle.runner.specs.declared.request.Request.TheVariants.{Put, Stop, Eval, Drain}
 
 -- no byte of the text is the separator
-abbrev pub Lacks : ℕ → List ℕ → Type 0
-Lacks separator text = All (λ b. b ≢ separator) text
+abbrev pub IsWithout : ℕ → List ℕ → Type 0
+IsWithout separator text = All (λ b. b ≢ separator) text
 
 -- a group's name, count, class, processor time and memory, with colons between
 abbrev pub group_text : Group → List ℕ

@@ -2,6 +2,7 @@
 ghost use Rattle.std.specs.Prelude.{◌≡◌, ◌≤◌, ◌⊎◌, [], IfErr, IfOk, map};
 ghost use Rattle.clap.specs.Words.{fault_of};
 ghost use Rattle.runner.specs.Faults.{IsExit, IsStatus, MayEndBy};
+ghost use Rattle.runner.specs.Objects.{IsGroup};
 ghost use Rattle.runner.specs.Words.{nomadsim_app};
 
 use crate::command::{CommandLine, command};
@@ -99,7 +100,9 @@ fn run_scenario<'a, F: Shelf, W: Write>(
     Ok(status)
 }
 
-fn load<'a, F: Shelf>(alloc: Global, shelf: &mut F, file: &'a str) -> Result<Scenario, Fault<'a>> {
+fn load<'a, F: Shelf>(alloc: Global, shelf: &mut F, file: &'a str) -> Result<Scenario, Fault<'a>>
+    ensures { IfOk result (λ scenario. IsGroup scenario.settings.servers) }
+{
     let bytes = match shelf.read(file) {
         Ok(bytes) => bytes,
         Err(ShelfFault::NoMemory) => return Err(Fault::NoMemory),
@@ -141,14 +144,19 @@ struct Play {
 }
 
 impl Play {
-    fn new(alloc: Global, servers: u8) -> Result<Play, NoMemory> {
+    fn new(alloc: Global, servers: u8) -> Result<Play, NoMemory>
+        requires { IsGroup servers }
+    {
         match RaftWorld::new(alloc, usize::from(servers)) {
             Ok(world) => Ok(Play {
                 world,
                 flight: Flight::new(alloc),
             }),
-            // The size of the group is one that a scenario may have.
-            Err(_) => Err(NoMemory),
+            Err(refusal) => match refusal {
+                Refusal::NoMemory => Err(NoMemory),
+                // A group of a scenario's size is made.
+                _ => unreachable!(),
+            },
         }
     }
 

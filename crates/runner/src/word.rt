@@ -2,7 +2,7 @@
 ghost use Rattle.std.specs.Prelude.{◌≡◌, ◌<◌, ◌+◌, ◌^◌, ◌++◌, ◌∷◌, ℕ, List, Some, IfSome, IsSomeAnd, decimal};
 ghost use Rattle.rows.specs.Fits.{GroupCountFits, NodeIdFits, PriorityFits, QuantityFits};
 ghost use Rattle.rows.specs.Names.{NameFits};
-ghost use Rattle.runner.specs.Requests.{Lacks};
+ghost use Rattle.runner.specs.Requests.{IsWithout};
 
 use itoa::Buffer;
 use rows::{GroupCount, Name, NodeId, Priority, Quantity, ServerId};
@@ -11,7 +11,7 @@ use rows::{GroupCount, Name, NodeId, Priority, Quantity, ServerId};
 pub fn cut(text: &str, separator: char) -> Option<(&str, &str)>
     requires { separator < 128 }
     ensures parts { IfSome result (λ parts. text.now ≡ parts.0.now ++ separator ∷ parts.1.now) }
-    ensures first { (front back : List ℕ) → Lacks separator front → text.now ≡ front ++ separator ∷ back
+    ensures first { (front back : List ℕ) → IsWithout separator front → text.now ≡ front ++ separator ∷ back
         → IsSomeAnd result (λ parts. (parts.0.now ≡ front) × (parts.1.now ≡ back)) }
 {
     text.split_once(separator)

@@ -13,7 +13,7 @@ use Rattle.wire.specs.declared.body.Body.{Body}
 use Rattle.wire.specs.declared.body.Body.TheVariants as bodies
 use Rattle.wire.specs.Messages.{Message, kind_of}
 use Rattle.wire.specs.Grammar.{header, append, body}
-use Rattle.wire.specs.GrammarLaws.{header_lawful, body_lawful, body_has_kind, body_is_short}
+use Rattle.wire.proofs.GrammarLaws.{header_lawful, body_lawful, body_has_kind, body_is_short}
 use Rattle.wire.specs.Frames.{frame_limit, sized, frame_text, size_at, frame_at, header_of, message_text, MessageFits, message_at}
 
 header_length : (h : Header) → length (header.text h) ≡ 4

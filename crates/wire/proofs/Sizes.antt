@@ -1,4 +1,5 @@
--- A text behind its length: four bytes are put to the end, then the text, and then the four are set.
+-- A text behind its length: four bytes are put to the end, then the text, and then the four are
+-- set.
 use Rattle.std.proofs.Common.{◌≡◌, ℕ, ◌+◌, ◌<◌, ◌≤◌, ◌^◌, List, [], ◌++◌, length, take, drop, Result, Err, ap, ap₂, sym, ◌∙◌, append_assoc, arith, length-append}
 use Rattle.std.proofs.lemmas.List.{append-nil}
 use Rattle.std.proofs.Math.Seq.{take-append_seam, drop-append_seam}

@@ -1,5 +1,5 @@
 pub mod Appends
 pub mod Messages
 pub mod Grammar
-pub mod GrammarLaws
 pub mod Frames
+pub mod Laws

@@ -1,7 +1,7 @@
 ghost use Rattle.std.specs.Prelude.{◌≡◌, ◌<◌, ◌≤◌, ◌+◌, ◌^◌, ◌⊎◌, length, IfSome, IfNone};
 ghost use Rattle.fields.specs.Format.{Gives, GivesExactly, Puts};
 ghost use Rattle.wire.specs.Grammar.{append_head, append_reply, append as append_format, most_entries};
-ghost use Rattle.wire.specs.GrammarLaws.{append_head_lawful, append_reply_lawful};
+ghost use Rattle.wire.specs.Laws.GrammarLaws.{append_head_lawful, append_reply_lawful};
 
 use fields::{
     Field, read_bool, read_index, read_list, read_term, write_bool, write_index, write_items,
@@ -25,8 +25,8 @@ pub struct AppendHead {
     pub commit: Index,
 }
 
-/// A leader sends entries of its log, or none to be heard of. (Raft, Figure 2, AppendEntries.) It has at most
-/// `MOST_ENTRIES` entries, and each has a place in the log, below 2^40.
+/// A leader sends entries of its log, or none to be heard of. (Raft, Figure 2, AppendEntries.) It
+/// has at most `MOST_ENTRIES` entries, and each has a place in the log, below 2^40.
 #[derive(Drop)]
 pub struct Append<M: Machine> {
     head: AppendHead,
@@ -60,8 +60,8 @@ fn most_entries(prev_index: Index) -> u8
 }
 
 impl<M: Machine> Append<M> {
-    /// The message of these parts; none where there are more than 32 entries, or the last one's place is not below 2^40.
-    /// It takes no memory.
+    /// The message of these parts; none where there are more than 32 entries, or the last one's
+    /// place is not below 2^40. It takes no memory.
     pub fn new(head: AppendHead, entries: Vec<Entry<Coded<M>>>) -> Option<Append<M>>
         ensures some { IfSome result (λ a. (a ≡ record { head = head; entries = entries.items })
             × (length entries.items ≤ 32) × (head.prev_index + length entries.items < 2 ^ 40)) }
@@ -115,8 +115,8 @@ pub struct AppendReply {
     pub asked: Term,
     /// Whether the sender's log has the entries of the leader up to `at`.
     pub ok: bool,
-    /// The place of the last entry that the sender knows to be the leader's; where it refuses, the place behind which the
-    /// leader is to try again.
+    /// The place of the last entry that the sender knows to be the leader's; where it refuses, the
+    /// place behind which the leader is to try again.
     pub at: Index,
 }
 
@@ -182,7 +182,8 @@ impl Field for AppendReply {
     }
 }
 
-/// The `Append` at a place, and the place after it. A count of more entries than there may be is a fault at the count.
+/// The `Append` at a place, and the place after it. A count of more entries than there may be is a
+/// fault at the count.
 pub fn read_append<M: Machine>(
     alloc: Global,
     bytes: &[u8],

@@ -2,7 +2,7 @@ ghost use Rattle.std.specs.Prelude.{◌≡◌};
 ghost use Rattle.fields.specs.Format.{GivesExactly};
 ghost use Rattle.wire.specs.Messages.{may_come_from, may_go, is_server, is_another_server};
 ghost use Rattle.wire.specs.Grammar.{kind};
-ghost use Rattle.wire.specs.GrammarLaws.{kind_lawful};
+ghost use Rattle.wire.specs.Laws.GrammarLaws.{kind_lawful};
 
 use fields::{Field, read_u8, write_u8};
 use rows::{Actor, NoMemory, Refusal};
@@ -32,7 +32,8 @@ impl Kind {
         }
     }
 
-    /// Whether messages of the kind go from this actor to that one: those between servers go to another one.
+    /// Whether messages of the kind go from this actor to that one: those between servers go to
+    /// another one.
     pub fn may_go(self, from: &Actor, to: &Actor) -> bool
         ensures { result ≡ may_go self from.now to.now }
     {

@@ -1,6 +1,6 @@
 ghost use Rattle.fields.specs.Format.{GivesExactly};
 ghost use Rattle.wire.specs.Grammar.{vote_request, vote_reply};
-ghost use Rattle.wire.specs.GrammarLaws.{vote_request_lawful, vote_reply_lawful};
+ghost use Rattle.wire.specs.Laws.GrammarLaws.{vote_request_lawful, vote_reply_lawful};
 
 use fields::{Field, read_bool, read_index, read_term, write_bool, write_index, write_term};
 use rows::{Index, NoMemory, Refusal, Term};

@@ -8,7 +8,7 @@ use Rattle.raft_core.specs.Seen.{Seen as Held}
 use Rattle.raft_core.specs.Steps.{Represents}
 use Rattle.raft_core.specs.Frames.{Carries}
 use Rattle.raft_safety.specs.Claims.{IsGreatestCommit}
-use Rattle.world.specs.Seen.{Seen, Stands, RunsTo, Reached}
+use Rattle.world.specs.Seen.{Seen, Stands, RunsTo, Reached, IsGroup}
 use Rattle.world.proofs.Zips.{zip_append}
 use Rattle.world.proofs.Heights.{first_height}
 
@@ -52,10 +52,11 @@ new_runs {C = C} m n seen count empty zero_is st = record {
   chain = subst (λ c. IsGreatestCommit {C = C} [] (first n) c) (sym zero_is) (first_height n);
 }
 
-pub begun_reached : {S C : Type 0} (m : Meaning S C) (n : ℕ) (seen : Seen C) → Begun m n n seen.servers → seen.sent ≡ [] → seen.trace ≡ [] → seen.chain ≡ 0 → Reached m seen
-begun_reached m n seen b none empty zero_is = record {
+pub begun_reached : {S C : Type 0} (m : Meaning S C) (n : ℕ) (seen : Seen C) → IsGroup n → Begun m n n seen.servers → seen.sent ≡ [] → seen.trace ≡ [] → seen.chain ≡ 0 → Reached m seen
+begun_reached m n seen size b none empty zero_is = record {
   past = [];
   world = first n;
   runs = new_runs m n seen b.count empty zero_is (begun_stands m n seen b none);
   numbered = λ i h at. let k = b.numbered i h at in (k.0, k.1 ∙ sym b.count);
+  size = subst (λ k. IsGroup k) (sym b.count) size;
 }

@@ -103,7 +103,7 @@ module _ {S C : Type 0} (m : Meaning S C) (h h2 : Held C) (after : List Frame) w
 
   up_of : (s : Server C) (given : Given S C) → restarts given ≡ false → MayWant s.mode given → is_up s.mode ≡ true
   up_of s (givens.Input (inputs.Frame bytes)) not_so may = may
-  up_of s (givens.Input inputs.Timeout) not_so may = may
+  up_of s (givens.Input inputs.Timeout) not_so may = may.0
   up_of s (givens.Input inputs.Beat) not_so may = leads_up s.mode may
   up_of s (givens.Input inputs.Crash) not_so may = absurd may
   up_of s (givens.Input inputs.Restart) not_so may = absurd (cc)

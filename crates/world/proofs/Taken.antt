@@ -18,7 +18,7 @@ use Rattle.world.specs.declared.input.Given.TheVariants as givens
 use Rattle.raft_safety.specs.Claims.{IsGreatestCommit}
 use Rattle.raft_safety.proofs.Places.{get_set-cases, set-length}
 use Rattle.world.specs.Inputs.{Reads, Takes, committed}
-use Rattle.world.specs.Seen.{Seen, Stands, Numbered, Reached}
+use Rattle.world.specs.Seen.{Seen, Stands, Numbered, Reached, IsGroup}
 use Rattle.world.specs.Keeps.{Goes}
 use Rattle.world.proofs.Zips.{zip_length, zip_set, zip_append}
 use Rattle.world.proofs.Heights.{height_next}
@@ -115,4 +115,4 @@ module _ {S C : Type 0} (m : Meaning S C) (old new : Seen C) (e : Event C) (i : 
 pub reached_on : {S C : Type 0} (m : Meaning S C) (old new : Seen C) (e : Event C) → Goes m old e new → Numbered new → Reached m old → Reached m new
 reached_on m old new e g n r =
     let q = g.runs r.past r.world r.runs in
-    record { past = r.past ++ r.world ∷ []; world = q.0; runs = q.2; numbered = n }
+    record { past = r.past ++ r.world ∷ []; world = q.0; runs = q.2; numbered = n; size = subst (λ k. IsGroup k) (sym g.size) r.size }

@@ -65,7 +65,7 @@ restarts (givens.Command command) = false
 -- whether a server may want memory for an event: not for a crash, nor for a beat or a proposal where it does not lead
 abbrev pub MayLack : {C : Type 0} → Server C → Event C → Type 0
 MayLack s (Deliver k) = is_up s.mode ≡ true
-MayLack s (TimesOut i) = is_up s.mode ≡ true
+MayLack s (TimesOut i) = (is_up s.mode ≡ true) × (is_leader s.mode ≡ false)
 MayLack s (Beats i) = is_leader s.mode ≡ true
 MayLack s (Proposes i command) = is_leader s.mode ≡ true
 MayLack s (Compacts i) = is_up s.mode ≡ true

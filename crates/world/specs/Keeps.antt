@@ -9,7 +9,7 @@ use Rattle.raft_model.specs.Worlds.{Crashed as OutcomeCrashed}
 use Rattle.world.specs.declared.world.Done.{Done}
 use Rattle.world.specs.declared.world.Done.TheVariants.{Taken, Crashed}
 use Rattle.world.specs.Inputs.{MayLack}
-use Rattle.world.specs.Seen.{Seen, Stands, RunsTo, Reached}
+use Rattle.world.specs.Seen.{Seen, Stands, RunsTo, Reached, IsGroup}
 
 -- The event happens in each world that `old` stands for, and makes it one that `new` stands for. Each run of the old value
 -- goes on to one of the new value, by this event.
@@ -46,7 +46,7 @@ IsAwake {S} {C} m seen e = (past : List (World C)) (w : World C) → RunsTo m se
 
 -- the group before its first event: n servers that never did anything
 pub record IsNew {S C : Type 0} (m : Meaning S C) (n : ℕ) (seen : Seen C) : Type 0 where
-  pub size : (n ≡ 3) ⊎ (n ≡ 5)
+  pub size : IsGroup n
   pub count : length seen.servers ≡ n
   pub trace : seen.trace ≡ []
   pub chain : seen.chain ≡ 0

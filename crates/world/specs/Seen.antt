@@ -1,5 +1,5 @@
 -- What a contract sees of a world, which world of the model it stands for, and that a run leads there.
-use Rattle.std.specs.Prelude.{◌≡◌, ℕ, Some, List, length, slice_get}
+use Rattle.std.specs.Prelude.{◌≡◌, ℕ, ◌⊎◌, Some, List, length, slice_get}
 use Rattle.std.specs.List.{AllZip}
 use Rattle.machine.specs.Meaning.{Meaning}
 use Rattle.wire.specs.Frames.{Frame}
@@ -32,9 +32,14 @@ pub record RunsTo {S C : Type 0} (m : Meaning S C) (seen : Seen C) (past : List 
 abbrev pub Numbered : {C : Type 0} → Seen C → Type 0
 Numbered {C} seen = (i : ℕ) (h : Held C) → slice_get seen.servers i ≡ Some h → (h.me ≡ i) × (h.size ≡ length seen.servers)
 
+-- the size of a group
+abbrev pub IsGroup : ℕ → Type 0
+IsGroup n = (n ≡ 3) ⊎ (n ≡ 5)
+
 -- what every world keeps
 pub record Reached {S C : Type 0} (m : Meaning S C) (seen : Seen C) : Type 0 where
   pub past : List (World C)
   pub world : World C
   pub runs : RunsTo m seen past world
   pub numbered : Numbered seen
+  pub size : IsGroup (length seen.servers)

@@ -4,7 +4,7 @@ ghost use Rattle.world.specs.Events.{event_of};
 ghost use Rattle.world.specs.Inputs.{is_restart};
 
 use machine::{Machine, commands_are_whole};
-use rows::{NoMemory, ServerId};
+use rows::{NoMemory, Refusal, ServerId};
 use std::alloc::Global;
 
 /// What can happen to a group of servers. A loss is a message that is never delivered, a repeat one that is delivered
@@ -38,8 +38,11 @@ pub(crate) fn command_again<M: Machine>(
     commands_are_whole::<M>();
     match M::read_command(alloc, &text) {
         Ok((again, _)) => Ok(again),
-        // The bytes are the command's text, so memory was wanting.
-        Err(_) => Err(NoMemory),
+        Err(cause) => match cause {
+            Refusal::NoMemory => Err(NoMemory),
+            // The bytes are the command's text.
+            _ => unreachable!(),
+        },
     }
 }
 

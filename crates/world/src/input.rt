@@ -91,7 +91,6 @@ pub(crate) fn given_by<'a, M: Machine>(
 /// A server takes what it is given.
 pub(crate) fn give<M: Machine>(
     raft: &mut Raft<M>,
-    alloc: Global,
     given: Given<'_, M>,
     outbox: &mut Outbox,
 ) -> Result<(), Refusal>
@@ -100,7 +99,7 @@ pub(crate) fn give<M: Machine>(
     ensures refused { IfErr result (λ cause. Declines M.meaning raft.old given.entry cause raft.new outbox.old outbox.new) }
 {
     match given {
-        Given::Input(input) => raft.step(alloc, input, outbox),
+        Given::Input(input) => raft.step(input, outbox),
         Given::Command(command) => raft.propose(command),
     }
 }

@@ -7,7 +7,7 @@ ghost use Rattle.raft_core.specs.Steps.{Represents, is_member};
 ghost use Rattle.raft_safety.specs.Claims.{IsGreatestCommit};
 ghost use Rattle.world.specs.Events.{event_of, events_of};
 ghost use Rattle.world.specs.Inputs.{ActsIn, committed};
-ghost use Rattle.world.specs.Seen.{RunsTo};
+ghost use Rattle.world.specs.Seen.{RunsTo, IsGroup};
 ghost use Rattle.world.specs.Keeps.{Went, Refuses, IsAwake, IsNew, IsNoGroup, Played, Replays};
 ghost use Rattle.world.specs.Claims.{OneLeaderEver, LogsMatchEver, OneListEver, StatesSafeEver};
 
@@ -78,11 +78,14 @@ fn newcomer<M: Machine>(alloc: Global, place: usize, n: usize) -> Result<Raft<M>
     ensures server { IfOk result (λ r. Represents M.meaning r newcomer) }
 {
     let Some(me) = ServerId::from_place(place) else {
-        return Err(NoMemory);
+        unreachable!()
     };
     match Raft::restart(alloc, me, n, Stable::new(alloc)) {
         Ok(raft) => Ok(raft),
-        Err(_) => Err(NoMemory),
+        Err(refused) => match refused.refusal {
+            Refusal::NoMemory => Err(NoMemory),
+            _ => unreachable!(),
+        },
     }
 }
 
@@ -112,7 +115,7 @@ impl<M: Machine> RaftWorld<M> {
         let given = given_by(self.alloc, &self.sent, &event)?;
         let mut outbox = Outbox::new(self.alloc);
         let raft = &mut self.servers[server.place()];
-        match give(raft, self.alloc, given, &mut outbox) {
+        match give(raft, given, &mut outbox) {
             Ok(()) => {
                 self.chain = longer(self.chain, raft);
                 self.trace.push_reserved(event);
@@ -176,8 +179,10 @@ impl<M: Machine> RaftWorld<M> {
         ensures log_matching { LogsMatchEver M.meaning self.new }
         ensures one_list { OneListEver M.meaning self.new }
         ensures safe_states { StatesSafeEver M.meaning self.new }
+        ensures size { IsGroup (length self.new.servers) }
     {
         let done = self.take(event);
+        self.group_size();
         self.one_leader();
         self.log_matching();
         self.one_list();
@@ -218,6 +223,7 @@ impl<M: Machine> RaftWorld<M> {
         ensures log_matching { IfOk result (λ w. LogsMatchEver M.meaning w) }
         ensures one_list { IfOk result (λ w. OneListEver M.meaning w) }
         ensures safe_states { IfOk result (λ w. StatesSafeEver M.meaning w) }
+        ensures size { IfOk result (λ w. IsGroup (length w.servers)) }
     {
         let mut world = Self::new(alloc, n)?;
         for event in events {
@@ -226,6 +232,7 @@ impl<M: Machine> RaftWorld<M> {
                 return Err(Refusal::NoMemory);
             }
         }
+        world.group_size();
         world.one_leader();
         world.log_matching();
         world.one_list();
@@ -233,11 +240,18 @@ impl<M: Machine> RaftWorld<M> {
         Ok(world)
     }
 
+    /// A group has 3 or 5 servers.
+    pub fn group_size(&self)
+        ensures { IsGroup (length self.now.servers) }
+    {
+        // The type's own promise is known where a field is looked at.
+        let _ = &self.chain;
+    }
+
     /// No two servers ever led one term, at no two moments of the run that led here. (Raft, Figure 3, election safety.)
     pub fn one_leader(&self)
         ensures { OneLeaderEver M.meaning self.now }
     {
-        // The type's own promise is known where a field is looked at.
         let _ = &self.chain;
         one_leader_a_term::<M>();
     }

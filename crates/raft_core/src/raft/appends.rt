@@ -27,6 +27,7 @@ impl<M: Machine> Raft<M> {
         self.meet(term);
         self.known = Some(from);
         self.role = Role::Follower;
+        self.ahead = None;
     }
 
     /// The entry before those that came is not held: the reply says where to try again.

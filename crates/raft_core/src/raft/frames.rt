@@ -12,7 +12,6 @@ ghost use Rattle.raft_core.specs.Stops.{FrameStops};
 use super::Raft;
 use machine::Machine;
 use rows::{Actor, NoMemory, Refusal, ServerId};
-use std::alloc::Global;
 use wire::{Body, Message, Outbox, read_message};
 
 impl<M: Machine> Raft<M> {
@@ -62,7 +61,6 @@ impl<M: Machine> Raft<M> {
     /// A frame comes to a server that is up.
     pub(super) fn frame(
         &mut self,
-        alloc: Global,
         bytes: &[u8],
         outbox: &mut Outbox,
     ) -> Result<(), Refusal>
@@ -72,7 +70,7 @@ impl<M: Machine> Raft<M> {
         ensures admitted { OnOk result (frame_refusal M.meaning self.old.size self.old.me bytes.now ≡ None) }
         ensures stopped { IfErr result (λ cause. FrameStops M.meaning self.old bytes.now cause self.new outbox.old outbox.new) }
     {
-        let message = read_message::<M>(alloc, bytes)?;
+        let message = read_message::<M>(self.alloc, bytes)?;
         let from = self.sender(&message)?;
         self.receive(from, message.into_body(), outbox)?;
         Ok(())

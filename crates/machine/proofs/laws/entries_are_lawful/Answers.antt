@@ -1,6 +1,6 @@
 use Rattle.std.proofs.Common.{arith}
 use Rattle.fields.specs.FormatLaws.{placed_lawful}
-use Rattle.machine.specs.EntryLaws.{entry_lawful}
+use Rattle.machine.specs.Laws.EntryLaws.{entry_lawful}
 use Rattle.machine.proofs.laws.entries_are_lawful.Goals as goal
 
 pub returns : goal.returns

@@ -3,12 +3,12 @@ use Rattle.rows.specs.Fits.{NodeIdFits}
 use Rattle.rows.specs.Names.{NameFits}
 use Rattle.runner.specs.declared.request.Request.{Request}
 use Rattle.runner.specs.declared.request.Request.TheVariants.{Drain, Eval, Put, Stop}
-use Rattle.runner.specs.Requests.{Lacks, RequestFits, drain_text, request_text}
+use Rattle.runner.specs.Requests.{IsWithout, RequestFits, drain_text, request_text}
 use Rattle.runner.proofs.Words.{name_lacks}
 use Rattle.runner.proofs.request.read_request.Goals as goal
 
 -- each request's text is a verb, a space, and what stands behind it
-verb_of : (r : Request) → (verb : List ℕ) × (words : List ℕ) × Lacks 32 verb × (request_text r ≡ verb ++ 32 ∷ words)
+verb_of : (r : Request) → (verb : List ℕ) × (words : List ℕ) × IsWithout 32 verb × (request_text r ≡ verb ++ 32 ∷ words)
 verb_of (Put job) = (codes "put", _, name_lacks 32 (codes "put") refl refl, refl)
 verb_of (Stop name) = (codes "stop", _, name_lacks 32 (codes "stop") refl refl, refl)
 verb_of (Eval name) = (codes "eval", _, name_lacks 32 (codes "eval") refl refl, refl)
@@ -16,7 +16,7 @@ verb_of (Drain node force) = (codes "drain", _, name_lacks 32 (codes "drain") re
 
 -- a request other than `put` is the one that is read
 small : (r : Request) (verb words : List ℕ) (read : Option Request) → RequestFits r
-    → ((front back : List ℕ) → Lacks 32 front → request_text r ≡ front ++ 32 ∷ back → (verb ≡ front) × (words ≡ back))
+    → ((front back : List ℕ) → IsWithout 32 front → request_text r ≡ front ++ 32 ∷ back → (verb ≡ front) × (words ≡ back))
     → (verb ≡ codes "put" → ⊥)
     → ((name : List ℕ) → NameFits name → verb ≡ codes "stop" → words ≡ name → read ≡ Some (Stop name))
     → ((name : List ℕ) → NameFits name → verb ≡ codes "eval" → words ≡ name → read ≡ Some (Eval name))

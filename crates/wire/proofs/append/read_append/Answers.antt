@@ -1,5 +1,5 @@
 use Rattle.std.proofs.Common.{◌≤◌, length, arith}
-use Rattle.wire.specs.GrammarLaws.{entries_lawful, most_entries_is_few}
+use Rattle.wire.proofs.GrammarLaws.{entries_lawful, most_entries_is_few}
 use Rattle.wire.proofs.append.read_append.Goals as goal
 
 pub invariant_of-result : goal.invariant_of-result

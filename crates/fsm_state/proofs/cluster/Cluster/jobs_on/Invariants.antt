@@ -2,5 +2,5 @@ use Rattle.std.proofs.Common.{◌≡◌, ◌++◌, drop}
 use Rattle.fsm_state.specs.Steps.{jobs_on}
 use Rattle.fsm_state.proofs.cluster.Cluster.jobs_on.Given as goal
 
-abbrev pub invariant-loop-place : goal.invariant-loop-place
-invariant-loop-place l = l.names ++ jobs_on l.node (drop l.place l.self.allocs) ≡ jobs_on l.node l.self.allocs
+abbrev pub invariant-loop-row : goal.invariant-loop-row
+invariant-loop-row l = l.names ++ jobs_on l.node (drop l.row-index l.self.allocs) ≡ jobs_on l.node l.self.allocs

@@ -1,6 +1,6 @@
 use Rattle.std.proofs.Common.{◌≡◌, ℕ, ◌⊎◌, subst, arith, ap, refl, inl, inr}
 use Rattle.world.specs.Events.{events_of}
-use Rattle.world.specs.Seen.{Seen}
+use Rattle.world.specs.Seen.{Seen, IsGroup}
 use Rattle.world.proofs.Begins.{Begun, begun_next, begun_reached, begun_stands}
 use Rattle.world.proofs.world.RaftWorld.new.Goals as goal
 use Rattle.world.proofs.world.RaftWorld.new.Goals.{else-n-ne3-via-then-n-ne3+else-n-ne5, else-n-ne3-via-else-n-ne3}
@@ -10,7 +10,11 @@ invariant_of-result-2 g c =
     let all : c.loop-place.place ≡ c.args.n = omega arith in
     let seen : Seen g.row.M-Command.Denot = record { servers = c.loop-place.servers.items; sent = c.new.result.items; trace = events_of c.new-2.result.items; chain = 0 } in
     let begun : Begun g.M.Machine.meaning c.args.n c.args.n c.loop-place.servers.items = subst (λ (k : ℕ). Begun g.M.Machine.meaning c.args.n k c.loop-place.servers.items) all c.loop-place.invariant in
-    begun_reached g.M.Machine.meaning c.args.n seen begun c.new.ensures.items (ap events_of c.new-2.ensures.items) refl
+    let size : IsGroup c.args.n = elim c.else-n-ne3.branch [
+      | else-n-ne3-via-then-n-ne3+else-n-ne5 w ↦ inr (omega arith)
+      | else-n-ne3-via-else-n-ne3 w ↦ inl (omega arith)
+    ] in
+    begun_reached g.M.Machine.meaning c.args.n seen size begun c.new.ensures.items (ap events_of c.new-2.ensures.items) refl
 
 pub loop-place-preserved : goal.loop-place-preserved
 loop-place-preserved g c =
@@ -22,7 +26,7 @@ returns-clause-ok g c =
     let all : c.loop-place.place ≡ c.args.n = omega arith in
     let seen : Seen g.row.M-Command.Denot = record { servers = c.loop-place.servers.items; sent = c.new.result.items; trace = events_of c.new-2.result.items; chain = 0 } in
     let begun : Begun g.M.Machine.meaning c.args.n c.args.n c.loop-place.servers.items = subst (λ (k : ℕ). Begun g.M.Machine.meaning c.args.n k c.loop-place.servers.items) all c.loop-place.invariant in
-    let size : (c.args.n ≡ 3) ⊎ (c.args.n ≡ 5) = elim c.else-n-ne3.branch [
+    let size : IsGroup c.args.n = elim c.else-n-ne3.branch [
       | else-n-ne3-via-then-n-ne3+else-n-ne5 w ↦ inr (omega arith)
       | else-n-ne3-via-else-n-ne3 w ↦ inl (omega arith)
     ] in

@@ -1,4 +1,4 @@
--- The laws of a frame's parts.
+-- The laws of a frame's header and of its bodies.
 use Rattle.std.proofs.Common.{◌≡◌, ℕ, ◌≤◌, Some, sym, ap, ◌∙◌, refl, arith, inl, inr}
 use Rattle.std.proofs.lemmas.Bool.{cases_eq, eq-eqb, ne_eqb}
 use Rattle.std.proofs.Math.Nat.{le_refl, mul-le-mul_right}
@@ -11,13 +11,14 @@ use Rattle.wire.specs.declared.kind.Kind.TheVariants as kinds
 use Rattle.wire.specs.declared.vote.VoteRequest.{VoteRequest}
 use Rattle.wire.specs.declared.vote.VoteReply.{VoteReply}
 use Rattle.machine.specs.Entries.{entry}
-use Rattle.machine.specs.EntryLaws.{entry_lawful}
+use Rattle.machine.specs.Laws.EntryLaws.{entry_lawful}
 use Rattle.wire.specs.declared.append.AppendReply.{AppendReply}
 use Rattle.wire.specs.Appends.{Append}
 use Rattle.wire.specs.declared.body.Body.{Body}
 use Rattle.wire.specs.declared.body.Body.TheVariants as bodies
 use Rattle.wire.specs.Messages.{kind_of, may_come_from, may_go}
 use Rattle.wire.specs.Grammar.{version, kind_of_number, number_of_kind, kind, addresses, header, vote_request, vote_reply, append_head, most_entries, entries, append, append_reply, vote_request_of, vote_reply_of, append_of, append_reply_of, body}
+use Rattle.wire.specs.Laws.GrammarLaws.{kind_lawful, vote_request_lawful, vote_reply_lawful, append_head_lawful, append_reply_lawful}
 
 -- ---- the header
 
@@ -27,27 +28,6 @@ one_is a fits = omega arith
 version_lawful : Lawful version
 version_lawful = coded_lawful (λ _. Some tt) (λ _. 1) (number 1 1 2) (λ a b fits e. one_is a fits) (number_lawful 1 1 2 (omega arith) (omega arith))
 
-some_is : (a b : Kind) → Some a ≡ Some b → a ≡ b
-some_is a b e = cc
-
-kind_again : (n : ℕ) (k : Kind) → byte.Fits n → kind_of_number n ≡ Some k → number_of_kind k ≡ n
-kind_again n k fits e = elim (cases_eq n 1) [
-  | inl one ↦ let f = rw (eq-eqb n 1 one) at e in ap number_of_kind (sym (some_is kinds.VoteRequest k f)) ∙ sym one
-  | inr not_one ↦ elim (cases_eq n 2) [
-    | inl two ↦ let f = rw (ne_eqb n 1 not_one, eq-eqb n 2 two) at e in ap number_of_kind (sym (some_is kinds.VoteReply k f)) ∙ sym two
-    | inr not_two ↦ elim (cases_eq n 3) [
-      | inl three ↦ let f = rw (ne_eqb n 1 not_one, ne_eqb n 2 not_two, eq-eqb n 3 three) at e in ap number_of_kind (sym (some_is kinds.Append k f)) ∙ sym three
-      | inr not_three ↦ elim (cases_eq n 4) [
-        | inl four ↦ let f = rw (ne_eqb n 1 not_one, ne_eqb n 2 not_two, ne_eqb n 3 not_three, eq-eqb n 4 four) at e in ap number_of_kind (sym (some_is kinds.AppendReply k f)) ∙ sym four
-        | inr not_four ↦ let f = rw (ne_eqb n 1 not_one, ne_eqb n 2 not_two, ne_eqb n 3 not_three, ne_eqb n 4 not_four) at e in absurd cc
-      ]
-    ]
-  ]
-]
-
-pub kind_lawful : Lawful kind
-kind_lawful = coded_lawful kind_of_number number_of_kind byte kind_again byte_lawful
-
 addresses_lawful : (k : Kind) → Lawful (addresses k)
 addresses_lawful k = depends_lawful _ _ _ (kept_lawful (may_come_from k) actor actor_lawful) (λ from fits. kept_lawful (may_go k from) actor actor_lawful) (λ from fits. le_refl 1)
 
@@ -55,18 +35,6 @@ pub header_lawful : Lawful header
 header_lawful = made_lawful _ _ _ (λ _. refl) (λ _ _. refl) (then_lawful _ _ version_lawful (depends_lawful kind 2 addresses kind_lawful (λ k fits. addresses_lawful k) (λ k fits. omega arith)))
 
 -- ---- the bodies
-
-pub vote_request_lawful : Lawful vote_request
-vote_request_lawful = made_lawful _ _ _ (λ _. refl) (λ _ _. refl) (then_lawful _ _ term_lawful (then_lawful _ _ index_lawful term_lawful))
-
-pub vote_reply_lawful : Lawful vote_reply
-vote_reply_lawful = made_lawful _ _ _ (λ _. refl) (λ _ _. refl) (then_lawful _ _ term_lawful (then_lawful _ _ term_lawful bool_lawful))
-
-pub append_head_lawful : Lawful append_head
-append_head_lawful = made_lawful _ _ _ (λ _. refl) (λ _ _. refl) (then_lawful _ _ term_lawful (then_lawful _ _ index_lawful (then_lawful _ _ term_lawful index_lawful)))
-
-pub append_reply_lawful : Lawful append_reply
-append_reply_lawful = made_lawful _ _ _ (λ _. refl) (λ _ _. refl) (then_lawful _ _ term_lawful (then_lawful _ _ term_lawful (then_lawful _ _ bool_lawful index_lawful)))
 
 pub most_entries_is_few : (prev_index : ℕ) → most_entries prev_index ≤ 32
 most_entries_is_few prev_index = omega arith

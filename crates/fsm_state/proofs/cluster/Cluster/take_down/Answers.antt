@@ -3,7 +3,7 @@ use Rattle.fsm_state.specs.Words.{State}
 use Rattle.fsm_state.specs.Effect.{down, lost}
 use Rattle.fsm_state.specs.StepLaws.{downed_node, touched_on}
 use Rattle.fsm_state.proofs.Turns.{turned, touched_both}
-use Rattle.fsm_state.proofs.cluster.Cluster.node_down.Goals as goal
+use Rattle.fsm_state.proofs.cluster.Cluster.take_down.Goals as goal
 
 pub returns : goal.returns
 returns c =

@@ -1,0 +1,2 @@
+-- What the values of this crate's own types cite.
+pub mod NameLaws

@@ -1,0 +1,2 @@
+-- What the impls of this crate cite as their laws.
+pub mod GrammarLaws
