@@ -34,6 +34,9 @@ job_spec = made (λ p. record { name = p.0; priority = p.1.0; groups = p.1.1 }) 
 abbrev pub node_spec : Format NodeSpec
 node_spec = made (λ p. record { number = p.0; class = p.1.0; size = p.1.1 }) (λ n. (n.number, (n.class, n.size))) (node_id then name then size)
 
+abbrev pub batch : {A : Type 0} → Format A → Format (List A)
+batch f = list 1 64 f
+
 -- at most 64 ids in any order, and 1 to 64 that rise strictly
 abbrev pub stops : Format (List AllocId)
 stops = list 1 64 alloc_id

@@ -23,7 +23,7 @@ use Rattle.rows.specs.declared.node.Node.{Node}
 use Rattle.rows.specs.declared.node.NodeStatus.{NodeStatus}
 use Rattle.rows.specs.declared.node.NodeStatus.TheVariants as node_statuses
 use Rattle.rows.specs.declared.size.Size.{Size}
-use Rattle.fields.specs.Format.{Reading, Format, enumerated, keyed, keyed_behind, after_key, kept, ◌then◌, ruled_list, some}
+use Rattle.fields.specs.Format.{Format, enumerated, keyed, keyed_behind, kept, ◌then◌, ruled_list, some}
 use Rattle.fields.specs.Fields.{index, bool}
 use Rattle.fields.specs.Ids.{name, size, node_id, ordinal, priority, group_count, eval_id, alloc_id}
 
@@ -92,9 +92,6 @@ group = keyed make_group group_parts name group_others
 abbrev pub group_behind : List Group → Format Group
 group_behind = keyed_behind (is_new_name) make_group group_parts name group_others
 
-abbrev pub group_of : List ℕ → List ℕ → ℕ → Reading Group
-group_of = after_key make_group group_others
-
 -- 1 to 8 groups with distinct names
 abbrev pub groups : Format (List Group)
 groups = some (ruled_list 1 8 group_is_new group group_behind)
@@ -122,9 +119,6 @@ job = keyed make_job job_parts name job_others
 abbrev pub job_behind : List Job → Format Job
 job_behind = keyed_behind (is_behind name_cmp job_name) make_job job_parts name job_others
 
-abbrev pub job_of : List ℕ → List ℕ → ℕ → Reading Job
-job_of = after_key make_job job_others
-
 -- a node: its number, class, size, status, whether it is eligible, its drain and room; in a table its number is above the last
 abbrev pub NodeOthers : Type 0
 NodeOthers = List ℕ × (Size × (NodeStatus × (Bool × (DrainMode × ℕ))))
@@ -147,9 +141,6 @@ node = keyed make_node node_parts node_id node_others
 abbrev pub node_behind : List Node → Format Node
 node_behind = keyed_behind (is_behind nat_cmp node_number) make_node node_parts node_id node_others
 
-abbrev pub node_of : ℕ → List ℕ → ℕ → Reading Node
-node_of = after_key make_node node_others
-
 -- an evaluation: its id, job, priority, status and snapshot; in a table its id is above the last
 abbrev pub EvaluationOthers : Type 0
 EvaluationOthers = List ℕ × (ℕ × (EvalStatus × ℕ))
@@ -168,9 +159,6 @@ evaluation = keyed make_evaluation evaluation_parts eval_id evaluation_others
 
 abbrev pub evaluation_behind : List Evaluation → Format Evaluation
 evaluation_behind = keyed_behind (is_behind eval_cmp eval_key) make_evaluation evaluation_parts eval_id evaluation_others
-
-abbrev pub evaluation_of : EvalId → List ℕ → ℕ → Reading Evaluation
-evaluation_of = after_key make_evaluation evaluation_others
 
 -- an allocation: its id, job, group, index, node, size, what is wanted and known of it, whether it is to move, and its
 -- evaluation; in a table its id is above the last
@@ -200,6 +188,3 @@ allocation = keyed make_allocation allocation_parts alloc_id allocation_others
 
 abbrev pub allocation_behind : List Allocation → Format Allocation
 allocation_behind = keyed_behind (is_behind alloc_cmp alloc_key) make_allocation allocation_parts alloc_id allocation_others
-
-abbrev pub allocation_of : AllocId → List ℕ → ℕ → Reading Allocation
-allocation_of = after_key make_allocation allocation_others

@@ -2,8 +2,9 @@
 ghost use Rattle.rows.specs.Groups.{group_is_new};
 ghost use Rattle.rows.specs.Ids.{id_rises};
 ghost use Rattle.fields.specs.Format.{GivesExactly};
-ghost use Rattle.fields.specs.Rows.{group, group_of, group_behind, groups, alloc_id_behind};
-ghost use Rattle.fields.specs.RowLaws.{group_lawful, group_is_ruled, groups_lawful, alloc_id_is_ruled};
+ghost use Rattle.fields.specs.Rows.{group, group_behind, groups, alloc_id_behind};
+ghost use Rattle.fields.specs.Inner.RowReading.{group_of};
+ghost use Rattle.fields.specs.Laws.RowLaws.{group_lawful, group_is_ruled, groups_lawful, alloc_id_is_ruled};
 
 use crate::field::Field;
 use crate::list::append_counted;

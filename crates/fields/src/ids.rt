@@ -1,7 +1,7 @@
 //! Names, sizes, ids and tokens as bytes.
 ghost use Rattle.fields.specs.Format.{GivesExactly};
 ghost use Rattle.fields.specs.Ids.{name, quantity, size, node_id, ordinal, priority, group_count, from_one, eval_id, alloc_id, token, delivery};
-ghost use Rattle.fields.specs.IdLaws.{name_lawful, quantity_lawful, size_lawful, node_id_lawful, ordinal_lawful, priority_lawful, group_count_lawful, from_one_lawful, eval_id_lawful, alloc_id_lawful, token_lawful, delivery_lawful};
+ghost use Rattle.fields.specs.Laws.IdLaws.{name_lawful, quantity_lawful, size_lawful, node_id_lawful, ordinal_lawful, priority_lawful, group_count_lawful, from_one_lawful, eval_id_lawful, alloc_id_lawful, token_lawful, delivery_lawful};
 
 use crate::field::Field;
 use crate::reading::{read_name, read_u8, read_u16, read_u32, read_u64};

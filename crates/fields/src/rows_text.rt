@@ -4,8 +4,9 @@ ghost use Rattle.std.specs.Ordering.{nat_cmp};
 ghost use Rattle.rows.specs.Rising.{is_behind};
 ghost use Rattle.rows.specs.Keys.{name_cmp, eval_cmp, alloc_cmp, job_name, node_number, eval_id as eval_key, alloc_id as alloc_key};
 ghost use Rattle.fields.specs.Format.{Gives, GivesExactly, Puts};
-ghost use Rattle.fields.specs.Rows.{job, job_of, job_behind, node, node_of, node_behind, node_end, evaluation, evaluation_of, evaluation_behind, allocation, allocation_of, allocation_behind, allocation_place, allocation_end};
-ghost use Rattle.fields.specs.RowLaws.{job_lawful, job_is_ruled, node_lawful, node_is_ruled, evaluation_lawful, evaluation_is_ruled, allocation_lawful, allocation_is_ruled};
+ghost use Rattle.fields.specs.Rows.{job, job_behind, node, node_behind, node_end, evaluation, evaluation_behind, allocation, allocation_behind, allocation_place, allocation_end};
+ghost use Rattle.fields.specs.Inner.RowReading.{job_of, node_of, evaluation_of, allocation_of};
+ghost use Rattle.fields.specs.Laws.RowLaws.{job_lawful, job_is_ruled, node_lawful, node_is_ruled, evaluation_lawful, evaluation_is_ruled, allocation_lawful, allocation_is_ruled};
 
 use crate::field::Field;
 use crate::ruled::RuledField;

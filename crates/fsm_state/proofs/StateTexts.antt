@@ -7,7 +7,7 @@ use Rattle.fields.specs.Format.{Puts, Writes, list}
 use Rattle.fields.specs.Fields.{index}
 use Rattle.fields.specs.Rows.{allocation}
 use Rattle.fields.specs.StateText.{jobs, nodes, evaluations, allocations, state}
-use Rattle.fields.specs.RangeLaws.{fits_state}
+use Rattle.fields.proofs.RangeLaws.{fits_state}
 use Rattle.fsm_tables.specs.TableRows.{TablesFit}
 use Rattle.fsm_state.specs.Words.{State}
 use Rattle.fsm_state.specs.Claimed.{is_true}

@@ -4,10 +4,10 @@ use Rattle.rows.specs.declared.command.Command.{Command}
 use Rattle.rows.specs.declared.command.Command.TheVariants as commands
 use Rattle.rows.specs.Tables.{StateFits}
 use Rattle.fields.specs.StateText.{state}
-use Rattle.fields.specs.StateTextLaws.{state_lawful}
+use Rattle.fields.proofs.StateTextLaws.{state_lawful}
 use Rattle.fields.specs.Commands.{command}
-use Rattle.fields.specs.CommandLaws.{command_lawful}
-use Rattle.fields.specs.RangeLaws.{fits_state, state_fits, fits_command, command_fits}
+use Rattle.fields.specs.Laws.CommandLaws.{command_lawful}
+use Rattle.fields.proofs.RangeLaws.{fits_state, state_fits, fits_command, command_fits}
 use Rattle.machine.specs.Meaning.{Meaning, LawfulMachine}
 use Rattle.fsm_state.specs.Words.{State, no_rows}
 use Rattle.fsm_state.specs.SafeFacts.{Safe, safe_by_test}

@@ -2,7 +2,7 @@
 ghost use Rattle.std.specs.Prelude.{◌≡◌};
 ghost use Rattle.fields.specs.Commands.{command as text_of_command};
 ghost use Rattle.fields.specs.StateText.{state};
-ghost use Rattle.fields.specs.StateTextLaws.{state_lawful};
+ghost use Rattle.fields.proofs.StateTextLaws.{state_lawful};
 
 use crate::cluster::Cluster;
 use fields::{Field, read_long_ruled_list, write_long_counted};

@@ -2,10 +2,11 @@
 use Rattle.std.proofs.Common.{◌≡◌, ℕ, ◌≤◌, Some, sym, ap, ◌∙◌, refl, arith, inl, inr}
 use Rattle.std.proofs.lemmas.Bool.{cases_eq, eq-eqb, ne_eqb}
 use Rattle.std.proofs.Math.Nat.{le_refl, mul-le-mul_right}
-use Rattle.fields.specs.Format.{Format, number, placed, Lawful}
+use Rattle.fields.specs.Format.{Format, number, placed, Lawful, IsVariant}
 use Rattle.fields.specs.Fields.{byte, actor}
-use Rattle.fields.specs.FormatLaws.{number_lawful, then_lawful, depends_lawful, made_lawful, list_lawful, placed_lawful, coded_lawful, kept_lawful, IsVariant, variant_lawful}
-use Rattle.fields.specs.FieldLaws.{byte_lawful, term_lawful, index_lawful, bool_lawful, actor_lawful}
+use Rattle.fields.specs.Laws.FormatLaws.{number_lawful, then_lawful, depends_lawful, made_lawful, list_lawful, coded_lawful, kept_lawful, variant_lawful}
+use Rattle.fields.proofs.PlacedLaws.{placed_lawful}
+use Rattle.fields.specs.Laws.FieldLaws.{byte_lawful, term_lawful, index_lawful, bool_lawful, actor_lawful}
 use Rattle.wire.specs.declared.kind.Kind.{Kind}
 use Rattle.wire.specs.declared.kind.Kind.TheVariants as kinds
 use Rattle.wire.specs.declared.vote.VoteRequest.{VoteRequest}

@@ -1,4 +1,4 @@
-use Rattle.fields.specs.FieldLaws.{server_lawful, actor_lawful}
+use Rattle.fields.specs.Laws.FieldLaws.{server_lawful, actor_lawful}
 use Rattle.fields.proofs.laws.actors_are_lawful.Goals as goal
 
 pub returns : goal.returns

@@ -1,4 +1,4 @@
-use Rattle.fields.specs.FieldLaws.{byte_lawful, u16_lawful, u32_lawful, u64_lawful, bool_lawful, term_lawful, index_lawful}
+use Rattle.fields.specs.Laws.FieldLaws.{byte_lawful, u16_lawful, u32_lawful, u64_lawful, bool_lawful, term_lawful, index_lawful}
 use Rattle.fields.proofs.laws.numbers_are_lawful.Goals as goal
 
 pub returns : goal.returns

@@ -1,8 +1,8 @@
 use Rattle.std.proofs.Common.{arith}
-use Rattle.fields.specs.IdLaws.{name_lawful, size_lawful, node_id_lawful, eval_id_lawful, alloc_id_lawful, token_lawful, delivery_lawful}
-use Rattle.fields.specs.RowLaws.{job_lawful, node_lawful, evaluation_lawful, allocation_lawful}
-use Rattle.fields.specs.CommandLaws.{plan_lawful, reports_lawful, command_lawful}
-use Rattle.fields.specs.StateTextLaws.{state_lawful, state_most}
+use Rattle.fields.specs.Laws.IdLaws.{name_lawful, size_lawful, node_id_lawful, eval_id_lawful, alloc_id_lawful, token_lawful, delivery_lawful}
+use Rattle.fields.specs.Laws.RowLaws.{job_lawful, node_lawful, evaluation_lawful, allocation_lawful}
+use Rattle.fields.specs.Laws.CommandLaws.{plan_lawful, reports_lawful, command_lawful}
+use Rattle.fields.proofs.StateTextLaws.{state_lawful, state_most}
 use Rattle.fields.proofs.laws.rows_are_lawful.Goals as goal
 
 pub returns : goal.returns

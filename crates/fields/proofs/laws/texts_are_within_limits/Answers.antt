@@ -1,4 +1,4 @@
-use Rattle.fields.specs.RangeLaws.{fits_state, state_fits, fits_command, command_fits}
+use Rattle.fields.proofs.RangeLaws.{fits_state, state_fits, fits_command, command_fits}
 use Rattle.fields.proofs.laws.texts_are_within_limits.Goals as goal
 
 pub returns : goal.returns

@@ -1,4 +1,4 @@
-use Rattle.fields.specs.RangeLaws.{fits_command}
+use Rattle.fields.proofs.RangeLaws.{fits_command}
 use Rattle.fsm_state.proofs.text.has_text.Goals as goal
 
 pub returns : goal.returns

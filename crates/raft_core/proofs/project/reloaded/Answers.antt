@@ -1,5 +1,5 @@
 use Rattle.std.proofs.Common.{sym, ◌∙◌}
-use Rattle.fields.specs.FormatLaws.{whole_only}
+use Rattle.fields.proofs.WholeTexts.{whole_only}
 use Rattle.raft_core.proofs.Loads.{no_fault}
 use Rattle.raft_core.proofs.project.reloaded.Goals as goal
 

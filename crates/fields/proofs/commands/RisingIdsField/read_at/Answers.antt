@@ -1,10 +1,10 @@
 use Rattle.std.proofs.Common.{arith}
-use Rattle.fields.specs.FormatLaws.{ruled_list_lawful}
-use Rattle.fields.specs.IdLaws.{alloc_id_lawful}
+use Rattle.fields.specs.Laws.FormatLaws.{ruled_list_lawful}
+use Rattle.fields.specs.Laws.IdLaws.{alloc_id_lawful}
 use Rattle.rows.specs.Ids.{id_rises}
 use Rattle.fields.specs.Ids.{alloc_id}
 use Rattle.fields.specs.Rows.{alloc_id_behind}
-use Rattle.fields.specs.RowLaws.{alloc_id_is_ruled}
+use Rattle.fields.specs.Laws.RowLaws.{alloc_id_is_ruled}
 use Rattle.fields.proofs.Counted.{ruled_is_empty}
 use Rattle.fields.proofs.commands.RisingIdsField.read_at.Goals as goal
 

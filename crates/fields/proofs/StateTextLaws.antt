@@ -1,9 +1,9 @@
 -- The laws of the text of a state.
 use Rattle.std.proofs.Common.{◌≡◌, refl, arith}
 use Rattle.fields.specs.Format.{Lawful}
-use Rattle.fields.specs.FormatLaws.{made_lawful, then_lawful, ruled_list_lawful}
-use Rattle.fields.specs.FieldLaws.{index_lawful}
-use Rattle.fields.specs.RowLaws.{job_lawful, job_is_ruled, node_lawful, node_is_ruled, evaluation_lawful, evaluation_is_ruled, allocation_lawful, allocation_is_ruled}
+use Rattle.fields.specs.Laws.FormatLaws.{made_lawful, then_lawful, ruled_list_lawful}
+use Rattle.fields.specs.Laws.FieldLaws.{index_lawful}
+use Rattle.fields.specs.Laws.RowLaws.{job_lawful, job_is_ruled, node_lawful, node_is_ruled, evaluation_lawful, evaluation_is_ruled, allocation_lawful, allocation_is_ruled}
 use Rattle.fields.specs.StateText.{jobs, nodes, evaluations, allocations, tables, state}
 
 pub jobs_lawful : Lawful jobs

@@ -14,11 +14,11 @@ use Rattle.rows.specs.declared.command.StatusChange.TheVariants as changes
 use Rattle.rows.specs.declared.command.Command.{Command}
 use Rattle.rows.specs.declared.command.Command.TheVariants as commands
 use Rattle.fields.specs.Format.{Lawful}
-use Rattle.fields.specs.FormatLaws.{number_lawful, nothing_lawful, made_lawful, then_lawful, depends_lawful, list_lawful, ruled_list_lawful, kept_lawful, enumerated_lawful, no_choice, variant_choice, choice_lawful}
-use Rattle.fields.specs.FieldLaws.{index_lawful, bool_lawful}
-use Rattle.fields.specs.IdLaws.{name_lawful, size_lawful, node_id_lawful, ordinal_lawful, priority_lawful, eval_id_lawful, alloc_id_lawful, token_lawful}
+use Rattle.fields.specs.Laws.FormatLaws.{number_lawful, nothing_lawful, made_lawful, then_lawful, depends_lawful, list_lawful, ruled_list_lawful, kept_lawful, enumerated_lawful, no_choice, variant_choice, choice_lawful}
+use Rattle.fields.specs.Laws.FieldLaws.{index_lawful, bool_lawful}
+use Rattle.fields.specs.Laws.IdLaws.{name_lawful, size_lawful, node_id_lawful, ordinal_lawful, priority_lawful, eval_id_lawful, alloc_id_lawful, token_lawful}
 use Rattle.fields.specs.Rows.{eval_status}
-use Rattle.fields.specs.RowLaws.{groups_lawful, eval_status_lawful, alloc_id_is_ruled}
+use Rattle.fields.specs.Laws.RowLaws.{groups_lawful, eval_status_lawful, alloc_id_is_ruled}
 use Rattle.fields.specs.Commands.{job_spec, node_spec, stops, rising_ids, place, accepted_place, plan_end, plan, accepted_end, accepted_plan, reported_state, report, reports, snapshot_limit, change_to, change_parts, status_change, tag_of, noop_of, job_put_of, job_stop_of, node_put_of, node_down_of, drain_of, drain_done_of, migrate_of, eval_put_of, eval_status_of, plan_of, report_of, command}
 
 pub job_spec_lawful : Lawful job_spec

@@ -2,8 +2,8 @@
 use Rattle.std.proofs.Common.{refl, arith}
 use Rattle.rows.specs.Names.{is_name_byte}
 use Rattle.fields.specs.Format.{Lawful}
-use Rattle.fields.specs.FormatLaws.{number_lawful, string_lawful, made_lawful, then_lawful}
-use Rattle.fields.specs.FieldLaws.{index_lawful}
+use Rattle.fields.specs.Laws.FormatLaws.{number_lawful, string_lawful, made_lawful, then_lawful}
+use Rattle.fields.specs.Laws.FieldLaws.{index_lawful}
 use Rattle.fields.specs.Ids.{name, quantity, size, node_id, ordinal, priority, group_count, from_one, eval_id, alloc_id, token, delivery}
 
 pub name_lawful : Lawful name

@@ -11,10 +11,10 @@ use Rattle.rows.specs.declared.evaluation.EvalStatus.TheVariants as eval_statuse
 use Rattle.rows.specs.declared.allocation.Desired.TheVariants as desires
 use Rattle.rows.specs.declared.allocation.ClientState.TheVariants as clients
 use Rattle.fields.specs.Format.{Lawful, IsRuled}
-use Rattle.fields.specs.FormatLaws.{made_lawful, then_lawful, kept_lawful, ruled_list_lawful, kept_is_ruled, keyed_is_ruled, enumerated_lawful}
-use Rattle.fields.specs.FieldLaws.{index_lawful, bool_lawful}
+use Rattle.fields.specs.Laws.FormatLaws.{made_lawful, then_lawful, kept_lawful, ruled_list_lawful, kept_is_ruled, keyed_is_ruled, enumerated_lawful}
+use Rattle.fields.specs.Laws.FieldLaws.{index_lawful, bool_lawful}
 use Rattle.fields.specs.Ids.{alloc_id}
-use Rattle.fields.specs.IdLaws.{name_lawful, size_lawful, node_id_lawful, ordinal_lawful, priority_lawful, group_count_lawful, eval_id_lawful, alloc_id_lawful}
+use Rattle.fields.specs.Laws.IdLaws.{name_lawful, size_lawful, node_id_lawful, ordinal_lawful, priority_lawful, group_count_lawful, eval_id_lawful, alloc_id_lawful}
 use Rattle.fields.specs.Rows.{node_status, drain_mode, eval_status, desired, client_state, group, group_behind, groups, alloc_id_behind, job, job_behind, node, node_behind, evaluation, evaluation_behind, allocation, allocation_behind}
 
 pub node_status_lawful : Lawful node_status

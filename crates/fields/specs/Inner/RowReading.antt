@@ -1,0 +1,30 @@
+-- What follows the key of a row.
+use Rattle.std.specs.Prelude.{ℕ, List, Ok}
+use Rattle.rows.specs.declared.allocation.AllocId.{AllocId}
+use Rattle.rows.specs.declared.allocation.Allocation.{Allocation}
+use Rattle.rows.specs.declared.evaluation.EvalId.{EvalId}
+use Rattle.rows.specs.declared.evaluation.Evaluation.{Evaluation}
+use Rattle.rows.specs.declared.job.Group.{Group}
+use Rattle.rows.specs.declared.job.Job.{Job}
+use Rattle.rows.specs.declared.node.Node.{Node}
+use Rattle.fields.specs.Format.{Reading, ◌>>=◌, Format}
+use Rattle.fields.specs.Rows.{make_group, group_others, make_job, job_others, make_node, node_others, make_evaluation, evaluation_others, make_allocation, allocation_others}
+
+-- what follows a key that was read
+abbrev pub after_key : {K R V : Type 0} → (K × R → V) → Format R → K → List ℕ → ℕ → Reading V
+after_key make others key bytes at = others.read bytes at >>= λ r. Ok (make (key, r.0), r.1)
+
+abbrev pub group_of : List ℕ → List ℕ → ℕ → Reading Group
+group_of = after_key make_group group_others
+
+abbrev pub job_of : List ℕ → List ℕ → ℕ → Reading Job
+job_of = after_key make_job job_others
+
+abbrev pub node_of : ℕ → List ℕ → ℕ → Reading Node
+node_of = after_key make_node node_others
+
+abbrev pub evaluation_of : EvalId → List ℕ → ℕ → Reading Evaluation
+evaluation_of = after_key make_evaluation evaluation_others
+
+abbrev pub allocation_of : AllocId → List ℕ → ℕ → Reading Allocation
+allocation_of = after_key make_allocation allocation_others
