@@ -1,5 +1,5 @@
 -- Lists of at most 64 items.
-use Rattle.std.proofs.Common.{List, arith}
+use Rattle.std.proofs.Common.{arith}
 use Rattle.fields.specs.Format.{Format, Lawful}
 use Rattle.fields.specs.Commands.{batch}
 use Rattle.fields.specs.Laws.FormatLaws.{list_lawful}
