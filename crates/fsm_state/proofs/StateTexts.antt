@@ -1,9 +1,9 @@
 -- The text of a state, part by part.
-use Rattle.std.proofs.Common.{◌≡◌, ◌<◌, ◌^◌, ℕ, List, ◌++◌, ap, ◌∙◌, Ok, Err}
+use Rattle.std.proofs.Common.{◌≡◌, ◌<◌, ◌^◌, ℕ, List, [], ◌++◌, sym, ap, ◌∙◌, Ok, Err}
 use Rattle.std.specs.Prelude.{Result}
-use Rattle.std.proofs.lemmas.List.{append_assoc}
+use Rattle.std.proofs.lemmas.List.{append_assoc, append-nil}
 use Rattle.rows.specs.declared.refusal.NoMemory.{NoMemory}
-use Rattle.fields.specs.Format.{Puts, list}
+use Rattle.fields.specs.Format.{Puts, Writes, list}
 use Rattle.fields.specs.Fields.{index}
 use Rattle.fields.specs.Rows.{allocation}
 use Rattle.fields.specs.StateText.{jobs, nodes, evaluations, allocations, state}
@@ -35,10 +35,10 @@ parts o0 o1 o2 o3 o4 a b c d e p q r t =
 
 pub put_state : (s : State) (r : Result (Unit {0}) NoMemory) (o0 o1 o2 o3 o4 new : List ℕ) → state.Fits s
     → o1 ≡ o0 ++ index.text s.count → o2 ≡ o1 ++ jobs.text s.jobs → o3 ≡ o2 ++ nodes.text s.nodes → o4 ≡ o3 ++ evaluations.text s.evals
-    → Puts (list 4 65536 allocation) s.allocs r o4 new → Puts state s r o0 new
+    → Writes (list 4 65536 allocation) s.allocs r o4 new → Puts state s r o0 new
 put_state s (Ok u) o0 o1 o2 o3 o4 new fits p q r t h =
     (fits, h.1 ∙ parts o0 o1 o2 o3 o4 (index.text s.count) (jobs.text s.jobs) (nodes.text s.nodes) (evaluations.text s.evals) (allocations.text s.allocs) p q r t)
 put_state s (Err e) o0 o1 o2 o3 o4 new fits p q r t h = (
-  index.text s.count ++ (jobs.text s.jobs ++ (nodes.text s.nodes ++ (evaluations.text s.evals ++ h.0))),
-  h.1 ∙ parts o0 o1 o2 o3 o4 (index.text s.count) (jobs.text s.jobs) (nodes.text s.nodes) (evaluations.text s.evals) h.0 p q r t,
+  index.text s.count ++ (jobs.text s.jobs ++ (nodes.text s.nodes ++ (evaluations.text s.evals ++ []))),
+  h ∙ sym (append-nil o4) ∙ parts o0 o1 o2 o3 o4 (index.text s.count) (jobs.text s.jobs) (nodes.text s.nodes) (evaluations.text s.evals) [] p q r t,
 )

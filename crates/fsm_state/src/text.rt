@@ -5,7 +5,7 @@ ghost use Rattle.fields.specs.StateText.{state};
 ghost use Rattle.fields.specs.StateTextLaws.{state_lawful};
 
 use crate::cluster::Cluster;
-use fields::{Field, append_long_counted, read_long_ruled_list};
+use fields::{Field, read_long_ruled_list, write_long_counted};
 use rows::{Allocation, Command, Evaluation, Index, Job, NoMemory, Node, Ranged, Refusal};
 use std::alloc::Global;
 
@@ -53,9 +53,9 @@ impl Field for Cluster {
         self.fits();
         self.ranges();
         self.applied().append(out)?;
-        append_long_counted(self.job_table().rows(), 256, out)?;
-        append_long_counted(self.node_table().rows(), 64, out)?;
-        append_long_counted(self.eval_table().rows(), 65_536, out)?;
-        append_long_counted(self.alloc_table().rows(), 65_536, out)
+        write_long_counted(self.job_table().rows(), 256, out)?;
+        write_long_counted(self.node_table().rows(), 64, out)?;
+        write_long_counted(self.eval_table().rows(), 65_536, out)?;
+        write_long_counted(self.alloc_table().rows(), 65_536, out)
     }
 }
