@@ -2,7 +2,7 @@
 use Rattle.std.proofs.Common.{◌≡◌, ℕ, ◌<◌, ◌≤◌, ◌⊎◌, inl, inr, max, true, Some, List, [], ◌∷◌, ◌++◌, replicate, refl, sym, ap, ◌∙◌, subst, arith, slice_get, slice_set}
 use Rattle.raft_model.specs.Servers.{Server, is_up, newcomer}
 use Rattle.raft_model.specs.Worlds.{World, first, moment}
-use Rattle.raft_model.specs.Chains.{At, Reached}
+use Rattle.raft_model.specs.Chains.{At, WasCommitted}
 use Rattle.raft_safety.proofs.Places.{get_set-cases, get_set-same, get-more, get-later, get-split, get-one, get-within, replicate-get}
 use Rattle.raft_safety.proofs.Paths.{bool_cases}
 use Rattle.raft_safety.specs.Claims.{IsGreatestCommit}
@@ -25,7 +25,7 @@ module _ {C : Type 0} (past : List (World C)) (w next : World C) (i : ℕ) (t : 
   last_moment : (j : ℕ) × (moment (past ++ w ∷ []) next j ≡ Some next)
   last_moment = get-later (past ++ w ∷ []) (next ∷ []) 0 next refl
 
-  reached_on : (index : ℕ) → Reached past w index → Reached (past ++ w ∷ []) next index
+  reached_on : (index : ℕ) → WasCommitted past w index → WasCommitted (past ++ w ∷ []) next index
   reached_on index r = record {
     moment = r.moment;
     who = r.who;
@@ -51,7 +51,7 @@ module _ {C : Type 0} (past : List (World C)) (w next : World C) (i : ℕ) (t : 
         ]
   ]
 
-  reached_now : slice_get next.servers i ≡ Some t → (committed t ≡ 0) ⊎ Reached (past ++ w ∷ []) next (committed t)
+  reached_now : slice_get next.servers i ≡ Some t → (committed t ≡ 0) ⊎ WasCommitted (past ++ w ∷ []) next (committed t)
   reached_now here = elim (bool_cases (is_up t.mode)) [
     | inl up ↦ let l = last_moment in
         inr (record { moment = l.0; who = i; server = t; at = record { world = next; world_is = l.1; here = here }; up = up; commit = sym (up_committed t up) })
@@ -61,16 +61,16 @@ module _ {C : Type 0} (past : List (World C)) (w next : World C) (i : ℕ) (t : 
   greater : (a b : ℕ) → ((b ≤ a) × (max a b ≡ a)) ⊎ ((a < b) × (max a b ≡ b))
   greater a b = grind arith
 
-  reached_next : (height ≡ 0) ⊎ Reached past w height → slice_get next.servers i ≡ Some t →
-      (max height (committed t) ≡ 0) ⊎ Reached (past ++ w ∷ []) next (max height (committed t))
+  reached_next : (height ≡ 0) ⊎ WasCommitted past w height → slice_get next.servers i ≡ Some t →
+      (max height (committed t) ≡ 0) ⊎ WasCommitted (past ++ w ∷ []) next (max height (committed t))
   reached_next h here = elim (greater height (committed t)) [
     | inl e ↦ elim h [
       | inl f ↦ inl (e.1 ∙ f)
-      | inr f ↦ inr (subst (λ c. Reached (past ++ w ∷ []) next c) (sym e.1) (reached_on height f))
+      | inr f ↦ inr (subst (λ c. WasCommitted (past ++ w ∷ []) next c) (sym e.1) (reached_on height f))
     ]
     | inr e ↦ elim (reached_now here) [
       | inl f ↦ absurd (omega (arith, e.0))
-      | inr f ↦ inr (subst (λ c. Reached (past ++ w ∷ []) next c) (sym e.1) f)
+      | inr f ↦ inr (subst (λ c. WasCommitted (past ++ w ∷ []) next c) (sym e.1) f)
     ]
   ]
 
