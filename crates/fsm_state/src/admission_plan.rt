@@ -1,9 +1,9 @@
 //! Why a state refuses a plan.
 ghost use Rattle.std.specs.Prelude.{◌≡◌, ◌≤◌, ◌&&◌, ◌+◌, Bool, Option, Some, None, IfOk, length, nat_lt, not};
 ghost use Rattle.std.specs.List.{list_any, list_all};
-ghost use Rattle.fsm_state.specs.Words.{holds, is_pending as waits, eval_of, node_of};
+ghost use Rattle.cluster_model.specs.Words.{holds, is_pending as waits, eval_of, node_of};
 ghost use Rattle.rows.specs.declared.command.Command.TheVariants as commands;
-ghost use Rattle.fsm_state.specs.Admission.{admission, is_stopped, is_live_of, takes as node_takes, is_asked, fits_job, same_size};
+ghost use Rattle.cluster_model.specs.Admission.{admission, is_stopped, is_live_of, takes as node_takes, is_asked, fits_job, same_size};
 
 use crate::admission_touch::is_ready;
 use crate::cluster::Cluster;

@@ -2,14 +2,14 @@
 ghost use Rattle.std.specs.Prelude.{◌≡◌, ◌≤◌, ◌+◌, ◌++◌, ◌∷◌, ◌&&◌, ◌<◌, ◌^◌, List, nat_le, IfOk, OnOk, length, cond, map, not, take, T as Holds};
 ghost use Rattle.std.specs.List.{list_any, list_all};
 ghost use Rattle.fsm_tables.specs.Claims.{Claim as AnyClaim, claim_of, claims as claims_of, is_live as lives, used};
-ghost use Rattle.fsm_state.specs.Safe.{is_safe, is_placed, same_name, are_distinct as distinct_claims, are_safe};
-ghost use Rattle.fsm_state.specs.Words.{same_alloc, node_of, alloc_of};
-ghost use Rattle.fsm_state.specs.Effect.{counted, planned, stop as stop_those};
-ghost use Rattle.fsm_state.specs.PlanLaws.{place_claim, wanted, are_free, are_dated};
-ghost use Rattle.fsm_state.specs.UseLaws.{room_of};
-ghost use Rattle.fsm_state.specs.Alone.{claim_name, is_free, ended_one, ended_by, has_room, all_numbers, passes_alone};
-ghost use Rattle.fsm_state.specs.AfterLaws.{is_made, left_by};
-ghost use Rattle.fsm_state.specs.Claimed.{bears_node, left_one, is_first};
+ghost use Rattle.cluster_model.specs.Safe.{is_safe, is_placed, same_name, are_distinct as distinct_claims, are_safe};
+ghost use Rattle.cluster_model.specs.Words.{same_alloc, node_of, alloc_of};
+ghost use Rattle.cluster_model.specs.Effect.{counted, planned, stop as stop_those};
+ghost use Rattle.cluster_model.specs.Plans.{place_claim, wanted, are_free, are_dated};
+ghost use Rattle.cluster_model.specs.Plans.{room_of};
+ghost use Rattle.fsm_state.specs.Inner.Alone.{claim_name, is_free, ended_one, ended_by, has_room, all_numbers, passes_alone};
+ghost use Rattle.cluster_model.specs.Plans.{is_made, left_by};
+ghost use Rattle.fsm_state.specs.Inner.Claimed.{bears_node, left_one, is_first};
 ghost use Rattle.rows.specs.declared.allocation.Allocation.{Allocation as Row};
 
 use crate::cluster::Cluster;
@@ -226,7 +226,7 @@ impl Cluster {
     }
 
     /// Whether the nodes bear what is claimed, of which the first `held` are of rows of this state.
-    #[tactic(auto, using(crate::specs::Claimed::all_within))]
+    #[tactic(auto, using(crate::proofs::Claimed::all_within))]
     fn bears(&self, claims: &[Claim], held: usize) -> bool
         requires few { held ≤ length claims.now }
         requires held { Holds (distinct_claims (claims_of self.now.allocs)) → Holds (distinct_claims (take held claims.now)) }

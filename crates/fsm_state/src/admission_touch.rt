@@ -2,12 +2,12 @@
 ghost use Rattle.std.specs.Prelude.{◌≡◌, ◌≤◌, ◌++◌, List, ℕ, Option, Some, None, IfOk, OnOk, length, filter, not, nat_eq, option_map};
 ghost use Rattle.std.specs.List.{list_any, list_all};
 ghost use Rattle.rows.specs.declared.command.Command.TheVariants as commands;
-ghost use Rattle.fsm_state.specs.Words.{no_alloc, is_ready as stands_ready};
-ghost use Rattle.fsm_state.specs.Admission.{admission, evals_pass, those_jobs, drains, can_move, is_its_own};
-ghost use Rattle.fsm_state.specs.Effect.{lives_on, moves, owns, ends, told, told_all};
-ghost use Rattle.fsm_state.specs.StepLaws.{is_one_of};
-ghost use Rattle.fsm_state.specs.Steps.{ended_job};
-ghost use Rattle.fsm_state.specs.Reports.{ended_now};
+ghost use Rattle.cluster_model.specs.Words.{no_alloc, is_ready as stands_ready};
+ghost use Rattle.cluster_model.specs.Admission.{admission, evals_pass, those_jobs, drains, can_move, is_its_own};
+ghost use Rattle.cluster_model.specs.Effect.{lives_on, moves, owns, ends, told, told_all};
+ghost use Rattle.fsm_state.specs.Inner.Steps.{is_one_of};
+ghost use Rattle.fsm_state.specs.Inner.Steps.{ended_job};
+ghost use Rattle.fsm_state.specs.Inner.Steps.{ended_now};
 
 use crate::admission::is_drained;
 use crate::allocs::told as told_itself;
@@ -30,7 +30,7 @@ pub(crate) fn is_ready(status: NodeStatus) -> bool
 }
 
 /// How many of the jobs are of these names.
-#[tactic(auto, using(crate::specs::RangeLaws::no_more))]
+#[tactic(auto, using(cluster_model::proofs::RangeLaws::no_more))]
 fn count_of(jobs: &[Job], names: &[JobName]) -> usize
     ensures count { result ≡ length (filter (is_one_of names.now) jobs.now) }
     ensures few { result ≤ length jobs.now }

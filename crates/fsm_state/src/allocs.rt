@@ -2,8 +2,8 @@
 ghost use Rattle.std.specs.Prelude.{◌≡◌, ◌&&◌, OnOk, option_map, nat_eq, cond};
 ghost use Rattle.rows.specs.declared.allocation.ClientState.TheVariants as clients;
 ghost use Rattle.fsm_tables.specs.Claims.{is_active as waits_or_runs};
-ghost use Rattle.fsm_state.specs.Effect.{state_of, ends, lost};
-ghost use Rattle.fsm_state.specs.Steps.{room_at, revised, revised_to, alloc_changed, stop_one, tell_one, mark_one};
+ghost use Rattle.cluster_model.specs.Effect.{state_of, ends, lost};
+ghost use Rattle.fsm_state.specs.Inner.Steps.{room_at, revised, revised_to, alloc_changed, stop_one, tell_one, mark_one};
 
 use crate::cluster::Cluster;
 use fsm_tables::is_live;

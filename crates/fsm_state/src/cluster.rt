@@ -6,10 +6,10 @@ ghost use Rattle.fsm_tables.specs.Rows.{put_within as with_row};
 ghost use Rattle.fsm_tables.specs.Claims.{claim_of, claims, used, is_live as lives};
 ghost use Rattle.fsm_tables.specs.LiveNames.{live_named};
 ghost use Rattle.fsm_tables.specs.TableRows.{TablesFit};
-ghost use Rattle.fsm_state.specs.Words.{no_rows, job_of, node_of, eval_of, alloc_of};
-ghost use Rattle.fsm_state.specs.Effect.{counted};
-ghost use Rattle.fsm_state.specs.Safe.{are_distinct};
-ghost use Rattle.fsm_state.specs.Alone.{is_free_but, is_free};
+ghost use Rattle.cluster_model.specs.Words.{no_rows, job_of, node_of, eval_of, alloc_of};
+ghost use Rattle.cluster_model.specs.Effect.{counted};
+ghost use Rattle.cluster_model.specs.Safe.{are_distinct};
+ghost use Rattle.fsm_state.specs.Inner.Alone.{is_free_but, is_free};
 
 use crate::admission_safe::is_among;
 use fsm_tables::{AllocName, Table, Tables, Usage, is_live};
@@ -36,7 +36,7 @@ impl Model for Cluster {
     ghost use Rattle.std.specs.Prelude.{T as Holds};
     ghost use Rattle.rows.specs.State.{State};
     ghost use Rattle.fsm_tables.specs.Claims.{claims};
-    ghost use Rattle.fsm_state.specs.Safe.{are_distinct};
+    ghost use Rattle.cluster_model.specs.Safe.{are_distinct};
 
     ghost Value = { State };
 

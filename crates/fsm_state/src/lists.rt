@@ -2,8 +2,8 @@
 ghost use Rattle.std.specs.Prelude.{◌≡◌, ◌<◌, length, ◌++◌, ◌∷◌, [], List, ℕ, OnOk, IfOk, option_map, map};
 ghost use Rattle.std.specs.List.{slice_get};
 ghost use Rattle.rows.specs.Keys.{alloc_cmp, alloc_id};
-ghost use Rattle.fsm_state.specs.Effect.{lost, alloc_row, placed};
-ghost use Rattle.fsm_state.specs.Steps.{put_changed, stopped_all, told_steps, ended_job, ended_jobs, tell_one, marked_all, live_job, live_jobs, jobs_on};
+ghost use Rattle.cluster_model.specs.Effect.{lost, alloc_row, placed};
+ghost use Rattle.fsm_state.specs.Inner.Steps.{put_changed, stopped_all, told_steps, ended_job, ended_jobs, tell_one, marked_all, live_job, live_jobs, jobs_on};
 
 use crate::allocs::{lost_with, told};
 use crate::cluster::Cluster;

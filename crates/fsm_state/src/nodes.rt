@@ -5,10 +5,10 @@ ghost use Rattle.rows.specs.Keys.{name_cmp, eval_cmp, job_name, node_number, eva
 ghost use Rattle.rows.specs.declared.node.NodeStatus.TheVariants as statuses;
 ghost use Rattle.rows.specs.declared.node.DrainMode.TheVariants as drains;
 ghost use Rattle.rows.specs.Changes.{status_of, snapshot_of};
-ghost use Rattle.fsm_state.specs.Words.{is_open as is_not_final};
-ghost use Rattle.fsm_state.specs.Effect.{with_job, job_row, with_node, node_row};
-ghost use Rattle.fsm_state.specs.Steps.{changed};
-ghost use Rattle.fsm_state.specs.StepLaws.{set_one};
+ghost use Rattle.cluster_model.specs.Words.{is_open as is_not_final};
+ghost use Rattle.cluster_model.specs.Effect.{with_job, job_row, with_node, node_row};
+ghost use Rattle.fsm_state.specs.Inner.Steps.{changed};
+ghost use Rattle.fsm_state.specs.Inner.Steps.{set_one};
 
 use crate::cluster::Cluster;
 use rows::{

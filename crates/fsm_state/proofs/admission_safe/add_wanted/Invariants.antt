@@ -1,5 +1,5 @@
 use Rattle.std.proofs.Common.{◌≡◌, ◌++◌, drop, map}
-use Rattle.fsm_state.specs.PlanLaws.{place_claim}
+use Rattle.cluster_model.specs.Plans.{place_claim}
 use Rattle.fsm_state.proofs.admission_safe.add_wanted.Given as goal
 
 abbrev pub invariant-loop-place : goal.invariant-loop-place

@@ -1,5 +1,5 @@
 use Rattle.std.proofs.Common.{◌≡◌, drop}
-use Rattle.fsm_state.specs.Safe.{are_distinct}
+use Rattle.cluster_model.specs.Safe.{are_distinct}
 use Rattle.fsm_state.proofs.admission_safe.are_distinct.Given as goal
 
 abbrev pub invariant-loop-place : goal.invariant-loop-place

@@ -1,5 +1,5 @@
 use Rattle.std.proofs.Common.{◌≡◌, drop}
-use Rattle.fsm_state.specs.PlanLaws.{are_free}
+use Rattle.cluster_model.specs.Plans.{are_free}
 use Rattle.fsm_state.proofs.admission_safe.are_free.Given as goal
 
 abbrev pub invariant-loop-claim : goal.invariant-loop-claim

@@ -1,6 +1,6 @@
 use Rattle.std.proofs.Common.{◌≡◌, drop}
 use Rattle.std.specs.List.{list_all}
-use Rattle.fsm_state.specs.Claimed.{bears_node}
+use Rattle.fsm_state.specs.Inner.Claimed.{bears_node}
 use Rattle.fsm_state.proofs.admission_safe.are_within.Given as goal
 
 abbrev pub invariant-loop-node : goal.invariant-loop-node

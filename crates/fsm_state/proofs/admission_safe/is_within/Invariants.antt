@@ -1,5 +1,5 @@
 use Rattle.std.proofs.Common.{◌≡◌, drop}
-use Rattle.fsm_state.specs.Claimed.{fits_steps}
+use Rattle.fsm_state.specs.Inner.Claimed.{fits_steps}
 use Rattle.fsm_state.proofs.admission_safe.is_within.Given as goal
 
 abbrev pub invariant-loop-claim : goal.invariant-loop-claim

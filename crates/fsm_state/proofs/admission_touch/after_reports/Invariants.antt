@@ -1,5 +1,5 @@
 use Rattle.std.proofs.Common.{◌≡◌, drop}
-use Rattle.fsm_state.specs.Effect.{told_all}
+use Rattle.cluster_model.specs.Effect.{told_all}
 use Rattle.fsm_state.proofs.admission_touch.after_reports.Given as goal
 
 abbrev pub invariant-loop-report : goal.invariant-loop-report

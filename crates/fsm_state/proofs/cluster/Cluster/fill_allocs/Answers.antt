@@ -1,8 +1,8 @@
 use Rattle.std.proofs.Common.{◌<◌, length, ap, ◌∙◌, arith}
 use Rattle.rows.specs.Keys.{alloc_cmp, alloc_id}
-use Rattle.fsm_state.specs.StateLaws.{alloc_cmp_total}
+use Rattle.rows.specs.KeyLaws.{alloc_cmp_total}
 use Rattle.fsm_tables.specs.Rows.{put_within}
-use Rattle.fsm_state.specs.Words.{State}
+use Rattle.cluster_model.specs.Words.{State}
 use Rattle.fsm_state.proofs.Filling.{fill_step}
 use Rattle.fsm_state.proofs.cluster.Cluster.fill_allocs.Goals as goal
 

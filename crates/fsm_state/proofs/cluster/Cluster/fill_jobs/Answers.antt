@@ -3,7 +3,7 @@ use Rattle.std.specs.Cmp.Lexicographic.{nat_list_cmp_total}
 use Rattle.rows.specs.Keys.{name_cmp, job_name}
 use Rattle.rows.specs.declared.job.Job.{Job}
 use Rattle.fsm_tables.specs.Rows.{put_within}
-use Rattle.fsm_state.specs.Words.{State}
+use Rattle.cluster_model.specs.Words.{State}
 use Rattle.fsm_state.proofs.Filling.{fill_step}
 use Rattle.fsm_state.proofs.cluster.Cluster.fill_jobs.Goals as goal
 

@@ -3,7 +3,7 @@ use Rattle.std.specs.Ordering.{nat_cmp}
 use Rattle.std.specs.Cmp.{nat_cmp_total}
 use Rattle.rows.specs.Keys.{node_number}
 use Rattle.fsm_tables.specs.Rows.{put_within}
-use Rattle.fsm_state.specs.Words.{State}
+use Rattle.cluster_model.specs.Words.{State}
 use Rattle.fsm_state.proofs.Filling.{fill_step}
 use Rattle.fsm_state.proofs.cluster.Cluster.fill_nodes.Goals as goal
 
