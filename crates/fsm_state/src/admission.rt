@@ -6,6 +6,12 @@ ghost use Rattle.cluster_model.specs.Words.{holds, is_draining, is_pending, is_b
 ghost use Rattle.cluster_model.specs.Admission.{admission, jobs_pass, evals_pass, same_size, differs as node_differs, drains, allows as may_become, those_jobs};
 ghost use Rattle.cluster_model.specs.Effect.{lives_on, is_named};
 
+mod alone;
+mod claims;
+mod plans;
+mod touching;
+mod whole;
+
 use crate::cluster::Cluster;
 use fsm_tables::Tables;
 use rows::{

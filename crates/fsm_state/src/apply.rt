@@ -2,6 +2,15 @@
 ghost use Rattle.std.specs.Prelude.{◌≡◌, ◌+◌, ◌<◌, ◌^◌, OnOk, map};
 ghost use Rattle.cluster_model.specs.Effect.{applied as after_command, touched, is_named, with_job, without_job, without_node, downed, draining, drained, migrated, with_status, planned, reported};
 
+mod allocs;
+mod evals;
+mod jobs;
+mod losses;
+mod moves;
+mod nodes;
+mod plans;
+pub(crate) mod reports;
+
 use crate::cluster::Cluster;
 use rows::{
     AcceptedPlan, AllocId, Command, EntryIndex, EvalId, JobName, JobSpec, NoMemory, NodeId, Report,

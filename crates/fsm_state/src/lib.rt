@@ -2,15 +2,9 @@
 #![tactic(auto)]
 
 mod admission;
-mod admission_plan;
-mod admission_safe;
-mod admission_touch;
-mod allocs;
 mod apply;
 mod cluster;
-mod fill;
 mod lists;
-mod nodes;
 mod replicated;
 mod text;
 mod touch;

@@ -1,11 +1,12 @@
 //! Why a state refuses a plan.
-ghost use Rattle.std.specs.Prelude.{◌≡◌, ◌≤◌, ◌&&◌, ◌+◌, Bool, Option, Some, None, IfOk, length, nat_lt, not};
+ghost use Rattle.std.specs.Prelude.{◌≡◌, ◌≤◌, ◌&&◌, ◌+◌, Option, Some, None, IfOk, length, nat_lt, not};
 ghost use Rattle.std.specs.List.{list_any, list_all};
+ghost use Rattle.cluster_model.specs.Limits.{most_allocs};
 ghost use Rattle.cluster_model.specs.Words.{holds, is_pending as waits, eval_of, node_of};
 ghost use Rattle.rows.specs.declared.command.Command.TheVariants as commands;
-ghost use Rattle.cluster_model.specs.Admission.{admission, is_stopped, is_live_of, takes as node_takes, is_asked, fits_job, same_size};
+ghost use Rattle.cluster_model.specs.Admission.{admission, is_stopped, is_live_of, takes as node_takes, is_asked, fits_job};
 
-use crate::admission_touch::is_ready;
+use crate::admission::touching::is_ready;
 use crate::cluster::Cluster;
 use fsm_tables::{Tables, is_live};
 use rows::{
@@ -130,14 +131,14 @@ impl Cluster {
     /// Whether so many allocations more would pass the limit.
     fn allocs_pass(&self, more: usize) -> bool
         requires { more ≤ 64 }
-        ensures { result ≡ nat_lt 65536 (length self.now.allocs + more) }
+        ensures { result ≡ nat_lt most_allocs (length self.now.allocs + more) }
     {
         self.ranges();
         self.alloc_table().len() + more > Tables::MOST_ALLOCS
     }
 
     /// Why a plan may not be applied.
-    pub(crate) fn plan_refusal(&self, plan: &AcceptedPlan) -> Result<Option<Refusal>, NoMemory>
+    pub(super) fn plan_refusal(&self, plan: &AcceptedPlan) -> Result<Option<Refusal>, NoMemory>
         ensures { IfOk result (λ r. r ≡ admission self.now (commands.Plan plan.now)) }
     {
         let places = plan.places.as_slice();

@@ -1,7 +1,7 @@
 use Rattle.std.proofs.Common.{◌≡◌, ◌+◌, ◌*◌, ◌≤◌, drop}
 use Rattle.std.specs.Prelude.{sum_by}
 use Rattle.fsm_tables.specs.Claims.{on_node}
-use Rattle.fsm_state.proofs.admission_safe.taken.Given as goal
+use Rattle.fsm_state.proofs.admission.alone.taken.Given as goal
 
 abbrev pub invariant-loop-claim : goal.invariant-loop-claim
 invariant-loop-claim l = record {

@@ -1,16 +1,14 @@
 //! Why a state refuses the commands that touch several jobs.
-ghost use Rattle.std.specs.Prelude.{◌≡◌, ◌≤◌, ◌++◌, List, ℕ, Option, Some, None, IfOk, OnOk, length, filter, not, nat_eq, option_map};
+ghost use Rattle.std.specs.Prelude.{◌≡◌, ◌≤◌, ◌++◌, List, ℕ, Option, Some, None, IfOk, OnOk, length, filter, not, option_map};
 ghost use Rattle.std.specs.List.{list_any, list_all};
 ghost use Rattle.rows.specs.declared.command.Command.TheVariants as commands;
 ghost use Rattle.cluster_model.specs.Words.{no_alloc, is_ready as stands_ready};
 ghost use Rattle.cluster_model.specs.Admission.{admission, evals_pass, those_jobs, drains, can_move, is_its_own};
 ghost use Rattle.cluster_model.specs.Effect.{lives_on, moves, owns, ends, told, told_all};
-ghost use Rattle.fsm_state.specs.Inner.Steps.{is_one_of};
-ghost use Rattle.fsm_state.specs.Inner.Steps.{ended_job};
-ghost use Rattle.fsm_state.specs.Inner.Steps.{ended_now};
+ghost use Rattle.fsm_state.specs.Inner.Steps.{is_one_of, ended_job, ended_now};
 
 use crate::admission::is_drained;
-use crate::allocs::told as told_itself;
+use crate::apply::reports::told as told_itself;
 use crate::cluster::Cluster;
 use crate::touch::is_among;
 use fsm_tables::{Tables, is_live};
@@ -20,7 +18,7 @@ use rows::{
 };
 
 /// Whether a node is ready.
-pub(crate) fn is_ready(status: NodeStatus) -> bool
+pub(super) fn is_ready(status: NodeStatus) -> bool
     ensures { result ≡ stands_ready status }
 {
     match status {
@@ -60,6 +58,23 @@ fn after_reports(row: &Allocation, node: NodeId, reports: &[Report]) -> Allocati
     after
 }
 
+/// Adds the job of a row that the reports end.
+fn add_ended(
+    names: &mut Sequence<JobName>,
+    row: Option<&Allocation>,
+    node: NodeId,
+    reports: &[Report],
+) -> Result<(), NoMemory>
+    ensures { OnOk result ((rest : List (List ℕ)) → names.new ++ rest ≡ names.old ++ ended_job (told_all node reports.now) (option_map (λ r. r.now) row.entry) rest) }
+{
+    match row {
+        Some(row) if is_live(row) && !is_live(&after_reports(row, node, reports)) => names.push(
+            row.job,
+        ),
+        _ => Ok(()),
+    }
+}
+
 impl Cluster {
     /// Whether the evaluations that touch the jobs of these names would pass the limit.
     fn names_pass(&self, names: &[JobName]) -> bool
@@ -89,7 +104,7 @@ impl Cluster {
     }
 
     /// Why a node may not be taken for down.
-    pub(crate) fn node_down_refusal(&self, node: NodeId) -> Result<Option<Refusal>, NoMemory>
+    pub(super) fn node_down_refusal(&self, node: NodeId) -> Result<Option<Refusal>, NoMemory>
         ensures { IfOk result (λ r. r ≡ admission self.now (commands.NodeDown node)) }
     {
         match self.node(node) {
@@ -144,7 +159,7 @@ impl Cluster {
     }
 
     /// Why allocations may not be marked.
-    pub(crate) fn migrate_refusal(&self, ids: &RisingIds) -> Result<Option<Refusal>, NoMemory>
+    pub(super) fn migrate_refusal(&self, ids: &RisingIds) -> Result<Option<Refusal>, NoMemory>
         ensures { IfOk result (λ r. r ≡ admission self.now (commands.Migrate ids.now)) }
     {
         let ids = ids.as_slice();
@@ -202,7 +217,7 @@ impl Cluster {
     }
 
     /// Why reports of a node may not be taken.
-    pub(crate) fn report_refusal(
+    pub(super) fn report_refusal(
         &self,
         node: NodeId,
         reports: &Reports,
@@ -219,22 +234,5 @@ impl Cluster {
         } else {
             Ok(None)
         }
-    }
-}
-
-/// Adds the job of a row that the reports end.
-fn add_ended(
-    names: &mut Sequence<JobName>,
-    row: Option<&Allocation>,
-    node: NodeId,
-    reports: &[Report],
-) -> Result<(), NoMemory>
-    ensures { OnOk result ((rest : List (List ℕ)) → names.new ++ rest ≡ names.old ++ ended_job (told_all node reports.now) (option_map (λ r. r.now) row.entry) rest) }
-{
-    match row {
-        Some(row) if is_live(row) && !is_live(&after_reports(row, node, reports)) => names.push(
-            row.job,
-        ),
-        _ => Ok(()),
     }
 }
