@@ -1,7 +1,7 @@
 //! Worked commands: what the definitions answer for states and commands written out, each a law by computation.
-ghost use Rattle.cluster_model.specs.Worked.{TwoRun, NodeLost, StaysWithoutRow, LateReport, LateReportPasses, PlacedAgain, AllInUse, LastPasses, OneTooMany};
-ghost use Rattle.cluster_model.specs.Worked.{NameMoves, RoomWhereStopped, MovePasses, MoveTooLarge, NameTwice, OtherJob};
-ghost use Rattle.cluster_model.specs.Worked.{RisingNames, DownAlready, ComesBack, Marked, MarkTouches, NotDrained, NotEmpty, Drained, Blocked, FinalStays, BlockedComesBack};
+ghost use Rattle.cluster_model.specs.Worked.Losses.{TwoRun, NodeLost, StaysWithoutRow, LateReport, LateReportPasses, PlacedAgain, AllInUse, LastPasses, OneTooMany};
+ghost use Rattle.cluster_model.specs.Worked.Moves.{NameMoves, RoomWhereStopped, MovePasses, MoveTooLarge, NameTwice, OtherJob};
+ghost use Rattle.cluster_model.specs.Worked.Drains.{RisingNames, DownAlready, ComesBack, Marked, MarkTouches, NotDrained, NotEmpty, Drained, Blocked, FinalStays, BlockedComesBack};
 
 /// Two nodes run a job of two; one node goes down, what it reports late changes nothing, and its allocation's name is
 /// placed again where there is just room for it.

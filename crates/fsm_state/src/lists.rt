@@ -1,81 +1,111 @@
 //! States made of rows.
 ghost use Rattle.cluster_model.specs.Limits.{most_allocs, most_evals, most_jobs, most_nodes};
-ghost use Rattle.std.specs.Prelude.{◌≡◌, ◌≤◌, [], OnOk, IfOk, length, T as Holds};
+ghost use Rattle.std.specs.Prelude.{◌≡◌, ◌≤◌, ℕ, List, [], OnOk, IfOk, length, T as Holds};
 ghost use Rattle.std.specs.Ordering.{nat_cmp};
 ghost use Rattle.rows.specs.Keys.{name_cmp, eval_cmp, alloc_cmp, job_name, node_number, eval_id, alloc_id};
 ghost use Rattle.rows.specs.Rising.{is_rising};
+ghost use Rattle.fsm_tables.specs.Rows.{put_within as with_row};
+ghost use Rattle.cluster_model.specs.Words.{State};
 
 use crate::cluster::Cluster;
+use fsm_tables::Row;
 use rows::{Allocation, Evaluation, Index, Job, NoMemory, Node, Sequence};
 use std::alloc::Global;
 
-/// The same job once more.
-fn copied(alloc: Global, job: &Job) -> Result<Job, NoMemory>
-    ensures { IfOk result (λ row. row ≡ job.now) }
+/// Rows of one kind, of which a state has a table.
+trait Stored: Row {
+    /// The state with these rows in the table.
+    ghost stored: { List Self → State → State };
+
+    /// How many rows the table holds.
+    ghost most: { ℕ };
+
+    /// The same row once more.
+    fn copied(&self, alloc: Global) -> Result<Self, NoMemory>
+        ensures { IfOk result (λ row. row ≡ self.now) };
+
+    /// Makes or replaces the row of the key.
+    fn put_into(self, state: &mut Cluster) -> Result<(), NoMemory>
+        ensures { (rows : List Self) (s : State) → state.old ≡ stored rows s → OnOk result (state.new ≡ stored (with_row Self.Key.cmp Self.key_of most self rows) s) };
+}
+
+impl Stored for Job {
+    ghost stored = { λ rows s. record s { jobs = rows } };
+
+    ghost most = { most_jobs };
+
+    fn copied(&self, alloc: Global) -> Result<Job, NoMemory> {
+        Ok(Job {
+            name: self.name,
+            priority: self.priority,
+            stopped: self.stopped,
+            version: self.version,
+            groups: self.groups.try_clone(alloc)?,
+        })
+    }
+
+    fn put_into(self, state: &mut Cluster) -> Result<(), NoMemory> {
+        state.put_job(self)
+    }
+}
+
+impl Stored for Node {
+    ghost stored = { λ rows s. record s { nodes = rows } };
+
+    ghost most = { most_nodes };
+
+    fn copied(&self, _alloc: Global) -> Result<Node, NoMemory> {
+        Ok(*self)
+    }
+
+    fn put_into(self, state: &mut Cluster) -> Result<(), NoMemory> {
+        state.put_node(self)
+    }
+}
+
+impl Stored for Evaluation {
+    ghost stored = { λ rows s. record s { evals = rows } };
+
+    ghost most = { most_evals };
+
+    fn copied(&self, _alloc: Global) -> Result<Evaluation, NoMemory> {
+        Ok(*self)
+    }
+
+    fn put_into(self, state: &mut Cluster) -> Result<(), NoMemory> {
+        state.put_eval(self)
+    }
+}
+
+impl Stored for Allocation {
+    ghost stored = { λ rows s. record s { allocs = rows } };
+
+    ghost most = { most_allocs };
+
+    fn copied(&self, _alloc: Global) -> Result<Allocation, NoMemory> {
+        Ok(*self)
+    }
+
+    fn put_into(self, state: &mut Cluster) -> Result<(), NoMemory> {
+        state.put_alloc(self)
+    }
+}
+
+/// Puts all rows of a table that has none.
+fn fill<T: Stored>(state: &mut Cluster, rows: &[T]) -> Result<(), NoMemory>
+    requires none { state.old ≡ T.stored [] state.old }
+    requires rising { Holds (is_rising T.Key.cmp T.key_of rows.now) }
+    requires few { length rows.now ≤ T.most }
+    ensures { OnOk result (state.new ≡ T.stored rows.now state.old) }
 {
-    Ok(Job {
-        name: job.name,
-        priority: job.priority,
-        stopped: job.stopped,
-        version: job.version,
-        groups: job.groups.try_clone(alloc)?,
-    })
+    for row in rows {
+        let row = row.copied(state.memory())?;
+        row.put_into(state)?;
+    }
+    Ok(())
 }
 
 impl Cluster {
-    /// Puts all jobs of a state that has none.
-    pub(crate) fn fill_jobs(&mut self, rows: &[Job]) -> Result<(), NoMemory>
-        requires none { self.old.jobs ≡ [] }
-        requires rising { Holds (is_rising name_cmp job_name rows.now) }
-        requires few { length rows.now ≤ most_jobs }
-        ensures { OnOk result (self.new ≡ record self.old { jobs = rows.now }) }
-    {
-        for row in rows {
-            let row = copied(self.memory(), row)?;
-            self.put_job(row)?;
-        }
-        Ok(())
-    }
-
-    /// Puts all nodes of a state that has none.
-    pub(crate) fn fill_nodes(&mut self, rows: &[Node]) -> Result<(), NoMemory>
-        requires none { self.old.nodes ≡ [] }
-        requires rising { Holds (is_rising nat_cmp node_number rows.now) }
-        requires few { length rows.now ≤ 64 }
-        ensures { OnOk result (self.new ≡ record self.old { nodes = rows.now }) }
-    {
-        for row in rows {
-            self.put_node(*row)?;
-        }
-        Ok(())
-    }
-
-    /// Puts all evaluations of a state that has none.
-    pub(crate) fn fill_evals(&mut self, rows: &[Evaluation]) -> Result<(), NoMemory>
-        requires none { self.old.evals ≡ [] }
-        requires rising { Holds (is_rising eval_cmp eval_id rows.now) }
-        requires few { length rows.now ≤ 65536 }
-        ensures { OnOk result (self.new ≡ record self.old { evals = rows.now }) }
-    {
-        for row in rows {
-            self.put_eval(*row)?;
-        }
-        Ok(())
-    }
-
-    /// Puts all allocations of a state that has none.
-    pub(crate) fn fill_allocs(&mut self, rows: &[Allocation]) -> Result<(), NoMemory>
-        requires none { self.old.allocs ≡ [] }
-        requires rising { Holds (is_rising alloc_cmp alloc_id rows.now) }
-        requires few { length rows.now ≤ 65536 }
-        ensures { OnOk result (self.new ≡ record self.old { allocs = rows.now }) }
-    {
-        for row in rows {
-            self.put_alloc(*row)?;
-        }
-        Ok(())
-    }
-
     /// The state of a count and of rows, each list within its limit and in strictly rising key.
     pub(crate) fn from_rows(
         alloc: Global,
@@ -92,10 +122,10 @@ impl Cluster {
         ensures { IfOk result (λ s. s ≡ record { count = count; jobs = jobs.now; nodes = nodes.now; evals = evals.now; allocs = allocs.now }) }
     {
         let mut state = Cluster::at_count(alloc, count);
-        state.fill_jobs(jobs)?;
-        state.fill_nodes(nodes)?;
-        state.fill_evals(evals)?;
-        state.fill_allocs(allocs)?;
+        fill(&mut state, jobs)?;
+        fill(&mut state, nodes)?;
+        fill(&mut state, evals)?;
+        fill(&mut state, allocs)?;
         Ok(state)
     }
 
@@ -107,7 +137,7 @@ impl Cluster {
         self.ranges();
         let mut rows = Sequence::new(alloc);
         for job in self.job_table().rows() {
-            rows.push(copied(alloc, job)?)?;
+            rows.push(job.copied(alloc)?)?;
         }
         Ok(rows)
     }
