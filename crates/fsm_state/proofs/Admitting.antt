@@ -14,10 +14,11 @@ use Rattle.rows.specs.Fits.{AllocationFits}
 use Rattle.fsm_tables.specs.Rows.{row_of, has_row}
 use Rattle.fsm_tables.specs.RowLaws.{first, second, none_below, below_tied}
 use Rattle.fsm_tables.specs.Claims.{claim_of, claims, on_node, is_live}
-use Rattle.fsm_state.specs.Effect.{is_named, lives_on}
-use Rattle.fsm_state.specs.Words.{State}
-use Rattle.fsm_state.specs.Admission.{evals_pass, those_jobs}
-use Rattle.fsm_state.specs.StepLaws.{at_name, is_one_of}
+use Rattle.cluster_model.specs.Effect.{is_named, lives_on}
+use Rattle.cluster_model.specs.Words.{State}
+use Rattle.cluster_model.specs.Admission.{evals_pass, those_jobs}
+use Rattle.cluster_model.proofs.Keys.{at_name}
+use Rattle.fsm_state.specs.Inner.Steps.{is_one_of}
 
 none_named : (name : List ℕ) (jobs : List Job) → row_of name_cmp job_name name jobs ≡ None → length (filter (is_named name) jobs) ≡ 0
 none_named name [] e = refl

@@ -19,18 +19,19 @@ use Rattle.fsm_tables.specs.RowLaws.{both, first, second, weight_of, sum_by-put}
 use Rattle.fsm_tables.specs.Sums.{weight}
 use Rattle.fsm_tables.specs.Claims.{Claim, claim_of, claims, on_node, is_live, is_wanted, is_active}
 use Rattle.fsm_tables.specs.LiveNames.{live_named}
-use Rattle.fsm_state.specs.Words.{State, same_alloc}
-use Rattle.fsm_state.specs.Safe.{same_name, are_distinct, is_safe}
-use Rattle.fsm_state.specs.Effect.{counted, stop, planned}
-use Rattle.fsm_state.specs.SafeLaws.{stop_releases, released, fewer_any}
-use Rattle.fsm_state.specs.StateLaws.{alloc_cmp_total}
-use Rattle.fsm_state.specs.UseLaws.{room_of, fits_number, Counts, ended, released_sum}
-use Rattle.fsm_state.specs.NameLaws.{join, itself, no_other, rest_other, distinct_same}
-use Rattle.fsm_state.specs.PlanLaws.{wanted, are_free, are_dated, kept, IsAskable, plan_is_safe, safe_is_plan, planned_count, kept_is_distinct, distinct_mapped, distinct-append, used_planned}
-use Rattle.fsm_state.specs.AfterLaws.{sums_same, sums_two, sum_at, claims_sum}
-use Rattle.fsm_state.specs.Claimed.{is_true, same_truth}
-use Rattle.fsm_state.specs.StepLaws.{and_true, and_false, at_alloc}
-use Rattle.fsm_state.specs.Alone.{claim_name, is_free_but, is_free, ended_one, ended_by, has_room, all_from, all_numbers, passes_alone}
+use Rattle.cluster_model.specs.Words.{State, same_alloc}
+use Rattle.cluster_model.specs.Safe.{same_name, are_distinct, is_safe}
+use Rattle.cluster_model.specs.Effect.{counted, stop, planned}
+use Rattle.cluster_model.proofs.SafeLaws.{stop_releases, released, fewer_any}
+use Rattle.rows.proofs.KeyLaws.{alloc_cmp_total}
+use Rattle.cluster_model.specs.Plans.{room_of, fits_number, ended, wanted, are_free, are_dated, kept, IsAskable}
+use Rattle.cluster_model.proofs.UseLaws.{Counts, released_sum}
+use Rattle.cluster_model.proofs.NameLaws.{join, itself, no_other, rest_other, distinct_same}
+use Rattle.cluster_model.proofs.PlanLaws.{plan_is_safe, safe_is_plan, planned_count, kept_is_distinct, distinct_mapped, distinct-append, used_planned}
+use Rattle.cluster_model.proofs.AfterLaws.{sums_same, sums_two, sum_at, claims_sum}
+use Rattle.cluster_model.proofs.Lists.{is_true, same_truth, and_true, and_false}
+use Rattle.cluster_model.proofs.Keys.{at_alloc}
+use Rattle.fsm_state.specs.Inner.Alone.{claim_name, is_free_but, is_free, ended_one, ended_by, has_room, all_from, all_numbers, passes_alone}
 
 -- ---- names
 

@@ -5,3 +5,7 @@ pub mod Filling
 pub mod Admitting
 pub mod StateTexts
 pub mod Alone
+pub mod StepLaws
+pub mod StopLaws
+pub mod Reports
+pub mod Claimed

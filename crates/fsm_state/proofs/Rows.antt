@@ -5,13 +5,13 @@ use Rattle.rows.specs.declared.allocation.Allocation.{Allocation}
 use Rattle.rows.specs.Keys.{alloc_cmp, alloc_id}
 use Rattle.rows.specs.Rising.{is_rising}
 use Rattle.fsm_tables.specs.Claims.{is_active}
-use Rattle.fsm_state.specs.Effect.{lost}
-use Rattle.fsm_state.specs.Steps.{put_changed}
+use Rattle.cluster_model.specs.Effect.{lost}
+use Rattle.fsm_state.specs.Inner.Steps.{put_changed}
 use Rattle.rows.specs.declared.allocation.ClientState.TheVariants as clients
 use Rattle.std.specs.Prelude.{nat_eq, ◌&&◌}
 use Rattle.std.proofs.lemmas.List.{append_assoc}
-use Rattle.fsm_state.specs.StateLaws.{alloc_cmp_total}
-use Rattle.fsm_state.specs.StepLaws.{one_more}
+use Rattle.rows.proofs.KeyLaws.{alloc_cmp_total}
+use Rattle.fsm_state.proofs.StepLaws.{one_more}
 
 -- a list at a place within it
 split_at : {A : Type 0} (f : A → A) (xs : List A) (i : ℕ) → i < length xs → (y : A) × ((xs ≡ take i xs ++ y ∷ drop (suc i) xs) × (drop i xs ≡ y ∷ drop (suc i) xs) × (map f (take (suc i) xs) ≡ map f (take i xs) ++ f y ∷ []) × (slice_get (map f (take i xs) ++ drop i xs) i ≡ Some y))

@@ -9,8 +9,8 @@ use Rattle.fields.specs.Rows.{allocation}
 use Rattle.fields.specs.StateText.{jobs, nodes, evaluations, allocations, state}
 use Rattle.fields.proofs.RangeLaws.{fits_state}
 use Rattle.fsm_tables.specs.TableRows.{TablesFit}
-use Rattle.fsm_state.specs.Words.{State}
-use Rattle.fsm_state.specs.Claimed.{is_true}
+use Rattle.cluster_model.specs.Words.{State}
+use Rattle.cluster_model.proofs.Lists.{is_true}
 
 pub all_fit : (s : State) → s.count < 2 ^ 40 → TablesFit (record { jobs = s.jobs; nodes = s.nodes; evals = s.evals; allocs = s.allocs }) → state.Fits s
 all_fit s low t = fits_state s (

@@ -6,10 +6,9 @@ use Rattle.rows.specs.declared.job.Job.{Job}
 use Rattle.rows.specs.declared.evaluation.Evaluation.{Evaluation}
 use Rattle.rows.specs.Keys.{eval_cmp, eval_id}
 use Rattle.fsm_tables.specs.Rows.{put_within}
-use Rattle.fsm_state.specs.Words.{State}
-use Rattle.fsm_state.specs.Effect.{new_eval, with_evals}
-use Rattle.fsm_state.specs.Steps.{eval_for}
-use Rattle.fsm_state.specs.StepLaws.{is_one_of}
+use Rattle.cluster_model.specs.Words.{State}
+use Rattle.cluster_model.specs.Effect.{new_eval, with_evals}
+use Rattle.fsm_state.specs.Inner.Steps.{eval_for, is_one_of}
 
 abbrev pub After : ℕ → ℕ → List (List ℕ) → ℕ → List Job → List Evaluation → List Evaluation → Type 0
 After x slot names place jobs evals all = with_evals x slot (filter (is_one_of names) (drop place jobs)) evals ≡ all

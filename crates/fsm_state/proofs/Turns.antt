@@ -1,8 +1,8 @@
 -- What a call's answer says of the state, told in other words.
 use Rattle.std.proofs.Common.{◌≡◌, List, ℕ, subst}
 use Rattle.std.specs.Prelude.{Result, OnOk}
-use Rattle.fsm_state.specs.Words.{State}
-use Rattle.fsm_state.specs.Steps.{touched_names}
+use Rattle.cluster_model.specs.Words.{State}
+use Rattle.fsm_state.specs.Inner.Steps.{touched_names}
 
 pub turned : {A E : Type 0} (r : Result A E) (x y z : State) → y ≡ z → OnOk r (x ≡ y) → OnOk r (x ≡ z)
 turned r x y z e h = subst (λ (w : State). OnOk r (x ≡ w)) e h

@@ -2,9 +2,15 @@
 ghost use Rattle.std.specs.Prelude.{◌≡◌, ◌≤◌, ◌&&◌, Option, Some, None, IfOk, option_map, nat_lt, is_none};
 ghost use Rattle.std.specs.List.{list_any};
 ghost use Rattle.rows.specs.declared.command.Command.TheVariants as commands;
-ghost use Rattle.fsm_state.specs.Words.{holds, is_draining, is_pending, is_blocked};
-ghost use Rattle.fsm_state.specs.Admission.{admission, jobs_pass, evals_pass, same_size, differs as node_differs, drains, allows as may_become, those_jobs};
-ghost use Rattle.fsm_state.specs.Effect.{lives_on, is_named};
+ghost use Rattle.cluster_model.specs.Words.{holds, is_draining, is_pending, is_blocked};
+ghost use Rattle.cluster_model.specs.Admission.{admission, jobs_pass, evals_pass, same_size, differs as node_differs, drains, allows as may_become, those_jobs};
+ghost use Rattle.cluster_model.specs.Effect.{lives_on, is_named};
+
+mod alone;
+mod claims;
+mod plans;
+mod touching;
+mod whole;
 
 use crate::cluster::Cluster;
 use fsm_tables::Tables;

@@ -1,6 +1,15 @@
 //! The effect of each command.
 ghost use Rattle.std.specs.Prelude.{◌≡◌, ◌+◌, ◌<◌, ◌^◌, OnOk, map};
-ghost use Rattle.fsm_state.specs.Effect.{applied as after_command, touched, is_named, with_job, without_job, without_node, downed, draining, drained, migrated, with_status, planned, reported};
+ghost use Rattle.cluster_model.specs.Effect.{applied as after_command, touched, is_named, with_job, without_job, without_node, downed, draining, drained, migrated, with_status, planned, reported};
+
+mod allocs;
+mod evals;
+mod jobs;
+mod losses;
+mod moves;
+mod nodes;
+mod plans;
+pub(crate) mod reports;
 
 use crate::cluster::Cluster;
 use rows::{
@@ -10,7 +19,7 @@ use rows::{
 
 impl Cluster {
     /// Makes or replaces a job, and touches it.
-    #[tactic(auto, using(crate::specs::StepLaws::touched_name))]
+    #[tactic(auto, using(crate::proofs::StepLaws::touched_name))]
     fn job_put(&mut self, entry: EntryIndex, spec: &JobSpec) -> Result<(), NoMemory>
         requires { entry ≡ self.old.count }
         ensures { OnOk result (self.new ≡ touched (is_named spec.now.name) (with_job spec.now self.old)) }
@@ -20,7 +29,7 @@ impl Cluster {
     }
 
     /// Stops a job, and touches it.
-    #[tactic(auto, using(crate::specs::StepLaws::touched_name))]
+    #[tactic(auto, using(crate::proofs::StepLaws::touched_name))]
     fn job_stop(&mut self, entry: EntryIndex, name: &JobName) -> Result<(), NoMemory>
         requires { entry ≡ self.old.count }
         ensures { OnOk result (self.new ≡ touched (is_named name.now) (without_job name.now self.old)) }
@@ -81,7 +90,7 @@ impl Cluster {
     }
 
     /// Touches a job.
-    #[tactic(auto, using(crate::specs::StepLaws::touched_name))]
+    #[tactic(auto, using(crate::proofs::StepLaws::touched_name))]
     fn eval_put(&mut self, entry: EntryIndex, name: &JobName) -> Result<(), NoMemory>
         requires { entry ≡ self.old.count }
         ensures { OnOk result (self.new ≡ touched (is_named name.now) self.old) }

@@ -1,17 +1,17 @@
 ghost use Rattle.std.specs.Prelude.{◌≡◌, ◌∷◌, [], ◌+◌, ◌<◌, ◌≤◌, ◌^◌, ◌||◌, not, OnOk, option_map, T as Holds};
 ghost use Rattle.std.specs.Ordering.{nat_cmp};
-ghost use Rattle.std.specs.List.{slice_get};
+ghost use Rattle.std.specs.List.{list_any};
 ghost use Rattle.rows.specs.Keys.{name_cmp, eval_cmp, alloc_cmp, job_name, node_number, eval_id, alloc_id};
 ghost use Rattle.fsm_tables.specs.Rows.{put_within as with_row};
 ghost use Rattle.fsm_tables.specs.Claims.{claim_of, claims, used, is_live as lives};
 ghost use Rattle.fsm_tables.specs.LiveNames.{live_named};
 ghost use Rattle.fsm_tables.specs.TableRows.{TablesFit};
-ghost use Rattle.fsm_state.specs.Words.{no_rows, job_of, node_of, eval_of, alloc_of};
-ghost use Rattle.fsm_state.specs.Effect.{counted};
-ghost use Rattle.fsm_state.specs.Safe.{are_distinct};
-ghost use Rattle.fsm_state.specs.Alone.{is_free_but, is_free};
+ghost use Rattle.cluster_model.specs.Limits.{most_allocs, most_evals, most_jobs, most_nodes};
+ghost use Rattle.cluster_model.specs.Words.{no_rows, same_alloc, job_of, node_of, eval_of, alloc_of};
+ghost use Rattle.cluster_model.specs.Effect.{counted};
+ghost use Rattle.cluster_model.specs.Safe.{are_distinct};
+ghost use Rattle.fsm_state.specs.Inner.Alone.{is_free_but, is_free};
 
-use crate::admission_safe::is_among;
 use fsm_tables::{AllocName, Table, Tables, Usage, is_live};
 use rows::{
     AllocId, Allocation, EntryIndex, EvalId, Evaluation, Index, Job, JobName, NoMemory, Node,
@@ -36,13 +36,25 @@ impl Model for Cluster {
     ghost use Rattle.std.specs.Prelude.{T as Holds};
     ghost use Rattle.rows.specs.State.{State};
     ghost use Rattle.fsm_tables.specs.Claims.{claims};
-    ghost use Rattle.fsm_state.specs.Safe.{are_distinct};
+    ghost use Rattle.cluster_model.specs.Safe.{are_distinct};
 
     ghost Value = { State };
 
     ghost view = { λ c. record { count = c.count; jobs = c.tables.jobs; nodes = c.tables.nodes; evals = c.tables.evals; allocs = c.tables.allocs } };
 
     ghost invariant = { λ c. Holds c.named_once → Holds (are_distinct (claims c.tables.allocs)) };
+}
+
+/// Whether the id is among these.
+pub(crate) fn is_among(id: AllocId, ids: &[AllocId]) -> bool
+    ensures { result ≡ list_any (same_alloc id) ids.now }
+{
+    for other in ids {
+        if id == *other {
+            return true;
+        }
+    }
+    false
 }
 
 impl Cluster {
@@ -175,21 +187,21 @@ impl Cluster {
 
     /// Makes or replaces the row of the job.
     pub(crate) fn put_job(&mut self, row: Job) -> Result<(), NoMemory>
-        ensures { OnOk result (self.new ≡ record self.old { jobs = with_row name_cmp job_name 256 row self.old.jobs }) }
+        ensures { OnOk result (self.new ≡ record self.old { jobs = with_row name_cmp job_name most_jobs row self.old.jobs }) }
     {
         self.tables.put_job(row)
     }
 
     /// Makes or replaces the row of the node.
     pub(crate) fn put_node(&mut self, row: Node) -> Result<(), NoMemory>
-        ensures { OnOk result (self.new ≡ record self.old { nodes = with_row nat_cmp node_number 64 row self.old.nodes }) }
+        ensures { OnOk result (self.new ≡ record self.old { nodes = with_row nat_cmp node_number most_nodes row self.old.nodes }) }
     {
         self.tables.put_node(row)
     }
 
     /// Makes or replaces the row of the evaluation.
     pub(crate) fn put_eval(&mut self, row: Evaluation) -> Result<(), NoMemory>
-        ensures { OnOk result (self.new ≡ record self.old { evals = with_row eval_cmp eval_id 65536 row self.old.evals }) }
+        ensures { OnOk result (self.new ≡ record self.old { evals = with_row eval_cmp eval_id most_evals row self.old.evals }) }
     {
         self.tables.put_eval(row)
     }
@@ -221,7 +233,7 @@ impl Cluster {
 
     /// Makes or replaces the row of the allocation.
     pub(crate) fn put_alloc(&mut self, row: Allocation) -> Result<(), NoMemory>
-        ensures { OnOk result (self.new ≡ record self.old { allocs = with_row alloc_cmp alloc_id 65536 row self.old.allocs }) }
+        ensures { OnOk result (self.new ≡ record self.old { allocs = with_row alloc_cmp alloc_id most_allocs row self.old.allocs }) }
     {
         self.ranges();
         self.named_once = self.named_once && self.takes_no_name(&row);

@@ -1,169 +1,192 @@
-//! Changes of several allocations, one after the other.
-ghost use Rattle.std.specs.Prelude.{◌≡◌, ◌<◌, length, ◌++◌, ◌∷◌, [], List, ℕ, OnOk, IfOk, option_map, map};
-ghost use Rattle.std.specs.List.{slice_get};
-ghost use Rattle.rows.specs.Keys.{alloc_cmp, alloc_id};
-ghost use Rattle.fsm_state.specs.Effect.{lost, alloc_row, placed};
-ghost use Rattle.fsm_state.specs.Steps.{put_changed, stopped_all, told_steps, ended_job, ended_jobs, tell_one, marked_all, live_job, live_jobs, jobs_on};
+//! States made of rows.
+ghost use Rattle.cluster_model.specs.Limits.{most_allocs, most_evals, most_jobs, most_nodes};
+ghost use Rattle.std.specs.Prelude.{◌≡◌, ◌≤◌, ℕ, List, [], OnOk, IfOk, length, T as Holds};
+ghost use Rattle.std.specs.Ordering.{nat_cmp};
+ghost use Rattle.rows.specs.Keys.{name_cmp, eval_cmp, alloc_cmp, job_name, node_number, eval_id, alloc_id};
+ghost use Rattle.rows.specs.Rising.{is_rising};
+ghost use Rattle.fsm_tables.specs.Rows.{put_within as with_row};
+ghost use Rattle.cluster_model.specs.Words.{State};
 
-use crate::allocs::{lost_with, told};
 use crate::cluster::Cluster;
-use fsm_tables::is_live;
-use rows::{
-    AcceptedPlace, AcceptedPlan, AllocId, Allocation, ClientState, Desired, EntryIndex, JobName,
-    NoMemory, NodeId, Ordinal, Ranged, Report, Sequence,
-};
+use fsm_tables::Row;
+use rows::{Allocation, Evaluation, Index, Job, NoMemory, Node, Sequence};
+use std::alloc::Global;
 
-/// The allocation that a place of a plan makes.
-fn new_alloc(
-    entry: EntryIndex,
-    slot: Ordinal,
-    plan: &AcceptedPlan,
-    place: &AcceptedPlace,
-) -> Allocation
-    ensures { result ≡ alloc_row entry slot plan.now place.now }
-{
-    Allocation {
-        id: AllocId { index: entry, slot },
-        job: plan.job,
-        group: place.group,
-        index: place.index,
-        node: place.node,
-        size: place.size,
-        desired: Desired::Run,
-        client: ClientState::Pending,
-        migrate: false,
-        eval: plan.eval,
+/// Rows of one kind, of which a state has a table.
+trait Stored: Row {
+    /// The state with these rows in the table.
+    ghost stored: { List Self → State → State };
+
+    /// How many rows the table holds.
+    ghost most: { ℕ };
+
+    /// The same row once more.
+    fn copied(&self, alloc: Global) -> Result<Self, NoMemory>
+        ensures { IfOk result (λ row. row ≡ self.now) };
+
+    /// Makes or replaces the row of the key.
+    fn put_into(self, state: &mut Cluster) -> Result<(), NoMemory>
+        ensures { (rows : List Self) (s : State) → state.old ≡ stored rows s → OnOk result (state.new ≡ stored (with_row Self.Key.cmp Self.key_of most self rows) s) };
+}
+
+impl Stored for Job {
+    ghost stored = { λ rows s. record s { jobs = rows } };
+
+    ghost most = { most_jobs };
+
+    fn copied(&self, alloc: Global) -> Result<Job, NoMemory> {
+        Ok(Job {
+            name: self.name,
+            priority: self.priority,
+            stopped: self.stopped,
+            version: self.version,
+            groups: self.groups.try_clone(alloc)?,
+        })
+    }
+
+    fn put_into(self, state: &mut Cluster) -> Result<(), NoMemory> {
+        state.put_job(self)
     }
 }
 
-/// Adds the job of a live row.
-fn add_live(names: &mut Sequence<JobName>, row: Option<&Allocation>) -> Result<(), NoMemory>
-    ensures { OnOk result ((rest : List (List ℕ)) → names.new ++ rest ≡ names.old ++ live_job (option_map (λ r. r.now) row.entry) rest) }
-{
-    match row {
-        Some(row) if is_live(row) => names.push(row.job),
-        _ => Ok(()),
+impl Stored for Node {
+    ghost stored = { λ rows s. record s { nodes = rows } };
+
+    ghost most = { most_nodes };
+
+    fn copied(&self, _alloc: Global) -> Result<Node, NoMemory> {
+        Ok(*self)
+    }
+
+    fn put_into(self, state: &mut Cluster) -> Result<(), NoMemory> {
+        state.put_node(self)
     }
 }
 
-/// Adds the job of a row that a report ends.
-fn add_ended(
-    names: &mut Sequence<JobName>,
-    row: Option<&Allocation>,
-    node: NodeId,
-    report: &Report,
-) -> Result<(), NoMemory>
-    ensures { OnOk result ((rest : List (List ℕ)) → names.new ++ rest ≡ names.old ++ ended_job (tell_one node report.now) (option_map (λ r. r.now) row.entry) rest) }
-{
-    match row {
-        Some(row) if is_live(row) && !is_live(&told(row, node, report)) => names.push(row.job),
-        _ => Ok(()),
+impl Stored for Evaluation {
+    ghost stored = { λ rows s. record s { evals = rows } };
+
+    ghost most = { most_evals };
+
+    fn copied(&self, _alloc: Global) -> Result<Evaluation, NoMemory> {
+        Ok(*self)
     }
+
+    fn put_into(self, state: &mut Cluster) -> Result<(), NoMemory> {
+        state.put_eval(self)
+    }
+}
+
+impl Stored for Allocation {
+    ghost stored = { λ rows s. record s { allocs = rows } };
+
+    ghost most = { most_allocs };
+
+    fn copied(&self, _alloc: Global) -> Result<Allocation, NoMemory> {
+        Ok(*self)
+    }
+
+    fn put_into(self, state: &mut Cluster) -> Result<(), NoMemory> {
+        state.put_alloc(self)
+    }
+}
+
+/// Puts all rows of a table that has none.
+fn fill<T: Stored>(state: &mut Cluster, rows: &[T]) -> Result<(), NoMemory>
+    requires none { state.old ≡ T.stored [] state.old }
+    requires rising { Holds (is_rising T.Key.cmp T.key_of rows.now) }
+    requires few { length rows.now ≤ T.most }
+    ensures { OnOk result (state.new ≡ T.stored rows.now state.old) }
+{
+    for row in rows {
+        let row = row.copied(state.memory())?;
+        row.put_into(state)?;
+    }
+    Ok(())
 }
 
 impl Cluster {
-    /// Stops allocations, one after the other.
-    pub(crate) fn stop_all(&mut self, ids: &[AllocId]) -> Result<(), NoMemory>
-        ensures { OnOk result (self.new ≡ stopped_all ids.now self.old) }
+    /// The state of a count and of rows, each list within its limit and in strictly rising key.
+    pub(crate) fn from_rows(
+        alloc: Global,
+        count: Index,
+        jobs: &[Job],
+        nodes: &[Node],
+        evals: &[Evaluation],
+        allocs: &[Allocation],
+    ) -> Result<Cluster, NoMemory>
+        requires jobs { Holds (is_rising name_cmp job_name jobs.now) × (length jobs.now ≤ most_jobs) }
+        requires nodes { Holds (is_rising nat_cmp node_number nodes.now) × (length nodes.now ≤ most_nodes) }
+        requires evals { Holds (is_rising eval_cmp eval_id evals.now) × (length evals.now ≤ most_evals) }
+        requires allocs { Holds (is_rising alloc_cmp alloc_id allocs.now) × (length allocs.now ≤ most_allocs) }
+        ensures { IfOk result (λ s. s ≡ record { count = count; jobs = jobs.now; nodes = nodes.now; evals = evals.now; allocs = allocs.now }) }
     {
-        for id in ids {
-            self.stop(*id)?;
-        }
-        Ok(())
+        let mut state = Cluster::at_count(alloc, count);
+        fill(&mut state, jobs)?;
+        fill(&mut state, nodes)?;
+        fill(&mut state, evals)?;
+        fill(&mut state, allocs)?;
+        Ok(state)
     }
 
-    /// Marks those that are live, one after the other.
-    pub(crate) fn mark_all(&mut self, ids: &[AllocId]) -> Result<(), NoMemory>
-        ensures { OnOk result (self.new ≡ marked_all ids.now self.old) }
-    {
-        for id in ids {
-            self.mark(*id)?;
-        }
-        Ok(())
-    }
-
-    /// Takes reports, one after the other, and says the jobs of the allocations that they end.
-    pub(crate) fn take_reports(
-        &mut self,
-        node: NodeId,
-        reports: &[Report],
-    ) -> Result<Sequence<JobName>, NoMemory>
-        ensures names { IfOk result (λ names. names ≡ ended_jobs node reports.now self.old) }
-        ensures state { OnOk result (self.new ≡ told_steps node reports.now self.old) }
-    {
-        let mut names = Sequence::new(self.memory());
-        for report in reports {
-            add_ended(&mut names, self.alloc(report.id), node, report)?;
-            self.take_report(node, report)?;
-        }
-        Ok(names)
-    }
-
-    /// The jobs of those that are live.
-    pub(crate) fn jobs_of(&self, ids: &[AllocId]) -> Result<Sequence<JobName>, NoMemory>
-        ensures { IfOk result (λ names. names ≡ live_jobs ids.now self.now) }
-    {
-        let mut names = Sequence::new(self.memory());
-        for id in ids {
-            add_live(&mut names, self.alloc(*id))?;
-        }
-        Ok(names)
-    }
-
-    /// The jobs of those that are live on a node.
-    pub(crate) fn jobs_on(&self, node: NodeId) -> Result<Sequence<JobName>, NoMemory>
-        ensures { IfOk result (λ names. names ≡ jobs_on node self.now.allocs) }
-    {
-        let mut names = Sequence::new(self.memory());
-        for row in self.alloc_table().rows() {
-            if row.node == node && is_live(row) {
-                names.push(row.job)?;
-            }
-        }
-        Ok(names)
-    }
-
-    /// The allocation at a place is lost, if it waits or runs on the node.
-    fn lose_at(&mut self, place: usize, node: NodeId) -> Result<(), NoMemory>
-        requires { place < length self.old.allocs }
-        ensures { OnOk result (self.new ≡ record self.old { allocs = put_changed alloc_cmp alloc_id 65536 (lost node) (slice_get self.old.allocs place) self.old.allocs }) }
-    {
-        let Some(row) = self.alloc_table().at(place) else {
-            unreachable!()
-        };
-        let row = lost_with(row, node);
-        self.put_alloc(row)
-    }
-
-    /// What waits or runs on a node is lost.
-    pub(crate) fn lose(&mut self, node: NodeId) -> Result<(), NoMemory>
-        ensures { OnOk result (self.new ≡ record self.old { allocs = map (lost node) self.old.allocs }) }
+    /// All jobs, by name.
+    pub fn jobs(&self, alloc: Global) -> Result<Sequence<Job>, NoMemory>
+        ensures rows { IfOk result (λ rows. rows ≡ self.now.jobs) }
+        ensures rising { IfOk result (λ rows. Holds (is_rising name_cmp job_name rows)) }
     {
         self.ranges();
-        for place in 0..self.alloc_table().len() {
-            self.lose_at(place, node)?;
+        let mut rows = Sequence::new(alloc);
+        for job in self.job_table().rows() {
+            rows.push(job.copied(alloc)?)?;
         }
-        Ok(())
+        Ok(rows)
     }
 
-    /// Makes the allocations that a plan places, one after the other.
-    pub(crate) fn place_all(
-        &mut self,
-        entry: EntryIndex,
-        plan: &AcceptedPlan,
-    ) -> Result<(), NoMemory>
-        requires { entry ≡ self.old.count }
-        ensures { OnOk result (self.new ≡ placed plan.now self.old) }
+    /// All nodes, by number.
+    pub fn nodes(&self, alloc: Global) -> Result<Sequence<Node>, NoMemory>
+        ensures rows { IfOk result (λ rows. rows ≡ self.now.nodes) }
+        ensures rising { IfOk result (λ rows. Holds (is_rising nat_cmp node_number rows)) }
     {
-        plan.ranges();
-        let places = plan.places.as_slice();
-        for slot in 0..places.len() {
-            let Some(ordinal) = Ordinal::new(slot as u8) else {
-                unreachable!()
-            };
-            let row = new_alloc(entry, ordinal, plan, &places[slot]);
-            self.put_alloc(row)?;
-        }
-        Ok(())
+        self.ranges();
+        let mut rows = Vec::new(alloc);
+        rows.extend_from_slice(self.node_table().rows())?;
+        Ok(Sequence::from_vec(rows))
+    }
+
+    /// All evaluations, by id.
+    pub fn evals(&self, alloc: Global) -> Result<Sequence<Evaluation>, NoMemory>
+        ensures rows { IfOk result (λ rows. rows ≡ self.now.evals) }
+        ensures rising { IfOk result (λ rows. Holds (is_rising eval_cmp eval_id rows)) }
+    {
+        self.ranges();
+        let mut rows = Vec::new(alloc);
+        rows.extend_from_slice(self.eval_table().rows())?;
+        Ok(Sequence::from_vec(rows))
+    }
+
+    /// All allocations, by id.
+    pub fn allocs(&self, alloc: Global) -> Result<Sequence<Allocation>, NoMemory>
+        ensures rows { IfOk result (λ rows. rows ≡ self.now.allocs) }
+        ensures rising { IfOk result (λ rows. Holds (is_rising alloc_cmp alloc_id rows)) }
+    {
+        self.ranges();
+        let mut rows = Vec::new(alloc);
+        rows.extend_from_slice(self.alloc_table().rows())?;
+        Ok(Sequence::from_vec(rows))
+    }
+
+    /// The same state once more.
+    pub fn fork(&self, alloc: Global) -> Result<Cluster, NoMemory>
+        ensures { IfOk result (λ s. s ≡ self.now) }
+    {
+        self.ranges();
+        Cluster::from_rows(
+            alloc,
+            self.applied(),
+            self.job_table().rows(),
+            self.node_table().rows(),
+            self.eval_table().rows(),
+            self.alloc_table().rows(),
+        )
     }
 }

@@ -1,5 +1,6 @@
 //! The replicated state as a machine.
-ghost use Rattle.fsm_state.specs.ClusterMachine.{cluster_meaning, cluster_lawful};
+ghost use Rattle.cluster_model.specs.ClusterMachine.{cluster_meaning};
+ghost use Rattle.cluster_model.proofs.ClusterMachine.{cluster_lawful};
 
 use crate::cluster::Cluster;
 use crate::text::has_text;

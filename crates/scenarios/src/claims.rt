@@ -1,6 +1,6 @@
 //! What the theorems say at the tally, as functions that answer true by proof, and at the replicated state.
 ghost use Rattle.std.specs.Prelude.{◌≡◌, true, IfSome};
-ghost use Rattle.fsm_state.specs.SafeFacts.{Safe};
+ghost use Rattle.cluster_model.specs.SafeFacts.{Safe};
 
 use fsm_state::Cluster;
 use machine::{Machine, Tally};

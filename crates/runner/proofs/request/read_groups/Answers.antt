@@ -4,14 +4,13 @@ use Rattle.std.proofs.lemmas.List.{length-map, length_push, take_all}
 use Rattle.rows.specs.Groups.{AreGroups}
 use Rattle.rows.specs.declared.refusal.Refusal.{Refusal}
 use Rattle.rows.specs.declared.refusal.Refusal.TheVariants.{OutOfRange}
-use Rattle.runner.proofs.Groups.{more_fit, more_texts}
+use Rattle.runner.proofs.Groups.{more_fit, more_texts, at_part, parts_of}
 use Rattle.std.specs.List.{slice_split}
 use Rattle.std.proofs.lemmas.Iterator.Consumers.{YieldsList-end, YieldsList-turn}
 use Rattle.std.proofs.lemmas.Iterator.Splits.{YieldsList-from_str_split}
 use Rattle.rows.specs.declared.job.Group.{Group}
 use Rattle.rows.specs.Fits.{GroupFits}
 use Rattle.runner.specs.Requests.{group_text}
-use Rattle.runner.proofs.Groups.{at_part, parts_of}
 use Rattle.runner.proofs.request.read_groups.Goals as goal
 
 is_checked : (r : Result (List Group) Refusal) (items : List Group) → IfOk r (λ groups. (groups ≡ items) × AreGroups items)

@@ -1,6 +1,6 @@
 use Rattle.std.proofs.Common.{◌≡◌, drop}
 use Rattle.std.specs.List.{list_all}
-use Rattle.fsm_state.specs.Alone.{is_free}
+use Rattle.fsm_state.specs.Inner.Alone.{is_free}
 use Rattle.fsm_state.proofs.cluster.Cluster.are_free_but.Given as goal
 
 abbrev pub invariant-loop-claim : goal.invariant-loop-claim

@@ -1,6 +1,6 @@
 use Rattle.std.proofs.Common.{T, take}
-use Rattle.fsm_state.specs.Safe.{are_distinct}
-use Rattle.fsm_state.specs.Claimed.{named_once, front_yes, front_no}
+use Rattle.cluster_model.specs.Safe.{are_distinct}
+use Rattle.fsm_state.proofs.Claimed.{named_once, front_yes, front_no}
 use Rattle.fsm_state.proofs.cluster.Cluster.are_held_once.Goals as goal
 
 pub returns-then-are_distinct : goal.returns-then-are_distinct

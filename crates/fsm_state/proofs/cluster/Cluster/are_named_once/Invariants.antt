@@ -1,6 +1,6 @@
 use Rattle.std.proofs.Common.{◌≡◌, drop}
 use Rattle.std.specs.List.{list_all}
-use Rattle.fsm_state.specs.Claimed.{is_first}
+use Rattle.fsm_state.specs.Inner.Claimed.{is_first}
 use Rattle.fsm_state.proofs.cluster.Cluster.are_named_once.Given as goal
 
 abbrev pub invariant-loop-row : goal.invariant-loop-row

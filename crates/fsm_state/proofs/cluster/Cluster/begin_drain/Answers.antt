@@ -1,4 +1,4 @@
-use Rattle.fsm_state.specs.StepLaws.{draining_node}
+use Rattle.fsm_state.proofs.StepLaws.{draining_node}
 use Rattle.fsm_state.proofs.Turns.{turned}
 use Rattle.fsm_state.proofs.cluster.Cluster.begin_drain.Goals as goal
 

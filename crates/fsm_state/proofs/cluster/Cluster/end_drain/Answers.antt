@@ -1,4 +1,4 @@
-use Rattle.fsm_state.specs.StepLaws.{drained_node}
+use Rattle.fsm_state.proofs.StepLaws.{drained_node}
 use Rattle.fsm_state.proofs.Turns.{turned}
 use Rattle.fsm_state.proofs.cluster.Cluster.end_drain.Goals as goal
 

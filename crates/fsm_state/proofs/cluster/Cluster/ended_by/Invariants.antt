@@ -1,5 +1,5 @@
 use Rattle.std.proofs.Common.{◌≡◌, ◌++◌, drop}
-use Rattle.fsm_state.specs.Alone.{ended_by}
+use Rattle.fsm_state.specs.Inner.Alone.{ended_by}
 use Rattle.fsm_state.proofs.cluster.Cluster.ended_by.Given as goal
 
 abbrev pub invariant-loop-place : goal.invariant-loop-place

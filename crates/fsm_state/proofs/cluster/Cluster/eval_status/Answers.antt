@@ -1,4 +1,4 @@
-use Rattle.fsm_state.specs.StepLaws.{changed_status}
+use Rattle.fsm_state.proofs.StepLaws.{changed_status}
 use Rattle.fsm_state.proofs.Turns.{turned}
 use Rattle.fsm_state.proofs.cluster.Cluster.eval_status.Goals as goal
 

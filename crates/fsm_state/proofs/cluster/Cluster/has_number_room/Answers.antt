@@ -1,5 +1,5 @@
 use Rattle.std.proofs.Common.{ap, ◌∙◌}
-use Rattle.fsm_state.specs.Alone.{has_room}
+use Rattle.fsm_state.specs.Inner.Alone.{has_room}
 use Rattle.fsm_state.proofs.cluster.Cluster.has_number_room.Goals as goal
 
 pub returns : goal.returns

@@ -1,5 +1,5 @@
 use Rattle.std.proofs.Common.{sym, ap, ◌∙◌, ◌+◌, ◌-◌, ◌&&◌, arith}
-use Rattle.fsm_state.specs.Alone.{has_room, all_from}
+use Rattle.fsm_state.specs.Inner.Alone.{has_room, all_from}
 use Rattle.fsm_state.proofs.Alone.{no_number, one_number, all_done}
 use Rattle.fsm_state.proofs.cluster.Cluster.have_room.Goals as goal
 

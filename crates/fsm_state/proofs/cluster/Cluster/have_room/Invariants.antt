@@ -1,5 +1,5 @@
 use Rattle.std.proofs.Common.{◌≡◌, ◌+◌, ◌-◌}
-use Rattle.fsm_state.specs.Alone.{has_room, all_from, all_numbers}
+use Rattle.fsm_state.specs.Inner.Alone.{has_room, all_from, all_numbers}
 use Rattle.fsm_state.proofs.cluster.Cluster.have_room.Given as goal
 
 abbrev pub invariant-loop-before : goal.invariant-loop-before

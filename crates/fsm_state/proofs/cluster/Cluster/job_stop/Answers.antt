@@ -1,7 +1,7 @@
 use Rattle.std.proofs.Common.{[], ◌∷◌, sym, ap, ◌∙◌}
-use Rattle.fsm_state.specs.Effect.{without_job}
-use Rattle.fsm_state.specs.Steps.{touched_names}
-use Rattle.fsm_state.specs.StepLaws.{stopped_job, touched_name}
+use Rattle.cluster_model.specs.Effect.{without_job}
+use Rattle.fsm_state.specs.Inner.Steps.{touched_names}
+use Rattle.fsm_state.proofs.StepLaws.{stopped_job, touched_name}
 use Rattle.fsm_state.proofs.Turns.{turned}
 use Rattle.fsm_state.proofs.cluster.Cluster.job_stop.Goals as goal
 

@@ -1,6 +1,6 @@
 use Rattle.std.proofs.Common.{◌≡◌, ◌++◌, drop}
-use Rattle.fsm_state.specs.Effect.{told_all}
-use Rattle.fsm_state.specs.Reports.{ended_now}
+use Rattle.cluster_model.specs.Effect.{told_all}
+use Rattle.fsm_state.specs.Inner.Steps.{ended_now}
 use Rattle.fsm_state.proofs.cluster.Cluster.jobs_ended.Given as goal
 
 abbrev pub invariant-loop-report : goal.invariant-loop-report

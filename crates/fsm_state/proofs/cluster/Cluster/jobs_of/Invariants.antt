@@ -1,5 +1,5 @@
 use Rattle.std.proofs.Common.{◌≡◌, ◌++◌, drop}
-use Rattle.fsm_state.specs.Steps.{live_jobs}
+use Rattle.fsm_state.specs.Inner.Steps.{live_jobs}
 use Rattle.fsm_state.proofs.cluster.Cluster.jobs_of.Given as goal
 
 abbrev pub invariant-loop-id : goal.invariant-loop-id

@@ -1,5 +1,5 @@
 use Rattle.std.proofs.Common.{◌≡◌, ◌++◌, drop}
-use Rattle.fsm_state.specs.Steps.{jobs_on}
+use Rattle.fsm_state.specs.Inner.Steps.{jobs_on}
 use Rattle.fsm_state.proofs.cluster.Cluster.jobs_on.Given as goal
 
 abbrev pub invariant-loop-row : goal.invariant-loop-row

@@ -1,6 +1,6 @@
 use Rattle.std.proofs.Common.{◌≡◌, ◌+◌, ◌++◌, drop, map, length}
-use Rattle.fsm_state.specs.Effect.{stop}
-use Rattle.fsm_state.specs.AfterLaws.{left}
+use Rattle.cluster_model.specs.Effect.{stop}
+use Rattle.cluster_model.specs.Plans.{left}
 use Rattle.fsm_state.proofs.cluster.Cluster.left_by.Given as goal
 
 abbrev pub invariant-loop-row : goal.invariant-loop-row

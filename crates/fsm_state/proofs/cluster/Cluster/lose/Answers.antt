@@ -1,9 +1,9 @@
 use Rattle.std.proofs.Common.{◌≡◌, ◌<◌, length, ap, ◌∙◌, add-one, arith}
 use Rattle.std.specs.List.{slice_get}
 use Rattle.rows.specs.Keys.{alloc_cmp, alloc_id}
-use Rattle.fsm_state.specs.Words.{State}
-use Rattle.fsm_state.specs.Effect.{lost}
-use Rattle.fsm_state.specs.Steps.{put_changed}
+use Rattle.cluster_model.specs.Words.{State}
+use Rattle.cluster_model.specs.Effect.{lost}
+use Rattle.fsm_state.specs.Inner.Steps.{put_changed}
 use Rattle.fsm_state.proofs.Rows.{lost_step}
 use Rattle.fsm_state.proofs.cluster.Cluster.lose.Goals as goal
 

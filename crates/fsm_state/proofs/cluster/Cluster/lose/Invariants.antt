@@ -1,5 +1,5 @@
 use Rattle.std.proofs.Common.{◌≡◌, ◌++◌, map, take, drop}
-use Rattle.fsm_state.specs.Effect.{lost}
+use Rattle.cluster_model.specs.Effect.{lost}
 use Rattle.fsm_state.proofs.cluster.Cluster.lose.Given as goal
 
 abbrev pub invariant-loop-place : goal.invariant-loop-place

@@ -1,7 +1,7 @@
 use Rattle.std.proofs.Common.{◌∙◌}
-use Rattle.fsm_state.specs.Effect.{owns, lives_on}
-use Rattle.fsm_state.specs.Steps.{jobs_on}
-use Rattle.fsm_state.specs.StepLaws.{on_node_jobs}
+use Rattle.cluster_model.specs.Effect.{owns, lives_on}
+use Rattle.fsm_state.specs.Inner.Steps.{jobs_on}
+use Rattle.fsm_state.proofs.StepLaws.{on_node_jobs}
 use Rattle.fsm_state.proofs.Admitting.{names_are}
 use Rattle.fsm_state.proofs.cluster.Cluster.loss_passes.Goals as goal
 

@@ -1,5 +1,5 @@
 use Rattle.std.proofs.Common.{◌≡◌, drop}
-use Rattle.fsm_state.specs.Steps.{marked_all}
+use Rattle.fsm_state.specs.Inner.Steps.{marked_all}
 use Rattle.fsm_state.proofs.cluster.Cluster.mark_all.Given as goal
 
 abbrev pub invariant-loop-id : goal.invariant-loop-id

@@ -1,7 +1,7 @@
 use Rattle.std.proofs.Common.{◌≡◌, map, sym, ap, ◌∙◌}
-use Rattle.fsm_state.specs.Words.{State}
-use Rattle.fsm_state.specs.Effect.{marked}
-use Rattle.fsm_state.specs.StopLaws.{marked_is, touched_moved}
+use Rattle.cluster_model.specs.Words.{State}
+use Rattle.cluster_model.specs.Effect.{marked}
+use Rattle.fsm_state.proofs.StopLaws.{marked_is, touched_moved}
 use Rattle.fsm_state.proofs.Turns.{turned, touched_both}
 use Rattle.fsm_state.proofs.cluster.Cluster.migrate.Goals as goal
 

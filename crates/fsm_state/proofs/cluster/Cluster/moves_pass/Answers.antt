@@ -1,7 +1,7 @@
 use Rattle.std.proofs.Common.{◌∙◌}
-use Rattle.fsm_state.specs.Effect.{owns, moves}
-use Rattle.fsm_state.specs.Steps.{live_jobs}
-use Rattle.fsm_state.specs.StopLaws.{moved_jobs}
+use Rattle.cluster_model.specs.Effect.{owns, moves}
+use Rattle.fsm_state.specs.Inner.Steps.{live_jobs}
+use Rattle.fsm_state.proofs.StopLaws.{moved_jobs}
 use Rattle.fsm_state.proofs.Admitting.{names_are}
 use Rattle.fsm_state.proofs.cluster.Cluster.moves_pass.Goals as goal
 

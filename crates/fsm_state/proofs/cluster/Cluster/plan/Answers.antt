@@ -1,8 +1,8 @@
 use Rattle.std.proofs.Common.{◌≡◌, sym, ap, ◌∙◌}
-use Rattle.fsm_state.specs.Words.{State}
-use Rattle.fsm_state.specs.Effect.{altered, stop, placed}
-use Rattle.fsm_state.specs.Steps.{stopped_all}
-use Rattle.fsm_state.specs.StopLaws.{stopped_is}
+use Rattle.cluster_model.specs.Words.{State}
+use Rattle.cluster_model.specs.Effect.{altered, stop, placed}
+use Rattle.fsm_state.specs.Inner.Steps.{stopped_all}
+use Rattle.fsm_state.proofs.StopLaws.{stopped_is}
 use Rattle.fsm_state.proofs.Turns.{turned}
 use Rattle.fsm_state.proofs.cluster.Cluster.plan.Goals as goal
 

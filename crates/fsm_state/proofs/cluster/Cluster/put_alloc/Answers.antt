@@ -7,9 +7,9 @@ use Rattle.rows.specs.Rising.{is_rising}
 use Rattle.fsm_tables.specs.Rows.{put_within}
 use Rattle.fsm_tables.specs.TableRows.{TableRows}
 use Rattle.fsm_tables.specs.Claims.{claims, claim_of, is_live}
-use Rattle.fsm_state.specs.Words.{State}
-use Rattle.fsm_state.specs.Safe.{are_distinct}
-use Rattle.fsm_state.specs.Alone.{is_free}
+use Rattle.cluster_model.specs.Words.{State}
+use Rattle.cluster_model.specs.Safe.{are_distinct}
+use Rattle.fsm_state.specs.Inner.Alone.{is_free}
 use Rattle.fsm_state.proofs.Alone.{put_within_once}
 use Rattle.fsm_state.proofs.cluster.Cluster.put_alloc.Goals as goal
 use Rattle.fsm_state.proofs.cluster.Cluster.put_alloc.Goals.{then-self, else-self}

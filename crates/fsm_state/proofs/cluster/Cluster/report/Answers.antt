@@ -1,7 +1,7 @@
 use Rattle.std.proofs.Common.{◌≡◌, sym, ap, ◌∙◌}
-use Rattle.fsm_state.specs.Words.{State}
-use Rattle.fsm_state.specs.Effect.{altered, told_all}
-use Rattle.fsm_state.specs.StopLaws.{told_is, touched_told}
+use Rattle.cluster_model.specs.Words.{State}
+use Rattle.cluster_model.specs.Effect.{altered, told_all}
+use Rattle.fsm_state.proofs.StopLaws.{told_is, touched_told}
 use Rattle.fsm_state.proofs.Turns.{turned, touched_both}
 use Rattle.fsm_state.proofs.cluster.Cluster.report.Goals as goal
 

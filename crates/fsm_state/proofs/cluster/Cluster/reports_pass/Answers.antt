@@ -1,6 +1,7 @@
 use Rattle.std.proofs.Common.{◌∙◌}
-use Rattle.fsm_state.specs.Effect.{owns, ends, told_all}
-use Rattle.fsm_state.specs.Reports.{ended_now, ended_are}
+use Rattle.cluster_model.specs.Effect.{owns, ends, told_all}
+use Rattle.fsm_state.specs.Inner.Steps.{ended_now}
+use Rattle.fsm_state.proofs.Reports.{ended_are}
 use Rattle.fsm_state.proofs.Admitting.{names_are}
 use Rattle.fsm_state.proofs.cluster.Cluster.reports_pass.Goals as goal
 

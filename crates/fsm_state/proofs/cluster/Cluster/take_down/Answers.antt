@@ -1,7 +1,7 @@
 use Rattle.std.proofs.Common.{◌≡◌, map, sym, ap, ◌∙◌}
-use Rattle.fsm_state.specs.Words.{State}
-use Rattle.fsm_state.specs.Effect.{down, lost}
-use Rattle.fsm_state.specs.StepLaws.{downed_node, touched_on}
+use Rattle.cluster_model.specs.Words.{State}
+use Rattle.cluster_model.specs.Effect.{down, lost}
+use Rattle.fsm_state.proofs.StepLaws.{downed_node, touched_on}
 use Rattle.fsm_state.proofs.Turns.{turned, touched_both}
 use Rattle.fsm_state.proofs.cluster.Cluster.take_down.Goals as goal
 

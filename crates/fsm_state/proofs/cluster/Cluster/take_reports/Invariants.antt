@@ -1,5 +1,5 @@
 use Rattle.std.proofs.Common.{◌≡◌, ◌++◌, drop}
-use Rattle.fsm_state.specs.Steps.{told_steps, ended_jobs}
+use Rattle.fsm_state.specs.Inner.Steps.{told_steps, ended_jobs}
 use Rattle.fsm_state.proofs.cluster.Cluster.take_reports.Given as goal
 
 abbrev pub invariant-loop-report : goal.invariant-loop-report

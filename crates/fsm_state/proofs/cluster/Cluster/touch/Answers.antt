@@ -1,6 +1,6 @@
 use Rattle.std.proofs.Common.{◌≡◌, ◌+◌, ◌<◌, length, Some, None, ap, ◌∙◌, arith}
 use Rattle.std.specs.List.{slice_get}
-use Rattle.fsm_state.specs.Steps.{touched_names, eval_for}
+use Rattle.fsm_state.specs.Inner.Steps.{touched_names, eval_for}
 use Rattle.fsm_state.proofs.Touching.{kept, moved}
 use Rattle.fsm_state.proofs.cluster.Cluster.touch.Goals.{in-Some-evaluation_for+in_ok-put_eval-in-Some-evaluation_for, in-None}
 use Rattle.fsm_state.proofs.cluster.Cluster.touch.Goals as goal

@@ -1,4 +1,4 @@
-use Rattle.fsm_state.specs.Steps.{touched_names}
+use Rattle.fsm_state.specs.Inner.Steps.{touched_names}
 use Rattle.fsm_state.proofs.Touching.{Kept}
 use Rattle.fsm_state.proofs.cluster.Cluster.touch.Given as goal
 

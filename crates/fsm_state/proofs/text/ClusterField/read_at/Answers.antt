@@ -4,7 +4,7 @@ use Rattle.rows.specs.Rising.{is_rising}
 use Rattle.rows.specs.Keys.{name_cmp, eval_cmp, alloc_cmp, job_name, node_number, eval_id, alloc_id}
 use Rattle.fields.proofs.StateTextLaws.{jobs_lawful, nodes_lawful, evaluations_lawful, allocations_lawful}
 use Rattle.fields.proofs.RangeLaws.{jobs_fits, nodes_fits, evaluations_fits, allocations_fits}
-use Rattle.fsm_state.specs.Claimed.{passes}
+use Rattle.cluster_model.proofs.Lists.{passes}
 use Rattle.fsm_state.proofs.text.ClusterField.read_at.Goals as goal
 
 pub from_rows-requires-clause-jobs : goal.from_rows-requires-clause-jobs

@@ -1,0 +1,4 @@
+pub mod Words
+pub mod Losses
+pub mod Moves
+pub mod Drains

@@ -1,0 +1,159 @@
+-- What is claimed after a plan, one claim after the other, as the code looks at it.
+use Rattle.std.proofs.Common.{◌≡◌, ℕ, ◌+◌, ◌-◌, Bool, true, false, cond, not, ◌&&◌, ◌||◌, T, List, [], ◌∷◌, ◌++◌, length, map, take, drop, Some, refl, sym, ap, subst, ◌∙◌, arith}
+use Rattle.std.specs.Prelude.{sum_by, nat_eq, nat_le}
+use Rattle.std.specs.List.{AllByRecursion, list_all, list_any}
+use Rattle.std.proofs.lemmas.List.{take-append-drop, length-drop}
+use Rattle.std.proofs.Math.Seq.{take-length}
+use Rattle.std.proofs.lemmas.List.Sums.{sum_by-cons}
+use Rattle.rows.specs.declared.node.Node.{Node}
+use Rattle.rows.specs.declared.allocation.Allocation.{Allocation}
+use Rattle.rows.specs.declared.command.AcceptedPlan.{AcceptedPlan}
+use Rattle.fsm_tables.specs.Claims.{Claim, claim_of, claims, on_node, is_live}
+use Rattle.fsm_tables.specs.LiveNames.{is_called, live_named, name_of}
+use Rattle.fsm_tables.specs.RowLaws.{both, first, second, less}
+use Rattle.rows.specs.declared.allocation.AllocId.{AllocId}
+use Rattle.rows.specs.Keys.{alloc_cmp, alloc_id}
+use Rattle.rows.specs.Rising.{is_below, is_rising}
+use Rattle.std.specs.Ordering.{is_lt, is_eq}
+use Rattle.cluster_model.proofs.Keys.{at_alloc}
+use Rattle.cluster_model.specs.Words.{State, holds, same_alloc}
+use Rattle.cluster_model.specs.Safe.{is_safe, are_safe, is_within, same_name, are_distinct}
+use Rattle.cluster_model.specs.Effect.{counted, stop, planned}
+use Rattle.cluster_model.proofs.SafeLaws.{Fewer, nothing, kept, gone, fewer_distinct, distinct_of, stop_releases}
+use Rattle.cluster_model.proofs.UseLaws.{Counts, number_fits, safe_by_numbers, low_numbers}
+use Rattle.cluster_model.specs.Plans.{wanted, are_free, is_made, left, left_by, IsKnown}
+use Rattle.cluster_model.proofs.PlanLaws.{all_wanted_count, all_append, distinct-append, kept_is_distinct}
+use Rattle.cluster_model.proofs.RangeLaws.{all_mapped}
+use Rattle.cluster_model.proofs.AfterLaws.{planned_is_safe, safe_is_planned, RowCounts, rows_count}
+use Rattle.fsm_state.specs.Inner.Claimed.{fits_steps, bears_node, is_first}
+use Rattle.cluster_model.proofs.Lists.{same_truth, is_true}
+
+one_step : (a s u : ℕ) → (nat_le a u && nat_le s (u - a)) ≡ nat_le (a + s) u
+one_step a s u = grind arith
+
+paired : (a b c d : Bool) → (a && b && (c && d)) ≡ ((a && c) && (b && d))
+paired true true true d = refl
+paired true true false d = refl
+paired true false true d = refl
+paired true false false d = refl
+paired false b c d = refl
+
+within_step : (a b s t u v : ℕ) → (nat_le a u && nat_le b v && (nat_le s (u - a) && nat_le t (v - b))) ≡ (nat_le (a + s) u && nat_le (b + t) v)
+within_step a b s t u v = paired (nat_le a u) (nat_le b v) (nat_le s (u - a)) (nat_le t (v - b)) ∙ (λ i. one_step a s u i && one_step b t v i)
+
+no_more : (n : ℕ) → 0 + n ≡ n
+no_more n = omega arith
+
+nothing_fits : (n : ℕ) → nat_le 0 n ≡ true
+nothing_fits n = grind arith
+
+abbrev sum_cpu : ℕ → List Claim → ℕ
+sum_cpu n cs = sum_by (on_node n (λ z. z.cpu)) cs
+
+abbrev sum_mem : ℕ → List Claim → ℕ
+sum_mem n cs = sum_by (on_node n (λ z. z.mem)) cs
+
+pub fits_is : (n : ℕ) (cs : List Claim) (cpu mem : ℕ) → fits_steps n cs cpu mem ≡ (nat_le (sum_cpu n cs) cpu && nat_le (sum_mem n cs) mem)
+fits_is n [] cpu mem = sym (λ i. nothing_fits cpu i && nothing_fits mem i)
+fits_is n (c ∷ cs) cpu mem =
+    elim (nat_eq c.node n) as (λ b. cond b (nat_le c.size.cpu cpu && nat_le c.size.mem mem && fits_steps n cs (cpu - c.size.cpu) (mem - c.size.mem)) (fits_steps n cs cpu mem) ≡ (nat_le (cond b c.size.cpu 0 + sum_cpu n cs) cpu && nat_le (cond b c.size.mem 0 + sum_mem n cs) mem)) [
+      | true ↦ ap (λ b. nat_le c.size.cpu cpu && nat_le c.size.mem mem && b) (fits_is n cs (cpu - c.size.cpu) (mem - c.size.mem)) ∙ within_step c.size.cpu c.size.mem (sum_cpu n cs) (sum_mem n cs) cpu mem
+      | false ↦ fits_is n cs cpu mem ∙ sym (λ i. nat_le (no_more (sum_cpu n cs) i) cpu && nat_le (no_more (sum_mem n cs) i) mem)
+    ]
+    ∙ sym (λ i. nat_le (sum_by-cons (on_node n (λ z. z.cpu)) c cs i) cpu && nat_le (sum_by-cons (on_node n (λ z. z.mem)) c cs i) mem)
+
+pub all_within : (cs : List Claim) (nodes : List Node) → list_all (bears_node cs) nodes ≡ list_all (is_within cs) nodes
+all_within cs [] = refl
+all_within cs (n ∷ nodes) = λ i. fits_is n.number cs n.size.cpu n.size.mem i && all_within cs nodes i
+
+left_count : (x slot n : ℕ) (rows : List Allocation) → AllByRecursion RowCounts rows → AllByRecursion Counts (left x slot n rows)
+left_count x slot n [] h = tt
+left_count x slot n (a ∷ rows) h = elim (is_live a && not (is_made x slot n a)) as (λ b. AllByRecursion Counts (cond b (claim_of a ∷ left x slot n rows) (left x slot n rows))) [ true ↦ (h.0, left_count x slot n rows h.1) | false ↦ left_count x slot n rows h.1 ]
+
+-- the nodes bear what is claimed after a plan exactly where the state after it is safe
+pub bears_is_safe : (p : AcceptedPlan) (s : State) → IsKnown p s → are_safe s.nodes (left_by p s ++ wanted p) ≡ is_safe (planned p (counted s))
+bears_is_safe p s k =
+    let cs = left_by p s ++ wanted p in
+    let still = all_mapped RowCounts (stop p.stops) (λ a c. subst Counts (sym ((stop_releases p.stops).same_claim a)) c) s.allocs (rows_count s.allocs k.allocs) in
+    let counts = all_append Counts (left_by p s) (wanted p) (left_count (s.count + 1) 0 (length p.places) (map (stop p.stops) s.allocs) still) (all_wanted_count p p.places k.places) in
+    same_truth (are_safe s.nodes cs) (is_safe (planned p (counted s)))
+    (λ h. planned_is_safe p s k (record { fit = λ n lt. number_fits s.nodes cs h n; distinct = distinct_of s.nodes cs h }))
+    (λ h. let a = safe_is_planned p s k h in safe_by_numbers s.nodes cs k.nodes_rising (low_numbers s.nodes k.nodes) counts a.fit a.distinct)
+
+-- ---- names
+
+is_apart : (x : AllocId) (b : Allocation) → T (is_lt (alloc_cmp x b.id)) → same_alloc b.id x ≡ false
+is_apart x b h = sym (at_alloc x b) ∙ ap is_eq (less _ h)
+
+is_other : (l s o : Bool) → s ≡ false → T (not l || s) → T (not l || o)
+is_other false s o e g = tt
+is_other true s o e g = absurd (subst T e g)
+
+one_first : (a : Allocation) (rest : List Allocation) (b : Allocation) → T (is_lt (alloc_cmp a.id b.id)) → T (is_first (a ∷ rest) b) → T (is_first rest b)
+one_first a rest b lt g =
+    elim (is_live a && is_called (name_of b) a) as (λ t. T (not (is_live b) || holds (λ c. same_alloc b.id c.id) (cond t (Some a) (live_named (name_of b) rest))) → T (is_first rest b)) [
+      | true ↦ λ g. is_other (is_live b) (same_alloc b.id a.id) (holds (λ c. same_alloc b.id c.id) (live_named (name_of b) rest)) (is_apart a.id b lt) g
+      | false ↦ λ g. g
+    ] g
+
+rest_first : (a : Allocation) (rest ys : List Allocation) → T (is_below alloc_cmp alloc_id a.id ys) → T (list_all (is_first (a ∷ rest)) ys) → T (list_all (is_first rest) ys)
+rest_first a rest [] h g = tt
+rest_first a rest (b ∷ ys) h g = both _ _ (one_first a rest b (first _ _ h) (first _ _ g)) (rest_first a rest ys (second _ _ h) (second _ _ g))
+
+none_like : (a : Allocation) (rest ys : List Allocation) → T (is_live a) → T (is_below alloc_cmp alloc_id a.id ys) → T (list_all (is_first (a ∷ rest)) ys) → T (not (list_any (same_name (claim_of a)) (claims ys)))
+none_like a rest [] live h g = tt
+none_like a rest (b ∷ ys) live h g =
+    let found : Bool → Bool → Bool = λ l t. holds (λ c. same_alloc b.id c.id) (cond (l && t) (Some a) (live_named (name_of b) rest)) in
+    let behind : T (not (list_any (same_name (claim_of a)) (claims ys))) = none_like a rest ys live (second _ _ h) (second _ _ g) in
+    elim (is_live b) as (λ l. T (not l || found (is_live a) (is_called (name_of b) a)) → T (not (list_any (same_name (claim_of a)) (cond l (claim_of b ∷ claims ys) (claims ys))))) [
+      | true ↦ λ g. elim (is_called (name_of b) a) as (λ t. T (found (is_live a) t) → T (not (t || list_any (same_name (claim_of a)) (claims ys)))) [
+        | true ↦ λ g. absurd (subst T (is_apart a.id b (first _ _ h)) (subst (λ l. T (found l true)) (is_true (is_live a) live) g))
+        | false ↦ λ g. behind
+      ] g
+      | false ↦ λ g. behind
+    ] (first _ _ g)
+
+-- where each live row is found by its name, names are held once
+pub distinct_by_first : (rows : List Allocation) → T (is_rising alloc_cmp alloc_id rows) → T (list_all (is_first rows) rows) → T (are_distinct (claims rows))
+distinct_by_first [] h g = tt
+distinct_by_first (a ∷ rows) h g =
+    let rest : T (are_distinct (claims rows)) = distinct_by_first rows (second _ _ h) (rest_first a rows rows (first _ _ h) (second _ _ g)) in
+    elim (is_live a) as (λ b. is_live a ≡ b → T (are_distinct (cond b (claim_of a ∷ claims rows) (claims rows)))) [
+      | true ↦ λ e. both _ _ (none_like a rows rows (subst T (sym e) tt) (first _ _ h) (second _ _ g)) rest
+      | false ↦ λ e. rest
+    ] refl
+
+fewer_left : (l m : Bool) (c : Claim) (cs ds : List Claim) → Fewer cs ds → Fewer (cond (l && not m) (c ∷ cs) cs) (cond l (c ∷ ds) ds)
+fewer_left true true c cs ds f = gone c cs ds f
+fewer_left true false c cs ds f = kept c cs ds f
+fewer_left false m c cs ds f = f
+
+left_fewer : (x slot n : ℕ) (rows : List Allocation) → Fewer (left x slot n rows) (claims rows)
+left_fewer x slot n [] = nothing
+left_fewer x slot n (a ∷ rows) = fewer_left (is_live a) (is_made x slot n a) (claim_of a) (left x slot n rows) (claims rows) (left_fewer x slot n rows)
+
+-- then what a plan leaves is distinct
+pub left_is_distinct : (p : AcceptedPlan) (s : State) → T (are_distinct (claims s.allocs)) → T (are_distinct (left_by p s))
+left_is_distinct p s h = fewer_distinct (left_by p s) (claims (map (stop p.stops) s.allocs)) (left_fewer (s.count + 1) 0 (length p.places) (map (stop p.stops) s.allocs)) (kept_is_distinct p s h)
+
+-- and what it wants is looked at alone
+pub both_distinct : (cs ds : List Claim) → T (are_distinct cs) → (are_distinct ds && are_free cs ds) ≡ are_distinct (cs ++ ds)
+both_distinct cs ds h = sym (distinct-append cs ds ∙ ap (λ b. b && are_distinct ds && are_free cs ds) (is_true (are_distinct cs) h))
+
+pub front_distinct : (n : ℕ) (cs : List Claim) → T (are_distinct (take n cs)) → (are_distinct (drop n cs) && are_free (take n cs) (drop n cs)) ≡ are_distinct cs
+front_distinct n cs h = both_distinct (take n cs) (drop n cs) h ∙ ap are_distinct (take-append-drop n cs)
+
+tail_itself : (n : ℕ) (cs : List Claim) → take (length cs - n) (drop n cs) ≡ drop n cs
+tail_itself n cs = ap (λ m. take m (drop n cs)) (sym (length-drop n cs)) ∙ take-length (drop n cs)
+
+pub named_once : (b : Bool) (rows : List Allocation) → T (is_rising alloc_cmp alloc_id rows) → b ≡ list_all (is_first rows) rows → b ≡ true → T (are_distinct (claims rows))
+named_once b rows h e is = distinct_by_first rows h (subst T (sym is ∙ e) tt)
+
+-- the answer where the names that are wanted are distinct, and where they are not
+pub front_yes : (n : ℕ) (cs : List Claim) (b c : Bool) → T (are_distinct (take n cs)) → b ≡ are_distinct (take (length cs - n) (drop n cs)) → c ≡ are_free (take n cs) (take (length cs - n) (drop n cs)) → b ≡ true → c ≡ are_distinct cs
+front_yes n cs b c h e f is =
+    f ∙ ap (are_free (take n cs)) (tail_itself n cs)
+    ∙ ap (λ d. d && are_free (take n cs) (drop n cs)) (sym is ∙ e ∙ ap are_distinct (tail_itself n cs)) ∙ front_distinct n cs h
+
+pub front_no : (n : ℕ) (cs : List Claim) (b : Bool) → T (are_distinct (take n cs)) → b ≡ are_distinct (take (length cs - n) (drop n cs)) → b ≡ false → b ≡ are_distinct cs
+front_no n cs b h e is = is ∙ ap (λ d. d && are_free (take n cs) (drop n cs)) (sym is ∙ e ∙ ap are_distinct (tail_itself n cs)) ∙ front_distinct n cs h

@@ -1,6 +1,0 @@
-use Rattle.std.proofs.Common.{◌≡◌, ◌++◌, drop, map}
-use Rattle.fsm_state.specs.PlanLaws.{place_claim}
-use Rattle.fsm_state.proofs.admission_safe.add_wanted.Given as goal
-
-abbrev pub invariant-loop-place : goal.invariant-loop-place
-invariant-loop-place l = l.claims ++ map (place_claim l.plan) (drop l.place-index l.plan.places) ≡ l.initial.claims ++ map (place_claim l.plan) l.plan.places

@@ -1,6 +1,0 @@
-use Rattle.std.proofs.Common.{◌≡◌, drop}
-use Rattle.fsm_state.specs.PlanLaws.{are_free}
-use Rattle.fsm_state.proofs.admission_safe.are_free.Given as goal
-
-abbrev pub invariant-loop-claim : goal.invariant-loop-claim
-invariant-loop-claim l = are_free l.claims l.others ≡ are_free (drop l.claim-index l.claims) l.others

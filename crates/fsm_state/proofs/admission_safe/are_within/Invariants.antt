@@ -1,7 +1,0 @@
-use Rattle.std.proofs.Common.{◌≡◌, drop}
-use Rattle.std.specs.List.{list_all}
-use Rattle.fsm_state.specs.Claimed.{bears_node}
-use Rattle.fsm_state.proofs.admission_safe.are_within.Given as goal
-
-abbrev pub invariant-loop-node : goal.invariant-loop-node
-invariant-loop-node l = list_all (bears_node l.claims) l.nodes ≡ list_all (bears_node l.claims) (drop l.node-index l.nodes)

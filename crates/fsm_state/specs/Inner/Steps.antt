@@ -1,0 +1,123 @@
+-- The effects once more, as puts of one row after the other at its key: the form in which the code makes them.
+use Rattle.std.specs.Prelude.{ℕ, true, not, ◌&&◌, List, [], ◌∷◌, filter, Option, Some, None, nat_eq, bytes_eq, Bool, if◌then◌else◌}
+use Rattle.std.specs.List.{list_any}
+use Rattle.std.specs.declared.cmp.Ordering.{Ordering}
+use Rattle.std.specs.Ordering.{nat_cmp}
+use Rattle.rows.specs.declared.job.Job.{Job}
+use Rattle.rows.specs.declared.node.Node.{Node}
+use Rattle.rows.specs.declared.evaluation.Evaluation.{Evaluation}
+use Rattle.rows.specs.declared.allocation.Desired.TheVariants as desires
+use Rattle.rows.specs.declared.allocation.AllocId.{AllocId}
+use Rattle.rows.specs.declared.allocation.Allocation.{Allocation}
+use Rattle.rows.specs.declared.command.Report.{Report}
+use Rattle.rows.specs.Keys.{alloc_cmp, node_number, alloc_id}
+use Rattle.fsm_tables.specs.Rows.{row_of, put_within}
+use Rattle.fsm_tables.specs.Claims.{is_active, is_live}
+use Rattle.cluster_model.specs.Limits.{most_nodes, most_allocs}
+use Rattle.cluster_model.specs.Words.{State, alloc_of, is_open}
+use Rattle.cluster_model.specs.Effect.{ends, state_of, new_eval, with_evals, lives_on}
+use Rattle.rows.specs.declared.command.StatusChange.{StatusChange}
+use Rattle.rows.specs.Changes.{status_of, snapshot_of}
+
+-- the row with a change, put in its place; without a row nothing changes
+abbrev pub put_changed : {K X : Type 0} → (K → K → Ordering) → (X → K) → ℕ → (X → X) → Option X → List X → List X
+put_changed R key most f None rows = rows
+put_changed R key most f (Some r) rows = put_within R key most (f r) rows
+
+abbrev pub changed : {K X : Type 0} → (K → K → Ordering) → (X → K) → ℕ → (X → X) → K → List X → List X
+changed R key most f k rows = put_changed R key most f (row_of R key k rows) rows
+
+-- a node has room from entry x on
+abbrev pub room_at : ℕ → ℕ → List Node → List Node
+room_at x n nodes = changed nat_cmp node_number most_nodes (λ r. record r { room = x }) n nodes
+
+-- the jobs of the names are touched
+abbrev pub touched_names : List (List ℕ) → State → State
+touched_names names s = record s { evals = with_evals s.count 0 (filter (λ j. list_any (λ name. bytes_eq j.name name) names) s.jobs) s.evals }
+
+-- ---- one allocation
+
+abbrev pub alloc_changed : (Allocation → Allocation) → AllocId → State → State
+alloc_changed f id s = record s { allocs = changed alloc_cmp alloc_id most_allocs f id s.allocs }
+
+-- one allocation changes; if that ends it, its node has room
+abbrev pub revised_row : (Allocation → Allocation) → Option Allocation → State → State
+revised_row f None s = s
+revised_row f (Some a) s = record s { nodes = if ends f a then room_at s.count a.node s.nodes else s.nodes; allocs = put_within alloc_cmp alloc_id most_allocs (f a) s.allocs }
+
+abbrev pub revised : (Allocation → Allocation) → AllocId → State → State
+revised f id s = revised_row f (alloc_of id s) s
+
+-- its job, if the change ends it
+abbrev pub ended_job : (Allocation → Allocation) → Option Allocation → List (List ℕ) → List (List ℕ)
+ended_job f None names = names
+ended_job f (Some a) names = if ends f a then (a.job ∷ names) else names
+
+-- ---- stops, one after the other: altered (stop ids) s
+
+abbrev pub stop_one : Allocation → Allocation
+stop_one a = record a { desired = desires.Stop }
+
+abbrev pub stopped_all : List AllocId → State → State
+stopped_all [] s = s
+stopped_all (id ∷ ids) s = stopped_all ids (revised stop_one id s)
+
+-- ---- reports, one after the other: altered (told_all n rs) s, and the jobs of those that ended
+
+abbrev pub tell_one : ℕ → Report → Allocation → Allocation
+tell_one n r a = if nat_eq a.node n && is_active a.client then (record a { client = state_of r.state }) else a
+
+abbrev pub told_steps : ℕ → List Report → State → State
+told_steps n [] s = s
+told_steps n (r ∷ rs) s = told_steps n rs (revised (tell_one n r) r.id s)
+
+abbrev pub ended_jobs : ℕ → List Report → State → List (List ℕ)
+ended_jobs n [] s = []
+ended_jobs n (r ∷ rs) s = ended_job (tell_one n r) (alloc_of r.id s) (ended_jobs n rs (revised (tell_one n r) r.id s))
+
+-- ---- marks, one after the other, and the jobs of the live ones
+
+abbrev pub mark_one : Allocation → Allocation
+mark_one a = if is_live a then (record a { migrate = true }) else a
+
+abbrev pub marked_all : List AllocId → State → State
+marked_all [] s = s
+marked_all (id ∷ ids) s = marked_all ids (alloc_changed mark_one id s)
+
+abbrev pub live_job : Option Allocation → List (List ℕ) → List (List ℕ)
+live_job None names = names
+live_job (Some a) names = if is_live a then (a.job ∷ names) else names
+
+abbrev pub live_jobs : List AllocId → State → List (List ℕ)
+live_jobs [] s = []
+live_jobs (id ∷ ids) s = live_job (alloc_of id s) (live_jobs ids s)
+
+-- ---- the jobs of the live ones on a node
+
+abbrev pub jobs_on : ℕ → List Allocation → List (List ℕ)
+jobs_on n [] = []
+jobs_on n (a ∷ rows) = if lives_on n a then (a.job ∷ jobs_on n rows) else jobs_on n rows
+
+-- ---- parts of the steps
+
+-- one allocation's row is put; if it was live and is not now, its node has room
+abbrev pub revised_to : Allocation → Allocation → State → State
+revised_to a b s = record s { nodes = if is_live a && not (is_live b) then room_at s.count a.node s.nodes else s.nodes; allocs = put_within alloc_cmp alloc_id most_allocs b s.allocs }
+
+-- the evaluation that touches a job, if it is one of the names
+abbrev pub eval_for : ℕ → ℕ → List (List ℕ) → Option Job → Option Evaluation
+eval_for x slot names None = None
+eval_for x slot names (Some j) = if list_any (λ name. bytes_eq j.name name) names then (Some (new_eval x slot j)) else None
+
+-- ---- statuses, names, and reports told before any is taken
+
+-- the status of one evaluation, unless it is final
+abbrev pub set_one : StatusChange → Evaluation → Evaluation
+set_one to e = if is_open e.status then (record e { status = status_of to; snapshot = snapshot_of to }) else e
+
+abbrev pub is_one_of : List (List ℕ) → Job → Bool
+is_one_of names j = list_any (λ name. bytes_eq j.name name) names
+
+abbrev pub ended_now : (Allocation → Allocation) → List Report → State → List (List ℕ)
+ended_now f [] s = []
+ended_now f (r ∷ rs) s = ended_job f (alloc_of r.id s) (ended_now f rs s)

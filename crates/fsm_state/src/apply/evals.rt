@@ -1,0 +1,69 @@
+//! Statuses of evaluations that are set.
+ghost use Rattle.std.specs.Prelude.{◌≡◌, OnOk, None, false, true};
+ghost use Rattle.rows.specs.Keys.{eval_cmp, eval_id};
+ghost use Rattle.rows.specs.Changes.{status_of, snapshot_of};
+ghost use Rattle.cluster_model.specs.Limits.{most_evals};
+ghost use Rattle.cluster_model.specs.Words.{is_open as is_not_final};
+ghost use Rattle.fsm_state.specs.Inner.Steps.{changed, set_one};
+
+use crate::cluster::Cluster;
+use rows::{EvalId, EvalStatus, Evaluation, Index, NoMemory, StatusChange};
+
+/// Whether an evaluation is pending or blocked.
+fn is_open(status: EvalStatus) -> bool
+    ensures { result ≡ is_not_final status }
+{
+    match status {
+        EvalStatus::Pending | EvalStatus::Blocked => true,
+        EvalStatus::Complete | EvalStatus::Failed => false,
+    }
+}
+
+/// The status that a change sets.
+fn status_after(change: &StatusChange) -> EvalStatus
+    ensures { result ≡ status_of change.now }
+{
+    match change {
+        StatusChange::Pending => EvalStatus::Pending,
+        StatusChange::Blocked(_) => EvalStatus::Blocked,
+        StatusChange::Complete => EvalStatus::Complete,
+        StatusChange::Failed => EvalStatus::Failed,
+    }
+}
+
+/// The snapshot that a change sets: 0 unless blocked.
+fn snapshot_after(change: &StatusChange) -> Index
+    ensures { result ≡ snapshot_of change.now }
+{
+    match change {
+        StatusChange::Blocked(snapshot) => *snapshot,
+        _ => Index::ZERO,
+    }
+}
+
+/// The row of an evaluation whose status is set; complete and failed ones stay.
+fn settled(row: &Evaluation, change: &StatusChange) -> Evaluation
+    ensures { result ≡ set_one change.now row.now }
+{
+    let mut row = *row;
+    if is_open(row.status) {
+        row.status = status_after(change);
+        row.snapshot = snapshot_after(change);
+    }
+    row
+}
+
+impl Cluster {
+    /// Sets the status of an evaluation.
+    pub(super) fn settle(&mut self, id: EvalId, change: &StatusChange) -> Result<(), NoMemory>
+        ensures { OnOk result (self.new ≡ record self.old { evals = changed eval_cmp eval_id most_evals (set_one change.now) id self.old.evals }) }
+    {
+        match self.eval(id) {
+            Some(row) => {
+                let row = settled(row, change);
+                self.put_eval(row)
+            }
+            None => Ok(()),
+        }
+    }
+}

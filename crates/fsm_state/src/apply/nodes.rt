@@ -1,0 +1,107 @@
+//! Rows of nodes that come, go down, are drained, and have room.
+ghost use Rattle.std.specs.Prelude.{◌≡◌, OnOk, None, cond, false, true, option_map};
+ghost use Rattle.std.specs.Ordering.{nat_cmp};
+ghost use Rattle.rows.specs.Keys.{node_number};
+ghost use Rattle.rows.specs.declared.node.NodeStatus.TheVariants as statuses;
+ghost use Rattle.rows.specs.declared.node.DrainMode.TheVariants as drains;
+ghost use Rattle.cluster_model.specs.Limits.{most_nodes};
+ghost use Rattle.cluster_model.specs.Effect.{with_node, node_row};
+ghost use Rattle.fsm_state.specs.Inner.Steps.{changed, room_at};
+
+use crate::cluster::Cluster;
+use rows::{DrainMode, Index, NoMemory, Node, NodeId, NodeSpec, NodeStatus};
+
+/// The row of a node that comes, or comes back.
+fn registered(spec: &NodeSpec, old: Option<&Node>, room: Index) -> Node
+    ensures { result ≡ node_row room spec.now (option_map (λ r. r.now) old.entry) }
+{
+    match old {
+        Some(old) => {
+            let mut row = *old;
+            row.status = NodeStatus::Ready;
+            row.room = room;
+            row
+        }
+        None => Node {
+            number: spec.number,
+            class: spec.class,
+            size: spec.size,
+            status: NodeStatus::Ready,
+            eligible: true,
+            drain: DrainMode::Off,
+            room,
+        },
+    }
+}
+
+impl Cluster {
+    /// A node comes, or comes back.
+    pub(super) fn make_node(&mut self, spec: &NodeSpec) -> Result<(), NoMemory>
+        ensures { OnOk result (self.new ≡ with_node spec.now self.old) }
+    {
+        let row = registered(spec, self.node(spec.number), self.applied());
+        self.put_node(row)
+    }
+
+    /// Marks a node as down.
+    pub(super) fn set_down(&mut self, number: NodeId) -> Result<(), NoMemory>
+        ensures { OnOk result (self.new ≡ record self.old { nodes = changed nat_cmp node_number most_nodes (λ r. record r { status = statuses.Down }) number self.old.nodes }) }
+    {
+        match self.node(number) {
+            Some(row) => {
+                let mut row = *row;
+                row.status = NodeStatus::Down;
+                self.put_node(row)
+            }
+            None => Ok(()),
+        }
+    }
+
+    /// Begins to empty a node.
+    pub(super) fn set_draining(&mut self, number: NodeId, force: bool) -> Result<(), NoMemory>
+        ensures { OnOk result (self.new ≡ record self.old { nodes = changed nat_cmp node_number most_nodes (λ r. record r { eligible = false; drain = cond force drains.Force drains.Slow }) number self.old.nodes }) }
+    {
+        match self.node(number) {
+            Some(row) => {
+                let mut row = *row;
+                row.eligible = false;
+                row.drain = if force {
+                    DrainMode::Force
+                } else {
+                    DrainMode::Slow
+                };
+                self.put_node(row)
+            }
+            None => Ok(()),
+        }
+    }
+
+    /// Ends the emptying of a node.
+    pub(super) fn set_drained(&mut self, number: NodeId) -> Result<(), NoMemory>
+        ensures { OnOk result (self.new ≡ record self.old { nodes = changed nat_cmp node_number most_nodes (λ r. record r { drain = drains.Off }) number self.old.nodes }) }
+    {
+        match self.node(number) {
+            Some(row) => {
+                let mut row = *row;
+                row.drain = DrainMode::Off;
+                self.put_node(row)
+            }
+            None => Ok(()),
+        }
+    }
+
+    /// A node has room from the last command on.
+    pub(super) fn give_room(&mut self, number: NodeId) -> Result<(), NoMemory>
+        ensures { OnOk result (self.new ≡ record self.old { nodes = room_at self.old.count number self.old.nodes }) }
+    {
+        let room = self.applied();
+        match self.node(number) {
+            Some(row) => {
+                let mut row = *row;
+                row.room = room;
+                self.put_node(row)
+            }
+            None => Ok(()),
+        }
+    }
+}

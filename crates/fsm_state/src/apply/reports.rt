@@ -1,0 +1,78 @@
+//! What reports of a node change, and the jobs of the allocations that they end.
+ghost use Rattle.std.specs.Prelude.{◌≡◌, ◌&&◌, OnOk, option_map, ◌<◌, ◌++◌, List, ℕ, IfOk};
+ghost use Rattle.cluster_model.specs.Effect.{state_of, ends, lost};
+ghost use Rattle.fsm_state.specs.Inner.Steps.{revised, tell_one, told_steps, ended_job, ended_jobs};
+
+use crate::apply::allocs::is_active;
+use crate::cluster::Cluster;
+use fsm_tables::is_live;
+use rows::{Allocation, ClientState, JobName, NoMemory, NodeId, Report, ReportedState, Sequence};
+
+/// The client state that a report tells.
+fn told_state(state: ReportedState) -> ClientState
+    ensures { result ≡ state_of state }
+{
+    match state {
+        ReportedState::Running => ClientState::Running,
+        ReportedState::Complete => ClientState::Complete,
+        ReportedState::Failed => ClientState::Failed,
+    }
+}
+
+/// A row after a report of a node: complete, failed and lost stay.
+pub(crate) fn told(row: &Allocation, node: NodeId, report: &Report) -> Allocation
+    ensures { result ≡ tell_one node report.now row.now }
+{
+    let mut row = *row;
+    if is_active(row.client) && row.node == node {
+        row.client = told_state(report.state);
+    }
+    row
+}
+
+/// Adds the job of a row that a report ends.
+fn add_ended(
+    names: &mut Sequence<JobName>,
+    row: Option<&Allocation>,
+    node: NodeId,
+    report: &Report,
+) -> Result<(), NoMemory>
+    ensures { OnOk result ((rest : List (List ℕ)) → names.new ++ rest ≡ names.old ++ ended_job (tell_one node report.now) (option_map (λ r. r.now) row.entry) rest) }
+{
+    match row {
+        Some(row) if is_live(row) && !is_live(&told(row, node, report)) => names.push(row.job),
+        _ => Ok(()),
+    }
+}
+
+impl Cluster {
+    /// Takes a report.
+    fn take_report(&mut self, node: NodeId, report: &Report) -> Result<(), NoMemory>
+        ensures { OnOk result (self.new ≡ revised (tell_one node report.now) report.now.id self.old) }
+    {
+        match self.alloc(report.id) {
+            Some(old) => {
+                let old = *old;
+                self.revise(old, told(&old, node, report))
+            }
+            None => Ok(()),
+        }
+    }
+
+    /// Takes reports, one after the other, and says the jobs of the allocations that they end.
+    pub(super) fn take_reports(
+        &mut self,
+        node: NodeId,
+        reports: &[Report],
+    ) -> Result<Sequence<JobName>, NoMemory>
+        ensures names { IfOk result (λ names. names ≡ ended_jobs node reports.now self.old) }
+        ensures state { OnOk result (self.new ≡ told_steps node reports.now self.old) }
+    {
+        let mut names = Sequence::new(self.memory());
+        for report in reports {
+            add_ended(&mut names, self.alloc(report.id), node, report)?;
+            self.take_report(node, report)?;
+        }
+        Ok(names)
+    }
+}
