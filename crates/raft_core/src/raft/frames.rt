@@ -59,11 +59,7 @@ impl<M: Machine> Raft<M> {
     }
 
     /// A frame comes to a server that is up.
-    pub(super) fn frame(
-        &mut self,
-        bytes: &[u8],
-        outbox: &mut Outbox,
-    ) -> Result<(), Refusal>
+    pub(super) fn frame(&mut self, bytes: &[u8], outbox: &mut Outbox) -> Result<(), Refusal>
         requires { is_up self.old.server.mode ≡ true }
         ensures same { (self.new.me ≡ self.old.me) × (self.new.size ≡ self.old.size) }
         ensures taken { OnOk result (TakesFrame M.meaning self.old self.old.server bytes.now self.new outbox.old outbox.new) }
