@@ -6,11 +6,7 @@ mod coded;
 mod entry;
 mod laws;
 mod machine;
-#[cfg(test)]
-mod row_tests;
 mod tally;
-#[cfg(test)]
-mod tests;
 
 pub use amount::Amount;
 pub use coded::Coded;

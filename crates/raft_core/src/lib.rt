@@ -13,8 +13,6 @@ mod raft;
 mod role;
 mod sending;
 mod stable;
-#[cfg(test)]
-mod tests;
 
 pub use commit::commit_is_greatest;
 pub use input::Input;

@@ -9,8 +9,6 @@ mod laws;
 mod message;
 mod outbox;
 mod reading;
-#[cfg(test)]
-mod tests;
 mod vote;
 mod writing;
 

@@ -1,0 +1,211 @@
+//! Frames of messages, byte by byte: whole, cut, with one byte changed, and with so many entries.
+use machine::Tally;
+use rows::Refusal;
+use std::alloc::Global;
+use wire::{read_message, write_message};
+
+/// No fault: the bytes are the frame of the message that is read.
+const NONE: usize = usize::MAX;
+
+/// What is no fault of the bytes: memory was wanting, or the message that is read is written otherwise.
+const WRONG: usize = usize::MAX - 1;
+
+/// The published frame of a vote request from server 1 to server 2, of term 1 and an empty log.
+pub(crate) const VOTE: &[u8] = &[
+    1, 1, 1, 2, 0, 0, 0, 24, 0, 0, 0, 0, 0, 0, 0, 1, 0, 0, 0, 0, 0, 0, 0, 0, 0, 0, 0, 0, 0, 0, 0, 0,
+];
+
+/// Server 1 sends server 2, in term 3, two entries behind place 4 of term 2, with commit index 4: the no-op of term 2, and
+/// in term 3 the command that adds 258.
+pub(crate) const APPEND: &[u8] = &[
+    1, 3, 1, 2, 0, 0, 0, 53, //
+    0, 0, 0, 0, 0, 0, 0, 3, //
+    0, 0, 0, 0, 0, 0, 0, 4, //
+    0, 0, 0, 0, 0, 0, 0, 2, //
+    0, 0, 0, 0, 0, 0, 0, 4, //
+    2, //
+    0, 0, 0, 0, 0, 0, 0, 2, 0, //
+    0, 0, 0, 0, 0, 0, 0, 3, 1, 1, 2,
+];
+
+/// Server 2 tells server 1, in term 3, that it has its vote, which was asked for in term 2.
+pub(crate) const GRANTED: &[u8] = &[
+    1, 2, 2, 1, 0, 0, 0, 17, 0, 0, 0, 0, 0, 0, 0, 3, 0, 0, 0, 0, 0, 0, 0, 2, 1,
+];
+
+/// Server 2 tells server 1, in term 3, that it has the entries of the leader of term 2 up to place 5.
+pub(crate) const REPLY: &[u8] = &[
+    1, 4, 2, 1, 0, 0, 0, 25, //
+    0, 0, 0, 0, 0, 0, 0, 3, //
+    0, 0, 0, 0, 0, 0, 0, 2, //
+    1, //
+    0, 0, 0, 0, 0, 0, 0, 5,
+];
+
+const FRAMES: &[&[u8]] = &[VOTE, APPEND, GRANTED, REPLY];
+
+/// Where bytes are at fault as a frame.
+fn fault_of(alloc: Global, bytes: &[u8]) -> usize {
+    match read_message::<Tally>(alloc, bytes) {
+        Err(Refusal::Frame(place)) => place,
+        Err(_) => WRONG,
+        Ok(message) => {
+            let mut again = Vec::new(alloc);
+            let written = write_message(&message, &mut again);
+            if written.is_ok() && again.as_slice() == bytes {
+                NONE
+            } else {
+                WRONG
+            }
+        }
+    }
+}
+
+// Which frames, which of their places, which values are put there, and where the frame is then at fault: each first and last, frames in
+// the order of the list. The first rule that fits counts, and where none does, there is no fault.
+type Rule = ((usize, usize), (usize, usize), (u8, u8), usize);
+
+const ALL: (usize, usize) = (0, 3);
+
+const ANY: (u8, u8) = (0, 255);
+
+const RULES: &[Rule] = &[
+    (ALL, (0, 0), ANY, 0),
+    // The body as that of another kind: a vote request ends at 32, a vote reply at 25, an answer to an Append at 33, and an Append has one
+    // more field in front of its count. A frame that is too short for it is cut in its last field, and 1 or 3 is no flag's place there.
+    ((0, 1), (1, 1), (2, 2), 25),
+    ((0, 0), (1, 1), (3, 3), 32),
+    ((0, 0), (1, 1), (4, 4), 25),
+    ((1, 1), (1, 1), (1, 1), 32),
+    ((1, 1), (1, 1), (4, 4), 33),
+    ((2, 3), (1, 1), (1, 1), 24),
+    ((2, 3), (1, 1), (3, 3), 24),
+    ((2, 2), (1, 1), (4, 4), 25),
+    ((3, 3), (1, 1), (2, 2), 25),
+    (ALL, (1, 1), ANY, 1),
+    // A server sends to another one.
+    ((0, 1), (2, 2), (2, 2), 3),
+    ((0, 1), (3, 3), (1, 1), 3),
+    ((2, 3), (2, 2), (1, 1), 3),
+    ((2, 3), (3, 3), (2, 2), 3),
+    (ALL, (2, 3), (3, 5), NONE),
+    (ALL, (2, 2), ANY, 2),
+    (ALL, (3, 3), ANY, 3),
+    (ALL, (4, 7), ANY, 4),
+    // Terms and indexes are below 2^40.
+    (ALL, (8, 10), ANY, 8),
+    (ALL, (16, 18), ANY, 16),
+    ((0, 1), (24, 26), ANY, 24),
+    ((1, 1), (32, 34), ANY, 32),
+    // With none or one entry the rest is left over, with more the next is cut, and there are at most 32.
+    ((1, 1), (40, 40), (0, 0), 41),
+    ((1, 1), (40, 40), (1, 1), 50),
+    ((1, 1), (40, 40), (3, 32), 61),
+    ((1, 1), (40, 40), ANY, 40),
+    ((1, 1), (41, 43), ANY, 41),
+    // A command that adds takes two bytes more, and the next one's tag is then 2.
+    ((1, 1), (49, 49), (1, 1), 60),
+    ((1, 1), (49, 49), ANY, 49),
+    ((1, 1), (50, 52), ANY, 50),
+    ((1, 1), (58, 58), (0, 0), 59),
+    ((1, 1), (58, 58), ANY, 58),
+    // An amount is at most 1,000.
+    ((1, 1), (59, 59), (4, 255), 59),
+    // A flag is 0 or 1.
+    ((2, 3), (24, 24), (2, 255), 24),
+    ((3, 3), (25, 27), ANY, 25),
+];
+
+fn fault_of_change(frame: usize, at: usize, value: u8) -> usize {
+    for rule in RULES {
+        let (frames, places, values, place) = *rule;
+        if frames.0 <= frame
+            && frame <= frames.1
+            && places.0 <= at
+            && at <= places.1
+            && values.0 <= value
+            && value <= values.1
+        {
+            return place;
+        }
+    }
+    NONE
+}
+
+#[test]
+fn reads_frames(rt: HostRuntime) {
+    let alloc = rt.alloc();
+    for (number, frame) in FRAMES.iter().enumerate() {
+        assert!(rt; fault_of(alloc, frame) == NONE, "frame {number}");
+        for cut in 0..frame.len() {
+            assert!(rt;
+                fault_of(alloc, &frame[..cut]) == cut.min(4),
+                "frame {number} cut at {cut}"
+            );
+        }
+        let mut bytes = Vec::new(alloc);
+        assert!(rt; bytes.extend_from_slice(frame).is_ok());
+        for (at, old) in frame.iter().enumerate() {
+            for value in 0..=255u8 {
+                *bytes.get_mut(at).expect(&rt, "a place") = value;
+                let wanted = if value == *old {
+                    NONE
+                } else {
+                    fault_of_change(number, at, value)
+                };
+                assert!(rt;
+                    fault_of(alloc, &bytes) == wanted,
+                    "{value} at {at} of frame {number}"
+                );
+            }
+            *bytes.get_mut(at).expect(&rt, "a place") = *old;
+        }
+    }
+}
+
+// The index before the entries, how many there are, and the fault: at most 32, and each has an index below 2^40.
+const COUNTS: &[(u64, u8, usize)] = &[
+    (0, 32, NONE),
+    (0, 33, 40),
+    (0, 255, 40),
+    (1_099_511_627_775, 0, NONE),
+    (1_099_511_627_775, 1, 40),
+    (1_099_511_627_773, 2, NONE),
+    (1_099_511_627_774, 2, 40),
+    (1_099_511_627_743, 32, NONE),
+    (1_099_511_627_744, 32, 40),
+    (1_099_511_627_776, 0, 16),
+];
+
+// Entries of term 1, no-ops, in an Append of term 1 from server 1 to server 2.
+#[test]
+fn counts_entries(rt: HostRuntime) {
+    let alloc = rt.alloc();
+    for row in COUNTS {
+        let (prev_index, count, place) = *row;
+        let size = 33 + 9 * u32::from(count);
+        let (size, prev) = (size.to_be_bytes(), prev_index.to_be_bytes());
+        let mut bytes = Vec::new(alloc);
+        for part in [
+            &[1, 3, 1, 2][..],
+            &size,
+            &[0, 0, 0, 0, 0, 0, 0, 1],
+            &prev,
+            &[0; 16],
+            &[count],
+        ] {
+            assert!(rt; bytes.extend_from_slice(part).is_ok());
+        }
+        for _ in 0..count {
+            assert!(rt;
+                bytes
+                    .extend_from_slice(&[0, 0, 0, 0, 0, 0, 0, 1, 0])
+                    .is_ok()
+            );
+        }
+        assert!(rt;
+            fault_of(alloc, &bytes) == place,
+            "{count} behind {prev_index}"
+        );
+    }
+}
