@@ -1,0 +1,4 @@
+pub mod KeptRows
+pub mod Following
+pub mod BlockedRows
+pub mod Reasoned
