@@ -1,7 +1,6 @@
 -- Blocked evaluations, at one row; and that their split is told by the room of classes.
-use Rattle.std.proofs.Common.{◌≡◌, ℕ, ◌≤◌, Bool, true, false, cond, ◌&&◌, ◌||◌, T, nat_lt, max, bytes_eq, List, [], ◌∷◌, map, filter, Option, Some, None, refl, sym, ap, ◌∙◌, arith}
+use Rattle.std.proofs.Common.{◌≡◌, ℕ, ◌≤◌, Bool, true, false, cond, ◌&&◌, ◌||◌, nat_lt, max, bytes_eq, List, [], ◌∷◌, map, filter, Option, Some, None, refl, sym, ap, ◌∙◌, arith}
 use Rattle.std.specs.List.{list_any}
-use Rattle.std.specs.declared.cmp.Ordering.{Ordering}
 use Rattle.std.specs.declared.cmp.Ordering.TheVariants.{Less, Equal, Greater}
 use Rattle.std.specs.Ordering.{nat_cmp, is_eq}
 use Rattle.rows.specs.declared.job.Group.{Group}
@@ -13,8 +12,8 @@ use Rattle.std.specs.Cmp.Lexicographic.{nat_list_cmp_total}
 use Rattle.rows.specs.KeyLaws.{eval_cmp_total}
 use Rattle.fsm_tables.specs.Rows.{by_order, row_of, put}
 use Rattle.fsm_tables.specs.RowLaws.{row_of-put}
-use Rattle.fsm_state.specs.Words.{State, holds, job_of, is_blocked}
-use Rattle.group_model.specs.Blocked.{BlockedEval, BlockedEvals, blocked_id, with_blocked, without_blocked, blocked_over, asks_for, has_new_room, is_due, is_due_by, room_with, classes_of, blocked_eval, room_over, with_classes_of}
+use Rattle.fsm_state.specs.Words.{holds, job_of, is_blocked}
+use Rattle.group_model.specs.Blocked.{BlockedEvals, blocked_id, with_blocked, without_blocked, blocked_over, has_new_room, room_with, classes_of, blocked_eval, room_over, with_classes_of}
 use Rattle.group_model.specs.Rows.{without}
 use Rattle.group_model.specs.OneRow.{BlockedFollowEvals, BlockedFollowNodes, BlockedFollowJobs, Replaces, DueByRoom}
 use Rattle.group_model.proofs.KeptRows.{one_row}
@@ -52,7 +51,7 @@ room_follows : (n : Node) (nodes : List Node) → Replaces n (row_of nat_cmp nod
 room_follows n [] r c = refl
 room_follows n (y ∷ ys) r c =
     elim (nat_cmp n.number y.number) as (λ o. Replaces n (cond (is_eq o) (Some y) (row_of nat_cmp node_number n.number ys)) →
-        room_over (by_order o (n ∷ y ∷ ys) (n ∷ ys) (y ∷ put nat_cmp node_number n ys)) c ≡ room_with n.class n.room (room_with y.class y.room (room_over ys)) c) [
+    room_over (by_order o (n ∷ y ∷ ys) (n ∷ ys) (y ∷ put nat_cmp node_number n ys)) c ≡ room_with n.class n.room (room_with y.class y.room (room_over ys)) c) [
       | Less ↦ λ h. refl
       | Equal ↦ λ h. room_replaces n.class y.room n.room (room_over ys) c h.1 ∙ ap (λ a. room_with n.class n.room (room_with a y.room (room_over ys)) c) (sym h.0)
       | Greater ↦ λ h. ap (λ k. cond (bytes_eq c y.class) (max k y.room) k) (room_follows n ys h c) ∙ room_swaps y.class n.class y.room n.room (room_over ys) c

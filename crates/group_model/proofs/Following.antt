@@ -11,8 +11,8 @@ use Rattle.rows.specs.KeyLaws.{eval_cmp_total}
 use Rattle.rows.specs.Rising.{is_rising}
 use Rattle.fsm_tables.specs.Rows.{put}
 use Rattle.fsm_state.specs.Words.{is_pending, is_ready}
-use Rattle.group_model.specs.Brokers.{Task, Broker, Key, task_id, task_key, eval_key, task_of, carry, tasks_over, tasks_with, HoldsPending}
-use Rattle.group_model.specs.Expiry.{BeatCount, count_node, beat_count_of, counted_node, beat_counts_over, beat_counts_with, HoldsReady}
+use Rattle.group_model.specs.Brokers.{Task, Key, task_id, task_key, eval_key, task_of, carry, tasks_over, tasks_with, HoldsPending}
+use Rattle.group_model.specs.Expiry.{BeatCount, count_node, beat_count_of, counted_node, beat_counts_over, HoldsReady}
 use Rattle.group_model.specs.OneRow.{BrokerFollows, CountsFollow}
 use Rattle.group_model.proofs.KeptRows.{With, all_found, rising_back, rising_kept, one_row}
 

@@ -1,5 +1,5 @@
 -- What is made of the rows that pass a test, where one row is put among them.
-use Rattle.std.proofs.Common.{◌≡◌, Bool, true, false, cond, not, T, List, [], ◌∷◌, map, filter, Option, Some, refl, sym, ap, subst, ◌∙◌}
+use Rattle.std.proofs.Common.{◌≡◌, Bool, true, false, cond, not, T, List, [], ◌∷◌, map, filter, Some, refl, sym, ap, subst, ◌∙◌}
 use Rattle.std.specs.declared.cmp.Ordering.{Ordering}
 use Rattle.std.specs.declared.cmp.Ordering.TheVariants.{Less, Equal, Greater}
 use Rattle.std.specs.List.{AllByRecursion}
@@ -90,7 +90,7 @@ module _ {K A B : Type 0} (R : K → K → Ordering) (ka : A → K) (kb : B → 
         let zs = map make (filter keep ys) in
         ap (λ l. make y ∷ l) rest
         ∙ elim (keep x) as (λ b. make y ∷ cond b (put R kb (make x) (map make (filter keep ys))) (without R kb (ka x) (map make (filter keep ys)))
-            ≡ cond b (put R kb (make x) (make y ∷ map make (filter keep ys))) (without R kb (ka x) (make y ∷ map make (filter keep ys)))) [
+        ≡ cond b (put R kb (make x) (make y ∷ map make (filter keep ys))) (without R kb (ka x) (make y ∷ map make (filter keep ys)))) [
           | true ↦ sym (ap (λ r. by_order r (make x ∷ make y ∷ zs) (make x ∷ zs) (make y ∷ put R kb (make x) zs)) (keys x y ∙ p))
           | false ↦ sym (ap (λ r. cond (not (is_eq r)) (make y ∷ without R kb (ka x) zs) (without R kb (ka x) zs)) (ap (R (ka x)) (same y) ∙ p))
         ]

@@ -2,3 +2,4 @@ pub mod KeptRows
 pub mod Following
 pub mod BlockedRows
 pub mod Reasoned
+pub mod FullLogs

@@ -52,8 +52,8 @@ is_idle s (commands.NodePut n) = is_registered n.number s
 is_idle s (commands.Report n items) = list_all (is_unmoved n items) s.allocs
 is_idle s _ = false
 
--- ---- Register and Report: read against the state after the whole log; what is admitted and would change no row is taken, and not
--- appended; else what meets any proposal
+-- ---- Register and Report: read against the state after the whole log; what is admitted and would
+-- change no row is taken, and not appended; else what meets any proposal
 
 -- the state admits the command, and no row would change
 abbrev pub is_taken_already : State → Command → Bool

@@ -1,5 +1,6 @@
--- How often the ready nodes were heard of since the desk opened, or since they came. (Nomad documentation, "server" block of the agent
--- configuration: heartbeats of clients; a count in place of a timer is this project's own.)
+-- How often the ready nodes were heard of since the desk opened, or since they came. (Nomad
+-- documentation, "server" block of the agent configuration: heartbeats of clients; a count in place
+-- of a timer is this project's own.)
 use Rattle.std.specs.Prelude.{◌≡◌, ℕ, suc, if◌then◌else◌, nat_eq, nat_lt, Option, Some, None, List, map, filter}
 use Rattle.std.specs.Ordering.{nat_cmp}
 use Rattle.rows.specs.declared.node.Node.{Node}

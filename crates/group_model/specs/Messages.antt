@@ -1,6 +1,7 @@
--- What servers and clients send each other beside the log's own messages, and with those all that is sent. Servers are numbered by
--- their place in the group, from 0; a client has its node's number, from 1. (Nomad documentation, "Scheduling in Nomad": workers
--- dequeue evaluations from the leader and submit plans to it; "Consensus Protocol".)
+-- What servers and clients send each other beside the log's own messages, and with those all that
+-- is sent. Servers are numbered by their place in the group, from 0; a client has its node's
+-- number, from 1. (Nomad documentation, "Scheduling in Nomad": workers dequeue evaluations from the
+-- leader and submit plans to it; "Consensus Protocol".)
 use Rattle.std.specs.Prelude.{ℕ, Option, List}
 use Rattle.rows.specs.declared.size.Size.{Size}
 use Rattle.rows.specs.declared.evaluation.EvalId.{EvalId}
@@ -18,7 +19,8 @@ use Rattle.group_model.specs.Reasons.{Reason}
 
 -- ---- between servers: a server's workers ask the leader's desk, which answers
 
--- what a worker made of an evaluation: it is blocked, found so at the state of this index; all is placed; it is given up
+-- what a worker made of an evaluation: it is blocked, found so at the state of this index; all is
+-- placed; it is given up
 pub data EvalOutcome : Type 0 where
   Blocked : (snapshot : ℕ) → EvalOutcome
   Complete : EvalOutcome
@@ -52,7 +54,8 @@ pub data AskedRequest : Type 0 where
 pub data WorkerResponse : Type 0 where
   -- an evaluation, or none
   Delivered : (what : Option Delivery) → WorkerResponse
-  -- what became of a plan: the leader's last index, how many were placed, and the nodes where nothing was
+  -- what became of a plan: the leader's last index, how many were placed, and the nodes where
+  -- nothing was
   PlanResult : (eval : EvalId) (token : Token) (last placed : ℕ) (nodes : List ℕ) → WorkerResponse
   -- the request is refused
   Refused : (asked : AskedRequest) (reason : Reason) → WorkerResponse

@@ -1,5 +1,6 @@
--- What is kept over the rows of a state, and what becomes of it where one row alone is made or replaced, are the same.
-use Rattle.std.specs.Prelude.{◌≡◌, ◌≤◌, ℕ, true, T, Option, Some, None, List}
+-- What is kept over the rows of a state, and what becomes of it where one row alone is made or
+-- replaced, are the same.
+use Rattle.std.specs.Prelude.{◌≡◌, ◌≤◌, true, T, Option, Some, None, List}
 use Rattle.std.specs.Ordering.{nat_cmp}
 use Rattle.rows.specs.declared.job.Job.{Job}
 use Rattle.rows.specs.declared.node.Node.{Node}

@@ -1,5 +1,6 @@
--- A refusal as a message tells it: its number and, of one for not leading, the leader that is known. Where a frame is at fault the
--- place is not told, so that each pair of a number and a leader that a frame can hold is one reason.
+-- A refusal as a message tells it: its number and, of one for not leading, the leader that is
+-- known. Where a frame is at fault the place is not told, so that each pair of a number and a
+-- leader that a frame can hold is one reason.
 use Rattle.std.specs.Prelude.{ℕ, Option}
 use Rattle.rows.specs.declared.refusal.Refusal.{Refusal}
 use Rattle.rows.specs.declared.refusal.Refusal.TheVariants as refusals

@@ -1,5 +1,5 @@
 -- Rows that go, and keys by which desks keep their rows.
-use Rattle.std.specs.Prelude.{Bool, not, List, filter}
+use Rattle.std.specs.Prelude.{not, List, filter}
 use Rattle.std.specs.declared.cmp.Ordering.{Ordering}
 use Rattle.std.specs.Ordering.{is_eq}
 

@@ -1,4 +1,5 @@
--- What no act but a plan turn does: it proposes no plan. And no act shows a client what the server has not applied.
+-- What no act but a plan turn does: it proposes no plan. And no act shows a client what the server
+-- has not applied.
 use Rattle.std.proofs.Common.{◌≡◌, ℕ, Bool, true, false, cond, not, Option, Some, None, Result, Ok, Err, List, [], ◌∷◌, length, refl}
 use Rattle.std.specs.List.{AllByRecursion}
 use Rattle.rows.specs.declared.node.Node.{Node}

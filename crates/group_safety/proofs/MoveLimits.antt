@@ -1,4 +1,5 @@
--- The first of a list is in it; and the next moves off a node are ids of its table, in rising order.
+-- The first of a list is in it; and the next moves off a node are ids of its table, in rising
+-- order.
 use Rattle.std.proofs.Common.{◌≡◌, ℕ, ◌≤◌, Bool, true, false, cond, nat_lt, T, ◌&&◌, not, Some, None, List, [], ◌∷◌, length, map, filter, take, refl, sym, ap, ◌∙◌, subst}
 use Rattle.std.proofs.lemmas.Option.{same_Some}
 use Rattle.std.specs.List.{AllByRecursion, list_any}

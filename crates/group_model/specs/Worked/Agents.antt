@@ -9,7 +9,6 @@ use Rattle.fsm_state.specs.Worked.{linux, size, alloc_id}
 use Rattle.group_model.specs.Clients as agents
 use Rattle.group_model.specs.Clients.{Client}
 use Rattle.group_model.specs.Messages.{ServiceMessage, ToServer, ReportStates, Listing}
-use Rattle.group_model.specs.Worked.Words.{a}
 
 abbrev pub agent : Client
 agent = agents.agent_of (record { number = 1; class = linux; size = size 1000 1000 })

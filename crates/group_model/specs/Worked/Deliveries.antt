@@ -1,4 +1,5 @@
--- Deliveries of one evaluation: three at most, each under a token of its own, and then it is failed.
+-- Deliveries of one evaluation: three at most, each under a token of its own, and then it is
+-- failed.
 use Rattle.std.specs.Prelude.{◌≡◌, ℕ, Option, Some, None, List, [], ◌∷◌, ◌++◌, map}
 use Rattle.rows.specs.declared.evaluation.EvalId.{EvalId}
 use Rattle.rows.specs.declared.token.Delivery.{Delivery}
@@ -10,7 +11,7 @@ use Rattle.group_model.specs.Inputs as inputs
 use Rattle.group_model.specs.Members as members
 use Rattle.group_model.specs.Messages.{GroupMessage, Service, BetweenServers, Asks, Answers, Take, Delivered}
 use Rattle.group_model.specs.Brokers.{Task, failed}
-use Rattle.group_model.specs.Worked.Words.{token, entry, log, leader, after_inputs, sent_by, a}
+use Rattle.group_model.specs.Worked.Words.{token, entry, log, leader, after_inputs, sent_by}
 
 -- server 1 asks
 abbrev pub asks : inputs.Input

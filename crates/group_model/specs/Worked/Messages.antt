@@ -8,7 +8,7 @@ use Rattle.group_model.specs.Clients as agents
 use Rattle.group_model.specs.Messages.{ToServer, Heartbeat, Listing}
 use Rattle.group_model.specs.Worlds as worlds
 use Rattle.group_model.specs.Worlds.{World, Event, AtServer, AtClient}
-use Rattle.group_model.specs.Worked.Words.{after_events, a}
+use Rattle.group_model.specs.Worked.Words.{after_events}
 
 abbrev pub refused_by : Result World Refusal → Option Refusal
 refused_by (Ok w) = None

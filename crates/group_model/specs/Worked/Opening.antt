@@ -3,10 +3,10 @@ use Rattle.std.specs.Prelude.{◌≡◌, Bool, true, false, is_some, Option, Som
 use Rattle.group_model.specs.Inputs as inputs
 use Rattle.group_model.specs.Members.{Member}
 use Rattle.group_model.specs.Reasons as reasons
-use Rattle.group_model.specs.Messages.{Service, BetweenServers, Answers, Take, Delivered, Refused, AskedTake}
+use Rattle.group_model.specs.Messages.{Service, BetweenServers, Answers, Delivered, Refused, AskedTake}
 use Rattle.group_model.specs.Worlds as worlds
 use Rattle.group_model.specs.Worlds.{Event, Deliver, AtServer}
-use Rattle.group_model.specs.Worked.Words.{after_events, leads, leader, a}
+use Rattle.group_model.specs.Worked.Words.{after_events}
 use Rattle.raft_model.specs.Servers.{is_leader}
 
 -- server 0 stands, server 1 grants, and server 0 leads

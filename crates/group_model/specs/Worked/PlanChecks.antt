@@ -5,7 +5,7 @@ use Rattle.rows.specs.declared.plan.Plan.{Plan}
 use Rattle.rows.specs.declared.command.AcceptedPlace.{AcceptedPlace}
 use Rattle.fsm_state.specs.Worked.{web, main, size, eval_id, alloc_id}
 use Rattle.group_model.specs.Acceptance.{accept}
-use Rattle.group_model.specs.Worked.Words.{token, one_runs, a}
+use Rattle.group_model.specs.Worked.Words.{token, one_runs}
 
 abbrev pub moves_it : ℕ → Plan
 moves_it version = record {
@@ -21,7 +21,8 @@ moves_it version = record {
 abbrev pub to_two : AcceptedPlace
 to_two = record { group = main; index = 0; node = 2; size = size 600 300 }
 
--- The stop and the place are kept: node 2 is then in full use. What is of another job is not stopped, and what is named twice once.
+-- The stop and the place are kept: node 2 is then in full use. What is of another job is not
+-- stopped, and what is named twice once.
 abbrev pub KeptWhole : Type 0
 KeptWhole = accept (one_runs (size 400 100)) (moves_it 4) 6 ≡ Ok (record { stops = alloc_id 5 0 ∷ []; places = to_two ∷ []; refused = [] })
 

@@ -15,7 +15,7 @@ use Rattle.group_model.specs.Members.{Member}
 use Rattle.group_model.specs.Reasons as reasons
 use Rattle.group_model.specs.Messages.{Service, BetweenServers, Asks, Answers, Take, Submit, Delivered, PlanResult, Refused, AskedSubmit}
 use Rattle.group_model.specs.Order.{in_order}
-use Rattle.group_model.specs.Worked.Words.{token, entry, log, leader, after_inputs, sent_by, a, b, narrow, at_narrow}
+use Rattle.group_model.specs.Worked.Words.{token, entry, after_inputs, sent_by, a, b, narrow, at_narrow}
 
 abbrev pub plan_of : ℕ → ℕ → List ℕ → Plan
 plan_of index serial job = record {
@@ -42,7 +42,8 @@ both_submitted = takes_from 1 ∷ takes_from 2 ∷ submits 1 (plan_of 3 1 a) ∷
 abbrev pub FirstPlan : Type 0
 FirstPlan = sent_by (members.step 3 0 (after_inputs at_narrow both_submitted) inputs.PlanTurn) ≡ Service (BetweenServers 0 1 (Answers (PlanResult (eval_id 3 0) (token 1 1) 5 1 []))) ∷ []
 
--- The second is held against the state after the whole log, where the first has its room, though nothing more is committed.
+-- The second is held against the state after the whole log, where the first has its room, though
+-- nothing more is committed.
 abbrev pub SecondPlan : Type 0
 SecondPlan = sent_by (members.step 3 0 (after_inputs at_narrow (both_submitted ++ inputs.PlanTurn ∷ [])) inputs.PlanTurn) ≡ Service (BetweenServers 0 2 (Answers (PlanResult (eval_id 4 0) (token 1 2) 5 0 (1 ∷ [])))) ∷ []
 
@@ -62,7 +63,8 @@ OldTokenPlan =
     sent_by (members.step 3 0 (after_inputs at_narrow (takes_from 1 ∷ inputs.Lapse (eval_id 3 0) ∷ takes_from 2 ∷ submits 1 (plan_of 3 1 a) ∷ [])) inputs.PlanTurn)
     ≡ Service (BetweenServers 0 1 (Answers (Refused (AskedSubmit (eval_id 3 0) (token 1 1)) reasons.TokenDiffers))) ∷ []
 
--- A leader of term 2 over the same rows, whose no-op is applied: a plan under a token of term 1 is refused.
+-- A leader of term 2 over the same rows, whose no-op is applied: a plan under a token of term 1 is
+-- refused.
 abbrev pub led_again : List (Entry Command)
 led_again = narrow ++ entry 2 commands.Noop ∷ []
 

@@ -60,7 +60,8 @@ ReportedTwice = (after_inputs at_placed (runs_five ∷ runs_five ∷ [])).raft.l
 abbrev pub ToldBothTimes : Type 0
 ToldBothTimes = sent_by (members.step 3 0 (after_inputs at_placed (runs_five ∷ [])) runs_five) ≡ told OfReport None
 
--- So is a node that is ready; one of another size is refused, and so is all at a server that does not lead.
+-- So is a node that is ready; one of another size is refused, and so is all at a server that does
+-- not lead.
 abbrev pub SameNode : Type 0
 SameNode = (after_inputs at_placed (registers (size 1000 1000) ∷ [])).raft.log ≡ placed_log
 

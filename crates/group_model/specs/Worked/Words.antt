@@ -1,5 +1,5 @@
--- Servers, logs and rows of the worked steps, and what events and inputs make of them. Servers are numbered from 0 here, as
--- everywhere in definitions.
+-- Servers, logs and rows of the worked steps, and what events and inputs make of them. Servers are
+-- numbered from 0 here, as everywhere in definitions.
 use Rattle.std.specs.Prelude.{ℕ, true, false, Option, Some, None, Result, Ok, Err, List, [], ◌∷◌}
 use Rattle.rows.specs.declared.refusal.Refusal.{Refusal}
 use Rattle.rows.specs.declared.size.Size.{Size}
