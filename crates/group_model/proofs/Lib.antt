@@ -1,0 +1,5 @@
+pub mod KeptRows
+pub mod Following
+pub mod BlockedRows
+pub mod Reasoned
+pub mod FullLogs

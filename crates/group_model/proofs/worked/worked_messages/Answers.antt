@@ -1,0 +1,16 @@
+use Rattle.std.proofs.Common.{refl}
+use Rattle.raft_model.specs.Logs.{term_at, commands, merge}
+use Rattle.raft_model.specs.Quorums.{is_quorum, count}
+use Rattle.raft_model.specs.Messages.{to_others}
+use Rattle.raft_model.specs.Servers.{greatest}
+use Rattle.group_model.proofs.worked.worked_messages.Goals as goal
+
+pub returns : goal.returns
+unfolding to_others term_at is_quorum count greatest commands merge
+returns g = record {
+  one_up = refl;
+  one_down = refl;
+  no_server = refl;
+  client_up = refl;
+  client_down = refl;
+}

@@ -1,0 +1,52 @@
+-- How often the ready nodes were heard of since the desk opened, or since they came. (Nomad
+-- documentation, "server" block of the agent configuration: heartbeats of clients; a count in place
+-- of a timer is this project's own.)
+use Rattle.std.specs.Prelude.{◌≡◌, ℕ, suc, if◌then◌else◌, nat_eq, nat_lt, Option, Some, None, List, map, filter}
+use Rattle.std.specs.Ordering.{nat_cmp}
+use Rattle.rows.specs.declared.node.Node.{Node}
+use Rattle.rows.specs.Keys.{node_number}
+use Rattle.raft_model.specs.Logs.{MAX}
+use Rattle.fsm_tables.specs.Rows.{row_of, put}
+use Rattle.fsm_state.specs.Words.{is_ready}
+use Rattle.group_model.specs.Rows.{without}
+
+-- a ready node with its number of heartbeats
+pub record BeatCount : Type 0 where
+  pub node : ℕ
+  pub beats : ℕ
+
+abbrev pub count_node : BeatCount → ℕ
+count_node c = c.node
+
+abbrev pub beat_count_of : ℕ → List BeatCount → Option BeatCount
+beat_count_of n counts = row_of nat_cmp count_node n counts
+
+abbrev pub beats_of : Option BeatCount → ℕ
+beats_of None = 0
+beats_of (Some c) = c.beats
+
+-- a node that comes has 0; one that is there keeps its number
+abbrev pub counted_node : Node → Option BeatCount → BeatCount
+counted_node n old = record { node = n.number; beats = beats_of old }
+
+-- over these nodes: those that are ready
+abbrev pub beat_counts_over : List Node → List BeatCount → List BeatCount
+beat_counts_over nodes old = map (λ n. counted_node n (beat_count_of n.number old)) (filter (λ n. is_ready n.status) nodes)
+
+-- the counts are those of the ready ones of these nodes, in their order
+abbrev pub HoldsReady : List Node → List BeatCount → Type 0
+HoldsReady nodes counts = map count_node counts ≡ map node_number (filter (λ (n : Node). is_ready n.status) nodes)
+
+-- Over rows of which one alone was made or replaced since: it comes in, stays or goes.
+abbrev pub beat_counts_with : Node → List BeatCount → List BeatCount
+beat_counts_with n old =
+    if is_ready n.status
+    then put nat_cmp count_node (counted_node n (beat_count_of n.number old)) old
+    else without nat_cmp count_node n.number old
+
+-- one heartbeat more; the greatest number stays
+abbrev pub one_beat_more : BeatCount → BeatCount
+one_beat_more c = record c { beats = if nat_lt c.beats MAX then suc c.beats else c.beats }
+
+abbrev pub with_beat : ℕ → List BeatCount → List BeatCount
+with_beat n counts = map (λ c. if nat_eq c.node n then one_beat_more c else c) counts
