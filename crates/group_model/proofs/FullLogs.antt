@@ -1,7 +1,7 @@
 -- Registrations and reports at a full log.
 use Rattle.std.proofs.Common.{◌≡◌, Bool, true, false, cond, not, Some, refl, ap, ◌∙◌}
 use Rattle.rows.specs.declared.refusal.Refusal.TheVariants as refusals
-use Rattle.fsm_state.specs.Admission.{admission}
+use Rattle.cluster_model.specs.Admission.{admission}
 use Rattle.group_model.specs.Inputs.{Act}
 use Rattle.group_model.specs.Desks.{whole_state}
 use Rattle.group_model.specs.ClientRequests.{proposes_for}

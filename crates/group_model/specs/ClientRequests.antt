@@ -12,10 +12,11 @@ use Rattle.rows.specs.declared.refusal.Refusal.{Refusal}
 use Rattle.rows.specs.declared.refusal.Refusal.TheVariants as refusals
 use Rattle.raft_model.specs.Servers.{Server, is_leader}
 use Rattle.raft_model.specs.Steps.{admitted}
-use Rattle.fsm_state.specs.Words.{State, node_of, holds, is_ready}
-use Rattle.fsm_state.specs.Effect.{lives_on, told_all}
-use Rattle.fsm_state.specs.Admission.{admission}
-use Rattle.fsm_state.specs.ClusterMachine.{cluster_meaning}
+use Rattle.cluster_model.specs.Words.{State}
+use Rattle.cluster_model.specs.Words.{node_of, holds, is_ready}
+use Rattle.cluster_model.specs.Effect.{lives_on, told_all}
+use Rattle.cluster_model.specs.Admission.{admission}
+use Rattle.cluster_model.specs.ClusterMachine.{cluster_meaning}
 use Rattle.group_model.specs.Reasons.{reason_of}
 use Rattle.group_model.specs.Messages.{ServiceMessage, ToClient, ClientRequest, Register, Heartbeat, Pull, ReportStates, ClientRequestKind, OfRegister, OfHeartbeat, OfReport, Shown, Listing, Told}
 use Rattle.group_model.specs.Expiry.{BeatCount, beat_count_of, with_beat}

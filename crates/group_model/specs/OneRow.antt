@@ -8,7 +8,8 @@ use Rattle.rows.specs.declared.evaluation.Evaluation.{Evaluation}
 use Rattle.rows.specs.Keys.{name_cmp, eval_cmp, job_name, node_number, eval_id}
 use Rattle.rows.specs.Rising.{is_rising}
 use Rattle.fsm_tables.specs.Rows.{put}
-use Rattle.fsm_state.specs.Words.{State, node_of, is_blocked}
+use Rattle.cluster_model.specs.Words.{State}
+use Rattle.cluster_model.specs.Words.{node_of, is_blocked}
 use Rattle.group_model.specs.Brokers.{Broker, HoldsPending, broker_over, broker_with}
 use Rattle.group_model.specs.Expiry.{BeatCount, HoldsReady, beat_counts_over, beat_counts_with}
 use Rattle.group_model.specs.Blocked.{is_due, is_due_by, room_over, blocked_eval, blocked_over, blocked_with_eval, blocked_with_node, blocked_with_job}

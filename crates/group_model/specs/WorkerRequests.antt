@@ -9,7 +9,7 @@ use Rattle.rows.specs.declared.refusal.Refusal.{Refusal}
 use Rattle.rows.specs.declared.refusal.Refusal.TheVariants as refusals
 use Rattle.raft_model.specs.Servers.{Server}
 use Rattle.raft_model.specs.Steps.{admitted}
-use Rattle.fsm_state.specs.ClusterMachine.{cluster_meaning}
+use Rattle.cluster_model.specs.ClusterMachine.{cluster_meaning}
 use Rattle.group_model.specs.Reasons.{reason_of}
 use Rattle.group_model.specs.Messages.{BetweenServers, WorkerMessage, Asks, Answers, WorkerRequest, Take, Submit, Finish, Nack, WorkerResponse, Delivered, Refused, AskedRequest, AskedTake, AskedSubmit, AskedFinish, AskedNack, EvalOutcome, change_of}
 use Rattle.group_model.specs.Brokers.{Given, Nothing, UsedUp, Gives, deliver, outstanding, acked, nacked}

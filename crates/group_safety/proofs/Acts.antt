@@ -15,8 +15,9 @@ use Rattle.rows.specs.declared.refusal.Refusal.{Refusal}
 use Rattle.rows.specs.declared.refusal.Refusal.TheVariants as refusals
 use Rattle.raft_model.specs.Servers.{Server, is_leader}
 use Rattle.raft_model.specs.Steps.{admitted}
-use Rattle.fsm_state.specs.Words.{State, node_of}
-use Rattle.fsm_state.specs.ClusterMachine.{cluster_meaning}
+use Rattle.cluster_model.specs.Words.{State}
+use Rattle.cluster_model.specs.Words.{node_of}
+use Rattle.cluster_model.specs.ClusterMachine.{cluster_meaning}
 use Rattle.group_model.specs.Messages.{ServiceMessage, BetweenServers, ToServer, ToClient, WorkerMessage, Asks, Answers, WorkerRequest, Take, Submit, Finish, Nack, EvalOutcome, change_of, ClientRequest, Register, Heartbeat, Pull, ReportStates, ClientRequestKind, OfRegister, OfReport, Listing, Told}
 use Rattle.group_model.specs.Order.{Picked, pick}
 use Rattle.group_model.specs.Brokers.{Task, Given, Nothing, UsedUp, Gives, deliver, outstanding}

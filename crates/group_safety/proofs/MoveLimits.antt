@@ -6,17 +6,17 @@ use Rattle.std.specs.List.{AllByRecursion, list_any}
 use Rattle.rows.specs.Fits.{AllocIdFits, AllocationFits, RisingIdsFit}
 use Rattle.rows.specs.Ids.{alloc_cmp}
 use Rattle.rows.specs.Keys.{alloc_id}
-use Rattle.rows.specs.KeyLaws as key_laws
+use Rattle.rows.proofs.KeyLaws as key_laws
 use Rattle.rows.specs.Rising.{is_rising, is_below}
 use Rattle.std.specs.Ordering.{is_lt}
-use Rattle.rows.specs.RisingLaws.{keeps_rising}
+use Rattle.rows.proofs.RisingLaws.{keeps_rising}
 use Rattle.rows.specs.declared.node.DrainMode.{DrainMode}
 use Rattle.rows.specs.declared.node.DrainMode.TheVariants as drain_modes
 use Rattle.rows.specs.declared.allocation.AllocId.{AllocId}
 use Rattle.rows.specs.declared.allocation.Allocation.{Allocation}
-use Rattle.fsm_state.specs.Words.{State}
-use Rattle.fsm_state.specs.Effect.{lives_on}
-use Rattle.fsm_state.specs.RangeLaws.{IsState}
+use Rattle.cluster_model.specs.Words.{State}
+use Rattle.cluster_model.specs.Effect.{lives_on}
+use Rattle.cluster_model.specs.States.{IsState}
 use Rattle.group_model.specs.Order as ordering
 use Rattle.group_model.specs.Order.{Picked, pick, picked_one, or_head}
 use Rattle.group_model.specs.Drains.{movers, group_moves, firsts, same_group, moves_of}

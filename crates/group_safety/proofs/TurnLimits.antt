@@ -2,16 +2,16 @@
 use Rattle.std.proofs.Common.{◌≡◌, ℕ, Bool, true, false, cond, ◌==◌, Option, Some, None, Result, Ok, Err, List, [], ◌∷◌, subst, slice_get}
 use Rattle.rows.specs.declared.command.Command.{Command}
 use Rattle.rows.specs.declared.refusal.Refusal.{Refusal}
-use Rattle.fields.specs.RangeLaws.{fits_command}
+use Rattle.fields.proofs.RangeLaws.{fits_command}
 use Rattle.machine.specs.declared.entry.Entry.{Entry}
 use Rattle.raft_model.specs.Messages.{Message}
 use Rattle.raft_model.specs.Servers as rafts
 use Rattle.raft_model.specs.Servers.{Server, is_leader}
 use Rattle.raft_model.specs.Steps as raft_steps
 use Rattle.raft_safety.proofs.Paths.{same_ok}
-use Rattle.fsm_state.specs.Words.{State}
-use Rattle.fsm_state.specs.Effect.{applied}
-use Rattle.fsm_state.specs.ClusterMachine.{cluster_meaning}
+use Rattle.cluster_model.specs.Words.{State}
+use Rattle.cluster_model.specs.Effect.{applied}
+use Rattle.cluster_model.specs.ClusterMachine.{cluster_meaning}
 use Rattle.group_model.specs.Messages.{Service, ServiceMessage}
 use Rattle.group_model.specs.Desks.{Desk, changed, opened, after_entry, after_entries, applied_state, newly, desk_after}
 use Rattle.group_model.specs.Inputs.{Act, Ask, AskTimeout, AskBeat, AskPropose, AskCompact, AskCrash, AskRestart, input_of, rests}

@@ -5,7 +5,7 @@ use Rattle.rows.specs.declared.refusal.Refusal.TheVariants as refusals
 use Rattle.rows.specs.declared.allocation.ClientState.{ClientState}
 use Rattle.rows.specs.declared.allocation.ClientState.TheVariants as clients
 use Rattle.rows.specs.declared.command.ReportedState.TheVariants as reported
-use Rattle.fsm_state.specs.Worked.{linux, size, alloc_id}
+use Rattle.cluster_model.specs.Worked.Words.{linux, size, alloc_id}
 use Rattle.group_model.specs.Clients as agents
 use Rattle.group_model.specs.Clients.{Client}
 use Rattle.group_model.specs.Messages.{ServiceMessage, ToServer, ReportStates, Listing}

@@ -3,7 +3,7 @@ use Rattle.std.specs.Prelude.{◌≡◌, ℕ, Ok, Err, [], ◌∷◌}
 use Rattle.rows.specs.declared.refusal.Refusal.TheVariants as refusals
 use Rattle.rows.specs.declared.plan.Plan.{Plan}
 use Rattle.rows.specs.declared.command.AcceptedPlace.{AcceptedPlace}
-use Rattle.fsm_state.specs.Worked.{web, main, size, eval_id, alloc_id}
+use Rattle.cluster_model.specs.Worked.Words.{web, main, size, eval_id, alloc_id}
 use Rattle.group_model.specs.Acceptance.{accept}
 use Rattle.group_model.specs.Worked.Words.{token, one_runs}
 

@@ -6,8 +6,8 @@ use Rattle.rows.specs.declared.command.Command.{Command}
 use Rattle.rows.specs.declared.command.Command.TheVariants as commands
 use Rattle.machine.specs.declared.entry.Entry.{Entry}
 use Rattle.raft_model.specs.Servers as rafts
-use Rattle.fsm_state.specs.Words.{no_rows}
-use Rattle.fsm_state.specs.Worked.{main, size, eval_id}
+use Rattle.cluster_model.specs.Words.{no_rows}
+use Rattle.cluster_model.specs.Worked.Words.{main, size, eval_id}
 use Rattle.group_model.specs.Desks.{after_entries}
 use Rattle.group_model.specs.Inputs as inputs
 use Rattle.group_model.specs.Members as members

@@ -16,8 +16,9 @@ use Rattle.rows.specs.declared.command.Command.{Command}
 use Rattle.rows.specs.declared.command.Command.TheVariants as commands
 use Rattle.machine.specs.declared.entry.Entry.{Entry}
 use Rattle.raft_model.specs.Servers as rafts
-use Rattle.fsm_state.specs.Words.{State, no_rows}
-use Rattle.fsm_state.specs.Worked.{linux, web, api, main, size, eval_id, alloc_id, comes, mains, runs}
+use Rattle.cluster_model.specs.Words.{State}
+use Rattle.cluster_model.specs.Words.{no_rows}
+use Rattle.cluster_model.specs.Worked.Words.{linux, web, api, main, size, eval_id, alloc_id, comes, mains, runs}
 use Rattle.group_model.specs.Desks.{Desk, after_entries}
 use Rattle.group_model.specs.Inputs as inputs
 use Rattle.group_model.specs.Members as members
