@@ -85,7 +85,7 @@ impl Allocations {
     }
 
     /// The live allocations of a name.
-    pub fn live_as(&self, name: &AllocName) -> Result<Sequence<Allocation>, NoMemory>
+    pub fn all_live_named(&self, name: &AllocName) -> Result<Sequence<Allocation>, NoMemory>
         ensures { IfOk result (λ listed. listed ≡ filter (lives_as name.now) self.now) }
     {
         self.rows.ranges();
@@ -95,7 +95,7 @@ impl Allocations {
     }
 
     /// The live allocations of a job.
-    pub fn live_for(&self, job: &JobName) -> Result<Sequence<Allocation>, NoMemory>
+    pub fn live_of_job(&self, job: &JobName) -> Result<Sequence<Allocation>, NoMemory>
         ensures { IfOk result (λ listed. listed ≡ filter (lives_for job.now) self.now) }
     {
         self.rows.ranges();

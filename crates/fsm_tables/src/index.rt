@@ -1,10 +1,8 @@
 //! An index of allocations: an entry for each row that is listed, in the order of what it is listed by, and then of its id.
 ghost use Rattle.std.specs.Prelude.{◌≡◌, OnOk, OnErr, IfOk, option_map, []};
-ghost use Rattle.std.specs.List.{slice_get};
-ghost use Rattle.std.specs.BTreeSet.{contains, IsOrdered};
+ghost use Rattle.std.specs.BTreeSet.{IsOrdered};
 ghost use Rattle.std.specs.BTreeMap.Range.{IsLeBy};
-ghost use Rattle.rows.specs.Keys.{alloc_cmp};
-ghost use Rattle.fsm_tables.specs.Inner.Index.{entry_cmp, entry_of as entry_for, is_entry, IsSame, Gains, Loses, has_id, entries_between};
+ghost use Rattle.fsm_tables.specs.Inner.Index.{entry_cmp, entry_of as entry_for, is_entry, IsSame, Gains, Loses, HasIdsBetween, first_id};
 
 use rows::{AllocId, Allocation, NoMemory};
 use std::alloc::Global;
@@ -107,7 +105,7 @@ impl<K: IndexKey> AllocIndex<K> {
         last: Entry<K>,
     ) -> Result<BTreeSet<AllocId>, NoMemory>
         requires { IsLeBy (entry_cmp K.cmp) first last }
-        ensures { IfOk result (λ ids. (i : AllocId) → contains alloc_cmp ids i ≡ has_id K.cmp first last self.now i) }
+        ensures { IfOk result (HasIdsBetween K.cmp first last self.now) }
     {
         let mut ids = BTreeSet::new(alloc);
         for entry in self.entries.range(first..=last) {
@@ -119,7 +117,7 @@ impl<K: IndexKey> AllocIndex<K> {
     /// The id of the first of these entries, if there is one.
     pub fn first_between(&self, first: Entry<K>, last: Entry<K>) -> Option<AllocId>
         requires { IsLeBy (entry_cmp K.cmp) first last }
-        ensures first { result ≡ option_map (λ e. e.id) (slice_get (entries_between K.cmp first last self.now) 0) }
+        ensures first { result ≡ first_id K.cmp first last self.now }
         ensures rising { IsOrdered (entry_cmp K.cmp) self.now }
     {
         match self.entries.range(first..=last).next() {

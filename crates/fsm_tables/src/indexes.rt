@@ -57,7 +57,8 @@ impl Indexes {
     fn add(&mut self, entries: &RowEntries) -> Result<(), NoMemory>
         ensures names { OnOk result (Gains alloc_name_cmp entries.now.name self.old.names self.new.names) }
         ensures nodes { OnOk result (Gains on_node_cmp entries.now.node self.old.nodes self.new.nodes) }
-        ensures some { OnErr result (IsSame alloc_name_cmp self.old.names self.new.names ⊎ Gains alloc_name_cmp entries.now.name self.old.names self.new.names) }
+        ensures some { OnErr result (IsSame alloc_name_cmp self.old.names self.new.names
+            ⊎ Gains alloc_name_cmp entries.now.name self.old.names self.new.names) }
         ensures rest { OnErr result (IsSame on_node_cmp self.old.nodes self.new.nodes) }
     {
         self.names.add(entries.name)?;

@@ -31,8 +31,8 @@ fn rows_of(
     Ok(found)
 }
 
-/// The rows that an index lists from one entry to another, in rising id. It takes time in the logarithm of the table for each
-/// of them.
+/// The rows that an index lists from one entry to another, in rising id. It takes time in the
+/// logarithm of the table, and so much again for each of them.
 pub(crate) fn rows_between<K: IndexKey>(
     rows: &Table<Allocation>,
     index: &AllocIndex<K>,
@@ -55,7 +55,8 @@ pub(crate) fn first_under<'a, K: IndexKey>(
     key: K,
 ) -> Option<&'a Allocation>
     requires { AreIndexed K.cmp K.key_of rows.now index.now }
-    ensures { option_map (λ row. row.now) result ≡ slice_get (filter (is_between K.cmp K.key_of (first_entry key) (last_entry key)) rows.now) 0 }
+    ensures { let listed = is_between K.cmp K.key_of (first_entry key) (last_entry key) in
+        option_map (λ row. row.now) result ≡ slice_get (filter listed rows.now) 0 }
 {
     rows.ranges();
     match index.first_between(first(key), last(key)) {

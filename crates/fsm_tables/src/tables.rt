@@ -99,33 +99,34 @@ impl Tables {
         self.allocs.live_named(name)
     }
 
-    /// The live allocations of a name, in rising id: none, one, or several where the state is not safe. It takes time in the
-    /// logarithm of the table, and so much again for each of them; `NoMemory` where there is no memory for them.
-    pub fn live_as(&self, name: &AllocName) -> Result<Sequence<Allocation>, NoMemory>
+    /// The live allocations of a name, in rising id: none, one, or several where the state is not
+    /// safe. It takes time in the logarithm of the table, and so much again for each of them.
+    /// `NoMemory` where there is no memory for them.
+    pub fn all_live_named(&self, name: &AllocName) -> Result<Sequence<Allocation>, NoMemory>
         ensures { IfOk result (λ rows. rows ≡ filter (lives_as name.now) self.now.allocs) }
     {
-        self.allocs.live_as(name)
+        self.allocs.all_live_named(name)
     }
 
-    /// The live allocations of a job, in rising id. It takes time in the logarithm of the table, and so much again for each of
-    /// them; `NoMemory` where there is no memory for them.
-    pub fn live_for(&self, job: &JobName) -> Result<Sequence<Allocation>, NoMemory>
+    /// The live allocations of a job, in rising id. It takes time in the logarithm of the table, and
+    /// so much again for each of them. `NoMemory` where there is no memory for them.
+    pub fn live_of_job(&self, job: &JobName) -> Result<Sequence<Allocation>, NoMemory>
         ensures { IfOk result (λ rows. rows ≡ filter (lives_for job.now) self.now.allocs) }
     {
-        self.allocs.live_for(job)
+        self.allocs.live_of_job(job)
     }
 
-    /// The live allocations on a node, in rising id. It takes time in the logarithm of the table, and so much again for each
-    /// of them; `NoMemory` where there is no memory for them.
+    /// The live allocations on a node, in rising id. It takes time in the logarithm of the table, and
+    /// so much again for each of them. `NoMemory` where there is no memory for them.
     pub fn live_on(&self, node: NodeId) -> Result<Sequence<Allocation>, NoMemory>
         ensures { IfOk result (λ rows. rows ≡ filter (lives_on node) self.now.allocs) }
     {
         self.allocs.live_on(node)
     }
 
-    /// The allocations on a node that it has still to start, or runs, whether they are to run or to stop, in rising id: what is
-    /// lost with the node. It takes time in the logarithm of the table, and so much again for each of them; `NoMemory` where
-    /// there is no memory for them.
+    /// The allocations on a node that it has still to start, or runs, whether they are to run or to
+    /// stop, in rising id: what is lost with the node. It takes time in the logarithm of the table,
+    /// and so much again for each of them. `NoMemory` where there is no memory for them.
     pub fn active_on(&self, node: NodeId) -> Result<Sequence<Allocation>, NoMemory>
         ensures { IfOk result (λ rows. rows ≡ filter (is_active_on node) self.now.allocs) }
     {

@@ -1,10 +1,10 @@
 -- An index of allocations: one entry for each row that passes a test, in strictly rising order of what the row is found by, and then
 -- of its id.
-use Rattle.std.specs.Prelude.{◌≡◌, Bool, true, false, not, cond, ◌&&◌, List, Option, Some, None}
+use Rattle.std.specs.Prelude.{◌≡◌, Bool, true, false, not, if◌then◌else◌, ◌&&◌, List, Option, Some, None, option_map}
 use Rattle.std.specs.declared.cmp.Ordering.{Ordering}
 use Rattle.std.specs.declared.ops.Bound.TheVariants.{Included}
 use Rattle.std.specs.Ordering.{ordering_then, is_eq}
-use Rattle.std.specs.List.{list_any, filter_map}
+use Rattle.std.specs.List.{list_any, filter_map, slice_get}
 use Rattle.std.specs.BTreeSet.{BTreeSet, contains, keys_between}
 use Rattle.std.specs.BTreeMap.{is_at}
 use Rattle.std.specs.BTreeMap.Range.{range_contains}
@@ -43,11 +43,11 @@ module _ {K : Type 0} where
 
   -- and one more, if there is one
   abbrev pub Gains : (K → K → Ordering) → Option (Entry K) → BTreeSet (Entry K) → BTreeSet (Entry K) → Type 0
-  Gains R more s n = (e : Entry K) → contains (entry_cmp R) n e ≡ cond (is_entry R more e) true (contains (entry_cmp R) s e)
+  Gains R more s n = (e : Entry K) → contains (entry_cmp R) n e ≡ (if is_entry R more e then true else contains (entry_cmp R) s e)
 
   -- or one less, if there is one, unless it is the one that is kept
   abbrev pub Loses : (K → K → Ordering) → Option (Entry K) → Option (Entry K) → BTreeSet (Entry K) → BTreeSet (Entry K) → Type 0
-  Loses R less kept s n = (e : Entry K) → contains (entry_cmp R) n e ≡ cond (is_entry R less e && not (is_entry R kept e)) false (contains (entry_cmp R) s e)
+  Loses R less kept s n = (e : Entry K) → contains (entry_cmp R) n e ≡ (if is_entry R less e && not (is_entry R kept e) then false else contains (entry_cmp R) s e)
 
   -- the entries of a set from one to another
   abbrev pub entries_between : (K → K → Ordering) → Entry K → Entry K → BTreeSet (Entry K) → List (Entry K)
@@ -56,6 +56,14 @@ module _ {K : Type 0} where
   -- whether they have one of an id
   abbrev pub has_id : (K → K → Ordering) → Entry K → Entry K → BTreeSet (Entry K) → AllocId → Bool
   has_id R first last entries i = list_any (λ e. is_eq (alloc_cmp e.id i)) (entries_between R first last entries)
+
+  -- the set has their ids and no other
+  abbrev pub HasIdsBetween : (K → K → Ordering) → Entry K → Entry K → BTreeSet (Entry K) → BTreeSet AllocId → Type 0
+  HasIdsBetween R first last entries ids = (i : AllocId) → contains alloc_cmp ids i ≡ has_id R first last entries i
+
+  -- the id of the first of them, if there is one
+  abbrev pub first_id : (K → K → Ordering) → Entry K → Entry K → BTreeSet (Entry K) → Option AllocId
+  first_id R first last entries = option_map (λ (e : Entry K). e.id) (slice_get (entries_between R first last entries) 0)
 
   -- whether an entry, if there is one, is one of these
   abbrev pub is_within : (K → K → Ordering) → Entry K → Entry K → Option (Entry K) → Bool

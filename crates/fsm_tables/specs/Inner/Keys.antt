@@ -1,5 +1,5 @@
 -- What the two indexes list allocations by: the live ones by name, those that are pending or running by their node.
-use Rattle.std.specs.Prelude.{ℕ, cond, List, [], ◌∷◌, replicate, Option, Some, None}
+use Rattle.std.specs.Prelude.{ℕ, if◌then◌else◌, List, [], ◌∷◌, replicate, Option, Some, None}
 use Rattle.std.specs.declared.cmp.Ordering.{Ordering}
 use Rattle.std.specs.Ordering.{nat_cmp, bool_cmp, ordering_then}
 use Rattle.rows.specs.declared.allocation.AllocId.{AllocId}
@@ -19,7 +19,7 @@ alloc_name_cmp a b = ordering_then (name_cmp a.job b.job) (ordering_then (name_c
 
 -- the name of a live row
 abbrev pub live_name : Allocation → Option AllocName
-live_name a = cond (is_live a) (Some (name_of a)) None
+live_name a = if is_live a then Some (name_of a) else None
 
 -- by node, and on a node first what is to stop
 abbrev pub on_node_cmp : OnNode → OnNode → Ordering
@@ -27,7 +27,7 @@ on_node_cmp a b = ordering_then (nat_cmp a.node b.node) (bool_cmp a.live b.live)
 
 -- the node of a row that is pending or running, and whether it is to run
 abbrev pub active_on : Allocation → Option OnNode
-active_on a = cond (is_active a.client) (Some (record { node = a.node; live = is_wanted a.desired })) None
+active_on a = if is_active a.client then Some (record { node = a.node; live = is_wanted a.desired }) else None
 
 -- the ids from the least to the greatest
 abbrev pub least_id : AllocId

@@ -4,7 +4,7 @@ use Rattle.rows.specs.declared.allocation.Allocation.{Allocation}
 use Rattle.fsm_tables.specs.Lookups.{lives_as}
 use Rattle.fsm_tables.specs.Inner.Keys.{alloc_name_cmp}
 use Rattle.fsm_tables.proofs.Bounds.{between_name, forward_under, listed_alike, names_total}
-use Rattle.fsm_tables.proofs.allocations.Allocations.live_as.Goals as goal
+use Rattle.fsm_tables.proofs.allocations.Allocations.all_live_named.Goals as goal
 
 pub rows_between-requires-clause-forward : goal.rows_between-requires-clause-forward
 rows_between-requires-clause-forward c = rw (c.first-least.ensures, c.last-greatest.ensures) (forward_under alloc_name_cmp names_total c.args.name.now)

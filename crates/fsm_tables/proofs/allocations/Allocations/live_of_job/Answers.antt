@@ -3,7 +3,7 @@ use Rattle.std.specs.Prelude.{filter, IfOk}
 use Rattle.rows.specs.declared.allocation.Allocation.{Allocation}
 use Rattle.fsm_tables.specs.Lookups.{lives_for}
 use Rattle.fsm_tables.proofs.Bounds.{between_job, forward_job, listed_alike}
-use Rattle.fsm_tables.proofs.allocations.Allocations.live_for.Goals as goal
+use Rattle.fsm_tables.proofs.allocations.Allocations.live_of_job.Goals as goal
 
 pub rows_between-requires-clause-forward : goal.rows_between-requires-clause-forward
 rows_between-requires-clause-forward c = rw (c.first-least.ensures, c.last-greatest.ensures, c.least_of.ensures, c.greatest_of.ensures) (forward_job c.args.job.now)
