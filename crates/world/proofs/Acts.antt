@@ -17,7 +17,7 @@ use Rattle.raft_core.specs.Steps.{Represents, Steps}
 use Rattle.raft_core.specs.declared.input.Input.TheVariants as inputs
 use Rattle.world.specs.declared.input.Given.{Given}
 use Rattle.world.specs.declared.input.Given.TheVariants as givens
-use Rattle.raft_safety.specs.Claims.{Within}
+use Rattle.raft_safety.specs.Claims.{IsAmongMembers}
 use Rattle.raft_safety.proofs.Places.{get-within}
 use Rattle.world.specs.Inputs.{Reads, Takes, Lacks, Declines, ActsIn, Came, Brings, Feeds, MayLack, is_restart, restarts, committed}
 use Rattle.world.specs.Seen.{Seen, Stands, RunsTo, Numbered, Reached}
@@ -188,7 +188,7 @@ module _ {S C : Type 0} (m : Meaning S C) (old now : Seen C) (e : Event C) (i : 
   refused_same refusal after other d = declined_same m h h2 after given refusal other (subst (λ l. Declines m h given refusal h2 l after) a.empty d)
 
   module _ (again : (y : WireMessage S C) → MessageFits m.commands y → message_at m.commands (message_text m.commands y) ≡ Ok y)
-      (within : (n : ℕ) (events : List (Event C)) (past : List (World C)) (w : World C) → Run m n events past w → (k : ℕ) (x : Message C) → slice_get w.sent k ≡ Some x → Within n x) where
+      (within : (n : ℕ) (events : List (Event C)) (past : List (World C)) (w : World C) → Run m n events past w → (k : ℕ) (x : Message C) → slice_get w.sent k ≡ Some x → IsAmongMembers n x) where
     for_it : (past : List (World C)) (w : World C) → RunsTo m old past w → (x : model.Input C) → Came w i x → IsFor h.size h.me x
     for_it past w run (model.Arrives x) came = let q = within (length old.servers) old.trace past w run.run came.0 x came.1 in (omega (arith, q.from, size_is), omega (arith, came.2, me_is))
     for_it past w run model.Timeout came = tt
