@@ -1,3 +1,6 @@
 pub mod Places
 pub mod Sums
-pub mod LiveIndex
+pub mod Entries
+pub mod Filters
+pub mod Bounds
+pub mod Listed

@@ -4,5 +4,6 @@ pub mod SetLaws
 pub mod TableRows
 pub mod Claims
 pub mod LiveNames
+pub mod Lookups
 pub mod Sums
-pub mod LiveIndex
+pub mod Inner

@@ -1,16 +1,18 @@
-ghost use Rattle.std.specs.Prelude.{◌≡◌, List, [], ◌≤◌, OnOk, OnErr, option_map, length, nat_lt, ◌||◌, T as Holds};
+ghost use Rattle.std.specs.Prelude.{◌≡◌, List, [], ◌≤◌, OnOk, OnErr, IfOk, filter, option_map, length, nat_lt, ◌||◌, T as Holds};
 ghost use Rattle.fsm_tables.specs.Rows.{row_of, has_row, put as with_row, put_within as with_row_within};
 ghost use Rattle.rows.specs.Keys.{alloc_cmp, alloc_id};
 ghost use Rattle.fsm_tables.specs.Claims.{claims, used};
 ghost use Rattle.fsm_tables.specs.LiveNames.{live_named};
+ghost use Rattle.fsm_tables.specs.Lookups.{lives_as, lives_for, lives_on, is_active_on};
 
-use crate::live_names::{LiveEntry, put_indexed};
+use crate::index_keys::{OnNode, first, last};
+use crate::indexes::{Indexes, put_indexed};
+use crate::listing::{first_under, rows_between};
 use crate::name::AllocName;
 use crate::table::Table;
 use crate::usage::{Usage, held_by, shift};
-use rows::{AllocId, Allocation, NoMemory, NodeId};
+use rows::{AllocId, Allocation, JobName, NoMemory, NodeId, Sequence};
 use std::alloc::Global;
-use std::collections::BTreeSet;
 use std::marker::Model;
 
 /// The allocations' rows, at most 65,536, with what the live ones take of each node. Contracts see the list of the rows.
@@ -21,15 +23,14 @@ pub(crate) struct Allocations {
     cpu: [u64; 65],
     /// By node number.
     mem: [u64; 65],
-    /// The live ones, by name and then by id.
-    live: BTreeSet<LiveEntry>,
+    indexes: Indexes,
 }
 
 impl Model for Allocations {
     ghost use Rattle.std.specs.Prelude.{List, ◌≤◌, length};
     ghost use Rattle.rows.specs.declared.allocation.Allocation.{Allocation};
     ghost use Rattle.fsm_tables.specs.Sums.{AreSummed};
-    ghost use Rattle.fsm_tables.specs.LiveIndex.{AreIndexed};
+    ghost use Rattle.fsm_tables.specs.Inner.Keys.{AreListed};
 
     ghost Value = { List Allocation };
 
@@ -38,7 +39,7 @@ impl Model for Allocations {
     ghost invariant = { λ a. record {
       cpu : AreSummed (λ z. z.cpu) a.rows a.cpu;
       mem : AreSummed (λ z. z.mem) a.rows a.mem;
-      live : AreIndexed a.rows a.live;
+      listed : AreListed a.rows a.indexes;
       few : length a.rows ≤ 65536;
     } };
 }
@@ -55,7 +56,7 @@ impl Allocations {
             rows: Table::empty(alloc),
             cpu: [0; 65],
             mem: [0; 65],
-            live: BTreeSet::new(alloc),
+            indexes: Indexes::empty(alloc),
         }
     }
 
@@ -79,11 +80,48 @@ impl Allocations {
     pub fn live_named(&self, name: &AllocName) -> Option<&Allocation>
         ensures { option_map (λ row. row.now) result ≡ live_named name.now self.now }
     {
-        let _rows = self.rows.rows();
-        match self.live.range(LiveEntry::least(name)..).next() {
-            Some(entry) if entry.name == *name => self.rows.get(&entry.id),
-            _ => None,
-        }
+        self.rows.ranges();
+        first_under(&self.rows, &self.indexes.names, *name)
+    }
+
+    /// The live allocations of a name.
+    pub fn all_live_named(&self, name: &AllocName) -> Result<Sequence<Allocation>, NoMemory>
+        ensures { IfOk result (λ listed. listed ≡ filter (lives_as name.now) self.now) }
+    {
+        self.rows.ranges();
+        let least = first(*name);
+        let greatest = last(*name);
+        rows_between(&self.rows, &self.indexes.names, least, greatest)
+    }
+
+    /// The live allocations of a job.
+    pub fn live_of_job(&self, job: &JobName) -> Result<Sequence<Allocation>, NoMemory>
+        ensures { IfOk result (λ listed. listed ≡ filter (lives_for job.now) self.now) }
+    {
+        self.rows.ranges();
+        let least = first(AllocName::least_of(*job));
+        let greatest = last(AllocName::greatest_of(*job));
+        rows_between(&self.rows, &self.indexes.names, least, greatest)
+    }
+
+    /// The live allocations on a node.
+    pub fn live_on(&self, node: NodeId) -> Result<Sequence<Allocation>, NoMemory>
+        ensures { IfOk result (λ listed. listed ≡ filter (lives_on node) self.now) }
+    {
+        self.rows.ranges();
+        let least = first(OnNode::live(node));
+        let greatest = last(OnNode::live(node));
+        rows_between(&self.rows, &self.indexes.nodes, least, greatest)
+    }
+
+    /// The allocations on a node that are pending or running.
+    pub fn active_on(&self, node: NodeId) -> Result<Sequence<Allocation>, NoMemory>
+        ensures { IfOk result (λ listed. listed ≡ filter (is_active_on node) self.now) }
+    {
+        self.rows.ranges();
+        let least = first(OnNode::stopping(node));
+        let greatest = last(OnNode::live(node));
+        rows_between(&self.rows, &self.indexes.nodes, least, greatest)
     }
 
     /// The row of an id.
@@ -126,7 +164,7 @@ impl Allocations {
         let _rows = self.rows.rows();
         let to = held_by(Some(&row));
         let from = held_by(self.rows.get(&row.id));
-        put_indexed(&mut self.rows, &mut self.live, row)?;
+        put_indexed(&mut self.rows, &mut self.indexes, row)?;
         shift(&mut self.cpu, (to.node, to.cpu), (from.node, from.cpu));
         shift(&mut self.mem, (to.node, to.mem), (from.node, from.mem));
         Ok(())

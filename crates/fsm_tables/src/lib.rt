@@ -2,9 +2,12 @@
 #![tactic(auto)]
 
 mod allocations;
+mod index;
+mod index_keys;
+mod indexes;
 mod keys;
 mod laws;
-mod live_names;
+mod listing;
 mod name;
 mod table;
 mod tables;
@@ -14,4 +17,4 @@ pub use laws::tables_are_sets;
 pub use name::AllocName;
 pub use table::{Row, Table};
 pub use tables::Tables;
-pub use usage::{Usage, is_live};
+pub use usage::{Usage, is_active, is_live};

@@ -1,7 +1,8 @@
 ghost use Rattle.std.specs.Prelude.{◌≡◌};
 ghost use Rattle.fsm_tables.specs.LiveNames.{name_of};
+ghost use Rattle.fsm_tables.specs.Inner.Keys.{least_name, greatest_name};
 
-use rows::{Allocation, GroupName, JobName, Ordinal};
+use rows::{Allocation, GroupName, JobName, Name, Ordinal};
 
 /// The name of an allocation, `job.group[index]`. No two live allocations share one in a safe state. (Nomad documentation,
 /// "Allocations": an allocation's name.)
@@ -24,6 +25,28 @@ impl AllocName {
             job: row.job,
             group: row.group,
             index: row.index,
+        }
+    }
+
+    /// The least name of a job.
+    pub(crate) fn least_of(job: JobName) -> AllocName
+        ensures { result ≡ least_name job }
+    {
+        AllocName {
+            job,
+            group: Name::from_bytes(b"-").unwrap(),
+            index: Ordinal::new(0).unwrap(),
+        }
+    }
+
+    /// The greatest name of a job.
+    pub(crate) fn greatest_of(job: JobName) -> AllocName
+        ensures { result ≡ greatest_name job }
+    {
+        AllocName {
+            job,
+            group: Name::from_bytes(&[b'z'; Name::MOST]).unwrap(),
+            index: Ordinal::new(Ordinal::MOST).unwrap(),
         }
     }
 }

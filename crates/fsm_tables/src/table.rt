@@ -64,6 +64,19 @@ impl<T: Row> Table<T> {
         }
     }
 
+    /// Where it takes its memory from.
+    pub(crate) fn memory(&self) -> Global {
+        *self.rows.allocator()
+    }
+
+    /// Says what a table keeps: strictly rising keys, and the ranges of its rows' parts. It does nothing.
+    pub fn ranges(&self)
+        ensures rising { Holds (is_rising T.Key.cmp T.key_of self.now) }
+        ensures fit { AllByRecursion T.Fits self.now }
+    {
+        let _rows = &self.rows;
+    }
+
     /// The number of rows.
     pub fn len(&self) -> usize
         ensures { result ≡ length self.now }

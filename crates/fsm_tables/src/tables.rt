@@ -1,16 +1,19 @@
-ghost use Rattle.std.specs.Prelude.{◌≡◌, OnOk, OnErr, option_map, length};
+ghost use Rattle.std.specs.Prelude.{◌≡◌, OnOk, OnErr, IfOk, filter, option_map, length};
 ghost use Rattle.std.specs.Ordering.{nat_cmp};
 ghost use Rattle.rows.specs.Keys.{name_cmp, eval_cmp, alloc_cmp, job_name, node_number, eval_id, alloc_id};
 ghost use Rattle.fsm_tables.specs.Rows.{row_of, put_within as with_row};
 ghost use Rattle.fsm_tables.specs.Claims.{claims, used};
 ghost use Rattle.fsm_tables.specs.LiveNames.{live_named};
+ghost use Rattle.fsm_tables.specs.Lookups.{lives_as, lives_for, lives_on, is_active_on};
 ghost use Rattle.fsm_tables.specs.TableRows.{no_rows, TablesFit};
 
 use crate::allocations::Allocations;
 use crate::name::AllocName;
 use crate::table::Table;
 use crate::usage::Usage;
-use rows::{AllocId, Allocation, EvalId, Evaluation, Job, JobName, NoMemory, Node, NodeId};
+use rows::{
+    AllocId, Allocation, EvalId, Evaluation, Job, JobName, NoMemory, Node, NodeId, Sequence,
+};
 use std::alloc::Global;
 use std::marker::Model;
 
@@ -94,6 +97,40 @@ impl Tables {
         ensures { option_map (λ row. row.now) result ≡ live_named name.now self.now.allocs }
     {
         self.allocs.live_named(name)
+    }
+
+    /// The live allocations of a name, in rising id: none, one, or several where the state is not
+    /// safe. It takes time in the logarithm of the table, and so much again for each of them.
+    /// `NoMemory` where there is no memory for them.
+    pub fn all_live_named(&self, name: &AllocName) -> Result<Sequence<Allocation>, NoMemory>
+        ensures { IfOk result (λ rows. rows ≡ filter (lives_as name.now) self.now.allocs) }
+    {
+        self.allocs.all_live_named(name)
+    }
+
+    /// The live allocations of a job, in rising id. It takes time in the logarithm of the table, and
+    /// so much again for each of them. `NoMemory` where there is no memory for them.
+    pub fn live_of_job(&self, job: &JobName) -> Result<Sequence<Allocation>, NoMemory>
+        ensures { IfOk result (λ rows. rows ≡ filter (lives_for job.now) self.now.allocs) }
+    {
+        self.allocs.live_of_job(job)
+    }
+
+    /// The live allocations on a node, in rising id. It takes time in the logarithm of the table, and
+    /// so much again for each of them. `NoMemory` where there is no memory for them.
+    pub fn live_on(&self, node: NodeId) -> Result<Sequence<Allocation>, NoMemory>
+        ensures { IfOk result (λ rows. rows ≡ filter (lives_on node) self.now.allocs) }
+    {
+        self.allocs.live_on(node)
+    }
+
+    /// The allocations on a node that it has still to start, or runs, whether they are to run or to
+    /// stop, in rising id: what is lost with the node. It takes time in the logarithm of the table,
+    /// and so much again for each of them. `NoMemory` where there is no memory for them.
+    pub fn active_on(&self, node: NodeId) -> Result<Sequence<Allocation>, NoMemory>
+        ensures { IfOk result (λ rows. rows ≡ filter (is_active_on node) self.now.allocs) }
+    {
+        self.allocs.active_on(node)
     }
 
     /// What the live allocations on a node take of it: the sums of their processor time and of their memory. It takes one

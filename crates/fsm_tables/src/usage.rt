@@ -1,5 +1,5 @@
 ghost use Rattle.std.specs.Prelude.{◌≡◌, ◌≤◌, ◌<◌, ◌+◌, ◌^◌, ℕ, Some, cond, nat_eq, slice_index, option_map};
-ghost use Rattle.fsm_tables.specs.Claims.{is_live as lives};
+ghost use Rattle.fsm_tables.specs.Claims.{is_wanted as wanted, is_active as active, is_live as lives};
 ghost use Rattle.fsm_tables.specs.Sums.{IsShare};
 
 use rows::{Allocation, ClientState, Desired};
@@ -24,19 +24,32 @@ pub(crate) struct Share {
     pub mem: u64,
 }
 
+/// Whether the servers want an allocation to run.
+pub(crate) fn is_wanted(desired: Desired) -> bool
+    ensures { result ≡ wanted desired }
+{
+    match desired {
+        Desired::Run => true,
+        Desired::Stop => false,
+    }
+}
+
+/// Whether an allocation's node has still to start it, or runs it. (Nomad documentation, "Allocations": client status.)
+pub fn is_active(state: ClientState) -> bool
+    ensures { result ≡ active state }
+{
+    match state {
+        ClientState::Pending | ClientState::Running => true,
+        ClientState::Complete | ClientState::Failed | ClientState::Lost => false,
+    }
+}
+
 /// Whether an allocation is live: it is to run, and its node says that it waits or runs. Only live ones hold room and a
 /// name. (Nomad documentation, "Allocations": desired status and client status.)
 pub fn is_live(row: &Allocation) -> bool
     ensures { result ≡ lives row.now }
 {
-    let is_active = match row.client {
-        ClientState::Pending | ClientState::Running => true,
-        ClientState::Complete | ClientState::Failed | ClientState::Lost => false,
-    };
-    match row.desired {
-        Desired::Run => is_active,
-        Desired::Stop => false,
-    }
+    is_wanted(row.desired) && is_active(row.client)
 }
 
 /// What a row takes of its node.

@@ -1,0 +1,128 @@
+//! An index of allocations: an entry for each row that is listed, in the order of what it is listed by, and then of its id.
+ghost use Rattle.std.specs.Prelude.{◌≡◌, OnOk, OnErr, IfOk, option_map, []};
+ghost use Rattle.std.specs.BTreeSet.{IsOrdered};
+ghost use Rattle.std.specs.BTreeMap.Range.{IsLeBy};
+ghost use Rattle.fsm_tables.specs.Inner.Index.{entry_cmp, entry_of as entry_for, is_entry, IsSame, Gains, Loses, HasIdsBetween, first_id};
+
+use rows::{AllocId, Allocation, NoMemory};
+use std::alloc::Global;
+use std::collections::BTreeSet;
+use std::marker::Model;
+
+/// What an index lists allocations by.
+pub(crate) trait IndexKey: Ord + Copy {
+    ghost use Rattle.std.specs.Prelude.{Option};
+    ghost use Rattle.rows.specs.declared.allocation.Allocation.{Allocation};
+
+    /// What a row is listed by, if it is listed.
+    ghost key_of: { Allocation → Option Self };
+
+    /// What a row is listed by, if it is listed.
+    fn of(row: &Allocation) -> Option<Self>
+        ensures { result ≡ key_of row.now };
+}
+
+/// A row in an index: what it is listed by, and its id.
+#[derive(Clone, Copy, PartialEq, Eq, PartialOrd, Ord)]
+pub(crate) struct Entry<K> {
+    /// What it is listed by.
+    pub key: K,
+    /// Its id.
+    pub id: AllocId,
+}
+
+/// The entry of a row, where there is a row and it is listed.
+pub(crate) fn entry_of<K: IndexKey>(row: Option<&Allocation>) -> Option<Entry<K>>
+    ensures { result ≡ entry_for K.key_of (option_map (λ r. r.now) row.entry) }
+{
+    let row = row?;
+    let key = K::of(row)?;
+    Some(Entry { key, id: row.id })
+}
+
+/// Whether there is an entry and it is this one.
+fn is_this<K: IndexKey>(entry: &Option<Entry<K>>, other: &Entry<K>) -> bool
+    ensures { result ≡ is_entry K.cmp entry.now other.now }
+{
+    match entry {
+        Some(entry) => entry.cmp(other).is_eq(),
+        None => false,
+    }
+}
+
+/// Entries in strictly rising order. Contracts see the set of them.
+#[derive(Drop)]
+pub(crate) struct AllocIndex<K: IndexKey> {
+    entries: BTreeSet<Entry<K>>,
+}
+
+impl<K: IndexKey> Model for AllocIndex<K> {
+    ghost use Rattle.std.specs.BTreeSet.{BTreeSet};
+    ghost use Rattle.fsm_tables.specs.declared.index.Entry.{Entry};
+
+    ghost Value = { BTreeSet (Entry K) };
+
+    ghost view = { λ a. a.entries };
+}
+
+impl<K: IndexKey> AllocIndex<K> {
+    /// The index without entries. It takes no memory.
+    pub fn empty(alloc: Global) -> AllocIndex<K>
+        ensures { result.keys ≡ [] }
+    {
+        AllocIndex {
+            entries: BTreeSet::new(alloc),
+        }
+    }
+
+    /// Adds an entry, if there is one.
+    pub fn add(&mut self, entry: Option<Entry<K>>) -> Result<(), NoMemory>
+        ensures ok { OnOk result (Gains K.cmp entry self.old self.new) }
+        ensures err { OnErr result (IsSame K.cmp self.old self.new) }
+    {
+        if let Some(entry) = entry {
+            self.entries.insert(entry)?;
+        }
+        Ok(())
+    }
+
+    /// Removes an entry, if there is one, unless it is the one that is kept.
+    pub fn remove_unless(&mut self, gone: &Option<Entry<K>>, kept: &Option<Entry<K>>)
+        ensures { Loses K.cmp gone.now kept.now self.old self.new }
+    {
+        if let Some(entry) = gone {
+            if !is_this(kept, entry) {
+                self.entries.remove(entry);
+            }
+        }
+    }
+
+    /// The ids of the entries from one to another, in rising order.
+    pub fn ids_between(
+        &self,
+        alloc: Global,
+        first: Entry<K>,
+        last: Entry<K>,
+    ) -> Result<BTreeSet<AllocId>, NoMemory>
+        requires { IsLeBy (entry_cmp K.cmp) first last }
+        ensures { IfOk result (HasIdsBetween K.cmp first last self.now) }
+    {
+        let mut ids = BTreeSet::new(alloc);
+        for entry in self.entries.range(first..=last) {
+            ids.insert(entry.id)?;
+        }
+        Ok(ids)
+    }
+
+    /// The id of the first of these entries, if there is one.
+    pub fn first_between(&self, first: Entry<K>, last: Entry<K>) -> Option<AllocId>
+        requires { IsLeBy (entry_cmp K.cmp) first last }
+        ensures first { result ≡ first_id K.cmp first last self.now }
+        ensures rising { IsOrdered (entry_cmp K.cmp) self.now }
+    {
+        match self.entries.range(first..=last).next() {
+            Some(entry) => Some(entry.id),
+            None => None,
+        }
+    }
+}
