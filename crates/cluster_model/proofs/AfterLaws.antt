@@ -1,5 +1,6 @@
--- When the state after a plan is safe, on every state: also where a row stands under an id that the plan makes, which only a
--- loaded text can have. What is claimed then are, in some order, the claims of what the plan neither stops nor replaces, and what it wants.
+-- When the state after a plan is safe, on every state: also where a row stands under an id that the
+-- plan makes, which only a loaded text can have. What is claimed then are, in some order, the
+-- claims of what the plan neither stops nor replaces, and what it wants.
 use Rattle.std.proofs.Common.{◌≡◌, ℕ, ◌+◌, ◌≤◌, Bool, true, false, cond, not, ◌&&◌, T, List, [], ◌∷◌, ◌++◌, length, map, Some, None, refl, sym, ap, subst, ◌∙◌, arith, suc}
 use Rattle.std.specs.Prelude.{sum_by, nat_eq, nat_le, nat_lt}
 use Rattle.std.specs.List.{AllByRecursion}
@@ -174,7 +175,8 @@ left_sum w x slot n (a ∷ rows) =
 
 -- ---- the state after a plan
 
--- after a plan each sum over what is claimed is that over what it leaves and what it wants: the same claims, in some order
+-- after a plan each sum over what is claimed is that over what it leaves and what it wants: the
+-- same claims, in some order
 pub sums_planned : (w : Claim → ℕ) (p : AcceptedPlan) (s : State) → T (is_rising alloc_cmp alloc_id s.allocs) → length s.allocs + length p.places ≤ 65536
     → sum_by w (claims (planned p (counted s)).allocs) ≡ sum_by w (left_by p s ++ wanted p)
 sums_planned w p s rising few =

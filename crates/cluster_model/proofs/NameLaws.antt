@@ -1,4 +1,5 @@
--- Names held once, told by how many claims are of each name: so it does not depend on the order of the claims.
+-- Names held once, told by how many claims are of each name: so it does not depend on the order of
+-- the claims.
 use Rattle.std.proofs.Common.{◌≡◌, ℕ, ◌+◌, ◌≤◌, Bool, true, false, cond, not, ◌&&◌, ◌||◌, T, List, [], ◌∷◌, refl, sym, ap, subst, ◌∙◌, arith}
 use Rattle.std.specs.Prelude.{sum_by, nat_eq, bytes_eq}
 use Rattle.std.specs.List.{list_any}

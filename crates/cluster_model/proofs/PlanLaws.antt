@@ -1,4 +1,5 @@
--- When the state after a plan is safe, told by what the plan stops and places: each node's use, and the names.
+-- When the state after a plan is safe, told by what the plan stops and places: each node's use, and
+-- the names.
 use Rattle.std.proofs.Common.{◌≡◌, ℕ, ◌+◌, ◌<◌, ◌≤◌, Bool, true, false, cond, not, ◌&&◌, ◌||◌, T, List, [], ◌∷◌, ◌++◌, length, map, refl, sym, ap, subst, ◌∙◌, arith, ◌⊎◌, inl, inr}
 use Rattle.std.specs.Prelude.{sum_by, nat_lt}
 use Rattle.std.specs.List.{AllByRecursion, list_any}

@@ -1,5 +1,5 @@
--- The other laws of the commands: each adds one to the count, keeps each table's order and limit, and is refused for the machine's
--- own reasons.
+-- The other laws of the commands: each adds one to the count, keeps each table's order and limit,
+-- and is refused for the machine's own reasons.
 use Rattle.std.proofs.Common.{◌≡◌, ℕ, ◌+◌, ◌≤◌, ◌∙◌, Bool, true, false, cond, nat_eq, List, [], ◌∷◌, length, map, Some, refl, sym, ap, subst, suc, arith, if◌then◌else◌}
 use Rattle.std.specs.Prelude.{filter, ◌&&◌}
 use Rattle.std.specs.List.{list_any}

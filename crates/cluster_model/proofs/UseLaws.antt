@@ -1,5 +1,5 @@
--- Safety told by the numbers of nodes: with ids and sizes in their ranges, a state is safe where each number's use is within what
--- that number has, and no two claims are of one name.
+-- Safety told by the numbers of nodes: with ids and sizes in their ranges, a state is safe where
+-- each number's use is within what that number has, and no two claims are of one name.
 use Rattle.std.proofs.Common.{◌≡◌, ℕ, ◌+◌, ◌<◌, ◌≤◌, Bool, true, false, cond, not, ◌&&◌, T, List, [], ◌∷◌, ◌++◌, map, Option, Some, None, is_some, refl, sym, ap, subst, ◌∙◌, arith}
 use Rattle.std.specs.Prelude.{sum_by, nat_eq}
 use Rattle.std.specs.List.{AllByRecursion, list_all}

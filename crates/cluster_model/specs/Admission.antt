@@ -1,4 +1,5 @@
--- Which refusal each command meets at a state: the first of its list whose test holds; none where no test holds.
+-- Which refusal each command meets at a state: the first of its list whose test holds; none where
+-- no test holds.
 use Rattle.std.specs.Prelude.{ℕ, ◌+◌, Bool, not, ◌&&◌, ◌||◌, List, [], ◌∷◌, length, filter, Option, Some, None, nat_eq, nat_lt, bytes_eq, if◌then◌else◌}
 use Rattle.std.specs.List.{list_any, list_all}
 use Rattle.rows.specs.declared.size.Size.{Size}
@@ -43,6 +44,10 @@ evals_pass more s = nat_lt most_evals (length s.evals + more)
 abbrev pub those_jobs : (Job → Bool) → State → ℕ
 those_jobs those s = length (filter those s.jobs)
 
+-- whether the evaluations that touch the jobs of that kind would pass the limit
+abbrev pub touch_passes : (Job → Bool) → State → Bool
+touch_passes those s = evals_pass (those_jobs those s) s
+
 abbrev pub same_size : Size → Size → Bool
 same_size a b = nat_eq a.cpu b.cpu && nat_eq a.mem b.mem
 
@@ -70,7 +75,9 @@ takes g n = is_ready n.status && n.eligible && bytes_eq n.class g.class
 
 -- whether a place is one that the group asks for, on a node that takes it
 abbrev pub is_asked : State → AcceptedPlace → Group → Bool
-is_asked s k g = bytes_eq g.name k.group && same_size g.size k.size && nat_lt k.index g.count && holds (takes g) (node_of k.node s)
+is_asked s k g =
+    bytes_eq g.name k.group && same_size g.size k.size && nat_lt k.index g.count
+    && holds (takes g) (node_of k.node s)
 
 abbrev pub fits_job : State → List ℕ → AcceptedPlace → Bool
 fits_job s job k = holds (λ j. list_any (is_asked s k) j.groups) (job_of job s)
@@ -89,7 +96,7 @@ tests s (commands.JobPut j) =
 tests s (commands.JobStop name) =
     (no_job name s, refusals.UnknownJob)
     ∷ (is_stopped name s, refusals.JobStopped)
-    ∷ (evals_pass (those_jobs (is_named name) s) s, refusals.TableFull)
+    ∷ (touch_passes (is_named name) s, refusals.TableFull)
     ∷ []
 tests s (commands.NodePut n) =
     (holds (differs n) (node_of n.number s), refusals.NodeDiffers)
@@ -97,7 +104,7 @@ tests s (commands.NodePut n) =
 tests s (commands.NodeDown n) =
     (no_node n s, refusals.UnknownNode)
     ∷ (holds (λ r. not (is_ready r.status)) (node_of n s), refusals.StaleExpiry)
-    ∷ (evals_pass (those_jobs (owns (lives_on n) s.allocs) s) s, refusals.TableFull)
+    ∷ (touch_passes (owns (lives_on n) s.allocs) s, refusals.TableFull)
     ∷ []
 tests s (commands.Drain n force) =
     (no_node n s, refusals.UnknownNode)
@@ -109,11 +116,11 @@ tests s (commands.DrainDone n) =
 tests s (commands.Migrate ids) =
     (list_any (λ id. no_alloc id s) ids, refusals.UnknownAlloc)
     ∷ (not (list_all (can_move s) ids), refusals.NotDraining)
-    ∷ (evals_pass (those_jobs (owns (moves ids) s.allocs) s) s, refusals.TableFull)
+    ∷ (touch_passes (owns (moves ids) s.allocs) s, refusals.TableFull)
     ∷ []
 tests s (commands.EvalPut name) =
     (no_job name s, refusals.UnknownJob)
-    ∷ (evals_pass (those_jobs (is_named name) s) s, refusals.TableFull)
+    ∷ (touch_passes (is_named name) s, refusals.TableFull)
     ∷ []
 tests s (commands.EvalStatus id to) =
     (not (holds (λ e. allows to e.status) (eval_of id s)), refusals.NotOutstanding)
@@ -130,7 +137,7 @@ tests s (commands.Plan p) =
 tests s (commands.Report n rs) =
     (no_node n s, refusals.UnknownNode)
     ∷ (not (list_all (is_its_own s n) rs), refusals.UnknownAlloc)
-    ∷ (evals_pass (those_jobs (owns (ends (told_all n rs)) s.allocs) s) s, refusals.TableFull)
+    ∷ (touch_passes (owns (ends (told_all n rs)) s.allocs) s, refusals.TableFull)
     ∷ []
 
 -- why the state refuses the command, if it does

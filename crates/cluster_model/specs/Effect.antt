@@ -1,5 +1,5 @@
--- What each command does to a state. It does so to every state, safe or not, admitted or not: nothing here tests capacity or
--- names, and what names no row changes nothing.
+-- What each command does to a state. It does so to every state, safe or not, admitted or not:
+-- nothing here tests capacity or names, and what names no row changes nothing.
 use Rattle.std.specs.Prelude.{ℕ, ◌+◌, Bool, true, false, not, ◌&&◌, List, [], ◌∷◌, map, filter, Option, Some, None, nat_eq, bytes_eq, if◌then◌else◌}
 use Rattle.std.specs.List.{list_any}
 use Rattle.std.specs.Ordering.{nat_cmp}
@@ -36,14 +36,21 @@ use Rattle.cluster_model.specs.Words.{State, same_eval, same_alloc, node_of, no_
 abbrev pub counted : State → State
 counted s = record s { count = s.count + 1 }
 
--- ---- to touch jobs: one new evaluation for each of them that has a row, in rising name, which is the order of the rows
+-- ---- to touch jobs: one new evaluation for each of them that has a row, in the order of the rows
 
 abbrev pub new_eval : ℕ → ℕ → Job → Evaluation
-new_eval x slot j = record { id = record { index = x; slot = slot }; job = j.name; priority = j.priority; status = eval_statuses.Pending; snapshot = 0 }
+new_eval x slot j = record {
+  id = record { index = x; slot = slot };
+  job = j.name;
+  priority = j.priority;
+  status = eval_statuses.Pending;
+  snapshot = 0;
+}
 
 abbrev pub with_evals : ℕ → ℕ → List Job → List Evaluation → List Evaluation
 with_evals x slot [] evals = evals
-with_evals x slot (j ∷ js) evals = with_evals x (slot + 1) js (put_within eval_cmp eval_id most_evals (new_eval x slot j) evals)
+with_evals x slot (j ∷ js) evals =
+    with_evals x (slot + 1) js (put_within eval_cmp eval_id most_evals (new_eval x slot j) evals)
 
 abbrev pub touched : (Job → Bool) → State → State
 touched those s = record s { evals = with_evals s.count 0 (filter those s.jobs) s.evals }
@@ -58,14 +65,23 @@ owns which rows j = list_any (λ a. which a && bytes_eq a.job j.name) rows
 -- ---- jobs
 
 abbrev pub job_row : ℕ → JobSpec → Job
-job_row x j = record { name = j.name; priority = j.priority; stopped = false; version = x; groups = j.groups }
+job_row x j = record {
+  name = j.name;
+  priority = j.priority;
+  stopped = false;
+  version = x;
+  groups = j.groups;
+}
 
 -- the job's row is made or replaced
 abbrev pub with_job : JobSpec → State → State
 with_job j s = record s { jobs = put_within name_cmp job_name most_jobs (job_row s.count j) s.jobs }
 
+abbrev pub stopped_row : ℕ → Job → Job
+stopped_row x j = record j { stopped = true; version = x }
+
 abbrev pub stop_job : ℕ → List ℕ → Job → Job
-stop_job x name j = if is_named name j then (record j { stopped = true; version = x }) else j
+stop_job x name j = if is_named name j then stopped_row x j else j
 
 -- the job's row is stopped
 abbrev pub without_job : List ℕ → State → State
@@ -75,20 +91,47 @@ without_job name s = record s { jobs = map (stop_job s.count name) s.jobs }
 
 -- a node that comes: its first row, or its old row, of which all but the status and the room stays
 abbrev pub node_row : ℕ → NodeSpec → Option Node → Node
-node_row x n None = record { number = n.number; class = n.class; size = n.size; status = statuses.Ready; eligible = true; drain = drains.Off; room = x }
+node_row x n None = record {
+  number = n.number;
+  class = n.class;
+  size = n.size;
+  status = statuses.Ready;
+  eligible = true;
+  drain = drains.Off;
+  room = x;
+}
 node_row x n (Some old) = record old { status = statuses.Ready; room = x }
 
 abbrev pub with_node : NodeSpec → State → State
-with_node n s = record s { nodes = put_within nat_cmp node_number most_nodes (node_row s.count n (node_of n.number s)) s.nodes }
+with_node n s =
+    let row = node_row s.count n (node_of n.number s) in
+    record s { nodes = put_within nat_cmp node_number most_nodes row s.nodes }
+
+abbrev pub down_row : Node → Node
+down_row r = record r { status = statuses.Down }
 
 abbrev pub down : ℕ → Node → Node
-down n r = if nat_eq r.number n then (record r { status = statuses.Down }) else r
+down n r = if nat_eq r.number n then down_row r else r
+
+abbrev pub draining_row : Bool → Node → Node
+draining_row force r = record r { eligible = false; drain = if force then drains.Force else drains.Slow }
 
 abbrev pub draining : ℕ → Bool → Node → Node
-draining n force r = if nat_eq r.number n then (record r { eligible = false; drain = if force then drains.Force else drains.Slow }) else r
+draining n force r = if nat_eq r.number n then draining_row force r else r
+
+-- the node begins to be emptied
+abbrev pub with_drain : ℕ → Bool → State → State
+with_drain n force s = record s { nodes = map (draining n force) s.nodes }
+
+abbrev pub drained_row : Node → Node
+drained_row r = record r { drain = drains.Off }
 
 abbrev pub drained : ℕ → Node → Node
-drained n r = if nat_eq r.number n then (record r { drain = drains.Off }) else r
+drained n r = if nat_eq r.number n then drained_row r else r
+
+-- the node is empty
+abbrev pub without_drain : ℕ → State → State
+without_drain n s = record s { nodes = map (drained n) s.nodes }
 
 abbrev pub lost : ℕ → Allocation → Allocation
 lost n a = if nat_eq a.node n && is_active a.client then (record a { client = clients.Lost }) else a
@@ -96,9 +139,12 @@ lost n a = if nat_eq a.node n && is_active a.client then (record a { client = cl
 abbrev pub lives_on : ℕ → Allocation → Bool
 lives_on n a = nat_eq a.node n && is_live a
 
--- a node that has a row is down: what was not final on it is lost, and the jobs of what was live are touched
+-- A node that has a row is down: what was not final on it is lost, and the jobs of what was live
+-- are touched.
 abbrev pub downed : ℕ → State → State
-downed n s = touched (owns (lives_on n) s.allocs) (record s { nodes = map (down n) s.nodes; allocs = map (lost n) s.allocs })
+downed n s =
+    let after = record s { nodes = map (down n) s.nodes; allocs = map (lost n) s.allocs } in
+    touched (owns (lives_on n) s.allocs) after
 
 -- A node's loss. Without a row of the node nothing changes, also where allocations name it.
 abbrev pub without_node : ℕ → State → State
@@ -115,18 +161,20 @@ marked ids a = if moves ids a then (record a { migrate = true }) else a
 
 -- the live ones named are marked, and their jobs touched
 abbrev pub migrated : List AllocId → State → State
-migrated ids s = touched (owns (moves ids) s.allocs) (record s { allocs = map (marked ids) s.allocs })
+migrated ids s =
+    touched (owns (moves ids) s.allocs) (record s { allocs = map (marked ids) s.allocs })
 
 -- ---- evaluations
 
 -- an evaluation that is complete or failed stays as it is
 abbrev pub set_status : EvalId → StatusChange → Evaluation → Evaluation
-set_status id to e = if same_eval e.id id && is_open e.status then (record e { status = status_of to; snapshot = snapshot_of to }) else e
+set_status id to e =
+    if same_eval e.id id && is_open e.status then (record e { status = status_of to; snapshot = snapshot_of to }) else e
 
 abbrev pub with_status : EvalId → StatusChange → State → State
 with_status id to s = record s { evals = map (set_status id to) s.evals }
 
--- ---- allocations that end: a change of rows, by which live ones may end; a node where one ended has room from this command on
+-- ---- allocations that end by a change of rows: their nodes have room from this command on
 
 abbrev pub ends : (Allocation → Allocation) → Allocation → Bool
 ends f a = is_live a && not (is_live (f a))
@@ -139,21 +187,37 @@ abbrev pub with_room : (ℕ → Bool) → ℕ → Node → Node
 with_room freed x r = if freed r.number then (record r { room = x }) else r
 
 abbrev pub altered : (Allocation → Allocation) → State → State
-altered f s = record s { nodes = map (with_room (frees f s.allocs) s.count) s.nodes; allocs = map f s.allocs }
+altered f s = record s {
+  nodes = map (with_room (frees f s.allocs) s.count) s.nodes;
+  allocs = map f s.allocs;
+}
 
 -- ---- plans: first the stops, then the places
 
 -- a row that is named and is to run is to stop
 abbrev pub stop : List AllocId → Allocation → Allocation
-stop ids a = if list_any (same_alloc a.id) ids && is_wanted a.desired then (record a { desired = desires.Stop }) else a
+stop ids a =
+    if list_any (same_alloc a.id) ids && is_wanted a.desired then (record a { desired = desires.Stop }) else a
 
 -- the allocation that place k of a plan makes, k being its slot
 abbrev pub alloc_row : ℕ → ℕ → AcceptedPlan → AcceptedPlace → Allocation
-alloc_row x slot p k = record { id = record { index = x; slot = slot }; job = p.job; group = k.group; index = k.index; node = k.node; size = k.size; desired = desires.Run; client = clients.Pending; migrate = false; eval = p.eval }
+alloc_row x slot p k = record {
+  id = record { index = x; slot = slot };
+  job = p.job;
+  group = k.group;
+  index = k.index;
+  node = k.node;
+  size = k.size;
+  desired = desires.Run;
+  client = clients.Pending;
+  migrate = false;
+  eval = p.eval;
+}
 
 abbrev pub with_places : ℕ → ℕ → AcceptedPlan → List AcceptedPlace → List Allocation → List Allocation
 with_places x slot p [] rows = rows
-with_places x slot p (k ∷ ks) rows = with_places x (slot + 1) p ks (put_within alloc_cmp alloc_id most_allocs (alloc_row x slot p k) rows)
+with_places x slot p (k ∷ ks) rows =
+    with_places x (slot + 1) p ks (put_within alloc_cmp alloc_id most_allocs (alloc_row x slot p k) rows)
 
 abbrev pub placed : AcceptedPlan → State → State
 placed p s = record s { allocs = with_places s.count 0 p p.places s.allocs }
@@ -170,7 +234,8 @@ state_of reported_states.Failed = clients.Failed
 
 -- one report: a row on that node that is not final takes the state
 abbrev pub told : ℕ → Report → Allocation → Allocation
-told n r a = if same_alloc a.id r.id && nat_eq a.node n && is_active a.client then (record a { client = state_of r.state }) else a
+told n r a =
+    if same_alloc a.id r.id && nat_eq a.node n && is_active a.client then (record a { client = state_of r.state }) else a
 
 -- the reports in their order
 abbrev pub told_all : ℕ → List Report → Allocation → Allocation
@@ -189,8 +254,8 @@ applied s (commands.JobPut j) = touched (is_named j.name) (with_job j (counted s
 applied s (commands.JobStop name) = touched (is_named name) (without_job name (counted s))
 applied s (commands.NodePut n) = with_node n (counted s)
 applied s (commands.NodeDown n) = without_node n (counted s)
-applied s (commands.Drain n force) = record (counted s) { nodes = map (draining n force) s.nodes }
-applied s (commands.DrainDone n) = record (counted s) { nodes = map (drained n) s.nodes }
+applied s (commands.Drain n force) = with_drain n force (counted s)
+applied s (commands.DrainDone n) = without_drain n (counted s)
 applied s (commands.Migrate ids) = migrated ids (counted s)
 applied s (commands.EvalPut name) = touched (is_named name) (counted s)
 applied s (commands.EvalStatus id to) = with_status id to (counted s)

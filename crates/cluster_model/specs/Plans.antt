@@ -39,7 +39,13 @@ abbrev pub kept : AcceptedPlan → State → List Claim
 kept p s = claims (map (stop p.stops) s.allocs)
 
 abbrev pub place_claim : AcceptedPlan → AcceptedPlace → Claim
-place_claim p k = record { job = p.job; group = k.group; index = k.index; node = k.node; size = k.size }
+place_claim p k = record {
+  job = p.job;
+  group = k.group;
+  index = k.index;
+  node = k.node;
+  size = k.size;
+}
 
 -- what it claims anew
 abbrev pub wanted : AcceptedPlan → List Claim
@@ -53,15 +59,17 @@ are_free cs ds = list_all (λ c. not (list_any (same_name c) ds)) cs
 abbrev pub are_dated : ℕ → List Allocation → Bool
 are_dated x rows = list_all (λ a. nat_lt a.id.index x) rows
 
--- What is asked of a plan so that the state after it is safe: each number's use, of what the plan keeps and what it wants, is within
--- what the number has; no two of what it keeps are of one name, nor of what it wants, and none of what it keeps is of a name that it wants.
+-- What is asked of a plan so that the state after it is safe: each number's use, of what the plan
+-- keeps and what it wants, is within what the number has; no two of what it keeps are of one name,
+-- nor of what it wants, and none of what it keeps is of a name that it wants.
 pub record PlanIsSafe (p : AcceptedPlan) (s : State) : Type 0 where
   pub fit : (n : ℕ) → n < 65 → T (fits_number s.nodes (kept p s ++ wanted p) n)
   pub kept_distinct : T (are_distinct (kept p s))
   pub wanted_distinct : T (are_distinct (wanted p))
   pub free : T (are_free (kept p s) (wanted p))
 
--- what is known where the code asks: rows and plan within their ranges, and each allocation made by an entry before this one
+-- what is known where the code asks: rows and plan within their ranges, and each allocation made by
+-- an entry before this one
 pub record IsAskable (p : AcceptedPlan) (s : State) : Type 0 where
   pub dated : T (are_dated (s.count + 1) s.allocs)
   pub few : length s.allocs + length p.places ≤ most_allocs
@@ -70,7 +78,7 @@ pub record IsAskable (p : AcceptedPlan) (s : State) : Type 0 where
   pub allocs : AllByRecursion AllocationFits s.allocs
   pub places : AllByRecursion AcceptedPlaceFits p.places
 
--- ---- a plan on any state: also where a row stands under an id that the plan makes, which only a loaded text can have
+-- ---- a plan on any state, also where a row stands under an id that it makes, as in a loaded text
 
 -- whether a row stands under one of n ids of entry x, from a slot on
 abbrev pub is_made : ℕ → ℕ → ℕ → Allocation → Bool
@@ -79,7 +87,8 @@ is_made x slot n a = nat_eq a.id.index x && (nat_le slot a.id.slot && nat_lt a.i
 -- the claims of the rows, but for those
 abbrev pub left : ℕ → ℕ → ℕ → List Allocation → List Claim
 left x slot n [] = []
-left x slot n (a ∷ rows) = if is_live a && not (is_made x slot n a) then (claim_of a ∷ left x slot n rows) else left x slot n rows
+left x slot n (a ∷ rows) =
+    if is_live a && not (is_made x slot n a) then (claim_of a ∷ left x slot n rows) else left x slot n rows
 
 -- the claims of what a plan neither stops nor replaces
 abbrev pub left_by : AcceptedPlan → State → List Claim

@@ -18,8 +18,8 @@ abbrev pub AllApart : List Claim → Type 0
 AllApart [] = Unit {0}
 AllApart (c ∷ cs) = AllByRecursion (Apart c) cs × AllApart cs
 
--- What is promised of a state: each node's use is within its size, each node that a live allocation names has a row, and no two
--- live allocations are of one name.
+-- What is promised of a state: each node's use is within its size, each node that a live allocation
+-- names has a row, and no two live allocations are of one name.
 pub record Safe (s : State) : Type 0 where
   pub within : AllByRecursion (Within (claims s.allocs)) s.nodes
   pub placed : AllByRecursion (λ c. T (is_some (node_of c.node s))) (claims s.allocs)

@@ -27,7 +27,8 @@ pub record AllFit (s : State) : Type 0 where
   pub evals : AllByRecursion EvaluationFits s.evals
   pub allocs : AllByRecursion AllocationFits s.allocs
 
--- a state: its count is one that a log has places for, its tables are in order and within their limits, and its rows within their ranges
+-- a state: its count is one that a log has places for, its tables are in order and within their
+-- limits, and its rows within their ranges
 pub record IsState (s : State) : Type 0 where
   pub count : s.count < 2 ^ 40
   pub tables : AreTables s

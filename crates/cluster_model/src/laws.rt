@@ -18,8 +18,8 @@ ghost use Rattle.machine.specs.Meaning.{IsMachineRefusal};
 ghost use Rattle.cluster_model.specs.States.{AreTables};
 ghost use Rattle.cluster_model.specs.States.{IsState};
 
-/// The empty state is safe, its count is 0, its tables are in order, with every row in its ranges, and each state admits
-/// the no-op.
+/// The empty state is safe, its count is 0, its tables are in order, with every row in its ranges,
+/// and each state admits the no-op.
 pub fn empty_is_lawful()
     ensures safe { IsSafe no_rows }
     ensures count { no_rows.count ≡ 0 }
@@ -27,15 +27,19 @@ pub fn empty_is_lawful()
     ensures noop { (s : State) → admission s commands.Noop ≡ None }
 {}
 
-/// What holds of each command: what admission lets pass keeps a safe state safe; the count rises by one; the tables stay
-/// in order and within their limits, also where the command was not admitted; every row stays within its ranges, where the
-/// command is within its own; a refusal is the machine's own.
+/// What holds of each command: what admission lets pass keeps a safe state safe; the count rises by
+/// one; the tables stay in order and within their limits, also where the command was not admitted;
+/// every row stays within its ranges, where the command is within its own; a refusal is the
+/// machine's own.
 pub fn commands_are_lawful()
-    ensures safe { (s : State) (c : AnyCommand) → IsSafe s → admission s c ≡ None → IsSafe (applied s c) }
+    ensures safe { (s : State) (c : AnyCommand)
+        → IsSafe s → admission s c ≡ None → IsSafe (applied s c) }
     ensures count { (s : State) (c : AnyCommand) → (applied s c).count ≡ s.count + 1 }
     ensures tables { (s : State) (c : AnyCommand) → AreTables s → AreTables (applied s c) }
-    ensures state { (s : State) (c : AnyCommand) → IsState s → CommandFits c → s.count + 1 < 2 ^ 40 → IsState (applied s c) }
-    ensures own { (s : State) (c : AnyCommand) (r : AnyRefusal) → admission s c ≡ Some r → IsMachineRefusal r }
+    ensures state { (s : State) (c : AnyCommand)
+        → IsState s → CommandFits c → s.count + 1 < 2 ^ 40 → IsState (applied s c) }
+    ensures own { (s : State) (c : AnyCommand) (r : AnyRefusal)
+        → admission s c ≡ Some r → IsMachineRefusal r }
 {}
 
 /// A state is safe exactly where the test says so.
@@ -44,15 +48,21 @@ pub fn safety_is_decided()
     ensures test { (s : State) → IsSafe s → Holds (is_safe s) }
 {}
 
-/// When the state after a plan is safe, on every state whose allocations were made by entries before this one, be it
-/// safe or not: where each node's use, of what the plan keeps and what it wants, is within the node's size, and no name
-/// is claimed twice among these. That use is the present one, without what the plan ends, with what it wants. Where a row
-/// stands under an id that the plan makes, it is replaced, and counts no more than one that is stopped.
+/// When the state after a plan is safe, on every state whose allocations were made by entries
+/// before this one, be it safe or not: where each node's use, of what the plan keeps and what it
+/// wants, is within the node's size, and no name is claimed twice among these. That use is the
+/// present one, without what the plan ends, with what it wants. Where a row stands under an id that
+/// the plan makes, it is replaced, and counts no more than one that is stopped.
 pub fn plans_are_decided()
-    ensures safe { (p : AnyPlan) (s : State) → IsAskable p s → PlanIsSafe p s → Holds (is_safe (planned p (counted s))) }
-    ensures needs { (p : AnyPlan) (s : State) → IsAskable p s → Holds (is_safe (planned p (counted s))) → PlanIsSafe p s }
-    ensures safe_always { (p : AnyPlan) (s : State) → IsKnown p s → AfterIsSafe p s → Holds (is_safe (planned p (counted s))) }
-    ensures needs_always { (p : AnyPlan) (s : State) → IsKnown p s → Holds (is_safe (planned p (counted s))) → AfterIsSafe p s }
+    ensures safe { (p : AnyPlan) (s : State)
+        → IsAskable p s → PlanIsSafe p s → Holds (is_safe (planned p (counted s))) }
+    ensures needs { (p : AnyPlan) (s : State)
+        → IsAskable p s → Holds (is_safe (planned p (counted s))) → PlanIsSafe p s }
+    ensures safe_always { (p : AnyPlan) (s : State)
+        → IsKnown p s → AfterIsSafe p s → Holds (is_safe (planned p (counted s))) }
+    ensures needs_always { (p : AnyPlan) (s : State)
+        → IsKnown p s → Holds (is_safe (planned p (counted s))) → AfterIsSafe p s }
     ensures uses { (w : Claim → ℕ) (p : AnyPlan) (s : State)
-        → sum_by w (kept p s ++ wanted p) + sum_by w (ended (stop p.stops) s.allocs) ≡ sum_by w (claims s.allocs) + sum_by w (wanted p) }
+        → sum_by w (kept p s ++ wanted p) + sum_by w (ended (stop p.stops) s.allocs)
+        ≡ sum_by w (claims s.allocs) + sum_by w (wanted p) }
 {}

@@ -1,6 +1,7 @@
-//! The replicated state of a Nomad server group as definitions: the state, what each command does to it, which a state
-//! refuses, when it is safe, and the machine that they make. The definitions stand in `specs/`; the functions here show, by
-//! their contracts, what holds of them and what they answer for states and commands written out.
+//! The replicated state of a Nomad server group as definitions: the state, what each command does
+//! to it, which a state refuses, when it is safe, and the machine that they make. The definitions
+//! stand in `specs/`; the functions here show, by their contracts, what holds of them and what they
+//! answer for states and commands written out.
 #![tactic(auto)]
 
 mod laws;

@@ -1,10 +1,11 @@
-//! Worked commands: what the definitions answer for states and commands written out, each a law by computation.
+//! Worked commands: what the definitions answer for states and commands written out, each a law by
+//! computation.
 ghost use Rattle.cluster_model.specs.Worked.Losses.{TwoRun, NodeLost, StaysWithoutRow, LateReport, LateReportPasses, PlacedAgain, AllInUse, LastPasses, OneTooMany};
 ghost use Rattle.cluster_model.specs.Worked.Moves.{NameMoves, RoomWhereStopped, MovePasses, MoveTooLarge, NameTwice, OtherJob};
 ghost use Rattle.cluster_model.specs.Worked.Drains.{RisingNames, DownAlready, ComesBack, Marked, MarkTouches, NotDrained, NotEmpty, Drained, Blocked, FinalStays, BlockedComesBack};
 
-/// Two nodes run a job of two; one node goes down, what it reports late changes nothing, and its allocation's name is
-/// placed again where there is just room for it.
+/// Two nodes run a job of two; one node goes down, what it reports late changes nothing, and its
+/// allocation's name is placed again where there is just room for it.
 pub fn worked_loss()
     ensures two_run { TwoRun }
     ensures node_lost { NodeLost }
@@ -27,7 +28,8 @@ pub fn worked_move()
     ensures other_job { OtherJob }
 {}
 
-/// Touched jobs get their evaluations in rising name; a drained node and its allocations; statuses of evaluations.
+/// Touched jobs get their evaluations in rising name; a drained node and its allocations; statuses
+/// of evaluations.
 pub fn worked_drain()
     ensures rising_names { RisingNames }
     ensures down_already { DownAlready }

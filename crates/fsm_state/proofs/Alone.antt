@@ -1,4 +1,5 @@
--- Where names are held once, a plan that is looked at alone passes exactly where the state after it is safe; and what keeps names held once.
+-- Where names are held once, a plan that is looked at alone passes exactly where the state after it
+-- is safe; and what keeps names held once.
 use Rattle.std.proofs.Common.{◌≡◌, ℕ, zero, suc, ◌+◌, ◌-◌, ◌<◌, ◌≤◌, Bool, true, false, cond, not, ◌&&◌, ◌||◌, T, List, [], ◌∷◌, ◌++◌, length, map, Option, Some, None, refl, sym, ap, subst, ◌∙◌, arith, inl, inr}
 use Rattle.std.specs.Prelude.{sum_by, nat_eq, nat_le, nat_lt}
 use Rattle.std.specs.List.{AllByRecursion, list_all, list_any, slice_get}
@@ -60,7 +61,8 @@ stop_lives ids a =
       | false ↦ sym (and_true (is_live a))
     ]
 
--- where names are held once, what stops leave holds a name where it finds a row that they do not name
+-- where names are held once, what stops leave holds a name where it finds a row that they do not
+-- name
 free_of : (ids : List AllocId) (d : Claim) (rows : List Allocation) → T (are_distinct (claims rows)) → not (holds_name d (claims (map (stop ids) rows))) ≡ is_free ids rows d
 free_of ids d [] h = refl
 free_of ids d (a ∷ rows) h =

@@ -147,19 +147,19 @@ stopped_job x name jobs h =
     changed_is name_cmp job_name nat_list_cmp_total 256 (λ j. record j { stopped = true; version = x }) (λ j. refl) name jobs h
     ∙ maps_same _ (stop_job x name) (λ j. ap (λ b. cond b (record j { stopped = true; version = x }) j) (at_name name j)) jobs
 
-pub node_changed : (f : Node → Node) → ((r : Node) → (f r).number ≡ r.number) → (n : ℕ) (nodes : List Node) → T (is_rising nat_cmp node_number nodes) → changed nat_cmp node_number 64 f n nodes ≡ map (λ r. cond (nat_eq r.number n) (f r) r) nodes
-node_changed f keeps n nodes h =
+pub node_changed_is : (f : Node → Node) → ((r : Node) → (f r).number ≡ r.number) → (n : ℕ) (nodes : List Node) → T (is_rising nat_cmp node_number nodes) → changed nat_cmp node_number 64 f n nodes ≡ map (λ r. cond (nat_eq r.number n) (f r) r) nodes
+node_changed_is f keeps n nodes h =
     changed_is nat_cmp node_number nat_cmp_total 64 f keeps n nodes h
     ∙ maps_same _ (λ r. cond (nat_eq r.number n) (f r) r) (λ r. ap (λ b. cond b (f r) r) (at_number n r.number)) nodes
 
 pub downed_node : (n : ℕ) (nodes : List Node) → T (is_rising nat_cmp node_number nodes) → changed nat_cmp node_number 64 (λ r. record r { status = statuses.Down }) n nodes ≡ map (down n) nodes
-downed_node n nodes h = node_changed (λ r. record r { status = statuses.Down }) (λ r. refl) n nodes h
+downed_node n nodes h = node_changed_is (λ r. record r { status = statuses.Down }) (λ r. refl) n nodes h
 
 pub draining_node : (n : ℕ) (force : Bool) (nodes : List Node) → T (is_rising nat_cmp node_number nodes) → changed nat_cmp node_number 64 (λ r. record r { eligible = false; drain = cond force drains.Force drains.Slow }) n nodes ≡ map (draining n force) nodes
-draining_node n force nodes h = node_changed (λ r. record r { eligible = false; drain = cond force drains.Force drains.Slow }) (λ r. refl) n nodes h
+draining_node n force nodes h = node_changed_is (λ r. record r { eligible = false; drain = cond force drains.Force drains.Slow }) (λ r. refl) n nodes h
 
 pub drained_node : (n : ℕ) (nodes : List Node) → T (is_rising nat_cmp node_number nodes) → changed nat_cmp node_number 64 (λ r. record r { drain = drains.Off }) n nodes ≡ map (drained n) nodes
-drained_node n nodes h = node_changed (λ r. record r { drain = drains.Off }) (λ r. refl) n nodes h
+drained_node n nodes h = node_changed_is (λ r. record r { drain = drains.Off }) (λ r. refl) n nodes h
 
 pub changed_status : (id : EvalId) (to : StatusChange) (evals : List Evaluation) → T (is_rising eval_cmp eval_id evals) → changed eval_cmp eval_id 65536 (set_one to) id evals ≡ map (set_status id to) evals
 changed_status id to evals h =

@@ -21,7 +21,7 @@ use Rattle.cluster_model.proofs.SafeLaws.{Releases, with_room_keeps, stop_releas
 use Rattle.rows.proofs.KeyLaws.{alloc_cmp_total}
 use Rattle.fsm_state.specs.Inner.Steps.{put_changed, room_at, touched_names, alloc_changed, revised_row, revised, ended_job, stop_one, stopped_all, tell_one, told_steps, ended_jobs, mark_one, marked_all, live_job, live_jobs, is_one_of}
 use Rattle.cluster_model.proofs.Lists.{maps, map_itself, maps_same, anys_same, and_false, swap, and_assoc, both_tests}
-use Rattle.fsm_state.proofs.StepLaws.{only, only_keeps, none_only, changed_is, any_at, node_changed, touched_same}
+use Rattle.fsm_state.proofs.StepLaws.{only, only_keeps, none_only, changed_is, any_at, node_changed_is, touched_same}
 use Rattle.cluster_model.proofs.Keys.{names_turn, at_alloc}
 
 -- the change of the allocation of an id
@@ -99,7 +99,7 @@ eq_turn m n = grind arith
 
 room_here : (b : Bool) (x n : ℕ) (nodes : List Node) → T (is_rising nat_cmp node_number nodes) → cond b (room_at x n nodes) nodes ≡ map (with_room (λ m. b && nat_eq n m) x) nodes
 room_here true x n nodes h =
-    node_changed (λ r. record r { room = x }) (λ r. refl) n nodes h
+    node_changed_is (λ r. record r { room = x }) (λ r. refl) n nodes h
     ∙ maps_same (λ r. cond (nat_eq r.number n) (record r { room = x }) r) (with_room (λ m. nat_eq n m) x) (λ r. ap (λ b. cond b (record r { room = x }) r) (eq_turn r.number n)) nodes
 room_here false x n nodes h = sym (no_room x nodes)
 

@@ -1,9 +1,9 @@
 //! Why a state refuses a command.
-ghost use Rattle.std.specs.Prelude.{◌≡◌, ◌≤◌, ◌&&◌, Option, Some, None, IfOk, option_map, nat_lt, is_none};
+ghost use Rattle.std.specs.Prelude.{◌≡◌, ◌≤◌, ◌&&◌, Option, Some, None, IfOk, is_none};
 ghost use Rattle.std.specs.List.{list_any};
 ghost use Rattle.rows.specs.declared.command.Command.TheVariants as commands;
-ghost use Rattle.cluster_model.specs.Words.{holds, is_draining, is_pending, is_blocked};
-ghost use Rattle.cluster_model.specs.Admission.{admission, jobs_pass, evals_pass, same_size, differs as node_differs, drains, allows as may_become, those_jobs};
+ghost use Rattle.cluster_model.specs.Words.{is_draining};
+ghost use Rattle.cluster_model.specs.Admission.{admission, jobs_pass, evals_pass, differs as node_differs, allows as may_become, touch_passes};
 ghost use Rattle.cluster_model.specs.Effect.{lives_on, is_named};
 
 mod alone;
@@ -36,7 +36,8 @@ pub(crate) fn is_drained(row: &Node) -> bool
     }
 }
 
-/// Whether an evaluation of a status may take this one: pending after blocked, and anything else after pending.
+/// Whether an evaluation of a status may take this one: pending after blocked, and anything else
+/// after pending.
 fn allows(change: &StatusChange, status: EvalStatus) -> bool
     ensures { result ≡ may_become change.now status }
 {
@@ -72,7 +73,7 @@ impl Cluster {
 
     /// Whether the evaluation that touches the job, if it has a row, would pass the limit.
     fn touch_passes(&self, name: &JobName) -> bool
-        ensures { result ≡ evals_pass (those_jobs (is_named name.now) self.now) self.now }
+        ensures { result ≡ touch_passes (is_named name.now) self.now }
     {
         self.ranges();
         let has_row = self.job(name).is_some();

@@ -1,6 +1,6 @@
 //! The effect of each command.
-ghost use Rattle.std.specs.Prelude.{◌≡◌, ◌+◌, ◌<◌, ◌^◌, OnOk, map};
-ghost use Rattle.cluster_model.specs.Effect.{applied as after_command, touched, is_named, with_job, without_job, without_node, downed, draining, drained, migrated, with_status, planned, reported};
+ghost use Rattle.std.specs.Prelude.{◌≡◌, ◌+◌, ◌<◌, ◌^◌, OnOk};
+ghost use Rattle.cluster_model.specs.Effect.{applied as after_command, touched, is_named, with_job, without_job, without_node, downed, with_drain, without_drain, migrated, with_status, planned, reported};
 
 mod allocs;
 mod evals;
@@ -22,7 +22,8 @@ impl Cluster {
     #[tactic(auto, using(crate::proofs::StepLaws::touched_name))]
     fn job_put(&mut self, entry: EntryIndex, spec: &JobSpec) -> Result<(), NoMemory>
         requires { entry ≡ self.old.count }
-        ensures { OnOk result (self.new ≡ touched (is_named spec.now.name) (with_job spec.now self.old)) }
+        ensures { OnOk result (
+            self.new ≡ touched (is_named spec.now.name) (with_job spec.now self.old)) }
     {
         self.make_job(spec)?;
         self.touch(entry, &[spec.name])
@@ -32,14 +33,16 @@ impl Cluster {
     #[tactic(auto, using(crate::proofs::StepLaws::touched_name))]
     fn job_stop(&mut self, entry: EntryIndex, name: &JobName) -> Result<(), NoMemory>
         requires { entry ≡ self.old.count }
-        ensures { OnOk result (self.new ≡ touched (is_named name.now) (without_job name.now self.old)) }
+        ensures { OnOk result (
+            self.new ≡ touched (is_named name.now) (without_job name.now self.old)) }
     {
         self.ranges();
         self.end_job(name)?;
         self.touch(entry, &[*name])
     }
 
-    /// A node that has a row is down: what waits or runs on it is lost, and the jobs of what was live are touched.
+    /// A node that has a row is down: what waits or runs on it is lost, and the jobs of what was
+    /// live are touched.
     fn take_down(&mut self, entry: EntryIndex, number: NodeId) -> Result<(), NoMemory>
         requires { entry ≡ self.old.count }
         ensures { OnOk result (self.new ≡ downed number self.old) }
@@ -64,7 +67,7 @@ impl Cluster {
 
     /// Begins to empty a node.
     fn begin_drain(&mut self, number: NodeId, force: bool) -> Result<(), NoMemory>
-        ensures { OnOk result (self.new ≡ record self.old { nodes = map (draining number force) self.old.nodes }) }
+        ensures { OnOk result (self.new ≡ with_drain number force self.old) }
     {
         self.ranges();
         self.set_draining(number, force)
@@ -72,7 +75,7 @@ impl Cluster {
 
     /// Ends the emptying of a node.
     fn end_drain(&mut self, number: NodeId) -> Result<(), NoMemory>
-        ensures { OnOk result (self.new ≡ record self.old { nodes = map (drained number) self.old.nodes }) }
+        ensures { OnOk result (self.new ≡ without_drain number self.old) }
     {
         self.ranges();
         self.set_drained(number)
@@ -131,7 +134,8 @@ impl Cluster {
         self.touch(entry, names.as_slice())
     }
 
-    /// Applies a command, whether or not the state admits it. Without memory the value is fit only to be dropped.
+    /// Applies a command, whether or not the state admits it. Without memory the value is fit only
+    /// to be dropped.
     pub(crate) fn execute(&mut self, command: &Command) -> Result<(), NoMemory>
         requires { self.old.count + 1 < 2 ^ 40 }
         ensures { OnOk result (self.new ≡ after_command self.old command.now) }

@@ -1,16 +1,14 @@
-ghost use Rattle.std.specs.Prelude.{◌≡◌, ◌∷◌, [], ◌+◌, ◌<◌, ◌≤◌, ◌^◌, ◌||◌, not, OnOk, option_map, T as Holds};
-ghost use Rattle.std.specs.Ordering.{nat_cmp};
+//! The replicated state as a value: its rows, and one row put.
+ghost use Rattle.std.specs.Prelude.{◌≡◌, ◌∷◌, [], ◌+◌, ◌<◌, ◌^◌, ◌||◌, not, OnOk, option_map, T as Holds};
 ghost use Rattle.std.specs.List.{list_any};
-ghost use Rattle.rows.specs.Keys.{name_cmp, eval_cmp, alloc_cmp, job_name, node_number, eval_id, alloc_id};
-ghost use Rattle.fsm_tables.specs.Rows.{put_within as with_row};
 ghost use Rattle.fsm_tables.specs.Claims.{claim_of, claims, used, is_live as lives};
 ghost use Rattle.fsm_tables.specs.LiveNames.{live_named};
 ghost use Rattle.fsm_tables.specs.TableRows.{TablesFit};
-ghost use Rattle.cluster_model.specs.Limits.{most_allocs, most_evals, most_jobs, most_nodes};
 ghost use Rattle.cluster_model.specs.Words.{no_rows, same_alloc, job_of, node_of, eval_of, alloc_of};
 ghost use Rattle.cluster_model.specs.Effect.{counted};
 ghost use Rattle.cluster_model.specs.Safe.{are_distinct};
 ghost use Rattle.fsm_state.specs.Inner.Alone.{is_free_but, is_free};
+ghost use Rattle.fsm_state.specs.Inner.Steps.{rows_of, put_job, put_node, put_eval, put_alloc};
 
 use fsm_tables::{AllocName, Table, Tables, Usage, is_live};
 use rows::{
@@ -20,15 +18,16 @@ use rows::{
 use std::alloc::Global;
 use std::marker::Model;
 
-/// The replicated state of a server group: how many commands were applied, and the rows of jobs, nodes, evaluations and
-/// allocations. Contracts see the number and the four lists of rows, each in strictly rising key. (Nomad documentation,
-/// "Consensus Protocol": what the servers replicate.)
+/// The replicated state of a server group: how many commands were applied, and the rows of jobs,
+/// nodes, evaluations and allocations. Contracts see the number and the four lists of rows, each in
+/// strictly rising key. (Nomad documentation, "Consensus Protocol": what the servers replicate.)
 #[derive(Drop)]
 pub struct Cluster {
     alloc: Global,
     count: Index,
     tables: Tables,
-    /// Whether it is known that no two live allocations are of one name: each put keeps it by a look at the row's own name.
+    /// Whether it is known that no two live allocations are of one name: each put keeps it by a
+    /// look at the row's own name.
     named_once: bool,
 }
 
@@ -40,7 +39,13 @@ impl Model for Cluster {
 
     ghost Value = { State };
 
-    ghost view = { λ c. record { count = c.count; jobs = c.tables.jobs; nodes = c.tables.nodes; evals = c.tables.evals; allocs = c.tables.allocs } };
+    ghost view = { λ c. record {
+      count = c.count;
+      jobs = c.tables.jobs;
+      nodes = c.tables.nodes;
+      evals = c.tables.evals;
+      allocs = c.tables.allocs;
+    } };
 
     ghost invariant = { λ c. Holds c.named_once → Holds (are_distinct (claims c.tables.allocs)) };
 }
@@ -117,14 +122,16 @@ impl Cluster {
         self.tables.alloc(id)
     }
 
-    /// The live allocation of a name, if there is one: that of the least id, where several have the name.
+    /// The live allocation of a name, if there is one: that of the least id, where several have the
+    /// name.
     pub fn live_named(&self, name: &AllocName) -> Option<&Allocation>
         ensures { option_map (λ row. row.now) result ≡ live_named name.now self.now.allocs }
     {
         self.tables.live_named(name)
     }
 
-    /// What the live allocations on a node take of it: the sums of their processor time and of their memory.
+    /// What the live allocations on a node take of it: the sums of their processor time and of
+    /// their memory.
     pub fn used(&self, node: NodeId) -> Usage
         ensures cpu { result.cpu ≡ (used node (claims self.now.allocs)).cpu }
         ensures mem { result.mem ≡ (used node (claims self.now.allocs)).mem }
@@ -163,7 +170,7 @@ impl Cluster {
     /// Says what the tables keep. It does nothing.
     pub(crate) fn ranges(&self)
         ensures count { self.now.count < 2 ^ 40 }
-        ensures tables { TablesFit (record { jobs = self.now.jobs; nodes = self.now.nodes; evals = self.now.evals; allocs = self.now.allocs }) }
+        ensures tables { TablesFit (rows_of self.now) }
     {
         let _count = self.count.get();
         self.tables.ranges();
@@ -187,27 +194,28 @@ impl Cluster {
 
     /// Makes or replaces the row of the job.
     pub(crate) fn put_job(&mut self, row: Job) -> Result<(), NoMemory>
-        ensures { OnOk result (self.new ≡ record self.old { jobs = with_row name_cmp job_name most_jobs row self.old.jobs }) }
+        ensures { OnOk result (self.new ≡ put_job row self.old) }
     {
         self.tables.put_job(row)
     }
 
     /// Makes or replaces the row of the node.
     pub(crate) fn put_node(&mut self, row: Node) -> Result<(), NoMemory>
-        ensures { OnOk result (self.new ≡ record self.old { nodes = with_row nat_cmp node_number most_nodes row self.old.nodes }) }
+        ensures { OnOk result (self.new ≡ put_node row self.old) }
     {
         self.tables.put_node(row)
     }
 
     /// Makes or replaces the row of the evaluation.
     pub(crate) fn put_eval(&mut self, row: Evaluation) -> Result<(), NoMemory>
-        ensures { OnOk result (self.new ≡ record self.old { evals = with_row eval_cmp eval_id most_evals row self.old.evals }) }
+        ensures { OnOk result (self.new ≡ put_eval row self.old) }
     {
         self.tables.put_eval(row)
     }
 
-    /// Whether it is known that no two live allocations are of one name. It is known of each state that was made by puts
-    /// none of which gave a live row the name of another; where it is not known, names may be held once all the same.
+    /// Whether it is known that no two live allocations are of one name. It is known of each state
+    /// that was made by puts none of which gave a live row the name of another; where it is not
+    /// known, names may be held once all the same.
     pub(crate) fn is_named_once(&self) -> bool
         ensures { Holds result → Holds (are_distinct (claims self.now.allocs)) }
     {
@@ -226,14 +234,15 @@ impl Cluster {
 
     /// Whether a row takes no name from another: it is not live, or its name finds no other row.
     fn takes_no_name(&self, row: &Allocation) -> bool
-        ensures { result ≡ (not (lives row.now) || is_free (row.now.id ∷ []) self.now.allocs (claim_of row.now)) }
+        ensures { result ≡ (
+            not (lives row.now) || is_free (row.now.id ∷ []) self.now.allocs (claim_of row.now)) }
     {
         !is_live(row) || self.is_free_but(&AllocName::of(row), &[row.id])
     }
 
     /// Makes or replaces the row of the allocation.
     pub(crate) fn put_alloc(&mut self, row: Allocation) -> Result<(), NoMemory>
-        ensures { OnOk result (self.new ≡ record self.old { allocs = with_row alloc_cmp alloc_id most_allocs row self.old.allocs }) }
+        ensures { OnOk result (self.new ≡ put_alloc row self.old) }
     {
         self.ranges();
         self.named_once = self.named_once && self.takes_no_name(&row);

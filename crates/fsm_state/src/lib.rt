@@ -1,4 +1,5 @@
-//! The replicated state of a Nomad server group: its commands, what they do, and which a state refuses.
+//! The replicated state of a Nomad server group: its commands, what they do, and which a state
+//! refuses.
 #![tactic(auto)]
 
 mod admission;

@@ -6,6 +6,7 @@ ghost use Rattle.rows.specs.Keys.{name_cmp, eval_cmp, alloc_cmp, job_name, node_
 ghost use Rattle.rows.specs.Rising.{is_rising};
 ghost use Rattle.fsm_tables.specs.Rows.{put_within as with_row};
 ghost use Rattle.cluster_model.specs.Words.{State};
+ghost use Rattle.cluster_model.specs.States.{InOrder};
 
 use crate::cluster::Cluster;
 use fsm_tables::Row;
@@ -26,7 +27,9 @@ trait Stored: Row {
 
     /// Makes or replaces the row of the key.
     fn put_into(self, state: &mut Cluster) -> Result<(), NoMemory>
-        ensures { (rows : List Self) (s : State) → state.old ≡ stored rows s → OnOk result (state.new ≡ stored (with_row Self.Key.cmp Self.key_of most self rows) s) };
+        ensures { (rows : List Self) (s : State) → state.old ≡ stored rows s
+            → let after = with_row Self.Key.cmp Self.key_of most self rows in
+            OnOk result (state.new ≡ stored after s) };
 }
 
 impl Stored for Job {
@@ -115,11 +118,17 @@ impl Cluster {
         evals: &[Evaluation],
         allocs: &[Allocation],
     ) -> Result<Cluster, NoMemory>
-        requires jobs { Holds (is_rising name_cmp job_name jobs.now) × (length jobs.now ≤ most_jobs) }
-        requires nodes { Holds (is_rising nat_cmp node_number nodes.now) × (length nodes.now ≤ most_nodes) }
-        requires evals { Holds (is_rising eval_cmp eval_id evals.now) × (length evals.now ≤ most_evals) }
-        requires allocs { Holds (is_rising alloc_cmp alloc_id allocs.now) × (length allocs.now ≤ most_allocs) }
-        ensures { IfOk result (λ s. s ≡ record { count = count; jobs = jobs.now; nodes = nodes.now; evals = evals.now; allocs = allocs.now }) }
+        requires jobs { InOrder name_cmp job_name most_jobs jobs.now }
+        requires nodes { InOrder nat_cmp node_number most_nodes nodes.now }
+        requires evals { InOrder eval_cmp eval_id most_evals evals.now }
+        requires allocs { InOrder alloc_cmp alloc_id most_allocs allocs.now }
+        ensures { IfOk result (λ s. s ≡ record {
+          count = count;
+          jobs = jobs.now;
+          nodes = nodes.now;
+          evals = evals.now;
+          allocs = allocs.now;
+        }) }
     {
         let mut state = Cluster::at_count(alloc, count);
         fill(&mut state, jobs)?;

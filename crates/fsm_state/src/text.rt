@@ -25,8 +25,8 @@ pub(crate) fn has_text(command: &Command)
     command.ranges();
 }
 
-/// The count in eight bytes, and then the rows of jobs, nodes, evaluations and allocations: each list is its length in four
-/// bytes, and its rows in rising key.
+/// The count in eight bytes, and then the rows of jobs, nodes, evaluations and allocations: each
+/// list is its length in four bytes, and its rows in rising key.
 impl Field for Cluster {
     ghost format = { state };
 

@@ -13,7 +13,8 @@ use Rattle.cluster_model.specs.Worked.Words.{web, api, size, eval_id, alloc_id, 
 
 -- ---- touched jobs
 
--- A node with live allocations of two jobs goes down: `api` comes before `web`, though `web` was put first.
+-- A node with live allocations of two jobs goes down: `api` comes before `web`, though `web` was
+-- put first.
 abbrev pub both_on_one : State
 both_on_one = after_all no_rows (
     comes 1 (size 1000 1000)
@@ -41,7 +42,8 @@ ComesBack = (applied (applied both_on_one (commands.NodeDown 1)) (comes 1 (size 
 
 -- ---- a drained node
 
--- Node 1 is drained, and its allocation of `web` is to move: it is marked, and its job touched. Another has to be live, and on a drained node.
+-- Node 1 is drained, and its allocation of `web` is to move: it is marked, and its job touched.
+-- Another has to be live, and on a drained node.
 abbrev pub draining_one : State
 draining_one = after_all both_on_one (commands.Drain 1 false ∷ commands.Migrate (alloc_id 4 0 ∷ []) ∷ [])
 

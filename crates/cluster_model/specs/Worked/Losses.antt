@@ -15,8 +15,8 @@ use Rattle.cluster_model.specs.Effect.{applied}
 use Rattle.cluster_model.specs.Admission.{admission}
 use Rattle.cluster_model.specs.Worked.Words.{web, size, eval_id, alloc_id, comes, mains, runs, place, plans, tells_running, node_row, eval_row, alloc_row, after_all}
 
--- A leader's no-op, two nodes, a job of two allocations that fit a node of 1,000 each, the plan, the end of its evaluation, and
--- what the nodes report.
+-- A leader's no-op, two nodes, a job of two allocations that fit a node of 1,000 each, the plan,
+-- the end of its evaluation, and what the nodes report.
 abbrev pub two_running : Size → State
 two_running second = after_all no_rows (
     commands.Noop
@@ -71,7 +71,8 @@ LateReport = applied (one_down (size 1200 1000)) (tells_running 1 (alloc_id 5 0)
 abbrev pub LateReportPasses : Type 0
 LateReportPasses = admission (one_down (size 1200 1000)) (tells_running 1 (alloc_id 5 0)) ≡ None
 
--- Its name is placed again, on node 2, which then has 1,200 of 1,200 in use; on a node of 1,199 the plan is refused.
+-- Its name is placed again, on node 2, which then has 1,200 of 1,200 in use; on a node of 1,199 the
+-- plan is refused.
 abbrev pub again : Command
 again = plans (eval_id 9 0) web 9 [] (place 0 2 (size 600 300) ∷ [])
 

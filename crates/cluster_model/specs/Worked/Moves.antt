@@ -10,7 +10,8 @@ use Rattle.cluster_model.specs.Effect.{applied}
 use Rattle.cluster_model.specs.Admission.{admission}
 use Rattle.cluster_model.specs.Worked.Words.{web, api, size, eval_id, alloc_id, comes, runs, place, plans, node_row, alloc_row, after_all}
 
--- One allocation of `web` on node 1, 400 cpu (or one more) and 100 memory of `api` in use on node 2, and a new evaluation of `web`.
+-- One allocation of `web` on node 1, 400 cpu (or one more) and 100 memory of `api` in use on node
+-- 2, and a new evaluation of `web`.
 abbrev pub one_of_each : ℕ → State
 one_of_each cpu = after_all no_rows (
     comes 1 (size 1000 1000)

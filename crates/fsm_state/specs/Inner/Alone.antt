@@ -1,4 +1,5 @@
--- A plan looked at alone, where names are held once: what its stops end, what it wants, each node's use, and the names that it takes.
+-- A plan looked at alone, where names are held once: what its stops end, what it wants, each node's
+-- use, and the names that it takes.
 use Rattle.std.specs.Prelude.{ℕ, zero, suc, ◌+◌, Bool, true, ◌&&◌, List, [], ◌∷◌, Option, Some, None, nat_le, if◌then◌else◌}
 use Rattle.std.specs.List.{list_any, list_all}
 use Rattle.std.specs.Ordering.{nat_cmp}
@@ -38,15 +39,18 @@ ended_one (Some a) rest = if is_live a then (claim_of a ∷ rest) else rest
 -- what the live rows that are named claim, each once
 abbrev pub ended_by : List AllocId → List Allocation → List Claim
 ended_by [] rows = []
-ended_by (id ∷ ids) rows = if list_any (same_alloc id) ids then ended_by ids rows else (ended_one (row_of alloc_cmp alloc_id id rows) (ended_by ids rows))
+ended_by (id ∷ ids) rows =
+    if list_any (same_alloc id) ids then ended_by ids rows
+    else ended_one (row_of alloc_cmp alloc_id id rows) (ended_by ids rows)
 
 -- ---- room
 
 -- whether a number's room bears what is used of it and what is wanted, once some of it is ended
 abbrev pub has_room : State → List Claim → List Claim → ℕ → Bool
 has_room s es ws n =
-    nat_le ((used n (claims s.allocs)).cpu + (used n ws).cpu) ((room_of (row_of nat_cmp node_number n s.nodes)).cpu + (used n es).cpu)
-    && nat_le ((used n (claims s.allocs)).mem + (used n ws).mem) ((room_of (row_of nat_cmp node_number n s.nodes)).mem + (used n es).mem)
+    let room = room_of (row_of nat_cmp node_number n s.nodes) in
+    nat_le ((used n (claims s.allocs)).cpu + (used n ws).cpu) (room.cpu + (used n es).cpu)
+    && nat_le ((used n (claims s.allocs)).mem + (used n ws).mem) (room.mem + (used n es).mem)
 
 -- whether so many numbers from one on pass
 abbrev pub all_from : (ℕ → Bool) → ℕ → ℕ → Bool
@@ -60,4 +64,6 @@ all_numbers f = all_from f 1 64
 -- ---- the test
 
 abbrev pub passes_alone : AcceptedPlan → State → Bool
-passes_alone p s = all_numbers (has_room s (ended_by p.stops s.allocs) (wanted p)) && are_distinct (wanted p) && list_all (is_free p.stops s.allocs) (wanted p)
+passes_alone p s =
+    all_numbers (has_room s (ended_by p.stops s.allocs) (wanted p)) && are_distinct (wanted p)
+    && list_all (is_free p.stops s.allocs) (wanted p)

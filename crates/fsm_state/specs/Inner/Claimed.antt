@@ -1,16 +1,21 @@
 -- What is claimed after a plan, one claim after the other, as the code looks at it.
-use Rattle.std.specs.Prelude.{ℕ, ◌-◌, Bool, true, not, ◌&&◌, ◌||◌, List, [], ◌∷◌, nat_eq, nat_le, if◌then◌else◌}
+use Rattle.std.specs.Prelude.{T, take, ℕ, ◌-◌, Bool, true, not, ◌&&◌, ◌||◌, List, [], ◌∷◌, nat_eq, nat_le, if◌then◌else◌}
 use Rattle.rows.specs.declared.node.Node.{Node}
 use Rattle.rows.specs.declared.allocation.Allocation.{Allocation}
-use Rattle.fsm_tables.specs.Claims.{Claim, claim_of, is_live}
+use Rattle.fsm_tables.specs.Claims.{Claim, claim_of, claims, is_live}
 use Rattle.fsm_tables.specs.LiveNames.{live_named, name_of}
-use Rattle.cluster_model.specs.Words.{holds, same_alloc}
+use Rattle.cluster_model.specs.Words.{State, holds, same_alloc}
+use Rattle.cluster_model.specs.Safe.{are_distinct}
 use Rattle.cluster_model.specs.Plans.{is_made}
 
 -- whether what is claimed of a node is within so much
 abbrev pub fits_steps : ℕ → List Claim → ℕ → ℕ → Bool
 fits_steps n [] cpu mem = true
-fits_steps n (c ∷ cs) cpu mem = if nat_eq c.node n then (nat_le c.size.cpu cpu && nat_le c.size.mem mem && fits_steps n cs (cpu - c.size.cpu) (mem - c.size.mem)) else fits_steps n cs cpu mem
+fits_steps n (c ∷ cs) cpu mem =
+    if nat_eq c.node n then (
+    nat_le c.size.cpu cpu && nat_le c.size.mem mem
+    && fits_steps n cs (cpu - c.size.cpu) (mem - c.size.mem)
+    ) else fits_steps n cs cpu mem
 
 -- whether what is claimed of a node is within its size
 abbrev pub bears_node : List Claim → Node → Bool
@@ -19,6 +24,10 @@ bears_node cs n = fits_steps n.number cs n.size.cpu n.size.mem
 -- what a row that the plan does not replace claims, before the rest
 abbrev pub left_one : ℕ → ℕ → Allocation → List Claim → List Claim
 left_one x n a rest = if is_live a && not (is_made x 0 n a) then (claim_of a ∷ rest) else rest
+
+-- the first claims are of rows of the state: they are of names held once, if the state's are
+abbrev pub HeldOnce : ℕ → List Claim → State → Type 0
+HeldOnce held cs s = T (are_distinct (claims s.allocs)) → T (are_distinct (take held cs))
 
 -- whether a row that is live is the one that its name finds
 abbrev pub is_first : List Allocation → Allocation → Bool

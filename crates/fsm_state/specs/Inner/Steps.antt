@@ -1,21 +1,24 @@
--- The effects once more, as puts of one row after the other at its key: the form in which the code makes them.
-use Rattle.std.specs.Prelude.{ℕ, true, not, ◌&&◌, List, [], ◌∷◌, filter, Option, Some, None, nat_eq, bytes_eq, Bool, if◌then◌else◌}
-use Rattle.std.specs.List.{list_any}
+-- The effects once more, as puts of one row after the other at its key: the form in which the code
+-- makes them.
+use Rattle.std.specs.Prelude.{◌≡◌, ◌++◌, map, ℕ, true, not, ◌&&◌, List, [], ◌∷◌, filter, Option, Some, None, nat_eq, bytes_eq, Bool, if◌then◌else◌}
+use Rattle.std.specs.List.{list_any, slice_get}
 use Rattle.std.specs.declared.cmp.Ordering.{Ordering}
 use Rattle.std.specs.Ordering.{nat_cmp}
 use Rattle.rows.specs.declared.job.Job.{Job}
 use Rattle.rows.specs.declared.node.Node.{Node}
+use Rattle.rows.specs.declared.evaluation.EvalId.{EvalId}
 use Rattle.rows.specs.declared.evaluation.Evaluation.{Evaluation}
 use Rattle.rows.specs.declared.allocation.Desired.TheVariants as desires
 use Rattle.rows.specs.declared.allocation.AllocId.{AllocId}
 use Rattle.rows.specs.declared.allocation.Allocation.{Allocation}
 use Rattle.rows.specs.declared.command.Report.{Report}
-use Rattle.rows.specs.Keys.{alloc_cmp, node_number, alloc_id}
+use Rattle.rows.specs.Keys.{name_cmp, eval_cmp, alloc_cmp, job_name, node_number, eval_id, alloc_id}
 use Rattle.fsm_tables.specs.Rows.{row_of, put_within}
+use Rattle.fsm_tables.specs.TableRows.{TableRows}
 use Rattle.fsm_tables.specs.Claims.{is_active, is_live}
-use Rattle.cluster_model.specs.Limits.{most_nodes, most_allocs}
+use Rattle.cluster_model.specs.Limits.{most_jobs, most_nodes, most_evals, most_allocs}
 use Rattle.cluster_model.specs.Words.{State, alloc_of, is_open}
-use Rattle.cluster_model.specs.Effect.{ends, state_of, new_eval, with_evals, lives_on}
+use Rattle.cluster_model.specs.Effect.{lost, ends, state_of, new_eval, with_evals, lives_on}
 use Rattle.rows.specs.declared.command.StatusChange.{StatusChange}
 use Rattle.rows.specs.Changes.{status_of, snapshot_of}
 
@@ -27,23 +30,74 @@ put_changed R key most f (Some r) rows = put_within R key most (f r) rows
 abbrev pub changed : {K X : Type 0} → (K → K → Ordering) → (X → K) → ℕ → (X → X) → K → List X → List X
 changed R key most f k rows = put_changed R key most f (row_of R key k rows) rows
 
--- a node has room from entry x on
-abbrev pub room_at : ℕ → ℕ → List Node → List Node
-room_at x n nodes = changed nat_cmp node_number most_nodes (λ r. record r { room = x }) n nodes
+-- ---- the four tables of a state
 
--- the jobs of the names are touched
-abbrev pub touched_names : List (List ℕ) → State → State
-touched_names names s = record s { evals = with_evals s.count 0 (filter (λ j. list_any (λ name. bytes_eq j.name name) names) s.jobs) s.evals }
+abbrev pub rows_of : State → TableRows
+rows_of s = record { jobs = s.jobs; nodes = s.nodes; evals = s.evals; allocs = s.allocs }
 
--- ---- one allocation
+-- ---- one row put, and one row changed, in a state
+
+abbrev pub put_job : Job → State → State
+put_job j s = record s { jobs = put_within name_cmp job_name most_jobs j s.jobs }
+
+abbrev pub put_node : Node → State → State
+put_node r s = record s { nodes = put_within nat_cmp node_number most_nodes r s.nodes }
+
+abbrev pub put_eval : Evaluation → State → State
+put_eval e s = record s { evals = put_within eval_cmp eval_id most_evals e s.evals }
+
+abbrev pub put_alloc : Allocation → State → State
+put_alloc a s = record s { allocs = put_within alloc_cmp alloc_id most_allocs a s.allocs }
+
+abbrev pub job_changed : (Job → Job) → List ℕ → State → State
+job_changed f name s = record s { jobs = changed name_cmp job_name most_jobs f name s.jobs }
+
+abbrev pub node_changed : (Node → Node) → ℕ → State → State
+node_changed f n s = record s { nodes = changed nat_cmp node_number most_nodes f n s.nodes }
+
+abbrev pub eval_changed : (Evaluation → Evaluation) → EvalId → State → State
+eval_changed f id s = record s { evals = changed eval_cmp eval_id most_evals f id s.evals }
 
 abbrev pub alloc_changed : (Allocation → Allocation) → AllocId → State → State
 alloc_changed f id s = record s { allocs = changed alloc_cmp alloc_id most_allocs f id s.allocs }
 
+-- the allocation at a place changes
+abbrev pub changed_at : (Allocation → Allocation) → ℕ → State → State
+changed_at f place s =
+    record s { allocs = put_changed alloc_cmp alloc_id most_allocs f (slice_get s.allocs place) s.allocs }
+
+-- all that is on a node is lost
+abbrev pub all_lost : ℕ → State → State
+all_lost n s = record s { allocs = map (lost n) s.allocs }
+
+-- a node has room from entry x on
+abbrev pub room_at : ℕ → ℕ → List Node → List Node
+room_at x n nodes = changed nat_cmp node_number most_nodes (λ r. record r { room = x }) n nodes
+
+abbrev pub node_has_room : ℕ → State → State
+node_has_room n s = record s { nodes = room_at s.count n s.nodes }
+
+-- ---- lists that grow
+
+-- so much is put behind what was there, whatever follows
+abbrev pub Adds : {X : Type 0} → (List X → List X) → List X → List X → Type 0
+Adds {X} more old new = (rest : List X) → new ++ rest ≡ old ++ more rest
+
+-- the jobs of the names are touched
+abbrev pub touched_names : List (List ℕ) → State → State
+touched_names names s =
+    let those = filter (λ j. list_any (λ name. bytes_eq j.name name) names) s.jobs in
+    record s { evals = with_evals s.count 0 those s.evals }
+
+-- ---- one allocation
+
 -- one allocation changes; if that ends it, its node has room
 abbrev pub revised_row : (Allocation → Allocation) → Option Allocation → State → State
 revised_row f None s = s
-revised_row f (Some a) s = record s { nodes = if ends f a then room_at s.count a.node s.nodes else s.nodes; allocs = put_within alloc_cmp alloc_id most_allocs (f a) s.allocs }
+revised_row f (Some a) s = record s {
+  nodes = if ends f a then room_at s.count a.node s.nodes else s.nodes;
+  allocs = put_within alloc_cmp alloc_id most_allocs (f a) s.allocs;
+}
 
 abbrev pub revised : (Allocation → Allocation) → AllocId → State → State
 revised f id s = revised_row f (alloc_of id s) s
@@ -65,7 +119,8 @@ stopped_all (id ∷ ids) s = stopped_all ids (revised stop_one id s)
 -- ---- reports, one after the other: altered (told_all n rs) s, and the jobs of those that ended
 
 abbrev pub tell_one : ℕ → Report → Allocation → Allocation
-tell_one n r a = if nat_eq a.node n && is_active a.client then (record a { client = state_of r.state }) else a
+tell_one n r a =
+    if nat_eq a.node n && is_active a.client then (record a { client = state_of r.state }) else a
 
 abbrev pub told_steps : ℕ → List Report → State → State
 told_steps n [] s = s
@@ -73,7 +128,8 @@ told_steps n (r ∷ rs) s = told_steps n rs (revised (tell_one n r) r.id s)
 
 abbrev pub ended_jobs : ℕ → List Report → State → List (List ℕ)
 ended_jobs n [] s = []
-ended_jobs n (r ∷ rs) s = ended_job (tell_one n r) (alloc_of r.id s) (ended_jobs n rs (revised (tell_one n r) r.id s))
+ended_jobs n (r ∷ rs) s =
+    ended_job (tell_one n r) (alloc_of r.id s) (ended_jobs n rs (revised (tell_one n r) r.id s))
 
 -- ---- marks, one after the other, and the jobs of the live ones
 
@@ -102,18 +158,23 @@ jobs_on n (a ∷ rows) = if lives_on n a then (a.job ∷ jobs_on n rows) else jo
 
 -- one allocation's row is put; if it was live and is not now, its node has room
 abbrev pub revised_to : Allocation → Allocation → State → State
-revised_to a b s = record s { nodes = if is_live a && not (is_live b) then room_at s.count a.node s.nodes else s.nodes; allocs = put_within alloc_cmp alloc_id most_allocs b s.allocs }
+revised_to a b s = record s {
+  nodes = if is_live a && not (is_live b) then room_at s.count a.node s.nodes else s.nodes;
+  allocs = put_within alloc_cmp alloc_id most_allocs b s.allocs;
+}
 
 -- the evaluation that touches a job, if it is one of the names
 abbrev pub eval_for : ℕ → ℕ → List (List ℕ) → Option Job → Option Evaluation
 eval_for x slot names None = None
-eval_for x slot names (Some j) = if list_any (λ name. bytes_eq j.name name) names then (Some (new_eval x slot j)) else None
+eval_for x slot names (Some j) =
+    if list_any (λ name. bytes_eq j.name name) names then (Some (new_eval x slot j)) else None
 
 -- ---- statuses, names, and reports told before any is taken
 
 -- the status of one evaluation, unless it is final
 abbrev pub set_one : StatusChange → Evaluation → Evaluation
-set_one to e = if is_open e.status then (record e { status = status_of to; snapshot = snapshot_of to }) else e
+set_one to e =
+    if is_open e.status then (record e { status = status_of to; snapshot = snapshot_of to }) else e
 
 abbrev pub is_one_of : List (List ℕ) → Job → Bool
 is_one_of names j = list_any (λ name. bytes_eq j.name name) names

@@ -1,7 +1,8 @@
-//! Whether the state after a plan is safe, by a look at the plan alone where names are known to be held once.
-ghost use Rattle.std.specs.Prelude.{◌≡◌, ◌≤◌, ◌+◌, ◌++◌, ◌&&◌, ◌<◌, ◌^◌, List, nat_le, IfOk, OnOk, length, take};
+//! Whether the state after a plan is safe, by a look at the plan alone where names are known to be
+//! held once.
+ghost use Rattle.std.specs.Prelude.{◌≡◌, List, ◌++◌, ◌≤◌, ◌+◌, ◌&&◌, ◌<◌, ◌^◌, nat_le, IfOk, OnOk, length};
 ghost use Rattle.std.specs.List.{list_all};
-ghost use Rattle.fsm_tables.specs.Claims.{Claim as AnyClaim, used};
+ghost use Rattle.fsm_tables.specs.Claims.{used, Claim as AnyClaim};
 ghost use Rattle.cluster_model.specs.Limits.{most_allocs};
 ghost use Rattle.cluster_model.specs.Safe.{is_safe};
 ghost use Rattle.cluster_model.specs.Words.{node_of, alloc_of};
@@ -122,7 +123,8 @@ impl Cluster {
 
     /// Adds what the allocation claims, if it is live.
     fn add_ended(&self, claims: &mut Sequence<Claim>, id: AllocId) -> Result<(), NoMemory>
-        ensures { OnOk result ((rest : List AnyClaim) → claims.new ++ rest ≡ claims.old ++ ended_one (alloc_of id self.now) rest) }
+        ensures { OnOk result ((rest : List AnyClaim)
+            → claims.new ++ rest ≡ claims.old ++ ended_one (alloc_of id self.now) rest) }
     {
         match self.alloc(id) {
             Some(row) if is_live(row) => claims.push(claim_by(row)),
@@ -143,7 +145,8 @@ impl Cluster {
         Ok(claims)
     }
 
-    /// Whether each allocation was made by an entry before the next one: so was the last of them, by id.
+    /// Whether each allocation was made by an entry before the next one: so was the last of them,
+    /// by id.
     fn are_dated(&self) -> bool
         ensures { result ≡ are_dated (self.now.count + 1) self.now.allocs }
     {
@@ -170,8 +173,9 @@ impl Cluster {
         )
     }
 
-    /// Whether the state after a plan is safe. Where it is known that names are held once, and no row stands under an id
-    /// that the plan makes, it takes time in the plan and the logarithm of the table; else it looks at all that is claimed.
+    /// Whether the state after a plan is safe. Where it is known that names are held once, and no
+    /// row stands under an id that the plan makes, it takes time in the plan and the logarithm of
+    /// the table; else it looks at all that is claimed.
     pub(super) fn bears_plan(&self, plan: &AcceptedPlan) -> Result<bool, NoMemory>
         requires { length self.now.allocs + length plan.now.places ≤ most_allocs }
         ensures { IfOk result (λ b. b ≡ is_safe (planned plan.now (counted self.now))) }

@@ -26,7 +26,13 @@ impl Model for Claim {
 
     ghost Value = { AnyClaim };
 
-    ghost view = { λ c. record { job = c.job; group = c.group; index = c.index; node = c.node; size = c.size } };
+    ghost view = { λ c. record {
+      job = c.job;
+      group = c.group;
+      index = c.index;
+      node = c.node;
+      size = c.size;
+    } };
 }
 
 /// What a row claims.

@@ -1,11 +1,11 @@
 //! Why a state refuses the commands that touch several jobs.
-ghost use Rattle.std.specs.Prelude.{◌≡◌, ◌≤◌, ◌++◌, List, ℕ, Option, Some, None, IfOk, OnOk, length, filter, not, option_map};
+ghost use Rattle.std.specs.Prelude.{◌≡◌, ◌≤◌, Option, Some, None, IfOk, OnOk, length, filter, option_map};
 ghost use Rattle.std.specs.List.{list_any, list_all};
 ghost use Rattle.rows.specs.declared.command.Command.TheVariants as commands;
 ghost use Rattle.cluster_model.specs.Words.{no_alloc, is_ready as stands_ready};
-ghost use Rattle.cluster_model.specs.Admission.{admission, evals_pass, those_jobs, drains, can_move, is_its_own};
+ghost use Rattle.cluster_model.specs.Admission.{admission, touch_passes, drains, can_move, is_its_own};
 ghost use Rattle.cluster_model.specs.Effect.{lives_on, moves, owns, ends, told, told_all};
-ghost use Rattle.fsm_state.specs.Inner.Steps.{is_one_of, ended_job, ended_now};
+ghost use Rattle.fsm_state.specs.Inner.Steps.{is_one_of, ended_job, ended_now, Adds};
 
 use crate::admission::is_drained;
 use crate::apply::reports::told as told_itself;
@@ -65,7 +65,8 @@ fn add_ended(
     node: NodeId,
     reports: &[Report],
 ) -> Result<(), NoMemory>
-    ensures { OnOk result ((rest : List (List ℕ)) → names.new ++ rest ≡ names.old ++ ended_job (told_all node reports.now) (option_map (λ r. r.now) row.entry) rest) }
+    ensures { let old = option_map (λ r. r.now) row.entry in
+        OnOk result (Adds (ended_job (told_all node reports.now) old) names.old names.new) }
 {
     match row {
         Some(row) if is_live(row) && !is_live(&after_reports(row, node, reports)) => names.push(
@@ -78,7 +79,7 @@ fn add_ended(
 impl Cluster {
     /// Whether the evaluations that touch the jobs of these names would pass the limit.
     fn names_pass(&self, names: &[JobName]) -> bool
-        ensures { result ≡ evals_pass (those_jobs (is_one_of names.now) self.now) self.now }
+        ensures { result ≡ touch_passes (is_one_of names.now) self.now }
     {
         self.ranges();
         let more = count_of(self.job_table().rows(), names);
@@ -97,7 +98,8 @@ impl Cluster {
 
     /// Whether the jobs that the loss of a node touches would pass the limit.
     fn loss_passes(&self, node: NodeId) -> Result<bool, NoMemory>
-        ensures { IfOk result (λ b. b ≡ evals_pass (those_jobs (owns (lives_on node) self.now.allocs) self.now) self.now) }
+        ensures { let those = owns (lives_on node) self.now.allocs in
+            IfOk result (λ b. b ≡ touch_passes those self.now) }
     {
         let names = self.jobs_on(node)?;
         Ok(self.names_pass(names.as_slice()))
@@ -151,7 +153,8 @@ impl Cluster {
 
     /// Whether the jobs of the live ones among the allocations would pass the limit.
     fn moves_pass(&self, ids: &[AllocId]) -> Result<bool, NoMemory>
-        ensures { IfOk result (λ b. b ≡ evals_pass (those_jobs (owns (moves ids.now) self.now.allocs) self.now) self.now) }
+        ensures { let those = owns (moves ids.now) self.now.allocs in
+            IfOk result (λ b. b ≡ touch_passes those self.now) }
     {
         self.ranges();
         let names = self.jobs_of(ids)?;
@@ -198,7 +201,8 @@ impl Cluster {
 
     /// The jobs of the allocations that the reports end, one after the other.
     fn jobs_ended(&self, node: NodeId, reports: &[Report]) -> Result<Sequence<JobName>, NoMemory>
-        ensures { IfOk result (λ names. names ≡ ended_now (told_all node reports.now) reports.now self.now) }
+        ensures { let told = told_all node reports.now in
+            IfOk result (λ names. names ≡ ended_now told reports.now self.now) }
     {
         let mut names = Sequence::new(self.memory());
         for report in reports {
@@ -209,7 +213,8 @@ impl Cluster {
 
     /// Whether the jobs of the allocations that the reports end would pass the limit.
     fn reports_pass(&self, node: NodeId, reports: &[Report]) -> Result<bool, NoMemory>
-        ensures { IfOk result (λ b. b ≡ evals_pass (those_jobs (owns (ends (told_all node reports.now)) self.now.allocs) self.now) self.now) }
+        ensures { let those = owns (ends (told_all node reports.now)) self.now.allocs in
+            IfOk result (λ b. b ≡ touch_passes those self.now) }
     {
         self.ranges();
         let names = self.jobs_ended(node, reports)?;

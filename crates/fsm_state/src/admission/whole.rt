@@ -1,13 +1,13 @@
 //! Whether the state after a plan is safe, by a look at all that is claimed then.
-ghost use Rattle.std.specs.Prelude.{◌≡◌, ◌≤◌, ◌+◌, ◌++◌, ◌&&◌, ◌<◌, List, IfOk, OnOk, length, take, T as Holds};
+ghost use Rattle.std.specs.Prelude.{◌≡◌, ◌≤◌, List, ◌++◌, ◌+◌, ◌&&◌, ◌<◌, IfOk, OnOk, length};
 ghost use Rattle.std.specs.List.{list_all};
-ghost use Rattle.fsm_tables.specs.Claims.{Claim as AnyClaim, claims as claims_of};
 ghost use Rattle.cluster_model.specs.Limits.{most_allocs};
 ghost use Rattle.cluster_model.specs.Safe.{is_safe, is_placed, are_distinct as distinct_claims, are_safe};
 ghost use Rattle.cluster_model.specs.Effect.{counted, planned, stop as stop_those};
 ghost use Rattle.cluster_model.specs.Plans.{are_free, is_made, left_by};
-ghost use Rattle.fsm_state.specs.Inner.Claimed.{bears_node, left_one, is_first};
+ghost use Rattle.fsm_state.specs.Inner.Claimed.{bears_node, left_one, is_first, HeldOnce};
 ghost use Rattle.rows.specs.declared.allocation.Allocation.{Allocation as Row};
+ghost use Rattle.fsm_tables.specs.Claims.{Claim as AnyClaim};
 
 use crate::admission::claims::{Claim, add_wanted, are_distinct, claim_by, is_claimed};
 use crate::cluster::{Cluster, is_among};
@@ -94,11 +94,11 @@ impl Cluster {
         true
     }
 
-    /// Whether no two claims are of one name, where the first `held` are of rows of this state: if names are held once
-    /// in it, the others are looked at alone.
+    /// Whether no two claims are of one name, where the first `held` are of rows of this state: if
+    /// names are held once in it, the others are looked at alone.
     fn are_held_once(&self, claims: &[Claim], held: usize) -> bool
         requires few { held ≤ length claims.now }
-        requires held { Holds (distinct_claims (claims_of self.now.allocs)) → Holds (distinct_claims (take held claims.now)) }
+        requires held { HeldOnce held claims.now self.now }
         ensures { result ≡ distinct_claims claims.now }
     {
         self.ranges();
@@ -125,7 +125,7 @@ impl Cluster {
     #[tactic(auto, using(crate::proofs::Claimed::all_within))]
     fn bears(&self, claims: &[Claim], held: usize) -> bool
         requires few { held ≤ length claims.now }
-        requires held { Holds (distinct_claims (claims_of self.now.allocs)) → Holds (distinct_claims (take held claims.now)) }
+        requires held { HeldOnce held claims.now self.now }
         ensures { result ≡ are_safe self.now.nodes claims.now }
     {
         are_within(self.node_table().rows(), claims)
@@ -147,7 +147,10 @@ impl Cluster {
         row: &Allocation,
         plan: &AcceptedPlan,
     ) -> Result<(), NoMemory>
-        ensures { OnOk result ((rest : List AnyClaim) → claims.new ++ rest ≡ claims.old ++ left_one (self.now.count + 1) (length plan.now.places) (stop_those plan.now.stops row.now) rest) }
+        ensures { let left = left_one (self.now.count + 1) (length plan.now.places) in
+            let after = stop_those plan.now.stops row.now in
+            OnOk result ((rest : List AnyClaim)
+            → claims.new ++ rest ≡ claims.old ++ left after rest) }
     {
         let row = after_stops(row, plan.stops.as_slice());
         if is_live(&row) && !self.is_made(row.id, plan.places.as_slice().len()) {

@@ -1,10 +1,8 @@
 //! Statuses of evaluations that are set.
 ghost use Rattle.std.specs.Prelude.{◌≡◌, OnOk, None, false, true};
-ghost use Rattle.rows.specs.Keys.{eval_cmp, eval_id};
 ghost use Rattle.rows.specs.Changes.{status_of, snapshot_of};
-ghost use Rattle.cluster_model.specs.Limits.{most_evals};
 ghost use Rattle.cluster_model.specs.Words.{is_open as is_not_final};
-ghost use Rattle.fsm_state.specs.Inner.Steps.{changed, set_one};
+ghost use Rattle.fsm_state.specs.Inner.Steps.{set_one, eval_changed};
 
 use crate::cluster::Cluster;
 use rows::{EvalId, EvalStatus, Evaluation, Index, NoMemory, StatusChange};
@@ -56,7 +54,7 @@ fn settled(row: &Evaluation, change: &StatusChange) -> Evaluation
 impl Cluster {
     /// Sets the status of an evaluation.
     pub(super) fn settle(&mut self, id: EvalId, change: &StatusChange) -> Result<(), NoMemory>
-        ensures { OnOk result (self.new ≡ record self.old { evals = changed eval_cmp eval_id most_evals (set_one change.now) id self.old.evals }) }
+        ensures { OnOk result (self.new ≡ eval_changed (set_one change.now) id self.old) }
     {
         match self.eval(id) {
             Some(row) => {

@@ -1,9 +1,7 @@
 //! Rows of jobs that are made and stopped.
 ghost use Rattle.std.specs.Prelude.{◌≡◌, OnOk, IfOk, None, false, true};
-ghost use Rattle.rows.specs.Keys.{name_cmp, job_name};
-ghost use Rattle.cluster_model.specs.Limits.{most_jobs};
-ghost use Rattle.cluster_model.specs.Effect.{with_job, job_row};
-ghost use Rattle.fsm_state.specs.Inner.Steps.{changed};
+ghost use Rattle.cluster_model.specs.Effect.{with_job, job_row, stopped_row};
+ghost use Rattle.fsm_state.specs.Inner.Steps.{job_changed};
 
 use crate::cluster::Cluster;
 use rows::{Index, Job, JobName, JobSpec, NoMemory};
@@ -24,7 +22,7 @@ fn new_job(alloc: Global, spec: &JobSpec, version: Index) -> Result<Job, NoMemor
 
 /// The row of a job that is stopped.
 fn stopped_job(alloc: Global, job: &Job, version: Index) -> Result<Job, NoMemory>
-    ensures { IfOk result (λ row. row ≡ record job.now { stopped = true; version = version }) }
+    ensures { IfOk result (λ row. row ≡ stopped_row version job.now) }
 {
     Ok(Job {
         name: job.name,
@@ -46,7 +44,8 @@ impl Cluster {
 
     /// Stops a job.
     pub(super) fn end_job(&mut self, name: &JobName) -> Result<(), NoMemory>
-        ensures { OnOk result (self.new ≡ record self.old { jobs = changed name_cmp job_name most_jobs (λ j. record j { stopped = true; version = self.old.count }) name.now self.old.jobs }) }
+        ensures { let stops = stopped_row self.old.count in
+            OnOk result (self.new ≡ job_changed stops name.now self.old) }
     {
         match self.job(name) {
             Some(job) => {

@@ -1,10 +1,7 @@
 //! Allocations that are lost with their node, and their jobs.
-ghost use Rattle.std.specs.Prelude.{◌≡◌, ◌&&◌, OnOk, ◌<◌, length, IfOk, map};
-ghost use Rattle.cluster_model.specs.Limits.{most_allocs};
+ghost use Rattle.std.specs.Prelude.{◌≡◌, ◌&&◌, OnOk, ◌<◌, length, IfOk};
 ghost use Rattle.cluster_model.specs.Effect.{lost};
-ghost use Rattle.fsm_state.specs.Inner.Steps.{put_changed, jobs_on};
-ghost use Rattle.std.specs.List.{slice_get};
-ghost use Rattle.rows.specs.Keys.{alloc_cmp, alloc_id};
+ghost use Rattle.fsm_state.specs.Inner.Steps.{jobs_on, changed_at, all_lost};
 
 use crate::apply::allocs::is_active;
 use crate::cluster::Cluster;
@@ -39,7 +36,7 @@ impl Cluster {
     /// The allocation at a place is lost, if it waits or runs on the node.
     fn lose_at(&mut self, place: usize, node: NodeId) -> Result<(), NoMemory>
         requires { place < length self.old.allocs }
-        ensures { OnOk result (self.new ≡ record self.old { allocs = put_changed alloc_cmp alloc_id most_allocs (lost node) (slice_get self.old.allocs place) self.old.allocs }) }
+        ensures { OnOk result (self.new ≡ changed_at (lost node) place self.old) }
     {
         let Some(row) = self.alloc_table().at(place) else {
             unreachable!()
@@ -50,7 +47,7 @@ impl Cluster {
 
     /// What waits or runs on a node is lost.
     pub(super) fn lose(&mut self, node: NodeId) -> Result<(), NoMemory>
-        ensures { OnOk result (self.new ≡ record self.old { allocs = map (lost node) self.old.allocs }) }
+        ensures { OnOk result (self.new ≡ all_lost node self.old) }
     {
         self.ranges();
         for place in 0..self.alloc_table().len() {

@@ -1,6 +1,6 @@
 //! Allocations that are marked to move, and their jobs.
-ghost use Rattle.std.specs.Prelude.{◌≡◌, OnOk, option_map, ◌<◌, ◌++◌, List, ℕ, IfOk};
-ghost use Rattle.fsm_state.specs.Inner.Steps.{alloc_changed, mark_one, marked_all, live_job, live_jobs};
+ghost use Rattle.std.specs.Prelude.{◌≡◌, OnOk, option_map, ◌<◌, IfOk};
+ghost use Rattle.fsm_state.specs.Inner.Steps.{alloc_changed, mark_one, marked_all, live_job, live_jobs, Adds};
 
 use crate::cluster::Cluster;
 use fsm_tables::is_live;
@@ -19,7 +19,8 @@ fn marked(row: &Allocation) -> Allocation
 
 /// Adds the job of a live row.
 fn add_live(names: &mut Sequence<JobName>, row: Option<&Allocation>) -> Result<(), NoMemory>
-    ensures { OnOk result ((rest : List (List ℕ)) → names.new ++ rest ≡ names.old ++ live_job (option_map (λ r. r.now) row.entry) rest) }
+    ensures { let job = live_job (option_map (λ r. r.now) row.entry) in
+        OnOk result (Adds job names.old names.new) }
 {
     match row {
         Some(row) if is_live(row) => names.push(row.job),

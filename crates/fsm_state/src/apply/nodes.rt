@@ -1,12 +1,7 @@
 //! Rows of nodes that come, go down, are drained, and have room.
-ghost use Rattle.std.specs.Prelude.{◌≡◌, OnOk, None, cond, false, true, option_map};
-ghost use Rattle.std.specs.Ordering.{nat_cmp};
-ghost use Rattle.rows.specs.Keys.{node_number};
-ghost use Rattle.rows.specs.declared.node.NodeStatus.TheVariants as statuses;
-ghost use Rattle.rows.specs.declared.node.DrainMode.TheVariants as drains;
-ghost use Rattle.cluster_model.specs.Limits.{most_nodes};
-ghost use Rattle.cluster_model.specs.Effect.{with_node, node_row};
-ghost use Rattle.fsm_state.specs.Inner.Steps.{changed, room_at};
+ghost use Rattle.std.specs.Prelude.{◌≡◌, OnOk, None, false, true, option_map};
+ghost use Rattle.cluster_model.specs.Effect.{with_node, node_row, down_row, draining_row, drained_row};
+ghost use Rattle.fsm_state.specs.Inner.Steps.{node_changed, node_has_room};
 
 use crate::cluster::Cluster;
 use rows::{DrainMode, Index, NoMemory, Node, NodeId, NodeSpec, NodeStatus};
@@ -45,7 +40,7 @@ impl Cluster {
 
     /// Marks a node as down.
     pub(super) fn set_down(&mut self, number: NodeId) -> Result<(), NoMemory>
-        ensures { OnOk result (self.new ≡ record self.old { nodes = changed nat_cmp node_number most_nodes (λ r. record r { status = statuses.Down }) number self.old.nodes }) }
+        ensures { OnOk result (self.new ≡ node_changed down_row number self.old) }
     {
         match self.node(number) {
             Some(row) => {
@@ -59,7 +54,7 @@ impl Cluster {
 
     /// Begins to empty a node.
     pub(super) fn set_draining(&mut self, number: NodeId, force: bool) -> Result<(), NoMemory>
-        ensures { OnOk result (self.new ≡ record self.old { nodes = changed nat_cmp node_number most_nodes (λ r. record r { eligible = false; drain = cond force drains.Force drains.Slow }) number self.old.nodes }) }
+        ensures { OnOk result (self.new ≡ node_changed (draining_row force) number self.old) }
     {
         match self.node(number) {
             Some(row) => {
@@ -78,7 +73,7 @@ impl Cluster {
 
     /// Ends the emptying of a node.
     pub(super) fn set_drained(&mut self, number: NodeId) -> Result<(), NoMemory>
-        ensures { OnOk result (self.new ≡ record self.old { nodes = changed nat_cmp node_number most_nodes (λ r. record r { drain = drains.Off }) number self.old.nodes }) }
+        ensures { OnOk result (self.new ≡ node_changed drained_row number self.old) }
     {
         match self.node(number) {
             Some(row) => {
@@ -92,7 +87,7 @@ impl Cluster {
 
     /// A node has room from the last command on.
     pub(super) fn give_room(&mut self, number: NodeId) -> Result<(), NoMemory>
-        ensures { OnOk result (self.new ≡ record self.old { nodes = room_at self.old.count number self.old.nodes }) }
+        ensures { OnOk result (self.new ≡ node_has_room number self.old) }
     {
         let room = self.applied();
         match self.node(number) {

@@ -1,7 +1,7 @@
 //! What reports of a node change, and the jobs of the allocations that they end.
-ghost use Rattle.std.specs.Prelude.{◌≡◌, ◌&&◌, OnOk, option_map, ◌<◌, ◌++◌, List, ℕ, IfOk};
-ghost use Rattle.cluster_model.specs.Effect.{state_of, ends, lost};
-ghost use Rattle.fsm_state.specs.Inner.Steps.{revised, tell_one, told_steps, ended_job, ended_jobs};
+ghost use Rattle.std.specs.Prelude.{◌≡◌, ◌&&◌, OnOk, option_map, ◌<◌, IfOk};
+ghost use Rattle.cluster_model.specs.Effect.{state_of};
+ghost use Rattle.fsm_state.specs.Inner.Steps.{revised, tell_one, told_steps, ended_job, ended_jobs, Adds};
 
 use crate::apply::allocs::is_active;
 use crate::cluster::Cluster;
@@ -37,7 +37,8 @@ fn add_ended(
     node: NodeId,
     report: &Report,
 ) -> Result<(), NoMemory>
-    ensures { OnOk result ((rest : List (List ℕ)) → names.new ++ rest ≡ names.old ++ ended_job (tell_one node report.now) (option_map (λ r. r.now) row.entry) rest) }
+    ensures { let old = option_map (λ r. r.now) row.entry in
+        OnOk result (Adds (ended_job (tell_one node report.now) old) names.old names.new) }
 {
     match row {
         Some(row) if is_live(row) && !is_live(&told(row, node, report)) => names.push(row.job),
@@ -48,7 +49,8 @@ fn add_ended(
 impl Cluster {
     /// Takes a report.
     fn take_report(&mut self, node: NodeId, report: &Report) -> Result<(), NoMemory>
-        ensures { OnOk result (self.new ≡ revised (tell_one node report.now) report.now.id self.old) }
+        ensures { OnOk result (
+            self.new ≡ revised (tell_one node report.now) report.now.id self.old) }
     {
         match self.alloc(report.id) {
             Some(old) => {
