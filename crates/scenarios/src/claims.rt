@@ -7,16 +7,6 @@ use machine::{Machine, Tally};
 use rows::ServerId;
 use world::RaftWorld;
 
-/// Whether the sum of a server that runs is at most 1,000.
-pub fn is_within(world: &RaftWorld<Tally>, server: ServerId) -> bool
-    ensures { result ≡ true }
-{
-    match world.machine(server) {
-        Some(tally) => tally.sum() <= 1000,
-        None => true,
-    }
-}
-
 /// Whether two servers that have applied as many commands have the same sum.
 pub fn agree(world: &RaftWorld<Tally>, one: ServerId, other: ServerId) -> bool
     ensures { result ≡ true }

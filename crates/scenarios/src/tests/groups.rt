@@ -1,44 +1,65 @@
-//! Runs of groups that replicate a tally, their ends worked out by hand from the rules of logs.
-use crate::claims::{agree, is_within};
+//! Runs of groups that replicate a tally, their ends worked out by hand from the rules of logs, played line by line.
+use crate::claims::{agree, safe_state};
+use crate::tests::lines::put_line;
+use fsm_state::Cluster;
 use machine::{Amount, Machine, Tally, TallyCommand};
 use rows::{Leader, Refusal, ServerId};
+use runner::request::read_request;
 use std::alloc::Global;
-use std::process::Abort;
 use world::{Done, RaftEvent, RaftWorld};
 
-// What happens to a group, in short.
-#[derive(Clone, Copy)]
-enum Act {
-    Deliver(u64),
-    Timeout(u8),
-    Beat(u8),
-    Add(u8, u16),
-    Crash(u8),
-    Restart(u8),
-    // All messages that no flow has delivered are delivered, and those sent meanwhile.
-    Flow,
+// A group, and how many of its messages were delivered by a flow.
+#[derive(Drop)]
+struct Group {
+    alloc: Global,
+    size: usize,
+    world: RaftWorld<Tally>,
+    delivered: u64,
 }
 
-/// The server of this number.
-pub(crate) fn server(rt: &impl Abort, number: u8) -> ServerId {
-    ServerId::from_number(number).expect(rt, "a server's number")
-}
-
-/// A group of so many servers.
-pub(crate) fn group<M: Machine>(rt: &impl Abort, alloc: Global, n: usize) -> RaftWorld<M> {
-    match RaftWorld::new(alloc, n) {
-        Ok(world) => world,
-        Err(_) => panic!(rt; "no group"),
+// `group N`: N servers begin. `timeout S`, `beat S`, `crash S`, `restart S`, `deliver K`, `add S AMOUNT`: the event is taken. `refused N L EVENT`:
+// it is refused with N and changes nothing; with 2 server L is named as the leader, or none where L is 0. `flow`: all messages that no
+// flow has delivered are delivered, and those sent meanwhile. `server S TERM LAST APPLIED SUM`: how far a server that runs has come.
+// `chain N`: N entries of the one list were applied. `sent EVENTS MESSAGES`: so many there were. `message K BYTES`: the K-th message. `replay`: the group is what its own trace leads to.
+fn turn(group: &mut Group, line: &str) -> bool {
+    let (head, rest) = line.split_once(' ').unwrap_or((line, ""));
+    match head {
+        "group" => {
+            group.size = if rest == "5" { 5 } else { 3 };
+            group.delivered = 0;
+            match RaftWorld::new(group.alloc, group.size) {
+                Ok(world) => {
+                    group.world = world;
+                    true
+                }
+                Err(_) => false,
+            }
+        }
+        "flow" => {
+            group.delivered = flow(&mut group.world, group.delivered);
+            true
+        }
+        "refused" => refused(&mut group.world, rest).unwrap_or(false),
+        "server" => is_server(&group.world, rest).unwrap_or(false),
+        "chain" => Ok(group.world.chain().get()) == rest.parse::<u64>(),
+        "sent" => {
+            let sent = [
+                group.world.trace().len() as u64,
+                group.world.sent().len() as u64,
+            ];
+            numbers(rest).starts_with(&sent)
+        }
+        "message" => is_message(group, rest).unwrap_or(false),
+        "replay" => replays(group),
+        _ => match event(line) {
+            Some(event) => matches!(group.world.step(event), Ok(Done::Taken)),
+            None => false,
+        },
     }
 }
 
-/// The group takes an event.
-pub(crate) fn take<M: Machine>(rt: &impl Abort, world: &mut RaftWorld<M>, event: RaftEvent<M>) {
-    assert_eq!(rt; world.step(event), Ok(Done::Taken));
-}
-
 /// Delivers each message after the first `delivered`, up to a hundred, and answers how many were delivered then.
-pub(crate) fn flow<M: Machine>(world: &mut RaftWorld<M>, delivered: u64) -> u64 {
+fn flow<M: Machine>(world: &mut RaftWorld<M>, delivered: u64) -> u64 {
     let mut last = delivered;
     for _ in 0..100 {
         if last >= world.sent().len() as u64 {
@@ -51,278 +72,364 @@ pub(crate) fn flow<M: Machine>(world: &mut RaftWorld<M>, delivered: u64) -> u64 
     last
 }
 
-fn event(rt: &impl Abort, act: Act) -> Option<RaftEvent<Tally>> {
-    let event = match act {
-        Act::Deliver(message) => RaftEvent::Deliver(message),
-        Act::Timeout(number) => RaftEvent::Timeout(server(rt, number)),
-        Act::Beat(number) => RaftEvent::Beat(server(rt, number)),
-        Act::Add(number, amount) => {
-            let amount = Amount::new(amount).expect(rt, "an amount");
-            RaftEvent::Propose(server(rt, number), TallyCommand::Add(amount))
-        }
-        Act::Crash(number) => RaftEvent::Crash(server(rt, number)),
-        Act::Restart(number) => RaftEvent::Restart(server(rt, number)),
-        Act::Flow => return None,
-    };
-    Some(event)
-}
-
-// A group of so many servers after what happened. Events that it refuses are passed over.
-fn after(rt: &impl Abort, alloc: Global, n: u8, acts: &[Act]) -> RaftWorld<Tally> {
-    let mut world = group(rt, alloc, usize::from(n));
-    let mut delivered = 0;
-    for act in acts {
-        match event(rt, *act) {
-            Some(event) => {
-                let _ = world.step(event);
-            }
-            None => delivered = flow(&mut world, delivered),
-        }
+fn event(line: &str) -> Option<RaftEvent<Tally>> {
+    let (head, rest) = line.split_once(' ')?;
+    let (number, amount) = rest.split_once(' ').unwrap_or((rest, ""));
+    if head == "deliver" {
+        return Some(RaftEvent::Deliver(number.parse::<u64>().ok()?));
     }
-    world
+    let server = ServerId::from_number(number.parse::<u8>().ok()?)?;
+    match head {
+        "timeout" => Some(RaftEvent::Timeout(server)),
+        "beat" => Some(RaftEvent::Beat(server)),
+        "crash" => Some(RaftEvent::Crash(server)),
+        "restart" => Some(RaftEvent::Restart(server)),
+        "add" => {
+            let amount = Amount::new(amount.parse::<u16>().ok()?)?;
+            Some(RaftEvent::Propose(server, TallyCommand::Add(amount)))
+        }
+        _ => None,
+    }
 }
 
-// How far a server that runs has come: its term, its last index, how much it has applied, and its sum.
-fn check(rt: &impl Abort, world: &RaftWorld<Tally>, number: u8, wanted: (u64, u64, u64, u16)) {
-    let raft = world.raft(server(rt, number)).expect(rt, "a server");
-    let tally = world.machine(server(rt, number)).expect(rt, "a machine");
-    let found = (
-        raft.term().get(),
-        raft.last().get(),
-        tally.count(),
-        tally.sum(),
-    );
-    assert!(rt; found == wanted, "server {number}");
-}
-
-fn refuse(rt: &impl Abort, world: &mut RaftWorld<Tally>, act: Act, wanted: Refusal) {
+fn refused(world: &mut RaftWorld<Tally>, line: &str) -> Option<bool> {
+    let (number, rest) = line.split_once(' ')?;
+    let (leader, line) = rest.split_once(' ')?;
+    let leader = ServerId::from_number(leader.parse::<u8>().ok()?);
     let events = world.trace().len();
     let messages = world.sent().len();
-    let event = event(rt, act).expect(rt, "an event");
-    assert_eq!(rt; world.step(event), Err(wanted));
-    assert_eq!(rt; world.trace().len(), events);
-    assert_eq!(rt; world.sent().len(), messages);
+    let refusal = world.step(event(line)?).err()?;
+    let names = match refusal {
+        Refusal::NotLeader(known) => known == Leader::new(leader),
+        _ => leader.is_none(),
+    };
+    let same = world.trace().len() == events && world.sent().len() == messages;
+    Some(names && same && number.parse::<u8>() == Ok(refusal.number()))
+}
+
+fn numbers(words: &str) -> [u64; 5] {
+    let mut numbers = [u64::MAX; 5];
+    for (number, word) in numbers.iter_mut().zip(words.split(' ')) {
+        *number = word.parse().unwrap_or(u64::MAX);
+    }
+    numbers
+}
+
+fn is_server(world: &RaftWorld<Tally>, words: &str) -> Option<bool> {
+    let wanted = numbers(words);
+    let server = ServerId::from_number(u8::try_from(wanted[0]).ok()?)?;
+    let raft = world.raft(server)?;
+    let tally = world.machine(server)?;
+    let sum = u64::from(tally.sum());
+    Some(
+        wanted
+            == [
+                wanted[0],
+                raft.term().get(),
+                raft.last().get(),
+                tally.count(),
+                sum,
+            ],
+    )
+}
+
+fn is_message(group: &Group, words: &str) -> Option<bool> {
+    let (number, words) = words.split_once(' ')?;
+    let place = number.parse::<usize>().ok()?.checked_sub(1)?;
+    let mut bytes = Vec::new(group.alloc);
+    let put = put_line(&mut bytes, words);
+    Some(put && group.world.sent().get(place)?.bytes() == bytes.as_slice())
+}
+
+fn replays(group: &Group) -> bool {
+    let world = &group.world;
+    let Ok(again) = RaftWorld::run(group.alloc, group.size, world.trace()) else {
+        return false;
+    };
+    let mut same = again.chain() == world.chain()
+        && again.trace().len() == world.trace().len()
+        && again.sent().len() == world.sent().len();
+    for (a, b) in world.sent().iter().zip(again.sent()) {
+        same = same && a.to() == b.to() && a.bytes() == b.bytes();
+    }
+    for place in 0..group.size {
+        same = same && is_same(world, &again, place).unwrap_or(false);
+    }
+    same
+}
+
+// The server in a place is as far in both groups; and it agrees with the first.
+fn is_same(one: &RaftWorld<Tally>, other: &RaftWorld<Tally>, place: usize) -> Option<bool> {
+    let server = ServerId::from_place(place)?;
+    let a = one.raft(server)?;
+    let b = other.raft(server)?;
+    let same = a.role() == b.role()
+        && a.term() == b.term()
+        && a.last() == b.last()
+        && a.applied() == b.applied();
+    let sum = one.machine(server).map(|tally| tally.sum());
+    let wanted = other.machine(server).map(|tally| tally.sum());
+    Some(same && sum == wanted && agree(one, ServerId::from_place(0)?, server))
 }
 
 // The second proposal would make 1,100 of 600 that are not committed yet: it is refused, and neither counted nor sent.
-#[test]
-fn admits_against_the_whole_log(rt: HostRuntime) {
-    let acts = [Act::Timeout(1), Act::Flow, Act::Add(1, 600)];
-    let mut world = after(&rt, rt.alloc(), 3, &acts);
-    refuse(&rt, &mut world, Act::Add(1, 500), Refusal::OutOfRange);
-    for act in [Act::Add(1, 400), Act::Beat(1)] {
-        let event = event(&rt, act).expect(&rt, "an event");
-        take(&rt, &mut world, event);
-    }
-    assert_eq!(rt; flow(&mut world, 4), 8);
-    check(&rt, &world, 1, (1, 3, 3, 1000));
-    check(&rt, &world, 2, (1, 3, 0, 0));
-    check(&rt, &world, 3, (1, 3, 0, 0));
-    assert_eq!(rt; world.chain().get(), 3);
-    assert_eq!(rt; world.trace().len(), 12);
-    assert_eq!(rt; world.sent().len(), 8);
-}
+const ADMITTED: &str = "\
+group 3
+timeout 1
+flow
+add 1 600
+refused 12 0 add 1 500
+add 1 400
+beat 1
+flow
+server 1 1 3 3 1000
+server 2 1 3 0 0
+server 3 1 3 0 0
+chain 3
+sent 12 8";
 
 // A beat sends no more than 32 entries, and the next one goes on from there.
-#[test]
-fn sends_in_parts(rt: HostRuntime) {
-    let mut world = after(&rt, rt.alloc(), 3, &[Act::Timeout(1), Act::Flow]);
-    for _ in 0..40 {
-        let event = event(&rt, Act::Add(1, 0)).expect(&rt, "a proposal");
-        take(&rt, &mut world, event);
-    }
-    take(&rt, &mut world, RaftEvent::Beat(server(&rt, 1)));
-    let delivered = flow(&mut world, 4);
-    check(&rt, &world, 1, (1, 41, 32, 0));
-    check(&rt, &world, 2, (1, 32, 0, 0));
-    check(&rt, &world, 3, (1, 32, 0, 0));
-    take(&rt, &mut world, RaftEvent::Beat(server(&rt, 1)));
-    let _ = flow(&mut world, delivered);
-    check(&rt, &world, 1, (1, 41, 41, 0));
-    check(&rt, &world, 2, (1, 41, 32, 0));
-    check(&rt, &world, 3, (1, 41, 32, 0));
-    assert_eq!(rt; world.chain().get(), 41);
-}
+const PARTS: &str = "\
+group 3
+timeout 1
+flow
+add 1 0
+add 1 0
+add 1 0
+add 1 0
+add 1 0
+add 1 0
+add 1 0
+add 1 0
+add 1 0
+add 1 0
+add 1 0
+add 1 0
+add 1 0
+add 1 0
+add 1 0
+add 1 0
+add 1 0
+add 1 0
+add 1 0
+add 1 0
+add 1 0
+add 1 0
+add 1 0
+add 1 0
+add 1 0
+add 1 0
+add 1 0
+add 1 0
+add 1 0
+add 1 0
+add 1 0
+add 1 0
+add 1 0
+add 1 0
+add 1 0
+add 1 0
+add 1 0
+add 1 0
+add 1 0
+add 1 0
+beat 1
+flow
+server 1 1 41 32 0
+server 2 1 32 0 0
+server 3 1 32 0 0
+beat 1
+flow
+server 1 1 41 41 0
+server 2 1 41 32 0
+server 3 1 41 32 0
+chain 41";
 
 // Who does not lead names the leader that it knows; who is down, or not there, says so. A beat of another than a leader is an
 // event that does nothing.
-#[test]
-fn refuses_proposals(rt: HostRuntime) {
-    let mut world = after(&rt, rt.alloc(), 3, &[]);
-    let nobody = Refusal::NotLeader(Leader::new(None));
-    refuse(&rt, &mut world, Act::Add(1, 1), nobody);
-    take(&rt, &mut world, RaftEvent::Beat(server(&rt, 1)));
-    assert_eq!(rt; world.sent().len(), 0);
-    let acts = [
-        Act::Timeout(1),
-        Act::Flow,
-        Act::Beat(1),
-        Act::Flow,
-        Act::Crash(3),
-    ];
-    let mut world = after(&rt, rt.alloc(), 3, &acts);
-    let first = Refusal::NotLeader(Leader::new(Some(server(&rt, 1))));
-    refuse(&rt, &mut world, Act::Add(2, 1), first);
-    refuse(&rt, &mut world, Act::Add(4, 1), Refusal::OutOfRange);
-    refuse(&rt, &mut world, Act::Beat(4), Refusal::OutOfRange);
-    refuse(&rt, &mut world, Act::Deliver(0), Refusal::OutOfRange);
-    refuse(&rt, &mut world, Act::Restart(2), Refusal::OutOfRange);
-    refuse(&rt, &mut world, Act::Add(3, 1), Refusal::Down);
-    refuse(&rt, &mut world, Act::Beat(3), Refusal::Down);
-}
+const REFUSED: &str = "\
+group 3
+refused 2 0 add 1 1
+beat 1
+sent 1 0
+group 3
+timeout 1
+flow
+beat 1
+flow
+crash 3
+refused 2 1 add 2 1
+refused 12 0 add 4 1
+refused 12 0 beat 4
+refused 12 0 deliver 0
+refused 12 0 restart 2
+refused 16 0 add 3 1
+refused 16 0 beat 3";
 
 // What the old leader did not commit is cut away under the next one, which has entries of its own at those indexes.
-#[test]
-fn cuts_a_log(rt: HostRuntime) {
-    let acts = [
-        Act::Timeout(1),
-        Act::Flow,
-        Act::Add(1, 7),
-        Act::Crash(1),
-        Act::Timeout(2),
-        Act::Flow,
-        Act::Add(2, 9),
-        Act::Restart(1),
-        Act::Beat(2),
-        Act::Flow,
-        Act::Beat(2),
-        Act::Flow,
-    ];
-    let world = after(&rt, rt.alloc(), 3, &acts);
-    for number in 1..=3 {
-        check(&rt, &world, number, (2, 2, 2, 9));
-    }
-}
+const CUT: &str = "\
+group 3
+timeout 1
+flow
+add 1 7
+crash 1
+timeout 2
+flow
+add 2 9
+restart 1
+beat 2
+flow
+beat 2
+flow
+server 1 2 2 2 9
+server 2 2 2 2 9
+server 3 2 2 2 9";
 
 // Server 2 gave its vote to server 1, and a crash does not make it forget. The message that denies: version 1, a reply to a vote
 // from 2 to 3, 17 bytes, of term 1, asked in term 1, not granted.
-#[test]
-fn denies_the_second_candidate(rt: HostRuntime) {
-    let acts = [
-        Act::Timeout(1),
-        Act::Timeout(3),
-        Act::Deliver(1),
-        Act::Crash(2),
-        Act::Restart(2),
-        Act::Deliver(4),
-    ];
-    let world = after(&rt, rt.alloc(), 3, &acts);
-    let reply = world.sent().get(5).expect(&rt, "message 6");
-    let wanted = b"\x01\x02\x02\x03\0\0\0\x11\0\0\0\0\0\0\0\x01\0\0\0\0\0\0\0\x01\0";
-    assert_eq!(rt; reply.bytes(), wanted.as_slice());
-}
+const DENIED: &str = "\
+group 3
+timeout 1
+timeout 3
+deliver 1
+crash 2
+restart 2
+deliver 4
+message 6 raw 1 2 2 3 0 0 0 17 0 0 0 0 0 0 0 1 0 0 0 0 0 0 0 1 0";
 
-fn check_same(rt: &impl Abort, one: &RaftWorld<Tally>, other: &RaftWorld<Tally>, number: u8) {
-    let a = one.raft(server(rt, number)).expect(rt, "a server");
-    let b = other.raft(server(rt, number)).expect(rt, "a server");
-    assert_eq!(rt; a.role(), b.role());
-    assert_eq!(rt; a.term(), b.term());
-    assert_eq!(rt; a.last(), b.last());
-    assert_eq!(rt; a.applied(), b.applied());
-    let sum = one.machine(server(rt, number)).map(|tally| tally.sum());
-    let wanted = other.machine(server(rt, number)).map(|tally| tally.sum());
-    assert_eq!(rt; sum, wanted);
-    assert!(rt; is_within(one, server(rt, number)));
-    assert!(rt; agree(one, server(rt, 1), server(rt, number)));
-}
-
-// The group is what its own trace leads to, and so much of its list was applied.
-fn replay(rt: &impl Abort, alloc: Global, n: u8, acts: &[Act], chain: u64) {
-    let world = after(rt, alloc, n, acts);
-    assert_eq!(rt; world.chain().get(), chain);
-    let Ok(again) = RaftWorld::run(alloc, usize::from(n), world.trace()) else {
-        panic!(rt; "no group");
-    };
-    assert_eq!(rt; again.chain(), world.chain());
-    assert_eq!(rt; again.trace().len(), world.trace().len());
-    assert_eq!(rt; again.sent().len(), world.sent().len());
-    for (a, b) in world.sent().iter().zip(again.sent()) {
-        assert_eq!(rt; a.to(), b.to());
-        assert_eq!(rt; a.bytes(), b.bytes());
-    }
-    for number in 1..=n {
-        check_same(rt, &world, &again, number);
-    }
-}
-
-const PROPOSALS: [Act; 9] = [
-    Act::Timeout(1),
-    Act::Flow,
-    Act::Add(1, 600),
-    Act::Add(1, 500),
-    Act::Add(1, 400),
-    Act::Beat(1),
-    Act::Flow,
-    Act::Beat(1),
-    Act::Flow,
-];
+const PROPOSALS: &str = "\
+group 3
+timeout 1
+flow
+add 1 600
+refused 12 0 add 1 500
+add 1 400
+beat 1
+flow
+beat 1
+flow
+chain 3
+replay";
 
 // Two stand in one term, one wins, and a third takes over.
-const CANDIDATES: [Act; 13] = [
-    Act::Timeout(1),
-    Act::Timeout(3),
-    Act::Deliver(1),
-    Act::Deliver(4),
-    Act::Flow,
-    Act::Timeout(2),
-    Act::Flow,
-    Act::Add(2, 7),
-    Act::Add(1, 7),
-    Act::Beat(2),
-    Act::Flow,
-    Act::Beat(2),
-    Act::Flow,
-];
+const CANDIDATES: &str = "\
+group 3
+timeout 1
+timeout 3
+deliver 1
+deliver 4
+flow
+timeout 2
+flow
+add 2 7
+refused 2 0 add 1 7
+beat 2
+flow
+beat 2
+flow
+chain 2
+replay";
 
-const CRASHES: [Act; 20] = [
-    Act::Timeout(1),
-    Act::Flow,
-    Act::Add(1, 1),
-    Act::Beat(1),
-    Act::Crash(2),
-    Act::Flow,
-    Act::Restart(2),
-    Act::Beat(1),
-    Act::Flow,
-    Act::Crash(1),
-    Act::Timeout(3),
-    Act::Flow,
-    Act::Add(3, 2),
-    Act::Crash(1),
-    Act::Restart(1),
-    Act::Restart(1),
-    Act::Beat(3),
-    Act::Flow,
-    Act::Beat(3),
-    Act::Flow,
-];
+const CRASHES: &str = "\
+group 5
+timeout 1
+flow
+add 1 1
+beat 1
+crash 2
+flow
+restart 2
+beat 1
+flow
+crash 1
+timeout 3
+flow
+add 3 2
+refused 16 0 crash 1
+restart 1
+refused 12 0 restart 1
+beat 3
+flow
+beat 3
+flow
+chain 4
+replay";
 
 // Messages come twice, out of order, or never.
-const REPEATS: [Act; 17] = [
-    Act::Timeout(1),
-    Act::Deliver(2),
-    Act::Deliver(2),
-    Act::Deliver(3),
-    Act::Deliver(3),
-    Act::Add(1, 5),
-    Act::Beat(1),
-    Act::Add(1, 6),
-    Act::Beat(1),
-    Act::Deliver(8),
-    Act::Deliver(6),
-    Act::Deliver(8),
-    Act::Deliver(9),
-    Act::Deliver(9),
-    Act::Deliver(99),
-    Act::Beat(1),
-    Act::Flow,
-];
+const REPEATS: &str = "\
+group 3
+timeout 1
+deliver 2
+deliver 2
+deliver 3
+deliver 3
+add 1 5
+beat 1
+add 1 6
+beat 1
+deliver 8
+deliver 6
+deliver 8
+deliver 9
+deliver 9
+refused 12 0 deliver 99
+beat 1
+flow
+chain 3
+replay";
 
 #[test]
-fn replays(rt: HostRuntime) {
+fn groups_replicate(rt: HostRuntime) {
     let alloc = rt.alloc();
-    replay(&rt, alloc, 3, &PROPOSALS, 3);
-    replay(&rt, alloc, 3, &CANDIDATES, 2);
-    replay(&rt, alloc, 5, &CRASHES, 4);
-    replay(&rt, alloc, 3, &REPEATS, 3);
+    let mut group = Group {
+        alloc,
+        size: 3,
+        world: RaftWorld::new(alloc, 3).ok().expect(&rt, "a group"),
+        delivered: 0,
+    };
+    for table in [
+        ADMITTED, PARTS, REFUSED, CUT, DENIED, PROPOSALS, CANDIDATES, CRASHES, REPEATS,
+    ] {
+        for line in table.lines() {
+            assert!(rt; turn(&mut group, line), "{line}");
+        }
+    }
+}
+
+// The put and the stop of a job each leave an evaluation of it, which is pending.
+const PUT_AND_STOPPED: &str = "\
+state 3
+rows 1
+job web 50 yes 3 main:2:linux:600:300
+rows 0
+rows 2
+evaluation 2.0 web 50 pending 0
+evaluation 3.0 web 50 pending 0
+rows 0";
+
+#[test]
+fn leaves_pending_evaluations(rt: HostRuntime) {
+    let alloc = rt.alloc();
+    let mut world = RaftWorld::<Cluster>::new(alloc, 3)
+        .ok()
+        .expect(&rt, "a group");
+    let leader = ServerId::from_number(1).expect(&rt, "a server");
+    assert!(rt; matches!(world.step(RaftEvent::Timeout(leader)), Ok(Done::Taken)));
+    let delivered = flow(&mut world, 0);
+    for text in ["put web 50 main:2:linux:600:300", "stop web"] {
+        let Ok(Some(request)) = read_request(alloc, text) else {
+            panic!(&rt; "no request");
+        };
+        let event = RaftEvent::Propose(leader, request.into_command());
+        assert!(rt; matches!(world.step(event), Ok(Done::Taken)));
+    }
+    assert!(rt; matches!(world.step(RaftEvent::Beat(leader)), Ok(Done::Taken)));
+    let _ = flow(&mut world, delivered);
+    let state = safe_state(&world, leader).expect(&rt, "a state");
+    let mut wanted = Vec::new(alloc);
+    for line in PUT_AND_STOPPED.lines() {
+        assert!(rt; put_line(&mut wanted, line), "{line}");
+    }
+    let mut found = Vec::new(alloc);
+    assert!(rt; state.save(&mut found).is_ok() && found.as_slice() == wanted.as_slice());
 }
