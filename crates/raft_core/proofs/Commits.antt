@@ -8,7 +8,8 @@ use Rattle.machine.specs.declared.entry.Entry.{Entry}
 use Rattle.raft_model.specs.Logs.{term_at}
 use Rattle.raft_model.specs.Quorums.{count, is_quorum, Quorum, number, or_else}
 use Rattle.raft_model.specs.Servers.{Server, Leader, advanced, advanced_in, is_chosen, greatest}
-use Rattle.raft_core.specs.Commits.{holds, is_chosen_in, IsGreatest, IsChosen, IsRisen}
+use Rattle.raft_core.specs.Commits.{holds, IsGreatest, IsChosen, IsRisen}
+use Rattle.raft_core.specs.Inner.Commits.{is_chosen_in}
 use Rattle.raft_core.proofs.Quorums.{count-next}
 
 both_parts : (a b : Bool) → (a && b) ≡ true → (a ≡ true) × (b ≡ true)

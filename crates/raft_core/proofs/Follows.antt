@@ -10,9 +10,10 @@ use Rattle.raft_model.specs.Servers.{Server, is_leader, met, following, appended
 use Rattle.raft_model.specs.Servers.{Follower as FollowerMode}
 use Rattle.raft_model.specs.Steps.{receives}
 use Rattle.wire.specs.Frames.{Frame}
-use Rattle.raft_core.specs.Seen.{Seen, with_server}
+use Rattle.raft_core.specs.RaftView.{RaftView}
+use Rattle.raft_core.specs.Inner.Views.{with_server}
 use Rattle.raft_core.specs.Frames.{Sends}
-use Rattle.raft_core.specs.Turns.{Turned}
+use Rattle.raft_core.specs.Inner.Turns.{Turned}
 
 -- what follows the sender of an Append of its own term or a greater one
 abbrev pub follower : {C : Type 0} → Server C → ℕ → ℕ → List (Entry C) → ℕ → Option ℕ → Server C
@@ -32,7 +33,7 @@ module _ {C : Type 0} (s : Server C) (term from : ℕ) (le : s.term ≤ term) wh
     | inr t ↦ let b : nat_lt s.term term ≡ true = lt-ltb s.term term t.1 in rw b refl
   ]
 
-module _ {S C : Type 0} (m : Meaning S C) (old new : Seen C) (before after : List Frame) (from term prev prev_term commit : ℕ) (le : old.server.term ≤ term) where
+module _ {S C : Type 0} (m : Meaning S C) (old new : RaftView C) (before after : List Frame) (from term prev prev_term commit : ℕ) (le : old.server.term ≤ term) where
   pub refuses : (nat_le prev old.server.commit || has old.server.log prev prev_term) ≡ false → new ≡ with_server old (following (met term old.server) from) →
       Sends m before after (record { from = old.me; to = from; term = term; body = AppendReply term false (min (prev - 1) (length old.server.log)) } ∷ []) →
       (entries : List (Entry C)) → Turned m old new before after (follows_append old.me (following (met term old.server) from) from prev prev_term commit entries)

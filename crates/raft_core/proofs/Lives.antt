@@ -4,8 +4,8 @@ use Rattle.std.proofs.lemmas.List.{length-replicate, take-append-le}
 use Rattle.machine.specs.Meaning.{Meaning}
 use Rattle.machine.specs.declared.entry.Entry.{Entry}
 use Rattle.raft_model.specs.Logs.{commands, state_after}
-use Rattle.raft_model.specs.Servers.{Server, is_leader}
-use Rattle.raft_core.specs.Seen.{IsLive, HasRoom, IsRaft, while_up, mode_of}
+use Rattle.raft_model.specs.Servers.{Server, is_leader, extended}
+use Rattle.raft_core.specs.RaftView.{IsLive, HasRoom, IsRaft, while_up, mode_of}
 use Rattle.raft_core.specs.declared.role.Role.{Role}
 use Rattle.raft_core.specs.declared.role.Role.TheVariants as roles
 
@@ -100,3 +100,8 @@ term_up (Some machine) s = refl
 pub log_up : {S C : Type 0} (machine : Option S) (s : Server C) → (while_up machine s).log ≡ s.log
 log_up None s = refl
 log_up (Some machine) s = refl
+
+-- a log that grew by a command, also of a server that is down
+pub extended_by : {S C : Type 0} (machine : Option S) (s : Server C) (command : C) (log : List (Entry C)) → log ≡ s.log ++ record { term = s.term; command = command } ∷ [] → while_up machine (record s { log = log }) ≡ extended (while_up machine s) command
+extended_by None s command log is = rw is refl
+extended_by (Some machine) s command log is = rw is refl

@@ -1,4 +1,5 @@
--- A log that takes entries over, and the state after the first entries of one that was cut and grew.
+-- A log that takes entries over, and the state after the first entries of one that was cut and
+-- grew.
 use Rattle.std.proofs.Common.{◌≡◌, ℕ, zero, suc, ◌+◌, ◌-◌, ◌<◌, ◌≤◌, ◌||◌, nat_le, Bool, true, false, inl, inr, List, [], ◌∷◌, ◌++◌, length, take, drop, get_or, refl, sym, ap, ◌∙◌, arith, take-take, length-take-le, Result, Ok, Err, OnOk}
 use Rattle.std.proofs.Math.Seq.{take-append-add}
 use Rattle.std.proofs.lemmas.List.{take-append-le}

@@ -6,11 +6,11 @@ use Rattle.machine.specs.declared.entry.Entry.{Entry}
 use Rattle.raft_model.specs.Logs.{state_after}
 use Rattle.raft_model.specs.Quorums.{number}
 use Rattle.raft_model.specs.Servers.{Server, Leader, greatest}
-use Rattle.raft_core.specs.Commits.{is_chosen_in}
+use Rattle.raft_core.specs.Inner.Commits.{is_chosen_in}
 use Rattle.raft_core.specs.declared.role.Role.{Role}
 use Rattle.raft_core.specs.declared.role.Role.TheVariants as roles
-use Rattle.raft_core.specs.Seen.{Seen, mode_of, IsLive, IsRaft}
-use Rattle.raft_core.specs.Replies.{hears, next_after, match_after}
+use Rattle.raft_core.specs.RaftView.{RaftView, mode_of, IsLive, IsRaft}
+use Rattle.raft_core.specs.Inner.Replies.{hears, next_after, match_after}
 
 -- what holds of each item holds of each after a write
 set-each : (P : ℕ → Type 0) (xs : List ℕ) (i v j : ℕ) → P v → P (slice_index xs j) → P (slice_index (slice_set xs i v) j)
@@ -106,7 +106,7 @@ module _ {S C : Type 0} (m : Meaning S C) (me size : ℕ) (log : List (Entry C))
   }
 
 -- what the code leaves is a leader that has heard
-pub heard_by : {C : Type 0} (old : Seen C) (me size term : ℕ) (vote : Option ℕ) (log : List (Entry C)) (commit : ℕ) (known : Option ℕ) (role : Role) (votes : List Bool) (next match new_next new_match : List ℕ) (new_commit i at : ℕ) (ok : Bool) → record { me = me; size = size; server = record { term = term; vote = vote; log = log; covered = 0; commit = commit; known = known; mode = mode_of role votes next match } } ≡ old → role ≡ roles.Leader → new_next ≡ next_after (length log) i ok at next match → new_match ≡ match_after (length log) i ok at match → length match ≡ size → new_commit ≡ greatest (is_chosen_in (length new_match) me term log new_match) commit (length log) → record { term = term; vote = vote; log = log; covered = 0; commit = new_commit; known = known; mode = mode_of role votes new_next new_match } ≡ hears old.size old.me old.server i ok at old.server.mode
+pub heard_by : {C : Type 0} (old : RaftView C) (me size term : ℕ) (vote : Option ℕ) (log : List (Entry C)) (commit : ℕ) (known : Option ℕ) (role : Role) (votes : List Bool) (next match new_next new_match : List ℕ) (new_commit i at : ℕ) (ok : Bool) → record { me = me; size = size; server = record { term = term; vote = vote; log = log; covered = 0; commit = commit; known = known; mode = mode_of role votes next match } } ≡ old → role ≡ roles.Leader → new_next ≡ next_after (length log) i ok at next match → new_match ≡ match_after (length log) i ok at match → length match ≡ size → new_commit ≡ greatest (is_chosen_in (length new_match) me term log new_match) commit (length log) → record { term = term; vote = vote; log = log; covered = 0; commit = new_commit; known = known; mode = mode_of role votes new_next new_match } ≡ hears old.size old.me old.server i ok at old.server.mode
 heard_by old me size term vote log commit known role votes next match new_next new_match new_commit i at ok old-is leads next-is match-is each risen =
     let n : length new_match ≡ size = ap length match-is ∙ match-length (length log) i at ok match ∙ each in
     rw (← old-is, leads, risen, n, next-is, match-is) (sym (leader_hears size me term vote log 0 commit known next match i at ok))

@@ -3,6 +3,7 @@ use Rattle.std.proofs.Common.{◌≡◌, ◌≢◌, ℕ, suc, ◌+◌, ◌==◌,
 use Rattle.std.proofs.lemmas.Bool.{eq-eqb, ne_eqb}
 use Rattle.std.proofs.Math.Seq.{take-append_seam, take-length}
 use Rattle.std.proofs.lemmas.List.{append-nil}
+use Rattle.std.specs.List.{AllZip}
 use Rattle.machine.specs.Meaning.{Meaning}
 use Rattle.raft_model.specs.Messages.{Message, to_others}
 use Rattle.rows.specs.declared.actor.Actor.TheVariants.{Server}
@@ -10,14 +11,14 @@ use Rattle.wire.specs.Frames.{Frame}
 use Rattle.wire.specs.Messages.{may_go, kind_of, is_another_server}
 use Rattle.wire.specs.declared.body.Body.{Body}
 use Rattle.wire.specs.declared.body.Body.TheVariants as bodies
-use Rattle.raft_core.specs.Frames.{Carry, Sends}
-use Rattle.raft_core.specs.Turns.{Sent}
+use Rattle.raft_core.specs.Frames.{FrameCarries, Sends}
+use Rattle.raft_core.specs.Inner.Turns.{Sent}
 
 module _ {S C : Type 0} (m : Meaning S C) where
   pub sends-none : (all : List Frame) → Sends m all all []
   sends-none all = record { frames = []; added = sym (append-nil all); carry = tt }
 
-  carry-more : (fs gs : List Frame) (xs ys : List (Message C)) → Carry m fs xs → Carry m gs ys → Carry m (fs ++ gs) (xs ++ ys)
+  carry-more : (fs gs : List Frame) (xs ys : List (Message C)) → AllZip (FrameCarries m) fs xs → AllZip (FrameCarries m) gs ys → AllZip (FrameCarries m) (fs ++ gs) (xs ++ ys)
   carry-more [] gs [] ys p q = q
   carry-more [] gs (x ∷ xs) ys p q = absurd p
   carry-more (f ∷ fs) gs [] ys p q = absurd p

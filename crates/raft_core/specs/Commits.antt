@@ -1,4 +1,5 @@
--- How far a leader's commit index rises. (Raft, extended version 2014, section 5.3, and section 5.4.2.)
+-- How far a leader's commit index rises. (Raft, extended version 2014, section 5.3, and section
+-- 5.4.2.)
 use Rattle.std.specs.Prelude.{◌≡◌, ℕ, ◌≤◌, ◌<◌, ◌⊎◌, true, Bool, ◌==◌, ◌&&◌, ◌||◌, nat_le, List, length}
 use Rattle.machine.specs.declared.entry.Entry.{Entry}
 use Rattle.raft_model.specs.Logs.{term_at}
@@ -8,10 +9,6 @@ use Rattle.raft_model.specs.Servers.{Server}
 -- server j holds index k: the leader `me` all of its log, another what it is known to hold
 abbrev pub holds : ℕ → List ℕ → ℕ → ℕ → Bool
 holds me match k j = (j == me) || nat_le k (number match j)
-
--- the entry at index k of this log is of this term, and more than half of the n servers hold it
-abbrev pub is_chosen_in : {C : Type 0} → ℕ → ℕ → ℕ → List (Entry C) → List ℕ → ℕ → Bool
-is_chosen_in n me term log match k = (term_at log k == term) && is_quorum n (holds me match k)
 
 -- p is the greatest of `low` and the numbers above it, up to `high`, that pass the test
 pub record IsGreatest (test : ℕ → Bool) (low high p : ℕ) : Type 0 where
@@ -25,7 +22,8 @@ pub record IsChosen {C : Type 0} (n me : ℕ) (s : Server C) (match : List ℕ) 
   pub term : term_at s.log k ≡ s.term
   pub held : Quorum n (holds me match k)
 
--- p is the leader's commit index after a rise: no such entry stands above it, and it rose to none but such a one
+-- p is the leader's commit index after a rise: no such entry stands above it, and it rose to none
+-- but such a one
 pub record IsRisen {C : Type 0} (n me : ℕ) (s : Server C) (match : List ℕ) (p : ℕ) : Type 0 where
   pub keeps : s.commit ≤ p
   pub above : (q : ℕ) → IsChosen n me s match q → q ≤ p

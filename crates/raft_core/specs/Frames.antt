@@ -1,5 +1,6 @@
 -- Messages between servers, and the frames that carry them.
-use Rattle.std.specs.Prelude.{◌≡◌, ℕ, List, [], ◌∷◌, ◌++◌}
+use Rattle.std.specs.Prelude.{◌≡◌, ℕ, List, ◌++◌}
+use Rattle.std.specs.List.{AllZip}
 use Rattle.rows.specs.declared.actor.Actor.TheVariants.{Server}
 use Rattle.machine.specs.Meaning.{Meaning}
 use Rattle.wire.specs.Messages.{Message as WireMessage}
@@ -37,18 +38,13 @@ pub record IsFrameOf {S C : Type 0} (m : Meaning S C) (bytes : List ℕ) (messag
   pub means : Means read message
 
 -- a frame on its way carries the message, to its receiver
-pub record Carries {S C : Type 0} (m : Meaning S C) (frame : Frame) (message : Message C) : Type 0 where
+pub record FrameCarries {S C : Type 0} (m : Meaning S C) (frame : Frame) (message : Message C) : Type 0 where
   pub to : frame.to ≡ Server message.to
   pub bytes : IsFrameOf m frame.bytes message
 
--- the frames carry the messages, one for one
-abbrev pub Carry : {S C : Type 0} → Meaning S C → List Frame → List (Message C) → Type 0
-Carry m [] [] = Unit {0}
-Carry m (frame ∷ frames) (message ∷ messages) = Carries m frame message × Carry m frames messages
-Carry m _ _ = ⊥
-
--- to the frames that were there, those of the messages were added, in order, and nothing else
+-- to the frames that were there, those of the messages were added, one for one and in order, and
+-- nothing else
 pub record Sends {S C : Type 0} (m : Meaning S C) (before after : List Frame) (messages : List (Message C)) : Type 0 where
   pub frames : List Frame
   pub added : after ≡ before ++ frames
-  pub carry : Carry m frames messages
+  pub carry : AllZip (FrameCarries m) frames messages

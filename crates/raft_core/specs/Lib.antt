@@ -1,11 +1,8 @@
 pub mod Stored
-pub mod Seen
+pub mod RaftView
 pub mod Frames
-pub mod Turns
+pub mod Inputs
 pub mod Steps
-pub mod Proposals
-pub mod Stops
-pub mod Restarts
+pub mod Refusals
 pub mod Commits
-pub mod Replies
-pub mod Beats
+pub mod Inner

@@ -18,7 +18,8 @@ pub fn apply_all<M: Machine>(machine: &mut M, entries: &[Entry<Coded<M>>]) -> Re
     Ok(())
 }
 
-/// Brings a machine on from the state after the first `from` entries of a log to that after the first `to`.
+/// Brings a machine on from the state after the first `from` entries of a log to that after the
+/// first `to`.
 pub fn apply_range<M: Machine>(
     machine: &mut M,
     log: &[Entry<Coded<M>>],

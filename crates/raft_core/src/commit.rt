@@ -1,10 +1,12 @@
-//! How far a leader's commit index rises. (Raft, extended version 2014, section 5.3, and section 5.4.2.)
+//! How far a leader's commit index rises. (Raft, extended version 2014, section 5.3, and section
+//! 5.4.2.)
 
 ghost use Rattle.std.specs.Prelude.{◌≡◌, ◌≢◌, ◌^◌, ◌<◌, ◌≤◌, ◌⊎◌, ℕ, Bool, List, length, take, IfOk};
 ghost use Rattle.raft_model.specs.Logs.{state_after};
 ghost use Rattle.raft_model.specs.Quorums.{count, is_quorum, number};
 ghost use Rattle.raft_model.specs.Servers.{Server, Leader, advanced, greatest};
-ghost use Rattle.raft_core.specs.Commits.{holds, is_chosen_in, IsGreatest, IsRisen};
+ghost use Rattle.raft_core.specs.Commits.{holds, IsGreatest, IsRisen};
+ghost use Rattle.raft_core.specs.Inner.Commits.{is_chosen_in};
 
 use crate::apply::apply_range;
 use crate::log::term_at;
@@ -35,12 +37,15 @@ fn is_quorum(me: ServerId, matched: &[u64], index: u64) -> bool
     2 * count_holders(me, matched, index) > matched.len()
 }
 
-/// The greatest match index of another server below an index, or 0: above it and up to the index the same servers hold.
+/// The greatest match index of another server below an index, or 0: above it and up to the index
+/// the same servers hold.
 fn next_lower(me: ServerId, matched: &[u64], index: u64) -> u64
     requires { 0 < index }
     ensures below { result < index }
-    ensures others { (j : ℕ) → j < length matched.now → j ≢ me → number matched.now j < index → number matched.now j ≤ result }
-    ensures one { (result ≡ 0) ⊎ ((j : ℕ) × (j < length matched.now) × (j ≢ me) × (number matched.now j ≡ result)) }
+    ensures others { (j : ℕ) → j < length matched.now → j ≢ me → number matched.now j < index →
+        number matched.now j ≤ result }
+    ensures one { (result ≡ 0)
+        ⊎ ((j : ℕ) × (j < length matched.now) × (j ≢ me) × (number matched.now j ≡ result)) }
 {
     let mut low = 0;
     for (place, level) in matched.iter().enumerate() {
@@ -51,9 +56,9 @@ fn next_lower(me: ServerId, matched: &[u64], index: u64) -> u64
     low
 }
 
-/// The commit index of a leader: it rises to the greatest index whose entry is of its own term and held by more than half
-/// of the servers. Only what stands above commit is looked at, and of the indexes that no quorum holds at most one for each
-/// server.
+/// The commit index of a leader: it rises to the greatest index whose entry is of its own term and
+/// held by more than half of the servers. Only what stands above commit is looked at, and of the
+/// indexes that no quorum holds at most one for each server.
 fn risen<M: Machine>(
     me: ServerId,
     commit: Index,
@@ -62,7 +67,8 @@ fn risen<M: Machine>(
     matched: &[u64],
 ) -> u64
     requires group { length matched.now ≤ 5 }
-    ensures value { result ≡ greatest (is_chosen_in (length matched.now) me term log.now matched.now) commit (length log.now) }
+    ensures value { result ≡ greatest
+        (is_chosen_in (length matched.now) me term log.now matched.now) commit (length log.now) }
     ensures rises { commit ≤ result }
     ensures within { commit ≤ length log.now → result ≤ length log.now }
 {
@@ -92,7 +98,9 @@ pub fn advance<M: Machine>(
     requires short { length log.now < 2 ^ 40 }
     requires committed { commit ≤ length log.now }
     requires state { machine.old ≡ state_after M.meaning (take commit log.now) }
-    ensures value { IfOk result (λ n. n ≡ greatest (is_chosen_in (length matched.now) me term log.now matched.now) commit (length log.now)) }
+    ensures value { IfOk result (λ n. n
+        ≡ greatest (is_chosen_in (length matched.now) me term log.now matched.now) commit
+        (length log.now)) }
     ensures within { IfOk result (λ n. n ≤ length log.now) }
     ensures state { IfOk result (λ n. machine.new ≡ state_after M.meaning (take n log.now)) }
 {
@@ -104,9 +112,12 @@ pub fn advance<M: Machine>(
     Ok(to)
 }
 
-/// A leader's commit index never falls, and rises to the greatest index whose entry is of the leader's own term and held by
-/// a quorum, and to no other. The function has an empty body: what it says is its contract.
+/// A leader's commit index never falls, and rises to the greatest index whose entry is of the
+/// leader's own term and held by a quorum, and to no other. The function has an empty body: what it
+/// says is its contract.
 pub fn commit_is_greatest<M: Machine>()
-    ensures greatest { (test : ℕ → Bool) (low high : ℕ) → IsGreatest test low high (greatest test low high) }
-    ensures risen { (n me : ℕ) (s : Server M.Command) (next matched : List ℕ) → s.mode ≡ Leader next matched → IsRisen n me s matched (advanced n me s).commit }
+    ensures greatest { (test : ℕ → Bool) (low high : ℕ) →
+        IsGreatest test low high (greatest test low high) }
+    ensures risen { (n me : ℕ) (s : Server M.Command) (next matched : List ℕ) →
+        s.mode ≡ Leader next matched → IsRisen n me s matched (advanced n me s).commit }
 {}

@@ -5,7 +5,8 @@ pub enum Input<'a> {
     Frame(&'a [u8]),
     /// It has heard of no leader for long enough to stand for election.
     Timeout,
-    /// It is time to be heard of: a leader sends to each other server the entries that it does not have yet.
+    /// It is time to be heard of: a leader sends to each other server the entries that it does not
+    /// have yet.
     Beat,
     /// It stops, and loses what it does not store.
     Crash,

@@ -1,5 +1,5 @@
-//! One server of a replicated log: what it stores, what it keeps in memory, and what it does with each input. (Raft,
-//! extended version 2014, section 5 and Figure 2.)
+//! One server of a replicated log: what it stores, what it keeps in memory, and what it does with
+//! each input. (Raft, extended version 2014, section 5 and Figure 2.)
 #![tactic(auto)]
 
 mod apply;

@@ -8,8 +8,8 @@ use crate::log::stays;
 use machine::{Coded, Entry, Machine};
 use rows::NoMemory;
 
-/// How many of the entries that follow `prev` are passed over before the first that differs or is missing; none where all
-/// are there.
+/// How many of the entries that follow `prev` are passed over before the first that differs or is
+/// missing; none where all are there.
 fn first_new<M: Machine>(
     log: &[Entry<Coded<M>>],
     commit: u64,
@@ -44,7 +44,8 @@ fn replace_tail<T: Drop>(all: &mut Vec<T>, keep: usize, mut more: Vec<T>) -> Res
     }
 }
 
-/// Cuts the log and puts a tail behind what stays, the machine brought on first. Want of memory leaves the log as it was.
+/// Cuts the log and puts a tail behind what stays, the machine brought on first. Want of memory
+/// leaves the log as it was.
 fn splice<M: Machine>(
     log: &mut Vec<Entry<Coded<M>>>,
     machine: &mut M,
@@ -60,7 +61,8 @@ fn splice<M: Machine>(
     requires short { keep + length tail.items < 2 ^ 40 }
     requires state { machine.old ≡ state_after M.meaning (take commit log.old.items) }
     ensures ok { OnOk result (log.new.items ≡ take keep log.old.items ++ tail.items) }
-    ensures state { OnOk result (machine.new ≡ state_after M.meaning (take risen (take keep log.old.items ++ tail.items))) }
+    ensures state { OnOk result (machine.new
+        ≡ state_after M.meaning (take risen (take keep log.old.items ++ tail.items))) }
     ensures err { OnErr result (log.new.items ≡ log.old.items) }
 {
     if risen <= keep {
@@ -83,8 +85,8 @@ fn rest_of<T: Drop>(mut entries: Vec<T>, k: usize) -> Result<Vec<T>, NoMemory>
     Ok(entries.split_off(k)?)
 }
 
-/// Makes the log what a leader's entries make it, the machine brought on first to `risen` of its entries. Want of memory
-/// leaves the log as it was.
+/// Makes the log what a leader's entries make it, the machine brought on first to `risen` of its
+/// entries. Want of memory leaves the log as it was.
 pub fn adopt<M: Machine>(
     log: &mut Vec<Entry<Coded<M>>>,
     machine: &mut M,

@@ -5,13 +5,14 @@ mod propose;
 mod replies;
 mod votes;
 
-ghost use Rattle.std.specs.Prelude.{◌≡◌, true, false, None, length, take, replicate, OnOk, IfOk, IfErr, MatchOption};
+ghost use Rattle.std.specs.Prelude.{◌≡◌, true, false, None, length, take, replicate, OnOk, OnErr, IfOk, IfErr, MatchOption};
 ghost use Rattle.raft_model.specs.Logs.{state_after};
 ghost use Rattle.raft_model.specs.Servers.{Server, is_up, is_leader, met, crashed, restarted};
-ghost use Rattle.raft_core.specs.Seen.{with_server};
-ghost use Rattle.raft_core.specs.Steps.{Represents, Stores, Takes, Declines, refusal, role_of, is_member};
-ghost use Rattle.raft_core.specs.Stops.{Stops};
-ghost use Rattle.raft_core.specs.Restarts.{WhyNot};
+ghost use Rattle.raft_core.specs.Inputs.{handed};
+ghost use Rattle.raft_core.specs.Steps.{Represents, Stores, Takes, role_of, is_member};
+ghost use Rattle.raft_core.specs.Refusals.{refusal, IsRefused, RefusalLeaves, WhyNot};
+ghost use Rattle.raft_core.specs.Inner.Stops.{Stops};
+ghost use Rattle.raft_core.specs.Inner.Views.{with_server};
 
 use crate::input::Input;
 use crate::role::Role;
@@ -22,8 +23,8 @@ use std::alloc::Global;
 use std::marker::Model;
 use wire::Outbox;
 
-/// One server of a group of 3 or 5. Term, vote and log are stored; the rest is lost in a crash. It is down while it has no
-/// machine.
+/// One server of a group of 3 or 5. Term, vote and log are stored; the rest is lost in a crash. It
+/// is down while it has no machine.
 #[derive(Drop)]
 pub struct Raft<M: Machine> {
     alloc: Global,
@@ -44,17 +45,17 @@ pub struct Raft<M: Machine> {
 }
 
 impl<M: Machine> Model for Raft<M> {
-    ghost use Rattle.raft_core.specs.Seen.{Seen, while_up, mode_of, IsRaft};
+    ghost use Rattle.raft_core.specs.RaftView.{RaftView, while_up, mode_of, IsRaft};
 
-    ghost Value = { Seen M.Command };
+    ghost Value = { RaftView M.Command };
 
     ghost view = { λ a. record { me = a.me; size = a.size; server = while_up a.machine (record { term = a.term; vote = a.vote; log = a.log.items; covered = 0; commit = a.commit; known = a.known; mode = mode_of a.role a.votes.items a.next.items a.matched.items }) } };
 
     ghost invariant = { λ a. IsRaft M.meaning a.me a.size a.log.items a.role a.commit a.votes.items a.next.items a.matched.items a.machine };
 }
 
-/// A stored part that could not be started, and why: the number is past the group's size, or that is not 3 or 5
-/// (`OutOfRange`), or memory was wanting (`NoMemory`).
+/// A stored part that could not be started, and why: the number is past the group's size, or that
+/// is not 3 or 5 (`OutOfRange`), or memory was wanting (`NoMemory`).
 #[derive(Drop)]
 pub struct NotRestarted<M: Machine> {
     /// Why it was refused.
@@ -90,10 +91,11 @@ fn is_member(size: usize, me: ServerId) -> bool
 }
 
 impl<M: Machine> Raft<M> {
-    /// The server of this number in a group of `size` that starts with what it stored: a follower that knows no leader.
+    /// The server of this number in a group of `size` that starts with what it stored: a follower
+    /// that knows no leader.
     ///
-    /// It is refused with `OutOfRange` where `size` is not 3 or 5 or the number is past it, and with `NoMemory`; the stored
-    /// part is handed back then.
+    /// It is refused with `OutOfRange` where `size` is not 3 or 5 or the number is past it, and
+    /// with `NoMemory`; the stored part is handed back then.
     pub fn restart(
         alloc: Global,
         me: ServerId,
@@ -102,7 +104,8 @@ impl<M: Machine> Raft<M> {
     ) -> Result<Raft<M>, NotRestarted<M>>
         ensures member { OnOk result (is_member size me ≡ true) }
         ensures number { IfOk result (λ r. (r.me ≡ me) × (r.size ≡ size)) }
-        ensures server { IfOk result (λ r. (s : Server M.Command) → Stores M.meaning stable s → Represents M.meaning r (restarted s)) }
+        ensures server { IfOk result (λ r. (s : Server M.Command) → Stores M.meaning stable s →
+            Represents M.meaning r (restarted s)) }
         ensures refused { IfErr result (λ e. (e.stable ≡ stable) × WhyNot size me e.refusal) }
     {
         if !is_member(size, me) {
@@ -156,7 +159,8 @@ impl<M: Machine> Raft<M> {
 
     /// What it is doing, while it is up.
     pub fn role(&self) -> Option<Role>
-        ensures { (s : Server M.Command) → Represents M.meaning self.now s → result ≡ role_of s.mode }
+        ensures { (s : Server M.Command) → Represents M.meaning self.now s →
+            result ≡ role_of s.mode }
     {
         match self.machine {
             Some(_) => Some(self.role),
@@ -164,8 +168,9 @@ impl<M: Machine> Raft<M> {
         }
     }
 
-    /// The leader of its term, where it has followed an Append of that server's; none while it is down. A server that leads or
-    /// stands for election knows none, and a greater term or a restart makes it forget.
+    /// The leader of its term, where it has followed an Append of that server's; none while it is
+    /// down. A server that leads or stands for election knows none, and a greater term or a restart
+    /// makes it forget.
     pub fn known_leader(&self) -> Option<ServerId>
         ensures { (s : Server M.Command) → Represents M.meaning self.now s → result ≡ s.known }
     {
@@ -194,7 +199,9 @@ impl<M: Machine> Raft<M> {
 
     /// How many entries are applied, while it is up: all that are committed.
     pub fn applied(&self) -> Option<Index>
-        ensures { (s : Server M.Command) → Represents M.meaning self.now s → MatchOption result (is_up s.mode ≡ false) (λ n. (is_up s.mode ≡ true) × (n ≡ s.commit)) }
+        ensures { (s : Server M.Command) → Represents M.meaning self.now s →
+            MatchOption result (is_up s.mode ≡ false) (λ n. (is_up s.mode ≡ true)
+            × (n ≡ s.commit)) }
     {
         match self.machine {
             Some(_) => Some(self.commit),
@@ -204,7 +211,9 @@ impl<M: Machine> Raft<M> {
 
     /// The machine after the committed entries, while it is up.
     pub fn machine(&self) -> Option<&M>
-        ensures { (s : Server M.Command) → Represents M.meaning self.now s → MatchOption result (is_up s.mode ≡ false) (λ r. (is_up s.mode ≡ true) × (r.now ≡ state_after M.meaning (take s.commit s.log))) }
+        ensures { (s : Server M.Command) → Represents M.meaning self.now s →
+            MatchOption result (is_up s.mode ≡ false) (λ r. (is_up s.mode ≡ true)
+            × (r.now ≡ state_after M.meaning (take s.commit s.log))) }
     {
         self.machine.as_ref()
     }
@@ -225,8 +234,16 @@ impl<M: Machine> Raft<M> {
         self.role.leads()
     }
 
-    /// It stops: what it does not store is lost.
-    fn crash(&mut self)
+    /// It stops: what it does not store is lost. One that is down stays so. It takes no memory.
+    pub fn crash(&mut self)
+        ensures same { (self.new.me ≡ self.old.me) × (self.new.size ≡ self.old.size) }
+        ensures crashed { (s : Server M.Command) → Represents M.meaning self.old s →
+            Represents M.meaning self.new (crashed s) }
+    {
+        self.go_down();
+    }
+
+    fn go_down(&mut self)
         ensures { self.new ≡ with_server self.old (crashed self.old.server) }
     {
         self.machine = None;
@@ -259,13 +276,16 @@ impl<M: Machine> Raft<M> {
         }
     }
 
-    /// One input is taken. After want of memory what is stored is as it was, and frames may stand behind those that were
-    /// there.
+    /// One input is taken. After want of memory what is stored is as it was, and frames may stand
+    /// behind those that were there.
     fn take(&mut self, input: Input, outbox: &mut Outbox) -> Result<(), Refusal>
         ensures same { (self.new.me ≡ self.old.me) × (self.new.size ≡ self.old.size) }
-        ensures taken { OnOk result (Takes M.meaning self.old self.old.server input.entry self.new outbox.old outbox.new) }
-        ensures admitted { OnOk result (refusal M.meaning self.old.size self.old.me self.old.server input.entry ≡ None) }
-        ensures stopped { IfErr result (λ cause. Stops M.meaning self.old input.entry cause self.new outbox.old outbox.new) }
+        ensures taken { OnOk result (Takes M.meaning self.old self.old.server (handed input.entry)
+            self.new outbox.old outbox.new) }
+        ensures admitted { OnOk result (
+            refusal M.meaning self.old.size self.old.me self.old.server (handed input.entry) ≡ None) }
+        ensures stopped { IfErr result (λ cause.
+            Stops M.meaning self.old (handed input.entry) cause self.new outbox.old outbox.new) }
     {
         let is_up = self.is_up();
         match input {
@@ -280,7 +300,7 @@ impl<M: Machine> Raft<M> {
                 if !is_up {
                     return Err(Refusal::Down);
                 }
-                self.crash();
+                self.go_down();
                 Ok(())
             }
             Input::Timeout => {
@@ -305,18 +325,28 @@ impl<M: Machine> Raft<M> {
         }
     }
 
-    /// One step: the server takes an input, and the frames of the messages that it sends are put behind those in the outbox.
+    /// One step: the server takes an input, and the frames of the messages that it sends are put
+    /// behind those in the outbox.
     ///
-    /// One that is down refuses every input but Restart with `Down`. Then of a frame `Frame` names the offset of its first
-    /// fault, or 2 where its sender is not of the group, or 3 where it is for another server; a Timeout is refused with
-    /// `Exhausted` where the term or the last index is 2^40 - 1; a Restart of one that is up with `OutOfRange`. A refusal
-    /// changes nothing and sends nothing. With `NoMemory` the server is down, with its stored part as it was and nothing
-    /// sent.
+    /// One that is down refuses every input but Restart with `Down`. Then of a frame `Frame` names
+    /// the offset of its first fault, or 2 where its sender is not of the group, or 3 where it is
+    /// for another server; a Timeout is refused with `Exhausted` where the term or the last index
+    /// is 2^40 - 1; a Restart of one that is up with `OutOfRange`. A refusal changes nothing and
+    /// sends nothing. With `NoMemory` the server is down, with its stored part as it was and
+    /// nothing sent.
     pub fn step(&mut self, input: Input, outbox: &mut Outbox) -> Result<(), Refusal>
         ensures same { (self.new.me ≡ self.old.me) × (self.new.size ≡ self.old.size) }
-        ensures taken { OnOk result ((s : Server M.Command) → Represents M.meaning self.old s → Takes M.meaning self.old s input.entry self.new outbox.old outbox.new) }
-        ensures admitted { OnOk result ((s : Server M.Command) → Represents M.meaning self.old s → refusal M.meaning self.old.size self.old.me s input.entry ≡ None) }
-        ensures refused { IfErr result (λ cause. Declines M.meaning self.old input.entry cause self.new outbox.old outbox.new) }
+        ensures taken { OnOk result ((s : Server M.Command) → Represents M.meaning self.old s →
+            Takes M.meaning self.old s (handed input.entry) self.new outbox.old outbox.new) }
+        ensures admitted { OnOk result ((s : Server M.Command) → Represents M.meaning self.old s →
+            refusal M.meaning self.old.size self.old.me s (handed input.entry) ≡ None) }
+        ensures refused { IfErr result (λ cause. (s : Server M.Command) →
+            Represents M.meaning self.old s →
+            IsRefused M.meaning self.old.size self.old.me s (handed input.entry) cause) }
+        ensures left { IfErr result (λ cause. (s : Server M.Command) →
+            Represents M.meaning self.old s →
+            RefusalLeaves M.meaning self.old s (handed input.entry) cause self.new) }
+        ensures unsent { OnErr result (outbox.new ≡ outbox.old) }
     {
         let before = outbox.len();
         match self.take(input, outbox) {
@@ -324,7 +354,7 @@ impl<M: Machine> Raft<M> {
             Err(cause) => match cause {
                 Refusal::NoMemory => {
                     outbox.truncate(before);
-                    self.crash();
+                    self.go_down();
                     Err(Refusal::NoMemory)
                 }
                 other => Err(other),

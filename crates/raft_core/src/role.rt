@@ -1,6 +1,6 @@
 ghost use Rattle.std.specs.Prelude.{◌≡◌, []};
 ghost use Rattle.raft_model.specs.Servers.{is_leader};
-ghost use Rattle.raft_core.specs.Seen.{mode_of};
+ghost use Rattle.raft_core.specs.RaftView.{mode_of};
 
 /// What a server that is up is doing. (Raft, section 5.1.)
 #[derive(Clone, Copy, Debug, PartialEq, Eq)]

@@ -1,6 +1,6 @@
 ghost use Rattle.std.specs.Prelude.{◌≡◌, ◌≢◌, ◌∷◌, [], OnOk, OnErr};
 ghost use Rattle.raft_core.specs.Frames.{Sends, term_of, body_of};
-ghost use Rattle.raft_core.specs.Turns.{Sent};
+ghost use Rattle.raft_core.specs.Inner.Turns.{Sent};
 
 use machine::Machine;
 use rows::{NoMemory, ServerId};
@@ -15,7 +15,8 @@ pub fn send<M: Machine>(
     body: Body<M>,
 ) -> Result<(), NoMemory>
     requires { from ≢ to }
-    ensures ok { OnOk result (Sends M.meaning outbox.old outbox.new (record { from = from; to = to; term = term_of body; body = body_of body } ∷ [])) }
+    ensures ok { OnOk result (Sends M.meaning outbox.old outbox.new
+        (record { from = from; to = to; term = term_of body; body = body_of body } ∷ [])) }
     ensures front { Sent outbox.old outbox.new }
     ensures err { OnErr result (outbox.new ≡ outbox.old) }
 {

@@ -5,8 +5,8 @@ use rows::{ServerId, Term};
 use std::alloc::Global;
 use std::marker::Model;
 
-/// What a server stores, and a crash leaves: its term, the vote that it gave in that term, and its log. (Raft, Figure 2,
-/// "Persistent state".)
+/// What a server stores, and a crash leaves: its term, the vote that it gave in that term, and its
+/// log. (Raft, Figure 2, "Persistent state".)
 #[derive(Drop)]
 pub struct Stable<M: Machine> {
     pub(crate) term: Term,

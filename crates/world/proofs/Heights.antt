@@ -6,7 +6,7 @@ use Rattle.raft_model.specs.Chains.{At, WasCommitted}
 use Rattle.raft_safety.proofs.Places.{get_set-cases, get_set-same, get-more, get-later, get-split, get-one, get-within, replicate-get}
 use Rattle.raft_safety.proofs.Paths.{bool_cases}
 use Rattle.raft_safety.specs.Claims.{IsGreatestCommit}
-use Rattle.world.specs.Inputs.{committed}
+use Rattle.world.specs.Inner.Inputs.{committed}
 
 up_committed : {C : Type 0} (s : Server C) → is_up s.mode ≡ true → committed s ≡ s.commit
 up_committed s up = rw up refl

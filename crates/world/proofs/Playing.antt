@@ -5,25 +5,25 @@ use Rattle.rows.specs.declared.refusal.Refusal.TheVariants as refusals
 use Rattle.machine.specs.Meaning.{Meaning}
 use Rattle.raft_model.specs.Worlds.{Event, first, Kept, LeftOut, IsEvent, Trace, nothing, kept, crashed, left_out}
 use Rattle.raft_model.specs.Worlds as model
-use Rattle.world.specs.declared.world.Done.{Done}
-use Rattle.world.specs.declared.world.Done.TheVariants.{Taken, Crashed}
-use Rattle.world.specs.Seen.{Seen}
-use Rattle.world.specs.Keeps.{Went, Refuses, IsNew, Played}
+use Rattle.world.specs.declared.done.Done.{Done}
+use Rattle.world.specs.declared.done.Done.TheVariants.{Taken, Crashed}
+use Rattle.world.specs.WorldView.{WorldView}
+use Rattle.world.specs.Steps.{IsDone, RefusesEvent, IsNew, Played}
 use Rattle.world.proofs.Begins.{new_runs}
 
 module _ {S C : Type 0} (m : Meaning S C) (n : ℕ) where
-  pub play_begins : (seen : Seen C) → IsNew m n seen → Played m n [] seen
+  pub play_begins : (seen : WorldView C) → IsNew m n seen → Played m n [] seen
   play_begins seen begun = record {
     count = begun.count;
     outcomes = [];
     past = [];
     world = first n;
     trace = subst (λ es. Trace m n [] [] es [] (first n)) (sym begun.trace) nothing;
-    runs = new_runs m n seen begun.count begun.trace begun.chain begun.stands;
+    runs = new_runs m n seen begun.count begun.trace begun.chain begun.represents;
   }
 
   -- an event of the same trace changed nothing
-  passed_over : (handed : List (Event C)) (old new : Seen C) (e : Event C) (r : Refusal) (p : Played m n handed old) → model.IsLeftOut m p.world e r → new ≡ old → Played m n (handed ++ e ∷ []) new
+  passed_over : (handed : List (Event C)) (old new : WorldView C) (e : Event C) (r : Refusal) (p : Played m n handed old) → model.IsLeftOut m p.world e r → new ≡ old → Played m n (handed ++ e ∷ []) new
   passed_over handed old new e r p left same = subst (λ x. Played m n (handed ++ e ∷ []) x) (sym same) (record {
     count = p.count;
     outcomes = p.outcomes ++ LeftOut r ∷ [];
@@ -33,8 +33,8 @@ module _ {S C : Type 0} (m : Meaning S C) (n : ℕ) where
     runs = p.runs;
   })
 
-  pub play_next : (handed : List (Event C)) (old new : Seen C) (e : Event C) (result : Result Done Refusal) → IsEvent m e → Played m n handed old →
-      IfOk result (λ done. Went m old e done new) → OnErr result (new ≡ old) → IfErr result (λ refusal. refusal ≢ refusals.NoMemory → Refuses m old e refusal) → result ≢ Err refusals.NoMemory →
+  pub play_next : (handed : List (Event C)) (old new : WorldView C) (e : Event C) (result : Result Done Refusal) → IsEvent m e → Played m n handed old →
+      IfOk result (λ done. IsDone m old e done new) → OnErr result (new ≡ old) → IfErr result (λ refusal. refusal ≢ refusals.NoMemory → RefusesEvent m old e refusal) → result ≢ Err refusals.NoMemory →
       Played m n (handed ++ e ∷ []) new
   play_next handed old new e (Ok Taken) is p went err cause memory =
       let q = went.runs p.past p.world p.runs in
@@ -48,18 +48,18 @@ module _ {S C : Type 0} (m : Meaning S C) (n : ℕ) where
       }
   play_next handed old new e (Ok Crashed) is p went err cause memory = elim went [
     | inl f ↦
-        let goes = f.goes in
-        let q = goes.runs p.past p.world p.runs in
-        let stands = p.runs in
+        let happened = f.happened in
+        let q = happened.runs p.past p.world p.runs in
+        let run = p.runs in
         record {
-          count = goes.size ∙ p.count;
+          count = happened.size ∙ p.count;
           outcomes = p.outcomes ++ model.Crashed ∷ [];
           past = p.past ++ p.world ∷ [];
           world = q.0;
-          trace = subst (λ es. Trace m n (handed ++ e ∷ []) (p.outcomes ++ model.Crashed ∷ []) es (p.past ++ p.world ∷ []) q.0) (sym goes.trace) (crashed e f.who q.0 p.trace (f.actor p.world stands.stands) q.1);
+          trace = subst (λ es. Trace m n (handed ++ e ∷ []) (p.outcomes ++ model.Crashed ∷ []) es (p.past ++ p.world ∷ []) q.0) (sym happened.trace) (crashed e f.who q.0 p.trace (f.actor p.world run.represents) q.1);
           runs = q.2;
         }
-    | inr s ↦ let stands = p.runs in passed_over handed old new e refusals.NoMemory p (inr (s.restart, s.could p.world stands.stands, refl)) s.same
+    | inr s ↦ let run = p.runs in passed_over handed old new e refusals.NoMemory p (inr (s.restart, s.could p.world run.represents, refl)) s.same
   ]
   play_next handed old new e (Err refusal) is p went err cause memory =
       passed_over handed old new e refusal p (inl (cause (λ r. memory (ap (λ x. Err x) r)) p.past p.world p.runs)) err

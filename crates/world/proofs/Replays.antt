@@ -5,8 +5,8 @@ use Rattle.raft_model.specs.Worlds.{World, Event, Run, start, more, happens, Out
 use Rattle.raft_model.specs.Worlds.{Crashed as OutcomeCrashed}
 use Rattle.raft_safety.proofs.Places.{get-more, get-last}
 use Rattle.raft_safety.proofs.Chains.{greatest_one}
-use Rattle.world.specs.Seen.{Seen, RunsTo}
-use Rattle.world.specs.Keeps.{Played, Lacked, Replays}
+use Rattle.world.specs.WorldView.{WorldView, RunsTo}
+use Rattle.world.specs.Steps.{Played, Lacked, Replays}
 use Rattle.world.proofs.Runs.{ends_alike, no_end, runs_are_one}
 
 module _ {S C : Type 0} (m : Meaning S C) (n : ℕ) where
@@ -60,7 +60,7 @@ module _ {S C : Type 0} (m : Meaning S C) (n : ℕ) where
         | inr l ↦ inr (lack_on os (LeftOut r) l)
       ]
 
-  pub replays : (handed : List (Event C)) (seen : Seen C) → Played m n handed seen → Replays m n handed seen
+  pub replays : (handed : List (Event C)) (seen : WorldView C) → Played m n handed seen → Replays m n handed seen
   replays handed seen p old reached count is =
       let runs = reached.runs in
       let run : Run m n handed reached.past reached.world = subst (λ es. Run m n es reached.past reached.world) is (subst (λ k. Run m k old.trace reached.past reached.world) count runs.run) in

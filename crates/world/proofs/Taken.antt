@@ -1,52 +1,30 @@
 -- An input that a server took, as an event of the world.
-use Rattle.std.proofs.Common.{◌≡◌, ℕ, inl, inr, max, Some, Result, Ok, List, [], ◌∷◌, ◌++◌, length, append-nil, refl, sym, ap, ◌∙◌, subst, slice_get, slice_set}
+use Rattle.std.proofs.Common.{◌≡◌, ℕ, inl, inr, max, Some, Result, Ok, List, [], ◌∷◌, ◌++◌, length, refl, sym, ap, ◌∙◌, subst, slice_get, slice_set}
 use Rattle.std.specs.List.{AllZip}
 use Rattle.rows.specs.declared.refusal.Refusal.{Refusal}
 use Rattle.machine.specs.Meaning.{Meaning}
 use Rattle.wire.specs.Frames.{Frame}
-use Rattle.raft_model.specs.Messages.{Message}
-use Rattle.raft_model.specs.Servers.{Server, Turn, silent}
-use Rattle.raft_model.specs.Steps as model
-use Rattle.raft_model.specs.Steps.{step}
+use Rattle.raft_model.specs.Servers.{Server, Turn}
+use Rattle.raft_model.specs.Steps.{Input, step}
 use Rattle.raft_model.specs.Worlds.{World, Event, Run, more, IsEvent, happens, takes, after_turn}
-use Rattle.raft_core.specs.Seen.{Seen as Held}
-use Rattle.raft_core.specs.Frames.{Carries, Carry}
+use Rattle.raft_core.specs.RaftView.{RaftView}
+use Rattle.raft_core.specs.Frames.{FrameCarries}
 use Rattle.raft_core.specs.Steps.{Represents, Steps}
-use Rattle.raft_core.specs.declared.input.Input.TheVariants as inputs
-use Rattle.world.specs.declared.input.Given.{Given}
-use Rattle.world.specs.declared.input.Given.TheVariants as givens
 use Rattle.raft_safety.specs.Claims.{IsGreatestCommit}
 use Rattle.raft_safety.proofs.Places.{get_set-cases, set-length}
-use Rattle.world.specs.Inputs.{Reads, Takes, committed}
-use Rattle.world.specs.Seen.{Seen, Stands, Numbered, Reached, IsGroup}
-use Rattle.world.specs.Keeps.{Goes}
+use Rattle.world.specs.Inner.Inputs.{committed}
+use Rattle.world.specs.WorldView.{WorldView, RepresentsWorld, Numbered, IsRaftWorld, IsGroup}
+use Rattle.world.specs.Steps.{EventHappened}
 use Rattle.world.proofs.Zips.{zip_length, zip_set, zip_append}
 use Rattle.world.proofs.Heights.{height_next}
 
-pub carry_zip : {S C : Type 0} (m : Meaning S C) (frames : List Frame) (messages : List (Message C)) → Carry m frames messages → AllZip (Carries m) frames messages
-carry_zip m [] [] c = tt
-carry_zip m [] (x ∷ messages) c = absurd c
-carry_zip m (f ∷ frames) [] c = absurd c
-carry_zip m (f ∷ frames) (x ∷ messages) c = (c.0, carry_zip m frames messages c.1)
-
 module _ {S C : Type 0} (m : Meaning S C) where
-  pub steps_on : (h h2 : Held C) (s : Server C) (given : Given S C) (x : model.Input C) (before after : List Frame) → Reads m given x → Takes m h s given h2 before after → Steps m h s x h2 before after
-  steps_on h h2 s (givens.Input (inputs.Frame bytes)) x before after r t = subst (λ y. Steps m h s y h2 before after) (sym r.2) (t r.0 r.1)
-  steps_on h h2 s (givens.Input inputs.Timeout) x before after r t = subst (λ y. Steps m h s y h2 before after) (sym r) t
-  steps_on h h2 s (givens.Input inputs.Beat) x before after r t = subst (λ y. Steps m h s y h2 before after) (sym r) t
-  steps_on h h2 s (givens.Input inputs.Crash) x before after r t = subst (λ y. Steps m h s y h2 before after) (sym r) t
-  steps_on h h2 s (givens.Input inputs.Restart) x before after r t = subst (λ y. Steps m h s y h2 before after) (sym r) t
-  steps_on h h2 s (givens.Command command) x before after r t =
-      let p = t.0 in
-      subst (λ y. Steps m h s y h2 before after) (sym r)
-      (record { turn = silent p.next; step = p.step; stands = p.stands; sent = record { frames = []; added = t.1 ∙ sym (append-nil before); carry = tt } })
-
   -- what a server's step makes of the world
-  pub took : (w : World C) (i : ℕ) (x : model.Input C) (s : Server C) (r : Result (Turn C) Refusal) → slice_get w.servers i ≡ Some s → step m (length w.servers) i s x ≡ r → takes m w i x ≡ after_turn m w i r
+  pub took : (w : World C) (i : ℕ) (x : Input C) (s : Server C) (r : Result (Turn C) Refusal) → slice_get w.servers i ≡ Some s → step m (length w.servers) i s x ≡ r → takes m w i x ≡ after_turn m w i r
   took w i x s r here is = rw here (ap (λ q. after_turn m w i q) is)
 
 -- server i, which is h, takes the event, and is h2 then; what it sends comes behind what was sent
-module _ {S C : Type 0} (m : Meaning S C) (old new : Seen C) (e : Event C) (i : ℕ) (h h2 : Held C) (frames : List Frame)
+module _ {S C : Type 0} (m : Meaning S C) (old new : WorldView C) (e : Event C) (i : ℕ) (h h2 : RaftView C) (frames : List Frame)
     (numbered : Numbered old) (here : slice_get old.servers i ≡ Some h)
     (servers : new.servers ≡ slice_set old.servers i h2) (sent : new.sent ≡ old.sent ++ frames) where
   -- the world after the step, and that the event leads there
@@ -57,28 +35,28 @@ module _ {S C : Type 0} (m : Meaning S C) (old new : Seen C) (e : Event C) (i : 
     pub list : next.servers ≡ slice_set w.servers i turn.server
     pub happens : happens m w e ≡ Ok next
     pub represents : Represents m h2 turn.server
-    pub stands : Stands m new next
+    pub world : RepresentsWorld m new next
 
   pub count_kept : length new.servers ≡ length old.servers
   count_kept = ap length servers ∙ set-length old.servers i h2
 
-  pub moved : (w : World C) (st : Stands m old w) (s : Server C) (x : model.Input C) → slice_get w.servers i ≡ Some s → happens m w e ≡ takes m w i x → (t : Steps m h s x h2 [] frames) → Moved w t.turn
+  pub moved : (w : World C) (st : RepresentsWorld m old w) (s : Server C) (x : Input C) → slice_get w.servers i ≡ Some s → happens m w e ≡ takes m w i x → (t : Steps m h s x h2 [] frames) → Moved w t.turn
   moved w st s x at feed t =
       let n = numbered i h here in
       let size : h.size ≡ length w.servers = n.1 ∙ zip_length (Represents m) old.servers w.servers st.servers in
       let stepped : step m (length w.servers) i s x ≡ Ok t.turn = subst (λ (k : ℕ). step m k i s x ≡ Ok t.turn) size (subst (λ (j : ℕ). step m h.size j s x ≡ Ok t.turn) n.0 t.step) in
       let next : World C = record { servers = slice_set w.servers i t.turn.server; sent = w.sent ++ t.turn.sent } in
-      let carried : AllZip (Carries m) frames t.turn.sent = subst (λ fs. AllZip (Carries m) fs t.turn.sent) (sym t.sent.added) (carry_zip m t.sent.frames t.turn.sent t.sent.carry) in
+      let carried : AllZip (FrameCarries m) frames t.turn.sent = subst (λ fs. AllZip (FrameCarries m) fs t.turn.sent) (sym t.sent.added) t.sent.carry in
       record {
         server = s;
         next = next;
         at = at;
         list = refl;
         happens = feed ∙ took m w i x s (Ok t.turn) at stepped;
-        represents = t.stands;
-        stands = record {
-          servers = subst (λ l. AllZip (Represents m) l next.servers) (sym servers) (zip_set (Represents m) old.servers w.servers i h2 t.turn.server st.servers t.stands);
-          sent = subst (λ l. AllZip (Carries m) l next.sent) (sym sent) (zip_append (Carries m) old.sent w.sent frames t.turn.sent st.sent carried);
+        represents = t.represents;
+        world = record {
+          servers = subst (λ l. AllZip (Represents m) l next.servers) (sym servers) (zip_set (Represents m) old.servers w.servers i h2 t.turn.server st.servers t.represents);
+          sent = subst (λ l. AllZip (FrameCarries m) l next.sent) (sym sent) (zip_append (FrameCarries m) old.sent w.sent frames t.turn.sent st.sent carried);
         };
       }
 
@@ -86,18 +64,18 @@ module _ {S C : Type 0} (m : Meaning S C) (old new : Seen C) (e : Event C) (i : 
   numbered_on same j a at =
       let n = numbered i h here in
       elim (get_set-cases old.servers i h2 j a (subst (λ l. slice_get l j ≡ Some a) servers at)) [
-        | inl q ↦ subst (λ (b : Held C). (b.me ≡ j) × (b.size ≡ length new.servers)) q.1 (same.0 ∙ n.0 ∙ sym q.0, same.1 ∙ n.1 ∙ sym count_kept)
+        | inl q ↦ subst (λ (b : RaftView C). (b.me ≡ j) × (b.size ≡ length new.servers)) q.1 (same.0 ∙ n.0 ∙ sym q.0, same.1 ∙ n.1 ∙ sym count_kept)
         | inr q ↦ let k = numbered j a q.1 in (k.0, k.1 ∙ sym count_kept)
       ]
 
-  pub goes_by : IsEvent m e → new.trace ≡ old.trace ++ e ∷ [] → (move : (w : World C) → Stands m old w → (turn : Turn C) × Moved w turn) →
-      ((w : World C) (st : Stands m old w) → let q = move w st in new.chain ≡ max old.chain (committed q.0.server)) → Goes m old e new
+  pub goes_by : IsEvent m e → new.trace ≡ old.trace ++ e ∷ [] → (move : (w : World C) → RepresentsWorld m old w → (turn : Turn C) × Moved w turn) →
+      ((w : World C) (st : RepresentsWorld m old w) → let q = move w st in new.chain ≡ max old.chain (committed q.0.server)) → EventHappened m old e new
   goes_by is trace move chain = record {
     size = count_kept;
     trace = trace;
-    worlds = λ w st. let q = move w st in let a = q.1 in (a.next, a.happens, a.stands);
+    worlds = λ w st. let q = move w st in let a = q.1 in (a.next, a.happens, a.world);
     runs = λ past w r.
-        let q = move w r.stands in
+        let q = move w r.represents in
         let a = q.1 in
         let run : Run m (length old.servers) (old.trace ++ e ∷ []) (past ++ w ∷ []) a.next = more e a.next r.run is a.happens in
         let height : IsGreatestCommit (past ++ w ∷ []) a.next (max old.chain (committed q.0.server)) = height_next past w a.next i q.0.server old.chain a.server r.chain a.at a.list in (
@@ -105,14 +83,14 @@ module _ {S C : Type 0} (m : Meaning S C) (old new : Seen C) (e : Event C) (i : 
           a.happens,
           record {
             run = subst (λ n. Run m n new.trace (past ++ w ∷ []) a.next) (sym count_kept) (subst (λ es. Run m (length old.servers) es (past ++ w ∷ []) a.next) (sym trace) run);
-            stands = a.stands;
-            chain = subst (λ c. IsGreatestCommit (past ++ w ∷ []) a.next c) (sym (chain w r.stands)) height;
+            represents = a.world;
+            chain = subst (λ c. IsGreatestCommit (past ++ w ∷ []) a.next c) (sym (chain w r.represents)) height;
           },
         );
   }
 
 -- what a value that was reached goes to is reached
-pub reached_on : {S C : Type 0} (m : Meaning S C) (old new : Seen C) (e : Event C) → Goes m old e new → Numbered new → Reached m old → Reached m new
+pub reached_on : {S C : Type 0} (m : Meaning S C) (old new : WorldView C) (e : Event C) → EventHappened m old e new → Numbered new → IsRaftWorld m old → IsRaftWorld m new
 reached_on m old new e g n r =
     let q = g.runs r.past r.world r.runs in
     record { past = r.past ++ r.world ∷ []; world = q.0; runs = q.2; numbered = n; size = subst (λ k. IsGroup k) (sym g.size) r.size }

@@ -30,6 +30,13 @@ module _ {A B : Type 0} (R : A → B → Type 0) where
   zip_at (a ∷ xs) (b ∷ ys) zero x z h = (b, refl, subst (λ (v : A). R v b) (same_Some a x h) z.0)
   zip_at (a ∷ xs) (b ∷ ys) (suc i) x z h = zip_at xs ys i x z.1 h
 
+  -- and the other way round
+  pub zip_from : (xs : List A) (ys : List B) (i : ℕ) (y : B) → AllZip R xs ys → slice_get ys i ≡ Some y → (x : A) × (slice_get xs i ≡ Some x) × R x y
+  zip_from xs [] i y z h = absurd (cc)
+  zip_from [] (b ∷ ys) i y z h = absurd z
+  zip_from (a ∷ xs) (b ∷ ys) zero y z h = (a, refl, subst (λ (v : B). R a v) (same_Some b y h) z.0)
+  zip_from (a ∷ xs) (b ∷ ys) (suc i) y z h = zip_from xs ys i y z.1 h
+
   pub zip_none : (xs : List A) (ys : List B) (i : ℕ) → AllZip R xs ys → slice_get xs i ≡ None → slice_get ys i ≡ None
   zip_none [] [] i z h = refl
   zip_none [] (b ∷ ys) i z h = absurd z

@@ -1,4 +1,5 @@
--- What holds of every world that was reached. Moments, and the servers and logs at them, are those of the value's runs.
+-- What holds of every world that was reached. Moments, and the servers and logs at them, are those
+-- of the value's runs.
 use Rattle.std.specs.Prelude.{◌≡◌, ℕ, if◌then◌else◌, Option, Some, None, List, length, take, slice_get}
 use Rattle.machine.specs.Meaning.{Meaning}
 use Rattle.machine.specs.declared.entry.Entry.{Entry}
@@ -7,40 +8,43 @@ use Rattle.raft_model.specs.Servers.{Server, is_up}
 use Rattle.raft_model.specs.Worlds.{World, OneLeader}
 use Rattle.raft_model.specs.Chains.{Chain}
 use Rattle.raft_safety.specs.Claims.{LogMatching}
-use Rattle.world.specs.Seen.{Seen, RunsTo}
+use Rattle.world.specs.WorldView.{WorldView, RunsTo}
 
--- The value has a run, and in each of its runs no two servers ever led one term. (Raft, Figure 3, election safety.)
-pub record OneLeaderEver {S C : Type 0} (m : Meaning S C) (seen : Seen C) : Type 0 where
+-- The value has a run, and in each of its runs no two servers ever led one term. (Raft, Figure 3,
+-- election safety.)
+pub record OneLeaderEver {S C : Type 0} (m : Meaning S C) (view : WorldView C) : Type 0 where
   pub past : List (World C)
   pub world : World C
-  pub runs : RunsTo m seen past world
-  pub ever : (past : List (World C)) (w : World C) → RunsTo m seen past w → OneLeader past w
+  pub runs : RunsTo m view past world
+  pub ever : (past : List (World C)) (w : World C) → RunsTo m view past w → OneLeader past w
 
--- The value has a run, and in each of its runs two logs that hold an entry of one index and term, at one moment or at two, are
--- the same up to it. (Raft, Figure 3, log matching.)
-pub record LogsMatchEver {S C : Type 0} (m : Meaning S C) (seen : Seen C) : Type 0 where
+-- The value has a run, and in each of its runs two logs that hold an entry of one index and term,
+-- at one moment or at two, are the same up to it. (Raft, Figure 3, log matching.)
+pub record LogsMatchEver {S C : Type 0} (m : Meaning S C) (view : WorldView C) : Type 0 where
   pub past : List (World C)
   pub world : World C
-  pub runs : RunsTo m seen past world
-  pub ever : (past : List (World C)) (w : World C) → RunsTo m seen past w → LogMatching past w
+  pub runs : RunsTo m view past world
+  pub ever : (past : List (World C)) (w : World C) → RunsTo m view past w → LogMatching past w
 
--- The value has a run, and there is one list, of length `chain`: in each of its runs what a server had committed is the beginning
--- of that list, at every moment, and whoever leads a term has in its log what a server in a term up to that one had committed by
--- then. (Raft, Figure 3, leader completeness and state machine safety.)
-pub record OneListEver {S C : Type 0} (m : Meaning S C) (seen : Seen C) : Type 0 where
+-- The value has a run, and there is one list, of length `chain`: in each of its runs what a server
+-- had committed is the beginning of that list, at every moment, and whoever leads a term has in its
+-- log what a server in a term up to that one had committed by then. (Raft, Figure 3, leader
+-- completeness and state machine safety.)
+pub record OneListEver {S C : Type 0} (m : Meaning S C) (view : WorldView C) : Type 0 where
   pub past : List (World C)
   pub world : World C
-  pub runs : RunsTo m seen past world
+  pub runs : RunsTo m view past world
   pub list : List (Entry C)
-  pub long : length list ≡ seen.chain
-  pub ever : (past : List (World C)) (w : World C) → RunsTo m seen past w → Chain past w list
+  pub long : length list ≡ view.chain
+  pub ever : (past : List (World C)) (w : World C) → RunsTo m view past w → Chain past w list
 
--- The value has a run, and in each of its runs the state after each first part of that list is safe, in the machine's sense.
-pub record StatesSafeEver {S C : Type 0} (m : Meaning S C) (seen : Seen C) : Type 0 where
+-- The value has a run, and in each of its runs the state after each first part of that list is
+-- safe, in the machine's sense.
+pub record StatesSafeEver {S C : Type 0} (m : Meaning S C) (view : WorldView C) : Type 0 where
   pub past : List (World C)
   pub world : World C
-  pub runs : RunsTo m seen past world
-  pub ever : (past : List (World C)) (w : World C) → RunsTo m seen past w → (list : List (Entry C)) → Chain past w list → (k : ℕ) → m.safe (state_after m (take k list))
+  pub runs : RunsTo m view past world
+  pub ever : (past : List (World C)) (w : World C) → RunsTo m view past w → (list : List (Entry C)) → Chain past w list → (k : ℕ) → m.safe (state_after m (take k list))
 
 -- ---- machines
 
@@ -53,8 +57,9 @@ running m (Some s) = if is_up s.mode then Some (state_after m (take s.commit s.l
 abbrev pub machine_of : {S C : Type 0} → Meaning S C → World C → ℕ → Option S
 machine_of m w i = running m (slice_get w.servers i)
 
--- One list of entries is the history of both states: each is the state after as many of its first entries as the state counts.
--- So the history of the one that counts fewer begins that of the other, and two that count alike are the same.
+-- One list of entries is the history of both states: each is the state after as many of its first
+-- entries as the state counts. So the history of the one that counts fewer begins that of the
+-- other, and two that count alike are the same.
 pub record OneHistory {S C : Type 0} (m : Meaning S C) (a b : S) : Type 0 where
   pub list : List (Entry C)
   pub one : a ≡ state_after m (take (m.count a) list)

@@ -1,5 +1,5 @@
 pub mod Events
-pub mod Inputs
-pub mod Seen
-pub mod Keeps
+pub mod WorldView
+pub mod Steps
 pub mod Claims
+pub mod Inner

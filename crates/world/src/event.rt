@@ -1,22 +1,22 @@
 ghost use Rattle.std.specs.Prelude.{◌≡◌, IfOk};
 ghost use Rattle.raft_model.specs.Worlds.{IsEvent};
 ghost use Rattle.world.specs.Events.{event_of};
-ghost use Rattle.world.specs.Inputs.{is_restart};
+ghost use Rattle.world.specs.Inner.Inputs.{is_restart};
 
 use machine::{Machine, commands_are_whole};
 use rows::{NoMemory, Refusal, ServerId};
 use std::alloc::Global;
 
-/// What can happen to a group of servers. A loss is a message that is never delivered, a repeat one that is delivered
-/// twice. (Raft, extended version 2014, section 5.)
+/// What can happen to a group of servers. A loss is a message that is never delivered, a repeat one
+/// that is delivered twice. (Raft, extended version 2014, section 5.)
 #[derive(Drop)]
 pub enum RaftEvent<M: Machine> {
     /// The k-th message of all that were ever sent, from 1, comes to its receiver.
     Deliver(u64),
     /// A server's election timer ends.
     Timeout(ServerId),
-    /// A server's heartbeat timer ends: a leader sends to each other server the entries that it may lack. (Raft, section
-    /// 5.2.)
+    /// A server's heartbeat timer ends: a leader sends to each other server the entries that it may
+    /// lack. (Raft, section 5.2.)
     Beat(ServerId),
     /// A command is proposed to a server. (Raft, section 5.3.)
     Propose(ServerId, M::Command),

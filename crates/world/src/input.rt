@@ -1,27 +1,21 @@
-ghost use Rattle.std.specs.Prelude.{◌≡◌, ◌≢◌, IfSome, IfNone, IfOk, OnOk, IfErr, slice_get};
+ghost use Rattle.std.specs.Prelude.{◌≡◌, IfSome, IfNone, OnOk, OnErr, IfErr, OnSome, List, slice_get};
 ghost use Rattle.std.specs.Option.{option_copied};
 ghost use Rattle.rows.specs.declared.refusal.Refusal.TheVariants as refusals;
+ghost use Rattle.wire.specs.Frames.{Frame};
 ghost use Rattle.raft_model.specs.Servers.{Server};
-ghost use Rattle.raft_model.specs.Worlds as model;
-ghost use Rattle.raft_core.specs.Steps.{Represents};
+ghost use Rattle.raft_model.specs.Steps.{Propose};
+ghost use Rattle.raft_model.specs.Worlds.{Deliver};
+ghost use Rattle.raft_core.specs.Inputs.{Own};
+ghost use Rattle.raft_core.specs.Steps.{Represents, Takes};
+ghost use Rattle.raft_core.specs.Refusals.{IsRefused, RefusalLeaves};
 ghost use Rattle.world.specs.Events.{place, event_of};
-ghost use Rattle.world.specs.Inputs.{ActsIn, NobodyActsIn, Feeds, Takes, Declines};
+ghost use Rattle.world.specs.Inner.Inputs.{ActsIn, NobodyActsIn, IsSent, handed_by};
 
-use crate::event::{RaftEvent, command_again};
+use crate::event::RaftEvent;
 use machine::Machine;
 use raft_core::{Input, Raft};
 use rows::{Actor, Refusal, ServerId};
-use std::alloc::Global;
 use wire::{Frame, Outbox};
-
-/// What an event gives the server that takes it: an input, or a command that is proposed.
-#[derive(Drop)]
-pub enum Given<'a, M: Machine> {
-    /// An input.
-    Input(Input<'a>),
-    /// A command.
-    Command(M::Command),
-}
 
 /// The k-th frame, from 1.
 fn frame_at(sent: &[Frame], k: u64) -> Option<&Frame>
@@ -35,8 +29,10 @@ fn frame_at(sent: &[Frame], k: u64) -> Option<&Frame>
 
 /// The server that is to receive the k-th message; none where there is no such message.
 fn receiver<M: Machine>(sent: &[Frame], k: u64) -> Option<ServerId>
-    ensures some { IfSome result (λ i. ActsIn M.meaning sent.now (model.Deliver (place k)) i) }
-    ensures none { IfNone result (NobodyActsIn M.meaning sent.now (model.Deliver (place k)) refusals.OutOfRange) }
+    ensures some { IfSome result (λ i. ActsIn M.meaning sent.now (Deliver (place k)) i) }
+    ensures sent { OnSome result (IsSent {C = M.Command} sent.now (Deliver (place k))) }
+    ensures none { IfNone result
+        (NobodyActsIn M.meaning sent.now (Deliver (place k)) refusals.OutOfRange) }
 {
     match frame_at(sent, k)?.to() {
         Actor::Server(server) => Some(server),
@@ -47,7 +43,9 @@ fn receiver<M: Machine>(sent: &[Frame], k: u64) -> Option<ServerId>
 /// The server that takes the event; none where there is no such message.
 pub(crate) fn actor<M: Machine>(sent: &[Frame], event: &RaftEvent<M>) -> Option<ServerId>
     ensures some { IfSome result (λ i. ActsIn M.meaning sent.now (event_of event.now) i) }
-    ensures none { IfNone result (NobodyActsIn M.meaning sent.now (event_of event.now) refusals.OutOfRange) }
+    ensures sent { OnSome result (IsSent sent.now (event_of event.now)) }
+    ensures none { IfNone result
+        (NobodyActsIn M.meaning sent.now (event_of event.now) refusals.OutOfRange) }
 {
     match event {
         RaftEvent::Deliver(k) => receiver::<M>(sent, *k),
@@ -59,47 +57,58 @@ pub(crate) fn actor<M: Machine>(sent: &[Frame], event: &RaftEvent<M>) -> Option<
     }
 }
 
-/// The k-th message as an input; none where there is no such message.
-fn arrival<'a, M: Machine>(sent: &'a [Frame], k: u64) -> Option<Given<'a, M>>
-    ensures some { IfSome result (λ given. Feeds M.meaning sent.now (model.Deliver (place k)) given) }
-    ensures none { IfNone result (NobodyActsIn M.meaning sent.now (model.Deliver (place k)) refusals.OutOfRange) }
+/// A command is proposed to a server, which crashes where it finds no memory.
+fn propose<M: Machine>(raft: &mut Raft<M>, command: M::Command) -> Result<(), Refusal>
+    ensures same { (raft.new.me ≡ raft.old.me) × (raft.new.size ≡ raft.old.size) }
+    ensures taken { OnOk result ((s : Server M.Command) (sent : List Frame) →
+        Represents M.meaning raft.old s →
+        Takes M.meaning raft.old s (Own (Propose command)) raft.new sent sent) }
+    ensures refused { IfErr result (λ cause. (s : Server M.Command) →
+        Represents M.meaning raft.old s →
+        IsRefused M.meaning raft.old.size raft.old.me s (Own (Propose command)) cause) }
+    ensures left { IfErr result (λ cause. (s : Server M.Command) → Represents M.meaning raft.old s →
+        RefusalLeaves M.meaning raft.old s (Own (Propose command)) cause raft.new) }
 {
-    Some(Given::Input(Input::Frame(frame_at(sent, k)?.bytes())))
-}
-
-/// What the event gives the server that takes it. It is refused with `OutOfRange` where there is no such message, and with
-/// `NoMemory`.
-pub(crate) fn given_by<'a, M: Machine>(
-    alloc: Global,
-    sent: &'a [Frame],
-    event: &RaftEvent<M>,
-) -> Result<Given<'a, M>, Refusal>
-    ensures ok { IfOk result (λ given. Feeds M.meaning sent.now (event_of event.now) given) }
-    ensures event { OnOk result (model.IsEvent M.meaning (event_of event.now)) }
-    ensures refused { IfErr result (λ refusal. refusal ≢ refusals.NoMemory → NobodyActsIn M.meaning sent.now (event_of event.now) refusal) }
-{
-    match event {
-        RaftEvent::Deliver(k) => arrival(sent, *k).ok_or(Refusal::OutOfRange),
-        RaftEvent::Timeout(_) => Ok(Given::Input(Input::Timeout)),
-        RaftEvent::Beat(_) => Ok(Given::Input(Input::Beat)),
-        RaftEvent::Propose(_, command) => Ok(Given::Command(command_again::<M>(alloc, command)?)),
-        RaftEvent::Crash(_) => Ok(Given::Input(Input::Crash)),
-        RaftEvent::Restart(_) => Ok(Given::Input(Input::Restart)),
+    match raft.propose(command) {
+        Ok(()) => Ok(()),
+        Err(refusal) => match refusal {
+            Refusal::NoMemory => {
+                raft.crash();
+                Err(Refusal::NoMemory)
+            }
+            other => Err(other),
+        },
     }
 }
 
-/// A server takes what it is given.
-pub(crate) fn give<M: Machine>(
+/// A server takes what an event hands to it.
+pub(crate) fn hand<M: Machine>(
     raft: &mut Raft<M>,
-    given: Given<'_, M>,
+    sent: &[Frame],
+    event: RaftEvent<M>,
     outbox: &mut Outbox,
 ) -> Result<(), Refusal>
+    requires { IsSent sent.now (event_of event) }
     ensures same { (raft.new.me ≡ raft.old.me) × (raft.new.size ≡ raft.old.size) }
-    ensures taken { OnOk result ((s : Server M.Command) → Represents M.meaning raft.old s → Takes M.meaning raft.old s given.entry raft.new outbox.old outbox.new) }
-    ensures refused { IfErr result (λ cause. Declines M.meaning raft.old given.entry cause raft.new outbox.old outbox.new) }
+    ensures taken { OnOk result ((s : Server M.Command) → Represents M.meaning raft.old s →
+        Takes M.meaning raft.old s (handed_by sent.now (event_of event)) raft.new outbox.old outbox.new) }
+    ensures refused { IfErr result (λ cause. (s : Server M.Command) →
+        Represents M.meaning raft.old s →
+        IsRefused M.meaning raft.old.size raft.old.me s (handed_by sent.now (event_of event)) cause) }
+    ensures left { IfErr result (λ cause. (s : Server M.Command) → Represents M.meaning raft.old s →
+        RefusalLeaves M.meaning raft.old s (handed_by sent.now (event_of event)) cause raft.new) }
 {
-    match given {
-        Given::Input(input) => raft.step(input, outbox),
-        Given::Command(command) => raft.propose(command),
+    match event {
+        RaftEvent::Deliver(k) => {
+            let Some(frame) = frame_at(sent, k) else {
+                unreachable!()
+            };
+            raft.step(Input::Frame(frame.bytes()), outbox)
+        }
+        RaftEvent::Timeout(_) => raft.step(Input::Timeout, outbox),
+        RaftEvent::Beat(_) => raft.step(Input::Beat, outbox),
+        RaftEvent::Propose(_, command) => propose(raft, command),
+        RaftEvent::Crash(_) => raft.step(Input::Crash, outbox),
+        RaftEvent::Restart(_) => raft.step(Input::Restart, outbox),
     }
 }

@@ -1,74 +1,44 @@
-ghost use Rattle.std.specs.Prelude.{◌≡◌, ◌≢◌, ◌++◌, ◌+◌, ◌<◌, ◌≤◌, max, length, slice_get, vec_len, vec_capacity, true, Err, List, MatchBool, IfOk, OnErr, IfErr};
+ghost use Rattle.std.specs.Prelude.{◌≡◌, ◌≢◌, ◌<◌, length, slice_get, true, Err, List, MatchBool, IfOk, OnErr, IfErr};
 ghost use Rattle.std.specs.Option.{option_copied};
 ghost use Rattle.rows.specs.declared.refusal.Refusal.TheVariants as refusals;
-ghost use Rattle.raft_model.specs.Servers.{Server, newcomer};
+ghost use Rattle.raft_model.specs.Servers.{newcomer};
 ghost use Rattle.raft_model.specs.Worlds.{World};
 ghost use Rattle.raft_core.specs.Steps.{Represents, is_member};
 ghost use Rattle.raft_safety.specs.Claims.{IsGreatestCommit};
 ghost use Rattle.world.specs.Events.{event_of, events_of};
-ghost use Rattle.world.specs.Inputs.{ActsIn, committed};
-ghost use Rattle.world.specs.Seen.{RunsTo, IsGroup};
-ghost use Rattle.world.specs.Keeps.{Went, Refuses, IsAwake, IsNew, IsNoGroup, Played, Replays};
+ghost use Rattle.world.specs.WorldView.{RunsTo, IsGroup};
+ghost use Rattle.world.specs.Steps.{IsDone, RefusesEvent, IsAwake, IsNew, IsNoGroup, Played, Replays};
 ghost use Rattle.world.specs.Claims.{OneLeaderEver, LogsMatchEver, OneListEver, StatesSafeEver};
+ghost use Rattle.world.specs.Inner.Inputs.{ActsIn, IsSent};
 
+use crate::done::Done;
 use crate::event::RaftEvent;
-use crate::input::{actor, give, given_by};
+use crate::history::History;
+use crate::input::actor;
 use machine::Machine;
 use raft_core::{Raft, Stable};
 use raft_safety::{log_matching, one_leader_a_term, one_list, states_are_safe, within_limits};
 use rows::{Index, NoMemory, Refusal, ServerId};
 use std::alloc::Global;
 use std::marker::Model;
-use wire::{Frame, Outbox, frames_are_whole};
+use wire::{Frame, frames_are_whole};
 
-/// What became of an event that was not refused.
-#[derive(Clone, Copy, Debug, PartialEq, Eq)]
-pub enum Done {
-    /// It happened.
-    Taken,
-    /// The actor found no memory, and is down.
-    Crashed,
-}
-
-/// A group of 3 or 5 servers that replicate the machine `M`, all messages that were ever sent among them, and all events
-/// that happened.
+/// A group of 3 or 5 servers that replicate the machine `M`, all messages that were ever sent among
+/// them, and all events that happened.
 #[derive(Drop)]
 pub struct RaftWorld<M: Machine> {
-    alloc: Global,
     servers: Vec<Raft<M>>,
-    sent: Vec<Frame>,
-    trace: Vec<RaftEvent<M>>,
-    chain: Index,
+    history: History<M>,
 }
 
 impl<M: Machine> Model for RaftWorld<M> {
-    ghost use Rattle.world.specs.Seen.{Seen, Reached};
-    ghost use Rattle.world.specs.Events.{events_of};
+    ghost use Rattle.world.specs.WorldView.{WorldView, IsRaftWorld};
 
-    ghost Value = { Seen M.Command };
+    ghost Value = { WorldView M.Command };
 
-    ghost view = { λ a. record { servers = a.servers.items; sent = a.sent.items; trace = events_of a.trace.items; chain = a.chain } };
+    ghost view = { λ a. record { servers = a.servers.items; sent = a.history.sent; trace = a.history.trace; chain = a.history.chain } };
 
-    ghost invariant = { λ a. Reached M.meaning (record { servers = a.servers.items; sent = a.sent.items; trace = events_of a.trace.items; chain = a.chain }) };
-}
-
-/// The greater of the chain so far and what a server has applied.
-fn longer<M: Machine>(chain: Index, raft: &Raft<M>) -> Index
-    ensures { (s : Server M.Command) → Represents M.meaning raft.now s → result ≡ max chain (committed s) }
-{
-    match raft.applied() {
-        Some(applied) if applied.get() > chain.get() => applied,
-        _ => chain,
-    }
-}
-
-/// Moves frames to the end of those that were sent, where room was made for them.
-fn keep_frames(sent: &mut Vec<Frame>, outbox: Outbox)
-    requires { vec_len sent.old + length outbox ≤ vec_capacity sent.old }
-    ensures { sent.new.items ≡ sent.old.items ++ outbox }
-{
-    let mut frames = outbox.into_frames();
-    let _ = sent.append(&mut frames);
+    ghost invariant = { λ a. IsRaftWorld M.meaning (record { servers = a.servers.items; sent = a.history.sent; trace = a.history.trace; chain = a.history.chain }) };
 }
 
 /// The server at this place, before its first input.
@@ -90,7 +60,8 @@ fn newcomer<M: Machine>(alloc: Global, place: usize, n: usize) -> Result<Raft<M>
 }
 
 fn lacks_memory(done: &Result<Done, Refusal>) -> bool
-    ensures { MatchBool result (done.now ≡ Err refusals.NoMemory) (done.now ≢ Err refusals.NoMemory) }
+    ensures { MatchBool result (done.now ≡ Err refusals.NoMemory)
+        (done.now ≢ Err refusals.NoMemory) }
 {
     match done {
         Ok(_) => false,
@@ -103,54 +74,39 @@ impl<M: Machine> RaftWorld<M> {
     /// A server takes an event.
     fn act(&mut self, server: ServerId, event: RaftEvent<M>) -> Result<Done, Refusal>
         requires actor { ActsIn M.meaning self.old.sent (event_of event) server }
+        requires sent { IsSent self.old.sent (event_of event) }
         requires member { server < length self.old.servers }
         requires awake { IsAwake M.meaning self.old (event_of event) }
-        ensures ok { IfOk result (λ done. Went M.meaning self.old (event_of event) done self.new) }
+        ensures ok { IfOk result (λ done.
+            IsDone M.meaning self.old (event_of event) done self.new) }
         ensures err { OnErr result (self.new ≡ self.old) }
-        ensures cause { IfErr result (λ refusal. refusal ≢ refusals.NoMemory → Refuses M.meaning self.old (event_of event) refusal) }
-        ensures memory { IfErr result (λ refusal. refusal ≡ refusals.NoMemory → IsAwake M.meaning self.old (event_of event)) }
+        ensures cause { IfErr result (λ refusal. refusal ≢ refusals.NoMemory →
+            RefusesEvent M.meaning self.old (event_of event) refusal) }
+        ensures memory { IfErr result (λ refusal. refusal ≡ refusals.NoMemory →
+            IsAwake M.meaning self.old (event_of event)) }
     {
-        self.trace.reserve(1)?;
-        self.sent.reserve(self.servers.len())?;
-        let given = given_by(self.alloc, &self.sent, &event)?;
-        let mut outbox = Outbox::new(self.alloc);
+        // A frame that a server of the group sent is not refused for its bytes.
+        frames_are_whole::<M>();
+        within_limits::<M>();
+        let size = self.servers.len();
         let raft = &mut self.servers[server.place()];
-        match give(raft, given, &mut outbox) {
-            Ok(()) => {
-                self.chain = longer(self.chain, raft);
-                self.trace.push_reserved(event);
-                keep_frames(&mut self.sent, outbox);
-                Ok(Done::Taken)
-            }
-            Err(refusal) => match refusal {
-                Refusal::NoMemory => {
-                    if event.is_restart() {
-                        return Ok(Done::Crashed);
-                    }
-                    self.trace.push_reserved(RaftEvent::Crash(server));
-                    Ok(Done::Crashed)
-                }
-                other => {
-                    // The refusal is not for the frame's bytes: they were sent, by a server of the group.
-                    frames_are_whole::<M>();
-                    within_limits::<M>();
-                    Err(other)
-                }
-            },
-        }
+        self.history.take(raft, size, server, event)
     }
 
     /// An event happens, if its actor is there and up.
     fn take(&mut self, event: RaftEvent<M>) -> Result<Done, Refusal>
-        ensures ok { IfOk result (λ done. Went M.meaning self.old (event_of event) done self.new) }
+        ensures ok { IfOk result (λ done.
+            IsDone M.meaning self.old (event_of event) done self.new) }
         ensures err { OnErr result (self.new ≡ self.old) }
-        ensures cause { IfErr result (λ refusal. refusal ≢ refusals.NoMemory → Refuses M.meaning self.old (event_of event) refusal) }
-        ensures memory { IfErr result (λ refusal. refusal ≡ refusals.NoMemory → IsAwake M.meaning self.old (event_of event)) }
+        ensures cause { IfErr result (λ refusal. refusal ≢ refusals.NoMemory →
+            RefusesEvent M.meaning self.old (event_of event) refusal) }
+        ensures memory { IfErr result (λ refusal. refusal ≡ refusals.NoMemory →
+            IsAwake M.meaning self.old (event_of event)) }
     {
-        let Some(server) = actor(&self.sent, &event) else {
+        let Some(server) = actor(self.sent(), &event) else {
             return Err(Refusal::OutOfRange);
         };
-        let Some(raft) = self.servers.get(server.place()) else {
+        let Some(raft) = self.raft(server) else {
             return Err(Refusal::OutOfRange);
         };
         if raft.role().is_none() && !event.is_restart() {
@@ -161,19 +117,25 @@ impl<M: Machine> RaftWorld<M> {
 
     /// One event happens.
     ///
-    /// It is refused with `OutOfRange` where no such message was sent, where the group has no such server, and where a server
-    /// that is up is to restart; with `Down` where its actor is down; with `Exhausted` where a server of the greatest term or
-    /// index is to stand for election. A proposal is refused with `NotLeader` and the leader that is known where its server does
-    /// not lead, with `Exhausted` where the log has no further index, and with the machine's own refusal where the state after
-    /// the whole log does not admit the command. With `NoMemory` the world itself lacks memory. A refusal changes nothing.
+    /// It is refused with `OutOfRange` where no such message was sent, where the group has no such
+    /// server, and where a server that is up is to restart; with `Down` where its actor is down;
+    /// with `Exhausted` where a server of the greatest term or index is to stand for election. A
+    /// proposal is refused with `NotLeader` and the leader that is known where its server does not
+    /// lead, with `Exhausted` where the log has no further index, and with the machine's own
+    /// refusal where the state after the whole log does not admit the command. With `NoMemory` the
+    /// world itself lacks memory. A refusal changes nothing.
     pub fn step(&mut self, event: RaftEvent<M>) -> Result<Done, Refusal>
-        // It is a step of the definitions; or the event's actor crashed for want of memory, in a restart with nothing changed.
-        ensures ok { IfOk result (λ done. Went M.meaning self.old (event_of event) done self.new) }
+        // It is a step of the definitions; or the event's actor crashed for want of memory, in a
+        // restart with nothing changed.
+        ensures ok { IfOk result (λ done.
+            IsDone M.meaning self.old (event_of event) done self.new) }
         ensures err { OnErr result (self.new ≡ self.old) }
         // The definitions refuse it too, for the same reason.
-        ensures cause { IfErr result (λ refusal. refusal ≢ refusals.NoMemory → Refuses M.meaning self.old (event_of event) refusal) }
+        ensures cause { IfErr result (λ refusal. refusal ≢ refusals.NoMemory →
+            RefusesEvent M.meaning self.old (event_of event) refusal) }
         // Want of memory is not answered for an actor that is down.
-        ensures memory { IfErr result (λ refusal. refusal ≡ refusals.NoMemory → IsAwake M.meaning self.old (event_of event)) }
+        ensures memory { IfErr result (λ refusal. refusal ≡ refusals.NoMemory →
+            IsAwake M.meaning self.old (event_of event)) }
         // And these hold whatever happened so far, whether or not this event was refused.
         ensures one_leader { OneLeaderEver M.meaning self.new }
         ensures log_matching { LogsMatchEver M.meaning self.new }
@@ -190,8 +152,8 @@ impl<M: Machine> RaftWorld<M> {
         done
     }
 
-    /// A group of `n` servers before its first event: followers in term 0 with empty logs. It is refused with `OutOfRange`
-    /// where `n` is not 3 or 5, and with `NoMemory`.
+    /// A group of `n` servers before its first event: followers in term 0 with empty logs. It is
+    /// refused with `OutOfRange` where `n` is not 3 or 5, and with `NoMemory`.
     pub fn new(alloc: Global, n: usize) -> Result<RaftWorld<M>, Refusal>
         ensures ok { IfOk result (λ w. IsNew M.meaning n w) }
         ensures refused { IfErr result (λ refusal. IsNoGroup n refusal) }
@@ -204,16 +166,14 @@ impl<M: Machine> RaftWorld<M> {
             servers.push(newcomer(alloc, place, n)?)?;
         }
         Ok(RaftWorld {
-            alloc,
             servers,
-            sent: Vec::new(alloc),
-            trace: Vec::new(alloc),
-            chain: Index::ZERO,
+            history: History::new(alloc),
         })
     }
 
-    /// The group after these events, from its beginning; those that are refused are passed over. It is refused with
-    /// `OutOfRange` where `n` is not 3 or 5, and with `NoMemory` where the world lacks memory.
+    /// The group after these events, from its beginning; those that are refused are passed over. It
+    /// is refused with `OutOfRange` where `n` is not 3 or 5, and with `NoMemory` where the world
+    /// lacks memory.
     pub fn run(alloc: Global, n: usize, events: &[RaftEvent<M>]) -> Result<RaftWorld<M>, Refusal>
         ensures played { IfOk result (λ w. Played M.meaning n (events_of events.now) w) }
         // The trace of a group leads to that group again.
@@ -245,33 +205,35 @@ impl<M: Machine> RaftWorld<M> {
         ensures { IsGroup (length self.now.servers) }
     {
         // The type's own promise is known where a field is looked at.
-        let _ = &self.chain;
+        let _ = &self.servers;
     }
 
-    /// No two servers ever led one term, at no two moments of the run that led here. (Raft, Figure 3, election safety.)
+    /// No two servers ever led one term, at no two moments of the run that led here. (Raft, Figure
+    /// 3, election safety.)
     pub fn one_leader(&self)
         ensures { OneLeaderEver M.meaning self.now }
     {
-        let _ = &self.chain;
+        let _ = &self.servers;
         one_leader_a_term::<M>();
     }
 
-    /// Two logs that hold an entry of one index and term, of any two servers at any two moments of the run that led here, are
-    /// the same up to it. (Raft, Figure 3, log matching.)
+    /// Two logs that hold an entry of one index and term, of any two servers at any two moments of
+    /// the run that led here, are the same up to it. (Raft, Figure 3, log matching.)
     pub fn log_matching(&self)
         ensures { LogsMatchEver M.meaning self.now }
     {
-        let _ = &self.chain;
+        let _ = &self.servers;
         log_matching::<M>();
     }
 
-    /// There is one list of entries, of length `chain()`, of which every server that was up had applied a first part, at every
-    /// moment of the run that led here. Whoever led a term had in its log what was applied in the terms up to it. (Raft,
-    /// Figure 3, leader completeness and state machine safety.)
+    /// There is one list of entries, of length `chain()`, of which every server that was up had
+    /// applied a first part, at every moment of the run that led here. Whoever led a term had in
+    /// its log what was applied in the terms up to it. (Raft, Figure 3, leader completeness and
+    /// state machine safety.)
     pub fn one_list(&self)
         ensures { OneListEver M.meaning self.now }
     {
-        let _ = &self.chain;
+        let _ = &self.servers;
         one_list::<M>();
     }
 
@@ -279,30 +241,33 @@ impl<M: Machine> RaftWorld<M> {
     pub fn safe_states(&self)
         ensures { StatesSafeEver M.meaning self.now }
     {
-        let _ = &self.chain;
+        let _ = &self.servers;
         states_are_safe::<M>();
     }
 
-    /// The greatest number of entries that any server has applied so far; 0 while nothing is applied.
+    /// The greatest number of entries that any server has applied so far; 0 while nothing is
+    /// applied.
     pub fn chain(&self) -> Index
         ensures value { result ≡ self.now.chain }
-        ensures greatest { (past : List (World M.Command)) (w : World M.Command) → RunsTo M.meaning self.now past w → IsGreatestCommit past w result }
+        ensures greatest { (past : List (World M.Command)) (w : World M.Command) →
+            RunsTo M.meaning self.now past w → IsGreatestCommit past w result }
     {
-        self.chain
+        self.history.chain()
     }
 
-    /// The events that happened, in order, with a crash in place of each in which an actor found no memory.
+    /// The events that happened, in order, with a crash in place of each in which an actor found no
+    /// memory.
     pub fn trace(&self) -> &[RaftEvent<M>]
         ensures { events_of result.now ≡ self.now.trace }
     {
-        &self.trace
+        self.history.trace()
     }
 
     /// All frames that were ever sent, in order.
     pub fn sent(&self) -> &[Frame]
         ensures { result.now ≡ self.now.sent }
     {
-        &self.sent
+        self.history.sent()
     }
 
     /// A server; none where the group has fewer.

@@ -6,8 +6,8 @@ ghost use Rattle.raft_model.specs.Logs.{has};
 ghost use Rattle.raft_model.specs.Servers.{is_up, is_leader, met, following, follows_append};
 ghost use Rattle.raft_model.specs.Steps.{receives};
 ghost use Rattle.raft_model.specs.Messages.{Append as AppendBody};
-ghost use Rattle.raft_core.specs.Seen.{with_server};
-ghost use Rattle.raft_core.specs.Turns.{Turned, Lost};
+ghost use Rattle.raft_core.specs.Inner.Views.{with_server};
+ghost use Rattle.raft_core.specs.Inner.Turns.{Turned, Lost};
 
 use super::Raft;
 use crate::log::stays;
@@ -40,8 +40,12 @@ impl<M: Machine> Raft<M> {
         requires up { is_up self.old.server.mode ≡ true }
         requires other { from ≢ self.old.me }
         requires later { self.old.server.term ≤ head.now.term }
-        requires missing { (nat_le head.now.prev_index self.old.server.commit || has self.old.server.log head.now.prev_index head.now.prev_term) ≡ false }
-        ensures taken { OnOk result ((entries : List (Entry M.Command)) → Turned M.meaning self.old self.new outbox.old outbox.new (follows_append self.old.me (following (met head.now.term self.old.server) from) from head.now.prev_index head.now.prev_term head.now.commit entries)) }
+        requires missing { (nat_le head.now.prev_index self.old.server.commit || has
+            self.old.server.log head.now.prev_index head.now.prev_term) ≡ false }
+        ensures taken { OnOk result ((entries : List (Entry M.Command)) →
+            Turned M.meaning self.old self.new outbox.old outbox.new
+            (follows_append self.old.me (following (met head.now.term self.old.server) from) from
+            head.now.prev_index head.now.prev_term head.now.commit entries)) }
         ensures lost { OnErr result (Lost self.old self.new outbox.old outbox.new) }
     {
         let last = self.log.len() as u64;
@@ -60,7 +64,8 @@ impl<M: Machine> Raft<M> {
         Ok(())
     }
 
-    /// The entry before those that came is held: the log takes them up, and what the leader committed of them is applied.
+    /// The entry before those that came is held: the log takes them up, and what the leader
+    /// committed of them is applied.
     fn accept_append(
         &mut self,
         from: ServerId,
@@ -71,9 +76,13 @@ impl<M: Machine> Raft<M> {
         requires up { is_up self.old.server.mode ≡ true }
         requires other { from ≢ self.old.me }
         requires later { self.old.server.term ≤ head.now.term }
-        requires held { (nat_le head.now.prev_index self.old.server.commit || has self.old.server.log head.now.prev_index head.now.prev_term) ≡ true }
+        requires held { (nat_le head.now.prev_index self.old.server.commit || has
+            self.old.server.log head.now.prev_index head.now.prev_term) ≡ true }
         requires places { head.now.prev_index + length entries.items < 2 ^ 40 }
-        ensures taken { OnOk result (Turned M.meaning self.old self.new outbox.old outbox.new (follows_append self.old.me (following (met head.now.term self.old.server) from) from head.now.prev_index head.now.prev_term head.now.commit entries.items)) }
+        ensures taken { OnOk result
+            (Turned M.meaning self.old self.new outbox.old outbox.new
+            (follows_append self.old.me (following (met head.now.term self.old.server) from) from
+            head.now.prev_index head.now.prev_term head.now.commit entries.items)) }
         ensures lost { OnErr result (Lost self.old self.new outbox.old outbox.new) }
     {
         // From here on an early return leaves the server down.
@@ -119,7 +128,12 @@ impl<M: Machine> Raft<M> {
     ) -> Result<(), NoMemory>
         requires up { is_up self.old.server.mode ≡ true }
         requires other { from ≢ self.old.me }
-        ensures taken { OnOk result (Turned M.meaning self.old self.new outbox.old outbox.new (receives M.meaning.noop self.old.size self.old.me (met message.head.term self.old.server) from message.head.term (AppendBody message.head.prev_index message.head.prev_term message.head.commit message.entries))) }
+        ensures taken { OnOk result
+            (Turned M.meaning self.old self.new outbox.old outbox.new
+            (receives M.meaning.noop self.old.size self.old.me
+            (met message.head.term self.old.server) from message.head.term
+            (AppendBody message.head.prev_index message.head.prev_term message.head.commit
+            message.entries))) }
         ensures lost { OnErr result (Lost self.old self.new outbox.old outbox.new) }
     {
         let (head, entries) = message.into_parts();

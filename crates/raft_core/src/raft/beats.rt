@@ -1,12 +1,13 @@
-//! What a leader sends at a beat. (Raft, extended version 2014, section 5.3, and Figure 2, leaders.)
+//! What a leader sends at a beat. (Raft, extended version 2014, section 5.3, and Figure 2,
+//! leaders.)
 
 ghost use Rattle.std.specs.Prelude.{◌≡◌, ◌≢◌, ◌-◌, ◌^◌, ◌<◌, ◌≤◌, ◌∷◌, [], true, ℕ, length, slice_index, take, drop, OnOk, OnErr};
 ghost use Rattle.raft_model.specs.Messages.{to_others};
 ghost use Rattle.raft_model.specs.Quorums.{number};
 ghost use Rattle.raft_model.specs.Servers.{is_up, is_leader, beats};
-ghost use Rattle.raft_core.specs.Beats.{append_from};
+ghost use Rattle.raft_core.specs.Inner.Beats.{append_from};
 ghost use Rattle.raft_core.specs.Frames.{Sends};
-ghost use Rattle.raft_core.specs.Turns.{Turned, Lost, Sent};
+ghost use Rattle.raft_core.specs.Inner.Turns.{Turned, Lost, Sent};
 
 use super::Raft;
 use super::votes::server_at;
@@ -41,7 +42,8 @@ fn send_from<M: Machine>(
     requires least { 1 ≤ next }
     requires most { next ≤ 2 ^ 40 }
     requires short { length log.now < 2 ^ 40 }
-    ensures ok { OnOk result (Sends M.meaning outbox.old outbox.new (append_from me term commit log.now next to ∷ [])) }
+    ensures ok { OnOk result (Sends M.meaning outbox.old outbox.new
+        (append_from me term commit log.now next to ∷ [])) }
     ensures err { OnErr result (outbox.new ≡ outbox.old) }
 {
     let Some(prev_index) = Index::new(next - 1) else {
@@ -69,7 +71,9 @@ fn send_to_others<M: Machine>(
     requires least { (j : ℕ) → j < length next.now → 1 ≤ slice_index next.now j }
     requires most { (j : ℕ) → slice_index next.now j ≤ 2 ^ 40 }
     requires short { length log.now < 2 ^ 40 }
-    ensures ok { OnOk result (Sends M.meaning outbox.old outbox.new (to_others me (λ to. append_from me term commit log.now (number next.now to) to) (length next.now))) }
+    ensures ok { OnOk result (Sends M.meaning outbox.old outbox.new
+        (to_others me (λ to. append_from me term commit log.now (number next.now to) to)
+        (length next.now))) }
     ensures err { OnErr result (Sent outbox.old outbox.new) }
 {
     for (place, first) in next.iter().enumerate() {
@@ -84,8 +88,15 @@ impl<M: Machine> Raft<M> {
     /// A leader sends to each other server; others send nothing, and take no memory.
     pub(super) fn beat(&self, outbox: &mut Outbox) -> Result<(), NoMemory>
         requires { is_up self.now.server.mode ≡ true }
-        ensures taken { OnOk result (Turned M.meaning self.now self.now outbox.old outbox.new (record { server = self.now.server; sent = beats self.now.size self.now.me self.now.server self.now.server.mode })) }
-        ensures lost { OnErr result ((is_leader self.now.server.mode ≡ true) × Lost self.now self.now outbox.old outbox.new) }
+        ensures taken { OnOk result
+            (Turned M.meaning self.now self.now outbox.old outbox.new
+            (record {
+              server = self.now.server;
+              sent = beats self.now.size self.now.me
+                  self.now.server self.now.server.mode;
+            })) }
+        ensures lost { OnErr result ((is_leader self.now.server.mode ≡ true)
+            × Lost self.now self.now outbox.old outbox.new) }
     {
         match self.role {
             Role::Follower => Ok(()),

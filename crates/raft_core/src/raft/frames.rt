@@ -5,9 +5,9 @@ ghost use Rattle.rows.specs.declared.actor.Actor.TheVariants as actors;
 ghost use Rattle.raft_model.specs.Servers.{is_up, met};
 ghost use Rattle.raft_model.specs.Steps.{receives};
 ghost use Rattle.raft_core.specs.Frames.{term_of, body_of};
-ghost use Rattle.raft_core.specs.Turns.{Turned, Lost};
-ghost use Rattle.raft_core.specs.Steps.{TakesFrame, frame_refusal, misdirected};
-ghost use Rattle.raft_core.specs.Stops.{FrameStops};
+ghost use Rattle.raft_core.specs.Inner.Turns.{Turned, Lost};
+ghost use Rattle.raft_core.specs.Inner.Stops.{TakesFrame, FrameStops};
+ghost use Rattle.raft_core.specs.Refusals.{frame_refusal, misdirected};
 
 use super::Raft;
 use machine::Machine;
@@ -25,7 +25,10 @@ impl<M: Machine> Raft<M> {
         requires up { is_up self.old.server.mode ≡ true }
         requires member { from < self.old.size }
         requires other { from ≢ self.old.me }
-        ensures taken { OnOk result (Turned M.meaning self.old self.new outbox.old outbox.new (receives M.meaning.noop self.old.size self.old.me (met (term_of body) self.old.server) from (term_of body) (body_of body))) }
+        ensures taken { OnOk result
+            (Turned M.meaning self.old self.new outbox.old outbox.new
+            (receives M.meaning.noop self.old.size self.old.me (met (term_of body) self.old.server)
+            from (term_of body) (body_of body))) }
         ensures lost { OnErr result (Lost self.old self.new outbox.old outbox.new) }
     {
         match body {
@@ -36,12 +39,15 @@ impl<M: Machine> Raft<M> {
         }
     }
 
-    /// The sender of a message, if that is another server of the group and the message is for this one; else the refusal
-    /// names the address at fault.
+    /// The sender of a message, if that is another server of the group and the message is for this
+    /// one; else the refusal names the address at fault.
     fn sender(&self, message: &Message<M>) -> Result<ServerId, Refusal>
-        ensures ok { IfOk result (λ from. (message.now.from ≡ actors.Server from) × (message.now.to ≡ actors.Server self.now.me) × (from < self.now.size)) }
-        ensures admitted { OnOk result (misdirected self.now.size self.now.me message.now.from message.now.to ≡ None) }
-        ensures refused { IfErr result (λ cause. misdirected self.now.size self.now.me message.now.from message.now.to ≡ Some cause) }
+        ensures ok { IfOk result (λ from. (message.now.from ≡ actors.Server from)
+            × (message.now.to ≡ actors.Server self.now.me) × (from < self.now.size)) }
+        ensures admitted { OnOk result
+            (misdirected self.now.size self.now.me message.now.from message.now.to ≡ None) }
+        ensures refused { IfErr result (λ cause.
+            misdirected self.now.size self.now.me message.now.from message.now.to ≡ Some cause) }
     {
         let Actor::Server(from) = message.from() else {
             return Err(Refusal::Frame(2));
@@ -62,9 +68,13 @@ impl<M: Machine> Raft<M> {
     pub(super) fn frame(&mut self, bytes: &[u8], outbox: &mut Outbox) -> Result<(), Refusal>
         requires { is_up self.old.server.mode ≡ true }
         ensures same { (self.new.me ≡ self.old.me) × (self.new.size ≡ self.old.size) }
-        ensures taken { OnOk result (TakesFrame M.meaning self.old self.old.server bytes.now self.new outbox.old outbox.new) }
-        ensures admitted { OnOk result (frame_refusal M.meaning self.old.size self.old.me bytes.now ≡ None) }
-        ensures stopped { IfErr result (λ cause. FrameStops M.meaning self.old bytes.now cause self.new outbox.old outbox.new) }
+        ensures taken { OnOk result
+            (TakesFrame M.meaning self.old self.old.server bytes.now self.new outbox.old
+            outbox.new) }
+        ensures admitted { OnOk result (frame_refusal M.meaning self.old.size self.old.me bytes.now
+            ≡ None) }
+        ensures stopped { IfErr result (λ cause.
+            FrameStops M.meaning self.old bytes.now cause self.new outbox.old outbox.new) }
     {
         let message = read_message::<M>(self.alloc, bytes)?;
         let from = self.sender(&message)?;

@@ -5,7 +5,7 @@ ghost use Rattle.raft_model.specs.Servers.{is_up, met, crashed};
 ghost use Rattle.raft_model.specs.Steps.{receives};
 ghost use Rattle.raft_model.specs.Messages.{AppendReply as AppendReplyBody};
 ghost use Rattle.raft_model.specs.Quorums.{number};
-ghost use Rattle.raft_core.specs.Replies.{hears, next_after, match_after};
+ghost use Rattle.raft_core.specs.Inner.Replies.{hears, next_after, match_after};
 
 use super::Raft;
 use crate::commit::advance;
@@ -14,14 +14,17 @@ use machine::Machine;
 use rows::{Index, NoMemory, ServerId};
 use wire::AppendReply;
 
-/// Another server holds its log up to `at`: its match index is no less, and its next index follows. What is past the
-/// leader's last entry counts for nothing.
+/// Another server holds its log up to `at`: its match index is no less, and its next index follows.
+/// What is past the leader's last entry counts for nothing.
 fn acknowledge(next: &mut [u64], matched: &mut [u64], last: u64, from: ServerId, at: Index)
     requires next_each { from < length next.old }
     requires matched_each { from < length matched.old }
     requires level { number matched.old from < 2 ^ 40 }
-    ensures next { next.new ≡ if nat_le at last then slice_set next.old from (suc (max (number matched.old from) at)) else next.old }
-    ensures matched { matched.new ≡ if nat_le at last then slice_set matched.old from (max (number matched.old from) at) else matched.old }
+    ensures next { next.new ≡ if nat_le at last then slice_set next.old from
+        (suc (max (number matched.old from) at)) else next.old }
+    ensures matched { matched.new
+        ≡ if nat_le at last then slice_set matched.old from (max (number matched.old from) at) else
+        matched.old }
 {
     let place = from.place();
     if at.get() <= last {
@@ -31,12 +34,14 @@ fn acknowledge(next: &mut [u64], matched: &mut [u64], last: u64, from: ServerId,
     }
 }
 
-/// Another server refuses: the leader tries one earlier at least, and no earlier than what that server is known to hold.
+/// Another server refuses: the leader tries one earlier at least, and no earlier than what that
+/// server is known to hold.
 fn back_off(next: &mut [u64], matched: &[u64], from: ServerId, at: Index)
     requires next_each { from < length next.old }
     requires matched_each { from < length matched.now }
     requires level { number matched.now from < 2 ^ 40 }
-    ensures { next.new ≡ slice_set next.old from (max (suc (number matched.now from)) (min (number next.old from - 1) (suc at))) }
+    ensures { next.new ≡ slice_set next.old from
+        (max (suc (number matched.now from)) (min (number next.old from - 1) (suc at))) }
 {
     let place = from.place();
     let earlier = next[place].saturating_sub(1).min(at.get() + 1);
@@ -64,7 +69,8 @@ impl<M: Machine> Raft<M> {
         requires up { is_up self.old.server.mode ≡ true }
         requires member { from < self.old.size }
         ensures same { (self.new.me ≡ self.old.me) × (self.new.size ≡ self.old.size) }
-        ensures heard { OnOk result (self.new.server ≡ hears self.old.size self.old.me self.old.server from ok at self.old.server.mode) }
+        ensures heard { OnOk result (self.new.server
+            ≡ hears self.old.size self.old.me self.old.server from ok at self.old.server.mode) }
         ensures lost { OnErr result (crashed self.new.server ≡ crashed self.old.server) }
     {
         match self.role {
@@ -100,7 +106,10 @@ impl<M: Machine> Raft<M> {
         requires up { is_up self.old.server.mode ≡ true }
         requires member { from < self.old.size }
         ensures same { (self.new.me ≡ self.old.me) × (self.new.size ≡ self.old.size) }
-        ensures taken { OnOk result (self.new.server ≡ (receives M.meaning.noop self.old.size self.old.me (met reply.now.term self.old.server) from reply.now.term (AppendReplyBody reply.now.asked reply.now.ok reply.now.at)).server) }
+        ensures taken { OnOk result (self.new.server
+            ≡ (receives M.meaning.noop self.old.size self.old.me
+            (met reply.now.term self.old.server) from reply.now.term
+            (AppendReplyBody reply.now.asked reply.now.ok reply.now.at)).server) }
         ensures lost { OnErr result (crashed self.new.server ≡ crashed self.old.server) }
     {
         if self.term.get() < reply.term.get() {

@@ -2,16 +2,17 @@
 
 ghost use Rattle.std.specs.Prelude.{◌≡◌, ◌≢◌, ◌+◌, ◌^◌, ◌<◌, ◌≤◌, true, length, None, OnOk, OnErr, IfErr};
 ghost use Rattle.raft_model.specs.Servers.{is_up, met, grants, stood, vote_request, counted, won, crashed};
-ghost use Rattle.raft_model.specs.Steps.{receives};
+ghost use Rattle.raft_model.specs.Steps.{receives, Timeout};
 ghost use Rattle.raft_model.specs.Messages.{to_others, VoteRequest as VoteRequestBody, VoteReply as VoteReplyBody};
 ghost use Rattle.raft_model.specs.Quorums.{count, is_quorum, marked};
 ghost use Rattle.raft_core.specs.Frames.{Sends};
-ghost use Rattle.raft_core.specs.Steps.{Takes, refusal};
-ghost use Rattle.raft_core.specs.Stops.{Stops};
-ghost use Rattle.raft_core.specs.Turns.{Turned, Lost, Sent};
+ghost use Rattle.raft_core.specs.Inputs.{Own};
+ghost use Rattle.raft_core.specs.Steps.{Steps};
+ghost use Rattle.raft_core.specs.Refusals.{refusal};
+ghost use Rattle.raft_core.specs.Inner.Stops.{Stops};
+ghost use Rattle.raft_core.specs.Inner.Turns.{Turned, Lost, Sent};
 
 use super::Raft;
-use crate::input::Input;
 use crate::log::term_of_last;
 use crate::role::Role;
 use crate::sending::send;
@@ -61,7 +62,14 @@ fn ask<M: Machine>(
     outbox: &mut Outbox,
 ) -> Result<(), NoMemory>
     requires { size ≤ 5 }
-    ensures ok { OnOk result (Sends M.meaning outbox.old outbox.new (to_others me (λ to. record { from = me; to = to; term = request.now.term; body = VoteRequestBody request.now.last_index request.now.last_term }) size)) }
+    ensures ok { OnOk result (Sends M.meaning outbox.old outbox.new
+        (to_others me (λ to. record {
+          from = me;
+          to = to;
+          term = request.now.term;
+          body =
+              VoteRequestBody request.now.last_index request.now.last_term;
+        }) size)) }
     ensures err { OnErr result (Sent outbox.old outbox.new) }
 {
     for place in 0..size {
@@ -76,7 +84,8 @@ impl<M: Machine> Raft<M> {
     /// Whether a request gets this server's vote.
     fn may_grant(&self, from: ServerId, request: &VoteRequest) -> bool
         requires { is_up self.now.server.mode ≡ true }
-        ensures { result ≡ grants (met request.now.term self.now.server) from request.now.term request.now.last_index request.now.last_term }
+        ensures { result ≡ grants (met request.now.term self.now.server) from request.now.term
+            request.now.last_index request.now.last_term }
     {
         let last_term = term_of_last(&self.log).get();
         let its_last_term = request.last_term.get();
@@ -111,7 +120,11 @@ impl<M: Machine> Raft<M> {
     ) -> Result<(), NoMemory>
         requires up { is_up self.old.server.mode ≡ true }
         requires other { from ≢ self.old.me }
-        ensures taken { OnOk result (Turned M.meaning self.old self.new outbox.old outbox.new (receives M.meaning.noop self.old.size self.old.me (met request.now.term self.old.server) from request.now.term (VoteRequestBody request.now.last_index request.now.last_term))) }
+        ensures taken { OnOk result
+            (Turned M.meaning self.old self.new outbox.old outbox.new
+            (receives M.meaning.noop self.old.size self.old.me
+            (met request.now.term self.old.server) from request.now.term
+            (VoteRequestBody request.now.last_index request.now.last_term))) }
         ensures lost { OnErr result (Lost self.old self.new outbox.old outbox.new) }
     {
         let granted = self.may_grant(from, request);
@@ -135,7 +148,8 @@ impl<M: Machine> Raft<M> {
         requires up { is_up self.old.server.mode ≡ true }
         requires room { length self.old.server.log + 1 < 2 ^ 40 }
         ensures same { (self.new.me ≡ self.old.me) × (self.new.size ≡ self.old.size) }
-        ensures won { OnOk result (self.new.server ≡ won M.meaning.noop self.old.size self.old.server) }
+        ensures won { OnOk result (self.new.server
+            ≡ won M.meaning.noop self.old.size self.old.server) }
         ensures lost { OnErr result (crashed self.new.server ≡ crashed self.old.server) }
     {
         let first = self.log.len() as u64 + 1;
@@ -154,7 +168,8 @@ impl<M: Machine> Raft<M> {
         requires up { is_up self.old.server.mode ≡ true }
         requires member { from < self.old.size }
         ensures same { (self.new.me ≡ self.old.me) × (self.new.size ≡ self.old.size) }
-        ensures counted { OnOk result (self.new.server ≡ counted M.meaning.noop self.old.size self.old.server from self.old.server.mode) }
+        ensures counted { OnOk result (self.new.server
+            ≡ counted M.meaning.noop self.old.size self.old.server from self.old.server.mode) }
         ensures lost { OnErr result (crashed self.new.server ≡ crashed self.old.server) }
     {
         match self.role {
@@ -175,7 +190,10 @@ impl<M: Machine> Raft<M> {
         requires up { is_up self.old.server.mode ≡ true }
         requires member { from < self.old.size }
         ensures same { (self.new.me ≡ self.old.me) × (self.new.size ≡ self.old.size) }
-        ensures taken { OnOk result (self.new.server ≡ (receives M.meaning.noop self.old.size self.old.me (met reply.now.term self.old.server) from reply.now.term (VoteReplyBody reply.now.asked reply.now.granted)).server) }
+        ensures taken { OnOk result (self.new.server
+            ≡ (receives M.meaning.noop self.old.size self.old.me
+            (met reply.now.term self.old.server) from reply.now.term
+            (VoteReplyBody reply.now.asked reply.now.granted)).server) }
         ensures lost { OnErr result (crashed self.new.server ≡ crashed self.old.server) }
     {
         if self.term.get() < reply.term.get() {
@@ -193,7 +211,14 @@ impl<M: Machine> Raft<M> {
         requires up { is_up self.old.server.mode ≡ true }
         requires term { self.old.server.term + 1 < 2 ^ 40 }
         requires room { length self.old.server.log + 1 < 2 ^ 40 }
-        ensures taken { OnOk result (Turned M.meaning self.old self.new outbox.old outbox.new (record { server = stood self.old.size self.old.me self.old.server; sent = to_others self.old.me (vote_request self.old.me (stood self.old.size self.old.me self.old.server)) self.old.size })) }
+        ensures taken { OnOk result
+            (Turned M.meaning self.old self.new outbox.old outbox.new
+            (record {
+              server = stood self.old.size self.old.me self.old.server;
+              sent = to_others
+                  self.old.me (vote_request self.old.me (stood self.old.size self.old.me self.old.server))
+                  self.old.size;
+            })) }
         ensures lost { OnErr result (Lost self.old self.new outbox.old outbox.new) }
     {
         let term = self.term.next();
@@ -216,9 +241,12 @@ impl<M: Machine> Raft<M> {
     pub(super) fn timeout(&mut self, outbox: &mut Outbox) -> Result<(), Refusal>
         requires { is_up self.old.server.mode ≡ true }
         ensures same { (self.new.me ≡ self.old.me) × (self.new.size ≡ self.old.size) }
-        ensures taken { OnOk result (Takes M.meaning self.old self.old.server Input.Timeout self.new outbox.old outbox.new) }
-        ensures admitted { OnOk result (refusal M.meaning self.old.size self.old.me self.old.server Input.Timeout ≡ None) }
-        ensures stopped { IfErr result (λ cause. Stops M.meaning self.old Input.Timeout cause self.new outbox.old outbox.new) }
+        ensures taken { OnOk result (
+            Steps M.meaning self.old self.old.server Timeout self.new outbox.old outbox.new) }
+        ensures admitted { OnOk result (
+            refusal M.meaning self.old.size self.old.me self.old.server (Own Timeout) ≡ None) }
+        ensures stopped { IfErr result (λ cause.
+            Stops M.meaning self.old (Own Timeout) cause self.new outbox.old outbox.new) }
     {
         if self.is_leader() {
             return Ok(());

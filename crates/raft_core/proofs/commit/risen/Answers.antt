@@ -1,5 +1,5 @@
 use Rattle.std.proofs.Common.{length, arith, ◌∙◌, sym}
-use Rattle.raft_core.specs.Commits.{is_chosen_in}
+use Rattle.raft_core.specs.Inner.Commits.{is_chosen_in}
 use Rattle.raft_core.proofs.Commits.{jump, step_down, found, greatest-none}
 use Rattle.raft_core.proofs.commit.risen.Goals as goal
 

@@ -1,6 +1,6 @@
 use Rattle.std.proofs.Common.{◌≡◌, ◌≤◌, length}
 use Rattle.raft_model.specs.Servers.{greatest}
-use Rattle.raft_core.specs.Commits.{is_chosen_in}
+use Rattle.raft_core.specs.Inner.Commits.{is_chosen_in}
 use Rattle.raft_core.proofs.commit.risen.Given as goal
 
 abbrev pub invariant-loop-index : goal.invariant-loop-index

@@ -1,6 +1,6 @@
 use Rattle.std.proofs.Common.{sym}
 use Rattle.world.specs.Events.{place}
-use Rattle.world.proofs.Inputs.{gone, received, astray}
+use Rattle.world.proofs.Inputs.{gone, received, astray, sent_there}
 use Rattle.world.proofs.input.receiver.Goals as goal
 
 pub returns-in_err-frame_at-clause-none : goal.returns-in_err-frame_at-clause-none
@@ -11,3 +11,6 @@ returns-in-Server-clause-some g c = received g.M.Machine.meaning c.args.sent.now
 
 pub returns-in-Client-clause-none : goal.returns-in-Client-clause-none
 returns-in-Client-clause-none g c = astray g.M.Machine.meaning c.args.sent.now (place c.args.k) c.in_ok-frame_at.field-0.now c.in-Client.field-0 (sym c.in_ok-frame_at.ensures) (sym c.in-Client.ensures)
+
+pub returns-in-Server-clause-sent : goal.returns-in-Server-clause-sent
+returns-in-Server-clause-sent g c = sent_there c.args.sent.now (place c.args.k) c.in_ok-frame_at.field-0.now (sym c.in_ok-frame_at.ensures)

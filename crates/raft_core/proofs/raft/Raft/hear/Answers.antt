@@ -1,5 +1,5 @@
 use Rattle.std.proofs.Common.{◌≡◌, arith, ap, ◌∙◌, length, Some}
-use Rattle.raft_core.specs.Replies.{next_after, match_after}
+use Rattle.raft_core.specs.Inner.Replies.{next_after, match_after}
 use Rattle.raft_core.proofs.Replies.{next-length, match-length, put_back, keeps, heard_by}
 use Rattle.raft_core.proofs.raft.Raft.hear.Goals as goal
 

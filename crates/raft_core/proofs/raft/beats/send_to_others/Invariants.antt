@@ -1,8 +1,8 @@
 use Rattle.raft_model.specs.Messages.{to_others}
 use Rattle.raft_model.specs.Quorums.{number}
-use Rattle.raft_core.specs.Beats.{append_from}
+use Rattle.raft_core.specs.Inner.Beats.{append_from}
 use Rattle.raft_core.specs.Frames.{Sends}
-use Rattle.raft_core.specs.Turns.{Sent}
+use Rattle.raft_core.specs.Inner.Turns.{Sent}
 use Rattle.raft_core.proofs.raft.beats.send_to_others.Given as goal
 
 abbrev pub invariant-loop-place : goal.invariant-loop-place

@@ -1,6 +1,6 @@
 use Rattle.raft_model.specs.Messages.{to_others, VoteRequest as VoteRequestBody}
 use Rattle.raft_core.specs.Frames.{Sends}
-use Rattle.raft_core.specs.Turns.{Sent}
+use Rattle.raft_core.specs.Inner.Turns.{Sent}
 use Rattle.raft_core.proofs.raft.votes.ask.Given as goal
 
 abbrev pub invariant-loop-place : goal.invariant-loop-place

@@ -1,6 +1,6 @@
 use Rattle.std.proofs.Common.{length, subst}
-use Rattle.world.specs.Seen.{Seen, IsGroup}
+use Rattle.world.specs.WorldView.{WorldView, IsGroup}
 use Rattle.world.proofs.world.RaftWorld.group_size.Goals as goal
 
 pub returns : goal.returns
-returns g c = let i = c.self.invariant in subst (λ (x : Seen g.row.M-Command.Denot). IsGroup (length x.servers)) c.self.view_is i.size
+returns g c = let i = c.self.invariant in subst (λ (x : WorldView g.row.M-Command.Denot). IsGroup (length x.servers)) c.self.view_is i.size

@@ -1,20 +1,20 @@
-use Rattle.std.proofs.Common.{◌≡◌, ℕ, ◌⊎◌, subst, arith, ap, refl, inl, inr}
-use Rattle.world.specs.Events.{events_of}
-use Rattle.world.specs.Seen.{Seen, IsGroup}
-use Rattle.world.proofs.Begins.{Begun, begun_next, begun_reached, begun_stands}
+use Rattle.std.proofs.Common.{◌≡◌, ℕ, ◌⊎◌, subst, arith, ap, inl, inr}
+use Rattle.world.specs.Inner.HistoryView.{HistoryView}
+use Rattle.world.specs.WorldView.{WorldView, IsGroup}
+use Rattle.world.proofs.Begins.{Begun, begun_next, begun_reached, begun_represents}
 use Rattle.world.proofs.world.RaftWorld.new.Goals as goal
 use Rattle.world.proofs.world.RaftWorld.new.Goals.{else-n-ne3-via-then-n-ne3+else-n-ne5, else-n-ne3-via-else-n-ne3}
 
-pub invariant_of-result-2 : goal.invariant_of-result-2
-invariant_of-result-2 g c =
+pub invariant_of-result : goal.invariant_of-result
+invariant_of-result g c =
     let all : c.loop-place.place ≡ c.args.n = omega arith in
-    let seen : Seen g.row.M-Command.Denot = record { servers = c.loop-place.servers.items; sent = c.new.result.items; trace = events_of c.new-2.result.items; chain = 0 } in
+    let seen : WorldView g.row.M-Command.Denot = record { servers = c.loop-place.servers.items; sent = c.new.result.sent; trace = c.new.result.trace; chain = c.new.result.chain } in
     let begun : Begun g.M.Machine.meaning c.args.n c.args.n c.loop-place.servers.items = subst (λ (k : ℕ). Begun g.M.Machine.meaning c.args.n k c.loop-place.servers.items) all c.loop-place.invariant in
     let size : IsGroup c.args.n = elim c.else-n-ne3.branch [
       | else-n-ne3-via-then-n-ne3+else-n-ne5 w ↦ inr (omega arith)
       | else-n-ne3-via-else-n-ne3 w ↦ inl (omega arith)
     ] in
-    begun_reached g.M.Machine.meaning c.args.n seen size begun c.new.ensures.items (ap events_of c.new-2.ensures.items) refl
+    begun_reached g.M.Machine.meaning c.args.n seen size begun (ap (λ (x : HistoryView g.row.M-Command.Denot). x.sent) c.new.ensures) (ap (λ (x : HistoryView g.row.M-Command.Denot). x.trace) c.new.ensures) (ap (λ (x : HistoryView g.row.M-Command.Denot). x.chain) c.new.ensures)
 
 pub loop-place-preserved : goal.loop-place-preserved
 loop-place-preserved g c =
@@ -24,7 +24,7 @@ loop-place-preserved g c =
 pub returns-clause-ok : goal.returns-clause-ok
 returns-clause-ok g c =
     let all : c.loop-place.place ≡ c.args.n = omega arith in
-    let seen : Seen g.row.M-Command.Denot = record { servers = c.loop-place.servers.items; sent = c.new.result.items; trace = events_of c.new-2.result.items; chain = 0 } in
+    let seen : WorldView g.row.M-Command.Denot = record { servers = c.loop-place.servers.items; sent = c.new.result.sent; trace = c.new.result.trace; chain = c.new.result.chain } in
     let begun : Begun g.M.Machine.meaning c.args.n c.args.n c.loop-place.servers.items = subst (λ (k : ℕ). Begun g.M.Machine.meaning c.args.n k c.loop-place.servers.items) all c.loop-place.invariant in
     let size : IsGroup c.args.n = elim c.else-n-ne3.branch [
       | else-n-ne3-via-then-n-ne3+else-n-ne5 w ↦ inr (omega arith)
@@ -33,7 +33,7 @@ returns-clause-ok g c =
     record {
       size = size;
       count = begun.count;
-      trace = ap events_of c.new-2.ensures.items;
-      chain = refl;
-      stands = begun_stands g.M.Machine.meaning c.args.n seen begun c.new.ensures.items;
+      trace = ap (λ (x : HistoryView g.row.M-Command.Denot). x.trace) c.new.ensures;
+      chain = ap (λ (x : HistoryView g.row.M-Command.Denot). x.chain) c.new.ensures;
+      represents = begun_represents g.M.Machine.meaning c.args.n seen begun (ap (λ (x : HistoryView g.row.M-Command.Denot). x.sent) c.new.ensures);
     }

@@ -1,10 +1,10 @@
 use Rattle.std.proofs.Common.{subst}
-use Rattle.world.specs.Seen.{Seen}
+use Rattle.world.specs.WorldView.{WorldView}
 use Rattle.world.specs.Claims.{OneLeaderEver}
 use Rattle.world.proofs.world.RaftWorld.one_leader.Goals as goal
 
 pub returns : goal.returns
 returns g c =
     let i = c.self.invariant in
-    subst (λ (x : Seen g.row.M-Command.Denot). OneLeaderEver g.M.Machine.meaning x) c.self.view_is
+    subst (λ (x : WorldView g.row.M-Command.Denot). OneLeaderEver g.M.Machine.meaning x) c.self.view_is
     (record { past = i.past; world = i.world; runs = i.runs; ever = λ past w r. c.one_leader_a_term.ensures _ _ past w r.run })

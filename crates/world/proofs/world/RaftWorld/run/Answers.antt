@@ -1,7 +1,7 @@
 use Rattle.std.proofs.Common.{◌≡◌, ◌<◌, ◌+◌, take_all, [], ◌∷◌, ◌++◌, length, take, ap, ◌∙◌, sym, refl, subst, arith}
 use Rattle.std.proofs.lemmas.List.{take_more}
 use Rattle.world.specs.Events.{event_of, events_of}
-use Rattle.world.specs.Keeps.{Played}
+use Rattle.world.specs.Steps.{Played}
 use Rattle.world.proofs.Events.{one_event_more}
 use Rattle.world.proofs.Playing.{play_begins, play_next}
 use Rattle.world.proofs.Replays.{replays}

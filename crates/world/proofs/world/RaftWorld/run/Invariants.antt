@@ -1,6 +1,6 @@
 use Rattle.std.proofs.Common.{take}
 use Rattle.world.specs.Events.{events_of}
-use Rattle.world.specs.Keeps.{Played}
+use Rattle.world.specs.Steps.{Played}
 use Rattle.world.proofs.world.RaftWorld.run.Given as goal
 
 abbrev pub invariant-loop-event : goal.invariant-loop-event

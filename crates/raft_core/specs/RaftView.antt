@@ -9,7 +9,7 @@ use Rattle.raft_core.specs.declared.role.Role.{Role}
 use Rattle.raft_core.specs.declared.role.Role.TheVariants.{Follower, Candidate, Leader}
 
 -- its place among the servers, how many they are, and the server that it is
-pub record Seen (C : Type 0) : Type 0 where
+pub record RaftView (C : Type 0) : Type 0 where
   pub me : ℕ
   pub size : ℕ
   pub server : Server C
@@ -36,7 +36,8 @@ HasRoom Follower log = Unit {0}
 HasRoom Candidate log = length log + 1 < 2 ^ 40
 HasRoom Leader log = Unit {0}
 
--- Each of the lists by server number has an item for each server. A next index is one that a log may grow to.
+-- Each of the lists by server number has an item for each server. A next index is one that a log
+-- may grow to.
 pub record IsRaft {S C : Type 0} (m : Meaning S C) (me size : ℕ) (log : List (Entry C)) (role : Role) (commit : ℕ) (votes : List Bool) (next matched : List ℕ) (machine : Option S) : Type 0 where
   pub number : me < size
   pub group : size ≤ 5
@@ -48,6 +49,3 @@ pub record IsRaft {S C : Type 0} (m : Meaning S C) (me size : ℕ) (log : List (
   pub next_most : (j : ℕ) → slice_index next j ≤ 2 ^ 40
   pub matched_each : length matched ≡ size
   pub live : IfSome machine (IsLive m log commit matched)
-
-abbrev pub with_server : {C : Type 0} → Seen C → Server C → Seen C
-with_server seen server = record seen { server = server }

@@ -3,11 +3,11 @@ use Rattle.std.specs.Prelude.{◌≡◌, List, length, take}
 use Rattle.machine.specs.Meaning.{Meaning}
 use Rattle.raft_model.specs.Servers.{Turn, crashed}
 use Rattle.wire.specs.Frames.{Frame}
-use Rattle.raft_core.specs.Seen.{Seen}
+use Rattle.raft_core.specs.RaftView.{RaftView}
 use Rattle.raft_core.specs.Frames.{Sends}
 
 -- the turn was taken, its messages sent
-pub record Turned {S C : Type 0} (m : Meaning S C) (old new : Seen C) (before after : List Frame) (turn : Turn C) : Type 0 where
+pub record Turned {S C : Type 0} (m : Meaning S C) (old new : RaftView C) (before after : List Frame) (turn : Turn C) : Type 0 where
   pub server : new.server ≡ turn.server
   pub me : new.me ≡ old.me
   pub size : new.size ≡ old.size
@@ -18,7 +18,7 @@ abbrev pub Sent : List Frame → List Frame → Type 0
 Sent before after = take (length before) after ≡ before
 
 -- memory was wanting: what is stored is as it was, and nothing of what was sent before is lost
-pub record Lost {C : Type 0} (old new : Seen C) (before after : List Frame) : Type 0 where
+pub record Lost {C : Type 0} (old new : RaftView C) (before after : List Frame) : Type 0 where
   pub server : crashed new.server ≡ crashed old.server
   pub me : new.me ≡ old.me
   pub size : new.size ≡ old.size

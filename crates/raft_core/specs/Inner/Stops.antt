@@ -1,0 +1,44 @@
+-- A step that is broken off, before what it left is put away.
+use Rattle.std.specs.Prelude.{◌≡◌, ℕ, List, Some}
+use Rattle.rows.specs.declared.refusal.Refusal.{Refusal}
+use Rattle.rows.specs.declared.refusal.Refusal.TheVariants as refusals
+use Rattle.machine.specs.Meaning.{Meaning}
+use Rattle.wire.specs.Frames.{Frame}
+use Rattle.raft_model.specs.Messages.{Message}
+use Rattle.raft_model.specs.Servers.{Server}
+use Rattle.raft_model.specs.Steps.{Arrives, Restart}
+use Rattle.raft_core.specs.RaftView.{RaftView}
+use Rattle.raft_core.specs.Frames.{IsFrameOf}
+use Rattle.raft_core.specs.Inputs.{Handed, Own}
+use Rattle.raft_core.specs.Steps.{Steps}
+use Rattle.raft_core.specs.Refusals.{refusal, frame_refusal, MayLack}
+use Rattle.raft_core.specs.Inner.Turns.{Lost}
+
+-- memory was wanting; a restart takes none
+abbrev pub LosesIn : {C : Type 0} → RaftView C → Handed C → RaftView C → List Frame → List Frame → Type 0
+LosesIn old (Own Restart) new before after = ⊥
+LosesIn old h new before after = MayLack old.server.mode h × Lost old new before after
+
+-- nothing changed, and nothing was sent
+pub record Unchanged {C : Type 0} (old new : RaftView C) (before after : List Frame) : Type 0 where
+  pub same : new ≡ old
+  pub nothing : after ≡ before
+
+abbrev pub Stops : {S C : Type 0} → Meaning S C → RaftView C → Handed C → Refusal → RaftView C
+    → List Frame → List Frame → Type 0
+Stops m old h refusals.NoMemory new before after = LosesIn old h new before after
+Stops m old h cause new before after =
+    (refusal m old.size old.me old.server h ≡ Some cause) × Unchanged old new before after
+
+-- the same of bytes that come to a server that is up
+abbrev pub FrameStops : {S C : Type 0} → Meaning S C → RaftView C → List ℕ → Refusal → RaftView C
+    → List Frame → List Frame → Type 0
+FrameStops m old bytes refusals.NoMemory new before after = Lost old new before after
+FrameStops m old bytes cause new before after =
+    (frame_refusal m old.size old.me bytes ≡ Some cause) × Unchanged old new before after
+
+-- the step of each message that the bytes may be
+abbrev pub TakesFrame : {S C : Type 0} → Meaning S C → RaftView C → Server C → List ℕ → RaftView C
+    → List Frame → List Frame → Type 0
+TakesFrame {C = C} m old s bytes new before after =
+    (message : Message C) → IsFrameOf m bytes message → Steps m old s (Arrives message) new before after

@@ -1,0 +1,104 @@
+-- Why a call is refused, and what a refusal leaves.
+use Rattle.std.specs.Prelude.{◌≡◌, ℕ, ◌==◌, Bool, true, false, nat_lt, if◌then◌else◌, Option, Some, None, Result, Ok, Err, List}
+use Rattle.rows.specs.declared.actor.Actor.{Actor}
+use Rattle.rows.specs.declared.actor.Actor.TheVariants.{Server as ServerActor, Client}
+use Rattle.rows.specs.declared.refusal.Refusal.{Refusal}
+use Rattle.rows.specs.declared.refusal.Refusal.TheVariants as refusals
+use Rattle.machine.specs.Meaning.{Meaning}
+use Rattle.wire.specs.Messages.{Message as WireMessage}
+use Rattle.wire.specs.Frames.{message_at}
+use Rattle.raft_model.specs.Servers.{Server, Turn, Mode, is_up, is_leader, crashed}
+use Rattle.raft_model.specs.Steps.{Input, Arrives, Timeout, Beat, Propose, Compact, Crash, Restart, step}
+use Rattle.raft_core.specs.declared.no_projection.NoProjection.{NoProjection}
+use Rattle.raft_core.specs.declared.no_projection.NoProjection.TheVariants as reasons
+use Rattle.raft_core.specs.RaftView.{RaftView}
+use Rattle.raft_core.specs.Inputs.{Handed, Bytes, Own}
+use Rattle.raft_core.specs.Steps.{Represents, is_member}
+
+-- ---- what is handed in
+
+-- the refusal of a step, if it is one
+abbrev pub refusal_by : {C : Type 0} → Result (Turn C) Refusal → Option Refusal
+refusal_by (Ok turn) = None
+refusal_by (Err refusal) = Some refusal
+
+abbrev pub is_server_of : ℕ → Actor → Bool
+is_server_of n (ServerActor place) = nat_lt place n
+is_server_of n (Client client) = false
+
+abbrev pub is_server : ℕ → Actor → Bool
+is_server me (ServerActor place) = place == me
+is_server me (Client client) = false
+
+-- a message must come from a server of the group, and be for this one
+abbrev pub misdirected : ℕ → ℕ → Actor → Actor → Option Refusal
+misdirected n me from to =
+    if is_server_of n from
+    then (if is_server me to then None else Some (refusals.Frame 3))
+    else Some (refusals.Frame 2)
+
+-- a message that was read, or the place of a frame's first fault
+abbrev pub unreadable : {S C : Type 0} → ℕ → ℕ → Result (WireMessage S C) ℕ → Option Refusal
+unreadable n me (Ok message) = misdirected n me message.from message.to
+unreadable n me (Err place) = Some (refusals.Frame place)
+
+abbrev pub frame_refusal : {S C : Type 0} → Meaning S C → ℕ → ℕ → List ℕ → Option Refusal
+frame_refusal {S = S} m n me bytes = unreadable {S = S} n me (message_at m.commands bytes)
+
+-- Why server `me` of n refuses what is handed in, if it does: it is down; bytes are no frame, or
+-- one for another; else as the definitions say.
+abbrev pub refusal : {S C : Type 0} → Meaning S C → ℕ → ℕ → Server C → Handed C → Option Refusal
+refusal m n me s (Bytes bytes) =
+    if is_up s.mode then frame_refusal m n me bytes else Some refusals.Down
+refusal m n me s (Own input) = refusal_by (step m n me s input)
+
+-- ---- want of memory
+
+-- In which modes an input may want memory. A crash takes none, nor does a leader at a timeout, or
+-- another at a beat or a proposal.
+abbrev pub MayWant : {C : Type 0} → Mode → Input C → Type 0
+MayWant mode (Arrives message) = is_up mode ≡ true
+MayWant mode Timeout = (is_up mode ≡ true) × (is_leader mode ≡ false)
+MayWant mode Beat = is_leader mode ≡ true
+MayWant mode (Propose command) = is_leader mode ≡ true
+MayWant mode Compact = is_up mode ≡ true
+MayWant mode Crash = ⊥
+MayWant mode Restart = is_up mode ≡ false
+
+-- bytes that are no message may want memory too
+abbrev pub MayLack : {C : Type 0} → Mode → Handed C → Type 0
+MayLack mode (Bytes bytes) = is_up mode ≡ true
+MayLack mode (Own input) = MayWant mode input
+
+-- ---- both
+
+-- this refusal may be answered: want of memory where some may be wanted, any other where it is the
+-- one above
+abbrev pub IsRefused : {S C : Type 0} → Meaning S C → ℕ → ℕ → Server C → Handed C → Refusal → Type 0
+IsRefused m n me s h refusals.NoMemory = MayLack s.mode h
+IsRefused m n me s h cause = refusal m n me s h ≡ Some cause
+
+-- want of memory in a step is a crash, but that a restart changes nothing
+abbrev pub LackLeaves : {S C : Type 0} → Meaning S C → RaftView C → Server C → Handed C → RaftView C → Type 0
+LackLeaves m old s (Own Restart) new = new ≡ old
+LackLeaves m old s h new = Represents m new (crashed s)
+
+-- any other refusal of a step changes nothing
+abbrev pub RefusalLeaves : {S C : Type 0} → Meaning S C → RaftView C → Server C → Handed C → Refusal → RaftView C
+    → Type 0
+RefusalLeaves m old s h refusals.NoMemory new = LackLeaves m old s h new
+RefusalLeaves m old s h cause new = new ≡ old
+
+-- ---- other calls
+
+-- why a stored part is not started
+abbrev pub WhyNot : ℕ → ℕ → Refusal → Type 0
+WhyNot n me refusals.NoMemory = is_member n me ≡ true
+WhyNot n me refusals.OutOfRange = is_member n me ≡ false
+WhyNot n me _ = ⊥
+
+-- why a server has no machine after its whole log
+abbrev pub LacksProjection : {C : Type 0} → Server C → NoProjection → Type 0
+LacksProjection s reasons.NoMemory = is_leader s.mode ≡ true
+LacksProjection s reasons.NotLeader = (is_up s.mode ≡ true) × (is_leader s.mode ≡ false)
+LacksProjection s reasons.Down = is_up s.mode ≡ false

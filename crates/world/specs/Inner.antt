@@ -1,0 +1,4 @@
+-- Words of private contracts.
+pub mod HistoryView
+pub mod Inputs
+pub mod Parts

@@ -1,0 +1,51 @@
+-- Who takes an event, and what it is handed.
+use Rattle.std.specs.Prelude.{◌≡◌, ℕ, ◌<◌, if◌then◌else◌, Bool, true, false, Option, Some, None, Err, List, [], length, slice_get}
+use Rattle.std.specs.List.{AllZip}
+use Rattle.rows.specs.declared.refusal.Refusal.{Refusal}
+use Rattle.machine.specs.Meaning.{Meaning}
+use Rattle.wire.specs.Frames.{Frame}
+use Rattle.raft_model.specs.Servers.{Server, is_up}
+use Rattle.raft_model.specs.Steps.{Timeout, Beat, Propose, Compact, Crash, Restart}
+use Rattle.raft_model.specs.Worlds.{World, Event, Deliver, TimesOut, Beats, Proposes, Compacts, Crashes, Restarts, happens, actor}
+use Rattle.raft_core.specs.Frames.{FrameCarries}
+use Rattle.raft_core.specs.Inputs.{Handed, Bytes, Own}
+
+abbrev pub is_restart : {C : Type 0} → Event C → Bool
+is_restart (Deliver k) = false
+is_restart (TimesOut i) = false
+is_restart (Beats i) = false
+is_restart (Proposes i command) = false
+is_restart (Compacts i) = false
+is_restart (Crashes i) = false
+is_restart (Restarts i) = true
+
+-- server i takes the event
+abbrev pub ActsIn : {S C : Type 0} → Meaning S C → List Frame → Event C → ℕ → Type 0
+ActsIn {C = C} m sent e i = (w : World C) → AllZip (FrameCarries m) sent w.sent → actor m w e ≡ Some i
+
+-- nobody takes it
+abbrev pub NobodyActsIn : {S C : Type 0} → Meaning S C → List Frame → Event C → Refusal → Type 0
+NobodyActsIn {C = C} m sent e r = (w : World C) → AllZip (FrameCarries m) sent w.sent → happens m w e ≡ Err r
+
+-- what it delivers was sent
+abbrev pub IsSent : {C : Type 0} → List Frame → Event C → Type 0
+IsSent sent (Deliver k) = k < length sent
+IsSent sent _ = Unit {0}
+
+abbrev pub bytes_of : Option Frame → List ℕ
+bytes_of None = []
+bytes_of (Some frame) = frame.bytes
+
+-- what is handed to the server that takes the event
+abbrev pub handed_by : {C : Type 0} → List Frame → Event C → Handed C
+handed_by sent (Deliver k) = Bytes (bytes_of (slice_get sent k))
+handed_by sent (TimesOut i) = Own Timeout
+handed_by sent (Beats i) = Own Beat
+handed_by sent (Proposes i command) = Own (Propose command)
+handed_by sent (Compacts i) = Own Compact
+handed_by sent (Crashes i) = Own Crash
+handed_by sent (Restarts i) = Own Restart
+
+-- what a server has committed, while it is up
+abbrev pub committed : {C : Type 0} → Server C → ℕ
+committed s = if is_up s.mode then s.commit else 0

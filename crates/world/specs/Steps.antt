@@ -1,0 +1,108 @@
+-- What a step of a world does, and what becomes of a list of events.
+use Rattle.std.specs.Prelude.{◌≡◌, ◌≢◌, ℕ, ◌⊎◌, Some, Ok, Err, List, [], ◌∷◌, ◌++◌, length, slice_get}
+use Rattle.rows.specs.declared.refusal.Refusal.{Refusal}
+use Rattle.rows.specs.declared.refusal.Refusal.TheVariants as refusals
+use Rattle.machine.specs.Meaning.{Meaning}
+use Rattle.raft_model.specs.Servers.{Server}
+use Rattle.raft_model.specs.Steps.{Input}
+use Rattle.raft_model.specs.Worlds.{World, Event, first, Crashes, Outcome, Kept, LeftOut, Trace, happens, actor, IsRestart}
+use Rattle.raft_model.specs.Worlds.{Crashed as OutcomeCrashed}
+use Rattle.raft_core.specs.Refusals.{MayWant}
+use Rattle.world.specs.declared.done.Done.{Done}
+use Rattle.world.specs.declared.done.Done.TheVariants.{Taken, Crashed}
+use Rattle.world.specs.Events.{input_of}
+use Rattle.world.specs.WorldView.{WorldView, RepresentsWorld, RunsTo, IsRaftWorld, IsGroup}
+
+-- The event happens in each world that `old` represents, and makes it one that `new` represents.
+-- Each run of the old value goes on to one of the new value, by this event.
+pub record EventHappened {S C : Type 0} (m : Meaning S C) (old : WorldView C) (e : Event C) (new : WorldView C) : Type 0 where
+  pub size : length new.servers ≡ length old.servers
+  pub trace : new.trace ≡ old.trace ++ e ∷ []
+  pub worlds : (w : World C) → RepresentsWorld m old w →
+      (next : World C) × (happens m w e ≡ Ok next) × RepresentsWorld m new next
+  pub runs : (past : List (World C)) (w : World C) → RunsTo m old past w →
+      (next : World C) × (happens m w e ≡ Ok next) × RunsTo m new (past ++ w ∷ []) next
+
+-- in this world the event is an input for which its actor, which is s, may want memory
+abbrev pub MayWantFor : {C : Type 0} → World C → Event C → Server C → Type 0
+MayWantFor {C} w e s = (input : Input C) × (input_of w e ≡ Some input) × MayWant s.mode input
+
+-- the event's actor found no memory, and crashes in its place
+pub record ActorCrashed {S C : Type 0} (m : Meaning S C) (old : WorldView C) (e : Event C) (new : WorldView C) : Type 0 where
+  pub who : ℕ
+  pub actor : (w : World C) → RepresentsWorld m old w → actor m w e ≡ Some who
+  pub lacking : (w : World C) (s : Server C) → RepresentsWorld m old w → slice_get w.servers who ≡ Some s →
+      MayWantFor w e s
+  pub happened : EventHappened m old (Crashes who) new
+
+-- a restart that could be, of a server that finds no memory: it stays down
+pub record StaysDown {S C : Type 0} (m : Meaning S C) (old : WorldView C) (e : Event C) (new : WorldView C) : Type 0 where
+  pub restart : IsRestart m e
+  pub could : (w : World C) → RepresentsWorld m old w → (next : World C) × (happens m w e ≡ Ok next)
+  pub same : new ≡ old
+
+-- what became of an event that was not refused
+abbrev pub IsDone : {S C : Type 0} → Meaning S C → WorldView C → Event C → Done → WorldView C → Type 0
+IsDone m old e Taken new = EventHappened m old e new
+IsDone m old e Crashed new = ActorCrashed m old e new ⊎ StaysDown m old e new
+
+-- the definitions refuse the event in the same way, in each run of the value
+abbrev pub RefusesEvent : {S C : Type 0} → Meaning S C → WorldView C → Event C → Refusal → Type 0
+RefusesEvent {S} {C} m view e r =
+    (past : List (World C)) (w : World C) → RunsTo m view past w → happens m w e ≡ Err r
+
+-- the event's actor is up, or is to restart: the definitions do not refuse the event for its being
+-- down
+abbrev pub IsAwake : {S C : Type 0} → Meaning S C → WorldView C → Event C → Type 0
+IsAwake {S} {C} m view e =
+    (past : List (World C)) (w : World C) → RunsTo m view past w → happens m w e ≢ Err refusals.Down
+
+-- the group before its first event: n servers that never did anything
+pub record IsNew {S C : Type 0} (m : Meaning S C) (n : ℕ) (view : WorldView C) : Type 0 where
+  pub size : IsGroup n
+  pub count : length view.servers ≡ n
+  pub trace : view.trace ≡ []
+  pub chain : view.chain ≡ 0
+  pub represents : RepresentsWorld m view (first n)
+
+-- why there is no group: the size, or want of memory
+abbrev pub IsNoGroup : ℕ → Refusal → Type 0
+IsNoGroup n r = (r ≡ refusals.NoMemory) ⊎ ((r ≡ refusals.OutOfRange) × (n ≢ 3) × (n ≢ 5))
+
+-- the value's trace is that of the events handed in: each was kept, was replaced by its actor's
+-- crash, or was left out
+pub record Played {S C : Type 0} (m : Meaning S C) (n : ℕ) (handed : List (Event C)) (view : WorldView C) : Type 0 where
+  pub count : length view.servers ≡ n
+  pub outcomes : List Outcome
+  pub past : List (World C)
+  pub world : World C
+  pub trace : Trace m n handed outcomes view.trace past world
+  pub runs : RunsTo m view past world
+
+-- memory was wanting for the event of this outcome
+abbrev pub Lacked : Outcome → Type 0
+Lacked Kept = ⊥
+Lacked OutcomeCrashed = Unit {0}
+Lacked (LeftOut r) = r ≡ refusals.NoMemory
+
+-- memory was wanting for one of the events handed in
+pub record PlayedShort {S C : Type 0} (m : Meaning S C) (n : ℕ) (handed : List (Event C)) (view : WorldView C) : Type 0 where
+  pub outcomes : List Outcome
+  pub past : List (World C)
+  pub world : World C
+  pub trace : Trace m n handed outcomes view.trace past world
+  pub place : ℕ
+  pub outcome : Outcome
+  pub at : slice_get outcomes place ≡ Some outcome
+  pub lacked : Lacked outcome
+
+-- two values of one run: it leads to the same servers, the same messages and the same chain
+pub record SameRun {S C : Type 0} (m : Meaning S C) (one other : WorldView C) : Type 0 where
+  pub trace : other.trace ≡ one.trace
+  pub chain : other.chain ≡ one.chain
+  pub runs : (past : List (World C)) (w : World C) → RunsTo m one past w → RunsTo m other past w
+
+-- A value of this trace and this many servers comes again from its trace, unless memory was wanting
+-- for one of the events.
+abbrev pub Replays : {S C : Type 0} → Meaning S C → ℕ → List (Event C) → WorldView C → Type 0
+Replays {S} {C} m n handed view = (old : WorldView C) → IsRaftWorld m old → length old.servers ≡ n → old.trace ≡ handed → SameRun m old view ⊎ PlayedShort m n handed view
