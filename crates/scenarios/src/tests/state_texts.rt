@@ -2,8 +2,8 @@
 //! each call of it that may lack memory, with enough of it.
 use crate::tests::full_tables::MOST_JOBS;
 use crate::tests::states::play;
-use fsm_tables::Tables;
-use rows::{AllocId, Allocation, ClientState, DrainMode, EvalStatus, Ordinal};
+use fsm_tables::{AllocName, Tables};
+use rows::{AllocId, Allocation, ClientState, DrainMode, EvalStatus, NoMemory, Ordinal, Sequence};
 
 // The empty state, as both calls make it.
 const EMPTY: &str = "\
@@ -262,6 +262,14 @@ fn lists_and_puts_rows(rt: HostRuntime) {
     }
 }
 
+/// Whether these are the row of the id, and no other.
+fn is_alone(rows: Result<Sequence<Allocation>, NoMemory>, id: AllocId) -> bool {
+    match rows {
+        Ok(rows) => rows.len() == 1 && rows.as_slice().iter().all(|row| row.id == id),
+        Err(_) => false,
+    }
+}
+
 // The same of allocations: of two under one key the last that is put counts, for what is in use too.
 #[test]
 fn lists_and_puts_allocations(rt: HostRuntime) {
@@ -290,4 +298,9 @@ fn lists_and_puts_allocations(rt: HostRuntime) {
     }
     let slots = tables.allocs().rows().iter().map(|row| row.id.slot.get());
     assert!(rt; slots.eq([0, 1]));
+    // The second one ended.
+    assert!(rt; is_alone(tables.all_live_named(&AllocName::of(&row)), row.id));
+    assert!(rt; is_alone(tables.live_of_job(&row.job), row.id));
+    assert!(rt; is_alone(tables.live_on(row.node), row.id));
+    assert!(rt; is_alone(tables.active_on(row.node), row.id));
 }
