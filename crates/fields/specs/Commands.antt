@@ -83,7 +83,8 @@ report = made (λ p. record { id = p.0; state = p.1 }) (λ r. (r.id, r.state)) (
 abbrev pub reports : Format (List Report)
 reports = some (list 1 64 report)
 
--- what becomes of an evaluation: the status, and the index of the state at which it was found blocked, which is 0 for any other
+-- what becomes of an evaluation: the status, and the index of the state at which it was found
+-- blocked, which is 0 for any other
 abbrev pub snapshot_limit : EvalStatus → ℕ
 snapshot_limit eval_statuses.Blocked = 2 ^ 40
 snapshot_limit _ = 1

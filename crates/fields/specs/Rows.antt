@@ -100,7 +100,8 @@ groups = some (ruled_list 1 8 group_is_new group group_behind)
 abbrev pub alloc_id_behind : List AllocId → Format AllocId
 alloc_id_behind front = kept (id_rises front) alloc_id
 
--- a job: its name, priority, whether it was stopped, its version and groups; in a table its name is above the last
+-- a job: its name, priority, whether it was stopped, its version and groups; in a table its name is
+-- above the last
 abbrev pub JobOthers : Type 0
 JobOthers = ℕ × (Bool × (ℕ × List Group))
 
@@ -119,7 +120,8 @@ job = keyed make_job job_parts name job_others
 abbrev pub job_behind : List Job → Format Job
 job_behind = keyed_behind (is_behind name_cmp job_name) make_job job_parts name job_others
 
--- a node: its number, class, size, status, whether it is eligible, its drain and room; in a table its number is above the last
+-- a node: its number, class, size, status, whether it is eligible, its drain and room; in a table
+-- its number is above the last
 abbrev pub NodeOthers : Type 0
 NodeOthers = List ℕ × (Size × (NodeStatus × (Bool × (DrainMode × ℕ))))
 
@@ -160,8 +162,8 @@ evaluation = keyed make_evaluation evaluation_parts eval_id evaluation_others
 abbrev pub evaluation_behind : List Evaluation → Format Evaluation
 evaluation_behind = keyed_behind (is_behind eval_cmp eval_key) make_evaluation evaluation_parts eval_id evaluation_others
 
--- an allocation: its id, job, group, index, node, size, what is wanted and known of it, whether it is to move, and its
--- evaluation; in a table its id is above the last
+-- an allocation: its id, job, group, index, node, size, what is wanted and known of it, whether it
+-- is to move, and its evaluation; in a table its id is above the last
 abbrev pub AllocationOthers : Type 0
 AllocationOthers = List ℕ × ((List ℕ × (ℕ × (ℕ × Size))) × (Desired × (ClientState × (Bool × EvalId))))
 

@@ -332,7 +332,8 @@ fn read_zero(bytes: &[u8], at: usize) -> Result<(u64, usize), Refusal>
     }
 }
 
-/// The status, and the index of the state at which an evaluation was found blocked, which is 0 for any other.
+/// The status, and the index of the state at which an evaluation was found blocked, which is 0 for
+/// any other.
 impl Field for StatusChange {
     ghost format = { status_change };
 

@@ -13,19 +13,20 @@ use crate::writing::{
 use rows::{Actor, Index, NoMemory, Refusal, ServerId, Term};
 use std::alloc::Global;
 
-/// A type with a format: how a value is read at a place, and how it is written. The format is lawful: each value has one
-/// text, and each text that is read is the text of its value.
+/// A type with a format: how a value is read at a place, and how it is written. The format is
+/// lawful: each value has one text, and each text that is read is the text of its value.
 pub trait Field: Sized + Drop {
     /// The texts of the values, and how they are read.
     ghost format: { Format Self };
 
-    /// Reads the value whose text stands at a place, whatever follows it, with the place after it. Where none does, `Frame`
-    /// names the first byte of the first field that is cut or out of range. Only a reader that takes memory answers
-    /// `NoMemory`, and none answers another refusal.
+    /// Reads the value whose text stands at a place, whatever follows it, with the place after it.
+    /// Where none does, `Frame` names the first byte of the first field that is cut or out of
+    /// range. Only a reader that takes memory answers `NoMemory`, and none answers another refusal.
     fn read_at(alloc: Global, bytes: &[u8], at: usize) -> Result<(Self, usize), Refusal>
         ensures { Gives result (format.read bytes.now at) };
 
-    /// Puts the text to the end. After an error a part of a text may stand there: `write` takes that back.
+    /// Puts the text to the end. After an error a part of a text may stand there: `write` takes
+    /// that back.
     fn append(&self, out: &mut Vec<u8>) -> Result<(), NoMemory>
         ensures { Puts format self.now result out.old.items out.new.items };
 
@@ -33,7 +34,8 @@ pub trait Field: Sized + Drop {
     ghost lawful: { Lawful format };
 }
 
-/// Reads the value whose text is all of the bytes. Where some are left over, `Frame` names the first of them.
+/// Reads the value whose text is all of the bytes. Where some are left over, `Frame` names the
+/// first of them.
 pub fn read_whole<F: Field>(alloc: Global, bytes: &[u8]) -> Result<F, Refusal>
     ensures { Gives result (whole F.format bytes.now) }
 {

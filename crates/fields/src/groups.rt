@@ -59,7 +59,8 @@ impl Field for Group {
     }
 }
 
-/// In a job each group has a name of its own: one that is taken is a fault at the group's first byte.
+/// In a job each group has a name of its own: one that is taken is a fault at the group's first
+/// byte.
 impl RuledField for Group {
     ghost rule = { group_is_new };
 

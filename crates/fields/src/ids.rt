@@ -12,7 +12,8 @@ use rows::{
 };
 use std::alloc::Global;
 
-/// One byte from 1 to 32, and that many bytes of `a` to `z`, `0` to `9` and `-`. Whatever is wrong is a fault at the first.
+/// One byte from 1 to 32, and that many bytes of `a` to `z`, `0` to `9` and `-`. Whatever is wrong
+/// is a fault at the first.
 impl Field for Name {
     ghost format = { name };
 

@@ -1,5 +1,5 @@
-//! Fields as bytes, both ways: what formats are, with their laws, and a reader and a writer for each field, for lists and
-//! for options. One value has one text.
+//! Fields as bytes, both ways: what formats are, with their laws, and a reader and a writer for
+//! each field, for lists and for options. One value has one text.
 #![tactic(auto)]
 
 mod codes;

@@ -1,5 +1,5 @@
-//! Lists and options of any field. A list is its count, in one byte or in four, and then its items; an option is a flag, and
-//! the value where there is one.
+//! Lists and options of any field. A list is its count, in one byte or in four, and then its items;
+//! an option is a flag, and the value where there is one.
 ghost use Rattle.std.specs.Prelude.{length, ◌≤◌};
 ghost use Rattle.fields.specs.Format.{Gives, Puts, Writes, items_at, items, list, option};
 
@@ -41,7 +41,8 @@ pub fn read_list<F: Field>(
     read_items(alloc, bytes, next, count)
 }
 
-/// A count of four bytes, and that many values. A count of more than `most` is a fault at the count.
+/// A count of four bytes, and that many values. A count of more than `most` is a fault at the
+/// count.
 pub fn read_long_list<F: Field>(
     alloc: Global,
     bytes: &[u8],
@@ -81,7 +82,8 @@ fn append_items<F: Field>(values: &[F], out: &mut Vec<u8>) -> Result<(), NoMemor
     Ok(())
 }
 
-/// Puts the count in one byte to the end, and the values. Without memory a part of this may stand there.
+/// Puts the count in one byte to the end, and the values. Without memory a part of this may stand
+/// there.
 pub(crate) fn append_counted<F: Field>(
     values: &[F],
     most: u8,
@@ -94,7 +96,8 @@ pub(crate) fn append_counted<F: Field>(
     append_items(values, out)
 }
 
-/// Puts the count in four bytes to the end, and the values. Without memory a part of this may stand there.
+/// Puts the count in four bytes to the end, and the values. Without memory a part of this may stand
+/// there.
 fn append_long_counted<F: Field>(values: &[F], most: u32, out: &mut Vec<u8>) -> Result<(), NoMemory>
     requires { length values.now ≤ most }
     ensures { Puts (list 4 most F.format) values.now result out.old.items out.new.items }
@@ -103,7 +106,8 @@ fn append_long_counted<F: Field>(values: &[F], most: u32, out: &mut Vec<u8>) -> 
     append_items(values, out)
 }
 
-/// Puts a flag to the end, and the value where there is one. Without memory a part of this may stand there.
+/// Puts a flag to the end, and the value where there is one. Without memory a part of this may
+/// stand there.
 fn append_option<F: Field>(value: &Option<F>, out: &mut Vec<u8>) -> Result<(), NoMemory>
     ensures { Puts (option F.format) value.now result out.old.items out.new.items }
 {
@@ -125,8 +129,8 @@ pub fn write_items<F: Field>(values: &[F], out: &mut Vec<u8>) -> Result<(), NoMe
     take_back(done, start, out)
 }
 
-/// Puts the count of a slice in one byte to the end, and its values: at most `most` of them. Without memory the buffer stays
-/// as it was.
+/// Puts the count of a slice in one byte to the end, and its values: at most `most` of them.
+/// Without memory the buffer stays as it was.
 pub fn write_counted<F: Field>(values: &[F], most: u8, out: &mut Vec<u8>) -> Result<(), NoMemory>
     requires { length values.now ≤ most }
     ensures { Writes (list 1 most F.format) values.now result out.old.items out.new.items }
@@ -136,7 +140,8 @@ pub fn write_counted<F: Field>(values: &[F], most: u8, out: &mut Vec<u8>) -> Res
     take_back(done, start, out)
 }
 
-/// Puts the count in one byte to the end, and the values: at most `most` of them. Without memory the buffer stays as it was.
+/// Puts the count in one byte to the end, and the values: at most `most` of them. Without memory
+/// the buffer stays as it was.
 pub fn write_list<F: Field>(
     values: &Sequence<F>,
     most: u8,
@@ -148,8 +153,8 @@ pub fn write_list<F: Field>(
     write_counted(values.as_slice(), most, out)
 }
 
-/// Puts the count of a slice in four bytes to the end, and its values: at most `most` of them. Without memory the buffer stays
-/// as it was.
+/// Puts the count of a slice in four bytes to the end, and its values: at most `most` of them.
+/// Without memory the buffer stays as it was.
 pub fn write_long_counted<F: Field>(
     values: &[F],
     most: u32,
@@ -163,8 +168,8 @@ pub fn write_long_counted<F: Field>(
     take_back(done, start, out)
 }
 
-/// Puts the count in four bytes to the end, and the values: at most `most` of them. Without memory the buffer stays as it
-/// was.
+/// Puts the count in four bytes to the end, and the values: at most `most` of them. Without memory
+/// the buffer stays as it was.
 pub fn write_long_list<F: Field>(
     values: &Sequence<F>,
     most: u32,
@@ -176,7 +181,8 @@ pub fn write_long_list<F: Field>(
     write_long_counted(values.as_slice(), most, out)
 }
 
-/// Puts a flag to the end, 0 for none or 1, and the value where there is one. Without memory the buffer stays as it was.
+/// Puts a flag to the end, 0 for none or 1, and the value where there is one. Without memory the
+/// buffer stays as it was.
 pub fn write_option<F: Field>(value: &Option<F>, out: &mut Vec<u8>) -> Result<(), NoMemory>
     ensures { Writes (option F.format) value.now result out.old.items out.new.items }
 {

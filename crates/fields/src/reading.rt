@@ -1,5 +1,6 @@
-//! Reading a field at a place. A reader answers the value whose text stands there, whatever follows, with the place after
-//! it; else `Frame` with the place of the field. These readers take no memory: they answer no other refusal.
+//! Reading a field at a place. A reader answers the value whose text stands there, whatever
+//! follows, with the place after it; else `Frame` with the place of the field. These readers take
+//! no memory: they answer no other refusal.
 ghost use Rattle.std.specs.Prelude.{◌≡◌, ◌≤◌, ◌+◌, ◌<◌, length, drop, IfSome, IfNone};
 ghost use Rattle.fields.specs.Format.{GivesExactly, number};
 ghost use Rattle.fields.specs.Ids.{name};
@@ -71,7 +72,8 @@ pub fn read_term(bytes: &[u8], at: usize) -> Result<(Term, usize), Refusal>
     }
 }
 
-/// A place in the log: eight bytes, below 2^40. `Frame` names its first byte where it is cut or out of range.
+/// A place in the log: eight bytes, below 2^40. `Frame` names its first byte where it is cut or out
+/// of range.
 pub fn read_index(bytes: &[u8], at: usize) -> Result<(Index, usize), Refusal>
     ensures { GivesExactly result (index.read bytes.now at) }
 {
@@ -104,8 +106,8 @@ pub fn read_bool(bytes: &[u8], at: usize) -> Result<(bool, usize), Refusal>
     }
 }
 
-/// An actor: one byte, from 1 to 5 for the server of that number, or 128 more than its number for a client, 129 to 192.
-/// `Frame` names it where it is cut or another number.
+/// An actor: one byte, from 1 to 5 for the server of that number, or 128 more than its number for a
+/// client, 129 to 192. `Frame` names it where it is cut or another number.
 pub fn read_actor(bytes: &[u8], at: usize) -> Result<(Actor, usize), Refusal>
     ensures { GivesExactly result (actor.read bytes.now at) }
 {
@@ -133,7 +135,8 @@ pub(crate) fn read_count(bytes: &[u8], at: usize, most: u8) -> Result<(usize, us
     }
 }
 
-/// The count of a list, in four bytes. `Frame` names its first byte where it is cut or more than `most`.
+/// The count of a list, in four bytes. `Frame` names its first byte where it is cut or more than
+/// `most`.
 pub(crate) fn read_long_count(bytes: &[u8], at: usize, most: u32) -> Result<(usize, usize), Refusal>
     ensures { GivesExactly result ((number 4 0 (most + 1)).read bytes.now at) }
 {
@@ -143,7 +146,8 @@ pub(crate) fn read_long_count(bytes: &[u8], at: usize, most: u32) -> Result<(usi
     }
 }
 
-/// A name: its length in one byte, from 1 to 32, and its bytes. `Frame` names the length, whatever is wrong.
+/// A name: its length in one byte, from 1 to 32, and its bytes. `Frame` names the length, whatever
+/// is wrong.
 pub(crate) fn read_name(bytes: &[u8], at: usize) -> Result<(Name, usize), Refusal>
     ensures { GivesExactly result (name.read bytes.now at) }
 {

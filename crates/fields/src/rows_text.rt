@@ -327,8 +327,8 @@ fn append_allocation_end(row: &Allocation, out: &mut Vec<u8>) -> Result<(), NoMe
     row.eval.append(out)
 }
 
-/// An allocation's row: its id, job, group, index, node, size, what is wanted and known of it, whether it is to move, and its
-/// evaluation.
+/// An allocation's row: its id, job, group, index, node, size, what is wanted and known of it,
+/// whether it is to move, and its evaluation.
 impl Field for Allocation {
     ghost format = { allocation };
 

@@ -12,10 +12,12 @@ pub trait RuledField: Field {
     /// Whether a value may stand behind those in front of it.
     ghost rule: { List Self → Self → Bool };
 
-    /// How a value is read behind those in front of it: as ever, and the rule is asked too, as soon as what it asks was read.
+    /// How a value is read behind those in front of it: as ever, and the rule is asked too, as soon
+    /// as what it asks was read.
     ghost behind: { List Self → Format Self };
 
-    /// Reads the value whose text stands at a place, behind these. `Frame` names its first byte where the rule forbids it.
+    /// Reads the value whose text stands at a place, behind these. `Frame` names its first byte
+    /// where the rule forbids it.
     fn read_behind(
         alloc: Global,
         bytes: &[u8],
@@ -28,8 +30,8 @@ pub trait RuledField: Field {
     ghost ruled: { IsRuled rule Self.format behind };
 }
 
-/// So many values that keep their rule. `Frame` names the first field at fault, or the first byte of a value that the rule
-/// forbids where it stands.
+/// So many values that keep their rule. `Frame` names the first field at fault, or the first byte
+/// of a value that the rule forbids where it stands.
 fn read_ruled_items<F: RuledField>(
     alloc: Global,
     bytes: &[u8],
@@ -48,7 +50,8 @@ fn read_ruled_items<F: RuledField>(
     Ok((Sequence::from_vec(items), at))
 }
 
-/// A count of one byte, and that many values that keep their rule. A count of more than `most` is a fault at the count.
+/// A count of one byte, and that many values that keep their rule. A count of more than `most` is a
+/// fault at the count.
 pub fn read_ruled_list<F: RuledField>(
     alloc: Global,
     bytes: &[u8],
@@ -61,7 +64,8 @@ pub fn read_ruled_list<F: RuledField>(
     read_ruled_items(alloc, bytes, next, count)
 }
 
-/// A count of four bytes, and that many values that keep their rule. A count of more than `most` is a fault at the count.
+/// A count of four bytes, and that many values that keep their rule. A count of more than `most` is
+/// a fault at the count.
 pub fn read_long_ruled_list<F: RuledField>(
     alloc: Global,
     bytes: &[u8],

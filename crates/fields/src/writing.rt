@@ -1,5 +1,5 @@
-//! Writing a field to the end of a buffer. A writer puts the one text of the value there; without memory it leaves the
-//! buffer as it was.
+//! Writing a field to the end of a buffer. A writer puts the one text of the value there; without
+//! memory it leaves the buffer as it was.
 ghost use Rattle.std.specs.Prelude.{◌≡◌, take, OnOk, OnErr};
 ghost use Rattle.fields.specs.Format.{Writes};
 ghost use Rattle.fields.specs.Fields.{term, index, server, byte, u16, u32, u64, bool, actor};

@@ -1,4 +1,5 @@
--- The entries of an index: what a put makes of them, and which rows those between two entries are of.
+-- The entries of an index: what a put makes of them, and which rows those between two entries are
+-- of.
 use Rattle.std.proofs.Common.{◌≡◌, Bool, true, false, not, cond, ◌&&◌, ◌⊎◌, inl, inr, T, List, [], ◌∷◌, Option, Some, None, refl, sym, ap, subst, ◌∙◌}
 use Rattle.std.specs.Prelude.{filter, map, ◌||◌, option_map}
 use Rattle.std.specs.Option.{option_and_then}
@@ -88,7 +89,8 @@ module _ {K : Type 0} (R : K → K → Ordering) (o : IsTotalOrder R) where
   made false false true now n o e = let never : false ≡ true = o refl in absurd cc
   made false false false now n o e = refl
 
-  -- and without memory for the row its entry, if it was added, is removed, unless it was there before
+  -- and without memory for the row its entry, if it was added, is removed, unless it was there
+  -- before
   unmade : (same new old now : Bool) → (new ≡ true → same ≡ true) → (same ≡ true → now ≡ old) → cond (new && not old) false (cond new true now) ≡ now
   unmade true true true now n e = sym (e refl)
   unmade true true false now n e = sym (e refl)

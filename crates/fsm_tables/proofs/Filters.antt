@@ -1,4 +1,5 @@
--- The rows of ids in rising order are the rows that pass a test, where the ids are those of the rows that pass.
+-- The rows of ids in rising order are the rows that pass a test, where the ids are those of the
+-- rows that pass.
 use Rattle.std.proofs.Common.{◌≡◌, Bool, true, false, cond, T, List, [], ◌∷◌, Option, Some, None, refl, sym, ap, subst, ◌∙◌}
 use Rattle.std.specs.Prelude.{filter, ◌||◌}
 use Rattle.std.specs.Option.{option_and_then}

@@ -15,7 +15,8 @@ use rows::{AllocId, Allocation, JobName, NoMemory, NodeId, Sequence};
 use std::alloc::Global;
 use std::marker::Model;
 
-/// The allocations' rows, at most 65,536, with what the live ones take of each node. Contracts see the list of the rows.
+/// The allocations' rows, at most 65,536, with what the live ones take of each node. Contracts see
+/// the list of the rows.
 #[derive(Drop)]
 pub(crate) struct Allocations {
     rows: Table<Allocation>,
@@ -75,8 +76,8 @@ impl Allocations {
         &self.rows
     }
 
-    /// The live allocation of a name: that of the least id, where several have it. It takes time in the logarithm of the
-    /// table.
+    /// The live allocation of a name: that of the least id, where several have it. It takes time in
+    /// the logarithm of the table.
     pub fn live_named(&self, name: &AllocName) -> Option<&Allocation>
         ensures { option_map (λ row. row.now) result ≡ live_named name.now self.now }
     {
@@ -143,7 +144,8 @@ impl Allocations {
         }
     }
 
-    /// Makes or replaces the row of the id, and changes no other; a row under a new id is not made where there are `MOST`.
+    /// Makes or replaces the row of the id, and changes no other; a row under a new id is not made
+    /// where there are `MOST`.
     pub fn put(&mut self, row: Allocation) -> Result<(), NoMemory>
         ensures ok { OnOk result (self.new ≡ with_row_within alloc_cmp alloc_id 65536 row self.old) }
         ensures err { OnErr result (self.new ≡ self.old) }

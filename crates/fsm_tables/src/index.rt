@@ -1,4 +1,5 @@
-//! An index of allocations: an entry for each row that is listed, in the order of what it is listed by, and then of its id.
+//! An index of allocations: an entry for each row that is listed, in the order of what it is listed
+//! by, and then of its id.
 ghost use Rattle.std.specs.Prelude.{◌≡◌, OnOk, OnErr, IfOk, option_map, []};
 ghost use Rattle.std.specs.BTreeSet.{IsOrdered};
 ghost use Rattle.std.specs.BTreeMap.Range.{IsLeBy};

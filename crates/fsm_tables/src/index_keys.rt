@@ -1,4 +1,5 @@
-//! What the two indexes list allocations by: the live ones by name, those that are pending or running by node.
+//! What the two indexes list allocations by: the live ones by name, those that are pending or
+//! running by node.
 ghost use Rattle.std.specs.Prelude.{◌≡◌, true, false};
 ghost use Rattle.fsm_tables.specs.Inner.Keys.{live_name, active_on, least_id as the_least, greatest_id as the_greatest, first_entry, last_entry};
 

@@ -75,7 +75,8 @@ impl Indexes {
     }
 }
 
-/// Makes or replaces the row of the id, and keeps the entries of the rows. Without memory no row changes.
+/// Makes or replaces the row of the id, and keeps the entries of the rows. Without memory no row
+/// changes.
 pub(crate) fn put_indexed(
     rows: &mut Table<Allocation>,
     indexes: &mut Indexes,

@@ -7,8 +7,9 @@ ghost use Rattle.fsm_tables.specs.Rows.{row_of};
 
 use rows::{AllocId, Allocation, EvalId, Evaluation, Job, Node};
 
-/// Each of the four tables is the finite set of its rows: two lists of rows, each in strictly rising key, are equal where each key
-/// finds the same row, or none, in both. So what the look-ups answer is all that a table is.
+/// Each of the four tables is the finite set of its rows: two lists of rows, each in strictly
+/// rising key, are equal where each key finds the same row, or none, in both. So what the look-ups
+/// answer is all that a table is.
 pub fn tables_are_sets()
     ensures jobs { (xs ys : List Job) → Holds (is_rising name_cmp job_name xs) → Holds (is_rising name_cmp job_name ys)
         → ((name : List ℕ) → row_of name_cmp job_name name xs ≡ row_of name_cmp job_name name ys) → xs ≡ ys }

@@ -1,4 +1,5 @@
-//! Tables of the replicated state: rows in the order of their keys, the look-ups, and what the live allocations use.
+//! Tables of the replicated state: rows in the order of their keys, the look-ups, and what the live
+//! allocations use.
 #![tactic(auto)]
 
 mod allocations;

@@ -4,8 +4,8 @@ ghost use Rattle.fsm_tables.specs.Inner.Keys.{least_name, greatest_name};
 
 use rows::{Allocation, GroupName, JobName, Name, Ordinal};
 
-/// The name of an allocation, `job.group[index]`. No two live allocations share one in a safe state. (Nomad documentation,
-/// "Allocations": an allocation's name.)
+/// The name of an allocation, `job.group[index]`. No two live allocations share one in a safe
+/// state. (Nomad documentation, "Allocations": an allocation's name.)
 #[derive(Clone, Copy, Debug, PartialEq, Eq, PartialOrd, Ord)]
 pub struct AllocName {
     /// The job.

@@ -69,7 +69,8 @@ impl<T: Row> Table<T> {
         *self.rows.allocator()
     }
 
-    /// Says what a table keeps: strictly rising keys, and the ranges of its rows' parts. It does nothing.
+    /// Says what a table keeps: strictly rising keys, and the ranges of its rows' parts. It does
+    /// nothing.
     pub fn ranges(&self)
         ensures rising { Holds (is_rising T.Key.cmp T.key_of self.now) }
         ensures fit { AllByRecursion T.Fits self.now }
@@ -127,8 +128,8 @@ impl<T: Row> Table<T> {
         Ok(())
     }
 
-    /// Makes or replaces the row of the key, and changes no other; a row under a new key is not made where the table has
-    /// `most` rows or more. Without memory nothing changes.
+    /// Makes or replaces the row of the key, and changes no other; a row under a new key is not
+    /// made where the table has `most` rows or more. Without memory nothing changes.
     pub fn put_within(&mut self, most: usize, row: T) -> Result<(), NoMemory>
         ensures ok { OnOk result (self.new ≡ with_row_within T.Key.cmp T.key_of most row self.old) }
         ensures err { OnErr result (self.new ≡ self.old) }

@@ -17,8 +17,8 @@ use rows::{
 use std::alloc::Global;
 use std::marker::Model;
 
-/// The four tables: at most 256 jobs by name, 64 nodes by number, 65,536 evaluations and 65,536 allocations by id. Contracts
-/// see the lists of their rows, each in strictly rising key.
+/// The four tables: at most 256 jobs by name, 64 nodes by number, 65,536 evaluations and 65,536
+/// allocations by id. Contracts see the lists of their rows, each in strictly rising key.
 #[derive(Drop)]
 pub struct Tables {
     jobs: Table<Job>,
@@ -91,8 +91,8 @@ impl Tables {
         self.allocs.get(&id)
     }
 
-    /// The live allocation of a name, if there is one: that of the least id, where several have the name. It takes time in the
-    /// logarithm of the table.
+    /// The live allocation of a name, if there is one: that of the least id, where several have the
+    /// name. It takes time in the logarithm of the table.
     pub fn live_named(&self, name: &AllocName) -> Option<&Allocation>
         ensures { option_map (λ row. row.now) result ≡ live_named name.now self.now.allocs }
     {
@@ -108,16 +108,16 @@ impl Tables {
         self.allocs.all_live_named(name)
     }
 
-    /// The live allocations of a job, in rising id. It takes time in the logarithm of the table, and
-    /// so much again for each of them. `NoMemory` where there is no memory for them.
+    /// The live allocations of a job, in rising id. It takes time in the logarithm of the table,
+    /// and so much again for each of them. `NoMemory` where there is no memory for them.
     pub fn live_of_job(&self, job: &JobName) -> Result<Sequence<Allocation>, NoMemory>
         ensures { IfOk result (λ rows. rows ≡ filter (lives_for job.now) self.now.allocs) }
     {
         self.allocs.live_of_job(job)
     }
 
-    /// The live allocations on a node, in rising id. It takes time in the logarithm of the table, and
-    /// so much again for each of them. `NoMemory` where there is no memory for them.
+    /// The live allocations on a node, in rising id. It takes time in the logarithm of the table,
+    /// and so much again for each of them. `NoMemory` where there is no memory for them.
     pub fn live_on(&self, node: NodeId) -> Result<Sequence<Allocation>, NoMemory>
         ensures { IfOk result (λ rows. rows ≡ filter (lives_on node) self.now.allocs) }
     {
@@ -133,8 +133,8 @@ impl Tables {
         self.allocs.active_on(node)
     }
 
-    /// What the live allocations on a node take of it: the sums of their processor time and of their memory. It takes one
-    /// step.
+    /// What the live allocations on a node take of it: the sums of their processor time and of
+    /// their memory. It takes one step.
     pub fn used(&self, node: NodeId) -> Usage
         ensures cpu { result.cpu ≡ (used node (claims self.now.allocs)).cpu }
         ensures mem { result.mem ≡ (used node (claims self.now.allocs)).mem }
@@ -170,7 +170,8 @@ impl Tables {
         self.allocs.rows()
     }
 
-    /// Says what the tables keep: strictly rising keys, their limits, and the ranges of their rows' parts. It does nothing.
+    /// Says what the tables keep: strictly rising keys, their limits, and the ranges of their rows'
+    /// parts. It does nothing.
     pub fn ranges(&self)
         ensures { TablesFit self.now }
     {
@@ -180,8 +181,8 @@ impl Tables {
         let _allocs = self.allocs.rows().rows();
     }
 
-    /// Makes or replaces the row of the job, and changes no other; a new row is not made where there are 256. Without memory
-    /// nothing changes.
+    /// Makes or replaces the row of the job, and changes no other; a new row is not made where
+    /// there are 256. Without memory nothing changes.
     pub fn put_job(&mut self, row: Job) -> Result<(), NoMemory>
         ensures ok { OnOk result (self.new ≡ record self.old { jobs = with_row name_cmp job_name 256 row self.old.jobs }) }
         ensures err { OnErr result (self.new ≡ self.old) }
@@ -189,8 +190,8 @@ impl Tables {
         self.jobs.put_within(Tables::MOST_JOBS, row)
     }
 
-    /// Makes or replaces the row of the node, and changes no other; a new row is not made where there are 64. Without memory
-    /// nothing changes.
+    /// Makes or replaces the row of the node, and changes no other; a new row is not made where
+    /// there are 64. Without memory nothing changes.
     pub fn put_node(&mut self, row: Node) -> Result<(), NoMemory>
         ensures ok { OnOk result (self.new ≡ record self.old { nodes = with_row nat_cmp node_number 64 row self.old.nodes }) }
         ensures err { OnErr result (self.new ≡ self.old) }
@@ -198,8 +199,8 @@ impl Tables {
         self.nodes.put_within(Tables::MOST_NODES, row)
     }
 
-    /// Makes or replaces the row of the evaluation, and changes no other; a new row is not made where there are 65,536.
-    /// Without memory nothing changes.
+    /// Makes or replaces the row of the evaluation, and changes no other; a new row is not made
+    /// where there are 65,536. Without memory nothing changes.
     pub fn put_eval(&mut self, row: Evaluation) -> Result<(), NoMemory>
         ensures ok { OnOk result (self.new ≡ record self.old { evals = with_row eval_cmp eval_id 65536 row self.old.evals }) }
         ensures err { OnErr result (self.new ≡ self.old) }
@@ -207,8 +208,8 @@ impl Tables {
         self.evals.put_within(Tables::MOST_EVALS, row)
     }
 
-    /// Makes or replaces the row of the allocation, and changes no other; a new row is not made where there are 65,536.
-    /// Without memory nothing changes.
+    /// Makes or replaces the row of the allocation, and changes no other; a new row is not made
+    /// where there are 65,536. Without memory nothing changes.
     pub fn put_alloc(&mut self, row: Allocation) -> Result<(), NoMemory>
         ensures ok { OnOk result (self.new ≡ record self.old { allocs = with_row alloc_cmp alloc_id 65536 row self.old.allocs }) }
         ensures err { OnErr result (self.new ≡ self.old) }

@@ -4,7 +4,8 @@ ghost use Rattle.fsm_tables.specs.Sums.{IsShare};
 
 use rows::{Allocation, ClientState, Desired};
 
-/// What the live allocations on a node take of it together: sums of processor time in MHz and of memory in MB.
+/// What the live allocations on a node take of it together: sums of processor time in MHz and of
+/// memory in MB.
 #[derive(Clone, Copy, Debug, PartialEq, Eq)]
 pub struct Usage {
     /// Processor time, in MHz.
@@ -34,7 +35,8 @@ pub(crate) fn is_wanted(desired: Desired) -> bool
     }
 }
 
-/// Whether an allocation's node has still to start it, or runs it. (Nomad documentation, "Allocations": client status.)
+/// Whether an allocation's node has still to start it, or runs it. (Nomad documentation,
+/// "Allocations": client status.)
 pub fn is_active(state: ClientState) -> bool
     ensures { result ≡ active state }
 {
@@ -44,8 +46,9 @@ pub fn is_active(state: ClientState) -> bool
     }
 }
 
-/// Whether an allocation is live: it is to run, and its node says that it waits or runs. Only live ones hold room and a
-/// name. (Nomad documentation, "Allocations": desired status and client status.)
+/// Whether an allocation is live: it is to run, and its node says that it waits or runs. Only live
+/// ones hold room and a name. (Nomad documentation, "Allocations": desired status and client
+/// status.)
 pub fn is_live(row: &Allocation) -> bool
     ensures { result ≡ lives row.now }
 {

@@ -1,4 +1,5 @@
-//! Machines that are replicated: the trait with its meaning and its law, entries of a log, and the tally, a small machine.
+//! Machines that are replicated: the trait with its meaning and its law, entries of a log, and the
+//! tally, a small machine.
 #![tactic(auto)]
 
 mod amount;

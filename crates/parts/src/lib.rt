@@ -1,4 +1,5 @@
-//! Tests of bytes and of single servers: texts of fields, frames of messages, and what one server does with its inputs.
+//! Tests of bytes and of single servers: texts of fields, frames of messages, and what one server
+//! does with its inputs.
 #![tactic(auto)]
 
 #[cfg(test)]

@@ -1,4 +1,5 @@
-//! The tests. What they want is published, or worked out by hand from the rules, and never taken from the program's own output.
+//! The tests. What they want is published, or worked out by hand from the rules, and never taken
+//! from the program's own output.
 
 mod frames;
 mod messages;

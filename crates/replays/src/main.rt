@@ -1,4 +1,5 @@
-//! Plays scenario files by the program's own call, and says of each whether it prints what stands beside it.
+//! Plays scenario files by the program's own call, and says of each whether it prints what stands
+//! beside it.
 #![tactic(auto)]
 
 use runner::nomadsim;
@@ -22,7 +23,8 @@ impl Shelf for Folder<'_> {
     }
 }
 
-// Each word names a scenario `WORD.json`, which has to print `WORD.stdout` and nothing on the standard error. Its exit status is told.
+// Each word names a scenario `WORD.json`, which has to print `WORD.stdout` and nothing on the
+// standard error. Its exit status is told.
 fn main(rt: HostRuntime) -> io::Result<()> {
     let alloc = rt.alloc();
     let names: Vec<String> = env::args(&rt)?.skip(1).collect(alloc)?;

@@ -1,4 +1,5 @@
--- Where clap finds no fault in the words, they name a command line: the subcommand is `run`, and `FILE` has a value.
+-- Where clap finds no fault in the words, they name a command line: the subcommand is `run`, and
+-- `FILE` has a value.
 use Rattle.std.proofs.Common.{◌≡◌, ◌∙◌, ◌⊎◌, ◌||◌, ℕ, Bool, true, false, List, [], ◌∷◌, Option, Some, None, is_some, ap, refl, sym, subst, inl, inr, codes, cond}
 use Rattle.std.specs.List.{fold}
 use Rattle.std.specs.Option.{option_map}

@@ -2,7 +2,8 @@
 use Rattle.std.specs.Prelude.{ℕ, ◌+◌, ◌-◌, List}
 use Rattle.std.specs.List.{range_with_len}
 
--- the numbers of those that no flow has taken, and how many of all that were ever sent have been put in flight
+-- the numbers of those that no flow has taken, and how many of all that were ever sent have been
+-- put in flight
 pub record InFlight : Type 0 where
   pub waiting : List ℕ
   pub seen : ℕ

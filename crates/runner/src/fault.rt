@@ -8,7 +8,8 @@ use thiserror::Error;
 /// A fault of the program. Its text is what the standard error is told, with its line's end.
 #[derive(Debug, Drop, Error)]
 pub enum Fault<'a> {
-    /// The words of the command line ask for nothing that the program does; or they ask for its help.
+    /// The words of the command line ask for nothing that the program does; or they ask for its
+    /// help.
     #[error("{0}")]
     CommandLine(clap::Error),
     /// The file of this name cannot be read.
@@ -32,7 +33,8 @@ impl<'a> From<NoMemory> for Fault<'a> {
 }
 
 impl Fault<'_> {
-    /// The exit status of a run that ends by this fault: 0 where help or the version was asked for, 3 where there was no memory, else 2.
+    /// The exit status of a run that ends by this fault: 0 where help or the version was asked for,
+    /// 3 where there was no memory, else 2.
     pub fn status(&self) -> u8
         ensures status { IsStatus self.now result }
         ensures most { result ≤ 3 }

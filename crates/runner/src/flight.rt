@@ -7,7 +7,8 @@ use std::alloc::Global;
 use std::collections::VecDeque;
 use std::marker::Model;
 
-/// The numbers of the messages that were sent and that no flow has taken, in the order in which they are taken.
+/// The numbers of the messages that were sent and that no flow has taken, in the order in which
+/// they are taken.
 #[derive(Drop)]
 pub(crate) struct Flight {
     waiting: VecDeque<u64>,
@@ -34,7 +35,8 @@ impl Flight {
         }
     }
 
-    /// Puts the messages sent since the last call behind the others, `sent` being the number of all that were ever sent.
+    /// Puts the messages sent since the last call behind the others, `sent` being the number of all
+    /// that were ever sent.
     pub(crate) fn admit(&mut self, sent: u64) -> Result<(), NoMemory>
         ensures order { OnOk result (self.new.waiting ≡ self.old.waiting ++ newly_sent self.old.seen sent) }
         ensures seen { OnOk result (self.new.seen ≡ max self.old.seen sent) }

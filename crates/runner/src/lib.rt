@@ -1,4 +1,5 @@
-//! The program `nomadsim`: its command line, its scenario files, and a run over files and streams that are handed in.
+//! The program `nomadsim`: its command line, its scenario files, and a run over files and streams
+//! that are handed in.
 #![tactic(auto)]
 
 pub mod command;

@@ -23,9 +23,10 @@ use world::{RaftEvent, RaftWorld};
 // How many messages a `flow` without a number takes at most.
 const FLOW: u64 = 10_000;
 
-/// Runs the program on the words of its command line, of which the first is its own name, and answers its exit status:
-/// 0 where every step was taken, 1 where one was refused, 2 for a bad command line, a bad file, or an output that
-/// failed, 3 where there was no memory. What is said is flushed before the status is answered.
+/// Runs the program on the words of its command line, of which the first is its own name, and
+/// answers its exit status: 0 where every step was taken, 1 where one was refused, 2 for a bad
+/// command line, a bad file, or an output that failed, 3 where there was no memory. What is said is
+/// flushed before the status is answered.
 pub fn nomadsim<'a, F: Shelf, W: Write, E: Write>(
     alloc: Global,
     words: &'a [&'a str],
@@ -42,7 +43,8 @@ pub fn nomadsim<'a, F: Shelf, W: Write, E: Write>(
     }
 }
 
-// Help goes to the standard output, and a fault to the standard error, after what was said before it.
+// Help goes to the standard output, and a fault to the standard error, after what was said before
+// it.
 fn report<W: Write, E: Write>(fault: &Fault<'_>, out: &mut W, err: &mut E) -> u8
     ensures most { result ≤ 3 }
     ensures status { (result ≡ 2) ⊎ IsStatus fault.now result }

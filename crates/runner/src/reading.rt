@@ -23,8 +23,9 @@ fn refuse_doubled_keys(alloc: Global, text: &str) -> Result<(), Refusal>
     }
 }
 
-/// Reads a scenario file's text. Refused with 12 is just what is no scenario: no JSON object with exactly the seven
-/// keys and values of their kind and range, or one in which a key is written twice; with 1 where there is no memory.
+/// Reads a scenario file's text. Refused with 12 is just what is no scenario: no JSON object with
+/// exactly the seven keys and values of their kind and range, or one in which a key is written
+/// twice; with 1 where there is no memory.
 pub fn scenario(alloc: Global, text: &str) -> Result<Scenario, Refusal>
     ensures ok { IfOk result (IsScenarioText text.now) }
     ensures refused { IfErr result (λ refusal. (refusal ≡ NoMemory) ⊎ ((refusal ≡ OutOfRange) × ((s : Scenario) → ¬ IsScenarioText text.now s))) }

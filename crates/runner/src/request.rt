@@ -15,15 +15,15 @@ use std::alloc::Global;
 /// What a scenario asks of a server. (Nomad documentation, "jobs HTTP API", "nodes HTTP API".)
 #[derive(Drop)]
 pub enum Request {
-    /// `put NAME PRIORITY GROUPS`: the job is put, in place of the one of its name. A group is written as
-    /// `NAME:COUNT:CLASS:CPU:MEMORY`, with commas between groups.
+    /// `put NAME PRIORITY GROUPS`: the job is put, in place of the one of its name. A group is
+    /// written as `NAME:COUNT:CLASS:CPU:MEMORY`, with commas between groups.
     Put(JobSpec),
     /// `stop NAME`: nothing of the job is to run any more.
     Stop(JobName),
     /// `eval NAME`: the job is looked at once more.
     Eval(JobName),
-    /// `drain NODE slow` or `drain NODE force`: the node takes no more, and what runs there moves; the second says whether
-    /// all at once.
+    /// `drain NODE slow` or `drain NODE force`: the node takes no more, and what runs there moves;
+    /// the second says whether all at once.
     Drain(NodeId, bool),
 }
 
@@ -41,8 +41,8 @@ impl Request {
     }
 }
 
-/// Reads the text of a request: exactly the one text of each, with one space between words and numbers in decimal
-/// without leading zeros.
+/// Reads the text of a request: exactly the one text of each, with one space between words and
+/// numbers in decimal without leading zeros.
 pub fn read_request(alloc: Global, text: &str) -> Result<Option<Request>, NoMemory>
     ensures named { IfOk result (λ read. IfSome read (λ request. RequestFits request × (text.now ≡ request_text request))) }
     ensures read { (request : Request) → RequestFits request → text.now ≡ request_text request → IfOk result (λ read. read ≡ Some request) }

@@ -24,14 +24,15 @@ pub enum Step {
     Crash(ServerId),
     /// `restart S`: server S, which is down, begins again from what it stored.
     Restart(ServerId),
-    /// `flow N`: up to N messages in flight are taken, one after the other; `flow` alone leaves the number out.
+    /// `flow N`: up to N messages in flight are taken, one after the other; `flow` alone leaves the
+    /// number out.
     Flow(Option<u64>),
     /// `request S REQUEST`: the request is put to server S.
     Request(ServerId, Request),
 }
 
-/// Reads the line of a step: exactly the one text of each step, with one space between words and numbers in decimal
-/// without leading zeros.
+/// Reads the line of a step: exactly the one text of each step, with one space between words and
+/// numbers in decimal without leading zeros.
 pub fn read_step(alloc: Global, line: &str) -> Result<Option<Step>, NoMemory>
     ensures named { IfOk result (λ read. IfSome read (λ step. IsLine step line.now)) }
     ensures read { (step : Step) → IsLine step line.now → IfOk result (λ read. read ≡ Some step) }

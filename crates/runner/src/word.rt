@@ -7,7 +7,8 @@ ghost use Rattle.runner.specs.Requests.{IsWithout};
 use itoa::Buffer;
 use rows::{GroupCount, Name, NodeId, Priority, Quantity, ServerId};
 
-/// What stands before the first `separator`, and what behind it; none where the text has no `separator`.
+/// What stands before the first `separator`, and what behind it; none where the text has no
+/// `separator`.
 pub fn cut(text: &str, separator: char) -> Option<(&str, &str)>
     requires { separator < 128 }
     ensures parts { IfSome result (λ parts. text.now ≡ parts.0.now ++ separator ∷ parts.1.now) }

@@ -1,4 +1,5 @@
-//! What the theorems say at the tally, as functions that answer true by proof, and at the replicated state.
+//! What the theorems say at the tally, as functions that answer true by proof, and at the
+//! replicated state.
 ghost use Rattle.std.specs.Prelude.{◌≡◌, true, IfSome};
 ghost use Rattle.cluster_model.specs.SafeFacts.{Safe};
 

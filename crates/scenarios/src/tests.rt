@@ -1,4 +1,5 @@
-//! The tests. What they want is worked out by hand from the rules, and never taken from the program's own output.
+//! The tests. What they want is worked out by hand from the rules, and never taken from the
+//! program's own output.
 
 mod admission;
 mod effects;

@@ -1,4 +1,5 @@
--- What a leader replicates with. It stands alone, since the bodies cite it, and the formats cite these.
+-- What a leader replicates with. It stands alone, since the bodies cite it, and the formats cite
+-- these.
 use Rattle.std.specs.Prelude.{List}
 use Rattle.machine.specs.declared.entry.Entry.{Entry}
 use Rattle.wire.specs.declared.append.AppendHead.{AppendHead}

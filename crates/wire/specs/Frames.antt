@@ -18,11 +18,13 @@ sized text = spelled 4 (length text) ++ text
 abbrev pub frame_text : {H B : Type 0} → Format H → (H → Format B) → H → B → List ℕ
 frame_text head bodies h b = head.text h ++ sized ((bodies h).text b)
 
--- the length of the body is that of the bytes after it, and the frame is within the limit; else this field is at fault
+-- the length of the body is that of the bytes after it, and the frame is within the limit; else
+-- this field is at fault
 abbrev pub size_at : List ℕ → ℕ → Reading ℕ
 size_at bytes at = number_at 4 0 (2 ^ 32) bytes at >>= λ n. if nat_eq (n.0 + 8) (length bytes) && nat_le (length bytes) frame_limit then Ok n else Err at
 
--- a header, the length, a body, and no byte more: one that is left over is a fault at the first of them
+-- a header, the length, a body, and no byte more: one that is left over is a fault at the first of
+-- them
 abbrev pub frame_at : {H B M : Type 0} → Format H → (H → Format B) → (H → B → M) → List ℕ → Result M ℕ
 frame_at head bodies make bytes =
     head.read bytes 0 >>= λ h.

@@ -71,7 +71,8 @@ append_head = made
     (λ v. (v.term, (v.prev_index, (v.prev_term, v.commit))))
     (term then index then term then index)
 
--- at most 32 entries, and no more than there are places behind that one: the last place is below 2^40
+-- at most 32 entries, and no more than there are places behind that one: the last place is below
+-- 2^40
 abbrev pub most_entries : ℕ → ℕ
 most_entries prev_index = min 32 (2 ^ 40 - 1 - prev_index)
 

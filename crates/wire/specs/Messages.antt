@@ -9,7 +9,8 @@ use Rattle.wire.specs.declared.append.AppendHead.{AppendHead}
 use Rattle.wire.specs.declared.body.Body.{Body}
 use Rattle.wire.specs.declared.body.Body.TheVariants as bodies
 
--- a message of one actor to another, in a group that replicates a machine of states S and commands C
+-- a message of one actor to another, in a group that replicates a machine of states S and commands
+-- C
 pub record Message (S C : Type 0) : Type 0 where
   pub from : Actor
   pub to : Actor

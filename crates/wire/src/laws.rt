@@ -6,8 +6,8 @@ ghost use Rattle.wire.specs.Frames.{message_at, message_text, MessageFits, frame
 
 use machine::Machine;
 
-/// Each frame that is written is read again as its message, what is read is the message of just these bytes, no frame
-/// begins another, and none is longer than the limit of 16,777,216 bytes.
+/// Each frame that is written is read again as its message, what is read is the message of just
+/// these bytes, no frame begins another, and none is longer than the limit of 16,777,216 bytes.
 pub fn frames_are_whole<M: Machine>()
     ensures again { (m : Message M M.Command) → MessageFits M.meaning.commands m
         → message_at M.meaning.commands (message_text M.meaning.commands m) ≡ Ok m }

@@ -10,8 +10,8 @@ use machine::Machine;
 use rows::{Actor, ServerId};
 use std::marker::Model;
 
-/// A message of one actor to another, in a group that replicates the machine `M`. Each message goes between actors
-/// that its kind allows, so it has a frame.
+/// A message of one actor to another, in a group that replicates the machine `M`. Each message goes
+/// between actors that its kind allows, so it has a frame.
 #[derive(Drop)]
 pub struct Message<M: Machine> {
     from: Actor,

@@ -96,8 +96,9 @@ impl Outbox {
         self.push(message.to(), bytes)
     }
 
-    /// Puts the frame of an `Append` of these parts to the end, or changes nothing. The entries stay with the caller: at
-    /// most 32, each with a place in the log, below 2^40. It goes to another server.
+    /// Puts the frame of an `Append` of these parts to the end, or changes nothing. The entries
+    /// stay with the caller: at most 32, each with a place in the log, below 2^40. It goes to
+    /// another server.
     pub fn send_append<M: Machine>(
         &mut self,
         from: ServerId,

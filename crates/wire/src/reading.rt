@@ -47,9 +47,10 @@ fn read_frame<M: Machine>(alloc: Global, bytes: &[u8]) -> Result<Message<M>, Ref
 
 /// The message of a frame, which must be all of the bytes.
 ///
-/// Bytes that are no frame are refused with the offset of the first field that is cut or out of its range. The length of
-/// the body is at fault where it is not that of the bytes behind it, or where the frame is longer than 16,777,216 bytes;
-/// bytes that are left over in the body are at fault at the first of them.
+/// Bytes that are no frame are refused with the offset of the first field that is cut or out of its
+/// range. The length of the body is at fault where it is not that of the bytes behind it, or where
+/// the frame is longer than 16,777,216 bytes; bytes that are left over in the body are at fault at
+/// the first of them.
 pub fn read_message<M: Machine>(alloc: Global, bytes: &[u8]) -> Result<Message<M>, Refusal>
     // What is read has just these bytes.
     ensures found { IfOk result (λ m. MessageFits M.meaning.commands m × (bytes.now ≡ message_text M.meaning.commands m)) }

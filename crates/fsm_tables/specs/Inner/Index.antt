@@ -1,5 +1,5 @@
--- An index of allocations: one entry for each row that passes a test, in strictly rising order of what the row is found by, and then
--- of its id.
+-- An index of allocations: one entry for each row that passes a test, in strictly rising order of
+-- what the row is found by, and then of its id.
 use Rattle.std.specs.Prelude.{◌≡◌, Bool, true, false, not, if◌then◌else◌, ◌&&◌, List, Option, Some, None, option_map}
 use Rattle.std.specs.declared.cmp.Ordering.{Ordering}
 use Rattle.std.specs.declared.ops.Bound.TheVariants.{Included}

@@ -1,4 +1,5 @@
--- What the two indexes list allocations by: the live ones by name, those that are pending or running by their node.
+-- What the two indexes list allocations by: the live ones by name, those that are pending or
+-- running by their node.
 use Rattle.std.specs.Prelude.{ℕ, if◌then◌else◌, List, [], ◌∷◌, replicate, Option, Some, None}
 use Rattle.std.specs.declared.cmp.Ordering.{Ordering}
 use Rattle.std.specs.Ordering.{nat_cmp, bool_cmp, ordering_then}

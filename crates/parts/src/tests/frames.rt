@@ -7,7 +7,8 @@ use wire::{read_message, write_message};
 /// No fault: the bytes are the frame of the message that is read.
 const NONE: usize = usize::MAX;
 
-/// What is no fault of the bytes: memory was wanting, or the message that is read is written otherwise.
+/// What is no fault of the bytes: memory was wanting, or the message that is read is written
+/// otherwise.
 const WRONG: usize = usize::MAX - 1;
 
 /// The published frame of a vote request from server 1 to server 2, of term 1 and an empty log.
@@ -15,8 +16,8 @@ pub(crate) const VOTE: &[u8] = &[
     1, 1, 1, 2, 0, 0, 0, 24, 0, 0, 0, 0, 0, 0, 0, 1, 0, 0, 0, 0, 0, 0, 0, 0, 0, 0, 0, 0, 0, 0, 0, 0,
 ];
 
-/// Server 1 sends server 2, in term 3, two entries behind place 4 of term 2, with commit index 4: the no-op of term 2, and
-/// in term 3 the command that adds 258.
+/// Server 1 sends server 2, in term 3, two entries behind place 4 of term 2, with commit index 4:
+/// the no-op of term 2, and in term 3 the command that adds 258.
 pub(crate) const APPEND: &[u8] = &[
     1, 3, 1, 2, 0, 0, 0, 53, //
     0, 0, 0, 0, 0, 0, 0, 3, //
@@ -33,7 +34,8 @@ pub(crate) const GRANTED: &[u8] = &[
     1, 2, 2, 1, 0, 0, 0, 17, 0, 0, 0, 0, 0, 0, 0, 3, 0, 0, 0, 0, 0, 0, 0, 2, 1,
 ];
 
-/// Server 2 tells server 1, in term 3, that it has the entries of the leader of term 2 up to place 5.
+/// Server 2 tells server 1, in term 3, that it has the entries of the leader of term 2 up to place
+/// 5.
 pub(crate) const REPLY: &[u8] = &[
     1, 4, 2, 1, 0, 0, 0, 25, //
     0, 0, 0, 0, 0, 0, 0, 3, //
@@ -61,8 +63,9 @@ fn fault_of(alloc: Global, bytes: &[u8]) -> usize {
     }
 }
 
-// Which frames, which of their places, which values are put there, and where the frame is then at fault: each first and last, frames in
-// the order of the list. The first rule that fits counts, and where none does, there is no fault.
+// Which frames, which of their places, which values are put there, and where the frame is then at
+// fault: each first and last, frames in the order of the list. The first rule that fits counts, and
+// where none does, there is no fault.
 type Rule = ((usize, usize), (usize, usize), (u8, u8), usize);
 
 const ALL: (usize, usize) = (0, 3);
@@ -71,8 +74,9 @@ const ANY: (u8, u8) = (0, 255);
 
 const RULES: &[Rule] = &[
     (ALL, (0, 0), ANY, 0),
-    // The body as that of another kind: a vote request ends at 32, a vote reply at 25, an answer to an Append at 33, and an Append has one
-    // more field in front of its count. A frame that is too short for it is cut in its last field, and 1 or 3 is no flag's place there.
+    // The body as that of another kind: a vote request ends at 32, a vote reply at 25, an answer to
+    // an Append at 33, and an Append has one more field in front of its count. A frame that is too
+    // short for it is cut in its last field, and 1 or 3 is no flag's place there.
     ((0, 1), (1, 1), (2, 2), 25),
     ((0, 0), (1, 1), (3, 3), 32),
     ((0, 0), (1, 1), (4, 4), 25),
@@ -97,7 +101,8 @@ const RULES: &[Rule] = &[
     (ALL, (16, 18), ANY, 16),
     ((0, 1), (24, 26), ANY, 24),
     ((1, 1), (32, 34), ANY, 32),
-    // With none or one entry the rest is left over, with more the next is cut, and there are at most 32.
+    // With none or one entry the rest is left over, with more the next is cut, and there are at
+    // most 32.
     ((1, 1), (40, 40), (0, 0), 41),
     ((1, 1), (40, 40), (1, 1), 50),
     ((1, 1), (40, 40), (3, 32), 61),
@@ -163,7 +168,8 @@ fn reads_frames(rt: HostRuntime) {
     }
 }
 
-// The index before the entries, how many there are, and the fault: at most 32, and each has an index below 2^40.
+// The index before the entries, how many there are, and the fault: at most 32, and each has an
+// index below 2^40.
 const COUNTS: &[(u64, u8, usize)] = &[
     (0, 32, NONE),
     (0, 33, 40),

@@ -1,4 +1,5 @@
-//! Messages given as values: their frames, and what is read from these; and the outbox that keeps them.
+//! Messages given as values: their frames, and what is read from these; and the outbox that keeps
+//! them.
 use crate::tests::frames::{APPEND, GRANTED, REPLY, VOTE};
 use machine::{Amount, Coded, Entry, Tally, TallyCommand};
 use rows::{Actor, Index, ServerId, Term};
@@ -9,8 +10,8 @@ use wire::{
     read_message,
 };
 
-/// A message: its kind, its sender and its receiver; its numbers in the order of its frame, 1 for a yes; its entries, each with its term
-/// and with what it adds, 0 for the no-op; and its frame.
+/// A message: its kind, its sender and its receiver; its numbers in the order of its frame, 1 for a
+/// yes; its entries, each with its term and with what it adds, 0 for the no-op; and its frame.
 type Row = (Kind, u8, u8, [u64; 4], &'static [(u64, u16)], &'static [u8]);
 
 const MESSAGES: &[Row] = &[
@@ -27,7 +28,8 @@ const MESSAGES: &[Row] = &[
     (Kind::AppendReply, 2, 1, [3, 2, 1, 5], &[], REPLY),
 ];
 
-// What the outbox has at the end: the Append is sent from its parts too, and then comes an empty frame.
+// What the outbox has at the end: the Append is sent from its parts too, and then comes an empty
+// frame.
 const SENT: &[(u8, &[u8])] = &[
     (2, VOTE),
     (2, APPEND),

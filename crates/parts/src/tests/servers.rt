@@ -1,4 +1,5 @@
-//! Single servers: what each does with its inputs, one after another. (Raft, extended version 2014, section 5 and Figure 2.)
+//! Single servers: what each does with its inputs, one after another. (Raft, extended version 2014,
+//! section 5 and Figure 2.)
 use machine::{Amount, Machine, Tally, TallyCommand};
 use raft_core::{Input, NoProjection, Raft, Role, Stable};
 use rows::{Actor, Leader, Refusal, ServerId};
@@ -6,8 +7,9 @@ use std::alloc::Global;
 use std::process::Abort;
 use wire::Outbox;
 
-/// A frame: its kind (1 a vote request, 2 a vote reply, 3 an Append, 4 the answer to one), its sender, its receiver and the length of its
-/// body; the numbers that the body begins with, and the bytes behind these.
+/// A frame: its kind (1 a vote request, 2 a vote reply, 3 an Append, 4 the answer to one), its
+/// sender, its receiver and the length of its body; the numbers that the body begins with, and the
+/// bytes behind these.
 #[derive(Clone, Copy)]
 struct Frame(u8, u8, u8, u8, &'static [u64], &'static [u8]);
 
@@ -30,9 +32,10 @@ enum Act {
 
 use Act::{Ahead, Beat, Crash, Hear, Propose, Reload, Restart, Timeout};
 
-/// An act; the number of the refusal, 0 where there is none, with the leader or the place that goes with it; and what the server is then:
-/// its role (0 down, 1 follower, 2 candidate, 3 leader), its term, its last index, how many entries are applied (99 while it is down), and
-/// the leader that it knows. And how many frames it sends, the first of them in full.
+/// An act; the number of the refusal, 0 where there is none, with the leader or the place that goes
+/// with it; and what the server is then: its role (0 down, 1 follower, 2 candidate, 3 leader), its
+/// term, its last index, how many entries are applied (99 while it is down), and the leader that it
+/// knows. And how many frames it sends, the first of them in full.
 type Turn = (Act, (u8, usize), [u64; 5], usize, &'static [Frame]);
 
 /// Nothing is refused.
@@ -43,7 +46,8 @@ const YES: &[u8] = &[1];
 
 const NO: &[u8] = &[0];
 
-// Of an answer to an Append: the log is held up to a place; it is not, and the leader is to try again from the first entry.
+// Of an answer to an Append: the log is held up to a place; it is not, and the leader is to try
+// again from the first entry.
 const OK_1: &[u8] = &[1, 0, 0, 0, 0, 0, 0, 0, 1];
 
 const OK_2: &[u8] = &[1, 0, 0, 0, 0, 0, 0, 0, 2];
@@ -84,7 +88,8 @@ const VOTE_OF_2: Frame = Frame(2, 2, 1, 17, &[1, 1], YES);
 
 const VOTE_OF_3: Frame = Frame(2, 3, 1, 17, &[1, 1], YES);
 
-// Another vote is needed, and the same vote counts once. It leads in term 1, crashes, and leads again in term 3.
+// Another vote is needed, and the same vote counts once. It leads in term 1, crashes, and leads
+// again in term 3.
 const LEADS: &[Turn] = &[
     (Timeout, TAKEN, [2, 1, 0, 0, 0], 4, &[ASKS_2, ASKS_3]),
     (Hear(VOTE_OF_2), TAKEN, [2, 1, 0, 0, 0], 0, &[]),

@@ -1,5 +1,5 @@
-//! Texts of fields against bytes that were put together by hand: which are read as a value that is written so again, and where the others
-//! are at fault.
+//! Texts of fields against bytes that were put together by hand: which are read as a value that is
+//! written so again, and where the others are at fault.
 use fields::Field;
 use machine::{Amount, Coded, Entry, Tally, TallyCommand};
 use rows::{
@@ -10,7 +10,8 @@ use std::alloc::Global;
 /// No fault: the bytes are the text of the value that is read.
 pub(crate) const NONE: usize = usize::MAX;
 
-/// What is no fault of the bytes: memory was wanting, or the value that is read is written otherwise.
+/// What is no fault of the bytes: memory was wanting, or the value that is read is written
+/// otherwise.
 const WRONG: usize = usize::MAX - 1;
 
 /// What bytes are read as.
@@ -37,7 +38,8 @@ enum Of {
     Entry,
 }
 
-/// Where the bytes from a place on are at fault, as a field; the first byte behind its text where some are left over.
+/// Where the bytes from a place on are at fault, as a field; the first byte behind its text where
+/// some are left over.
 fn fault_of<F: Field>(alloc: Global, bytes: &[u8], at: usize) -> usize {
     match F::read_at(alloc, bytes, at) {
         Err(Refusal::Frame(place)) => place,
@@ -101,7 +103,8 @@ const TEXTS: &[Text] = &[
     (Of::Actor, 1, &[9, 5], NONE),
     (Of::Actor, 1, &[9, 192], NONE),
     (Of::Amount, 1, &[9, 3, 232], NONE),
-    // Terms and indexes from 2^40 on, a flag of 2, and numbers that are no server's and no client's.
+    // Terms and indexes from 2^40 on, a flag of 2, and numbers that are no server's and no
+    // client's.
     (Of::Term, 1, &[9, 0, 0, 1, 0, 0, 0, 0, 0], 1),
     (Of::Index, 1, &[9, 0, 0, 1, 0, 0, 0, 0, 0], 1),
     (Of::Flag, 1, &[9, 2], 1),

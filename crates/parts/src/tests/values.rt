@@ -1,4 +1,5 @@
-//! Values that are given as such: numbers, lists and options in bytes, names and refusals in words, and the tally.
+//! Values that are given as such: numbers, lists and options in bytes, names and refusals in words,
+//! and the tally.
 use fields::{
     read_list, read_long_list, read_long_ruled_list, read_option, read_ruled_list, read_whole,
     write, write_items, write_list, write_long_list, write_option,
@@ -160,7 +161,8 @@ enum List {
     OneAmount,
 }
 
-// The list, the place, the greatest count and the bytes; and how many items there are, and where they end; or 99, and where the fault is.
+// The list, the place, the greatest count and the bytes; and how many items there are, and where
+// they end; or 99, and where the fault is.
 type Row = (List, usize, u8, &'static [u8], (usize, usize));
 
 const LISTS: &[Row] = &[
@@ -176,8 +178,9 @@ const LISTS: &[Row] = &[
     // Ids of allocations, 5.0, 5.1 and 5.1: the last does not rise.
     (List::Ids, 3, 3, IDS, (99, 22)),
     (List::LongIds, 0, 3, IDS, (99, 22)),
-    // Evaluations 4.0 of job a with priority 50, blocked at 3, and then 4.0 or 5.0. An id that does not rise is at fault where its row
-    // begins, whatever follows; behind one that rises a priority of 0 is.
+    // Evaluations 4.0 of job a with priority 50, blocked at 3, and then 4.0 or 5.0. An id that does
+    // not rise is at fault where its row begins, whatever follows; behind one that rises a priority
+    // of 0 is.
     (List::Evaluations, 0, 2, TWICE, (99, 26)),
     (List::Evaluations, 0, 2, RISING, (2, 48)),
     (List::Evaluations, 0, 1, RISING, (99, 0)),
@@ -290,7 +293,8 @@ fn added_by(command: &TallyCommand) -> u16 {
     }
 }
 
-// What is added, to an empty tally where the count is 1 then; the number of the refusal; and the count, the sum and the text behind it.
+// What is added, to an empty tally where the count is 1 then; the number of the refusal; and the
+// count, the sum and the text behind it.
 const ADDITIONS: &[(u16, u8, u64, u16, &[u8])] = &[
     (0, 0, 1, 0, &[0, 0, 0, 0, 0, 0, 0, 1, 0, 0]),
     (999, 0, 2, 999, &[0, 0, 0, 0, 0, 0, 0, 2, 3, 231]),
@@ -316,14 +320,16 @@ fn adds_up(rt: HostRuntime) {
     }
 }
 
-// The text of the tally of one command that adds 1,000; with a byte more; and cut. And where it is at fault, 99 for nowhere.
+// The text of the tally of one command that adds 1,000; with a byte more; and cut. And where it is
+// at fault, 99 for nowhere.
 const TALLIES: &[(&[u8], usize)] = &[
     (&[0, 0, 0, 0, 0, 0, 0, 1, 3, 232], 99),
     (&[0, 0, 0, 0, 0, 0, 0, 1, 3, 232, 0], 10),
     (&[0, 0, 0, 0, 0, 0, 0, 1, 3], 8),
 ];
 
-// Texts of commands, whatever follows; what they add, and where they end; or 99 and where the fault is.
+// Texts of commands, whatever follows; what they add, and where they end; or 99 and where the fault
+// is.
 const COMMANDS: &[(&[u8], u16, usize)] = &[
     (&[1, 3, 232], 1000, 3),
     (&[0, 9], 0, 1),

@@ -1,9 +1,10 @@
-//! What each command is refused for by the replicated state, and that of two refusals that apply the first is answered. What needs a
-//! full table stands in `full_tables`.
+//! What each command is refused for by the replicated state, and that of two refusals that apply
+//! the first is answered. What needs a full table stands in `full_tables`.
 use crate::tests::states::play;
 
-// Entries 1 to 7: nodes 1 and 2 of class linux and 3 of class arm; jobs web, api and old, whose evaluations are 4.0, 5.0 and 6.0; and
-// allocations 7.0 and 7.1 of web on nodes 1 and 2. Of each node 400 and 700 are left, of node 3 all.
+// Entries 1 to 7: nodes 1 and 2 of class linux and 3 of class arm; jobs web, api and old, whose
+// evaluations are 4.0, 5.0 and 6.0; and allocations 7.0 and 7.1 of web on nodes 1 and 2. Of each
+// node 400 and 700 are left, of node 3 all.
 const BASE: &str = "\
 new
 # Nodes and jobs come to an empty state.
@@ -37,7 +38,8 @@ take stop api
 take put api 60 one:1:linux:400:300
 0 stop api";
 
-// A node that comes has the class and the size of its row, if there is one; a lost one is not lost again.
+// A node that comes has the class and the size of its row, if there is one; a lost one is not lost
+// again.
 const NODES: &str = "\
 again
 0 join 1 linux 1000 1000
@@ -114,8 +116,8 @@ take drain 1 slow
 take lose 1
 20 migrate 7.0";
 
-// A plan without a place or a stop; and where two are to be said, the first counts: that of the evaluation, of the job, of a
-// stop, of the stopped job, of a place.
+// A plan without a place or a stop; and where two are to be said, the first counts: that of the
+// evaluation, of the job, of a stop, of the stopped job, of a place.
 const PLANS: &str = "\
 again
 0 plan 4.0 1.1 web 0 - -
@@ -157,7 +159,8 @@ take stop web
 0 plan 4.0 1.1 web 0 7.0,7.1 -
 18 plan 4.0 1.1 web 0 - main:2:1:600:300";
 
-// Places of no group, of another size, past the count of the group, and where nothing may be placed.
+// Places of no group, of another size, past the count of the group, and where nothing may be
+// placed.
 const PLACES: &str = "\
 again
 0 plan 5.0 1.1 api 0 - one:0:1:400:300
@@ -180,7 +183,8 @@ take drain 3 slow
 take drained 3
 12 plan 5.0 1.1 api 0 - big:0:3:100:100";
 
-// What fits exactly is placed, and one more is not, of processor time or of memory; and no name is live twice.
+// What fits exactly is placed, and one more is not, of processor time or of memory; and no name is
+// live twice.
 const SAFE_PLACES: &str = "\
 again
 0 plan 4.0 1.1 web 0 - side:0:1:400:700
@@ -200,7 +204,8 @@ again
 take join 4 linux 1199 1000
 12 plan 4.0 1.1 web 0 7.0 main:2:4:600:300,main:0:4:600:300";
 
-// An unknown node counts before an unknown allocation. Ended ones are reported as often as one likes.
+// An unknown node counts before an unknown allocation. Ended ones are reported as often as one
+// likes.
 const REPORTS: &str = "\
 again
 9 report 4 7.0:running
@@ -216,8 +221,8 @@ again
 take lose 1
 0 report 1 7.0:running";
 
-// An evaluation that is pending takes each status but pending; one that is not takes no status but pending, and takes that only from
-// blocked.
+// An evaluation that is pending takes each status but pending; one that is not takes no status but
+// pending, and takes that only from blocked.
 const STATUSES: &str = "\
 again
 4 status 4.0 pending 0

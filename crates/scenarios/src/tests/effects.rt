@@ -1,7 +1,8 @@
 //! What commands do to the replicated state, the rows worked out by hand from the rules.
 use crate::tests::states::play;
 
-// Entries 1 to 4: two nodes, a job, whose evaluation is 3.0, and its allocations 4.0 on node 1 and 4.1 on node 2.
+// Entries 1 to 4: two nodes, a job, whose evaluation is 3.0, and its allocations 4.0 on node 1 and
+// 4.1 on node 2.
 const TWO_NODES: &str = "\
 new
 take join 1 linux 1000 1000
@@ -31,8 +32,8 @@ counts 1 2 2 2
 used 1 0 0
 has node 1 linux 1000 1000 down yes none 1";
 
-// A report of running changes the state of the client alone; one of an end gives room, and touches the job; one behind the end
-// changes nothing.
+// A report of running changes the state of the client alone; one of an end gives room, and touches
+// the job; one behind the end changes nothing.
 const ENDS: &str = "\
 counts 1 2 1 2
 take report 1 4.0:running
@@ -51,15 +52,16 @@ has allocation 4.0 web main 0 1 600 300 run failed no 3.0
 has node 1 linux 1000 1000 ready yes none 6
 counts 1 2 2 2";
 
-// Of the reports of one command the first that ends an allocation counts, and its job is touched once.
+// Of the reports of one command the first that ends an allocation counts, and its job is touched
+// once.
 const SAME_TWICE: &str = "\
 take report 1 4.0:running,4.0:complete,4.0:failed
 has allocation 4.0 web main 0 1 600 300 run complete no 3.0
 has evaluation 5.0 web 50 pending 0
 counts 1 2 2 2";
 
-// What ends after it was stopped gives no room a second time, and touches nothing; what was stopped is lost too, and no job is
-// touched for it.
+// What ends after it was stopped gives no room a second time, and touches nothing; what was stopped
+// is lost too, and no job is touched for it.
 const STOPPED_ONES: &str = "\
 take plan 3.0 1.1 web 0 4.0,4.1 -
 has allocation 4.1 web main 1 2 600 300 stop pending no 3.0
@@ -144,8 +146,8 @@ has evaluation 3.0 web 50 pending 0
 take status 3.0 complete 0
 has evaluation 3.0 web 50 complete 0";
 
-// Four jobs, put in another order than that of their names, three of which run on one node: the evaluations of touched jobs are made
-// in rising name, each job once.
+// Four jobs, put in another order than that of their names, three of which run on one node: the
+// evaluations of touched jobs are made in rising name, each job once.
 const TOUCHED: &str = "\
 new
 take join 1 x 10 10
@@ -164,7 +166,8 @@ has evaluation 9.2 b 50 pending 0
 has allocation 6.0 b g 1 1 1 1 run lost no 2.0
 has allocation 6.1 b g 0 1 1 1 run lost no 2.0";
 
-// A plan that nobody would admit is applied all the same: nothing is tested then, not even what a node has left.
+// A plan that nobody would admit is applied all the same: nothing is tested then, not even what a
+// node has left.
 const NOT_ADMITTED: &str = "\
 again
 force plan 9.0 1.1 none 0 8.0 main:0:1:600:300,main:0:1:600:300
@@ -174,7 +177,8 @@ live none main 0 4.0
 used 1 1200 600
 counts 1 2 1 2";
 
-// The loss of a node that has no row changes nothing but the count, even where an allocation names it.
+// The loss of a node that has no row changes nothing but the count, even where an allocation names
+// it.
 const NO_SUCH_NODE: &str = "\
 = state 7
 = rows 1

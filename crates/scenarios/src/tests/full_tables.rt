@@ -1,9 +1,9 @@
-//! States whose tables are full or all but full, from texts put together row by row: what they refuse, and that the longest text of
-//! all is read and written.
+//! States whose tables are full or all but full, from texts put together row by row: what they
+//! refuse, and that the longest text of all is read and written.
 use crate::tests::states::play;
 
-// The longest text: each table is full, each name has 32 bytes, and each number is the greatest: 24 bytes, 644 for each job, 53 for each
-// node and each evaluation, and 98 for each allocation.
+// The longest text: each table is full, each name has 32 bytes, and each number is the greatest: 24
+// bytes, 644 for each job, 53 for each node and each evaluation, and 98 for each allocation.
 const LONGEST: &str = "\
 = state 1099511627775
 = rows 256
@@ -23,8 +23,8 @@ fn reads_and_writes_the_longest_text(rt: HostRuntime) {
     play(&rt, rt.alloc(), &[LONGEST]);
 }
 
-// The jobs api, which is stopped, db and web, each of one group of one of a node's processor time and memory; node 1, node 2, which
-// is down, and node 3, which is drained.
+// The jobs api, which is stopped, db and web, each of one group of one of a node's processor time
+// and memory; node 1, node 2, which is down, and node 3, which is drained.
 const CROWD: &str = "\
 = state 2000
 = rows 3
@@ -36,14 +36,16 @@ const CROWD: &str = "\
 = node 2 linux 1000 1000 down yes none 1
 = node 3 linux 1000 1000 ready no slow 1";
 
-// Live allocations 1.0 to 1.3, each with one of processor time and memory: those of web on nodes 1, 2 and 3, and one of db on node 1.
+// Live allocations 1.0 to 1.3, each with one of processor time and memory: those of web on nodes 1,
+// 2 and 3, and one of db on node 1.
 const LIVE: &str = "\
 = allocation 1.0 web main 0 1 1 1 run pending no 1.0
 = allocation 1.1 web main 1 2 1 1 run pending no 1.0
 = allocation 1.2 web main 2 3 1 1 run pending no 1.0
 = allocation 1.3 db main 0 1 1 1 run pending no 1.0";
 
-// 65,536 pending evaluations of web, and as many allocations, of which the first four are live and the others complete.
+// 65,536 pending evaluations of web, and as many allocations, of which the first four are live and
+// the others complete.
 const EVALS: &str = "\
 = rows 65536
 many evaluation 0 65535 web 50 pending 0
@@ -54,8 +56,8 @@ many allocation 4 65535 web main 0 1 1 1 stop complete no 1.0
 load
 counts 3 3 65536 65536";
 
-// What makes one more is refused; but first what is unknown, stopped, down, not live, or not to be moved; and only then a plan for a
-// stopped job, or with a bad place.
+// What makes one more is refused; but first what is unknown, stopped, down, not live, or not to be
+// moved; and only then a plan for a stopped job, or with a bad place.
 const FULL: &str = "\
 0 noop
 13 put web 50 main:1:linux:1:1
@@ -102,8 +104,8 @@ many allocation 4 65534 web main 0 1 1 1 stop complete no 1.0
 load
 counts 3 3 65535 65535";
 
-// With one row less one more is made, and not two: of two jobs on a lost node, or with reported ends; and of two places, whatever
-// the plan stops.
+// With one row less one more is made, and not two: of two jobs on a lost node, or with reported
+// ends; and of two places, whatever the plan stops.
 const ONE_LEFT: &str = "\
 0 put web 50 main:1:linux:1:1
 0 put new 50 main:1:linux:1:1

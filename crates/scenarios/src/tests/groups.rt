@@ -1,4 +1,5 @@
-//! Runs of groups that replicate a tally, their ends worked out by hand from the rules of logs, played line by line.
+//! Runs of groups that replicate a tally, their ends worked out by hand from the rules of logs,
+//! played line by line.
 use crate::claims::{agree, safe_state};
 use crate::tests::lines::put_line;
 use fsm_state::Cluster;
@@ -17,10 +18,13 @@ struct Group {
     delivered: u64,
 }
 
-// `group N`: N servers begin. `timeout S`, `beat S`, `crash S`, `restart S`, `deliver K`, `add S AMOUNT`: the event is taken. `refused N L EVENT`:
-// it is refused with N and changes nothing; with 2 server L is named as the leader, or none where L is 0. `flow`: all messages that no
-// flow has delivered are delivered, and those sent meanwhile. `server S TERM LAST APPLIED SUM`: how far a server that runs has come.
-// `chain N`: N entries of the one list were applied. `sent EVENTS MESSAGES`: so many there were. `message K BYTES`: the K-th message. `replay`: the group is what its own trace leads to.
+// `group N`: N servers begin. `timeout S`, `beat S`, `crash S`, `restart S`, `deliver K`, `add S
+// AMOUNT`: the event is taken. `refused N L EVENT`: it is refused with N and changes nothing; with
+// 2 server L is named as the leader, or none where L is 0. `flow`: all messages that no flow has
+// delivered are delivered, and those sent meanwhile. `server S TERM LAST APPLIED SUM`: how far a
+// server that runs has come. `chain N`: N entries of the one list were applied. `sent EVENTS
+// MESSAGES`: so many there were. `message K BYTES`: the K-th message. `replay`: the group is what
+// its own trace leads to.
 fn turn(group: &mut Group, line: &str) -> bool {
     let (head, rest) = line.split_once(' ').unwrap_or((line, ""));
     match head {
@@ -58,7 +62,8 @@ fn turn(group: &mut Group, line: &str) -> bool {
     }
 }
 
-/// Delivers each message after the first `delivered`, up to a hundred, and answers how many were delivered then.
+/// Delivers each message after the first `delivered`, up to a hundred, and answers how many were
+/// delivered then.
 fn flow<M: Machine>(world: &mut RaftWorld<M>, delivered: u64) -> u64 {
     let mut last = delivered;
     for _ in 0..100 {
@@ -172,7 +177,8 @@ fn is_same(one: &RaftWorld<Tally>, other: &RaftWorld<Tally>, place: usize) -> Op
     Some(same && sum == wanted && agree(one, ServerId::from_place(0)?, server))
 }
 
-// The second proposal would make 1,100 of 600 that are not committed yet: it is refused, and neither counted nor sent.
+// The second proposal would make 1,100 of 600 that are not committed yet: it is refused, and
+// neither counted nor sent.
 const ADMITTED: &str = "\
 group 3
 timeout 1
@@ -245,8 +251,8 @@ server 2 1 41 32 0
 server 3 1 41 32 0
 chain 41";
 
-// Who does not lead names the leader that it knows; who is down, or not there, says so. A beat of another than a leader is an
-// event that does nothing.
+// Who does not lead names the leader that it knows; who is down, or not there, says so. A beat of
+// another than a leader is an event that does nothing.
 const REFUSED: &str = "\
 group 3
 refused 2 0 add 1 1
@@ -266,7 +272,8 @@ refused 12 0 restart 2
 refused 16 0 add 3 1
 refused 16 0 beat 3";
 
-// What the old leader did not commit is cut away under the next one, which has entries of its own at those indexes.
+// What the old leader did not commit is cut away under the next one, which has entries of its own
+// at those indexes.
 const CUT: &str = "\
 group 3
 timeout 1
@@ -285,8 +292,8 @@ server 1 2 2 2 9
 server 2 2 2 2 9
 server 3 2 2 2 9";
 
-// Server 2 gave its vote to server 1, and a crash does not make it forget. The message that denies: version 1, a reply to a vote
-// from 2 to 3, 17 bytes, of term 1, asked in term 1, not granted.
+// Server 2 gave its vote to server 1, and a crash does not make it forget. The message that denies:
+// version 1, a reply to a vote from 2 to 3, 17 bytes, of term 1, asked in term 1, not granted.
 const DENIED: &str = "\
 group 3
 timeout 1

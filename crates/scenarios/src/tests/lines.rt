@@ -1,8 +1,9 @@
 //! Commands and rows of the replicated state in words, and the bytes that the format gives them.
 use std::alloc::Global;
 
-// For each kind of line the tag in front of its bytes, `-` for none, and its fields: a number of 1, 2, 4 or 8 bytes, a name (n), an id
-// of an allocation (a) or of an evaluation (e), a token (t), a list with its count in one byte (A, P, R, G), or one of some words.
+// For each kind of line the tag in front of its bytes, `-` for none, and its fields: a number of 1,
+// 2, 4 or 8 bytes, a name (n), an id of an allocation (a) or of an evaluation (e), a token (t), a
+// list with its count in one byte (A, P, R, G), or one of some words.
 const FORMATS: &str = "\
 noop 0
 put 1 n1G
@@ -148,8 +149,8 @@ pub(crate) fn put_line(out: &mut Vec<u8>, line: &str) -> bool {
     }
 }
 
-// The key of the row of this number, from 0: names of 32 bytes that end in aa to pp, nodes by number, 256 evaluations and 64 allocations
-// to an entry.
+// The key of the row of this number, from 0: names of 32 bytes that end in aa to pp, nodes by
+// number, 256 evaluations and 64 allocations to an entry.
 fn put_key(out: &mut Vec<u8>, kind: &str, number: u16) -> bool {
     let [high, low] = number.to_be_bytes();
     match kind {
@@ -174,8 +175,8 @@ fn put_key(out: &mut Vec<u8>, kind: &str, number: u16) -> bool {
     }
 }
 
-/// Puts the rows of a kind from one number to another behind the others: `KIND FIRST LAST FIELDS`, their fields behind the key being the
-/// same.
+/// Puts the rows of a kind from one number to another behind the others: `KIND FIRST LAST FIELDS`,
+/// their fields behind the key being the same.
 pub(crate) fn put_many(out: &mut Vec<u8>, alloc: Global, line: &str) -> Option<()> {
     let (kind, rest) = line.split_once(' ')?;
     let (first, rest) = rest.split_once(' ')?;

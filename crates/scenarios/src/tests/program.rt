@@ -1,5 +1,6 @@
-//! The program over files and streams in memory: ends of runs, worked out by hand from the rules, and what is wrong with a command line,
-//! a file or a stream, and how the program says so. More runs are the files that crate `replays` plays.
+//! The program over files and streams in memory: ends of runs, worked out by hand from the rules,
+//! and what is wrong with a command line, a file or a stream, and how the program says so. More
+//! runs are the files that crate `replays` plays.
 use runner::command::{CommandLine, command};
 use runner::nomadsim;
 use runner::reading::scenario;
@@ -77,7 +78,8 @@ impl Write for Output {
     }
 }
 
-// What a run says: its exit status, its standard output, which takes `left` bytes, and its standard error.
+// What a run says: its exit status, its standard output, which takes `left` bytes, and its standard
+// error.
 fn run(
     alloc: Global,
     words: &[&str],
@@ -100,10 +102,12 @@ fn run(
     (status, bytes, err)
 }
 
-// What stands before the steps, the steps, the exit status, and all that is said on the standard output; the standard error stays empty.
-// Messages flow in the order in which they were sent; one to a server that is down is lost. A message that a step delivered flows all
-// the same. A leader's no-op is committed by the first beat's answers; only a leader sends anything. A refused step is named at once with its
-// number, the run goes on, and its status is 1. More white space, other orders of keys and escaped letters are fine.
+// What stands before the steps, the steps, the exit status, and all that is said on the standard
+// output; the standard error stays empty. Messages flow in the order in which they were sent; one
+// to a server that is down is lost. A message that a step delivered flows all the same. A leader's
+// no-op is committed by the first beat's answers; only a leader sends anything. A refused step is
+// named at once with its number, the run goes on, and its status is 1. More white space, other
+// orders of keys and escaped letters are fine.
 const RUNS: [(&str, &str, u8, &str); 9] = [
     (
         THREE,
@@ -231,7 +235,8 @@ fn plays_scenarios(rt: HostRuntime) {
         assert!(rt; found == *status && err.is_empty(), "{steps}");
         assert_eq!(rt; out.as_slice(), wanted.as_bytes(), "{steps}");
     }
-    // A flow takes 10,000 messages: of 10,008, which are 1,251 beats to four servers and their answers, the last eight are left.
+    // A flow takes 10,000 messages: of 10,008, which are 1,251 beats to four servers and their
+    // answers, the last eight are left.
     let mut steps = Vec::new(alloc);
     let mut added = steps.extend_from_slice(b"\"timeout 1\", \"flow\"").is_ok();
     for _ in 0..1251 {
@@ -266,7 +271,8 @@ steps
 {\"servers\": 3, \"nodes\": [], \"key\": 0, \"drop\": 0, \"repeat\": 0, \"order\": \"sent\", \"steps\": []} 0
 ";
 
-// Steps that are none, or that come with a later stage. A step before them is not taken: nothing is said of it. The last is empty.
+// Steps that are none, or that come with a later stage. A step before them is not taken: nothing is
+// said of it. The last is empty.
 const STEPS: &str = "\
 flows
 Flow
@@ -365,9 +371,9 @@ fn refuses_other_files(rt: HostRuntime) {
     assert!(rt; count == 87);
 }
 
-// Words, whether the shelf has no memory, the status, and how the standard output and the standard error begin. The command line comes first,
-// then the file, then its text. The words of a later stage are a bad command line too. Help is said on the standard output, and is no
-// fault.
+// Words, whether the shelf has no memory, the status, and how the standard output and the standard
+// error begin. The command line comes first, then the file, then its text. The words of a later
+// stage are a bad command line too. Help is said on the standard output, and is no fault.
 const WORDS: [(&[&str], bool, u8, &str, &str); 11] = [
     (
         &["nomadsim", "run", "other.json"],
@@ -434,8 +440,9 @@ fn says_what_is_wrong(rt: HostRuntime) {
     }
 }
 
-// A standard output that fails after each number of bytes: 19 of a refused step, 127 of three servers and 20 of the last line; and in
-// help. One that takes all of them, and a flush, is none that fails. Nothing is said on the standard error.
+// A standard output that fails after each number of bytes: 19 of a refused step, 127 of three
+// servers and 20 of the last line; and in help. One that takes all of them, and a flush, is none
+// that fails. Nothing is said on the standard error.
 #[test]
 fn fails_with_its_output(rt: HostRuntime) {
     let parts = [THREE.as_bytes(), b"\"timeout 1\", \"crash 4\"", b"]}"];

@@ -1,4 +1,5 @@
-//! Commands, requests and other steps, as they are read from bytes and from the lines of a scenario.
+//! Commands, requests and other steps, as they are read from bytes and from the lines of a
+//! scenario.
 use crate::tests::lines::put_line;
 use fsm_state::Cluster;
 use machine::Machine;
@@ -7,7 +8,8 @@ use runner::request::read_request;
 use runner::step::{Step, read_step};
 use std::alloc::Global;
 
-// Commands, and their bytes: the tag, names with the number of their bytes, priorities, groups, nodes, ids. The first seven are requests.
+// Commands, and their bytes: the tag, names with the number of their bytes, priorities, groups,
+// nodes, ids. The first seven are requests.
 const COMMANDS: [(&str, &[u8]); 11] = [
     (
         "put web 50 main:2:linux:600:300",

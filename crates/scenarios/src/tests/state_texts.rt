@@ -1,5 +1,5 @@
-//! Texts of the replicated state, put together by hand from the format: an empty one, a small one, and one of greatest values. And
-//! each call of it that may lack memory, with enough of it.
+//! Texts of the replicated state, put together by hand from the format: an empty one, a small one,
+//! and one of greatest values. And each call of it that may lack memory, with enough of it.
 use crate::tests::full_tables::MOST_JOBS;
 use crate::tests::states::play;
 use fsm_tables::{AllocName, Tables};
@@ -24,7 +24,8 @@ counts 0 0 0 0
 fault 24
 clear";
 
-// A state with one row of each kind, by the bytes of its count, of a job, a node, an evaluation and an allocation, and in words.
+// A state with one row of each kind, by the bytes of its count, of a job, a node, an evaluation and
+// an allocation, and in words.
 const SMALL: &str = "\
 take join 1 x 1000 2000
 take put w 50 g:2:x:600:300
@@ -54,7 +55,8 @@ new
 load
 used 1 600 300";
 
-// A state of the greatest values of its fields, none of whose rows names another: nodes, evaluations and allocations.
+// A state of the greatest values of its fields, none of whose rows names another: nodes,
+// evaluations and allocations.
 const GREAT: &str = "\
 = raw 0 0 0 255 255 255 255 255
 = raw 0 0 0 0
@@ -71,8 +73,8 @@ has node 64 - 1000000 1000000 down no force 1099511627775
 has evaluation 1099511627775.255 z 100 blocked 1099511627775
 has allocation 1099511627775.63 0 9 63 64 1000000 1000000 stop lost yes 1099511627775.255";
 
-// The text of the small state, cut between the places where its fields begin: it is refused at the field that is cut. And with one byte
-// changed: at the field of that byte.
+// The text of the small state, cut between the places where its fields begin: it is refused at the
+// field that is cut. And with one byte changed: at the field of that byte.
 const SMALL_TEXT: &str = "\
 = state 5
 = rows 1
@@ -128,8 +130,8 @@ byte 119 2 119
 byte 128 1 128
 clear";
 
-// Jobs, nodes, evaluations and allocations are in strictly rising key: a second row of the same key, or of a lower one, is refused at
-// its first byte, and one of a higher key is read.
+// Jobs, nodes, evaluations and allocations are in strictly rising key: a second row of the same
+// key, or of a lower one, is refused at its first byte, and one of a higher key is read.
 const ORDERS: &str = "\
 = state 5
 = rows 2
@@ -227,8 +229,8 @@ fn states_have_their_texts(rt: HostRuntime) {
     play(&rt, rt.alloc(), &tables);
 }
 
-// The lists of rows of the small state are its rows; and rows are put into other tables, where one under a key that is there takes that
-// row's place.
+// The lists of rows of the small state are its rows; and rows are put into other tables, where one
+// under a key that is there takes that row's place.
 #[test]
 fn lists_and_puts_rows(rt: HostRuntime) {
     let alloc = rt.alloc();
@@ -270,7 +272,8 @@ fn is_alone(rows: Result<Sequence<Allocation>, NoMemory>, id: AllocId) -> bool {
     }
 }
 
-// The same of allocations: of two under one key the last that is put counts, for what is in use too.
+// The same of allocations: of two under one key the last that is put counts, for what is in use
+// too.
 #[test]
 fn lists_and_puts_allocations(rt: HostRuntime) {
     let alloc = rt.alloc();

@@ -16,17 +16,20 @@ struct Bench {
     text: Vec<u8>,
 }
 
-/// Plays the lines of the tables, one after the other, from the empty state, and answers the state at the end. Each line has to hold.
+/// Plays the lines of the tables, one after the other, from the empty state, and answers the state
+/// at the end. Each line has to hold.
 ///
-/// `new`: the empty state. `keep`, `again`: a state to which one goes back. `take COMMAND`: it is admitted and applied.
-/// `force COMMAND`: it is applied, admitted or not. `N COMMAND`: it is refused with N, or admitted where N is 0. `has ROW`: the row is in
-/// the state. `counts JOBS NODES EVALUATIONS ALLOCATIONS`: so many rows. `applied N`: so many commands. `used NODE CPU MEMORY`: of
-/// the node. `live JOB GROUP INDEX ID`: the live allocation of the name, `-` for none.
+/// `new`: the empty state. `keep`, `again`: a state to which one goes back. `take COMMAND`: it is
+/// admitted and applied. `force COMMAND`: it is applied, admitted or not. `N COMMAND`: it is
+/// refused with N, or admitted where N is 0. `has ROW`: the row is in the state. `counts JOBS NODES
+/// EVALUATIONS ALLOCATIONS`: so many rows. `applied N`: so many commands. `used NODE CPU MEMORY`:
+/// of the node. `live JOB GROUP INDEX ID`: the live allocation of the name, `-` for none.
 ///
-/// `= LINE`, `many KIND FIRST LAST FIELDS`, `raw BYTES`: put to the end of the text. `clear`: it is empty. `length N`: it has N bytes.
-/// `same`: it is that of the state. `load`: the state is that of the text. `fault N`: it is refused at byte N. `set PLACE BYTE`: it has the byte
-/// there. `byte PLACE BYTE N`: with the byte there it is refused at byte N. `cuts N N ..`: cut anywhere between two neighbours it is refused at
-/// the first.
+/// `= LINE`, `many KIND FIRST LAST FIELDS`, `raw BYTES`: put to the end of the text. `clear`: it is
+/// empty. `length N`: it has N bytes. `same`: it is that of the state. `load`: the state is that of
+/// the text. `fault N`: it is refused at byte N. `set PLACE BYTE`: it has the byte there. `byte
+/// PLACE BYTE N`: with the byte there it is refused at byte N. `cuts N N ..`: cut anywhere between
+/// two neighbours it is refused at the first.
 pub(crate) fn play(rt: &impl Abort, alloc: Global, tables: &[&str]) -> Cluster {
     let mut bench = Bench {
         alloc,
