@@ -3,7 +3,7 @@
 use crate::tests::full_tables::MOST_JOBS;
 use crate::tests::states::play;
 use fsm_tables::{AllocName, Tables};
-use rows::{AllocId, Allocation, ClientState, DrainMode, EvalStatus, NoMemory, Ordinal, Sequence};
+use rows::{AllocId, Allocation, DrainMode, EvalStatus, NoMemory, Sequence};
 
 // The empty state, as both calls make it.
 const EMPTY: &str = "\
@@ -272,38 +272,29 @@ fn is_alone(rows: Result<Sequence<Allocation>, NoMemory>, id: AllocId) -> bool {
     }
 }
 
-// The same of allocations: of two under one key the last that is put counts, for what is in use
-// too.
+/// Whether the look-ups of live rows find this one alone.
+fn finds_alone(tables: &Tables, row: &Allocation) -> bool {
+    is_alone(tables.all_live_named(&AllocName::of(row)), row.id)
+        && is_alone(tables.live_of_job(&row.job), row.id)
+        && is_alone(tables.live_on(row.node), row.id)
+        && is_alone(tables.active_on(row.node), row.id)
+}
+
+// The same of allocations: one that is put again counts once, for what is in use too.
 #[test]
 fn lists_and_puts_allocations(rt: HostRuntime) {
     let alloc = rt.alloc();
     let state = play(&rt, alloc, &[SMALL]);
-    let allocs = state.allocs(alloc).ok().expect(&rt, "the allocations");
-    assert!(rt; allocs.len() == 1);
-    let row = *allocs.as_slice().first().expect(&rt, "an allocation");
-    assert!(rt; state.alloc(row.id).is_some() && row.client == ClientState::Running);
-    let AllocId { index, slot } = row.id;
-    assert!(rt; index.get() == 3 && slot.get() == 0 && row.job.as_str() == "w");
-    let slot = Ordinal::new(1).expect(&rt, "an ordinal");
-    let other = Allocation {
-        id: AllocId { index, slot },
-        ..row
-    };
-    let ended = Allocation {
-        client: ClientState::Complete,
-        ..other
-    };
     let mut tables = Tables::empty(alloc);
-    for (put, cpu) in [(other, 600), (row, 1200), (other, 1200), (ended, 600)] {
-        assert!(rt; tables.put_alloc(put).is_ok());
-        let usage = tables.used(row.node);
-        assert!(rt; usage.cpu == cpu && usage.mem == cpu / 2);
+    for _ in 0..2 {
+        let rows = state.allocs(alloc).ok().expect(&rt, "the allocations");
+        for row in rows.as_slice() {
+            assert!(rt; row.job.as_str() == "w" && state.alloc(row.id).is_some());
+            assert!(rt; tables.put_alloc(*row).is_ok());
+            let usage = tables.used(row.node);
+            assert!(rt; usage.cpu == 600 && usage.mem == 300);
+            assert!(rt; finds_alone(&tables, row));
+        }
+        assert!(rt; tables.allocs().len() == 1);
     }
-    let slots = tables.allocs().rows().iter().map(|row| row.id.slot.get());
-    assert!(rt; slots.eq([0, 1]));
-    // The second one ended.
-    assert!(rt; is_alone(tables.all_live_named(&AllocName::of(&row)), row.id));
-    assert!(rt; is_alone(tables.live_of_job(&row.job), row.id));
-    assert!(rt; is_alone(tables.live_on(row.node), row.id));
-    assert!(rt; is_alone(tables.active_on(row.node), row.id));
 }
