@@ -5,7 +5,7 @@ ghost use Rattle.rows.specs.Rising.{is_behind};
 ghost use Rattle.rows.specs.Keys.{name_cmp, eval_cmp, alloc_cmp, job_name, node_number, eval_id as eval_key, alloc_id as alloc_key};
 ghost use Rattle.fields.specs.Format.{Gives, GivesExactly, Puts};
 ghost use Rattle.fields.specs.Rows.{job, job_behind, node, node_behind, node_end, evaluation, evaluation_behind, allocation, allocation_behind, allocation_place, allocation_end};
-ghost use Rattle.fields.specs.Inner.RowReading.{job_of, node_of, evaluation_of, allocation_of};
+ghost use Rattle.fields.specs.Inner.RowReading.{job_behind_key, node_behind_key, evaluation_of, allocation_of};
 ghost use Rattle.fields.specs.Laws.RowLaws.{job_lawful, job_is_ruled, node_lawful, node_is_ruled, evaluation_lawful, evaluation_is_ruled, allocation_lawful, allocation_is_ruled};
 
 use crate::field::Field;
@@ -24,7 +24,7 @@ fn read_job_of(
     bytes: &[u8],
     at: usize,
 ) -> Result<(Job, usize), Refusal>
-    ensures { Gives result (job_of name bytes.now at) }
+    ensures { Gives result (job_behind_key name bytes.now at) }
 {
     let (priority, at) = Priority::read_at(alloc, bytes, at)?;
     let (stopped, at) = bool::read_at(alloc, bytes, at)?;
@@ -102,7 +102,7 @@ fn read_node_of(
     bytes: &[u8],
     at: usize,
 ) -> Result<(Node, usize), Refusal>
-    ensures { GivesExactly result (node_of number bytes.now at) }
+    ensures { GivesExactly result (node_behind_key number bytes.now at) }
 {
     let (class, at) = ClassName::read_at(alloc, bytes, at)?;
     let (size, at) = Size::read_at(alloc, bytes, at)?;

@@ -6,7 +6,7 @@ use Rattle.machine.specs.Meaning.{Meaning}
 use Rattle.machine.specs.declared.entry.Entry.{Entry}
 use Rattle.wire.specs.Frames.{Frame}
 use Rattle.raft_model.specs.Messages.{Message, to_others}
-use Rattle.raft_model.specs.Quorums.{number}
+use Rattle.raft_model.specs.Quorums.{index_at}
 use Rattle.raft_model.specs.Servers.{Server, Leader, is_up, beats, beat_message}
 use Rattle.raft_core.specs.declared.role.Role.{Role}
 use Rattle.raft_core.specs.declared.role.Role.TheVariants as roles
@@ -14,7 +14,7 @@ use Rattle.raft_core.specs.Inner.Beats.{append_from}
 use Rattle.raft_core.specs.Frames.{Sends}
 use Rattle.raft_core.specs.RaftView.{RaftView, while_up, mode_of}
 use Rattle.raft_core.specs.Inner.Turns.{Turned}
-use Rattle.raft_core.proofs.Replies.{number-index}
+use Rattle.raft_core.proofs.Replies.{index-at}
 
 module _ {C : Type 0} (log : List (Entry C)) where
   -- a part of the log from an index that may be past its end
@@ -42,14 +42,14 @@ module _ {C : Type 0} (me term : ℕ) (vote : Option ℕ) (log : List (Entry C))
   sender = record { term = term; vote = vote; log = log; covered = 0; commit = commit; known = known; mode = Leader next match }
 
   -- a next index is past the snapshot, which covers nothing
-  appends : (to : ℕ) → 1 ≤ number next to → append_from me term commit log (number next to) to ≡ beat_message me sender next to
-  appends to least = let past : nat_le (number next to) 0 ≡ false = lt-leb (number next to) 0 least in rw past refl
+  appends : (to : ℕ) → 1 ≤ index_at next to → append_from me term commit log (index_at next to) to ≡ beat_message me sender next to
+  appends to least = let past : nat_le (index_at next to) 0 ≡ false = lt-leb (index_at next to) 0 least in rw past refl
 
-  pub all_append : (n : ℕ) → ((j : ℕ) → j < n → 1 ≤ slice_index next j) → to_others me (λ to. append_from me term commit log (number next to) to) n ≡ to_others me (beat_message me sender next) n
-  all_append n least = others-same me (λ to. append_from me term commit log (number next to) to) (beat_message me sender next) n (λ j below. appends j (rw (number-index next j) (least j below)))
+  pub all_append : (n : ℕ) → ((j : ℕ) → j < n → 1 ≤ slice_index next j) → to_others me (λ to. append_from me term commit log (index_at next to) to) n ≡ to_others me (beat_message me sender next) n
+  all_append n least = others-same me (λ to. append_from me term commit log (index_at next to) to) (beat_message me sender next) n (λ j below. appends j (rw (index-at next j) (least j below)))
 
 -- what the code sends is what the leader owes
-pub beats_by : {S C : Type 0} (m : Meaning S C) (old : RaftView C) (machine : Option S) (me size term : ℕ) (vote : Option ℕ) (log : List (Entry C)) (commit : ℕ) (known : Option ℕ) (role : Role) (votes : List Bool) (next match : List ℕ) (before after : List Frame) → record { me = me; size = size; server = while_up machine (record { term = term; vote = vote; log = log; covered = 0; commit = commit; known = known; mode = mode_of role votes next match }) } ≡ old → is_up old.server.mode ≡ true → role ≡ roles.Leader → length next ≡ size → ((j : ℕ) → j < size → 1 ≤ slice_index next j) → Sends m before after (to_others me (λ to. append_from me term commit log (number next to) to) (length next)) → Turned m old old before after (record { server = old.server; sent = beats old.size old.me old.server old.server.mode })
+pub beats_by : {S C : Type 0} (m : Meaning S C) (old : RaftView C) (machine : Option S) (me size term : ℕ) (vote : Option ℕ) (log : List (Entry C)) (commit : ℕ) (known : Option ℕ) (role : Role) (votes : List Bool) (next match : List ℕ) (before after : List Frame) → record { me = me; size = size; server = while_up machine (record { term = term; vote = vote; log = log; covered = 0; commit = commit; known = known; mode = mode_of role votes next match }) } ≡ old → is_up old.server.mode ≡ true → role ≡ roles.Leader → length next ≡ size → ((j : ℕ) → j < size → 1 ≤ slice_index next j) → Sends m before after (to_others me (λ to. append_from me term commit log (index_at next to) to) (length next)) → Turned m old old before after (record { server = old.server; sent = beats old.size old.me old.server old.server.mode })
 beats_by m old None me size term vote log commit known role votes next match before after old-is up leads each least sent = absurd (let down : false ≡ true = rw (← old-is) at up in cc)
 beats_by m old (Some machine) me size term vote log commit known role votes next match before after old-is up leads each least sent =
     rw (← old-is, leads) (record { server = refl; me = refl; size = refl; sent = rw (each, all_append me term vote log commit known next match size least) at sent })

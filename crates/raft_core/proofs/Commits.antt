@@ -1,20 +1,16 @@
 -- The greatest index that is committed.
 use Rattle.std.proofs.Common.{◌≡◌, ◌≢◌, ℕ, zero, suc, ◌+◌, ◌-◌, ◌*◌, ◌<◌, ◌≤◌, Bool, true, false, ◌==◌, ◌&&◌, ◌||◌, cond, ltb, leb, eqb, nat_lt, List, length, get_or, refl, sym, ap, subst, ◌∙◌, arith, inl, inr}
 use Rattle.std.proofs.Math.Bool.{and-false}
-use Rattle.std.proofs.lemmas.Bool.{ltb-true, lt-ltb, le-ltb, eqb-true, eqb-false, eq-eqb, ne_eqb}
+use Rattle.std.proofs.lemmas.Bool.{and_parts, ltb-true, lt-ltb, le-ltb, eqb-true, eqb-false, eq-eqb, ne_eqb}
 use Rattle.std.proofs.lemmas.Bool.Decides.{leb_tells, nat_tests}
 use Rattle.std.proofs.lemmas.Option.{slice_get-get_or}
 use Rattle.machine.specs.declared.entry.Entry.{Entry}
 use Rattle.raft_model.specs.Logs.{term_at}
-use Rattle.raft_model.specs.Quorums.{count, is_quorum, Quorum, number, or_else}
+use Rattle.raft_model.specs.Quorums.{count, is_quorum, Quorum, index_at, or_else}
 use Rattle.raft_model.specs.Servers.{Server, Leader, advanced, advanced_in, is_chosen, greatest}
 use Rattle.raft_core.specs.Commits.{holds, IsGreatest, IsChosen, IsRisen}
 use Rattle.raft_core.specs.Inner.Commits.{is_chosen_in}
 use Rattle.raft_core.proofs.Quorums.{count-next}
-
-both_parts : (a b : Bool) → (a && b) ≡ true → (a ≡ true) × (b ≡ true)
-both_parts true b e = (refl, e)
-both_parts false b e = absurd cc
 
 module _ (test : ℕ → Bool) (low : ℕ) where
   greatest-suc : (k : ℕ) (b : Bool) → (nat_lt low (suc k) && test (suc k)) ≡ b → greatest test low (suc k) ≡ cond b (suc k) (greatest test low k)
@@ -53,7 +49,7 @@ module _ (test : ℕ → Bool) (low : ℕ) where
   greatest-first = refl
 
   step-is : (k : ℕ) (b : Bool) → (nat_lt low (suc k) && test (suc k)) ≡ b → IsGreatest test low k (greatest test low k) → IsGreatest test low (suc k) (cond b (suc k) (greatest test low k))
-  step-is k true e h = let t = both_parts (nat_lt low (suc k)) (test (suc k)) e in record {
+  step-is k true e h = let t = and_parts (nat_lt low (suc k)) (test (suc k)) e in record {
     keeps = omega (arith, ltb-true low (suc k) t.0);
     above = λ q lt le passes. le;
     one = inr (omega arith, t.1);
@@ -82,7 +78,7 @@ module _ {C : Type 0} (n me : ℕ) (s : Server C) (match : List ℕ) where
   is-chosen : (k : ℕ) → k ≤ length s.log → is_chosen n me s match k ≡ true → IsChosen n me s match k
   unfolding is_quorum Quorum
   is-chosen k le e =
-      let t = both_parts (term_at s.log k == s.term) (is_quorum n (holds me match k)) e in
+      let t = and_parts (term_at s.log k == s.term) (is_quorum n (holds me match k)) e in
       record { there = le; term = eqb-true (term_at s.log k) s.term t.0; held = ltb-true n (2 * count (holds me match k) n) t.1 }
 
   chosen-is : (k : ℕ) → IsChosen n me s match k → is_chosen n me s match k ≡ true
@@ -111,7 +107,7 @@ risen_commit n me s next match leads =
 
 -- ---- the loops
 
-pub number-read : (xs : List ℕ) (i d : ℕ) → i < length xs → number xs i ≡ get_or xs i d
+pub number-read : (xs : List ℕ) (i d : ℕ) → i < length xs → index_at xs i ≡ get_or xs i d
 number-read xs i d within = ap (or_else 0) (slice_get-get_or xs i d within)
 
 count-same : (f g : ℕ → Bool) (n : ℕ) → ((j : ℕ) → j < n → f j ≡ g j) → count f n ≡ count g n
@@ -129,18 +125,18 @@ holds-same q p m j me low true e le lt h = refl
 holds-same q p m j me low false e le lt h = leb-same q p m le (λ below. omega (arith, h (eqb-false j me e) below))
 
 -- between two match indexes of others the same servers hold an index
-pub quorum-same : (me : ℕ) (matched : List ℕ) (p q low n : ℕ) → ((j : ℕ) → j < n → j ≢ me → number matched j < p → number matched j ≤ low) → low < q → q ≤ p → is_quorum n (holds me matched q) ≡ is_quorum n (holds me matched p)
+pub quorum-same : (me : ℕ) (matched : List ℕ) (p q low n : ℕ) → ((j : ℕ) → j < n → j ≢ me → index_at matched j < p → index_at matched j ≤ low) → low < q → q ≤ p → is_quorum n (holds me matched q) ≡ is_quorum n (holds me matched p)
 unfolding is_quorum
 quorum-same me matched p q low n others lt le =
     ap (λ (k : ℕ). ltb n (2 * k)) (count-same (holds me matched q) (holds me matched p) n
-    (λ j below. holds-same q p (number matched j) j me low (eqb j me) refl le lt (others j below)))
+    (λ j below. holds-same q p (index_at matched j) j me low (eqb j me) refl le lt (others j below)))
 
 module _ {C : Type 0} (n me term : ℕ) (log : List (Entry C)) (matched : List ℕ) where
   not-held : (q : ℕ) → is_quorum n (holds me matched q) ≡ false → is_chosen_in n me term log matched q ≡ false
   not-held q none = rw none (and-false (term_at log q == term))
 
   -- where no quorum holds an index, none is chosen down to the next lower match index
-  pub jump : (commit p low : ℕ) → low ≤ p → is_quorum n (holds me matched p) ≡ false → ((j : ℕ) → j < n → j ≢ me → number matched j < p → number matched j ≤ low) → greatest (is_chosen_in n me term log matched) commit p ≡ greatest (is_chosen_in n me term log matched) commit low
+  pub jump : (commit p low : ℕ) → low ≤ p → is_quorum n (holds me matched p) ≡ false → ((j : ℕ) → j < n → j ≢ me → index_at matched j < p → index_at matched j ≤ low) → greatest (is_chosen_in n me term log matched) commit p ≡ greatest (is_chosen_in n me term log matched) commit low
   jump commit p low le none others =
       greatest-skip (is_chosen_in n me term log matched) commit low p le (λ q lt below. not-held q (quorum-same me matched p q low n others lt below ∙ none))
 

@@ -4,7 +4,7 @@ use Rattle.std.proofs.Math.Seq.{take-append_seam}
 use Rattle.machine.specs.Meaning.{Meaning}
 use Rattle.machine.specs.declared.entry.Entry.{Entry}
 use Rattle.raft_model.specs.Logs.{state_after}
-use Rattle.raft_model.specs.Quorums.{number}
+use Rattle.raft_model.specs.Quorums.{index_at}
 use Rattle.raft_model.specs.Servers.{Server, Leader, greatest}
 use Rattle.raft_core.specs.Inner.Commits.{is_chosen_in}
 use Rattle.raft_core.specs.declared.role.Role.{Role}
@@ -25,14 +25,14 @@ length-slice_set [] i v = refl
 length-slice_set (x ∷ xs) zero v = refl
 length-slice_set (x ∷ xs) (suc i) v = ap suc (length-slice_set xs i v)
 
-pub number-index : (xs : List ℕ) (i : ℕ) → number xs i ≡ slice_index xs i
-number-index [] i = refl
-number-index (x ∷ xs) zero = refl
-number-index (x ∷ xs) (suc i) = number-index xs i
+pub index-at : (xs : List ℕ) (i : ℕ) → index_at xs i ≡ slice_index xs i
+index-at [] i = refl
+index-at (x ∷ xs) zero = refl
+index-at (x ∷ xs) (suc i) = index-at xs i
 
 module _ (last i at : ℕ) where
-  next-each : (P : ℕ → Type 0) (ok t : Bool) (next match : List ℕ) → nat_le at last ≡ t → (t ≡ true → P (suc (max (number match i) at))) → P (max (suc (number match i)) (min (number next i - 1) (suc at))) → (j : ℕ) → P (slice_index next j) → P (slice_index (next_after last i ok at next match) j)
-  next-each P true true next match is up down j old = rw is (set-each P next i (suc (max (number match i) at)) j (up refl) old)
+  next-each : (P : ℕ → Type 0) (ok t : Bool) (next match : List ℕ) → nat_le at last ≡ t → (t ≡ true → P (suc (max (index_at match i) at))) → P (max (suc (index_at match i)) (min (index_at next i - 1) (suc at))) → (j : ℕ) → P (slice_index next j) → P (slice_index (next_after last i ok at next match) j)
+  next-each P true true next match is up down j old = rw is (set-each P next i (suc (max (index_at match i) at)) j (up refl) old)
   next-each P true false next match is up down j old = rw is old
   next-each P false t next match is up down j old = set-each P next i _ j down old
 
@@ -41,16 +41,16 @@ module _ (last i at : ℕ) where
 
   pub next-most : (ok : Bool) (next match : List ℕ) → at < 2 ^ 40 → ((j : ℕ) → slice_index match j < 2 ^ 40) → ((j : ℕ) → slice_index next j ≤ 2 ^ 40) → (j : ℕ) → slice_index (next_after last i ok at next match) j ≤ 2 ^ 40
   next-most ok next match short levels old j =
-      let level : number match i < 2 ^ 40 = rw (number-index match i) (levels i) in
+      let level : index_at match i < 2 ^ 40 = rw (index-at match i) (levels i) in
       next-each (λ x. x ≤ 2 ^ 40) ok (nat_le at last) next match refl (λ e. omega arith) (omega arith) j (old j)
 
-  match-each : (ok t : Bool) (match : List ℕ) → nat_le at last ≡ t → at < 2 ^ 40 → number match i < 2 ^ 40 → (j : ℕ) → slice_index match j < 2 ^ 40 → slice_index (match_after last i ok at match) j < 2 ^ 40
-  match-each true true match is short level j old = rw is (set-each (λ x. x < 2 ^ 40) match i (max (number match i) at) j (omega arith) old)
+  match-each : (ok t : Bool) (match : List ℕ) → nat_le at last ≡ t → at < 2 ^ 40 → index_at match i < 2 ^ 40 → (j : ℕ) → slice_index match j < 2 ^ 40 → slice_index (match_after last i ok at match) j < 2 ^ 40
+  match-each true true match is short level j old = rw is (set-each (λ x. x < 2 ^ 40) match i (max (index_at match i) at) j (omega arith) old)
   match-each true false match is short level j old = rw is old
   match-each false t match is short level j old = old
 
   pub match-below : (ok : Bool) (match : List ℕ) → at < 2 ^ 40 → ((j : ℕ) → slice_index match j < 2 ^ 40) → (j : ℕ) → slice_index (match_after last i ok at match) j < 2 ^ 40
-  match-below ok match short levels j = match-each ok (nat_le at last) match refl short (rw (number-index match i) (levels i)) j (levels j)
+  match-below ok match short levels j = match-each ok (nat_le at last) match refl short (rw (index-at match i) (levels i)) j (levels j)
 
   next-length_at : (ok t : Bool) (next match : List ℕ) → nat_le at last ≡ t → length (next_after last i ok at next match) ≡ length next
   next-length_at true true next match is = rw is (length-slice_set next i _)

@@ -1,14 +1,13 @@
 -- How far a leader's commit index rises. (Raft, extended version 2014, section 5.3, and section
 -- 5.4.2.)
-use Rattle.std.specs.Prelude.{◌≡◌, ℕ, ◌≤◌, ◌<◌, ◌⊎◌, true, Bool, ◌==◌, ◌&&◌, ◌||◌, nat_le, List, length}
-use Rattle.machine.specs.declared.entry.Entry.{Entry}
+use Rattle.std.specs.Prelude.{◌≡◌, ℕ, ◌≤◌, ◌<◌, ◌⊎◌, true, Bool, ◌==◌, ◌||◌, nat_le, List, length}
 use Rattle.raft_model.specs.Logs.{term_at}
-use Rattle.raft_model.specs.Quorums.{Quorum, is_quorum, number}
+use Rattle.raft_model.specs.Quorums.{Quorum, index_at}
 use Rattle.raft_model.specs.Servers.{Server}
 
 -- server j holds index k: the leader `me` all of its log, another what it is known to hold
 abbrev pub holds : ℕ → List ℕ → ℕ → ℕ → Bool
-holds me match k j = (j == me) || nat_le k (number match j)
+holds me match k j = (j == me) || nat_le k (index_at match j)
 
 -- p is the greatest of `low` and the numbers above it, up to `high`, that pass the test
 pub record IsGreatest (test : ℕ → Bool) (low high p : ℕ) : Type 0 where

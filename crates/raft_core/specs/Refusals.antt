@@ -26,15 +26,15 @@ abbrev pub is_server_of : ℕ → Actor → Bool
 is_server_of n (ServerActor place) = nat_lt place n
 is_server_of n (Client client) = false
 
-abbrev pub is_server : ℕ → Actor → Bool
-is_server me (ServerActor place) = place == me
-is_server me (Client client) = false
+abbrev pub is_server_at : ℕ → Actor → Bool
+is_server_at me (ServerActor place) = place == me
+is_server_at me (Client client) = false
 
 -- a message must come from a server of the group, and be for this one
 abbrev pub misdirected : ℕ → ℕ → Actor → Actor → Option Refusal
 misdirected n me from to =
     if is_server_of n from
-    then (if is_server me to then None else Some (refusals.Frame 3))
+    then (if is_server_at me to then None else Some (refusals.Frame 3))
     else Some (refusals.Frame 2)
 
 -- a message that was read, or the place of a frame's first fault

@@ -3,7 +3,7 @@
 
 ghost use Rattle.std.specs.Prelude.{◌≡◌, ◌≢◌, ◌^◌, ◌<◌, ◌≤◌, ◌⊎◌, ℕ, Bool, List, length, take, IfOk};
 ghost use Rattle.raft_model.specs.Logs.{state_after};
-ghost use Rattle.raft_model.specs.Quorums.{count, is_quorum, number};
+ghost use Rattle.raft_model.specs.Quorums.{count, is_quorum, index_at};
 ghost use Rattle.raft_model.specs.Servers.{Server, Leader, advanced, greatest};
 ghost use Rattle.raft_core.specs.Commits.{holds, IsGreatest, IsRisen};
 ghost use Rattle.raft_core.specs.Inner.Commits.{is_chosen_in};
@@ -42,10 +42,10 @@ fn is_quorum(me: ServerId, matched: &[u64], index: u64) -> bool
 fn next_lower(me: ServerId, matched: &[u64], index: u64) -> u64
     requires { 0 < index }
     ensures below { result < index }
-    ensures others { (j : ℕ) → j < length matched.now → j ≢ me → number matched.now j < index →
-        number matched.now j ≤ result }
+    ensures others { (j : ℕ) → j < length matched.now → j ≢ me → index_at matched.now j < index →
+        index_at matched.now j ≤ result }
     ensures one { (result ≡ 0)
-        ⊎ ((j : ℕ) × (j < length matched.now) × (j ≢ me) × (number matched.now j ≡ result)) }
+        ⊎ ((j : ℕ) × (j < length matched.now) × (j ≢ me) × (index_at matched.now j ≡ result)) }
 {
     let mut low = 0;
     for (place, level) in matched.iter().enumerate() {

@@ -3,7 +3,7 @@
 use Rattle.std.specs.Prelude.{ℕ, zero, suc, ◌+◌, ◌-◌, max, min, Bool, true, false, ◌&&◌, ◌||◌, ◌==◌, nat_lt, nat_le, if◌then◌else◌, Option, Some, None, List, [], ◌∷◌, ◌++◌, length, take, drop, replicate, slice_set}
 use Rattle.machine.specs.declared.entry.Entry.{Entry}
 use Rattle.raft_model.specs.Logs.{term_at, last_term, has, merge, install}
-use Rattle.raft_model.specs.Quorums.{is_quorum, marked, number}
+use Rattle.raft_model.specs.Quorums.{is_quorum, marked, index_at}
 use Rattle.raft_model.specs.Messages.{Message, Body, VoteRequest, Append, AppendReply, Install, to_others}
 
 -- What a server is doing: nothing, while it is down; else its role. Lists are by server number:
@@ -153,20 +153,20 @@ installed s P =
 abbrev pub acked : {C : Type 0} → Server C → ℕ → ℕ → List ℕ → List ℕ → Server C
 acked s j at next match =
     if nat_le at (length s.log)
-    then record s { mode = Leader (slice_set next j (suc (max (number match j) at))) (slice_set match j (max (number match j) at)) }
+    then record s { mode = Leader (slice_set next j (suc (max (index_at match j) at))) (slice_set match j (max (index_at match j) at)) }
     else s
 
 -- A leader hears that server j refuses: it will try one earlier at least, and no earlier than what
 -- j is known to hold.
 abbrev pub backed : {C : Type 0} → Server C → ℕ → ℕ → List ℕ → List ℕ → Server C
 backed s j at next match = record s {
-  mode = Leader (slice_set next j (max (suc (number match j)) (min (number next j - 1) (suc at)))) match;
+  mode = Leader (slice_set next j (max (suc (index_at match j)) (min (index_at next j - 1) (suc at)))) match;
 }
 
 -- The entry at index k is of the leader's term, and a quorum holds it; the leader holds all of its
 -- log. (Section 5.4.2.)
 abbrev pub is_chosen : {C : Type 0} → ℕ → ℕ → Server C → List ℕ → ℕ → Bool
-is_chosen n me s match k = (term_at s.log k == s.term) && is_quorum n (λ j. (j == me) || nat_le k (number match j))
+is_chosen n me s match k = (term_at s.log k == s.term) && is_quorum n (λ j. (j == me) || nat_le k (index_at match j))
 
 -- the greatest number above `low` and up to `high` that passes the test, or `low` where none does
 unfoldable pub greatest : (ℕ → Bool) → ℕ → ℕ → ℕ
@@ -209,7 +209,7 @@ beat_body s next =
 
 -- the same as a message to that server
 abbrev pub beat_message : {C : Type 0} → ℕ → Server C → List ℕ → ℕ → Message C
-beat_message me s next to = record { from = me; to = to; term = s.term; body = beat_body s (number next to) }
+beat_message me s next to = record { from = me; to = to; term = s.term; body = beat_body s (index_at next to) }
 
 -- what a server sends at a beat: a leader to each other server, in rising number; others nothing
 abbrev pub beats : {C : Type 0} → ℕ → ℕ → Server C → Mode → List (Message C)

@@ -1,9 +1,9 @@
 //! Worked steps: what the definitions answer for servers, messages and events written out, each a
 //! law by computation.
-ghost use Rattle.raft_model.specs.Worked.{CandidateAsks, VoterGrants, NewerVoterDenies, LongerVoterDenies, VoteOutlastsCrash, TwoVotesOfFive, ThreeVotesOfFive, LateVote, LastTerm};
-ghost use Rattle.raft_model.specs.Worked.{HeldAlready, LateAppend, DiffersAtFirst, CommittedStays, OtherPrevious, MissingPrevious, LowerTerm, InstallKeeps, InstallDiscards};
-ghost use Rattle.raft_model.specs.Worked.{LeaderBeats, OlderTerm, OwnTerm, PastLast, OtherTerm, NextGoesBack, NextStaysPastMatch, WholeLog, NotLeader, IsDown, IsUp, RestartsFromSnapshot};
-ghost use Rattle.raft_model.specs.Worked.{ThreeServersCommit, TailStays, TailCommitted, RefusalTwice, RefusalOften, CommitWithinAppend};
+ghost use Rattle.raft_model.specs.Worked.Votes.{CandidateAsks, VoterGrants, NewerVoterDenies, LongerVoterDenies, VoteOutlastsCrash, TwoVotesOfFive, ThreeVotesOfFive, LateVote, LastTerm};
+ghost use Rattle.raft_model.specs.Worked.Logs.{HeldAlready, LateAppend, DiffersAtFirst, CommittedStays, OtherPrevious, MissingPrevious, LowerTerm, InstallKeeps, InstallDiscards};
+ghost use Rattle.raft_model.specs.Worked.Leaders.{LeaderBeats, OlderTerm, OwnTerm, PastLast, OtherTerm, NextGoesBack, NextStaysPastMatch, WholeLog, NotLeader, IsDown, IsUp, RestartsFromSnapshot};
+ghost use Rattle.raft_model.specs.Worked.Runs.{ThreeServersCommit, TailStays, TailCommitted, RefusalTwice, RefusalOften, CommitWithinAppend};
 
 /// Standing for election, granting and denying votes, and winning. (Raft, extended version 2014,
 /// Figure 2 and section 5.2.)

@@ -1,6 +1,6 @@
 -- A follower takes over an Append or an Install.
 use Rattle.std.proofs.Common.{◌≡◌, ℕ, zero, suc, ◌+◌, ◌<◌, ◌≤◌, ◌⊎◌, inl, inr, true, ◌==◌, nat_le, min, max, Some, List, [], ◌∷◌, length, take, refl, sym, ap, ◌∙◌, subst, arith, slice_get, length-take-le}
-use Rattle.std.proofs.lemmas.Bool.{leb-true, leb-false, eqb-true}
+use Rattle.std.proofs.lemmas.Bool.{and_parts, leb-true, leb-false, eqb-true}
 use Rattle.std.proofs.lemmas.Bool.Decides.{leb_tells}
 use Rattle.machine.specs.declared.entry.Entry.{Entry}
 use Rattle.raft_model.specs.Logs.{term_at, has, install}
@@ -17,7 +17,7 @@ use Rattle.raft_safety.proofs.Logs.{agree_none, agree_sym, agree_trans, agree_le
 use Rattle.raft_safety.proofs.Completeness.{fixed_in}
 use Rattle.raft_safety.proofs.Growth.{carries_on, adopted_carries, fixed_on}
 use Rattle.raft_safety.proofs.Places.{get-one}
-use Rattle.raft_safety.proofs.Paths.{bool_cases, and_both}
+use Rattle.raft_safety.proofs.Paths.{bool_cases}
 use Rattle.raft_safety.proofs.Voters.{elected_on}
 use Rattle.raft_safety.proofs.VoterSteps.{VotesKept}
 use Rattle.raft_safety.proofs.Frame.{agree_self, fixed_less, fixed_grow, fixed_later}
@@ -197,7 +197,7 @@ module _ {C : Type 0} (P : List (Entry C) → Type 0) (n : ℕ) (G : History C) 
   held_start (suc p) prev_term h e le = elim (or_either (nat_le (suc p) s.commit) (has s.log (suc p) prev_term) h) [
     | inl a ↦ agree_less (suc p) (leb-true (suc p) s.commit a) committed
     | inr b ↦
-        let c = and_both (nat_le (suc p) (length s.log)) (term_at s.log (suc p) == prev_term) b in
+        let c = and_parts (nat_le (suc p) (length s.log)) (term_at s.log (suc p) == prev_term) b in
         rooted_two G.ledger s.log (G.ledger s.term) (suc p) ok.log.rooted (I.rooted s.term) (omega arith) (leb-true (suc p) (length s.log) c.0) le
         (eqb-true (term_at s.log (suc p)) prev_term c.1 ∙ e)
   ]

@@ -1,6 +1,6 @@
 -- Leader completeness: at a vote, and for what is committed.
 use Rattle.std.proofs.Common.{ℕ, suc, ◌<◌, ◌≤◌, ◌≡◌, ◌⊎◌, List, [], ◌∷◌, length, sym, ◌∙◌, subst, arith, inl, inr, ◌&&◌, nat_le, nat_lt}
-use Rattle.std.proofs.lemmas.Bool.{leb-true, ltb-true}
+use Rattle.std.proofs.lemmas.Bool.{and_parts, leb-true, ltb-true}
 use Rattle.std.proofs.lemmas.Bool.Decides.{leb_tells}
 use Rattle.machine.specs.declared.entry.Entry.{Entry}
 use Rattle.raft_model.specs.Logs.{term_at}
@@ -8,7 +8,6 @@ use Rattle.raft_model.specs.Chains.{Agree}
 use Rattle.raft_safety.specs.Agreement.{Rooted}
 use Rattle.raft_safety.specs.History.{History, Own, Dead, Chosen, HasOrDead, FixedBy, Fixed, Ledgers, UpToDate}
 use Rattle.raft_safety.proofs.Quorums.{meet}
-use Rattle.raft_safety.proofs.Paths.{and_both}
 use Rattle.raft_safety.proofs.Logs.{agree_none, agree_sym, agree_trans, agree_less, agree_term, rooted_at}
 
 module _ {C : Type 0} where
@@ -67,7 +66,7 @@ module _ {C : Type 0} where
   pub chosen_not_dead : (n : ℕ) (G : History C) (u k : ℕ) → Chosen n G u k → Dead n G u k → ⊥
   chosen_not_dead n G u k c d =
       let m = meet n (λ i. nat_le k (G.held u i)) (λ i. nat_lt u (G.ballots.term i) && nat_lt (G.held u i) k) c.quorum d in
-      omega (arith, leb-true k (G.held u m.0) m.2, ltb-true (G.held u m.0) k (and_both (nat_lt u (G.ballots.term m.0)) (nat_lt (G.held u m.0) k) m.3).1)
+      omega (arith, leb-true k (G.held u m.0) m.2, ltb-true (G.held u m.0) k (and_parts (nat_lt u (G.ballots.term m.0)) (nat_lt (G.held u m.0) k) m.3).1)
 
   -- what is chosen is in each later term's ledger
   in_later : (n : ℕ) (G : History C) (t u j : ℕ) → Ledgers n G → Chosen n G u j → u < t → 1 ≤ length (G.ledger t) → Agree j (G.ledger u) (G.ledger t)

@@ -1,6 +1,6 @@
 -- What survives when the history grows.
-use Rattle.std.proofs.Common.{ℕ, ◌<◌, ◌≤◌, ◌≡◌, List, length, sym, ap, ◌∙◌, arith, inl, inr, Bool, true, false, ◌&&◌, true≢false, nat_le, nat_lt, not, IsTrue}
-use Rattle.std.proofs.lemmas.Bool.{leb-true, ltb-true, le-leb, lt-ltb}
+use Rattle.std.proofs.Common.{ℕ, ◌<◌, ◌≤◌, List, length, sym, ap, ◌∙◌, arith, inl, inr, Bool, true, false, ◌&&◌, true≢false, nat_le, nat_lt, not, IsTrue}
+use Rattle.std.proofs.lemmas.Bool.{and_from, and_parts, leb-true, ltb-true, le-leb, lt-ltb}
 use Rattle.std.proofs.lemmas.Bool.Decides.{leb_tells}
 use Rattle.machine.specs.declared.entry.Entry.{Entry}
 use Rattle.raft_model.specs.Quorums.{Quorum}
@@ -9,12 +9,6 @@ use Rattle.raft_safety.specs.Agreement.{Adopted}
 use Rattle.raft_safety.specs.History.{History, Own, Dead, Chosen, HasOrDead, Fixed, Ledgers, Extends}
 use Rattle.raft_safety.proofs.Quorums.{quorum_more, find}
 use Rattle.raft_safety.proofs.Logs.{agree_sym, agree_trans, agree_less, agree_term}
-use Rattle.raft_safety.proofs.Paths.{and_both}
-
--- two tests that pass
-pub both : (a b : Bool) → a ≡ true → b ≡ true → (a && b) ≡ true
-both true b p q = q
-both false b p q = absurd (true≢false (sym p))
 
 module _ {C : Type 0} where
   -- a first part of a ledger
@@ -31,9 +25,9 @@ module _ {C : Type 0} where
   pub dead_on : (n : ℕ) (G H : History C) (u k : ℕ) → Extends G H → Dead n G u k → Dead n H u k
   dead_on n G H u k e d = quorum_more n (λ i. nat_lt u (G.ballots.term i) && nat_lt (G.held u i) k) (λ i. nat_lt u (H.ballots.term i) && nat_lt (H.held u i) k)
       (λ i le h.
-      let a : u < G.ballots.term i = ltb-true u (G.ballots.term i) (and_both (nat_lt u (G.ballots.term i)) (nat_lt (G.held u i) k) h).0 in
-      let b : G.held u i < k = ltb-true (G.held u i) k (and_both (nat_lt u (G.ballots.term i)) (nat_lt (G.held u i) k) h).1 in
-      both (nat_lt u (H.ballots.term i)) (nat_lt (H.held u i) k) (lt-ltb u (H.ballots.term i) (omega (arith, a, e.ballots.terms i))) (lt-ltb (H.held u i) k (omega (arith, b, e.left u i a))))
+      let a : u < G.ballots.term i = ltb-true u (G.ballots.term i) (and_parts (nat_lt u (G.ballots.term i)) (nat_lt (G.held u i) k) h).0 in
+      let b : G.held u i < k = ltb-true (G.held u i) k (and_parts (nat_lt u (G.ballots.term i)) (nat_lt (G.held u i) k) h).1 in
+      and_from (nat_lt u (H.ballots.term i)) (nat_lt (H.held u i) k) (lt-ltb u (H.ballots.term i) (omega (arith, a, e.ballots.terms i))) (lt-ltb (H.held u i) k (omega (arith, b, e.left u i a))))
       d
 
   -- what is chosen stays chosen
@@ -90,7 +84,7 @@ module _ {C : Type 0} where
       elim (find n votes (λ i. nat_le k (G.held u i))) [
         | inl x ↦ voted x.0 u k x.1 x.2 less one (leb-true k (G.held u x.0) x.3) own
         | inr r ↦ inl (quorum_more n votes (λ i. nat_lt u (G.ballots.term i) && nat_lt (G.held u i) k)
-            (λ i le h. both (nat_lt u (G.ballots.term i)) (nat_lt (G.held u i) k)
+            (λ i le h. and_from (nat_lt u (G.ballots.term i)) (nat_lt (G.held u i) k)
             (lt-ltb u (G.ballots.term i) (omega (arith, less, late i le h)))
             (elim (leb_tells k (G.held u i)) [ inl s ↦ absurd (true≢false (sym (r i le h) ∙ ap not s.0)) | inr s ↦ lt-ltb (G.held u i) k s.1 ]))
             q)

@@ -1,10 +1,10 @@
 -- A leader commits, and beats.
 use Rattle.std.proofs.Common.{◌≡◌, ℕ, zero, suc, ◌+◌, ◌-◌, ◌<◌, ◌≤◌, ◌⊎◌, inl, inr, Bool, true, ◌&&◌, ◌||◌, ◌==◌, nat_le, nat_lt, List, [], ◌∷◌, length, take, drop, refl, sym, ap, ◌∙◌, subst, arith, length-take-le}
-use Rattle.std.proofs.lemmas.Bool.{ltb-true, leb-true, eqb-true, le-leb}
+use Rattle.std.proofs.lemmas.Bool.{and_parts, ltb-true, leb-true, eqb-true, le-leb}
 use Rattle.std.proofs.lemmas.Bool.Decides.{eqb_tells}
 use Rattle.machine.specs.declared.entry.Entry.{Entry}
 use Rattle.raft_model.specs.Logs.{term_at}
-use Rattle.raft_model.specs.Quorums.{number, is_quorum}
+use Rattle.raft_model.specs.Quorums.{index_at, is_quorum}
 use Rattle.raft_model.specs.Messages.{Message, to_others}
 use Rattle.raft_model.specs.Servers.{Server, Leader, is_chosen, greatest, beat_message, beat_body}
 use Rattle.raft_model.specs.Chains.{Agree}
@@ -13,7 +13,7 @@ use Rattle.raft_safety.specs.Invariants.{LogOk, LeaderOk, ServerOk, AppendOk, In
 use Rattle.raft_safety.proofs.Logs.{agree_sym, agree_trans, agree_less, agree_take}
 use Rattle.raft_safety.proofs.Quorums.{quorum_more, quorum_told}
 use Rattle.raft_safety.proofs.Places.{to_others_is}
-use Rattle.raft_safety.proofs.Paths.{bool_cases, and_both}
+use Rattle.raft_safety.proofs.Paths.{bool_cases}
 use Rattle.raft_safety.proofs.VoterSteps.{VotesKept}
 use Rattle.raft_safety.proofs.Frame.{agree_self, fixed_less, fixed_grow}
 use Rattle.raft_safety.proofs.QuietSteps.{or_either, quiet, no_bodies, as_leader}
@@ -23,7 +23,7 @@ pub greatest_told : (test : ℕ → Bool) (low high : ℕ) → (greatest test lo
 unfolding greatest
 greatest_told test low zero = inl refl
 greatest_told test low (suc high) = elim (bool_cases (nat_lt low (suc high) && test (suc high))) [
-  | inl e ↦ let a = and_both (nat_lt low (suc high)) (test (suc high)) e in rw e (inr (ltb-true low (suc high) a.0, omega arith, a.1))
+  | inl e ↦ let a = and_parts (nat_lt low (suc high)) (test (suc high)) e in rw e (inr (ltb-true low (suc high) a.0, omega arith, a.1))
   | inr e ↦ rw e (elim (greatest_told test low high) [ inl r ↦ inl r | inr r ↦ inr (r.0, omega (arith, r.1), r.2) ])
 ]
 
@@ -53,21 +53,21 @@ module _ {C : Type 0} (P : List (Entry C) → Type 0) (n : ℕ) (G : History C) 
   -- an index that the rule commits is chosen
   chosen_at : (k : ℕ) → 1 ≤ k → k ≤ length s.log → is_chosen n i s match k ≡ true → Chosen n G s.term k
   chosen_at k one le test =
-      let a = and_both (term_at s.log k == s.term) (is_quorum n (λ j. (j == i) || nat_le k (number match j))) test in
+      let a = and_parts (term_at s.log k == s.term) (is_quorum n (λ j. (j == i) || nat_le k (index_at match j))) test in
       let l = leader in
       record {
         one = one;
         there = omega (arith, le, ap length l.wrote);
         own = sym (ap (λ L. term_at L k) l.wrote) ∙ eqb-true (term_at s.log k) s.term a.0;
-        quorum = quorum_more n (λ j. (j == i) || nat_le k (number match j)) (λ j. nat_le k (G.held s.term j))
+        quorum = quorum_more n (λ j. (j == i) || nat_le k (index_at match j)) (λ j. nat_le k (G.held s.term j))
             (λ j less h. le-leb k (G.held s.term j) (elim (eqb_tells j i) [
               | inl e ↦ let w : G.held s.term j ≡ length s.log = ap (G.held s.term) e.1 ∙ l.whole in omega (arith, w, le)
-              | inr e ↦ elim (or_either (j == i) (nat_le k (number match j)) h) [
+              | inr e ↦ elim (or_either (j == i) (nat_le k (index_at match j)) h) [
                 | inl b ↦ absurd (e.1 (eqb-true j i b))
-                | inr b ↦ omega (arith, leb-true k (number match j) b, l.matched j less e.1)
+                | inr b ↦ omega (arith, leb-true k (index_at match j) b, l.matched j less e.1)
               ]
             ]))
-            (quorum_told n (λ j. (j == i) || nat_le k (number match j)) a.1);
+            (quorum_told n (λ j. (j == i) || nat_le k (index_at match j)) a.1);
       }
 
   -- the log with a commit index that the rule gives
@@ -142,4 +142,4 @@ module _ {C : Type 0} (P : List (Entry C) → Type 0) (n : ℕ) (G : History C) 
   beat_keeps v = quiet P n G i s I ok s _ v (omega arith) ok.log ok.role
       (λ k x h. let r = to_others_is i (beat_message i s next) n k x h in let l = leader in
       subst (λ (y : Message C). BodyOk n G y.from y.to y.term y.body) (sym r.3)
-      (beat_says r.0 (number next r.0) (l.next_from r.0 r.1 r.2) (l.next_to r.0 r.1 r.2)))
+      (beat_says r.0 (index_at next r.0) (l.next_from r.0 r.1 r.2) (l.next_to r.0 r.1 r.2)))

@@ -1,11 +1,11 @@
 -- Each event is a path of small steps.
 use Rattle.std.proofs.Common.{◌≡◌, ℕ, suc, ◌<◌, ◌≤◌, ◌⊎◌, inl, inr, Bool, true, false, ◌&&◌, ◌==◌, nat_lt, nat_le, max, Option, Some, None, Result, Ok, List, [], ◌∷◌, length, refl, sym, ap, ◌∙◌, subst, arith, slice_set, true≢false}
-use Rattle.std.proofs.lemmas.Bool.{ltb-true, ltb-false, eqb-true}
+use Rattle.std.proofs.lemmas.Bool.{and_parts, ltb-true, ltb-false, eqb-true}
 use Rattle.machine.specs.Meaning.{Meaning}
 use Rattle.rows.specs.declared.refusal.Refusal.{Refusal}
 use Rattle.machine.specs.declared.entry.Entry.{Entry}
 use Rattle.raft_model.specs.Logs.{MAX}
-use Rattle.raft_model.specs.Quorums.{is_quorum, marked, number}
+use Rattle.raft_model.specs.Quorums.{is_quorum, marked, index_at}
 use Rattle.raft_model.specs.Messages.{Message, Body, VoteRequest, VoteReply, Append, AppendReply, Install, InstallReply}
 use Rattle.raft_model.specs.Servers.{Server, Turn, Mode, Down, Follower, Candidate, Leader, is_up, is_leader, silent, met, grants, is_free_for, is_up_to_date, counted, with_votes, following, is_held, installed, acked, advanced_in, hears_ok, hears_refusal, beats, extended}
 use Rattle.raft_model.specs.Steps.{Input, Arrives, Timeout, Beat, Propose, Compact, Crash, Restart, receives, times_out, proposes, acts, wakes, step, admitted, unless}
@@ -15,12 +15,6 @@ use Rattle.raft_safety.specs.SmallSteps.{IsAck, WasSent, Small, raises, stands, 
 pub bool_cases : (b : Bool) → (b ≡ true) ⊎ (b ≡ false)
 bool_cases true = inl refl
 bool_cases false = inr refl
-
--- two tests that pass
-pub and_both : (a b : Bool) → (a && b) ≡ true → (a ≡ true) × (b ≡ true)
-and_both true true h = (refl, refl)
-and_both true false h = absurd (cc)
-and_both false b h = absurd (cc)
 
 -- one answer
 pub same_ok : {A E : Type 0} (a b : A) → let x : Result A E = Ok a in x ≡ Ok b → a ≡ b
@@ -47,8 +41,8 @@ module _ {S C : Type 0} (m : Meaning S C) (n i : ℕ) (sent : List (Message C)) 
   unfolding PathTo
   request_path s from term index its_last came = elim (bool_cases (grants s from term index its_last)) [
     | inl e ↦
-        let a = and_both (term == s.term) (is_free_for s.vote from && is_up_to_date s.log index its_last) e in
-        let b = and_both (is_free_for s.vote from) (is_up_to_date s.log index its_last) a.1 in
+        let a = and_parts (term == s.term) (is_free_for s.vote from && is_up_to_date s.log index its_last) e in
+        let b = and_parts (is_free_for s.vote from) (is_up_to_date s.log index its_last) a.1 in
         let same : term ≡ s.term = eqb-true term s.term a.0 in
         rw e (only (grants_vote from index its_last
         (subst (λ t. WasSent sent (record { from = from; to = i; term = t; body = VoteRequest index its_last })) same came) b.0 b.1 refl
@@ -81,7 +75,7 @@ module _ {S C : Type 0} (m : Meaning S C) (n i : ℕ) (sent : List (Message C)) 
   unfolding PathTo
   vote_path s from term asked granting less came = elim (bool_cases ((asked == s.term) && granting)) [
     | inl e ↦
-        let a = and_both (asked == s.term) granting e in
+        let a = and_parts (asked == s.term) granting e in
         rw e (counted_path s s.mode from term less
         (subst (λ t. WasSent sent (record { from = from; to = i; term = term; body = VoteReply t true })) (eqb-true asked s.term a.0)
         (subst (λ b. WasSent sent (record { from = from; to = i; term = term; body = VoteReply asked b })) a.1 came)) refl)
@@ -142,7 +136,7 @@ module _ {S C : Type 0} (m : Meaning S C) (n i : ℕ) (sent : List (Message C)) 
   ok_path s (Candidate votes) from term at body came ack mode = still refl refl
   ok_path s (Leader next match) from term at body came ack mode = elim (bool_cases (nat_le at (length s.log))) [
     | inl e ↦
-        let r : Server C = record s { mode = Leader (slice_set next from (suc (max (number match from) at))) (slice_set match from (max (number match from) at)) } in
+        let r : Server C = record s { mode = Leader (slice_set next from (suc (max (index_at match from) at))) (slice_set match from (max (index_at match from) at)) } in
         let q : r ≡ acked s from at next match = rw e refl in
         rw e (after_one {s = s} r (acks next match from term at body came ack mode q refl) (λ l. (ap is_leader mode, refl, refl)) (only (advances _ _ refl refl refl)))
     | inr e ↦ rw e (advance_path s s.mode refl)
@@ -194,7 +188,7 @@ module _ {S C : Type 0} (m : Meaning S C) (n i : ℕ) (sent : List (Message C)) 
     | inl l ↦ subst (λ t. PathTo s t) (same_ok _ _ (rw l at h)) (still refl refl)
     | inr l ↦ let h1 = rw l at h in elim (bool_cases (nat_lt s.term MAX && nat_lt (length s.log) MAX)) [
       | inl e ↦
-          let a = and_both (nat_lt s.term MAX) (nat_lt (length s.log) MAX) e in
+          let a = and_parts (nat_lt s.term MAX) (nat_lt (length s.log) MAX) e in
           subst (λ t. PathTo s t) (same_ok _ _ (rw e at h1)) (only (stands (ltb-true s.term MAX a.0) (ltb-true (length s.log) MAX a.1) refl refl))
       | inr e ↦ absurd (let h2 = rw e at h1 in cc)
     ]

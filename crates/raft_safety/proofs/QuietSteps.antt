@@ -1,10 +1,10 @@
 -- Small steps that write nothing new into the history but votes.
 use Rattle.std.proofs.Common.{◌≡◌, ◌≢◌, ℕ, suc, ◌-◌, ◌<◌, ◌≤◌, ◌⊎◌, inl, inr, Bool, true, false, ◌&&◌, ◌||◌, ◌==◌, nat_le, nat_lt, min, max, Option, Some, None, List, [], ◌∷◌, length, refl, sym, ap, ◌∙◌, subst, arith, slice_get, slice_set}
-use Rattle.std.proofs.lemmas.Bool.{ltb-true, leb-true, eqb-true}
+use Rattle.std.proofs.lemmas.Bool.{and_parts, ltb-true, leb-true, eqb-true}
 use Rattle.std.proofs.lemmas.Option.{same_Some}
 use Rattle.machine.specs.declared.entry.Entry.{Entry}
 use Rattle.raft_model.specs.Logs.{last_term}
-use Rattle.raft_model.specs.Quorums.{number}
+use Rattle.raft_model.specs.Quorums.{index_at}
 use Rattle.raft_model.specs.Messages.{Message, Body, VoteRequest, VoteReply, Append, AppendReply, Install, InstallReply}
 use Rattle.raft_model.specs.Servers.{Server, Mode, Down, Follower, Candidate, Leader, is_up_to_date, following, acked, backed, compacted}
 use Rattle.raft_safety.specs.SmallSteps.{IsAck, OwesNothing, IsIdle}
@@ -12,8 +12,8 @@ use Rattle.raft_safety.specs.Agreement.{Rooted}
 use Rattle.raft_safety.specs.Ballots.{Ballots, BallotsGrow, BallotsApart}
 use Rattle.raft_safety.specs.History.{History, Backed, Ledgers, UpToDate, Extends, DiffersAt}
 use Rattle.raft_safety.specs.Invariants.{LogOk, CandidateOk, LeaderOk, ModeOk, ServerOk, RequestOk, GrantOk, BodyOk, Keeps}
-use Rattle.raft_safety.proofs.Places.{marked_set, number_set, get-one}
-use Rattle.raft_safety.proofs.Paths.{bool_cases, and_both}
+use Rattle.raft_safety.proofs.Places.{marked_set, index_at_set, get-one}
+use Rattle.raft_safety.proofs.Paths.{bool_cases}
 use Rattle.raft_safety.proofs.Voters.{elected_on}
 use Rattle.raft_safety.proofs.VoterSteps.{VotesKept}
 use Rattle.raft_safety.proofs.Completeness.{grant_carries}
@@ -160,7 +160,7 @@ module _ {C : Type 0} (P : List (Entry C) → Type 0) (n : ℕ) (G : History C) 
   up_to_date_told : (L log : List (Entry C)) → is_up_to_date log (length L) (last_term L) ≡ true → UpToDate L log
   up_to_date_told L log h = elim (or_either (nat_lt (last_term log) (last_term L)) ((last_term log == last_term L) && nat_le (length log) (length L)) h) [
     | inl a ↦ inl (ltb-true (last_term log) (last_term L) a)
-    | inr b ↦ let c = and_both (last_term log == last_term L) (nat_le (length log) (length L)) b in
+    | inr b ↦ let c = and_parts (last_term log == last_term L) (nat_le (length log) (length L)) b in
         inr (eqb-true (last_term log) (last_term L) c.0, leb-true (length log) (length L) c.1)
   ]
 
@@ -214,24 +214,24 @@ module _ {C : Type 0} (P : List (Entry C) → Type 0) (n : ℕ) (G : History C) 
 
   -- a leader that hears an ok
   acks_role : (next match : List ℕ) (j at : ℕ) → s.mode ≡ Leader next match → at ≤ G.held s.term j →
-      LeaderOk n G i s.term s.log (slice_set next j (suc (max (number match j) at))) (slice_set match j (max (number match j) at))
+      LeaderOk n G i s.term s.log (slice_set next j (suc (max (index_at match j) at))) (slice_set match j (max (index_at match j) at))
   acks_role next match j at mode le =
       let l = as_leader next match mode in
-      let x = max (number match j) at in
+      let x = max (index_at match j) at in
       record {
         leads = l.leads;
         wrote = l.wrote;
         whole = l.whole;
-        matched = λ k less other. elim (number_set match j x k) [
-          | inl e ↦ let a : number match k ≤ G.held s.term k = l.matched k less other in
+        matched = λ k less other. elim (index_at_set match j x k) [
+          | inl e ↦ let a : index_at match k ≤ G.held s.term k = l.matched k less other in
               let b : at ≤ G.held s.term k = subst (λ y. at ≤ G.held s.term y) (sym e.0) le in
-              let c : number match j ≡ number match k = ap (number match) (sym e.0) in omega (arith, e.1, a, b, c)
+              let c : index_at match j ≡ index_at match k = ap (index_at match) (sym e.0) in omega (arith, e.1, a, b, c)
           | inr e ↦ omega (arith, e, l.matched k less other)
         ];
-        next_from = λ k less other. elim (number_set next j (suc x) k) [ inl e ↦ omega (arith, e.1) | inr e ↦ omega (arith, e, l.next_from k less other) ];
-        next_to = λ k less other. elim (number_set next j (suc x) k) [
-          | inl e ↦ let a : number match k ≤ G.held s.term k = l.matched k less other in
-              let c : number match j ≡ number match k = ap (number match) (sym e.0) in
+        next_from = λ k less other. elim (index_at_set next j (suc x) k) [ inl e ↦ omega (arith, e.1) | inr e ↦ omega (arith, e, l.next_from k less other) ];
+        next_to = λ k less other. elim (index_at_set next j (suc x) k) [
+          | inl e ↦ let a : index_at match k ≤ G.held s.term k = l.matched k less other in
+              let c : index_at match j ≡ index_at match k = ap (index_at match) (sym e.0) in
               omega (arith, e.1, a, c, le, held_within k next match l, held_within j next match l)
           | inr e ↦ omega (arith, e, l.next_to k less other)
         ];
@@ -239,20 +239,20 @@ module _ {C : Type 0} (P : List (Entry C) → Type 0) (n : ℕ) (G : History C) 
 
   -- a leader that hears a refusal
   backs_role : (next match : List ℕ) (j at : ℕ) → s.mode ≡ Leader next match →
-      LeaderOk n G i s.term s.log (slice_set next j (max (suc (number match j)) (min (number next j - 1) (suc at)))) match
+      LeaderOk n G i s.term s.log (slice_set next j (max (suc (index_at match j)) (min (index_at next j - 1) (suc at)))) match
   backs_role next match j at mode =
       let l = as_leader next match mode in
-      let x = max (suc (number match j)) (min (number next j - 1) (suc at)) in
+      let x = max (suc (index_at match j)) (min (index_at next j - 1) (suc at)) in
       record {
         leads = l.leads;
         wrote = l.wrote;
         whole = l.whole;
         matched = l.matched;
-        next_from = λ k less other. elim (number_set next j x k) [ inl e ↦ omega (arith, e.1) | inr e ↦ omega (arith, e, l.next_from k less other) ];
-        next_to = λ k less other. elim (number_set next j x k) [
-          | inl e ↦ let a : number match k ≤ G.held s.term k = l.matched k less other in
-              let c : number match j ≡ number match k = ap (number match) (sym e.0) in
-              let d : number next j ≡ number next k = ap (number next) (sym e.0) in
+        next_from = λ k less other. elim (index_at_set next j x k) [ inl e ↦ omega (arith, e.1) | inr e ↦ omega (arith, e, l.next_from k less other) ];
+        next_to = λ k less other. elim (index_at_set next j x k) [
+          | inl e ↦ let a : index_at match k ≤ G.held s.term k = l.matched k less other in
+              let c : index_at match j ≡ index_at match k = ap (index_at match) (sym e.0) in
+              let d : index_at next j ≡ index_at next k = ap (index_at next) (sym e.0) in
               omega (arith, e.1, a, c, d, l.next_to k less other, held_within k next match l)
           | inr e ↦ omega (arith, e, l.next_to k less other)
         ];

@@ -1,22 +1,21 @@
 -- Commit has risen as far as its rule lets it, at each moment: only a reply can make the rule's
 -- condition true, and there it is applied.
 use Rattle.std.proofs.Common.{◌≡◌, ◌≢◌, ℕ, zero, suc, ◌*◌, ◌<◌, ◌≤◌, inl, inr, Bool, true, ◌&&◌, ◌||◌, ◌==◌, nat_le, nat_lt, IsTrue, Some, List, [], ◌∷◌, ◌++◌, length, replicate, refl, sym, ap, ◌∙◌, subst, arith, slice_get, true≢false}
-use Rattle.std.proofs.lemmas.Bool.{eqb-true, eqb-false, leb-true, lt-ltb, eq-eqb}
+use Rattle.std.proofs.lemmas.Bool.{and_from, eqb-true, eqb-false, leb-true, lt-ltb, eq-eqb}
 use Rattle.std.proofs.lemmas.Bool.Decides.{leb_tells}
 use Rattle.machine.specs.Meaning.{Meaning, LawfulMachine}
 use Rattle.machine.specs.declared.entry.Entry.{Entry}
 use Rattle.raft_model.specs.Logs.{term_at}
-use Rattle.raft_model.specs.Quorums.{count, Quorum, is_quorum, number}
+use Rattle.raft_model.specs.Quorums.{count, Quorum, is_quorum, index_at}
 use Rattle.raft_model.specs.Servers.{Server, Leader, is_leader, is_chosen, greatest}
 use Rattle.raft_model.specs.Worlds.{World, Event, Run, start, more}
 use Rattle.raft_safety.specs.Leading.{Leading, goes_on, hears, proposes, wins}
 use Rattle.raft_safety.specs.Invariants.{ServerOk}
 use Rattle.raft_safety.specs.Claims.{HasRisen}
-use Rattle.raft_safety.proofs.Places.{get_set-cases, number_replicate, replicate-get}
+use Rattle.raft_safety.proofs.Places.{get_set-cases, index_at_replicate, replicate-get}
 use Rattle.raft_safety.proofs.Leading.{step_leads}
 use Rattle.raft_safety.proofs.Logs.{agree_term}
 use Rattle.raft_safety.proofs.Paths.{bool_cases}
-use Rattle.raft_safety.proofs.Growth.{both}
 use Rattle.raft_safety.proofs.Commits.{greatest_from}
 use Rattle.raft_safety.proofs.QuietSteps.{or_either, as_leader, held_within}
 use Rattle.raft_safety.proofs.WritingSteps.{agree_append}
@@ -56,7 +55,7 @@ greatest_last test low (suc high) k some above le t = elim (bool_cases (nat_lt l
     | inl a ↦ greatest_last test low high k some q a.1 t
     | inr a ↦
         let last : k ≡ suc high = omega (arith, le, a.1) in
-        true≢false (sym (both (nat_lt low (suc high)) (test (suc high)) (lt-ltb low (suc high) (omega (arith, some, le))) (ap test (sym last) ∙ t)) ∙ e)
+        true≢false (sym (and_from (nat_lt low (suc high)) (test (suc high)) (lt-ltb low (suc high) (omega (arith, some, le))) (ap test (sym last) ∙ t)) ∙ e)
   ]
 ]
 
@@ -67,12 +66,12 @@ quorum_test n f q = lt-ltb n (2 * count f n) q
 
 module _ {S C : Type 0} (m : Meaning S C) (n i : ℕ) (two : 2 ≤ n) where
   -- an index past what anybody else holds has no quorum
-  past_match : (match : List ℕ) (k : ℕ) → ((j : ℕ) → j < n → j ≢ i → number match j < k) → Quorum n (λ j. (j == i) || nat_le k (number match j)) → ⊥
-  past_match match k low = lone n i (λ j. (j == i) || nat_le k (number match j)) two (λ j less h. elim (or_either (j == i) (nat_le k (number match j)) h) [
+  past_match : (match : List ℕ) (k : ℕ) → ((j : ℕ) → j < n → j ≢ i → index_at match j < k) → Quorum n (λ j. (j == i) || nat_le k (index_at match j)) → ⊥
+  past_match match k low = lone n i (λ j. (j == i) || nat_le k (index_at match j)) two (λ j less h. elim (or_either (j == i) (nat_le k (index_at match j)) h) [
     | inl e ↦ eqb-true j i e
     | inr e ↦ elim (bool_cases (j == i)) [
       | inl same ↦ eqb-true j i same
-      | inr other ↦ absurd (omega (arith, leb-true k (number match j) e, low j less (eqb-false j i other)))
+      | inr other ↦ absurd (omega (arith, leb-true k (index_at match j) e, low j less (eqb-false j i other)))
     ]
   ])
 
@@ -81,15 +80,15 @@ module _ {S C : Type 0} (m : Meaning S C) (n i : ℕ) (two : 2 ≤ n) where
   same_match next match next2 match2 e = cc
 
   -- the leader t came out of a step of s
-  leading_risen : (s : Server C) (input : _) (t : Server C) → ((next match : List ℕ) → s.mode ≡ Leader next match → (j : ℕ) → j < n → j ≢ i → number match j ≤ length s.log) →
+  leading_risen : (s : Server C) (input : _) (t : Server C) → ((next match : List ℕ) → s.mode ≡ Leader next match → (j : ℕ) → j < n → j ≢ i → index_at match j ≤ length s.log) →
       HasRisen n i s → Leading m n i s input t → HasRisen n i t
   leading_risen s input t held old (goes_on mode term log commit) next match k e low high own q =
       old next match k (sym mode ∙ e) (omega (arith, low, commit)) (omega (arith, high, ap length log)) (ap (λ L. term_at L k) (sym log) ∙ (own ∙ term)) q
   leading_risen s input t held old (hears r next2 match2 leads mode term log is) next match k e low high own q =
       let same : match2 ≡ match = same_match next2 match2 next match (sym mode ∙ (sym (ap (λ (y : Server C). y.mode) is) ∙ e)) in
       let its : term_at r.log k ≡ r.term = ap (λ L. term_at L k) (sym (ap (λ (y : Server C). y.log) is)) ∙ (own ∙ ap (λ (y : Server C). y.term) is) in
-      let test : is_chosen n i r match2 k ≡ true = both (term_at r.log k == r.term) (is_quorum n (λ j. (j == i) || nat_le k (number match2 j))) (eq-eqb (term_at r.log k) r.term its)
-      (quorum_test n (λ j. (j == i) || nat_le k (number match2 j)) (subst (λ l. Quorum n (λ j. (j == i) || nat_le k (number l j))) (sym same) q)) in
+      let test : is_chosen n i r match2 k ≡ true = and_from (term_at r.log k == r.term) (is_quorum n (λ j. (j == i) || nat_le k (index_at match2 j))) (eq-eqb (term_at r.log k) r.term its)
+      (quorum_test n (λ j. (j == i) || nat_le k (index_at match2 j)) (subst (λ l. Quorum n (λ j. (j == i) || nat_le k (index_at l j))) (sym same) q)) in
       let above : greatest (is_chosen n i r match2) r.commit (length r.log) < k = omega (arith, low, ap (λ (y : Server C). y.commit) is) in
       greatest_last (is_chosen n i r match2) r.commit (length r.log) k (omega (arith, above, greatest_from (is_chosen n i r match2) r.commit (length r.log))) above
       (omega (arith, high, ap (λ (y : Server C). length y.log) is)) test
@@ -104,7 +103,7 @@ module _ {S C : Type 0} (m : Meaning S C) (n i : ℕ) (two : 2 ≤ n) where
       ]
   leading_risen s input t held old (wins votes mode is) next match k e low high own q =
       let same : replicate n 0 ≡ match = same_match (replicate n (suc (length s.log))) (replicate n 0) next match (sym (ap (λ (y : Server C). y.mode) is) ∙ e) in
-      past_match match k (λ j less other. omega (arith, low, ap (λ l. number l j) same, number_replicate n 0 j less)) q
+      past_match match k (λ j less other. omega (arith, low, ap (λ l. index_at l j) same, index_at_replicate n 0 j less)) q
 
 module _ {S C : Type 0} (m : Meaning S C) (law : LawfulMachine m) (n : ℕ) (two : 2 ≤ n) where
   -- an event

@@ -15,7 +15,7 @@ pub Sound : {S C : Type 0} → Meaning S C → List (Entry C) → Type 0
 Sound m log = Admitted m (commands log)
 
 -- a command for each entry
-commands_length : {C : Type 0} (log : List (Entry C)) → length (commands log) ≡ length log
+pub commands_length : {C : Type 0} (log : List (Entry C)) → length (commands log) ≡ length log
 unfolding commands
 commands_length [] = refl
 commands_length (e ∷ log) = ap suc (commands_length log)

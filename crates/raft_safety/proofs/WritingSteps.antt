@@ -4,7 +4,7 @@ use Rattle.std.proofs.lemmas.Bool.Decides.{leb_tells}
 use Rattle.std.proofs.lemmas.Option.{same_Some}
 use Rattle.machine.specs.declared.entry.Entry.{Entry}
 use Rattle.raft_model.specs.Logs.{MAX, term_at}
-use Rattle.raft_model.specs.Quorums.{marked, number, is_quorum}
+use Rattle.raft_model.specs.Quorums.{marked, index_at, is_quorum}
 use Rattle.raft_model.specs.Messages.{Message}
 use Rattle.raft_model.specs.Servers.{Server, Mode, Candidate, Leader, is_leader, won}
 use Rattle.raft_safety.specs.Functions.{with_at, with_both}
@@ -16,7 +16,7 @@ use Rattle.raft_safety.specs.Invariants.{LogOk, CandidateOk, LeaderOk, ModeOk, S
 use Rattle.raft_safety.proofs.Functions.{at_same, at_cases, at_other, both_cases, both_same, both_other, both_else}
 use Rattle.raft_safety.proofs.Logs.{agree_none, agree_sym, agree_trans, agree_less, agree_term, rooted_at}
 use Rattle.raft_safety.proofs.Quorums.{quorum_told}
-use Rattle.raft_safety.proofs.Places.{number_replicate, take_append, push_length}
+use Rattle.raft_safety.proofs.Places.{index_at_replicate, take_append, push_length}
 use Rattle.raft_safety.proofs.Growth.{carries_on, carries_grow, fixed_on, win_carries}
 use Rattle.raft_safety.proofs.Voters.{elected_on, one_elected}
 use Rattle.raft_safety.proofs.VoterSteps.{VotesKept}
@@ -59,9 +59,9 @@ module _ {C : Type 0} (P : List (Entry C) → Type 0) (n : ℕ) (G : History C) 
   X = s.log ++ e ∷ []
 
   module _ (next match : List ℕ) (mode : Mode) (is : mode ≡ Leader next match) (out : List (Message C)) (o : out ≡ [])
-      (matched : (j : ℕ) → j < n → j ≢ i → number match j ≤ G.held s.term j)
-      (next_from : (j : ℕ) → j < n → j ≢ i → 1 ≤ number next j)
-      (next_to : (j : ℕ) → j < n → j ≢ i → number next j ≤ suc (length (s.log ++ e ∷ [])))
+      (matched : (j : ℕ) → j < n → j ≢ i → index_at match j ≤ G.held s.term j)
+      (next_from : (j : ℕ) → j < n → j ≢ i → 1 ≤ index_at next j)
+      (next_to : (j : ℕ) → j < n → j ≢ i → index_at next j ≤ suc (length (s.log ++ e ∷ [])))
       (v : let r : Server C = record s { log = s.log ++ e ∷ []; mode = mode } in VotesKept n G.ballots i r out) where
     -- the ballots then
     B : Ballots
@@ -321,6 +321,6 @@ module _ {C : Type 0} (P : List (Entry C) → Type 0) (n : ℕ) (G : History C) 
       (λ j u k less mark lower one le. let b = c.backed j less mark in b.carries u k lower one le))
       (λ all. push c.room (log_sound none_sound first_sound all))
       (replicate n (suc (length s.log))) (replicate n 0) (Leader (replicate n (suc (length s.log))) (replicate n 0)) refl out o
-      (λ j less other. omega (arith, number_replicate n 0 j less))
-      (λ j less other. omega (arith, number_replicate n (suc (length s.log)) j less))
-      (λ j less other. omega (arith, number_replicate n (suc (length s.log)) j less, size)) v
+      (λ j less other. omega (arith, index_at_replicate n 0 j less))
+      (λ j less other. omega (arith, index_at_replicate n (suc (length s.log)) j less))
+      (λ j less other. omega (arith, index_at_replicate n (suc (length s.log)) j less, size)) v

@@ -3,7 +3,7 @@ use Rattle.std.specs.Prelude.{◌≡◌, ◌≢◌, ℕ, suc, ◌≤◌, ◌<◌
 use Rattle.machine.specs.Meaning.{Meaning}
 use Rattle.machine.specs.declared.entry.Entry.{Entry}
 use Rattle.raft_model.specs.Logs.{MAX, term_at}
-use Rattle.raft_model.specs.Quorums.{Quorum, number}
+use Rattle.raft_model.specs.Quorums.{Quorum, index_at}
 use Rattle.raft_model.specs.Messages.{Message}
 use Rattle.raft_model.specs.Servers.{Server, Candidate, Leader, is_up, is_leader}
 use Rattle.raft_model.specs.Worlds.{World, Event, Proposes, Run, IsEvent, happens}
@@ -89,4 +89,4 @@ pub record IsAmongMembers {C : Type 0} (n : ℕ) (x : Message C) : Type 0 where
 -- that a quorum is known to hold.
 abbrev pub HasRisen : {C : Type 0} → ℕ → ℕ → Server C → Type 0
 HasRisen n i s = (next match : List ℕ) (k : ℕ) → s.mode ≡ Leader next match → s.commit < k → k ≤ length s.log → term_at s.log k ≡ s.term →
-    Quorum n (λ j. (j == i) || nat_le k (number match j)) → ⊥
+    Quorum n (λ j. (j == i) || nat_le k (index_at match j)) → ⊥

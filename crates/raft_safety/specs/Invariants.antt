@@ -2,7 +2,7 @@
 use Rattle.std.specs.Prelude.{ℕ, suc, ◌+◌, ◌≤◌, ◌<◌, ◌≡◌, ◌≢◌, ◌⊎◌, Bool, true, false, Some, None, List, length, take, drop, slice_get}
 use Rattle.machine.specs.declared.entry.Entry.{Entry}
 use Rattle.raft_model.specs.Logs.{MAX, term_at, last_term}
-use Rattle.raft_model.specs.Quorums.{marked, number}
+use Rattle.raft_model.specs.Quorums.{marked, index_at}
 use Rattle.raft_model.specs.Messages.{Message, Body, VoteRequest, VoteReply, Append, AppendReply, Install, InstallReply}
 use Rattle.raft_model.specs.Servers.{Server, Mode, Down, Follower, Candidate, Leader, is_leader}
 use Rattle.raft_safety.specs.SmallSteps.{WasSent}
@@ -34,9 +34,9 @@ module _ {C : Type 0} (n : ℕ) (G : History C) where
     pub leads : G.leader term ≡ Some j
     pub wrote : log ≡ G.ledger term
     pub whole : G.held term j ≡ length log
-    pub matched : (i : ℕ) → i < n → i ≢ j → number match i ≤ G.held term i
-    pub next_from : (i : ℕ) → i < n → i ≢ j → 1 ≤ number next i
-    pub next_to : (i : ℕ) → i < n → i ≢ j → number next i ≤ suc (length log)
+    pub matched : (i : ℕ) → i < n → i ≢ j → index_at match i ≤ G.held term i
+    pub next_from : (i : ℕ) → i < n → i ≢ j → 1 ≤ index_at next i
+    pub next_to : (i : ℕ) → i < n → i ≢ j → index_at next i ≤ suc (length log)
 
   -- what a server does is borne out by the history
   unfoldable pub ModeOk : ℕ → ℕ → List (Entry C) → Mode → Type 0

@@ -1,11 +1,12 @@
 -- Which text is a scenario.
-use Rattle.std.specs.Prelude.{◌≡◌, ◌+◌, ◌≤◌, ◌⊎◌, ℕ, suc, List, Option, Some, codes, map, option_and_then, string_bytes}
+use Rattle.std.specs.Prelude.{◌≡◌, ◌+◌, ◌≤◌, ℕ, suc, List, Option, Some, codes, map, option_and_then, string_bytes}
 use Rattle.json.specs.Json.{Json, document}
 use Rattle.json.specs.Strict.{HasUniqueKeys}
 use Rattle.serde_json.specs.Data.{Data, Items, Members, no_items, no_members, member, object, string}
 use Rattle.serde_json.specs.Find.{as_array, as_number, as_str, as_u64, get}
 use Rattle.serde_json.specs.Read.{read}
 use Rattle.serde_json.specs.View.{items_of}
+use Rattle.world.specs.WorldView.{IsGroup}
 use Rattle.runner.specs.declared.scenario.Order.{Order}
 use Rattle.runner.specs.declared.scenario.Order.TheVariants.{Sent, Any}
 use Rattle.runner.specs.declared.scenario.Settings.{Settings}
@@ -16,8 +17,8 @@ members_count no_members = 0
 members_count (member k d ms) = suc (members_count ms)
 
 -- the number, the text and the list at a key, where one stands there
-abbrev pub number_at : List ℕ → Data → Option ℕ
-number_at key d = option_and_then as_u64 (option_and_then as_number (get key d))
+abbrev pub whole_number_at : List ℕ → Data → Option ℕ
+whole_number_at key d = option_and_then as_u64 (option_and_then as_number (get key d))
 
 abbrev pub text_at : List ℕ → Data → Option (List ℕ)
 text_at key d = option_and_then as_str (get key d)
@@ -37,19 +38,15 @@ abbrev pub order_text : Order → List ℕ
 order_text Sent = codes "sent"
 order_text Any = codes "any"
 
--- the size of a group of servers
-abbrev pub IsGroup : ℕ → Type 0
-IsGroup n = (n ≡ 3) ⊎ (n ≡ 5)
-
 -- an object of seven keys: six that are these settings, the nodes among them, and the steps
 pub record HasSettings (d : Data) (s : Settings) : Type 0 where
   pub keys : HasKeys 7 d
-  pub servers : number_at (codes "servers") d ≡ Some s.servers
+  pub servers : whole_number_at (codes "servers") d ≡ Some s.servers
   pub size : IsGroup s.servers
   pub nodes : list_at (codes "nodes") d ≡ Some no_items
-  pub key : number_at (codes "key") d ≡ Some s.key
-  pub lost : number_at (codes "drop") d ≡ Some s.drop
-  pub repeated : number_at (codes "repeat") d ≡ Some s.repeat
+  pub key : whole_number_at (codes "key") d ≡ Some s.key
+  pub lost : whole_number_at (codes "drop") d ≡ Some s.drop
+  pub repeated : whole_number_at (codes "repeat") d ≡ Some s.repeat
   pub percent : s.drop + s.repeat ≤ 100
   pub order : text_at (codes "order") d ≡ Some (order_text s.order)
 

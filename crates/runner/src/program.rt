@@ -2,7 +2,7 @@
 ghost use Rattle.std.specs.Prelude.{◌≡◌, ◌≤◌, ◌⊎◌, [], IfErr, IfOk, map};
 ghost use Rattle.clap.specs.Words.{fault_of};
 ghost use Rattle.runner.specs.Faults.{IsExit, IsStatus, MayEndBy};
-ghost use Rattle.runner.specs.Objects.{IsGroup};
+ghost use Rattle.world.specs.WorldView.{IsGroup};
 ghost use Rattle.runner.specs.Words.{nomadsim_app};
 
 use crate::command::{CommandLine, command};

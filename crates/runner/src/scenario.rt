@@ -4,10 +4,11 @@ ghost use Rattle.rows.specs.declared.refusal.Refusal.TheVariants.{NoMemory, OutO
 ghost use Rattle.serde_json.specs.Data.{no_items};
 ghost use Rattle.serde_json.specs.Find.{as_object};
 ghost use Rattle.serde_json.specs.View.{view, items_view};
+ghost use Rattle.world.specs.WorldView.{IsGroup};
 ghost use Rattle.runner.specs.declared.scenario.Order.{Order};
 ghost use Rattle.runner.specs.declared.scenario.Settings.{Settings};
 ghost use Rattle.runner.specs.declared.scenario.Scenario.{Scenario};
-ghost use Rattle.runner.specs.Objects.{HasSettings, IsGroup, IsScenario, list_at, members_count, number_at, order_text, strings, text_at};
+ghost use Rattle.runner.specs.Objects.{HasSettings, IsScenario, list_at, members_count, whole_number_at, order_text, strings, text_at};
 
 use rows::Refusal;
 use serde_json::Value;
@@ -47,7 +48,7 @@ pub struct Scenario {
 }
 
 fn number_of(value: &Value, key: &str) -> Option<u64>
-    ensures { result ≡ number_at key.now (view value.now) }
+    ensures { result ≡ whole_number_at key.now (view value.now) }
 {
     value.get(key).and_then(Value::as_u64)
 }
@@ -80,7 +81,7 @@ fn keys_of(value: &Value) -> Option<usize>
 }
 
 fn percent_of(value: &Value, key: &str) -> Option<u8>
-    ensures { MatchOption result ((n : ℕ) → number_at key.now (view value.now) ≡ Some n → 100 < n) (λ n. (number_at key.now (view value.now) ≡ Some n) × (n ≤ 100)) }
+    ensures { MatchOption result ((n : ℕ) → whole_number_at key.now (view value.now) ≡ Some n → 100 < n) (λ n. (whole_number_at key.now (view value.now) ≡ Some n) × (n ≤ 100)) }
 {
     let number = number_of(value, key)?;
     if 100 < number {
@@ -90,7 +91,7 @@ fn percent_of(value: &Value, key: &str) -> Option<u8>
 }
 
 fn servers_of(value: &Value) -> Option<u8>
-    ensures { MatchOption result ((n : ℕ) → number_at (codes "servers") (view value.now) ≡ Some n → IsGroup n → ⊥) (λ n. (number_at (codes "servers") (view value.now) ≡ Some n) × IsGroup n) }
+    ensures { MatchOption result ((n : ℕ) → whole_number_at (codes "servers") (view value.now) ≡ Some n → IsGroup n → ⊥) (λ n. (whole_number_at (codes "servers") (view value.now) ≡ Some n) × IsGroup n) }
 {
     let number = number_of(value, "servers")?;
     if number != 3 && number != 5 {

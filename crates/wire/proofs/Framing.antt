@@ -1,6 +1,6 @@
 -- The law of frames: what is read has just these bytes, and a message's bytes are read.
-use Rattle.std.proofs.Common.{◌≡◌, ℕ, ◌+◌, ◌^◌, ◌≤◌, Bool, true, false, cond, eqb, leb, ◌&&◌, List, [], ◌++◌, length, drop, Result, Ok, Err, refl, sym, ap, subst, ◌∙◌, append_assoc, arith, length-append}
-use Rattle.std.proofs.lemmas.Bool.{eqb-true, eq-eqb, le-leb}
+use Rattle.std.proofs.Common.{◌≡◌, ℕ, ◌+◌, ◌^◌, ◌≤◌, true, cond, eqb, leb, ◌&&◌, List, [], ◌++◌, length, drop, Result, Ok, Err, refl, sym, ap, subst, ◌∙◌, append_assoc, arith, length-append}
+use Rattle.std.proofs.lemmas.Bool.{and_parts, eqb-true, eq-eqb, le-leb}
 use Rattle.std.proofs.lemmas.List.{append-nil, drop_all, append_cancel_left}
 use Rattle.std.specs.Prelude.{IfOk}
 use Rattle.rows.specs.declared.refusal.Refusal.{Refusal}
@@ -22,10 +22,6 @@ header_length h = simp (length-append, length-spelled)
 
 -- ---- any header and any bodies
 
-both_true : (a b : Bool) → (a && b) ≡ true → (a ≡ true) × (b ≡ true)
-both_true true b e = (refl, e)
-both_true false b e = absurd cc
-
 -- what a frame holds
 record Holds {H B : Type 0} (head : Format H) (bodies : H → Format B) (bytes : List ℕ) (h : H) (b : B) : Type 0 where
   head_fits : head.Fits h
@@ -40,7 +36,7 @@ frame_found {H} {B} {M} head bodies make lh lb four bytes m fits e =
     let z = bind_ok (size_at bytes a.0.1) (λ size. (bodies h).read bytes size.1 >>= λ b. cond (eqb b.1 (length bytes)) (Ok (make h b.0)) (Err b.1)) m a.2 in
     let n = bind_ok (number_at 4 0 (2 ^ 32) bytes a.0.1) (λ n. cond (eqb (n.0 + 8) (length bytes) && leb (length bytes) frame_limit) (Ok n) (Err a.0.1)) z.0 z.1 in
     let t = guard_in (eqb (n.0.0 + 8) (length bytes) && leb (length bytes) frame_limit) a.0.1 n.0 z.0 n.2 in
-    let tests = both_true (eqb (n.0.0 + 8) (length bytes)) (leb (length bytes) frame_limit) t.0 in
+    let tests = and_parts (eqb (n.0.0 + 8) (length bytes)) (leb (length bytes) frame_limit) t.0 in
     let b = bind_ok ((bodies h).read bytes z.0.1) (λ b. cond (eqb b.1 (length bytes)) (Ok (make h b.0)) (Err b.1)) m z.2 in
     let g = guard_in (eqb b.0.1 (length bytes)) b.0.1 (make h b.0.0) m b.2 in
     let sh = lh.found bytes 0 h a.0.1 fits a.1 in

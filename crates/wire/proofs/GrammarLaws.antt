@@ -1,12 +1,11 @@
 -- The laws of a frame's header and of its bodies.
-use Rattle.std.proofs.Common.{◌≡◌, ℕ, ◌≤◌, Some, sym, ap, ◌∙◌, refl, arith, inl, inr}
-use Rattle.std.proofs.lemmas.Bool.{cases_eq, eq-eqb, ne_eqb}
+use Rattle.std.proofs.Common.{◌≡◌, ℕ, ◌≤◌, Some, refl, arith}
 use Rattle.std.proofs.Math.Nat.{le_refl, mul-le-mul_right}
 use Rattle.fields.specs.Format.{Format, number, placed, Lawful, IsVariant}
-use Rattle.fields.specs.Fields.{byte, actor}
+use Rattle.fields.specs.Fields.{actor}
 use Rattle.fields.specs.Laws.FormatLaws.{number_lawful, then_lawful, depends_lawful, made_lawful, list_lawful, coded_lawful, kept_lawful, variant_lawful}
 use Rattle.fields.proofs.PlacedLaws.{placed_lawful}
-use Rattle.fields.specs.Laws.FieldLaws.{byte_lawful, term_lawful, index_lawful, bool_lawful, actor_lawful}
+use Rattle.fields.specs.Laws.FieldLaws.{actor_lawful}
 use Rattle.wire.specs.declared.kind.Kind.{Kind}
 use Rattle.wire.specs.declared.kind.Kind.TheVariants as kinds
 use Rattle.wire.specs.declared.vote.VoteRequest.{VoteRequest}
@@ -18,7 +17,7 @@ use Rattle.wire.specs.Appends.{Append}
 use Rattle.wire.specs.declared.body.Body.{Body}
 use Rattle.wire.specs.declared.body.Body.TheVariants as bodies
 use Rattle.wire.specs.Messages.{kind_of, may_come_from, may_go}
-use Rattle.wire.specs.Grammar.{version, kind_of_number, number_of_kind, kind, addresses, header, vote_request, vote_reply, append_head, most_entries, entries, append, append_reply, vote_request_of, vote_reply_of, append_of, append_reply_of, body}
+use Rattle.wire.specs.Grammar.{version, kind, addresses, header, append_head, most_entries, entries, append, vote_request_of, vote_reply_of, append_of, append_reply_of, body}
 use Rattle.wire.specs.Laws.GrammarLaws.{kind_lawful, vote_request_lawful, vote_reply_lawful, append_head_lawful, append_reply_lawful}
 
 -- ---- the header

@@ -1,6 +1,6 @@
 -- What an event did to a server and to what is kept beside the servers, as what it did to the
 -- world.
-use Rattle.std.proofs.Common.{◌≡◌, ◌≢◌, ℕ, zero, suc, ◌<◌, ◌≤◌, max, true, false, inl, inr, Some, Result, Ok, Err, IfOk, OnErr, IfErr, List, [], ◌∷◌, ◌++◌, length, append-nil, refl, sym, ap, ◌∙◌, subst, arith, slice_get, slice_set, get_or}
+use Rattle.std.proofs.Common.{◌≡◌, ◌≢◌, ℕ, zero, suc, ◌<◌, ◌≤◌, true, false, inl, inr, Some, Result, Ok, Err, IfOk, OnErr, IfErr, List, [], ◌∷◌, ◌++◌, length, append-nil, refl, sym, ap, ◌∙◌, subst, arith, slice_get, slice_set, get_or}
 use Rattle.std.proofs.lemmas.Option.{same_Some, slice_get_read}
 use Rattle.rows.specs.declared.refusal.Refusal.{Refusal}
 use Rattle.rows.specs.declared.refusal.Refusal.TheVariants as refusals
@@ -20,9 +20,9 @@ use Rattle.raft_safety.proofs.Places.{get-within}
 use Rattle.world.specs.declared.done.Done.{Done}
 use Rattle.world.specs.declared.done.Done.TheVariants as done
 use Rattle.world.specs.WorldView.{WorldView, RepresentsWorld, RunsTo, IsRaftWorld}
-use Rattle.world.specs.Steps.{EventHappened, ActorCrashed, StaysDown, IsDone, MayWantFor, RefusesEvent}
+use Rattle.world.specs.Steps.{IsDone, MayWantFor, RefusesEvent}
 use Rattle.world.specs.Inner.HistoryView.{HistoryView}
-use Rattle.world.specs.Inner.Inputs.{ActsIn, IsSent, handed_by, is_restart, committed}
+use Rattle.world.specs.Inner.Inputs.{ActsIn, IsSent, handed_by, is_restart}
 use Rattle.world.specs.Inner.Parts.{IsFor, PartTaken, PartCrashed, PartStays, IsPartRefused, PartDone}
 use Rattle.world.proofs.Zips.{zip_at, zip_length}
 use Rattle.world.proofs.Posts.{Posts, step_posts}

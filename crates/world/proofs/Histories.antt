@@ -1,5 +1,5 @@
 -- What the machines of a world's servers have to do with its one list.
-use Rattle.std.proofs.Common.{◌≡◌, ℕ, suc, ◌≤◌, Bool, true, false, Bor, Option, Some, None, if◌then◌else◌, MatchOption, IfSome, List, [], ◌∷◌, length, take, refl, sym, ap, ◌∙◌, subst, slice_get}
+use Rattle.std.proofs.Common.{◌≡◌, ℕ, ◌≤◌, Bool, true, false, Bor, Option, Some, None, if◌then◌else◌, MatchOption, IfSome, List, length, take, refl, sym, ap, ◌∙◌, subst, slice_get}
 use Rattle.std.proofs.lemmas.Option.{same_Some}
 use Rattle.std.proofs.lemmas.List.{length-take-le}
 use Rattle.std.specs.Option.{option_copied}
@@ -13,14 +13,10 @@ use Rattle.raft_model.specs.Chains.{Agree, Chain}
 use Rattle.raft_core.specs.RaftView.{RaftView}
 use Rattle.raft_core.specs.Steps.{Represents}
 use Rattle.raft_safety.proofs.Places.{get-last}
+use Rattle.raft_safety.proofs.Sound.{commands_length}
 use Rattle.world.specs.WorldView.{WorldView, RunsTo}
 use Rattle.world.specs.Claims.{OneListEver, StatesSafeEver, OneHistory, running, machine_of}
 use Rattle.world.proofs.Zips.{zip_at, zip_none}
-
-commands_length : {C : Type 0} (log : List (Entry C)) → length (commands log) ≡ length log
-unfolding commands
-commands_length [] = refl
-commands_length (e ∷ log) = ap suc (commands_length log)
 
 module _ {S C : Type 0} (m : Meaning S C) where
   -- a server as it is up, or down

@@ -9,12 +9,12 @@ use Rattle.world.specs.declared.event.RaftEvent.TheVariants as events
 
 -- Messages are numbered from 1, places from 0. No list in memory reaches the place that is that of
 -- the number 0.
-abbrev pub place : ℕ → ℕ
-place zero = 2 ^ 64
-place (suc k) = k
+abbrev pub place_of : ℕ → ℕ
+place_of zero = 2 ^ 64
+place_of (suc k) = k
 
 abbrev pub event_of : {S C : Type 0} → RaftEvent S C → Event C
-event_of (events.Deliver k) = Deliver (place k)
+event_of (events.Deliver k) = Deliver (place_of k)
 event_of (events.Timeout i) = TimesOut i
 event_of (events.Beat i) = Beats i
 event_of (events.Propose i command) = Proposes i command

@@ -1,4 +1,4 @@
-ghost use Rattle.std.specs.Prelude.{◌≡◌, IfSome, IfNone, OnOk, OnErr, IfErr, OnSome, List, slice_get};
+ghost use Rattle.std.specs.Prelude.{◌≡◌, IfSome, IfNone, OnOk, IfErr, OnSome, List, slice_get};
 ghost use Rattle.std.specs.Option.{option_copied};
 ghost use Rattle.rows.specs.declared.refusal.Refusal.TheVariants as refusals;
 ghost use Rattle.wire.specs.Frames.{Frame};
@@ -8,7 +8,7 @@ ghost use Rattle.raft_model.specs.Worlds.{Deliver};
 ghost use Rattle.raft_core.specs.Inputs.{Own};
 ghost use Rattle.raft_core.specs.Steps.{Represents, Takes};
 ghost use Rattle.raft_core.specs.Refusals.{IsRefused, RefusalLeaves};
-ghost use Rattle.world.specs.Events.{place, event_of};
+ghost use Rattle.world.specs.Events.{place_of, event_of};
 ghost use Rattle.world.specs.Inner.Inputs.{ActsIn, NobodyActsIn, IsSent, handed_by};
 
 use crate::event::RaftEvent;
@@ -19,7 +19,7 @@ use wire::{Frame, Outbox};
 
 /// The k-th frame, from 1.
 fn frame_at(sent: &[Frame], k: u64) -> Option<&Frame>
-    ensures { option_copied result ≡ slice_get sent.now (place k) }
+    ensures { option_copied result ≡ slice_get sent.now (place_of k) }
 {
     if k == 0 || k > sent.len() as u64 {
         return None;
@@ -29,10 +29,10 @@ fn frame_at(sent: &[Frame], k: u64) -> Option<&Frame>
 
 /// The server that is to receive the k-th message; none where there is no such message.
 fn receiver<M: Machine>(sent: &[Frame], k: u64) -> Option<ServerId>
-    ensures some { IfSome result (λ i. ActsIn M.meaning sent.now (Deliver (place k)) i) }
-    ensures sent { OnSome result (IsSent {C = M.Command} sent.now (Deliver (place k))) }
+    ensures some { IfSome result (λ i. ActsIn M.meaning sent.now (Deliver (place_of k)) i) }
+    ensures sent { OnSome result (IsSent {C = M.Command} sent.now (Deliver (place_of k))) }
     ensures none { IfNone result
-        (NobodyActsIn M.meaning sent.now (Deliver (place k)) refusals.OutOfRange) }
+        (NobodyActsIn M.meaning sent.now (Deliver (place_of k)) refusals.OutOfRange) }
 {
     match frame_at(sent, k)?.to() {
         Actor::Server(server) => Some(server),

@@ -17,11 +17,11 @@ after_key make others key bytes at = others.read bytes at >>= λ r. Ok (make (ke
 abbrev pub group_of : List ℕ → List ℕ → ℕ → Reading Group
 group_of = after_key make_group group_others
 
-abbrev pub job_of : List ℕ → List ℕ → ℕ → Reading Job
-job_of = after_key make_job job_others
+abbrev pub job_behind_key : List ℕ → List ℕ → ℕ → Reading Job
+job_behind_key = after_key make_job job_others
 
-abbrev pub node_of : ℕ → List ℕ → ℕ → Reading Node
-node_of = after_key make_node node_others
+abbrev pub node_behind_key : ℕ → List ℕ → ℕ → Reading Node
+node_behind_key = after_key make_node node_others
 
 abbrev pub evaluation_of : EvalId → List ℕ → ℕ → Reading Evaluation
 evaluation_of = after_key make_evaluation evaluation_others

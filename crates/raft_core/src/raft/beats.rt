@@ -3,7 +3,7 @@
 
 ghost use Rattle.std.specs.Prelude.{◌≡◌, ◌≢◌, ◌-◌, ◌^◌, ◌<◌, ◌≤◌, ◌∷◌, [], true, ℕ, length, slice_index, take, drop, OnOk, OnErr};
 ghost use Rattle.raft_model.specs.Messages.{to_others};
-ghost use Rattle.raft_model.specs.Quorums.{number};
+ghost use Rattle.raft_model.specs.Quorums.{index_at};
 ghost use Rattle.raft_model.specs.Servers.{is_up, is_leader, beats};
 ghost use Rattle.raft_core.specs.Inner.Beats.{append_from};
 ghost use Rattle.raft_core.specs.Frames.{Sends};
@@ -72,7 +72,7 @@ fn send_to_others<M: Machine>(
     requires most { (j : ℕ) → slice_index next.now j ≤ 2 ^ 40 }
     requires short { length log.now < 2 ^ 40 }
     ensures ok { OnOk result (Sends M.meaning outbox.old outbox.new
-        (to_others me (λ to. append_from me term commit log.now (number next.now to) to)
+        (to_others me (λ to. append_from me term commit log.now (index_at next.now to) to)
         (length next.now))) }
     ensures err { OnErr result (Sent outbox.old outbox.new) }
 {

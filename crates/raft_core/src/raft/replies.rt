@@ -4,7 +4,7 @@ ghost use Rattle.std.specs.Prelude.{◌≡◌, ◌^◌, ◌<◌, true, length, m
 ghost use Rattle.raft_model.specs.Servers.{is_up, met, crashed};
 ghost use Rattle.raft_model.specs.Steps.{receives};
 ghost use Rattle.raft_model.specs.Messages.{AppendReply as AppendReplyBody};
-ghost use Rattle.raft_model.specs.Quorums.{number};
+ghost use Rattle.raft_model.specs.Quorums.{index_at};
 ghost use Rattle.raft_core.specs.Inner.Replies.{hears, next_after, match_after};
 
 use super::Raft;
@@ -19,11 +19,11 @@ use wire::AppendReply;
 fn acknowledge(next: &mut [u64], matched: &mut [u64], last: u64, from: ServerId, at: Index)
     requires next_each { from < length next.old }
     requires matched_each { from < length matched.old }
-    requires level { number matched.old from < 2 ^ 40 }
+    requires level { index_at matched.old from < 2 ^ 40 }
     ensures next { next.new ≡ if nat_le at last then slice_set next.old from
-        (suc (max (number matched.old from) at)) else next.old }
+        (suc (max (index_at matched.old from) at)) else next.old }
     ensures matched { matched.new
-        ≡ if nat_le at last then slice_set matched.old from (max (number matched.old from) at) else
+        ≡ if nat_le at last then slice_set matched.old from (max (index_at matched.old from) at) else
         matched.old }
 {
     let place = from.place();
@@ -39,9 +39,9 @@ fn acknowledge(next: &mut [u64], matched: &mut [u64], last: u64, from: ServerId,
 fn back_off(next: &mut [u64], matched: &[u64], from: ServerId, at: Index)
     requires next_each { from < length next.old }
     requires matched_each { from < length matched.now }
-    requires level { number matched.now from < 2 ^ 40 }
+    requires level { index_at matched.now from < 2 ^ 40 }
     ensures { next.new ≡ slice_set next.old from
-        (max (suc (number matched.now from)) (min (number next.old from - 1) (suc at))) }
+        (max (suc (index_at matched.now from)) (min (index_at next.old from - 1) (suc at))) }
 {
     let place = from.place();
     let earlier = next[place].saturating_sub(1).min(at.get() + 1);
@@ -52,7 +52,7 @@ fn back_off(next: &mut [u64], matched: &[u64], from: ServerId, at: Index)
 fn learn(next: &mut [u64], matched: &mut [u64], last: u64, from: ServerId, ok: bool, at: Index)
     requires next_each { from < length next.old }
     requires matched_each { from < length matched.old }
-    requires level { number matched.old from < 2 ^ 40 }
+    requires level { index_at matched.old from < 2 ^ 40 }
     ensures next { next.new ≡ next_after last from ok at next.old matched.old }
     ensures matched { matched.new ≡ match_after last from ok at matched.old }
 {

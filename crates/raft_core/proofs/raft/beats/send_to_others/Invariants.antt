@@ -1,5 +1,5 @@
 use Rattle.raft_model.specs.Messages.{to_others}
-use Rattle.raft_model.specs.Quorums.{number}
+use Rattle.raft_model.specs.Quorums.{index_at}
 use Rattle.raft_core.specs.Inner.Beats.{append_from}
 use Rattle.raft_core.specs.Frames.{Sends}
 use Rattle.raft_core.specs.Inner.Turns.{Sent}
@@ -7,6 +7,6 @@ use Rattle.raft_core.proofs.raft.beats.send_to_others.Given as goal
 
 abbrev pub invariant-loop-place : goal.invariant-loop-place
 invariant-loop-place g l = record {
-  sent : Sends g.M.Machine.meaning l.initial.outbox l.outbox (to_others l.me (λ to. append_from l.me l.term l.commit l.log (number l.next to) to) l.place);
+  sent : Sends g.M.Machine.meaning l.initial.outbox l.outbox (to_others l.me (λ to. append_from l.me l.term l.commit l.log (index_at l.next to) to) l.place);
   front : Sent l.initial.outbox l.outbox;
 }

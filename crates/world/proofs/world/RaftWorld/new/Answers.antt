@@ -1,4 +1,4 @@
-use Rattle.std.proofs.Common.{◌≡◌, ℕ, ◌⊎◌, subst, arith, ap, inl, inr}
+use Rattle.std.proofs.Common.{◌≡◌, ℕ, subst, arith, ap, inl, inr}
 use Rattle.world.specs.Inner.HistoryView.{HistoryView}
 use Rattle.world.specs.WorldView.{WorldView, IsGroup}
 use Rattle.world.proofs.Begins.{Begun, begun_next, begun_reached, begun_represents}
