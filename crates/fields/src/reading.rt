@@ -11,7 +11,8 @@ use rows::{Actor, ClientId, Index, Name, Refusal, ServerId, Term};
 
 /// The bytes from a place on, where at least so many stand there.
 fn rest_of(bytes: &[u8], at: usize, count: usize) -> Option<&[u8]>
-    ensures some { IfSome result (λ rest. (rest.now ≡ drop at bytes.now) × (at + count ≤ length bytes.now)) }
+    ensures some { IfSome result (λ rest. (rest.now ≡ drop at bytes.now)
+        × (at + count ≤ length bytes.now)) }
     ensures none { IfNone result (length bytes.now < at + count) }
 {
     if at <= bytes.len() && bytes.len() - at >= count {

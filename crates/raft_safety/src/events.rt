@@ -15,6 +15,9 @@ pub fn a_trace_runs<M: Machine>()
 /// A run up to any of its moments is a run, and from each moment to the next one event happens, the
 /// one at that place of the list.
 pub fn a_run_is_steps<M: Machine>()
-    ensures front { EachRun M.meaning (λ n events past w. (k : ℕ) (x : World M.Command) → moment past w k ≡ Some x → Run M.meaning n (take k events) (take k past) x) }
-    ensures step { EachRun M.meaning (λ n events past w. (k : ℕ) (x y : World M.Command) → moment past w k ≡ Some x → moment past w (suc k) ≡ Some y → Happened M.meaning events k x y) }
+    ensures front { EachRun M.meaning (λ n events past w. (k : ℕ) (x : World M.Command)
+        → moment past w k ≡ Some x → Run M.meaning n (take k events) (take k past) x) }
+    ensures step { EachRun M.meaning (λ n events past w. (k : ℕ) (x y : World M.Command)
+        → moment past w k ≡ Some x → moment past w (suc k) ≡ Some y
+        → Happened M.meaning events k x y) }
 {}

@@ -119,8 +119,10 @@ impl Model for Reports {
 impl Reports {
     /// The items of a list. `OutOfRange` where there are not 1 to 64.
     pub fn check(items: Sequence<Report>) -> Result<Reports, Refusal>
-        ensures ok { IfOk result (λ reports. (reports ≡ items) × (1 ≤ length items) × (length items ≤ 64)) }
-        ensures err { IfErr result (λ e. (e ≡ refusals.OutOfRange) × ((1 ≤ length items) → 64 < length items)) }
+        ensures ok { IfOk result (λ reports. (reports ≡ items) × (1 ≤ length items)
+            × (length items ≤ 64)) }
+        ensures err { IfErr result (λ e. (e ≡ refusals.OutOfRange) × ((1 ≤ length items)
+            → 64 < length items)) }
     {
         let items = items.into_vec();
         if !items.is_empty() && items.len() <= 64 {

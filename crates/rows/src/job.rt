@@ -274,8 +274,10 @@ impl Job {
     /// What is asked of a job, from its parts. `OutOfRange` where the priority is not from 1 to
     /// 100, or the groups are not 1 to 8 with distinct names.
     pub fn check(name: JobName, priority: u8, groups: Sequence<Group>) -> Result<JobSpec, Refusal>
-        ensures ok { IfOk result (λ job. (job.name ≡ name) × (job.priority ≡ priority) × (job.groups ≡ groups) × PriorityFits priority × AreGroups groups) }
-        ensures err { IfErr result (λ e. (e ≡ refusals.OutOfRange) × (PriorityFits priority → AreGroups groups → ⊥)) }
+        ensures ok { IfOk result (λ job. (job.name ≡ name) × (job.priority ≡ priority)
+            × (job.groups ≡ groups) × PriorityFits priority × AreGroups groups) }
+        ensures err { IfErr result (λ e. (e ≡ refusals.OutOfRange) × (PriorityFits priority
+            → AreGroups groups → ⊥)) }
     {
         match (Priority::new(priority), Groups::check(groups)) {
             (Some(priority), Ok(groups)) => Ok(JobSpec {

@@ -4,3 +4,4 @@ pub mod Objects
 pub mod Requests
 pub mod Steps
 pub mod Faults
+pub mod Inner

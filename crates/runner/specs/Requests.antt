@@ -1,5 +1,5 @@
 -- The text of requests.
-use Rattle.std.specs.Prelude.{◌≢◌, ℕ, List, [], ◌∷◌, true, false, Bool, map, codes, decimal}
+use Rattle.std.specs.Prelude.{◌≡◌, ◌≢◌, ℕ, List, [], ◌∷◌, true, false, Bool, map, codes, decimal}
 use Rattle.std.specs.List.{All, join_with_byte}
 use Rattle.rows.specs.Fits.{JobSpecFits, NodeIdFits}
 use Rattle.rows.specs.Names.{NameFits}
@@ -46,6 +46,10 @@ RequestFits (Put job) = JobSpecFits job
 RequestFits (Stop name) = NameFits name
 RequestFits (Eval name) = NameFits name
 RequestFits (Drain node force) = NodeIdFits node
+
+-- the one text of a request whose values are within their limits
+abbrev pub IsRequestText : Request → List ℕ → Type 0
+IsRequestText request text = RequestFits request × (text ≡ request_text request)
 
 -- the command that is proposed for a request
 abbrev pub command_of : Request → Command

@@ -99,7 +99,8 @@ fn program<'a>(alloc: Global) -> Result<Command<'a>, Error>
 
 fn run_line<'a>(given: &ArgMatches<'a>) -> Option<CommandLine<'a>>
     ensures some { IfSome result (IsNamed (codes "run") (rows_of (found_of given.now))) }
-    ensures none { IfNone result (is_line (Some (codes "run", rows_of (found_of given.now))) ≡ false) }
+    ensures none { IfNone result (is_line (Some (codes "run", rows_of (found_of given.now)))
+        ≡ false) }
 {
     let file = given.get_str("FILE")?;
     Some(CommandLine::Run { file })

@@ -38,7 +38,8 @@ impl Flight {
     /// Puts the messages sent since the last call behind the others, `sent` being the number of all
     /// that were ever sent.
     pub(crate) fn admit(&mut self, sent: u64) -> Result<(), NoMemory>
-        ensures order { OnOk result (self.new.waiting ≡ self.old.waiting ++ newly_sent self.old.seen sent) }
+        ensures order { OnOk result (self.new.waiting ≡ self.old.waiting
+            ++ newly_sent self.old.seen sent) }
         ensures seen { OnOk result (self.new.seen ≡ max self.old.seen sent) }
     {
         for number in self.seen..sent {

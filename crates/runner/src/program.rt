@@ -70,7 +70,8 @@ fn run<'a, F: Shelf, W: Write>(
     shelf: &mut F,
     out: &mut W,
 ) -> Result<u8, Fault<'a>>
-    ensures ok { IfOk result (λ status. (status ≤ 1) × (fault_of nomadsim_app (map (λ w. w.now) words.entry.now) ≡ [])) }
+    ensures ok { IfOk result (λ status. (status ≤ 1)
+        × (fault_of nomadsim_app (map (λ w. w.now) words.entry.now) ≡ [])) }
     ensures err { IfErr result (MayEndBy (fault_of nomadsim_app (map (λ w. w.now) words.entry.now))) }
 {
     match command(alloc, words) {

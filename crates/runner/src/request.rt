@@ -6,7 +6,7 @@ ghost use Rattle.rows.specs.declared.job.Group.{Group};
 ghost use Rattle.rows.specs.declared.job.JobSpec.{JobSpec};
 ghost use Rattle.runner.specs.declared.request.Request.{Request};
 ghost use Rattle.runner.specs.declared.request.Request.TheVariants.{Drain, Eval, Stop};
-ghost use Rattle.runner.specs.Requests.{RequestFits, command_of, drain_text, group_text, groups_text, job_text, request_text};
+ghost use Rattle.runner.specs.Requests.{IsRequestText, RequestFits, command_of, drain_text, group_text, groups_text, job_text, request_text};
 
 use crate::word::{cut, read_count, read_name, read_node, read_priority, read_quantity};
 use rows::{Command, Group, Groups, JobName, JobSpec, NoMemory, NodeId, Priority, Sequence, Size};
@@ -44,8 +44,9 @@ impl Request {
 /// Reads the text of a request: exactly the one text of each, with one space between words and
 /// numbers in decimal without leading zeros.
 pub fn read_request(alloc: Global, text: &str) -> Result<Option<Request>, NoMemory>
-    ensures named { IfOk result (λ read. IfSome read (λ request. RequestFits request × (text.now ≡ request_text request))) }
-    ensures read { (request : Request) → RequestFits request → text.now ≡ request_text request → IfOk result (λ read. read ≡ Some request) }
+    ensures named { IfOk result (λ read. IfSome read (λ request. IsRequestText request text.now)) }
+    ensures read { (request : Request) → RequestFits request → text.now ≡ request_text request
+        → IfOk result (λ read. read ≡ Some request) }
 {
     let Some((verb, words)) = cut(text, ' ') else {
         return Ok(None);
@@ -61,10 +62,13 @@ pub fn read_request(alloc: Global, text: &str) -> Result<Option<Request>, NoMemo
 
 // A request other than `put`: it takes no memory.
 fn read_small_request(verb: &str, words: &str) -> Option<Request>
-    ensures named { IfSome result (λ request. RequestFits request × (verb.now ++ 32 ∷ words.now ≡ request_text request)) }
-    ensures stop { (name : List ℕ) → NameFits name → verb.now ≡ codes "stop" → words.now ≡ name → result ≡ Some (Stop name) }
-    ensures eval { (name : List ℕ) → NameFits name → verb.now ≡ codes "eval" → words.now ≡ name → result ≡ Some (Eval name) }
-    ensures drain { (node : ℕ) (force : Bool) → NodeIdFits node → verb.now ≡ codes "drain" → words.now ≡ drain_text node force → result ≡ Some (Drain node force) }
+    ensures named { IfSome result (λ request. IsRequestText request (verb.now ++ 32 ∷ words.now)) }
+    ensures stop { (name : List ℕ) → NameFits name → verb.now ≡ codes "stop" → words.now ≡ name
+        → result ≡ Some (Stop name) }
+    ensures eval { (name : List ℕ) → NameFits name → verb.now ≡ codes "eval" → words.now ≡ name
+        → result ≡ Some (Eval name) }
+    ensures drain { (node : ℕ) (force : Bool) → NodeIdFits node → verb.now ≡ codes "drain"
+        → words.now ≡ drain_text node force → result ≡ Some (Drain node force) }
 {
     match verb {
         "stop" => Some(Request::Stop(read_name(words)?)),
@@ -76,8 +80,10 @@ fn read_small_request(verb: &str, words: &str) -> Option<Request>
 
 // What stands behind `drain`.
 fn read_drain(words: &str) -> Option<Request>
-    ensures named { IfSome result (λ request. (node : ℕ) × (force : Bool) × NodeIdFits node × (words.now ≡ drain_text node force) × (request ≡ Drain node force)) }
-    ensures read { (node : ℕ) (force : Bool) → NodeIdFits node → words.now ≡ drain_text node force → result ≡ Some (Drain node force) }
+    ensures named { IfSome result (λ request. (node : ℕ) × (force : Bool) × NodeIdFits node
+        × (words.now ≡ drain_text node force) × (request ≡ Drain node force)) }
+    ensures read { (node : ℕ) (force : Bool) → NodeIdFits node → words.now ≡ drain_text node force
+        → result ≡ Some (Drain node force) }
 {
     let (node, mode) = cut(words, ' ')?;
     let node = read_node(node)?;
@@ -90,8 +96,10 @@ fn read_drain(words: &str) -> Option<Request>
 
 // What stands behind `put`.
 fn read_job(alloc: Global, text: &str) -> Result<Option<JobSpec>, NoMemory>
-    ensures named { IfOk result (λ read. IfSome read (λ job. JobSpecFits job × (text.now ≡ job_text job))) }
-    ensures read { (job : JobSpec) → JobSpecFits job → text.now ≡ job_text job → IfOk result (λ read. read ≡ Some job) }
+    ensures named { IfOk result (λ read. IfSome read (λ job. JobSpecFits job
+        × (text.now ≡ job_text job))) }
+    ensures read { (job : JobSpec) → JobSpecFits job → text.now ≡ job_text job
+        → IfOk result (λ read. read ≡ Some job) }
 {
     let Some((name, priority, groups)) = read_head(text) else {
         return Ok(None);
@@ -108,8 +116,10 @@ fn read_job(alloc: Global, text: &str) -> Result<Option<JobSpec>, NoMemory>
 
 // The name and the priority of a job, and the text of its groups.
 fn read_head(text: &str) -> Option<(JobName, Priority, &str)>
-    ensures named { IfSome result (λ head. NameFits head.0 × PriorityFits head.1 × (text.now ≡ head.0 ++ 32 ∷ (decimal head.1 ++ 32 ∷ head.2.now))) }
-    ensures read { (name : List ℕ) (priority : ℕ) (groups : List ℕ) → NameFits name → PriorityFits priority
+    ensures named { IfSome result (λ head. NameFits head.0 × PriorityFits head.1
+        × (text.now ≡ head.0 ++ 32 ∷ (decimal head.1 ++ 32 ∷ head.2.now))) }
+    ensures read { (name : List ℕ) (priority : ℕ) (groups : List ℕ) → NameFits name
+        → PriorityFits priority
         → text.now ≡ name ++ 32 ∷ (decimal priority ++ 32 ∷ groups)
         → IsSomeAnd result (λ head. (head.0 ≡ name) × (head.1 ≡ priority) × (head.2.now ≡ groups)) }
 {
@@ -120,8 +130,10 @@ fn read_head(text: &str) -> Option<(JobName, Priority, &str)>
 
 // The groups of a job.
 fn read_groups(alloc: Global, text: &str) -> Result<Option<Groups>, NoMemory>
-    ensures named { IfOk result (λ read. IfSome read (λ groups. GroupsFit groups × (text.now ≡ groups_text groups))) }
-    ensures read { (groups : List Group) → GroupsFit groups → text.now ≡ groups_text groups → IfOk result (λ read. read ≡ Some groups) }
+    ensures named { IfOk result (λ read. IfSome read (λ groups. GroupsFit groups
+        × (text.now ≡ groups_text groups))) }
+    ensures read { (groups : List Group) → GroupsFit groups → text.now ≡ groups_text groups
+        → IfOk result (λ read. read ≡ Some groups) }
 {
     let mut groups = Sequence::new(alloc);
     for part in text.split(',') {
@@ -136,7 +148,8 @@ fn read_groups(alloc: Global, text: &str) -> Result<Option<Groups>, NoMemory>
 // One group.
 fn read_group(text: &str) -> Option<Group>
     ensures named { IfSome result (λ group. GroupFits group × (text.now ≡ group_text group)) }
-    ensures read { (group : Group) → GroupFits group → text.now ≡ group_text group → result ≡ Some group }
+    ensures read { (group : Group) → GroupFits group → text.now ≡ group_text group
+        → result ≡ Some group }
 {
     let (name, rest) = cut(text, ':')?;
     let (count, rest) = cut(rest, ':')?;

@@ -5,6 +5,7 @@ ghost use Rattle.runner.specs.declared.step.Step.{Step};
 ghost use Rattle.runner.specs.declared.step.Step.TheVariants as steps;
 ghost use Rattle.runner.specs.Requests.{RequestFits, request_text};
 ghost use Rattle.runner.specs.Steps.{IsLine};
+ghost use Rattle.runner.specs.Inner.RequestSteps.{IsRequestStep};
 
 use crate::request::{Request, read_request};
 use crate::word::{cut, read_number, read_server};
@@ -45,8 +46,11 @@ pub fn read_step(alloc: Global, line: &str) -> Result<Option<Step>, NoMemory>
 
 // What stands behind `request`.
 fn read_request_step(alloc: Global, words: &str) -> Result<Option<Step>, NoMemory>
-    ensures named { IfOk result (λ read. IfSome read (λ step. (server : ℕ) × (request : Request) × (step ≡ steps.Request server request) × (server < 5) × RequestFits request × (words.now ≡ decimal (server + 1) ++ 32 ∷ request_text request))) }
-    ensures read { (server : ℕ) (request : Request) → server < 5 → RequestFits request → words.now ≡ decimal (server + 1) ++ 32 ∷ request_text request → IfOk result (λ read. read ≡ Some (steps.Request server request)) }
+    ensures named { IfOk result (λ read. IfSome read (λ step. (server : ℕ) × (request : Request)
+        × (step ≡ steps.Request server request) × IsRequestStep server request words.now)) }
+    ensures read { (server : ℕ) (request : Request) → server < 5 → RequestFits request
+        → words.now ≡ decimal (server + 1) ++ 32 ∷ request_text request
+        → IfOk result (λ read. read ≡ Some (steps.Request server request)) }
 {
     let Some((server, text)) = cut(words, ' ') else {
         return Ok(None);
@@ -63,7 +67,8 @@ fn read_request_step(alloc: Global, words: &str) -> Result<Option<Step>, NoMemor
 // A step other than a request: it takes no memory.
 fn read_event(line: &str) -> Option<Step>
     ensures named { IfSome result (λ step. IsLine step line.now) }
-    ensures read { (step : Step) → IsLine step line.now → ((words : List ℕ) → line.now ≢ codes "request " ++ words) → result ≡ Some step }
+    ensures read { (step : Step) → IsLine step line.now
+        → ((words : List ℕ) → line.now ≢ codes "request " ++ words) → result ≡ Some step }
 {
     if line == "flow" {
         return Some(Step::Flow(None));

@@ -12,7 +12,8 @@ use rows::{GroupCount, Name, NodeId, Priority, Quantity, ServerId};
 pub fn cut(text: &str, separator: char) -> Option<(&str, &str)>
     requires { separator < 128 }
     ensures parts { IfSome result (λ parts. text.now ≡ parts.0.now ++ separator ∷ parts.1.now) }
-    ensures first { (front back : List ℕ) → IsWithout separator front → text.now ≡ front ++ separator ∷ back
+    ensures first { (front back : List ℕ) → IsWithout separator front
+        → text.now ≡ front ++ separator ∷ back
         → IsSomeAnd result (λ parts. (parts.0.now ≡ front) × (parts.1.now ≡ back)) }
 {
     text.split_once(separator)
@@ -29,7 +30,8 @@ pub fn read_name(text: &str) -> Option<Name>
 /// A number in decimal without leading zeros, below 2^64.
 pub fn read_number(text: &str) -> Option<u64>
     ensures named { IfSome result (λ number. text.now ≡ decimal number) }
-    ensures read { (number : ℕ) → number < 2 ^ 64 → text.now ≡ decimal number → result ≡ Some number }
+    ensures read { (number : ℕ) → number < 2 ^ 64 → text.now ≡ decimal number
+        → result ≡ Some number }
 {
     let number: u64 = text.parse().ok()?;
     if Buffer::new().format(number) == text {
@@ -42,7 +44,8 @@ pub fn read_number(text: &str) -> Option<u64>
 // A number in decimal without leading zeros, below 2^8.
 fn read_small(text: &str) -> Option<u8>
     ensures named { IfSome result (λ number. text.now ≡ decimal number) }
-    ensures read { (number : ℕ) → number < 2 ^ 8 → text.now ≡ decimal number → result ≡ Some number }
+    ensures read { (number : ℕ) → number < 2 ^ 8 → text.now ≡ decimal number
+        → result ≡ Some number }
 {
     u8::try_from(read_number(text)?).ok()
 }
@@ -50,7 +53,8 @@ fn read_small(text: &str) -> Option<u8>
 /// A server's number, from 1 to 5.
 pub fn read_server(text: &str) -> Option<ServerId>
     ensures named { IfSome result (λ server. (server < 5) × (text.now ≡ decimal (server + 1))) }
-    ensures read { (server : ℕ) → server < 5 → text.now ≡ decimal (server + 1) → result ≡ Some server }
+    ensures read { (server : ℕ) → server < 5 → text.now ≡ decimal (server + 1)
+        → result ≡ Some server }
 {
     ServerId::from_number(read_small(text)?)
 }
@@ -65,8 +69,10 @@ pub fn read_node(text: &str) -> Option<NodeId>
 
 /// A priority, from 1 to 100.
 pub fn read_priority(text: &str) -> Option<Priority>
-    ensures named { IfSome result (λ priority. PriorityFits priority × (text.now ≡ decimal priority)) }
-    ensures read { (priority : ℕ) → PriorityFits priority → text.now ≡ decimal priority → result ≡ Some priority }
+    ensures named { IfSome result (λ priority. PriorityFits priority
+        × (text.now ≡ decimal priority)) }
+    ensures read { (priority : ℕ) → PriorityFits priority → text.now ≡ decimal priority
+        → result ≡ Some priority }
 {
     Priority::new(read_small(text)?)
 }
@@ -74,15 +80,18 @@ pub fn read_priority(text: &str) -> Option<Priority>
 /// The count of a group, from 0 to 64.
 pub fn read_count(text: &str) -> Option<GroupCount>
     ensures named { IfSome result (λ count. GroupCountFits count × (text.now ≡ decimal count)) }
-    ensures read { (count : ℕ) → GroupCountFits count → text.now ≡ decimal count → result ≡ Some count }
+    ensures read { (count : ℕ) → GroupCountFits count → text.now ≡ decimal count
+        → result ≡ Some count }
 {
     GroupCount::new(read_small(text)?)
 }
 
 /// How much of a resource, from 1 to 1,000,000.
 pub fn read_quantity(text: &str) -> Option<Quantity>
-    ensures named { IfSome result (λ quantity. QuantityFits quantity × (text.now ≡ decimal quantity)) }
-    ensures read { (quantity : ℕ) → QuantityFits quantity → text.now ≡ decimal quantity → result ≡ Some quantity }
+    ensures named { IfSome result (λ quantity. QuantityFits quantity
+        × (text.now ≡ decimal quantity)) }
+    ensures read { (quantity : ℕ) → QuantityFits quantity → text.now ≡ decimal quantity
+        → result ≡ Some quantity }
 {
     let number = u32::try_from(read_number(text)?).ok()?;
     Quantity::new(number)

@@ -1,5 +1,5 @@
 -- Frames: the bytes of a message, and how they are read.
-use Rattle.std.specs.Prelude.{ℕ, ◌+◌, ◌^◌, List, ◌++◌, length, Result, Ok, Err, ◌&&◌, nat_eq, nat_le, if◌then◌else◌}
+use Rattle.std.specs.Prelude.{◌≡◌, ℕ, ◌+◌, ◌^◌, List, [], ◌∷◌, ◌++◌, length, Result, Ok, Err, ◌&&◌, nat_eq, nat_le, if◌then◌else◌}
 use Rattle.fields.specs.Format.{Reading, ◌>>=◌, Format, spelled, number_at}
 use Rattle.rows.specs.declared.actor.Actor.{Actor}
 use Rattle.wire.specs.declared.header.Header.{Header}
@@ -44,6 +44,14 @@ pub record MessageFits {S C : Type 0} (commands : Format C) (m : Message S C) : 
   pub header_fits : header.Fits (header_of m)
   pub body_fits : (body commands (kind_of m.body)).Fits m.body
 
+-- the bytes are the frame of the message, which has one
+abbrev pub IsFrame : {S C : Type 0} → Format C → Message S C → List ℕ → Type 0
+IsFrame commands m bytes = MessageFits commands m × (bytes ≡ message_text commands m)
+
+-- the frame of the message, which has one, comes to the end of the bytes
+abbrev pub AddsFrame : {S C : Type 0} → Format C → Message S C → List ℕ → List ℕ → Type 0
+AddsFrame commands m old new = MessageFits commands m × (new ≡ old ++ message_text commands m)
+
 -- the message of a frame, or the place of its first fault
 unfoldable pub message_at : {S C : Type 0} → Format C → List ℕ → Result (Message S C) ℕ
 message_at commands bytes = frame_at header (λ h. body commands h.kind) (λ h b. record { from = h.from; to = h.to; body = b }) bytes
@@ -55,3 +63,7 @@ pub record Frame : Type 0 where
 
 abbrev pub frame_of : {S C : Type 0} → Format C → Message S C → Frame
 frame_of commands m = record { to = m.to; bytes = message_text commands m }
+
+-- the frame of the message, which has one, comes to the end of the frames
+abbrev pub ListsFrame : {S C : Type 0} → Format C → Message S C → List Frame → List Frame → Type 0
+ListsFrame commands m old new = MessageFits commands m × (new ≡ old ++ frame_of commands m ∷ [])

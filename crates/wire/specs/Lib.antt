@@ -2,4 +2,5 @@ pub mod Appends
 pub mod Messages
 pub mod Grammar
 pub mod Frames
+pub mod Inner
 pub mod Laws

@@ -2,7 +2,7 @@
 ghost use Rattle.std.specs.Prelude.{◌≡◌, ◌≤◌, ◌++◌, List, ℕ, Ok, length};
 ghost use Rattle.fields.specs.Format.{IsBytes};
 ghost use Rattle.wire.specs.Messages.{Message};
-ghost use Rattle.wire.specs.Frames.{message_at, message_text, MessageFits, frame_limit};
+ghost use Rattle.wire.specs.Frames.{message_at, message_text, IsFrame, MessageFits, frame_limit};
 
 use machine::Machine;
 
@@ -11,9 +11,10 @@ use machine::Machine;
 pub fn frames_are_whole<M: Machine>()
     ensures again { (m : Message M M.Command) → MessageFits M.meaning.commands m
         → message_at M.meaning.commands (message_text M.meaning.commands m) ≡ Ok m }
-    ensures found { (bytes : List ℕ) (m : Message M M.Command) → IsBytes bytes → message_at M.meaning.commands bytes ≡ Ok m
-        → MessageFits M.meaning.commands m × (bytes ≡ message_text M.meaning.commands m) }
-    ensures apart { (m n : Message M M.Command) (x y : List ℕ) → MessageFits M.meaning.commands m → MessageFits M.meaning.commands n
+    ensures found { (bytes : List ℕ) (m : Message M M.Command) → IsBytes bytes
+        → message_at M.meaning.commands bytes ≡ Ok m → IsFrame M.meaning.commands m bytes }
+    ensures apart { (m n : Message M M.Command) (x y : List ℕ) → MessageFits M.meaning.commands m
+        → MessageFits M.meaning.commands n
         → message_text M.meaning.commands m ++ x ≡ message_text M.meaning.commands n ++ y → m ≡ n }
     ensures short { (m : Message M M.Command) → MessageFits M.meaning.commands m
         → length (message_text M.meaning.commands m) ≤ frame_limit }

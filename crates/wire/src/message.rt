@@ -33,7 +33,8 @@ impl<M: Machine> Model for Message<M> {
 impl<M: Machine> Message<M> {
     /// The message of these parts; none where its kind does not go from there to there.
     pub fn new(from: Actor, to: Actor, body: Body<M>) -> Option<Message<M>>
-        ensures some { IfSome result (λ m. (m ≡ record { from = from; to = to; body = body }) × (may_go (kind_of body) from to ≡ true)) }
+        ensures some { IfSome result (λ m. (m ≡ record { from = from; to = to; body = body })
+            × (may_go (kind_of body) from to ≡ true)) }
         ensures none { IfNone result (may_go (kind_of body) from to ≡ false) }
     {
         if body.kind().may_go(&from, &to) {

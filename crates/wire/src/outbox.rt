@@ -2,7 +2,7 @@ ghost use Rattle.std.specs.Prelude.{◌≡◌, ◌++◌, ◌∷◌, [], ◌+◌,
 ghost use Rattle.rows.specs.declared.actor.Actor.TheVariants as actors;
 ghost use Rattle.wire.specs.declared.kind.Kind.TheVariants as kinds;
 ghost use Rattle.wire.specs.Messages.{append_message, may_go};
-ghost use Rattle.wire.specs.Frames.{MessageFits, frame_of};
+ghost use Rattle.wire.specs.Frames.{ListsFrame};
 
 use crate::append::AppendHead;
 use crate::message::Message;
@@ -79,7 +79,8 @@ impl Outbox {
 
     /// Puts a frame to the end, or changes nothing.
     pub fn push(&mut self, to: Actor, bytes: Vec<u8>) -> Result<(), NoMemory>
-        ensures ok { OnOk result (self.new ≡ self.old ++ record { to = to; bytes = bytes.items } ∷ []) }
+        ensures ok { OnOk result (self.new ≡ self.old
+            ++ record { to = to; bytes = bytes.items } ∷ []) }
         ensures err { OnErr result (self.new ≡ self.old) }
     {
         self.frames.push(Frame { to, bytes })?;
@@ -88,7 +89,7 @@ impl Outbox {
 
     /// Puts the frame of a message to the end, for the message's receiver, or changes nothing.
     pub fn send<M: Machine>(&mut self, message: &Message<M>) -> Result<(), NoMemory>
-        ensures ok { OnOk result (MessageFits M.meaning.commands message.now × (self.new ≡ self.old ++ frame_of M.meaning.commands message.now ∷ [])) }
+        ensures ok { OnOk result (ListsFrame M.meaning.commands message.now self.old self.new) }
         ensures err { OnErr result (self.new ≡ self.old) }
     {
         let mut bytes = Vec::new(self.alloc);
@@ -109,8 +110,8 @@ impl Outbox {
         requires allowed { may_go kinds.Append (actors.Server from) (actors.Server to) ≡ true }
         requires few { length entries.now ≤ 32 }
         requires places { head.now.prev_index + length entries.now < 2 ^ 40 }
-        ensures ok { OnOk result (MessageFits M.meaning.commands (append_message {S = M} from to head.now entries.now)
-            × (self.new ≡ self.old ++ frame_of M.meaning.commands (append_message {S = M} from to head.now entries.now) ∷ [])) }
+        ensures ok { OnOk result (ListsFrame M.meaning.commands (append_message {S = M} from to head.now entries.now)
+            self.old self.new) }
         ensures err { OnErr result (self.new ≡ self.old) }
     {
         let mut bytes = Vec::new(self.alloc);

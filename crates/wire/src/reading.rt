@@ -1,7 +1,7 @@
 ghost use Rattle.std.specs.Prelude.{◌≡◌, IfOk, Ok};
 ghost use Rattle.fields.specs.Format.{Gives, GivesExactly};
 ghost use Rattle.wire.specs.Messages.{Message as MessageOf};
-ghost use Rattle.wire.specs.Frames.{size_at, message_at, message_text, MessageFits};
+ghost use Rattle.wire.specs.Frames.{size_at, message_at, message_text, IsFrame, MessageFits};
 
 use crate::body::read_body;
 use crate::header::read_header;
@@ -53,10 +53,10 @@ fn read_frame<M: Machine>(alloc: Global, bytes: &[u8]) -> Result<Message<M>, Ref
 /// the first of them.
 pub fn read_message<M: Machine>(alloc: Global, bytes: &[u8]) -> Result<Message<M>, Refusal>
     // What is read has just these bytes.
-    ensures found { IfOk result (λ m. MessageFits M.meaning.commands m × (bytes.now ≡ message_text M.meaning.commands m)) }
+    ensures found { IfOk result (λ m. IsFrame M.meaning.commands m bytes.now) }
     // A message's bytes are read, unless memory runs out.
-    ensures only { (m : MessageOf M M.Command) → MessageFits M.meaning.commands m → bytes.now ≡ message_text M.meaning.commands m
-        → Gives result (Ok m) }
+    ensures only { (m : MessageOf M M.Command) → MessageFits M.meaning.commands m
+        → bytes.now ≡ message_text M.meaning.commands m → Gives result (Ok m) }
     // Which field is at fault.
     ensures exact { Gives result (message_at M.meaning.commands bytes.now) }
 {

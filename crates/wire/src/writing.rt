@@ -4,7 +4,8 @@ ghost use Rattle.rows.specs.declared.actor.Actor.TheVariants as actors;
 ghost use Rattle.wire.specs.declared.kind.Kind.TheVariants as kinds;
 ghost use Rattle.wire.specs.Messages.{kind_of, may_go, append_message};
 ghost use Rattle.wire.specs.Grammar.{body as body_format, append as append_format};
-ghost use Rattle.wire.specs.Frames.{sized, message_text, MessageFits};
+ghost use Rattle.wire.specs.Frames.{sized, AddsFrame};
+ghost use Rattle.wire.specs.Inner.Sizes.{AddsSized};
 
 use crate::append::{AppendHead, append_append};
 use crate::body::{Body, append_body};
@@ -27,8 +28,8 @@ fn put_size(out: &mut Vec<u8>, at: usize)
 
 /// Puts the body to the end, behind its length.
 fn append_sized<M: Machine>(body: &Body<M>, out: &mut Vec<u8>) -> Result<(), NoMemory>
-    ensures ok { OnOk result ((body_format M.meaning.commands (kind_of body.now)).Fits body.now
-        × (out.new.items ≡ out.old.items ++ sized ((body_format M.meaning.commands (kind_of body.now)).text body.now))) }
+    ensures ok { OnOk result (AddsSized (body_format M.meaning.commands (kind_of body.now)) body.now
+        out.old.items out.new.items) }
     ensures err { OnErr result (Grows out.old.items out.new.items) }
 {
     let size_at = out.len();
@@ -46,8 +47,8 @@ fn append_sized_entries<M: Machine>(
 ) -> Result<(), NoMemory>
     requires few { length entries.now ≤ 32 }
     requires places { head.now.prev_index + length entries.now < 2 ^ 40 }
-    ensures ok { OnOk result ((append_format M.meaning.commands).Fits (record { head = head.now; entries = entries.now })
-        × (out.new.items ≡ out.old.items ++ sized ((append_format M.meaning.commands).text (record { head = head.now; entries = entries.now })))) }
+    ensures ok { OnOk result (AddsSized (append_format M.meaning.commands)
+        (record { head = head.now; entries = entries.now }) out.old.items out.new.items) }
     ensures err { OnErr result (Grows out.old.items out.new.items) }
 {
     let size_at = out.len();
@@ -69,8 +70,8 @@ pub fn append_entries_frame<M: Machine>(
     requires allowed { may_go kinds.Append (actors.Server from) (actors.Server to) ≡ true }
     requires few { length entries.now ≤ 32 }
     requires places { head.now.prev_index + length entries.now < 2 ^ 40 }
-    ensures ok { OnOk result (MessageFits M.meaning.commands (append_message {S = M} from to head.now entries.now)
-        × (out.new.items ≡ out.old.items ++ message_text M.meaning.commands (append_message {S = M} from to head.now entries.now))) }
+    ensures ok { OnOk result (AddsFrame M.meaning.commands (append_message {S = M} from to head.now entries.now)
+        out.old.items out.new.items) }
     ensures err { OnErr result (Grows out.old.items out.new.items) }
 {
     let header = Header {
@@ -85,7 +86,7 @@ pub fn append_entries_frame<M: Machine>(
 /// Puts the frame to the end; after an error a part of it may stand there.
 #[tactic(auto, using(crate::proofs::Rules::appends))]
 fn append_frame<M: Machine>(message: &Message<M>, out: &mut Vec<u8>) -> Result<(), NoMemory>
-    ensures ok { OnOk result (MessageFits M.meaning.commands message.now × (out.new.items ≡ out.old.items ++ message_text M.meaning.commands message.now)) }
+    ensures ok { OnOk result (AddsFrame M.meaning.commands message.now out.old.items out.new.items) }
     ensures err { OnErr result (Grows out.old.items out.new.items) }
 {
     append_header(&header_of(message), out)?;
@@ -94,7 +95,7 @@ fn append_frame<M: Machine>(message: &Message<M>, out: &mut Vec<u8>) -> Result<(
 
 /// Puts the one frame of a message to the end, or changes nothing.
 pub fn write_message<M: Machine>(message: &Message<M>, out: &mut Vec<u8>) -> Result<(), NoMemory>
-    ensures ok { OnOk result (MessageFits M.meaning.commands message.now × (out.new.items ≡ out.old.items ++ message_text M.meaning.commands message.now)) }
+    ensures ok { OnOk result (AddsFrame M.meaning.commands message.now out.old.items out.new.items) }
     ensures err { OnErr result (out.new.items ≡ out.old.items) }
 {
     let start = out.len();

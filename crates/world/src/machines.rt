@@ -29,7 +29,8 @@ impl<M: Machine> RaftWorld<M> {
         ensures value { (past : List (World M.Command)) (w : World M.Command) →
             RunsTo M.meaning self.now past w →
             MatchOption result ((machine_of M.meaning w one ≡ None) ⊎ (machine_of M.meaning w other ≡ None))
-            (λ pair. (machine_of M.meaning w one ≡ Some pair.0.now) × (machine_of M.meaning w other ≡ Some pair.1.now)) }
+            (λ pair. (machine_of M.meaning w one ≡ Some pair.0.now)
+            × (machine_of M.meaning w other ≡ Some pair.1.now)) }
         ensures history { IfSome result (λ pair. OneHistory M.meaning pair.0.now pair.1.now) }
     {
         self.one_list();
