@@ -121,8 +121,8 @@ impl Reports {
     pub fn check(items: Sequence<Report>) -> Result<Reports, Refusal>
         ensures ok { IfOk result (λ reports. (reports ≡ items) × (1 ≤ length items)
             × (length items ≤ 64)) }
-        ensures err { IfErr result (λ e. (e ≡ refusals.OutOfRange) × ((1 ≤ length items)
-            → 64 < length items)) }
+        ensures err { IfErr result (λ e. (e ≡ refusals.OutOfRange)
+            × ((1 ≤ length items) → 64 < length items)) }
     {
         let items = items.into_vec();
         if !items.is_empty() && items.len() <= 64 {

@@ -276,8 +276,8 @@ impl Job {
     pub fn check(name: JobName, priority: u8, groups: Sequence<Group>) -> Result<JobSpec, Refusal>
         ensures ok { IfOk result (λ job. (job.name ≡ name) × (job.priority ≡ priority)
             × (job.groups ≡ groups) × PriorityFits priority × AreGroups groups) }
-        ensures err { IfErr result (λ e. (e ≡ refusals.OutOfRange) × (PriorityFits priority
-            → AreGroups groups → ⊥)) }
+        ensures err { IfErr result (λ e. (e ≡ refusals.OutOfRange)
+            × (PriorityFits priority → AreGroups groups → ⊥)) }
     {
         match (Priority::new(priority), Groups::check(groups)) {
             (Some(priority), Ok(groups)) => Ok(JobSpec {

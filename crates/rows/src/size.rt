@@ -61,8 +61,8 @@ impl Size {
     /// The size of two numbers. `OutOfRange` where one of them is not from 1 to 1,000,000.
     pub fn check(cpu: u32, mem: u32) -> Result<Size, Refusal>
         ensures ok { IfOk result (λ size. (size.cpu ≡ cpu) × (size.mem ≡ mem) × SizeFits size) }
-        ensures err { IfErr result (λ e. (e ≡ refusals.OutOfRange) × (QuantityFits cpu
-            → QuantityFits mem → ⊥)) }
+        ensures err { IfErr result (λ e. (e ≡ refusals.OutOfRange)
+            × (QuantityFits cpu → QuantityFits mem → ⊥)) }
     {
         match (Quantity::new(cpu), Quantity::new(mem)) {
             (Some(cpu), Some(mem)) => Ok(Size { cpu, mem }),

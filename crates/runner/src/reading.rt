@@ -13,8 +13,8 @@ use std::alloc::Global;
 // The reader of values takes a key that is written twice, and keeps the last value.
 fn refuse_doubled_keys(alloc: Global, text: &str) -> Result<(), Refusal>
     ensures ok { OnOk result (HasSingleKeys text.now) }
-    ensures refused { IfErr result (λ refusal. (refusal ≡ NoMemory) ⊎ ((refusal ≡ OutOfRange)
-        × ¬ HasSingleKeys text.now)) }
+    ensures refused { IfErr result (λ refusal. (refusal ≡ NoMemory)
+        ⊎ ((refusal ≡ OutOfRange) × ¬ HasSingleKeys text.now)) }
 {
     let mut scratch = Scratch::new(alloc);
     match json::Value::parse_strict(alloc, text, &mut scratch) {
@@ -29,8 +29,8 @@ fn refuse_doubled_keys(alloc: Global, text: &str) -> Result<(), Refusal>
 /// twice; with 1 where there is no memory.
 pub fn scenario(alloc: Global, text: &str) -> Result<Scenario, Refusal>
     ensures ok { IfOk result (IsScenarioText text.now) }
-    ensures refused { IfErr result (λ refusal. (refusal ≡ NoMemory) ⊎ ((refusal ≡ OutOfRange)
-        × ((s : Scenario) → ¬ IsScenarioText text.now s))) }
+    ensures refused { IfErr result (λ refusal. (refusal ≡ NoMemory)
+        ⊎ ((refusal ≡ OutOfRange) × ((s : Scenario) → ¬ IsScenarioText text.now s))) }
 {
     refuse_doubled_keys(alloc, text)?;
     let value = match Value::from_str(alloc, text) {

@@ -81,8 +81,9 @@ fn keys_of(value: &Value) -> Option<usize>
 }
 
 fn percent_of(value: &Value, key: &str) -> Option<u8>
-    ensures { MatchOption result ((n : ℕ) → whole_number_at key.now (view value.now) ≡ Some n
-        → 100 < n) (λ n. (whole_number_at key.now (view value.now) ≡ Some n) × (n ≤ 100)) }
+    ensures { MatchOption result
+        ((n : ℕ) → whole_number_at key.now (view value.now) ≡ Some n → 100 < n)
+        (λ n. (whole_number_at key.now (view value.now) ≡ Some n) × (n ≤ 100)) }
 {
     let number = number_of(value, key)?;
     if 100 < number {
@@ -92,9 +93,9 @@ fn percent_of(value: &Value, key: &str) -> Option<u8>
 }
 
 fn servers_of(value: &Value) -> Option<u8>
-    ensures { MatchOption result ((n : ℕ)
-        → whole_number_at (codes "servers") (view value.now) ≡ Some n → IsGroup n
-        → ⊥) (λ n. (whole_number_at (codes "servers") (view value.now) ≡ Some n) × IsGroup n) }
+    ensures { MatchOption result
+        ((n : ℕ) → whole_number_at (codes "servers") (view value.now) ≡ Some n → IsGroup n → ⊥)
+        (λ n. (whole_number_at (codes "servers") (view value.now) ≡ Some n) × IsGroup n) }
 {
     let number = number_of(value, "servers")?;
     if number != 3 && number != 5 {
@@ -104,8 +105,9 @@ fn servers_of(value: &Value) -> Option<u8>
 }
 
 fn order_of(value: &Value) -> Option<Order>
-    ensures { MatchOption result ((o : Order)
-        → text_at (codes "order") (view value.now) ≢ Some (order_text o)) (λ o. text_at (codes "order") (view value.now) ≡ Some (order_text o)) }
+    ensures { MatchOption result
+        ((o : Order) → text_at (codes "order") (view value.now) ≢ Some (order_text o))
+        (λ o. text_at (codes "order") (view value.now) ≡ Some (order_text o)) }
 {
     match text_of(value, "order")? {
         "sent" => Some(Order::Sent),
@@ -116,15 +118,17 @@ fn order_of(value: &Value) -> Option<Order>
 
 // The list of nodes, which is empty.
 fn nodes_of(value: &Value) -> Option<()>
-    ensures { MatchOption result (list_at (codes "nodes") (view value.now) ≢ Some no_items) (λ _. list_at (codes "nodes") (view value.now) ≡ Some no_items) }
+    ensures { MatchOption result
+        (list_at (codes "nodes") (view value.now) ≢ Some no_items)
+        (λ _. list_at (codes "nodes") (view value.now) ≡ Some no_items) }
 {
     let nodes = list_of(value, "nodes")?;
     if nodes.is_empty() { Some(()) } else { None }
 }
 
 fn settings_of(value: &Value) -> Option<Settings>
-    ensures { MatchOption result ((s : Settings)
-        → ¬ HasSettings (view value.now) s) (HasSettings (view value.now)) }
+    ensures { MatchOption result
+        ((s : Settings) → ¬ HasSettings (view value.now) s) (HasSettings (view value.now)) }
 {
     if keys_of(value)? != 7 {
         return None;
@@ -156,8 +160,8 @@ fn copied(alloc: Global, text: &str) -> Result<String, Refusal>
 
 fn texts_of(alloc: Global, list: &[Value]) -> Result<Vec<String>, Refusal>
     ensures ok { IfOk result (λ texts. map view list.now ≡ strings (map string_bytes texts.items)) }
-    ensures refused { IfErr result (λ refusal. (refusal ≡ NoMemory) ⊎ ((refusal ≡ OutOfRange)
-        × ((texts : List (List ℕ)) → map view list.now ≢ strings texts))) }
+    ensures refused { IfErr result (λ refusal. (refusal ≡ NoMemory)
+        ⊎ ((refusal ≡ OutOfRange) × ((texts : List (List ℕ)) → map view list.now ≢ strings texts))) }
 {
     let mut texts = Vec::new(alloc);
     for value in list {
@@ -173,8 +177,8 @@ fn texts_of(alloc: Global, list: &[Value]) -> Result<Vec<String>, Refusal>
 /// The scenario that a JSON value is.
 pub(crate) fn scenario_of(alloc: Global, value: &Value) -> Result<Scenario, Refusal>
     ensures ok { IfOk result (IsScenario (view value.now)) }
-    ensures refused { IfErr result (λ refusal. (refusal ≡ NoMemory) ⊎ ((refusal ≡ OutOfRange)
-        × ((s : Scenario) → ¬ IsScenario (view value.now) s))) }
+    ensures refused { IfErr result (λ refusal. (refusal ≡ NoMemory)
+        ⊎ ((refusal ≡ OutOfRange) × ((s : Scenario) → ¬ IsScenario (view value.now) s))) }
 {
     let Some(settings) = settings_of(value) else {
         return Err(Refusal::OutOfRange);
