@@ -1,6 +1,6 @@
 -- Logs: lists of entries. Indexes begin at 1; an empty log ends at index 0 with term 0. (Raft,
 -- extended version 2014, Figure 2.)
-use Rattle.std.specs.Prelude.{ℕ, zero, suc, ◌-◌, ◌^◌, List, [], ◌∷◌, ◌++◌, length, take, drop, Bool, ◌&&◌, ◌||◌, nat_le, ◌==◌, cond}
+use Rattle.std.specs.Prelude.{ℕ, zero, suc, ◌-◌, ◌^◌, List, [], ◌∷◌, ◌++◌, length, take, drop, Bool, ◌&&◌, ◌||◌, nat_le, ◌==◌, if◌then◌else◌}
 use Rattle.machine.specs.Meaning.{Meaning}
 use Rattle.machine.specs.After.{after}
 use Rattle.machine.specs.declared.entry.Entry.{Entry}
@@ -30,12 +30,13 @@ has log p term = nat_le p (length log) && (term_at log p == term)
 -- 4; that commit bounds the comparison is this project's own.)
 unfoldable pub merge : {C : Type 0} → ℕ → ℕ → List (Entry C) → List (Entry C) → List (Entry C)
 merge c p log [] = log
-merge c p log (e ∷ es) = cond (nat_le (suc p) c || has log (suc p) e.term) (merge c (suc p) log es) (take p log ++ e ∷ es)
+merge c p log (e ∷ es) =
+    if nat_le (suc p) c || has log (suc p) e.term then merge c (suc p) log es else take p log ++ e ∷ es
 
 -- The log after a snapshot of the entries P: where it holds P's last index with P's last term, what
 -- follows is kept, else the whole log is discarded. (Raft, Figure 13, receiver 6 and 7.)
 unfoldable pub install : {C : Type 0} → List (Entry C) → List (Entry C) → List (Entry C)
-install log P = cond (has log (length P) (last_term P)) (P ++ drop (length P) log) P
+install log P = if has log (length P) (last_term P) then P ++ drop (length P) log else P
 
 -- what the entries tell the machine, in order
 unfoldable pub commands : {C : Type 0} → List (Entry C) → List C
