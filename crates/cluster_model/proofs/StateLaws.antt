@@ -27,8 +27,9 @@ use Rattle.machine.specs.Meaning.{IsMachineRefusal}
 use Rattle.fsm_tables.specs.Rows.{put_within}
 use Rattle.fsm_tables.specs.RowLaws.{rising_put_within, few_put_within, rising_mapped}
 use Rattle.fsm_tables.specs.Claims.{is_active, is_wanted}
+use Rattle.fsm_tables.specs.Lookups.{lives_on}
 use Rattle.cluster_model.specs.Words.{State, no_rows, same_eval, same_alloc, node_of, no_node, is_open}
-use Rattle.cluster_model.specs.Effect.{applied, counted, new_eval, with_evals, touched, is_named, owns, with_job, job_row, stop_job, without_job, node_row, down, draining, drained, lost, lives_on, moves, marked, set_status, stop, ends, frees, with_room, altered, alloc_row, with_places, state_of, told, told_all, downed}
+use Rattle.cluster_model.specs.Effect.{applied, counted, new_eval, with_evals, touched, is_named, owns, with_job, job_row, stop_job, without_job, node_row, down, draining, drained, lost, moves, marked, set_status, stop, ends, frees, with_room, altered, alloc_row, with_places, state_of, told, told_all, downed}
 use Rattle.cluster_model.specs.Admission.{first_of, tests, admission}
 use Rattle.cluster_model.specs.States.{InOrder, AreTables}
 

@@ -18,10 +18,11 @@ use Rattle.rows.specs.declared.command.Command.TheVariants as commands
 use Rattle.rows.specs.declared.refusal.Refusal.{Refusal}
 use Rattle.rows.specs.declared.refusal.Refusal.TheVariants as refusals
 use Rattle.fsm_tables.specs.Claims.{is_live}
+use Rattle.fsm_tables.specs.Lookups.{lives_on}
 use Rattle.cluster_model.specs.Limits.{most_jobs, most_evals, most_allocs}
 use Rattle.cluster_model.specs.Words.{State, job_of, node_of, eval_of, alloc_of, holds, no_job, no_node, no_alloc, is_ready, is_draining, is_pending, is_blocked}
 use Rattle.cluster_model.specs.Safe.{is_safe}
-use Rattle.cluster_model.specs.Effect.{counted, is_named, owns, lives_on, moves, ends, told_all, planned}
+use Rattle.cluster_model.specs.Effect.{counted, is_named, owns, moves, ends, told_all, planned}
 
 abbrev pub first_of : List (Bool × Refusal) → Option Refusal
 first_of [] = None

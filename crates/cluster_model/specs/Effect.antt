@@ -29,6 +29,7 @@ use Rattle.rows.specs.Changes.{status_of, snapshot_of}
 use Rattle.rows.specs.Keys.{name_cmp, eval_cmp, alloc_cmp, job_name, node_number, eval_id, alloc_id}
 use Rattle.fsm_tables.specs.Rows.{put_within}
 use Rattle.fsm_tables.specs.Claims.{is_wanted, is_active, is_live}
+use Rattle.fsm_tables.specs.Lookups.{lives_on, is_active_on}
 use Rattle.cluster_model.specs.Limits.{most_jobs, most_nodes, most_evals, most_allocs}
 use Rattle.cluster_model.specs.Words.{State, same_eval, same_alloc, node_of, no_node, is_open}
 
@@ -133,11 +134,11 @@ drained n r = if nat_eq r.number n then drained_row r else r
 abbrev pub without_drain : ℕ → State → State
 without_drain n s = record s { nodes = map (drained n) s.nodes }
 
-abbrev pub lost : ℕ → Allocation → Allocation
-lost n a = if nat_eq a.node n && is_active a.client then (record a { client = clients.Lost }) else a
+abbrev pub lost_row : Allocation → Allocation
+lost_row a = record a { client = clients.Lost }
 
-abbrev pub lives_on : ℕ → Allocation → Bool
-lives_on n a = nat_eq a.node n && is_live a
+abbrev pub lost : ℕ → Allocation → Allocation
+lost n a = if is_active_on n a then lost_row a else a
 
 -- A node that has a row is down: what was not final on it is lost, and the jobs of what was live
 -- are touched.

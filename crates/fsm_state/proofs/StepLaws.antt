@@ -1,6 +1,6 @@
 -- The effects as puts of one row after the other are the effects as changes of all rows.
 use Rattle.std.proofs.Common.{◌≡◌, ℕ, Bool, true, false, cond, ◌&&◌, ◌||◌, T, List, [], ◌∷◌, ◌++◌, length, map, Option, Some, None, is_some, refl, sym, ap, subst, ◌∙◌}
-use Rattle.std.specs.Prelude.{nat_eq, nat_lt, bytes_eq, filter}
+use Rattle.std.specs.Prelude.{nat_eq, nat_lt, filter}
 use Rattle.std.specs.List.{list_any}
 use Rattle.std.specs.Cmp.{IsTotalOrder, nat_cmp_total, tied_itself}
 use Rattle.std.specs.Cmp.Lexicographic.{nat_list_cmp_total}
@@ -21,11 +21,11 @@ use Rattle.rows.specs.Rising.{is_below, is_rising}
 use Rattle.fsm_tables.specs.Rows.{by_order, row_of, has_row, put, put_within}
 use Rattle.fsm_tables.specs.RowLaws.{both, less, first, second, none_below, below_less, below_tied, some_none, some_same}
 use Rattle.cluster_model.specs.Words.{State, holds, same_eval, is_open}
-use Rattle.cluster_model.specs.Effect.{touched, with_evals, is_named, owns, stop_job, down, draining, drained, lives_on, set_status}
+use Rattle.cluster_model.specs.Effect.{touched, with_evals, is_named, owns, stop_job, down, draining, drained, set_status}
 use Rattle.rows.proofs.KeyLaws.{eval_cmp_total}
-use Rattle.fsm_state.specs.Inner.Steps.{put_changed, changed, touched_names, jobs_on, set_one, is_one_of}
+use Rattle.fsm_state.specs.Inner.Steps.{put_changed, changed, touched_names, set_one, is_one_of, AreJobs}
 use Rattle.cluster_model.proofs.Lists.{maps_same, or_false, both_tests}
-use Rattle.cluster_model.proofs.Keys.{names_turn, at_name, at_number, at_eval}
+use Rattle.cluster_model.proofs.Keys.{at_name, at_number, at_eval}
 
 -- ---- a change at a key is a map, in a table of rising keys
 
@@ -174,13 +174,6 @@ touched_same those names h t = λ i. record t { evals = with_evals t.count 0 (fi
 pub touched_name : (name : List ℕ) (t : State) → touched (is_named name) t ≡ touched_names (name ∷ []) t
 touched_name name t = touched_same (is_named name) (name ∷ []) (λ j. sym (or_false (is_named name j))) t
 
-pub on_node_jobs : (n : ℕ) (rows : List Allocation) (j : Job) → owns (lives_on n) rows j ≡ is_one_of (jobs_on n rows) j
-on_node_jobs n [] j = refl
-on_node_jobs n (a ∷ rows) j =
-    elim (lives_on n a) as (λ b. ((b && bytes_eq a.job j.name) || owns (lives_on n) rows j) ≡ is_one_of (cond b (a.job ∷ jobs_on n rows) (jobs_on n rows)) j) [
-      | true ↦ λ i. names_turn a.job j.name i || on_node_jobs n rows j i
-      | false ↦ on_node_jobs n rows j
-    ]
-
-pub touched_on : (n : ℕ) (rows : List Allocation) (t : State) → touched (owns (lives_on n) rows) t ≡ touched_names (jobs_on n rows) t
-touched_on n rows t = touched_same (owns (lives_on n) rows) (jobs_on n rows) (on_node_jobs n rows) t
+-- what is touched is told by which names there are
+pub touched_jobs : (which : Allocation → Bool) (names : List (List ℕ)) (rows : List Allocation) → AreJobs which names rows → (t : State) → touched (owns which rows) t ≡ touched_names names t
+touched_jobs which names rows h t = touched_same (owns which rows) names (λ j. sym (h.named j.name)) t

@@ -4,7 +4,8 @@ ghost use Rattle.std.specs.List.{list_any};
 ghost use Rattle.rows.specs.declared.command.Command.TheVariants as commands;
 ghost use Rattle.cluster_model.specs.Words.{is_draining};
 ghost use Rattle.cluster_model.specs.Admission.{admission, jobs_pass, evals_pass, differs as node_differs, allows as may_become, touch_passes};
-ghost use Rattle.cluster_model.specs.Effect.{lives_on, is_named};
+ghost use Rattle.cluster_model.specs.Effect.{is_named};
+ghost use Rattle.fsm_tables.specs.Lookups.{lives_on};
 
 mod alone;
 mod claims;

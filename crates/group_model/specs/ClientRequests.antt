@@ -14,7 +14,8 @@ use Rattle.raft_model.specs.Servers.{Server, is_leader}
 use Rattle.raft_model.specs.Steps.{admitted}
 use Rattle.cluster_model.specs.Words.{State}
 use Rattle.cluster_model.specs.Words.{node_of, holds, is_ready}
-use Rattle.cluster_model.specs.Effect.{lives_on, told_all}
+use Rattle.fsm_tables.specs.Lookups.{lives_on}
+use Rattle.cluster_model.specs.Effect.{told_all}
 use Rattle.cluster_model.specs.Admission.{admission}
 use Rattle.cluster_model.specs.ClusterMachine.{cluster_meaning}
 use Rattle.group_model.specs.Reasons.{reason_of}

@@ -1,7 +1,7 @@
 -- The effects once more, as puts of one row after the other at its key: the form in which the code
 -- makes them.
 use Rattle.std.specs.Prelude.{◌≡◌, ◌++◌, map, ℕ, true, not, ◌&&◌, List, [], ◌∷◌, filter, Option, Some, None, nat_eq, bytes_eq, Bool, if◌then◌else◌}
-use Rattle.std.specs.List.{list_any, slice_get}
+use Rattle.std.specs.List.{list_any, IsDistinct}
 use Rattle.std.specs.declared.cmp.Ordering.{Ordering}
 use Rattle.std.specs.Ordering.{nat_cmp}
 use Rattle.rows.specs.declared.job.Job.{Job}
@@ -18,7 +18,7 @@ use Rattle.fsm_tables.specs.TableRows.{TableRows}
 use Rattle.fsm_tables.specs.Claims.{is_active, is_live}
 use Rattle.cluster_model.specs.Limits.{most_jobs, most_nodes, most_evals, most_allocs}
 use Rattle.cluster_model.specs.Words.{State, alloc_of, is_open}
-use Rattle.cluster_model.specs.Effect.{lost, ends, state_of, new_eval, with_evals, lives_on}
+use Rattle.cluster_model.specs.Effect.{lost_row, lost, ends, state_of, new_eval, with_evals}
 use Rattle.rows.specs.declared.command.StatusChange.{StatusChange}
 use Rattle.rows.specs.Changes.{status_of, snapshot_of}
 
@@ -60,11 +60,6 @@ eval_changed f id s = record s { evals = changed eval_cmp eval_id most_evals f i
 
 abbrev pub alloc_changed : (Allocation → Allocation) → AllocId → State → State
 alloc_changed f id s = record s { allocs = changed alloc_cmp alloc_id most_allocs f id s.allocs }
-
--- the allocation at a place changes
-abbrev pub changed_at : (Allocation → Allocation) → ℕ → State → State
-changed_at f place s =
-    record s { allocs = put_changed alloc_cmp alloc_id most_allocs f (slice_get s.allocs place) s.allocs }
 
 -- all that is on a node is lost
 abbrev pub all_lost : ℕ → State → State
@@ -148,11 +143,21 @@ abbrev pub live_jobs : List AllocId → State → List (List ℕ)
 live_jobs [] s = []
 live_jobs (id ∷ ids) s = live_job (alloc_of id s) (live_jobs ids s)
 
--- ---- the jobs of the live ones on a node
+-- ---- a node's loss: what waits or runs on it is lost, one after the other, and the jobs of what
+-- was live
 
-abbrev pub jobs_on : ℕ → List Allocation → List (List ℕ)
-jobs_on n [] = []
-jobs_on n (a ∷ rows) = if lives_on n a then (a.job ∷ jobs_on n rows) else jobs_on n rows
+abbrev pub lost_steps : List Allocation → State → State
+lost_steps [] s = s
+lost_steps (a ∷ rows) s = lost_steps rows (put_alloc (lost_row a) s)
+
+-- a name is put behind the others, unless it is one of them
+abbrev pub with_name : List ℕ → List (List ℕ) → List (List ℕ)
+with_name name names = if list_any (bytes_eq name) names then names else names ++ name ∷ []
+
+-- the names of the jobs that own a row that passes, in some order and each once, and no other name
+pub record AreJobs (which : Allocation → Bool) (names : List (List ℕ)) (rows : List Allocation) : Type 0 where
+  pub named : (name : List ℕ) → list_any (bytes_eq name) names ≡ list_any (λ a. which a && bytes_eq a.job name) rows
+  pub once : IsDistinct bytes_eq names
 
 -- ---- parts of the steps
 

@@ -4,7 +4,8 @@ ghost use Rattle.std.specs.List.{list_any, list_all};
 ghost use Rattle.rows.specs.declared.command.Command.TheVariants as commands;
 ghost use Rattle.cluster_model.specs.Words.{no_alloc, is_ready as stands_ready};
 ghost use Rattle.cluster_model.specs.Admission.{admission, touch_passes, drains, can_move, is_its_own};
-ghost use Rattle.cluster_model.specs.Effect.{lives_on, moves, owns, ends, told, told_all};
+ghost use Rattle.cluster_model.specs.Effect.{moves, owns, ends, told, told_all};
+ghost use Rattle.fsm_tables.specs.Lookups.{lives_on};
 ghost use Rattle.fsm_state.specs.Inner.Steps.{is_one_of, ended_job, ended_now, Adds};
 
 use crate::admission::is_drained;
