@@ -18,8 +18,8 @@ use Rattle.rows.specs.Keys.{alloc_cmp, alloc_id, node_number}
 use Rattle.rows.specs.Fits.{AllocationFits, AcceptedPlaceFits}
 use Rattle.rows.specs.Rising.{is_rising}
 use Rattle.fsm_tables.specs.Rows.{row_of, has_row, put, put_within}
-use Rattle.fsm_tables.specs.RowLaws.{first, second, weight_of, none_below, below_tied, rising_put, rising_mapped, length-put, sum_by-put}
-use Rattle.fsm_tables.specs.Sums.{weight}
+use Rattle.fsm_tables.proofs.RowLaws.{first, second, none_below, below_tied, rising_put, rising_mapped, length-put, sum_by-put}
+use Rattle.fsm_tables.specs.Inner.Sums.{weight_of, weight}
 use Rattle.fsm_tables.specs.Claims.{Claim, claim_of, claims, on_node, used, is_live}
 use Rattle.cluster_model.specs.Words.{State, same_alloc}
 use Rattle.cluster_model.specs.Safe.{fits, is_safe}

@@ -17,7 +17,7 @@ use Rattle.rows.specs.declared.command.AcceptedPlan.{AcceptedPlan}
 use Rattle.rows.specs.Keys.{alloc_cmp, alloc_id}
 use Rattle.rows.specs.Fits.{AcceptedPlaceFits}
 use Rattle.fsm_tables.specs.Rows.{has_row, put, put_within, by_order}
-use Rattle.fsm_tables.specs.RowLaws.{both, first, second}
+use Rattle.fsm_tables.proofs.RowLaws.{both, first, second}
 use Rattle.fsm_tables.specs.Claims.{Claim, claim_of, claims, is_live, is_wanted}
 use Rattle.cluster_model.specs.Words.{State, same_alloc}
 use Rattle.cluster_model.specs.Safe.{same_name, are_distinct, are_safe, is_safe}

@@ -25,7 +25,7 @@ use Rattle.rows.specs.Changes.{status_of, snapshot_of}
 use Rattle.rows.specs.Keys.{name_cmp, eval_cmp, alloc_cmp, job_name, node_number, eval_id, alloc_id}
 use Rattle.rows.specs.Fits.{IndexFits, FromOneFits, JobFits, NodeSpecFits, NodeFits, EvaluationFits, AllocationFits, AcceptedPlaceFits, AcceptedPlanFits, StatusChangeFits, CommandFits}
 use Rattle.fsm_tables.specs.Rows.{row_of, has_row, put, put_within}
-use Rattle.fsm_tables.specs.RowLaws.{all_put}
+use Rattle.fsm_tables.proofs.RowLaws.{all_put}
 use Rattle.fsm_tables.specs.Claims.{is_active, is_wanted}
 use Rattle.fsm_tables.specs.Lookups.{lives_on}
 use Rattle.cluster_model.specs.Words.{State, no_rows, same_eval, same_alloc, node_of, no_node, is_open}

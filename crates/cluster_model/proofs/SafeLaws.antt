@@ -22,7 +22,7 @@ use Rattle.rows.specs.declared.command.Command.TheVariants as commands
 use Rattle.rows.specs.declared.refusal.Refusal.{Refusal}
 use Rattle.rows.specs.Keys.{node_number}
 use Rattle.fsm_tables.specs.Rows.{row_of, has_row, put, by_order}
-use Rattle.fsm_tables.specs.RowLaws.{both, first, second, row_of-put}
+use Rattle.fsm_tables.proofs.RowLaws.{both, first, second, row_of-put}
 use Rattle.fsm_tables.specs.Claims.{Claim, claim_of, claims, on_node, used, is_live, is_wanted, is_active}
 use Rattle.cluster_model.specs.Words.{State, no_rows, node_of, no_node, same_alloc}
 use Rattle.cluster_model.specs.Safe.{fits, is_within, is_placed, same_name, are_distinct, are_safe, is_safe}

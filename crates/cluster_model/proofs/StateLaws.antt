@@ -25,7 +25,7 @@ use Rattle.rows.specs.Keys.{name_cmp, eval_cmp, alloc_cmp, job_name, node_number
 use Rattle.rows.proofs.KeyLaws.{alloc_cmp_total, eval_cmp_total}
 use Rattle.machine.specs.Meaning.{IsMachineRefusal}
 use Rattle.fsm_tables.specs.Rows.{put_within}
-use Rattle.fsm_tables.specs.RowLaws.{rising_put_within, few_put_within, rising_mapped}
+use Rattle.fsm_tables.proofs.RowLaws.{rising_put_within, few_put_within, rising_mapped}
 use Rattle.fsm_tables.specs.Claims.{is_active, is_wanted}
 use Rattle.fsm_tables.specs.Lookups.{lives_on}
 use Rattle.cluster_model.specs.Words.{State, no_rows, same_eval, same_alloc, node_of, no_node, is_open}

@@ -16,8 +16,8 @@ use Rattle.rows.specs.declared.command.AcceptedPlan.{AcceptedPlan}
 use Rattle.rows.specs.Keys.{alloc_cmp, alloc_id, node_number}
 use Rattle.rows.specs.Rising.{is_below, is_rising}
 use Rattle.fsm_tables.specs.Rows.{row_of, has_row, put, put_within}
-use Rattle.fsm_tables.specs.RowLaws.{both, first, second, weight_of, sum_by-put}
-use Rattle.fsm_tables.specs.Sums.{weight}
+use Rattle.fsm_tables.proofs.RowLaws.{both, first, second, sum_by-put}
+use Rattle.fsm_tables.specs.Inner.Sums.{weight_of, weight}
 use Rattle.fsm_tables.specs.Claims.{Claim, claim_of, claims, on_node, is_live, is_wanted, is_active}
 use Rattle.fsm_tables.specs.LiveNames.{live_named}
 use Rattle.cluster_model.specs.Words.{State, same_alloc}

@@ -10,7 +10,7 @@ use Rattle.rows.specs.declared.allocation.Allocation.{Allocation}
 use Rattle.rows.specs.declared.command.AcceptedPlan.{AcceptedPlan}
 use Rattle.fsm_tables.specs.Claims.{Claim, claim_of, claims, on_node, is_live}
 use Rattle.fsm_tables.specs.LiveNames.{is_called, live_named, name_of}
-use Rattle.fsm_tables.specs.RowLaws.{both, first, second, less}
+use Rattle.fsm_tables.proofs.RowLaws.{both, first, second, less}
 use Rattle.rows.specs.declared.allocation.AllocId.{AllocId}
 use Rattle.rows.specs.Keys.{alloc_cmp, alloc_id}
 use Rattle.rows.specs.Rising.{is_below, is_rising}

@@ -19,7 +19,7 @@ use Rattle.rows.specs.Changes.{status_of, snapshot_of}
 use Rattle.rows.specs.Keys.{name_cmp, eval_cmp, job_name, node_number, eval_id}
 use Rattle.rows.specs.Rising.{is_below, is_rising}
 use Rattle.fsm_tables.specs.Rows.{by_order, row_of, has_row, put, put_within}
-use Rattle.fsm_tables.specs.RowLaws.{both, less, first, second, none_below, below_less, below_tied, some_none, some_same}
+use Rattle.fsm_tables.proofs.RowLaws.{both, less, first, second, none_below, below_less, below_tied, some_none, some_same}
 use Rattle.cluster_model.specs.Words.{State, holds, same_eval, is_open}
 use Rattle.cluster_model.specs.Effect.{touched, with_evals, is_named, owns, stop_job, down, draining, drained, set_status}
 use Rattle.rows.proofs.KeyLaws.{eval_cmp_total}

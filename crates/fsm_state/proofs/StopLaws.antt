@@ -13,7 +13,7 @@ use Rattle.rows.specs.declared.command.Report.{Report}
 use Rattle.rows.specs.Keys.{alloc_cmp, node_number, alloc_id}
 use Rattle.rows.specs.Rising.{is_rising}
 use Rattle.fsm_tables.specs.Rows.{row_of, put_within}
-use Rattle.fsm_tables.specs.RowLaws.{rising_mapped}
+use Rattle.fsm_tables.proofs.RowLaws.{rising_mapped}
 use Rattle.fsm_tables.specs.Claims.{Claim, claim_of, is_active, is_live, is_wanted}
 use Rattle.cluster_model.specs.Words.{State, alloc_of, holds, same_alloc}
 use Rattle.cluster_model.specs.Effect.{touched, owns, moves, marked, ends, frees, with_room, altered, stop, state_of, told, told_all}

@@ -21,7 +21,7 @@ use Rattle.fsm_tables.specs.declared.index.Entry.{Entry}
 use Rattle.fsm_tables.specs.Inner.Index.{entry_cmp, entry_under, entry_of, is_entry, AreIndexed, IsSame, Gains, Loses, has_id, is_within, is_between, passes, entries_between, AreIdsOf}
 use Rattle.fsm_tables.specs.Rows.{row_of, put}
 use Rattle.rows.specs.Rising.{is_rising}
-use Rattle.fsm_tables.specs.RowLaws.{equal, row_of-put}
+use Rattle.fsm_tables.proofs.RowLaws.{equal, row_of-put}
 use Rattle.fsm_tables.proofs.Filters.{exact_ids, row_found, rows_are_filtered, first_row}
 
 -- the entry of a row has its id

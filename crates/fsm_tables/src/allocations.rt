@@ -30,7 +30,7 @@ pub(crate) struct Allocations {
 impl Model for Allocations {
     ghost use Rattle.std.specs.Prelude.{List, ◌≤◌, length};
     ghost use Rattle.rows.specs.declared.allocation.Allocation.{Allocation};
-    ghost use Rattle.fsm_tables.specs.Sums.{AreSummed};
+    ghost use Rattle.fsm_tables.specs.Inner.Sums.{AreSummed};
     ghost use Rattle.fsm_tables.specs.Inner.Keys.{AreListed};
 
     ghost Value = { List Allocation };

@@ -1,7 +1,8 @@
 ghost use Rattle.std.specs.Prelude.{◌≡◌, ◌≤◌, ◌<◌, List, [], OnOk, OnErr, option_map, length, T as Holds};
 ghost use Rattle.std.specs.List.{AllByRecursion, slice_get};
 ghost use Rattle.rows.specs.Rising.{is_rising};
-ghost use Rattle.fsm_tables.specs.Rows.{row_of, put as with_row, put_within as with_row_within, PlaceOf};
+ghost use Rattle.fsm_tables.specs.Rows.{row_of, put as with_row, put_within as with_row_within};
+ghost use Rattle.fsm_tables.specs.Inner.Places.{PlaceOf};
 
 use rows::{NoMemory, Ranged};
 use std::alloc::Global;

@@ -1,6 +1,6 @@
 ghost use Rattle.std.specs.Prelude.{◌≡◌, ◌≤◌, ◌<◌, ◌+◌, ◌^◌, ℕ, Some, cond, nat_eq, slice_index, option_map};
 ghost use Rattle.fsm_tables.specs.Claims.{is_wanted as wanted, is_active as active, is_live as lives};
-ghost use Rattle.fsm_tables.specs.Sums.{IsShare};
+ghost use Rattle.fsm_tables.specs.Inner.Sums.{IsShare};
 
 use rows::{Allocation, ClientState, Desired};
 

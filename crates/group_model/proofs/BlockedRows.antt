@@ -11,7 +11,7 @@ use Rattle.rows.specs.Keys.{name_cmp, eval_cmp, job_name, node_number, eval_id}
 use Rattle.std.specs.Cmp.Lexicographic.{nat_list_cmp_total}
 use Rattle.rows.proofs.KeyLaws.{eval_cmp_total}
 use Rattle.fsm_tables.specs.Rows.{by_order, row_of, put}
-use Rattle.fsm_tables.specs.RowLaws.{row_of-put}
+use Rattle.fsm_tables.proofs.RowLaws.{row_of-put}
 use Rattle.cluster_model.specs.Words.{holds, job_of, is_blocked}
 use Rattle.group_model.specs.Blocked.{BlockedEvals, blocked_id, with_blocked, without_blocked, blocked_over, has_new_room, room_with, classes_of, blocked_eval, room_over, with_classes_of}
 use Rattle.group_model.specs.Rows.{without}

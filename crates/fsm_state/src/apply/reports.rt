@@ -3,9 +3,8 @@ ghost use Rattle.std.specs.Prelude.{◌≡◌, ◌&&◌, OnOk, option_map, ◌<�
 ghost use Rattle.cluster_model.specs.Effect.{state_of};
 ghost use Rattle.fsm_state.specs.Inner.Steps.{revised, tell_one, told_steps, ended_job, ended_jobs, Adds};
 
-use crate::apply::allocs::is_active;
 use crate::cluster::Cluster;
-use fsm_tables::is_live;
+use fsm_tables::{is_active, is_live};
 use rows::{Allocation, ClientState, JobName, NoMemory, NodeId, Report, ReportedState, Sequence};
 
 /// The client state that a report tells.
