@@ -7,9 +7,9 @@ ghost use Rattle.rows.specs.declared.refusal.Refusal.{Refusal as AnyRefusal};
 ghost use Rattle.cluster_model.specs.Words.{State, no_rows};
 ghost use Rattle.cluster_model.specs.SafeFacts.{Safe as IsSafe};
 ghost use Rattle.fsm_tables.specs.Claims.{Claim, claims};
-ghost use Rattle.cluster_model.specs.Effect.{applied, counted, planned, stop};
+ghost use Rattle.cluster_model.specs.Effect.{applied, with_next_count, planned, stop};
 ghost use Rattle.cluster_model.specs.Plans.{ended};
-ghost use Rattle.cluster_model.specs.Plans.{kept, wanted, IsAskable, PlanIsSafe};
+ghost use Rattle.cluster_model.specs.Plans.{kept_claims, wanted, IsAskable, PlanIsSafe};
 ghost use Rattle.cluster_model.specs.Plans.{IsKnown, AfterIsSafe};
 ghost use Rattle.cluster_model.specs.Safe.{is_safe};
 ghost use Rattle.cluster_model.specs.Admission.{admission};
@@ -55,14 +55,14 @@ pub fn safety_is_decided()
 /// the plan makes, it is replaced, and counts no more than one that is stopped.
 pub fn plans_are_decided()
     ensures safe { (p : AnyPlan) (s : State)
-        → IsAskable p s → PlanIsSafe p s → Holds (is_safe (planned p (counted s))) }
+        → IsAskable p s → PlanIsSafe p s → Holds (is_safe (planned p (with_next_count s))) }
     ensures needs { (p : AnyPlan) (s : State)
-        → IsAskable p s → Holds (is_safe (planned p (counted s))) → PlanIsSafe p s }
+        → IsAskable p s → Holds (is_safe (planned p (with_next_count s))) → PlanIsSafe p s }
     ensures safe_always { (p : AnyPlan) (s : State)
-        → IsKnown p s → AfterIsSafe p s → Holds (is_safe (planned p (counted s))) }
+        → IsKnown p s → AfterIsSafe p s → Holds (is_safe (planned p (with_next_count s))) }
     ensures needs_always { (p : AnyPlan) (s : State)
-        → IsKnown p s → Holds (is_safe (planned p (counted s))) → AfterIsSafe p s }
+        → IsKnown p s → Holds (is_safe (planned p (with_next_count s))) → AfterIsSafe p s }
     ensures uses { (w : Claim → ℕ) (p : AnyPlan) (s : State)
-        → sum_by w (kept p s ++ wanted p) + sum_by w (ended (stop p.stops) s.allocs)
+        → sum_by w (kept_claims p s ++ wanted p) + sum_by w (ended (stop p.stops) s.allocs)
         ≡ sum_by w (claims s.allocs) + sum_by w (wanted p) }
 {}

@@ -6,9 +6,9 @@ ghost use Rattle.fsm_tables.specs.LiveNames.{live_named};
 ghost use Rattle.fsm_tables.specs.Lookups.{lives_on, is_active_on};
 ghost use Rattle.fsm_tables.specs.TableRows.{TablesFit};
 ghost use Rattle.cluster_model.specs.Words.{no_rows, same_alloc, job_of, node_of, eval_of, alloc_of};
-ghost use Rattle.cluster_model.specs.Effect.{counted};
+ghost use Rattle.cluster_model.specs.Effect.{with_next_count};
 ghost use Rattle.cluster_model.specs.Safe.{are_distinct};
-ghost use Rattle.fsm_state.specs.Inner.Alone.{is_free_but, is_free};
+ghost use Rattle.fsm_state.specs.Inner.Alone.{is_free_but, is_name_free};
 ghost use Rattle.fsm_state.specs.Inner.Steps.{rows_of, put_job, put_node, put_eval, put_alloc};
 
 use fsm_tables::{AllocName, Table, Tables, Usage, is_live};
@@ -199,7 +199,7 @@ impl Cluster {
     /// One more command.
     pub(crate) fn advance(&mut self) -> EntryIndex
         requires { self.old.count + 1 < 2 ^ 40 }
-        ensures state { self.new ≡ counted self.old }
+        ensures state { self.new ≡ with_next_count self.old }
         ensures entry { result ≡ self.old.count + 1 }
     {
         let entry = EntryIndex::after(self.count);
@@ -250,7 +250,7 @@ impl Cluster {
     /// Whether a row takes no name from another: it is not live, or its name finds no other row.
     fn takes_no_name(&self, row: &Allocation) -> bool
         ensures { result ≡ (
-            not (lives row.now) || is_free (row.now.id ∷ []) self.now.allocs (claim_of row.now)) }
+            not (lives row.now) || is_name_free (row.now.id ∷ []) self.now.allocs (claim_of row.now)) }
     {
         !is_live(row) || self.is_free_but(&AllocName::of(row), &[row.id])
     }

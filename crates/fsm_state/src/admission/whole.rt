@@ -3,7 +3,7 @@ ghost use Rattle.std.specs.Prelude.{◌≡◌, ◌≤◌, List, ◌++◌, ◌+�
 ghost use Rattle.std.specs.List.{list_all};
 ghost use Rattle.cluster_model.specs.Limits.{most_allocs};
 ghost use Rattle.cluster_model.specs.Safe.{is_safe, is_placed, are_distinct as distinct_claims, are_safe};
-ghost use Rattle.cluster_model.specs.Effect.{counted, planned, stop as stop_those};
+ghost use Rattle.cluster_model.specs.Effect.{with_next_count, planned, stop as stop_those};
 ghost use Rattle.cluster_model.specs.Plans.{are_free, is_made, left_by};
 ghost use Rattle.fsm_state.specs.Inner.Claimed.{bears_node, left_one, is_first, HeldOnce};
 ghost use Rattle.rows.specs.declared.allocation.Allocation.{Allocation as Row};
@@ -174,7 +174,7 @@ impl Cluster {
     /// Whether the state after a plan is safe. It looks at all that is claimed then.
     pub(super) fn bears_all(&self, plan: &AcceptedPlan) -> Result<bool, NoMemory>
         requires { length self.now.allocs + length plan.now.places ≤ most_allocs }
-        ensures { IfOk result (λ b. b ≡ is_safe (planned plan.now (counted self.now))) }
+        ensures { IfOk result (λ b. b ≡ is_safe (planned plan.now (with_next_count self.now))) }
     {
         self.ranges();
         plan.ranges();
