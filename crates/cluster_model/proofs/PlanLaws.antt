@@ -21,7 +21,7 @@ use Rattle.fsm_tables.proofs.RowLaws.{both, first, second}
 use Rattle.fsm_tables.specs.Claims.{Claim, claim_of, claims, is_live, is_wanted}
 use Rattle.cluster_model.specs.Words.{State, same_alloc}
 use Rattle.cluster_model.specs.Safe.{same_name, are_distinct, are_safe, is_safe}
-use Rattle.cluster_model.proofs.SafeLaws.{Fewer, nothing, kept as kept_first, gone, Releases, released, stop_releases, fewer_distinct, kept_safe, with_room_keeps, distinct_of}
+use Rattle.cluster_model.proofs.SafeLaws.{Fewer, nothing, kept, gone, Releases, released, stop_releases, fewer_distinct, kept_safe, with_room_keeps, distinct_of}
 use Rattle.cluster_model.specs.Plans.{ended, kept_claims, place_claim, wanted, are_free, are_dated, PlanIsSafe, IsAskable}
 use Rattle.cluster_model.proofs.UseLaws.{Counts, number_fits, safe_by_numbers, low_numbers, all_count, kept_numbers, released_sum}
 use Rattle.cluster_model.proofs.Lists.{and_true}
@@ -147,7 +147,7 @@ all_append P (x ∷ xs) ys g h = (g.0, all_append P xs ys g.1 h)
 
 fewer_claims : (P : Claim → Type 0) (xs ys : List Claim) → Fewer xs ys → AllByRecursion P ys → AllByRecursion P xs
 fewer_claims P _ _ nothing h = tt
-fewer_claims P _ _ (kept_first x xs ys f) h = (h.0, fewer_claims P xs ys f h.1)
+fewer_claims P _ _ (kept x xs ys f) h = (h.0, fewer_claims P xs ys f h.1)
 fewer_claims P _ _ (gone y xs ys f) h = fewer_claims P xs ys f h.1
 
 pub planned_count : (p : AcceptedPlan) (s : State) → IsAskable p s → AllByRecursion Counts (kept_claims p s ++ wanted p)

@@ -5,7 +5,7 @@ ghost use Rattle.rows.specs.declared.command.Command.{Command as AnyCommand};
 ghost use Rattle.rows.specs.declared.command.Command.TheVariants as commands;
 ghost use Rattle.rows.specs.declared.refusal.Refusal.{Refusal as AnyRefusal};
 ghost use Rattle.cluster_model.specs.Words.{State, no_rows};
-ghost use Rattle.cluster_model.specs.SafeFacts.{Safe as IsSafe};
+ghost use Rattle.cluster_model.specs.SafeFacts.{Safe};
 ghost use Rattle.fsm_tables.specs.Claims.{Claim, claims};
 ghost use Rattle.cluster_model.specs.Effect.{applied, with_next_count, planned, stop};
 ghost use Rattle.cluster_model.specs.Plans.{ended};
@@ -21,7 +21,7 @@ ghost use Rattle.cluster_model.specs.States.{IsState};
 /// The empty state is safe, its count is 0, its tables are in order, with every row in its ranges,
 /// and each state admits the no-op.
 pub fn empty_is_lawful()
-    ensures safe { IsSafe no_rows }
+    ensures safe { Safe no_rows }
     ensures count { no_rows.count ≡ 0 }
     ensures state { IsState no_rows }
     ensures noop { (s : State) → admission s commands.Noop ≡ None }
@@ -33,7 +33,7 @@ pub fn empty_is_lawful()
 /// machine's own.
 pub fn commands_are_lawful()
     ensures safe { (s : State) (c : AnyCommand)
-        → IsSafe s → admission s c ≡ None → IsSafe (applied s c) }
+        → Safe s → admission s c ≡ None → Safe (applied s c) }
     ensures count { (s : State) (c : AnyCommand) → (applied s c).count ≡ s.count + 1 }
     ensures tables { (s : State) (c : AnyCommand) → AreTables s → AreTables (applied s c) }
     ensures state { (s : State) (c : AnyCommand)
@@ -44,8 +44,8 @@ pub fn commands_are_lawful()
 
 /// A state is safe exactly where the test says so.
 pub fn safety_is_decided()
-    ensures safe { (s : State) → Holds (is_safe s) → IsSafe s }
-    ensures test { (s : State) → IsSafe s → Holds (is_safe s) }
+    ensures safe { (s : State) → Holds (is_safe s) → Safe s }
+    ensures test { (s : State) → Safe s → Holds (is_safe s) }
 {}
 
 /// When the state after a plan is safe, on every state whose allocations were made by entries

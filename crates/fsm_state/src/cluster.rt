@@ -1,7 +1,7 @@
 //! The replicated state as a value: its rows, and one row put.
 ghost use Rattle.std.specs.Prelude.{◌≡◌, ◌∷◌, [], ◌+◌, ◌<◌, ◌^◌, ◌||◌, not, OnOk, IfOk, filter, option_map, T as Holds};
 ghost use Rattle.std.specs.List.{list_any};
-ghost use Rattle.fsm_tables.specs.Claims.{claim_of, claims, used, is_live as lives};
+ghost use Rattle.fsm_tables.specs.Claims.{claim_of, claims, used, is_live};
 ghost use Rattle.fsm_tables.specs.LiveNames.{live_named};
 ghost use Rattle.fsm_tables.specs.Lookups.{lives_on, is_active_on};
 ghost use Rattle.fsm_tables.specs.TableRows.{TablesFit};
@@ -249,8 +249,8 @@ impl Cluster {
 
     /// Whether a row takes no name from another: it is not live, or its name finds no other row.
     fn takes_no_name(&self, row: &Allocation) -> bool
-        ensures { result ≡ (
-            not (lives row.now) || is_name_free (row.now.id ∷ []) self.now.allocs (claim_of row.now)) }
+        ensures { let claim = claim_of row.now in result ≡ (
+            not (is_live row.now) || is_name_free (row.now.id ∷ []) self.now.allocs claim) }
     {
         !is_live(row) || self.is_free_but(&AllocName::of(row), &[row.id])
     }

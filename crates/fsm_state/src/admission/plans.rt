@@ -2,7 +2,7 @@
 ghost use Rattle.std.specs.Prelude.{◌≡◌, ◌≤◌, ◌&&◌, ◌+◌, Option, Some, None, IfOk, length, nat_lt, not};
 ghost use Rattle.std.specs.List.{list_any, list_all};
 ghost use Rattle.cluster_model.specs.Limits.{most_allocs};
-ghost use Rattle.cluster_model.specs.Words.{is_some_and, is_pending as waits, eval_of, node_of};
+ghost use Rattle.cluster_model.specs.Words.{is_some_and, is_pending, eval_of, node_of};
 ghost use Rattle.rows.specs.declared.command.Command.TheVariants as commands;
 ghost use Rattle.cluster_model.specs.Admission.{admission, is_stopped, is_live_of, may_hold, is_asked, fits_job};
 
@@ -16,7 +16,7 @@ use rows::{
 
 /// Whether an evaluation is pending.
 fn is_pending(status: EvalStatus) -> bool
-    ensures { result ≡ waits status }
+    ensures { result ≡ is_pending status }
 {
     match status {
         EvalStatus::Pending => true,
@@ -34,7 +34,7 @@ fn may_hold(group: &Group, node: &Node) -> bool
 impl Cluster {
     /// Whether there is the evaluation, and it is pending.
     fn is_waiting(&self, id: EvalId) -> bool
-        ensures { result ≡ is_some_and (λ e. waits e.status) (eval_of id self.now) }
+        ensures { result ≡ is_some_and (λ e. is_pending e.status) (eval_of id self.now) }
     {
         match self.eval(id) {
             Some(row) => is_pending(row.status),

@@ -2,7 +2,7 @@
 ghost use Rattle.std.specs.Prelude.{◌≡◌, ◌≤◌, Option, Some, None, IfOk, OnOk, length, filter, option_map};
 ghost use Rattle.std.specs.List.{list_any, list_all};
 ghost use Rattle.rows.specs.declared.command.Command.TheVariants as commands;
-ghost use Rattle.cluster_model.specs.Words.{no_alloc, is_ready as stands_ready};
+ghost use Rattle.cluster_model.specs.Words.{no_alloc, is_ready};
 ghost use Rattle.cluster_model.specs.Admission.{admission, touch_passes, drains, can_move, is_its_own};
 ghost use Rattle.cluster_model.specs.Effect.{moves, owns, is_ended_by, told, told_all};
 ghost use Rattle.fsm_tables.specs.Lookups.{lives_on};
@@ -20,7 +20,7 @@ use rows::{
 
 /// Whether a node is ready.
 pub(super) fn is_ready(status: NodeStatus) -> bool
-    ensures { result ≡ stands_ready status }
+    ensures { result ≡ is_ready status }
 {
     match status {
         NodeStatus::Ready => true,
