@@ -1,5 +1,5 @@
 //! Why a state refuses a plan.
-ghost use Rattle.std.specs.Prelude.{◌≡◌, ◌≤◌, ◌&&◌, ◌+◌, Option, Some, None, IfOk, length, nat_lt, not};
+ghost use Rattle.std.specs.Prelude.{◌≡◌, ◌≤◌, ◌&&◌, ◌+◌, Option, Some, None, IfOk, length, nat_lt};
 ghost use Rattle.std.specs.List.{list_any, list_all};
 ghost use Rattle.cluster_model.specs.Limits.{most_allocs};
 ghost use Rattle.cluster_model.specs.Words.{is_some_and, is_pending, eval_of, node_of};
