@@ -18,12 +18,12 @@ use Rattle.rows.specs.Keys.{alloc_cmp, alloc_id, node_number}
 use Rattle.rows.specs.Fits.{AllocationFits, AcceptedPlaceFits}
 use Rattle.rows.specs.Rising.{is_rising}
 use Rattle.fsm_tables.specs.Rows.{row_of, has_row, put, put_within}
-use Rattle.fsm_tables.specs.RowLaws.{first, second, weight_of, none_below, below_tied, rising_put, rising_mapped, length-put, sum_by-put}
-use Rattle.fsm_tables.specs.Sums.{weight}
+use Rattle.fsm_tables.proofs.RowLaws.{first, second, none_below, below_tied, rising_put, rising_mapped, length-put, sum_by-put}
+use Rattle.fsm_tables.specs.Inner.Sums.{weight_of, weight}
 use Rattle.fsm_tables.specs.Claims.{Claim, claim_of, claims, on_node, used, is_live}
 use Rattle.cluster_model.specs.Words.{State, same_alloc}
 use Rattle.cluster_model.specs.Safe.{fits, is_safe}
-use Rattle.cluster_model.specs.Effect.{counted, stop, frees, with_room, alloc_row, with_places, planned}
+use Rattle.cluster_model.specs.Effect.{with_next_count, stop, frees, with_room, alloc_row, with_places, planned}
 use Rattle.rows.proofs.KeyLaws.{alloc_cmp_total}
 use Rattle.cluster_model.proofs.SafeLaws.{stop_releases, kept_safe, with_room_keeps, distinct_of}
 use Rattle.cluster_model.specs.Plans.{room_of, place_claim, wanted, is_made, left, left_by, AfterIsSafe, IsKnown}
@@ -178,13 +178,13 @@ left_sum w x slot n (a ∷ rows) =
 -- after a plan each sum over what is claimed is that over what it leaves and what it wants: the
 -- same claims, in some order
 pub sums_planned : (w : Claim → ℕ) (p : AcceptedPlan) (s : State) → T (is_rising alloc_cmp alloc_id s.allocs) → length s.allocs + length p.places ≤ 65536
-    → sum_by w (claims (planned p (counted s)).allocs) ≡ sum_by w (left_by p s ++ wanted p)
+    → sum_by w (claims (planned p (with_next_count s)).allocs) ≡ sum_by w (left_by p s ++ wanted p)
 sums_planned w p s rising few =
     let rows = map (stop p.stops) s.allocs in
     let size : length rows ≡ length s.allocs = length-map s.allocs (stop p.stops) in
     let all = places_sum w (s.count + 1) 0 p p.places rows (rising_mapped alloc_cmp alloc_id (stop p.stops) (stop_id p.stops) s.allocs rising) (omega (arith, few, size)) in
     let rest = left_sum w (s.count + 1) 0 (length p.places) rows in
-    claims_sum w (planned p (counted s)).allocs ∙ all ∙ ap (λ (m : ℕ). m + sum_by w (wanted p)) (sym rest) ∙ sym (sum_by-append w (left_by p s) (wanted p))
+    claims_sum w (planned p (with_next_count s)).allocs ∙ all ∙ ap (λ (m : ℕ). m + sum_by w (wanted p)) (sym rest) ∙ sym (sum_by-append w (left_by p s) (wanted p))
 
 -- ---- its safety
 
@@ -210,26 +210,26 @@ places_count x slot p (k ∷ ks) rows g h =
 same_use : (cs ds : List Claim) → ((w : Claim → ℕ) → sum_by w cs ≡ sum_by w ds) → (n : ℕ) → used n cs ≡ used n ds
 same_use cs ds same n = λ i. record { cpu = same (on_node n (λ z. z.cpu)) i; mem = same (on_node n (λ z. z.mem)) i }
 
-pub planned_is_safe : (p : AcceptedPlan) (s : State) → IsKnown p s → AfterIsSafe p s → T (is_safe (planned p (counted s)))
+pub planned_is_safe : (p : AcceptedPlan) (s : State) → IsKnown p s → AfterIsSafe p s → T (is_safe (planned p (with_next_count s)))
 planned_is_safe p s k h =
     let g = with_room (frees (stop p.stops) s.allocs) (s.count + 1) in
     let keeps = with_room_keeps (frees (stop p.stops) s.allocs) (s.count + 1) in
-    let cs = claims (planned p (counted s)).allocs in
+    let cs = claims (planned p (with_next_count s)).allocs in
     let ds = left_by p s ++ wanted p in
     let same : (w : Claim → ℕ) → sum_by w cs ≡ sum_by w ds = λ w. sums_planned w p s k.allocs_rising k.few in
     let rows = map (stop p.stops) s.allocs in
     let kept = all_mapped RowCounts (stop p.stops) (λ a c. subst Counts (sym ((stop_releases p.stops).same_claim a)) c) s.allocs (rows_count s.allocs k.allocs) in
-    let counts = claims_count (planned p (counted s)).allocs (places_count (s.count + 1) 0 p p.places rows k.places kept) in
+    let counts = claims_count (planned p (with_next_count s)).allocs (places_count (s.count + 1) 0 p p.places rows k.places kept) in
     kept_safe g keeps s.nodes cs
     (safe_by_numbers s.nodes cs k.nodes_rising (low_numbers s.nodes k.nodes) counts
     (λ n lt. subst (λ z. T (fits z (room_of (row_of nat_cmp node_number n s.nodes)))) (sym (same_use cs ds same n)) (h.fit n lt))
     (distinct_same ds cs (λ w. sym (same w)) h.distinct))
 
-pub safe_is_planned : (p : AcceptedPlan) (s : State) → IsKnown p s → T (is_safe (planned p (counted s))) → AfterIsSafe p s
+pub safe_is_planned : (p : AcceptedPlan) (s : State) → IsKnown p s → T (is_safe (planned p (with_next_count s))) → AfterIsSafe p s
 safe_is_planned p s k h =
     let g = with_room (frees (stop p.stops) s.allocs) (s.count + 1) in
     let keeps = with_room_keeps (frees (stop p.stops) s.allocs) (s.count + 1) in
-    let cs = claims (planned p (counted s)).allocs in
+    let cs = claims (planned p (with_next_count s)).allocs in
     let ds = left_by p s ++ wanted p in
     let same : (w : Claim → ℕ) → sum_by w cs ≡ sum_by w ds = λ w. sums_planned w p s k.allocs_rising k.few in
     record {

@@ -9,7 +9,7 @@ use Rattle.std.specs.Cmp.Lexicographic.{nat_list_cmp_total, slice_cmp}
 use Rattle.std.specs.declared.cmp.Ordering.TheVariants.{Equal}
 use Rattle.std.proofs.lemmas.List.Sums.{sum_by-cons}
 use Rattle.std.proofs.lemmas.Map.Text.{is_eq-slice_cmp}
-use Rattle.fsm_tables.specs.RowLaws.{both, first, second, equal}
+use Rattle.fsm_tables.proofs.RowLaws.{both, first, second, equal}
 use Rattle.fsm_tables.specs.Claims.{Claim}
 use Rattle.cluster_model.specs.Safe.{same_name, are_distinct}
 

@@ -17,15 +17,15 @@ use Rattle.rows.specs.declared.command.AcceptedPlan.{AcceptedPlan}
 use Rattle.rows.specs.Keys.{alloc_cmp, alloc_id}
 use Rattle.rows.specs.Fits.{AcceptedPlaceFits}
 use Rattle.fsm_tables.specs.Rows.{has_row, put, put_within, by_order}
-use Rattle.fsm_tables.specs.RowLaws.{both, first, second}
+use Rattle.fsm_tables.proofs.RowLaws.{both, first, second}
 use Rattle.fsm_tables.specs.Claims.{Claim, claim_of, claims, is_live, is_wanted}
 use Rattle.cluster_model.specs.Words.{State, same_alloc}
 use Rattle.cluster_model.specs.Safe.{same_name, are_distinct, are_safe, is_safe}
-use Rattle.cluster_model.proofs.SafeLaws.{Fewer, nothing, kept as kept_first, gone, Releases, released, stop_releases, fewer_distinct, kept_safe, with_room_keeps, distinct_of}
-use Rattle.cluster_model.specs.Plans.{ended, kept, place_claim, wanted, are_free, are_dated, PlanIsSafe, IsAskable}
+use Rattle.cluster_model.proofs.SafeLaws.{Fewer, nothing, kept, gone, Releases, released, stop_releases, fewer_distinct, kept_safe, with_room_keeps, distinct_of}
+use Rattle.cluster_model.specs.Plans.{ended, kept_claims, place_claim, wanted, are_free, are_dated, PlanIsSafe, IsAskable}
 use Rattle.cluster_model.proofs.UseLaws.{Counts, number_fits, safe_by_numbers, low_numbers, all_count, kept_numbers, released_sum}
 use Rattle.cluster_model.proofs.Lists.{and_true}
-use Rattle.cluster_model.specs.Effect.{counted, stop, frees, with_room, alloc_row, with_places, planned}
+use Rattle.cluster_model.specs.Effect.{with_next_count, stop, frees, with_room, alloc_row, with_places, planned}
 
 -- ---- words
 
@@ -105,14 +105,14 @@ stop_dated x ids [] h = tt
 stop_dated x ids (a ∷ rows) h = both _ _ (subst (λ k. T (nat_lt k.index x)) (sym (stop_id ids a)) (first _ _ h)) (stop_dated x ids rows (second _ _ h))
 
 -- what is claimed after a plan: what it keeps, and then what it wants
-pub claims_planned : (p : AcceptedPlan) (s : State) → T (are_dated (s.count + 1) s.allocs) → length s.allocs + length p.places ≤ 65536 → claims (planned p (counted s)).allocs ≡ kept p s ++ wanted p
+pub claims_planned : (p : AcceptedPlan) (s : State) → T (are_dated (s.count + 1) s.allocs) → length s.allocs + length p.places ≤ 65536 → claims (planned p (with_next_count s)).allocs ≡ kept_claims p s ++ wanted p
 claims_planned p s dated few =
     let x = s.count + 1 in
     let rows = map (stop p.stops) s.allocs in
     let size : length rows ≡ length s.allocs = length-map s.allocs (stop p.stops) in
     ap claims (places_last x 0 p p.places rows (dated_before x rows (stop_dated x p.stops s.allocs dated)) (omega (arith, few, size)))
     ∙ claims-append rows (new_rows x 0 p p.places)
-    ∙ ap (λ cs. kept p s ++ cs) (new_claims x 0 p p.places)
+    ∙ ap (λ cs. kept_claims p s ++ cs) (new_claims x 0 p p.places)
 
 -- ---- names of claims put together
 
@@ -147,32 +147,32 @@ all_append P (x ∷ xs) ys g h = (g.0, all_append P xs ys g.1 h)
 
 fewer_claims : (P : Claim → Type 0) (xs ys : List Claim) → Fewer xs ys → AllByRecursion P ys → AllByRecursion P xs
 fewer_claims P _ _ nothing h = tt
-fewer_claims P _ _ (kept_first x xs ys f) h = (h.0, fewer_claims P xs ys f h.1)
+fewer_claims P _ _ (kept x xs ys f) h = (h.0, fewer_claims P xs ys f h.1)
 fewer_claims P _ _ (gone y xs ys f) h = fewer_claims P xs ys f h.1
 
-pub planned_count : (p : AcceptedPlan) (s : State) → IsAskable p s → AllByRecursion Counts (kept p s ++ wanted p)
-planned_count p s a = all_append Counts (kept p s) (wanted p)
-    (fewer_claims Counts (kept p s) (claims s.allocs) (released (stop p.stops) (stop_releases p.stops) s.allocs) (all_count s.allocs a.allocs))
+pub planned_count : (p : AcceptedPlan) (s : State) → IsAskable p s → AllByRecursion Counts (kept_claims p s ++ wanted p)
+planned_count p s a = all_append Counts (kept_claims p s) (wanted p)
+    (fewer_claims Counts (kept_claims p s) (claims s.allocs) (released (stop p.stops) (stop_releases p.stops) s.allocs) (all_count s.allocs a.allocs))
     (all_wanted_count p p.places a.places)
 
-pub plan_is_safe : (p : AcceptedPlan) (s : State) → IsAskable p s → PlanIsSafe p s → T (is_safe (planned p (counted s)))
+pub plan_is_safe : (p : AcceptedPlan) (s : State) → IsAskable p s → PlanIsSafe p s → T (is_safe (planned p (with_next_count s)))
 plan_is_safe p s a h =
-    let apart = subst T (sym (distinct-append (kept p s) (wanted p))) (three _ _ _ h.kept_distinct h.wanted_distinct h.free) in
-    let safe = safe_by_numbers s.nodes (kept p s ++ wanted p) a.rising (low_numbers s.nodes a.nodes) (planned_count p s a) h.fit apart in
+    let apart = subst T (sym (distinct-append (kept_claims p s) (wanted p))) (three _ _ _ h.kept_distinct h.wanted_distinct h.free) in
+    let safe = safe_by_numbers s.nodes (kept_claims p s ++ wanted p) a.rising (low_numbers s.nodes a.nodes) (planned_count p s a) h.fit apart in
     subst (λ cs. T (are_safe (map (with_room (frees (stop p.stops) s.allocs) (s.count + 1)) s.nodes) cs)) (sym (claims_planned p s a.dated a.few))
-    (kept_safe (with_room (frees (stop p.stops) s.allocs) (s.count + 1)) (with_room_keeps (frees (stop p.stops) s.allocs) (s.count + 1)) s.nodes (kept p s ++ wanted p) safe)
+    (kept_safe (with_room (frees (stop p.stops) s.allocs) (s.count + 1)) (with_room_keeps (frees (stop p.stops) s.allocs) (s.count + 1)) s.nodes (kept_claims p s ++ wanted p) safe)
 
-pub safe_is_plan : (p : AcceptedPlan) (s : State) → IsAskable p s → T (is_safe (planned p (counted s))) → PlanIsSafe p s
+pub safe_is_plan : (p : AcceptedPlan) (s : State) → IsAskable p s → T (is_safe (planned p (with_next_count s))) → PlanIsSafe p s
 safe_is_plan p s a h =
     let g = with_room (frees (stop p.stops) s.allocs) (s.count + 1) in
-    let safe : T (are_safe (map g s.nodes) (kept p s ++ wanted p)) = subst (λ cs. T (are_safe (map g s.nodes) cs)) (claims_planned p s a.dated a.few) h in
-    let apart : T (are_distinct (kept p s) && are_distinct (wanted p) && are_free (kept p s) (wanted p)) = subst T (distinct-append (kept p s) (wanted p)) (distinct_of (map g s.nodes) (kept p s ++ wanted p) safe) in
-    let front = first (are_distinct (kept p s) && are_distinct (wanted p)) (are_free (kept p s) (wanted p)) apart in
+    let safe : T (are_safe (map g s.nodes) (kept_claims p s ++ wanted p)) = subst (λ cs. T (are_safe (map g s.nodes) cs)) (claims_planned p s a.dated a.few) h in
+    let apart : T (are_distinct (kept_claims p s) && are_distinct (wanted p) && are_free (kept_claims p s) (wanted p)) = subst T (distinct-append (kept_claims p s) (wanted p)) (distinct_of (map g s.nodes) (kept_claims p s ++ wanted p) safe) in
+    let front = first (are_distinct (kept_claims p s) && are_distinct (wanted p)) (are_free (kept_claims p s) (wanted p)) apart in
     record {
-      fit = λ n lt. kept_numbers g (with_room_keeps (frees (stop p.stops) s.allocs) (s.count + 1)) s.nodes (kept p s ++ wanted p) n (number_fits (map g s.nodes) (kept p s ++ wanted p) safe n);
-      kept_distinct = first (are_distinct (kept p s)) (are_distinct (wanted p)) front;
-      wanted_distinct = second (are_distinct (kept p s)) (are_distinct (wanted p)) front;
-      free = second (are_distinct (kept p s) && are_distinct (wanted p)) (are_free (kept p s) (wanted p)) apart;
+      fit = λ n lt. kept_numbers g (with_room_keeps (frees (stop p.stops) s.allocs) (s.count + 1)) s.nodes (kept_claims p s ++ wanted p) n (number_fits (map g s.nodes) (kept_claims p s ++ wanted p) safe n);
+      kept_distinct = first (are_distinct (kept_claims p s)) (are_distinct (wanted p)) front;
+      wanted_distinct = second (are_distinct (kept_claims p s)) (are_distinct (wanted p)) front;
+      free = second (are_distinct (kept_claims p s) && are_distinct (wanted p)) (are_free (kept_claims p s) (wanted p)) apart;
     }
 
 -- what is distinct stays so under a change of rows that claims nothing
@@ -180,12 +180,12 @@ pub distinct_mapped : (f : Allocation → Allocation) → Releases f → (rows :
 distinct_mapped f r rows h = fewer_distinct (claims (map f rows)) (claims rows) (released f r rows) h
 
 -- so of a state in which names are distinct, the plan has to be looked at alone
-pub kept_is_distinct : (p : AcceptedPlan) (s : State) → T (are_distinct (claims s.allocs)) → T (are_distinct (kept p s))
+pub kept_is_distinct : (p : AcceptedPlan) (s : State) → T (are_distinct (claims s.allocs)) → T (are_distinct (kept_claims p s))
 kept_is_distinct p s h = distinct_mapped (stop p.stops) (stop_releases p.stops) s.allocs h
 
 -- the node's use after a plan: with what the plan ends it is the present use, with what it wants
-pub used_planned : (w : Claim → ℕ) (p : AcceptedPlan) (s : State) → sum_by w (kept p s ++ wanted p) + sum_by w (ended (stop p.stops) s.allocs) ≡ sum_by w (claims s.allocs) + sum_by w (wanted p)
+pub used_planned : (w : Claim → ℕ) (p : AcceptedPlan) (s : State) → sum_by w (kept_claims p s ++ wanted p) + sum_by w (ended (stop p.stops) s.allocs) ≡ sum_by w (claims s.allocs) + sum_by w (wanted p)
 used_planned w p s =
-    let all = sum_by-append w (kept p s) (wanted p) in
-    let rest : sum_by w (kept p s) + sum_by w (ended (stop p.stops) s.allocs) ≡ sum_by w (claims s.allocs) = released_sum w (stop p.stops) (stop_releases p.stops) s.allocs in
+    let all = sum_by-append w (kept_claims p s) (wanted p) in
+    let rest : sum_by w (kept_claims p s) + sum_by w (ended (stop p.stops) s.allocs) ≡ sum_by w (claims s.allocs) = released_sum w (stop p.stops) (stop_releases p.stops) s.allocs in
     omega (arith, all, rest)

@@ -25,10 +25,11 @@ use Rattle.rows.specs.Changes.{status_of, snapshot_of}
 use Rattle.rows.specs.Keys.{name_cmp, eval_cmp, alloc_cmp, job_name, node_number, eval_id, alloc_id}
 use Rattle.rows.specs.Fits.{IndexFits, FromOneFits, JobFits, NodeSpecFits, NodeFits, EvaluationFits, AllocationFits, AcceptedPlaceFits, AcceptedPlanFits, StatusChangeFits, CommandFits}
 use Rattle.fsm_tables.specs.Rows.{row_of, has_row, put, put_within}
-use Rattle.fsm_tables.specs.RowLaws.{all_put}
+use Rattle.fsm_tables.proofs.RowLaws.{all_put}
 use Rattle.fsm_tables.specs.Claims.{is_active, is_wanted}
+use Rattle.fsm_tables.specs.Lookups.{lives_on}
 use Rattle.cluster_model.specs.Words.{State, no_rows, same_eval, same_alloc, node_of, no_node, is_open}
-use Rattle.cluster_model.specs.Effect.{applied, counted, new_eval, with_evals, touched, is_named, owns, with_job, job_row, stop_job, without_job, node_row, down, draining, drained, lost, lives_on, moves, marked, set_status, stop, ends, frees, with_room, altered, alloc_row, with_places, state_of, told, told_all, downed}
+use Rattle.cluster_model.specs.Effect.{applied, with_next_count, new_eval, with_evals, touched, is_named, owns, with_job, job_row, stop_job, without_job, node_row, down, draining, drained, lost, moves, with_migrate_mark, set_status, stop, is_ended_by, frees, with_room, altered, alloc_row, with_places, client_state_of, told, told_all, downed}
 use Rattle.cluster_model.specs.States.{AreTables, AllFit, IsState}
 use Rattle.cluster_model.proofs.StateLaws.{either, applied_has_count, applied_are_tables, empty_are_tables}
 
@@ -90,7 +91,7 @@ status_fits : (id : EvalId) (to : StatusChange) → StatusChangeFits to → (e :
 status_fits id to h e f = either EvaluationFits (same_eval e.id id && is_open e.status) (record e { status = status_of to; snapshot = snapshot_of to }) e (f.0, f.1, f.2, snapshot_fits to h) f
 
 told_fits : (n : ℕ) (r : Report) (a : Allocation) → AllocationFits a → AllocationFits (told n r a)
-told_fits n r a f = either AllocationFits (same_alloc a.id r.id && nat_eq a.node n && is_active a.client) (record a { client = state_of r.state }) a f f
+told_fits n r a f = either AllocationFits (same_alloc a.id r.id && nat_eq a.node n && is_active a.client) (record a { client = client_state_of r.state }) a f f
 
 told_all_fit : (n : ℕ) (rs : List Report) (a : Allocation) → AllocationFits a → AllocationFits (told_all n rs a)
 told_all_fit n [] a f = f
@@ -112,18 +113,18 @@ downed_fit n s fx few h = record {
   allocs = all_mapped AllocationFits (lost n) (λ a g. either AllocationFits (nat_eq a.node n && is_active a.client) (record a { client = clients.Lost }) a g g) s.allocs h.allocs;
 }
 
-counted_fit : (s : State) → AllFit s → AllFit (counted s)
+counted_fit : (s : State) → AllFit s → AllFit (with_next_count s)
 counted_fit s h = record { jobs = h.jobs; nodes = h.nodes; evals = h.evals; allocs = h.allocs }
 
 pub applied_fit : (s : State) (c : Command) → AreTables s → AllFit s → CommandFits c → s.count + 1 < 2 ^ 40 → AllFit (applied s c)
 applied_fit s commands.Noop t h f below = counted_fit s h
 applied_fit s (commands.JobPut j) t h f below =
-    let after = with_job j (counted s) in
+    let after = with_job j (with_next_count s) in
     let jobs : AllByRecursion JobFits after.jobs = all_within name_cmp job_name JobFits 256 (job_row (s.count + 1) j) s.jobs (f.0, f.1, below, f.2) h.jobs in
     let few : length after.jobs ≤ 256 = (applied_are_tables s (commands.JobPut j) t).jobs.few in
     record { jobs = jobs; nodes = h.nodes; evals = touch_fits (is_named j.name) after (omega arith, below) few jobs h.evals; allocs = h.allocs }
 applied_fit s (commands.JobStop name) t h f below =
-    let after = without_job name (counted s) in
+    let after = without_job name (with_next_count s) in
     let jobs : AllByRecursion JobFits after.jobs = all_mapped JobFits (stop_job (s.count + 1) name) (λ j g. either JobFits (is_named name j) (record j { stopped = true; version = s.count + 1 }) j (g.0, g.1, below, g.3) g) s.jobs h.jobs in
     let few : length after.jobs ≤ 256 = (applied_are_tables s (commands.JobStop name) t).jobs.few in
     record { jobs = jobs; nodes = h.nodes; evals = touch_fits (is_named name) after (omega arith, below) few jobs h.evals; allocs = h.allocs }
@@ -131,7 +132,7 @@ applied_fit s (commands.NodePut n) t h f below =
     record { jobs = h.jobs; nodes = all_within nat_cmp node_number NodeFits 64 (node_row (s.count + 1) n (node_of n.number s)) s.nodes (node_row_fits (s.count + 1) n s.nodes below f h.nodes (node_of n.number s) refl) h.nodes; evals = h.evals; allocs = h.allocs }
 applied_fit s (commands.NodeDown n) t h f below =
     let before = counted_fit s h in
-    either AllFit (no_node n s) (counted s) (downed n (counted s)) before (downed_fit n (counted s) (omega arith, below) t.jobs.few before)
+    either AllFit (no_node n s) (with_next_count s) (downed n (with_next_count s)) before (downed_fit n (with_next_count s) (omega arith, below) t.jobs.few before)
 applied_fit s (commands.Drain n force) t h f below =
     record { jobs = h.jobs; nodes = all_mapped NodeFits (draining n force) (λ r g. either NodeFits (nat_eq r.number n) (record r { eligible = false; drain = cond force drains.Force drains.Slow }) r g g) s.nodes h.nodes; evals = h.evals; allocs = h.allocs }
 applied_fit s (commands.DrainDone n) t h f below =
@@ -139,10 +140,10 @@ applied_fit s (commands.DrainDone n) t h f below =
 applied_fit s (commands.Migrate ids) t h f below = record {
   jobs = h.jobs;
   nodes = h.nodes;
-  evals = touch_fits (owns (moves ids) s.allocs) (record (counted s) { allocs = map (marked ids) s.allocs }) (omega arith, below) t.jobs.few h.jobs h.evals;
-  allocs = all_mapped AllocationFits (marked ids) (λ a g. either AllocationFits (moves ids a) (record a { migrate = true }) a g g) s.allocs h.allocs;
+  evals = touch_fits (owns (moves ids) s.allocs) (record (with_next_count s) { allocs = map (with_migrate_mark ids) s.allocs }) (omega arith, below) t.jobs.few h.jobs h.evals;
+  allocs = all_mapped AllocationFits (with_migrate_mark ids) (λ a g. either AllocationFits (moves ids a) (record a { migrate = true }) a g g) s.allocs h.allocs;
 }
-applied_fit s (commands.EvalPut name) t h f below = record { jobs = h.jobs; nodes = h.nodes; evals = touch_fits (is_named name) (counted s) (omega arith, below) t.jobs.few h.jobs h.evals; allocs = h.allocs }
+applied_fit s (commands.EvalPut name) t h f below = record { jobs = h.jobs; nodes = h.nodes; evals = touch_fits (is_named name) (with_next_count s) (omega arith, below) t.jobs.few h.jobs h.evals; allocs = h.allocs }
 applied_fit s (commands.EvalStatus id to) t h f below = record { jobs = h.jobs; nodes = h.nodes; evals = all_mapped EvaluationFits (set_status id to) (status_fits id to f.1) s.evals h.evals; allocs = h.allocs }
 applied_fit s (commands.Plan p) t h f below = record {
   jobs = h.jobs;
@@ -154,7 +155,7 @@ applied_fit s (commands.Plan p) t h f below = record {
 applied_fit s (commands.Report n rs) t h f below = record {
   jobs = h.jobs;
   nodes = rooms_fit (frees (told_all n rs) s.allocs) (s.count + 1) s.nodes below h.nodes;
-  evals = touch_fits (owns (ends (told_all n rs)) s.allocs) (altered (told_all n rs) (counted s)) (omega arith, below) t.jobs.few h.jobs h.evals;
+  evals = touch_fits (owns (is_ended_by (told_all n rs)) s.allocs) (altered (told_all n rs) (with_next_count s)) (omega arith, below) t.jobs.few h.jobs h.evals;
   allocs = all_mapped AllocationFits (told_all n rs) (told_all_fit n rs) s.allocs h.allocs;
 }
 

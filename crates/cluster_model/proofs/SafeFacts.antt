@@ -2,7 +2,7 @@
 use Rattle.std.proofs.Common.{ℕ, ◌≤◌, Bool, true, false, not, ◌&&◌, ◌||◌, T, List, [], ◌∷◌, is_some, arith}
 use Rattle.std.specs.Prelude.{nat_le}
 use Rattle.std.specs.List.{AllByRecursion, list_all, list_any}
-use Rattle.fsm_tables.specs.RowLaws.{both, first, second}
+use Rattle.fsm_tables.proofs.RowLaws.{both, first, second}
 use Rattle.cluster_model.specs.Words.{State, node_of}
 use Rattle.fsm_tables.specs.Claims.{Claim, claims}
 use Rattle.cluster_model.specs.Safe.{is_within, is_placed, same_name, are_distinct, is_safe}

@@ -22,13 +22,13 @@ use Rattle.rows.specs.declared.command.Command.TheVariants as commands
 use Rattle.rows.specs.declared.refusal.Refusal.{Refusal}
 use Rattle.rows.specs.Keys.{node_number}
 use Rattle.fsm_tables.specs.Rows.{row_of, has_row, put, by_order}
-use Rattle.fsm_tables.specs.RowLaws.{both, first, second, row_of-put}
+use Rattle.fsm_tables.proofs.RowLaws.{both, first, second, row_of-put}
 use Rattle.fsm_tables.specs.Claims.{Claim, claim_of, claims, on_node, used, is_live, is_wanted, is_active}
 use Rattle.cluster_model.specs.Words.{State, no_rows, node_of, no_node, same_alloc}
 use Rattle.cluster_model.specs.Safe.{fits, is_within, is_placed, same_name, are_distinct, are_safe, is_safe}
 use Rattle.cluster_model.specs.SafeFacts.{Safe}
 use Rattle.cluster_model.proofs.SafeFacts.{safe_by_test, test_by_safe, T-le, le-T}
-use Rattle.cluster_model.specs.Effect.{applied, counted, node_row, with_node, down, draining, drained, lost, moves, marked, stop, state_of, told, told_all, frees, with_room, downed}
+use Rattle.cluster_model.specs.Effect.{applied, with_next_count, node_row, with_node, down, draining, drained, lost, moves, with_migrate_mark, stop, client_state_of, told, told_all, frees, with_room, downed}
 use Rattle.cluster_model.specs.Admission.{first_of, admission, tests}
 use Rattle.cluster_model.proofs.StateLaws.{either}
 
@@ -132,7 +132,7 @@ stop_releases ids = record {
   lives = λ a. elim (list_any (same_alloc a.id) ids && is_wanted a.desired) as (λ b. T (is_live (cond b (record a { desired = desires.Stop }) a)) → T (is_live a)) [ true ↦ λ h. absurd h | false ↦ λ h. h ];
 }
 
-pub marked_releases : (ids : List AllocId) → Releases (marked ids)
+pub marked_releases : (ids : List AllocId) → Releases (with_migrate_mark ids)
 marked_releases ids = record {
   same_claim = λ a. elim (moves ids a) as (λ b. claim_of (cond b (record a { migrate = true }) a) ≡ claim_of a) [ true ↦ refl | false ↦ refl ];
   lives = λ a. elim (moves ids a) as (λ b. T (is_live (cond b (record a { migrate = true }) a)) → T (is_live a)) [ true ↦ λ h. h | false ↦ λ h. h ];
@@ -144,9 +144,9 @@ was_active desires.Stop to from p h = h
 
 pub told_releases : (n : ℕ) (r : Report) → Releases (told n r)
 told_releases n r = record {
-  same_claim = λ a. elim (same_alloc a.id r.id && nat_eq a.node n && is_active a.client) as (λ b. claim_of (cond b (record a { client = state_of r.state }) a) ≡ claim_of a) [ true ↦ refl | false ↦ refl ];
-  lives = λ a. elim (same_alloc a.id r.id && nat_eq a.node n && is_active a.client) as (λ b. (same_alloc a.id r.id && nat_eq a.node n && is_active a.client) ≡ b → T (is_live (cond b (record a { client = state_of r.state }) a)) → T (is_live a)) [
-    | true ↦ λ e h. was_active a.desired (state_of r.state) a.client (second (same_alloc a.id r.id && nat_eq a.node n) (is_active a.client) (subst T (sym e) tt)) h
+  same_claim = λ a. elim (same_alloc a.id r.id && nat_eq a.node n && is_active a.client) as (λ b. claim_of (cond b (record a { client = client_state_of r.state }) a) ≡ claim_of a) [ true ↦ refl | false ↦ refl ];
+  lives = λ a. elim (same_alloc a.id r.id && nat_eq a.node n && is_active a.client) as (λ b. (same_alloc a.id r.id && nat_eq a.node n && is_active a.client) ≡ b → T (is_live (cond b (record a { client = client_state_of r.state }) a)) → T (is_live a)) [
+    | true ↦ λ e h. was_active a.desired (client_state_of r.state) a.client (second (same_alloc a.id r.id && nat_eq a.node n) (is_active a.client) (subst T (sym e) tt)) h
     | false ↦ λ e h. h
   ] refl;
 }
@@ -299,13 +299,13 @@ pub admitted_is_safe : (s : State) (c : Command) → T (is_safe s) → admission
 admitted_is_safe s commands.Noop h e = h
 admitted_is_safe s (commands.JobPut j) h e = h
 admitted_is_safe s (commands.JobStop name) h e = h
-admitted_is_safe s (commands.NodePut n) h e = with_node_safe n (counted s) h
+admitted_is_safe s (commands.NodePut n) h e = with_node_safe n (with_next_count s) h
 admitted_is_safe s (commands.NodeDown n) h e =
     let lost_safe = released_safe (lost n) (lost_releases n) s.nodes s.allocs h in
-    either (λ (t : State). T (is_safe t)) (no_node n s) (counted s) (downed n (counted s)) h (kept_safe (down n) (down_keeps n) s.nodes (claims (map (lost n) s.allocs)) lost_safe)
+    either (λ (t : State). T (is_safe t)) (no_node n s) (with_next_count s) (downed n (with_next_count s)) h (kept_safe (down n) (down_keeps n) s.nodes (claims (map (lost n) s.allocs)) lost_safe)
 admitted_is_safe s (commands.Drain n force) h e = kept_safe (draining n force) (draining_keeps n force) s.nodes (claims s.allocs) h
 admitted_is_safe s (commands.DrainDone n) h e = kept_safe (drained n) (drained_keeps n) s.nodes (claims s.allocs) h
-admitted_is_safe s (commands.Migrate ids) h e = released_safe (marked ids) (marked_releases ids) s.nodes s.allocs h
+admitted_is_safe s (commands.Migrate ids) h e = released_safe (with_migrate_mark ids) (marked_releases ids) s.nodes s.allocs h
 admitted_is_safe s (commands.EvalPut name) h e = h
 admitted_is_safe s (commands.EvalStatus id to) h e = h
 admitted_is_safe s (commands.Plan p) h e = true_by _ (none_passes (tests s (commands.Plan p)) e).1.1.1.1.1.1.0

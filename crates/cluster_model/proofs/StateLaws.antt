@@ -25,10 +25,11 @@ use Rattle.rows.specs.Keys.{name_cmp, eval_cmp, alloc_cmp, job_name, node_number
 use Rattle.rows.proofs.KeyLaws.{alloc_cmp_total, eval_cmp_total}
 use Rattle.machine.specs.Meaning.{IsMachineRefusal}
 use Rattle.fsm_tables.specs.Rows.{put_within}
-use Rattle.fsm_tables.specs.RowLaws.{rising_put_within, few_put_within, rising_mapped}
+use Rattle.fsm_tables.proofs.RowLaws.{rising_put_within, few_put_within, rising_mapped}
 use Rattle.fsm_tables.specs.Claims.{is_active, is_wanted}
+use Rattle.fsm_tables.specs.Lookups.{lives_on}
 use Rattle.cluster_model.specs.Words.{State, no_rows, same_eval, same_alloc, node_of, no_node, is_open}
-use Rattle.cluster_model.specs.Effect.{applied, counted, new_eval, with_evals, touched, is_named, owns, with_job, job_row, stop_job, without_job, node_row, down, draining, drained, lost, lives_on, moves, marked, set_status, stop, ends, frees, with_room, altered, alloc_row, with_places, state_of, told, told_all, downed}
+use Rattle.cluster_model.specs.Effect.{applied, with_next_count, new_eval, with_evals, touched, is_named, owns, with_job, job_row, stop_job, without_job, node_row, down, draining, drained, lost, moves, with_migrate_mark, set_status, stop, is_ended_by, frees, with_room, altered, alloc_row, with_places, client_state_of, told, told_all, downed}
 use Rattle.cluster_model.specs.Admission.{first_of, tests, admission}
 use Rattle.cluster_model.specs.States.{InOrder, AreTables}
 
@@ -42,7 +43,7 @@ applied_has_count s commands.Noop = refl
 applied_has_count s (commands.JobPut j) = refl
 applied_has_count s (commands.JobStop name) = refl
 applied_has_count s (commands.NodePut n) = refl
-applied_has_count s (commands.NodeDown n) = either (λ (t : State). t.count ≡ s.count + 1) (no_node n s) (counted s) (downed n (counted s)) refl refl
+applied_has_count s (commands.NodeDown n) = either (λ (t : State). t.count ≡ s.count + 1) (no_node n s) (with_next_count s) (downed n (with_next_count s)) refl refl
 applied_has_count s (commands.Drain n force) = refl
 applied_has_count s (commands.DrainDone n) = refl
 applied_has_count s (commands.Migrate ids) = refl
@@ -87,7 +88,7 @@ places_in_order x slot p [] rows h = h
 places_in_order x slot p (k ∷ ks) rows h = places_in_order x (slot + 1) p ks _ (put_in_order alloc_cmp alloc_id alloc_cmp_total 65536 (alloc_row x slot p k) rows h)
 
 told_keeps : (n : ℕ) (r : Report) (a : Allocation) → alloc_id (told n r a) ≡ alloc_id a
-told_keeps n r a = kept_where alloc_id (λ a. same_alloc a.id r.id && nat_eq a.node n && is_active a.client) (λ a. record a { client = state_of r.state }) (λ a. refl) a
+told_keeps n r a = kept_where alloc_id (λ a. same_alloc a.id r.id && nat_eq a.node n && is_active a.client) (λ a. record a { client = client_state_of r.state }) (λ a. refl) a
 
 told_all_keeps : (n : ℕ) (rs : List Report) (a : Allocation) → alloc_id (told_all n rs a) ≡ alloc_id a
 told_all_keeps n [] a = refl
@@ -104,26 +105,26 @@ downed_are_tables n s h = record {
   allocs = map_in_order alloc_cmp alloc_id 65536 (lost n) (kept_where alloc_id (λ a. nat_eq a.node n && is_active a.client) (λ a. record a { client = clients.Lost }) (λ a. refl)) s.allocs h.allocs;
 }
 
-counted_are_tables : (s : State) → AreTables s → AreTables (counted s)
+counted_are_tables : (s : State) → AreTables s → AreTables (with_next_count s)
 counted_are_tables s h = record { jobs = h.jobs; nodes = h.nodes; evals = h.evals; allocs = h.allocs }
 
 pub applied_are_tables : (s : State) (c : Command) → AreTables s → AreTables (applied s c)
 applied_are_tables s commands.Noop h = counted_are_tables s h
-applied_are_tables s (commands.JobPut j) h = record { jobs = put_in_order name_cmp job_name nat_list_cmp_total 256 (job_row (s.count + 1) j) s.jobs h.jobs; nodes = h.nodes; evals = touch_in_order (is_named j.name) (with_job j (counted s)) h.evals; allocs = h.allocs }
-applied_are_tables s (commands.JobStop name) h = record { jobs = map_in_order name_cmp job_name 256 (stop_job (s.count + 1) name) (kept_where job_name (is_named name) (λ j. record j { stopped = true; version = s.count + 1 }) (λ j. refl)) s.jobs h.jobs; nodes = h.nodes; evals = touch_in_order (is_named name) (without_job name (counted s)) h.evals; allocs = h.allocs }
+applied_are_tables s (commands.JobPut j) h = record { jobs = put_in_order name_cmp job_name nat_list_cmp_total 256 (job_row (s.count + 1) j) s.jobs h.jobs; nodes = h.nodes; evals = touch_in_order (is_named j.name) (with_job j (with_next_count s)) h.evals; allocs = h.allocs }
+applied_are_tables s (commands.JobStop name) h = record { jobs = map_in_order name_cmp job_name 256 (stop_job (s.count + 1) name) (kept_where job_name (is_named name) (λ j. record j { stopped = true; version = s.count + 1 }) (λ j. refl)) s.jobs h.jobs; nodes = h.nodes; evals = touch_in_order (is_named name) (without_job name (with_next_count s)) h.evals; allocs = h.allocs }
 applied_are_tables s (commands.NodePut n) h = record { jobs = h.jobs; nodes = put_in_order nat_cmp node_number nat_cmp_total 64 (node_row (s.count + 1) n (node_of n.number s)) s.nodes h.nodes; evals = h.evals; allocs = h.allocs }
 applied_are_tables s (commands.NodeDown n) h =
     let before = counted_are_tables s h in
-    either AreTables (no_node n s) (counted s) (downed n (counted s)) before (downed_are_tables n (counted s) before)
+    either AreTables (no_node n s) (with_next_count s) (downed n (with_next_count s)) before (downed_are_tables n (with_next_count s) before)
 applied_are_tables s (commands.Drain n force) h = record { jobs = h.jobs; nodes = map_in_order nat_cmp node_number 64 (draining n force) (kept_where node_number (λ r. nat_eq r.number n) (λ r. record r { eligible = false; drain = cond force drains.Force drains.Slow }) (λ r. refl)) s.nodes h.nodes; evals = h.evals; allocs = h.allocs }
 applied_are_tables s (commands.DrainDone n) h = record { jobs = h.jobs; nodes = map_in_order nat_cmp node_number 64 (drained n) (kept_where node_number (λ r. nat_eq r.number n) (λ r. record r { drain = drains.Off }) (λ r. refl)) s.nodes h.nodes; evals = h.evals; allocs = h.allocs }
 applied_are_tables s (commands.Migrate ids) h = record {
   jobs = h.jobs;
   nodes = h.nodes;
-  evals = touch_in_order (owns (moves ids) s.allocs) (record (counted s) { allocs = map (marked ids) s.allocs }) h.evals;
-  allocs = map_in_order alloc_cmp alloc_id 65536 (marked ids) (kept_where alloc_id (moves ids) (λ a. record a { migrate = true }) (λ a. refl)) s.allocs h.allocs;
+  evals = touch_in_order (owns (moves ids) s.allocs) (record (with_next_count s) { allocs = map (with_migrate_mark ids) s.allocs }) h.evals;
+  allocs = map_in_order alloc_cmp alloc_id 65536 (with_migrate_mark ids) (kept_where alloc_id (moves ids) (λ a. record a { migrate = true }) (λ a. refl)) s.allocs h.allocs;
 }
-applied_are_tables s (commands.EvalPut name) h = record { jobs = h.jobs; nodes = h.nodes; evals = touch_in_order (is_named name) (counted s) h.evals; allocs = h.allocs }
+applied_are_tables s (commands.EvalPut name) h = record { jobs = h.jobs; nodes = h.nodes; evals = touch_in_order (is_named name) (with_next_count s) h.evals; allocs = h.allocs }
 applied_are_tables s (commands.EvalStatus id to) h = record {
   jobs = h.jobs;
   nodes = h.nodes;
@@ -139,7 +140,7 @@ applied_are_tables s (commands.Plan p) h = record {
 applied_are_tables s (commands.Report n rs) h = record {
   jobs = h.jobs;
   nodes = rooms_in_order (frees (told_all n rs) s.allocs) (s.count + 1) s h;
-  evals = touch_in_order (owns (ends (told_all n rs)) s.allocs) (altered (told_all n rs) (counted s)) h.evals;
+  evals = touch_in_order (owns (is_ended_by (told_all n rs)) s.allocs) (altered (told_all n rs) (with_next_count s)) h.evals;
   allocs = map_in_order alloc_cmp alloc_id 65536 (told_all n rs) (told_all_keeps n rs) s.allocs h.allocs;
 }
 

@@ -14,7 +14,7 @@ use Rattle.rows.specs.Keys.{node_number}
 use Rattle.rows.specs.Rising.{is_below, is_rising}
 use Rattle.rows.specs.Fits.{AllocationFits, NodeFits}
 use Rattle.fsm_tables.specs.Rows.{row_of}
-use Rattle.fsm_tables.specs.RowLaws.{both, first, second, less, equal}
+use Rattle.fsm_tables.proofs.RowLaws.{both, first, second, less, equal}
 use Rattle.fsm_tables.specs.Claims.{Claim, claim_of, claims, on_node, used, is_live}
 use Rattle.cluster_model.specs.Safe.{fits, is_within, is_placed, are_distinct, are_safe}
 use Rattle.cluster_model.proofs.SafeFacts.{T-le}

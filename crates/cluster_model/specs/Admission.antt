@@ -18,10 +18,11 @@ use Rattle.rows.specs.declared.command.Command.TheVariants as commands
 use Rattle.rows.specs.declared.refusal.Refusal.{Refusal}
 use Rattle.rows.specs.declared.refusal.Refusal.TheVariants as refusals
 use Rattle.fsm_tables.specs.Claims.{is_live}
+use Rattle.fsm_tables.specs.Lookups.{lives_on}
 use Rattle.cluster_model.specs.Limits.{most_jobs, most_evals, most_allocs}
-use Rattle.cluster_model.specs.Words.{State, job_of, node_of, eval_of, alloc_of, holds, no_job, no_node, no_alloc, is_ready, is_draining, is_pending, is_blocked}
+use Rattle.cluster_model.specs.Words.{State, job_of, node_of, eval_of, alloc_of, is_some_and, no_job, no_node, no_alloc, is_ready, is_draining, is_pending, is_blocked}
 use Rattle.cluster_model.specs.Safe.{is_safe}
-use Rattle.cluster_model.specs.Effect.{counted, is_named, owns, lives_on, moves, ends, told_all, planned}
+use Rattle.cluster_model.specs.Effect.{with_next_count, is_named, owns, moves, is_ended_by, told_all, planned}
 
 abbrev pub first_of : List (Bool × Refusal) → Option Refusal
 first_of [] = None
@@ -30,7 +31,7 @@ first_of (test ∷ tests) = if test.0 then Some test.1 else first_of tests
 -- ---- tests
 
 abbrev pub is_stopped : List ℕ → State → Bool
-is_stopped name s = holds (λ j. j.stopped) (job_of name s)
+is_stopped name s = is_some_and (λ j. j.stopped) (job_of name s)
 
 -- whether a new row of the job would pass the limit
 abbrev pub jobs_pass : List ℕ → State → Bool
@@ -55,11 +56,11 @@ abbrev pub differs : NodeSpec → Node → Bool
 differs n old = not (bytes_eq old.class n.class && same_size old.size n.size)
 
 abbrev pub drains : ℕ → State → Bool
-drains n s = holds (λ r. is_draining r.drain) (node_of n s)
+drains n s = is_some_and (λ r. is_draining r.drain) (node_of n s)
 
 -- whether an allocation is live, on a node that is being drained
 abbrev pub can_move : State → AllocId → Bool
-can_move s id = holds (λ a. is_live a && drains a.node s) (alloc_of id s)
+can_move s id = is_some_and (λ a. is_live a && drains a.node s) (alloc_of id s)
 
 -- an evaluation becomes pending from blocked, and anything else from pending
 abbrev pub allows : StatusChange → EvalStatus → Bool
@@ -67,24 +68,24 @@ allows changes.Pending status = is_blocked status
 allows _ status = is_pending status
 
 abbrev pub is_live_of : List ℕ → State → AllocId → Bool
-is_live_of job s id = holds (λ a. is_live a && bytes_eq a.job job) (alloc_of id s)
+is_live_of job s id = is_some_and (λ a. is_live a && bytes_eq a.job job) (alloc_of id s)
 
 -- whether a node takes what a group asks for
-abbrev pub takes : Group → Node → Bool
-takes g n = is_ready n.status && n.eligible && bytes_eq n.class g.class
+abbrev pub may_hold : Group → Node → Bool
+may_hold g n = is_ready n.status && n.eligible && bytes_eq n.class g.class
 
 -- whether a place is one that the group asks for, on a node that takes it
 abbrev pub is_asked : State → AcceptedPlace → Group → Bool
 is_asked s k g =
     bytes_eq g.name k.group && same_size g.size k.size && nat_lt k.index g.count
-    && holds (takes g) (node_of k.node s)
+    && is_some_and (may_hold g) (node_of k.node s)
 
 abbrev pub fits_job : State → List ℕ → AcceptedPlace → Bool
-fits_job s job k = holds (λ j. list_any (is_asked s k) j.groups) (job_of job s)
+fits_job s job k = is_some_and (λ j. list_any (is_asked s k) j.groups) (job_of job s)
 
 -- whether a report is of an allocation on that node
 abbrev pub is_its_own : State → ℕ → Report → Bool
-is_its_own s n r = holds (λ a. nat_eq a.node n) (alloc_of r.id s)
+is_its_own s n r = is_some_and (λ a. nat_eq a.node n) (alloc_of r.id s)
 
 -- ---- the table: the tests of each command, in their order
 
@@ -99,11 +100,11 @@ tests s (commands.JobStop name) =
     ∷ (touch_passes (is_named name) s, refusals.TableFull)
     ∷ []
 tests s (commands.NodePut n) =
-    (holds (differs n) (node_of n.number s), refusals.NodeDiffers)
+    (is_some_and (differs n) (node_of n.number s), refusals.NodeDiffers)
     ∷ []
 tests s (commands.NodeDown n) =
     (no_node n s, refusals.UnknownNode)
-    ∷ (holds (λ r. not (is_ready r.status)) (node_of n s), refusals.StaleExpiry)
+    ∷ (is_some_and (λ r. not (is_ready r.status)) (node_of n s), refusals.StaleExpiry)
     ∷ (touch_passes (owns (lives_on n) s.allocs) s, refusals.TableFull)
     ∷ []
 tests s (commands.Drain n force) =
@@ -123,21 +124,21 @@ tests s (commands.EvalPut name) =
     ∷ (touch_passes (is_named name) s, refusals.TableFull)
     ∷ []
 tests s (commands.EvalStatus id to) =
-    (not (holds (λ e. allows to e.status) (eval_of id s)), refusals.NotOutstanding)
+    (not (is_some_and (λ e. allows to e.status) (eval_of id s)), refusals.NotOutstanding)
     ∷ []
 tests s (commands.Plan p) =
-    (not (holds (λ e. is_pending e.status) (eval_of p.eval s)), refusals.NotOutstanding)
+    (not (is_some_and (λ e. is_pending e.status) (eval_of p.eval s)), refusals.NotOutstanding)
     ∷ (no_job p.job s, refusals.UnknownJob)
     ∷ (not (list_all (is_live_of p.job s) p.stops), refusals.UnknownAlloc)
     ∷ (nat_lt most_allocs (length s.allocs + length p.places), refusals.TableFull)
     ∷ (is_stopped p.job s && nat_lt 0 (length p.places), refusals.JobStopped)
     ∷ (not (list_all (fits_job s p.job) p.places), refusals.OutOfRange)
-    ∷ (not (is_safe (planned p (counted s))), refusals.OutOfRange)
+    ∷ (not (is_safe (planned p (with_next_count s))), refusals.OutOfRange)
     ∷ []
 tests s (commands.Report n rs) =
     (no_node n s, refusals.UnknownNode)
     ∷ (not (list_all (is_its_own s n) rs), refusals.UnknownAlloc)
-    ∷ (touch_passes (owns (ends (told_all n rs)) s.allocs) s, refusals.TableFull)
+    ∷ (touch_passes (owns (is_ended_by (told_all n rs)) s.allocs) s, refusals.TableFull)
     ∷ []
 
 -- why the state refuses the command, if it does

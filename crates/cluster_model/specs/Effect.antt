@@ -29,12 +29,13 @@ use Rattle.rows.specs.Changes.{status_of, snapshot_of}
 use Rattle.rows.specs.Keys.{name_cmp, eval_cmp, alloc_cmp, job_name, node_number, eval_id, alloc_id}
 use Rattle.fsm_tables.specs.Rows.{put_within}
 use Rattle.fsm_tables.specs.Claims.{is_wanted, is_active, is_live}
+use Rattle.fsm_tables.specs.Lookups.{lives_on, is_active_on}
 use Rattle.cluster_model.specs.Limits.{most_jobs, most_nodes, most_evals, most_allocs}
 use Rattle.cluster_model.specs.Words.{State, same_eval, same_alloc, node_of, no_node, is_open}
 
 -- one more command was applied
-abbrev pub counted : State → State
-counted s = record s { count = s.count + 1 }
+abbrev pub with_next_count : State → State
+with_next_count s = record s { count = s.count + 1 }
 
 -- ---- to touch jobs: one new evaluation for each of them that has a row, in the order of the rows
 
@@ -133,11 +134,11 @@ drained n r = if nat_eq r.number n then drained_row r else r
 abbrev pub without_drain : ℕ → State → State
 without_drain n s = record s { nodes = map (drained n) s.nodes }
 
-abbrev pub lost : ℕ → Allocation → Allocation
-lost n a = if nat_eq a.node n && is_active a.client then (record a { client = clients.Lost }) else a
+abbrev pub lost_row : Allocation → Allocation
+lost_row a = record a { client = clients.Lost }
 
-abbrev pub lives_on : ℕ → Allocation → Bool
-lives_on n a = nat_eq a.node n && is_live a
+abbrev pub lost : ℕ → Allocation → Allocation
+lost n a = if is_active_on n a then lost_row a else a
 
 -- A node that has a row is down: what was not final on it is lost, and the jobs of what was live
 -- are touched.
@@ -156,13 +157,13 @@ without_node n s = if no_node n s then s else downed n s
 abbrev pub moves : List AllocId → Allocation → Bool
 moves ids a = list_any (same_alloc a.id) ids && is_live a
 
-abbrev pub marked : List AllocId → Allocation → Allocation
-marked ids a = if moves ids a then (record a { migrate = true }) else a
+abbrev pub with_migrate_mark : List AllocId → Allocation → Allocation
+with_migrate_mark ids a = if moves ids a then (record a { migrate = true }) else a
 
 -- the live ones named are marked, and their jobs touched
 abbrev pub migrated : List AllocId → State → State
 migrated ids s =
-    touched (owns (moves ids) s.allocs) (record s { allocs = map (marked ids) s.allocs })
+    touched (owns (moves ids) s.allocs) (record s { allocs = map (with_migrate_mark ids) s.allocs })
 
 -- ---- evaluations
 
@@ -176,12 +177,12 @@ with_status id to s = record s { evals = map (set_status id to) s.evals }
 
 -- ---- allocations that end by a change of rows: their nodes have room from this command on
 
-abbrev pub ends : (Allocation → Allocation) → Allocation → Bool
-ends f a = is_live a && not (is_live (f a))
+abbrev pub is_ended_by : (Allocation → Allocation) → Allocation → Bool
+is_ended_by f a = is_live a && not (is_live (f a))
 
 -- whether the change ends one on the node
 abbrev pub frees : (Allocation → Allocation) → List Allocation → ℕ → Bool
-frees f rows n = list_any (λ a. nat_eq a.node n && ends f a) rows
+frees f rows n = list_any (λ a. nat_eq a.node n && is_ended_by f a) rows
 
 abbrev pub with_room : (ℕ → Bool) → ℕ → Node → Node
 with_room freed x r = if freed r.number then (record r { room = x }) else r
@@ -219,23 +220,23 @@ with_places x slot p [] rows = rows
 with_places x slot p (k ∷ ks) rows =
     with_places x (slot + 1) p ks (put_within alloc_cmp alloc_id most_allocs (alloc_row x slot p k) rows)
 
-abbrev pub placed : AcceptedPlan → State → State
-placed p s = record s { allocs = with_places s.count 0 p p.places s.allocs }
+abbrev pub with_plan_places : AcceptedPlan → State → State
+with_plan_places p s = record s { allocs = with_places s.count 0 p p.places s.allocs }
 
 abbrev pub planned : AcceptedPlan → State → State
-planned p s = placed p (altered (stop p.stops) s)
+planned p s = with_plan_places p (altered (stop p.stops) s)
 
 -- ---- reports of a node's client
 
-abbrev pub state_of : ReportedState → ClientState
-state_of reported_states.Running = clients.Running
-state_of reported_states.Complete = clients.Complete
-state_of reported_states.Failed = clients.Failed
+abbrev pub client_state_of : ReportedState → ClientState
+client_state_of reported_states.Running = clients.Running
+client_state_of reported_states.Complete = clients.Complete
+client_state_of reported_states.Failed = clients.Failed
 
 -- one report: a row on that node that is not final takes the state
 abbrev pub told : ℕ → Report → Allocation → Allocation
 told n r a =
-    if same_alloc a.id r.id && nat_eq a.node n && is_active a.client then (record a { client = state_of r.state }) else a
+    if same_alloc a.id r.id && nat_eq a.node n && is_active a.client then (record a { client = client_state_of r.state }) else a
 
 -- the reports in their order
 abbrev pub told_all : ℕ → List Report → Allocation → Allocation
@@ -244,20 +245,20 @@ told_all n (r ∷ rs) a = told_all n rs (told n r a)
 
 -- the jobs of those that ended are touched
 abbrev pub reported : ℕ → List Report → State → State
-reported n rs s = touched (owns (ends (told_all n rs)) s.allocs) (altered (told_all n rs) s)
+reported n rs s = touched (owns (is_ended_by (told_all n rs)) s.allocs) (altered (told_all n rs) s)
 
 -- ---- the table: the state after a command
 
 abbrev pub applied : State → Command → State
-applied s commands.Noop = counted s
-applied s (commands.JobPut j) = touched (is_named j.name) (with_job j (counted s))
-applied s (commands.JobStop name) = touched (is_named name) (without_job name (counted s))
-applied s (commands.NodePut n) = with_node n (counted s)
-applied s (commands.NodeDown n) = without_node n (counted s)
-applied s (commands.Drain n force) = with_drain n force (counted s)
-applied s (commands.DrainDone n) = without_drain n (counted s)
-applied s (commands.Migrate ids) = migrated ids (counted s)
-applied s (commands.EvalPut name) = touched (is_named name) (counted s)
-applied s (commands.EvalStatus id to) = with_status id to (counted s)
-applied s (commands.Plan p) = planned p (counted s)
-applied s (commands.Report n rs) = reported n rs (counted s)
+applied s commands.Noop = with_next_count s
+applied s (commands.JobPut j) = touched (is_named j.name) (with_job j (with_next_count s))
+applied s (commands.JobStop name) = touched (is_named name) (without_job name (with_next_count s))
+applied s (commands.NodePut n) = with_node n (with_next_count s)
+applied s (commands.NodeDown n) = without_node n (with_next_count s)
+applied s (commands.Drain n force) = with_drain n force (with_next_count s)
+applied s (commands.DrainDone n) = without_drain n (with_next_count s)
+applied s (commands.Migrate ids) = migrated ids (with_next_count s)
+applied s (commands.EvalPut name) = touched (is_named name) (with_next_count s)
+applied s (commands.EvalStatus id to) = with_status id to (with_next_count s)
+applied s (commands.Plan p) = planned p (with_next_count s)
+applied s (commands.Report n rs) = reported n rs (with_next_count s)

@@ -11,7 +11,7 @@ use Rattle.rows.specs.Fits.{AllocationFits, NodeFits, AcceptedPlaceFits}
 use Rattle.fsm_tables.specs.Rows.{row_of}
 use Rattle.fsm_tables.specs.Claims.{Claim, claim_of, claims, used, is_live}
 use Rattle.cluster_model.specs.Safe.{fits, are_distinct, same_name}
-use Rattle.cluster_model.specs.Effect.{ends, stop}
+use Rattle.cluster_model.specs.Effect.{is_ended_by, stop}
 use Rattle.rows.specs.declared.command.AcceptedPlace.{AcceptedPlace}
 use Rattle.rows.specs.declared.command.AcceptedPlan.{AcceptedPlan}
 use Rattle.cluster_model.specs.Limits.{most_allocs}
@@ -30,13 +30,13 @@ fits_number nodes cs n = fits (used n cs) (room_of (row_of nat_cmp node_number n
 -- the rows that a change ends
 abbrev pub ended : (Allocation → Allocation) → List Allocation → List Claim
 ended f [] = []
-ended f (a ∷ rows) = if ends f a then (claim_of a ∷ ended f rows) else ended f rows
+ended f (a ∷ rows) = if is_ended_by f a then (claim_of a ∷ ended f rows) else ended f rows
 
 -- ---- a plan on a state whose allocations were made by entries before it
 
 -- what the rows leave to the plan: the claims of what it does not stop
-abbrev pub kept : AcceptedPlan → State → List Claim
-kept p s = claims (map (stop p.stops) s.allocs)
+abbrev pub kept_claims : AcceptedPlan → State → List Claim
+kept_claims p s = claims (map (stop p.stops) s.allocs)
 
 abbrev pub place_claim : AcceptedPlan → AcceptedPlace → Claim
 place_claim p k = record {
@@ -63,10 +63,10 @@ are_dated x rows = list_all (λ a. nat_lt a.id.index x) rows
 -- keeps and what it wants, is within what the number has; no two of what it keeps are of one name,
 -- nor of what it wants, and none of what it keeps is of a name that it wants.
 pub record PlanIsSafe (p : AcceptedPlan) (s : State) : Type 0 where
-  pub fit : (n : ℕ) → n < 65 → T (fits_number s.nodes (kept p s ++ wanted p) n)
-  pub kept_distinct : T (are_distinct (kept p s))
+  pub fit : (n : ℕ) → n < 65 → T (fits_number s.nodes (kept_claims p s ++ wanted p) n)
+  pub kept_distinct : T (are_distinct (kept_claims p s))
   pub wanted_distinct : T (are_distinct (wanted p))
-  pub free : T (are_free (kept p s) (wanted p))
+  pub free : T (are_free (kept_claims p s) (wanted p))
 
 -- what is known where the code asks: rows and plan within their ranges, and each allocation made by
 -- an entry before this one

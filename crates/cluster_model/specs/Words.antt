@@ -42,9 +42,9 @@ abbrev pub alloc_of : AllocId → State → Option Allocation
 alloc_of a s = row_of alloc_cmp alloc_id a s.allocs
 
 -- whether there is a row, and it passes the test
-abbrev pub holds : {X : Type 0} → (X → Bool) → Option X → Bool
-holds test None = false
-holds test (Some x) = test x
+abbrev pub is_some_and : {X : Type 0} → (X → Bool) → Option X → Bool
+is_some_and test None = false
+is_some_and test (Some x) = test x
 
 abbrev pub no_job : List ℕ → State → Bool
 no_job name s = is_none (job_of name s)

@@ -5,11 +5,11 @@ ghost use Rattle.rows.specs.declared.command.Command.{Command as AnyCommand};
 ghost use Rattle.rows.specs.declared.command.Command.TheVariants as commands;
 ghost use Rattle.rows.specs.declared.refusal.Refusal.{Refusal as AnyRefusal};
 ghost use Rattle.cluster_model.specs.Words.{State, no_rows};
-ghost use Rattle.cluster_model.specs.SafeFacts.{Safe as IsSafe};
+ghost use Rattle.cluster_model.specs.SafeFacts.{Safe};
 ghost use Rattle.fsm_tables.specs.Claims.{Claim, claims};
-ghost use Rattle.cluster_model.specs.Effect.{applied, counted, planned, stop};
+ghost use Rattle.cluster_model.specs.Effect.{applied, with_next_count, planned, stop};
 ghost use Rattle.cluster_model.specs.Plans.{ended};
-ghost use Rattle.cluster_model.specs.Plans.{kept, wanted, IsAskable, PlanIsSafe};
+ghost use Rattle.cluster_model.specs.Plans.{kept_claims, wanted, IsAskable, PlanIsSafe};
 ghost use Rattle.cluster_model.specs.Plans.{IsKnown, AfterIsSafe};
 ghost use Rattle.cluster_model.specs.Safe.{is_safe};
 ghost use Rattle.cluster_model.specs.Admission.{admission};
@@ -21,7 +21,7 @@ ghost use Rattle.cluster_model.specs.States.{IsState};
 /// The empty state is safe, its count is 0, its tables are in order, with every row in its ranges,
 /// and each state admits the no-op.
 pub fn empty_is_lawful()
-    ensures safe { IsSafe no_rows }
+    ensures safe { Safe no_rows }
     ensures count { no_rows.count ≡ 0 }
     ensures state { IsState no_rows }
     ensures noop { (s : State) → admission s commands.Noop ≡ None }
@@ -33,7 +33,7 @@ pub fn empty_is_lawful()
 /// machine's own.
 pub fn commands_are_lawful()
     ensures safe { (s : State) (c : AnyCommand)
-        → IsSafe s → admission s c ≡ None → IsSafe (applied s c) }
+        → Safe s → admission s c ≡ None → Safe (applied s c) }
     ensures count { (s : State) (c : AnyCommand) → (applied s c).count ≡ s.count + 1 }
     ensures tables { (s : State) (c : AnyCommand) → AreTables s → AreTables (applied s c) }
     ensures state { (s : State) (c : AnyCommand)
@@ -44,8 +44,8 @@ pub fn commands_are_lawful()
 
 /// A state is safe exactly where the test says so.
 pub fn safety_is_decided()
-    ensures safe { (s : State) → Holds (is_safe s) → IsSafe s }
-    ensures test { (s : State) → IsSafe s → Holds (is_safe s) }
+    ensures safe { (s : State) → Holds (is_safe s) → Safe s }
+    ensures test { (s : State) → Safe s → Holds (is_safe s) }
 {}
 
 /// When the state after a plan is safe, on every state whose allocations were made by entries
@@ -55,14 +55,14 @@ pub fn safety_is_decided()
 /// the plan makes, it is replaced, and counts no more than one that is stopped.
 pub fn plans_are_decided()
     ensures safe { (p : AnyPlan) (s : State)
-        → IsAskable p s → PlanIsSafe p s → Holds (is_safe (planned p (counted s))) }
+        → IsAskable p s → PlanIsSafe p s → Holds (is_safe (planned p (with_next_count s))) }
     ensures needs { (p : AnyPlan) (s : State)
-        → IsAskable p s → Holds (is_safe (planned p (counted s))) → PlanIsSafe p s }
+        → IsAskable p s → Holds (is_safe (planned p (with_next_count s))) → PlanIsSafe p s }
     ensures safe_always { (p : AnyPlan) (s : State)
-        → IsKnown p s → AfterIsSafe p s → Holds (is_safe (planned p (counted s))) }
+        → IsKnown p s → AfterIsSafe p s → Holds (is_safe (planned p (with_next_count s))) }
     ensures needs_always { (p : AnyPlan) (s : State)
-        → IsKnown p s → Holds (is_safe (planned p (counted s))) → AfterIsSafe p s }
+        → IsKnown p s → Holds (is_safe (planned p (with_next_count s))) → AfterIsSafe p s }
     ensures uses { (w : Claim → ℕ) (p : AnyPlan) (s : State)
-        → sum_by w (kept p s ++ wanted p) + sum_by w (ended (stop p.stops) s.allocs)
+        → sum_by w (kept_claims p s ++ wanted p) + sum_by w (ended (stop p.stops) s.allocs)
         ≡ sum_by w (claims s.allocs) + sum_by w (wanted p) }
 {}

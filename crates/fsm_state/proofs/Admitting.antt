@@ -12,9 +12,10 @@ use Rattle.rows.specs.Keys.{name_cmp, job_name}
 use Rattle.rows.specs.Rising.{is_rising}
 use Rattle.rows.specs.Fits.{AllocationFits}
 use Rattle.fsm_tables.specs.Rows.{row_of, has_row}
-use Rattle.fsm_tables.specs.RowLaws.{first, second, none_below, below_tied}
+use Rattle.fsm_tables.proofs.RowLaws.{first, second, none_below, below_tied}
 use Rattle.fsm_tables.specs.Claims.{claim_of, claims, on_node, is_live}
-use Rattle.cluster_model.specs.Effect.{is_named, lives_on}
+use Rattle.fsm_tables.specs.Lookups.{lives_on}
+use Rattle.cluster_model.specs.Effect.{is_named}
 use Rattle.cluster_model.specs.Words.{State}
 use Rattle.cluster_model.specs.Admission.{evals_pass, those_jobs}
 use Rattle.cluster_model.proofs.Keys.{at_name}

@@ -16,23 +16,23 @@ use Rattle.rows.specs.declared.command.AcceptedPlan.{AcceptedPlan}
 use Rattle.rows.specs.Keys.{alloc_cmp, alloc_id, node_number}
 use Rattle.rows.specs.Rising.{is_below, is_rising}
 use Rattle.fsm_tables.specs.Rows.{row_of, has_row, put, put_within}
-use Rattle.fsm_tables.specs.RowLaws.{both, first, second, weight_of, sum_by-put}
-use Rattle.fsm_tables.specs.Sums.{weight}
+use Rattle.fsm_tables.proofs.RowLaws.{both, first, second, sum_by-put}
+use Rattle.fsm_tables.specs.Inner.Sums.{weight_of, weight}
 use Rattle.fsm_tables.specs.Claims.{Claim, claim_of, claims, on_node, is_live, is_wanted, is_active}
 use Rattle.fsm_tables.specs.LiveNames.{live_named}
 use Rattle.cluster_model.specs.Words.{State, same_alloc}
 use Rattle.cluster_model.specs.Safe.{same_name, are_distinct, is_safe}
-use Rattle.cluster_model.specs.Effect.{counted, stop, planned}
+use Rattle.cluster_model.specs.Effect.{with_next_count, stop, planned}
 use Rattle.cluster_model.proofs.SafeLaws.{stop_releases, released, fewer_any}
 use Rattle.rows.proofs.KeyLaws.{alloc_cmp_total}
-use Rattle.cluster_model.specs.Plans.{room_of, fits_number, ended, wanted, are_free, are_dated, kept, IsAskable}
+use Rattle.cluster_model.specs.Plans.{room_of, fits_number, ended, wanted, are_free, are_dated, kept_claims, IsAskable}
 use Rattle.cluster_model.proofs.UseLaws.{Counts, released_sum}
 use Rattle.cluster_model.proofs.NameLaws.{join, itself, no_other, rest_other, distinct_same}
 use Rattle.cluster_model.proofs.PlanLaws.{plan_is_safe, safe_is_plan, planned_count, kept_is_distinct, distinct_mapped, distinct-append, used_planned}
 use Rattle.cluster_model.proofs.AfterLaws.{sums_same, sums_two, sum_at, claims_sum}
 use Rattle.cluster_model.proofs.Lists.{is_true, same_truth, and_true, and_false}
 use Rattle.cluster_model.proofs.Keys.{at_alloc}
-use Rattle.fsm_state.specs.Inner.Alone.{claim_name, is_free_but, is_free, ended_one, ended_by, has_room, all_from, all_numbers, passes_alone}
+use Rattle.fsm_state.specs.Inner.Alone.{claim_name, is_free_but, is_name_free, claim_if_live, ended_by, has_room, all_from, all_numbers, passes_alone}
 
 -- ---- names
 
@@ -63,7 +63,7 @@ stop_lives ids a =
 
 -- where names are held once, what stops leave holds a name where it finds a row that they do not
 -- name
-free_of : (ids : List AllocId) (d : Claim) (rows : List Allocation) → T (are_distinct (claims rows)) → not (holds_name d (claims (map (stop ids) rows))) ≡ is_free ids rows d
+free_of : (ids : List AllocId) (d : Claim) (rows : List Allocation) → T (are_distinct (claims rows)) → not (holds_name d (claims (map (stop ids) rows))) ≡ is_name_free ids rows d
 free_of ids d [] h = refl
 free_of ids d (a ∷ rows) h =
     let rest = claims (map (stop ids) rows) in
@@ -74,7 +74,7 @@ free_of ids d (a ∷ rows) h =
           | true ↦ is_true _ (not_held (claim_of a) d rest (subst T (sym e) tt) (fewer_any (same_name (claim_of a)) rest (claims rows) (released (stop ids) (stop_releases ids) rows) (first _ _ h)))
           | false ↦ ap (λ t. not (t || holds_name d rest)) e
         ]
-        | false ↦ λ e. elim (list_any (same_alloc a.id) ids) as (λ m. not (holds_name d (cond (not m) (claim_of a ∷ rest) rest)) ≡ is_free ids rows d) [
+        | false ↦ λ e. elim (list_any (same_alloc a.id) ids) as (λ m. not (holds_name d (cond (not m) (claim_of a ∷ rest) rest)) ≡ is_name_free ids rows d) [
           | true ↦ free_of ids d rows (second _ _ h)
           | false ↦ ap (λ t. not (t || holds_name d rest)) e ∙ free_of ids d rows (second _ _ h)
         ]
@@ -100,7 +100,7 @@ turned_free : (cs ds : List Claim) → are_free cs ds ≡ list_all (λ d. not (h
 turned_free [] ds = sym (all_true ds)
 turned_free (c ∷ cs) ds = ap (λ b. not (list_any (same_name c) ds) && b) (turned_free cs ds) ∙ one_out c (λ d. holds_name d cs) ds
 
-free_is : (ids : List AllocId) (rows : List Allocation) (ds : List Claim) → T (are_distinct (claims rows)) → are_free (claims (map (stop ids) rows)) ds ≡ list_all (is_free ids rows) ds
+free_is : (ids : List AllocId) (rows : List Allocation) (ds : List Claim) → T (are_distinct (claims rows)) → are_free (claims (map (stop ids) rows)) ds ≡ list_all (is_name_free ids rows) ds
 free_is ids rows ds h = turned_free (claims (map (stop ids) rows)) ds ∙ (λ i. list_all (λ d. free_of ids d rows h i) ds)
 
 -- ---- what stops end
@@ -157,7 +157,7 @@ apart_step w id ids a e =
     ] refl
     ∙ ap (λ b. cond b (weight w a) 0 + gone w ids a) (sym (at_alloc id a))
 
-one_sum : (w : Claim → ℕ) (o : Option Allocation) (rest : List Claim) → sum_by w (ended_one o rest) ≡ weight_of (weight w) o + sum_by w rest
+one_sum : (w : Claim → ℕ) (o : Option Allocation) (rest : List Claim) → sum_by w (claim_if_live o rest) ≡ weight_of (weight w) o + sum_by w rest
 one_sum w None rest = omega arith
 one_sum w (Some a) rest = elim (is_live a) as (λ l. sum_by w (cond l (claim_of a ∷ rest) rest) ≡ cond l (w (claim_of a)) 0 + sum_by w rest) [ true ↦ sum_by-cons w (claim_of a) rest | false ↦ omega arith ]
 
@@ -166,7 +166,7 @@ gone_sum w [] rows h = none_gone w rows
 gone_sum w (id ∷ ids) rows h =
     let rest : sum_by (gone w ids) rows ≡ sum_by w (ended_by ids rows) = gone_sum w ids rows h in
     let here = λ (a : Allocation). cond (is_eq (alloc_cmp id a.id)) (weight w a) 0 in
-    elim (list_any (same_alloc id) ids) as (λ m. list_any (same_alloc id) ids ≡ m → sum_by (gone w (id ∷ ids)) rows ≡ sum_by w (cond m (ended_by ids rows) (ended_one (row_of alloc_cmp alloc_id id rows) (ended_by ids rows)))) [
+    elim (list_any (same_alloc id) ids) as (λ m. list_any (same_alloc id) ids ≡ m → sum_by (gone w (id ∷ ids)) rows ≡ sum_by w (cond m (ended_by ids rows) (claim_if_live (row_of alloc_cmp alloc_id id rows) (ended_by ids rows)))) [
       | true ↦ λ e. sums_same (gone w (id ∷ ids)) (gone w ids) (λ a. ap (λ b. cond b (weight w a) 0) (again a.id id ids e)) rows ∙ rest
       | false ↦ λ e.
           let all : sum_by (gone w (id ∷ ids)) rows ≡ sum_by here rows + sum_by (gone w ids) rows = sums_same (gone w (id ∷ ids)) (λ a. here a + gone w ids a) (λ a. apart_step w id ids a e) rows ∙ sums_two here (gone w ids) rows in
@@ -175,7 +175,7 @@ gone_sum w (id ∷ ids) rows h =
           omega (arith, all, one, rest, front)
     ] refl
 
-few_ended_one : (o : Option Allocation) (rest : List Claim) → length (ended_one o rest) ≤ 1 + length rest
+few_ended_one : (o : Option Allocation) (rest : List Claim) → length (claim_if_live o rest) ≤ 1 + length rest
 few_ended_one None rest = omega arith
 few_ended_one (Some a) rest = elim (is_live a) as (λ l. length (cond l (claim_of a ∷ rest) rest) ≤ 1 + length rest) [ true ↦ omega arith | false ↦ omega arith ]
 
@@ -185,7 +185,7 @@ few_ended [] rows = omega arith
 few_ended (id ∷ ids) rows =
     let rest : length (ended_by ids rows) ≤ length ids = few_ended ids rows in
     let one = few_ended_one (row_of alloc_cmp alloc_id id rows) (ended_by ids rows) in
-    elim (list_any (same_alloc id) ids) as (λ m. length (cond m (ended_by ids rows) (ended_one (row_of alloc_cmp alloc_id id rows) (ended_by ids rows))) ≤ suc (length ids)) [
+    elim (list_any (same_alloc id) ids) as (λ m. length (cond m (ended_by ids rows) (claim_if_live (row_of alloc_cmp alloc_id id rows) (ended_by ids rows))) ≤ suc (length ids)) [
       | true ↦ omega (arith, rest)
       | false ↦ omega (arith, rest, one)
     ]
@@ -196,10 +196,10 @@ moved : (u w k e f r : ℕ) → k + e ≡ u + w → e ≡ f → nat_le (u + w) (
 moved u w k e f r g h = grind arith
 
 part_is : (w : Claim → ℕ) (p : AcceptedPlan) (s : State) (r : ℕ) → T (is_rising alloc_cmp alloc_id s.allocs)
-    → nat_le (sum_by w (claims s.allocs) + sum_by w (wanted p)) (r + sum_by w (ended_by p.stops s.allocs)) ≡ nat_le (sum_by w (kept p s ++ wanted p)) r
+    → nat_le (sum_by w (claims s.allocs) + sum_by w (wanted p)) (r + sum_by w (ended_by p.stops s.allocs)) ≡ nat_le (sum_by w (kept_claims p s ++ wanted p)) r
 part_is w p s r h = moved _ _ _ _ _ r (used_planned w p s) (ended_sum w p.stops s.allocs ∙ gone_sum w p.stops s.allocs h)
 
-room_is : (p : AcceptedPlan) (s : State) (n : ℕ) → T (is_rising alloc_cmp alloc_id s.allocs) → has_room s (ended_by p.stops s.allocs) (wanted p) n ≡ fits_number s.nodes (kept p s ++ wanted p) n
+room_is : (p : AcceptedPlan) (s : State) (n : ℕ) → T (is_rising alloc_cmp alloc_id s.allocs) → has_room s (ended_by p.stops s.allocs) (wanted p) n ≡ fits_number s.nodes (kept_claims p s ++ wanted p) n
 room_is p s n h = λ i.
     part_is (on_node n (λ z. z.cpu)) p s (room_of (row_of nat_cmp node_number n s.nodes)).cpu h i
     && part_is (on_node n (λ z. z.mem)) p s (room_of (row_of nat_cmp node_number n s.nodes)).mem h i
@@ -248,23 +248,23 @@ all_done f n le = let none : 64 - n ≡ 0 = omega arith in ap (all_from f (n + 1
 pub one_number : (f : ℕ → Bool) (n : ℕ) → n < 64 → all_from f (n + 1) (64 - n) ≡ (f (n + 1) && all_from f (n + 1 + 1) (64 - (n + 1)))
 one_number f n lt = let more : 64 - n ≡ suc (64 - (n + 1)) = omega arith in ap (all_from f (n + 1)) more
 
-fit_at : (p : AcceptedPlan) (s : State) → IsAskable p s → T (is_rising alloc_cmp alloc_id s.allocs) → T (all_numbers (has_room s (ended_by p.stops s.allocs) (wanted p))) → (n : ℕ) → n < 65 → T (fits_number s.nodes (kept p s ++ wanted p) n)
+fit_at : (p : AcceptedPlan) (s : State) → IsAskable p s → T (is_rising alloc_cmp alloc_id s.allocs) → T (all_numbers (has_room s (ended_by p.stops s.allocs) (wanted p))) → (n : ℕ) → n < 65 → T (fits_number s.nodes (kept_claims p s ++ wanted p) n)
 fit_at p s a rising h n lt =
     elim (cases_lt 0 n) [
       | inl some ↦ subst T (room_is p s n rising) (numbers_pass (has_room s (ended_by p.stops s.allocs) (wanted p)) h n (omega arith) lt)
       | inr none ↦
           let zeroth : 0 ≡ n = omega arith in
-          subst (λ m. T (fits_number s.nodes (kept p s ++ wanted p) m)) zeroth
-          (both _ _ (none_fits _ _ (none_on_zero (λ z. z.cpu) (kept p s ++ wanted p) (planned_count p s a))) (none_fits _ _ (none_on_zero (λ z. z.mem) (kept p s ++ wanted p) (planned_count p s a))))
+          subst (λ m. T (fits_number s.nodes (kept_claims p s ++ wanted p) m)) zeroth
+          (both _ _ (none_fits _ _ (none_on_zero (λ z. z.cpu) (kept_claims p s ++ wanted p) (planned_count p s a))) (none_fits _ _ (none_on_zero (λ z. z.mem) (kept_claims p s ++ wanted p) (planned_count p s a))))
     ]
 
 -- ---- the test
 
-pub alone_is_safe : (p : AcceptedPlan) (s : State) → IsAskable p s → T (is_rising alloc_cmp alloc_id s.allocs) → T (are_distinct (claims s.allocs)) → passes_alone p s ≡ is_safe (planned p (counted s))
+pub alone_is_safe : (p : AcceptedPlan) (s : State) → IsAskable p s → T (is_rising alloc_cmp alloc_id s.allocs) → T (are_distinct (claims s.allocs)) → passes_alone p s ≡ is_safe (planned p (with_next_count s))
 alone_is_safe p s a rising once =
     let room = all_numbers (has_room s (ended_by p.stops s.allocs) (wanted p)) in
-    let free = list_all (is_free p.stops s.allocs) (wanted p) in
-    same_truth (passes_alone p s) (is_safe (planned p (counted s)))
+    let free = list_all (is_name_free p.stops s.allocs) (wanted p) in
+    same_truth (passes_alone p s) (is_safe (planned p (with_next_count s)))
     (λ h.
     let front : T (room && are_distinct (wanted p)) = first (room && are_distinct (wanted p)) free h in
     plan_is_safe p s a (record {
@@ -325,14 +325,14 @@ put_sum w a rows h =
     let change = sum_by-put alloc_cmp alloc_id alloc_cmp_total (weight w) a rows h in
     omega (arith, all, rest, over, one, new, after, before, change)
 
-own_free : (a : Allocation) (rows : List Allocation) → T (not (is_live a) || is_free (a.id ∷ []) rows (claim_of a)) → T (list_all (is_free (a.id ∷ []) rows) (cond (is_live a) (claim_of a ∷ []) []))
-own_free a rows h = elim (is_live a) as (λ l. T (not l || is_free (a.id ∷ []) rows (claim_of a)) → T (list_all (is_free (a.id ∷ []) rows) (cond l (claim_of a ∷ []) []))) [ true ↦ λ h. both _ _ h tt | false ↦ λ h. tt ] h
+own_free : (a : Allocation) (rows : List Allocation) → T (not (is_live a) || is_name_free (a.id ∷ []) rows (claim_of a)) → T (list_all (is_name_free (a.id ∷ []) rows) (cond (is_live a) (claim_of a ∷ []) []))
+own_free a rows h = elim (is_live a) as (λ l. T (not l || is_name_free (a.id ∷ []) rows (claim_of a)) → T (list_all (is_name_free (a.id ∷ []) rows) (cond l (claim_of a ∷ []) []))) [ true ↦ λ h. both _ _ h tt | false ↦ λ h. tt ] h
 
 own_distinct : (a : Allocation) → T (are_distinct (cond (is_live a) (claim_of a ∷ []) []))
 own_distinct a = elim (is_live a) as (λ l. T (are_distinct (cond l (claim_of a ∷ []) []))) [ true ↦ tt | false ↦ tt ]
 
 -- names stay held once where the name of a live row finds no other row
-put_once : (a : Allocation) (rows : List Allocation) → T (is_rising alloc_cmp alloc_id rows) → T (are_distinct (claims rows)) → T (not (is_live a) || is_free (a.id ∷ []) rows (claim_of a)) → T (are_distinct (claims (put alloc_cmp alloc_id a rows)))
+put_once : (a : Allocation) (rows : List Allocation) → T (is_rising alloc_cmp alloc_id rows) → T (are_distinct (claims rows)) → T (not (is_live a) || is_name_free (a.id ∷ []) rows (claim_of a)) → T (are_distinct (claims (put alloc_cmp alloc_id a rows)))
 put_once a rows h once free =
     let ids = a.id ∷ [] in
     let left = claims (map (stop ids) rows) in
@@ -341,5 +341,5 @@ put_once a rows h once free =
     distinct_same (left ++ mine) (claims (put alloc_cmp alloc_id a rows)) (λ w. put_sum w a rows h)
     (subst T (sym (distinct-append left mine)) (both (are_distinct left && are_distinct mine) (are_free left mine) (both (are_distinct left) (are_distinct mine) (distinct_mapped (stop ids) (stop_releases ids) rows once) (own_distinct a)) apart))
 
-pub put_within_once : (most : ℕ) (a : Allocation) (rows : List Allocation) → T (is_rising alloc_cmp alloc_id rows) → T (are_distinct (claims rows)) → T (not (is_live a) || is_free (a.id ∷ []) rows (claim_of a)) → T (are_distinct (claims (put_within alloc_cmp alloc_id most a rows)))
+pub put_within_once : (most : ℕ) (a : Allocation) (rows : List Allocation) → T (is_rising alloc_cmp alloc_id rows) → T (are_distinct (claims rows)) → T (not (is_live a) || is_name_free (a.id ∷ []) rows (claim_of a)) → T (are_distinct (claims (put_within alloc_cmp alloc_id most a rows)))
 put_within_once most a rows h once free = elim (has_row alloc_cmp alloc_id a.id rows || nat_lt (length rows) most) as (λ b. T (are_distinct (claims (cond b (put alloc_cmp alloc_id a rows) rows)))) [ true ↦ put_once a rows h once free | false ↦ once ]

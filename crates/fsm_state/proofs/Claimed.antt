@@ -10,15 +10,15 @@ use Rattle.rows.specs.declared.allocation.Allocation.{Allocation}
 use Rattle.rows.specs.declared.command.AcceptedPlan.{AcceptedPlan}
 use Rattle.fsm_tables.specs.Claims.{Claim, claim_of, claims, on_node, is_live}
 use Rattle.fsm_tables.specs.LiveNames.{is_called, live_named, name_of}
-use Rattle.fsm_tables.specs.RowLaws.{both, first, second, less}
+use Rattle.fsm_tables.proofs.RowLaws.{both, first, second, less}
 use Rattle.rows.specs.declared.allocation.AllocId.{AllocId}
 use Rattle.rows.specs.Keys.{alloc_cmp, alloc_id}
 use Rattle.rows.specs.Rising.{is_below, is_rising}
 use Rattle.std.specs.Ordering.{is_lt, is_eq}
 use Rattle.cluster_model.proofs.Keys.{at_alloc}
-use Rattle.cluster_model.specs.Words.{State, holds, same_alloc}
+use Rattle.cluster_model.specs.Words.{State, is_some_and, same_alloc}
 use Rattle.cluster_model.specs.Safe.{is_safe, are_safe, is_within, same_name, are_distinct}
-use Rattle.cluster_model.specs.Effect.{counted, stop, planned}
+use Rattle.cluster_model.specs.Effect.{with_next_count, stop, planned}
 use Rattle.cluster_model.proofs.SafeLaws.{Fewer, nothing, kept, gone, fewer_distinct, distinct_of, stop_releases}
 use Rattle.cluster_model.proofs.UseLaws.{Counts, number_fits, safe_by_numbers, low_numbers}
 use Rattle.cluster_model.specs.Plans.{wanted, are_free, is_made, left, left_by, IsKnown}
@@ -71,12 +71,12 @@ left_count x slot n [] h = tt
 left_count x slot n (a ∷ rows) h = elim (is_live a && not (is_made x slot n a)) as (λ b. AllByRecursion Counts (cond b (claim_of a ∷ left x slot n rows) (left x slot n rows))) [ true ↦ (h.0, left_count x slot n rows h.1) | false ↦ left_count x slot n rows h.1 ]
 
 -- the nodes bear what is claimed after a plan exactly where the state after it is safe
-pub bears_is_safe : (p : AcceptedPlan) (s : State) → IsKnown p s → are_safe s.nodes (left_by p s ++ wanted p) ≡ is_safe (planned p (counted s))
+pub bears_is_safe : (p : AcceptedPlan) (s : State) → IsKnown p s → are_safe s.nodes (left_by p s ++ wanted p) ≡ is_safe (planned p (with_next_count s))
 bears_is_safe p s k =
     let cs = left_by p s ++ wanted p in
     let still = all_mapped RowCounts (stop p.stops) (λ a c. subst Counts (sym ((stop_releases p.stops).same_claim a)) c) s.allocs (rows_count s.allocs k.allocs) in
     let counts = all_append Counts (left_by p s) (wanted p) (left_count (s.count + 1) 0 (length p.places) (map (stop p.stops) s.allocs) still) (all_wanted_count p p.places k.places) in
-    same_truth (are_safe s.nodes cs) (is_safe (planned p (counted s)))
+    same_truth (are_safe s.nodes cs) (is_safe (planned p (with_next_count s)))
     (λ h. planned_is_safe p s k (record { fit = λ n lt. number_fits s.nodes cs h n; distinct = distinct_of s.nodes cs h }))
     (λ h. let a = safe_is_planned p s k h in safe_by_numbers s.nodes cs k.nodes_rising (low_numbers s.nodes k.nodes) counts a.fit a.distinct)
 
@@ -91,8 +91,8 @@ is_other true s o e g = absurd (subst T e g)
 
 one_first : (a : Allocation) (rest : List Allocation) (b : Allocation) → T (is_lt (alloc_cmp a.id b.id)) → T (is_first (a ∷ rest) b) → T (is_first rest b)
 one_first a rest b lt g =
-    elim (is_live a && is_called (name_of b) a) as (λ t. T (not (is_live b) || holds (λ c. same_alloc b.id c.id) (cond t (Some a) (live_named (name_of b) rest))) → T (is_first rest b)) [
-      | true ↦ λ g. is_other (is_live b) (same_alloc b.id a.id) (holds (λ c. same_alloc b.id c.id) (live_named (name_of b) rest)) (is_apart a.id b lt) g
+    elim (is_live a && is_called (name_of b) a) as (λ t. T (not (is_live b) || is_some_and (λ c. same_alloc b.id c.id) (cond t (Some a) (live_named (name_of b) rest))) → T (is_first rest b)) [
+      | true ↦ λ g. is_other (is_live b) (same_alloc b.id a.id) (is_some_and (λ c. same_alloc b.id c.id) (live_named (name_of b) rest)) (is_apart a.id b lt) g
       | false ↦ λ g. g
     ] g
 
@@ -103,7 +103,7 @@ rest_first a rest (b ∷ ys) h g = both _ _ (one_first a rest b (first _ _ h) (f
 none_like : (a : Allocation) (rest ys : List Allocation) → T (is_live a) → T (is_below alloc_cmp alloc_id a.id ys) → T (list_all (is_first (a ∷ rest)) ys) → T (not (list_any (same_name (claim_of a)) (claims ys)))
 none_like a rest [] live h g = tt
 none_like a rest (b ∷ ys) live h g =
-    let found : Bool → Bool → Bool = λ l t. holds (λ c. same_alloc b.id c.id) (cond (l && t) (Some a) (live_named (name_of b) rest)) in
+    let found : Bool → Bool → Bool = λ l t. is_some_and (λ c. same_alloc b.id c.id) (cond (l && t) (Some a) (live_named (name_of b) rest)) in
     let behind : T (not (list_any (same_name (claim_of a)) (claims ys))) = none_like a rest ys live (second _ _ h) (second _ _ g) in
     elim (is_live b) as (λ l. T (not l || found (is_live a) (is_called (name_of b) a)) → T (not (list_any (same_name (claim_of a)) (cond l (claim_of b ∷ claims ys) (claims ys))))) [
       | true ↦ λ g. elim (is_called (name_of b) a) as (λ t. T (found (is_live a) t) → T (not (t || list_any (same_name (claim_of a)) (claims ys)))) [

@@ -7,7 +7,7 @@ use Rattle.std.specs.Ordering.{ordering_reverse}
 use Rattle.std.specs.Cmp.{IsTotalOrder}
 use Rattle.rows.specs.Rising.{is_below, is_rising}
 use Rattle.fsm_tables.specs.Rows.{by_order, put, put_within, has_row}
-use Rattle.fsm_tables.specs.RowLaws.{both, first, second, less}
+use Rattle.fsm_tables.proofs.RowLaws.{both, first, second, less}
 
 module _ {K X : Type 0} (R : K → K → Ordering) (key : X → K) (o : IsTotalOrder R) where
   below_front : (k : K) (xs : List X) (i : ℕ) → T (is_below R key k xs) → T (is_below R key k (take i xs))

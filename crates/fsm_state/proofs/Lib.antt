@@ -1,5 +1,5 @@
 pub mod Touching
-pub mod Rows
+pub mod Losses
 pub mod Turns
 pub mod Filling
 pub mod Admitting

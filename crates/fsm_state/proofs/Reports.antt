@@ -8,8 +8,8 @@ use Rattle.rows.specs.declared.allocation.Allocation.{Allocation}
 use Rattle.rows.specs.declared.command.Report.{Report}
 use Rattle.rows.specs.Keys.{alloc_cmp, alloc_id}
 use Rattle.fsm_tables.specs.Claims.{is_active, is_live}
-use Rattle.cluster_model.specs.Words.{State, alloc_of, holds, same_alloc}
-use Rattle.cluster_model.specs.Effect.{owns, ends, state_of, told, told_all}
+use Rattle.cluster_model.specs.Words.{State, alloc_of, is_some_and, same_alloc}
+use Rattle.cluster_model.specs.Effect.{owns, is_ended_by, client_state_of, told, told_all}
 use Rattle.fsm_state.specs.Inner.Steps.{is_one_of, ended_now}
 use Rattle.rows.proofs.KeyLaws.{alloc_cmp_total}
 use Rattle.cluster_model.proofs.Lists.{anys_same, and_assoc}
@@ -23,7 +23,7 @@ is_told rs a = list_any (λ r. same_alloc a.id r.id) rs
 
 -- what no report is of stays
 stays : (n : ℕ) (r : Report) (a : Allocation) → same_alloc a.id r.id ≡ false → told n r a ≡ a
-stays n r a e = ap (λ b. cond (b && nat_eq a.node n && is_active a.client) (record a { client = state_of r.state }) a) e
+stays n r a e = ap (λ b. cond (b && nat_eq a.node n && is_active a.client) (record a { client = client_state_of r.state }) a) e
 
 untold : (n : ℕ) (rs : List Report) (a : Allocation) → is_told rs a ≡ false → told_all n rs a ≡ a
 untold n [] a e = refl
@@ -33,9 +33,9 @@ untold n (r ∷ rs) a e =
       | false ↦ λ t e. ap (told_all n rs) (stays n r a t) ∙ untold n rs a e
     ] refl e
 
-ends_told : (n : ℕ) (rs : List Report) (a : Allocation) → ends (told_all n rs) a ≡ (is_told rs a && ends (told_all n rs) a)
+ends_told : (n : ℕ) (rs : List Report) (a : Allocation) → is_ended_by (told_all n rs) a ≡ (is_told rs a && is_ended_by (told_all n rs) a)
 ends_told n rs a =
-    elim (is_told rs a) as (λ b. is_told rs a ≡ b → ends (told_all n rs) a ≡ (b && ends (told_all n rs) a)) [
+    elim (is_told rs a) as (λ b. is_told rs a ≡ b → is_ended_by (told_all n rs) a ≡ (b && is_ended_by (told_all n rs) a)) [
       | true ↦ λ e. refl
       | false ↦ λ e. ap (λ z. is_live a && not (is_live z)) (untold n rs a e) ∙ live_stays (is_live a)
     ] refl
@@ -61,19 +61,19 @@ one_more p r rs (a ∷ rows) =
     ap (λ b. ((same_alloc a.id r.id || is_told rs a) && p a) || b) (one_more p r rs rows)
     ∙ split (same_alloc a.id r.id) (is_told rs a) (p a) (list_any (λ a. same_alloc a.id r.id && p a) rows) (list_any (λ a. is_told rs a && p a) rows)
 
-told_names : (f : Allocation → Allocation) (rs : List Report) (s : State) → AreRising s → (j : Job) → list_any (λ a. is_told rs a && (ends f a && bytes_eq a.job j.name)) s.allocs ≡ is_one_of (ended_now f rs s) j
-told_names f [] s h j = none_told (λ a. ends f a && bytes_eq a.job j.name) s.allocs
+told_names : (f : Allocation → Allocation) (rs : List Report) (s : State) → AreRising s → (j : Job) → list_any (λ a. is_told rs a && (is_ended_by f a && bytes_eq a.job j.name)) s.allocs ≡ is_one_of (ended_now f rs s) j
+told_names f [] s h j = none_told (λ a. is_ended_by f a && bytes_eq a.job j.name) s.allocs
 told_names f (r ∷ rs) s h j =
-    let p : Allocation → Bool = λ a. ends f a && bytes_eq a.job j.name in
-    let here : list_any (λ a. same_alloc a.id r.id && p a) s.allocs ≡ holds p (alloc_of r.id s) =
+    let p : Allocation → Bool = λ a. is_ended_by f a && bytes_eq a.job j.name in
+    let here : list_any (λ a. same_alloc a.id r.id && p a) s.allocs ≡ is_some_and p (alloc_of r.id s) =
     anys_same (λ a. same_alloc a.id r.id && p a) (λ a. is_eq (alloc_cmp r.id a.id) && p a) (λ a. ap (λ b. b && p a) (sym (at_alloc r.id a))) s.allocs
     ∙ any_at alloc_cmp alloc_id alloc_cmp_total p r.id s.allocs h.allocs in
     one_more p r rs s.allocs
     ∙ (λ i. here i || told_names f rs s h j i)
     ∙ sym (one_ended f (alloc_of r.id s) (ended_now f rs s) j)
 
-pub ended_are : (n : ℕ) (rs : List Report) (s : State) → AreRising s → (j : Job) → owns (ends (told_all n rs)) s.allocs j ≡ is_one_of (ended_now (told_all n rs) rs s) j
+pub ended_are : (n : ℕ) (rs : List Report) (s : State) → AreRising s → (j : Job) → owns (is_ended_by (told_all n rs)) s.allocs j ≡ is_one_of (ended_now (told_all n rs) rs s) j
 ended_are n rs s h j =
-    anys_same (λ a. ends (told_all n rs) a && bytes_eq a.job j.name) (λ a. is_told rs a && (ends (told_all n rs) a && bytes_eq a.job j.name))
-    (λ a. ap (λ b. b && bytes_eq a.job j.name) (ends_told n rs a) ∙ and_assoc (is_told rs a) (ends (told_all n rs) a) (bytes_eq a.job j.name)) s.allocs
+    anys_same (λ a. is_ended_by (told_all n rs) a && bytes_eq a.job j.name) (λ a. is_told rs a && (is_ended_by (told_all n rs) a && bytes_eq a.job j.name))
+    (λ a. ap (λ b. b && bytes_eq a.job j.name) (ends_told n rs a) ∙ and_assoc (is_told rs a) (is_ended_by (told_all n rs) a) (bytes_eq a.job j.name)) s.allocs
     ∙ told_names (told_all n rs) rs s h j

@@ -1,6 +1,6 @@
 -- The effects as puts of one row after the other are the effects as changes of all rows.
 use Rattle.std.proofs.Common.{◌≡◌, ℕ, Bool, true, false, cond, ◌&&◌, ◌||◌, T, List, [], ◌∷◌, ◌++◌, length, map, Option, Some, None, is_some, refl, sym, ap, subst, ◌∙◌}
-use Rattle.std.specs.Prelude.{nat_eq, nat_lt, bytes_eq, filter}
+use Rattle.std.specs.Prelude.{nat_eq, nat_lt, filter}
 use Rattle.std.specs.List.{list_any}
 use Rattle.std.specs.Cmp.{IsTotalOrder, nat_cmp_total, tied_itself}
 use Rattle.std.specs.Cmp.Lexicographic.{nat_list_cmp_total}
@@ -19,13 +19,13 @@ use Rattle.rows.specs.Changes.{status_of, snapshot_of}
 use Rattle.rows.specs.Keys.{name_cmp, eval_cmp, job_name, node_number, eval_id}
 use Rattle.rows.specs.Rising.{is_below, is_rising}
 use Rattle.fsm_tables.specs.Rows.{by_order, row_of, has_row, put, put_within}
-use Rattle.fsm_tables.specs.RowLaws.{both, less, first, second, none_below, below_less, below_tied, some_none, some_same}
-use Rattle.cluster_model.specs.Words.{State, holds, same_eval, is_open}
-use Rattle.cluster_model.specs.Effect.{touched, with_evals, is_named, owns, stop_job, down, draining, drained, lives_on, set_status}
+use Rattle.fsm_tables.proofs.RowLaws.{both, less, first, second, none_below, below_less, below_tied, some_none, some_same}
+use Rattle.cluster_model.specs.Words.{State, is_some_and, same_eval, is_open}
+use Rattle.cluster_model.specs.Effect.{touched, with_evals, is_named, owns, stop_job, down, draining, drained, set_status}
 use Rattle.rows.proofs.KeyLaws.{eval_cmp_total}
-use Rattle.fsm_state.specs.Inner.Steps.{put_changed, changed, touched_names, jobs_on, set_one, is_one_of}
+use Rattle.fsm_state.specs.Inner.Steps.{put_changed, with_row_changed, touched_names, set_one, is_one_of, AreJobs}
 use Rattle.cluster_model.proofs.Lists.{maps_same, or_false, both_tests}
-use Rattle.cluster_model.proofs.Keys.{names_turn, at_name, at_number, at_eval}
+use Rattle.cluster_model.proofs.Keys.{at_name, at_number, at_eval}
 
 -- ---- a change at a key is a map, in a table of rising keys
 
@@ -78,7 +78,7 @@ module _ {K X : Type 0} (R : K → K → Ordering) (key : X → K) where
               ∙ ap (λ zs. y ∷ zs) (put_only f keeps k r ys (second _ _ h) e)
         ] refl e
 
-    pub changed_is : (most : ℕ) (f : X → X) → ((x : X) → key (f x) ≡ key x) → (k : K) (ys : List X) → T (is_rising R key ys) → changed R key most f k ys ≡ map (only R key f k) ys
+    pub changed_is : (most : ℕ) (f : X → X) → ((x : X) → key (f x) ≡ key x) → (k : K) (ys : List X) → T (is_rising R key ys) → with_row_changed R key most f k ys ≡ map (only R key f k) ys
     changed_is most f keeps k ys h =
         elim (row_of R key k ys) as (λ m. row_of R key k ys ≡ m → put_changed R key most f m ys ≡ map (only R key f k) ys) [
           | None ↦ λ e. sym (none_only f k ys e)
@@ -97,10 +97,10 @@ module _ {K X : Type 0} (R : K → K → Ordering) (key : X → K) where
           | false ↦ λ e. none_any p k ys e
         ] e
 
-    pub any_at : (p : X → Bool) (k : K) (ys : List X) → T (is_rising R key ys) → list_any (λ y. is_eq (R k (key y)) && p y) ys ≡ holds p (row_of R key k ys)
+    pub any_at : (p : X → Bool) (k : K) (ys : List X) → T (is_rising R key ys) → list_any (λ y. is_eq (R k (key y)) && p y) ys ≡ is_some_and p (row_of R key k ys)
     any_at p k [] h = refl
     any_at p k (y ∷ ys) h =
-        elim (R k (key y)) as (λ q. R k (key y) ≡ q → ((is_eq q && p y) || list_any (λ y. is_eq (R k (key y)) && p y) ys) ≡ holds p (cond (is_eq q) (Some y) (row_of R key k ys))) [
+        elim (R k (key y)) as (λ q. R k (key y) ≡ q → ((is_eq q && p y) || list_any (λ y. is_eq (R k (key y)) && p y) ys) ≡ is_some_and p (cond (is_eq q) (Some y) (row_of R key k ys))) [
           | Less ↦ λ e. any_at p k ys (second _ _ h)
           | Equal ↦ λ e. ap (λ b. p y || b) (none_any p k ys (none_below R key o k ys (below_tied R key o k (key y) ys e (first _ _ h)))) ∙ or_false (p y)
           | Greater ↦ λ e. any_at p k ys (second _ _ h)
@@ -142,26 +142,26 @@ module _ {K X : Type 0} (R : K → K → Ordering) (key : X → K) where
 
 -- ---- jobs, nodes, evaluations
 
-pub stopped_job : (x : ℕ) (name : List ℕ) (jobs : List Job) → T (is_rising name_cmp job_name jobs) → changed name_cmp job_name 256 (λ j. record j { stopped = true; version = x }) name jobs ≡ map (stop_job x name) jobs
+pub stopped_job : (x : ℕ) (name : List ℕ) (jobs : List Job) → T (is_rising name_cmp job_name jobs) → with_row_changed name_cmp job_name 256 (λ j. record j { stopped = true; version = x }) name jobs ≡ map (stop_job x name) jobs
 stopped_job x name jobs h =
     changed_is name_cmp job_name nat_list_cmp_total 256 (λ j. record j { stopped = true; version = x }) (λ j. refl) name jobs h
     ∙ maps_same _ (stop_job x name) (λ j. ap (λ b. cond b (record j { stopped = true; version = x }) j) (at_name name j)) jobs
 
-pub node_changed_is : (f : Node → Node) → ((r : Node) → (f r).number ≡ r.number) → (n : ℕ) (nodes : List Node) → T (is_rising nat_cmp node_number nodes) → changed nat_cmp node_number 64 f n nodes ≡ map (λ r. cond (nat_eq r.number n) (f r) r) nodes
+pub node_changed_is : (f : Node → Node) → ((r : Node) → (f r).number ≡ r.number) → (n : ℕ) (nodes : List Node) → T (is_rising nat_cmp node_number nodes) → with_row_changed nat_cmp node_number 64 f n nodes ≡ map (λ r. cond (nat_eq r.number n) (f r) r) nodes
 node_changed_is f keeps n nodes h =
     changed_is nat_cmp node_number nat_cmp_total 64 f keeps n nodes h
     ∙ maps_same _ (λ r. cond (nat_eq r.number n) (f r) r) (λ r. ap (λ b. cond b (f r) r) (at_number n r.number)) nodes
 
-pub downed_node : (n : ℕ) (nodes : List Node) → T (is_rising nat_cmp node_number nodes) → changed nat_cmp node_number 64 (λ r. record r { status = statuses.Down }) n nodes ≡ map (down n) nodes
+pub downed_node : (n : ℕ) (nodes : List Node) → T (is_rising nat_cmp node_number nodes) → with_row_changed nat_cmp node_number 64 (λ r. record r { status = statuses.Down }) n nodes ≡ map (down n) nodes
 downed_node n nodes h = node_changed_is (λ r. record r { status = statuses.Down }) (λ r. refl) n nodes h
 
-pub draining_node : (n : ℕ) (force : Bool) (nodes : List Node) → T (is_rising nat_cmp node_number nodes) → changed nat_cmp node_number 64 (λ r. record r { eligible = false; drain = cond force drains.Force drains.Slow }) n nodes ≡ map (draining n force) nodes
+pub draining_node : (n : ℕ) (force : Bool) (nodes : List Node) → T (is_rising nat_cmp node_number nodes) → with_row_changed nat_cmp node_number 64 (λ r. record r { eligible = false; drain = cond force drains.Force drains.Slow }) n nodes ≡ map (draining n force) nodes
 draining_node n force nodes h = node_changed_is (λ r. record r { eligible = false; drain = cond force drains.Force drains.Slow }) (λ r. refl) n nodes h
 
-pub drained_node : (n : ℕ) (nodes : List Node) → T (is_rising nat_cmp node_number nodes) → changed nat_cmp node_number 64 (λ r. record r { drain = drains.Off }) n nodes ≡ map (drained n) nodes
+pub drained_node : (n : ℕ) (nodes : List Node) → T (is_rising nat_cmp node_number nodes) → with_row_changed nat_cmp node_number 64 (λ r. record r { drain = drains.Off }) n nodes ≡ map (drained n) nodes
 drained_node n nodes h = node_changed_is (λ r. record r { drain = drains.Off }) (λ r. refl) n nodes h
 
-pub changed_status : (id : EvalId) (to : StatusChange) (evals : List Evaluation) → T (is_rising eval_cmp eval_id evals) → changed eval_cmp eval_id 65536 (set_one to) id evals ≡ map (set_status id to) evals
+pub changed_status : (id : EvalId) (to : StatusChange) (evals : List Evaluation) → T (is_rising eval_cmp eval_id evals) → with_row_changed eval_cmp eval_id 65536 (set_one to) id evals ≡ map (set_status id to) evals
 changed_status id to evals h =
     changed_is eval_cmp eval_id eval_cmp_total 65536 (set_one to) (λ e. elim (is_open e.status) as (λ b. eval_id (cond b (record e { status = status_of to; snapshot = snapshot_of to }) e) ≡ e.id) [ true ↦ refl | false ↦ refl ]) id evals h
     ∙ maps_same _ (set_status id to) (λ e. ap (λ b. cond b (set_one to e) e) (at_eval id e) ∙ both_tests (same_eval e.id id) (is_open e.status) _ e) evals
@@ -174,13 +174,6 @@ touched_same those names h t = λ i. record t { evals = with_evals t.count 0 (fi
 pub touched_name : (name : List ℕ) (t : State) → touched (is_named name) t ≡ touched_names (name ∷ []) t
 touched_name name t = touched_same (is_named name) (name ∷ []) (λ j. sym (or_false (is_named name j))) t
 
-pub on_node_jobs : (n : ℕ) (rows : List Allocation) (j : Job) → owns (lives_on n) rows j ≡ is_one_of (jobs_on n rows) j
-on_node_jobs n [] j = refl
-on_node_jobs n (a ∷ rows) j =
-    elim (lives_on n a) as (λ b. ((b && bytes_eq a.job j.name) || owns (lives_on n) rows j) ≡ is_one_of (cond b (a.job ∷ jobs_on n rows) (jobs_on n rows)) j) [
-      | true ↦ λ i. names_turn a.job j.name i || on_node_jobs n rows j i
-      | false ↦ on_node_jobs n rows j
-    ]
-
-pub touched_on : (n : ℕ) (rows : List Allocation) (t : State) → touched (owns (lives_on n) rows) t ≡ touched_names (jobs_on n rows) t
-touched_on n rows t = touched_same (owns (lives_on n) rows) (jobs_on n rows) (on_node_jobs n rows) t
+-- what is touched is told by which names there are
+pub touched_jobs : (which : Allocation → Bool) (names : List (List ℕ)) (rows : List Allocation) → AreJobs which names rows → (t : State) → touched (owns which rows) t ≡ touched_names names t
+touched_jobs which names rows h t = touched_same (owns which rows) names (λ j. sym (h.named j.name)) t

@@ -3,8 +3,9 @@ ghost use Rattle.std.specs.Prelude.{◌≡◌, ◌≤◌, ◌&&◌, Option, Some
 ghost use Rattle.std.specs.List.{list_any};
 ghost use Rattle.rows.specs.declared.command.Command.TheVariants as commands;
 ghost use Rattle.cluster_model.specs.Words.{is_draining};
-ghost use Rattle.cluster_model.specs.Admission.{admission, jobs_pass, evals_pass, differs as node_differs, allows as may_become, touch_passes};
-ghost use Rattle.cluster_model.specs.Effect.{lives_on, is_named};
+ghost use Rattle.cluster_model.specs.Admission.{admission, jobs_pass, evals_pass, differs, allows, touch_passes};
+ghost use Rattle.cluster_model.specs.Effect.{is_named};
+ghost use Rattle.fsm_tables.specs.Lookups.{lives_on};
 
 mod alone;
 mod claims;
@@ -21,7 +22,7 @@ use rows::{
 
 /// Whether a node's row is of another class or size than it registers with.
 fn differs(spec: &NodeSpec, row: &Node) -> bool
-    ensures { result ≡ node_differs spec.now row.now }
+    ensures { result ≡ differs spec.now row.now }
 {
     !(row.class == spec.class && row.size == spec.size)
 }
@@ -39,7 +40,7 @@ pub(crate) fn is_drained(row: &Node) -> bool
 /// Whether an evaluation of a status may take this one: pending after blocked, and anything else
 /// after pending.
 fn allows(change: &StatusChange, status: EvalStatus) -> bool
-    ensures { result ≡ may_become change.now status }
+    ensures { result ≡ allows change.now status }
 {
     match change {
         StatusChange::Pending => match status {

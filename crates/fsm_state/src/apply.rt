@@ -1,6 +1,6 @@
 //! The effect of each command.
 ghost use Rattle.std.specs.Prelude.{◌≡◌, ◌+◌, ◌<◌, ◌^◌, OnOk};
-ghost use Rattle.cluster_model.specs.Effect.{applied as after_command, touched, is_named, with_job, without_job, without_node, downed, with_drain, without_drain, migrated, with_status, planned, reported};
+ghost use Rattle.cluster_model.specs.Effect.{applied, touched, is_named, with_job, without_job, without_node, downed, with_drain, without_drain, migrated, with_status, planned, reported};
 
 mod allocs;
 mod evals;
@@ -138,7 +138,7 @@ impl Cluster {
     /// to be dropped.
     pub(crate) fn execute(&mut self, command: &Command) -> Result<(), NoMemory>
         requires { self.old.count + 1 < 2 ^ 40 }
-        ensures { OnOk result (self.new ≡ after_command self.old command.now) }
+        ensures { OnOk result (self.new ≡ applied self.old command.now) }
     {
         let entry = self.advance();
         match command {

@@ -1,19 +1,20 @@
 //! The replicated state as a value: its rows, and one row put.
-ghost use Rattle.std.specs.Prelude.{◌≡◌, ◌∷◌, [], ◌+◌, ◌<◌, ◌^◌, ◌||◌, not, OnOk, option_map, T as Holds};
+ghost use Rattle.std.specs.Prelude.{◌≡◌, ◌∷◌, [], ◌+◌, ◌<◌, ◌^◌, ◌||◌, not, OnOk, IfOk, filter, option_map, T as Holds};
 ghost use Rattle.std.specs.List.{list_any};
-ghost use Rattle.fsm_tables.specs.Claims.{claim_of, claims, used, is_live as lives};
+ghost use Rattle.fsm_tables.specs.Claims.{claim_of, claims, used, is_live};
 ghost use Rattle.fsm_tables.specs.LiveNames.{live_named};
+ghost use Rattle.fsm_tables.specs.Lookups.{lives_on, is_active_on};
 ghost use Rattle.fsm_tables.specs.TableRows.{TablesFit};
 ghost use Rattle.cluster_model.specs.Words.{no_rows, same_alloc, job_of, node_of, eval_of, alloc_of};
-ghost use Rattle.cluster_model.specs.Effect.{counted};
+ghost use Rattle.cluster_model.specs.Effect.{with_next_count};
 ghost use Rattle.cluster_model.specs.Safe.{are_distinct};
-ghost use Rattle.fsm_state.specs.Inner.Alone.{is_free_but, is_free};
+ghost use Rattle.fsm_state.specs.Inner.Alone.{is_free_but, is_name_free};
 ghost use Rattle.fsm_state.specs.Inner.Steps.{rows_of, put_job, put_node, put_eval, put_alloc};
 
 use fsm_tables::{AllocName, Table, Tables, Usage, is_live};
 use rows::{
     AllocId, Allocation, EntryIndex, EvalId, Evaluation, Index, Job, JobName, NoMemory, Node,
-    NodeId,
+    NodeId, Sequence,
 };
 use std::alloc::Global;
 use std::marker::Model;
@@ -130,6 +131,20 @@ impl Cluster {
         self.tables.live_named(name)
     }
 
+    /// The live allocations on a node, in rising id.
+    pub(crate) fn live_on(&self, node: NodeId) -> Result<Sequence<Allocation>, NoMemory>
+        ensures { IfOk result (λ rows. rows ≡ filter (lives_on node) self.now.allocs) }
+    {
+        self.tables.live_on(node)
+    }
+
+    /// The allocations on a node that it has still to start, or runs, in rising id.
+    pub(crate) fn active_on(&self, node: NodeId) -> Result<Sequence<Allocation>, NoMemory>
+        ensures { IfOk result (λ rows. rows ≡ filter (is_active_on node) self.now.allocs) }
+    {
+        self.tables.active_on(node)
+    }
+
     /// What the live allocations on a node take of it: the sums of their processor time and of
     /// their memory.
     pub fn used(&self, node: NodeId) -> Usage
@@ -184,7 +199,7 @@ impl Cluster {
     /// One more command.
     pub(crate) fn advance(&mut self) -> EntryIndex
         requires { self.old.count + 1 < 2 ^ 40 }
-        ensures state { self.new ≡ counted self.old }
+        ensures state { self.new ≡ with_next_count self.old }
         ensures entry { result ≡ self.old.count + 1 }
     {
         let entry = EntryIndex::after(self.count);
@@ -234,8 +249,8 @@ impl Cluster {
 
     /// Whether a row takes no name from another: it is not live, or its name finds no other row.
     fn takes_no_name(&self, row: &Allocation) -> bool
-        ensures { result ≡ (
-            not (lives row.now) || is_free (row.now.id ∷ []) self.now.allocs (claim_of row.now)) }
+        ensures { let claim = claim_of row.now in result ≡ (
+            not (is_live row.now) || is_name_free (row.now.id ∷ []) self.now.allocs claim) }
     {
         !is_live(row) || self.is_free_but(&AllocName::of(row), &[row.id])
     }

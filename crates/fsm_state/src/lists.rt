@@ -4,7 +4,7 @@ ghost use Rattle.std.specs.Prelude.{◌≡◌, ◌≤◌, ℕ, List, [], OnOk, I
 ghost use Rattle.std.specs.Ordering.{nat_cmp};
 ghost use Rattle.rows.specs.Keys.{name_cmp, eval_cmp, alloc_cmp, job_name, node_number, eval_id, alloc_id};
 ghost use Rattle.rows.specs.Rising.{is_rising};
-ghost use Rattle.fsm_tables.specs.Rows.{put_within as with_row};
+ghost use Rattle.fsm_tables.specs.Rows.{put_within};
 ghost use Rattle.cluster_model.specs.Words.{State};
 ghost use Rattle.cluster_model.specs.States.{InOrder};
 
@@ -28,7 +28,7 @@ trait Stored: Row {
     /// Makes or replaces the row of the key.
     fn put_into(self, state: &mut Cluster) -> Result<(), NoMemory>
         ensures { (rows : List Self) (s : State) → state.old ≡ stored rows s
-            → let after = with_row Self.Key.cmp Self.key_of most self rows in
+            → let after = put_within Self.Key.cmp Self.key_of most self rows in
             OnOk result (state.new ≡ stored after s) };
 }
 

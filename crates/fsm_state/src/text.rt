@@ -1,5 +1,4 @@
 //! A state as bytes.
-ghost use Rattle.std.specs.Prelude.{◌≡◌};
 ghost use Rattle.fields.specs.Commands.{command as text_of_command};
 ghost use Rattle.fields.specs.StateText.{state};
 ghost use Rattle.fields.proofs.StateTextLaws.{state_lawful};

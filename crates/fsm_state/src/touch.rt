@@ -1,6 +1,6 @@
 //! Evaluations that are made to touch jobs.
 ghost use Rattle.std.specs.Prelude.{◌≡◌, ◌<◌, OnOk, Some, bytes_eq};
-ghost use Rattle.std.specs.List.{list_any, slice_get};
+ghost use Rattle.std.specs.List.{list_any};
 ghost use Rattle.cluster_model.specs.Effect.{new_eval};
 ghost use Rattle.fsm_state.specs.Inner.Steps.{touched_names, eval_for};
 

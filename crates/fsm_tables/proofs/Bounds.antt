@@ -20,7 +20,7 @@ use Rattle.fsm_tables.specs.declared.index_keys.OnNode.{OnNode}
 use Rattle.fsm_tables.specs.Claims.{is_active, is_wanted, is_live}
 use Rattle.fsm_tables.specs.LiveNames.{name_of, is_called, live_named}
 use Rattle.fsm_tables.specs.Lookups.{lives_as, lives_for, lives_on, is_active_on}
-use Rattle.fsm_tables.specs.Inner.Index.{entry_cmp, entry_under, is_within, is_between}
+use Rattle.fsm_tables.specs.Inner.Index.{entry_cmp, entry_under, is_entry_within, is_between}
 use Rattle.fsm_tables.specs.Inner.Keys.{alloc_name_cmp, live_name, on_node_cmp, active_on, least_id, greatest_id, first_entry, last_entry, least_name, greatest_name}
 
 pub names_total : IsTotalOrder alloc_name_cmp
@@ -135,7 +135,7 @@ called n a =
 
 pub between_name : (n : AllocName) (a : Allocation) → AllocationFits a → is_between alloc_name_cmp live_name (first_entry n) (last_entry n) a ≡ lives_as n a
 between_name n a fits =
-    elim (is_live a) as (λ l. is_within alloc_name_cmp (first_entry n) (last_entry n) (entry_under a.id (cond l (Some (name_of a)) None)) ≡ (l && is_called n a)) [
+    elim (is_live a) as (λ l. is_entry_within alloc_name_cmp (first_entry n) (last_entry n) (entry_under a.id (cond l (Some (name_of a)) None)) ≡ (l && is_called n a)) [
       | true ↦ within_then (alloc_name_cmp n (name_of a)) (alloc_cmp least_id a.id) (alloc_cmp greatest_id a.id) (from_least a.id fits.0) (to_greatest a.id fits.0) ∙ called n a
       | false ↦ refl
     ]
@@ -148,7 +148,7 @@ between_job j a fits =
     let index : a.index ≤ 63 = fits.3 in
     let lo : is_le low ≡ true = le_then _ _ (le_then _ _ (from_dash a.group fits.2) (grind arith)) (from_least a.id fits.0) in
     let hi : is_lt high ≡ false = not_lt_then _ _ (not_lt_then _ _ (below_zs 32 a.group fits.2.1 fits.2.2) (grind arith)) (to_greatest a.id fits.0) in
-    elim (is_live a) as (λ l. is_within alloc_name_cmp (first_entry (least_name j)) (last_entry (greatest_name j)) (entry_under a.id (cond l (Some (name_of a)) None)) ≡ (l && bytes_eq a.job j)) [
+    elim (is_live a) as (λ l. is_entry_within alloc_name_cmp (first_entry (least_name j)) (last_entry (greatest_name j)) (entry_under a.id (cond l (Some (name_of a)) None)) ≡ (l && bytes_eq a.job j)) [
       | true ↦
           ap (λ r. is_le r && not (is_lt (entry_cmp alloc_name_cmp (last_entry (greatest_name j)) (record { key = name_of a; id = a.id })))) (then_assoc own (ordering_then (name_cmp (45 ∷ []) a.group) (nat_cmp 0 a.index)) (alloc_cmp least_id a.id))
           ∙ ap (λ r. is_le (ordering_then own low) && not (is_lt r)) (then_assoc own (ordering_then (name_cmp (replicate 32 122) a.group) (nat_cmp 63 a.index)) (alloc_cmp greatest_id a.id))
@@ -159,7 +159,7 @@ between_job j a fits =
 
 pub between_live : (n : ℕ) (a : Allocation) → AllocationFits a → is_between on_node_cmp active_on (first_entry (record { node = n; live = true })) (last_entry (record { node = n; live = true })) a ≡ lives_on n a
 between_live n a fits =
-    elim (is_active a.client) as (λ l. is_within on_node_cmp (first_entry (record { node = n; live = true })) (last_entry (record { node = n; live = true })) (entry_under a.id (cond l (Some (record { node = a.node; live = is_wanted a.desired })) None)) ≡ (nat_eq a.node n && (is_wanted a.desired && l))) [
+    elim (is_active a.client) as (λ l. is_entry_within on_node_cmp (first_entry (record { node = n; live = true })) (last_entry (record { node = n; live = true })) (entry_under a.id (cond l (Some (record { node = a.node; live = is_wanted a.desired })) None)) ≡ (nat_eq a.node n && (is_wanted a.desired && l))) [
       | true ↦
           within_then (ordering_then (nat_cmp n a.node) (bool_cmp true (is_wanted a.desired))) (alloc_cmp least_id a.id) (alloc_cmp greatest_id a.id) (from_least a.id fits.0) (to_greatest a.id fits.0)
           ∙ eq_then (nat_cmp n a.node) (bool_cmp true (is_wanted a.desired))
@@ -180,7 +180,7 @@ between_active n a fits =
     let high : Ordering = ordering_then (bool_cmp true (is_wanted a.desired)) (alloc_cmp greatest_id a.id) in
     let lo : is_le low ≡ true = le_then (bool_cmp false (is_wanted a.desired)) _ (from_false (is_wanted a.desired)) (from_least a.id fits.0) in
     let hi : is_lt high ≡ false = not_lt_then (bool_cmp true (is_wanted a.desired)) _ (to_true (is_wanted a.desired)) (to_greatest a.id fits.0) in
-    elim (is_active a.client) as (λ l. is_within on_node_cmp (first_entry (record { node = n; live = false })) (last_entry (record { node = n; live = true })) (entry_under a.id (cond l (Some (record { node = a.node; live = is_wanted a.desired })) None)) ≡ (nat_eq a.node n && l)) [
+    elim (is_active a.client) as (λ l. is_entry_within on_node_cmp (first_entry (record { node = n; live = false })) (last_entry (record { node = n; live = true })) (entry_under a.id (cond l (Some (record { node = a.node; live = is_wanted a.desired })) None)) ≡ (nat_eq a.node n && l)) [
       | true ↦
           ap (λ r. is_le r && not (is_lt (ordering_then (ordering_then own (bool_cmp true (is_wanted a.desired))) (alloc_cmp greatest_id a.id)))) (then_assoc own (bool_cmp false (is_wanted a.desired)) (alloc_cmp least_id a.id))
           ∙ ap (λ r. is_le (ordering_then own low) && not (is_lt r)) (then_assoc own (bool_cmp true (is_wanted a.desired)) (alloc_cmp greatest_id a.id))

@@ -18,10 +18,10 @@ use Rattle.rows.specs.declared.allocation.Allocation.{Allocation}
 use Rattle.rows.specs.Keys.{alloc_cmp, alloc_id}
 use Rattle.rows.proofs.KeyLaws.{alloc_cmp_total}
 use Rattle.fsm_tables.specs.declared.index.Entry.{Entry}
-use Rattle.fsm_tables.specs.Inner.Index.{entry_cmp, entry_under, entry_of, is_entry, AreIndexed, IsSame, Gains, Loses, has_id, is_within, is_between, passes, entries_between, AreIdsOf}
+use Rattle.fsm_tables.specs.Inner.Index.{entry_cmp, entry_under, entry_of, is_entry, AreIndexed, IsSame, Gains, Loses, has_id, is_entry_within, is_between, passes, entries_between, AreIdsOf}
 use Rattle.fsm_tables.specs.Rows.{row_of, put}
 use Rattle.rows.specs.Rising.{is_rising}
-use Rattle.fsm_tables.specs.RowLaws.{equal, row_of-put}
+use Rattle.fsm_tables.proofs.RowLaws.{equal, row_of-put}
 use Rattle.fsm_tables.proofs.Filters.{exact_ids, row_found, rows_are_filtered, first_row}
 
 -- the entry of a row has its id
@@ -203,7 +203,7 @@ module _ {K : Type 0} (R : K → K → Ordering) (o : IsTotalOrder R) where
         → passes (is_between R key_of lo hi) r ≡ true
     owned i e None p h g = absurd cc
     owned i e (Some a) p h g =
-        elim (entry_of key_of (Some a)) as (λ z. is_entry R z e ≡ true → is_within R lo hi z ≡ true) [
+        elim (entry_of key_of (Some a)) as (λ z. is_entry R z e ≡ true → is_entry_within R lo hi z ≡ true) [
           | None ↦ λ q. absurd cc
           | Some f ↦ λ q. range_tied lo hi f e (equal _ (subst T (sym q) tt)) ∙ g
         ] h
@@ -215,7 +215,7 @@ module _ {K : Type 0} (R : K → K → Ordering) (o : IsTotalOrder R) where
         subst (λ j. passes (is_between R key_of lo hi) (row_of alloc_cmp alloc_id j rows) ≡ true) same
         (owned i p.0 (row_of alloc_cmp alloc_id p.0.id rows) refl (sym (was p.0) ∙ p.3) p.2)
 
-    standing : (i : AllocId) (a : Allocation) (z : Option (Entry K)) → row_of alloc_cmp alloc_id i rows ≡ Some a → entry_of key_of (Some a) ≡ z → is_within R lo hi z ≡ true → has_id R lo hi entries i ≡ true
+    standing : (i : AllocId) (a : Allocation) (z : Option (Entry K)) → row_of alloc_cmp alloc_id i rows ≡ Some a → entry_of key_of (Some a) ≡ z → is_entry_within R lo hi z ≡ true → has_id R lo hi entries i ≡ true
     standing i a None p q h = absurd cc
     standing i a (Some e) p q h =
         let id : e.id ≡ a.id = entry_id a (key_of a) e q in

@@ -19,8 +19,8 @@ use Rattle.rows.proofs.KeyLaws.{alloc_cmp_total}
 use Rattle.rows.specs.Rising.{is_below, is_rising}
 use Rattle.fsm_tables.specs.Inner.Index.{rows_at, passes, AreIdsOf}
 use Rattle.fsm_tables.specs.Rows.{row_of}
-use Rattle.fsm_tables.specs.RowLaws.{both, first, second, equal, none_below, below_tied}
-use Rattle.fsm_tables.specs.SetLaws.{same_rows}
+use Rattle.fsm_tables.proofs.RowLaws.{both, first, second, equal, none_below, below_tied}
+use Rattle.fsm_tables.proofs.SetLaws.{same_rows}
 
 -- ---- the rows that pass
 

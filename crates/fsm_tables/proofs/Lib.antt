@@ -1,3 +1,5 @@
+pub mod RowLaws
+pub mod SetLaws
 pub mod Places
 pub mod Sums
 pub mod Entries

@@ -7,12 +7,12 @@ use Rattle.rows.specs.declared.size.Size.{Size}
 use Rattle.rows.specs.declared.allocation.Allocation.{Allocation}
 use Rattle.rows.specs.Fits.{AllocationFits}
 use Rattle.rows.specs.Rising.{is_rising}
-use Rattle.fsm_tables.specs.Rows.{row_of, put, weight_of}
-use Rattle.fsm_tables.specs.RowLaws.{sum_by-put}
+use Rattle.fsm_tables.specs.Rows.{row_of, put}
+use Rattle.fsm_tables.proofs.RowLaws.{sum_by-put}
 use Rattle.rows.specs.Keys.{alloc_cmp, alloc_id}
 use Rattle.rows.proofs.KeyLaws.{alloc_cmp_total}
 use Rattle.fsm_tables.specs.Claims.{Claim, claim_of, claims, on_node, is_live}
-use Rattle.fsm_tables.specs.Sums.{AreSummed, weight, IsShare}
+use Rattle.fsm_tables.specs.Inner.Sums.{AreSummed, weight_of, weight, IsShare}
 use Rattle.fsm_tables.specs.declared.usage.Share.{Share}
 
 more : (w : Claim → ℕ) (c : Claim) (b : Bool) (cs : List Claim) (n : ℕ) → sum_by w cs ≡ n → sum_by w (cond b (c ∷ cs) cs) ≡ cond b (w c) 0 + n

@@ -1,9 +1,6 @@
 pub mod Rows
-pub mod RowLaws
-pub mod SetLaws
 pub mod TableRows
 pub mod Claims
 pub mod LiveNames
 pub mod Lookups
-pub mod Sums
 pub mod Inner

@@ -1,5 +1,5 @@
 ghost use Rattle.std.specs.Prelude.{◌≡◌, List, [], ◌≤◌, OnOk, OnErr, IfOk, filter, option_map, length, nat_lt, ◌||◌, T as Holds};
-ghost use Rattle.fsm_tables.specs.Rows.{row_of, has_row, put as with_row, put_within as with_row_within};
+ghost use Rattle.fsm_tables.specs.Rows.{row_of, has_row, put, put_within};
 ghost use Rattle.rows.specs.Keys.{alloc_cmp, alloc_id};
 ghost use Rattle.fsm_tables.specs.Claims.{claims, used};
 ghost use Rattle.fsm_tables.specs.LiveNames.{live_named};
@@ -30,7 +30,7 @@ pub(crate) struct Allocations {
 impl Model for Allocations {
     ghost use Rattle.std.specs.Prelude.{List, ◌≤◌, length};
     ghost use Rattle.rows.specs.declared.allocation.Allocation.{Allocation};
-    ghost use Rattle.fsm_tables.specs.Sums.{AreSummed};
+    ghost use Rattle.fsm_tables.specs.Inner.Sums.{AreSummed};
     ghost use Rattle.fsm_tables.specs.Inner.Keys.{AreListed};
 
     ghost Value = { List Allocation };
@@ -147,7 +147,7 @@ impl Allocations {
     /// Makes or replaces the row of the id, and changes no other; a row under a new id is not made
     /// where there are `MOST`.
     pub fn put(&mut self, row: Allocation) -> Result<(), NoMemory>
-        ensures ok { OnOk result (self.new ≡ with_row_within alloc_cmp alloc_id 65536 row self.old) }
+        ensures ok { OnOk result (self.new ≡ put_within alloc_cmp alloc_id 65536 row self.old) }
         ensures err { OnErr result (self.new ≡ self.old) }
     {
         let has_row = self.get(&row.id).is_some();
@@ -160,7 +160,7 @@ impl Allocations {
     /// The same, where there is room for the row.
     fn store(&mut self, row: Allocation) -> Result<(), NoMemory>
         requires { Holds (has_row alloc_cmp alloc_id row.id self.old || nat_lt (length self.old) 65536) }
-        ensures ok { OnOk result (self.new ≡ with_row alloc_cmp alloc_id row self.old) }
+        ensures ok { OnOk result (self.new ≡ put alloc_cmp alloc_id row self.old) }
         ensures err { OnErr result (self.new ≡ self.old) }
     {
         let _rows = self.rows.rows();

@@ -3,7 +3,7 @@
 ghost use Rattle.std.specs.Prelude.{◌≡◌, OnOk, OnErr, IfOk, option_map, []};
 ghost use Rattle.std.specs.BTreeSet.{IsOrdered};
 ghost use Rattle.std.specs.BTreeMap.Range.{IsLeBy};
-ghost use Rattle.fsm_tables.specs.Inner.Index.{entry_cmp, entry_of as entry_for, is_entry, IsSame, Gains, Loses, HasIdsBetween, first_id};
+ghost use Rattle.fsm_tables.specs.Inner.Index.{entry_cmp, entry_of, is_entry, IsSame, Gains, Loses, HasIdsBetween, first_id};
 
 use rows::{AllocId, Allocation, NoMemory};
 use std::alloc::Global;
@@ -34,7 +34,7 @@ pub(crate) struct Entry<K> {
 
 /// The entry of a row, where there is a row and it is listed.
 pub(crate) fn entry_of<K: IndexKey>(row: Option<&Allocation>) -> Option<Entry<K>>
-    ensures { result ≡ entry_for K.key_of (option_map (λ r. r.now) row.entry) }
+    ensures { result ≡ entry_of K.key_of (option_map (λ r. r.now) row.entry) }
 {
     let row = row?;
     let key = K::of(row)?;

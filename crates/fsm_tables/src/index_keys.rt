@@ -1,7 +1,7 @@
 //! What the two indexes list allocations by: the live ones by name, those that are pending or
 //! running by node.
 ghost use Rattle.std.specs.Prelude.{◌≡◌, true, false};
-ghost use Rattle.fsm_tables.specs.Inner.Keys.{live_name, active_on, least_id as the_least, greatest_id as the_greatest, first_entry, last_entry};
+ghost use Rattle.fsm_tables.specs.Inner.Keys.{live_name, active_on, least_id, greatest_id, first_entry, last_entry};
 
 use crate::index::{Entry, IndexKey};
 use crate::name::AllocName;
@@ -68,7 +68,7 @@ impl IndexKey for OnNode {
 
 /// The least id.
 fn least_id() -> AllocId
-    ensures { result ≡ the_least }
+    ensures { result ≡ least_id }
 {
     AllocId {
         index: EntryIndex::after(Index::ZERO),
@@ -78,7 +78,7 @@ fn least_id() -> AllocId
 
 /// The greatest id.
 fn greatest_id() -> AllocId
-    ensures { result ≡ the_greatest }
+    ensures { result ≡ greatest_id }
 {
     AllocId {
         index: EntryIndex::new(Index::LIMIT - 1).unwrap(),

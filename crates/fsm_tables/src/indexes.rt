@@ -1,9 +1,9 @@
 //! The two indexes of the allocations' rows, and a put that keeps them.
 ghost use Rattle.std.specs.Prelude.{◌≡◌, ◌⊎◌, [], OnOk, OnErr, option_map};
 ghost use Rattle.rows.specs.Keys.{alloc_cmp, alloc_id};
-ghost use Rattle.fsm_tables.specs.Inner.Index.{entry_of as entry_for, IsSame, Gains, Loses};
+ghost use Rattle.fsm_tables.specs.Inner.Index.{entry_of, IsSame, Gains, Loses};
 ghost use Rattle.fsm_tables.specs.Inner.Keys.{alloc_name_cmp, live_name, on_node_cmp, active_on, AreListed};
-ghost use Rattle.fsm_tables.specs.Rows.{put as with_row};
+ghost use Rattle.fsm_tables.specs.Rows.{put};
 
 use crate::index::{AllocIndex, Entry, entry_of};
 use crate::index_keys::OnNode;
@@ -31,8 +31,8 @@ pub(crate) struct RowEntries {
 impl RowEntries {
     /// The entries of a row, if there is a row.
     fn of(row: Option<&Allocation>) -> RowEntries
-        ensures name { result.name ≡ entry_for live_name (option_map (λ r. r.now) row.entry) }
-        ensures node { result.node ≡ entry_for active_on (option_map (λ r. r.now) row.entry) }
+        ensures name { result.name ≡ entry_of live_name (option_map (λ r. r.now) row.entry) }
+        ensures node { result.node ≡ entry_of active_on (option_map (λ r. r.now) row.entry) }
     {
         RowEntries {
             name: entry_of(row),
@@ -84,7 +84,7 @@ pub(crate) fn put_indexed(
 ) -> Result<(), NoMemory>
     requires { AreListed rows.old indexes.old }
     ensures listed { AreListed rows.new indexes.new }
-    ensures ok { OnOk result (rows.new ≡ with_row alloc_cmp alloc_id row rows.old) }
+    ensures ok { OnOk result (rows.new ≡ put alloc_cmp alloc_id row rows.old) }
     ensures err { OnErr result (rows.new ≡ rows.old) }
 {
     let new = RowEntries::of(Some(&row));

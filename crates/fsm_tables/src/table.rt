@@ -1,7 +1,8 @@
 ghost use Rattle.std.specs.Prelude.{◌≡◌, ◌≤◌, ◌<◌, List, [], OnOk, OnErr, option_map, length, T as Holds};
 ghost use Rattle.std.specs.List.{AllByRecursion, slice_get};
 ghost use Rattle.rows.specs.Rising.{is_rising};
-ghost use Rattle.fsm_tables.specs.Rows.{row_of, put as with_row, put_within as with_row_within, PlaceOf};
+ghost use Rattle.fsm_tables.specs.Rows.{row_of, put, put_within};
+ghost use Rattle.fsm_tables.specs.Inner.Places.{PlaceOf};
 
 use rows::{NoMemory, Ranged};
 use std::alloc::Global;
@@ -113,7 +114,7 @@ impl<T: Row> Table<T> {
 
     /// Makes or replaces the row of the key, and changes no other. Without memory nothing changes.
     pub fn put(&mut self, row: T) -> Result<(), NoMemory>
-        ensures ok { OnOk result (self.new ≡ with_row T.Key.cmp T.key_of row self.old) }
+        ensures ok { OnOk result (self.new ≡ put T.Key.cmp T.key_of row self.old) }
         ensures err { OnErr result (self.new ≡ self.old) }
     {
         row.ranges();
@@ -131,7 +132,7 @@ impl<T: Row> Table<T> {
     /// Makes or replaces the row of the key, and changes no other; a row under a new key is not
     /// made where the table has `most` rows or more. Without memory nothing changes.
     pub fn put_within(&mut self, most: usize, row: T) -> Result<(), NoMemory>
-        ensures ok { OnOk result (self.new ≡ with_row_within T.Key.cmp T.key_of most row self.old) }
+        ensures ok { OnOk result (self.new ≡ put_within T.Key.cmp T.key_of most row self.old) }
         ensures err { OnErr result (self.new ≡ self.old) }
         ensures few { length self.old ≤ most → length self.new ≤ most }
     {

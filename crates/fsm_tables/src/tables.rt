@@ -1,7 +1,7 @@
 ghost use Rattle.std.specs.Prelude.{◌≡◌, OnOk, OnErr, IfOk, filter, option_map, length};
 ghost use Rattle.std.specs.Ordering.{nat_cmp};
 ghost use Rattle.rows.specs.Keys.{name_cmp, eval_cmp, alloc_cmp, job_name, node_number, eval_id, alloc_id};
-ghost use Rattle.fsm_tables.specs.Rows.{row_of, put_within as with_row};
+ghost use Rattle.fsm_tables.specs.Rows.{row_of, put_within};
 ghost use Rattle.fsm_tables.specs.Claims.{claims, used};
 ghost use Rattle.fsm_tables.specs.LiveNames.{live_named};
 ghost use Rattle.fsm_tables.specs.Lookups.{lives_as, lives_for, lives_on, is_active_on};
@@ -184,7 +184,7 @@ impl Tables {
     /// Makes or replaces the row of the job, and changes no other; a new row is not made where
     /// there are 256. Without memory nothing changes.
     pub fn put_job(&mut self, row: Job) -> Result<(), NoMemory>
-        ensures ok { OnOk result (self.new ≡ record self.old { jobs = with_row name_cmp job_name 256 row self.old.jobs }) }
+        ensures ok { OnOk result (self.new ≡ record self.old { jobs = put_within name_cmp job_name 256 row self.old.jobs }) }
         ensures err { OnErr result (self.new ≡ self.old) }
     {
         self.jobs.put_within(Tables::MOST_JOBS, row)
@@ -193,7 +193,7 @@ impl Tables {
     /// Makes or replaces the row of the node, and changes no other; a new row is not made where
     /// there are 64. Without memory nothing changes.
     pub fn put_node(&mut self, row: Node) -> Result<(), NoMemory>
-        ensures ok { OnOk result (self.new ≡ record self.old { nodes = with_row nat_cmp node_number 64 row self.old.nodes }) }
+        ensures ok { OnOk result (self.new ≡ record self.old { nodes = put_within nat_cmp node_number 64 row self.old.nodes }) }
         ensures err { OnErr result (self.new ≡ self.old) }
     {
         self.nodes.put_within(Tables::MOST_NODES, row)
@@ -202,7 +202,7 @@ impl Tables {
     /// Makes or replaces the row of the evaluation, and changes no other; a new row is not made
     /// where there are 65,536. Without memory nothing changes.
     pub fn put_eval(&mut self, row: Evaluation) -> Result<(), NoMemory>
-        ensures ok { OnOk result (self.new ≡ record self.old { evals = with_row eval_cmp eval_id 65536 row self.old.evals }) }
+        ensures ok { OnOk result (self.new ≡ record self.old { evals = put_within eval_cmp eval_id 65536 row self.old.evals }) }
         ensures err { OnErr result (self.new ≡ self.old) }
     {
         self.evals.put_within(Tables::MOST_EVALS, row)
@@ -211,7 +211,7 @@ impl Tables {
     /// Makes or replaces the row of the allocation, and changes no other; a new row is not made
     /// where there are 65,536. Without memory nothing changes.
     pub fn put_alloc(&mut self, row: Allocation) -> Result<(), NoMemory>
-        ensures ok { OnOk result (self.new ≡ record self.old { allocs = with_row alloc_cmp alloc_id 65536 row self.old.allocs }) }
+        ensures ok { OnOk result (self.new ≡ record self.old { allocs = put_within alloc_cmp alloc_id 65536 row self.old.allocs }) }
         ensures err { OnErr result (self.new ≡ self.old) }
     {
         self.allocs.put(row)

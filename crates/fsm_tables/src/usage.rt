@@ -1,6 +1,6 @@
 ghost use Rattle.std.specs.Prelude.{◌≡◌, ◌≤◌, ◌<◌, ◌+◌, ◌^◌, ℕ, Some, cond, nat_eq, slice_index, option_map};
-ghost use Rattle.fsm_tables.specs.Claims.{is_wanted as wanted, is_active as active, is_live as lives};
-ghost use Rattle.fsm_tables.specs.Sums.{IsShare};
+ghost use Rattle.fsm_tables.specs.Claims.{is_wanted, is_active, is_live};
+ghost use Rattle.fsm_tables.specs.Inner.Sums.{IsShare};
 
 use rows::{Allocation, ClientState, Desired};
 
@@ -27,7 +27,7 @@ pub(crate) struct Share {
 
 /// Whether the servers want an allocation to run.
 pub(crate) fn is_wanted(desired: Desired) -> bool
-    ensures { result ≡ wanted desired }
+    ensures { result ≡ is_wanted desired }
 {
     match desired {
         Desired::Run => true,
@@ -38,7 +38,7 @@ pub(crate) fn is_wanted(desired: Desired) -> bool
 /// Whether an allocation's node has still to start it, or runs it. (Nomad documentation,
 /// "Allocations": client status.)
 pub fn is_active(state: ClientState) -> bool
-    ensures { result ≡ active state }
+    ensures { result ≡ is_active state }
 {
     match state {
         ClientState::Pending | ClientState::Running => true,
@@ -50,7 +50,7 @@ pub fn is_active(state: ClientState) -> bool
 /// ones hold room and a name. (Nomad documentation, "Allocations": desired status and client
 /// status.)
 pub fn is_live(row: &Allocation) -> bool
-    ensures { result ≡ lives row.now }
+    ensures { result ≡ is_live row.now }
 {
     is_wanted(row.desired) && is_active(row.client)
 }

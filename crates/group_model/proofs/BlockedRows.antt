@@ -11,8 +11,8 @@ use Rattle.rows.specs.Keys.{name_cmp, eval_cmp, job_name, node_number, eval_id}
 use Rattle.std.specs.Cmp.Lexicographic.{nat_list_cmp_total}
 use Rattle.rows.proofs.KeyLaws.{eval_cmp_total}
 use Rattle.fsm_tables.specs.Rows.{by_order, row_of, put}
-use Rattle.fsm_tables.specs.RowLaws.{row_of-put}
-use Rattle.cluster_model.specs.Words.{holds, job_of, is_blocked}
+use Rattle.fsm_tables.proofs.RowLaws.{row_of-put}
+use Rattle.cluster_model.specs.Words.{is_some_and, job_of, is_blocked}
 use Rattle.group_model.specs.Blocked.{BlockedEvals, blocked_id, with_blocked, without_blocked, blocked_over, has_new_room, room_with, classes_of, blocked_eval, room_over, with_classes_of}
 use Rattle.group_model.specs.Rows.{without}
 use Rattle.group_model.specs.OneRow.{BlockedFollowEvals, BlockedFollowNodes, BlockedFollowJobs, Replaces, DueByRoom}
@@ -114,7 +114,7 @@ due_by j index (n ∷ nodes) =
     ap (λ b. has_new_room j index n || b) (due_by j index nodes) ∙ any_or (nat_lt index n.room) index n.class n.room (room_over nodes) j.groups refl
 
 pub due_by_room : DueByRoom
-due_by_room s e blocked = ap (λ b. b && holds (λ j. list_any (has_new_room j e.snapshot) s.nodes) (job_of e.job s)) blocked ∙ by (job_of e.job s) where
-  by : (o : Option Job) → (true && holds (λ j. list_any (has_new_room j e.snapshot) s.nodes) o) ≡ list_any (λ class. nat_lt e.snapshot (room_over s.nodes class)) (classes_of o)
+due_by_room s e blocked = ap (λ b. b && is_some_and (λ j. list_any (has_new_room j e.snapshot) s.nodes) (job_of e.job s)) blocked ∙ by (job_of e.job s) where
+  by : (o : Option Job) → (true && is_some_and (λ j. list_any (has_new_room j e.snapshot) s.nodes) o) ≡ list_any (λ class. nat_lt e.snapshot (room_over s.nodes class)) (classes_of o)
   by None = refl
   by (Some j) = due_by j e.snapshot s.nodes

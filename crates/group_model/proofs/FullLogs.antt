@@ -5,7 +5,7 @@ use Rattle.cluster_model.specs.Admission.{admission}
 use Rattle.group_model.specs.Inputs.{Act}
 use Rattle.group_model.specs.Desks.{whole_state}
 use Rattle.group_model.specs.ClientRequests.{proposes_for}
-use Rattle.group_model.specs.FullLogs.{LeadsFull, TakenAtFullLog, ExhaustedAtFullLog}
+use Rattle.group_model.specs.FullLogs.{TakenAtFullLog, ExhaustedAtFullLog}
 
 -- the second of three, and the third
 second : (a b : Bool) (x y z : Act) → a ≡ true → b ≡ true → cond (not a) x (cond b y z) ≡ y

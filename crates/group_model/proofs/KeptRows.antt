@@ -7,8 +7,8 @@ use Rattle.std.specs.Ordering.{is_lt, is_eq, ordering_reverse}
 use Rattle.std.specs.Cmp.{IsTotalOrder}
 use Rattle.rows.specs.Rising.{is_below, is_rising}
 use Rattle.fsm_tables.specs.Rows.{by_order, row_of, put}
-use Rattle.fsm_tables.specs.RowLaws.{both, first, second, less, below_less, below_tied}
-use Rattle.fsm_tables.specs.SetLaws.{found_first}
+use Rattle.fsm_tables.proofs.RowLaws.{both, first, second, less, below_less, below_tied}
+use Rattle.fsm_tables.proofs.SetLaws.{found_first}
 use Rattle.group_model.specs.Rows.{without}
 
 module _ {K B : Type 0} (R : K → K → Ordering) (key : B → K) where

@@ -13,8 +13,9 @@ use Rattle.rows.specs.declared.refusal.Refusal.TheVariants as refusals
 use Rattle.raft_model.specs.Servers.{Server, is_leader}
 use Rattle.raft_model.specs.Steps.{admitted}
 use Rattle.cluster_model.specs.Words.{State}
-use Rattle.cluster_model.specs.Words.{node_of, holds, is_ready}
-use Rattle.cluster_model.specs.Effect.{lives_on, told_all}
+use Rattle.cluster_model.specs.Words.{node_of, is_some_and, is_ready}
+use Rattle.fsm_tables.specs.Lookups.{lives_on}
+use Rattle.cluster_model.specs.Effect.{told_all}
 use Rattle.cluster_model.specs.Admission.{admission}
 use Rattle.cluster_model.specs.ClusterMachine.{cluster_meaning}
 use Rattle.group_model.specs.Reasons.{reason_of}
@@ -35,7 +36,7 @@ answers me c kind r d = sends (tells me c kind r ∷ []) d
 
 -- the same ready row stands
 abbrev pub is_registered : ℕ → State → Bool
-is_registered n s = holds (λ (r : Node). is_ready r.status) (node_of n s)
+is_registered n s = is_some_and (λ (r : Node). is_ready r.status) (node_of n s)
 
 abbrev pub same_state : ClientState → ClientState → Bool
 same_state clients.Pending clients.Pending = true
@@ -81,9 +82,9 @@ abbrev pub beats_at : ℕ → ℕ → Desk → Option BeatCount → Act
 beats_at me c o None = answers me c OfHeartbeat (Some refusals.UnknownNode) (Some o)
 beats_at me c o (Some p) = answers me c OfHeartbeat None (Some (record o { beat_counts = with_beat c o.beat_counts }))
 
-abbrev pub beats : ℕ → ℕ → Result Desk Refusal → Option Desk → Act
-beats me c (Err r) d = answers me c OfHeartbeat (Some r) d
-beats me c (Ok o) d = beats_at me c o (beat_count_of c o.beat_counts)
+abbrev pub takes_heartbeat : ℕ → ℕ → Result Desk Refusal → Option Desk → Act
+takes_heartbeat me c (Err r) d = answers me c OfHeartbeat (Some r) d
+takes_heartbeat me c (Ok o) d = beats_at me c o (beat_count_of c o.beat_counts)
 
 -- ---- Pull: any server answers, from its applied state
 
@@ -100,6 +101,6 @@ pulls me s c d = sends (ToClient me c (Listing s.commit (listed c (applied_state
 -- each request; `open_desk` is the desk, or why it is not open
 abbrev pub serves_client : ℕ → Server Command → ℕ → Result Desk Refusal → Option Desk → ClientRequest → Act
 serves_client me s c open_desk d (Register class size) = writes me s c OfRegister (commands.NodePut (record { number = c; class = class; size = size })) d
-serves_client me s c open_desk d Heartbeat = beats me c open_desk d
+serves_client me s c open_desk d Heartbeat = takes_heartbeat me c open_desk d
 serves_client me s c open_desk d Pull = pulls me s c d
 serves_client me s c open_desk d (ReportStates items) = writes me s c OfReport (commands.Report c items) d

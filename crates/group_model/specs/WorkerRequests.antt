@@ -12,7 +12,7 @@ use Rattle.raft_model.specs.Steps.{admitted}
 use Rattle.cluster_model.specs.ClusterMachine.{cluster_meaning}
 use Rattle.group_model.specs.Reasons.{reason_of}
 use Rattle.group_model.specs.Messages.{BetweenServers, WorkerMessage, Asks, Answers, WorkerRequest, Take, Submit, Finish, Nack, WorkerResponse, Delivered, Refused, AskedRequest, AskedTake, AskedSubmit, AskedFinish, AskedNack, EvalOutcome, change_of}
-use Rattle.group_model.specs.Brokers.{Given, Nothing, UsedUp, Gives, deliver, outstanding, acked, nacked}
+use Rattle.group_model.specs.Brokers.{Given, Nothing, UsedUp, Gives, deliver, outstanding, with_ack, with_nack}
 use Rattle.group_model.specs.Desks.{Desk, applied_state}
 use Rattle.group_model.specs.Inputs.{Act, AskPropose, rests, sends}
 use Rattle.group_model.specs.Plans.{submitted}
@@ -31,9 +31,9 @@ takes_given me from d Nothing = responds me from (Delivered None) (Some d)
 takes_given me from d UsedUp = refuses me from AskedTake (Some d) refusals.Exhausted
 takes_given me from d (Gives what broker) = responds me from (Delivered (Some what)) (Some (record d { broker = broker }))
 
-abbrev pub takes : ℕ → Server Command → ℕ → Result Desk Refusal → Option Desk → Act
-takes me s from (Err r) d = refuses me from AskedTake d r
-takes me s from (Ok o) d = takes_given me from o (deliver s.term (length s.log) o.broker)
+abbrev pub takes_work : ℕ → Server Command → ℕ → Result Desk Refusal → Option Desk → Act
+takes_work me s from (Err r) d = refuses me from AskedTake d r
+takes_work me s from (Ok o) d = takes_given me from o (deliver s.term (length s.log) o.broker)
 
 -- Submit: the plan waits, unless its evaluation is unknown or the queue is full.
 abbrev pub submits_of : ℕ → ℕ → Plan → Option Desk → Result Desk Refusal → Act
@@ -49,7 +49,7 @@ abbrev pub finishes_by : ℕ → ℕ → EvalId → Token → Command → Desk �
 finishes_by me from id token c o (Some r) = refuses me from (AskedFinish id token) (Some o) r
 finishes_by me from id token c o None = record {
   ask = Some (AskPropose c);
-  desk = Some (record o { broker = acked id o.broker });
+  desk = Some (record o { broker = with_ack id o.broker });
   sent = [];
   work = [];
 }
@@ -66,7 +66,7 @@ finishes me s from id token outcome (Ok o) d = finishes_of me s from id token ou
 -- Nack: the pair is free again.
 abbrev pub nacks_of : ℕ → ℕ → EvalId → Token → Desk → Result ℕ Refusal → Act
 nacks_of me from id token o (Err r) = refuses me from (AskedNack id token) (Some o) r
-nacks_of me from id token o (Ok wait) = rests (Some (record o { broker = nacked id o.broker }))
+nacks_of me from id token o (Ok wait) = rests (Some (record o { broker = with_nack id o.broker }))
 
 abbrev pub nacks : ℕ → ℕ → EvalId → Token → Result Desk Refusal → Option Desk → Act
 nacks me from id token (Err r) d = refuses me from (AskedNack id token) d r
@@ -74,7 +74,7 @@ nacks me from id token (Ok o) d = nacks_of me from id token o (outstanding id to
 
 -- each request; `open_desk` is the desk, or why it is not open
 abbrev pub serves_request : ℕ → Server Command → ℕ → Result Desk Refusal → Option Desk → WorkerRequest → Act
-serves_request me s from open_desk d Take = takes me s from open_desk d
+serves_request me s from open_desk d Take = takes_work me s from open_desk d
 serves_request me s from open_desk d (Submit plan) = submits me s from plan open_desk d
 serves_request me s from open_desk d (Finish eval token outcome) = finishes me s from eval token outcome open_desk d
 serves_request me s from open_desk d (Nack eval token) = nacks me from eval token open_desk d

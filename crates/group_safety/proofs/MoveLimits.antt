@@ -15,7 +15,7 @@ use Rattle.rows.specs.declared.node.DrainMode.TheVariants as drain_modes
 use Rattle.rows.specs.declared.allocation.AllocId.{AllocId}
 use Rattle.rows.specs.declared.allocation.Allocation.{Allocation}
 use Rattle.cluster_model.specs.Words.{State}
-use Rattle.cluster_model.specs.Effect.{lives_on}
+use Rattle.fsm_tables.specs.Lookups.{lives_on}
 use Rattle.cluster_model.specs.States.{IsState}
 use Rattle.group_model.specs.Order as ordering
 use Rattle.group_model.specs.Order.{Picked, pick, picked_one, or_head}

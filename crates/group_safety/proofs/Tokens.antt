@@ -1,5 +1,5 @@
 -- What is outstanding at an open desk is so under a token of the leader's term.
-use Rattle.std.proofs.Common.{◌≡◌, ℕ, inl, inr, Bool, true, false, cond, ◌&&◌, nat_eq, Option, Some, None, Result, Ok, Err, List, [], ◌∷◌, refl, sym, ap, ◌∙◌, subst}
+use Rattle.std.proofs.Common.{◌≡◌, ℕ, inl, inr, Bool, true, false, cond, nat_eq, Option, Some, None, Result, Ok, Err, List, [], ◌∷◌, refl, sym, ◌∙◌, subst}
 use Rattle.std.proofs.lemmas.Bool.{eqb-true}
 use Rattle.std.proofs.lemmas.Option.{same_Some}
 use Rattle.std.specs.List.{AllByRecursion}
@@ -15,7 +15,7 @@ use Rattle.fsm_tables.specs.Rows.{row_of}
 use Rattle.group_model.specs.Brokers.{Mark, Free, Out, Acked, Task, task_id, task_of, same_token, marked_out, task_out, outstanding}
 use Rattle.group_model.specs.Desks.{Desk}
 use Rattle.group_model.specs.Members.{Member}
-use Rattle.group_safety.specs.Desks.{IsOfTerm, TokensAre, Mirrors, IsDesk, DeskIs}
+use Rattle.group_safety.specs.Desks.{IsOfTerm, TokensAre, DeskIs}
 
 -- a row that is found is one of the rows
 pub found_row : {K X : Type 0} (R : K → K → Ordering) (key : X → K) (P : X → Type 0) (k : K) (rows : List X) (x : X) → AllByRecursion P rows → row_of R key k rows ≡ Some x → P x

@@ -13,11 +13,11 @@ use Rattle.cluster_model.specs.Words.{State}
 use Rattle.cluster_model.specs.Effect.{applied}
 use Rattle.cluster_model.specs.ClusterMachine.{cluster_meaning}
 use Rattle.group_model.specs.Messages.{Service, ServiceMessage}
-use Rattle.group_model.specs.Desks.{Desk, changed, opened, after_entry, after_entries, applied_state, newly, desk_after}
+use Rattle.group_model.specs.Desks.{Desk, follow_state, opened, after_entry, after_entries, applied_state, newly, desk_after}
 use Rattle.group_model.specs.Inputs.{Act, Ask, AskTimeout, AskBeat, AskPropose, AskCompact, AskCrash, AskRestart, input_of, rests}
 use Rattle.group_model.specs.Members as members
 use Rattle.group_model.specs.Members.{Member, logged, asks_log, done}
-use Rattle.group_model.specs.Worlds.{Fits, asked, event_at}
+use Rattle.group_model.specs.Worlds.{Fits, log_request, event_at}
 use Rattle.group_safety.specs.Limits.{ServiceFits}
 use Rattle.group_safety.proofs.Honesty.{all_get, sent_from, service_from}
 use Rattle.group_safety.proofs.ActRanges.{AskFits, DeskFits, Ranged, RangedResult}
@@ -31,7 +31,7 @@ opens_fit false s = tt
 entries_fit : (term : ℕ) (es : List (Entry Command)) (s : State) (d : Option Desk) → DeskFits d → DeskFits (after_entries term s es d)
 entries_fit term [] s d h = h
 entries_fit term (e ∷ es) s None h = entries_fit term es (applied s e.command) (after_entry term e.term (applied s e.command) None) (opens_fit (e.term == term) (applied s e.command))
-entries_fit term (e ∷ es) s (Some d) h = entries_fit term es (applied s e.command) (Some (changed (applied s e.command) d)) h
+entries_fit term (e ∷ es) s (Some d) h = entries_fit term es (applied s e.command) (Some (follow_state (applied s e.command) d)) h
 
 after_fits : (b : Bool) (x : Option Desk) → DeskFits x → DeskFits (cond b x None)
 after_fits true x h = h
@@ -79,6 +79,6 @@ asks_event i (Some AskCompact) h = tt
 asks_event i (Some AskCrash) h = tt
 asks_event i (Some AskRestart) h = tt
 
-pub result_event : (i : ℕ) (r : Result Act Refusal) → RangedResult r → Fits (event_at i (asked r))
+pub result_event : (i : ℕ) (r : Result Act Refusal) → RangedResult r → Fits (event_at i (log_request r))
 result_event i (Err e) h = tt
 result_event i (Ok act) h = asks_event i act.ask h.ask

@@ -26,22 +26,22 @@ is_free_but ids None = true
 is_free_but ids (Some a) = list_any (same_alloc a.id) ids
 
 -- whether the rows, but for those, hold the claim's name for nobody
-abbrev pub is_free : List AllocId → List Allocation → Claim → Bool
-is_free ids rows c = is_free_but ids (live_named (claim_name c) rows)
+abbrev pub is_name_free : List AllocId → List Allocation → Claim → Bool
+is_name_free ids rows c = is_free_but ids (live_named (claim_name c) rows)
 
 -- ---- what stops end
 
 -- what a live row claims, before the rest
-abbrev pub ended_one : Option Allocation → List Claim → List Claim
-ended_one None rest = rest
-ended_one (Some a) rest = if is_live a then (claim_of a ∷ rest) else rest
+abbrev pub claim_if_live : Option Allocation → List Claim → List Claim
+claim_if_live None rest = rest
+claim_if_live (Some a) rest = if is_live a then (claim_of a ∷ rest) else rest
 
 -- what the live rows that are named claim, each once
 abbrev pub ended_by : List AllocId → List Allocation → List Claim
 ended_by [] rows = []
 ended_by (id ∷ ids) rows =
     if list_any (same_alloc id) ids then ended_by ids rows
-    else ended_one (row_of alloc_cmp alloc_id id rows) (ended_by ids rows)
+    else claim_if_live (row_of alloc_cmp alloc_id id rows) (ended_by ids rows)
 
 -- ---- room
 
@@ -66,4 +66,4 @@ all_numbers f = all_from f 1 64
 abbrev pub passes_alone : AcceptedPlan → State → Bool
 passes_alone p s =
     all_numbers (has_room s (ended_by p.stops s.allocs) (wanted p)) && are_distinct (wanted p)
-    && list_all (is_free p.stops s.allocs) (wanted p)
+    && list_all (is_name_free p.stops s.allocs) (wanted p)

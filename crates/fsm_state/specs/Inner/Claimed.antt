@@ -4,7 +4,7 @@ use Rattle.rows.specs.declared.node.Node.{Node}
 use Rattle.rows.specs.declared.allocation.Allocation.{Allocation}
 use Rattle.fsm_tables.specs.Claims.{Claim, claim_of, claims, is_live}
 use Rattle.fsm_tables.specs.LiveNames.{live_named, name_of}
-use Rattle.cluster_model.specs.Words.{State, holds, same_alloc}
+use Rattle.cluster_model.specs.Words.{State, is_some_and, same_alloc}
 use Rattle.cluster_model.specs.Safe.{are_distinct}
 use Rattle.cluster_model.specs.Plans.{is_made}
 
@@ -31,4 +31,4 @@ HeldOnce held cs s = T (are_distinct (claims s.allocs)) → T (are_distinct (tak
 
 -- whether a row that is live is the one that its name finds
 abbrev pub is_first : List Allocation → Allocation → Bool
-is_first rows a = not (is_live a) || holds (λ b. same_alloc a.id b.id) (live_named (name_of a) rows)
+is_first rows a = not (is_live a) || is_some_and (λ b. same_alloc a.id b.id) (live_named (name_of a) rows)

@@ -1,7 +1,7 @@
 -- The effects once more, as puts of one row after the other at its key: the form in which the code
 -- makes them.
 use Rattle.std.specs.Prelude.{◌≡◌, ◌++◌, map, ℕ, true, not, ◌&&◌, List, [], ◌∷◌, filter, Option, Some, None, nat_eq, bytes_eq, Bool, if◌then◌else◌}
-use Rattle.std.specs.List.{list_any, slice_get}
+use Rattle.std.specs.List.{list_any, IsDistinct}
 use Rattle.std.specs.declared.cmp.Ordering.{Ordering}
 use Rattle.std.specs.Ordering.{nat_cmp}
 use Rattle.rows.specs.declared.job.Job.{Job}
@@ -18,7 +18,7 @@ use Rattle.fsm_tables.specs.TableRows.{TableRows}
 use Rattle.fsm_tables.specs.Claims.{is_active, is_live}
 use Rattle.cluster_model.specs.Limits.{most_jobs, most_nodes, most_evals, most_allocs}
 use Rattle.cluster_model.specs.Words.{State, alloc_of, is_open}
-use Rattle.cluster_model.specs.Effect.{lost, ends, state_of, new_eval, with_evals, lives_on}
+use Rattle.cluster_model.specs.Effect.{lost_row, lost, is_ended_by, client_state_of, new_eval, with_evals}
 use Rattle.rows.specs.declared.command.StatusChange.{StatusChange}
 use Rattle.rows.specs.Changes.{status_of, snapshot_of}
 
@@ -27,8 +27,8 @@ abbrev pub put_changed : {K X : Type 0} → (K → K → Ordering) → (X → K)
 put_changed R key most f None rows = rows
 put_changed R key most f (Some r) rows = put_within R key most (f r) rows
 
-abbrev pub changed : {K X : Type 0} → (K → K → Ordering) → (X → K) → ℕ → (X → X) → K → List X → List X
-changed R key most f k rows = put_changed R key most f (row_of R key k rows) rows
+abbrev pub with_row_changed : {K X : Type 0} → (K → K → Ordering) → (X → K) → ℕ → (X → X) → K → List X → List X
+with_row_changed R key most f k rows = put_changed R key most f (row_of R key k rows) rows
 
 -- ---- the four tables of a state
 
@@ -50,21 +50,16 @@ abbrev pub put_alloc : Allocation → State → State
 put_alloc a s = record s { allocs = put_within alloc_cmp alloc_id most_allocs a s.allocs }
 
 abbrev pub job_changed : (Job → Job) → List ℕ → State → State
-job_changed f name s = record s { jobs = changed name_cmp job_name most_jobs f name s.jobs }
+job_changed f name s = record s { jobs = with_row_changed name_cmp job_name most_jobs f name s.jobs }
 
 abbrev pub node_changed : (Node → Node) → ℕ → State → State
-node_changed f n s = record s { nodes = changed nat_cmp node_number most_nodes f n s.nodes }
+node_changed f n s = record s { nodes = with_row_changed nat_cmp node_number most_nodes f n s.nodes }
 
 abbrev pub eval_changed : (Evaluation → Evaluation) → EvalId → State → State
-eval_changed f id s = record s { evals = changed eval_cmp eval_id most_evals f id s.evals }
+eval_changed f id s = record s { evals = with_row_changed eval_cmp eval_id most_evals f id s.evals }
 
 abbrev pub alloc_changed : (Allocation → Allocation) → AllocId → State → State
-alloc_changed f id s = record s { allocs = changed alloc_cmp alloc_id most_allocs f id s.allocs }
-
--- the allocation at a place changes
-abbrev pub changed_at : (Allocation → Allocation) → ℕ → State → State
-changed_at f place s =
-    record s { allocs = put_changed alloc_cmp alloc_id most_allocs f (slice_get s.allocs place) s.allocs }
+alloc_changed f id s = record s { allocs = with_row_changed alloc_cmp alloc_id most_allocs f id s.allocs }
 
 -- all that is on a node is lost
 abbrev pub all_lost : ℕ → State → State
@@ -72,7 +67,7 @@ all_lost n s = record s { allocs = map (lost n) s.allocs }
 
 -- a node has room from entry x on
 abbrev pub room_at : ℕ → ℕ → List Node → List Node
-room_at x n nodes = changed nat_cmp node_number most_nodes (λ r. record r { room = x }) n nodes
+room_at x n nodes = with_row_changed nat_cmp node_number most_nodes (λ r. record r { room = x }) n nodes
 
 abbrev pub node_has_room : ℕ → State → State
 node_has_room n s = record s { nodes = room_at s.count n s.nodes }
@@ -95,7 +90,7 @@ touched_names names s =
 abbrev pub revised_row : (Allocation → Allocation) → Option Allocation → State → State
 revised_row f None s = s
 revised_row f (Some a) s = record s {
-  nodes = if ends f a then room_at s.count a.node s.nodes else s.nodes;
+  nodes = if is_ended_by f a then room_at s.count a.node s.nodes else s.nodes;
   allocs = put_within alloc_cmp alloc_id most_allocs (f a) s.allocs;
 }
 
@@ -105,7 +100,7 @@ revised f id s = revised_row f (alloc_of id s) s
 -- its job, if the change ends it
 abbrev pub ended_job : (Allocation → Allocation) → Option Allocation → List (List ℕ) → List (List ℕ)
 ended_job f None names = names
-ended_job f (Some a) names = if ends f a then (a.job ∷ names) else names
+ended_job f (Some a) names = if is_ended_by f a then (a.job ∷ names) else names
 
 -- ---- stops, one after the other: altered (stop ids) s
 
@@ -120,7 +115,7 @@ stopped_all (id ∷ ids) s = stopped_all ids (revised stop_one id s)
 
 abbrev pub tell_one : ℕ → Report → Allocation → Allocation
 tell_one n r a =
-    if nat_eq a.node n && is_active a.client then (record a { client = state_of r.state }) else a
+    if nat_eq a.node n && is_active a.client then (record a { client = client_state_of r.state }) else a
 
 abbrev pub told_steps : ℕ → List Report → State → State
 told_steps n [] s = s
@@ -148,11 +143,21 @@ abbrev pub live_jobs : List AllocId → State → List (List ℕ)
 live_jobs [] s = []
 live_jobs (id ∷ ids) s = live_job (alloc_of id s) (live_jobs ids s)
 
--- ---- the jobs of the live ones on a node
+-- ---- a node's loss: what waits or runs on it is lost, one after the other, and the jobs of what
+-- was live
 
-abbrev pub jobs_on : ℕ → List Allocation → List (List ℕ)
-jobs_on n [] = []
-jobs_on n (a ∷ rows) = if lives_on n a then (a.job ∷ jobs_on n rows) else jobs_on n rows
+abbrev pub lost_steps : List Allocation → State → State
+lost_steps [] s = s
+lost_steps (a ∷ rows) s = lost_steps rows (put_alloc (lost_row a) s)
+
+-- a name is put behind the others, unless it is one of them
+abbrev pub with_name : List ℕ → List (List ℕ) → List (List ℕ)
+with_name name names = if list_any (bytes_eq name) names then names else names ++ name ∷ []
+
+-- the names of the jobs that own a row that passes, in some order and each once, and no other name
+pub record AreJobs (which : Allocation → Bool) (names : List (List ℕ)) (rows : List Allocation) : Type 0 where
+  pub named : (name : List ℕ) → list_any (bytes_eq name) names ≡ list_any (λ a. which a && bytes_eq a.job name) rows
+  pub once : IsDistinct bytes_eq names
 
 -- ---- parts of the steps
 

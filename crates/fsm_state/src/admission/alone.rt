@@ -6,9 +6,9 @@ ghost use Rattle.fsm_tables.specs.Claims.{used, Claim as AnyClaim};
 ghost use Rattle.cluster_model.specs.Limits.{most_allocs};
 ghost use Rattle.cluster_model.specs.Safe.{is_safe};
 ghost use Rattle.cluster_model.specs.Words.{node_of, alloc_of};
-ghost use Rattle.cluster_model.specs.Effect.{counted, planned};
+ghost use Rattle.cluster_model.specs.Effect.{with_next_count, planned};
 ghost use Rattle.cluster_model.specs.Plans.{wanted, are_dated, room_of};
-ghost use Rattle.fsm_state.specs.Inner.Alone.{claim_name, is_free, ended_one, ended_by, has_room, all_numbers, passes_alone};
+ghost use Rattle.fsm_state.specs.Inner.Alone.{claim_name, is_name_free, claim_if_live, ended_by, has_room, all_numbers, passes_alone};
 
 use crate::admission::claims::{Claim, add_wanted, are_distinct, claim_by};
 use crate::cluster::{Cluster, is_among};
@@ -111,7 +111,7 @@ impl Cluster {
 
     /// Whether each claim's name finds no row, or one of these.
     fn are_free_but(&self, claims: &[Claim], ids: &[AllocId]) -> bool
-        ensures { result ≡ list_all (is_free ids.now self.now.allocs) claims.now }
+        ensures { result ≡ list_all (is_name_free ids.now self.now.allocs) claims.now }
     {
         for claim in claims {
             if !self.is_free_but(&named(claim), ids) {
@@ -124,7 +124,7 @@ impl Cluster {
     /// Adds what the allocation claims, if it is live.
     fn add_ended(&self, claims: &mut Sequence<Claim>, id: AllocId) -> Result<(), NoMemory>
         ensures { OnOk result ((rest : List AnyClaim)
-            → claims.new ++ rest ≡ claims.old ++ ended_one (alloc_of id self.now) rest) }
+            → claims.new ++ rest ≡ claims.old ++ claim_if_live (alloc_of id self.now) rest) }
     {
         match self.alloc(id) {
             Some(row) if is_live(row) => claims.push(claim_by(row)),
@@ -178,7 +178,7 @@ impl Cluster {
     /// the table; else it looks at all that is claimed.
     pub(super) fn bears_plan(&self, plan: &AcceptedPlan) -> Result<bool, NoMemory>
         requires { length self.now.allocs + length plan.now.places ≤ most_allocs }
-        ensures { IfOk result (λ b. b ≡ is_safe (planned plan.now (counted self.now))) }
+        ensures { IfOk result (λ b. b ≡ is_safe (planned plan.now (with_next_count self.now))) }
     {
         self.ranges();
         plan.ranges();

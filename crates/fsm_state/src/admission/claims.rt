@@ -2,7 +2,7 @@
 ghost use Rattle.std.specs.Prelude.{◌≡◌, ◌+◌, ◌++◌, ◌&&◌, ◌<◌, OnOk};
 ghost use Rattle.std.specs.List.{list_any};
 ghost use Rattle.fsm_tables.specs.Claims.{Claim as AnyClaim, claim_of};
-ghost use Rattle.cluster_model.specs.Safe.{same_name, are_distinct as distinct_claims};
+ghost use Rattle.cluster_model.specs.Safe.{same_name, are_distinct};
 ghost use Rattle.cluster_model.specs.Plans.{place_claim, wanted};
 
 use rows::{
@@ -82,7 +82,7 @@ pub(super) fn is_claimed(claim: &Claim, claims: &[Claim]) -> bool
 
 /// Whether no two claims are of one name.
 pub(super) fn are_distinct(claims: &[Claim]) -> bool
-    ensures { result ≡ distinct_claims claims.now }
+    ensures { result ≡ are_distinct claims.now }
 {
     for place in 0..claims.len() {
         if is_claimed(&claims[place], &claims[place + 1..]) {

@@ -1,10 +1,10 @@
 //! Why a state refuses a plan.
-ghost use Rattle.std.specs.Prelude.{◌≡◌, ◌≤◌, ◌&&◌, ◌+◌, Option, Some, None, IfOk, length, nat_lt, not};
+ghost use Rattle.std.specs.Prelude.{◌≡◌, ◌≤◌, ◌&&◌, ◌+◌, Option, Some, None, IfOk, length, nat_lt};
 ghost use Rattle.std.specs.List.{list_any, list_all};
 ghost use Rattle.cluster_model.specs.Limits.{most_allocs};
-ghost use Rattle.cluster_model.specs.Words.{holds, is_pending as waits, eval_of, node_of};
+ghost use Rattle.cluster_model.specs.Words.{is_some_and, is_pending, eval_of, node_of};
 ghost use Rattle.rows.specs.declared.command.Command.TheVariants as commands;
-ghost use Rattle.cluster_model.specs.Admission.{admission, is_stopped, is_live_of, takes as node_takes, is_asked, fits_job};
+ghost use Rattle.cluster_model.specs.Admission.{admission, is_stopped, is_live_of, may_hold, is_asked, fits_job};
 
 use crate::admission::touching::is_ready;
 use crate::cluster::Cluster;
@@ -16,7 +16,7 @@ use rows::{
 
 /// Whether an evaluation is pending.
 fn is_pending(status: EvalStatus) -> bool
-    ensures { result ≡ waits status }
+    ensures { result ≡ is_pending status }
 {
     match status {
         EvalStatus::Pending => true,
@@ -25,8 +25,8 @@ fn is_pending(status: EvalStatus) -> bool
 }
 
 /// Whether a node takes what a group asks for.
-fn takes(group: &Group, node: &Node) -> bool
-    ensures { result ≡ node_takes group.now node.now }
+fn may_hold(group: &Group, node: &Node) -> bool
+    ensures { result ≡ may_hold group.now node.now }
 {
     is_ready(node.status) && node.eligible && node.class == group.class
 }
@@ -34,7 +34,7 @@ fn takes(group: &Group, node: &Node) -> bool
 impl Cluster {
     /// Whether there is the evaluation, and it is pending.
     fn is_waiting(&self, id: EvalId) -> bool
-        ensures { result ≡ holds (λ e. waits e.status) (eval_of id self.now) }
+        ensures { result ≡ is_some_and (λ e. is_pending e.status) (eval_of id self.now) }
     {
         match self.eval(id) {
             Some(row) => is_pending(row.status),
@@ -76,10 +76,10 @@ impl Cluster {
 
     /// Whether a place's node takes what the group asks for.
     fn is_taken(&self, place: &AcceptedPlace, group: &Group) -> bool
-        ensures { result ≡ holds (node_takes group.now) (node_of place.now.node self.now) }
+        ensures { result ≡ is_some_and (may_hold group.now) (node_of place.now.node self.now) }
     {
         match self.node(place.node) {
-            Some(row) => takes(group, row),
+            Some(row) => may_hold(group, row),
             None => false,
         }
     }

@@ -2,9 +2,10 @@
 ghost use Rattle.std.specs.Prelude.{◌≡◌, ◌≤◌, Option, Some, None, IfOk, OnOk, length, filter, option_map};
 ghost use Rattle.std.specs.List.{list_any, list_all};
 ghost use Rattle.rows.specs.declared.command.Command.TheVariants as commands;
-ghost use Rattle.cluster_model.specs.Words.{no_alloc, is_ready as stands_ready};
+ghost use Rattle.cluster_model.specs.Words.{no_alloc, is_ready};
 ghost use Rattle.cluster_model.specs.Admission.{admission, touch_passes, drains, can_move, is_its_own};
-ghost use Rattle.cluster_model.specs.Effect.{lives_on, moves, owns, ends, told, told_all};
+ghost use Rattle.cluster_model.specs.Effect.{moves, owns, is_ended_by, told, told_all};
+ghost use Rattle.fsm_tables.specs.Lookups.{lives_on};
 ghost use Rattle.fsm_state.specs.Inner.Steps.{is_one_of, ended_job, ended_now, Adds};
 
 use crate::admission::is_drained;
@@ -19,7 +20,7 @@ use rows::{
 
 /// Whether a node is ready.
 pub(super) fn is_ready(status: NodeStatus) -> bool
-    ensures { result ≡ stands_ready status }
+    ensures { result ≡ is_ready status }
 {
     match status {
         NodeStatus::Ready => true,
@@ -213,7 +214,7 @@ impl Cluster {
 
     /// Whether the jobs of the allocations that the reports end would pass the limit.
     fn reports_pass(&self, node: NodeId, reports: &[Report]) -> Result<bool, NoMemory>
-        ensures { let those = owns (ends (told_all node reports.now)) self.now.allocs in
+        ensures { let those = owns (is_ended_by (told_all node reports.now)) self.now.allocs in
             IfOk result (λ b. b ≡ touch_passes those self.now) }
     {
         self.ranges();

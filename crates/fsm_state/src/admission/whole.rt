@@ -2,8 +2,8 @@
 ghost use Rattle.std.specs.Prelude.{◌≡◌, ◌≤◌, List, ◌++◌, ◌+◌, ◌&&◌, ◌<◌, IfOk, OnOk, length};
 ghost use Rattle.std.specs.List.{list_all};
 ghost use Rattle.cluster_model.specs.Limits.{most_allocs};
-ghost use Rattle.cluster_model.specs.Safe.{is_safe, is_placed, are_distinct as distinct_claims, are_safe};
-ghost use Rattle.cluster_model.specs.Effect.{counted, planned, stop as stop_those};
+ghost use Rattle.cluster_model.specs.Safe.{is_safe, is_placed, are_distinct, are_safe};
+ghost use Rattle.cluster_model.specs.Effect.{with_next_count, planned, stop};
 ghost use Rattle.cluster_model.specs.Plans.{are_free, is_made, left_by};
 ghost use Rattle.fsm_state.specs.Inner.Claimed.{bears_node, left_one, is_first, HeldOnce};
 ghost use Rattle.rows.specs.declared.allocation.Allocation.{Allocation as Row};
@@ -16,7 +16,7 @@ use rows::{AcceptedPlan, AllocId, Allocation, Desired, NoMemory, Node, Ranged, S
 
 /// A row after the stops of a plan.
 fn after_stops(row: &Allocation, stops: &[AllocId]) -> Allocation
-    ensures { result ≡ stop_those stops.now row.now }
+    ensures { result ≡ stop stops.now row.now }
 {
     let mut row = *row;
     if is_among(row.id, stops) && row.desired == Desired::Run {
@@ -99,7 +99,7 @@ impl Cluster {
     fn are_held_once(&self, claims: &[Claim], held: usize) -> bool
         requires few { held ≤ length claims.now }
         requires held { HeldOnce held claims.now self.now }
-        ensures { result ≡ distinct_claims claims.now }
+        ensures { result ≡ are_distinct claims.now }
     {
         self.ranges();
         if self.are_named_once() {
@@ -148,7 +148,7 @@ impl Cluster {
         plan: &AcceptedPlan,
     ) -> Result<(), NoMemory>
         ensures { let left = left_one (self.now.count + 1) (length plan.now.places) in
-            let after = stop_those plan.now.stops row.now in
+            let after = stop plan.now.stops row.now in
             OnOk result ((rest : List AnyClaim)
             → claims.new ++ rest ≡ claims.old ++ left after rest) }
     {
@@ -174,7 +174,7 @@ impl Cluster {
     /// Whether the state after a plan is safe. It looks at all that is claimed then.
     pub(super) fn bears_all(&self, plan: &AcceptedPlan) -> Result<bool, NoMemory>
         requires { length self.now.allocs + length plan.now.places ≤ most_allocs }
-        ensures { IfOk result (λ b. b ≡ is_safe (planned plan.now (counted self.now))) }
+        ensures { IfOk result (λ b. b ≡ is_safe (planned plan.now (with_next_count self.now))) }
     {
         self.ranges();
         plan.ranges();

@@ -1,21 +1,10 @@
 //! One allocation that changes, by which it may end.
 ghost use Rattle.std.specs.Prelude.{◌≡◌, ◌&&◌, OnOk};
-ghost use Rattle.fsm_tables.specs.Claims.{is_active as waits_or_runs};
 ghost use Rattle.fsm_state.specs.Inner.Steps.{revised_to};
 
 use crate::cluster::Cluster;
 use fsm_tables::is_live;
-use rows::{Allocation, ClientState, NoMemory};
-
-/// Whether a node says of an allocation that it waits or runs.
-pub(super) fn is_active(state: ClientState) -> bool
-    ensures { result ≡ waits_or_runs state }
-{
-    match state {
-        ClientState::Pending | ClientState::Running => true,
-        ClientState::Complete | ClientState::Failed | ClientState::Lost => false,
-    }
-}
+use rows::{Allocation, NoMemory};
 
 impl Cluster {
     /// Puts a changed row; if it was live and is not now, its node has room.

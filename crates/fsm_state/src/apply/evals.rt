@@ -1,7 +1,7 @@
 //! Statuses of evaluations that are set.
 ghost use Rattle.std.specs.Prelude.{◌≡◌, OnOk, None, false, true};
 ghost use Rattle.rows.specs.Changes.{status_of, snapshot_of};
-ghost use Rattle.cluster_model.specs.Words.{is_open as is_not_final};
+ghost use Rattle.cluster_model.specs.Words.{is_open};
 ghost use Rattle.fsm_state.specs.Inner.Steps.{set_one, eval_changed};
 
 use crate::cluster::Cluster;
@@ -9,7 +9,7 @@ use rows::{EvalId, EvalStatus, Evaluation, Index, NoMemory, StatusChange};
 
 /// Whether an evaluation is pending or blocked.
 fn is_open(status: EvalStatus) -> bool
-    ensures { result ≡ is_not_final status }
+    ensures { result ≡ is_open status }
 {
     match status {
         EvalStatus::Pending | EvalStatus::Blocked => true,

@@ -1,6 +1,6 @@
 //! What a plan stops and places.
 ghost use Rattle.std.specs.Prelude.{◌≡◌, OnOk, ◌<◌};
-ghost use Rattle.cluster_model.specs.Effect.{alloc_row, placed};
+ghost use Rattle.cluster_model.specs.Effect.{alloc_row, with_plan_places};
 ghost use Rattle.fsm_state.specs.Inner.Steps.{revised, stop_one, stopped_all};
 
 use crate::cluster::Cluster;
@@ -72,7 +72,7 @@ impl Cluster {
         plan: &AcceptedPlan,
     ) -> Result<(), NoMemory>
         requires { entry ≡ self.old.count }
-        ensures { OnOk result (self.new ≡ placed plan.now self.old) }
+        ensures { OnOk result (self.new ≡ with_plan_places plan.now self.old) }
     {
         plan.ranges();
         let places = plan.places.as_slice();

@@ -1,16 +1,15 @@
 //! What reports of a node change, and the jobs of the allocations that they end.
 ghost use Rattle.std.specs.Prelude.{◌≡◌, ◌&&◌, OnOk, option_map, ◌<◌, IfOk};
-ghost use Rattle.cluster_model.specs.Effect.{state_of};
+ghost use Rattle.cluster_model.specs.Effect.{client_state_of};
 ghost use Rattle.fsm_state.specs.Inner.Steps.{revised, tell_one, told_steps, ended_job, ended_jobs, Adds};
 
-use crate::apply::allocs::is_active;
 use crate::cluster::Cluster;
-use fsm_tables::is_live;
+use fsm_tables::{is_active, is_live};
 use rows::{Allocation, ClientState, JobName, NoMemory, NodeId, Report, ReportedState, Sequence};
 
 /// The client state that a report tells.
 fn told_state(state: ReportedState) -> ClientState
-    ensures { result ≡ state_of state }
+    ensures { result ≡ client_state_of state }
 {
     match state {
         ReportedState::Running => ClientState::Running,

@@ -66,13 +66,13 @@ module _ {K : Type 0} where
   first_id R first last entries = option_map (λ (e : Entry K). e.id) (slice_get (entries_between R first last entries) 0)
 
   -- whether an entry, if there is one, is one of these
-  abbrev pub is_within : (K → K → Ordering) → Entry K → Entry K → Option (Entry K) → Bool
-  is_within R first last None = false
-  is_within R first last (Some e) = range_contains (entry_cmp R) (Included first) (Included last) e
+  abbrev pub is_entry_within : (K → K → Ordering) → Entry K → Entry K → Option (Entry K) → Bool
+  is_entry_within R first last None = false
+  is_entry_within R first last (Some e) = range_contains (entry_cmp R) (Included first) (Included last) e
 
   -- whether a row is listed between two entries
   abbrev pub is_between : (K → K → Ordering) → (Allocation → Option K) → Entry K → Entry K → Allocation → Bool
-  is_between R key_of first last a = is_within R first last (entry_of key_of (Some a))
+  is_between R key_of first last a = is_entry_within R first last (entry_of key_of (Some a))
 
 -- the rows of ids, in their order
 abbrev pub rows_at : List Allocation → List AllocId → List Allocation

@@ -3,7 +3,7 @@ use Rattle.std.specs.Cmp.Lexicographic.{nat_list_cmp_total}
 use Rattle.std.specs.Ordering.{nat_cmp}
 use Rattle.rows.specs.Keys.{name_cmp, eval_cmp, alloc_cmp, job_name, node_number, eval_id, alloc_id}
 use Rattle.rows.proofs.KeyLaws.{eval_cmp_total, alloc_cmp_total}
-use Rattle.fsm_tables.specs.SetLaws.{same_rows}
+use Rattle.fsm_tables.proofs.SetLaws.{same_rows}
 use Rattle.fsm_tables.proofs.laws.tables_are_sets.Goals as goal
 
 pub returns-clause-jobs : goal.returns-clause-jobs

@@ -1,6 +1,6 @@
-use Rattle.std.proofs.Common.{◌≡◌, ◌++◌, drop}
-use Rattle.fsm_state.specs.Inner.Steps.{jobs_on}
+use Rattle.std.proofs.Common.{true, take}
+use Rattle.fsm_state.specs.Inner.Steps.{AreJobs}
 use Rattle.fsm_state.proofs.cluster.Cluster.jobs_on.Given as goal
 
 abbrev pub invariant-loop-row : goal.invariant-loop-row
-invariant-loop-row l = l.names ++ jobs_on l.node (drop l.row-index l.self.allocs) ≡ jobs_on l.node l.self.allocs
+invariant-loop-row l = AreJobs (λ a. true) l.names (take l.row-index l.row-items)

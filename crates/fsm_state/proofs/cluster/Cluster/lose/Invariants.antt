@@ -1,6 +1,6 @@
-use Rattle.std.proofs.Common.{◌≡◌, ◌++◌, map, take, drop}
-use Rattle.cluster_model.specs.Effect.{lost}
+use Rattle.std.proofs.Common.{◌≡◌, drop}
+use Rattle.fsm_state.specs.Inner.Steps.{lost_steps}
 use Rattle.fsm_state.proofs.cluster.Cluster.lose.Given as goal
 
-abbrev pub invariant-loop-place : goal.invariant-loop-place
-invariant-loop-place l = l.self ≡ record l.initial.self { allocs = map (lost l.node) (take l.place l.initial.self.allocs) ++ drop l.place l.initial.self.allocs }
+abbrev pub invariant-loop-row : goal.invariant-loop-row
+invariant-loop-row l = lost_steps (drop l.row-index l.row-items) l.self ≡ lost_steps l.row-items l.initial.self

@@ -9,7 +9,7 @@ use Rattle.fsm_tables.specs.TableRows.{TableRows}
 use Rattle.fsm_tables.specs.Claims.{claims, claim_of, is_live}
 use Rattle.cluster_model.specs.Words.{State}
 use Rattle.cluster_model.specs.Safe.{are_distinct}
-use Rattle.fsm_state.specs.Inner.Alone.{is_free}
+use Rattle.fsm_state.specs.Inner.Alone.{is_name_free}
 use Rattle.fsm_state.proofs.Alone.{put_within_once}
 use Rattle.fsm_state.proofs.cluster.Cluster.put_alloc.Goals as goal
 use Rattle.fsm_state.proofs.cluster.Cluster.put_alloc.Goals.{then-self, else-self}
@@ -27,8 +27,8 @@ invariant_of-self c =
     elim c.if-self.branch [
       | then-self w ↦ λ h.
           let once : T (are_distinct (claims rows)) = c.self.invariant (subst T (sym w.if-self.true) tt) in
-          let free : T (not (is_live c.args.row) || is_free (c.args.row.id ∷ []) rows (claim_of c.args.row)) =
-          subst (λ (zs : List Allocation). T (not (is_live c.args.row) || is_free (c.args.row.id ∷ []) zs (claim_of c.args.row))) (sym same) (subst T (w.self-is ∙ w.takes_no_name-self-inside.ensures) h) in
+          let free : T (not (is_live c.args.row) || is_name_free (c.args.row.id ∷ []) rows (claim_of c.args.row)) =
+          subst (λ (zs : List Allocation). T (not (is_live c.args.row) || is_name_free (c.args.row.id ∷ []) zs (claim_of c.args.row))) (sym same) (subst T (w.self-is ∙ w.takes_no_name-self-inside.ensures) h) in
           after_put c.put_alloc.result c.args.row c.self.inside.tables c.put_alloc.new.self c.put_alloc.ensures.ok c.put_alloc.ensures.err once (put_within_once 65536 c.args.row rows rising once free)
       | else-self w ↦ λ h. absurd (subst T (w.self-is ∙ w.if-self.false) h)
     ]

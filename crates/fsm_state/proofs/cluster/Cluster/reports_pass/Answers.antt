@@ -1,5 +1,5 @@
 use Rattle.std.proofs.Common.{◌∙◌}
-use Rattle.cluster_model.specs.Effect.{owns, ends, told_all}
+use Rattle.cluster_model.specs.Effect.{owns, is_ended_by, told_all}
 use Rattle.fsm_state.specs.Inner.Steps.{ended_now}
 use Rattle.fsm_state.proofs.Reports.{ended_are}
 use Rattle.fsm_state.proofs.Admitting.{names_are}
@@ -11,5 +11,5 @@ returns c =
     let tables = c.ranges-2.ensures.tables in
     let n = c.args.node in
     let rs = c.args.reports.now in
-    c.names_pass.ensures ∙ names_are (owns (ends (told_all n rs)) s.allocs) _ (ended_now (told_all n rs) rs s) s (c.as_slice.ensures ∙ c.in_ok-names.ensures)
+    c.names_pass.ensures ∙ names_are (owns (is_ended_by (told_all n rs)) s.allocs) _ (ended_now (told_all n rs) rs s) s (c.as_slice.ensures ∙ c.in_ok-names.ensures)
     (ended_are n rs s (record { nodes = tables.nodes.rising; allocs = tables.allocs.rising }))

@@ -1,9 +1,9 @@
 use Rattle.std.proofs.Common.{◌≤◌, length, subst, sym, List}
 use Rattle.rows.specs.declared.allocation.Allocation.{Allocation}
-use Rattle.fsm_tables.specs.RowLaws.{few_put}
+use Rattle.fsm_tables.proofs.RowLaws.{few_put}
 use Rattle.rows.specs.Keys.{alloc_cmp, alloc_id}
 use Rattle.rows.proofs.KeyLaws.{alloc_cmp_total}
-use Rattle.fsm_tables.specs.Sums.{AreSummed, IsShare}
+use Rattle.fsm_tables.specs.Inner.Sums.{AreSummed, IsShare}
 use Rattle.fsm_tables.specs.Inner.Keys.{AreListed}
 use Rattle.fsm_tables.proofs.Sums.{summed_put, covered, room}
 use Rattle.fsm_tables.proofs.allocations.Allocations.store.Goals as goal

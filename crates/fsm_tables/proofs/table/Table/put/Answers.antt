@@ -1,7 +1,7 @@
 use Rattle.std.proofs.Common.{T, subst, sym, ◌∙◌}
 use Rattle.std.specs.List.{AllByRecursion}
 use Rattle.rows.specs.Rising.{is_rising}
-use Rattle.fsm_tables.specs.RowLaws.{rising_put, all_put}
+use Rattle.fsm_tables.proofs.RowLaws.{rising_put, all_put}
 use Rattle.fsm_tables.proofs.table.Table.put.Goals as goal
 
 pub invariant_of-self : goal.invariant_of-self

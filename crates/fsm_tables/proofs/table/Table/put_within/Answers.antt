@@ -1,7 +1,7 @@
 use Rattle.std.proofs.Common.{◌≡◌, ◌≤◌, List, length, subst, sym, rules, arith}
 use Rattle.std.proofs.lemmas.Grind.{common_steps}
 use Rattle.fsm_tables.specs.Rows.{put_within}
-use Rattle.fsm_tables.specs.RowLaws.{few_put_within}
+use Rattle.fsm_tables.proofs.RowLaws.{few_put_within}
 use Rattle.fsm_tables.proofs.table.Table.put_within.Goals as goal
 
 pub returns-in_ok-put-clause-few : goal.returns-in_ok-put-clause-few

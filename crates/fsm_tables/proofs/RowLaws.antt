@@ -9,7 +9,7 @@ use Rattle.std.specs.Ordering.{is_lt, is_eq, ordering_reverse}
 use Rattle.std.specs.Cmp.{IsTotalOrder, alike_right}
 use Rattle.rows.specs.Rising.{is_below, is_rising}
 use Rattle.fsm_tables.specs.Rows.{by_order, row_of, has_row, put, put_within}
-pub use Rattle.fsm_tables.specs.Rows.{weight_of}
+use Rattle.fsm_tables.specs.Inner.Sums.{weight_of}
 
 pub both : (a b : Bool) → T a → T b → T (a && b)
 both true b p q = q
