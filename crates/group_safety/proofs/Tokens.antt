@@ -1,6 +1,6 @@
 -- What is outstanding at an open desk is so under a token of the leader's term.
 use Rattle.std.proofs.Common.{◌≡◌, ℕ, inl, inr, Bool, true, false, cond, nat_eq, Option, Some, None, Result, Ok, Err, List, [], ◌∷◌, refl, sym, ◌∙◌, subst}
-use Rattle.std.proofs.lemmas.Bool.{eqb-true}
+use Rattle.std.proofs.lemmas.Bool.{and_parts, eqb-true}
 use Rattle.std.proofs.lemmas.Option.{same_Some}
 use Rattle.std.specs.List.{AllByRecursion}
 use Rattle.std.specs.Ordering.{is_eq}
@@ -10,7 +10,6 @@ use Rattle.rows.specs.declared.refusal.Refusal.{Refusal}
 use Rattle.rows.specs.declared.refusal.Refusal.TheVariants as refusals
 use Rattle.rows.specs.declared.token.Token.{Token}
 use Rattle.rows.specs.Keys.{eval_cmp}
-use Rattle.raft_safety.proofs.Paths.{and_both}
 use Rattle.fsm_tables.specs.Rows.{row_of}
 use Rattle.group_model.specs.Brokers.{Mark, Free, Out, Acked, Task, task_id, task_of, same_token, marked_out, task_out, outstanding}
 use Rattle.group_model.specs.Desks.{Desk}
@@ -23,7 +22,7 @@ found_row R key P k [] x h e = absurd (cc)
 found_row R key P k (y ∷ rows) x h e = elim (is_eq (R k (key y))) as (λ b. cond b (Some y) (row_of R key k rows) ≡ Some x → P x) [ true ↦ λ q. subst P (same_Some y x q) h.0 | false ↦ λ q. found_row R key P k rows x h.1 q ] e
 
 held_term : (term : ℕ) (token held : Token) (wait w : ℕ) (b : Bool) → held.term ≡ term → same_token held token ≡ b → cond b (Ok w) (Err refusals.TokenDiffers) ≡ Ok wait → token.term ≡ term
-held_term term token held wait w true own same e = sym (eqb-true held.term token.term (and_both (nat_eq held.term token.term) (nat_eq held.serial token.serial) same).0) ∙ own
+held_term term token held wait w true own same e = sym (eqb-true held.term token.term (and_parts (nat_eq held.term token.term) (nat_eq held.serial token.serial) same).0) ∙ own
 held_term term token held wait w false own same e = absurd (differs refusals.TokenDiffers wait e) where
   differs : (r : Refusal) (n : ℕ) → let x : Result ℕ Refusal = Err r in x ≡ Ok n → ⊥
   differs r n e = cc
