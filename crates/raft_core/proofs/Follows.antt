@@ -1,5 +1,5 @@
 -- What an Append does to a server, by cases.
-use Rattle.std.proofs.Common.{◌≡◌, ℕ, ◌+◌, ◌-◌, ◌≤◌, ◌||◌, nat_le, nat_lt, min, max, true, false, inl, inr, Option, Some, List, [], ◌∷◌, length, refl, sym, ap, subst, ◌∙◌, arith}
+use Rattle.std.proofs.Common.{◌≡◌, ℕ, ◌+◌, ◌-◌, ◌≤◌, ◌||◌, nat_le, nat_lt, min, max, true, false, inl, inr, Bool, Option, Some, List, [], ◌∷◌, length, refl, sym, ap, subst, ◌∙◌, arith}
 use Rattle.std.proofs.lemmas.Bool.{lt-ltb, le-ltb}
 use Rattle.std.proofs.lemmas.Bool.Decides.{leb_tells}
 use Rattle.machine.specs.Meaning.{Meaning}
@@ -44,11 +44,11 @@ module _ {S C : Type 0} (m : Meaning S C) (old new : RaftView C) (before after :
       subst (λ t. Turned m old new before after t) (sym (ap (λ x. follows_append old.me x from prev prev_term commit entries) s ∙ turn))
       (record { server = ap (λ x. x.server) is ∙ s; me = ap (λ x. x.me) is; size = ap (λ x. x.size) is; sent = sent })
 
-  pub accepts : (entries log : List (Entry C)) (risen : ℕ) → (nat_le prev old.server.commit || has old.server.log prev prev_term) ≡ true → log ≡ merge old.server.commit prev old.server.log entries → risen ≡ max old.server.commit (min commit (prev + length entries)) →
-      new ≡ with_server old (following (met term (record old.server { log = log; commit = risen; mode = FollowerMode })) from) →
+  pub accepts : (entries log : List (Entry C)) (risen : ℕ) (held : Bool) → (nat_le prev old.server.commit || has old.server.log prev prev_term) ≡ true → log ≡ merge old.server.commit prev old.server.log entries → risen ≡ max old.server.commit (min commit (prev + length entries)) →
+      new ≡ with_server (record old { projected = held }) (following (met term (record old.server { log = log; commit = risen; mode = FollowerMode })) from) →
       Sends m before after (record { from = old.me; to = from; term = term; body = AppendReply term true (prev + length entries) } ∷ []) →
       Turned m old new before after (follows_append old.me (following (met term old.server) from) from prev prev_term commit entries)
-  accepts entries log risen held grown rises is sent =
+  accepts entries log risen second held grown rises is sent =
       let s = followed old.server term from le in
       let f = follower old.server term from old.server.log old.server.commit (met term old.server).vote in
       let turn : follows_append old.me f from prev prev_term commit entries ≡ reply old.me (appended f prev commit entries) from (AppendReply term true (prev + length entries)) = rw held refl in

@@ -5,7 +5,7 @@ use Rattle.machine.specs.Meaning.{Meaning}
 use Rattle.machine.specs.declared.entry.Entry.{Entry}
 use Rattle.raft_model.specs.Logs.{commands, state_after}
 use Rattle.raft_model.specs.Servers.{Server, is_leader, extended}
-use Rattle.raft_core.specs.RaftView.{IsLive, HasRoom, IsRaft, while_up, mode_of}
+use Rattle.raft_core.specs.RaftView.{IsLive, IsAhead, HasRoom, IsRaft, while_up, mode_of}
 use Rattle.raft_core.specs.declared.role.Role.{Role}
 use Rattle.raft_core.specs.declared.role.Role.TheVariants as roles
 
@@ -52,27 +52,28 @@ module _ {S C : Type 0} (m : Meaning S C) where
   }
 
   -- one more entry
-  pub grown : (me size : ℕ) (log : List (Entry C)) (e : Entry C) (old new : Role) (commit : ℕ) (votes : List Bool) (next matched : List ℕ) (machine : Option S) → IsRaft m me size log old commit votes next matched machine → length log + 1 < 2 ^ 40 → HasRoom new (log ++ e ∷ []) → IsRaft m me size (log ++ e ∷ []) new commit votes next matched machine
-  grown me size log e old new commit votes next matched machine is short room = record {
-    number = is.number;
-    group = is.group;
+  pub grown : (me size : ℕ) (log : List (Entry C)) (e : Entry C) (old new : Role) (commit : ℕ) (votes : List Bool) (next matched : List ℕ) (machine was is : Option S) → IsRaft m me size log old commit votes next matched machine was → length log + 1 < 2 ^ 40 → HasRoom new (log ++ e ∷ []) → IfSome is (IsAhead m (log ++ e ∷ []) new machine) → IsRaft m me size (log ++ e ∷ []) new commit votes next matched machine is
+  grown me size log e old new commit votes next matched machine was is kept short room ahead = record {
+    number = kept.number;
+    group = kept.group;
     short = omega (arith, length-append log (e ∷ []));
     room = room;
-    votes_each = is.votes_each;
-    next_each = is.next_each;
-    next_least = is.next_least;
-    next_most = is.next_most;
-    matched_each = is.matched_each;
-    live = live_grown log e commit matched machine is.live;
+    votes_each = kept.votes_each;
+    next_each = kept.next_each;
+    next_least = kept.next_least;
+    next_most = kept.next_most;
+    matched_each = kept.matched_each;
+    live = live_grown log e commit matched machine kept.live;
+    second = ahead;
   }
 
   live_reset : (log : List (Entry C)) (commit : ℕ) (matched levels : List ℕ) (n : ℕ) (machine : Option S) → levels ≡ replicate n 0 → IfSome machine (IsLive m log commit matched) → IfSome machine (IsLive m log commit levels)
   live_reset log commit matched levels n None is live = tt
   live_reset log commit matched levels n (Some s) is live = record { committed = live.committed; state = live.state; levels = λ j. rw is (zero_levels n j) }
 
-  -- nothing is known of what others hold
-  pub reset : (me size : ℕ) (log : List (Entry C)) (role : Role) (commit : ℕ) (votes : List Bool) (old_next old_matched next matched : List ℕ) (first n k : ℕ) (machine : Option S) → IsRaft m me size log role commit votes old_next old_matched machine → 1 ≤ first → first ≤ 2 ^ 40 → next ≡ replicate n first → matched ≡ replicate k 0 → length next ≡ size → length matched ≡ size → IsRaft m me size log role commit votes next matched machine
-  reset me size log role commit votes old_next old_matched next matched first n k machine is least most begins none next_each matched_each = record {
+  -- nothing is known of what others hold, and no second machine is there
+  pub reset : (me size : ℕ) (log : List (Entry C)) (role : Role) (commit : ℕ) (votes : List Bool) (old_next old_matched next matched : List ℕ) (first n k : ℕ) (machine was : Option S) → IsRaft m me size log role commit votes old_next old_matched machine was → 1 ≤ first → first ≤ 2 ^ 40 → next ≡ replicate n first → matched ≡ replicate k 0 → length next ≡ size → length matched ≡ size → IsRaft m me size log role commit votes next matched machine None
+  reset me size log role commit votes old_next old_matched next matched first n k machine was is least most begins none next_each matched_each = record {
     number = is.number;
     group = is.group;
     short = is.short;
@@ -83,6 +84,7 @@ module _ {S C : Type 0} (m : Meaning S C) where
     next_most = filled_most next n first begins most;
     matched_each = matched_each;
     live = live_reset log commit old_matched matched k machine none is.live;
+    second = tt;
   }
 
 -- a leader needs no further room
@@ -91,6 +93,14 @@ leader_room None term vote log more covered commit known role votes next matched
 leader_room (Some s) term vote log more covered commit known roles.Follower votes next matched leads = tt
 leader_room (Some s) term vote log more covered commit known roles.Candidate votes next matched leads = absurd (cc leads)
 leader_room (Some s) term vote log more covered commit known roles.Leader votes next matched leads = tt
+
+-- a server that leads is up, and a second machine in the state after its whole log is one it keeps
+pub second_grown : {S C : Type 0} (m : Meaning S C) (machine ahead : Option S) (term : ℕ) (vote : Option ℕ) (log more : List (Entry C)) (covered commit : ℕ) (known : Option ℕ) (role : Role) (votes : List Bool) (next matched : List ℕ) → is_leader (while_up machine (record { term = term; vote = vote; log = log; covered = covered; commit = commit; known = known; mode = mode_of role votes next matched })).mode ≡ true → IfSome ahead (λ s. s ≡ state_after m more) → IfSome ahead (IsAhead m more role machine)
+second_grown m machine None term vote log more covered commit known role votes next matched leads is = tt
+second_grown m None (Some a) term vote log more covered commit known role votes next matched leads is = absurd (cc leads)
+second_grown m (Some s) (Some a) term vote log more covered commit known roles.Follower votes next matched leads is = absurd (cc leads)
+second_grown m (Some s) (Some a) term vote log more covered commit known roles.Candidate votes next matched leads is = absurd (cc leads)
+second_grown m (Some s) (Some a) term vote log more covered commit known roles.Leader votes next matched leads is = record { up = refl; leads = refl; state = is }
 
 -- what is stored is seen also of a server that is down
 pub term_up : {S C : Type 0} (machine : Option S) (s : Server C) → (while_up machine s).term ≡ s.term

@@ -1,5 +1,5 @@
 -- What a leader knows of the others' logs, after an answer.
-use Rattle.std.proofs.Common.{◌≡◌, ℕ, zero, suc, ◌-◌, ◌^◌, ◌<◌, ◌≤◌, max, min, Bool, true, false, nat_le, Option, Some, None, IfSome, List, [], ◌∷◌, ◌++◌, length, take, drop, slice_index, slice_set, refl, sym, ap, ◌∙◌, arith}
+use Rattle.std.proofs.Common.{◌≡◌, ℕ, zero, suc, ◌-◌, ◌^◌, ◌<◌, ◌≤◌, max, min, Bool, true, false, nat_le, Option, Some, None, is_some, IfSome, List, [], ◌∷◌, ◌++◌, length, take, drop, slice_index, slice_set, refl, sym, ap, ◌∙◌, arith}
 use Rattle.std.proofs.Math.Seq.{take-append_seam}
 use Rattle.machine.specs.Meaning.{Meaning}
 use Rattle.machine.specs.declared.entry.Entry.{Entry}
@@ -9,7 +9,7 @@ use Rattle.raft_model.specs.Servers.{Server, Leader, greatest}
 use Rattle.raft_core.specs.Inner.Commits.{is_chosen_in}
 use Rattle.raft_core.specs.declared.role.Role.{Role}
 use Rattle.raft_core.specs.declared.role.Role.TheVariants as roles
-use Rattle.raft_core.specs.RaftView.{RaftView, mode_of, IsLive, IsRaft}
+use Rattle.raft_core.specs.RaftView.{RaftView, mode_of, IsLive, IsAhead, IsRaft}
 use Rattle.raft_core.specs.Inner.Replies.{hears, next_after, match_after}
 
 -- what holds of each item holds of each after a write
@@ -89,10 +89,15 @@ live_at : {S C : Type 0} (m : Meaning S C) (log : List (Entry C)) (commit : ℕ)
 live_at m log commit match None live levels = tt
 live_at m log commit match (Some s) live levels = record { committed = live.0; state = live.1; levels = levels }
 
+-- a second machine is kept while the first is there
+pub second_stays : {S C : Type 0} (m : Meaning S C) (log : List (Entry C)) (role : Role) (old new ahead : Option S) → is_some new ≡ true → IfSome ahead (IsAhead m log role old) → IfSome ahead (IsAhead m log role new)
+second_stays m log role old new None up kept = tt
+second_stays m log role old new (Some s) up kept = record { up = up; leads = kept.leads; state = kept.state }
+
 module _ {S C : Type 0} (m : Meaning S C) (me size : ℕ) (log : List (Entry C)) (role : Role) (votes : List Bool) (next match : List ℕ) (i at : ℕ) where
   -- a server keeps what its type asks, whatever an answer says
-  pub keeps : (ok : Bool) (before after : ℕ) (old new : Option S) → IsRaft m me size log role before votes next match old → ((j : ℕ) → slice_index match j < 2 ^ 40) → at < 2 ^ 40 → IfSome new (λ s. (after ≤ length log) × (s ≡ state_after m (take after log))) → IsRaft m me size log role after votes (next_after (length log) i ok at next match) (match_after (length log) i ok at match) new
-  keeps ok before after old new kept levels short live = record {
+  pub keeps : (ok : Bool) (before after : ℕ) (old new was is : Option S) → IsRaft m me size log role before votes next match old was → ((j : ℕ) → slice_index match j < 2 ^ 40) → at < 2 ^ 40 → IfSome new (λ s. (after ≤ length log) × (s ≡ state_after m (take after log))) → IfSome is (IsAhead m log role new) → IsRaft m me size log role after votes (next_after (length log) i ok at next match) (match_after (length log) i ok at match) new is
+  keeps ok before after old new was is kept levels short live ahead = record {
     number = kept.number;
     group = kept.group;
     short = kept.short;
@@ -103,10 +108,11 @@ module _ {S C : Type 0} (m : Meaning S C) (me size : ℕ) (log : List (Entry C))
     next_most = next-most (length log) i at ok next match short levels kept.next_most;
     matched_each = match-length (length log) i at ok match ∙ kept.matched_each;
     live = live_at m log after (match_after (length log) i ok at match) new live (match-below (length log) i at ok match short levels);
+    second = ahead;
   }
 
 -- what the code leaves is a leader that has heard
-pub heard_by : {C : Type 0} (old : RaftView C) (me size term : ℕ) (vote : Option ℕ) (log : List (Entry C)) (commit : ℕ) (known : Option ℕ) (role : Role) (votes : List Bool) (next match new_next new_match : List ℕ) (new_commit i at : ℕ) (ok : Bool) → record { me = me; size = size; server = record { term = term; vote = vote; log = log; covered = 0; commit = commit; known = known; mode = mode_of role votes next match } } ≡ old → role ≡ roles.Leader → new_next ≡ next_after (length log) i ok at next match → new_match ≡ match_after (length log) i ok at match → length match ≡ size → new_commit ≡ greatest (is_chosen_in (length new_match) me term log new_match) commit (length log) → record { term = term; vote = vote; log = log; covered = 0; commit = new_commit; known = known; mode = mode_of role votes new_next new_match } ≡ hears old.size old.me old.server i ok at old.server.mode
-heard_by old me size term vote log commit known role votes next match new_next new_match new_commit i at ok old-is leads next-is match-is each risen =
+pub heard_by : {C : Type 0} (old : RaftView C) (me size term : ℕ) (vote : Option ℕ) (log : List (Entry C)) (commit : ℕ) (known : Option ℕ) (role : Role) (votes : List Bool) (next match new_next new_match : List ℕ) (new_commit i at : ℕ) (ok held : Bool) → record { me = me; size = size; server = record { term = term; vote = vote; log = log; covered = 0; commit = commit; known = known; mode = mode_of role votes next match }; projected = held } ≡ old → role ≡ roles.Leader → new_next ≡ next_after (length log) i ok at next match → new_match ≡ match_after (length log) i ok at match → length match ≡ size → new_commit ≡ greatest (is_chosen_in (length new_match) me term log new_match) commit (length log) → record { term = term; vote = vote; log = log; covered = 0; commit = new_commit; known = known; mode = mode_of role votes new_next new_match } ≡ hears old.size old.me old.server i ok at old.server.mode
+heard_by old me size term vote log commit known role votes next match new_next new_match new_commit i at ok held old-is leads next-is match-is each risen =
     let n : length new_match ≡ size = ap length match-is ∙ match-length (length log) i at ok match ∙ each in
     rw (← old-is, leads, risen, n, next-is, match-is) (sym (leader_hears size me term vote log 0 commit known next match i at ok))

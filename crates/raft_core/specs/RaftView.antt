@@ -1,18 +1,30 @@
 -- What a contract sees of a server, and what its type keeps.
-use Rattle.std.specs.Prelude.{◌≡◌, ℕ, ◌+◌, ◌^◌, ◌<◌, ◌≤◌, Bool, Option, Some, None, List, length, take, slice_index, IfSome}
+use Rattle.std.specs.Prelude.{◌≡◌, ℕ, ◌+◌, ◌^◌, ◌<◌, ◌≤◌, Bool, ◌&&◌, true, Option, Some, None, List, length, take, slice_index, is_some, IfSome}
 use Rattle.machine.specs.Meaning.{Meaning}
 use Rattle.machine.specs.declared.entry.Entry.{Entry}
 use Rattle.raft_model.specs.Logs.{state_after}
-use Rattle.raft_model.specs.Servers.{Server, Mode, crashed}
+use Rattle.raft_model.specs.Servers.{Server, Mode, is_leader, crashed}
 use Rattle.raft_model.specs.Servers.{Follower as FollowerMode, Candidate as CandidateMode, Leader as LeaderMode}
 use Rattle.raft_core.specs.declared.role.Role.{Role}
 use Rattle.raft_core.specs.declared.role.Role.TheVariants.{Follower, Candidate, Leader}
 
--- its place among the servers, how many they are, and the server that it is
+-- its place among the servers, how many they are, the server that it is, and whether it holds a
+-- leader's machine after its whole log
 pub record RaftView (C : Type 0) : Type 0 where
   pub me : ℕ
   pub size : ℕ
   pub server : Server C
+  pub projected : Bool
+
+-- two values that are one server; one may hold the machine after the whole log, and the other not
+pub record SameServer {C : Type 0} (old new : RaftView C) : Type 0 where
+  pub me : new.me ≡ old.me
+  pub size : new.size ≡ old.size
+  pub server : new.server ≡ old.server
+
+-- a value with a second machine, or without: only a leader's counts
+abbrev pub with_ahead : {S C : Type 0} → ℕ → ℕ → Option S → Server C → RaftView C
+with_ahead me size ahead s = record { me = me; size = size; server = s; projected = is_some ahead && is_leader s.mode }
 
 abbrev pub mode_of : Role → List Bool → List ℕ → List ℕ → Mode
 mode_of Follower votes next matched = FollowerMode
@@ -30,6 +42,12 @@ pub record IsLive {S C : Type 0} (m : Meaning S C) (log : List (Entry C)) (commi
   pub state : machine ≡ state_after m (take commit log)
   pub levels : (j : ℕ) → slice_index matched j < 2 ^ 40
 
+-- A second machine is there only while it is up and leads, and is in the state after the whole log.
+pub record IsAhead {S C : Type 0} (m : Meaning S C) (log : List (Entry C)) (role : Role) (machine : Option S) (ahead : S) : Type 0 where
+  pub up : is_some machine ≡ true
+  pub leads : role ≡ Leader
+  pub state : ahead ≡ state_after m log
+
 -- a candidate has room for the no-op of its election
 abbrev pub HasRoom : {C : Type 0} → Role → List (Entry C) → Type 0
 HasRoom Follower log = Unit {0}
@@ -38,7 +56,7 @@ HasRoom Leader log = Unit {0}
 
 -- Each of the lists by server number has an item for each server. A next index is one that a log
 -- may grow to.
-pub record IsRaft {S C : Type 0} (m : Meaning S C) (me size : ℕ) (log : List (Entry C)) (role : Role) (commit : ℕ) (votes : List Bool) (next matched : List ℕ) (machine : Option S) : Type 0 where
+pub record IsRaft {S C : Type 0} (m : Meaning S C) (me size : ℕ) (log : List (Entry C)) (role : Role) (commit : ℕ) (votes : List Bool) (next matched : List ℕ) (machine ahead : Option S) : Type 0 where
   pub number : me < size
   pub group : size ≤ 5
   pub short : length log < 2 ^ 40
@@ -49,3 +67,4 @@ pub record IsRaft {S C : Type 0} (m : Meaning S C) (me size : ℕ) (log : List (
   pub next_most : (j : ℕ) → slice_index next j ≤ 2 ^ 40
   pub matched_each : length matched ≡ size
   pub live : IfSome machine (IsLive m log commit matched)
+  pub second : IfSome ahead (IsAhead m log role machine)

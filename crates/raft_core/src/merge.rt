@@ -21,11 +21,11 @@ fn first_new<M: Machine>(
     requires start { prev ≤ length log.now }
     ensures { MatchOption result
         ((merge commit prev log.now entries.now ≡ log.now)
-            × (prev + length entries.now ≤ length log.now))
+        × (prev + length entries.now ≤ length log.now))
         (λ k. (merge commit prev log.now entries.now
-            ≡ take (prev + k) log.now ++ drop k entries.now)
-            × (k < length entries.now) × (commit ≤ prev + k)
-            × (prev + k ≤ length log.now)) }
+        ≡ take (prev + k) log.now ++ drop k entries.now)
+        × (k < length entries.now) × (commit ≤ prev + k)
+        × (prev + k ≤ length log.now)) }
 {
     for (i, entry) in entries.iter().enumerate() {
         if !stays(log, commit, prev + i as u64 + 1, entry.term) {

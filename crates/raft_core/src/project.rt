@@ -1,6 +1,6 @@
 //! A machine after a whole log, beside the one after its committed entries.
 
-ghost use Rattle.std.specs.Prelude.{◌≡◌, ◌^◌, ◌<◌, ◌≤◌, length, take, IfOk};
+ghost use Rattle.std.specs.Prelude.{◌≡◌, ◌-◌, ◌^◌, ◌<◌, ◌≤◌, length, take, IfOk, IfSome};
 ghost use Rattle.raft_model.specs.Logs.{state_after};
 
 use crate::apply::apply_range;
@@ -38,4 +38,20 @@ pub fn projection<M: Machine>(
     let mut ahead = reloaded(alloc, machine)?;
     apply_range(&mut ahead, log, commit as usize, log.len())?;
     Ok(ahead)
+}
+
+/// A second machine, brought on by the last entry of the log; none where there was none, or where
+/// it finds no memory.
+pub fn brought_on<M: Machine>(ahead: Option<M>, log: &[Entry<Coded<M>>]) -> Option<M>
+    requires some { 1 ≤ length log.now }
+    requires short { length log.now < 2 ^ 40 }
+    requires state { IfSome ahead (λ old. old
+        ≡ state_after M.meaning (take (length log.now - 1) log.now)) }
+    ensures { IfSome result (λ new. new ≡ state_after M.meaning log.now) }
+{
+    let mut ahead = ahead?;
+    match apply_range(&mut ahead, log, log.len() - 1, log.len()) {
+        Ok(()) => Some(ahead),
+        Err(_) => None,
+    }
 }

@@ -40,18 +40,20 @@ pub struct Raft<M: Machine> {
     votes: Vec<bool>,
     next: Vec<u64>,
     matched: Vec<u64>,
-    /// A leader's machine after its whole log, as the last call that asked for it left it.
+    /// A leader's machine after its whole log, committed or not, once a call has asked for it. What
+    /// the leader appends is applied to it; without memory for that it is dropped, and the next
+    /// call that needs one makes it again.
     ahead: Option<M>,
 }
 
 impl<M: Machine> Model for Raft<M> {
-    ghost use Rattle.raft_core.specs.RaftView.{RaftView, while_up, mode_of, IsRaft};
+    ghost use Rattle.raft_core.specs.RaftView.{RaftView, with_ahead, while_up, mode_of, IsRaft};
 
     ghost Value = { RaftView M.Command };
 
-    ghost view = { λ a. record { me = a.me; size = a.size; server = while_up a.machine (record { term = a.term; vote = a.vote; log = a.log.items; covered = 0; commit = a.commit; known = a.known; mode = mode_of a.role a.votes.items a.next.items a.matched.items }) } };
+    ghost view = { λ a. with_ahead a.me a.size a.ahead (while_up a.machine (record { term = a.term; vote = a.vote; log = a.log.items; covered = 0; commit = a.commit; known = a.known; mode = mode_of a.role a.votes.items a.next.items a.matched.items })) };
 
-    ghost invariant = { λ a. IsRaft M.meaning a.me a.size a.log.items a.role a.commit a.votes.items a.next.items a.matched.items a.machine };
+    ghost invariant = { λ a. IsRaft M.meaning a.me a.size a.log.items a.role a.commit a.votes.items a.next.items a.matched.items a.machine a.ahead };
 }
 
 /// A stored part that could not be started, and why: the number is past the group's size, or that
@@ -256,6 +258,7 @@ impl<M: Machine> Raft<M> {
         ensures { self.new ≡ with_server self.old (restarted self.old.server) }
     {
         self.role = Role::Follower;
+        self.ahead = None;
         self.commit = Index::ZERO;
         self.known = None;
         self.matched.fill(0);

@@ -2,6 +2,7 @@
 -- world.
 use Rattle.std.proofs.Common.{◌≡◌, ◌≢◌, ℕ, zero, suc, ◌<◌, ◌≤◌, true, false, inl, inr, Some, Result, Ok, Err, IfOk, OnErr, IfErr, List, [], ◌∷◌, ◌++◌, length, append-nil, refl, sym, ap, ◌∙◌, subst, arith, slice_get, slice_set, get_or}
 use Rattle.std.proofs.lemmas.Option.{same_Some, slice_get_read}
+use Rattle.std.specs.List.{AllZip}
 use Rattle.rows.specs.declared.refusal.Refusal.{Refusal}
 use Rattle.rows.specs.declared.refusal.Refusal.TheVariants as refusals
 use Rattle.machine.specs.Meaning.{Meaning}
@@ -11,7 +12,7 @@ use Rattle.raft_model.specs.Messages.{Message}
 use Rattle.raft_model.specs.Servers.{Server, Turn, silent, is_up, crashed, restarted}
 use Rattle.raft_model.specs.Steps.{Input, Arrives, Timeout, Beat, Propose, Compact, Crash, Restart, step}
 use Rattle.raft_model.specs.Worlds.{World, Event, Deliver, TimesOut, Beats, Proposes, Compacts, Crashes, Restarts, Run, IsRestart}
-use Rattle.raft_core.specs.RaftView.{RaftView}
+use Rattle.raft_core.specs.RaftView.{RaftView, SameServer}
 use Rattle.raft_core.specs.Frames.{FrameCarries}
 use Rattle.raft_core.specs.Refusals.{refusal}
 use Rattle.raft_core.specs.Steps.{Represents, Steps, Takes}
@@ -20,7 +21,7 @@ use Rattle.raft_safety.proofs.Places.{get-within}
 use Rattle.world.specs.declared.done.Done.{Done}
 use Rattle.world.specs.declared.done.Done.TheVariants as done
 use Rattle.world.specs.WorldView.{WorldView, RepresentsWorld, RunsTo, IsRaftWorld}
-use Rattle.world.specs.Steps.{IsDone, MayWantFor, RefusesEvent}
+use Rattle.world.specs.Steps.{IsDone, SameWorld, MayWantFor, RefusesEvent}
 use Rattle.world.specs.Inner.HistoryView.{HistoryView}
 use Rattle.world.specs.Inner.Inputs.{ActsIn, IsSent, handed_by, is_restart}
 use Rattle.world.specs.Inner.Parts.{IsFor, PartTaken, PartCrashed, PartStays, IsPartRefused, PartDone}
@@ -29,6 +30,7 @@ use Rattle.world.proofs.Posts.{Posts, step_posts}
 use Rattle.world.proofs.Inputs.{WasSent, Brings, brings}
 use Rattle.world.proofs.Taken.{took, Moved, moved, numbered_on, goes_by, reached_on}
 use Rattle.world.proofs.Refused.{IsAddressed, refused_is}
+use Rattle.world.proofs.Same.{same_set, same_reached}
 
 set_here : {A : Type 0} (xs : List A) (i : ℕ) (x : A) → slice_get xs i ≡ Some x → slice_set xs i x ≡ xs
 set_here [] i x h = refl
@@ -58,7 +60,7 @@ history_of view = record { sent = view.sent; trace = view.trace; chain = view.ch
 -- what became of an event, of which the world says so
 pub record Acted {S C : Type 0} (m : Meaning S C) (old : WorldView C) (e : Event C) (result : Result Done Refusal) (new : WorldView C) : Type 0 where
   pub ok : IfOk result (λ d. IsDone m old e d new)
-  pub err : OnErr result (new ≡ old)
+  pub err : OnErr result (SameWorld old new)
   pub cause : IfErr result (λ r. r ≢ refusals.NoMemory → RefusesEvent m old e r)
   pub world : IsRaftWorld m new
 
@@ -133,6 +135,15 @@ module _ {S C : Type 0} (m : Meaning S C) (old : WorldView C) (e : Event C) (i :
         let kept : new.servers ≡ old.servers = servers ∙ (ap (λ x. slice_set old.servers i x) is ∙ set_here old.servers i h a.here) in
         λ t. record { servers = kept t; sent = ap (λ (x : HistoryView C). x.sent) past t; trace = ap (λ (x : HistoryView C). x.trace) past t; chain = ap (λ (x : HistoryView C). x.chain) past t }
 
+    -- one that is the same server leaves the same world
+    same_but : SameServer h h2 → history_of new ≡ history_of old → SameWorld old new
+    same_but is past = record {
+      servers = subst (λ l. AllZip SameServer old.servers l) (sym servers) (same_set old.servers i h h2 (set_here old.servers i h a.here) is);
+      sent = ap (λ (x : HistoryView C). x.sent) past;
+      trace = ap (λ (x : HistoryView C). x.trace) past;
+      chain = ap (λ (x : HistoryView C). x.chain) past;
+    }
+
     stays : PartStays m h (history_of old) e h2 (history_of new) → Acted m old e (Ok done.Crashed) new
     stays p =
         let is : new ≡ old = as_it_was p.same_raft p.same_past in
@@ -184,8 +195,8 @@ module _ {S C : Type 0} (m : Meaning S C) (old : WorldView C) (e : Event C) (i :
       acted (Ok done.Taken) p = taken p
       acted (Ok done.Crashed) p = elim p [ inl c ↦ fallen c | inr s ↦ stays s ]
       acted (Err r) p =
-          let is : new ≡ old = as_it_was p.0 p.1 in
-          record { ok = tt; err = is; cause = caused r p.2; world = subst (λ x. IsRaftWorld m x) (sym is) a.reached }
+          let is : SameWorld old new = same_but p.0 p.1 in
+          record { ok = tt; err = is; cause = caused r p.2; world = same_reached m old new is a.reached }
 
 pub in_any_case : {T P : Type 0} (r : Result T Refusal) → P → IfErr r (λ e. e ≡ refusals.NoMemory → P)
 in_any_case (Ok x) p = tt

@@ -12,3 +12,4 @@ pub mod Playing
 pub mod Runs
 pub mod Histories
 pub mod Replays
+pub mod Same

@@ -8,8 +8,9 @@ use Rattle.raft_model.specs.Worlds as model
 use Rattle.world.specs.declared.done.Done.{Done}
 use Rattle.world.specs.declared.done.Done.TheVariants.{Taken, Crashed}
 use Rattle.world.specs.WorldView.{WorldView}
-use Rattle.world.specs.Steps.{IsDone, RefusesEvent, IsNew, Played}
+use Rattle.world.specs.Steps.{IsDone, SameWorld, RefusesEvent, IsNew, Played}
 use Rattle.world.proofs.Begins.{new_runs}
+use Rattle.world.proofs.Same.{same_world, same_count, same_runs}
 
 module _ {S C : Type 0} (m : Meaning S C) (n : ℕ) where
   pub play_begins : (seen : WorldView C) → IsNew m n seen → Played m n [] seen
@@ -22,19 +23,19 @@ module _ {S C : Type 0} (m : Meaning S C) (n : ℕ) where
     runs = new_runs m n seen begun.count begun.trace begun.chain begun.represents;
   }
 
-  -- an event of the same trace changed nothing
-  passed_over : (handed : List (Event C)) (old new : WorldView C) (e : Event C) (r : Refusal) (p : Played m n handed old) → model.IsLeftOut m p.world e r → new ≡ old → Played m n (handed ++ e ∷ []) new
-  passed_over handed old new e r p left same = subst (λ x. Played m n (handed ++ e ∷ []) x) (sym same) (record {
-    count = p.count;
+  -- an event that left the same world
+  passed_over : (handed : List (Event C)) (old new : WorldView C) (e : Event C) (r : Refusal) (p : Played m n handed old) → model.IsLeftOut m p.world e r → SameWorld old new → Played m n (handed ++ e ∷ []) new
+  passed_over handed old new e r p left same = record {
+    count = same_count m old new same ∙ p.count;
     outcomes = p.outcomes ++ LeftOut r ∷ [];
     past = p.past;
     world = p.world;
-    trace = left_out e r p.trace left;
-    runs = p.runs;
-  })
+    trace = subst (λ es. Trace m n (handed ++ e ∷ []) (p.outcomes ++ LeftOut r ∷ []) es p.past p.world) (sym same.trace) (left_out e r p.trace left);
+    runs = same_runs m old new same p.past p.world p.runs;
+  }
 
   pub play_next : (handed : List (Event C)) (old new : WorldView C) (e : Event C) (result : Result Done Refusal) → IsEvent m e → Played m n handed old →
-      IfOk result (λ done. IsDone m old e done new) → OnErr result (new ≡ old) → IfErr result (λ refusal. refusal ≢ refusals.NoMemory → RefusesEvent m old e refusal) → result ≢ Err refusals.NoMemory →
+      IfOk result (λ done. IsDone m old e done new) → OnErr result (SameWorld old new) → IfErr result (λ refusal. refusal ≢ refusals.NoMemory → RefusesEvent m old e refusal) → result ≢ Err refusals.NoMemory →
       Played m n (handed ++ e ∷ []) new
   play_next handed old new e (Ok Taken) is p went err cause memory =
       let q = went.runs p.past p.world p.runs in
@@ -59,7 +60,7 @@ module _ {S C : Type 0} (m : Meaning S C) (n : ℕ) where
           trace = subst (λ es. Trace m n (handed ++ e ∷ []) (p.outcomes ++ model.Crashed ∷ []) es (p.past ++ p.world ∷ []) q.0) (sym happened.trace) (crashed e f.who q.0 p.trace (f.actor p.world run.represents) q.1);
           runs = q.2;
         }
-    | inr s ↦ let run = p.runs in passed_over handed old new e refusals.NoMemory p (inr (s.restart, s.could p.world run.represents, refl)) s.same
+    | inr s ↦ let run = p.runs in passed_over handed old new e refusals.NoMemory p (inr (s.restart, s.could p.world run.represents, refl)) (subst (λ x. SameWorld old x) (sym s.same) (same_world old))
   ]
   play_next handed old new e (Err refusal) is p went err cause memory =
       passed_over handed old new e refusal p (inl (cause (λ r. memory (ap (λ x. Err x) r)) p.past p.world p.runs)) err

@@ -2,11 +2,13 @@
 use Rattle.std.specs.Prelude.{◌≡◌, ◌≢◌, ℕ, ◌⊎◌, Some, Ok, Err, List, [], ◌∷◌, ◌++◌, length, slice_get}
 use Rattle.rows.specs.declared.refusal.Refusal.{Refusal}
 use Rattle.rows.specs.declared.refusal.Refusal.TheVariants as refusals
+use Rattle.std.specs.List.{AllZip}
 use Rattle.machine.specs.Meaning.{Meaning}
 use Rattle.raft_model.specs.Servers.{Server}
 use Rattle.raft_model.specs.Steps.{Input}
 use Rattle.raft_model.specs.Worlds.{World, Event, first, Crashes, Outcome, Kept, LeftOut, Trace, happens, actor, IsRestart}
 use Rattle.raft_model.specs.Worlds.{Crashed as OutcomeCrashed}
+use Rattle.raft_core.specs.RaftView.{SameServer}
 use Rattle.raft_core.specs.Refusals.{MayWant}
 use Rattle.world.specs.declared.done.Done.{Done}
 use Rattle.world.specs.declared.done.Done.TheVariants.{Taken, Crashed}
@@ -45,6 +47,14 @@ pub record StaysDown {S C : Type 0} (m : Meaning S C) (old : WorldView C) (e : E
 abbrev pub IsDone : {S C : Type 0} → Meaning S C → WorldView C → Event C → Done → WorldView C → Type 0
 IsDone m old e Taken new = EventHappened m old e new
 IsDone m old e Crashed new = ActorCrashed m old e new ⊎ StaysDown m old e new
+
+-- Nothing happened: the same servers, messages, events and chain. A leader that refused a command
+-- may have made its machine after its whole log.
+pub record SameWorld {C : Type 0} (old new : WorldView C) : Type 0 where
+  pub servers : AllZip SameServer old.servers new.servers
+  pub sent : new.sent ≡ old.sent
+  pub trace : new.trace ≡ old.trace
+  pub chain : new.chain ≡ old.chain
 
 -- the definitions refuse the event in the same way, in each run of the value
 abbrev pub RefusesEvent : {S C : Type 0} → Meaning S C → WorldView C → Event C → Refusal → Type 0

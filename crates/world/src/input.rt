@@ -7,9 +7,9 @@ ghost use Rattle.raft_model.specs.Steps.{Propose};
 ghost use Rattle.raft_model.specs.Worlds.{Deliver};
 ghost use Rattle.raft_core.specs.Inputs.{Own};
 ghost use Rattle.raft_core.specs.Steps.{Represents, Takes};
-ghost use Rattle.raft_core.specs.Refusals.{IsRefused, RefusalLeaves};
+ghost use Rattle.raft_core.specs.Refusals.{IsRefused};
 ghost use Rattle.world.specs.Events.{place_of, event_of};
-ghost use Rattle.world.specs.Inner.Inputs.{ActsIn, NobodyActsIn, IsSent, handed_by};
+ghost use Rattle.world.specs.Inner.Inputs.{ActsIn, NobodyActsIn, IsSent, Leaves, handed_by};
 
 use crate::event::RaftEvent;
 use machine::Machine;
@@ -67,7 +67,7 @@ fn propose<M: Machine>(raft: &mut Raft<M>, command: M::Command) -> Result<(), Re
         Represents M.meaning raft.old s →
         IsRefused M.meaning raft.old.size raft.old.me s (Own (Propose command)) cause) }
     ensures left { IfErr result (λ cause. (s : Server M.Command) → Represents M.meaning raft.old s →
-        RefusalLeaves M.meaning raft.old s (Own (Propose command)) cause raft.new) }
+        Leaves M.meaning raft.old s (Own (Propose command)) cause raft.new) }
 {
     match raft.propose(command) {
         Ok(()) => Ok(()),
@@ -96,7 +96,7 @@ pub(crate) fn hand<M: Machine>(
         Represents M.meaning raft.old s →
         IsRefused M.meaning raft.old.size raft.old.me s (handed_by sent.now (event_of event)) cause) }
     ensures left { IfErr result (λ cause. (s : Server M.Command) → Represents M.meaning raft.old s →
-        RefusalLeaves M.meaning raft.old s (handed_by sent.now (event_of event)) cause raft.new) }
+        Leaves M.meaning raft.old s (handed_by sent.now (event_of event)) cause raft.new) }
 {
     match event {
         RaftEvent::Deliver(k) => {

@@ -7,7 +7,7 @@ ghost use Rattle.raft_core.specs.Steps.{Represents, is_member};
 ghost use Rattle.raft_safety.specs.Claims.{IsGreatestCommit};
 ghost use Rattle.world.specs.Events.{event_of, events_of};
 ghost use Rattle.world.specs.WorldView.{RunsTo, IsGroup};
-ghost use Rattle.world.specs.Steps.{IsDone, RefusesEvent, IsAwake, IsNew, IsNoGroup, Played, Replays};
+ghost use Rattle.world.specs.Steps.{IsDone, SameWorld, RefusesEvent, IsAwake, IsNew, IsNoGroup, Played, Replays};
 ghost use Rattle.world.specs.Claims.{OneLeaderEver, LogsMatchEver, OneListEver, StatesSafeEver};
 ghost use Rattle.world.specs.Inner.Inputs.{ActsIn, IsSent};
 
@@ -79,7 +79,7 @@ impl<M: Machine> RaftWorld<M> {
         requires awake { IsAwake M.meaning self.old (event_of event) }
         ensures ok { IfOk result (λ done.
             IsDone M.meaning self.old (event_of event) done self.new) }
-        ensures err { OnErr result (self.new ≡ self.old) }
+        ensures err { OnErr result (SameWorld self.old self.new) }
         ensures cause { IfErr result (λ refusal. refusal ≢ refusals.NoMemory →
             RefusesEvent M.meaning self.old (event_of event) refusal) }
         ensures memory { IfErr result (λ refusal. refusal ≡ refusals.NoMemory →
@@ -97,7 +97,7 @@ impl<M: Machine> RaftWorld<M> {
     fn take(&mut self, event: RaftEvent<M>) -> Result<Done, Refusal>
         ensures ok { IfOk result (λ done.
             IsDone M.meaning self.old (event_of event) done self.new) }
-        ensures err { OnErr result (self.new ≡ self.old) }
+        ensures err { OnErr result (SameWorld self.old self.new) }
         ensures cause { IfErr result (λ refusal. refusal ≢ refusals.NoMemory →
             RefusesEvent M.meaning self.old (event_of event) refusal) }
         ensures memory { IfErr result (λ refusal. refusal ≡ refusals.NoMemory →
@@ -123,13 +123,14 @@ impl<M: Machine> RaftWorld<M> {
     /// proposal is refused with `NotLeader` and the leader that is known where its server does not
     /// lead, with `Exhausted` where the log has no further index, and with the machine's own
     /// refusal where the state after the whole log does not admit the command. With `NoMemory` the
-    /// world itself lacks memory. A refusal changes nothing.
+    /// world itself lacks memory. A refusal changes nothing, but that a leader that refuses a
+    /// command may hold its machine after its whole log from then on.
     pub fn step(&mut self, event: RaftEvent<M>) -> Result<Done, Refusal>
         // It is a step of the definitions; or the event's actor crashed for want of memory, in a
         // restart with nothing changed.
         ensures ok { IfOk result (λ done.
             IsDone M.meaning self.old (event_of event) done self.new) }
-        ensures err { OnErr result (self.new ≡ self.old) }
+        ensures err { OnErr result (SameWorld self.old self.new) }
         // The definitions refuse it too, for the same reason.
         ensures cause { IfErr result (λ refusal. refusal ≢ refusals.NoMemory →
             RefusesEvent M.meaning self.old (event_of event) refusal) }

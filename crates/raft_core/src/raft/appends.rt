@@ -89,6 +89,7 @@ impl<M: Machine> Raft<M> {
         let Some(mut machine) = self.machine.take() else {
             unreachable!()
         };
+        self.ahead = None;
         let Some(reached) = Index::new(head.prev_index.get() + entries.len() as u64) else {
             unreachable!()
         };

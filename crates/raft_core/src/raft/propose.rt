@@ -1,17 +1,18 @@
 //! Commands that are proposed, and a leader's machine after its whole log.
 
-ghost use Rattle.std.specs.Prelude.{◌≡◌, ◌+◌, ◌^◌, ◌<◌, true, List, length, Ok, OnOk, OnErr, IfOk, IfErr};
+ghost use Rattle.std.specs.Prelude.{◌≡◌, ◌+◌, ◌^◌, ◌<◌, true, false, List, length, Ok, OnOk, OnErr, IfOk, IfErr};
 ghost use Rattle.raft_model.specs.Logs.{state_after};
 ghost use Rattle.wire.specs.Frames.{Frame};
-ghost use Rattle.raft_model.specs.Servers.{Server, is_up, is_leader, silent, extended};
+ghost use Rattle.raft_model.specs.Servers.{Server, is_leader, silent, extended};
 ghost use Rattle.raft_model.specs.Steps.{step, Propose};
+ghost use Rattle.raft_core.specs.RaftView.{SameServer};
 ghost use Rattle.raft_core.specs.Inputs.{Own};
 ghost use Rattle.raft_core.specs.Steps.{Represents, Takes};
 ghost use Rattle.raft_core.specs.Refusals.{IsRefused, LacksProjection};
 
 use super::Raft;
 use crate::no_projection::NoProjection;
-use crate::project::projection;
+use crate::project::{brought_on, projection};
 use machine::{Coded, Entry, Machine};
 use rows::{Index, Leader, NoMemory, Refusal};
 
@@ -20,26 +21,56 @@ impl<M: Machine> Raft<M> {
     ghost use Rattle.std.specs.Borrow.{sem};
     ghost use Rattle.std.specs.Io.BufRead.{Rests};
 
-    /// The machine after the whole log.
-    fn machine_ahead(&self) -> Result<M, NoMemory>
-        requires { is_up self.now.server.mode ≡ true }
-        ensures { IfOk result (λ ahead. ahead ≡ state_after M.meaning self.now.server.log) }
+    /// Whether it holds a leader's machine after its whole log, so that `projected` takes no
+    /// memory. No unless it leads.
+    pub fn has_projected(&self) -> bool
+        ensures value { result ≡ self.now.projected }
+        ensures leads { (s : Server M.Command) → Represents M.meaning self.now s → result ≡ true →
+            is_leader s.mode ≡ true }
     {
+        self.ahead.is_some()
+    }
+
+    /// A leader's machine after its whole log is made where it holds none.
+    fn make_ahead(&mut self) -> Result<(), NoMemory>
+        requires { is_leader self.old.server.mode ≡ true }
+        ensures same { SameServer self.old self.new }
+        ensures has { OnOk result (self.new.projected ≡ true) }
+        ensures lacked { OnErr result (self.old.projected ≡ false) }
+    {
+        if self.ahead.is_some() {
+            return Ok(());
+        }
         let Some(machine) = &self.machine else {
             unreachable!()
         };
-        projection(self.alloc, machine, self.commit.get(), &self.log)
+        let ahead = projection(self.alloc, machine, self.commit.get(), &self.log)?;
+        self.ahead = Some(ahead);
+        Ok(())
+    }
+
+    /// The machine after the whole log, of one that holds it.
+    fn machine_ahead(&self) -> &M
+        requires { self.now.projected ≡ true }
+        ensures { result.now ≡ state_after M.meaning self.now.server.log }
+    {
+        match &self.ahead {
+            Some(ahead) => ahead,
+            None => unreachable!(),
+        }
     }
 
     /// Whether a proposal is taken, or why not.
-    fn weigh(&self, command: &M::Command) -> Result<(), Refusal>
-        ensures leads { OnOk result (is_leader self.now.server.mode ≡ true) }
-        ensures room { OnOk result (length self.now.server.log + 1 < 2 ^ 40) }
+    fn weigh(&mut self, command: &M::Command) -> Result<(), Refusal>
+        ensures same { SameServer self.old self.new }
+        ensures kept { self.old.projected ≡ true → self.new.projected ≡ true }
+        ensures leads { OnOk result (is_leader self.old.server.mode ≡ true) }
+        ensures room { OnOk result (length self.old.server.log + 1 < 2 ^ 40) }
         ensures taken { OnOk result (
-            step M.meaning self.now.size self.now.me self.now.server (Propose command.now)
-            ≡ Ok (silent (extended self.now.server command.now))) }
+            step M.meaning self.old.size self.old.me self.old.server (Propose command.now)
+            ≡ Ok (silent (extended self.old.server command.now))) }
         ensures refused { IfErr result (λ cause.
-            IsRefused M.meaning self.now.size self.now.me self.now.server
+            IsRefused M.meaning self.old.size self.old.me self.old.server
             (Own (Propose command.now)) cause) }
     {
         if !self.is_up() {
@@ -51,8 +82,8 @@ impl<M: Machine> Raft<M> {
         if self.log.len() as u64 + 1 >= Index::LIMIT {
             return Err(Refusal::Exhausted);
         }
-        let ahead = self.machine_ahead()?;
-        match ahead.admits(command)? {
+        self.make_ahead()?;
+        match self.machine_ahead().admits(command)? {
             None => Ok(()),
             Some(refusal) => Err(refusal),
         }
@@ -63,6 +94,9 @@ impl<M: Machine> Raft<M> {
     /// One that is down refuses with `Down`, one that does not lead with `NotLeader` and the leader
     /// that it knows, one whose last index is 2^40 - 1 with `Exhausted`; else the machine may
     /// refuse the command. Any refusal leaves the server as it was, also one with `NoMemory`.
+    ///
+    /// The machine after the whole log is made where there is none, and kept. A refusal never drops
+    /// it; a command that it finds no memory to apply is appended, and it is dropped.
     pub fn propose(&mut self, command: M::Command) -> Result<(), Refusal>
         ensures same { (self.new.me ≡ self.old.me) × (self.new.size ≡ self.old.size) }
         // Whatever was sent before, nothing is sent.
@@ -72,36 +106,42 @@ impl<M: Machine> Raft<M> {
         ensures refused { IfErr result (λ cause. (s : Server M.Command) →
             Represents M.meaning self.old s →
             IsRefused M.meaning self.old.size self.old.me s (Own (Propose command)) cause) }
-        ensures unchanged { OnErr result (self.new ≡ self.old) }
+        ensures unchanged { OnErr result (SameServer self.old self.new) }
+        ensures kept { OnErr result (self.old.projected ≡ true → self.new.projected ≡ true) }
     {
         self.weigh(&command)?;
-        self.log.push(Entry {
+        self.log.reserve(1)?;
+        let ahead = self.ahead.take();
+        self.log.push_reserved(Entry {
             term: self.term,
             command: Coded::new(command),
-        })?;
+        });
+        self.ahead = brought_on(ahead, &self.log);
         Ok(())
     }
 
-    /// A leader's machine after its whole log, committed or not.
+    /// A leader's machine after its whole log, committed or not. It is made where it holds none,
+    /// and kept while it leads.
     ///
     /// There is none, with `Down`, of one that is down, with `NotLeader` of one that does not lead
-    /// (`known_leader` says who may be asked), and with `NoMemory`. The server stays as it was on
-    /// every answer, want of memory among them.
+    /// (`known_leader` says who may be asked), and with `NoMemory`, which comes only where it held
+    /// none. The server stays as it was on every answer, want of memory among them.
     pub fn projected(&mut self) -> Result<&M, NoProjection>
         ensures value { IfOk result (λ r. (s : Server M.Command) → Represents M.meaning self.old s →
             (is_leader s.mode ≡ true) × (r.now ≡ state_after M.meaning s.log)) }
         ensures refused { IfErr result (λ why. (s : Server M.Command) →
             Represents M.meaning self.old s → LacksProjection s why) }
-        ensures* same { sem 𝓛 (Rests (the_row M.row M.Command.row M.Machine) self.entry (λ n. n
-            ≡ self.old)) }
+        ensures held { OnErr result (self.old.projected ≡ false) }
+        ensures* same { sem 𝓛 (Rests (the_row M.row M.Command.row M.Machine) self.entry (λ n.
+            SameServer self.old n × OnOk result (n.projected ≡ true))) }
     {
-        let Some(machine) = &self.machine else {
+        if self.machine.is_none() {
             return Err(NoProjection::Down);
-        };
+        }
         if !self.role.leads() {
             return Err(NoProjection::NotLeader);
         }
-        let ahead = projection(self.alloc, machine, self.commit.get(), &self.log)?;
-        Ok(self.ahead.insert(ahead))
+        self.make_ahead()?;
+        Ok(self.machine_ahead())
     }
 }

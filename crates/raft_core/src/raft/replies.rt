@@ -81,6 +81,7 @@ impl<M: Machine> Raft<M> {
                 let Some(mut machine) = self.machine.take() else {
                     unreachable!()
                 };
+                let ahead = self.ahead.take();
                 let last = self.log.len() as u64;
                 learn(&mut self.next, &mut self.matched, last, from, ok, at);
                 self.commit = advance(
@@ -92,6 +93,7 @@ impl<M: Machine> Raft<M> {
                     &self.matched,
                 )?;
                 self.machine = Some(machine);
+                self.ahead = ahead;
                 Ok(())
             }
         }

@@ -152,6 +152,7 @@ impl<M: Machine> Raft<M> {
             ≡ won M.meaning.noop self.old.size self.old.server) }
         ensures lost { OnErr result (crashed self.new.server ≡ crashed self.old.server) }
     {
+        self.ahead = None;
         let first = self.log.len() as u64 + 1;
         self.next.fill(first);
         self.matched.fill(0);
@@ -228,6 +229,7 @@ impl<M: Machine> Raft<M> {
             last_term: term_of_last(&self.log),
         };
         ask::<M>(self.me, self.size, &request, outbox)?;
+        self.ahead = None;
         self.term = term;
         self.vote = Some(self.me);
         self.known = None;

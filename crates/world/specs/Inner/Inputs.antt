@@ -2,13 +2,16 @@
 use Rattle.std.specs.Prelude.{◌≡◌, ℕ, ◌<◌, if◌then◌else◌, Bool, true, false, Option, Some, None, Err, List, [], length, slice_get}
 use Rattle.std.specs.List.{AllZip}
 use Rattle.rows.specs.declared.refusal.Refusal.{Refusal}
+use Rattle.rows.specs.declared.refusal.Refusal.TheVariants as refusals
 use Rattle.machine.specs.Meaning.{Meaning}
 use Rattle.wire.specs.Frames.{Frame}
 use Rattle.raft_model.specs.Servers.{Server, is_up}
 use Rattle.raft_model.specs.Steps.{Timeout, Beat, Propose, Compact, Crash, Restart}
 use Rattle.raft_model.specs.Worlds.{World, Event, Deliver, TimesOut, Beats, Proposes, Compacts, Crashes, Restarts, happens, actor}
 use Rattle.raft_core.specs.Frames.{FrameCarries}
+use Rattle.raft_core.specs.RaftView.{RaftView, SameServer}
 use Rattle.raft_core.specs.Inputs.{Handed, Bytes, Own}
+use Rattle.raft_core.specs.Refusals.{LackLeaves}
 
 abbrev pub is_restart : {C : Type 0} → Event C → Bool
 is_restart (Deliver k) = false
@@ -45,6 +48,13 @@ handed_by sent (Proposes i command) = Own (Propose command)
 handed_by sent (Compacts i) = Own Compact
 handed_by sent (Crashes i) = Own Crash
 handed_by sent (Restarts i) = Own Restart
+
+-- what a refusal leaves of a server: what a crash does where memory was wanting, else the same
+-- server
+abbrev pub Leaves : {S C : Type 0} → Meaning S C → RaftView C → Server C → Handed C → Refusal → RaftView C
+    → Type 0
+Leaves m old s h refusals.NoMemory new = LackLeaves m old s h new
+Leaves m old s h cause new = SameServer old new
 
 -- what a server has committed, while it is up
 abbrev pub committed : {C : Type 0} → Server C → ℕ

@@ -1,4 +1,4 @@
-use Rattle.std.proofs.Common.{◌≡◌, ◌+◌, length, arith}
+use Rattle.std.proofs.Common.{◌≡◌, ◌+◌, false, length, arith}
 use Rattle.raft_core.proofs.Follows.{accepts}
 use Rattle.raft_core.proofs.raft.Raft.accept_append.Goals as goal
 
@@ -13,4 +13,4 @@ returns-clause-taken g c =
     let sent = rw reached at c.in_ok-send.ensures.ok in
     let risen = rw (c.max.ensures, c.min.ensures, c.get-commit.ensures.value, c.get-2.ensures.value, c.get-3.ensures.value, reached) at c.in-Some-new-2.ensures.some.0 in
     let grown = rw (c.get-commit.ensures.value, c.get-5.ensures.value) at c.in_ok-adopt.ensures.ok in
-    rw (← old-is) (accepts m _ c.follow.new.self a.outbox.now c.send.new.outbox a.from a.head.now.term a.head.now.prev_index _ a.head.now.commit later a.entries.items _ _ held grown risen c.follow.ensures sent)
+    rw (← old-is) (accepts m _ c.follow.new.self a.outbox.now c.send.new.outbox a.from a.head.now.term a.head.now.prev_index _ a.head.now.commit later a.entries.items _ _ false held grown risen c.follow.ensures sent)

@@ -1,6 +1,6 @@
-use Rattle.std.proofs.Common.{◌≡◌, arith, ap, ◌∙◌, length, Some}
+use Rattle.std.proofs.Common.{◌≡◌, arith, refl, ap, ◌∙◌, length, Some}
 use Rattle.raft_core.specs.Inner.Replies.{next_after, match_after}
-use Rattle.raft_core.proofs.Replies.{next-length, match-length, put_back, keeps, heard_by}
+use Rattle.raft_core.proofs.Replies.{next-length, match-length, put_back, second_stays, keeps, heard_by}
 use Rattle.raft_core.proofs.raft.Raft.hear.Goals as goal
 
 pub invariant_of-self : goal.invariant_of-self
@@ -13,7 +13,7 @@ invariant_of-self g c =
     let next_whole = put_back i.next.items c.learn.new.next i.next.len (omega (arith, ap length next, next-length (length i.log.items) a.from a.at a.ok i.next.items i.matched.items, i.next.ok.0)) in
     let match_whole = put_back i.matched.items c.learn.new.matched i.matched.len (omega (arith, ap length match, match-length (length i.log.items) a.from a.at a.ok i.matched.items, i.matched.ok.0)) in
     let live = rw (← c.in-Some.ensures.value) at c.self.invariant.live in
-    rw (next_whole, match_whole, next, match, c.take.ensures.after) (keeps g.M.Machine.meaning i.me i.size i.log.items i.role i.votes.items i.next.items i.matched.items a.from a.at a.ok i.commit i.commit i.machine _ c.self.invariant live.levels (omega arith) tt)
+    rw (next_whole, match_whole, next, match, c.take.ensures.after, c.take-ahead.ensures.after) (keeps g.M.Machine.meaning i.me i.size i.log.items i.role i.votes.items i.next.items i.matched.items a.from a.at a.ok i.commit i.commit i.machine _ i.ahead _ c.self.invariant live.levels (omega arith) tt tt)
 
 pub invariant_of-self-in-Leader : goal.invariant_of-self-in-Leader
 invariant_of-self-in-Leader g c =
@@ -26,7 +26,7 @@ invariant_of-self-in-Leader g c =
     let match_whole = put_back i.matched.items c.learn.new.matched i.matched.len (omega (arith, ap length match, match-length (length i.log.items) a.from a.at a.ok i.matched.items, i.matched.ok.0)) in
     let live = rw (← c.in-Some.ensures.value) at c.self.invariant.live in
     let done = rw c.deref.ensures.value at c.in_ok-self-inside-in-Leader.ensures in
-    rw (next_whole, match_whole, next, match) (keeps g.M.Machine.meaning i.me i.size i.log.items i.role i.votes.items i.next.items i.matched.items a.from a.at a.ok i.commit c.in_ok-self-inside-in-Leader.field-0 i.machine (Some c.advance.new.machine) c.self.invariant live.levels (omega arith) (done.within, done.state))
+    rw (next_whole, match_whole, next, match, c.take-ahead.ensures.value) (keeps g.M.Machine.meaning i.me i.size i.log.items i.role i.votes.items i.next.items i.matched.items a.from a.at a.ok i.commit c.in_ok-self-inside-in-Leader.field-0 i.machine (Some c.advance.new.machine) i.ahead i.ahead c.self.invariant live.levels (omega arith) (done.within, done.state) (second_stays g.M.Machine.meaning i.log.items i.role i.machine (Some c.advance.new.machine) i.ahead refl c.self.invariant.second))
 
 pub returns-in_ok-self-inside-in-Leader-clause-heard :
     goal.returns-in_ok-self-inside-in-Leader-clause-heard
@@ -40,4 +40,4 @@ returns-in_ok-self-inside-in-Leader-clause-heard g c =
     let match_whole = put_back i.matched.items c.learn.new.matched i.matched.len (omega (arith, ap length match, match-length (length i.log.items) a.from a.at a.ok i.matched.items, i.matched.ok.0)) in
     let old-is = rw (← c.in-Some.ensures.value) at c.self.view_is in
     let risen = rw (c.deref.ensures.value, c.deref-in-Leader.ensures.value) at c.in_ok-self-inside-in-Leader.ensures.value in
-    heard_by a.self.now i.me i.size i.term i.vote i.log.items i.commit i.known i.role i.votes.items i.next.items i.matched.items _ _ c.in_ok-self-inside-in-Leader.field-0 a.from a.at a.ok old-is c.in-Leader.is (next_whole ∙ next) (match_whole ∙ match) c.self.invariant.matched_each risen
+    heard_by a.self.now i.me i.size i.term i.vote i.log.items i.commit i.known i.role i.votes.items i.next.items i.matched.items _ _ c.in_ok-self-inside-in-Leader.field-0 a.from a.at a.ok _ old-is c.in-Leader.is (next_whole ∙ next) (match_whole ∙ match) c.self.invariant.matched_each risen

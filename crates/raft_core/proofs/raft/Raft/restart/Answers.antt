@@ -21,4 +21,5 @@ invariant_of-result-2 g c =
       next_most = filled_most c.in-Ok.levels.next.items size 1 made.next (omega arith);
       matched_each = ap length made.matched ∙ length-replicate size _;
       live = fresh g.M.Machine.meaning c.stable.inside.log.items size c.in-Ok.levels.matched.items c.empty.result c.empty.ensures made.matched;
+      second = tt;
     }

@@ -17,4 +17,5 @@ invariant_of-self-2 g c =
       next_most = kept.next_most;
       matched_each = omega (arith, c.fill.ensures.len, kept.matched_each, i.matched.ok.0, c.fill.new.self.ok.0);
       live = fresh g.M.Machine.meaning i.log.items _ c.fill.new.self.items c.empty.result c.empty.ensures (c.fill.ensures.items (λ y e. e));
+      second = tt;
     }

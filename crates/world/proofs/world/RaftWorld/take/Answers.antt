@@ -2,14 +2,24 @@ use Rattle.std.proofs.Common.{◌≡◌, ◌⊎◌, inl, inr, true, not, is_some
 use Rattle.raft_safety.proofs.Places.{get-within}
 use Rattle.world.specs.Events.{event_of}
 use Rattle.world.specs.Inner.Inputs.{is_restart}
+use Rattle.world.proofs.Same.{same_world}
 use Rattle.world.proofs.Sleeping.{refuses_absent, refuses_sleeping, is_awake}
 use Rattle.world.proofs.world.RaftWorld.take.Goals as goal
 use Rattle.world.proofs.world.RaftWorld.take.Goals.{else-is_none-via-then-is_none+else-not-is_restart, else-is_none-via-else-is_none}
+
+pub returns-in_default-clause-err : goal.returns-in_default-clause-err
+returns-in_default-clause-err g c = same_world c.args.self.now
+
+pub returns-in_default-raft-clause-err : goal.returns-in_default-raft-clause-err
+returns-in_default-raft-clause-err g c = same_world c.args.self.now
 
 pub returns-in_default-raft-clause-cause : goal.returns-in_default-raft-clause-cause
 returns-in_default-raft-clause-cause g c _ =
     let acts = rw c.sent.ensures at c.in-Some.ensures.some in
     refuses_absent g.M.Machine.meaning c.args.self.now (event_of c.args.event) c.in-Some.server acts (sym c.in_default-raft.ensures)
+
+pub returns-then-not-is_restart-clause-err : goal.returns-then-not-is_restart-clause-err
+returns-then-not-is_restart-clause-err g c = same_world c.args.self.now
 
 pub returns-then-not-is_restart-clause-cause : goal.returns-then-not-is_restart-clause-cause
 returns-then-not-is_restart-clause-cause g c _ =
