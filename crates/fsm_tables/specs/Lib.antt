@@ -7,3 +7,5 @@ pub mod LiveNames
 pub mod Lookups
 pub mod Sums
 pub mod Inner
+pub mod Shelves
+pub mod Urgencies
