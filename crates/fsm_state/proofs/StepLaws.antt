@@ -62,7 +62,7 @@ module _ {K X : Type 0} (R : K → K → Ordering) (key : X → K) where
     below_only : (f : X → X) (k : K) (ys : List X) → T (is_below R key k ys) → map (only R key f k) ys ≡ ys
     below_only f k ys h = none_only f k ys (none_below R key o k ys h)
 
-    put_only : (f : X → X) → ((x : X) → key (f x) ≡ key x) → (k : K) (r : X) (ys : List X) → T (is_rising R key ys) → row_of R key k ys ≡ Some r → put R key (f r) ys ≡ map (only R key f k) ys
+    pub put_only : (f : X → X) → ((x : X) → key (f x) ≡ key x) → (k : K) (r : X) (ys : List X) → T (is_rising R key ys) → row_of R key k ys ≡ Some r → put R key (f r) ys ≡ map (only R key f k) ys
     put_only f keeps k r [] h e = absurd (some_none r (sym e))
     put_only f keeps k r (y ∷ ys) h e =
         elim (R k (key y)) as (λ q. R k (key y) ≡ q → cond (is_eq q) (Some y) (row_of R key k ys) ≡ Some r → put R key (f r) (y ∷ ys) ≡ cond (is_eq q) (f y) y ∷ map (only R key f k) ys) [

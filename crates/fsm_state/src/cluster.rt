@@ -1,8 +1,9 @@
 //! The replicated state as a value: its rows, and one row put.
-ghost use Rattle.std.specs.Prelude.{◌≡◌, ◌∷◌, [], ◌+◌, ◌<◌, ◌^◌, ◌||◌, not, OnOk, option_map, T as Holds};
+ghost use Rattle.std.specs.Prelude.{◌≡◌, ◌∷◌, [], ◌+◌, ◌<◌, ◌^◌, ◌||◌, not, OnOk, IfOk, filter, option_map, T as Holds};
 ghost use Rattle.std.specs.List.{list_any};
 ghost use Rattle.fsm_tables.specs.Claims.{claim_of, claims, used, is_live as lives};
 ghost use Rattle.fsm_tables.specs.LiveNames.{live_named};
+ghost use Rattle.fsm_tables.specs.Lookups.{lives_for, lives_on};
 ghost use Rattle.fsm_tables.specs.TableRows.{TablesFit};
 ghost use Rattle.cluster_model.specs.Words.{no_rows, same_alloc, job_of, node_of, eval_of, alloc_of};
 ghost use Rattle.cluster_model.specs.Effect.{counted};
@@ -13,7 +14,7 @@ ghost use Rattle.fsm_state.specs.Inner.Steps.{rows_of, put_job, put_node, put_ev
 use fsm_tables::{AllocName, Table, Tables, Usage, is_live};
 use rows::{
     AllocId, Allocation, EntryIndex, EvalId, Evaluation, Index, Job, JobName, NoMemory, Node,
-    NodeId,
+    NodeId, Sequence,
 };
 use std::alloc::Global;
 use std::marker::Model;
@@ -128,6 +129,22 @@ impl Cluster {
         ensures { option_map (λ row. row.now) result ≡ live_named name.now self.now.allocs }
     {
         self.tables.live_named(name)
+    }
+
+    /// The live allocations of a job, in rising id. It takes time in the logarithm of the table,
+    /// and so much again for each of them. `NoMemory` where there is no memory for them.
+    pub fn live_of_job(&self, job: &JobName) -> Result<Sequence<Allocation>, NoMemory>
+        ensures { IfOk result (λ rows. rows ≡ filter (lives_for job.now) self.now.allocs) }
+    {
+        self.tables.live_of_job(job)
+    }
+
+    /// The live allocations on a node, in rising id. It takes time in the logarithm of the table,
+    /// and so much again for each of them. `NoMemory` where there is no memory for them.
+    pub fn live_on(&self, node: NodeId) -> Result<Sequence<Allocation>, NoMemory>
+        ensures { IfOk result (λ rows. rows ≡ filter (lives_on node) self.now.allocs) }
+    {
+        self.tables.live_on(node)
     }
 
     /// What the live allocations on a node take of it: the sums of their processor time and of
