@@ -19,13 +19,6 @@ use Rattle.drain.specs.Inner.Groups.{group_of, job_group_cmp, itself, is_met, fi
 -- ---- lists
 
 module _ {A : Type 0} where
-  pub filter_both : (p q : A → Bool) (xs : List A) → filter q (filter p xs) ≡ filter (λ x. p x && q x) xs
-  filter_both p q [] = refl
-  filter_both p q (x ∷ xs) = elim (p x) as (λ b. filter q (cond b (x ∷ filter p xs) (filter p xs)) ≡ cond (b && q x) (x ∷ filter (λ x. p x && q x) xs) (filter (λ x. p x && q x) xs)) [
-    | true ↦ ap (λ zs. cond (q x) (x ∷ zs) zs) (filter_both p q xs)
-    | false ↦ filter_both p q xs
-  ]
-
   pub any_both : (p q : A → Bool) (xs : List A) → list_any q (filter p xs) ≡ list_any (λ x. p x && q x) xs
   any_both p q [] = refl
   any_both p q (x ∷ xs) = elim (p x) as (λ b. list_any q (cond b (x ∷ filter p xs) (filter p xs)) ≡ ((b && q x) || list_any (λ x. p x && q x) xs)) [

@@ -16,11 +16,11 @@ use Rattle.fsm_tables.specs.Claims.{is_live}
 use Rattle.fsm_tables.specs.Lookups.{lives_for, lives_on}
 use Rattle.cluster_model.specs.Words.{State}
 use Rattle.cluster_model.proofs.Keys.{names_turn}
-use Rattle.cluster_model.proofs.Lists.{anys_same}
+use Rattle.cluster_model.proofs.Lists.{anys_same, filter_both}
 use Rattle.group_model.specs.Drains.{same_group, group_moves, firsts, movers}
 use Rattle.drain.specs.declared.group.JobGroup.{JobGroup}
 use Rattle.drain.specs.Inner.Groups.{group_of, job_group_cmp, itself, is_met, firsts_but, stays}
-use Rattle.drain.proofs.Groups.{filter_both, any_both, met_more, firsts_are, firsts_kept}
+use Rattle.drain.proofs.Groups.{any_both, met_more, firsts_are, firsts_kept}
 
 -- ---- a group that is on the move
 

@@ -1,0 +1,11 @@
+//! The evaluations that are blocked: which wait for room, and which are due.
+#![tactic(auto)]
+
+mod blocked;
+mod due;
+mod held;
+mod order;
+mod rebuild;
+mod rooms;
+
+pub use blocked::Blocked;
