@@ -1,1 +1,2 @@
 pub mod Urgencies
+pub mod Anew

@@ -1,2 +1,3 @@
 pub mod Rooms
+pub mod Calls
 pub mod Inner

@@ -1,17 +1,18 @@
-ghost use Rattle.std.specs.Prelude.{◌≡◌, [], OnOk, OnErr, IfOk, map};
+ghost use Rattle.std.specs.Prelude.{◌≡◌, [], OnOk, OnErr, IfOk, filter, map};
 ghost use Rattle.group_model.specs.Order.{in_order as all_in_order};
 ghost use Rattle.group_model.specs.Blocked.{BlockedEval as AnyBlockedEval, blocked_id, due as all_due, made_due};
-ghost use Rattle.group_model.specs.Blocked.{with_blocked, without_blocked, with_room, blocked_over};
+ghost use Rattle.group_model.specs.Blocked.{with_blocked, without_blocked, with_room, blocked_over, blocked_with_job};
 ghost use Rattle.blocked.specs.Rooms.{blocked_of};
+ghost use Rattle.blocked.specs.Inner.Anew.{is_of};
 
 use crate::due::{due_now, due_then};
 use crate::held::BlockedEval;
 use crate::order::in_order;
-use crate::rebuild::{evals_of, rooms_of};
+use crate::rebuild::{classes_of, evals_of, rooms_of};
 use crate::rooms::Rooms;
 use fsm_state::Cluster;
 use fsm_tables::Shelf;
-use rows::{ClassName, EvalId, Evaluation, Index, NoMemory, Sequence};
+use rows::{ClassName, EvalId, Evaluation, Index, Job, JobName, NoMemory, Sequence};
 use std::alloc::Global;
 use std::marker::Model;
 
@@ -67,6 +68,20 @@ impl Blocked {
         Ok(())
     }
 
+    /// A job's row was made or replaced: its blocked evaluations are put anew, with the classes that
+    /// its groups ask for. Without memory some may be, so that the value is only to be dropped.
+    pub fn put_job(&mut self, alloc: Global, job: &Job) -> Result<(), NoMemory>
+        ensures { OnOk result
+            (blocked_of self.new ≡ blocked_with_job job.now (blocked_of self.old)) }
+    {
+        let rows = rows_of_job(alloc, self.evals.rows(), &job.name)?;
+        for row in rows.as_slice() {
+            let classes = classes_of(alloc, job)?;
+            self.put(*row, classes)?;
+        }
+        Ok(())
+    }
+
     /// An evaluation is blocked no more, if it was. It takes no memory.
     pub fn take(&mut self, id: EvalId)
         ensures { blocked_of self.new ≡ without_blocked id (blocked_of self.old) }
@@ -104,4 +119,21 @@ impl Blocked {
         let ids = in_order(alloc, urgencies.as_slice())?;
         Ok(ids)
     }
+}
+
+/// The rows of those that are of a job, in rising id.
+fn rows_of_job(
+    alloc: Global,
+    evals: &[BlockedEval],
+    job: &JobName,
+) -> Result<Sequence<Evaluation>, NoMemory>
+    ensures { IfOk result (λ rows. rows ≡ map (λ b. b.row) (filter (is_of job.now) evals.now)) }
+{
+    let mut rows = Sequence::new(alloc);
+    for held in evals {
+        if held.row.job == *job {
+            rows.push(held.row)?;
+        }
+    }
+    Ok(rows)
 }

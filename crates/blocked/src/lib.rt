@@ -4,8 +4,10 @@
 mod blocked;
 mod due;
 mod held;
+mod laws;
 mod order;
 mod rebuild;
 mod rooms;
 
 pub use blocked::Blocked;
+pub use laws::blocked_is_of_the_state;
