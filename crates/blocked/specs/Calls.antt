@@ -11,8 +11,8 @@ use Rattle.cluster_model.specs.Words.{State, node_of}
 use Rattle.group_model.specs.Blocked.{BlockedEvals, blocked_over, blocked_with_eval, blocked_with_node, blocked_with_job}
 use Rattle.group_model.specs.OneRow.{Replaces}
 
--- the value is rebuilt over a state, whose evaluations are in order; or it is told of a row that was
--- made or replaced
+-- the value is rebuilt over a state, whose evaluations are in order; or it is told of a row that
+-- was made or replaced
 pub data Call : Type 0 where
   Rebuild : (s : State) → T (is_rising eval_cmp eval_id s.evals) → Call
   EvalChanged : (row : Evaluation) → Call
@@ -26,8 +26,8 @@ state_after (EvalChanged row) s = record s { evals = put eval_cmp eval_id row s.
 state_after (NodeChanged row) s = record s { nodes = put nat_cmp node_number row s.nodes }
 state_after (JobChanged row) s = record s { jobs = put name_cmp job_name row s.jobs }
 
--- the value by then: `put` where the evaluation is blocked, with the classes of its job, else `take`;
--- `room` of the node's class; `put_job`
+-- the value by then: `put` where the evaluation is blocked, with the classes of its job, else
+-- `take`; `room` of the node's class; `put_job`
 abbrev pub value_after : Call → State → BlockedEvals → BlockedEvals
 value_after (Rebuild s rising) old b = blocked_over s
 value_after (EvalChanged row) s b = blocked_with_eval s row b

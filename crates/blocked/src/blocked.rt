@@ -19,8 +19,8 @@ use std::marker::Model;
 /// The blocked evaluations with the classes that their jobs ask for, and for each class the
 /// greatest index at which a node of it got room. An evaluation is due where a node of a class that
 /// its job asks for got room past the evaluation's snapshot; else it waits. Contracts see the
-/// evaluations in rising id and the rooms in rising class, and speak of them by what they are. (Nomad documentation,
-/// "Scheduling in Nomad": blocked evaluations.)
+/// evaluations in rising id and the rooms in rising class, and speak of what these are. (Nomad
+/// documentation, "Scheduling in Nomad": blocked evaluations.)
 #[derive(Drop)]
 pub struct Blocked {
     evals: Shelf<BlockedEval>,
@@ -59,7 +59,8 @@ impl Blocked {
     /// its id. It is due at once where a node of one of them got room past its snapshot. Without
     /// memory nothing changes.
     pub fn put(&mut self, row: Evaluation, classes: Sequence<ClassName>) -> Result<(), NoMemory>
-        ensures ok { OnOk result (blocked_of self.new ≡ with_blocked row classes (blocked_of self.old)) }
+        ensures ok { OnOk result
+            (blocked_of self.new ≡ with_blocked row classes (blocked_of self.old)) }
         ensures err { OnErr result (self.new ≡ self.old) }
     {
         let count = self.evals.rows().len() + 1;
@@ -68,8 +69,8 @@ impl Blocked {
         Ok(())
     }
 
-    /// A job's row was made or replaced: its blocked evaluations are put anew, with the classes that
-    /// its groups ask for. Without memory some may be, so that the value is only to be dropped.
+    /// A job's row was made or replaced: its blocked evaluations are put anew, with the classes
+    /// that its groups ask for. Without memory some may be, so that the value is only to be dropped.
     pub fn put_job(&mut self, alloc: Global, job: &Job) -> Result<(), NoMemory>
         ensures { OnOk result
             (blocked_of self.new ≡ blocked_with_job job.now (blocked_of self.old)) }

@@ -70,7 +70,8 @@ pub(crate) fn due_now(
     rooms: &Rooms,
     evals: &[BlockedEval],
 ) -> Result<Sequence<Urgency>, NoMemory>
-    ensures { IfOk result (λ us. us ≡ map urgency_of (filter (is_due_by (room_in rooms.now)) evals.now)) }
+    ensures { let those = filter (is_due_by (room_in rooms.now)) evals.now in
+        IfOk result (λ us. us ≡ map urgency_of those) }
 {
     let mut urgencies = Sequence::new(alloc);
     for held in evals {

@@ -7,5 +7,6 @@ ghost use Rattle.blocked.specs.Calls.{Call, IsOfState};
 /// give: the blocked evaluations with the classes that their jobs ask for, and the room of the
 /// nodes.
 pub fn blocked_is_of_the_state()
-    ensures { (calls : List Call) → IsOfState no_rows (record { evals = []; room = λ class. 0 }) calls }
+    ensures { (calls : List Call)
+        → IsOfState no_rows (record { evals = []; room = λ class. 0 }) calls }
 {}

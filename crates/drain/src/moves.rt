@@ -27,7 +27,8 @@ pub fn is_done(state: &Cluster, node: NodeId) -> bool
 
 /// The ids of the first 64 allocations that are not on the move.
 fn resting(alloc: Global, rows: &[Allocation]) -> Result<Sequence<AllocId>, NoMemory>
-    ensures { IfOk result (λ ids. ids ≡ take 64 (map (λ a. a.id) (filter (λ a. not a.migrate) rows.now))) }
+    ensures { let those = filter (λ a. not a.migrate) rows.now in
+        IfOk result (λ ids. ids ≡ take 64 (map (λ a. a.id) those)) }
 {
     let mut ids = Sequence::new(alloc);
     for row in rows {
@@ -120,7 +121,8 @@ pub fn next_moves(
     node: NodeId,
 ) -> Result<Sequence<AllocId>, Refusal>
     ensures ok { IfOk result (λ ids. moves_next state.now node ≡ Ok ids) }
-    ensures err { IfErr result (λ e. (e ≡ refusals.NoMemory) ⊎ (moves_next state.now node ≡ Err e)) }
+    ensures err { let moves = moves_next state.now node in
+        IfErr result (λ e. (e ≡ refusals.NoMemory) ⊎ (moves ≡ Err e)) }
 {
     let Some(row) = state.node(node) else {
         return Err(Refusal::UnknownNode);
