@@ -1,5 +1,5 @@
 -- Laws of lists and tests.
-use Rattle.std.proofs.Common.{◌≡◌, Bool, true, false, cond, ◌&&◌, ◌||◌, T, List, [], ◌∷◌, map, refl, sym, ap}
+use Rattle.std.proofs.Common.{◌≡◌, Bool, true, false, cond, ◌&&◌, ◌||◌, T, List, [], ◌∷◌, filter, map, refl, sym, ap}
 use Rattle.std.specs.List.{list_any}
 
 pub maps : {A B C : Type 0} (g : B → C) (f : A → B) (xs : List A) → map g (map f xs) ≡ map (λ x. g (f x)) xs
@@ -53,3 +53,10 @@ same_truth true true f g = refl
 same_truth true false f g = absurd (f tt)
 same_truth false true f g = absurd (g tt)
 same_truth false false f g = refl
+
+pub filter_both : {A : Type 0} (p q : A → Bool) (xs : List A) → filter q (filter p xs) ≡ filter (λ x. p x && q x) xs
+filter_both p q [] = refl
+filter_both p q (x ∷ xs) = elim (p x) as (λ b. filter q (cond b (x ∷ filter p xs) (filter p xs)) ≡ cond (b && q x) (x ∷ filter (λ x. p x && q x) xs) (filter (λ x. p x && q x) xs)) [
+  | true ↦ ap (λ zs. cond (q x) (x ∷ zs) zs) (filter_both p q xs)
+  | false ↦ filter_both p q xs
+]

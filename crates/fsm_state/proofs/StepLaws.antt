@@ -62,7 +62,7 @@ module _ {K X : Type 0} (R : K → K → Ordering) (key : X → K) where
     below_only : (f : X → X) (k : K) (ys : List X) → T (is_below R key k ys) → map (only R key f k) ys ≡ ys
     below_only f k ys h = none_only f k ys (none_below R key o k ys h)
 
-    put_only : (f : X → X) → ((x : X) → key (f x) ≡ key x) → (k : K) (r : X) (ys : List X) → T (is_rising R key ys) → row_of R key k ys ≡ Some r → put R key (f r) ys ≡ map (only R key f k) ys
+    pub put_only : (f : X → X) → ((x : X) → key (f x) ≡ key x) → (k : K) (r : X) (ys : List X) → T (is_rising R key ys) → row_of R key k ys ≡ Some r → put R key (f r) ys ≡ map (only R key f k) ys
     put_only f keeps k r [] h e = absurd (some_none r (sym e))
     put_only f keeps k r (y ∷ ys) h e =
         elim (R k (key y)) as (λ q. R k (key y) ≡ q → cond (is_eq q) (Some y) (row_of R key k ys) ≡ Some r → put R key (f r) (y ∷ ys) ≡ cond (is_eq q) (f y) y ∷ map (only R key f k) ys) [
@@ -116,7 +116,7 @@ module _ {K X : Type 0} (R : K → K → Ordering) (key : X → K) where
     below_there k y [] ys h = less _ (first _ _ h)
     below_there k y (z ∷ xs) ys h = below_there k y xs ys (second _ _ h)
 
-    put_between : (x y : X) → key x ≡ key y → (xs ys : List X) → T (is_rising R key (xs ++ y ∷ ys)) → put R key x (xs ++ y ∷ ys) ≡ xs ++ x ∷ ys
+    pub put_between : (x y : X) → key x ≡ key y → (xs ys : List X) → T (is_rising R key (xs ++ y ∷ ys)) → put R key x (xs ++ y ∷ ys) ≡ xs ++ x ∷ ys
     put_between x y e [] ys h = ap (λ r. by_order r (x ∷ y ∷ ys) (x ∷ ys) (y ∷ put R key x ys)) (ap (λ k. R k (key y)) e ∙ tied_itself o (key y))
     put_between x y e (z ∷ xs) ys h =
         let past : R (key x) (key z) ≡ Greater = ap (λ k. R k (key z)) e ∙ o.antisymm (key y) (key z) ∙ ap ordering_reverse (below_there (key z) y xs ys (first _ _ h)) in
@@ -127,7 +127,7 @@ module _ {K X : Type 0} (R : K → K → Ordering) (key : X → K) where
     below_part f keeps k [] ys h = h
     below_part f keeps k (x ∷ xs) ys h = both _ _ (subst (λ q. T (is_lt (R k q))) (sym (keeps x)) (first _ _ h)) (below_part f keeps k xs ys (second _ _ h))
 
-    rising_part : (f : X → X) → ((x : X) → key (f x) ≡ key x) → (xs ys : List X) → T (is_rising R key (xs ++ ys)) → T (is_rising R key (map f xs ++ ys))
+    pub rising_part : (f : X → X) → ((x : X) → key (f x) ≡ key x) → (xs ys : List X) → T (is_rising R key (xs ++ ys)) → T (is_rising R key (map f xs ++ ys))
     rising_part f keeps [] ys h = h
     rising_part f keeps (x ∷ xs) ys h = both _ _
         (subst (λ q. T (is_below R key q (map f xs ++ ys))) (sym (keeps x)) (below_part f keeps (key x) xs ys (first _ _ h)))

@@ -3,7 +3,7 @@ ghost use Rattle.std.specs.Prelude.{◌≡◌, ◌∷◌, [], ◌+◌, ◌<◌, 
 ghost use Rattle.std.specs.List.{list_any};
 ghost use Rattle.fsm_tables.specs.Claims.{claim_of, claims, used, is_live};
 ghost use Rattle.fsm_tables.specs.LiveNames.{live_named};
-ghost use Rattle.fsm_tables.specs.Lookups.{lives_on, is_active_on};
+ghost use Rattle.fsm_tables.specs.Lookups.{lives_for, lives_on, is_active_on};
 ghost use Rattle.fsm_tables.specs.TableRows.{TablesFit};
 ghost use Rattle.cluster_model.specs.Words.{no_rows, same_alloc, job_of, node_of, eval_of, alloc_of};
 ghost use Rattle.cluster_model.specs.Effect.{with_next_count};
@@ -131,15 +131,26 @@ impl Cluster {
         self.tables.live_named(name)
     }
 
-    /// The live allocations on a node, in rising id.
-    pub(crate) fn live_on(&self, node: NodeId) -> Result<Sequence<Allocation>, NoMemory>
+    /// The live allocations of a job, in rising id. It takes time in the logarithm of the table,
+    /// and so much again for each of them. `NoMemory` where there is no memory for them.
+    pub fn live_of_job(&self, job: &JobName) -> Result<Sequence<Allocation>, NoMemory>
+        ensures { IfOk result (λ rows. rows ≡ filter (lives_for job.now) self.now.allocs) }
+    {
+        self.tables.live_of_job(job)
+    }
+
+    /// The live allocations on a node, in rising id. It takes time in the logarithm of the table,
+    /// and so much again for each of them. `NoMemory` where there is no memory for them.
+    pub fn live_on(&self, node: NodeId) -> Result<Sequence<Allocation>, NoMemory>
         ensures { IfOk result (λ rows. rows ≡ filter (lives_on node) self.now.allocs) }
     {
         self.tables.live_on(node)
     }
 
-    /// The allocations on a node that it has still to start, or runs, in rising id.
-    pub(crate) fn active_on(&self, node: NodeId) -> Result<Sequence<Allocation>, NoMemory>
+    /// The allocations on a node that are pending or running, in rising id. It takes time in the
+    /// logarithm of the table, and so much again for each of them. `NoMemory` where there is no
+    /// memory for them.
+    pub fn active_on(&self, node: NodeId) -> Result<Sequence<Allocation>, NoMemory>
         ensures { IfOk result (λ rows. rows ≡ filter (is_active_on node) self.now.allocs) }
     {
         self.tables.active_on(node)

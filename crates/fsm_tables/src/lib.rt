@@ -10,12 +10,16 @@ mod keys;
 mod laws;
 mod listing;
 mod name;
+mod shelf;
 mod table;
 mod tables;
+mod urgency;
 mod usage;
 
 pub use laws::tables_are_sets;
 pub use name::AllocName;
+pub use shelf::Shelf;
 pub use table::{Row, Table};
 pub use tables::Tables;
+pub use urgency::Urgency;
 pub use usage::{Usage, is_active, is_live};

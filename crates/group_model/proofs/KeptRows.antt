@@ -13,7 +13,7 @@ use Rattle.group_model.specs.Rows.{without}
 
 module _ {K B : Type 0} (R : K → K → Ordering) (key : B → K) where
   -- a row below all others goes to the front, and none of them goes with its key
-  put_front : (z : B) (zs : List B) → T (is_below R key (key z) zs) → put R key z zs ≡ z ∷ zs
+  pub put_front : (z : B) (zs : List B) → T (is_below R key (key z) zs) → put R key z zs ≡ z ∷ zs
   put_front z [] h = refl
   put_front z (y ∷ zs) h = ap (λ r. by_order r (z ∷ y ∷ zs) (z ∷ zs) (y ∷ put R key z zs)) (less _ (first _ _ h))
 
@@ -44,7 +44,7 @@ module _ {K A B : Type 0} (R : K → K → Ordering) (ka : A → K) (kb : B → 
   rising_back (x ∷ xs) h = both _ _ (below_back (ka x) xs (subst (λ q. T (is_below R kb q (map make xs))) (same x) (first _ _ h))) (rising_back xs (second _ _ h))
 
   module _ (keep : A → Bool) where
-    below_kept : (k : K) (xs : List A) → T (is_below R ka k xs) → T (is_below R kb k (map make (filter keep xs)))
+    pub below_kept : (k : K) (xs : List A) → T (is_below R ka k xs) → T (is_below R kb k (map make (filter keep xs)))
     below_kept k [] h = tt
     below_kept k (x ∷ xs) h = elim (keep x) as (λ b. T (is_below R kb k (map make (cond b (x ∷ filter keep xs) (filter keep xs))))) [
       | true ↦ both _ _ (subst (λ q. T (is_lt (R k q))) (sym (same x)) (first _ _ h)) (below_kept k xs (second _ _ h))

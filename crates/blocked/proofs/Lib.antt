@@ -1,0 +1,4 @@
+pub mod RowByRow
+pub mod Ordered
+pub mod Anew
+pub mod OfState

@@ -1,0 +1,9 @@
+use Rattle.std.proofs.Common.{◌≡◌, ◌++◌, map, filter, drop}
+use Rattle.group_model.specs.Blocked.{is_due_by}
+use Rattle.blocked.specs.Rooms.{room_in}
+use Rattle.blocked.specs.Inner.Urgencies.{urgency_of}
+use Rattle.blocked.proofs.due.due_now.Given as goal
+
+abbrev pub invariant-loop-held : goal.invariant-loop-held
+invariant-loop-held l =
+    l.urgencies ++ map urgency_of (filter (is_due_by (room_in l.rooms)) (drop l.held-index l.evals)) ≡ map urgency_of (filter (is_due_by (room_in l.rooms)) l.evals)

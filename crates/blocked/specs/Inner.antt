@@ -1,0 +1,2 @@
+pub mod Urgencies
+pub mod Anew

@@ -1,0 +1,12 @@
+-- Evaluations of a job, put anew.
+use Rattle.std.specs.Prelude.{ℕ, Bool, bytes_eq, List, [], ◌∷◌}
+use Rattle.rows.specs.declared.evaluation.Evaluation.{Evaluation}
+use Rattle.group_model.specs.Blocked.{BlockedEval, BlockedEvals, with_blocked}
+
+abbrev pub is_of : List ℕ → BlockedEval → Bool
+is_of job b = bytes_eq b.row.job job
+
+-- one after the other, all with these classes
+abbrev pub with_all : List (List ℕ) → List Evaluation → BlockedEvals → BlockedEvals
+with_all classes [] b = b
+with_all classes (e ∷ evals) b = with_all classes evals (with_blocked e classes b)

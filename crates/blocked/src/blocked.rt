@@ -1,0 +1,140 @@
+ghost use Rattle.std.specs.Prelude.{◌≡◌, [], OnOk, OnErr, IfOk, filter, map};
+ghost use Rattle.group_model.specs.Order.{in_order as all_in_order};
+ghost use Rattle.group_model.specs.Blocked.{BlockedEval as AnyBlockedEval, blocked_id, due as all_due, made_due};
+ghost use Rattle.group_model.specs.Blocked.{with_blocked, without_blocked, with_room, blocked_over, blocked_with_job};
+ghost use Rattle.blocked.specs.Rooms.{blocked_of};
+ghost use Rattle.blocked.specs.Inner.Anew.{is_of};
+
+use crate::due::{due_now, due_then};
+use crate::held::BlockedEval;
+use crate::order::in_order;
+use crate::rebuild::{classes_of, evals_of, rooms_of};
+use crate::rooms::Rooms;
+use fsm_state::Cluster;
+use fsm_tables::Shelf;
+use rows::{ClassName, EvalId, Evaluation, Index, Job, JobName, NoMemory, Sequence};
+use std::alloc::Global;
+use std::marker::Model;
+
+/// The blocked evaluations with the classes that their jobs ask for, and for each class the
+/// greatest index at which a node of it got room. An evaluation is due where a node of a class that
+/// its job asks for got room past the evaluation's snapshot; else it waits. Contracts see the
+/// evaluations in rising id and the rooms in rising class, and speak of what these are. (Nomad
+/// documentation, "Scheduling in Nomad": blocked evaluations.)
+#[derive(Drop)]
+pub struct Blocked {
+    evals: Shelf<BlockedEval>,
+    rooms: Rooms,
+}
+
+impl Model for Blocked {
+    ghost use Rattle.blocked.specs.Rooms.{BlockedRows};
+
+    ghost Value = { BlockedRows };
+
+    ghost view = { λ b. record { evals = b.evals.rows; rooms = b.rooms } };
+}
+
+impl Blocked {
+    /// No evaluations, and no room. It takes no memory.
+    pub fn new(alloc: Global) -> Blocked
+        ensures { result ≡ record { evals = []; rooms = [] } }
+    {
+        Blocked {
+            evals: Shelf::empty(alloc),
+            rooms: Rooms::none(alloc),
+        }
+    }
+
+    /// The blocked evaluations of a state, and the room of its nodes.
+    pub fn rebuild(alloc: Global, state: &Cluster) -> Result<Blocked, NoMemory>
+        ensures { IfOk result (λ b. blocked_of b ≡ blocked_over state.now) }
+    {
+        let evals = evals_of(alloc, state)?;
+        let rooms = rooms_of(alloc, state.node_table())?;
+        Ok(Blocked { evals, rooms })
+    }
+
+    /// An evaluation is blocked, at a job that asks for these classes; it takes the place of one of
+    /// its id. It is due at once where a node of one of them got room past its snapshot. Without
+    /// memory nothing changes.
+    pub fn put(&mut self, row: Evaluation, classes: Sequence<ClassName>) -> Result<(), NoMemory>
+        ensures ok { OnOk result
+            (blocked_of self.new ≡ with_blocked row classes (blocked_of self.old)) }
+        ensures err { OnErr result (self.new ≡ self.old) }
+    {
+        let count = self.evals.rows().len() + 1;
+        self.evals.make_room(count)?;
+        self.evals.put(BlockedEval { row, classes });
+        Ok(())
+    }
+
+    /// A job's row was made or replaced: its blocked evaluations are put anew, with the classes
+    /// that its groups ask for. Without memory some may be, so that the value is only to be dropped.
+    pub fn put_job(&mut self, alloc: Global, job: &Job) -> Result<(), NoMemory>
+        ensures { OnOk result
+            (blocked_of self.new ≡ blocked_with_job job.now (blocked_of self.old)) }
+    {
+        let rows = rows_of_job(alloc, self.evals.rows(), &job.name)?;
+        for row in rows.as_slice() {
+            let classes = classes_of(alloc, job)?;
+            self.put(*row, classes)?;
+        }
+        Ok(())
+    }
+
+    /// An evaluation is blocked no more, if it was. It takes no memory.
+    pub fn take(&mut self, id: EvalId)
+        ensures { blocked_of self.new ≡ without_blocked id (blocked_of self.old) }
+    {
+        self.evals.cut(&id);
+    }
+
+    /// A node of the class got room at this index: the ids of just those evaluations that this
+    /// makes due, higher priority first and then lower id. Without memory nothing changes.
+    pub fn room(
+        &mut self,
+        alloc: Global,
+        class: &ClassName,
+        index: Index,
+    ) -> Result<Sequence<EvalId>, NoMemory>
+        ensures ids { let made = made_due class.now index (blocked_of self.old) in
+            IfOk result (λ ids. ids ≡ map blocked_id made) }
+        ensures ok { OnOk result
+            (blocked_of self.new ≡ with_room class.now index (blocked_of self.old)) }
+        ensures err { OnErr result (self.new ≡ self.old) }
+    {
+        let urgencies = due_then(alloc, &self.rooms, class, index, self.evals.rows())?;
+        let ids = in_order(alloc, urgencies.as_slice())?;
+        self.rooms.note(class, index)?;
+        Ok(ids)
+    }
+
+    /// The ids of the evaluations that are due, higher priority first and then lower id.
+    pub fn due(&self, alloc: Global) -> Result<Sequence<EvalId>, NoMemory>
+        ensures { let priority = λ (b : AnyBlockedEval). b.row.priority in
+            let due = all_in_order priority (all_due (blocked_of self.now)) in
+            IfOk result (λ ids. ids ≡ map blocked_id due) }
+    {
+        let urgencies = due_now(alloc, &self.rooms, self.evals.rows())?;
+        let ids = in_order(alloc, urgencies.as_slice())?;
+        Ok(ids)
+    }
+}
+
+/// The rows of those that are of a job, in rising id.
+fn rows_of_job(
+    alloc: Global,
+    evals: &[BlockedEval],
+    job: &JobName,
+) -> Result<Sequence<Evaluation>, NoMemory>
+    ensures { IfOk result (λ rows. rows ≡ map (λ b. b.row) (filter (is_of job.now) evals.now)) }
+{
+    let mut rows = Sequence::new(alloc);
+    for held in evals {
+        if held.row.job == *job {
+            rows.push(held.row)?;
+        }
+    }
+    Ok(rows)
+}

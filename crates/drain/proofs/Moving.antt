@@ -1,0 +1,139 @@
+-- The moves without force, one after the other.
+use Rattle.std.proofs.Common.{◌≡◌, ℕ, zero, suc, ◌-◌, ◌+◌, ◌<◌, Bool, true, false, not, cond, ◌&&◌, ◌||◌, List, [], ◌∷◌, ◌++◌, length, get_or, map, filter, take, drop, bytes_eq, T, refl, sym, ap, subst, ◌∙◌, arith}
+use Rattle.std.specs.List.{list_any}
+use Rattle.std.proofs.lemmas.List.{append_assoc, append-nil, length_push, at_drop_more}
+use Rattle.std.proofs.lemmas.Map.Text.{is_eq-slice_cmp}
+use Rattle.std.specs.Cmp.Lexicographic.{nat_list_cmp_total}
+use Rattle.std.specs.declared.cmp.Ordering.TheVariants.{Equal}
+use Rattle.std.specs.Ordering.{is_eq}
+use Rattle.rows.specs.Keys.{name_cmp}
+use Rattle.fsm_tables.specs.RowLaws.{equal}
+use Rattle.rows.specs.declared.allocation.AllocId.{AllocId}
+use Rattle.rows.specs.declared.allocation.Allocation.{Allocation}
+use Rattle.rows.specs.declared.node.DrainMode.TheVariants as drains
+use Rattle.fsm_tables.specs.Rows.{put}
+use Rattle.fsm_tables.specs.Claims.{is_live}
+use Rattle.fsm_tables.specs.Lookups.{lives_for, lives_on}
+use Rattle.cluster_model.specs.Words.{State}
+use Rattle.cluster_model.proofs.Keys.{names_turn}
+use Rattle.cluster_model.proofs.Lists.{anys_same, filter_both}
+use Rattle.group_model.specs.Drains.{same_group, group_moves, firsts, movers}
+use Rattle.drain.specs.declared.group.JobGroup.{JobGroup}
+use Rattle.drain.specs.Inner.Groups.{group_of, job_group_cmp, itself, is_met, firsts_but, stays}
+use Rattle.drain.proofs.Groups.{any_both, met_more, firsts_are, firsts_kept}
+
+-- ---- a group that is on the move
+
+-- told by the live ones of the job
+regrouped : (live job group mark : Bool) → (live && job && (mark && group)) ≡ (job && group && (live && mark))
+regrouped true true true mark = elim mark as (λ b. (b && true) ≡ b) [ true ↦ refl | false ↦ refl ]
+regrouped true true false mark = elim mark as (λ b. (b && false) ≡ false) [ true ↦ refl | false ↦ refl ]
+regrouped true false group mark = refl
+regrouped false true true mark = refl
+regrouped false true false mark = refl
+regrouped false false group mark = refl
+
+pub moves_by_job : (a : Allocation) (rows : List Allocation) → list_any (λ (b : Allocation). b.migrate && bytes_eq b.group a.group) (filter (lives_for a.job) rows) ≡ group_moves rows a
+moves_by_job a rows =
+    any_both (lives_for a.job) (λ (b : Allocation). b.migrate && bytes_eq b.group a.group) rows
+    ∙ anys_same _ (λ b. same_group a b && (is_live b && b.migrate)) (λ b.
+    regrouped (is_live b) (bytes_eq b.job a.job) (bytes_eq b.group a.group) b.migrate
+    ∙ (λ i. names_turn b.job a.job i && names_turn b.group a.group i && (is_live b && b.migrate))) rows
+
+-- it is the same for all of the group
+same_name : (xs ys zs : List ℕ) → bytes_eq xs ys ≡ true → bytes_eq ys zs ≡ bytes_eq xs zs
+same_name xs ys zs e =
+    let tie : name_cmp xs ys ≡ Equal = equal _ (subst T (sym (is_eq-slice_cmp xs ys ∙ e)) tt) in
+    sym (is_eq-slice_cmp ys zs) ∙ ap is_eq (sym (nat_list_cmp_total.congr xs ys zs tie)) ∙ is_eq-slice_cmp xs zs
+
+one_of : (p q : Bool) → (p && q) ≡ true → p ≡ true
+one_of true q e = refl
+one_of false q e = absurd cc
+
+other_of : (p q : Bool) → (p && q) ≡ true → q ≡ true
+other_of true q e = e
+other_of false q e = absurd cc
+
+alike_groups : (a b c : Allocation) → same_group a b ≡ true → same_group b c ≡ same_group a c
+alike_groups a b c e =
+    let job = same_name a.job b.job c.job (one_of (bytes_eq a.job b.job) (bytes_eq a.group b.group) e) in
+    let group = same_name a.group b.group c.group (other_of (bytes_eq a.job b.job) (bytes_eq a.group b.group) e) in
+    λ i. job i && group i
+
+alike_moves : (s : State) (a b : Allocation) → same_group a b ≡ true → stays s b ≡ stays s a
+alike_moves s a b e = ap not (anys_same _ _ (λ c. ap (λ t. t && (is_live c && c.migrate)) (alike_groups a b c e)) s.allocs)
+
+-- ---- the moves
+
+pub one_by_one_is : (n : ℕ) (s : State) → filter (stays s) (firsts [] (filter (lives_on n) s.allocs)) ≡ movers drains.Slow n s.allocs
+one_by_one_is n s = sym (firsts_kept (stays s) (alike_moves s) (filter (lives_on n) s.allocs) []) ∙ ap (firsts []) (filter_both (lives_on n) (stays s) s.allocs)
+
+pub forced_is : (n : ℕ) (s : State) → filter (λ (a : Allocation). not a.migrate) (filter (lives_on n) s.allocs) ≡ movers drains.Force n s.allocs
+forced_is n s = filter_both (lives_on n) (λ (a : Allocation). not a.migrate) s.allocs
+
+-- ---- one row after the other
+
+-- what is left of the rows begins with the next one
+pub at_row : {Y : Type 0} (F : List Allocation → Y) (rows : List Allocation) (i : ℕ) (a : Allocation) → i < length rows → a ≡ get_or rows i a → F (drop i rows) ≡ F (a ∷ drop (i + 1) rows)
+at_row F rows i a lt e = at_drop_more F rows i a lt ∙ ap (λ x. F (x ∷ drop (i + 1) rows)) (sym e)
+
+-- the ids of those that stay among the first ones of groups that were not met
+abbrev pub ids_left : State → List JobGroup → List Allocation → List AllocId
+ids_left s groups rows = map (λ (a : Allocation). a.id) (filter (stays s) (firsts_but (is_met groups) rows))
+
+pub none_met : (s : State) (rows : List Allocation) → ids_left s [] rows ≡ map (λ (a : Allocation). a.id) (filter (stays s) (firsts [] rows))
+none_met s rows = ap (λ zs. map (λ (a : Allocation). a.id) (filter (stays s) zs)) (sym (firsts_are [] rows))
+
+-- of a group that was met
+pub met_row : (s : State) (groups : List JobGroup) (a : Allocation) (rows : List Allocation) → is_met groups a ≡ true → ids_left s groups (a ∷ rows) ≡ ids_left s groups rows
+met_row s groups a rows e =
+    ap (λ b. map (λ (x : Allocation). x.id) (filter (stays s) (cond b (firsts_but (is_met groups) rows) (a ∷ firsts_but (λ x. same_group x a || is_met groups x) rows)))) e
+
+abbrev and_met : List JobGroup → Allocation → List JobGroup
+and_met groups a = put job_group_cmp itself (group_of a) groups
+
+new_row : (s : State) (groups : List JobGroup) (a : Allocation) (rows : List Allocation) → is_met groups a ≡ false →
+    ids_left s groups (a ∷ rows) ≡ map (λ (x : Allocation). x.id) (filter (stays s) (a ∷ firsts_but (is_met (and_met groups a)) rows))
+new_row s groups a rows e =
+    ap (λ b. map (λ (x : Allocation). x.id) (filter (stays s) (cond b (firsts_but (is_met groups) rows) (a ∷ firsts_but (λ x. same_group x a || is_met groups x) rows)))) e
+    ∙ (λ i. map (λ (x : Allocation). x.id) (filter (stays s) (a ∷ firsts_but (λ x. sym (met_more a x groups) i) rows)))
+
+pub moving_row : (s : State) (groups : List JobGroup) (a : Allocation) (rows : List Allocation) → is_met groups a ≡ false → group_moves s.allocs a ≡ true →
+    ids_left s groups (a ∷ rows) ≡ ids_left s (and_met groups a) rows
+moving_row s groups a rows e m =
+    let rest = filter (stays s) (firsts_but (is_met (and_met groups a)) rows) in
+    new_row s groups a rows e ∙ ap (λ b. map (λ (x : Allocation). x.id) (cond (not b) (a ∷ rest) rest)) m
+
+pub staying_row : (s : State) (groups : List JobGroup) (a : Allocation) (rows : List Allocation) → is_met groups a ≡ false → group_moves s.allocs a ≡ false →
+    ids_left s groups (a ∷ rows) ≡ a.id ∷ ids_left s (and_met groups a) rows
+staying_row s groups a rows e m =
+    let rest = filter (stays s) (firsts_but (is_met (and_met groups a)) rows) in
+    new_row s groups a rows e ∙ ap (λ b. map (λ (x : Allocation). x.id) (cond (not b) (a ∷ rest) rest)) m
+
+-- ---- those that are not on the move
+
+abbrev pub resting : List Allocation → List AllocId
+resting rows = map (λ (a : Allocation). a.id) (filter (λ (a : Allocation). not a.migrate) rows)
+
+pub resting_row : (a : Allocation) (rows : List Allocation) → a.migrate ≡ false → resting (a ∷ rows) ≡ a.id ∷ resting rows
+resting_row a rows e = ap (λ b. map (λ (x : Allocation). x.id) (cond (not b) (a ∷ filter (λ (x : Allocation). not x.migrate) rows) (filter (λ (x : Allocation). not x.migrate) rows))) e
+
+-- ---- at most 64
+
+pub one_taken : (ids : List AllocId) (id : AllocId) (rest : List AllocId) → length ids < 64 → ids ++ take (64 - length ids) (id ∷ rest) ≡ (ids ++ id ∷ []) ++ take (64 - length (ids ++ id ∷ [])) rest
+one_taken ids id rest lt =
+    let longer = length_push ids id in
+    let more : 64 - length ids ≡ suc (64 - length (ids ++ id ∷ [])) = omega (arith, longer) in
+    ap (λ n. ids ++ take n (id ∷ rest)) more ∙ sym (append_assoc ids (id ∷ []) (take (64 - length (ids ++ id ∷ [])) rest))
+
+pub all_taken : (ids rest : List AllocId) → length ids ≡ 64 → ids ++ take (64 - length ids) rest ≡ ids
+all_taken ids rest e =
+    let none : 64 - length ids ≡ 0 = omega arith in
+    ap (λ n. ids ++ take n rest) none ∙ append-nil ids
+
+take_none : (n : ℕ) → ◌≡◌ {A = List AllocId} (take n []) []
+take_none zero = refl
+take_none (suc n) = refl
+
+pub none_left : (ids : List AllocId) (n : ℕ) → ids ++ take n [] ≡ ids
+none_left ids n = ap (λ zs. ids ++ zs) (take_none n) ∙ append-nil ids

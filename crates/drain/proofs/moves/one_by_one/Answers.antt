@@ -1,0 +1,13 @@
+use Rattle.std.proofs.Common.{[], ap, map, take, ◌∙◌}
+use Rattle.rows.specs.declared.allocation.Allocation.{Allocation}
+use Rattle.group_model.specs.Drains.{firsts}
+use Rattle.drain.specs.Inner.Groups.{first_stays}
+use Rattle.drain.proofs.Moving.{one_by_one_is}
+use Rattle.drain.proofs.moves.one_by_one.Goals as goal
+
+pub returns : goal.returns
+returns c =
+    let s = c.args.state.now in
+    c.in_ok-ids.ensures
+    ∙ ap (λ rows. first_stays s (firsts [] rows)) (c.as_slice.ensures ∙ c.in_ok-rows.ensures)
+    ∙ ap (λ rows. take 64 (map (λ (a : Allocation). a.id) rows)) (one_by_one_is c.args.node s)

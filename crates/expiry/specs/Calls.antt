@@ -1,0 +1,32 @@
+-- Lists of calls, and which nodes are held after them.
+use Rattle.std.specs.Prelude.{ℕ, T, List, [], ◌∷◌}
+use Rattle.std.specs.Ordering.{nat_cmp}
+use Rattle.rows.specs.declared.node.Node.{Node}
+use Rattle.rows.specs.Keys.{node_number}
+use Rattle.rows.specs.Rising.{is_rising}
+use Rattle.fsm_tables.specs.Rows.{put}
+use Rattle.cluster_model.specs.Words.{State}
+use Rattle.group_model.specs.Expiry.{BeatCount, HoldsReady, beat_counts_over, beat_counts_with, with_beat}
+
+-- a call that changes counts: they are rebuilt over a state, whose nodes are in order; a node's row
+-- was made or replaced; a node was heard of
+pub data Call : Type 0 where
+  Rebuild : (s : State) → T (is_rising nat_cmp node_number s.nodes) → Call
+  Changed : (row : Node) → Call
+  Beat : (node : ℕ) → Call
+
+-- the nodes of the state by then
+abbrev pub nodes_after : Call → List Node → List Node
+nodes_after (Rebuild s rising) nodes = s.nodes
+nodes_after (Changed row) nodes = put nat_cmp node_number row nodes
+nodes_after (Beat node) nodes = nodes
+
+abbrev pub counts_after : Call → List BeatCount → List BeatCount
+counts_after (Rebuild s rising) counts = beat_counts_over s.nodes []
+counts_after (Changed row) counts = beat_counts_with row counts
+counts_after (Beat node) counts = with_beat node counts
+
+-- after these calls the ready ones of the nodes are held
+abbrev pub HoldsAfter : List Node → List BeatCount → List Call → Type 0
+HoldsAfter nodes counts [] = HoldsReady nodes counts
+HoldsAfter nodes counts (c ∷ calls) = HoldsAfter (nodes_after c nodes) (counts_after c counts) calls

@@ -1,0 +1,56 @@
+-- Worked heartbeats: nodes 1 and 2 are ready, and node 1 is heard of once.
+use Rattle.std.specs.Prelude.{◌≡◌, ℕ, Some, None, Ok, Err, List, [], ◌∷◌}
+use Rattle.rows.specs.declared.refusal.Refusal.TheVariants as refusals
+use Rattle.rows.specs.declared.node.Node.{Node}
+use Rattle.rows.specs.declared.node.NodeStatus.TheVariants as statuses
+use Rattle.group_model.specs.Expiry.{BeatCount, beat_counts_over, beat_counts_with}
+use Rattle.group_model.specs.BeatCounts.{beat_heard, expiry_refusal}
+use Rattle.group_model.specs.Worked.Words.{node_row}
+
+abbrev pub down : ℕ → Node
+down n = record (node_row n) { status = statuses.Down }
+
+-- node 3 is down
+abbrev pub begin : List BeatCount
+begin = beat_counts_over (node_row 1 ∷ node_row 2 ∷ down 3 ∷ []) []
+
+abbrev pub count : ℕ → ℕ → BeatCount
+count node beats = record { node = node; beats = beats }
+
+abbrev pub BeginAtNone : Type 0
+BeginAtNone = begin ≡ count 1 0 ∷ count 2 0 ∷ []
+
+abbrev pub once : List BeatCount
+once = count 1 1 ∷ count 2 0 ∷ []
+
+abbrev pub HeardOnce : Type 0
+HeardOnce = beat_heard 1 begin ≡ Ok once
+
+-- one that is not held
+abbrev pub OtherNode : Type 0
+OtherNode = beat_heard 3 begin ≡ Err refusals.UnknownNode
+
+-- it was heard of since 0, and not since 1
+abbrev pub Stale : Type 0
+Stale = expiry_refusal 1 0 once ≡ Some refusals.StaleExpiry
+
+abbrev pub InTime : Type 0
+InTime = expiry_refusal 1 1 once ≡ None
+
+-- another row of a node that is held changes nothing
+abbrev pub StaysReady : Type 0
+StaysReady = beat_counts_with (record (node_row 1) { room = 9 }) once ≡ once
+
+abbrev pub gone : List BeatCount
+gone = beat_counts_with (down 1) once
+
+abbrev pub Gone : Type 0
+Gone = expiry_refusal 1 1 gone ≡ Some refusals.UnknownNode
+
+-- one that comes back begins anew
+abbrev pub BackAtNone : Type 0
+BackAtNone = beat_counts_with (node_row 1) gone ≡ begin
+
+-- the greatest number stays
+abbrev pub AtTheGreatest : Type 0
+AtTheGreatest = beat_heard 1 (count 1 1099511627775 ∷ []) ≡ Ok (count 1 1099511627775 ∷ [])

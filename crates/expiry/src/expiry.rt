@@ -1,0 +1,155 @@
+ghost use Rattle.std.specs.Prelude.{◌≡◌, [], Some, None, Ok, Err, OnOk, OnErr, IfOk, IfErr, option_map};
+ghost use Rattle.rows.specs.declared.refusal.Refusal.TheVariants as refusals;
+ghost use Rattle.cluster_model.specs.Words.{is_ready as stands_ready};
+ghost use Rattle.group_model.specs.Expiry.{beat_count_of, beat_counts_over, beat_counts_with};
+ghost use Rattle.group_model.specs.BeatCounts.{beat_heard, expiry_refusal};
+
+use crate::beat_count::BeatCount;
+use fsm_state::Cluster;
+use fsm_tables::{Shelf, Table};
+use rows::{Index, NoMemory, Node, NodeId, NodeStatus, Refusal};
+use std::alloc::Global;
+use std::marker::Model;
+
+/// That a node is not held, as the answer of a call that is refused for nothing else. `?` makes it
+/// `Refusal::UnknownNode` where the caller has other refusals too.
+#[derive(Clone, Copy, Debug, PartialEq, Eq)]
+pub struct UnknownNode;
+
+impl From<UnknownNode> for Refusal {
+    ghost from_gives = { λ _ e. e ≡ refusals.UnknownNode };
+
+    fn from(_e: UnknownNode) -> Refusal {
+        Refusal::UnknownNode
+    }
+}
+
+/// The ready nodes, each with the number of its heartbeats since the desk opened, or since the node
+/// came back. Contracts see the list of them in rising node. (Nomad documentation, "server" block
+/// of the agent configuration: heartbeats of clients; a count in place of a timer is this project's
+/// own.)
+#[derive(Drop)]
+pub struct Expiry {
+    counts: Shelf<BeatCount>,
+}
+
+impl Model for Expiry {
+    ghost use Rattle.std.specs.Prelude.{List};
+    ghost use Rattle.group_model.specs.Expiry.{BeatCount as AnyBeatCount};
+
+    ghost Value = { List AnyBeatCount };
+
+    ghost view = { λ e. e.counts.rows };
+}
+
+/// Whether a node is ready.
+fn is_ready(row: &Node) -> bool
+    ensures { result ≡ stands_ready row.now.status }
+{
+    match row.status {
+        NodeStatus::Ready => true,
+        NodeStatus::Down => false,
+    }
+}
+
+/// The ready ones of the nodes, none of which was heard of yet.
+fn counts_over(alloc: Global, nodes: &Table<Node>) -> Result<Shelf<BeatCount>, NoMemory>
+    ensures { IfOk result (λ counts. counts.rows ≡ beat_counts_over nodes.now []) }
+{
+    nodes.ranges();
+    let mut counts = Shelf::empty(alloc);
+    counts.make_room(nodes.len())?;
+    let mut at = nodes.len();
+    while at > 0 {
+        at -= 1;
+        let Some(row) = nodes.at(at) else {
+            unreachable!()
+        };
+        if is_ready(row) {
+            counts.put(BeatCount {
+                node: row.number,
+                beats: Index::ZERO,
+            });
+        }
+    }
+    Ok(counts)
+}
+
+impl Expiry {
+    /// No nodes. It takes no memory.
+    pub fn new(alloc: Global) -> Expiry
+        ensures { result ≡ [] }
+    {
+        Expiry {
+            counts: Shelf::empty(alloc),
+        }
+    }
+
+    /// The ready nodes of a state, none of which was heard of yet.
+    pub fn rebuild(alloc: Global, state: &Cluster) -> Result<Expiry, NoMemory>
+        ensures { IfOk result (λ e. e ≡ beat_counts_over state.now.nodes []) }
+    {
+        let counts = counts_over(alloc, state.node_table())?;
+        Ok(Expiry { counts })
+    }
+
+    /// How often a node was heard of, if it is held.
+    pub fn beats(&self, node: NodeId) -> Option<Index>
+        ensures { result ≡ option_map (λ c. c.beats) (beat_count_of node self.now) }
+    {
+        match self.counts.get(&node) {
+            Some(count) => Some(count.beats),
+            None => None,
+        }
+    }
+
+    /// A node's row was made or replaced: a ready node that is not held comes in with 0, one that
+    /// is held keeps its number, and one that is down goes. Without memory nothing changes.
+    pub fn changed(&mut self, row: &Node) -> Result<(), NoMemory>
+        ensures ok { OnOk result (self.new ≡ beat_counts_with row.now self.old) }
+        ensures err { OnErr result (self.new ≡ self.old) }
+    {
+        if !is_ready(row) {
+            self.counts.cut(&row.number);
+            return Ok(());
+        }
+        let beats = self.beats(row.number).unwrap_or(Index::ZERO);
+        let count = self.counts.rows().len() + 1;
+        self.counts.make_room(count)?;
+        self.counts.put(BeatCount {
+            node: row.number,
+            beats,
+        });
+        Ok(())
+    }
+
+    /// A node was heard of: its number rises by one, and stays at 2^40 - 1. Refused where it is not
+    /// held, which changes nothing. It takes no memory.
+    pub fn beat(&mut self, node: NodeId) -> Result<(), UnknownNode>
+        ensures ok { OnOk result (beat_heard node self.old ≡ Ok self.new) }
+        ensures err { OnErr result (beat_heard node self.old ≡ Err refusals.UnknownNode) }
+        ensures left { OnErr result (self.new ≡ self.old) }
+    {
+        let _in_order = self.counts.rows();
+        let Some(count) = self.counts.get(&node) else {
+            return Err(UnknownNode);
+        };
+        let next = count.one_more();
+        self.counts.put(next);
+        Ok(())
+    }
+
+    /// Whether a node may be said to be lost, which was heard of so often and not since.
+    /// `UnknownNode` where it is not held; `StaleExpiry` where its number is another. It takes no
+    /// memory.
+    pub fn expire(&self, node: NodeId, beats: Index) -> Result<(), Refusal>
+        ensures ok { OnOk result (expiry_refusal node beats self.now ≡ None) }
+        ensures err { IfErr result (λ e. expiry_refusal node beats self.now ≡ Some e) }
+    {
+        match self.beats(node) {
+            None => Err(Refusal::UnknownNode),
+            Some(heard) if heard != beats => Err(Refusal::StaleExpiry),
+            Some(_) => Ok(()),
+        }
+    }
+}

@@ -1,0 +1,18 @@
+//! Laws of the counts. The functions have empty bodies: what they say is their contracts.
+ghost use Rattle.std.specs.Prelude.{List, []};
+ghost use Rattle.group_model.specs.BeatCounts.{BeatsByCounts, ExpiresByCounts};
+ghost use Rattle.expiry.specs.Calls.{Call, HoldsAfter};
+
+/// After every list of calls the nodes that are held are the ready ones of the state by then, which
+/// are those that `rebuild` would give.
+pub fn ready_nodes_are_held()
+    ensures { (calls : List Call) → HoldsAfter [] [] calls }
+{}
+
+/// A heartbeat and an expiry at a desk are those of its counts, and change nothing else.
+/// - `beats`: of a heartbeat.
+/// - `expires`: of an expiry.
+pub fn desks_go_by_counts()
+    ensures beats { BeatsByCounts }
+    ensures expires { ExpiresByCounts }
+{}

@@ -1,0 +1,117 @@
+//! Rows by key with room made beforehand, so that a later put takes no memory.
+ghost use Rattle.std.specs.Prelude.{◌≡◌, ◌≤◌, [], OnOk, option_map, length, T as Holds, ◌||◌, nat_lt};
+ghost use Rattle.rows.specs.Rising.{is_rising};
+ghost use Rattle.fsm_tables.specs.Rows.{row_of, has_row, put as with_row, PlaceOf};
+ghost use Rattle.fsm_tables.specs.Shelves.{without as without_row};
+
+use crate::table::Row;
+use rows::NoMemory;
+use std::alloc::Global;
+use std::marker::Model;
+
+/// Rows in strictly rising key, with room for more that is made beforehand. Contracts see the rows
+/// and for how many there is room. What `make_room` made room for, `put` and `cut` keep and take no
+/// memory.
+pub struct Shelf<T: Row> {
+    rows: Vec<T>,
+}
+
+impl<T: Row> Model for Shelf<T> {
+    ghost use Rattle.std.specs.Prelude.{T as Holds, vec_capacity};
+    ghost use Rattle.rows.specs.Rising.{is_rising};
+    ghost use Rattle.fsm_tables.specs.Shelves.{Stock};
+
+    ghost Value = { Stock T };
+
+    ghost view = { λ a. record { rows = a.rows.items; room = vec_capacity a.rows } };
+
+    ghost invariant = { λ a. Holds (is_rising T.Key.cmp T.key_of a.rows.items) };
+}
+
+impl<T: Row> Drop for Shelf<T> {
+    fn drop(self) {
+        let Shelf { rows: _ } = self;
+    }
+}
+
+/// Where the row of a key stands, or where it would.
+fn place_in<T: Row>(rows: &[T], key: &T::Key) -> Result<usize, usize>
+    requires { Holds (is_rising T.Key.cmp T.key_of rows.now) }
+    ensures { PlaceOf T.Key.cmp T.key_of key.now rows.now result }
+{
+    rows.binary_search_by(|row| row.key().cmp(key))
+}
+
+impl<T: Row> Shelf<T> {
+    /// No rows. It takes no memory.
+    pub fn empty(alloc: Global) -> Shelf<T>
+        ensures { result.rows ≡ [] }
+    {
+        Shelf {
+            rows: Vec::new(alloc),
+        }
+    }
+
+    /// These rows, which are in strictly rising key. It takes no memory.
+    pub fn of_rising(rows: Vec<T>) -> Shelf<T>
+        requires { Holds (is_rising T.Key.cmp T.key_of rows.items) }
+        ensures { result.rows ≡ rows.items }
+    {
+        Shelf { rows }
+    }
+
+    /// The rows, in strictly rising key.
+    pub fn rows(&self) -> &[T]
+        ensures rows { result.now ≡ self.now.rows }
+        ensures rising { Holds (is_rising T.Key.cmp T.key_of self.now.rows) }
+    {
+        &self.rows
+    }
+
+    /// The row of a key, if there is one. It takes time in the logarithm of the rows.
+    pub fn get(&self, key: &T::Key) -> Option<&T>
+        ensures { option_map (λ row. row.now) result ≡ row_of T.Key.cmp T.key_of key.now self.now.rows }
+    {
+        match place_in(&self.rows, key) {
+            Ok(at) => Some(&self.rows[at]),
+            Err(_) => None,
+        }
+    }
+
+    /// Makes room for so many rows in all. Without memory no row changes, and no room goes.
+    pub fn make_room(&mut self, count: usize) -> Result<(), NoMemory>
+        ensures rows { self.new.rows ≡ self.old.rows }
+        ensures ok { OnOk result (count ≤ self.new.room) }
+        ensures room { self.old.room ≤ self.new.room }
+    {
+        self.rows.reserve(count.saturating_sub(self.rows.len()))?;
+        Ok(())
+    }
+
+    /// Makes or replaces the row of the key, and changes no other. There is room for it, so it takes
+    /// no memory.
+    pub fn put(&mut self, row: T)
+        requires { Holds (has_row T.Key.cmp T.key_of (T.key_of row) self.old.rows || nat_lt (length self.old.rows) self.old.room) }
+        ensures rows { self.new.rows ≡ with_row T.Key.cmp T.key_of row self.old.rows }
+        ensures room { self.old.room ≤ self.new.room }
+    {
+        match place_in(&self.rows, row.key()) {
+            Ok(at) => {
+                self.rows[at] = row;
+            }
+            Err(at) => {
+                let _ = self.rows.insert(at, row);
+            }
+        }
+    }
+
+    /// Takes out the row of the key, if there is one. It takes no memory, and its room stays.
+    pub fn cut(&mut self, key: &T::Key)
+        ensures rows { self.new.rows ≡ without_row T.Key.cmp T.key_of key.now self.old.rows }
+        ensures room { self.old.room ≤ self.new.room }
+    {
+        if let Ok(at) = place_in(&self.rows, key) {
+            let _ = self.rows.remove(at);
+        }
+    }
+}

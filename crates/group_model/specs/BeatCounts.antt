@@ -1,0 +1,46 @@
+-- The counts of heartbeats by themselves: one heartbeat more, and whether a node may be said to be
+-- lost; and what a desk makes of that.
+use Rattle.std.specs.Prelude.{◌≡◌, ℕ, if◌then◌else◌, nat_eq, Option, Some, None, Result, Ok, Err, List}
+use Rattle.rows.specs.declared.refusal.Refusal.{Refusal}
+use Rattle.rows.specs.declared.refusal.Refusal.TheVariants as refusals
+use Rattle.rows.specs.declared.command.Command.TheVariants as commands
+use Rattle.group_model.specs.Expiry.{BeatCount, beat_count_of, with_beat}
+use Rattle.group_model.specs.Desks.{Desk}
+use Rattle.group_model.specs.Inputs.{Act, AskPropose, asks}
+use Rattle.group_model.specs.Messages.{OfHeartbeat}
+use Rattle.group_model.specs.ClientRequests.{answers, beats_at}
+use Rattle.group_model.specs.Turns.{expire}
+
+-- one heartbeat more of a node that is held
+abbrev pub beat_heard_of : ℕ → List BeatCount → Option BeatCount → Result (List BeatCount) Refusal
+beat_heard_of n counts None = Err refusals.UnknownNode
+beat_heard_of n counts (Some c) = Ok (with_beat n counts)
+
+abbrev pub beat_heard : ℕ → List BeatCount → Result (List BeatCount) Refusal
+beat_heard n counts = beat_heard_of n counts (beat_count_of n counts)
+
+-- why a node may not go down for want of heartbeats since this one, if it may not
+abbrev pub expiry_refusal_of : ℕ → Option BeatCount → Option Refusal
+expiry_refusal_of beats None = Some refusals.UnknownNode
+expiry_refusal_of beats (Some c) = if nat_eq c.beats beats then None else Some refusals.StaleExpiry
+
+abbrev pub expiry_refusal : ℕ → ℕ → List BeatCount → Option Refusal
+expiry_refusal n beats counts = expiry_refusal_of beats (beat_count_of n counts)
+
+-- ---- what a desk makes of that
+
+abbrev pub answers_beat : ℕ → ℕ → Desk → Result (List BeatCount) Refusal → Act
+answers_beat me c d (Ok counts) = answers me c OfHeartbeat None (Some (record d { beat_counts = counts }))
+answers_beat me c d (Err r) = answers me c OfHeartbeat (Some r) (Some d)
+
+-- a heartbeat at an open desk is one of its counts
+abbrev pub BeatsByCounts : Type 0
+BeatsByCounts = (me c : ℕ) (d : Desk) → beats_at me c d (beat_count_of c d.beat_counts) ≡ answers_beat me c d (beat_heard c d.beat_counts)
+
+abbrev pub expires_unless : Desk → ℕ → Option Refusal → Result Act Refusal
+expires_unless d n None = Ok (asks (AskPropose (commands.NodeDown n)) (Some d))
+expires_unless d n (Some r) = Err r
+
+-- an expiry at a desk is one of its counts
+abbrev pub ExpiresByCounts : Type 0
+ExpiresByCounts = (d : Desk) (n beats : ℕ) → expire d n beats ≡ expires_unless d n (expiry_refusal n beats d.beat_counts)
