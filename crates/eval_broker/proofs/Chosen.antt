@@ -1,5 +1,5 @@
 -- The first of the heads is the task that goes next.
-use Rattle.std.proofs.Common.{◌≡◌, ℕ, Bool, true, false, cond, not, ◌&&◌, T, List, [], ◌∷◌, Option, Some, None, is_some, refl, sym, ap, subst, ◌∙◌}
+use Rattle.std.proofs.Common.{◌≡◌, ℕ, ◌<◌, arith, Bool, true, false, cond, not, ◌&&◌, T, List, [], ◌∷◌, Option, Some, None, is_some, refl, sym, ap, subst, ◌∙◌}
 use Rattle.std.specs.Prelude.{filter, nat_lt, bytes_eq, ◌||◌}
 use Rattle.std.specs.List.{list_any, slice_get, AllByRecursion}
 use Rattle.std.proofs.lemmas.Map.Text.{is_eq-slice_cmp}
@@ -28,7 +28,7 @@ use Rattle.eval_broker.specs.Answers.{urgency_of}
 use Rattle.eval_broker.specs.Inner.Lists.{place_cmp, turn_cmp, place_job, place_id, turn_id, place_of, is_any, is_spent, has, is_listed, IsListing, first_turn, turn_at, head_of, is_turn, AreHeads}
 use Rattle.eval_broker.proofs.Orders.{place_total, turn_total, then_first, then_second, is_equal, same_urgency, no, true_false, and_left, and_right, has_first, first_least}
 use Rattle.eval_broker.proofs.Heads.{found_there, head_job}
-use Rattle.eval_broker.proofs.First.{NoLater, found_later, first_is, none_passes}
+use Rattle.eval_broker.proofs.First.{NoLater, found_later, first_is, none_passes, first_passes}
 
 -- whether a task is out or acked, of this job
 abbrev is_busy : List ℕ → Task → Bool
@@ -52,7 +52,7 @@ same_place a b e =
 
 -- ---- tasks that pass
 
-any_of : (f : Task → Bool) (ts : List Task) → T (is_rising eval_cmp task_id ts) → list_any f ts ≡ true → (t : Task) × (task_of t.id ts ≡ Some t) × (f t ≡ true)
+pub any_of : (f : Task → Bool) (ts : List Task) → T (is_rising eval_cmp task_id ts) → list_any f ts ≡ true → (t : Task) × (task_of t.id ts ≡ Some t) × (f t ≡ true)
 any_of f [] rising h = absurd (cc)
 any_of f (y ∷ ts) rising h = by (f y) refl h (any_of f ts (second _ _ rising)) where
   by : (b : Bool) → f y ≡ b → list_any f (y ∷ ts) ≡ true → (list_any f ts ≡ true → (t : Task) × (task_of t.id ts ≡ Some t) × (f t ≡ true)) → (t : Task) × (task_of t.id (y ∷ ts) ≡ Some t) × (f t ≡ true)
@@ -61,7 +61,7 @@ any_of f (y ∷ ts) rising h = by (f y) refl h (any_of f ts (second _ _ rising))
       let one = rest (ap (λ (b : Bool). b || list_any f ts) (sym e) ∙ h) in
       (one.0, found_later one.0.id y ts one.0 (first _ _ rising) one.1, one.2)
 
-any_with : (f : Task → Bool) (ts : List Task) (t : Task) → task_of t.id ts ≡ Some t → f t ≡ true → list_any f ts ≡ true
+pub any_with : (f : Task → Bool) (ts : List Task) (t : Task) → task_of t.id ts ≡ Some t → f t ≡ true → list_any f ts ≡ true
 any_with f [] t found is = absurd (cc)
 any_with f (y ∷ ts) t found is = by (is_eq (eval_cmp t.id y.id)) found (λ later. any_with f ts t later is) where
   by : (b : Bool) → cond b (Some y) (task_of t.id ts) ≡ Some t → (task_of t.id ts ≡ Some t → list_any f ts ≡ true) → list_any f (y ∷ ts) ≡ true
@@ -232,3 +232,15 @@ module _ (ts : List Task) (ps : List Place) (hs : List Turn) (rising : T (is_ris
     go : (l : List Turn) → hs ≡ l → task_at_turn (slice_get l 0) ≡ next ts
     go [] e = sym (no_next e)
     go (h ∷ rest) e = sym (first_next h rest e)
+
+-- what goes next is there, and was given out less than three times
+pub next_there : (ts : List Task) (t : Task) → T (is_rising eval_cmp task_id ts) → next ts ≡ Some t → task_of t.id ts ≡ Some t
+next_there ts t rising e = (first_passes (λ x. task_of x.id ts ≡ Some x) (may_go ts) ts t (all_found eval_cmp task_id eval_cmp_total ts rising) e).0
+
+pub next_few : (ts : List Task) (t : Task) → T (is_rising eval_cmp task_id ts) → next ts ≡ Some t → t.deliveries < MOST
+next_few ts t rising e =
+    let may = (first_passes (λ x. task_of x.id ts ≡ Some x) (may_go ts) ts t (all_found eval_cmp task_id eval_cmp_total ts rising) e).1 in
+    below t.deliveries (and_right (is_free t.mark) _ (and_left (is_free t.mark && nat_lt t.deliveries MOST) _ may))
+  where
+    below : (n : ℕ) → nat_lt n 3 ≡ true → n < 3
+    below n e = grind arith

@@ -133,3 +133,19 @@ none_passes passes ts all = ap (first_by priority) (empty ts all) where
     by : (b : Bool) → passes y ≡ b → filter passes ts ≡ [] → cond b (y ∷ filter passes ts) (filter passes ts) ≡ []
     by true e rest = absurd (all.0 e)
     by false e rest = rest
+
+-- ---- what is first passes
+
+module _ (P : Task → Type 0) (passes : Task → Bool) where
+  kept_all : (ts : List Task) → AllByRecursion P ts → AllByRecursion (λ t. P t × (passes t ≡ true)) (filter passes ts)
+  kept_all [] all = tt
+  kept_all (t ∷ ts) all = by (passes t) refl (kept_all ts all.1) where
+    by : (b : Bool) → passes t ≡ b → AllByRecursion (λ t. P t × (passes t ≡ true)) (filter passes ts) → AllByRecursion (λ t. P t × (passes t ≡ true)) (cond b (t ∷ filter passes ts) (filter passes ts))
+    by true e rest = ((all.0, e), rest)
+    by false e rest = rest
+
+  pub first_passes : (ts : List Task) (t : Task) → AllByRecursion P ts → first_by priority (filter passes ts) ≡ Some t → P t × (passes t ≡ true)
+  first_passes ts t all e = by (pick priority (filter passes ts)) (picked_all (λ t. P t × (passes t ≡ true)) (filter passes ts) (kept_all ts all)) e where
+    by : (o : Option (Picked Task)) → ((k : Picked Task) → o ≡ Some k → P k.one × (passes k.one ≡ true)) → picked_one priority o ≡ Some t → P t × (passes t ≡ true)
+    by None all e = absurd (cc)
+    by (Some k) all e = subst (λ (x : Task). P x × (passes x ≡ true)) (some_same _ _ e) (all k refl)

@@ -8,3 +8,4 @@ pub mod Chosen
 pub mod Stored
 pub mod Following
 pub mod FailedOrder
+pub mod Made

@@ -21,6 +21,9 @@ use Rattle.eval_broker.proofs.Orders.{same_id, is_equal, no, true_false, none_so
 pub own_id : (id : EvalId) (ts : List Task) (t : Task) → task_of id ts ≡ Some t → id ≡ t.id
 own_id id ts t e = same_id id t.id (found_tied eval_cmp task_id eval_cmp_total id ts t e)
 
+pub found_own : (id : EvalId) (ts : List Task) (t : Task) → task_of id ts ≡ Some t → task_of t.id ts ≡ Some t
+found_own id ts t e = ap (λ k. task_of k ts) (sym (own_id id ts t e)) ∙ e
+
 module _ {X : Type 0} (R : X → X → Ordering) (o : IsTotalOrder R) (id_of : X → EvalId) (make : Task → X) (passes : Task → Bool) where
   module _ (ties : (a b : X) → R a b ≡ Equal → id_of a ≡ id_of b) (made : (t : Task) → id_of (make t) ≡ t.id) where
     -- what is made of a task ties with what has its id alone

@@ -1,6 +1,6 @@
 -- Tasks put and taken out, and one of them changed in place.
 use Rattle.std.proofs.Common.{◌≡◌, ℕ, ◌+◌, ◌≤◌, Bool, true, false, cond, ◌&&◌, T, List, [], ◌∷◌, map, length, Option, Some, None, is_some, refl, sym, ap, subst, ◌∙◌, arith}
-use Rattle.std.specs.Prelude.{nat_eq}
+use Rattle.std.specs.Prelude.{nat_eq, nat_lt, ◌||◌, suc}
 use Rattle.std.specs.declared.cmp.Ordering.{Ordering}
 use Rattle.std.specs.declared.cmp.Ordering.TheVariants.{Less, Equal, Greater}
 use Rattle.std.specs.Ordering.{nat_cmp, is_eq, ordering_then, ordering_reverse}
@@ -14,10 +14,10 @@ use Rattle.fsm_tables.specs.SetLaws.{same_rows}
 use Rattle.fsm_tables.specs.Shelves.{without}
 use Rattle.fsm_tables.proofs.Shelves.{rising_without, row_of-without, found_tied}
 use Rattle.cluster_model.specs.Words.{same_eval}
-use Rattle.group_model.specs.Brokers.{Task, task_id, task_of, with_task}
+use Rattle.raft_model.specs.Logs.{MAX}
+use Rattle.group_model.specs.Brokers.{Broker, Task, Gives, UsedUp, task_id, task_of, with_task, goes_out, next_token, next, delivery, given, gives, deliver}
 use Rattle.eval_broker.specs.declared.lists.Lists.{Lists}
-use Rattle.eval_broker.specs.declared.tasks.Tasks.{Tasks}
-use Rattle.eval_broker.specs.Inner.Lists.{HaveRoom, KeepRoom, HasRoom, AreKept}
+use Rattle.eval_broker.specs.Inner.Lists.{HaveRoom, KeepRoom}
 use Rattle.eval_broker.proofs.Orders.{is_equal, none_some}
 
 -- what is put goes with its id
@@ -104,3 +104,50 @@ module _ (f : Task → Task) (keeps : (t : Task) → task_id (f t) ≡ t.id) whe
     by Greater e found rest =
         (λ i. cond ((same_ids y.id id ∙ ap is_eq e) i) (f y) y ∷ rest found i)
         ∙ sym (ap (λ r. by_order r (f t ∷ y ∷ ts) (f t ∷ ts) (y ∷ put eval_cmp task_id (f t) ts)) (order Greater e (found_tied eval_cmp task_id eval_cmp_total id ts t found)))
+
+-- ---- a task that is there, changed
+
+module _ (ts : List Task) (t new : Task) (rising : T (is_rising eval_cmp task_id ts)) (found : task_of t.id ts ≡ Some t) (same : new.id ≡ t.id) where
+  there : task_of new.id ts ≡ Some t
+  there = ap (λ k. task_of k ts) same ∙ found
+
+  pub has_place : (room : ℕ) → T (has_row eval_cmp task_id new.id ts || nat_lt (length ts) room)
+  has_place room = subst (λ (m : Option Task). T (is_some m || nat_lt (length ts) room)) (sym there) tt
+
+  pub has_room : (l : Lists) → HaveRoom (length ts) l → HaveRoom (length (put eval_cmp task_id new ts)) l
+  has_room l room = subst (λ (n : ℕ). HaveRoom n l) (sym (as_many new ts t rising there)) room
+
+-- one that comes in
+pub new_place : (new : Task) (ts : List Task) (room : ℕ) → length ts + 1 ≤ room → T (has_row eval_cmp task_id new.id ts || nat_lt (length ts) room)
+new_place new ts room le = either (has_row eval_cmp task_id new.id ts) (nat_lt (length ts) room) (below (length ts) room le) where
+  either : (a b : Bool) → T b → T (a || b)
+  either true b h = tt
+  either false b h = h
+
+  below : (n m : ℕ) → n + 1 ≤ m → T (nat_lt n m)
+  below n m le = grind arith
+
+pub new_room : (new : Task) (ts : List Task) (l : Lists) → T (is_rising eval_cmp task_id ts) → HaveRoom (length ts + 1) l → HaveRoom (length (put eval_cmp task_id new ts)) l
+new_room new ts l rising room = room_kept (length ts + 1) (length (put eval_cmp task_id new ts)) l l l (one_more new ts rising) room (no_loss l) (no_loss l)
+
+module _ (ts us : List Task) (t new : Task) (rising : T (is_rising eval_cmp task_id ts)) (put_is : us ≡ put eval_cmp task_id new ts) where
+  -- the broker with the task of an id changed
+  pub in_place : (f : Task → Task) → ((x : Task) → task_id (f x) ≡ x.id) → (id : EvalId) (serial : ℕ) → task_of id ts ≡ Some t → new ≡ f t →
+      let changed : Broker = record { tasks = us; serial = serial } in changed ≡ record { tasks = with_task id f ts; serial = serial }
+  in_place f keeps id serial found is =
+      λ i. record { tasks = (put_is ∙ ap (λ x. put eval_cmp task_id x ts) is ∙ sym (one_changed f keeps id ts t rising found)) i; serial = serial }
+
+  -- and with the next one given out
+  pub given_out : (term wait serial s last : ℕ) (id : EvalId) → task_of t.id ts ≡ Some t → next ts ≡ Some t → nat_lt serial MAX ≡ true → s ≡ serial + 1 → last ≡ serial + 1 → id ≡ t.id
+      → new ≡ goes_out (record { term = term; serial = s }) wait t
+      → deliver term wait (record { tasks = ts; serial = serial }) ≡ Gives (record { eval = id; token = record { term = term; serial = s }; wait = wait }) (record { tasks = us; serial = last })
+  given_out term wait serial s last id found first left is_s is_last is_id is_new =
+      let old : Broker = record { tasks = ts; serial = serial } in
+      let one : suc serial ≡ s = omega (arith, is_s) in
+      let two : suc serial ≡ last = omega (arith, is_last) in
+      let token = next_token term old in
+      let same : new ≡ goes_out token wait t = is_new ∙ (λ i. goes_out (record { term = term; serial = sym one i }) wait t) in
+      ap (gives term wait old) first
+      ∙ ap (λ b. cond b (Gives (delivery term wait t old) (given term wait t old)) UsedUp) left
+      ∙ (λ i. Gives (record { eval = sym is_id i; token = record { term = term; serial = one i }; wait = wait })
+        (record { tasks = sym (put_is ∙ ap (λ x. put eval_cmp task_id x ts) same ∙ sym (one_changed (goes_out token wait) (λ x. refl) t.id ts t rising found)) i; serial = two i }))

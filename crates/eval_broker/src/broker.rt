@@ -1,5 +1,5 @@
 //! The broker.
-ghost use Rattle.std.specs.Prelude.{◌≡◌, suc, true, false, nat_lt, IfOk, IfErr, IfSome, IfNone, OnOk, OnErr, Ok, Err, is_ok};
+ghost use Rattle.std.specs.Prelude.{◌≡◌, ◌+◌, ◌<◌, ◌^◌, true, false, nat_lt, IfOk, IfErr, IfSome, IfNone, OnOk, OnErr, Ok, Err, is_ok};
 ghost use Rattle.raft_model.specs.Logs.{MAX};
 ghost use Rattle.group_model.specs.Brokers.{Nothing, UsedUp, Gives, no_tasks, task_of, broker_over, broker_with, deliver};
 ghost use Rattle.group_model.specs.Brokers.{outstanding as outstanding_by, acked, nacked};
@@ -34,15 +34,12 @@ impl Model for Broker {
     ghost invariant = { λ b. AreKept b.tasks };
 }
 
-/// The serial after the last one, as a serial and to be kept; none after 2^40 - 1.
-fn serial_after(last: Index) -> Option<(Serial, Index)>
-    ensures some { IfSome result (λ s. (s.0 ≡ suc last) × (s.1 ≡ suc last) × (nat_lt last MAX ≡ true)) }
+/// The serial after the last one; none after 2^40 - 1.
+fn serial_after(last: Index) -> Option<Serial>
+    ensures some { IfSome result (λ s. (s ≡ last + 1) × (last + 1 < 2 ^ 40) × (nat_lt last MAX ≡ true)) }
     ensures none { IfNone result (nat_lt last MAX ≡ false) }
 {
-    let number = last.get() + 1;
-    let serial = Serial::new(number)?;
-    let kept = Index::new(number)?;
-    Some((serial, kept))
+    Serial::new(last.get() + 1)
 }
 
 impl Broker {
@@ -87,7 +84,7 @@ impl Broker {
         let Some(task) = self.tasks.next() else {
             return Ok(None);
         };
-        let Some((serial, last)) = serial_after(self.serial) else {
+        let Some(serial) = serial_after(self.serial) else {
             return Err(SerialsUsedUp);
         };
         let delivery = Delivery {
@@ -97,7 +94,7 @@ impl Broker {
         };
         let task = task.given(&delivery);
         self.tasks.put(task);
-        self.serial = last;
+        self.serial = self.serial.next();
         Ok(Some(delivery))
     }
 

@@ -1,10 +1,10 @@
 //! The tasks, with the lists beside them.
-ghost use Rattle.std.specs.Prelude.{◌≡◌, ◌≤◌, ◌+◌, OnOk, OnErr, option_map, length, map, filter};
+ghost use Rattle.std.specs.Prelude.{◌≡◌, ◌≤◌, ◌+◌, OnOk, OnErr, option_map, length, map, filter, nat_lt, ◌||◌, T as Holds};
 ghost use Rattle.rows.specs.Keys.{eval_cmp};
-ghost use Rattle.fsm_tables.specs.Rows.{put as with_row};
+ghost use Rattle.fsm_tables.specs.Rows.{has_row, put as with_row};
 ghost use Rattle.fsm_tables.specs.Shelves.{without as without_row};
 ghost use Rattle.group_model.specs.Brokers.{task_id, task_of, next as next_of};
-ghost use Rattle.eval_broker.specs.Inner.Lists.{AreKept, HasRoom, is_failed};
+ghost use Rattle.eval_broker.specs.Inner.Lists.{AreKept, HaveRoom, is_failed};
 ghost use Rattle.eval_broker.specs.Answers.{urgency_of};
 ghost use Rattle.group_model.specs.Order.{in_order};
 
@@ -33,7 +33,8 @@ impl Tasks {
         requires kept { AreKept self.old }
         ensures kept { AreKept self.new }
         ensures rows { self.new.tasks.rows ≡ self.old.tasks.rows }
-        ensures ok { OnOk result (HasRoom (length self.old.tasks.rows + 1) self.new) }
+        ensures tasks { OnOk result (length self.old.tasks.rows + 1 ≤ self.new.tasks.room) }
+        ensures lists { OnOk result (HaveRoom (length self.old.tasks.rows + 1) self.new.lists) }
     {
         let count = self.tasks.rows().len() + 1;
         self.tasks.make_room(count)?;
@@ -43,7 +44,8 @@ impl Tasks {
     /// Makes or replaces a task. There is room for it, so it takes no memory.
     pub fn put(&mut self, task: Task)
         requires kept { AreKept self.old }
-        requires room { HasRoom (length (with_row eval_cmp task_id task self.old.tasks.rows)) self.old }
+        requires place { Holds (has_row eval_cmp task_id (task_id task) self.old.tasks.rows || nat_lt (length self.old.tasks.rows) self.old.tasks.room) }
+        requires room { HaveRoom (length (with_row eval_cmp task_id task self.old.tasks.rows)) self.old.lists }
         ensures kept { AreKept self.new }
         ensures rows { self.new.tasks.rows ≡ with_row eval_cmp task_id task self.old.tasks.rows }
     {

@@ -122,11 +122,6 @@ pub record AreKept (k : Tasks) : Type 0 where
   pub listed : AreListed k.tasks.rows k.lists
   pub room : HaveRoom (length k.tasks.rows) k.lists
 
--- tasks and lists have room for so many
-pub record HasRoom (most : ℕ) (k : Tasks) : Type 0 where
-  pub tasks : most ≤ k.tasks.room
-  pub lists : HaveRoom most k.lists
-
 -- neither out nor acked, nor given out yet
 abbrev pub is_new : Task → Type 0
 is_new t = (is_free t.mark ≡ true) × (t.deliveries ≡ 0)

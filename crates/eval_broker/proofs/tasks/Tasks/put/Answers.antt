@@ -11,9 +11,6 @@ use Rattle.eval_broker.specs.Inner.Lists.{AreListed, HaveRoom}
 use Rattle.eval_broker.proofs.Stored.{put_without, room_kept, no_loss}
 use Rattle.eval_broker.proofs.tasks.Tasks.put.Goals as goal
 
-pub put-requires : goal.put-requires
-put-requires c = room_left eval_cmp task_id eval_cmp_total c.args.task c.args.self.now.tasks.rows c.args.self.now.tasks.room c.requires.kept.rising c.requires.room.tasks
-
 pub bring_in-requires-clause-rising : goal.bring_in-requires-clause-rising
 bring_in-requires-clause-rising c = subst (λ (ts : List Task). T (is_rising eval_cmp task_id ts)) (sym c.put.ensures.rows) (rising_put eval_cmp task_id eval_cmp_total c.args.task c.args.self.now.tasks.rows c.requires.kept.rising)
 
@@ -29,7 +26,7 @@ bring_in-requires-clause-listed c =
 pub bring_in-requires-clause-room : goal.bring_in-requires-clause-room
 bring_in-requires-clause-room c =
     subst (λ (ts : List Task). HaveRoom (length ts) c.take_out.new.self) (sym c.put.ensures.rows)
-    (room_kept (length (put eval_cmp task_id c.args.task c.args.self.now.tasks.rows)) (length (put eval_cmp task_id c.args.task c.args.self.now.tasks.rows)) c.args.self.now.lists c.args.self.now.lists c.take_out.new.self (omega arith) c.requires.room.lists (no_loss c.args.self.now.lists) c.take_out.ensures.kept)
+    (room_kept (length (put eval_cmp task_id c.args.task c.args.self.now.tasks.rows)) (length (put eval_cmp task_id c.args.task c.args.self.now.tasks.rows)) c.args.self.now.lists c.args.self.now.lists c.take_out.new.self (omega arith) c.requires.room (no_loss c.args.self.now.lists) c.take_out.ensures.kept)
 
 pub returns-clause-kept : goal.returns-clause-kept
 returns-clause-kept c =
@@ -38,5 +35,5 @@ returns-clause-kept c =
       rising = subst (λ (ts : List Task). T (is_rising eval_cmp task_id ts)) (sym c.put.ensures.rows) (rising_put eval_cmp task_id eval_cmp_total c.args.task c.args.self.now.tasks.rows c.requires.kept.rising);
       listed = c.bring_in.ensures.listed;
       room = subst (λ (ts : List Task). HaveRoom (length ts) c.bring_in.new.self) (sym c.put.ensures.rows)
-          (room_kept (length new) (length new) c.args.self.now.lists c.take_out.new.self c.bring_in.new.self (omega arith) c.requires.room.lists c.take_out.ensures.kept c.bring_in.ensures.kept);
+          (room_kept (length new) (length new) c.args.self.now.lists c.take_out.new.self c.bring_in.new.self (omega arith) c.requires.room c.take_out.ensures.kept c.bring_in.ensures.kept);
     }
