@@ -1,6 +1,6 @@
 -- The first of the heads is the task that goes next.
 use Rattle.std.proofs.Common.{◌≡◌, ℕ, ◌<◌, arith, Bool, true, false, cond, not, ◌&&◌, T, List, [], ◌∷◌, Option, Some, None, is_some, refl, sym, ap, subst, ◌∙◌}
-use Rattle.std.specs.Prelude.{filter, nat_lt, bytes_eq, ◌||◌}
+use Rattle.std.specs.Prelude.{nat_lt, bytes_eq, ◌||◌}
 use Rattle.std.specs.List.{list_any, slice_get, AllByRecursion}
 use Rattle.std.proofs.lemmas.Map.Text.{is_eq-slice_cmp}
 use Rattle.std.proofs.lemmas.Map.Lookups.{exact_bytes}
@@ -25,7 +25,7 @@ use Rattle.group_model.proofs.KeptRows.{all_found}
 use Rattle.eval_broker.specs.declared.places.Place.{Place}
 use Rattle.eval_broker.specs.declared.places.Turn.{Turn}
 use Rattle.eval_broker.specs.Answers.{urgency_of}
-use Rattle.eval_broker.specs.Inner.Lists.{place_cmp, turn_cmp, place_job, place_id, turn_id, place_of, is_any, is_spent, has, is_listed, IsListing, first_turn, turn_at, head_of, is_turn, AreHeads}
+use Rattle.eval_broker.specs.Inner.Lists.{place_cmp, turn_cmp, place_job, place_id, turn_id, place_of, is_any, has, is_listed, IsListing, first_turn, head_of, is_turn, AreHeads}
 use Rattle.eval_broker.proofs.Orders.{place_total, turn_total, then_first, then_second, is_equal, same_urgency, no, true_false, and_left, and_right, has_first, first_least}
 use Rattle.eval_broker.proofs.Heads.{found_there, head_job}
 use Rattle.eval_broker.proofs.First.{NoLater, found_later, first_is, none_passes, first_passes}

@@ -1,5 +1,5 @@
 -- After every list of calls a broker's tasks are the pending evaluations of the applied state.
-use Rattle.std.proofs.Common.{◌≡◌, ℕ, Bool, true, false, cond, T, List, [], ◌∷◌, map, Option, Some, None, refl, sym, ap, subst, ◌∙◌}
+use Rattle.std.proofs.Common.{◌≡◌, ℕ, Bool, true, false, cond, T, List, [], ◌∷◌, map, Option, Some, None, refl, subst, ◌∙◌}
 use Rattle.std.specs.Prelude.{filter, nat_lt}
 use Rattle.rows.specs.declared.evaluation.EvalId.{EvalId}
 use Rattle.rows.specs.declared.evaluation.Evaluation.{Evaluation}
@@ -10,7 +10,7 @@ use Rattle.raft_model.specs.Logs.{MAX}
 use Rattle.fsm_tables.specs.Rows.{put}
 use Rattle.fsm_tables.specs.RowLaws.{rising_put}
 use Rattle.cluster_model.specs.Words.{same_eval, is_pending}
-use Rattle.group_model.specs.Brokers.{Broker, Task, Key, Free, Acked, Given, no_tasks, task_key, eval_key, task_of, carry, broker_over, broker_with, with_task, goes_out, set_mark, next_token, next, delivery, given, gives, deliver, UsedUp, Gives, HoldsPending}
+use Rattle.group_model.specs.Brokers.{Broker, Task, Free, Acked, no_tasks, task_key, eval_key, task_of, carry, broker_over, with_task, goes_out, set_mark, next_token, next, delivery, given, gives, deliver, UsedUp, Gives, HoldsPending}
 use Rattle.group_model.proofs.Following.{broker_follows}
 use Rattle.eval_broker.specs.Calls.{Call, Changed, Next, Ack, Nack, Followed, after_gift, after_call, after_calls, rebuilt, Holds, HoldsAfterCalls}
 

@@ -1,26 +1,24 @@
 -- The heads of jobs: how they change where places of one job do, and of which tasks they are.
-use Rattle.std.proofs.Common.{◌≡◌, ℕ, ◌≤◌, Bool, true, false, cond, not, ◌&&◌, T, List, [], ◌∷◌, length, Option, Some, None, is_some, refl, sym, ap, subst, ◌∙◌, arith}
+use Rattle.std.proofs.Common.{◌≡◌, ℕ, ◌≤◌, Bool, true, false, cond, not, ◌&&◌, T, List, [], ◌∷◌, length, Option, Some, None, is_some, refl, sym, ap, ◌∙◌, arith}
 use Rattle.std.specs.Prelude.{◌||◌, nat_lt, IfSome}
 use Rattle.std.specs.declared.cmp.Ordering.{Ordering}
 use Rattle.std.specs.declared.cmp.Ordering.TheVariants.{Less, Equal, Greater}
 use Rattle.std.specs.Ordering.{bool_cmp, is_eq, ordering_then}
-use Rattle.std.specs.Cmp.{tied_itself, tied_back, alike_right}
+use Rattle.std.specs.Cmp.{tied_itself}
 use Rattle.std.specs.Cmp.Lexicographic.{nat_list_cmp_total}
 use Rattle.std.proofs.lemmas.Map.Lookups.{exact_bytes}
-use Rattle.rows.specs.declared.evaluation.EvalId.{EvalId}
-use Rattle.rows.specs.Keys.{name_cmp, eval_cmp}
-use Rattle.rows.specs.Rising.{is_rising}
+use Rattle.rows.specs.Keys.{name_cmp}
 use Rattle.fsm_tables.specs.Rows.{by_order, row_of, has_row, put}
 use Rattle.fsm_tables.specs.RowLaws.{rising_put}
 use Rattle.fsm_tables.specs.Shelves.{without}
 use Rattle.fsm_tables.specs.declared.urgency.Urgency.{Urgency}
 use Rattle.fsm_tables.specs.Urgencies.{urgency_cmp}
 use Rattle.fsm_tables.proofs.Shelves.{rising_without, found_tied, room_left}
-use Rattle.group_model.specs.Brokers.{Task, task_id, task_of}
+use Rattle.group_model.specs.Brokers.{Task, task_of}
 use Rattle.eval_broker.specs.declared.places.Place.{Place}
 use Rattle.eval_broker.specs.declared.places.Turn.{Turn}
 use Rattle.eval_broker.specs.Inner.Lists.{place_cmp, turn_cmp, place_job, place_id, turn_id, place_of, turn_of, is_any, has, is_listed, IsListing, turn_at, first_turn, head_of, is_turn, AreHeads, AreHeadsBut}
-use Rattle.eval_broker.proofs.Orders.{place_total, turn_total, then_first, then_second, same_urgency, is_equal, no, true_false, and_right, has_put, has_without, has_later}
+use Rattle.eval_broker.proofs.Orders.{place_total, turn_total, then_first, then_second, same_urgency, is_equal, no, true_false, has_put, has_without, has_later}
 use Rattle.eval_broker.proofs.Listings.{no_longer}
 
 abbrev same_job : List ℕ → List ℕ → Bool

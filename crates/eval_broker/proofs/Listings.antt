@@ -1,21 +1,21 @@
 -- What a list has of the tasks, where one of them goes or comes, and that it is no longer than they.
-use Rattle.std.proofs.Common.{◌≡◌, ℕ, suc, ◌+◌, ◌≤◌, Bool, true, false, cond, not, ◌&&◌, T, List, [], ◌∷◌, length, Option, Some, None, is_some, refl, sym, ap, subst, ◌∙◌, arith}
+use Rattle.std.proofs.Common.{◌≡◌, ◌+◌, ◌≤◌, Bool, true, false, cond, not, ◌&&◌, T, List, [], ◌∷◌, length, Option, Some, None, is_some, refl, sym, ap, subst, ◌∙◌, arith}
 use Rattle.std.specs.Prelude.{◌||◌}
 use Rattle.std.specs.declared.cmp.Ordering.{Ordering}
-use Rattle.std.specs.declared.cmp.Ordering.TheVariants.{Less, Equal, Greater}
+use Rattle.std.specs.declared.cmp.Ordering.TheVariants.{Equal}
 use Rattle.std.specs.Ordering.{is_eq}
 use Rattle.std.specs.Cmp.{IsTotalOrder, tied_itself, tied_back}
 use Rattle.rows.specs.declared.evaluation.EvalId.{EvalId}
 use Rattle.rows.specs.Keys.{eval_cmp}
 use Rattle.rows.proofs.KeyLaws.{eval_cmp_total}
 use Rattle.rows.specs.Rising.{is_rising}
-use Rattle.fsm_tables.specs.Rows.{row_of, has_row, put}
+use Rattle.fsm_tables.specs.Rows.{has_row, put}
 use Rattle.fsm_tables.specs.RowLaws.{first, second, rising_put, row_of-put}
 use Rattle.fsm_tables.specs.Shelves.{without}
 use Rattle.fsm_tables.proofs.Shelves.{rising_without, row_of-without, length-without, found_tied}
 use Rattle.group_model.specs.Brokers.{Task, task_id, task_of}
 use Rattle.eval_broker.specs.Inner.Lists.{has, is_listed, IsListing}
-use Rattle.eval_broker.proofs.Orders.{same_id, is_equal, no, true_false, none_some, and_left, and_right, has_put, has_without, has_first, has_later, has_tied, has_below}
+use Rattle.eval_broker.proofs.Orders.{same_id, is_equal, no, true_false, and_right, has_put, has_without, has_first, has_later, has_tied, has_below}
 
 -- a task is found under its own id
 pub own_id : (id : EvalId) (ts : List Task) (t : Task) → task_of id ts ≡ Some t → id ≡ t.id

@@ -1,15 +1,15 @@
 -- The lists where one task goes or comes.
-use Rattle.std.proofs.Common.{◌≡◌, ℕ, ◌+◌, ◌<◌, ◌≤◌, Bool, true, false, cond, T, List, [], ◌∷◌, length, Option, Some, None, is_some, refl, sym, ap, subst, ◌∙◌, arith}
-use Rattle.std.specs.Prelude.{◌||◌, nat_lt, IfSome}
+use Rattle.std.proofs.Common.{◌≡◌, ℕ, ◌+◌, ◌<◌, ◌≤◌, Bool, true, false, cond, T, List, length, Option, Some, None, is_some, refl, sym, ap, subst, ◌∙◌, arith}
+use Rattle.std.specs.Prelude.{◌||◌, nat_lt}
 use Rattle.std.specs.declared.cmp.Ordering.{Ordering}
 use Rattle.std.specs.declared.cmp.Ordering.TheVariants.{Equal}
 use Rattle.std.specs.Ordering.{bool_cmp, is_eq}
-use Rattle.std.specs.Cmp.{IsTotalOrder, tied_itself}
+use Rattle.std.specs.Cmp.{tied_itself}
 use Rattle.rows.specs.declared.evaluation.EvalId.{EvalId}
 use Rattle.rows.specs.Keys.{name_cmp, eval_cmp}
 use Rattle.rows.proofs.KeyLaws.{eval_cmp_total}
 use Rattle.rows.specs.Rising.{is_rising}
-use Rattle.fsm_tables.specs.Rows.{row_of, has_row, put}
+use Rattle.fsm_tables.specs.Rows.{has_row, put}
 use Rattle.fsm_tables.specs.RowLaws.{rising_put, row_of-put}
 use Rattle.fsm_tables.specs.SetLaws.{same_rows}
 use Rattle.fsm_tables.specs.Shelves.{Stock, without}
@@ -22,10 +22,10 @@ use Rattle.eval_broker.specs.declared.places.Place.{Place}
 use Rattle.eval_broker.specs.declared.places.Turn.{Turn}
 use Rattle.eval_broker.specs.declared.lists.Lists.{Lists}
 use Rattle.eval_broker.specs.Answers.{urgency_of}
-use Rattle.eval_broker.specs.Inner.Lists.{place_cmp, turn_cmp, place_id, urgency_id, place_of, is_failed, is_any, has, is_listed, IsListing, head_of, AreHeads, AreHeadsBut, AreListed}
+use Rattle.eval_broker.specs.Inner.Lists.{place_cmp, place_id, urgency_id, place_of, is_failed, is_any, IsListing, AreHeads, AreHeadsBut, AreListed}
 use Rattle.eval_broker.proofs.Orders.{place_total, then_second, same_id, same_urgency, is_equal}
 use Rattle.eval_broker.proofs.Listings.{own_id, listing_without, listing_put, listing_past, no_longer}
-use Rattle.eval_broker.proofs.Heads.{moved_put, moved_without, head_room}
+use Rattle.eval_broker.proofs.Heads.{moved_put, moved_without}
 
 -- places that tie have one id
 pub place_ties : (a b : Place) → place_cmp a b ≡ Equal → place_id a ≡ place_id b

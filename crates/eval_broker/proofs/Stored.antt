@@ -1,14 +1,14 @@
 -- Tasks put and taken out, and one of them changed in place.
-use Rattle.std.proofs.Common.{◌≡◌, ℕ, ◌+◌, ◌≤◌, Bool, true, false, cond, ◌&&◌, T, List, [], ◌∷◌, map, length, Option, Some, None, is_some, refl, sym, ap, subst, ◌∙◌, arith}
+use Rattle.std.proofs.Common.{◌≡◌, ℕ, ◌+◌, ◌≤◌, Bool, true, false, cond, ◌&&◌, T, List, [], ◌∷◌, length, Option, Some, None, is_some, refl, sym, ap, subst, ◌∙◌, arith}
 use Rattle.std.specs.Prelude.{nat_eq, nat_lt, ◌||◌, suc}
 use Rattle.std.specs.declared.cmp.Ordering.{Ordering}
 use Rattle.std.specs.declared.cmp.Ordering.TheVariants.{Less, Equal, Greater}
-use Rattle.std.specs.Ordering.{nat_cmp, is_eq, ordering_then, ordering_reverse}
+use Rattle.std.specs.Ordering.{nat_cmp, is_eq, ordering_then}
 use Rattle.rows.specs.declared.evaluation.EvalId.{EvalId}
 use Rattle.rows.specs.Keys.{eval_cmp}
 use Rattle.rows.proofs.KeyLaws.{eval_cmp_total}
-use Rattle.rows.specs.Rising.{is_below, is_rising}
-use Rattle.fsm_tables.specs.Rows.{by_order, row_of, has_row, put}
+use Rattle.rows.specs.Rising.{is_rising}
+use Rattle.fsm_tables.specs.Rows.{by_order, has_row, put}
 use Rattle.fsm_tables.specs.RowLaws.{first, second, none_below, below_less, below_tied, rising_put, row_of-put, length-put, some_same}
 use Rattle.fsm_tables.specs.SetLaws.{same_rows}
 use Rattle.fsm_tables.specs.Shelves.{without}
@@ -18,7 +18,7 @@ use Rattle.raft_model.specs.Logs.{MAX}
 use Rattle.group_model.specs.Brokers.{Broker, Task, Gives, UsedUp, task_id, task_of, with_task, goes_out, next_token, next, delivery, given, gives, deliver}
 use Rattle.eval_broker.specs.declared.lists.Lists.{Lists}
 use Rattle.eval_broker.specs.Inner.Lists.{HaveRoom, KeepRoom}
-use Rattle.eval_broker.proofs.Orders.{is_equal, none_some}
+use Rattle.eval_broker.proofs.Orders.{none_some}
 
 -- what is put goes with its id
 pub put_without : (t : Task) (ts : List Task) → T (is_rising eval_cmp task_id ts) → without eval_cmp task_id t.id (put eval_cmp task_id t ts) ≡ without eval_cmp task_id t.id ts

@@ -1,5 +1,5 @@
 -- Calls of a broker, one after another, beside the evaluations of the applied state.
-use Rattle.std.specs.Prelude.{◌≡◌, ℕ, List, [], ◌∷◌, T}
+use Rattle.std.specs.Prelude.{ℕ, List, [], ◌∷◌, T}
 use Rattle.rows.specs.declared.evaluation.EvalId.{EvalId}
 use Rattle.rows.specs.declared.evaluation.Evaluation.{Evaluation}
 use Rattle.rows.specs.Keys.{eval_cmp, eval_id}

@@ -1,5 +1,4 @@
 use Rattle.eval_broker.proofs.Following.{holds_after_calls}
-use Rattle.eval_broker.proofs.Stored.{one_changed}
 use Rattle.eval_broker.proofs.laws.holds_what_is_pending.Goals as goal
 
 pub returns : goal.returns

@@ -1,5 +1,5 @@
-use Rattle.std.proofs.Common.{◌≡◌, sym, ap, ◌∙◌}
-use Rattle.group_model.specs.Brokers.{Broker, task_id, deliver}
+use Rattle.std.proofs.Common.{sym, ap, ◌∙◌}
+use Rattle.group_model.specs.Brokers.{task_id, deliver}
 use Rattle.eval_broker.proofs.Chosen.{next_there, next_few}
 use Rattle.eval_broker.proofs.Stored.{has_place, has_room, given_out}
 use Rattle.eval_broker.proofs.broker.Broker.next.Goals as goal

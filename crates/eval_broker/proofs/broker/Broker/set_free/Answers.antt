@@ -1,5 +1,5 @@
-use Rattle.std.proofs.Common.{◌≡◌, refl, sym, ap, ◌∙◌}
-use Rattle.group_model.specs.Brokers.{Broker, Task, Free, task_id, set_mark, nacked}
+use Rattle.std.proofs.Common.{refl, sym, ap, ◌∙◌}
+use Rattle.group_model.specs.Brokers.{Free, task_id, set_mark, nacked}
 use Rattle.eval_broker.proofs.Listings.{found_own}
 use Rattle.eval_broker.proofs.Stored.{has_place, has_room, in_place, none_changed}
 use Rattle.eval_broker.proofs.broker.Broker.set_free.Goals as goal

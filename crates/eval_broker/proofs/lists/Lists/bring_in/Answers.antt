@@ -1,4 +1,4 @@
-use Rattle.std.proofs.Common.{◌≡◌, ◌≤◌, cond, length, sym, ap, ◌∙◌, arith, subst, T}
+use Rattle.std.proofs.Common.{◌≤◌, cond, length, sym, ap, ◌∙◌, arith, subst, T}
 use Rattle.std.specs.Prelude.{◌||◌, nat_lt, IfSome}
 use Rattle.fsm_tables.specs.Rows.{has_row, put}
 use Rattle.fsm_tables.specs.Shelves.{Stock}

@@ -1,4 +1,4 @@
-use Rattle.std.proofs.Common.{◌≡◌, List, Option, Some, None, sym, subst, ◌∙◌}
+use Rattle.std.proofs.Common.{List, Some, None, sym, subst}
 use Rattle.eval_broker.specs.declared.places.Turn.{Turn}
 use Rattle.eval_broker.specs.Inner.Lists.{AreHeadsBut}
 use Rattle.eval_broker.proofs.Heads.{head_dropped}

@@ -1,4 +1,4 @@
-use Rattle.std.proofs.Common.{◌≡◌, ◌≤◌, length, sym, ◌∙◌, arith}
+use Rattle.std.proofs.Common.{◌≤◌, length, sym, ◌∙◌, arith}
 use Rattle.rows.specs.Keys.{eval_cmp}
 use Rattle.fsm_tables.specs.Shelves.{without}
 use Rattle.fsm_tables.specs.Urgencies.{urgency_cmp}

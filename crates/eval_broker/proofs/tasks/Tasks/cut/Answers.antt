@@ -1,4 +1,4 @@
-use Rattle.std.proofs.Common.{◌≡◌, T, List, length, sym, subst}
+use Rattle.std.proofs.Common.{T, List, length, sym, subst}
 use Rattle.rows.specs.Keys.{eval_cmp}
 use Rattle.rows.proofs.KeyLaws.{eval_cmp_total}
 use Rattle.rows.specs.Rising.{is_rising}

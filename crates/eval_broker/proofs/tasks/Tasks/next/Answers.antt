@@ -1,4 +1,4 @@
-use Rattle.std.proofs.Common.{◌≡◌, List, Some, None, ap, ◌∙◌}
+use Rattle.std.proofs.Common.{List, Some, None, ap, ◌∙◌}
 use Rattle.std.specs.Prelude.{option_map}
 use Rattle.std.specs.List.{slice_get}
 use Rattle.eval_broker.specs.declared.places.Turn.{Turn}
