@@ -22,11 +22,11 @@ use Rattle.fsm_tables.proofs.Shelves.{found_tied}
 use Rattle.fsm_tables.proofs.Urgencies.{urgency_cmp_total}
 use Rattle.group_model.specs.Brokers.{Task, task_id, task_of, is_free, MOST, job_is_free, may_go, next}
 use Rattle.group_model.proofs.KeptRows.{all_found}
-use Rattle.eval_broker.specs.declared.places.Place.{Place}
-use Rattle.eval_broker.specs.declared.places.Turn.{Turn}
+use Rattle.eval_broker.specs.declared.ranks.Rank.{Rank}
+use Rattle.eval_broker.specs.declared.ranks.Head.{Head}
 use Rattle.eval_broker.specs.Answers.{urgency_of}
-use Rattle.eval_broker.specs.Inner.Lists.{place_cmp, turn_cmp, place_job, place_id, turn_id, place_of, is_any, has, is_listed, IsListing, first_turn, head_of, is_turn, AreHeads}
-use Rattle.eval_broker.proofs.Orders.{place_total, turn_total, then_first, then_second, is_equal, same_urgency, no, true_false, and_left, and_right, has_first, first_least}
+use Rattle.eval_broker.specs.Inner.Lists.{rank_cmp, head_cmp, rank_job, rank_id, head_id, rank_of, is_any, is_in, is_listed, IsListing, first_head, head_of, is_head, AreHeads}
+use Rattle.eval_broker.proofs.Orders.{rank_total, head_total, then_first, then_second, is_equal, same_urgency, no, true_false, and_left, and_right, has_first, first_least}
 use Rattle.eval_broker.proofs.Heads.{found_there, head_job}
 use Rattle.eval_broker.proofs.First.{NoLater, found_later, first_is, none_passes, first_passes}
 
@@ -40,8 +40,8 @@ same_flag true false e = absurd (cc)
 same_flag false true e = absurd (cc)
 same_flag false false e = refl
 
-same_place : (a b : Place) → place_cmp a b ≡ Equal → a ≡ b
-same_place a b e =
+same_rank : (a b : Rank) → rank_cmp a b ≡ Equal → a ≡ b
+same_rank a b e =
     let job = exact_bytes a.job b.job (then_first (name_cmp a.job b.job) _ e) in
     let rest = then_second (name_cmp a.job b.job) _ e in
     let free = same_flag a.is_free b.is_free (then_first (bool_cmp a.is_free b.is_free) _ rest) in
@@ -71,133 +71,133 @@ any_with f (y ∷ ts) t found is = by (is_eq (eval_cmp t.id y.id)) found (λ lat
     at true h = refl
     at false h = h
 
--- ---- places
+-- ---- ranks
 
--- a job's first place is no later than another of its places
-least : (job : List ℕ) (ps : List Place) → T (is_rising place_cmp (λ p. p) ps) → (q : Place) → has place_cmp q ps ≡ true → job ≡ q.job
-    → (p : Place) × (row_of name_cmp place_job job ps ≡ Some p) × (is_gt (place_cmp p q) ≡ false)
+-- a job's first rank is no later than another of its ranks
+least : (job : List ℕ) (ps : List Rank) → T (is_rising rank_cmp (λ p. p) ps) → (q : Rank) → is_in rank_cmp q ps ≡ true → job ≡ q.job
+    → (p : Rank) × (row_of name_cmp rank_job job ps ≡ Some p) × (is_gt (rank_cmp p q) ≡ false)
 least job [] rising q there is = absurd (cc)
 least job (y ∷ ps) rising q there is = by (is_eq (name_cmp job y.job)) refl (λ later. least job ps (second _ _ rising) q later is) where
-  apart : (b : Bool) → is_eq (place_cmp q y) ≡ b → is_eq (name_cmp job y.job) ≡ false → is_some (cond b (Some y) (row_of place_cmp (λ p. p) q ps)) ≡ true → has place_cmp q ps ≡ true
+  apart : (b : Bool) → is_eq (rank_cmp q y) ≡ b → is_eq (name_cmp job y.job) ≡ false → is_some (cond b (Some y) (row_of rank_cmp (λ p. p) q ps)) ≡ true → is_in rank_cmp q ps ≡ true
   apart true e off h =
       true_false _ (ap (λ k. is_eq (name_cmp k y.job)) is ∙ ap is_eq (then_first (name_cmp q.job y.job) _ (is_equal _ e))) off
   apart false e off h = h
 
-  by : (b : Bool) → is_eq (name_cmp job y.job) ≡ b → (has place_cmp q ps ≡ true → (p : Place) × (row_of name_cmp place_job job ps ≡ Some p) × (is_gt (place_cmp p q) ≡ false))
-      → (p : Place) × (cond b (Some y) (row_of name_cmp place_job job ps) ≡ Some p) × (is_gt (place_cmp p q) ≡ false)
-  by true e rest = (y, refl, first_least place_cmp place_total y q ps rising there)
-  by false e rest = rest (apart (is_eq (place_cmp q y)) refl e there)
+  by : (b : Bool) → is_eq (name_cmp job y.job) ≡ b → (is_in rank_cmp q ps ≡ true → (p : Rank) × (row_of name_cmp rank_job job ps ≡ Some p) × (is_gt (rank_cmp p q) ≡ false))
+      → (p : Rank) × (cond b (Some y) (row_of name_cmp rank_job job ps) ≡ Some p) × (is_gt (rank_cmp p q) ≡ false)
+  by true e rest = (y, refl, first_least rank_cmp rank_total y q ps rising there)
+  by false e rest = rest (apart (is_eq (rank_cmp q y)) refl e there)
 
--- a free place no later than one that waits waits, and is no later by urgency
-waits_too : (p : Place) (u : Urgency) (job : List ℕ) → p.job ≡ job → p.is_free ≡ true → is_gt (place_cmp p (record { job = job; is_free = true; is_spent = false; urgency = u })) ≡ false
+-- a free rank no later than one that waits waits, and is no later by urgency
+waits_too : (p : Rank) (u : Urgency) (job : List ℕ) → p.job ≡ job → p.is_free ≡ true → is_gt (rank_cmp p (record { job = job; is_free = true; is_spent = false; urgency = u })) ≡ false
     → (p.is_spent ≡ false) × (is_gt (urgency_cmp p.urgency u) ≡ false)
 waits_too p u job is free h =
     by p.is_spent
     (sym (ap is_gt (
-        ap (λ k. ordering_then (name_cmp k job) (ordering_then (bool_cmp p.is_free true) (ordering_then (bool_cmp p.is_spent false) (urgency_cmp p.urgency u)))) is
-        ∙ ap (λ r. ordering_then r (ordering_then (bool_cmp p.is_free true) (ordering_then (bool_cmp p.is_spent false) (urgency_cmp p.urgency u)))) (tied_itself nat_list_cmp_total job)
-        ∙ ap (λ b. ordering_then (bool_cmp b true) (ordering_then (bool_cmp p.is_spent false) (urgency_cmp p.urgency u))) free
-      )) ∙ h)
+    ap (λ k. ordering_then (name_cmp k job) (ordering_then (bool_cmp p.is_free true) (ordering_then (bool_cmp p.is_spent false) (urgency_cmp p.urgency u)))) is
+    ∙ ap (λ r. ordering_then r (ordering_then (bool_cmp p.is_free true) (ordering_then (bool_cmp p.is_spent false) (urgency_cmp p.urgency u)))) (tied_itself nat_list_cmp_total job)
+    ∙ ap (λ b. ordering_then (bool_cmp b true) (ordering_then (bool_cmp p.is_spent false) (urgency_cmp p.urgency u))) free
+    )) ∙ h)
   where
     by : (b : Bool) → is_gt (ordering_then (bool_cmp b false) (urgency_cmp p.urgency u)) ≡ false → (b ≡ false) × (is_gt (urgency_cmp p.urgency u) ≡ false)
     by true e = absurd (cc)
     by false e = (refl, e)
 
--- and no place that is not free comes behind one that is, of one job
-no_busy_behind : (p q : Place) → p.job ≡ q.job → p.is_free ≡ true → q.is_free ≡ false → is_gt (place_cmp p q) ≡ false → ⊥
+-- and no rank that is not free comes behind one that is, of one job
+no_busy_behind : (p q : Rank) → p.job ≡ q.job → p.is_free ≡ true → q.is_free ≡ false → is_gt (rank_cmp p q) ≡ false → ⊥
 no_busy_behind p q is free busy h =
     true_false _
     (ap is_gt (
-        ap (λ k. ordering_then (name_cmp k q.job) (ordering_then (bool_cmp p.is_free q.is_free) (ordering_then (bool_cmp p.is_spent q.is_spent) (urgency_cmp p.urgency q.urgency)))) is
-        ∙ ap (λ r. ordering_then r (ordering_then (bool_cmp p.is_free q.is_free) (ordering_then (bool_cmp p.is_spent q.is_spent) (urgency_cmp p.urgency q.urgency)))) (tied_itself nat_list_cmp_total q.job)
-        ∙ (λ i. ordering_then (bool_cmp (free i) (busy i)) (ordering_then (bool_cmp p.is_spent q.is_spent) (urgency_cmp p.urgency q.urgency)))
-      )) h
+    ap (λ k. ordering_then (name_cmp k q.job) (ordering_then (bool_cmp p.is_free q.is_free) (ordering_then (bool_cmp p.is_spent q.is_spent) (urgency_cmp p.urgency q.urgency)))) is
+    ∙ ap (λ r. ordering_then r (ordering_then (bool_cmp p.is_free q.is_free) (ordering_then (bool_cmp p.is_spent q.is_spent) (urgency_cmp p.urgency q.urgency)))) (tied_itself nat_list_cmp_total q.job)
+    ∙ (λ i. ordering_then (bool_cmp (free i) (busy i)) (ordering_then (bool_cmp p.is_spent q.is_spent) (urgency_cmp p.urgency q.urgency)))
+    )) h
 
 first_not_late : (r s : Ordering) → is_gt (ordering_then r s) ≡ false → is_gt r ≡ false
 first_not_late Less s h = refl
 first_not_late Equal s h = refl
 first_not_late Greater s h = h
 
-module _ (ts : List Task) (ps : List Place) (hs : List Turn) (rising : T (is_rising eval_cmp task_id ts)) (placed : IsListing place_cmp place_id place_of is_any ts ps) (heads : AreHeads ps hs) where
-  stands : (t : Task) → task_of t.id ts ≡ Some t → has place_cmp (place_of t) ps ≡ true
-  stands t found = placed.exact (place_of t) ∙ ap (is_listed place_cmp place_of is_any (place_of t)) found ∙ ap is_eq (tied_itself place_total (place_of t))
+module _ (ts : List Task) (ps : List Rank) (hs : List Head) (rising : T (is_rising eval_cmp task_id ts)) (placed : IsListing rank_cmp rank_id rank_of is_any ts ps) (heads : AreHeads ps hs) where
+  stands : (t : Task) → task_of t.id ts ≡ Some t → is_in rank_cmp (rank_of t) ps ≡ true
+  stands t found = placed.exact (rank_of t) ∙ ap (is_listed rank_cmp rank_of is_any (rank_of t)) found ∙ ap is_eq (tied_itself rank_total (rank_of t))
 
-  task_at : (p : Place) → has place_cmp p ps ≡ true → (t : Task) × (task_of (place_id p) ts ≡ Some t) × (p ≡ place_of t)
-  task_at p there = by (task_of (place_id p) ts) refl (sym (placed.exact p) ∙ there) where
-    by : (m : Option Task) → task_of (place_id p) ts ≡ m → is_listed place_cmp place_of is_any p m ≡ true → (t : Task) × (task_of (place_id p) ts ≡ Some t) × (p ≡ place_of t)
+  task_at : (p : Rank) → is_in rank_cmp p ps ≡ true → (t : Task) × (task_of (rank_id p) ts ≡ Some t) × (p ≡ rank_of t)
+  task_at p there = by (task_of (rank_id p) ts) refl (sym (placed.exact p) ∙ there) where
+    by : (m : Option Task) → task_of (rank_id p) ts ≡ m → is_listed rank_cmp rank_of is_any p m ≡ true → (t : Task) × (task_of (rank_id p) ts ≡ Some t) × (p ≡ rank_of t)
     by None e h = absurd (cc)
-    by (Some t) e h = (t, e, same_place p (place_of t) (is_equal _ h))
+    by (Some t) e h = (t, e, same_rank p (rank_of t) (is_equal _ h))
 
   -- under its own id
-  own : (p : Place) (t : Task) → task_of (place_id p) ts ≡ Some t → p ≡ place_of t → task_of t.id ts ≡ Some t
-  own p t found is = ap (λ (x : Place). task_of (place_id x) ts) (sym is) ∙ found
+  own : (p : Rank) (t : Task) → task_of (rank_id p) ts ≡ Some t → p ≡ rank_of t → task_of t.id ts ≡ Some t
+  own p t found is = ap (λ (x : Rank). task_of (rank_id x) ts) (sym is) ∙ found
 
   -- of each job of which one may be given out, the head comes no later than it
-  head_before : (t : Task) → task_of t.id ts ≡ Some t → may_go ts t ≡ true → (h : Turn) × (head_of t.job ps ≡ Some h) × (is_gt (urgency_cmp h.urgency (urgency_of t)) ≡ false)
+  head_before : (t : Task) → task_of t.id ts ≡ Some t → may_go ts t ≡ true → (h : Head) × (head_of t.job ps ≡ Some h) × (is_gt (urgency_cmp h.urgency (urgency_of t)) ≡ false)
   head_before t found may =
       let free : is_free t.mark ≡ true = and_left (is_free t.mark) _ (and_left (is_free t.mark && nat_lt t.deliveries MOST) _ may) in
       let few : nat_lt t.deliveries MOST ≡ true = and_right (is_free t.mark) _ (and_left (is_free t.mark && nat_lt t.deliveries MOST) _ may) in
       let idle : job_is_free t.job ts ≡ true = and_right (is_free t.mark && nat_lt t.deliveries MOST) _ may in
-      let p = least t.job ps placed.rising (place_of t) (stands t found) refl in
+      let p = least t.job ps placed.rising (rank_of t) (stands t found) refl in
       let one = task_at p.0 (found_there t.job ps p.0 p.1) in
-      let job : p.0.job ≡ t.job = sym (exact_bytes t.job p.0.job (found_tied name_cmp place_job nat_list_cmp_total t.job ps p.0 p.1)) in
+      let job : p.0.job ≡ t.job = sym (exact_bytes t.job p.0.job (found_tied name_cmp rank_job nat_list_cmp_total t.job ps p.0 p.1)) in
       let p_free : p.0.is_free ≡ true = not_busy p.0 one.0 (own p.0 one.0 one.1 one.2) one.2 job idle in
-      let waits = waits_too p.0 (urgency_of t) t.job job p_free (sym (λ i. is_gt (place_cmp p.0 (record { job = t.job; is_free = free i; is_spent = not (few i); urgency = urgency_of t }))) ∙ p.2) in
-      (record { urgency = p.0.urgency; job = p.0.job }, ap first_turn p.1 ∙ (λ i. cond (p_free i && not (waits.0 i)) (Some (record { urgency = p.0.urgency; job = p.0.job })) None), waits.1)
+      let waits = waits_too p.0 (urgency_of t) t.job job p_free (sym (λ i. is_gt (rank_cmp p.0 (record { job = t.job; is_free = free i; is_spent = not (few i); urgency = urgency_of t }))) ∙ p.2) in
+      (record { urgency = p.0.urgency; job = p.0.job }, ap first_head p.1 ∙ (λ i. cond (p_free i && not (waits.0 i)) (Some (record { urgency = p.0.urgency; job = p.0.job })) None), waits.1)
     where
-      busy_there : (p : Place) (u : Task) → p ≡ place_of u → p.job ≡ t.job → is_free u.mark ≡ false → is_busy t.job u ≡ true
+      busy_there : (p : Rank) (u : Task) → p ≡ rank_of u → p.job ≡ t.job → is_free u.mark ≡ false → is_busy t.job u ≡ true
       busy_there p u is job off =
-          (λ i. bytes_eq (ap (λ (x : Place). x.job) (sym is) i) t.job && not (off i))
+          (λ i. bytes_eq (ap (λ (x : Rank). x.job) (sym is) i) t.job && not (off i))
           ∙ ap (λ k. bytes_eq k t.job && true) job ∙ ap (λ b. b && true) (sym (is_eq-slice_cmp t.job t.job) ∙ ap is_eq (tied_itself nat_list_cmp_total t.job))
 
-      not_busy : (p : Place) (u : Task) → task_of u.id ts ≡ Some u → p ≡ place_of u → p.job ≡ t.job → job_is_free t.job ts ≡ true → p.is_free ≡ true
-      not_busy p u found is job idle = ap (λ (x : Place). x.is_free) is ∙ by (is_free u.mark) refl where
+      not_busy : (p : Rank) (u : Task) → task_of u.id ts ≡ Some u → p ≡ rank_of u → p.job ≡ t.job → job_is_free t.job ts ≡ true → p.is_free ≡ true
+      not_busy p u found is job idle = ap (λ (x : Rank). x.is_free) is ∙ by (is_free u.mark) refl where
         by : (b : Bool) → is_free u.mark ≡ b → b ≡ true
         by true e = refl
         by false e = true_false _ idle (ap not (any_with (is_busy t.job) ts u found (busy_there p u is job e)))
 
   -- the first head is a task that may be given out
-  task_of_head : (h : Turn) → is_turn h (head_of h.job ps) ≡ true → (t : Task) × (task_of (turn_id h) ts ≡ Some t) × (may_go ts t ≡ true) × (h.urgency ≡ urgency_of t)
-  task_of_head h is = by (row_of name_cmp place_job h.job ps) refl is where
+  task_of_head : (h : Head) → is_head h (head_of h.job ps) ≡ true → (t : Task) × (task_of (head_id h) ts ≡ Some t) × (may_go ts t ≡ true) × (h.urgency ≡ urgency_of t)
+  task_of_head h is = by (row_of name_cmp rank_job h.job ps) refl is where
     Goes : Type 0
-    Goes = (t : Task) × (task_of (turn_id h) ts ≡ Some t) × (may_go ts t ≡ true) × (h.urgency ≡ urgency_of t)
+    Goes = (t : Task) × (task_of (head_id h) ts ≡ Some t) × (may_go ts t ≡ true) × (h.urgency ≡ urgency_of t)
 
-    idle : (p : Place) (t : Task) → row_of name_cmp place_job h.job ps ≡ Some p → p ≡ place_of t → p.is_free ≡ true → h.job ≡ p.job → list_any (is_busy t.job) ts ≡ false
+    idle : (p : Rank) (t : Task) → row_of name_cmp rank_job h.job ps ≡ Some p → p ≡ rank_of t → p.is_free ≡ true → h.job ≡ p.job → list_any (is_busy t.job) ts ≡ false
     idle p t e same free job = no _ (λ any.
-      let u = any_of (is_busy t.job) ts rising any in
-      let busy : is_free u.0.mark ≡ false = off (is_free u.0.mark) (and_right (bytes_eq u.0.job t.job) _ u.2) in
-      let its : u.0.job ≡ t.job = exact_bytes u.0.job t.job (is_equal _ (is_eq-slice_cmp u.0.job t.job ∙ and_left (bytes_eq u.0.job t.job) _ u.2)) in
-      let p_job : p.job ≡ t.job = ap (λ (x : Place). x.job) same in
-      let q = least h.job ps placed.rising (place_of u.0) (stands u.0 u.1) (job ∙ p_job ∙ sym its) in
-      let one : q.0 ≡ p = some_same _ _ (sym q.1 ∙ e) in
-      no_busy_behind p (place_of u.0) (p_job ∙ sym its) free busy (sym (ap (λ (x : Place). is_gt (place_cmp x (place_of u.0))) one) ∙ q.2)) where
-        off : (b : Bool) → not b ≡ true → b ≡ false
-        off true e = sym e
-        off false e = refl
+        let u = any_of (is_busy t.job) ts rising any in
+        let busy : is_free u.0.mark ≡ false = off (is_free u.0.mark) (and_right (bytes_eq u.0.job t.job) _ u.2) in
+        let its : u.0.job ≡ t.job = exact_bytes u.0.job t.job (is_equal _ (is_eq-slice_cmp u.0.job t.job ∙ and_left (bytes_eq u.0.job t.job) _ u.2)) in
+        let p_job : p.job ≡ t.job = ap (λ (x : Rank). x.job) same in
+        let q = least h.job ps placed.rising (rank_of u.0) (stands u.0 u.1) (job ∙ p_job ∙ sym its) in
+        let one : q.0 ≡ p = some_same _ _ (sym q.1 ∙ e) in
+        no_busy_behind p (rank_of u.0) (p_job ∙ sym its) free busy (sym (ap (λ (x : Rank). is_gt (rank_cmp x (rank_of u.0))) one) ∙ q.2)) where
+          off : (b : Bool) → not b ≡ true → b ≡ false
+          off true e = sym e
+          off false e = refl
 
-    goes : (p : Place) → row_of name_cmp place_job h.job ps ≡ Some p → p.is_free ≡ true → not p.is_spent ≡ true → is_turn h (Some (record { urgency = p.urgency; job = p.job })) ≡ true → (t : Task) × (task_of (turn_id h) ts ≡ Some t) × (may_go ts t ≡ true) × (h.urgency ≡ urgency_of t)
+    goes : (p : Rank) → row_of name_cmp rank_job h.job ps ≡ Some p → p.is_free ≡ true → not p.is_spent ≡ true → is_head h (Some (record { urgency = p.urgency; job = p.job })) ≡ true → (t : Task) × (task_of (head_id h) ts ≡ Some t) × (may_go ts t ≡ true) × (h.urgency ≡ urgency_of t)
     goes p e free left tie =
         let one = task_at p (found_there h.job ps p e) in
         let urgency : h.urgency ≡ p.urgency = same_urgency h.urgency p.urgency (then_first (urgency_cmp h.urgency p.urgency) (name_cmp h.job p.job) (is_equal _ tie)) in
         let job : h.job ≡ p.job = exact_bytes h.job p.job (then_second (urgency_cmp h.urgency p.urgency) (name_cmp h.job p.job) (is_equal _ tie)) in
-        let t_free : is_free one.0.mark ≡ true = ap (λ (x : Place). x.is_free) (sym one.2) ∙ free in
-        let few : nat_lt one.0.deliveries MOST ≡ true = twice (nat_lt one.0.deliveries MOST) ∙ ap (λ (x : Place). not x.is_spent) (sym one.2) ∙ left in
-        (one.0, ap (λ (u : Urgency). task_of u.id ts) urgency ∙ one.1, (λ i. (t_free i && few i) && not (idle p one.0 e one.2 free job i)), urgency ∙ ap (λ (x : Place). x.urgency) one.2)
+        let t_free : is_free one.0.mark ≡ true = ap (λ (x : Rank). x.is_free) (sym one.2) ∙ free in
+        let few : nat_lt one.0.deliveries MOST ≡ true = twice (nat_lt one.0.deliveries MOST) ∙ ap (λ (x : Rank). not x.is_spent) (sym one.2) ∙ left in
+        (one.0, ap (λ (u : Urgency). task_of u.id ts) urgency ∙ one.1, (λ i. (t_free i && few i) && not (idle p one.0 e one.2 free job i)), urgency ∙ ap (λ (x : Rank). x.urgency) one.2)
       where
         twice : (b : Bool) → b ≡ not (not b)
         twice true = refl
         twice false = refl
 
-    by : (m : Option Place) → row_of name_cmp place_job h.job ps ≡ m → is_turn h (first_turn m) ≡ true → (t : Task) × (task_of (turn_id h) ts ≡ Some t) × (may_go ts t ≡ true) × (h.urgency ≡ urgency_of t)
+    by : (m : Option Rank) → row_of name_cmp rank_job h.job ps ≡ m → is_head h (first_head m) ≡ true → (t : Task) × (task_of (head_id h) ts ≡ Some t) × (may_go ts t ≡ true) × (h.urgency ≡ urgency_of t)
     by None e is = absurd (cc)
     by (Some p) e is = at (p.is_free && not p.is_spent) refl is where
-      at : (b : Bool) → (p.is_free && not p.is_spent) ≡ b → is_turn h (cond b (Some (record { urgency = p.urgency; job = p.job })) None) ≡ true → (t : Task) × (task_of (turn_id h) ts ≡ Some t) × (may_go ts t ≡ true) × (h.urgency ≡ urgency_of t)
+      at : (b : Bool) → (p.is_free && not p.is_spent) ≡ b → is_head h (cond b (Some (record { urgency = p.urgency; job = p.job })) None) ≡ true → (t : Task) × (task_of (head_id h) ts ≡ Some t) × (may_go ts t ≡ true) × (h.urgency ≡ urgency_of t)
       at true w is = goes p e (and_left p.is_free _ w) (and_right p.is_free _ w) is
       at false w is = absurd (cc)
 
   -- the head of a job of which one may be given out is among the heads
-  is_head : (t : Task) (h : Turn) → head_of t.job ps ≡ Some h → has turn_cmp h hs ≡ true
-  is_head t h e = heads.exact h ∙ ap (is_turn h) (ap (λ k. head_of k ps) (sym (head_job t.job ps h e)) ∙ e) ∙ ap is_eq (tied_itself turn_total h)
+  among_heads : (t : Task) (h : Head) → head_of t.job ps ≡ Some h → is_in head_cmp h hs ≡ true
+  among_heads t h e = heads.exact h ∙ ap (is_head h) (ap (λ k. head_of k ps) (sym (head_job t.job ps h e)) ∙ e) ∙ ap is_eq (tied_itself head_total h)
 
   all_tasks : (P : Task → Type 0) → ((t : Task) → task_of t.id ts ≡ Some t → P t) → AllByRecursion P ts
   all_tasks P each = go ts (all_found eval_cmp task_id eval_cmp_total ts rising) where
@@ -207,29 +207,29 @@ module _ (ts : List Task) (ps : List Place) (hs : List Turn) (rising : T (is_ris
 
   no_next : hs ≡ [] → next ts ≡ None
   no_next none = none_passes (may_go ts) ts (all_tasks (λ t. may_go ts t ≡ true → ⊥) (λ t found may.
-    let h = head_before t found may in
-    true_false _ (is_head t h.0 h.1) (ap (has turn_cmp h.0) none)))
+      let h = head_before t found may in
+      true_false _ (among_heads t h.0 h.1) (ap (is_in head_cmp h.0) none)))
 
-  first_next : (h : Turn) (rest : List Turn) → hs ≡ h ∷ rest → next ts ≡ task_of (turn_id h) ts
+  first_next : (h : Head) (rest : List Head) → hs ≡ h ∷ rest → next ts ≡ task_of (head_id h) ts
   first_next h rest is =
-      let one = task_of_head h (sym (heads.exact h) ∙ ap (has turn_cmp h) is ∙ has_first turn_cmp turn_total h rest) in
+      let one = task_of_head h (sym (heads.exact h) ∙ ap (is_in head_cmp h) is ∙ has_first head_cmp head_total h rest) in
       let t = one.0 in
       let found : task_of t.id ts ≡ Some t = ap (λ (u : Urgency). task_of u.id ts) (sym one.3) ∙ one.1 in
       first_is (may_go ts) t ts rising found one.2 (all_tasks (λ y. may_go ts y ≡ true → NoLater t y) (λ y there may.
-        let g = head_before y there may in
-        let no_later = first_least turn_cmp turn_total h g.0 rest (subst (λ l. T (is_rising turn_cmp (λ x. x) l)) is heads.rising) (sym (ap (has turn_cmp g.0) is) ∙ is_head y g.0 g.1) in
-        ap (λ u. is_gt (urgency_cmp u (urgency_of y))) (sym one.3)
-        ∙ upto urgency_cmp_total h.urgency g.0.urgency (urgency_of y) (first_not_late (urgency_cmp h.urgency g.0.urgency) _ no_later) g.2))
+      let g = head_before y there may in
+      let no_later = first_least head_cmp head_total h g.0 rest (subst (λ l. T (is_rising head_cmp (λ x. x) l)) is heads.rising) (sym (ap (is_in head_cmp g.0) is) ∙ among_heads y g.0 g.1) in
+      ap (λ u. is_gt (urgency_cmp u (urgency_of y))) (sym one.3)
+      ∙ upto urgency_cmp_total h.urgency g.0.urgency (urgency_of y) (first_not_late (urgency_cmp h.urgency g.0.urgency) _ no_later) g.2))
       ∙ sym one.1
 
-  abbrev pub task_at_turn : Option Turn → Option Task
-  task_at_turn None = None
-  task_at_turn (Some h) = task_of (turn_id h) ts
+  abbrev pub task_at_head : Option Head → Option Task
+  task_at_head None = None
+  task_at_head (Some h) = task_of (head_id h) ts
 
   -- by the first head, if there is one
-  pub next_by_first : (m : Option Turn) → m ≡ slice_get hs 0 → task_at_turn m ≡ next ts
-  next_by_first m is = ap task_at_turn is ∙ go hs refl where
-    go : (l : List Turn) → hs ≡ l → task_at_turn (slice_get l 0) ≡ next ts
+  pub next_by_first : (m : Option Head) → m ≡ slice_get hs 0 → task_at_head m ≡ next ts
+  next_by_first m is = ap task_at_head is ∙ go hs refl where
+    go : (l : List Head) → hs ≡ l → task_at_head (slice_get l 0) ≡ next ts
     go [] e = sym (no_next e)
     go (h ∷ rest) e = sym (first_next h rest e)
 

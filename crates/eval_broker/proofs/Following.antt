@@ -1,5 +1,5 @@
 -- After every list of calls a broker's tasks are the pending evaluations of the applied state.
-use Rattle.std.proofs.Common.{◌≡◌, ℕ, Bool, true, false, cond, T, List, [], ◌∷◌, map, Option, Some, None, refl, subst, ◌∙◌}
+use Rattle.std.proofs.Common.{◌≡◌, ℕ, Bool, true, false, cond, T, List, [], ◌∷◌, map, Option, Some, None, refl, sym, subst, ◌∙◌}
 use Rattle.std.specs.Prelude.{filter, nat_lt}
 use Rattle.rows.specs.declared.evaluation.EvalId.{EvalId}
 use Rattle.rows.specs.declared.evaluation.Evaluation.{Evaluation}
@@ -12,7 +12,8 @@ use Rattle.fsm_tables.specs.RowLaws.{rising_put}
 use Rattle.cluster_model.specs.Words.{same_eval, is_pending}
 use Rattle.group_model.specs.Brokers.{Broker, Task, Free, Acked, no_tasks, task_key, eval_key, task_of, carry, broker_over, with_task, goes_out, set_mark, next_token, next, delivery, given, gives, deliver, UsedUp, Gives, HoldsPending}
 use Rattle.group_model.proofs.Following.{broker_follows}
-use Rattle.eval_broker.specs.Calls.{Call, Changed, Next, Ack, Nack, Followed, after_gift, after_call, after_calls, rebuilt, Holds, HoldsAfterCalls}
+use Rattle.group_model.specs.Worked.Brokers.{after_gift}
+use Rattle.eval_broker.specs.Calls.{Call, Changed, Next, Ack, Nack, Followed, after_call, after_calls, rebuilt, Holds, HoldsAfterCalls}
 
 -- over any rows, whatever was there before
 over_holds : (es : List Evaluation) (b : Broker) → HoldsPending es (broker_over es b).tasks
@@ -25,7 +26,7 @@ over_holds es b = go (filter (λ e. is_pending e.status) es) where
   go [] = refl
   go (x ∷ xs) = λ i. carried_key x (task_of x.id b.tasks) i ∷ go xs i
 
--- a task that changes in place keeps its evaluation
+-- a task that changes in rank keeps its evaluation
 keys_kept : (f : Task → Task) → ((t : Task) → task_key (f t) ≡ task_key t) → (id : EvalId) (ts : List Task) → map task_key (with_task id f ts) ≡ map task_key ts
 keys_kept f keeps id [] = refl
 keys_kept f keeps id (t ∷ ts) = λ i. by (same_eval t.id id) i ∷ keys_kept f keeps id ts i where
@@ -44,7 +45,7 @@ gift_keeps term wait b = by (next b.tasks) where
   by (Some t) = used t (nat_lt b.serial MAX)
 
 record Kept (f : Followed) : Type 0 where
-  holds : Holds f
+  holds : HoldsPending f.evals f.broker.tasks
   rising : T (is_rising eval_cmp eval_id f.evals)
 
 after_one : (c : Call) (f : Followed) → Kept f → Kept (after_call c f)
@@ -57,7 +58,7 @@ after_one (Ack id) f k = record { holds = keys_kept (set_mark Acked) (λ t. refl
 after_one (Nack id) f k = record { holds = keys_kept (set_mark Free) (λ t. refl) id f.broker.tasks ∙ k.holds; rising = k.rising }
 
 after_all : (cs : List Call) (f : Followed) → Kept f → Holds (after_calls cs f)
-after_all [] f k = k.holds
+after_all [] f k = record { pending = k.holds; as_rebuilt = k.holds ∙ sym (over_holds f.evals no_tasks) }
 after_all (c ∷ cs) f k = after_all cs (after_call c f) (after_one c f k)
 
 pub holds_after_calls : HoldsAfterCalls

@@ -14,7 +14,7 @@ use Rattle.fsm_tables.specs.RowLaws.{first, second, rising_put, row_of-put}
 use Rattle.fsm_tables.specs.Shelves.{without}
 use Rattle.fsm_tables.proofs.Shelves.{rising_without, row_of-without, length-without, found_tied}
 use Rattle.group_model.specs.Brokers.{Task, task_id, task_of}
-use Rattle.eval_broker.specs.Inner.Lists.{has, is_listed, IsListing}
+use Rattle.eval_broker.specs.Inner.Lists.{is_in, is_listed, IsListing}
 use Rattle.eval_broker.proofs.Orders.{same_id, is_equal, no, true_false, and_right, has_put, has_without, has_first, has_later, has_tied, has_below}
 
 -- a task is found under its own id
@@ -29,8 +29,8 @@ module _ {X : Type 0} (R : X → X → Ordering) (o : IsTotalOrder R) (id_of : X
     -- what is made of a task ties with what has its id alone
     other : (q : X) (t : Task) (id : EvalId) → id ≡ t.id → is_eq (eval_cmp (id_of q) id) ≡ false → is_eq (R q (make t)) ≡ false
     other q t id e f = no _ (λ tie.
-      let here : id_of q ≡ t.id = ties q (make t) (is_equal _ tie) ∙ made t in
-      true_false _ (ap (λ r. is_eq r) (ap (λ k. eval_cmp k id) (here ∙ sym e) ∙ tied_itself eval_cmp_total id)) f)
+        let here : id_of q ≡ t.id = ties q (make t) (is_equal _ tie) ∙ made t in
+        true_false _ (ap (λ r. is_eq r) (ap (λ k. eval_cmp k id) (here ∙ sym e) ∙ tied_itself eval_cmp_total id)) f)
 
     gone : (p e : Bool) → (not e && (p && e)) ≡ false
     gone true true = refl
@@ -43,10 +43,10 @@ module _ {X : Type 0} (R : X → X → Ordering) (o : IsTotalOrder R) (id_of : X
     listing_without id ts old xs found l = record {
       rising = rising_without R (λ x. x) o (make old) xs l.rising;
       exact = λ q.
-        has_without R o q (make old) xs
-        ∙ ap (λ b. not (is_eq (R q (make old))) && b) (l.exact q)
-        ∙ by q (is_eq (eval_cmp (id_of q) id)) refl
-        ∙ sym (ap (is_listed R make passes q) (row_of-without eval_cmp task_id eval_cmp_total (id_of q) id ts));
+          has_without R o q (make old) xs
+          ∙ ap (λ b. not (is_eq (R q (make old))) && b) (l.exact q)
+          ∙ by q (is_eq (eval_cmp (id_of q) id)) refl
+          ∙ sym (ap (is_listed R make passes q) (row_of-without eval_cmp task_id eval_cmp_total (id_of q) id ts));
     } where
       by : (q : X) (b : Bool) → is_eq (eval_cmp (id_of q) id) ≡ b →
           (not (is_eq (R q (make old))) && is_listed R make passes q (task_of (id_of q) ts)) ≡ is_listed R make passes q (cond b None (task_of (id_of q) ts))
@@ -65,10 +65,10 @@ module _ {X : Type 0} (R : X → X → Ordering) (o : IsTotalOrder R) (id_of : X
     listing_put new ts xs none is l = record {
       rising = rising_put R (λ x. x) o (make new) xs l.rising;
       exact = λ q.
-        has_put R o q (make new) xs
-        ∙ ap (λ b. is_eq (R q (make new)) || b) (l.exact q)
-        ∙ by q (is_eq (eval_cmp (id_of q) new.id)) refl
-        ∙ sym (ap (is_listed R make passes q) (row_of-put eval_cmp task_id eval_cmp_total (id_of q) new ts));
+          has_put R o q (make new) xs
+          ∙ ap (λ b. is_eq (R q (make new)) || b) (l.exact q)
+          ∙ by q (is_eq (eval_cmp (id_of q) new.id)) refl
+          ∙ sym (ap (is_listed R make passes q) (row_of-put eval_cmp task_id eval_cmp_total (id_of q) new ts));
     } where
       by : (q : X) (b : Bool) → is_eq (eval_cmp (id_of q) new.id) ≡ b →
           (is_eq (R q (make new)) || is_listed R make passes q (task_of (id_of q) ts)) ≡ is_listed R make passes q (cond b (Some new) (task_of (id_of q) ts))
@@ -83,9 +83,9 @@ module _ {X : Type 0} (R : X → X → Ordering) (o : IsTotalOrder R) (id_of : X
     listing_past new ts xs none not_this l = record {
       rising = l.rising;
       exact = λ q.
-        l.exact q
-        ∙ by q (is_eq (eval_cmp (id_of q) new.id)) refl
-        ∙ sym (ap (is_listed R make passes q) (row_of-put eval_cmp task_id eval_cmp_total (id_of q) new ts));
+          l.exact q
+          ∙ by q (is_eq (eval_cmp (id_of q) new.id)) refl
+          ∙ sym (ap (is_listed R make passes q) (row_of-put eval_cmp task_id eval_cmp_total (id_of q) new ts));
     } where
       by : (q : X) (b : Bool) → is_eq (eval_cmp (id_of q) new.id) ≡ b → is_listed R make passes q (task_of (id_of q) ts) ≡ is_listed R make passes q (cond b (Some new) (task_of (id_of q) ts))
       by q true e =
@@ -96,7 +96,7 @@ module _ {X : Type 0} (R : X → X → Ordering) (o : IsTotalOrder R) (id_of : X
   -- ---- no more than the tasks
 
   abbrev AllListed : List X → List Task → Type 0
-  AllListed xs ts = (q : X) → has R q xs ≡ true → is_listed R make passes q (task_of (id_of q) ts) ≡ true
+  AllListed xs ts = (q : X) → is_in R q xs ≡ true → is_listed R make passes q (task_of (id_of q) ts) ≡ true
 
   -- the others are of other tasks
   rest_listed : (x : X) (xs : List X) (ts : List Task) → T (is_rising R (λ y. y) (x ∷ xs)) → AllListed (x ∷ xs) ts → AllListed xs (without eval_cmp task_id (id_of x) ts)

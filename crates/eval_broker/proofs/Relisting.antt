@@ -18,18 +18,18 @@ use Rattle.fsm_tables.specs.Urgencies.{urgency_cmp}
 use Rattle.fsm_tables.proofs.Shelves.{rising_without, row_of-without, length-without, without_none}
 use Rattle.fsm_tables.proofs.Urgencies.{urgency_cmp_total}
 use Rattle.group_model.specs.Brokers.{Task, task_id, task_of}
-use Rattle.eval_broker.specs.declared.places.Place.{Place}
-use Rattle.eval_broker.specs.declared.places.Turn.{Turn}
+use Rattle.eval_broker.specs.declared.ranks.Rank.{Rank}
+use Rattle.eval_broker.specs.declared.ranks.Head.{Head}
 use Rattle.eval_broker.specs.declared.lists.Lists.{Lists}
 use Rattle.eval_broker.specs.Answers.{urgency_of}
-use Rattle.eval_broker.specs.Inner.Lists.{place_cmp, place_id, urgency_id, place_of, is_failed, is_any, IsListing, AreHeads, AreHeadsBut, AreListed}
-use Rattle.eval_broker.proofs.Orders.{place_total, then_second, same_id, same_urgency, is_equal}
+use Rattle.eval_broker.specs.Inner.Lists.{rank_cmp, rank_id, urgency_id, rank_of, is_failed, is_any, IsListing, AreHeads, AreHeadsBut, AreListed}
+use Rattle.eval_broker.proofs.Orders.{rank_total, then_second, same_id, same_urgency, is_equal}
 use Rattle.eval_broker.proofs.Listings.{own_id, listing_without, listing_put, listing_past, no_longer}
 use Rattle.eval_broker.proofs.Heads.{moved_put, moved_without}
 
--- places that tie have one id
-pub place_ties : (a b : Place) → place_cmp a b ≡ Equal → place_id a ≡ place_id b
-place_ties a b e = ap (λ (u : Urgency). u.id) (same_urgency a.urgency b.urgency (then_second (bool_cmp a.is_spent b.is_spent) _ (then_second (bool_cmp a.is_free b.is_free) _ (then_second (name_cmp a.job b.job) _ e))))
+-- ranks that tie have one id
+pub rank_ties : (a b : Rank) → rank_cmp a b ≡ Equal → rank_id a ≡ rank_id b
+rank_ties a b e = ap (λ (u : Urgency). u.id) (same_urgency a.urgency b.urgency (then_second (bool_cmp a.is_spent b.is_spent) _ (then_second (bool_cmp a.is_free b.is_free) _ (then_second (name_cmp a.job b.job) _ e))))
 
 pub urgency_ties : (a b : Urgency) → urgency_cmp a b ≡ Equal → urgency_id a ≡ urgency_id b
 urgency_ties a b e = ap (λ (u : Urgency). u.id) (same_urgency a b e)
@@ -40,9 +40,9 @@ put_back id ts t rising found =
     same_rows eval_cmp task_id eval_cmp_total (put eval_cmp task_id t (without eval_cmp task_id id ts)) ts
     (rising_put eval_cmp task_id eval_cmp_total t (without eval_cmp task_id id ts) (rising_without eval_cmp task_id eval_cmp_total id ts rising)) rising
     (λ q. row_of-put eval_cmp task_id eval_cmp_total q t (without eval_cmp task_id id ts)
-      ∙ ap (cond (is_eq (eval_cmp q t.id)) (Some t)) (row_of-without eval_cmp task_id eval_cmp_total q id ts)
-      ∙ ap (λ k. cond (is_eq (eval_cmp q t.id)) (Some t) (cond (is_eq (eval_cmp q k)) None (task_of q ts))) (own_id id ts t found)
-      ∙ by q (is_eq (eval_cmp q t.id)) refl)
+    ∙ ap (cond (is_eq (eval_cmp q t.id)) (Some t)) (row_of-without eval_cmp task_id eval_cmp_total q id ts)
+    ∙ ap (λ k. cond (is_eq (eval_cmp q t.id)) (Some t) (cond (is_eq (eval_cmp q k)) None (task_of q ts))) (own_id id ts t found)
+    ∙ by q (is_eq (eval_cmp q t.id)) refl)
   where
     by : (q : EvalId) (b : Bool) → is_eq (eval_cmp q t.id) ≡ b → cond b (Some t) (cond b None (task_of q ts)) ≡ task_of q ts
     by q true e = sym (ap (λ k. task_of k ts) (same_id q t.id (is_equal _ e) ∙ sym (own_id id ts t found)) ∙ found)
@@ -70,17 +70,17 @@ no_more id ts =
 
 -- ---- a task goes
 
-pub heads_out : (job : List ℕ) (t : Task) (p : Place) (ps qs : List Place) (hs : List Turn) → job ≡ t.job → p ≡ place_of t → qs ≡ without place_cmp (λ x. x) p ps → AreHeadsBut job ps hs → AreHeadsBut job qs hs
+pub heads_out : (job : List ℕ) (t : Task) (p : Rank) (ps qs : List Rank) (hs : List Head) → job ≡ t.job → p ≡ rank_of t → qs ≡ without rank_cmp (λ x. x) p ps → AreHeadsBut job ps hs → AreHeadsBut job qs hs
 heads_out job t p ps qs hs j is to but =
     subst (λ rs. AreHeadsBut job rs hs) (sym to)
-    (subst (λ k. AreHeadsBut k (without place_cmp (λ x. x) p ps) hs) (ap (λ (x : Place). x.job) is ∙ sym j)
-        (moved_without p ps hs (subst (λ k. AreHeadsBut k ps hs) (j ∙ sym (ap (λ (x : Place). x.job) is)) but)))
+    (subst (λ k. AreHeadsBut k (without rank_cmp (λ x. x) p ps) hs) (ap (λ (x : Rank). x.job) is ∙ sym j)
+    (moved_without p ps hs (subst (λ k. AreHeadsBut k ps hs) (j ∙ sym (ap (λ (x : Rank). x.job) is)) but)))
 
-pub places_out : (id : EvalId) (ts : List Task) (t : Task) (p : Place) (ps qs : List Place) → task_of id ts ≡ Some t → p ≡ place_of t → qs ≡ without place_cmp (λ x. x) p ps
-    → IsListing place_cmp place_id place_of is_any ts ps → IsListing place_cmp place_id place_of is_any (without eval_cmp task_id id ts) qs
-places_out id ts t p ps qs found is to l =
-    subst (IsListing place_cmp place_id place_of is_any (without eval_cmp task_id id ts)) (sym (to ∙ ap (λ x. without place_cmp (λ y. y) x ps) is))
-    (listing_without place_cmp place_total place_id place_of is_any place_ties (λ t. refl) id ts t ps found l)
+pub ranks_out : (id : EvalId) (ts : List Task) (t : Task) (p : Rank) (ps qs : List Rank) → task_of id ts ≡ Some t → p ≡ rank_of t → qs ≡ without rank_cmp (λ x. x) p ps
+    → IsListing rank_cmp rank_id rank_of is_any ts ps → IsListing rank_cmp rank_id rank_of is_any (without eval_cmp task_id id ts) qs
+ranks_out id ts t p ps qs found is to l =
+    subst (IsListing rank_cmp rank_id rank_of is_any (without eval_cmp task_id id ts)) (sym (to ∙ ap (λ x. without rank_cmp (λ y. y) x ps) is))
+    (listing_without rank_cmp rank_total rank_id rank_of is_any rank_ties (λ t. refl) id ts t ps found l)
 
 pub failed_out : (id : EvalId) (ts : List Task) (t : Task) (u : Urgency) (fs gs : List Urgency) → task_of id ts ≡ Some t → u ≡ urgency_of t → gs ≡ without urgency_cmp (λ x. x) u fs
     → IsListing urgency_cmp urgency_id urgency_of is_failed ts fs → IsListing urgency_cmp urgency_id urgency_of is_failed (without eval_cmp task_id id ts) gs
@@ -90,22 +90,22 @@ failed_out id ts t u fs gs found is to l =
 
 -- ---- a task comes
 
-pub heads_in : (job : List ℕ) (t : Task) (p : Place) (ps qs : List Place) (hs : List Turn) → job ≡ t.job → p ≡ place_of t → qs ≡ put place_cmp (λ x. x) p ps → AreHeadsBut job ps hs → AreHeadsBut job qs hs
+pub heads_in : (job : List ℕ) (t : Task) (p : Rank) (ps qs : List Rank) (hs : List Head) → job ≡ t.job → p ≡ rank_of t → qs ≡ put rank_cmp (λ x. x) p ps → AreHeadsBut job ps hs → AreHeadsBut job qs hs
 heads_in job t p ps qs hs j is to but =
     subst (λ rs. AreHeadsBut job rs hs) (sym to)
-    (subst (λ k. AreHeadsBut k (put place_cmp (λ x. x) p ps) hs) (ap (λ (x : Place). x.job) is ∙ sym j)
-        (moved_put p ps hs (subst (λ k. AreHeadsBut k ps hs) (j ∙ sym (ap (λ (x : Place). x.job) is)) but)))
+    (subst (λ k. AreHeadsBut k (put rank_cmp (λ x. x) p ps) hs) (ap (λ (x : Rank). x.job) is ∙ sym j)
+    (moved_put p ps hs (subst (λ k. AreHeadsBut k ps hs) (j ∙ sym (ap (λ (x : Rank). x.job) is)) but)))
 
 module _ (id : EvalId) (ts : List Task) (t : Task) (rising : T (is_rising eval_cmp task_id ts)) (found : task_of id ts ≡ Some t) where
   not_left : task_of t.id (without eval_cmp task_id id ts) ≡ None
   not_left = ap (λ k. task_of k (without eval_cmp task_id id ts)) (sym (own_id id ts t found)) ∙ none_left id ts
 
-  pub places_in : (p : Place) (ps qs : List Place) → p ≡ place_of t → qs ≡ put place_cmp (λ x. x) p ps
-      → IsListing place_cmp place_id place_of is_any (without eval_cmp task_id id ts) ps → IsListing place_cmp place_id place_of is_any ts qs
-  places_in p ps qs is to l =
-      subst (λ us. IsListing place_cmp place_id place_of is_any us qs) (put_back id ts t rising found)
-      (subst (IsListing place_cmp place_id place_of is_any (put eval_cmp task_id t (without eval_cmp task_id id ts))) (sym (to ∙ ap (λ x. put place_cmp (λ y. y) x ps) is))
-          (listing_put place_cmp place_total place_id place_of is_any place_ties (λ t. refl) t (without eval_cmp task_id id ts) ps not_left refl l))
+  pub ranks_in : (p : Rank) (ps qs : List Rank) → p ≡ rank_of t → qs ≡ put rank_cmp (λ x. x) p ps
+      → IsListing rank_cmp rank_id rank_of is_any (without eval_cmp task_id id ts) ps → IsListing rank_cmp rank_id rank_of is_any ts qs
+  ranks_in p ps qs is to l =
+      subst (λ us. IsListing rank_cmp rank_id rank_of is_any us qs) (put_back id ts t rising found)
+      (subst (IsListing rank_cmp rank_id rank_of is_any (put eval_cmp task_id t (without eval_cmp task_id id ts))) (sym (to ∙ ap (λ x. put rank_cmp (λ y. y) x ps) is))
+      (listing_put rank_cmp rank_total rank_id rank_of is_any rank_ties (λ t. refl) t (without eval_cmp task_id id ts) ps not_left refl l))
 
   pub failed_in : (fs gs : List Urgency) → gs ≡ cond (is_failed t) (put urgency_cmp (λ x. x) (urgency_of t) fs) fs
       → IsListing urgency_cmp urgency_id urgency_of is_failed (without eval_cmp task_id id ts) fs → IsListing urgency_cmp urgency_id urgency_of is_failed ts gs
@@ -127,9 +127,9 @@ module _ (id : EvalId) (ts : List Task) (t : Task) (rising : T (is_rising eval_c
     below : (n m : ℕ) → n < m → T (nat_lt n m)
     below n m lt = grind arith
 
-  pub place_spare : (p : Place) (ps : List Place) (room : ℕ) → IsListing place_cmp place_id place_of is_any (without eval_cmp task_id id ts) ps → length ts ≤ room → T (has_row place_cmp (λ x. x) p ps || nat_lt (length ps) room)
-  place_spare p ps room l le =
-      spare place_cmp (λ x. x) p ps room (no_longer place_cmp place_total place_id place_of is_any ps (without eval_cmp task_id id ts) l.rising (λ q h. sym (l.exact q) ∙ h)) le
+  pub rank_spare : (p : Rank) (ps : List Rank) (room : ℕ) → IsListing rank_cmp rank_id rank_of is_any (without eval_cmp task_id id ts) ps → length ts ≤ room → T (has_row rank_cmp (λ x. x) p ps || nat_lt (length ps) room)
+  rank_spare p ps room l le =
+      spare rank_cmp (λ x. x) p ps room (no_longer rank_cmp rank_total rank_id rank_of is_any ps (without eval_cmp task_id id ts) l.rising (λ q h. sym (l.exact q) ∙ h)) le
 
   pub failed_spare : (u : Urgency) (fs : List Urgency) (room : ℕ) → IsListing urgency_cmp urgency_id urgency_of is_failed (without eval_cmp task_id id ts) fs → length ts ≤ room → T (has_row urgency_cmp (λ x. x) u fs || nat_lt (length fs) room)
   failed_spare u fs room l le =
@@ -137,11 +137,11 @@ module _ (id : EvalId) (ts : List Task) (t : Task) (rising : T (is_rising eval_c
 
 -- ---- the three lists
 
-pub all_listed : (ts : List Task) (l : Lists) (places : Stock Place) (failed : Stock Urgency) → l.places ≡ places → l.failed ≡ failed
-    → IsListing place_cmp place_id place_of is_any ts places.rows → AreHeads places.rows l.heads.rows → IsListing urgency_cmp urgency_id urgency_of is_failed ts failed.rows → AreListed ts l
-all_listed ts l places failed is also a b c = record {
-  places = subst (λ (s : Stock Place). IsListing place_cmp place_id place_of is_any ts s.rows) (sym is) a;
-  heads = subst (λ (s : Stock Place). AreHeads s.rows l.heads.rows) (sym is) b;
+pub all_listed : (ts : List Task) (l : Lists) (ranks : Stock Rank) (failed : Stock Urgency) → l.ranks ≡ ranks → l.failed ≡ failed
+    → IsListing rank_cmp rank_id rank_of is_any ts ranks.rows → AreHeads ranks.rows l.heads.rows → IsListing urgency_cmp urgency_id urgency_of is_failed ts failed.rows → AreListed ts l
+all_listed ts l ranks failed is also a b c = record {
+  ranks = subst (λ (s : Stock Rank). IsListing rank_cmp rank_id rank_of is_any ts s.rows) (sym is) a;
+  heads = subst (λ (s : Stock Rank). AreHeads s.rows l.heads.rows) (sym is) b;
   failed = subst (λ (s : Stock Urgency). IsListing urgency_cmp urgency_id urgency_of is_failed ts s.rows) (sym also) c;
 }
 

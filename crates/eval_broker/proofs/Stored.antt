@@ -1,4 +1,4 @@
--- Tasks put and taken out, and one of them changed in place.
+-- Tasks put and taken out, and one of them changed in rank.
 use Rattle.std.proofs.Common.{◌≡◌, ℕ, ◌+◌, ◌≤◌, Bool, true, false, cond, ◌&&◌, T, List, [], ◌∷◌, length, Option, Some, None, is_some, refl, sym, ap, subst, ◌∙◌, arith}
 use Rattle.std.specs.Prelude.{nat_eq, nat_lt, ◌||◌, suc}
 use Rattle.std.specs.declared.cmp.Ordering.{Ordering}
@@ -26,9 +26,9 @@ put_without t ts rising =
     same_rows eval_cmp task_id eval_cmp_total _ _
     (rising_without eval_cmp task_id eval_cmp_total t.id (put eval_cmp task_id t ts) (rising_put eval_cmp task_id eval_cmp_total t ts rising)) (rising_without eval_cmp task_id eval_cmp_total t.id ts rising)
     (λ q. row_of-without eval_cmp task_id eval_cmp_total q t.id (put eval_cmp task_id t ts)
-      ∙ ap (cond (is_eq (eval_cmp q t.id)) None) (row_of-put eval_cmp task_id eval_cmp_total q t ts)
-      ∙ by (is_eq (eval_cmp q t.id)) (Some t) (task_of q ts)
-      ∙ sym (row_of-without eval_cmp task_id eval_cmp_total q t.id ts))
+    ∙ ap (cond (is_eq (eval_cmp q t.id)) None) (row_of-put eval_cmp task_id eval_cmp_total q t ts)
+    ∙ by (is_eq (eval_cmp q t.id)) (Some t) (task_of q ts)
+    ∙ sym (row_of-without eval_cmp task_id eval_cmp_total q t.id ts))
   where
     by : (b : Bool) (x y : Option Task) → cond b None (cond b x y) ≡ cond b None y
     by true x y = refl
@@ -38,13 +38,13 @@ put_without t ts rising =
 
 pub room_kept : (n m : ℕ) (old mid new : Lists) → m ≤ n → HaveRoom n old → KeepRoom old mid → KeepRoom mid new → HaveRoom m new
 room_kept n m old mid new le room one two = record {
-  places = omega (arith, le, room.places, one.places, two.places);
+  ranks = omega (arith, le, room.ranks, one.ranks, two.ranks);
   heads = omega (arith, le, room.heads, one.heads, two.heads);
   failed = omega (arith, le, room.failed, one.failed, two.failed);
 }
 
 pub no_loss : (l : Lists) → KeepRoom l l
-no_loss l = record { places = omega arith; heads = omega arith; failed = omega arith }
+no_loss l = record { ranks = omega arith; heads = omega arith; failed = omega arith }
 
 -- a task that is there leaves as many
 pub as_many : (t : Task) (ts : List Task) (old : Task) → T (is_rising eval_cmp task_id ts) → task_of t.id ts ≡ Some old → length (put eval_cmp task_id t ts) ≡ length ts
@@ -58,7 +58,7 @@ one_more t ts rising = by (has_row eval_cmp task_id t.id ts) (length-put eval_cm
   by true e = omega (arith, e)
   by false e = omega (arith, e)
 
--- ---- in place
+-- ---- in rank
 
 same_ids : (a b : EvalId) → same_eval a b ≡ is_eq (eval_cmp b a)
 same_ids a b = both (nat_eq a.index b.index) (nat_eq a.slot b.slot) (equal_index a.index b.index) (equal_index a.slot b.slot) where
@@ -111,15 +111,15 @@ module _ (ts : List Task) (t new : Task) (rising : T (is_rising eval_cmp task_id
   there : task_of new.id ts ≡ Some t
   there = ap (λ k. task_of k ts) same ∙ found
 
-  pub has_place : (room : ℕ) → T (has_row eval_cmp task_id new.id ts || nat_lt (length ts) room)
-  has_place room = subst (λ (m : Option Task). T (is_some m || nat_lt (length ts) room)) (sym there) tt
+  pub has_space : (room : ℕ) → T (has_row eval_cmp task_id new.id ts || nat_lt (length ts) room)
+  has_space room = subst (λ (m : Option Task). T (is_some m || nat_lt (length ts) room)) (sym there) tt
 
   pub has_room : (l : Lists) → HaveRoom (length ts) l → HaveRoom (length (put eval_cmp task_id new ts)) l
   has_room l room = subst (λ (n : ℕ). HaveRoom n l) (sym (as_many new ts t rising there)) room
 
 -- one that comes in
-pub new_place : (new : Task) (ts : List Task) (room : ℕ) → length ts + 1 ≤ room → T (has_row eval_cmp task_id new.id ts || nat_lt (length ts) room)
-new_place new ts room le = either (has_row eval_cmp task_id new.id ts) (nat_lt (length ts) room) (below (length ts) room le) where
+pub new_space : (new : Task) (ts : List Task) (room : ℕ) → length ts + 1 ≤ room → T (has_row eval_cmp task_id new.id ts || nat_lt (length ts) room)
+new_space new ts room le = either (has_row eval_cmp task_id new.id ts) (nat_lt (length ts) room) (below (length ts) room le) where
   either : (a b : Bool) → T b → T (a || b)
   either true b h = tt
   either false b h = h
@@ -141,13 +141,13 @@ module _ (ts us : List Task) (t new : Task) (rising : T (is_rising eval_cmp task
   pub given_out : (term wait serial s last : ℕ) (id : EvalId) → task_of t.id ts ≡ Some t → next ts ≡ Some t → nat_lt serial MAX ≡ true → s ≡ serial + 1 → last ≡ serial + 1 → id ≡ t.id
       → new ≡ goes_out (record { term = term; serial = s }) wait t
       → deliver term wait (record { tasks = ts; serial = serial }) ≡ Gives (record { eval = id; token = record { term = term; serial = s }; wait = wait }) (record { tasks = us; serial = last })
-  given_out term wait serial s last id found first left is_s is_last is_id is_new =
+  given_out term wait serial s last id found first left is_s is_last is_id is_fresh =
       let old : Broker = record { tasks = ts; serial = serial } in
       let one : suc serial ≡ s = omega (arith, is_s) in
       let two : suc serial ≡ last = omega (arith, is_last) in
       let token = next_token term old in
-      let same : new ≡ goes_out token wait t = is_new ∙ (λ i. goes_out (record { term = term; serial = sym one i }) wait t) in
+      let same : new ≡ goes_out token wait t = is_fresh ∙ (λ i. goes_out (record { term = term; serial = sym one i }) wait t) in
       ap (gives term wait old) first
       ∙ ap (λ b. cond b (Gives (delivery term wait t old) (given term wait t old)) UsedUp) left
       ∙ (λ i. Gives (record { eval = sym is_id i; token = record { term = term; serial = one i }; wait = wait })
-        (record { tasks = sym (put_is ∙ ap (λ x. put eval_cmp task_id x ts) same ∙ sym (one_changed (goes_out token wait) (λ x. refl) t.id ts t rising found)) i; serial = two i }))
+      (record { tasks = sym (put_is ∙ ap (λ x. put eval_cmp task_id x ts) same ∙ sym (one_changed (goes_out token wait) (λ x. refl) t.id ts t rising found)) i; serial = two i }))

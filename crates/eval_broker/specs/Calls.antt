@@ -1,11 +1,12 @@
 -- Calls of a broker, one after another, beside the evaluations of the applied state.
-use Rattle.std.specs.Prelude.{ℕ, List, [], ◌∷◌, T}
+use Rattle.std.specs.Prelude.{◌≡◌, ℕ, List, [], ◌∷◌, map, T}
 use Rattle.rows.specs.declared.evaluation.EvalId.{EvalId}
 use Rattle.rows.specs.declared.evaluation.Evaluation.{Evaluation}
 use Rattle.rows.specs.Keys.{eval_cmp, eval_id}
 use Rattle.rows.specs.Rising.{is_rising}
 use Rattle.fsm_tables.specs.Rows.{put}
-use Rattle.group_model.specs.Brokers.{Broker, Given, Nothing, UsedUp, Gives, no_tasks, broker_over, broker_with, deliver, acked, nacked, HoldsPending}
+use Rattle.group_model.specs.Brokers.{Broker, no_tasks, task_key, broker_over, broker_with, deliver, acked, nacked, HoldsPending}
+use Rattle.group_model.specs.Worked.Brokers.{after_gift}
 
 -- a call, and what it is of; a row is told once it was made or replaced in the applied state
 pub data Call : Type 0 where
@@ -18,11 +19,6 @@ pub data Call : Type 0 where
 pub record Followed : Type 0 where
   pub evals : List Evaluation
   pub broker : Broker
-
-abbrev pub after_gift : Broker → Given → Broker
-after_gift b Nothing = b
-after_gift b UsedUp = b
-after_gift b (Gives what new) = new
 
 -- after a call that is not refused
 abbrev pub after_call : Call → Followed → Followed
@@ -39,9 +35,12 @@ after_calls (c ∷ cs) f = after_calls cs (after_call c f)
 abbrev pub rebuilt : List Evaluation → Followed
 rebuilt evals = record { evals = evals; broker = broker_over evals no_tasks }
 
-abbrev pub Holds : Followed → Type 0
-Holds f = HoldsPending f.evals f.broker.tasks
+-- the tasks are the pending evaluations of the state beside them, and so those of a broker made anew
+-- over it, but for their deliveries and marks
+pub record Holds (f : Followed) : Type 0 where
+  pub pending : HoldsPending f.evals f.broker.tasks
+  pub as_rebuilt : map task_key f.broker.tasks ≡ map task_key (rebuilt f.evals).broker.tasks
 
--- After every list of calls the tasks are the applied state's pending evaluations.
+-- after every list of calls, from a broker made anew over a state on
 abbrev pub HoldsAfterCalls : Type 0
 HoldsAfterCalls = (calls : List Call) (evals : List Evaluation) → T (is_rising eval_cmp eval_id evals) → Holds (after_calls calls (rebuilt evals))

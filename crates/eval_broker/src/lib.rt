@@ -6,11 +6,11 @@ mod answers;
 mod broker;
 mod laws;
 mod lists;
-mod places;
+mod ranks;
 mod rebuild;
 mod task;
 mod tasks;
 
 pub use answers::{PairError, SerialsUsedUp};
 pub use broker::Broker;
-pub use laws::holds_what_is_pending;
+pub use laws::{holds_what_is_pending, worked_run};

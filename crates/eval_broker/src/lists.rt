@@ -7,9 +7,9 @@ ghost use Rattle.fsm_tables.specs.Shelves.{without as without_row};
 ghost use Rattle.fsm_tables.specs.Urgencies.{urgency_cmp};
 ghost use Rattle.group_model.specs.Brokers.{task_id};
 ghost use Rattle.eval_broker.specs.Answers.{urgency_of};
-ghost use Rattle.eval_broker.specs.Inner.Lists.{turn_cmp, is_failed, head_of as head_by, AreHeads, AreHeadsBut, AreListed, HaveRoom, KeepRoom};
+ghost use Rattle.eval_broker.specs.Inner.Lists.{head_cmp, is_failed, head_of as head_by, AreHeads, AreHeadsBut, AreListed, HaveRoom, KeepRoom};
 
-use crate::places::{Place, Turn, head_of};
+use crate::ranks::{Head, Rank, head_of};
 use crate::task::Task;
 use fsm_tables::{Shelf, Urgency};
 use rows::{EvalId, JobName, NoMemory};
@@ -18,9 +18,9 @@ use rows::{EvalId, JobName, NoMemory};
 #[derive(Drop)]
 pub(crate) struct Lists {
     /// All of them, by job.
-    pub places: Shelf<Place>,
+    pub ranks: Shelf<Rank>,
     /// Of each job of which none is out or acked, the first that waits for a worker.
-    pub heads: Shelf<Turn>,
+    pub heads: Shelf<Head>,
     /// Those given out as often as may be, and neither out nor acked.
     pub failed: Shelf<Urgency>,
 }
@@ -28,29 +28,29 @@ pub(crate) struct Lists {
 impl Lists {
     /// Makes room for so many tasks in all. Without memory no row changes, and no room goes.
     pub fn make_room(&mut self, count: usize) -> Result<(), NoMemory>
-        ensures places { self.new.places.rows ≡ self.old.places.rows }
+        ensures ranks { self.new.ranks.rows ≡ self.old.ranks.rows }
         ensures heads { self.new.heads.rows ≡ self.old.heads.rows }
         ensures failed { self.new.failed.rows ≡ self.old.failed.rows }
         ensures ok { OnOk result (HaveRoom count self.new) }
         ensures kept { KeepRoom self.old self.new }
     {
-        self.places.make_room(count)?;
+        self.ranks.make_room(count)?;
         self.heads.make_room(count)?;
         self.failed.make_room(count)
     }
 
     /// The first of a job that waits, where none of the job is out or acked.
-    fn head_of(&self, job: &JobName) -> Option<Turn>
-        ensures { result ≡ head_by job.now self.now.places.rows }
+    fn head_of(&self, job: &JobName) -> Option<Head>
+        ensures { result ≡ head_by job.now self.now.ranks.rows }
     {
-        head_of(self.places.rows(), job)
+        head_of(self.ranks.rows(), job)
     }
 
     /// Takes out the head of a job.
     fn drop_head(&mut self, job: &JobName)
-        requires { AreHeads self.old.places.rows self.old.heads.rows }
-        ensures heads { AreHeadsBut job.now self.old.places.rows self.new.heads.rows }
-        ensures places { self.new.places ≡ self.old.places }
+        requires { AreHeads self.old.ranks.rows self.old.heads.rows }
+        ensures heads { AreHeadsBut job.now self.old.ranks.rows self.new.heads.rows }
+        ensures ranks { self.new.ranks ≡ self.old.ranks }
         ensures failed { self.new.failed ≡ self.old.failed }
         ensures room { self.old.heads.room ≤ self.new.heads.room }
     {
@@ -61,10 +61,10 @@ impl Lists {
 
     /// Brings in the head of a job.
     fn add_head(&mut self, job: &JobName)
-        requires heads { AreHeadsBut job.now self.old.places.rows self.old.heads.rows }
-        requires room { IfSome (head_by job.now self.old.places.rows) (λ h. Holds (has_row turn_cmp (λ t. t) h self.old.heads.rows || nat_lt (length self.old.heads.rows) self.old.heads.room)) }
-        ensures heads { AreHeads self.old.places.rows self.new.heads.rows }
-        ensures places { self.new.places ≡ self.old.places }
+        requires heads { AreHeadsBut job.now self.old.ranks.rows self.old.heads.rows }
+        requires room { IfSome (head_by job.now self.old.ranks.rows) (λ h. Holds (has_row head_cmp (λ t. t) h self.old.heads.rows || nat_lt (length self.old.heads.rows) self.old.heads.room)) }
+        ensures heads { AreHeads self.old.ranks.rows self.new.heads.rows }
+        ensures ranks { self.new.ranks ≡ self.old.ranks }
         ensures failed { self.new.failed ≡ self.old.failed }
         ensures room { self.old.heads.room ≤ self.new.heads.room }
     {
@@ -77,7 +77,7 @@ impl Lists {
     fn add_failed(&mut self, task: &Task)
         requires { Holds (has_row urgency_cmp (λ u. u) (urgency_of task.now) self.old.failed.rows || nat_lt (length self.old.failed.rows) self.old.failed.room) }
         ensures failed { self.new.failed.rows ≡ (if is_failed task.now then with_row urgency_cmp (λ u. u) (urgency_of task.now) self.old.failed.rows else self.old.failed.rows) }
-        ensures places { self.new.places ≡ self.old.places }
+        ensures ranks { self.new.ranks ≡ self.old.ranks }
         ensures heads { self.new.heads ≡ self.old.heads }
         ensures room { self.old.failed.room ≤ self.new.failed.room }
     {
@@ -97,7 +97,7 @@ impl Lists {
         if let Some(task) = tasks.get(id) {
             let job = task.job();
             self.drop_head(&job);
-            self.places.cut(&task.place());
+            self.ranks.cut(&task.rank());
             self.failed.cut(&task.urgency());
             self.add_head(&job);
         }
@@ -114,7 +114,7 @@ impl Lists {
         if let Some(task) = tasks.get(id) {
             let job = task.job();
             self.drop_head(&job);
-            self.places.put(task.place());
+            self.ranks.put(task.rank());
             self.add_failed(task);
             self.add_head(&job);
         }

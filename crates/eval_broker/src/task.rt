@@ -2,9 +2,9 @@
 ghost use Rattle.std.specs.Prelude.{◌≡◌, ◌<◌, option_map, None};
 ghost use Rattle.group_model.specs.Brokers.{Free, Acked, MOST, is_free as is_unmarked, carry, goes_out, set_mark};
 ghost use Rattle.eval_broker.specs.Answers.{pair_of_mark, urgency_of};
-ghost use Rattle.eval_broker.specs.Inner.Lists.{place_of, is_spent as is_used_up, is_failed as has_failed};
+ghost use Rattle.eval_broker.specs.Inner.Lists.{rank_of, is_spent as is_used_up, is_failed as has_failed};
 
-use crate::places::Place;
+use crate::ranks::Rank;
 use fsm_tables::{Row, Urgency};
 use rows::{Delivery, EvalId, Evaluation, Index, JobName, Priority, Ranged, Token};
 use std::marker::Model;
@@ -150,11 +150,11 @@ impl Task {
         Urgency::of(self.priority, self.id)
     }
 
-    /// Its place among those of its job.
-    pub fn place(&self) -> Place
-        ensures { result ≡ place_of self.now }
+    /// Its rank among those of its job.
+    pub fn rank(&self) -> Rank
+        ensures { result ≡ rank_of self.now }
     {
-        Place {
+        Rank {
             job: self.job,
             is_free: self.is_free(),
             is_spent: self.is_spent(),

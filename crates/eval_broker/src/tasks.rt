@@ -44,7 +44,7 @@ impl Tasks {
     /// Makes or replaces a task. There is room for it, so it takes no memory.
     pub fn put(&mut self, task: Task)
         requires kept { AreKept self.old }
-        requires place { Holds (has_row eval_cmp task_id (task_id task) self.old.tasks.rows || nat_lt (length self.old.tasks.rows) self.old.tasks.room) }
+        requires space { Holds (has_row eval_cmp task_id (task_id task) self.old.tasks.rows || nat_lt (length self.old.tasks.rows) self.old.tasks.room) }
         requires room { HaveRoom (length (with_row eval_cmp task_id task self.old.tasks.rows)) self.old.lists }
         ensures kept { AreKept self.new }
         ensures rows { self.new.tasks.rows ≡ with_row eval_cmp task_id task self.old.tasks.rows }

@@ -10,28 +10,28 @@ use Rattle.fsm_tables.specs.Rows.{row_of, has_row}
 use Rattle.fsm_tables.specs.declared.urgency.Urgency.{Urgency}
 use Rattle.fsm_tables.specs.Urgencies.{urgency_cmp}
 use Rattle.group_model.specs.Brokers.{Task, task_id, task_of, is_free, MOST}
-use Rattle.eval_broker.specs.declared.places.Place.{Place}
-use Rattle.eval_broker.specs.declared.places.Turn.{Turn}
+use Rattle.eval_broker.specs.declared.ranks.Rank.{Rank}
+use Rattle.eval_broker.specs.declared.ranks.Head.{Head}
 use Rattle.eval_broker.specs.declared.lists.Lists.{Lists}
 use Rattle.eval_broker.specs.declared.tasks.Tasks.{Tasks}
 use Rattle.eval_broker.specs.Answers.{urgency_of}
 
--- ---- places and turns
+-- ---- ranks and heads
 
-abbrev pub place_cmp : Place → Place → Ordering
-place_cmp a b = ordering_then (name_cmp a.job b.job) (ordering_then (bool_cmp a.is_free b.is_free) (ordering_then (bool_cmp a.is_spent b.is_spent) (urgency_cmp a.urgency b.urgency)))
+abbrev pub rank_cmp : Rank → Rank → Ordering
+rank_cmp a b = ordering_then (name_cmp a.job b.job) (ordering_then (bool_cmp a.is_free b.is_free) (ordering_then (bool_cmp a.is_spent b.is_spent) (urgency_cmp a.urgency b.urgency)))
 
-abbrev pub turn_cmp : Turn → Turn → Ordering
-turn_cmp a b = ordering_then (urgency_cmp a.urgency b.urgency) (name_cmp a.job b.job)
+abbrev pub head_cmp : Head → Head → Ordering
+head_cmp a b = ordering_then (urgency_cmp a.urgency b.urgency) (name_cmp a.job b.job)
 
-abbrev pub place_job : Place → List ℕ
-place_job p = p.job
+abbrev pub rank_job : Rank → List ℕ
+rank_job p = p.job
 
-abbrev pub place_id : Place → EvalId
-place_id p = p.urgency.id
+abbrev pub rank_id : Rank → EvalId
+rank_id p = p.urgency.id
 
-abbrev pub turn_id : Turn → EvalId
-turn_id t = t.urgency.id
+abbrev pub head_id : Head → EvalId
+head_id t = t.urgency.id
 
 abbrev pub urgency_id : Urgency → EvalId
 urgency_id u = u.id
@@ -46,18 +46,18 @@ is_failed t = is_free t.mark && is_spent t
 abbrev pub is_any : Task → Bool
 is_any t = true
 
-abbrev pub place_of : Task → Place
-place_of t = record { job = t.job; is_free = is_free t.mark; is_spent = is_spent t; urgency = urgency_of t }
+abbrev pub rank_of : Task → Rank
+rank_of t = record { job = t.job; is_free = is_free t.mark; is_spent = is_spent t; urgency = urgency_of t }
 
-abbrev pub turn_of : Task → Turn
-turn_of t = record { urgency = urgency_of t; job = t.job }
+abbrev pub head_for : Task → Head
+head_for t = record { urgency = urgency_of t; job = t.job }
 
 -- ---- what the lists have
 
 module _ {X : Type 0} (R : X → X → Ordering) where
   -- whether a list has it
-  abbrev pub has : X → List X → Bool
-  has q xs = has_row R (λ x. x) q xs
+  abbrev pub is_in : X → List X → Bool
+  is_in q xs = has_row R (λ x. x) q xs
 
   -- whether it is what is made of a task that passes
   abbrev pub is_listed : (Task → X) → (Task → Bool) → X → Option Task → Bool
@@ -67,50 +67,49 @@ module _ {X : Type 0} (R : X → X → Ordering) where
   -- the list has what is made of the tasks that pass, and no other, in order
   pub record IsListing (id_of : X → EvalId) (make : Task → X) (passes : Task → Bool) (tasks : List Task) (xs : List X) : Type 0 where
     pub rising : T (is_rising R (λ x. x) xs)
-    pub exact : (q : X) → has q xs ≡ is_listed make passes q (task_of (id_of q) tasks)
+    pub exact : (q : X) → is_in q xs ≡ is_listed make passes q (task_of (id_of q) tasks)
 
--- the turn at a place of which the evaluation waits for a worker
-abbrev pub turn_at : Place → Option Turn
-turn_at p = if p.is_free && not p.is_spent then Some (record { urgency = p.urgency; job = p.job }) else None
+-- the task of a rank as a head, if it waits for a worker
+abbrev pub head_at : Rank → Option Head
+head_at p = if p.is_free && not p.is_spent then Some (record { urgency = p.urgency; job = p.job }) else None
 
-abbrev pub first_turn : Option Place → Option Turn
-first_turn None = None
-first_turn (Some p) = turn_at p
+abbrev pub first_head : Option Rank → Option Head
+first_head None = None
+first_head (Some p) = head_at p
 
--- the first of a job that waits, where none of the job is out or acked: of a job's places these come
--- first, and then those that wait
-abbrev pub head_of : List ℕ → List Place → Option Turn
-head_of job places = first_turn (row_of name_cmp place_job job places)
+-- the first of a job that waits, where none of the job is out or acked: those that are rank first
+abbrev pub head_of : List ℕ → List Rank → Option Head
+head_of job ranks = first_head (row_of name_cmp rank_job job ranks)
 
-abbrev pub is_turn : Turn → Option Turn → Bool
-is_turn t None = false
-is_turn t (Some h) = is_eq (turn_cmp t h)
+abbrev pub is_head : Head → Option Head → Bool
+is_head t None = false
+is_head t (Some h) = is_eq (head_cmp t h)
 
 -- the heads of all jobs
-pub record AreHeads (places : List Place) (heads : List Turn) : Type 0 where
-  pub rising : T (is_rising turn_cmp (λ t. t) heads)
-  pub exact : (t : Turn) → has turn_cmp t heads ≡ is_turn t (head_of t.job places)
+pub record AreHeads (ranks : List Rank) (heads : List Head) : Type 0 where
+  pub rising : T (is_rising head_cmp (λ t. t) heads)
+  pub exact : (t : Head) → is_in head_cmp t heads ≡ is_head t (head_of t.job ranks)
 
 -- and of all jobs but one
-pub record AreHeadsBut (job : List ℕ) (places : List Place) (heads : List Turn) : Type 0 where
-  pub rising : T (is_rising turn_cmp (λ t. t) heads)
-  pub exact : (t : Turn) → has turn_cmp t heads ≡ (not (is_eq (name_cmp t.job job)) && is_turn t (head_of t.job places))
+pub record AreHeadsBut (job : List ℕ) (ranks : List Rank) (heads : List Head) : Type 0 where
+  pub rising : T (is_rising head_cmp (λ t. t) heads)
+  pub exact : (t : Head) → is_in head_cmp t heads ≡ (not (is_eq (name_cmp t.job job)) && is_head t (head_of t.job ranks))
 
 -- the three lists are those of these tasks
 pub record AreListed (tasks : List Task) (l : Lists) : Type 0 where
-  pub places : IsListing place_cmp place_id place_of is_any tasks l.places.rows
-  pub heads : AreHeads l.places.rows l.heads.rows
+  pub ranks : IsListing rank_cmp rank_id rank_of is_any tasks l.ranks.rows
+  pub heads : AreHeads l.ranks.rows l.heads.rows
   pub failed : IsListing urgency_cmp urgency_id urgency_of is_failed tasks l.failed.rows
 
 -- each has room for so many
 pub record HaveRoom (most : ℕ) (l : Lists) : Type 0 where
-  pub places : most ≤ l.places.room
+  pub ranks : most ≤ l.ranks.room
   pub heads : most ≤ l.heads.room
   pub failed : most ≤ l.failed.room
 
 -- none of them loses room
 pub record KeepRoom (old new : Lists) : Type 0 where
-  pub places : old.places.room ≤ new.places.room
+  pub ranks : old.ranks.room ≤ new.ranks.room
   pub heads : old.heads.room ≤ new.heads.room
   pub failed : old.failed.room ≤ new.failed.room
 
@@ -122,5 +121,5 @@ pub record AreKept (k : Tasks) : Type 0 where
   pub room : HaveRoom (length k.tasks.rows) k.lists
 
 -- neither out nor acked, nor given out yet
-abbrev pub is_new : Task → Type 0
-is_new t = (is_free t.mark ≡ true) × (t.deliveries ≡ 0)
+abbrev pub is_fresh : Task → Type 0
+is_fresh t = (is_free t.mark ≡ true) × (t.deliveries ≡ 0)

@@ -1,17 +1,17 @@
 use Rattle.std.proofs.Common.{sym, ap, ◌∙◌}
 use Rattle.group_model.specs.Brokers.{task_id, deliver}
 use Rattle.eval_broker.proofs.Chosen.{next_there, next_few}
-use Rattle.eval_broker.proofs.Stored.{has_place, has_room, given_out}
+use Rattle.eval_broker.proofs.Stored.{has_space, has_room, given_out}
 use Rattle.eval_broker.proofs.broker.Broker.next.Goals as goal
 
 pub given-task-requires : goal.given-task-requires
 given-task-requires c = next_few c.self.inside.tasks.tasks.rows c.in-Some.task.now c.self.invariant.rising (sym c.in-Some.ensures)
 
-pub put-requires-clause-place : goal.put-requires-clause-place
-put-requires-clause-place c =
+pub put-requires-clause-space : goal.put-requires-clause-space
+put-requires-clause-space c =
     let ts = c.self.inside.tasks.tasks.rows in
     let t = c.in-Some.task.now in
-    has_place ts t c.given-task.result c.self.invariant.rising (next_there ts t c.self.invariant.rising (sym c.in-Some.ensures)) (ap task_id c.given-task.ensures) c.self.inside.tasks.tasks.room
+    has_space ts t c.given-task.result c.self.invariant.rising (next_there ts t c.self.invariant.rising (sym c.in-Some.ensures)) (ap task_id c.given-task.ensures) c.self.inside.tasks.tasks.room
 
 pub put-requires-clause-room : goal.put-requires-clause-room
 put-requires-clause-room c =

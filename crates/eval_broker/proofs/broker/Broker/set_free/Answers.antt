@@ -1,14 +1,14 @@
 use Rattle.std.proofs.Common.{refl, sym, ap, ◌∙◌}
 use Rattle.group_model.specs.Brokers.{Free, task_id, set_mark, nacked}
 use Rattle.eval_broker.proofs.Listings.{found_own}
-use Rattle.eval_broker.proofs.Stored.{has_place, has_room, in_place, none_changed}
+use Rattle.eval_broker.proofs.Stored.{has_space, has_room, in_place, none_changed}
 use Rattle.eval_broker.proofs.broker.Broker.set_free.Goals as goal
 
-pub put-requires-clause-place : goal.put-requires-clause-place
-put-requires-clause-place c =
+pub put-requires-clause-space : goal.put-requires-clause-space
+put-requires-clause-space c =
     let ts = c.self.inside.tasks.tasks.rows in
     let t = c.in-Some.task.now in
-    has_place ts t c.freed-task.result c.self.invariant.rising (found_own c.args.eval.now ts t (sym c.in-Some.ensures)) (ap task_id c.freed-task.ensures) c.self.inside.tasks.tasks.room
+    has_space ts t c.freed-task.result c.self.invariant.rising (found_own c.args.eval.now ts t (sym c.in-Some.ensures)) (ap task_id c.freed-task.ensures) c.self.inside.tasks.tasks.room
 
 pub put-requires-clause-room : goal.put-requires-clause-room
 put-requires-clause-room c =

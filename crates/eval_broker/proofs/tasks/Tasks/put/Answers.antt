@@ -18,8 +18,8 @@ bring_in-requires-clause-listed c =
     let task = c.args.task in
     let ts = c.args.self.now.tasks.rows in
     let same : without eval_cmp task_id c.id-id.result c.args.self.now.tasks.rows ≡ without eval_cmp task_id c.id-id.result c.put.new.self.rows =
-        ap (λ k. without eval_cmp task_id k ts) c.id-id.ensures ∙ sym (put_without task ts c.requires.kept.rising)
-        ∙ (λ i. without eval_cmp task_id (sym c.id-id.ensures i) (sym c.put.ensures.rows i)) in
+    ap (λ k. without eval_cmp task_id k ts) c.id-id.ensures ∙ sym (put_without task ts c.requires.kept.rising)
+    ∙ (λ i. without eval_cmp task_id (sym c.id-id.ensures i) (sym c.put.ensures.rows i)) in
     subst (λ us. AreListed us c.take_out.new.self) same c.take_out.ensures.listed
 
 pub bring_in-requires-clause-room : goal.bring_in-requires-clause-room
