@@ -1,0 +1,11 @@
+pub mod Orders
+pub mod Listings
+pub mod Heads
+pub mod FirstOfJob
+pub mod Relisting
+pub mod First
+pub mod Chosen
+pub mod Stored
+pub mod Following
+pub mod FailedOrder
+pub mod Made

@@ -1,0 +1,29 @@
+use Rattle.std.proofs.Common.{refl, sym, ap, ◌∙◌}
+use Rattle.group_model.specs.Brokers.{Acked, task_id, set_mark, acked}
+use Rattle.eval_broker.proofs.Listings.{found_own}
+use Rattle.eval_broker.proofs.Stored.{has_space, has_room, in_place, none_changed}
+use Rattle.eval_broker.proofs.broker.Broker.set_acked.Goals as goal
+
+pub put-requires-clause-space : goal.put-requires-clause-space
+put-requires-clause-space c =
+    let ts = c.self.inside.tasks.tasks.rows in
+    let t = c.in-Some.task.now in
+    has_space ts t c.acked-task.result c.self.invariant.rising (found_own c.args.eval.now ts t (sym c.in-Some.ensures)) (ap task_id c.acked-task.ensures) c.self.inside.tasks.tasks.room
+
+pub put-requires-clause-room : goal.put-requires-clause-room
+put-requires-clause-room c =
+    let ts = c.self.inside.tasks.tasks.rows in
+    let t = c.in-Some.task.now in
+    has_room ts t c.acked-task.result c.self.invariant.rising (found_own c.args.eval.now ts t (sym c.in-Some.ensures)) (ap task_id c.acked-task.ensures) c.self.inside.tasks.lists c.self.invariant.room
+
+pub returns-in-Some : goal.returns-in-Some
+returns-in-Some c =
+    let ts = c.self.inside.tasks.tasks.rows in
+    in_place ts c.put.new.self.tasks.rows c.in-Some.task.now c.acked-task.result c.self.invariant.rising c.put.ensures.rows (set_mark Acked) (λ x. refl) c.args.eval.now c.self.inside.serial (sym c.in-Some.ensures) c.acked-task.ensures
+    ∙ ap (acked c.args.eval.now) c.self.view_is
+
+pub returns-in_default : goal.returns-in_default
+returns-in_default c =
+    sym c.self.view_is
+    ∙ (λ i. record { tasks = sym (none_changed (set_mark Acked) (λ x. refl) c.args.eval.now c.self.inside.tasks.tasks.rows (sym c.in_default.ensures)) i; serial = c.self.inside.serial })
+    ∙ ap (acked c.args.eval.now) c.self.view_is

@@ -1,0 +1,122 @@
+//! The lists beside the tasks.
+ghost use Rattle.std.specs.Prelude.{◌≡◌, ◌≤◌, [], IfSome, OnOk, length, T as Holds, ◌||◌, nat_lt, if◌then◌else◌};
+ghost use Rattle.rows.specs.Keys.{eval_cmp};
+ghost use Rattle.rows.specs.Rising.{is_rising};
+ghost use Rattle.fsm_tables.specs.Rows.{has_row, put as with_row};
+ghost use Rattle.fsm_tables.specs.Shelves.{without as without_row};
+ghost use Rattle.fsm_tables.specs.Urgencies.{urgency_cmp};
+ghost use Rattle.group_model.specs.Brokers.{task_id};
+ghost use Rattle.eval_broker.specs.Answers.{urgency_of};
+ghost use Rattle.eval_broker.specs.Inner.Lists.{head_cmp, is_failed, head_of as head_by, AreHeads, AreHeadsBut, AreListed, HaveRoom, KeepRoom};
+
+use crate::ranks::{Head, Rank, head_of};
+use crate::task::Task;
+use fsm_tables::{Shelf, Urgency};
+use rows::{EvalId, JobName, NoMemory};
+
+/// The lists beside the tasks: so nothing is searched by walking.
+#[derive(Drop)]
+pub(crate) struct Lists {
+    /// All of them, by job.
+    pub ranks: Shelf<Rank>,
+    /// Of each job of which none is out or acked, the first that waits for a worker.
+    pub heads: Shelf<Head>,
+    /// Those given out as often as may be, and neither out nor acked.
+    pub failed: Shelf<Urgency>,
+}
+
+impl Lists {
+    /// Makes room for so many tasks in all. Without memory no row changes, and no room goes.
+    pub fn make_room(&mut self, count: usize) -> Result<(), NoMemory>
+        ensures ranks { self.new.ranks.rows ≡ self.old.ranks.rows }
+        ensures heads { self.new.heads.rows ≡ self.old.heads.rows }
+        ensures failed { self.new.failed.rows ≡ self.old.failed.rows }
+        ensures ok { OnOk result (HaveRoom count self.new) }
+        ensures kept { KeepRoom self.old self.new }
+    {
+        self.ranks.make_room(count)?;
+        self.heads.make_room(count)?;
+        self.failed.make_room(count)
+    }
+
+    /// The first of a job that waits, where none of the job is out or acked.
+    fn head_of(&self, job: &JobName) -> Option<Head>
+        ensures { result ≡ head_by job.now self.now.ranks.rows }
+    {
+        head_of(self.ranks.rows(), job)
+    }
+
+    /// Takes out the head of a job.
+    fn drop_head(&mut self, job: &JobName)
+        requires { AreHeads self.old.ranks.rows self.old.heads.rows }
+        ensures heads { AreHeadsBut job.now self.old.ranks.rows self.new.heads.rows }
+        ensures ranks { self.new.ranks ≡ self.old.ranks }
+        ensures failed { self.new.failed ≡ self.old.failed }
+        ensures room { self.old.heads.room ≤ self.new.heads.room }
+    {
+        if let Some(head) = self.head_of(job) {
+            self.heads.cut(&head);
+        }
+    }
+
+    /// Brings in the head of a job.
+    fn add_head(&mut self, job: &JobName)
+        requires heads { AreHeadsBut job.now self.old.ranks.rows self.old.heads.rows }
+        requires room { IfSome (head_by job.now self.old.ranks.rows) (λ h. Holds (has_row head_cmp (λ t. t) h self.old.heads.rows || nat_lt (length self.old.heads.rows) self.old.heads.room)) }
+        ensures heads { AreHeads self.old.ranks.rows self.new.heads.rows }
+        ensures ranks { self.new.ranks ≡ self.old.ranks }
+        ensures failed { self.new.failed ≡ self.old.failed }
+        ensures room { self.old.heads.room ≤ self.new.heads.room }
+    {
+        if let Some(head) = self.head_of(job) {
+            self.heads.put(head);
+        }
+    }
+
+    /// Brings in a task that was given out as often as may be, if this is one.
+    fn add_failed(&mut self, task: &Task)
+        requires { Holds (has_row urgency_cmp (λ u. u) (urgency_of task.now) self.old.failed.rows || nat_lt (length self.old.failed.rows) self.old.failed.room) }
+        ensures failed { self.new.failed.rows ≡ (if is_failed task.now then with_row urgency_cmp (λ u. u) (urgency_of task.now) self.old.failed.rows else self.old.failed.rows) }
+        ensures ranks { self.new.ranks ≡ self.old.ranks }
+        ensures heads { self.new.heads ≡ self.old.heads }
+        ensures room { self.old.failed.room ≤ self.new.failed.room }
+    {
+        if task.is_failed() {
+            self.failed.put(task.urgency());
+        }
+    }
+
+    /// Takes out what the lists have of a task, if it is there.
+    pub fn take_out(&mut self, tasks: &Shelf<Task>, id: &EvalId)
+        requires rising { Holds (is_rising eval_cmp task_id tasks.now.rows) }
+        requires listed { AreListed tasks.now.rows self.old }
+        requires room { HaveRoom (length tasks.now.rows) self.old }
+        ensures listed { AreListed (without_row eval_cmp task_id id.now tasks.now.rows) self.new }
+        ensures kept { KeepRoom self.old self.new }
+    {
+        if let Some(task) = tasks.get(id) {
+            let job = task.job();
+            self.drop_head(&job);
+            self.ranks.cut(&task.rank());
+            self.failed.cut(&task.urgency());
+            self.add_head(&job);
+        }
+    }
+
+    /// Brings in what the lists have of a task, if it is there.
+    pub fn bring_in(&mut self, tasks: &Shelf<Task>, id: &EvalId)
+        requires rising { Holds (is_rising eval_cmp task_id tasks.now.rows) }
+        requires listed { AreListed (without_row eval_cmp task_id id.now tasks.now.rows) self.old }
+        requires room { HaveRoom (length tasks.now.rows) self.old }
+        ensures listed { AreListed tasks.now.rows self.new }
+        ensures kept { KeepRoom self.old self.new }
+    {
+        if let Some(task) = tasks.get(id) {
+            let job = task.job();
+            self.drop_head(&job);
+            self.ranks.put(task.rank());
+            self.add_failed(task);
+            self.add_head(&job);
+        }
+    }
+}

@@ -1,0 +1,84 @@
+//! The tasks, with the lists beside them.
+ghost use Rattle.std.specs.Prelude.{◌≡◌, ◌≤◌, ◌+◌, OnOk, OnErr, option_map, length, map, filter, nat_lt, ◌||◌, T as Holds};
+ghost use Rattle.rows.specs.Keys.{eval_cmp};
+ghost use Rattle.fsm_tables.specs.Rows.{has_row, put as with_row};
+ghost use Rattle.fsm_tables.specs.Shelves.{without as without_row};
+ghost use Rattle.group_model.specs.Brokers.{task_id, task_of, next as next_of};
+ghost use Rattle.eval_broker.specs.Inner.Lists.{AreKept, HaveRoom, is_failed};
+ghost use Rattle.eval_broker.specs.Answers.{urgency_of};
+ghost use Rattle.group_model.specs.Order.{in_order};
+
+use crate::lists::Lists;
+use crate::task::Task;
+use fsm_tables::{Shelf, Urgency};
+use rows::{EvalId, NoMemory};
+
+/// The tasks by id, and the lists beside them.
+#[derive(Drop)]
+pub(crate) struct Tasks {
+    pub tasks: Shelf<Task>,
+    pub lists: Lists,
+}
+
+impl Tasks {
+    /// The task of an id, if there is one.
+    pub fn get(&self, id: &EvalId) -> Option<&Task>
+        ensures { option_map (λ t. t.now) result ≡ task_of id.now self.now.tasks.rows }
+    {
+        self.tasks.get(id)
+    }
+
+    /// Makes room for one task more. Without memory no row changes.
+    pub fn make_room(&mut self) -> Result<(), NoMemory>
+        requires kept { AreKept self.old }
+        ensures kept { AreKept self.new }
+        ensures rows { self.new.tasks.rows ≡ self.old.tasks.rows }
+        ensures tasks { OnOk result (length self.old.tasks.rows + 1 ≤ self.new.tasks.room) }
+        ensures lists { OnOk result (HaveRoom (length self.old.tasks.rows + 1) self.new.lists) }
+    {
+        let count = self.tasks.rows().len() + 1;
+        self.tasks.make_room(count)?;
+        self.lists.make_room(count)
+    }
+
+    /// Makes or replaces a task. There is room for it, so it takes no memory.
+    pub fn put(&mut self, task: Task)
+        requires kept { AreKept self.old }
+        requires space { Holds (has_row eval_cmp task_id (task_id task) self.old.tasks.rows || nat_lt (length self.old.tasks.rows) self.old.tasks.room) }
+        requires room { HaveRoom (length (with_row eval_cmp task_id task self.old.tasks.rows)) self.old.lists }
+        ensures kept { AreKept self.new }
+        ensures rows { self.new.tasks.rows ≡ with_row eval_cmp task_id task self.old.tasks.rows }
+    {
+        let id = task.id();
+        self.lists.take_out(&self.tasks, &id);
+        self.tasks.put(task);
+        self.lists.bring_in(&self.tasks, &id);
+    }
+
+    /// Takes out the task of an id, if there is one. It takes no memory.
+    pub fn cut(&mut self, id: &EvalId)
+        requires kept { AreKept self.old }
+        ensures kept { AreKept self.new }
+        ensures rows { self.new.tasks.rows ≡ without_row eval_cmp task_id id.now self.old.tasks.rows }
+    {
+        self.lists.take_out(&self.tasks, id);
+        self.tasks.cut(id);
+    }
+
+    /// The task that is given out next, if there is one.
+    pub fn next(&self) -> Option<&Task>
+        requires { AreKept self.now }
+        ensures { option_map (λ t. t.now) result ≡ next_of self.now.tasks.rows }
+    {
+        let head = self.lists.heads.rows().first()?;
+        self.tasks.get(&head.urgency.id)
+    }
+
+    /// Those given out as often as may be, and neither out nor acked, in the order of tasks.
+    pub fn failed(&self) -> &[Urgency]
+        requires { AreKept self.now }
+        ensures { result.now ≡ map urgency_of (in_order (λ t. t.priority) (filter is_failed self.now.tasks.rows)) }
+    {
+        self.lists.failed.rows()
+    }
+}
