@@ -21,7 +21,7 @@ use Rattle.rows.specs.Rising.{is_below, is_rising}
 use Rattle.fsm_tables.specs.Rows.{by_order, row_of, has_row, put, put_within}
 use Rattle.fsm_tables.proofs.RowLaws.{both, less, first, second, none_below, below_less, below_tied, some_none, some_same}
 use Rattle.cluster_model.specs.Words.{State, is_some_and, same_eval, is_open}
-use Rattle.cluster_model.specs.Effect.{touched, with_evals, is_named, owns, stop_job, down, draining, drained, set_status}
+use Rattle.cluster_model.specs.Effect.{touched, with_evals, owns, stop_job, down, draining, drained, set_status}
 use Rattle.rows.proofs.KeyLaws.{eval_cmp_total}
 use Rattle.fsm_state.specs.Inner.Steps.{put_changed, with_row_changed, touched_names, set_one, is_one_of, AreJobs}
 use Rattle.cluster_model.proofs.Lists.{maps_same, or_false, both_tests}
@@ -170,9 +170,6 @@ changed_status id to evals h =
 
 pub touched_same : (those : Job → Bool) (names : List (List ℕ)) → ((j : Job) → those j ≡ is_one_of names j) → (t : State) → touched those t ≡ touched_names names t
 touched_same those names h t = λ i. record t { evals = with_evals t.count 0 (filter (λ j. h j i) t.jobs) t.evals }
-
-pub touched_name : (name : List ℕ) (t : State) → touched (is_named name) t ≡ touched_names (name ∷ []) t
-touched_name name t = touched_same (is_named name) (name ∷ []) (λ j. sym (or_false (is_named name j))) t
 
 -- what is touched is told by which names there are
 pub touched_jobs : (which : Allocation → Bool) (names : List (List ℕ)) (rows : List Allocation) → AreJobs which names rows → (t : State) → touched (owns which rows) t ≡ touched_names names t

@@ -1,75 +1,72 @@
--- A loop over the jobs touches those of the names.
-use Rattle.std.proofs.Common.{◌≡◌, ℕ, zero, suc, ◌+◌, ◌<◌, List, [], ◌∷◌, true, false, cond, drop, length, Option, Some, None, refl, sym, ap, subst, ◌∙◌, ◌≤◌, arith, add-one}
-use Rattle.std.specs.Prelude.{filter}
-use Rattle.std.specs.List.{slice_get}
+-- Jobs that are touched: the rows of names, looked up one by one.
+use Rattle.std.proofs.Common.{◌≡◌, ℕ, ◌+◌, ◌≤◌, cond, T, List, [], ◌∷◌, length, is_some, Option, Some, None, refl, sym, ap, subst, ◌∙◌, arith}
+use Rattle.std.specs.Prelude.{filter, bytes_eq}
+use Rattle.std.specs.List.{list_any, cons_option}
+use Rattle.std.specs.List.Sorted.{IsStrictlySortedBy}
+use Rattle.std.specs.BTreeSet.{BTreeSet, IsOrdered}
+use Rattle.std.specs.Ordering.{is_eq}
+use Rattle.std.specs.Cmp.Lexicographic.{nat_list_cmp_total}
+use Rattle.std.proofs.lemmas.Map.Lookups.{exact_bytes}
+use Rattle.std.proofs.lemmas.Map.Text.{is_eq-slice_cmp}
 use Rattle.rows.specs.declared.job.Job.{Job}
 use Rattle.rows.specs.declared.evaluation.Evaluation.{Evaluation}
-use Rattle.rows.specs.Keys.{eval_cmp, eval_id}
-use Rattle.fsm_tables.specs.Rows.{put_within}
+use Rattle.rows.specs.Keys.{name_cmp, job_name}
+use Rattle.rows.specs.Rising.{is_rising}
+use Rattle.fsm_tables.specs.Rows.{row_of, has_row}
+use Rattle.fsm_tables.proofs.Filters.{found_at, under_are_filtered}
 use Rattle.cluster_model.specs.Words.{State}
-use Rattle.cluster_model.specs.Effect.{new_eval, with_evals}
-use Rattle.fsm_state.specs.Inner.Steps.{eval_for, is_one_of}
+use Rattle.cluster_model.specs.Effect.{with_evals, touched, is_named}
+use Rattle.cluster_model.proofs.Lists.{anys_same, or_false}
+use Rattle.cluster_model.proofs.Keys.{at_name}
+use Rattle.cluster_model.proofs.RangeLaws.{no_more}
+use Rattle.fsm_state.specs.Inner.Steps.{is_one_of, jobs_at, HasNames}
 
-abbrev pub After : ℕ → ℕ → List (List ℕ) → ℕ → List Job → List Evaluation → List Evaluation → Type 0
-After x slot names place jobs evals all = with_evals x slot (filter (is_one_of names) (drop place jobs)) evals ≡ all
+-- ---- the rows of names
 
-abbrev pub next_slot : Option Evaluation → ℕ → ℕ
-next_slot None slot = slot
-next_slot (Some e) slot = slot + 1
+-- a set's names, looked up in their order, find the rows of the names
+pub jobs_are : (names : List (List ℕ)) (set : BTreeSet (List ℕ)) (jobs : List Job) → T (is_rising name_cmp job_name jobs) → IsOrdered name_cmp set → HasNames names set
+    → jobs_at jobs set.keys ≡ filter (is_one_of names) jobs
+jobs_are names set jobs rising sorted has =
+    under_are_filtered name_cmp job_name exact_bytes nat_list_cmp_total jobs (is_one_of names) set.keys rising sorted (λ q x e.
+    has q
+    ∙ ap (λ k. list_any (λ other. is_eq (name_cmp other k)) names) (sym (found_at name_cmp job_name exact_bytes q x jobs e))
+    ∙ anys_same (λ other. is_eq (name_cmp other x.name)) (λ other. bytes_eq x.name other) (λ other. at_name other x) names)
 
-abbrev pub next_evals : Option Evaluation → List Evaluation → List Evaluation
-next_evals None evals = evals
-next_evals (Some e) evals = put_within eval_cmp eval_id 65536 e evals
+alone : (name : List ℕ) → IsStrictlySortedBy name_cmp (name ∷ [])
+unfolding IsStrictlySortedBy
+alone name = (tt, tt)
 
-here : (x slot : ℕ) (names : List (List ℕ)) (j : Job) (js : List Job) (evals : List Evaluation)
-    → with_evals x slot (filter (is_one_of names) (j ∷ js)) evals
-    ≡ with_evals x (next_slot (eval_for x slot names (Some j)) slot) (filter (is_one_of names) js) (next_evals (eval_for x slot names (Some j)) evals)
-here x slot names j js evals =
-    elim (is_one_of names j) as (λ b. with_evals x slot (cond b (j ∷ filter (is_one_of names) js) (filter (is_one_of names) js)) evals
-    ≡ with_evals x (next_slot (cond b (Some (new_eval x slot j)) None) slot) (filter (is_one_of names) js) (next_evals (cond b (Some (new_eval x slot j)) None) evals)) [
-      | true ↦ refl
-      | false ↦ refl
-    ]
+-- a name is that of one row, or of none
+pub named_row : (name : List ℕ) (jobs : List Job) → T (is_rising name_cmp job_name jobs) → jobs_at jobs (name ∷ []) ≡ filter (is_named name) jobs
+named_row name jobs rising =
+    under_are_filtered name_cmp job_name exact_bytes nat_list_cmp_total jobs (is_named name) (name ∷ []) rising (alone name) (λ q x e.
+    or_false (is_eq (name_cmp q name))
+    ∙ ap (λ k. is_eq (name_cmp k name)) (sym (found_at name_cmp job_name exact_bytes q x jobs e))
+    ∙ is_eq-slice_cmp x.name name)
 
-pub touch_step : (x slot : ℕ) (names : List (List ℕ)) (place : ℕ) (jobs : List Job) (evals : List Evaluation) → place < length jobs
-    → with_evals x slot (filter (is_one_of names) (drop place jobs)) evals
-    ≡ with_evals x (next_slot (eval_for x slot names (slice_get jobs place)) slot) (filter (is_one_of names) (drop (suc place) jobs)) (next_evals (eval_for x slot names (slice_get jobs place)) evals)
-touch_step x slot names place [] evals lt = absurd (omega arith)
-touch_step x slot names zero (j ∷ js) evals lt = here x slot names j js evals
-touch_step x slot names (suc place) (j ∷ js) evals lt = touch_step x slot names place js evals (omega arith)
+one_or_none : (r : Option Job) → length (cons_option r []) ≡ cond (is_some r) 1 0
+one_or_none None = refl
+one_or_none (Some j) = refl
 
-pub all_touched : (x slot : ℕ) (names : List (List ℕ)) (place : ℕ) (jobs : List Job) (evals : List Evaluation) → length jobs ≡ place
-    → with_evals x slot (filter (is_one_of names) (drop place jobs)) evals ≡ evals
-all_touched x slot names zero [] evals e = refl
-all_touched x slot names (suc place) [] evals e = absurd (omega arith)
-all_touched x slot names zero (j ∷ js) evals e = absurd (omega arith)
-all_touched x slot names (suc place) (j ∷ js) evals e = all_touched x slot names place js evals (omega arith)
+pub named_once : (name : List ℕ) (jobs : List Job) → T (is_rising name_cmp job_name jobs) → length (filter (is_named name) jobs) ≡ cond (has_row name_cmp job_name name jobs) 1 0
+named_once name jobs rising = ap length (sym (named_row name jobs rising)) ∙ one_or_none (row_of name_cmp job_name name jobs)
 
--- what the loop over the jobs keeps
-pub record Kept (x : ℕ) (names : List (List ℕ)) (all : List Evaluation) (s0 t : State) (slot place : ℕ) : Type 0 where
+-- what is found is no more than the rows
+pub few_at : (names : List (List ℕ)) (jobs js : List Job) → js ≡ filter (is_one_of names) jobs → length jobs ≤ 256 → (length js ≤ length jobs) × (length js ≤ 256)
+few_at names jobs js e few =
+    let most : length js ≤ length jobs = subst (λ ks. length ks ≤ length jobs) (sym e) (no_more (is_one_of names) jobs) in
+    (most, omega (arith, most, few))
+
+-- the one row of a name is touched
+pub touched_found : (name : List ℕ) (r : Option Job) (s : State) → T (is_rising name_cmp job_name s.jobs) → row_of name_cmp job_name name s.jobs ≡ r
+    → record s { evals = with_evals s.count 0 (cons_option r []) s.evals } ≡ touched (is_named name) s
+touched_found name r s rising e =
+    ap (λ js. record s { evals = with_evals s.count 0 js s.evals }) (ap (λ q. cons_option q []) (sym e) ∙ named_row name s.jobs rising)
+
+-- ---- a loop over names touches their jobs
+
+-- what the loop over the names keeps
+pub record Kept (x : ℕ) (all : List Evaluation) (s0 t : State) (slot : ℕ) (names : List (List ℕ)) : Type 0 where
   pub same : t ≡ record s0 { evals = t.evals }
-  pub evals : After x slot names place s0.jobs t.evals all
-  pub slots : slot ≤ place
-
-slots_kept : (o : Option Evaluation) (slot place : ℕ) → slot ≤ place → next_slot o slot ≤ place + 1
-slots_kept None slot place le = omega arith
-slots_kept (Some e) slot place le = omega arith
-
-pub kept : (x : ℕ) (names : List (List ℕ)) (all : List Evaluation) (s0 s : State) (slot place : ℕ) (o : Option Evaluation)
-    → s ≡ record s0 { evals = s.evals } → After x slot names place s0.jobs s.evals all → slot ≤ place → place < length s0.jobs → o ≡ eval_for x slot names (slice_get s.jobs place)
-    → Kept x names all s0 (record s { evals = next_evals o s.evals }) (next_slot o slot) (place + 1)
-kept x names all s0 s slot place o same after le lt is =
-    let at : o ≡ eval_for x slot names (slice_get s0.jobs place) = is ∙ ap (λ (z : State). eval_for x slot names (slice_get z.jobs place)) same in
-    record {
-      same = ap (λ (z : State). record z { evals = next_evals o s.evals }) same;
-      evals = rw add-one (subst (λ (p : Option Evaluation). with_evals x (next_slot p slot) (filter (is_one_of names) (drop (suc place) s0.jobs)) (next_evals p s.evals) ≡ all) (sym at)
-          (sym (touch_step x slot names place s0.jobs s.evals lt) ∙ after));
-      slots = slots_kept o slot place le;
-    }
-
-pub moved : (x : ℕ) (names : List (List ℕ)) (all : List Evaluation) (s0 s : State) (slot place : ℕ) (o p : Option Evaluation) (t : State) (slot' : ℕ)
-    → o ≡ p → t ≡ record s { evals = next_evals p s.evals } → slot' ≡ next_slot p slot
-    → Kept x names all s0 (record s { evals = next_evals o s.evals }) (next_slot o slot) place → Kept x names all s0 t slot' place
-moved x names all s0 s slot place o p t slot' e f g h =
-    let there = subst (λ (q : Option Evaluation). Kept x names all s0 (record s { evals = next_evals q s.evals }) (next_slot q slot) place) e h in
-    subst (λ (z : State). Kept x names all s0 z slot' place) (sym f) (subst (λ (n : ℕ). Kept x names all s0 (record s { evals = next_evals p s.evals }) n place) (sym g) there)
+  pub evals : with_evals x slot (jobs_at s0.jobs names) t.evals ≡ all
+  pub slots : slot + length (jobs_at s0.jobs names) ≤ 256

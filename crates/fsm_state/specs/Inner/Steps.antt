@@ -1,9 +1,10 @@
 -- The effects once more, as puts of one row after the other at its key: the form in which the code
 -- makes them.
 use Rattle.std.specs.Prelude.{◌≡◌, ◌++◌, map, ℕ, true, not, ◌&&◌, List, [], ◌∷◌, filter, Option, Some, None, nat_eq, bytes_eq, Bool, if◌then◌else◌}
-use Rattle.std.specs.List.{list_any, IsDistinct}
+use Rattle.std.specs.List.{list_any, filter_map, IsDistinct}
+use Rattle.std.specs.BTreeSet.{BTreeSet, contains}
 use Rattle.std.specs.declared.cmp.Ordering.{Ordering}
-use Rattle.std.specs.Ordering.{nat_cmp}
+use Rattle.std.specs.Ordering.{nat_cmp, is_eq}
 use Rattle.rows.specs.declared.job.Job.{Job}
 use Rattle.rows.specs.declared.node.Node.{Node}
 use Rattle.rows.specs.declared.evaluation.EvalId.{EvalId}
@@ -18,7 +19,7 @@ use Rattle.fsm_tables.specs.TableRows.{TableRows}
 use Rattle.fsm_tables.specs.Claims.{is_active, is_live}
 use Rattle.cluster_model.specs.Limits.{most_jobs, most_nodes, most_evals, most_allocs}
 use Rattle.cluster_model.specs.Words.{State, alloc_of, is_open}
-use Rattle.cluster_model.specs.Effect.{lost_row, lost, is_ended_by, client_state_of, new_eval, with_evals}
+use Rattle.cluster_model.specs.Effect.{lost_row, lost, is_ended_by, client_state_of, with_evals}
 use Rattle.rows.specs.declared.command.StatusChange.{StatusChange}
 use Rattle.rows.specs.Changes.{status_of, snapshot_of}
 
@@ -83,6 +84,19 @@ abbrev pub touched_names : List (List ℕ) → State → State
 touched_names names s =
     let those = filter (λ j. list_any (λ name. bytes_eq j.name name) names) s.jobs in
     record s { evals = with_evals s.count 0 those s.evals }
+
+-- a set has these names and no other
+abbrev pub HasNames : List (List ℕ) → BTreeSet (List ℕ) → Type 0
+HasNames names set =
+    (name : List ℕ) → contains name_cmp set name ≡ list_any (λ other. is_eq (name_cmp other name)) names
+
+-- the rows of the names that have one, in the order of the names
+abbrev pub jobs_at : List Job → List (List ℕ) → List Job
+jobs_at jobs names = filter_map (λ name. row_of name_cmp job_name name jobs) names
+
+-- their jobs are touched, in this order
+abbrev pub touched_at : List (List ℕ) → State → State
+touched_at names s = record s { evals = with_evals s.count 0 (jobs_at s.jobs names) s.evals }
 
 -- ---- one allocation
 
@@ -167,12 +181,6 @@ revised_to a b s = record s {
   nodes = if is_live a && not (is_live b) then room_at s.count a.node s.nodes else s.nodes;
   allocs = put_within alloc_cmp alloc_id most_allocs b s.allocs;
 }
-
--- the evaluation that touches a job, if it is one of the names
-abbrev pub eval_for : ℕ → ℕ → List (List ℕ) → Option Job → Option Evaluation
-eval_for x slot names None = None
-eval_for x slot names (Some j) =
-    if list_any (λ name. bytes_eq j.name name) names then (Some (new_eval x slot j)) else None
 
 -- ---- statuses, names, and reports told before any is taken
 

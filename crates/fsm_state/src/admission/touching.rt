@@ -1,5 +1,5 @@
 //! Why a state refuses the commands that touch several jobs.
-ghost use Rattle.std.specs.Prelude.{◌≡◌, ◌≤◌, Option, Some, None, IfOk, OnOk, length, filter, option_map};
+ghost use Rattle.std.specs.Prelude.{◌≡◌, Option, Some, None, IfOk, OnOk, option_map};
 ghost use Rattle.std.specs.List.{list_any, list_all};
 ghost use Rattle.rows.specs.declared.command.Command.TheVariants as commands;
 ghost use Rattle.cluster_model.specs.Words.{no_alloc, is_ready};
@@ -11,10 +11,9 @@ ghost use Rattle.fsm_state.specs.Inner.Steps.{is_one_of, ended_job, ended_now, A
 use crate::admission::is_drained;
 use crate::apply::reports::told as told_itself;
 use crate::cluster::Cluster;
-use crate::touch::is_among;
 use fsm_tables::{Tables, is_live};
 use rows::{
-    AllocId, Allocation, Job, JobName, NoMemory, NodeId, NodeStatus, Refusal, Report, Reports,
+    AllocId, Allocation, JobName, NoMemory, NodeId, NodeStatus, Refusal, Report, Reports,
     RisingIds, Sequence,
 };
 
@@ -26,15 +25,6 @@ pub(super) fn is_ready(status: NodeStatus) -> bool
         NodeStatus::Ready => true,
         NodeStatus::Down => false,
     }
-}
-
-/// How many of the jobs are of these names.
-#[tactic(auto, using(cluster_model::proofs::RangeLaws::no_more))]
-fn count_of(jobs: &[Job], names: &[JobName]) -> usize
-    ensures count { result ≡ length (filter (is_one_of names.now) jobs.now) }
-    ensures few { result ≤ length jobs.now }
-{
-    jobs.iter().filter(|job| is_among(&job.name, names)).count()
 }
 
 /// A row after a report, if it is of that allocation.
@@ -79,12 +69,12 @@ fn add_ended(
 
 impl Cluster {
     /// Whether the evaluations that touch the jobs of these names would pass the limit.
-    fn names_pass(&self, names: &[JobName]) -> bool
-        ensures { result ≡ touch_passes (is_one_of names.now) self.now }
+    fn names_pass(&self, names: &[JobName]) -> Result<bool, NoMemory>
+        ensures { IfOk result (λ b. b ≡ touch_passes (is_one_of names.now) self.now) }
     {
         self.ranges();
-        let more = count_of(self.job_table().rows(), names);
-        self.eval_table().len() + more > Tables::MOST_EVALS
+        let more = self.count_named(names)?;
+        Ok(self.eval_table().len() + more > Tables::MOST_EVALS)
     }
 
     /// Whether a node is being emptied.
@@ -103,7 +93,7 @@ impl Cluster {
             IfOk result (λ b. b ≡ touch_passes those self.now) }
     {
         let names = self.jobs_on(node)?;
-        Ok(self.names_pass(names.as_slice()))
+        self.names_pass(names.as_slice())
     }
 
     /// Why a node may not be taken for down.
@@ -159,7 +149,7 @@ impl Cluster {
     {
         self.ranges();
         let names = self.jobs_of(ids)?;
-        Ok(self.names_pass(names.as_slice()))
+        self.names_pass(names.as_slice())
     }
 
     /// Why allocations may not be marked.
@@ -219,7 +209,7 @@ impl Cluster {
     {
         self.ranges();
         let names = self.jobs_ended(node, reports)?;
-        Ok(self.names_pass(names.as_slice()))
+        self.names_pass(names.as_slice())
     }
 
     /// Why reports of a node may not be taken.

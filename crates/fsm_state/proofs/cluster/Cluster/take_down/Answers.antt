@@ -14,6 +14,6 @@ returns c =
     let e : c.lose.new.self ≡ t = c.in_ok-lose.ensures
     ∙ ap (λ (z : State). record z { allocs = map (lost n) z.allocs }) c.in_ok-set_down.ensures
     ∙ (λ i. record s { nodes = downed_node n s.nodes c.ranges-2.ensures.tables.nodes.rising i; allocs = map (lost n) s.allocs }) in
-    turned c.touch.result c.touch.new.self _ _
+    turned c.touch_all.result c.touch_all.new.self _ _
     (touched_both _ _ _ _ c.as_slice.ensures e ∙ sym (touched_jobs (lives_on n) _ s.allocs c.in_ok-names.ensures t))
-    c.touch.ensures
+    c.touch_all.ensures
