@@ -3,6 +3,7 @@ use Rattle.std.proofs.Common.{◌≡◌, ℕ, ◌+◌, ◌≤◌, Bool, true, fa
 use Rattle.std.specs.Prelude.{nat_eq, nat_lt, sum_by, option_map}
 use Rattle.std.specs.List.{AllByRecursion, list_any}
 use Rattle.std.proofs.lemmas.List.Sums.{sum_by-cons}
+use Rattle.std.specs.BTreeSet.{BTreeSet}
 use Rattle.rows.specs.declared.job.Job.{Job}
 use Rattle.rows.specs.declared.allocation.Allocation.{Allocation}
 use Rattle.rows.specs.Fits.{AllocationFits}
@@ -10,7 +11,7 @@ use Rattle.fsm_tables.specs.Claims.{claim_of, claims, on_node, is_live}
 use Rattle.fsm_tables.specs.Lookups.{lives_on}
 use Rattle.cluster_model.specs.Words.{State}
 use Rattle.cluster_model.specs.Admission.{evals_pass, those_jobs}
-use Rattle.fsm_state.specs.Inner.Steps.{is_one_of}
+use Rattle.fsm_state.specs.Inner.Steps.{is_in}
 
 pub mapped_some : {A B : Type 0} (f : A → B) (o : Option A) → is_some (option_map f o) ≡ is_some o
 mapped_some f None = refl
@@ -37,5 +38,5 @@ used_where_live n [] h = refl
 used_where_live n (a ∷ rows) h = ap (nat_lt 0) (one_more n a rows) ∙ in_use (is_live a) (nat_eq a.node n) a.size.cpu (cpu_on n rows) (list_any (lives_on n) rows) h.0.5.0.0 (used_where_live n rows h.1)
 
 -- jobs told by names
-pub names_are : (those : Job → Bool) (names others : List (List ℕ)) (s : State) → names ≡ others → ((j : Job) → those j ≡ is_one_of others j) → evals_pass (those_jobs (is_one_of names) s) s ≡ evals_pass (those_jobs those s) s
-names_are those names others s e h = ap (λ ns. evals_pass (those_jobs (is_one_of ns) s) s) e ∙ sym (λ i. evals_pass (those_jobs (λ j. h j i) s) s)
+pub names_are : (those : Job → Bool) (names : BTreeSet (List ℕ)) (s : State) → ((j : Job) → those j ≡ is_in names j) → evals_pass (those_jobs (is_in names) s) s ≡ evals_pass (those_jobs those s) s
+names_are those names s h = sym (λ i. evals_pass (those_jobs (λ j. h j i) s) s)

@@ -49,7 +49,7 @@ impl Cluster {
         let names = self.jobs_on(number)?;
         self.set_down(number)?;
         self.lose(number)?;
-        self.touch_all(entry, names.as_slice())
+        self.touch_all(entry, &names)
     }
 
     /// A node's loss. Without a row of the node nothing changes.
@@ -87,7 +87,7 @@ impl Cluster {
         self.ranges();
         let names = self.jobs_of(ids)?;
         self.mark_all(ids)?;
-        self.touch_all(entry, names.as_slice())
+        self.touch_all(entry, &names)
     }
 
     /// Touches a job.
@@ -128,7 +128,7 @@ impl Cluster {
     {
         self.ranges();
         let names = self.take_reports(node, reports)?;
-        self.touch_all(entry, names.as_slice())
+        self.touch_all(entry, &names)
     }
 
     /// Applies a command, whether or not the state admits it. Without memory the value is fit only

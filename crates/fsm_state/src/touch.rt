@@ -1,32 +1,18 @@
 //! Evaluations that are made to touch jobs.
-ghost use Rattle.std.specs.Prelude.{◌≡◌, ◌≤◌, IfOk, OnOk, bytes_eq, length, filter};
-ghost use Rattle.std.specs.List.{list_any};
-ghost use Rattle.std.specs.BTreeSet.{IsOrdered};
-ghost use Rattle.rows.specs.Keys.{name_cmp};
+ghost use Rattle.std.specs.Prelude.{◌≡◌, ◌≤◌, ◌∷◌, OnOk, length, filter};
 ghost use Rattle.cluster_model.specs.Effect.{new_eval, touched, is_named};
-ghost use Rattle.fsm_state.specs.Inner.Steps.{touched_names, touched_at, jobs_at, is_one_of, HasNames};
+ghost use Rattle.fsm_state.specs.Inner.Steps.{touched_at, jobs_at, is_in, AddsNames};
 
 use crate::cluster::Cluster;
 use rows::{EntryIndex, EvalId, EvalStatus, Evaluation, Index, Job, JobName, NoMemory};
-use std::alloc::Global;
 use std::collections::BTreeSet;
 
-/// Whether a name is one of these.
-pub(crate) fn is_among(name: &JobName, names: &[JobName]) -> bool
-    ensures { result ≡ list_any (λ other. bytes_eq name.now other) names.now }
+/// Adds a name, unless it is there. It takes time in the logarithm of the names.
+pub(crate) fn add_name(names: &mut BTreeSet<JobName>, name: JobName) -> Result<(), NoMemory>
+    ensures { OnOk result (AddsNames (λ rest. name ∷ rest) names.old names.new) }
 {
-    names.iter().any(|other| *name == *other)
-}
-
-/// The names, each once and in rising order.
-fn set_of(alloc: Global, names: &[JobName]) -> Result<BTreeSet<JobName>, NoMemory>
-    ensures { IfOk result (HasNames names.now) }
-{
-    let mut set = BTreeSet::new(alloc);
-    for name in names {
-        set.insert(*name)?;
-    }
-    Ok(set)
+    names.insert(name)?;
+    Ok(())
 }
 
 /// The evaluation that touches a job.
@@ -78,14 +64,17 @@ impl Cluster {
 
     /// Makes one evaluation for each job of these names that has a row, in rising name. It takes
     /// one look-up for each name.
-    pub(crate) fn touch_all(&mut self, entry: EntryIndex, names: &[JobName]) -> Result<(), NoMemory>
+    pub(crate) fn touch_all(
+        &mut self,
+        entry: EntryIndex,
+        names: &BTreeSet<JobName>,
+    ) -> Result<(), NoMemory>
         requires { entry ≡ self.old.count }
-        ensures { OnOk result (self.new ≡ touched_names names.now self.old) }
+        ensures { OnOk result (self.new ≡ touched (is_in names.now) self.old) }
     {
         self.ranges();
-        let names = set_of(self.memory(), names)?;
         let _count = names.len();
-        self.touch_each(entry, &names)
+        self.touch_each(entry, names)
     }
 
     /// How many of these names are of a job that has a row.
@@ -103,13 +92,12 @@ impl Cluster {
     }
 
     /// How many jobs of these names have a row. It takes one look-up for each name.
-    pub(crate) fn count_named(&self, names: &[JobName]) -> Result<usize, NoMemory>
-        ensures count { IfOk result (λ n. n ≡ length (filter (is_one_of names.now) self.now.jobs)) }
-        ensures few { IfOk result (λ n. n ≤ length self.now.jobs) }
+    pub(crate) fn count_all(&self, names: &BTreeSet<JobName>) -> usize
+        ensures count { result ≡ length (filter (is_in names.now) self.now.jobs) }
+        ensures few { result ≤ length self.now.jobs }
     {
         self.ranges();
-        let names = set_of(self.memory(), names)?;
         let _count = names.len();
-        Ok(self.count_each(&names))
+        self.count_each(names)
     }
 }

@@ -1,4 +1,5 @@
 use Rattle.cluster_model.specs.Effect.{with_evals}
+use Rattle.fsm_state.specs.Inner.Steps.{is_in}
 use Rattle.fsm_state.proofs.Touching.{jobs_are, few_at}
 use Rattle.fsm_state.proofs.Turns.{turned}
 use Rattle.fsm_state.proofs.cluster.Cluster.touch_all.Goals as goal
@@ -6,11 +7,11 @@ use Rattle.fsm_state.proofs.cluster.Cluster.touch_all.Goals as goal
 pub touch_each-requires-clause-few : goal.touch_each-requires-clause-few
 touch_each-requires-clause-few c =
     let jobs = c.ranges-2.ensures.tables.jobs in
-    let are = jobs_are c.args.names.now c.in_ok-names.names c.args.self.now.jobs jobs.rising c.len-count.ensures.ordered c.in_ok-names.ensures in
-    (few_at c.args.names.now c.args.self.now.jobs _ are jobs.few).1
+    let s = c.args.self.now in
+    (few_at (is_in c.args.names.now) s.jobs _ (jobs_are c.args.names.now s.jobs jobs.rising c.len-count.ensures.ordered) jobs.few).1
 
 pub returns : goal.returns
 returns c =
     let s = c.args.self.now in
-    let are = jobs_are c.args.names.now c.in_ok-names.names s.jobs c.ranges-2.ensures.tables.jobs.rising c.len-count.ensures.ordered c.in_ok-names.ensures in
+    let are = jobs_are c.args.names.now s.jobs c.ranges-2.ensures.tables.jobs.rising c.len-count.ensures.ordered in
     turned c.touch_each.result c.touch_each.new.self _ _ (λ i. record s { evals = with_evals s.count 0 (are i) s.evals }) c.touch_each.ensures
