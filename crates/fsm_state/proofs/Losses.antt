@@ -1,5 +1,4 @@
--- A node's loss: the rows that the look-ups by node list are all that is lost, and all whose jobs
--- are touched.
+-- A node's loss: the rows that the look-up by node lists are all that is lost.
 use Rattle.std.proofs.Common.{◌≡◌, ℕ, List, [], ◌∷◌, ◌++◌, true, false, cond, T, map, refl, sym, ap, subst, ◌∙◌}
 use Rattle.std.specs.Prelude.{filter}
 use Rattle.std.proofs.lemmas.List.{append_assoc, append-nil, map-append}

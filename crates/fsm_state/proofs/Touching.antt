@@ -20,7 +20,11 @@ use Rattle.cluster_model.specs.Effect.{with_evals, touched, is_named, owns}
 use Rattle.cluster_model.proofs.Lists.{or_false}
 use Rattle.cluster_model.proofs.Keys.{names_turn}
 use Rattle.cluster_model.proofs.RangeLaws.{no_more}
-use Rattle.fsm_state.specs.Inner.Steps.{is_one_of, is_in, has_name, jobs_at, owners, AddsNames}
+use Rattle.fsm_state.specs.Inner.Steps.{is_in, has_name, jobs_at, owners, AddsNames}
+
+-- whether a job's name is one of these
+abbrev pub is_one_of : List (List ℕ) → Job → Bool
+is_one_of names j = has_name names j.name
 
 -- ---- the rows of names
 

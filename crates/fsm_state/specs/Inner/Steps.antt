@@ -179,15 +179,12 @@ revised_to a b s = record s {
   allocs = put_within alloc_cmp alloc_id most_allocs b s.allocs;
 }
 
--- ---- statuses, names, and reports told before any is taken
+-- ---- statuses, and reports told before any is taken
 
 -- the status of one evaluation, unless it is final
 abbrev pub set_one : StatusChange → Evaluation → Evaluation
 set_one to e =
     if is_open e.status then (record e { status = status_of to; snapshot = snapshot_of to }) else e
-
-abbrev pub is_one_of : List (List ℕ) → Job → Bool
-is_one_of names j = has_name names j.name
 
 abbrev pub ended_now : (Allocation → Allocation) → List Report → State → List (List ℕ)
 ended_now f [] s = []
