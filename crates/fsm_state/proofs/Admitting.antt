@@ -1,44 +1,17 @@
 -- What the code of admission asks of tables is what admission tests.
-use Rattle.std.proofs.Common.{◌≡◌, ℕ, ◌+◌, ◌≤◌, Bool, true, false, cond, ◌&&◌, ◌||◌, T, List, [], ◌∷◌, length, Option, Some, None, is_some, refl, sym, ap, ◌∙◌, arith, suc}
-use Rattle.std.specs.Prelude.{nat_eq, nat_lt, sum_by, filter, option_map}
+use Rattle.std.proofs.Common.{◌≡◌, ℕ, ◌+◌, ◌≤◌, Bool, true, false, cond, ◌&&◌, ◌||◌, List, [], ◌∷◌, Option, Some, None, is_some, refl, sym, ap, ◌∙◌, arith}
+use Rattle.std.specs.Prelude.{nat_eq, nat_lt, sum_by, option_map}
 use Rattle.std.specs.List.{AllByRecursion, list_any}
-use Rattle.std.specs.Ordering.{is_eq}
-use Rattle.std.specs.Cmp.Lexicographic.{nat_list_cmp_total}
-use Rattle.std.specs.declared.cmp.Ordering.TheVariants.{Less, Equal, Greater}
 use Rattle.std.proofs.lemmas.List.Sums.{sum_by-cons}
+use Rattle.std.specs.BTreeSet.{BTreeSet}
 use Rattle.rows.specs.declared.job.Job.{Job}
 use Rattle.rows.specs.declared.allocation.Allocation.{Allocation}
-use Rattle.rows.specs.Keys.{name_cmp, job_name}
-use Rattle.rows.specs.Rising.{is_rising}
 use Rattle.rows.specs.Fits.{AllocationFits}
-use Rattle.fsm_tables.specs.Rows.{row_of, has_row}
-use Rattle.fsm_tables.proofs.RowLaws.{first, second, none_below, below_tied}
 use Rattle.fsm_tables.specs.Claims.{claim_of, claims, on_node, is_live}
 use Rattle.fsm_tables.specs.Lookups.{lives_on}
-use Rattle.cluster_model.specs.Effect.{is_named}
 use Rattle.cluster_model.specs.Words.{State}
 use Rattle.cluster_model.specs.Admission.{evals_pass, those_jobs}
-use Rattle.cluster_model.proofs.Keys.{at_name}
-use Rattle.fsm_state.specs.Inner.Steps.{is_one_of}
-
-none_named : (name : List ℕ) (jobs : List Job) → row_of name_cmp job_name name jobs ≡ None → length (filter (is_named name) jobs) ≡ 0
-none_named name [] e = refl
-none_named name (j ∷ jobs) e =
-    elim (is_named name j) as (λ b. is_named name j ≡ b → length (cond b (j ∷ filter (is_named name) jobs) (filter (is_named name) jobs)) ≡ 0) [
-      | true ↦ λ t. let there : Some j ≡ None = ap (λ b. cond b (Some j) (row_of name_cmp job_name name jobs)) (sym (at_name name j ∙ t)) ∙ e in absurd cc
-      | false ↦ λ t. none_named name jobs (ap (λ b. cond b (Some j) (row_of name_cmp job_name name jobs)) (sym (at_name name j ∙ t)) ∙ e)
-    ] refl
-
--- a name is that of one row, or of none
-pub named_once : (name : List ℕ) (jobs : List Job) → T (is_rising name_cmp job_name jobs) → length (filter (is_named name) jobs) ≡ cond (has_row name_cmp job_name name jobs) 1 0
-named_once name [] h = refl
-named_once name (j ∷ jobs) h =
-    elim (name_cmp name j.name) as (λ r. name_cmp name j.name ≡ r → length (cond (is_named name j) (j ∷ filter (is_named name) jobs) (filter (is_named name) jobs)) ≡ cond (is_some (cond (is_eq r) (Some j) (row_of name_cmp job_name name jobs))) 1 0) [
-      | Less ↦ λ e. ap (λ b. length (cond b (j ∷ filter (is_named name) jobs) (filter (is_named name) jobs))) (sym (at_name name j) ∙ ap is_eq e) ∙ named_once name jobs (second _ _ h)
-      | Equal ↦ λ e. ap (λ b. length (cond b (j ∷ filter (is_named name) jobs) (filter (is_named name) jobs))) (sym (at_name name j) ∙ ap is_eq e)
-          ∙ ap suc (none_named name jobs (none_below name_cmp job_name nat_list_cmp_total name jobs (below_tied name_cmp job_name nat_list_cmp_total name j.name jobs e (first _ _ h))))
-      | Greater ↦ λ e. ap (λ b. length (cond b (j ∷ filter (is_named name) jobs) (filter (is_named name) jobs))) (sym (at_name name j) ∙ ap is_eq e) ∙ named_once name jobs (second _ _ h)
-    ] refl
+use Rattle.fsm_state.specs.Inner.Steps.{is_in}
 
 pub mapped_some : {A B : Type 0} (f : A → B) (o : Option A) → is_some (option_map f o) ≡ is_some o
 mapped_some f None = refl
@@ -65,5 +38,5 @@ used_where_live n [] h = refl
 used_where_live n (a ∷ rows) h = ap (nat_lt 0) (one_more n a rows) ∙ in_use (is_live a) (nat_eq a.node n) a.size.cpu (cpu_on n rows) (list_any (lives_on n) rows) h.0.5.0.0 (used_where_live n rows h.1)
 
 -- jobs told by names
-pub names_are : (those : Job → Bool) (names others : List (List ℕ)) (s : State) → names ≡ others → ((j : Job) → those j ≡ is_one_of others j) → evals_pass (those_jobs (is_one_of names) s) s ≡ evals_pass (those_jobs those s) s
-names_are those names others s e h = ap (λ ns. evals_pass (those_jobs (is_one_of ns) s) s) e ∙ sym (λ i. evals_pass (those_jobs (λ j. h j i) s) s)
+pub names_are : (those : Job → Bool) (names : BTreeSet (List ℕ)) (s : State) → ((j : Job) → those j ≡ is_in names j) → evals_pass (those_jobs (is_in names) s) s ≡ evals_pass (those_jobs those s) s
+names_are those names s h = sym (λ i. evals_pass (those_jobs (λ j. h j i) s) s)

@@ -10,7 +10,8 @@ use Rattle.rows.specs.Keys.{alloc_cmp, alloc_id}
 use Rattle.fsm_tables.specs.Claims.{is_active, is_live}
 use Rattle.cluster_model.specs.Words.{State, alloc_of, is_some_and, same_alloc}
 use Rattle.cluster_model.specs.Effect.{owns, is_ended_by, client_state_of, told, told_all}
-use Rattle.fsm_state.specs.Inner.Steps.{is_one_of, ended_now}
+use Rattle.fsm_state.specs.Inner.Steps.{ended_now}
+use Rattle.fsm_state.proofs.Touching.{is_one_of}
 use Rattle.rows.proofs.KeyLaws.{alloc_cmp_total}
 use Rattle.cluster_model.proofs.Lists.{anys_same, and_assoc}
 use Rattle.fsm_state.proofs.StepLaws.{any_at}

@@ -1,6 +1,6 @@
 -- The effects as puts of one row after the other are the effects as changes of all rows.
 use Rattle.std.proofs.Common.{◌≡◌, ℕ, Bool, true, false, cond, ◌&&◌, ◌||◌, T, List, [], ◌∷◌, ◌++◌, length, map, Option, Some, None, is_some, refl, sym, ap, subst, ◌∙◌}
-use Rattle.std.specs.Prelude.{nat_eq, nat_lt, filter}
+use Rattle.std.specs.Prelude.{nat_eq, nat_lt}
 use Rattle.std.specs.List.{list_any}
 use Rattle.std.specs.Cmp.{IsTotalOrder, nat_cmp_total, tied_itself}
 use Rattle.std.specs.Cmp.Lexicographic.{nat_list_cmp_total}
@@ -13,17 +13,16 @@ use Rattle.rows.specs.declared.node.NodeStatus.TheVariants as statuses
 use Rattle.rows.specs.declared.node.DrainMode.TheVariants as drains
 use Rattle.rows.specs.declared.evaluation.EvalId.{EvalId}
 use Rattle.rows.specs.declared.evaluation.Evaluation.{Evaluation}
-use Rattle.rows.specs.declared.allocation.Allocation.{Allocation}
 use Rattle.rows.specs.declared.command.StatusChange.{StatusChange}
 use Rattle.rows.specs.Changes.{status_of, snapshot_of}
 use Rattle.rows.specs.Keys.{name_cmp, eval_cmp, job_name, node_number, eval_id}
 use Rattle.rows.specs.Rising.{is_below, is_rising}
 use Rattle.fsm_tables.specs.Rows.{by_order, row_of, has_row, put, put_within}
 use Rattle.fsm_tables.proofs.RowLaws.{both, less, first, second, none_below, below_less, below_tied, some_none, some_same}
-use Rattle.cluster_model.specs.Words.{State, is_some_and, same_eval, is_open}
-use Rattle.cluster_model.specs.Effect.{touched, with_evals, is_named, owns, stop_job, down, draining, drained, set_status}
+use Rattle.cluster_model.specs.Words.{is_some_and, same_eval, is_open}
+use Rattle.cluster_model.specs.Effect.{stop_job, down, draining, drained, set_status}
 use Rattle.rows.proofs.KeyLaws.{eval_cmp_total}
-use Rattle.fsm_state.specs.Inner.Steps.{put_changed, with_row_changed, touched_names, set_one, is_one_of, AreJobs}
+use Rattle.fsm_state.specs.Inner.Steps.{put_changed, with_row_changed, set_one}
 use Rattle.cluster_model.proofs.Lists.{maps_same, or_false, both_tests}
 use Rattle.cluster_model.proofs.Keys.{at_name, at_number, at_eval}
 
@@ -165,15 +164,3 @@ pub changed_status : (id : EvalId) (to : StatusChange) (evals : List Evaluation)
 changed_status id to evals h =
     changed_is eval_cmp eval_id eval_cmp_total 65536 (set_one to) (λ e. elim (is_open e.status) as (λ b. eval_id (cond b (record e { status = status_of to; snapshot = snapshot_of to }) e) ≡ e.id) [ true ↦ refl | false ↦ refl ]) id evals h
     ∙ maps_same _ (set_status id to) (λ e. ap (λ b. cond b (set_one to e) e) (at_eval id e) ∙ both_tests (same_eval e.id id) (is_open e.status) _ e) evals
-
--- ---- touch by names
-
-pub touched_same : (those : Job → Bool) (names : List (List ℕ)) → ((j : Job) → those j ≡ is_one_of names j) → (t : State) → touched those t ≡ touched_names names t
-touched_same those names h t = λ i. record t { evals = with_evals t.count 0 (filter (λ j. h j i) t.jobs) t.evals }
-
-pub touched_name : (name : List ℕ) (t : State) → touched (is_named name) t ≡ touched_names (name ∷ []) t
-touched_name name t = touched_same (is_named name) (name ∷ []) (λ j. sym (or_false (is_named name j))) t
-
--- what is touched is told by which names there are
-pub touched_jobs : (which : Allocation → Bool) (names : List (List ℕ)) (rows : List Allocation) → AreJobs which names rows → (t : State) → touched (owns which rows) t ≡ touched_names names t
-touched_jobs which names rows h t = touched_same (owns which rows) names (λ j. sym (h.named j.name)) t

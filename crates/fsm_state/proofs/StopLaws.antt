@@ -16,12 +16,13 @@ use Rattle.fsm_tables.specs.Rows.{row_of, put_within}
 use Rattle.fsm_tables.proofs.RowLaws.{rising_mapped}
 use Rattle.fsm_tables.specs.Claims.{Claim, claim_of, is_active, is_live, is_wanted}
 use Rattle.cluster_model.specs.Words.{State, alloc_of, is_some_and, same_alloc}
-use Rattle.cluster_model.specs.Effect.{touched, owns, moves, with_migrate_mark, is_ended_by, frees, with_room, altered, stop, client_state_of, told, told_all}
+use Rattle.cluster_model.specs.Effect.{owns, moves, with_migrate_mark, is_ended_by, frees, with_room, altered, stop, client_state_of, told, told_all}
 use Rattle.cluster_model.proofs.SafeLaws.{Releases, with_room_keeps, stop_releases, told_releases, told_all_releases}
 use Rattle.rows.proofs.KeyLaws.{alloc_cmp_total}
-use Rattle.fsm_state.specs.Inner.Steps.{put_changed, room_at, touched_names, alloc_changed, revised_row, revised, ended_job, stop_one, stopped_all, tell_one, told_steps, ended_jobs, mark_one, marked_all, live_job, live_jobs, is_one_of}
+use Rattle.fsm_state.specs.Inner.Steps.{put_changed, room_at, alloc_changed, revised_row, revised, ended_job, stop_one, stopped_all, tell_one, told_steps, ended_jobs, mark_one, marked_all, live_job, live_jobs}
+use Rattle.fsm_state.proofs.Touching.{is_one_of}
 use Rattle.cluster_model.proofs.Lists.{maps, map_itself, maps_same, anys_same, and_false, swap, and_assoc, both_tests}
-use Rattle.fsm_state.proofs.StepLaws.{only, only_keeps, none_only, changed_is, any_at, node_changed_is, touched_same}
+use Rattle.fsm_state.proofs.StepLaws.{only, only_keeps, none_only, changed_is, any_at, node_changed_is}
 use Rattle.cluster_model.proofs.Keys.{names_turn, at_alloc}
 
 -- the change of the allocation of an id
@@ -225,7 +226,7 @@ one_ended f (Some a) names j = elim (is_ended_by f a) as (λ b. is_one_of (cond 
   | false ↦ refl
 ]
 
-told_jobs : (n : ℕ) (rs : List Report) (s : State) → AreRising s → (j : Job) → owns (is_ended_by (told_all n rs)) s.allocs j ≡ is_one_of (ended_jobs n rs s) j
+pub told_jobs : (n : ℕ) (rs : List Report) (s : State) → AreRising s → (j : Job) → owns (is_ended_by (told_all n rs)) s.allocs j ≡ is_one_of (ended_jobs n rs s) j
 told_jobs n [] s h j = ends_none (λ c. bytes_eq c.job j.name) s.allocs
 told_jobs n (r ∷ rs) s h j =
     let q : Claim → Bool = λ c. bytes_eq c.job j.name in
@@ -236,9 +237,6 @@ told_jobs n (r ∷ rs) s h j =
     ends_twice q (told_all n rs) (told n r) (told_all_releases n rs) (told_releases n r) s.allocs
     ∙ (λ i. here i || rest i)
     ∙ sym (one_ended (tell_one n r) (alloc_of r.id s) (ended_jobs n rs (revised (tell_one n r) r.id s)) j)
-
-pub touched_told : (n : ℕ) (rs : List Report) (s t : State) → AreRising s → touched (owns (is_ended_by (told_all n rs)) s.allocs) t ≡ touched_names (ended_jobs n rs s) t
-touched_told n rs s t h = touched_same (owns (is_ended_by (told_all n rs)) s.allocs) (ended_jobs n rs s) (told_jobs n rs s h) t
 
 -- ---- marks
 
@@ -307,6 +305,3 @@ moved_jobs (id ∷ ids) s h j =
     moves_more id ids s.allocs j
     ∙ (λ i. here i || moved_jobs ids s h j i)
     ∙ sym (one_live (alloc_of id s) (live_jobs ids s) j)
-
-pub touched_moved : (ids : List AllocId) (s t : State) → AreRising s → touched (owns (moves ids) s.allocs) t ≡ touched_names (live_jobs ids s) t
-touched_moved ids s t h = touched_same (owns (moves ids) s.allocs) (live_jobs ids s) (moved_jobs ids s h) t

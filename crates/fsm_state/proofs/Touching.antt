@@ -1,75 +1,96 @@
--- A loop over the jobs touches those of the names.
-use Rattle.std.proofs.Common.{◌≡◌, ℕ, zero, suc, ◌+◌, ◌<◌, List, [], ◌∷◌, true, false, cond, drop, length, Option, Some, None, refl, sym, ap, subst, ◌∙◌, ◌≤◌, arith, add-one}
-use Rattle.std.specs.Prelude.{filter}
-use Rattle.std.specs.List.{slice_get}
+-- Jobs that are touched: the rows of names, looked up one by one.
+use Rattle.std.proofs.Common.{◌≡◌, ℕ, ◌+◌, ◌≤◌, ◌||◌, ◌&&◌, Bool, true, false, cond, T, List, [], ◌∷◌, length, is_some, Option, Some, None, refl, sym, ap, subst, ◌∙◌, arith}
+use Rattle.std.specs.Prelude.{filter, bytes_eq}
+use Rattle.std.specs.List.{cons_option}
+use Rattle.std.specs.List.Sorted.{IsStrictlySortedBy}
+use Rattle.std.specs.BTreeSet.{BTreeSet, IsOrdered, Updates, contains}
+use Rattle.std.specs.Ordering.{is_eq}
+use Rattle.std.specs.Cmp.Lexicographic.{nat_list_cmp_total}
+use Rattle.std.proofs.lemmas.Map.Lookups.{exact_bytes}
+use Rattle.std.proofs.lemmas.Map.Text.{is_eq-slice_cmp}
 use Rattle.rows.specs.declared.job.Job.{Job}
 use Rattle.rows.specs.declared.evaluation.Evaluation.{Evaluation}
-use Rattle.rows.specs.Keys.{eval_cmp, eval_id}
-use Rattle.fsm_tables.specs.Rows.{put_within}
+use Rattle.rows.specs.declared.allocation.Allocation.{Allocation}
+use Rattle.rows.specs.Keys.{name_cmp, job_name}
+use Rattle.rows.specs.Rising.{is_rising}
+use Rattle.fsm_tables.specs.Rows.{row_of, has_row}
+use Rattle.fsm_tables.proofs.Filters.{found_at, under_are_filtered}
 use Rattle.cluster_model.specs.Words.{State}
-use Rattle.cluster_model.specs.Effect.{new_eval, with_evals}
-use Rattle.fsm_state.specs.Inner.Steps.{eval_for, is_one_of}
+use Rattle.cluster_model.specs.Effect.{with_evals, touched, is_named, owns}
+use Rattle.cluster_model.proofs.Lists.{or_false}
+use Rattle.cluster_model.proofs.Keys.{names_turn}
+use Rattle.cluster_model.proofs.RangeLaws.{no_more}
+use Rattle.fsm_state.specs.Inner.Steps.{is_in, has_name, jobs_at, owners, AddsNames}
 
-abbrev pub After : ℕ → ℕ → List (List ℕ) → ℕ → List Job → List Evaluation → List Evaluation → Type 0
-After x slot names place jobs evals all = with_evals x slot (filter (is_one_of names) (drop place jobs)) evals ≡ all
+-- whether a job's name is one of these
+abbrev pub is_one_of : List (List ℕ) → Job → Bool
+is_one_of names j = has_name names j.name
 
-abbrev pub next_slot : Option Evaluation → ℕ → ℕ
-next_slot None slot = slot
-next_slot (Some e) slot = slot + 1
+-- ---- the rows of names
 
-abbrev pub next_evals : Option Evaluation → List Evaluation → List Evaluation
-next_evals None evals = evals
-next_evals (Some e) evals = put_within eval_cmp eval_id 65536 e evals
+-- a set's names, looked up in their order, find the rows of the names
+pub jobs_are : (names : BTreeSet (List ℕ)) (jobs : List Job) → T (is_rising name_cmp job_name jobs) → IsOrdered name_cmp names → jobs_at jobs names.keys ≡ filter (is_in names) jobs
+jobs_are names jobs rising sorted =
+    under_are_filtered name_cmp job_name exact_bytes nat_list_cmp_total jobs (is_in names) names.keys rising sorted
+    (λ q x e. ap (contains name_cmp names) (sym (found_at name_cmp job_name exact_bytes q x jobs e)))
 
-here : (x slot : ℕ) (names : List (List ℕ)) (j : Job) (js : List Job) (evals : List Evaluation)
-    → with_evals x slot (filter (is_one_of names) (j ∷ js)) evals
-    ≡ with_evals x (next_slot (eval_for x slot names (Some j)) slot) (filter (is_one_of names) js) (next_evals (eval_for x slot names (Some j)) evals)
-here x slot names j js evals =
-    elim (is_one_of names j) as (λ b. with_evals x slot (cond b (j ∷ filter (is_one_of names) js) (filter (is_one_of names) js)) evals
-    ≡ with_evals x (next_slot (cond b (Some (new_eval x slot j)) None) slot) (filter (is_one_of names) js) (next_evals (cond b (Some (new_eval x slot j)) None) evals)) [
-      | true ↦ refl
-      | false ↦ refl
+alone : (name : List ℕ) → IsStrictlySortedBy name_cmp (name ∷ [])
+unfolding IsStrictlySortedBy
+alone name = (tt, tt)
+
+-- a name is that of one row, or of none
+pub named_row : (name : List ℕ) (jobs : List Job) → T (is_rising name_cmp job_name jobs) → jobs_at jobs (name ∷ []) ≡ filter (is_named name) jobs
+named_row name jobs rising =
+    under_are_filtered name_cmp job_name exact_bytes nat_list_cmp_total jobs (is_named name) (name ∷ []) rising (alone name) (λ q x e.
+    or_false (is_eq (name_cmp q name))
+    ∙ ap (λ k. is_eq (name_cmp k name)) (sym (found_at name_cmp job_name exact_bytes q x jobs e))
+    ∙ is_eq-slice_cmp x.name name)
+
+one_or_none : (r : Option Job) → length (cons_option r []) ≡ cond (is_some r) 1 0
+one_or_none None = refl
+one_or_none (Some j) = refl
+
+pub named_once : (name : List ℕ) (jobs : List Job) → T (is_rising name_cmp job_name jobs) → length (filter (is_named name) jobs) ≡ cond (has_row name_cmp job_name name jobs) 1 0
+named_once name jobs rising = ap length (sym (named_row name jobs rising)) ∙ one_or_none (row_of name_cmp job_name name jobs)
+
+-- what is found is no more than the rows
+pub few_at : (those : Job → Bool) (jobs js : List Job) → js ≡ filter those jobs → length jobs ≤ 256 → (length js ≤ length jobs) × (length js ≤ 256)
+few_at those jobs js e few =
+    let most : length js ≤ length jobs = subst (λ ks. length ks ≤ length jobs) (sym e) (no_more those jobs) in
+    (most, omega (arith, most, few))
+
+-- the one row of a name is touched
+pub touched_found : (name : List ℕ) (r : Option Job) (s : State) → T (is_rising name_cmp job_name s.jobs) → row_of name_cmp job_name name s.jobs ≡ r
+    → record s { evals = with_evals s.count 0 (cons_option r []) s.evals } ≡ touched (is_named name) s
+touched_found name r s rising e =
+    ap (λ js. record s { evals = with_evals s.count 0 js s.evals }) (ap (λ q. cons_option q []) (sym e) ∙ named_row name s.jobs rising)
+
+-- ---- names that are added
+
+one_more : (old is rest : Bool) → (cond is true old || rest) ≡ (old || (is || rest))
+one_more true true rest = refl
+one_more true false rest = refl
+one_more false true rest = refl
+one_more false false rest = refl
+
+pub name_added : (name : List ℕ) (old new : BTreeSet (List ℕ)) → Updates name_cmp old new name true → AddsNames (λ rest. name ∷ rest) old new
+name_added name old new u q rest =
+    ap (λ b. b || has_name rest q) (u.0 q ∙ ap (λ b. cond b true (contains name_cmp old q)) (is_eq-slice_cmp name q ∙ names_turn name q))
+    ∙ one_more (contains name_cmp old q) (bytes_eq q name) (has_name rest q)
+
+-- the jobs of the rows that pass
+pub owners_listed : (which : Allocation → Bool) (rows : List Allocation) (j : Job) → is_one_of (owners (filter which rows)) j ≡ owns which rows j
+owners_listed which [] j = refl
+owners_listed which (a ∷ rows) j =
+    elim (which a) as (λ b. is_one_of (owners (cond b (a ∷ filter which rows) (filter which rows))) j ≡ ((b && bytes_eq a.job j.name) || owns which rows j)) [
+      | true ↦ (λ i. names_turn j.name a.job i || owners_listed which rows j i)
+      | false ↦ owners_listed which rows j
     ]
 
-pub touch_step : (x slot : ℕ) (names : List (List ℕ)) (place : ℕ) (jobs : List Job) (evals : List Evaluation) → place < length jobs
-    → with_evals x slot (filter (is_one_of names) (drop place jobs)) evals
-    ≡ with_evals x (next_slot (eval_for x slot names (slice_get jobs place)) slot) (filter (is_one_of names) (drop (suc place) jobs)) (next_evals (eval_for x slot names (slice_get jobs place)) evals)
-touch_step x slot names place [] evals lt = absurd (omega arith)
-touch_step x slot names zero (j ∷ js) evals lt = here x slot names j js evals
-touch_step x slot names (suc place) (j ∷ js) evals lt = touch_step x slot names place js evals (omega arith)
+-- ---- a loop over names touches their jobs
 
-pub all_touched : (x slot : ℕ) (names : List (List ℕ)) (place : ℕ) (jobs : List Job) (evals : List Evaluation) → length jobs ≡ place
-    → with_evals x slot (filter (is_one_of names) (drop place jobs)) evals ≡ evals
-all_touched x slot names zero [] evals e = refl
-all_touched x slot names (suc place) [] evals e = absurd (omega arith)
-all_touched x slot names zero (j ∷ js) evals e = absurd (omega arith)
-all_touched x slot names (suc place) (j ∷ js) evals e = all_touched x slot names place js evals (omega arith)
-
--- what the loop over the jobs keeps
-pub record Kept (x : ℕ) (names : List (List ℕ)) (all : List Evaluation) (s0 t : State) (slot place : ℕ) : Type 0 where
+-- what the loop over the names keeps
+pub record Kept (x : ℕ) (all : List Evaluation) (s0 t : State) (slot : ℕ) (names : List (List ℕ)) : Type 0 where
   pub same : t ≡ record s0 { evals = t.evals }
-  pub evals : After x slot names place s0.jobs t.evals all
-  pub slots : slot ≤ place
-
-slots_kept : (o : Option Evaluation) (slot place : ℕ) → slot ≤ place → next_slot o slot ≤ place + 1
-slots_kept None slot place le = omega arith
-slots_kept (Some e) slot place le = omega arith
-
-pub kept : (x : ℕ) (names : List (List ℕ)) (all : List Evaluation) (s0 s : State) (slot place : ℕ) (o : Option Evaluation)
-    → s ≡ record s0 { evals = s.evals } → After x slot names place s0.jobs s.evals all → slot ≤ place → place < length s0.jobs → o ≡ eval_for x slot names (slice_get s.jobs place)
-    → Kept x names all s0 (record s { evals = next_evals o s.evals }) (next_slot o slot) (place + 1)
-kept x names all s0 s slot place o same after le lt is =
-    let at : o ≡ eval_for x slot names (slice_get s0.jobs place) = is ∙ ap (λ (z : State). eval_for x slot names (slice_get z.jobs place)) same in
-    record {
-      same = ap (λ (z : State). record z { evals = next_evals o s.evals }) same;
-      evals = rw add-one (subst (λ (p : Option Evaluation). with_evals x (next_slot p slot) (filter (is_one_of names) (drop (suc place) s0.jobs)) (next_evals p s.evals) ≡ all) (sym at)
-          (sym (touch_step x slot names place s0.jobs s.evals lt) ∙ after));
-      slots = slots_kept o slot place le;
-    }
-
-pub moved : (x : ℕ) (names : List (List ℕ)) (all : List Evaluation) (s0 s : State) (slot place : ℕ) (o p : Option Evaluation) (t : State) (slot' : ℕ)
-    → o ≡ p → t ≡ record s { evals = next_evals p s.evals } → slot' ≡ next_slot p slot
-    → Kept x names all s0 (record s { evals = next_evals o s.evals }) (next_slot o slot) place → Kept x names all s0 t slot' place
-moved x names all s0 s slot place o p t slot' e f g h =
-    let there = subst (λ (q : Option Evaluation). Kept x names all s0 (record s { evals = next_evals q s.evals }) (next_slot q slot) place) e h in
-    subst (λ (z : State). Kept x names all s0 z slot' place) (sym f) (subst (λ (n : ℕ). Kept x names all s0 (record s { evals = next_evals p s.evals }) n place) (sym g) there)
+  pub evals : with_evals x slot (jobs_at s0.jobs names) t.evals ≡ all
+  pub slots : slot + length (jobs_at s0.jobs names) ≤ 256

@@ -1,11 +1,14 @@
 -- What a call's answer says of the state, told in other words.
-use Rattle.std.proofs.Common.{◌≡◌, List, ℕ, subst}
+use Rattle.std.proofs.Common.{◌≡◌, Bool, List, ℕ, sym, subst}
 use Rattle.std.specs.Prelude.{Result, OnOk}
+use Rattle.std.specs.BTreeSet.{BTreeSet}
+use Rattle.rows.specs.declared.job.Job.{Job}
 use Rattle.cluster_model.specs.Words.{State}
-use Rattle.fsm_state.specs.Inner.Steps.{touched_names}
+use Rattle.cluster_model.specs.Effect.{touched}
+use Rattle.fsm_state.specs.Inner.Steps.{is_in}
 
 pub turned : {A E : Type 0} (r : Result A E) (x y z : State) → y ≡ z → OnOk r (x ≡ y) → OnOk r (x ≡ z)
 turned r x y z e h = subst (λ (w : State). OnOk r (x ≡ w)) e h
 
-pub touched_both : (names others : List (List ℕ)) (s t : State) → names ≡ others → s ≡ t → touched_names names s ≡ touched_names others t
-touched_both names others s t e f = λ i. touched_names (e i) (f i)
+pub touched_both : (those : Job → Bool) (names : BTreeSet (List ℕ)) (s t : State) → ((j : Job) → those j ≡ is_in names j) → s ≡ t → touched (is_in names) s ≡ touched those t
+touched_both those names s t h e = λ i. touched (λ j. sym (h j) i) (e i)

@@ -19,18 +19,16 @@ use rows::{
 
 impl Cluster {
     /// Makes or replaces a job, and touches it.
-    #[tactic(auto, using(crate::proofs::StepLaws::touched_name))]
     fn job_put(&mut self, entry: EntryIndex, spec: &JobSpec) -> Result<(), NoMemory>
         requires { entry ≡ self.old.count }
         ensures { OnOk result (
             self.new ≡ touched (is_named spec.now.name) (with_job spec.now self.old)) }
     {
         self.make_job(spec)?;
-        self.touch(entry, &[spec.name])
+        self.touch(entry, &spec.name)
     }
 
     /// Stops a job, and touches it.
-    #[tactic(auto, using(crate::proofs::StepLaws::touched_name))]
     fn job_stop(&mut self, entry: EntryIndex, name: &JobName) -> Result<(), NoMemory>
         requires { entry ≡ self.old.count }
         ensures { OnOk result (
@@ -38,7 +36,7 @@ impl Cluster {
     {
         self.ranges();
         self.end_job(name)?;
-        self.touch(entry, &[*name])
+        self.touch(entry, name)
     }
 
     /// A node that has a row is down: what waits or runs on it is lost, and the jobs of what was
@@ -51,7 +49,7 @@ impl Cluster {
         let names = self.jobs_on(number)?;
         self.set_down(number)?;
         self.lose(number)?;
-        self.touch(entry, names.as_slice())
+        self.touch_all(entry, &names)
     }
 
     /// A node's loss. Without a row of the node nothing changes.
@@ -89,16 +87,15 @@ impl Cluster {
         self.ranges();
         let names = self.jobs_of(ids)?;
         self.mark_all(ids)?;
-        self.touch(entry, names.as_slice())
+        self.touch_all(entry, &names)
     }
 
     /// Touches a job.
-    #[tactic(auto, using(crate::proofs::StepLaws::touched_name))]
     fn eval_put(&mut self, entry: EntryIndex, name: &JobName) -> Result<(), NoMemory>
         requires { entry ≡ self.old.count }
         ensures { OnOk result (self.new ≡ touched (is_named name.now) self.old) }
     {
-        self.touch(entry, &[*name])
+        self.touch(entry, name)
     }
 
     /// Sets the status of an evaluation.
@@ -131,7 +128,7 @@ impl Cluster {
     {
         self.ranges();
         let names = self.take_reports(node, reports)?;
-        self.touch(entry, names.as_slice())
+        self.touch_all(entry, &names)
     }
 
     /// Applies a command, whether or not the state admits it. Without memory the value is fit only

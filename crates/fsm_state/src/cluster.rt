@@ -88,6 +88,18 @@ impl Cluster {
         }
     }
 
+    /// The same state once more, by a copy of its tables.
+    pub(crate) fn copied(&self) -> Result<Cluster, NoMemory>
+        ensures { IfOk result (λ copy. copy ≡ self.now) }
+    {
+        Ok(Cluster {
+            alloc: self.alloc,
+            count: self.count,
+            tables: self.tables.fork()?,
+            named_once: self.named_once,
+        })
+    }
+
     /// How many commands were applied.
     pub fn applied(&self) -> Index
         ensures { result ≡ self.now.count }

@@ -21,10 +21,6 @@ trait Stored: Row {
     /// How many rows the table holds.
     ghost most: { ℕ };
 
-    /// The same row once more.
-    fn copied(&self, alloc: Global) -> Result<Self, NoMemory>
-        ensures { IfOk result (λ row. row ≡ self.now) };
-
     /// Makes or replaces the row of the key.
     fn put_into(self, state: &mut Cluster) -> Result<(), NoMemory>
         ensures { (rows : List Self) (s : State) → state.old ≡ stored rows s
@@ -37,16 +33,6 @@ impl Stored for Job {
 
     ghost most = { most_jobs };
 
-    fn copied(&self, alloc: Global) -> Result<Job, NoMemory> {
-        Ok(Job {
-            name: self.name,
-            priority: self.priority,
-            stopped: self.stopped,
-            version: self.version,
-            groups: self.groups.try_clone(alloc)?,
-        })
-    }
-
     fn put_into(self, state: &mut Cluster) -> Result<(), NoMemory> {
         state.put_job(self)
     }
@@ -56,10 +42,6 @@ impl Stored for Node {
     ghost stored = { λ rows s. record s { nodes = rows } };
 
     ghost most = { most_nodes };
-
-    fn copied(&self, _alloc: Global) -> Result<Node, NoMemory> {
-        Ok(*self)
-    }
 
     fn put_into(self, state: &mut Cluster) -> Result<(), NoMemory> {
         state.put_node(self)
@@ -71,10 +53,6 @@ impl Stored for Evaluation {
 
     ghost most = { most_evals };
 
-    fn copied(&self, _alloc: Global) -> Result<Evaluation, NoMemory> {
-        Ok(*self)
-    }
-
     fn put_into(self, state: &mut Cluster) -> Result<(), NoMemory> {
         state.put_eval(self)
     }
@@ -84,10 +62,6 @@ impl Stored for Allocation {
     ghost stored = { λ rows s. record s { allocs = rows } };
 
     ghost most = { most_allocs };
-
-    fn copied(&self, _alloc: Global) -> Result<Allocation, NoMemory> {
-        Ok(*self)
-    }
 
     fn put_into(self, state: &mut Cluster) -> Result<(), NoMemory> {
         state.put_alloc(self)
@@ -144,11 +118,7 @@ impl Cluster {
         ensures rising { IfOk result (λ rows. Holds (is_rising name_cmp job_name rows)) }
     {
         self.ranges();
-        let mut rows = Sequence::new(alloc);
-        for job in self.job_table().rows() {
-            rows.push(job.copied(alloc)?)?;
-        }
-        Ok(rows)
+        Job::all_copied(self.job_table().rows(), alloc)
     }
 
     /// All nodes, by number.
@@ -157,9 +127,7 @@ impl Cluster {
         ensures rising { IfOk result (λ rows. Holds (is_rising nat_cmp node_number rows)) }
     {
         self.ranges();
-        let mut rows = Vec::new(alloc);
-        rows.extend_from_slice(self.node_table().rows())?;
-        Ok(Sequence::from_vec(rows))
+        Node::all_copied(self.node_table().rows(), alloc)
     }
 
     /// All evaluations, by id.
@@ -168,9 +136,7 @@ impl Cluster {
         ensures rising { IfOk result (λ rows. Holds (is_rising eval_cmp eval_id rows)) }
     {
         self.ranges();
-        let mut rows = Vec::new(alloc);
-        rows.extend_from_slice(self.eval_table().rows())?;
-        Ok(Sequence::from_vec(rows))
+        Evaluation::all_copied(self.eval_table().rows(), alloc)
     }
 
     /// All allocations, by id.
@@ -179,23 +145,6 @@ impl Cluster {
         ensures rising { IfOk result (λ rows. Holds (is_rising alloc_cmp alloc_id rows)) }
     {
         self.ranges();
-        let mut rows = Vec::new(alloc);
-        rows.extend_from_slice(self.alloc_table().rows())?;
-        Ok(Sequence::from_vec(rows))
-    }
-
-    /// The same state once more.
-    pub fn fork(&self, alloc: Global) -> Result<Cluster, NoMemory>
-        ensures { IfOk result (λ s. s ≡ self.now) }
-    {
-        self.ranges();
-        Cluster::from_rows(
-            alloc,
-            self.applied(),
-            self.job_table().rows(),
-            self.node_table().rows(),
-            self.eval_table().rows(),
-            self.alloc_table().rows(),
-        )
+        Allocation::all_copied(self.alloc_table().rows(), alloc)
     }
 }

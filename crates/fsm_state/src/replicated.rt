@@ -24,6 +24,10 @@ impl Machine for Cluster {
         Command::Noop
     }
 
+    fn fork(&self) -> Result<Cluster, NoMemory> {
+        self.copied()
+    }
+
     fn count(&self) -> u64 {
         self.fits();
         self.applied().get()

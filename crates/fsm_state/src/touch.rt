@@ -1,17 +1,18 @@
 //! Evaluations that are made to touch jobs.
-ghost use Rattle.std.specs.Prelude.{◌≡◌, ◌<◌, OnOk, Some, bytes_eq};
-ghost use Rattle.std.specs.List.{list_any};
-ghost use Rattle.cluster_model.specs.Effect.{new_eval};
-ghost use Rattle.fsm_state.specs.Inner.Steps.{touched_names, eval_for};
+ghost use Rattle.std.specs.Prelude.{◌≡◌, ◌≤◌, ◌∷◌, OnOk, length, filter};
+ghost use Rattle.cluster_model.specs.Effect.{new_eval, touched, is_named};
+ghost use Rattle.fsm_state.specs.Inner.Steps.{touched_at, jobs_at, is_in, AddsNames};
 
 use crate::cluster::Cluster;
 use rows::{EntryIndex, EvalId, EvalStatus, Evaluation, Index, Job, JobName, NoMemory};
+use std::collections::BTreeSet;
 
-/// Whether a name is one of these.
-pub(crate) fn is_among(name: &JobName, names: &[JobName]) -> bool
-    ensures { result ≡ list_any (λ other. bytes_eq name.now other) names.now }
+/// Adds a name, unless it is there. It takes time in the logarithm of the names.
+pub(crate) fn add_name(names: &mut BTreeSet<JobName>, name: JobName) -> Result<(), NoMemory>
+    ensures { OnOk result (AddsNames (λ rest. name ∷ rest) names.old names.new) }
 {
-    names.iter().any(|other| *name == *other)
+    names.insert(name)?;
+    Ok(())
 }
 
 /// The evaluation that touches a job.
@@ -27,37 +28,76 @@ fn evaluation(entry: EntryIndex, slot: u8, job: &Job) -> Evaluation
     }
 }
 
-/// The evaluation that touches a job, where it is one of the names.
-fn evaluation_for(entry: EntryIndex, slot: u8, names: &[JobName], job: &Job) -> Option<Evaluation>
-    ensures { result ≡ eval_for entry slot names.now (Some job.now) }
-{
-    if is_among(&job.name, names) {
-        Some(evaluation(entry, slot, job))
-    } else {
-        None
-    }
-}
-
 impl Cluster {
-    /// Makes one evaluation for each job of these names that has a row, in rising name.
-    pub(crate) fn touch(&mut self, entry: EntryIndex, names: &[JobName]) -> Result<(), NoMemory>
+    /// Makes one evaluation for the job of a name, if it has a row. It takes one look-up of the
+    /// job.
+    pub(crate) fn touch(&mut self, entry: EntryIndex, name: &JobName) -> Result<(), NoMemory>
         requires { entry ≡ self.old.count }
-        ensures { OnOk result (self.new ≡ touched_names names.now self.old) }
+        ensures { OnOk result (self.new ≡ touched (is_named name.now) self.old) }
     {
         self.ranges();
+        match self.job(name) {
+            Some(job) => {
+                let eval = evaluation(entry, 0, job);
+                self.put_eval(eval)
+            }
+            None => Ok(()),
+        }
+    }
+
+    /// Makes one evaluation for each job of these names that has a row, in the order of the names.
+    fn touch_each(&mut self, entry: EntryIndex, names: &BTreeSet<JobName>) -> Result<(), NoMemory>
+        requires entry { entry ≡ self.old.count }
+        requires few { length (jobs_at self.old.jobs names.now.keys) ≤ 256 }
+        ensures { OnOk result (self.new ≡ touched_at names.now.keys self.old) }
+    {
         let mut slot: usize = 0;
-        for place in 0..self.job_table().len() {
-            let Some(job) = self.job_table().at(place) else {
-                unreachable!()
-            };
-            match evaluation_for(entry, slot as u8, names, job) {
-                Some(eval) => {
-                    self.put_eval(eval)?;
-                    slot += 1;
-                }
-                None => {}
+        for name in names {
+            if let Some(job) = self.job(name) {
+                let eval = evaluation(entry, slot as u8, job);
+                self.put_eval(eval)?;
+                slot += 1;
             }
         }
         Ok(())
+    }
+
+    /// Makes one evaluation for each job of these names that has a row, in rising name. It takes
+    /// one look-up for each name.
+    pub(crate) fn touch_all(
+        &mut self,
+        entry: EntryIndex,
+        names: &BTreeSet<JobName>,
+    ) -> Result<(), NoMemory>
+        requires { entry ≡ self.old.count }
+        ensures { OnOk result (self.new ≡ touched (is_in names.now) self.old) }
+    {
+        self.ranges();
+        let _count = names.len();
+        self.touch_each(entry, names)
+    }
+
+    /// How many of these names are of a job that has a row.
+    fn count_each(&self, names: &BTreeSet<JobName>) -> usize
+        requires { length (jobs_at self.now.jobs names.now.keys) ≤ 256 }
+        ensures { result ≡ length (jobs_at self.now.jobs names.now.keys) }
+    {
+        let mut count: usize = 0;
+        for name in names {
+            if self.job(name).is_some() {
+                count += 1;
+            }
+        }
+        count
+    }
+
+    /// How many jobs of these names have a row. It takes one look-up for each name.
+    pub(crate) fn count_all(&self, names: &BTreeSet<JobName>) -> usize
+        ensures count { result ≡ length (filter (is_in names.now) self.now.jobs) }
+        ensures few { result ≤ length self.now.jobs }
+    {
+        self.ranges();
+        let _count = names.len();
+        self.count_each(names)
     }
 }

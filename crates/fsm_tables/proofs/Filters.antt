@@ -1,9 +1,9 @@
--- The rows of ids in rising order are the rows that pass a test, where the ids are those of the
+-- The rows of keys in rising order are the rows that pass a test, where the keys are those of the
 -- rows that pass.
 use Rattle.std.proofs.Common.{◌≡◌, Bool, true, false, cond, T, List, [], ◌∷◌, Option, Some, None, refl, sym, ap, subst, ◌∙◌}
 use Rattle.std.specs.Prelude.{filter, ◌||◌}
 use Rattle.std.specs.Option.{option_and_then}
-use Rattle.std.specs.List.{list_any, slice_get, cons_option, AllByRecursion}
+use Rattle.std.specs.List.{list_any, filter_map, slice_get, cons_option, AllByRecursion}
 use Rattle.std.specs.List.Sorted.{IsStrictlySortedBy}
 use Rattle.std.proofs.lemmas.Map.Keys.{sorted_head, sorted_tail}
 use Rattle.std.proofs.lemmas.Map.Lookups.{CmpEqualImpliesEq, exact_unsigned, exact_pairs}
@@ -19,7 +19,7 @@ use Rattle.rows.proofs.KeyLaws.{alloc_cmp_total}
 use Rattle.rows.specs.Rising.{is_below, is_rising}
 use Rattle.fsm_tables.specs.Inner.Index.{rows_at, passes, AreIdsOf}
 use Rattle.fsm_tables.specs.Rows.{row_of}
-use Rattle.fsm_tables.proofs.RowLaws.{both, first, second, equal, none_below, below_tied}
+use Rattle.fsm_tables.proofs.RowLaws.{both, first, second, equal, none_below, below_tied, some_none, some_same}
 use Rattle.fsm_tables.proofs.SetLaws.{same_rows}
 
 -- ---- the rows that pass
@@ -62,78 +62,87 @@ module _ {K X : Type 0} (R : K → K → Ordering) (key : X → K) (test : X →
             ]
       ] refl
 
+-- ---- the rows of keys
+
+either : {A : Type 0} (b : Bool) (x : A) → x ≡ cond b x x
+either true x = refl
+either false x = refl
+
+module _ {K X : Type 0} (R : K → K → Ordering) (key : X → K) (exact : CmpEqualImpliesEq R) where
+  pub found_at : (k : K) (x : X) (ys : List X) → row_of R key k ys ≡ Some x → key x ≡ k
+  found_at k x [] h = absurd (some_none x (sym h))
+  found_at k x (y ∷ ys) h =
+      elim (is_eq (R k (key y))) as (λ b. is_eq (R k (key y)) ≡ b → cond b (Some y) (row_of R key k ys) ≡ Some x → key x ≡ k) [
+        | true ↦ λ t e. ap key (sym (some_same y x e)) ∙ sym (exact k (key y) (equal _ (subst T (sym t) tt)))
+        | false ↦ λ t e. found_at k x ys e
+      ] refl h
+
+  module _ (o : IsTotalOrder R) (rows : List X) where
+    abbrev rows_under : List K → List X
+    rows_under ks = filter_map (λ k. row_of R key k rows) ks
+
+    below_under : (k : K) (ks : List K) → AllByRecursion (λ j. R k j ≡ Less) ks → T (is_below R key k (rows_under ks))
+    below_under k [] h = tt
+    below_under k (j ∷ ks) h =
+        elim (row_of R key j rows) as (λ r. row_of R key j rows ≡ r → T (is_below R key k (cons_option r (rows_under ks)))) [
+          | None ↦ λ e. below_under k ks h.1
+          | Some x ↦ λ e. both _ _ (subst (λ r. T (is_lt r)) (sym (ap (R k) (found_at j x rows e) ∙ h.0)) tt) (below_under k ks h.1)
+        ] refl
+
+    rising_under : (ks : List K) → IsStrictlySortedBy R ks → T (is_rising R key (rows_under ks))
+    rising_under [] h = tt
+    rising_under (j ∷ ks) h =
+        let rest = rising_under ks (sorted_tail R j ks h) in
+        elim (row_of R key j rows) as (λ r. row_of R key j rows ≡ r → T (is_rising R key (cons_option r (rows_under ks)))) [
+          | None ↦ λ e. rest
+          | Some x ↦ λ e. both _ _ (subst (λ k. T (is_below R key k (rows_under ks))) (sym (found_at j x rows e)) (below_under j ks (sorted_head R j ks h))) rest
+        ] refl
+
+    row_of-under : (q : K) (ks : List K) → row_of R key q (rows_under ks) ≡ cond (list_any (is_at (R q)) ks) (row_of R key q rows) None
+    row_of-under q [] = refl
+    row_of-under q (j ∷ ks) =
+        let rest = row_of-under q ks in
+        elim (is_eq (R q j)) as (λ t. is_eq (R q j) ≡ t → row_of R key q (cons_option (row_of R key j rows) (rows_under ks)) ≡ cond (t || list_any (is_at (R q)) ks) (row_of R key q rows) None) [
+          | true ↦ λ t.
+              let same : q ≡ j = exact q j (equal _ (subst T (sym t) tt)) in
+              elim (row_of R key j rows) as (λ r. row_of R key j rows ≡ r → row_of R key q (cons_option r (rows_under ks)) ≡ row_of R key q rows) [
+                | None ↦ λ e.
+                    let none : row_of R key q rows ≡ None = ap (λ k. row_of R key k rows) same ∙ e in
+                    rest ∙ ap (λ r. cond (list_any (is_at (R q)) ks) r None) none ∙ sym (either (list_any (is_at (R q)) ks) None) ∙ sym none
+                | Some x ↦ λ e.
+                    let tie : is_eq (R q (key x)) ≡ true = ap (λ k. is_eq (R q k)) (found_at j x rows e) ∙ t in
+                    ap (λ b. cond b (Some x) (row_of R key q (rows_under ks))) tie ∙ sym e ∙ ap (λ k. row_of R key k rows) (sym same)
+              ] refl
+          | false ↦ λ t.
+              elim (row_of R key j rows) as (λ r. row_of R key j rows ≡ r → row_of R key q (cons_option r (rows_under ks)) ≡ cond (list_any (is_at (R q)) ks) (row_of R key q rows) None) [
+                | None ↦ λ e. rest
+                | Some x ↦ λ e. ap (λ b. cond b (Some x) (row_of R key q (rows_under ks))) (ap (λ k. is_eq (R q k)) (found_at j x rows e) ∙ t) ∙ rest
+              ] refl
+        ] refl
+
+    -- the keys are those of the rows that pass, and perhaps some of no row
+    pub under_are_filtered : (test : X → Bool) (ks : List K) → T (is_rising R key rows) → IsStrictlySortedBy R ks → ((q : K) (x : X) → row_of R key q rows ≡ Some x → list_any (is_at (R q)) ks ≡ test x)
+        → rows_under ks ≡ filter test rows
+    under_are_filtered test ks rising sorted has =
+        same_rows R key o (rows_under ks) (filter test rows) (rising_under ks sorted) (rising_filter R key test rows rising) (λ q.
+        row_of-under q ks ∙ kept q (row_of R key q rows) refl ∙ sym (row_of-filter R key test o q rows rising))
+      where
+        kept : (q : K) (r : Option X) → row_of R key q rows ≡ r → cond (list_any (is_at (R q)) ks) r None ≡ kept_if test r
+        kept q None e = sym (either (list_any (is_at (R q)) ks) None)
+        kept q (Some x) e = ap (λ b. cond b (Some x) None) (has q x e)
+
 -- ---- the rows of ids
 
 pub exact_ids : CmpEqualImpliesEq alloc_cmp
 exact_ids a b h = ap (λ p. record { index = p.0; slot = p.1 }) (exact_pairs nat_cmp nat_cmp exact_unsigned exact_unsigned (a.index, a.slot) (b.index, b.slot) h)
 
 pub row_found : (i : AllocId) (a : Allocation) (rows : List Allocation) → row_of alloc_cmp alloc_id i rows ≡ Some a → a.id ≡ i
-row_found i a [] h = absurd cc
-row_found i a (y ∷ ys) h =
-    elim (is_eq (alloc_cmp i y.id)) as (λ b. is_eq (alloc_cmp i y.id) ≡ b → cond b (Some y) (row_of alloc_cmp alloc_id i ys) ≡ Some a → a.id ≡ i) [
-      | true ↦ λ t e.
-          let tie : i ≡ y.id = exact_ids i y.id (equal _ (subst T (sym t) tt)) in
-          let here : y ≡ a = cc in
-          sym (ap (λ (z : Allocation). z.id) here) ∙ sym tie
-      | false ↦ λ t e. row_found i a ys e
-    ] refl h
+row_found i a rows h = found_at alloc_cmp alloc_id exact_ids i a rows h
 
 module _ (rows : List Allocation) where
-  below_rows_at : (i : AllocId) (ids : List AllocId) → AllByRecursion (λ j. alloc_cmp i j ≡ Less) ids → T (is_below alloc_cmp alloc_id i (rows_at rows ids))
-  below_rows_at i [] h = tt
-  below_rows_at i (j ∷ ids) h =
-      elim (row_of alloc_cmp alloc_id j rows) as (λ r. row_of alloc_cmp alloc_id j rows ≡ r → T (is_below alloc_cmp alloc_id i (cons_option r (rows_at rows ids)))) [
-        | None ↦ λ e. below_rows_at i ids h.1
-        | Some a ↦ λ e. both _ _ (subst (λ r. T (is_lt r)) (sym (ap (alloc_cmp i) (row_found j a rows e) ∙ h.0)) tt) (below_rows_at i ids h.1)
-      ] refl
-
-  rising_rows_at : (ids : List AllocId) → IsStrictlySortedBy alloc_cmp ids → T (is_rising alloc_cmp alloc_id (rows_at rows ids))
-  rising_rows_at [] h = tt
-  rising_rows_at (j ∷ ids) h =
-      let rest = rising_rows_at ids (sorted_tail alloc_cmp j ids h) in
-      elim (row_of alloc_cmp alloc_id j rows) as (λ r. row_of alloc_cmp alloc_id j rows ≡ r → T (is_rising alloc_cmp alloc_id (cons_option r (rows_at rows ids)))) [
-        | None ↦ λ e. rest
-        | Some a ↦ λ e. both _ _ (subst (λ i. T (is_below alloc_cmp alloc_id i (rows_at rows ids))) (sym (row_found j a rows e)) (below_rows_at j ids (sorted_head alloc_cmp j ids h))) rest
-      ] refl
-
-  either : {A : Type 0} (b : Bool) (x : A) → x ≡ cond b x x
-  either true x = refl
-  either false x = refl
-
-  row_of-rows_at : (q : AllocId) (ids : List AllocId) → row_of alloc_cmp alloc_id q (rows_at rows ids) ≡ cond (list_any (is_at (alloc_cmp q)) ids) (row_of alloc_cmp alloc_id q rows) None
-  row_of-rows_at q [] = refl
-  row_of-rows_at q (j ∷ ids) =
-      let rest = row_of-rows_at q ids in
-      elim (is_eq (alloc_cmp q j)) as (λ t. is_eq (alloc_cmp q j) ≡ t → row_of alloc_cmp alloc_id q (cons_option (row_of alloc_cmp alloc_id j rows) (rows_at rows ids)) ≡ cond (t || list_any (is_at (alloc_cmp q)) ids) (row_of alloc_cmp alloc_id q rows) None) [
-        | true ↦ λ t.
-            let same : q ≡ j = exact_ids q j (equal _ (subst T (sym t) tt)) in
-            elim (row_of alloc_cmp alloc_id j rows) as (λ r. row_of alloc_cmp alloc_id j rows ≡ r → row_of alloc_cmp alloc_id q (cons_option r (rows_at rows ids)) ≡ row_of alloc_cmp alloc_id q rows) [
-              | None ↦ λ e.
-                  let none : row_of alloc_cmp alloc_id q rows ≡ None = ap (λ i. row_of alloc_cmp alloc_id i rows) same ∙ e in
-                  rest ∙ ap (λ r. cond (list_any (is_at (alloc_cmp q)) ids) r None) none ∙ sym (either (list_any (is_at (alloc_cmp q)) ids) None) ∙ sym none
-              | Some a ↦ λ e.
-                  let tie : is_eq (alloc_cmp q a.id) ≡ true = ap (λ i. is_eq (alloc_cmp q i)) (row_found j a rows e) ∙ t in
-                  ap (λ b. cond b (Some a) (row_of alloc_cmp alloc_id q (rows_at rows ids))) tie ∙ sym e ∙ ap (λ i. row_of alloc_cmp alloc_id i rows) (sym same)
-            ] refl
-        | false ↦ λ t.
-            elim (row_of alloc_cmp alloc_id j rows) as (λ r. row_of alloc_cmp alloc_id j rows ≡ r → row_of alloc_cmp alloc_id q (cons_option r (rows_at rows ids)) ≡ cond (list_any (is_at (alloc_cmp q)) ids) (row_of alloc_cmp alloc_id q rows) None) [
-              | None ↦ λ e. rest
-              | Some a ↦ λ e. ap (λ b. cond b (Some a) (row_of alloc_cmp alloc_id q (rows_at rows ids))) (ap (λ i. is_eq (alloc_cmp q i)) (row_found j a rows e) ∙ t) ∙ rest
-            ] refl
-      ] refl
-
-  by_test : (test : Allocation → Bool) (r : Option Allocation) → kept_if test r ≡ cond (passes test r) r None
-  by_test test None = refl
-  by_test test (Some a) = refl
-
   pub rows_are_filtered : (test : Allocation → Bool) (ids : List AllocId) → T (is_rising alloc_cmp alloc_id rows) → IsStrictlySortedBy alloc_cmp ids → AreIdsOf test rows ids
       → rows_at rows ids ≡ filter test rows
-  rows_are_filtered test ids rising sorted has =
-      same_rows alloc_cmp alloc_id alloc_cmp_total (rows_at rows ids) (filter test rows) (rising_rows_at ids sorted) (rising_filter alloc_cmp alloc_id test rows rising) (λ q.
-      row_of-rows_at q ids
-      ∙ ap (λ b. cond b (row_of alloc_cmp alloc_id q rows) None) (has q)
-      ∙ sym (by_test test (row_of alloc_cmp alloc_id q rows))
-      ∙ sym (row_of-filter alloc_cmp alloc_id test alloc_cmp_total q rows rising))
+  rows_are_filtered test ids rising sorted has = under_are_filtered alloc_cmp alloc_id exact_ids alloc_cmp_total rows test ids rising sorted (λ q x e. has q ∙ ap (passes test) e)
 
   -- the row of the first id is the first of them
   pub first_row : (test : Allocation → Bool) (ids : List AllocId) → AreIdsOf test rows ids → option_and_then (λ i. row_of alloc_cmp alloc_id i rows) (slice_get ids 0) ≡ slice_get (rows_at rows ids) 0

@@ -61,6 +61,18 @@ impl Allocations {
         }
     }
 
+    /// The same rows once more.
+    pub fn fork(&self) -> Result<Allocations, NoMemory>
+        ensures { IfOk result (λ copy. copy ≡ self.now) }
+    {
+        Ok(Allocations {
+            rows: self.rows.fork()?,
+            cpu: self.cpu,
+            mem: self.mem,
+            indexes: self.indexes.fork()?,
+        })
+    }
+
     /// The number of rows.
     pub fn len(&self) -> usize
         ensures { result ≡ length self.now }

@@ -6,7 +6,7 @@ ghost use Rattle.std.specs.BTreeMap.Range.{IsLeBy};
 ghost use Rattle.fsm_tables.specs.Inner.Index.{entry_cmp, entry_of, is_entry, IsSame, Gains, Loses, HasIdsBetween, first_id};
 
 use rows::{AllocId, Allocation, NoMemory};
-use std::alloc::Global;
+use std::alloc::{AllocError, Global};
 use std::collections::BTreeSet;
 use std::marker::Model;
 
@@ -24,13 +24,28 @@ pub(crate) trait IndexKey: Ord + Copy {
 }
 
 /// A row in an index: what it is listed by, and its id.
-#[derive(Clone, Copy, PartialEq, Eq, PartialOrd, Ord)]
+#[derive(PartialEq, Eq, PartialOrd, Ord)]
 pub(crate) struct Entry<K> {
     /// What it is listed by.
     pub key: K,
     /// Its id.
     pub id: AllocId,
 }
+
+/// The same entry.
+impl<K: Copy> Clone for Entry<K> {
+    ghost use Rattle.std.specs.Prelude.{⊤};
+
+    ghost is_clone = { λ x y. y ≡ x };
+
+    ghost is_infallible = { λ _. ⊤ };
+
+    fn clone(&self) -> Result<Entry<K>, AllocError> {
+        Ok(*self)
+    }
+}
+
+impl<K: Copy> Copy for Entry<K> {}
 
 /// The entry of a row, where there is a row and it is listed.
 pub(crate) fn entry_of<K: IndexKey>(row: Option<&Allocation>) -> Option<Entry<K>>
@@ -74,6 +89,14 @@ impl<K: IndexKey> AllocIndex<K> {
         AllocIndex {
             entries: BTreeSet::new(alloc),
         }
+    }
+
+    /// The same index once more, made by a copy, in time of the entries.
+    pub fn fork(&self) -> Result<AllocIndex<K>, NoMemory>
+        ensures { IfOk result (λ copy. copy ≡ self.now) }
+    {
+        let entries = self.entries.clone()?;
+        Ok(AllocIndex { entries })
     }
 
     /// Adds an entry, if there is one.

@@ -1,5 +1,5 @@
 //! The two indexes of the allocations' rows, and a put that keeps them.
-ghost use Rattle.std.specs.Prelude.{◌≡◌, ◌⊎◌, [], OnOk, OnErr, option_map};
+ghost use Rattle.std.specs.Prelude.{◌≡◌, ◌⊎◌, [], OnOk, OnErr, IfOk, option_map};
 ghost use Rattle.rows.specs.Keys.{alloc_cmp, alloc_id};
 ghost use Rattle.fsm_tables.specs.Inner.Index.{entry_of, IsSame, Gains, Loses};
 ghost use Rattle.fsm_tables.specs.Inner.Keys.{alloc_name_cmp, live_name, on_node_cmp, active_on, AreListed};
@@ -51,6 +51,16 @@ impl Indexes {
             names: AllocIndex::empty(alloc),
             nodes: AllocIndex::empty(alloc),
         }
+    }
+
+    /// The same entries once more.
+    pub fn fork(&self) -> Result<Indexes, NoMemory>
+        ensures { IfOk result (λ copy. copy ≡ self.now) }
+    {
+        Ok(Indexes {
+            names: self.names.fork()?,
+            nodes: self.nodes.fork()?,
+        })
     }
 
     /// Adds the entries of a row; without memory perhaps only one of them.

@@ -1,5 +1,19 @@
+ghost use Rattle.std.specs.Prelude.{◌≡◌, IfOk};
+
 use crate::table::Row;
-use rows::{AllocId, Allocation, EvalId, Evaluation, Job, JobName, Node, NodeId};
+use rows::{
+    AllocId, Allocation, EvalId, Evaluation, Job, JobName, NoMemory, Node, NodeId, Sequence,
+};
+use std::alloc::Global;
+
+/// The same items once more, by one copy of their bytes.
+fn copied_at_once<T: Copy>(items: &[T], alloc: Global) -> Result<Sequence<T>, NoMemory>
+    ensures { IfOk result (λ copies. copies ≡ items.now) }
+{
+    let mut copies = Vec::new(alloc);
+    copies.extend_from_slice(items)?;
+    Ok(Sequence::from_vec(copies))
+}
 
 /// Jobs by name.
 impl Row for Job {
@@ -9,6 +23,24 @@ impl Row for Job {
 
     fn key(&self) -> &JobName {
         &self.name
+    }
+
+    fn copied(&self, alloc: Global) -> Result<Job, NoMemory> {
+        Ok(Job {
+            name: self.name,
+            priority: self.priority,
+            stopped: self.stopped,
+            version: self.version,
+            groups: self.groups.try_clone(alloc)?,
+        })
+    }
+
+    fn all_copied(rows: &[Job], alloc: Global) -> Result<Sequence<Job>, NoMemory> {
+        let mut copies = Sequence::new(alloc);
+        for row in rows {
+            copies.push(row.copied(alloc)?)?;
+        }
+        Ok(copies)
     }
 }
 
@@ -21,6 +53,14 @@ impl Row for Node {
     fn key(&self) -> &NodeId {
         &self.number
     }
+
+    fn copied(&self, _alloc: Global) -> Result<Node, NoMemory> {
+        Ok(*self)
+    }
+
+    fn all_copied(rows: &[Node], alloc: Global) -> Result<Sequence<Node>, NoMemory> {
+        copied_at_once(rows, alloc)
+    }
 }
 
 /// Evaluations by id.
@@ -32,6 +72,14 @@ impl Row for Evaluation {
     fn key(&self) -> &EvalId {
         &self.id
     }
+
+    fn copied(&self, _alloc: Global) -> Result<Evaluation, NoMemory> {
+        Ok(*self)
+    }
+
+    fn all_copied(rows: &[Evaluation], alloc: Global) -> Result<Sequence<Evaluation>, NoMemory> {
+        copied_at_once(rows, alloc)
+    }
 }
 
 /// Allocations by id.
@@ -42,5 +90,13 @@ impl Row for Allocation {
 
     fn key(&self) -> &AllocId {
         &self.id
+    }
+
+    fn copied(&self, _alloc: Global) -> Result<Allocation, NoMemory> {
+        Ok(*self)
+    }
+
+    fn all_copied(rows: &[Allocation], alloc: Global) -> Result<Sequence<Allocation>, NoMemory> {
+        copied_at_once(rows, alloc)
     }
 }

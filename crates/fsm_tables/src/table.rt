@@ -1,10 +1,10 @@
-ghost use Rattle.std.specs.Prelude.{◌≡◌, ◌≤◌, ◌<◌, List, [], OnOk, OnErr, option_map, length, T as Holds};
+ghost use Rattle.std.specs.Prelude.{◌≡◌, ◌≤◌, ◌<◌, List, [], OnOk, OnErr, IfOk, option_map, length, T as Holds};
 ghost use Rattle.std.specs.List.{AllByRecursion, slice_get};
 ghost use Rattle.rows.specs.Rising.{is_rising};
 ghost use Rattle.fsm_tables.specs.Rows.{row_of, put, put_within};
 ghost use Rattle.fsm_tables.specs.Inner.Places.{PlaceOf};
 
-use rows::{NoMemory, Ranged};
+use rows::{NoMemory, Ranged, Sequence};
 use std::alloc::Global;
 use std::marker::Model;
 
@@ -19,6 +19,14 @@ pub trait Row: Drop + Ranged {
     /// The row's key.
     fn key(&self) -> &Self::Key
         ensures { result.now ≡ key_of self.now };
+
+    /// The same row once more.
+    fn copied(&self, alloc: Global) -> Result<Self, NoMemory>
+        ensures { IfOk result (λ row. row ≡ self.now) };
+
+    /// The same rows once more, in time of the rows.
+    fn all_copied(rows: &[Self], alloc: Global) -> Result<Sequence<Self>, NoMemory>
+        ensures { IfOk result (λ copies. copies ≡ rows.now) };
 }
 
 /// A table: at most one row of each key. Contracts see the list of its rows in strictly rising key.
@@ -63,6 +71,16 @@ impl<T: Row> Table<T> {
         Table {
             rows: Vec::new(alloc),
         }
+    }
+
+    /// The same table once more, made by a copy, in time of the rows.
+    pub fn fork(&self) -> Result<Table<T>, NoMemory>
+        ensures { IfOk result (λ t. t ≡ self.now) }
+    {
+        let rows = T::all_copied(&self.rows, self.memory())?;
+        Ok(Table {
+            rows: rows.into_vec(),
+        })
     }
 
     /// Where it takes its memory from.

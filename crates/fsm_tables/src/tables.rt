@@ -63,6 +63,19 @@ impl Tables {
         }
     }
 
+    /// The same tables once more: each list, index and sum is copied as it is, in time of the rows
+    /// and without a search. `NoMemory` where there is no memory for them.
+    pub fn fork(&self) -> Result<Tables, NoMemory>
+        ensures { IfOk result (λ t. t ≡ self.now) }
+    {
+        Ok(Tables {
+            jobs: self.jobs.fork()?,
+            nodes: self.nodes.fork()?,
+            evals: self.evals.fork()?,
+            allocs: self.allocs.fork()?,
+        })
+    }
+
     /// The row of a job, if there is one.
     pub fn job(&self, name: &JobName) -> Option<&Job>
         ensures { option_map (λ row. row.now) result ≡ row_of name_cmp job_name name.now self.now.jobs }

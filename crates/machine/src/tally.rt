@@ -118,6 +118,13 @@ impl Machine for Tally {
         TallyCommand::Noop
     }
 
+    fn fork(&self) -> Result<Tally, NoMemory> {
+        Ok(Tally {
+            count: self.count,
+            sum: self.sum,
+        })
+    }
+
     fn count(&self) -> u64 {
         self.count.get()
     }

@@ -1,7 +1,8 @@
 -- The effects once more, as puts of one row after the other at its key: the form in which the code
 -- makes them.
-use Rattle.std.specs.Prelude.{◌≡◌, ◌++◌, map, ℕ, true, not, ◌&&◌, List, [], ◌∷◌, filter, Option, Some, None, nat_eq, bytes_eq, Bool, if◌then◌else◌}
-use Rattle.std.specs.List.{list_any, IsDistinct}
+use Rattle.std.specs.Prelude.{◌≡◌, map, ℕ, true, not, ◌&&◌, ◌||◌, List, [], ◌∷◌, Option, Some, None, nat_eq, bytes_eq, Bool, if◌then◌else◌}
+use Rattle.std.specs.List.{list_any, filter_map}
+use Rattle.std.specs.BTreeSet.{BTreeSet, contains}
 use Rattle.std.specs.declared.cmp.Ordering.{Ordering}
 use Rattle.std.specs.Ordering.{nat_cmp}
 use Rattle.rows.specs.declared.job.Job.{Job}
@@ -18,7 +19,7 @@ use Rattle.fsm_tables.specs.TableRows.{TableRows}
 use Rattle.fsm_tables.specs.Claims.{is_active, is_live}
 use Rattle.cluster_model.specs.Limits.{most_jobs, most_nodes, most_evals, most_allocs}
 use Rattle.cluster_model.specs.Words.{State, alloc_of, is_open}
-use Rattle.cluster_model.specs.Effect.{lost_row, lost, is_ended_by, client_state_of, new_eval, with_evals}
+use Rattle.cluster_model.specs.Effect.{lost_row, lost, is_ended_by, client_state_of, with_evals}
 use Rattle.rows.specs.declared.command.StatusChange.{StatusChange}
 use Rattle.rows.specs.Changes.{status_of, snapshot_of}
 
@@ -72,17 +73,32 @@ room_at x n nodes = with_row_changed nat_cmp node_number most_nodes (λ r. recor
 abbrev pub node_has_room : ℕ → State → State
 node_has_room n s = record s { nodes = room_at s.count n s.nodes }
 
--- ---- lists that grow
+-- ---- names of jobs, and the jobs that they touch
 
--- so much is put behind what was there, whatever follows
-abbrev pub Adds : {X : Type 0} → (List X → List X) → List X → List X → Type 0
-Adds {X} more old new = (rest : List X) → new ++ rest ≡ old ++ more rest
+-- whether it is one of the names
+abbrev pub has_name : List (List ℕ) → List ℕ → Bool
+has_name names name = list_any (bytes_eq name) names
 
--- the jobs of the names are touched
-abbrev pub touched_names : List (List ℕ) → State → State
-touched_names names s =
-    let those = filter (λ j. list_any (λ name. bytes_eq j.name name) names) s.jobs in
-    record s { evals = with_evals s.count 0 those s.evals }
+-- a set has these names and no other
+abbrev pub HasNames : List (List ℕ) → BTreeSet (List ℕ) → Type 0
+HasNames names set = (name : List ℕ) → contains name_cmp set name ≡ has_name names name
+
+-- a set gets names, whatever others follow
+abbrev pub AddsNames : (List (List ℕ) → List (List ℕ)) → BTreeSet (List ℕ) → BTreeSet (List ℕ) → Type 0
+AddsNames more old new = (name : List ℕ) (rest : List (List ℕ))
+    → (contains name_cmp new name || has_name rest name) ≡ (contains name_cmp old name || has_name (more rest) name)
+
+-- whether a job's name is one of a set
+abbrev pub is_in : BTreeSet (List ℕ) → Job → Bool
+is_in names j = contains name_cmp names j.name
+
+-- the rows of the names that have one, in the order of the names
+abbrev pub jobs_at : List Job → List (List ℕ) → List Job
+jobs_at jobs names = filter_map (λ name. row_of name_cmp job_name name jobs) names
+
+-- their jobs are touched, in this order
+abbrev pub touched_at : List (List ℕ) → State → State
+touched_at names s = record s { evals = with_evals s.count 0 (jobs_at s.jobs names) s.evals }
 
 -- ---- one allocation
 
@@ -150,14 +166,9 @@ abbrev pub lost_steps : List Allocation → State → State
 lost_steps [] s = s
 lost_steps (a ∷ rows) s = lost_steps rows (put_alloc (lost_row a) s)
 
--- a name is put behind the others, unless it is one of them
-abbrev pub with_name : List ℕ → List (List ℕ) → List (List ℕ)
-with_name name names = if list_any (bytes_eq name) names then names else names ++ name ∷ []
-
--- the names of the jobs that own a row that passes, in some order and each once, and no other name
-pub record AreJobs (which : Allocation → Bool) (names : List (List ℕ)) (rows : List Allocation) : Type 0 where
-  pub named : (name : List ℕ) → list_any (bytes_eq name) names ≡ list_any (λ a. which a && bytes_eq a.job name) rows
-  pub once : IsDistinct bytes_eq names
+-- the names of the jobs of rows
+abbrev pub owners : List Allocation → List (List ℕ)
+owners rows = map (λ a. a.job) rows
 
 -- ---- parts of the steps
 
@@ -168,21 +179,12 @@ revised_to a b s = record s {
   allocs = put_within alloc_cmp alloc_id most_allocs b s.allocs;
 }
 
--- the evaluation that touches a job, if it is one of the names
-abbrev pub eval_for : ℕ → ℕ → List (List ℕ) → Option Job → Option Evaluation
-eval_for x slot names None = None
-eval_for x slot names (Some j) =
-    if list_any (λ name. bytes_eq j.name name) names then (Some (new_eval x slot j)) else None
-
--- ---- statuses, names, and reports told before any is taken
+-- ---- statuses, and reports told before any is taken
 
 -- the status of one evaluation, unless it is final
 abbrev pub set_one : StatusChange → Evaluation → Evaluation
 set_one to e =
     if is_open e.status then (record e { status = status_of to; snapshot = snapshot_of to }) else e
-
-abbrev pub is_one_of : List (List ℕ) → Job → Bool
-is_one_of names j = list_any (λ name. bytes_eq j.name name) names
 
 abbrev pub ended_now : (Allocation → Allocation) → List Report → State → List (List ℕ)
 ended_now f [] s = []

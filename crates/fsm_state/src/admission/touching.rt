@@ -1,22 +1,22 @@
 //! Why a state refuses the commands that touch several jobs.
-ghost use Rattle.std.specs.Prelude.{◌≡◌, ◌≤◌, Option, Some, None, IfOk, OnOk, length, filter, option_map};
+ghost use Rattle.std.specs.Prelude.{◌≡◌, Option, Some, None, IfOk, OnOk, option_map};
 ghost use Rattle.std.specs.List.{list_any, list_all};
 ghost use Rattle.rows.specs.declared.command.Command.TheVariants as commands;
 ghost use Rattle.cluster_model.specs.Words.{no_alloc, is_ready};
 ghost use Rattle.cluster_model.specs.Admission.{admission, touch_passes, drains, can_move, is_its_own};
 ghost use Rattle.cluster_model.specs.Effect.{moves, owns, is_ended_by, told, told_all};
 ghost use Rattle.fsm_tables.specs.Lookups.{lives_on};
-ghost use Rattle.fsm_state.specs.Inner.Steps.{is_one_of, ended_job, ended_now, Adds};
+ghost use Rattle.fsm_state.specs.Inner.Steps.{is_in, ended_job, ended_now, HasNames, AddsNames};
 
 use crate::admission::is_drained;
 use crate::apply::reports::told as told_itself;
 use crate::cluster::Cluster;
-use crate::touch::is_among;
+use crate::touch::add_name;
 use fsm_tables::{Tables, is_live};
 use rows::{
-    AllocId, Allocation, Job, JobName, NoMemory, NodeId, NodeStatus, Refusal, Report, Reports,
-    RisingIds, Sequence,
+    AllocId, Allocation, JobName, NoMemory, NodeId, NodeStatus, Refusal, Report, Reports, RisingIds,
 };
+use std::collections::BTreeSet;
 
 /// Whether a node is ready.
 pub(super) fn is_ready(status: NodeStatus) -> bool
@@ -26,15 +26,6 @@ pub(super) fn is_ready(status: NodeStatus) -> bool
         NodeStatus::Ready => true,
         NodeStatus::Down => false,
     }
-}
-
-/// How many of the jobs are of these names.
-#[tactic(auto, using(cluster_model::proofs::RangeLaws::no_more))]
-fn count_of(jobs: &[Job], names: &[JobName]) -> usize
-    ensures count { result ≡ length (filter (is_one_of names.now) jobs.now) }
-    ensures few { result ≤ length jobs.now }
-{
-    jobs.iter().filter(|job| is_among(&job.name, names)).count()
 }
 
 /// A row after a report, if it is of that allocation.
@@ -61,17 +52,17 @@ fn after_reports(row: &Allocation, node: NodeId, reports: &[Report]) -> Allocati
 
 /// Adds the job of a row that the reports end.
 fn add_ended(
-    names: &mut Sequence<JobName>,
+    names: &mut BTreeSet<JobName>,
     row: Option<&Allocation>,
     node: NodeId,
     reports: &[Report],
 ) -> Result<(), NoMemory>
     ensures { let old = option_map (λ r. r.now) row.entry in
-        OnOk result (Adds (ended_job (told_all node reports.now) old) names.old names.new) }
+        OnOk result (AddsNames (ended_job (told_all node reports.now) old) names.old names.new) }
 {
     match row {
-        Some(row) if is_live(row) && !is_live(&after_reports(row, node, reports)) => names.push(
-            row.job,
+        Some(row) if is_live(row) && !is_live(&after_reports(row, node, reports)) => add_name(
+            names, row.job,
         ),
         _ => Ok(()),
     }
@@ -79,11 +70,11 @@ fn add_ended(
 
 impl Cluster {
     /// Whether the evaluations that touch the jobs of these names would pass the limit.
-    fn names_pass(&self, names: &[JobName]) -> bool
-        ensures { result ≡ touch_passes (is_one_of names.now) self.now }
+    fn names_pass(&self, names: &BTreeSet<JobName>) -> bool
+        ensures { result ≡ touch_passes (is_in names.now) self.now }
     {
         self.ranges();
-        let more = count_of(self.job_table().rows(), names);
+        let more = self.count_all(names);
         self.eval_table().len() + more > Tables::MOST_EVALS
     }
 
@@ -103,7 +94,7 @@ impl Cluster {
             IfOk result (λ b. b ≡ touch_passes those self.now) }
     {
         let names = self.jobs_on(node)?;
-        Ok(self.names_pass(names.as_slice()))
+        Ok(self.names_pass(&names))
     }
 
     /// Why a node may not be taken for down.
@@ -159,7 +150,7 @@ impl Cluster {
     {
         self.ranges();
         let names = self.jobs_of(ids)?;
-        Ok(self.names_pass(names.as_slice()))
+        Ok(self.names_pass(&names))
     }
 
     /// Why allocations may not be marked.
@@ -201,11 +192,11 @@ impl Cluster {
     }
 
     /// The jobs of the allocations that the reports end, one after the other.
-    fn jobs_ended(&self, node: NodeId, reports: &[Report]) -> Result<Sequence<JobName>, NoMemory>
+    fn jobs_ended(&self, node: NodeId, reports: &[Report]) -> Result<BTreeSet<JobName>, NoMemory>
         ensures { let told = told_all node reports.now in
-            IfOk result (λ names. names ≡ ended_now told reports.now self.now) }
+            IfOk result (HasNames (ended_now told reports.now self.now)) }
     {
-        let mut names = Sequence::new(self.memory());
+        let mut names = BTreeSet::new(self.memory());
         for report in reports {
             add_ended(&mut names, self.alloc(report.id), node, reports)?;
         }
@@ -219,7 +210,7 @@ impl Cluster {
     {
         self.ranges();
         let names = self.jobs_ended(node, reports)?;
-        Ok(self.names_pass(names.as_slice()))
+        Ok(self.names_pass(&names))
     }
 
     /// Why reports of a node may not be taken.

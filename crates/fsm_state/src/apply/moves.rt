@@ -1,10 +1,12 @@
 //! Allocations that are marked to move, and their jobs.
 ghost use Rattle.std.specs.Prelude.{◌≡◌, OnOk, option_map, ◌<◌, IfOk};
-ghost use Rattle.fsm_state.specs.Inner.Steps.{alloc_changed, mark_one, marked_all, live_job, live_jobs, Adds};
+ghost use Rattle.fsm_state.specs.Inner.Steps.{alloc_changed, mark_one, marked_all, live_job, live_jobs, HasNames, AddsNames};
 
 use crate::cluster::Cluster;
+use crate::touch::add_name;
 use fsm_tables::is_live;
-use rows::{AllocId, Allocation, JobName, NoMemory, Sequence};
+use rows::{AllocId, Allocation, JobName, NoMemory};
+use std::collections::BTreeSet;
 
 /// A row that is to move, if it is live.
 fn marked(row: &Allocation) -> Allocation
@@ -18,12 +20,12 @@ fn marked(row: &Allocation) -> Allocation
 }
 
 /// Adds the job of a live row.
-fn add_live(names: &mut Sequence<JobName>, row: Option<&Allocation>) -> Result<(), NoMemory>
+fn add_live(names: &mut BTreeSet<JobName>, row: Option<&Allocation>) -> Result<(), NoMemory>
     ensures { let job = live_job (option_map (λ r. r.now) row.entry) in
-        OnOk result (Adds job names.old names.new) }
+        OnOk result (AddsNames job names.old names.new) }
 {
     match row {
-        Some(row) if is_live(row) => names.push(row.job),
+        Some(row) if is_live(row) => add_name(names, row.job),
         _ => Ok(()),
     }
 }
@@ -53,10 +55,10 @@ impl Cluster {
     }
 
     /// The jobs of those that are live.
-    pub(crate) fn jobs_of(&self, ids: &[AllocId]) -> Result<Sequence<JobName>, NoMemory>
-        ensures { IfOk result (λ names. names ≡ live_jobs ids.now self.now) }
+    pub(crate) fn jobs_of(&self, ids: &[AllocId]) -> Result<BTreeSet<JobName>, NoMemory>
+        ensures { IfOk result (HasNames (live_jobs ids.now self.now)) }
     {
-        let mut names = Sequence::new(self.memory());
+        let mut names = BTreeSet::new(self.memory());
         for id in ids {
             add_live(&mut names, self.alloc(*id))?;
         }

@@ -1,11 +1,13 @@
 //! What reports of a node change, and the jobs of the allocations that they end.
 ghost use Rattle.std.specs.Prelude.{◌≡◌, ◌&&◌, OnOk, option_map, ◌<◌, IfOk};
 ghost use Rattle.cluster_model.specs.Effect.{client_state_of};
-ghost use Rattle.fsm_state.specs.Inner.Steps.{revised, tell_one, told_steps, ended_job, ended_jobs, Adds};
+ghost use Rattle.fsm_state.specs.Inner.Steps.{revised, tell_one, told_steps, ended_job, ended_jobs, HasNames, AddsNames};
 
 use crate::cluster::Cluster;
+use crate::touch::add_name;
 use fsm_tables::{is_active, is_live};
-use rows::{Allocation, ClientState, JobName, NoMemory, NodeId, Report, ReportedState, Sequence};
+use rows::{Allocation, ClientState, JobName, NoMemory, NodeId, Report, ReportedState};
+use std::collections::BTreeSet;
 
 /// The client state that a report tells.
 fn told_state(state: ReportedState) -> ClientState
@@ -31,16 +33,16 @@ pub(crate) fn told(row: &Allocation, node: NodeId, report: &Report) -> Allocatio
 
 /// Adds the job of a row that a report ends.
 fn add_ended(
-    names: &mut Sequence<JobName>,
+    names: &mut BTreeSet<JobName>,
     row: Option<&Allocation>,
     node: NodeId,
     report: &Report,
 ) -> Result<(), NoMemory>
     ensures { let old = option_map (λ r. r.now) row.entry in
-        OnOk result (Adds (ended_job (tell_one node report.now) old) names.old names.new) }
+        OnOk result (AddsNames (ended_job (tell_one node report.now) old) names.old names.new) }
 {
     match row {
-        Some(row) if is_live(row) && !is_live(&told(row, node, report)) => names.push(row.job),
+        Some(row) if is_live(row) && !is_live(&told(row, node, report)) => add_name(names, row.job),
         _ => Ok(()),
     }
 }
@@ -65,11 +67,11 @@ impl Cluster {
         &mut self,
         node: NodeId,
         reports: &[Report],
-    ) -> Result<Sequence<JobName>, NoMemory>
-        ensures names { IfOk result (λ names. names ≡ ended_jobs node reports.now self.old) }
+    ) -> Result<BTreeSet<JobName>, NoMemory>
+        ensures names { IfOk result (HasNames (ended_jobs node reports.now self.old)) }
         ensures state { OnOk result (self.new ≡ told_steps node reports.now self.old) }
     {
-        let mut names = Sequence::new(self.memory());
+        let mut names = BTreeSet::new(self.memory());
         for report in reports {
             add_ended(&mut names, self.alloc(report.id), node, report)?;
             self.take_report(node, report)?;

@@ -79,9 +79,9 @@ abbrev pub rows_at : List Allocation → List AllocId → List Allocation
 rows_at rows ids = filter_map (λ i. row_of alloc_cmp alloc_id i rows) ids
 
 -- whether there is a row and it passes
-abbrev pub passes : (Allocation → Bool) → Option Allocation → Bool
+abbrev pub passes : {X : Type 0} → (X → Bool) → Option X → Bool
 passes test None = false
-passes test (Some a) = test a
+passes test (Some x) = test x
 
 -- they are the ids of the rows that pass, and no other
 abbrev pub AreIdsOf : (Allocation → Bool) → List Allocation → List AllocId → Type 0

@@ -1,6 +1,5 @@
-use Rattle.std.proofs.Common.{◌∙◌}
+use Rattle.std.proofs.Common.{sym, ◌∙◌}
 use Rattle.cluster_model.specs.Effect.{owns, moves}
-use Rattle.fsm_state.specs.Inner.Steps.{live_jobs}
 use Rattle.fsm_state.proofs.StopLaws.{moved_jobs}
 use Rattle.fsm_state.proofs.Admitting.{names_are}
 use Rattle.fsm_state.proofs.cluster.Cluster.moves_pass.Goals as goal
@@ -9,5 +8,4 @@ pub returns : goal.returns
 returns c =
     let s = c.args.self.now in
     let tables = c.ranges-2.ensures.tables in
-    c.names_pass.ensures ∙ names_are (owns (moves c.args.ids.now) s.allocs) _ (live_jobs c.args.ids.now s) s (c.as_slice.ensures ∙ c.in_ok-names.ensures)
-    (moved_jobs c.args.ids.now s (record { nodes = tables.nodes.rising; allocs = tables.allocs.rising }))
+    c.names_pass.ensures ∙ names_are (owns (moves c.args.ids.now) s.allocs) _ s (λ j. moved_jobs c.args.ids.now s (record { nodes = tables.nodes.rising; allocs = tables.allocs.rising }) j ∙ sym (c.in_ok-names.ensures j.name))

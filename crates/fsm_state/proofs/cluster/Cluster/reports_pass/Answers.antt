@@ -1,6 +1,5 @@
-use Rattle.std.proofs.Common.{◌∙◌}
+use Rattle.std.proofs.Common.{sym, ◌∙◌}
 use Rattle.cluster_model.specs.Effect.{owns, is_ended_by, told_all}
-use Rattle.fsm_state.specs.Inner.Steps.{ended_now}
 use Rattle.fsm_state.proofs.Reports.{ended_are}
 use Rattle.fsm_state.proofs.Admitting.{names_are}
 use Rattle.fsm_state.proofs.cluster.Cluster.reports_pass.Goals as goal
@@ -11,5 +10,4 @@ returns c =
     let tables = c.ranges-2.ensures.tables in
     let n = c.args.node in
     let rs = c.args.reports.now in
-    c.names_pass.ensures ∙ names_are (owns (is_ended_by (told_all n rs)) s.allocs) _ (ended_now (told_all n rs) rs s) s (c.as_slice.ensures ∙ c.in_ok-names.ensures)
-    (ended_are n rs s (record { nodes = tables.nodes.rising; allocs = tables.allocs.rising }))
+    c.names_pass.ensures ∙ names_are (owns (is_ended_by (told_all n rs)) s.allocs) _ s (λ j. ended_are n rs s (record { nodes = tables.nodes.rising; allocs = tables.allocs.rising }) j ∙ sym (c.in_ok-names.ensures j.name))

@@ -1,7 +1,8 @@
 use mir.Val.{bool_byte}
 use Rattle.std.proofs.Common.{◌≡◌, ℕ, ◌+◌, Bool, true, false, cond, length, is_some, refl, sym, ap, ◌∙◌}
 use Rattle.std.specs.Prelude.{nat_lt}
-use Rattle.fsm_state.proofs.Admitting.{named_once, mapped_some}
+use Rattle.fsm_state.proofs.Admitting.{mapped_some}
+use Rattle.fsm_state.proofs.Touching.{named_once}
 use Rattle.fsm_state.proofs.cluster.Cluster.touch_passes.Goals as goal
 
 as_number : (b : Bool) → bool_byte b ≡ cond b 1 0
