@@ -3,7 +3,7 @@ use Rattle.std.proofs.Common.{◌≡◌, T, List, [], ◌∷◌, refl, sym, ap, 
 use Rattle.rows.specs.Keys.{eval_cmp, eval_id}
 use Rattle.rows.specs.Rising.{is_rising}
 use Rattle.rows.proofs.KeyLaws.{eval_cmp_total}
-use Rattle.fsm_tables.specs.RowLaws.{rising_put}
+use Rattle.fsm_tables.proofs.RowLaws.{rising_put}
 use Rattle.cluster_model.specs.Words.{State, no_rows}
 use Rattle.group_model.specs.Blocked.{BlockedEvals, blocked_over, blocked_with_eval, blocked_with_node, blocked_with_job}
 use Rattle.group_model.proofs.BlockedRows.{blocked_follow_evals, blocked_follow_nodes, blocked_follow_jobs}

@@ -11,7 +11,7 @@ use Rattle.rows.specs.declared.node.Node.{Node}
 use Rattle.rows.specs.declared.evaluation.Evaluation.{Evaluation}
 use Rattle.rows.specs.Keys.{name_cmp}
 use Rattle.fsm_tables.specs.Rows.{row_of, put}
-use Rattle.fsm_tables.specs.RowLaws.{row_of-put}
+use Rattle.fsm_tables.proofs.RowLaws.{row_of-put}
 use Rattle.cluster_model.specs.Words.{State, is_blocked}
 use Rattle.group_model.specs.Blocked.{BlockedEval, room_with, room_over, blocked_eval}
 use Rattle.blocked.specs.declared.rooms.ClassRoom.{ClassRoom}

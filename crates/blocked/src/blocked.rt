@@ -1,7 +1,7 @@
 ghost use Rattle.std.specs.Prelude.{◌≡◌, [], OnOk, OnErr, IfOk, filter, map};
 ghost use Rattle.group_model.specs.Order.{in_order as all_in_order};
 ghost use Rattle.group_model.specs.Blocked.{BlockedEval as AnyBlockedEval, blocked_id, due as all_due, made_due};
-ghost use Rattle.group_model.specs.Blocked.{with_blocked, without_blocked, with_room, blocked_over, blocked_with_job};
+ghost use Rattle.group_model.specs.Blocked.{with_blocked, without_blocked, with_class_room, blocked_over, blocked_with_job};
 ghost use Rattle.blocked.specs.Rooms.{blocked_of};
 ghost use Rattle.blocked.specs.Inner.Anew.{is_of};
 
@@ -101,7 +101,7 @@ impl Blocked {
         ensures ids { let made = made_due class.now index (blocked_of self.old) in
             IfOk result (λ ids. ids ≡ map blocked_id made) }
         ensures ok { OnOk result
-            (blocked_of self.new ≡ with_room class.now index (blocked_of self.old)) }
+            (blocked_of self.new ≡ with_class_room class.now index (blocked_of self.old)) }
         ensures err { OnErr result (self.new ≡ self.old) }
     {
         let urgencies = due_then(alloc, &self.rooms, class, index, self.evals.rows())?;

@@ -11,7 +11,7 @@ use Rattle.std.proofs.lemmas.Map.Views.{any-filter_same}
 use Rattle.rows.specs.declared.allocation.Allocation.{Allocation}
 use Rattle.rows.specs.Keys.{name_cmp}
 use Rattle.fsm_tables.specs.Rows.{row_of, put}
-use Rattle.fsm_tables.specs.RowLaws.{row_of-put}
+use Rattle.fsm_tables.proofs.RowLaws.{row_of-put}
 use Rattle.group_model.specs.Drains.{same_group, firsts}
 use Rattle.drain.specs.declared.group.JobGroup.{JobGroup}
 use Rattle.drain.specs.Inner.Groups.{group_of, job_group_cmp, itself, is_met, firsts_but}

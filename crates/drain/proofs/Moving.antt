@@ -7,7 +7,7 @@ use Rattle.std.specs.Cmp.Lexicographic.{nat_list_cmp_total}
 use Rattle.std.specs.declared.cmp.Ordering.TheVariants.{Equal}
 use Rattle.std.specs.Ordering.{is_eq}
 use Rattle.rows.specs.Keys.{name_cmp}
-use Rattle.fsm_tables.specs.RowLaws.{equal}
+use Rattle.fsm_tables.proofs.RowLaws.{equal}
 use Rattle.rows.specs.declared.allocation.AllocId.{AllocId}
 use Rattle.rows.specs.declared.allocation.Allocation.{Allocation}
 use Rattle.rows.specs.declared.node.DrainMode.TheVariants as drains

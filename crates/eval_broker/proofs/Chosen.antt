@@ -14,13 +14,13 @@ use Rattle.rows.specs.Keys.{name_cmp, eval_cmp}
 use Rattle.rows.proofs.KeyLaws.{eval_cmp_total}
 use Rattle.rows.specs.Rising.{is_rising}
 use Rattle.fsm_tables.specs.Rows.{row_of}
-use Rattle.fsm_tables.specs.RowLaws.{first, second, some_same}
-use Rattle.fsm_tables.specs.SetLaws.{found_first}
+use Rattle.fsm_tables.proofs.RowLaws.{first, second, some_same}
+use Rattle.fsm_tables.proofs.SetLaws.{found_first}
 use Rattle.fsm_tables.specs.declared.urgency.Urgency.{Urgency}
 use Rattle.fsm_tables.specs.Urgencies.{urgency_cmp}
 use Rattle.fsm_tables.proofs.Shelves.{found_tied}
 use Rattle.fsm_tables.proofs.Urgencies.{urgency_cmp_total}
-use Rattle.group_model.specs.Brokers.{Task, task_id, task_of, is_free, MOST, job_is_free, may_go, next}
+use Rattle.group_model.specs.Brokers.{Task, task_id, task_of, is_free, MOST, job_is_free, may_be_given, next}
 use Rattle.group_model.proofs.KeptRows.{all_found}
 use Rattle.eval_broker.specs.declared.ranks.Rank.{Rank}
 use Rattle.eval_broker.specs.declared.ranks.Head.{Head}
@@ -133,7 +133,7 @@ module _ (ts : List Task) (ps : List Rank) (hs : List Head) (rising : T (is_risi
   own p t found is = ap (λ (x : Rank). task_of (rank_id x) ts) (sym is) ∙ found
 
   -- of each job of which one may be given out, the head comes no later than it
-  head_before : (t : Task) → task_of t.id ts ≡ Some t → may_go ts t ≡ true → (h : Head) × (head_of t.job ps ≡ Some h) × (is_gt (urgency_cmp h.urgency (urgency_of t)) ≡ false)
+  head_before : (t : Task) → task_of t.id ts ≡ Some t → may_be_given ts t ≡ true → (h : Head) × (head_of t.job ps ≡ Some h) × (is_gt (urgency_cmp h.urgency (urgency_of t)) ≡ false)
   head_before t found may =
       let free : is_free t.mark ≡ true = and_left (is_free t.mark) _ (and_left (is_free t.mark && nat_lt t.deliveries MOST) _ may) in
       let few : nat_lt t.deliveries MOST ≡ true = and_right (is_free t.mark) _ (and_left (is_free t.mark && nat_lt t.deliveries MOST) _ may) in
@@ -157,10 +157,10 @@ module _ (ts : List Task) (ps : List Rank) (hs : List Head) (rising : T (is_risi
         by false e = true_false _ idle (ap not (any_with (is_busy t.job) ts u found (busy_there p u is job e)))
 
   -- the first head is a task that may be given out
-  task_of_head : (h : Head) → is_head h (head_of h.job ps) ≡ true → (t : Task) × (task_of (head_id h) ts ≡ Some t) × (may_go ts t ≡ true) × (h.urgency ≡ urgency_of t)
+  task_of_head : (h : Head) → is_head h (head_of h.job ps) ≡ true → (t : Task) × (task_of (head_id h) ts ≡ Some t) × (may_be_given ts t ≡ true) × (h.urgency ≡ urgency_of t)
   task_of_head h is = by (row_of name_cmp rank_job h.job ps) refl is where
     Goes : Type 0
-    Goes = (t : Task) × (task_of (head_id h) ts ≡ Some t) × (may_go ts t ≡ true) × (h.urgency ≡ urgency_of t)
+    Goes = (t : Task) × (task_of (head_id h) ts ≡ Some t) × (may_be_given ts t ≡ true) × (h.urgency ≡ urgency_of t)
 
     idle : (p : Rank) (t : Task) → row_of name_cmp rank_job h.job ps ≡ Some p → p ≡ rank_of t → p.is_free ≡ true → h.job ≡ p.job → list_any (is_busy t.job) ts ≡ false
     idle p t e same free job = no _ (λ any.
@@ -175,7 +175,7 @@ module _ (ts : List Task) (ps : List Rank) (hs : List Head) (rising : T (is_risi
           off true e = sym e
           off false e = refl
 
-    goes : (p : Rank) → row_of name_cmp rank_job h.job ps ≡ Some p → p.is_free ≡ true → not p.is_spent ≡ true → is_head h (Some (record { urgency = p.urgency; job = p.job })) ≡ true → (t : Task) × (task_of (head_id h) ts ≡ Some t) × (may_go ts t ≡ true) × (h.urgency ≡ urgency_of t)
+    goes : (p : Rank) → row_of name_cmp rank_job h.job ps ≡ Some p → p.is_free ≡ true → not p.is_spent ≡ true → is_head h (Some (record { urgency = p.urgency; job = p.job })) ≡ true → (t : Task) × (task_of (head_id h) ts ≡ Some t) × (may_be_given ts t ≡ true) × (h.urgency ≡ urgency_of t)
     goes p e free left tie =
         let one = task_at p (found_there h.job ps p e) in
         let urgency : h.urgency ≡ p.urgency = same_urgency h.urgency p.urgency (then_first (urgency_cmp h.urgency p.urgency) (name_cmp h.job p.job) (is_equal _ tie)) in
@@ -188,10 +188,10 @@ module _ (ts : List Task) (ps : List Rank) (hs : List Head) (rising : T (is_risi
         twice true = refl
         twice false = refl
 
-    by : (m : Option Rank) → row_of name_cmp rank_job h.job ps ≡ m → is_head h (first_head m) ≡ true → (t : Task) × (task_of (head_id h) ts ≡ Some t) × (may_go ts t ≡ true) × (h.urgency ≡ urgency_of t)
+    by : (m : Option Rank) → row_of name_cmp rank_job h.job ps ≡ m → is_head h (first_head m) ≡ true → (t : Task) × (task_of (head_id h) ts ≡ Some t) × (may_be_given ts t ≡ true) × (h.urgency ≡ urgency_of t)
     by None e is = absurd (cc)
     by (Some p) e is = at (p.is_free && not p.is_spent) refl is where
-      at : (b : Bool) → (p.is_free && not p.is_spent) ≡ b → is_head h (cond b (Some (record { urgency = p.urgency; job = p.job })) None) ≡ true → (t : Task) × (task_of (head_id h) ts ≡ Some t) × (may_go ts t ≡ true) × (h.urgency ≡ urgency_of t)
+      at : (b : Bool) → (p.is_free && not p.is_spent) ≡ b → is_head h (cond b (Some (record { urgency = p.urgency; job = p.job })) None) ≡ true → (t : Task) × (task_of (head_id h) ts ≡ Some t) × (may_be_given ts t ≡ true) × (h.urgency ≡ urgency_of t)
       at true w is = goes p e (and_left p.is_free _ w) (and_right p.is_free _ w) is
       at false w is = absurd (cc)
 
@@ -206,7 +206,7 @@ module _ (ts : List Task) (ps : List Rank) (hs : List Head) (rising : T (is_risi
     go (u ∷ us) all = (each u all.0, go us all.1)
 
   no_next : hs ≡ [] → next ts ≡ None
-  no_next none = none_passes (may_go ts) ts (all_tasks (λ t. may_go ts t ≡ true → ⊥) (λ t found may.
+  no_next none = none_passes (may_be_given ts) ts (all_tasks (λ t. may_be_given ts t ≡ true → ⊥) (λ t found may.
       let h = head_before t found may in
       true_false _ (among_heads t h.0 h.1) (ap (is_in head_cmp h.0) none)))
 
@@ -215,7 +215,7 @@ module _ (ts : List Task) (ps : List Rank) (hs : List Head) (rising : T (is_risi
       let one = task_of_head h (sym (heads.exact h) ∙ ap (is_in head_cmp h) is ∙ has_first head_cmp head_total h rest) in
       let t = one.0 in
       let found : task_of t.id ts ≡ Some t = ap (λ (u : Urgency). task_of u.id ts) (sym one.3) ∙ one.1 in
-      first_is (may_go ts) t ts rising found one.2 (all_tasks (λ y. may_go ts y ≡ true → NoLater t y) (λ y there may.
+      first_is (may_be_given ts) t ts rising found one.2 (all_tasks (λ y. may_be_given ts y ≡ true → NoLater t y) (λ y there may.
       let g = head_before y there may in
       let no_later = first_least head_cmp head_total h g.0 rest (subst (λ l. T (is_rising head_cmp (λ x. x) l)) is heads.rising) (sym (ap (is_in head_cmp g.0) is) ∙ among_heads y g.0 g.1) in
       ap (λ u. is_gt (urgency_cmp u (urgency_of y))) (sym one.3)
@@ -235,11 +235,11 @@ module _ (ts : List Task) (ps : List Rank) (hs : List Head) (rising : T (is_risi
 
 -- what goes next is there, and was given out less than three times
 pub next_there : (ts : List Task) (t : Task) → T (is_rising eval_cmp task_id ts) → next ts ≡ Some t → task_of t.id ts ≡ Some t
-next_there ts t rising e = (first_passes (λ x. task_of x.id ts ≡ Some x) (may_go ts) ts t (all_found eval_cmp task_id eval_cmp_total ts rising) e).0
+next_there ts t rising e = (first_passes (λ x. task_of x.id ts ≡ Some x) (may_be_given ts) ts t (all_found eval_cmp task_id eval_cmp_total ts rising) e).0
 
 pub next_few : (ts : List Task) (t : Task) → T (is_rising eval_cmp task_id ts) → next ts ≡ Some t → t.deliveries < MOST
 next_few ts t rising e =
-    let may = (first_passes (λ x. task_of x.id ts ≡ Some x) (may_go ts) ts t (all_found eval_cmp task_id eval_cmp_total ts rising) e).1 in
+    let may = (first_passes (λ x. task_of x.id ts ≡ Some x) (may_be_given ts) ts t (all_found eval_cmp task_id eval_cmp_total ts rising) e).1 in
     below t.deliveries (and_right (is_free t.mark) _ (and_left (is_free t.mark && nat_lt t.deliveries MOST) _ may))
   where
     below : (n : ℕ) → nat_lt n 3 ≡ true → n < 3

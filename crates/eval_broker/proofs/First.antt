@@ -9,7 +9,7 @@ use Rattle.rows.specs.declared.evaluation.EvalId.{EvalId}
 use Rattle.rows.specs.Keys.{eval_cmp}
 use Rattle.rows.proofs.KeyLaws.{eval_cmp_total}
 use Rattle.rows.specs.Rising.{is_below, is_rising}
-use Rattle.fsm_tables.specs.RowLaws.{first, second, less, none_below, some_same}
+use Rattle.fsm_tables.proofs.RowLaws.{first, second, less, none_below, some_same}
 use Rattle.fsm_tables.specs.Urgencies.{urgency_cmp}
 use Rattle.group_model.specs.Order.{Picked, or_head, pick, picked_one}
 use Rattle.group_model.specs.Order.{first as first_by}

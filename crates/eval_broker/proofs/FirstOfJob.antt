@@ -12,7 +12,7 @@ use Rattle.std.specs.Cmp.Lexicographic.{nat_list_cmp_total}
 use Rattle.rows.specs.Keys.{name_cmp}
 use Rattle.rows.specs.Rising.{is_below, is_rising}
 use Rattle.fsm_tables.specs.Rows.{row_of}
-use Rattle.fsm_tables.specs.RowLaws.{first, second, less}
+use Rattle.fsm_tables.proofs.RowLaws.{first, second, less}
 use Rattle.fsm_tables.specs.Urgencies.{urgency_cmp}
 use Rattle.eval_broker.specs.declared.ranks.Rank.{Rank}
 use Rattle.eval_broker.specs.Inner.Lists.{rank_cmp, rank_job}

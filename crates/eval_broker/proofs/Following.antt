@@ -8,9 +8,9 @@ use Rattle.rows.proofs.KeyLaws.{eval_cmp_total}
 use Rattle.rows.specs.Rising.{is_rising}
 use Rattle.raft_model.specs.Logs.{MAX}
 use Rattle.fsm_tables.specs.Rows.{put}
-use Rattle.fsm_tables.specs.RowLaws.{rising_put}
+use Rattle.fsm_tables.proofs.RowLaws.{rising_put}
 use Rattle.cluster_model.specs.Words.{same_eval, is_pending}
-use Rattle.group_model.specs.Brokers.{Broker, Task, Free, Acked, no_tasks, task_key, eval_key, task_of, carry, broker_over, with_task, goes_out, set_mark, next_token, next, delivery, given, gives, deliver, UsedUp, Gives, HoldsPending}
+use Rattle.group_model.specs.Brokers.{Broker, Task, Free, Acked, no_tasks, task_key, eval_key, task_of, carry, broker_over, with_task, goes_out, set_mark, next_token, next, delivery_of, given, gives, deliver, UsedUp, Gives, HoldsPending}
 use Rattle.group_model.proofs.Following.{broker_follows}
 use Rattle.group_model.specs.Worked.Brokers.{after_gift}
 use Rattle.eval_broker.specs.Calls.{Call, Changed, Next, Ack, Nack, Followed, after_call, after_calls, rebuilt, Holds, HoldsAfterCalls}
@@ -36,7 +36,7 @@ keys_kept f keeps id (t ∷ ts) = λ i. by (same_eval t.id id) i ∷ keys_kept f
 
 gift_keeps : (term wait : ℕ) (b : Broker) → map task_key (after_gift b (deliver term wait b)).tasks ≡ map task_key b.tasks
 gift_keeps term wait b = by (next b.tasks) where
-  used : (t : Task) (c : Bool) → map task_key (after_gift b (cond c (Gives (delivery term wait t b) (given term wait t b)) UsedUp)).tasks ≡ map task_key b.tasks
+  used : (t : Task) (c : Bool) → map task_key (after_gift b (cond c (Gives (delivery_of term wait t b) (given term wait t b)) UsedUp)).tasks ≡ map task_key b.tasks
   used t true = keys_kept (goes_out (next_token term b) wait) (λ t. refl) t.id b.tasks
   used t false = refl
 

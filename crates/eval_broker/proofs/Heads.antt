@@ -9,7 +9,7 @@ use Rattle.std.specs.Cmp.Lexicographic.{nat_list_cmp_total}
 use Rattle.std.proofs.lemmas.Map.Lookups.{exact_bytes}
 use Rattle.rows.specs.Keys.{name_cmp}
 use Rattle.fsm_tables.specs.Rows.{by_order, row_of, has_row, put}
-use Rattle.fsm_tables.specs.RowLaws.{rising_put}
+use Rattle.fsm_tables.proofs.RowLaws.{rising_put}
 use Rattle.fsm_tables.specs.Shelves.{without}
 use Rattle.fsm_tables.specs.declared.urgency.Urgency.{Urgency}
 use Rattle.fsm_tables.specs.Urgencies.{urgency_cmp}

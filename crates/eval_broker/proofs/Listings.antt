@@ -10,7 +10,7 @@ use Rattle.rows.specs.Keys.{eval_cmp}
 use Rattle.rows.proofs.KeyLaws.{eval_cmp_total}
 use Rattle.rows.specs.Rising.{is_rising}
 use Rattle.fsm_tables.specs.Rows.{has_row, put}
-use Rattle.fsm_tables.specs.RowLaws.{first, second, rising_put, row_of-put}
+use Rattle.fsm_tables.proofs.RowLaws.{first, second, rising_put, row_of-put}
 use Rattle.fsm_tables.specs.Shelves.{without}
 use Rattle.fsm_tables.proofs.Shelves.{rising_without, row_of-without, length-without, found_tied}
 use Rattle.group_model.specs.Brokers.{Task, task_id, task_of}

@@ -11,8 +11,8 @@ use Rattle.rows.specs.declared.evaluation.EvalId.{EvalId}
 use Rattle.rows.specs.Keys.{eval_cmp}
 use Rattle.rows.specs.Rising.{is_below, is_rising}
 use Rattle.fsm_tables.specs.Rows.{row_of, put}
-use Rattle.fsm_tables.specs.RowLaws.{both, first, equal, none_below, below_less, row_of-put}
-use Rattle.fsm_tables.specs.SetLaws.{same_rows}
+use Rattle.fsm_tables.proofs.RowLaws.{both, first, equal, none_below, below_less, row_of-put}
+use Rattle.fsm_tables.proofs.SetLaws.{same_rows}
 use Rattle.fsm_tables.specs.Shelves.{without}
 use Rattle.fsm_tables.specs.declared.urgency.Urgency.{Urgency}
 use Rattle.fsm_tables.specs.Urgencies.{urgency_cmp}

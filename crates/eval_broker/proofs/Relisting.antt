@@ -10,8 +10,8 @@ use Rattle.rows.specs.Keys.{name_cmp, eval_cmp}
 use Rattle.rows.proofs.KeyLaws.{eval_cmp_total}
 use Rattle.rows.specs.Rising.{is_rising}
 use Rattle.fsm_tables.specs.Rows.{has_row, put}
-use Rattle.fsm_tables.specs.RowLaws.{rising_put, row_of-put}
-use Rattle.fsm_tables.specs.SetLaws.{same_rows}
+use Rattle.fsm_tables.proofs.RowLaws.{rising_put, row_of-put}
+use Rattle.fsm_tables.proofs.SetLaws.{same_rows}
 use Rattle.fsm_tables.specs.Shelves.{Stock, without}
 use Rattle.fsm_tables.specs.declared.urgency.Urgency.{Urgency}
 use Rattle.fsm_tables.specs.Urgencies.{urgency_cmp}

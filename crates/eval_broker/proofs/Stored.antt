@@ -9,13 +9,13 @@ use Rattle.rows.specs.Keys.{eval_cmp}
 use Rattle.rows.proofs.KeyLaws.{eval_cmp_total}
 use Rattle.rows.specs.Rising.{is_rising}
 use Rattle.fsm_tables.specs.Rows.{by_order, has_row, put}
-use Rattle.fsm_tables.specs.RowLaws.{first, second, none_below, below_less, below_tied, rising_put, row_of-put, length-put, some_same}
-use Rattle.fsm_tables.specs.SetLaws.{same_rows}
+use Rattle.fsm_tables.proofs.RowLaws.{first, second, none_below, below_less, below_tied, rising_put, row_of-put, length-put, some_same}
+use Rattle.fsm_tables.proofs.SetLaws.{same_rows}
 use Rattle.fsm_tables.specs.Shelves.{without}
 use Rattle.fsm_tables.proofs.Shelves.{rising_without, row_of-without, found_tied}
 use Rattle.cluster_model.specs.Words.{same_eval}
 use Rattle.raft_model.specs.Logs.{MAX}
-use Rattle.group_model.specs.Brokers.{Broker, Task, Gives, UsedUp, task_id, task_of, with_task, goes_out, next_token, next, delivery, given, gives, deliver}
+use Rattle.group_model.specs.Brokers.{Broker, Task, Gives, UsedUp, task_id, task_of, with_task, goes_out, next_token, next, delivery_of, given, gives, deliver}
 use Rattle.eval_broker.specs.declared.lists.Lists.{Lists}
 use Rattle.eval_broker.specs.Inner.Lists.{HaveRoom, KeepRoom}
 use Rattle.eval_broker.proofs.Orders.{none_some}
@@ -148,6 +148,6 @@ module _ (ts us : List Task) (t new : Task) (rising : T (is_rising eval_cmp task
       let token = next_token term old in
       let same : new ≡ goes_out token wait t = is_fresh ∙ (λ i. goes_out (record { term = term; serial = sym one i }) wait t) in
       ap (gives term wait old) first
-      ∙ ap (λ b. cond b (Gives (delivery term wait t old) (given term wait t old)) UsedUp) left
+      ∙ ap (λ b. cond b (Gives (delivery_of term wait t old) (given term wait t old)) UsedUp) left
       ∙ (λ i. Gives (record { eval = sym is_id i; token = record { term = term; serial = one i }; wait = wait })
       (record { tasks = sym (put_is ∙ ap (λ x. put eval_cmp task_id x ts) same ∙ sym (one_changed (goes_out token wait) (λ x. refl) t.id ts t rising found)) i; serial = two i }))

@@ -5,7 +5,7 @@ use Rattle.rows.specs.declared.evaluation.Evaluation.{Evaluation}
 use Rattle.rows.specs.Keys.{eval_cmp, eval_id}
 use Rattle.rows.specs.Rising.{is_rising}
 use Rattle.fsm_tables.specs.Rows.{put}
-use Rattle.group_model.specs.Brokers.{Broker, no_tasks, task_key, broker_over, broker_with, deliver, acked, nacked, HoldsPending}
+use Rattle.group_model.specs.Brokers.{Broker, no_tasks, task_key, broker_over, broker_with, deliver, with_ack, with_nack, HoldsPending}
 use Rattle.group_model.specs.Worked.Brokers.{after_gift}
 
 -- a call, and what it is of; a row is told once it was made or replaced in the applied state
@@ -24,8 +24,8 @@ pub record Followed : Type 0 where
 abbrev pub after_call : Call → Followed → Followed
 after_call (Changed row) f = record { evals = put eval_cmp eval_id row f.evals; broker = broker_with row f.broker }
 after_call (Next term wait) f = record f { broker = after_gift f.broker (deliver term wait f.broker) }
-after_call (Ack id) f = record f { broker = acked id f.broker }
-after_call (Nack id) f = record f { broker = nacked id f.broker }
+after_call (Ack id) f = record f { broker = with_ack id f.broker }
+after_call (Nack id) f = record f { broker = with_nack id f.broker }
 
 abbrev pub after_calls : List Call → Followed → Followed
 after_calls [] f = f

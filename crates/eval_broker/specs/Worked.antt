@@ -5,7 +5,7 @@ use Rattle.rows.specs.declared.refusal.Refusal.TheVariants as refusals
 use Rattle.raft_model.specs.Logs.{MAX}
 use Rattle.cluster_model.specs.Worked.Words.{eval_id}
 use Rattle.fsm_tables.specs.declared.urgency.Urgency.{Urgency}
-use Rattle.group_model.specs.Brokers.{Broker, UsedUp, deliver, outstanding, nacked}
+use Rattle.group_model.specs.Brokers.{Broker, UsedUp, deliver, outstanding, with_nack}
 use Rattle.group_model.specs.Worked.Words.{token}
 use Rattle.group_model.specs.Worked.Brokers.{broker, changed, after_gift}
 use Rattle.eval_broker.specs.Answers.{failed_in_order}
@@ -20,7 +20,7 @@ NoSerialLeft = deliver 1 5 (record broker { serial = MAX }) ≡ UsedUp
 
 -- both out and given back, three times each
 abbrev pub both_back : Broker → Broker
-both_back b = nacked (eval_id 2 0) (nacked (eval_id 3 0) b)
+both_back b = with_nack (eval_id 2 0) (with_nack (eval_id 3 0) b)
 
 abbrev pub both_given : Broker → Broker
 both_given b = after_gift (after_gift b (deliver 1 5 b)) (deliver 1 5 (after_gift b (deliver 1 5 b)))

@@ -2,7 +2,7 @@
 ghost use Rattle.std.specs.Prelude.{◌≡◌, ◌+◌, ◌<◌, ◌^◌, true, false, nat_lt, IfOk, IfErr, IfSome, IfNone, OnOk, OnErr, Ok, Err, is_ok};
 ghost use Rattle.raft_model.specs.Logs.{MAX};
 ghost use Rattle.group_model.specs.Brokers.{Nothing, UsedUp, Gives, no_tasks, task_of, broker_over, broker_with, deliver};
-ghost use Rattle.group_model.specs.Brokers.{outstanding as outstanding_by, acked, nacked};
+ghost use Rattle.group_model.specs.Brokers.{outstanding as outstanding_by, with_ack, with_nack};
 ghost use Rattle.eval_broker.specs.Answers.{pair_of, refusal_of, failed_in_order};
 
 use crate::answers::{PairError, SerialsUsedUp};
@@ -101,7 +101,7 @@ impl Broker {
     /// A worker is done with an evaluation: its job waits until the evaluation's row changes.
     /// Refused where the pair is not outstanding. It takes no memory.
     pub fn ack(&mut self, eval: EvalId, token: Token) -> Result<(), PairError>
-        ensures ok { OnOk result ((is_ok (outstanding_by eval token self.old) ≡ true) × (self.new ≡ acked eval self.old)) }
+        ensures ok { OnOk result ((is_ok (outstanding_by eval token self.old) ≡ true) × (self.new ≡ with_ack eval self.old)) }
         ensures err { IfErr result (λ e. (outstanding_by eval token self.old ≡ Err (refusal_of e)) × (self.new ≡ self.old)) }
     {
         self.check(eval, token)?;
@@ -112,7 +112,7 @@ impl Broker {
     /// A worker gives an evaluation back. Refused where the pair is not outstanding. It takes no
     /// memory.
     pub fn nack(&mut self, eval: EvalId, token: Token) -> Result<(), PairError>
-        ensures ok { OnOk result ((is_ok (outstanding_by eval token self.old) ≡ true) × (self.new ≡ nacked eval self.old)) }
+        ensures ok { OnOk result ((is_ok (outstanding_by eval token self.old) ≡ true) × (self.new ≡ with_nack eval self.old)) }
         ensures err { IfErr result (λ e. (outstanding_by eval token self.old ≡ Err (refusal_of e)) × (self.new ≡ self.old)) }
     {
         self.check(eval, token)?;
@@ -156,7 +156,7 @@ impl Broker {
 
     /// Marks an evaluation as done, if it is there.
     fn set_acked(&mut self, eval: &EvalId)
-        ensures { self.new ≡ acked eval.now self.old }
+        ensures { self.new ≡ with_ack eval.now self.old }
     {
         if let Some(task) = self.tasks.get(eval) {
             let task = task.acked();
@@ -166,7 +166,7 @@ impl Broker {
 
     /// Marks an evaluation as free, if it is there.
     fn set_free(&mut self, eval: &EvalId)
-        ensures { self.new ≡ nacked eval.now self.old }
+        ensures { self.new ≡ with_nack eval.now self.old }
     {
         if let Some(task) = self.tasks.get(eval) {
             let task = task.freed();

@@ -1,5 +1,5 @@
 //! The tasks, with the lists beside them.
-ghost use Rattle.std.specs.Prelude.{◌≡◌, ◌≤◌, ◌+◌, OnOk, OnErr, option_map, length, map, filter, nat_lt, ◌||◌, T as Holds};
+ghost use Rattle.std.specs.Prelude.{◌≡◌, ◌≤◌, ◌+◌, OnOk, option_map, length, map, filter, nat_lt, ◌||◌, T as Holds};
 ghost use Rattle.rows.specs.Keys.{eval_cmp};
 ghost use Rattle.fsm_tables.specs.Rows.{has_row, put as with_row};
 ghost use Rattle.fsm_tables.specs.Shelves.{without as without_row};

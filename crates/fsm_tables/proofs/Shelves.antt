@@ -1,14 +1,15 @@
 -- Rows in order without one of them: what is looked up then, how many there are, and the list
 -- without the place that the row has.
-use Rattle.std.proofs.Common.{◌≡◌, ℕ, zero, suc, ◌+◌, ◌<◌, ◌≤◌, Bool, true, false, not, cond, T, List, [], ◌∷◌, length, get_or, Option, Some, None, is_some, refl, sym, ap, subst, ◌∙◌, arith, Result, Ok, Err}
+use Rattle.std.proofs.Common.{◌≡◌, ℕ, zero, suc, ◌+◌, ◌<◌, ◌≤◌, Bool, true, false, not, cond, T, List, [], ◌∷◌, length, get_or, Option, Some, None, is_some, refl, sym, ap, subst, ◌∙◌, arith, Ok, Err}
 use Rattle.std.specs.Prelude.{remove, ◌||◌, nat_lt}
 use Rattle.std.specs.declared.cmp.Ordering.{Ordering}
 use Rattle.std.specs.declared.cmp.Ordering.TheVariants.{Less, Equal, Greater}
 use Rattle.std.specs.Ordering.{is_eq, ordering_reverse}
 use Rattle.std.specs.Cmp.{IsTotalOrder, alike_right}
 use Rattle.rows.specs.Rising.{is_below, is_rising}
-use Rattle.fsm_tables.specs.Rows.{row_of, has_row, put, PlaceOf}
-use Rattle.fsm_tables.specs.RowLaws.{both, first, second, less, equal, some_none, none_below, below_tied, length-put}
+use Rattle.fsm_tables.specs.Rows.{row_of, has_row, put}
+use Rattle.fsm_tables.specs.Inner.Places.{PlaceOf}
+use Rattle.fsm_tables.proofs.RowLaws.{both, first, second, less, equal, some_none, none_below, below_tied, length-put}
 use Rattle.fsm_tables.specs.Shelves.{without}
 
 nothing : {A : Type 0} (b : Bool) → ◌≡◌ {A = Option A} None (cond b None None)

@@ -1,8 +1,9 @@
 //! Rows by key with room made beforehand, so that a later put takes no memory.
 ghost use Rattle.std.specs.Prelude.{◌≡◌, ◌≤◌, [], OnOk, option_map, length, T as Holds, ◌||◌, nat_lt};
 ghost use Rattle.rows.specs.Rising.{is_rising};
-ghost use Rattle.fsm_tables.specs.Rows.{row_of, has_row, put as with_row, PlaceOf};
-ghost use Rattle.fsm_tables.specs.Shelves.{without as without_row};
+ghost use Rattle.fsm_tables.specs.Rows.{row_of, has_row, put};
+ghost use Rattle.fsm_tables.specs.Inner.Places.{PlaceOf};
+ghost use Rattle.fsm_tables.specs.Shelves.{without};
 
 use crate::table::Row;
 use rows::NoMemory;
@@ -92,7 +93,7 @@ impl<T: Row> Shelf<T> {
     /// no memory.
     pub fn put(&mut self, row: T)
         requires { Holds (has_row T.Key.cmp T.key_of (T.key_of row) self.old.rows || nat_lt (length self.old.rows) self.old.room) }
-        ensures rows { self.new.rows ≡ with_row T.Key.cmp T.key_of row self.old.rows }
+        ensures rows { self.new.rows ≡ put T.Key.cmp T.key_of row self.old.rows }
         ensures room { self.old.room ≤ self.new.room }
     {
         match place_in(&self.rows, row.key()) {
@@ -107,7 +108,7 @@ impl<T: Row> Shelf<T> {
 
     /// Takes out the row of the key, if there is one. It takes no memory, and its room stays.
     pub fn cut(&mut self, key: &T::Key)
-        ensures rows { self.new.rows ≡ without_row T.Key.cmp T.key_of key.now self.old.rows }
+        ensures rows { self.new.rows ≡ without T.Key.cmp T.key_of key.now self.old.rows }
         ensures room { self.old.room ≤ self.new.room }
     {
         if let Ok(at) = place_in(&self.rows, key) {

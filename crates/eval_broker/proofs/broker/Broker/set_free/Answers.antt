@@ -1,5 +1,5 @@
 use Rattle.std.proofs.Common.{refl, sym, ap, ◌∙◌}
-use Rattle.group_model.specs.Brokers.{Free, task_id, set_mark, nacked}
+use Rattle.group_model.specs.Brokers.{Free, task_id, set_mark, with_nack}
 use Rattle.eval_broker.proofs.Listings.{found_own}
 use Rattle.eval_broker.proofs.Stored.{has_space, has_room, in_place, none_changed}
 use Rattle.eval_broker.proofs.broker.Broker.set_free.Goals as goal
@@ -20,10 +20,10 @@ pub returns-in-Some : goal.returns-in-Some
 returns-in-Some c =
     let ts = c.self.inside.tasks.tasks.rows in
     in_place ts c.put.new.self.tasks.rows c.in-Some.task.now c.freed-task.result c.self.invariant.rising c.put.ensures.rows (set_mark Free) (λ x. refl) c.args.eval.now c.self.inside.serial (sym c.in-Some.ensures) c.freed-task.ensures
-    ∙ ap (nacked c.args.eval.now) c.self.view_is
+    ∙ ap (with_nack c.args.eval.now) c.self.view_is
 
 pub returns-in_default : goal.returns-in_default
 returns-in_default c =
     sym c.self.view_is
     ∙ (λ i. record { tasks = sym (none_changed (set_mark Free) (λ x. refl) c.args.eval.now c.self.inside.tasks.tasks.rows (sym c.in_default.ensures)) i; serial = c.self.inside.serial })
-    ∙ ap (nacked c.args.eval.now) c.self.view_is
+    ∙ ap (with_nack c.args.eval.now) c.self.view_is

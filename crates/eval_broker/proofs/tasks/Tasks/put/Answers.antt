@@ -3,7 +3,7 @@ use Rattle.rows.specs.Keys.{eval_cmp}
 use Rattle.rows.proofs.KeyLaws.{eval_cmp_total}
 use Rattle.rows.specs.Rising.{is_rising}
 use Rattle.fsm_tables.specs.Rows.{put}
-use Rattle.fsm_tables.specs.RowLaws.{rising_put}
+use Rattle.fsm_tables.proofs.RowLaws.{rising_put}
 use Rattle.fsm_tables.specs.Shelves.{without}
 use Rattle.group_model.specs.Brokers.{Task, task_id}
 use Rattle.eval_broker.specs.Inner.Lists.{AreListed, HaveRoom}

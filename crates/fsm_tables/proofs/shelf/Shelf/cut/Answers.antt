@@ -1,6 +1,6 @@
 use Rattle.std.proofs.Common.{◌≡◌, T, subst, sym, ap, ◌∙◌, Ok, Err}
 use Rattle.rows.specs.Rising.{is_rising}
-use Rattle.fsm_tables.specs.Rows.{PlaceOf}
+use Rattle.fsm_tables.specs.Inner.Places.{PlaceOf}
 use Rattle.fsm_tables.specs.Shelves.{Stock, without}
 use Rattle.fsm_tables.proofs.Shelves.{rising_without}
 use Rattle.fsm_tables.proofs.Shelves.{cut_found, cut_missed}
