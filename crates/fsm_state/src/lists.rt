@@ -9,12 +9,12 @@ ghost use Rattle.cluster_model.specs.Words.{State};
 ghost use Rattle.cluster_model.specs.States.{InOrder};
 
 use crate::cluster::Cluster;
-use fsm_tables::Row;
+use fsm_tables::{CopiedRow, Row};
 use rows::{Allocation, Evaluation, Index, Job, NoMemory, Node, Sequence};
 use std::alloc::Global;
 
 /// Rows of one kind, of which a state has a table.
-trait Stored: Row {
+trait Stored: Row + CopiedRow {
     /// The state with these rows in the table.
     ghost stored: { List Self → State → State };
 

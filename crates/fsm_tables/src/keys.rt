@@ -1,6 +1,6 @@
 ghost use Rattle.std.specs.Prelude.{◌≡◌, IfOk};
 
-use crate::table::Row;
+use crate::table::{CopiedRow, Row};
 use rows::{
     AllocId, Allocation, EvalId, Evaluation, Job, JobName, NoMemory, Node, NodeId, Sequence,
 };
@@ -24,7 +24,9 @@ impl Row for Job {
     fn key(&self) -> &JobName {
         &self.name
     }
+}
 
+impl CopiedRow for Job {
     fn copied(&self, alloc: Global) -> Result<Job, NoMemory> {
         Ok(Job {
             name: self.name,
@@ -53,7 +55,9 @@ impl Row for Node {
     fn key(&self) -> &NodeId {
         &self.number
     }
+}
 
+impl CopiedRow for Node {
     fn copied(&self, _alloc: Global) -> Result<Node, NoMemory> {
         Ok(*self)
     }
@@ -72,7 +76,9 @@ impl Row for Evaluation {
     fn key(&self) -> &EvalId {
         &self.id
     }
+}
 
+impl CopiedRow for Evaluation {
     fn copied(&self, _alloc: Global) -> Result<Evaluation, NoMemory> {
         Ok(*self)
     }
@@ -91,7 +97,9 @@ impl Row for Allocation {
     fn key(&self) -> &AllocId {
         &self.id
     }
+}
 
+impl CopiedRow for Allocation {
     fn copied(&self, _alloc: Global) -> Result<Allocation, NoMemory> {
         Ok(*self)
     }

@@ -19,7 +19,7 @@ mod usage;
 pub use laws::tables_are_sets;
 pub use name::AllocName;
 pub use shelf::Shelf;
-pub use table::{Row, Table};
+pub use table::{CopiedRow, Row, Table};
 pub use tables::Tables;
 pub use urgency::Urgency;
 pub use usage::{Usage, is_active, is_live};

@@ -19,7 +19,10 @@ pub trait Row: Drop + Ranged {
     /// The row's key.
     fn key(&self) -> &Self::Key
         ensures { result.now ≡ key_of self.now };
+}
 
+/// Rows of which there may be another that is the same.
+pub trait CopiedRow: Row {
     /// The same row once more.
     fn copied(&self, alloc: Global) -> Result<Self, NoMemory>
         ensures { IfOk result (λ row. row ≡ self.now) };
@@ -63,16 +66,7 @@ fn place<T: Row>(rows: &[T], key: &T::Key) -> Result<usize, usize>
     rows.binary_search_by(|row| row.key().cmp(key))
 }
 
-impl<T: Row> Table<T> {
-    /// The table without rows. It takes no memory.
-    pub fn empty(alloc: Global) -> Table<T>
-        ensures { result ≡ [] }
-    {
-        Table {
-            rows: Vec::new(alloc),
-        }
-    }
-
+impl<T: CopiedRow> Table<T> {
     /// The same table once more, made by a copy, in time of the rows.
     pub fn fork(&self) -> Result<Table<T>, NoMemory>
         ensures { IfOk result (λ t. t ≡ self.now) }
@@ -81,6 +75,17 @@ impl<T: Row> Table<T> {
         Ok(Table {
             rows: rows.into_vec(),
         })
+    }
+}
+
+impl<T: Row> Table<T> {
+    /// The table without rows. It takes no memory.
+    pub fn empty(alloc: Global) -> Table<T>
+        ensures { result ≡ [] }
+    {
+        Table {
+            rows: Vec::new(alloc),
+        }
     }
 
     /// Where it takes its memory from.
