@@ -20,11 +20,11 @@ pub trait Row: Drop + Ranged {
     fn key(&self) -> &Self::Key
         ensures { result.now ≡ key_of self.now };
 
-    /// The same row once more.
+    /// The same row once more. `NoMemory` where there is no memory for what it owns.
     fn copied(&self, alloc: Global) -> Result<Self, NoMemory>
         ensures { IfOk result (λ row. row ≡ self.now) };
 
-    /// The same rows once more, in time of the rows.
+    /// The same rows once more, in time of the rows. `NoMemory` where there is no memory for them.
     fn all_copied(rows: &[Self], alloc: Global) -> Result<Sequence<Self>, NoMemory>
         ensures { IfOk result (λ copies. copies ≡ rows.now) };
 }
@@ -73,7 +73,8 @@ impl<T: Row> Table<T> {
         }
     }
 
-    /// The same table once more, made by a copy, in time of the rows.
+    /// The same table once more, made by a copy, in time of the rows. `NoMemory` where there is no
+    /// memory for them.
     pub fn fork(&self) -> Result<Table<T>, NoMemory>
         ensures { IfOk result (λ t. t ≡ self.now) }
     {
