@@ -23,11 +23,11 @@ pub trait Row: Drop + Ranged {
 
 /// Rows of which there may be another that is the same.
 pub trait CopiedRow: Row {
-    /// The same row once more.
+    /// The same row once more. `NoMemory` where there is no memory for what it owns.
     fn copied(&self, alloc: Global) -> Result<Self, NoMemory>
         ensures { IfOk result (λ row. row ≡ self.now) };
 
-    /// The same rows once more, in time of the rows.
+    /// The same rows once more, in time of the rows. `NoMemory` where there is no memory for them.
     fn all_copied(rows: &[Self], alloc: Global) -> Result<Sequence<Self>, NoMemory>
         ensures { IfOk result (λ copies. copies ≡ rows.now) };
 }
@@ -67,7 +67,8 @@ fn place<T: Row>(rows: &[T], key: &T::Key) -> Result<usize, usize>
 }
 
 impl<T: CopiedRow> Table<T> {
-    /// The same table once more, made by a copy, in time of the rows.
+    /// The same table once more, made by a copy, in time of the rows. `NoMemory` where there is no
+    /// memory for them.
     pub fn fork(&self) -> Result<Table<T>, NoMemory>
         ensures { IfOk result (λ t. t ≡ self.now) }
     {
