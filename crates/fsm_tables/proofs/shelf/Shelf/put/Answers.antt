@@ -1,4 +1,4 @@
-use Rattle.std.proofs.Common.{◌≡◌, T, subst, sym, ap, ◌∙◌, is_ok}
+use Rattle.std.proofs.Common.{T, subst, sym, is_ok}
 use Rattle.rows.specs.Rising.{is_rising}
 use Rattle.fsm_tables.specs.RowLaws.{rising_put}
 use Rattle.fsm_tables.proofs.Shelves.{either_rising}
