@@ -1,12 +1,13 @@
 -- What a broker answers: outstanding pairs, refusals, and those given out too often, in order.
-use Rattle.std.specs.Prelude.{ℕ, Option, Some, None, List, map}
+use Rattle.std.specs.Prelude.{◌≡◌, ℕ, true, Option, Some, None, Err, is_ok, List, map}
+use Rattle.rows.specs.declared.evaluation.EvalId.{EvalId}
 use Rattle.rows.specs.declared.token.Token.{Token}
 use Rattle.rows.specs.declared.refusal.Refusal.{Refusal}
 use Rattle.rows.specs.declared.refusal.Refusal.TheVariants as refusals
 use Rattle.fsm_tables.specs.declared.urgency.Urgency.{Urgency}
 use Rattle.fsm_tables.specs.Urgencies.{urgency}
 use Rattle.group_model.specs.Order.{in_order}
-use Rattle.group_model.specs.Brokers.{Mark, Free, Out, Acked, Task, Broker, failed}
+use Rattle.group_model.specs.Brokers.{Mark, Free, Out, Acked, Task, Broker, outstanding, failed}
 use Rattle.eval_broker.specs.declared.answers.PairError.{PairError}
 use Rattle.eval_broker.specs.declared.answers.PairError.TheVariants as errors
 
@@ -24,6 +25,13 @@ pair_of (Some t) = pair_of_mark t.mark
 abbrev pub refusal_of : PairError → Refusal
 refusal_of errors.NotOutstanding = refusals.NotOutstanding
 refusal_of errors.TokenDiffers = refusals.TokenDiffers
+
+-- whether an evaluation is out under this token, and why the pair is none
+abbrev pub IsPair : EvalId → Token → Broker → Type 0
+IsPair eval token b = is_ok (outstanding eval token b) ≡ true
+
+abbrev pub RefusesPair : EvalId → Token → Broker → PairError → Type 0
+RefusesPair eval token b e = outstanding eval token b ≡ Err (refusal_of e)
 
 -- where a task stands in the order of tasks
 abbrev pub urgency_of : Task → Urgency

@@ -35,8 +35,8 @@ after_calls (c ∷ cs) f = after_calls cs (after_call c f)
 abbrev pub rebuilt : List Evaluation → Followed
 rebuilt evals = record { evals = evals; broker = broker_over evals no_tasks }
 
--- the tasks are the pending evaluations of the state beside them, and so those of a broker made anew
--- over it, but for their deliveries and marks
+-- the tasks are the pending evaluations of the state beside them, and so those of a broker made
+-- anew over it, but for their deliveries and marks
 pub record Holds (f : Followed) : Type 0 where
   pub pending : HoldsPending f.evals f.broker.tasks
   pub as_rebuilt : map task_key f.broker.tasks ≡ map task_key (rebuilt f.evals).broker.tasks

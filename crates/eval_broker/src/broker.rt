@@ -1,9 +1,9 @@
 //! The broker.
-ghost use Rattle.std.specs.Prelude.{◌≡◌, ◌+◌, ◌<◌, ◌^◌, true, false, nat_lt, IfOk, IfErr, IfSome, IfNone, OnOk, OnErr, Ok, Err, is_ok};
+ghost use Rattle.std.specs.Prelude.{◌≡◌, ◌+◌, ◌<◌, ◌^◌, true, false, nat_lt, IfOk, IfErr, IfSome, IfNone, OnOk, OnErr, Ok};
 ghost use Rattle.raft_model.specs.Logs.{MAX};
 ghost use Rattle.group_model.specs.Brokers.{Nothing, UsedUp, Gives, no_tasks, task_of, broker_over, broker_with, deliver};
 ghost use Rattle.group_model.specs.Brokers.{outstanding as outstanding_by, with_ack, with_nack};
-ghost use Rattle.eval_broker.specs.Answers.{pair_of, refusal_of, failed_in_order};
+ghost use Rattle.eval_broker.specs.Answers.{pair_of, IsPair, RefusesPair, failed_in_order};
 
 use crate::answers::{PairError, SerialsUsedUp};
 use crate::task::Task;
@@ -36,7 +36,8 @@ impl Model for Broker {
 
 /// The serial after the last one; none after 2^40 - 1.
 fn serial_after(last: Index) -> Option<Serial>
-    ensures some { IfSome result (λ s. (s ≡ last + 1) × (last + 1 < 2 ^ 40) × (nat_lt last MAX ≡ true)) }
+    ensures some { IfSome result (λ s.
+        (s ≡ last + 1) × (last + 1 < 2 ^ 40) × (nat_lt last MAX ≡ true)) }
     ensures none { IfNone result (nat_lt last MAX ≡ false) }
 {
     Serial::new(last.get() + 1)
@@ -77,9 +78,12 @@ impl Broker {
     /// and of whose job none is out or acked. None where there is none; refused where there is one
     /// and no serial is left. It takes no memory.
     pub fn next(&mut self, term: LeaderTerm, wait: Index) -> Result<Option<Delivery>, SerialsUsedUp>
-        ensures gives { IfOk result (λ d. IfSome d (λ what. deliver term wait self.old ≡ Gives what self.new)) }
-        ensures nothing { IfOk result (λ d. IfNone d ((deliver term wait self.old ≡ Nothing) × (self.new ≡ self.old))) }
-        ensures used_up { OnErr result ((deliver term wait self.old ≡ UsedUp) × (self.new ≡ self.old)) }
+        ensures gives { IfOk result (λ d. IfSome d (λ what.
+            deliver term wait self.old ≡ Gives what self.new)) }
+        ensures nothing { IfOk result (λ d. IfNone d (
+            (deliver term wait self.old ≡ Nothing) × (self.new ≡ self.old))) }
+        ensures used_up { OnErr result (
+            (deliver term wait self.old ≡ UsedUp) × (self.new ≡ self.old)) }
     {
         let Some(task) = self.tasks.next() else {
             return Ok(None);
@@ -101,8 +105,8 @@ impl Broker {
     /// A worker is done with an evaluation: its job waits until the evaluation's row changes.
     /// Refused where the pair is not outstanding. It takes no memory.
     pub fn ack(&mut self, eval: EvalId, token: Token) -> Result<(), PairError>
-        ensures ok { OnOk result ((is_ok (outstanding_by eval token self.old) ≡ true) × (self.new ≡ with_ack eval self.old)) }
-        ensures err { IfErr result (λ e. (outstanding_by eval token self.old ≡ Err (refusal_of e)) × (self.new ≡ self.old)) }
+        ensures ok { OnOk result (IsPair eval token self.old × (self.new ≡ with_ack eval self.old)) }
+        ensures err { IfErr result (λ e. RefusesPair eval token self.old e × (self.new ≡ self.old)) }
     {
         self.check(eval, token)?;
         self.set_acked(&eval);
@@ -112,8 +116,8 @@ impl Broker {
     /// A worker gives an evaluation back. Refused where the pair is not outstanding. It takes no
     /// memory.
     pub fn nack(&mut self, eval: EvalId, token: Token) -> Result<(), PairError>
-        ensures ok { OnOk result ((is_ok (outstanding_by eval token self.old) ≡ true) × (self.new ≡ with_nack eval self.old)) }
-        ensures err { IfErr result (λ e. (outstanding_by eval token self.old ≡ Err (refusal_of e)) × (self.new ≡ self.old)) }
+        ensures ok { OnOk result (IsPair eval token self.old × (self.new ≡ with_nack eval self.old)) }
+        ensures err { IfErr result (λ e. RefusesPair eval token self.old e × (self.new ≡ self.old)) }
     {
         self.check(eval, token)?;
         self.set_free(&eval);
@@ -123,7 +127,7 @@ impl Broker {
     /// For a state of which index an outstanding pair waits; refused where it is none.
     pub fn check(&self, eval: EvalId, token: Token) -> Result<Index, PairError>
         ensures ok { IfOk result (λ wait. outstanding_by eval token self.now ≡ Ok wait) }
-        ensures err { IfErr result (λ e. outstanding_by eval token self.now ≡ Err (refusal_of e)) }
+        ensures err { IfErr result (λ e. RefusesPair eval token self.now e) }
     {
         match self.outstanding(eval) {
             None => Err(PairError::NotOutstanding),
@@ -146,8 +150,8 @@ impl Broker {
     }
 
     /// The evaluations that were given out three times and are neither out nor acked: the higher
-    /// priority first, and of one priority the lower id. They are not given out again, and hinder no
-    /// other of their job.
+    /// priority first, and of one priority the lower id. They are not given out again, and hinder
+    /// no other of their job.
     pub fn failed(&self) -> &[Urgency]
         ensures { result.now ≡ failed_in_order self.now }
     {

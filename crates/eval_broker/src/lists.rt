@@ -1,9 +1,9 @@
 //! The lists beside the tasks.
-ghost use Rattle.std.specs.Prelude.{◌≡◌, ◌≤◌, IfSome, OnOk, length, T as Holds, ◌||◌, nat_lt, if◌then◌else◌};
+ghost use Rattle.std.specs.Prelude.{◌≡◌, ◌≤◌, [], IfSome, OnOk, length, T as Holds, if◌then◌else◌};
 ghost use Rattle.rows.specs.Keys.{eval_cmp};
 ghost use Rattle.rows.specs.Rising.{is_rising};
-ghost use Rattle.fsm_tables.specs.Rows.{has_row, put as with_row};
-ghost use Rattle.fsm_tables.specs.Shelves.{without as without_row};
+ghost use Rattle.fsm_tables.specs.Rows.{put as with_row};
+ghost use Rattle.fsm_tables.specs.Shelves.{without as without_row, has_space};
 ghost use Rattle.fsm_tables.specs.Urgencies.{urgency_cmp};
 ghost use Rattle.group_model.specs.Brokers.{task_id};
 ghost use Rattle.eval_broker.specs.Answers.{urgency_of};
@@ -62,7 +62,8 @@ impl Lists {
     /// Brings in the head of a job.
     fn add_head(&mut self, job: &JobName)
         requires heads { AreHeadsBut job.now self.old.ranks.rows self.old.heads.rows }
-        requires room { IfSome (head_by job.now self.old.ranks.rows) (λ h. Holds (has_row head_cmp (λ t. t) h self.old.heads.rows || nat_lt (length self.old.heads.rows) self.old.heads.room)) }
+        requires room { IfSome (head_by job.now self.old.ranks.rows) (λ h.
+            Holds (has_space head_cmp (λ x. x) h self.old.heads)) }
         ensures heads { AreHeads self.old.ranks.rows self.new.heads.rows }
         ensures ranks { self.new.ranks ≡ self.old.ranks }
         ensures failed { self.new.failed ≡ self.old.failed }
@@ -75,8 +76,10 @@ impl Lists {
 
     /// Brings in a task that was given out as often as may be, if this is one.
     fn add_failed(&mut self, task: &Task)
-        requires { Holds (has_row urgency_cmp (λ u. u) (urgency_of task.now) self.old.failed.rows || nat_lt (length self.old.failed.rows) self.old.failed.room) }
-        ensures failed { self.new.failed.rows ≡ (if is_failed task.now then with_row urgency_cmp (λ u. u) (urgency_of task.now) self.old.failed.rows else self.old.failed.rows) }
+        requires { Holds (has_space urgency_cmp (λ u. u) (urgency_of task.now) self.old.failed) }
+        ensures failed { let old = self.old.failed.rows in
+            let one = with_row urgency_cmp (λ u. u) (urgency_of task.now) old in
+            self.new.failed.rows ≡ (if is_failed task.now then one else old) }
         ensures ranks { self.new.ranks ≡ self.old.ranks }
         ensures heads { self.new.heads ≡ self.old.heads }
         ensures room { self.old.failed.room ≤ self.new.failed.room }

@@ -1,8 +1,8 @@
 //! The tasks, with the lists beside them.
-ghost use Rattle.std.specs.Prelude.{◌≡◌, ◌≤◌, ◌+◌, OnOk, option_map, length, map, filter, nat_lt, ◌||◌, T as Holds};
+ghost use Rattle.std.specs.Prelude.{◌≡◌, ◌≤◌, ◌+◌, OnOk, OnErr, option_map, length, map, filter, T as Holds};
 ghost use Rattle.rows.specs.Keys.{eval_cmp};
-ghost use Rattle.fsm_tables.specs.Rows.{has_row, put as with_row};
-ghost use Rattle.fsm_tables.specs.Shelves.{without as without_row};
+ghost use Rattle.fsm_tables.specs.Rows.{put as with_row};
+ghost use Rattle.fsm_tables.specs.Shelves.{without as without_row, has_space};
 ghost use Rattle.group_model.specs.Brokers.{task_id, task_of, next as next_of};
 ghost use Rattle.eval_broker.specs.Inner.Lists.{AreKept, HaveRoom, is_failed};
 ghost use Rattle.eval_broker.specs.Answers.{urgency_of};
@@ -44,8 +44,9 @@ impl Tasks {
     /// Makes or replaces a task. There is room for it, so it takes no memory.
     pub fn put(&mut self, task: Task)
         requires kept { AreKept self.old }
-        requires space { Holds (has_row eval_cmp task_id (task_id task) self.old.tasks.rows || nat_lt (length self.old.tasks.rows) self.old.tasks.room) }
-        requires room { HaveRoom (length (with_row eval_cmp task_id task self.old.tasks.rows)) self.old.lists }
+        requires space { Holds (has_space eval_cmp task_id task self.old.tasks) }
+        requires room { let new = with_row eval_cmp task_id task self.old.tasks.rows in
+            HaveRoom (length new) self.old.lists }
         ensures kept { AreKept self.new }
         ensures rows { self.new.tasks.rows ≡ with_row eval_cmp task_id task self.old.tasks.rows }
     {
@@ -59,7 +60,8 @@ impl Tasks {
     pub fn cut(&mut self, id: &EvalId)
         requires kept { AreKept self.old }
         ensures kept { AreKept self.new }
-        ensures rows { self.new.tasks.rows ≡ without_row eval_cmp task_id id.now self.old.tasks.rows }
+        ensures rows { self.new.tasks.rows
+            ≡ without_row eval_cmp task_id id.now self.old.tasks.rows }
     {
         self.lists.take_out(&self.tasks, id);
         self.tasks.cut(id);
@@ -77,7 +79,8 @@ impl Tasks {
     /// Those given out as often as may be, and neither out nor acked, in the order of tasks.
     pub fn failed(&self) -> &[Urgency]
         requires { AreKept self.now }
-        ensures { result.now ≡ map urgency_of (in_order (λ t. t.priority) (filter is_failed self.now.tasks.rows)) }
+        ensures { let failed = filter is_failed self.now.tasks.rows in
+            result.now ≡ map urgency_of (in_order (λ t. t.priority) failed) }
     {
         self.lists.failed.rows()
     }

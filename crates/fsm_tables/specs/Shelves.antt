@@ -1,7 +1,8 @@
 -- Rows in strictly rising key, with room for so many; and rows that go.
-use Rattle.std.specs.Prelude.{ℕ, not, List, filter}
+use Rattle.std.specs.Prelude.{ℕ, Bool, not, ◌||◌, nat_lt, List, length, filter}
 use Rattle.std.specs.declared.cmp.Ordering.{Ordering}
 use Rattle.std.specs.Ordering.{is_eq}
+use Rattle.fsm_tables.specs.Rows.{has_row}
 
 pub record Stock (X : Type 0) : Type 0 where
   pub rows : List X
@@ -10,3 +11,7 @@ pub record Stock (X : Type 0) : Type 0 where
 -- the rows but that of a key
 abbrev pub without : {K X : Type 0} → (K → K → Ordering) → (X → K) → K → List X → List X
 without R key k rows = filter (λ y. not (is_eq (R k (key y)))) rows
+
+-- whether there is room for a row: one of its key is there, or there is room for one more
+abbrev pub has_space : {K X : Type 0} → (K → K → Ordering) → (X → K) → X → Stock X → Bool
+has_space R key x s = has_row R key (key x) s.rows || nat_lt (length s.rows) s.room

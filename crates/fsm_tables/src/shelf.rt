@@ -1,9 +1,9 @@
 //! Rows by key with room made beforehand, so that a later put takes no memory.
-ghost use Rattle.std.specs.Prelude.{◌≡◌, ◌≤◌, [], OnOk, option_map, length, T as Holds, ◌||◌, nat_lt};
+ghost use Rattle.std.specs.Prelude.{◌≡◌, ◌≤◌, [], OnOk, option_map, T as Holds};
 ghost use Rattle.rows.specs.Rising.{is_rising};
-ghost use Rattle.fsm_tables.specs.Rows.{row_of, has_row, put};
+ghost use Rattle.fsm_tables.specs.Rows.{row_of, put};
 ghost use Rattle.fsm_tables.specs.Inner.Places.{PlaceOf};
-ghost use Rattle.fsm_tables.specs.Shelves.{without};
+ghost use Rattle.fsm_tables.specs.Shelves.{without, has_space};
 
 use crate::table::Row;
 use rows::NoMemory;
@@ -71,7 +71,8 @@ impl<T: Row> Shelf<T> {
 
     /// The row of a key, if there is one. It takes time in the logarithm of the rows.
     pub fn get(&self, key: &T::Key) -> Option<&T>
-        ensures { option_map (λ row. row.now) result ≡ row_of T.Key.cmp T.key_of key.now self.now.rows }
+        ensures { option_map (λ row. row.now) result
+            ≡ row_of T.Key.cmp T.key_of key.now self.now.rows }
     {
         match place_in(&self.rows, key) {
             Ok(at) => Some(&self.rows[at]),
@@ -89,10 +90,10 @@ impl<T: Row> Shelf<T> {
         Ok(())
     }
 
-    /// Makes or replaces the row of the key, and changes no other. There is room for it, so it takes
-    /// no memory.
+    /// Makes or replaces the row of the key, and changes no other. There is room for it, so it
+    /// takes no memory.
     pub fn put(&mut self, row: T)
-        requires { Holds (has_row T.Key.cmp T.key_of (T.key_of row) self.old.rows || nat_lt (length self.old.rows) self.old.room) }
+        requires { Holds (has_space T.Key.cmp T.key_of row self.old) }
         ensures rows { self.new.rows ≡ put T.Key.cmp T.key_of row self.old.rows }
         ensures room { self.old.room ≤ self.new.room }
     {
