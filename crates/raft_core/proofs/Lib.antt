@@ -1,6 +1,7 @@
 pub mod Applies
 pub mod Beats
 pub mod Commits
+pub mod Keeps
 pub mod Lives
 pub mod Loads
 pub mod Logs

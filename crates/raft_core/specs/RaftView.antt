@@ -22,6 +22,10 @@ pub record SameServer {C : Type 0} (old new : RaftView C) : Type 0 where
   pub size : new.size ≡ old.size
   pub server : new.server ≡ old.server
 
+-- one that leads on keeps the machine after its whole log
+abbrev pub KeepsAhead : {C : Type 0} → RaftView C → RaftView C → Type 0
+KeepsAhead old new = old.projected ≡ true → is_leader new.server.mode ≡ true → new.projected ≡ true
+
 -- a value with a second machine, or without: only a leader's counts
 abbrev pub with_ahead : {S C : Type 0} → ℕ → ℕ → Option S → Server C → RaftView C
 with_ahead me size ahead s = record { me = me; size = size; server = s; projected = is_some ahead && is_leader s.mode }

@@ -13,6 +13,7 @@ ghost use Rattle.raft_core.specs.Steps.{Represents, Stores, Takes, role_of, is_m
 ghost use Rattle.raft_core.specs.Refusals.{refusal, IsRefused, RefusalLeaves, WhyNot};
 ghost use Rattle.raft_core.specs.Inner.Stops.{Stops};
 ghost use Rattle.raft_core.specs.Inner.Views.{with_server};
+ghost use Rattle.raft_core.specs.RaftView.{KeepsAhead};
 
 use crate::input::Input;
 use crate::role::Role;
@@ -281,12 +282,14 @@ impl<M: Machine> Raft<M> {
 
     /// One input is taken. After want of memory what is stored is as it was, and frames may stand
     /// behind those that were there.
+    #[tactic(auto, using(crate::proofs::Keeps::kept_by_view))]
     fn take(&mut self, input: Input, outbox: &mut Outbox) -> Result<(), Refusal>
         ensures same { (self.new.me ≡ self.old.me) × (self.new.size ≡ self.old.size) }
         ensures taken { OnOk result (Takes M.meaning self.old self.old.server (handed input.entry)
             self.new outbox.old outbox.new) }
         ensures admitted { OnOk result (
             refusal M.meaning self.old.size self.old.me self.old.server (handed input.entry) ≡ None) }
+        ensures kept { OnOk result (KeepsAhead self.old self.new) }
         ensures stopped { IfErr result (λ cause.
             Stops M.meaning self.old (handed input.entry) cause self.new outbox.old outbox.new) }
     {
@@ -336,13 +339,14 @@ impl<M: Machine> Raft<M> {
     /// for another server; a Timeout is refused with `Exhausted` where the term or the last index
     /// is 2^40 - 1; a Restart of one that is up with `OutOfRange`. A refusal changes nothing and
     /// sends nothing. With `NoMemory` the server is down, with its stored part as it was and
-    /// nothing sent.
+    /// nothing sent. A leader that leads on keeps its machine after its whole log.
     pub fn step(&mut self, input: Input, outbox: &mut Outbox) -> Result<(), Refusal>
         ensures same { (self.new.me ≡ self.old.me) × (self.new.size ≡ self.old.size) }
         ensures taken { OnOk result ((s : Server M.Command) → Represents M.meaning self.old s →
             Takes M.meaning self.old s (handed input.entry) self.new outbox.old outbox.new) }
         ensures admitted { OnOk result ((s : Server M.Command) → Represents M.meaning self.old s →
             refusal M.meaning self.old.size self.old.me s (handed input.entry) ≡ None) }
+        ensures kept { OnOk result (KeepsAhead self.old self.new) }
         ensures refused { IfErr result (λ cause. (s : Server M.Command) →
             Represents M.meaning self.old s →
             IsRefused M.meaning self.old.size self.old.me s (handed input.entry) cause) }

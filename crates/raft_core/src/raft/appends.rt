@@ -8,6 +8,7 @@ ghost use Rattle.raft_model.specs.Steps.{receives};
 ghost use Rattle.raft_model.specs.Messages.{Append as AppendBody};
 ghost use Rattle.raft_core.specs.Inner.Views.{with_server};
 ghost use Rattle.raft_core.specs.Inner.Turns.{Turned, Lost};
+ghost use Rattle.raft_core.specs.RaftView.{KeepsAhead};
 
 use super::Raft;
 use crate::log::stays;
@@ -46,6 +47,7 @@ impl<M: Machine> Raft<M> {
             Turned M.meaning self.old self.new outbox.old outbox.new
             (follows_append self.old.me (following (met head.now.term self.old.server) from) from
             head.now.prev_index head.now.prev_term head.now.commit entries)) }
+        ensures kept { OnOk result (KeepsAhead self.old self.new) }
         ensures lost { OnErr result (Lost self.old self.new outbox.old outbox.new) }
     {
         let last = self.log.len() as u64;
@@ -83,6 +85,7 @@ impl<M: Machine> Raft<M> {
             (Turned M.meaning self.old self.new outbox.old outbox.new
             (follows_append self.old.me (following (met head.now.term self.old.server) from) from
             head.now.prev_index head.now.prev_term head.now.commit entries.items)) }
+        ensures kept { OnOk result (KeepsAhead self.old self.new) }
         ensures lost { OnErr result (Lost self.old self.new outbox.old outbox.new) }
     {
         // From here on an early return leaves the server down.
@@ -135,6 +138,7 @@ impl<M: Machine> Raft<M> {
             (met message.head.term self.old.server) from message.head.term
             (AppendBody message.head.prev_index message.head.prev_term message.head.commit
             message.entries))) }
+        ensures kept { OnOk result (KeepsAhead self.old self.new) }
         ensures lost { OnErr result (Lost self.old self.new outbox.old outbox.new) }
     {
         let (head, entries) = message.into_parts();

@@ -8,6 +8,7 @@ ghost use Rattle.raft_core.specs.Frames.{term_of, body_of};
 ghost use Rattle.raft_core.specs.Inner.Turns.{Turned, Lost};
 ghost use Rattle.raft_core.specs.Inner.Stops.{TakesFrame, FrameStops};
 ghost use Rattle.raft_core.specs.Refusals.{frame_refusal, misdirected};
+ghost use Rattle.raft_core.specs.RaftView.{KeepsAhead};
 
 use super::Raft;
 use machine::Machine;
@@ -29,6 +30,7 @@ impl<M: Machine> Raft<M> {
             (Turned M.meaning self.old self.new outbox.old outbox.new
             (receives M.meaning.noop self.old.size self.old.me (met (term_of body) self.old.server)
             from (term_of body) (body_of body))) }
+        ensures kept { OnOk result (KeepsAhead self.old self.new) }
         ensures lost { OnErr result (Lost self.old self.new outbox.old outbox.new) }
     {
         match body {
@@ -73,6 +75,7 @@ impl<M: Machine> Raft<M> {
             outbox.new) }
         ensures admitted { OnOk result (frame_refusal M.meaning self.old.size self.old.me bytes.now
             ≡ None) }
+        ensures kept { OnOk result (KeepsAhead self.old self.new) }
         ensures stopped { IfErr result (λ cause.
             FrameStops M.meaning self.old bytes.now cause self.new outbox.old outbox.new) }
     {

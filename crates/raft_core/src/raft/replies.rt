@@ -6,6 +6,7 @@ ghost use Rattle.raft_model.specs.Steps.{receives};
 ghost use Rattle.raft_model.specs.Messages.{AppendReply as AppendReplyBody};
 ghost use Rattle.raft_model.specs.Quorums.{index_at};
 ghost use Rattle.raft_core.specs.Inner.Replies.{hears, next_after, match_after};
+ghost use Rattle.raft_core.specs.RaftView.{KeepsAhead};
 
 use super::Raft;
 use crate::commit::advance;
@@ -71,6 +72,7 @@ impl<M: Machine> Raft<M> {
         ensures same { (self.new.me ≡ self.old.me) × (self.new.size ≡ self.old.size) }
         ensures heard { OnOk result (self.new.server
             ≡ hears self.old.size self.old.me self.old.server from ok at self.old.server.mode) }
+        ensures kept { OnOk result (KeepsAhead self.old self.new) }
         ensures lost { OnErr result (crashed self.new.server ≡ crashed self.old.server) }
     {
         match self.role {
@@ -100,6 +102,7 @@ impl<M: Machine> Raft<M> {
     }
 
     /// An answer to an Append counts where it answers one of this term, and the server leads.
+    #[tactic(auto, using(crate::proofs::Keeps::kept_by_view))]
     pub(super) fn append_reply(
         &mut self,
         from: ServerId,
@@ -112,6 +115,7 @@ impl<M: Machine> Raft<M> {
             ≡ (receives M.meaning.noop self.old.size self.old.me
             (met reply.now.term self.old.server) from reply.now.term
             (AppendReplyBody reply.now.asked reply.now.ok reply.now.at)).server) }
+        ensures kept { OnOk result (KeepsAhead self.old self.new) }
         ensures lost { OnErr result (crashed self.new.server ≡ crashed self.old.server) }
     {
         if self.term.get() < reply.term.get() {

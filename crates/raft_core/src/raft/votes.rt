@@ -11,6 +11,7 @@ ghost use Rattle.raft_core.specs.Steps.{Steps};
 ghost use Rattle.raft_core.specs.Refusals.{refusal};
 ghost use Rattle.raft_core.specs.Inner.Stops.{Stops};
 ghost use Rattle.raft_core.specs.Inner.Turns.{Turned, Lost, Sent};
+ghost use Rattle.raft_core.specs.RaftView.{KeepsAhead};
 
 use super::Raft;
 use crate::log::term_of_last;
@@ -125,6 +126,7 @@ impl<M: Machine> Raft<M> {
             (receives M.meaning.noop self.old.size self.old.me
             (met request.now.term self.old.server) from request.now.term
             (VoteRequestBody request.now.last_index request.now.last_term))) }
+        ensures kept { OnOk result (KeepsAhead self.old self.new) }
         ensures lost { OnErr result (Lost self.old self.new outbox.old outbox.new) }
     {
         let granted = self.may_grant(from, request);
@@ -171,6 +173,7 @@ impl<M: Machine> Raft<M> {
         ensures same { (self.new.me ≡ self.old.me) × (self.new.size ≡ self.old.size) }
         ensures counted { OnOk result (self.new.server
             ≡ counted M.meaning.noop self.old.size self.old.server from self.old.server.mode) }
+        ensures kept { OnOk result (KeepsAhead self.old self.new) }
         ensures lost { OnErr result (crashed self.new.server ≡ crashed self.old.server) }
     {
         match self.role {
@@ -187,6 +190,7 @@ impl<M: Machine> Raft<M> {
     }
 
     /// The answer to a request for a vote counts where it answers one of this term.
+    #[tactic(auto, using(crate::proofs::Keeps::kept_by_view))]
     pub(super) fn vote_reply(&mut self, from: ServerId, reply: &VoteReply) -> Result<(), NoMemory>
         requires up { is_up self.old.server.mode ≡ true }
         requires member { from < self.old.size }
@@ -195,6 +199,7 @@ impl<M: Machine> Raft<M> {
             ≡ (receives M.meaning.noop self.old.size self.old.me
             (met reply.now.term self.old.server) from reply.now.term
             (VoteReplyBody reply.now.asked reply.now.granted)).server) }
+        ensures kept { OnOk result (KeepsAhead self.old self.new) }
         ensures lost { OnErr result (crashed self.new.server ≡ crashed self.old.server) }
     {
         if self.term.get() < reply.term.get() {
@@ -220,6 +225,7 @@ impl<M: Machine> Raft<M> {
                   self.old.me (vote_request self.old.me (stood self.old.size self.old.me self.old.server))
                   self.old.size;
             })) }
+        ensures kept { OnOk result (KeepsAhead self.old self.new) }
         ensures lost { OnErr result (Lost self.old self.new outbox.old outbox.new) }
     {
         let term = self.term.next();
@@ -247,6 +253,7 @@ impl<M: Machine> Raft<M> {
             Steps M.meaning self.old self.old.server Timeout self.new outbox.old outbox.new) }
         ensures admitted { OnOk result (
             refusal M.meaning self.old.size self.old.me self.old.server (Own Timeout) ≡ None) }
+        ensures kept { OnOk result (KeepsAhead self.old self.new) }
         ensures stopped { IfErr result (λ cause.
             Stops M.meaning self.old (Own Timeout) cause self.new outbox.old outbox.new) }
     {
