@@ -3,7 +3,6 @@ pub mod Beats
 pub mod Commits
 pub mod Keeps
 pub mod Lives
-pub mod Loads
 pub mod Logs
 pub mod Members
 pub mod Merges

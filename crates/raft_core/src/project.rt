@@ -5,27 +5,10 @@ ghost use Rattle.raft_model.specs.Logs.{state_after};
 
 use crate::apply::apply_range;
 use machine::{Coded, Entry, Machine};
-use rows::{NoMemory, Refusal};
-use std::alloc::Global;
+use rows::NoMemory;
 
-/// A second machine in the same state, by way of its text.
-fn reloaded<M: Machine>(alloc: Global, machine: &M) -> Result<M, NoMemory>
-    ensures { IfOk result (λ copy. copy ≡ machine.now) }
-{
-    let mut text = Vec::new(alloc);
-    machine.save(&mut text)?;
-    match M::load(alloc, &text) {
-        Ok(copy) => Ok(copy),
-        Err(cause) => match cause {
-            Refusal::NoMemory => Err(NoMemory),
-            _ => unreachable!(),
-        },
-    }
-}
-
-/// A second machine, brought on from commit to the end of the log.
+/// A fork of the machine, brought on from commit to the end of the log.
 pub fn projection<M: Machine>(
-    alloc: Global,
     machine: &M,
     commit: u64,
     log: &[Entry<Coded<M>>],
@@ -35,7 +18,7 @@ pub fn projection<M: Machine>(
     requires state { machine.now ≡ state_after M.meaning (take commit log.now) }
     ensures { IfOk result (λ ahead. ahead ≡ state_after M.meaning log.now) }
 {
-    let mut ahead = reloaded(alloc, machine)?;
+    let mut ahead = machine.fork()?;
     apply_range(&mut ahead, log, commit as usize, log.len())?;
     Ok(ahead)
 }

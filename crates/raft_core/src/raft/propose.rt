@@ -44,7 +44,7 @@ impl<M: Machine> Raft<M> {
         let Some(machine) = &self.machine else {
             unreachable!()
         };
-        let ahead = projection(self.alloc, machine, self.commit.get(), &self.log)?;
+        let ahead = projection(machine, self.commit.get(), &self.log)?;
         self.ahead = Some(ahead);
         Ok(())
     }
