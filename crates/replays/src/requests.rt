@@ -93,8 +93,8 @@ deliver 6
 deliver 7
 deliver 8";
 
-// What the old leader, server 1, did not commit is cut away under the next one, which has entries of
-// its own at those indexes.
+// What the old leader, server 1, did not commit is cut away under the next one, which has entries
+// of its own at those indexes.
 const CUT: &str = "\
 timeout 1
 deliver 1

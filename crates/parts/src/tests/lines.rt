@@ -32,9 +32,9 @@ any-allocation - nn1144dcye
 raw - 1111111111111111111111111111111111111111111111111111111111111111\
 1111111111111111111111111111111111111111111111111111111111111111";
 
-// The words of fields of few values: yes or no (y), how a node is drained (f, and m in its row), the
-// statuses of evaluations (s), of reports (r) and of clients (c), what is desired (d), and whether a
-// node is up (u). Behind each field its number there.
+// The words of fields of few values: yes or no (y), how a node is drained (f, and m in its row),
+// the statuses of evaluations (s), of reports (r) and of clients (c), what is desired (d), and
+// whether a node is up (u). Behind each field its number there.
 const CHOICES: &str = "\
 no y0
 yes y1

@@ -30,11 +30,11 @@ struct Bench<M: Machine> {
 ///
 /// `= LINE`, `= raw BYTES`: put to the end of the text. `any LINE`: what is behind the keys of many
 /// rows. `many KIND FIRST LAST`: such rows are put to the end of the text. `clear`: it is empty.
-/// `length N`: it has N bytes. `is LINE`: it is the text of the line. `same`: it is that of the state. `load`: the state is that of the
-/// text. `fault N`: it is refused at byte N. `set PLACE BYTE`: it has the byte there. `byte PLACE
-/// BYTE N`: with the byte there it is refused at byte N. `cuts N N ..`: cut anywhere between two
-/// neighbours it is refused at the first. `command N`: it is a command of N bytes and what follows,
-/// or none, and at fault at byte N, by `bad N`.
+/// `length N`: it has N bytes. `is LINE`: it is the text of the line. `same`: it is that of the
+/// state. `load`: the state is that of the text. `fault N`: it is refused at byte N. `set PLACE
+/// BYTE`: it has the byte there. `byte PLACE BYTE N`: with the byte there it is refused at byte N.
+/// `cuts N N ..`: cut anywhere between two neighbours it is refused at the first. `command N`: it
+/// begins with a command of N bytes. `bad N`: it begins with none, and is at fault at byte N.
 ///
 /// Other lines are of the machine's own, as `Played::holds` says.
 pub(crate) fn play<M: Played>(rt: &impl Abort, alloc: Global, state: M, tables: &[&str]) {
