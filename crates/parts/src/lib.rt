@@ -1,5 +1,4 @@
-//! Tests of bytes and of single servers: texts of fields, frames of messages, and what one server
-//! does with its inputs.
+//! Tests of bytes and of the replicated state: texts of fields, values, commands and machines.
 #![tactic(auto)]
 
 #[cfg(test)]

@@ -1,8 +1,14 @@
 //! The tests. What they want is published, or worked out by hand from the rules, and never taken
 //! from the program's own output.
 
-mod frames;
-mod messages;
-mod servers;
+mod admission;
+mod clusters;
+mod commands;
+mod effects;
+mod full_tables;
+mod lines;
+mod state_texts;
+mod states;
+mod tallies;
 mod texts;
 mod values;

@@ -1,6 +1,4 @@
-//! Tests that cross crates: the whole program over files and streams in memory, the group of
-//! servers under it, and the state that they replicate. And what callers of the group know by its
-//! contracts.
+//! What callers of a group know by its contracts; and tests of messages and of single servers.
 #![tactic(auto)]
 
 pub mod claims;

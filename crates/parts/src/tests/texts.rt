@@ -2,9 +2,7 @@
 //! written so again, and where the others are at fault.
 use fields::Field;
 use machine::{Amount, Coded, Entry, Tally, TallyCommand};
-use rows::{
-    Actor, AllocId, Command, Delivery, EvalId, Index, Name, NodeId, Refusal, ServerId, Size, Term,
-};
+use rows::{Actor, AllocId, Delivery, EvalId, Index, Name, NodeId, Refusal, ServerId, Size, Term};
 use std::alloc::Global;
 
 /// No fault: the bytes are the text of the value that is read.
@@ -32,7 +30,6 @@ enum Of {
     Eval,
     Alloc,
     Node,
-    Command,
     Addition,
     Amount,
     Entry,
@@ -75,7 +72,6 @@ fn fault(alloc: Global, of: Of, bytes: &[u8], at: usize) -> usize {
         Of::Eval => fault_of::<EvalId>(alloc, bytes, at),
         Of::Alloc => fault_of::<AllocId>(alloc, bytes, at),
         Of::Node => fault_of::<NodeId>(alloc, bytes, at),
-        Of::Command => fault_of::<Command>(alloc, bytes, at),
         Of::Addition => fault_of::<TallyCommand>(alloc, bytes, at),
         Of::Entry => fault_of::<Entry<Coded<Tally>>>(alloc, bytes, at),
         Of::Amount => fault_of::<Amount>(alloc, bytes, at),
@@ -139,99 +135,25 @@ const TEXTS: &[Text] = &[
     (Of::Addition, 0, &[1, 3, 233], 1),
 ];
 
-// Commands of the replicated state.
-const COMMANDS: &[Text] = &[
-    (Of::Command, 0, &[0], NONE),
-    (Of::Command, 0, &[12], 0),
-    // Job web of priority 50 with the group main, of 2 on linux, cpu 600 and mem 300.
-    (
-        Of::Command,
-        0,
-        b"\x01\x03web\x32\x01\x04main\x02\x05linux\x00\x00\x02\x58\x00\x00\x01\x2c",
-        NONE,
-    ),
-    (
-        Of::Command,
-        0,
-        b"\x03\x01\x05linux\x00\x00\x03\xe8\x00\x00\x03\xe8",
-        NONE,
-    ),
-    (Of::Command, 0, &[5, 64, 1], NONE),
-    (Of::Command, 0, &[5, 64, 2], 2),
-    // No groups: a fault at their count.
-    (Of::Command, 0, b"\x01\x03web\x32\x00", 6),
-    // The second group has the first one's name, and its count is out of range too.
-    (
-        Of::Command,
-        0,
-        b"\x01\x03web\x32\x02\x01a\x02\x01x\x00\x00\x00\x01\x00\x00\x00\x01\x01a\x41",
-        20,
-    ),
-    // An evaluation that is complete has no snapshot; one that is blocked has.
-    (
-        Of::Command,
-        0,
-        &[9, 0, 0, 0, 0, 0, 0, 0, 4, 0, 0, 2, 0, 0, 0, 0, 0, 0, 0, 0],
-        NONE,
-    ),
-    (
-        Of::Command,
-        0,
-        &[9, 0, 0, 0, 0, 0, 0, 0, 4, 0, 0, 2, 0, 0, 0, 0, 0, 0, 0, 1],
-        12,
-    ),
-    (
-        Of::Command,
-        0,
-        &[9, 0, 0, 0, 0, 0, 0, 0, 4, 0, 0, 1, 0, 0, 0, 0, 0, 0, 0, 1],
-        NONE,
-    ),
-    // Ids that rise, ids that do not, none, and too many.
-    (
-        Of::Command,
-        0,
-        &[7, 2, 0, 0, 0, 0, 0, 0, 0, 5, 0, 0, 0, 0, 0, 0, 0, 0, 5, 1],
-        NONE,
-    ),
-    (
-        Of::Command,
-        0,
-        &[7, 2, 0, 0, 0, 0, 0, 0, 0, 5, 0, 0, 0, 0, 0, 0, 0, 0, 5, 0],
-        11,
-    ),
-    (Of::Command, 0, &[7, 0], 1),
-    (Of::Command, 0, &[7, 65], 1),
-    // A report of an allocation, and one of a state that there is not.
-    (
-        Of::Command,
-        0,
-        &[11, 1, 1, 0, 0, 0, 0, 0, 0, 0, 5, 0, 3],
-        NONE,
-    ),
-    (
-        Of::Command,
-        0,
-        &[11, 1, 1, 0, 0, 0, 0, 0, 0, 0, 5, 0, 4],
-        12,
-    ),
-];
+// Each cut of a field behind another byte is at fault where it begins.
+fn is_refused_cut(alloc: Global, of: Of, bytes: &[u8]) -> bool {
+    for cut in 1..bytes.len() {
+        if fault(alloc, of, bytes.get(..cut).unwrap_or(&[]), 1) != 1 {
+            return false;
+        }
+    }
+    true
+}
+
+fn is_read(alloc: Global, text: &Text) -> bool {
+    let (of, at, bytes, place) = *text;
+    fault(alloc, of, bytes, at) == place
+        && (at != 1 || place != NONE || is_refused_cut(alloc, of, bytes))
+}
 
 #[test]
 fn reads_texts(rt: HostRuntime) {
-    let alloc = rt.alloc();
-    for texts in [TEXTS, COMMANDS] {
-        for (number, (of, at, bytes, place)) in texts.iter().enumerate() {
-            assert!(rt; fault(alloc, *of, bytes, *at) == *place, "text {number}");
-            // Each cut of a field behind another byte is at fault where it begins.
-            if *at == 1 && *place == NONE {
-                for cut in 1..bytes.len() {
-                    let front = bytes.get(..cut).expect(&rt, "a front");
-                    assert!(rt;
-                        fault(alloc, *of, front, 1) == 1,
-                        "text {number} cut at {cut}"
-                    );
-                }
-            }
-        }
+    for (number, text) in TEXTS.iter().enumerate() {
+        assert!(rt; is_read(rt.alloc(), text), "text {number}");
     }
 }

@@ -1,152 +1,191 @@
-//! Values that are given as such: numbers, lists and options in bytes, names and refusals in words,
-//! and the tally.
+//! Values that are given as such: numbers, lists and options in bytes, and names and refusals in
+//! words.
 use fields::{
-    read_list, read_long_list, read_long_ruled_list, read_option, read_ruled_list, read_whole,
-    write, write_items, write_list, write_long_list, write_option,
+    Field, read_list, read_long_list, read_long_ruled_list, read_option, read_ruled_list,
+    read_whole, write, write_items, write_list, write_long_list, write_option,
 };
-use machine::{Amount, Coded, Entry, Machine, Tally, TallyCommand};
+use machine::{Amount, Coded, Entry, Tally, TallyCommand};
 use rows::{
-    Actor, AllocId, ClientId, Evaluation, Index, Leader, Name, NoMemory, Refusal, Sequence,
-    ServerId, Size, Term,
+    Actor, AllocId, ClientId, Evaluation, Index, Leader, Name, Refusal, Sequence, ServerId, Size,
+    Term,
 };
 use std::alloc::Global;
-use std::process::Abort;
+use std::fmt::Display;
 
-/// A value, by its number.
-#[derive(Clone, Copy)]
-enum Value {
-    Byte(u8),
-    Short(u16),
-    Word(u32),
-    Long(u64),
-    Flag(bool),
-    InTerm(u64),
-    At(u64),
-    Server(u8),
-    OfServer(u8),
-    OfClient(u8),
-    Adds(u16),
-    // The entry of term 1 that adds this.
-    EntryOf(u16),
+fn put<F: Field + Drop>(out: &mut Vec<u8>, value: Option<F>) -> bool {
+    match value {
+        Some(value) => write(&value, out).is_ok(),
+        None => false,
+    }
 }
 
-const VALUES: &[(Value, &[u8])] = &[
-    (Value::Byte(200), &[200]),
-    (Value::Short(258), &[1, 2]),
-    (Value::Word(1000), &[0, 0, 3, 232]),
-    (
-        Value::Long(u64::MAX),
-        &[255, 255, 255, 255, 255, 255, 255, 255],
-    ),
-    (Value::Flag(true), &[1]),
-    (
-        Value::InTerm(1_099_511_627_775),
-        &[0, 0, 0, 255, 255, 255, 255, 255],
-    ),
-    (Value::At(1), &[0, 0, 0, 0, 0, 0, 0, 1]),
-    (Value::Server(5), &[5]),
-    (Value::OfServer(5), &[5]),
-    (Value::OfClient(64), &[192]),
-    (Value::Adds(1000), &[3, 232]),
-    (Value::EntryOf(1000), &[0, 0, 0, 0, 0, 0, 0, 1, 1, 3, 232]),
-];
-
-fn amount(rt: &impl Abort, number: u16) -> Amount {
-    Amount::new(number).expect(rt, "an amount")
+fn adds(number: u16) -> Option<Coded<Tally>> {
+    match Amount::new(number) {
+        Some(amount) => Some(Coded::new(TallyCommand::Add(amount))),
+        None => None,
+    }
 }
 
-fn server(rt: &impl Abort, number: u8) -> ServerId {
-    ServerId::from_number(number).expect(rt, "a server")
+fn put_values(out: &mut Vec<u8>) -> bool {
+    put(out, Some(200u8))
+        && put(out, Some(258u16))
+        && put(out, Some(1000u32))
+        && put(out, Some(u64::MAX))
+        && put(out, Some(true))
+        && put(out, Term::new(1_099_511_627_775))
+        && put(out, Index::new(1))
+        && put(out, ServerId::from_number(5))
 }
 
-/// Writes a value.
-fn put(rt: &impl Abort, value: &Value, out: &mut Vec<u8>) -> Result<(), NoMemory> {
-    match *value {
-        Value::Byte(number) => write(&number, out),
-        Value::Short(number) => write(&number, out),
-        Value::Word(number) => write(&number, out),
-        Value::Long(number) => write(&number, out),
-        Value::Flag(is_set) => write(&is_set, out),
-        Value::InTerm(number) => write(&Term::new(number).expect(rt, "a term"), out),
-        Value::At(number) => write(&Index::new(number).expect(rt, "an index"), out),
-        Value::Server(number) => write(&server(rt, number), out),
-        Value::OfServer(number) => write(&Actor::Server(server(rt, number)), out),
-        Value::OfClient(number) => {
-            let client = ClientId::from_number(number).expect(rt, "a client");
-            write(&Actor::Client(client), out)
+fn put_actors(out: &mut Vec<u8>) -> bool {
+    match (ServerId::from_number(5), ClientId::from_number(64)) {
+        (Some(server), Some(client)) => {
+            put(out, Some(Actor::Server(server))) && put(out, Some(Actor::Client(client)))
         }
-        Value::Adds(number) => write(&amount(rt, number), out),
-        Value::EntryOf(number) => {
-            let command: Coded<Tally> = Coded::new(TallyCommand::Add(amount(rt, number)));
+        _ => false,
+    }
+}
+
+// An amount, and the entry of term 1 that adds it.
+fn put_entry(out: &mut Vec<u8>, number: u16) -> bool {
+    match adds(number) {
+        Some(command) => {
             let term = Term::ZERO.next();
-            write(&Entry { term, command }, out)
+            put(out, Amount::new(number)) && put(out, Some(Entry { term, command }))
         }
+        None => false,
     }
 }
 
-#[test]
-fn writes_values(rt: HostRuntime) {
-    for (number, (value, text)) in VALUES.iter().enumerate() {
-        let mut out = Vec::new(rt.alloc());
-        let written = put(&rt, value, &mut out);
-        assert!(rt; written.is_ok(), "value {number}");
-        assert!(rt; out.as_slice() == *text, "value {number}");
-    }
-}
-
-// Texts, and the number of the refusal where they are no names.
-const NAMES: &[(&str, u8)] = &[
-    ("linux", 0),
-    ("Linux", 11),
-    ("", 11),
-    ("a-name-of-33-bytes-is-one-too-many", 11),
+// The values' bytes, one after another.
+const VALUES: &[u8] = &[
+    200, //
+    1, 2, //
+    0, 0, 3, 232, //
+    255, 255, 255, 255, 255, 255, 255, 255, //
+    1, //
+    0, 0, 0, 255, 255, 255, 255, 255, //
+    0, 0, 0, 0, 0, 0, 0, 1, //
+    5, //
+    5, 192, //
+    3, 232, //
+    0, 0, 0, 0, 0, 0, 0, 1, 1, 3, 232,
 ];
 
-#[test]
-fn reads_names(rt: HostRuntime) {
-    for (text, number) in NAMES {
-        match Name::read(text) {
-            Ok(name) => assert!(rt; *number == 0 && name.as_str() == *text),
-            Err(refusal) => assert!(rt; refusal.number() == *number),
-        }
-    }
-    assert!(rt; Name::read("a").ok() < Name::read("ab").ok());
-    assert!(rt; Size::check(1000, 0) == Err(Refusal::OutOfRange));
+// Three amounts of 0, behind a count of one byte, behind one of four, and behind none; and options.
+fn put_lists(out: &mut Vec<u8>, amounts: &Sequence<Amount>) -> bool {
+    amounts.len() == 3
+        && write_list(amounts, 3, out).is_ok()
+        && write_long_list(amounts, 3, out).is_ok()
+        && write_items(amounts.as_slice(), out).is_ok()
+        && write_option(&Some(Amount::ZERO), out).is_ok()
+        && write_option::<Amount>(&None, out).is_ok()
 }
 
-// The number of a refusal, with the leader or the place that goes with it, and its words.
-const WORDS: &[(u8, usize, &str)] = &[
-    (1, 0, "memory ran out"),
-    (2, 2, "this server does not lead: server 2 leads"),
-    (2, 0, "this server does not lead: no leader is known"),
-    (15, 31, "the bytes are at fault at offset 31"),
-    (21, 0, "there is no such allocation"),
+fn push_thrice(amounts: &mut Sequence<Amount>) -> bool {
+    let mut pushed = true;
+    for _ in 0..3 {
+        pushed = pushed && amounts.push(Amount::ZERO).is_ok();
+    }
+    pushed
+}
+
+const LISTS_WRITTEN: &[u8] = &[
+    3, 0, 0, 0, 0, 0, 0, 0, 0, 0, 3, 0, 0, 0, 0, 0, 0, 0, 0, 0, 0, 0, 0, 1, 0, 0, 0,
 ];
 
-fn refusal(number: u8, with: usize) -> Refusal {
-    match (number, with) {
-        (1, _) => Refusal::NoMemory,
-        (2, 2) => Refusal::NotLeader(Leader::new(ServerId::from_number(2))),
-        (2, _) => Refusal::NotLeader(Leader::new(None)),
-        (15, place) => Refusal::Frame(place),
-        _ => Refusal::UnknownAlloc,
+fn are_written(alloc: Global) -> bool {
+    let mut out = Vec::new(alloc);
+    put_values(&mut out)
+        && put_actors(&mut out)
+        && put_entry(&mut out, 1000)
+        && out.as_slice() == VALUES
+}
+
+fn are_lists_written(alloc: Global) -> bool {
+    let mut out = Vec::new(alloc);
+    let mut amounts = Sequence::new(alloc);
+    push_thrice(&mut amounts) && put_lists(&mut out, &amounts) && out.as_slice() == LISTS_WRITTEN
+}
+
+// Whether the entry that is read has term 1 and adds this.
+fn is_entry(alloc: Global, bytes: &[u8], added: u16) -> bool {
+    match read_whole::<Entry<Coded<Tally>>>(alloc, bytes) {
+        Ok(entry) => {
+            entry.term.get() == 1
+                && added_by(entry.command.command()) == added
+                && added_by(&entry.command.into_command()) == added
+        }
+        Err(_) => false,
     }
 }
 
-#[test]
-fn says_in_words(rt: HostRuntime) {
-    let alloc = rt.alloc();
-    for (number, with, words) in WORDS {
-        let refusal = refusal(*number, *with);
-        assert!(rt; refusal.number() == *number);
-        match refusal.to_string(alloc) {
-            Ok(said) => assert!(rt; said.as_str() == *words),
-            Err(_) => panic!(rt; "no memory"),
-        }
+/// What a command adds, 0 for the no-op.
+fn added_by(command: &TallyCommand) -> u16 {
+    match command {
+        TallyCommand::Noop => 0,
+        TallyCommand::Add(amount) => amount.get(),
     }
-    match amount(&rt, 1000).to_string(alloc) {
-        Ok(said) => assert!(rt; said.as_str() == "1000"),
-        Err(_) => panic!(rt; "no memory"),
+}
+
+// The number of the refusal of a text that is no name, 0 for a name.
+fn name_fault(text: &str) -> u8 {
+    match Name::read(text) {
+        Ok(name) => if name.as_str() == text { 0 } else { 255 },
+        Err(refusal) => refusal.number(),
+    }
+}
+
+fn reads_names() -> bool {
+    name_fault("linux") == 0
+        && name_fault("Linux") == 11
+        && name_fault("") == 11
+        && name_fault("a-name-of-33-bytes-is-one-too-many") == 11
+        && Name::read("a").ok() < Name::read("ab").ok()
+        && Size::check(1000, 0) == Err(Refusal::OutOfRange)
+}
+
+fn says<T: Display>(alloc: Global, value: &T, words: &str) -> bool {
+    match value.to_string(alloc) {
+        Ok(said) => said.as_str() == words,
+        Err(_) => false,
+    }
+}
+
+fn refuses(alloc: Global, refusal: Refusal, number: u8, words: &str) -> bool {
+    refusal.number() == number && says(alloc, &refusal, words)
+}
+
+fn says_refusals(alloc: Global) -> bool {
+    let second = Refusal::NotLeader(Leader::new(ServerId::from_number(2)));
+    let nobody = Refusal::NotLeader(Leader::new(None));
+    let fault = "the bytes are at fault at offset 31";
+    refuses(alloc, Refusal::NoMemory, 1, "memory ran out")
+        && refuses(
+            alloc,
+            second,
+            2,
+            "this server does not lead: server 2 leads",
+        )
+        && refuses(
+            alloc,
+            nobody,
+            2,
+            "this server does not lead: no leader is known",
+        )
+        && refuses(alloc, Refusal::Frame(31), 15, fault)
+        && refuses(
+            alloc,
+            Refusal::UnknownAlloc,
+            21,
+            "there is no such allocation",
+        )
+}
+
+fn says_amount(alloc: Global) -> bool {
+    match Amount::new(1000) {
+        Some(amount) => says(alloc, &amount, "1000"),
+        None => false,
     }
 }
 
@@ -235,132 +274,12 @@ fn extent(alloc: Global, row: &Row) -> (usize, usize) {
 }
 
 #[test]
-fn reads_lists(rt: HostRuntime) {
-    for (number, row) in LISTS.iter().enumerate() {
-        assert!(rt; extent(rt.alloc(), row) == row.4, "list {number}");
-    }
-}
-
-// Three amounts of 0, behind a count of one byte, behind one of four, and behind none; and options.
-#[test]
-fn writes_lists(rt: HostRuntime) {
-    let mut amounts = Sequence::new(rt.alloc());
-    for _ in 0..3 {
-        let pushed = amounts.push(Amount::ZERO);
-        assert!(rt; pushed.is_ok());
-    }
-    assert!(rt; amounts.len() == 3);
-    let mut text = Vec::new(rt.alloc());
-    let list = write_list(&amounts, 3, &mut text).is_ok();
-    let long_list = write_long_list(&amounts, 3, &mut text).is_ok();
-    let items = write_items(amounts.as_slice(), &mut text).is_ok();
-    let some = write_option(&Some(Amount::ZERO), &mut text).is_ok();
-    let none = write_option::<Amount>(&None, &mut text).is_ok();
-    assert!(rt; list && long_list && items && some && none);
-    let wanted = [
-        3, 0, 0, 0, 0, 0, 0, 0, 0, 0, 3, 0, 0, 0, 0, 0, 0, 0, 0, 0, 0, 0, 0, 1, 0, 0, 0,
-    ];
-    assert!(rt; text.as_slice() == wanted.as_slice());
-}
-
-/// The number of the refusal of a command, 0 where it is admitted; it is applied all the same.
-fn weigh<M: Machine>(rt: &impl Abort, machine: &mut M, command: &M::Command) -> u8 {
-    let Ok(refusal) = machine.admits(command) else {
-        panic!(rt; "no memory");
-    };
-    assert!(rt; machine.count() < 1_000_000);
-    let applied = machine.apply(command);
-    assert!(rt; applied.is_ok());
-    match refusal {
-        Some(refusal) => refusal.number(),
-        None => 0,
-    }
-}
-
-/// The command that adds this, 0 for the no-op.
-fn command_of(number: u16) -> TallyCommand {
-    match Amount::new(number) {
-        Some(amount) if number > 0 => TallyCommand::Add(amount),
-        _ => Tally::noop(),
-    }
-}
-
-/// What a command adds, 0 for the no-op.
-fn added_by(command: &TallyCommand) -> u16 {
-    match command {
-        TallyCommand::Noop => 0,
-        TallyCommand::Add(amount) => amount.get(),
-    }
-}
-
-// What is added, to an empty tally where the count is 1 then; the number of the refusal; and the
-// count, the sum and the text behind it.
-const ADDITIONS: &[(u16, u8, u64, u16, &[u8])] = &[
-    (0, 0, 1, 0, &[0, 0, 0, 0, 0, 0, 0, 1, 0, 0]),
-    (999, 0, 2, 999, &[0, 0, 0, 0, 0, 0, 0, 2, 3, 231]),
-    (1, 0, 3, 1000, &[0, 0, 0, 0, 0, 0, 0, 3, 3, 232]),
-    (1, 12, 4, 1000, &[0, 0, 0, 0, 0, 0, 0, 4, 3, 232]),
-    (1000, 0, 1, 1000, &[0, 0, 0, 0, 0, 0, 0, 1, 3, 232]),
-];
-
-#[test]
-fn adds_up(rt: HostRuntime) {
-    let mut tally = Tally::empty(rt.alloc());
-    for (number, refusal, count, sum, bytes) in ADDITIONS {
-        if *count == 1 {
-            tally = Tally::empty(rt.alloc());
-        }
-        let found = weigh(&rt, &mut tally, &command_of(*number));
-        assert!(rt; found == *refusal);
-        assert!(rt; tally.count() == *count && tally.sum() == *sum);
-        let mut text = Vec::new(rt.alloc());
-        let saved = tally.save(&mut text);
-        assert!(rt; saved.is_ok());
-        assert!(rt; text.as_slice() == *bytes);
-    }
-}
-
-// The text of the tally of one command that adds 1,000; with a byte more; and cut. And where it is
-// at fault, 99 for nowhere.
-const TALLIES: &[(&[u8], usize)] = &[
-    (&[0, 0, 0, 0, 0, 0, 0, 1, 3, 232], 99),
-    (&[0, 0, 0, 0, 0, 0, 0, 1, 3, 232, 0], 10),
-    (&[0, 0, 0, 0, 0, 0, 0, 1, 3], 8),
-];
-
-// Texts of commands, whatever follows; what they add, and where they end; or 99 and where the fault
-// is.
-const COMMANDS: &[(&[u8], u16, usize)] = &[
-    (&[1, 3, 232], 1000, 3),
-    (&[0, 9], 0, 1),
-    (&[1, 3, 233], 99, 1),
-];
-
-#[test]
-fn reads_tallies(rt: HostRuntime) {
+fn values_are_read_and_written(rt: HostRuntime) {
     let alloc = rt.alloc();
-    for (bytes, place) in TALLIES {
-        match Tally::load(alloc, bytes) {
-            Ok(tally) => assert!(rt; *place == 99 && tally.count() == 1 && tally.sum() == 1000),
-            Err(refusal) => assert!(rt; refusal == Refusal::Frame(*place)),
-        }
-    }
-    for (bytes, number, end) in COMMANDS {
-        match Tally::read_command(alloc, bytes) {
-            Ok((command, next)) => {
-                let mut text = Vec::new(alloc);
-                let written = Tally::write_command(&command, &mut text);
-                assert!(rt; written.is_ok() && added_by(&command) == *number && next == *end);
-                assert!(rt; text.len() == next && bytes.starts_with(&text));
-            }
-            Err(refusal) => assert!(rt; *number == 99 && refusal == Refusal::Frame(*end)),
-        }
-    }
-    match read_whole::<Entry<Coded<Tally>>>(alloc, &[0, 0, 0, 0, 0, 0, 0, 1, 1, 3, 232]) {
-        Ok(entry) => {
-            assert!(rt; entry.term.get() == 1 && added_by(entry.command.command()) == 1000);
-            assert!(rt; added_by(&entry.command.into_command()) == 1000);
-        }
-        Err(_) => panic!(rt; "no entry"),
+    assert!(rt; are_written(alloc) && are_lists_written(alloc));
+    assert!(rt; is_entry(alloc, &[0, 0, 0, 0, 0, 0, 0, 1, 1, 3, 232], 1000));
+    assert!(rt; reads_names() && says_refusals(alloc) && says_amount(alloc));
+    for (number, row) in LISTS.iter().enumerate() {
+        assert!(rt; extent(alloc, row) == row.4, "list {number}");
     }
 }

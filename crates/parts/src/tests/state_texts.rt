@@ -1,15 +1,8 @@
 //! Texts of the replicated state, put together by hand from the format: an empty one, a small one,
 //! and one of greatest values. And each call of it that may lack memory, with enough of it.
-use crate::tests::full_tables::MOST_JOBS;
-use crate::tests::states::play;
-use fsm_tables::{AllocName, Tables};
-use rows::{AllocId, Allocation, DrainMode, EvalStatus, NoMemory, Sequence};
 
 // The empty state, as both calls make it.
 const EMPTY: &str = "\
-= raw 0 0 0 0 0 0 0 0 0 0 0 0 0 0 0 0 0 0 0 0 0 0 0 0
-same
-new
 = raw 0 0 0 0 0 0 0 0 0 0 0 0 0 0 0 0 0 0 0 0 0 0 0 0
 same
 = state 0
@@ -18,6 +11,7 @@ same
 = rows 0
 = rows 0
 load
+fork
 applied 0
 counts 0 0 0 0
 = raw 0 0 0 0 0 0 0 0 0 0 0 0 0 0 0 0 0 0 0 0 0 0 0 0 0
@@ -41,8 +35,10 @@ take report 1 3.0:running
 = raw 0 0 0 0 0 0 0 2 0 0 1 119 50 0 0 0 0 0 0 0 0 0
 = raw 0 0 0 1
 = raw 0 0 0 0 0 0 0 3 0 1 119 1 103 0 1 0 0 2 88 0 0 1 44 0 1 0 0 0 0 0 0 0 0 2 0 0
-same
-new
+same";
+
+// That text, read.
+const SMALL_READ: &str = "\
 = state 5
 = rows 1
 = job w 50 no 2 g:2:x:600:300
@@ -53,7 +49,10 @@ new
 = rows 1
 = allocation 3.0 w g 0 1 600 300 run running no 2.0
 load
-used 1 600 300";
+fork
+used 1 600 300
+live 3.0
+lists";
 
 // A state of the greatest values of its fields, none of whose rows names another: nodes,
 // evaluations and allocations.
@@ -68,6 +67,7 @@ const GREAT: &str = "\
 = raw 0 0 0 255 255 255 255 255 63
 = raw 1 48 1 57 63 64 0 15 66 64 0 15 66 64 1 4 1 0 0 0 255 255 255 255 255 0 255
 load
+fork
 applied 1099511627775
 has node 64 - 1000000 1000000 down no force 1099511627775
 has evaluation 1099511627775.255 z 100 blocked 1099511627775
@@ -147,6 +147,7 @@ set 39 120
 fault 38
 set 39 121
 load
+fork
 = state 5
 = rows 0
 = rows 2
@@ -161,6 +162,7 @@ set 38 2
 fault 38
 set 38 3
 load
+fork
 = state 5
 = rows 0
 = rows 0
@@ -175,6 +177,7 @@ set 49 3
 fault 42
 set 49 4
 load
+fork
 = state 5
 = rows 0
 = rows 0
@@ -188,7 +191,8 @@ fault 60
 set 67 4
 fault 60
 set 67 5
-load";
+load
+fork";
 
 // Each table has at most so many rows; what is behind a greater count is not read.
 const LONGER_TABLES: &str = "\
@@ -215,86 +219,11 @@ clear
 fault 20
 clear";
 
-#[test]
-fn states_have_their_texts(rt: HostRuntime) {
-    let tables = [
-        EMPTY,
-        SMALL,
-        GREAT,
-        SMALL_TEXT,
-        ORDERS,
-        LONGER_TABLES,
-        MOST_JOBS,
-    ];
-    play(&rt, rt.alloc(), &tables);
-}
-
-// The lists of rows of the small state are its rows; and rows are put into other tables, where one
-// under a key that is there takes that row's place.
-#[test]
-fn lists_and_puts_rows(rt: HostRuntime) {
-    let alloc = rt.alloc();
-    let state = play(&rt, alloc, &[SMALL]);
-    let mut tables = Tables::empty(alloc);
-    for _ in 0..2 {
-        let jobs = state.jobs(alloc).ok().expect(&rt, "the jobs");
-        for job in jobs.into_vec() {
-            assert!(rt; job.name.as_str() == "w" && job.version.get() == 2 && !job.stopped);
-            assert!(rt; state.job(&job.name).is_some());
-            assert!(rt; tables.put_job(job).is_ok());
-        }
-        let nodes = state.nodes(alloc).ok().expect(&rt, "the nodes");
-        for row in nodes.as_slice() {
-            assert!(rt; row.number.number() == 1 && row.class.as_str() == "x" && row.eligible);
-            assert!(rt; row.size.mem.get() == 2000 && row.drain == DrainMode::Off);
-            assert!(rt; state.node(row.number).is_some() && tables.put_node(*row).is_ok());
-        }
-        let evals = state.evals(alloc).ok().expect(&rt, "the evaluations");
-        for row in evals.as_slice() {
-            assert!(rt; row.id.index.get() == 2 && row.id.slot == 0 && row.job.as_str() == "w");
-            assert!(rt; row.priority.get() == 50 && row.status == EvalStatus::Pending);
-            assert!(rt; state.eval(row.id).is_some() && tables.put_eval(*row).is_ok());
-        }
-        let sizes = (
-            tables.jobs().len(),
-            tables.nodes().len(),
-            tables.evals().len(),
-        );
-        assert!(rt; sizes == (1, 1, 1));
-    }
-}
-
-/// Whether these are the row of the id, and no other.
-fn is_alone(rows: Result<Sequence<Allocation>, NoMemory>, id: AllocId) -> bool {
-    match rows {
-        Ok(rows) => rows.len() == 1 && rows.as_slice().iter().all(|row| row.id == id),
-        Err(_) => false,
-    }
-}
-
-/// Whether the look-ups of live rows find this one alone.
-fn finds_alone(tables: &Tables, row: &Allocation) -> bool {
-    is_alone(tables.all_live_named(&AllocName::of(row)), row.id)
-        && is_alone(tables.live_of_job(&row.job), row.id)
-        && is_alone(tables.live_on(row.node), row.id)
-        && is_alone(tables.active_on(row.node), row.id)
-}
-
-// The same of allocations: one that is put again counts once, for what is in use too.
-#[test]
-fn lists_and_puts_allocations(rt: HostRuntime) {
-    let alloc = rt.alloc();
-    let state = play(&rt, alloc, &[SMALL]);
-    let mut tables = Tables::empty(alloc);
-    for _ in 0..2 {
-        let rows = state.allocs(alloc).ok().expect(&rt, "the allocations");
-        for row in rows.as_slice() {
-            assert!(rt; row.job.as_str() == "w" && state.alloc(row.id).is_some());
-            assert!(rt; tables.put_alloc(*row).is_ok());
-            let usage = tables.used(row.node);
-            assert!(rt; usage.cpu == 600 && usage.mem == 300);
-            assert!(rt; finds_alone(&tables, row));
-        }
-        assert!(rt; tables.allocs().len() == 1);
-    }
-}
+/// The plays of texts, each from the empty state.
+pub(crate) const PLAYS: &[&[&str]] = &[
+    &[EMPTY],
+    &[SMALL],
+    &[SMALL_READ],
+    &[GREAT],
+    &[SMALL_TEXT, ORDERS, LONGER_TABLES],
+];

@@ -1,10 +1,7 @@
 //! What commands do to the replicated state, the rows worked out by hand from the rules.
-use crate::tests::states::play;
-
 // Entries 1 to 4: two nodes, a job, whose evaluation is 3.0, and its allocations 4.0 on node 1 and
 // 4.1 on node 2.
 const TWO_NODES: &str = "\
-new
 take join 1 linux 1000 1000
 take join 2 linux 1000 1000
 take put web 50 main:2:linux:600:300
@@ -16,7 +13,7 @@ const LOSS: &str = "\
 has allocation 4.0 web main 0 1 600 300 run pending no 3.0
 has allocation 4.1 web main 1 2 600 300 run pending no 3.0
 used 1 600 300
-live web main 0 4.0
+live 4.0
 has evaluation 3.0 web 50 pending 0
 take lose 1
 has allocation 4.0 web main 0 1 600 300 run lost no 3.0
@@ -25,7 +22,7 @@ has evaluation 5.0 web 50 pending 0
 used 1 0 0
 used 2 600 300
 has node 1 linux 1000 1000 down yes none 1
-live web main 0 -
+dead 4.0
 take report 1 4.0:running
 has allocation 4.0 web main 0 1 600 300 run lost no 3.0
 counts 1 2 2 2
@@ -40,13 +37,13 @@ take report 1 4.0:running
 has allocation 4.0 web main 0 1 600 300 run running no 3.0
 has node 1 linux 1000 1000 ready yes none 1
 counts 1 2 1 2
-live web main 0 4.0
+live 4.0
 take report 1 4.0:failed
 has allocation 4.0 web main 0 1 600 300 run failed no 3.0
 has node 1 linux 1000 1000 ready yes none 6
 has evaluation 6.0 web 50 pending 0
 used 1 0 0
-live web main 0 -
+dead 4.0
 take report 1 4.0:complete
 has allocation 4.0 web main 0 1 600 300 run failed no 3.0
 has node 1 linux 1000 1000 ready yes none 6
@@ -81,8 +78,8 @@ const PLACED_AGAIN: &str = "\
 take plan 3.0 1.1 web 0 4.0 main:0:1:600:300
 has allocation 4.0 web main 0 1 600 300 stop pending no 3.0
 has allocation 5.0 web main 0 1 600 300 run pending no 3.0
-live web main 0 5.0
-live web main 1 4.1
+live 5.0
+live 4.1
 has node 1 linux 1000 1000 ready yes none 5
 has node 2 linux 1000 1000 ready yes none 2
 used 1 600 300
@@ -113,7 +110,7 @@ counts 1 2 1 2
 take migrate 4.0,4.1
 has allocation 4.0 web main 0 1 600 300 run pending yes 3.0
 has allocation 4.1 web main 1 2 600 300 run pending yes 3.0
-live web main 0 4.0
+live 4.0
 counts 1 2 2 2
 has evaluation 7.0 web 50 pending 0
 has node 1 linux 1000 1000 ready no slow 1";
@@ -149,7 +146,6 @@ has evaluation 3.0 web 50 complete 0";
 // Four jobs, put in another order than that of their names, three of which run on one node: the
 // evaluations of touched jobs are made in rising name, each job once.
 const TOUCHED: &str = "\
-new
 take join 1 x 10 10
 take put b 50 g:2:x:1:1
 take put a 60 g:1:x:1:1
@@ -173,7 +169,7 @@ again
 force plan 9.0 1.1 none 0 8.0 main:0:1:600:300,main:0:1:600:300
 has allocation 4.0 none main 0 1 600 300 run pending no 9.0
 has allocation 4.1 none main 0 1 600 300 run pending no 9.0
-live none main 0 4.0
+live 4.0
 used 1 1200 600
 counts 1 2 1 2";
 
@@ -205,23 +201,18 @@ force lose 9
 = allocation 3.1 web main 1 1 600 300 run pending no 2.0
 same";
 
-#[test]
-fn commands_have_their_effects(rt: HostRuntime) {
-    let alloc = rt.alloc();
-    for table in [
-        LOSS,
-        ENDS,
-        SAME_TWICE,
-        STOPPED_ONES,
-        PLACED_AGAIN,
-        COMES_BACK,
-        MARKED,
-        VERSIONS,
-        STATUSES,
-    ] {
-        play(&rt, alloc, &[TWO_NODES, table]);
-    }
-    play(&rt, alloc, &[TOUCHED]);
-    play(&rt, alloc, &[TWO_NODES, NOT_ADMITTED]);
-    play(&rt, alloc, &[NO_SUCH_NODE]);
-}
+/// The plays of effects, each from the empty state.
+pub(crate) const PLAYS: &[&[&str]] = &[
+    &[TWO_NODES, LOSS],
+    &[TWO_NODES, ENDS],
+    &[TWO_NODES, SAME_TWICE],
+    &[TWO_NODES, STOPPED_ONES],
+    &[TWO_NODES, PLACED_AGAIN],
+    &[TWO_NODES, COMES_BACK],
+    &[TWO_NODES, MARKED],
+    &[TWO_NODES, VERSIONS],
+    &[TWO_NODES, STATUSES],
+    &[TOUCHED],
+    &[TWO_NODES, NOT_ADMITTED],
+    &[NO_SUCH_NODE],
+];

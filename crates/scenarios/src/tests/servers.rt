@@ -2,9 +2,8 @@
 //! section 5 and Figure 2.)
 use machine::{Amount, Machine, Tally, TallyCommand};
 use raft_core::{Input, NoProjection, Raft, Role, Stable};
-use rows::{Actor, Leader, Refusal, ServerId};
+use rows::{Actor, Refusal, ServerId};
 use std::alloc::Global;
-use std::process::Abort;
 use wire::Outbox;
 
 /// A frame: its kind (1 a vote request, 2 a vote reply, 3 an Append, 4 the answer to one), its
@@ -163,6 +162,24 @@ const ELECTIONS: &[Case] = &[
         5,
         &[],
         &[(Hear(ASKS_3), TAKEN, [1, 1, 0, 0, 0], 1, &[VOTE_OF_3])],
+    ),
+    // It gave its vote, and a crash does not make it forget.
+    (
+        2,
+        3,
+        &[],
+        &[
+            (Hear(ASKS_2), TAKEN, [1, 1, 0, 0, 0], 1, &[VOTE_OF_2]),
+            (Crash, TAKEN, [0, 1, 0, 99, 0], 0, &[]),
+            (Restart, TAKEN, [1, 1, 0, 0, 0], 0, &[]),
+            (
+                Hear(Frame(1, 3, 2, 24, &[1, 0, 0], &[])),
+                TAKEN,
+                [1, 1, 0, 0, 0],
+                1,
+                &[Frame(2, 2, 3, 17, &[1, 1], NO)],
+            ),
+        ],
     ),
     // In the greatest term none stands for election any more.
     (
@@ -477,58 +494,17 @@ const FOLLOWERS: &[Case] = &[
     ),
 ];
 
-/// The bytes of a frame.
-fn bytes_of(rt: &impl Abort, alloc: Global, frame: &Frame) -> Vec<u8> {
+// Puts the bytes of a frame in the place of others.
+fn put_frame(bytes: &mut Vec<u8>, frame: &Frame) -> bool {
     let Frame(kind, from, to, size, numbers, rest) = *frame;
-    let mut bytes = Vec::new(alloc);
-    assert!(rt;
-        bytes
-            .extend_from_slice(&[1, kind, from, to, 0, 0, 0, size])
-            .is_ok()
-    );
+    bytes.clear();
+    let mut put = bytes
+        .extend_from_slice(&[1, kind, from, to, 0, 0, 0, size])
+        .is_ok();
     for number in numbers {
-        assert!(rt; bytes.extend_from_slice(&number.to_be_bytes()).is_ok());
+        put = put && bytes.extend_from_slice(&number.to_be_bytes()).is_ok();
     }
-    assert!(rt; bytes.extend_from_slice(rest).is_ok());
-    bytes
-}
-
-/// Acts on a server, all but `Reload`, which does nothing here.
-fn perform(
-    rt: &impl Abort,
-    alloc: Global,
-    raft: &mut Raft<Tally>,
-    act: &Act,
-    sent: &mut Outbox,
-) -> Result<(), Refusal> {
-    let mut bytes = Vec::new(alloc);
-    let input = match act {
-        Timeout => Input::Timeout,
-        Beat => Input::Beat,
-        Crash => Input::Crash,
-        Restart => Input::Restart,
-        Hear(frame) => {
-            bytes = bytes_of(rt, alloc, frame);
-            Input::Frame(&bytes)
-        }
-        Propose(number) => {
-            let amount = Amount::new(*number).expect(rt, "an amount");
-            return raft.propose(TallyCommand::Add(amount));
-        }
-        Ahead(count, sum) => {
-            return match raft.projected() {
-                Ok(ahead) => {
-                    assert!(rt; ahead.count() == *count && ahead.sum() == *sum);
-                    Ok(())
-                }
-                Err(NoProjection::NotLeader) => Err(Refusal::NotLeader(Leader::new(None))),
-                Err(NoProjection::Down) => Err(Refusal::Down),
-                Err(NoProjection::NoMemory) => Err(Refusal::NoMemory),
-            };
-        }
-        Reload => return Ok(()),
-    };
-    raft.step(input, sent)
+    put && bytes.extend_from_slice(rest).is_ok()
 }
 
 /// The number of a refusal, with the leader or the place that goes with it.
@@ -546,74 +522,132 @@ fn number_of(answer: Result<(), Refusal>) -> (u8, usize) {
     }
 }
 
-/// What a server is.
-fn shown(rt: &impl Abort, raft: &Raft<Tally>) -> [u64; 5] {
-    let role = match raft.role() {
+/// What the machine after the whole log is refused for, and whether it has this count and this sum.
+fn ahead(raft: &mut Raft<Tally>, count: u64, sum: u16) -> (u8, usize) {
+    match raft.projected() {
+        Ok(ahead) if ahead.count() == count && ahead.sum() == sum => TAKEN,
+        Err(NoProjection::NotLeader) => (2, 0),
+        Err(NoProjection::Down) => (16, 0),
+        _ => (99, 0),
+    }
+}
+
+fn propose(raft: &mut Raft<Tally>, number: u16) -> (u8, usize) {
+    match Amount::new(number) {
+        Some(amount) => number_of(raft.propose(TallyCommand::Add(amount))),
+        None => (99, 0),
+    }
+}
+
+/// Acts on a server, all but `Reload`, which does nothing here.
+fn perform(raft: &mut Raft<Tally>, act: &Act, bytes: &[u8], sent: &mut Outbox) -> (u8, usize) {
+    let input = match act {
+        Timeout => Input::Timeout,
+        Beat => Input::Beat,
+        Crash => Input::Crash,
+        Restart => Input::Restart,
+        Hear(_) => Input::Frame(bytes),
+        Propose(number) => return propose(raft, *number),
+        Ahead(count, sum) => return ahead(raft, *count, *sum),
+        Reload => return TAKEN,
+    };
+    number_of(raft.step(input, sent))
+}
+
+fn role_of(raft: &Raft<Tally>) -> u64 {
+    match raft.role() {
         None => 0,
         Some(Role::Follower) => 1,
         Some(Role::Candidate) => 2,
         Some(Role::Leader) => 3,
-    };
+    }
+}
+
+fn applied_of(raft: &Raft<Tally>) -> u64 {
+    match (raft.applied(), raft.machine()) {
+        (Some(applied), Some(machine)) if machine.count() == applied.get() => applied.get(),
+        (None, None) => 99,
+        _ => 98,
+    }
+}
+
+/// What a server is.
+fn shown(raft: &Raft<Tally>) -> [u64; 5] {
     let known = match raft.known_leader() {
         Some(server) => u64::from(server.number()),
         None => 0,
     };
-    let applied = match (raft.applied(), raft.machine()) {
-        (Some(applied), Some(machine)) => {
-            assert!(rt; machine.count() == applied.get());
-            applied.get()
+    [
+        role_of(raft),
+        raft.term().get(),
+        raft.last().get(),
+        applied_of(raft),
+        known,
+    ]
+}
+
+fn is_sent(sent: &Outbox, frames: &[Frame], bytes: &mut Vec<u8>) -> bool {
+    for (frame, wanted) in sent.frames().iter().zip(frames) {
+        let same = put_frame(bytes, wanted) && frame.bytes() == bytes.as_slice();
+        if !same || !matches!(frame.to(), Actor::Server(to) if to.number() == wanted.2) {
+            return false;
         }
-        (None, None) => 99,
-        _ => 98,
+    }
+    sent.len() >= frames.len()
+}
+
+fn holds(raft: &mut Raft<Tally>, alloc: Global, turn: &Turn) -> bool {
+    let (act, answer, state, count, frames) = *turn;
+    let mut sent = Outbox::new(alloc);
+    let mut bytes = Vec::new(alloc);
+    let heard = match act {
+        Hear(frame) => put_frame(&mut bytes, &frame),
+        _ => true,
     };
-    [role, raft.term().get(), raft.last().get(), applied, known]
+    heard
+        && perform(raft, &act, &bytes, &mut sent) == answer
+        && shown(raft) == state
+        && sent.len() == count
+        && is_sent(&sent, frames, &mut bytes)
 }
 
-/// A server that starts with what it stored.
-fn started(
-    rt: &impl Abort,
+fn reload(raft: Raft<Tally>, alloc: Global, me: ServerId, size: usize) -> Option<Raft<Tally>> {
+    Raft::restart(alloc, me, size, raft.into_stable()).ok()
+}
+
+// Plays turns, a server that reloads being made anew before its turn is looked at.
+fn play(
     alloc: Global,
-    me: u8,
+    me: ServerId,
     size: usize,
-    stable: Stable<Tally>,
-) -> Raft<Tally> {
-    let me = ServerId::from_number(me).expect(rt, "a server");
-    match Raft::restart(alloc, me, size, stable) {
-        Ok(raft) => raft,
-        Err(_) => panic!(rt; "no server"),
-    }
-}
-
-fn play(rt: &impl Abort, alloc: Global, case: &Case) {
-    let (me, size, start, more) = *case;
-    let mut raft = started(rt, alloc, me, size, Stable::new(alloc));
-    for turns in [start, more] {
-        for (number, (what, answer, state, count, frames)) in turns.iter().enumerate() {
-            let mut sent = Outbox::new(alloc);
-            let found = number_of(perform(rt, alloc, &mut raft, what, &mut sent));
-            if let Reload = what {
-                raft = started(rt, alloc, me, size, raft.into_stable());
-            }
-            assert!(rt; found == *answer, "turn {number}");
-            assert!(rt; shown(rt, &raft) == *state, "turn {number}");
-            assert!(rt; sent.len() == *count, "turn {number}");
-            for (place, wanted) in frames.iter().enumerate() {
-                let frame = sent.frames().get(place).expect(rt, "a frame");
-                assert!(rt;
-                    frame.bytes() == bytes_of(rt, alloc, wanted).as_slice(),
-                    "turn {number}"
-                );
-                assert!(rt; matches!(frame.to(), Actor::Server(to) if to.number() == wanted.2));
-            }
+    turns: &[Turn],
+    start: Raft<Tally>,
+) -> Option<Raft<Tally>> {
+    let mut raft = start;
+    for turn in turns {
+        if let Reload = turn.0 {
+            raft = reload(raft, alloc, me, size)?;
+        }
+        if !holds(&mut raft, alloc, turn) {
+            return None;
         }
     }
+    Some(raft)
+}
+
+fn is_played(alloc: Global, case: &Case) -> Option<bool> {
+    let (me, size, start, more) = *case;
+    let me = ServerId::from_number(me)?;
+    let raft = Raft::restart(alloc, me, size, Stable::new(alloc)).ok()?;
+    let raft = play(alloc, me, size, start, raft)?;
+    Some(play(alloc, me, size, more, raft).is_some())
 }
 
 #[test]
 fn acts_as_a_server(rt: HostRuntime) {
     for cases in [ELECTIONS, LEADERS, FOLLOWERS] {
-        for case in cases {
-            play(&rt, rt.alloc(), case);
+        for (number, case) in cases.iter().enumerate() {
+            assert!(rt; is_played(rt.alloc(), case) == Some(true), "case {number}");
         }
     }
 }

@@ -1,27 +1,25 @@
 //! States whose tables are full or all but full, from texts put together row by row: what they
 //! refuse, and that the longest text of all is read and written.
-use crate::tests::states::play;
-
 // The longest text: each table is full, each name has 32 bytes, and each number is the greatest: 24
 // bytes, 644 for each job, 53 for each node and each evaluation, and 98 for each allocation.
 const LONGEST: &str = "\
 = state 1099511627775
 = rows 256
-many job 0 255 100 yes 1099511627775 zzzzzzzzzzzzzzzzzzzzzzzzzzzzzzza:64:zzzzzzzzzzzzzzzzzzzzzzzzzzzzzzzz:1000000:1000000,zzzzzzzzzzzzzzzzzzzzzzzzzzzzzzzb:64:zzzzzzzzzzzzzzzzzzzzzzzzzzzzzzzz:1000000:1000000,zzzzzzzzzzzzzzzzzzzzzzzzzzzzzzzc:64:zzzzzzzzzzzzzzzzzzzzzzzzzzzzzzzz:1000000:1000000,zzzzzzzzzzzzzzzzzzzzzzzzzzzzzzzd:64:zzzzzzzzzzzzzzzzzzzzzzzzzzzzzzzz:1000000:1000000,zzzzzzzzzzzzzzzzzzzzzzzzzzzzzzze:64:zzzzzzzzzzzzzzzzzzzzzzzzzzzzzzzz:1000000:1000000,zzzzzzzzzzzzzzzzzzzzzzzzzzzzzzzf:64:zzzzzzzzzzzzzzzzzzzzzzzzzzzzzzzz:1000000:1000000,zzzzzzzzzzzzzzzzzzzzzzzzzzzzzzzg:64:zzzzzzzzzzzzzzzzzzzzzzzzzzzzzzzz:1000000:1000000,zzzzzzzzzzzzzzzzzzzzzzzzzzzzzzzh:64:zzzzzzzzzzzzzzzzzzzzzzzzzzzzzzzz:1000000:1000000
+any any-job 100 yes 1099511627775 zzzzzzzzzzzzzzzzzzzzzzzzzzzzzzza:64:zzzzzzzzzzzzzzzzzzzzzzzzzzzzzzzz:1000000:1000000,zzzzzzzzzzzzzzzzzzzzzzzzzzzzzzzb:64:zzzzzzzzzzzzzzzzzzzzzzzzzzzzzzzz:1000000:1000000,zzzzzzzzzzzzzzzzzzzzzzzzzzzzzzzc:64:zzzzzzzzzzzzzzzzzzzzzzzzzzzzzzzz:1000000:1000000,zzzzzzzzzzzzzzzzzzzzzzzzzzzzzzzd:64:zzzzzzzzzzzzzzzzzzzzzzzzzzzzzzzz:1000000:1000000,zzzzzzzzzzzzzzzzzzzzzzzzzzzzzzze:64:zzzzzzzzzzzzzzzzzzzzzzzzzzzzzzzz:1000000:1000000,zzzzzzzzzzzzzzzzzzzzzzzzzzzzzzzf:64:zzzzzzzzzzzzzzzzzzzzzzzzzzzzzzzz:1000000:1000000,zzzzzzzzzzzzzzzzzzzzzzzzzzzzzzzg:64:zzzzzzzzzzzzzzzzzzzzzzzzzzzzzzzz:1000000:1000000,zzzzzzzzzzzzzzzzzzzzzzzzzzzzzzzh:64:zzzzzzzzzzzzzzzzzzzzzzzzzzzzzzzz:1000000:1000000
+many job 0 255
 = rows 64
-many node 1 64 zzzzzzzzzzzzzzzzzzzzzzzzzzzzzzzz 1000000 1000000 down no force 1099511627775
+any any-node zzzzzzzzzzzzzzzzzzzzzzzzzzzzzzzz 1000000 1000000 down no force 1099511627775
+many node 1 64
 = rows 65536
-many evaluation 0 65535 zzzzzzzzzzzzzzzzzzzzzzzzzzzzzzzz 100 blocked 1099511627775
+any any-evaluation zzzzzzzzzzzzzzzzzzzzzzzzzzzzzzzz 100 blocked 1099511627775
+many evaluation 0 65535
 = rows 65536
-many allocation 0 65535 zzzzzzzzzzzzzzzzzzzzzzzzzzzzzzzz zzzzzzzzzzzzzzzzzzzzzzzzzzzzzzzz 63 64 1000000 1000000 stop lost yes 1099511627775.255
+any any-allocation zzzzzzzzzzzzzzzzzzzzzzzzzzzzzzzz zzzzzzzzzzzzzzzzzzzzzzzzzzzzzzzz 63 64 1000000 1000000 stop lost yes 1099511627775.255
+many allocation 0 65535
 length 10064216
 load
+fork
 counts 256 64 65536 65536";
-
-#[test]
-fn reads_and_writes_the_longest_text(rt: HostRuntime) {
-    play(&rt, rt.alloc(), &[LONGEST]);
-}
 
 // The jobs api, which is stopped, db and web, each of one group of one of a node's processor time
 // and memory; node 1, node 2, which is down, and node 3, which is drained.
@@ -48,12 +46,15 @@ const LIVE: &str = "\
 // the others complete.
 const EVALS: &str = "\
 = rows 65536
-many evaluation 0 65535 web 50 pending 0
+any any-evaluation web 50 pending 0
+many evaluation 0 65535
 = rows 65536";
 
 const ALLOCS: &str = "\
-many allocation 4 65535 web main 0 1 1 1 stop complete no 1.0
+any any-allocation web main 0 1 1 1 stop complete no 1.0
+many allocation 4 65535
 load
+fork
 counts 3 3 65536 65536";
 
 // What makes one more is refused; but first what is unknown, stopped, down, not live, or not to be
@@ -88,20 +89,18 @@ const FULL: &str = "\
 13 report 1 1.0:complete
 0 report 1 1.0:running,1.4:complete";
 
-#[test]
-fn refuses_to_fill_full_tables(rt: HostRuntime) {
-    play(&rt, rt.alloc(), &[CROWD, EVALS, LIVE, ALLOCS, FULL]);
-}
-
 // One evaluation and one allocation less.
 const EVALS_BUT_ONE: &str = "\
 = rows 65535
-many evaluation 0 65534 web 50 pending 0
+any any-evaluation web 50 pending 0
+many evaluation 0 65534
 = rows 65535";
 
 const ALLOCS_BUT_ONE: &str = "\
-many allocation 4 65534 web main 0 1 1 1 stop complete no 1.0
+any any-allocation web main 0 1 1 1 stop complete no 1.0
+many allocation 4 65534
 load
+fork
 counts 3 3 65535 65535";
 
 // With one row less one more is made, and not two: of two jobs on a lost node, or with reported
@@ -127,22 +126,26 @@ force plan 1.0 1.1 web 0 - main:3:1:1:1
 13 plan 1.0 1.1 web 0 - main:3:1:1:1
 counts 3 3 65536 65536";
 
-#[test]
-fn fills_tables(rt: HostRuntime) {
-    let tables = [CROWD, EVALS_BUT_ONE, LIVE, ALLOCS_BUT_ONE, ONE_LEFT];
-    play(&rt, rt.alloc(), &tables);
-}
-
 // There are 256 jobs at most, here of names from zzz..aa to zzz..pp; each of them may be put again.
-pub(crate) const MOST_JOBS: &str = "\
+const MOST_JOBS: &str = "\
 = state 256
 = rows 256
-many job 0 255 50 no 1 main:64:linux:1:1
+any any-job 50 no 1 main:64:linux:1:1
+many job 0 255
 = rows 0
 = rows 0
 = rows 0
 load
+fork
 counts 256 0 0 0
 13 put more 50 main:1:linux:1:1
 0 put zzzzzzzzzzzzzzzzzzzzzzzzzzzzzzpp 50 main:1:linux:1:1
 0 eval zzzzzzzzzzzzzzzzzzzzzzzzzzzzzzpp";
+
+/// The plays of full tables, each from the empty state.
+pub(crate) const PLAYS: &[&[&str]] = &[
+    &[LONGEST],
+    &[CROWD, EVALS, LIVE, ALLOCS, FULL],
+    &[CROWD, EVALS_BUT_ONE, LIVE, ALLOCS_BUT_ONE, ONE_LEFT],
+    &[MOST_JOBS],
+];

@@ -1,13 +1,9 @@
-//! What each command is refused for by the replicated state, and that of two refusals that apply
-//! the first is answered. What needs a full table stands in `full_tables`.
-use crate::tests::states::play;
-
-// Entries 1 to 7: nodes 1 and 2 of class linux and 3 of class arm; jobs web, api and old, whose
-// evaluations are 4.0, 5.0 and 6.0; and allocations 7.0 and 7.1 of web on nodes 1 and 2. Of each
-// node 400 and 700 are left, of node 3 all.
+// ! What each command is refused for by the replicated state, and that of two refusals that apply !
+// the first is answered. What needs a full table stands in `full_tables`. Nodes and jobs come to an
+// empty state. Entries 1 to 7: nodes 1 and 2 of class linux and 3 of class arm; jobs web, api and
+// old, whose evaluations are 4.0, 5.0 and 6.0; and allocations 7.0 and 7.1 of web on nodes 1 and 2.
+// Of each node 400 and 700 are left, of node 3 all.
 const BASE: &str = "\
-new
-# Nodes and jobs come to an empty state.
 0 noop
 0 put web 50 main:2:linux:600:300
 0 join 64 linux 1 1000000
@@ -251,20 +247,17 @@ take status 4.0 failed 0
 4 status 4.0 complete 0
 4 status 4.0 failed 0";
 
-#[test]
-fn admits_or_refuses(rt: HostRuntime) {
-    let tables = [
-        BASE,
-        JOBS,
-        NODES,
-        DRAINS,
-        MOVES,
-        PLANS,
-        STOPS,
-        PLACES,
-        SAFE_PLACES,
-        REPORTS,
-        STATUSES,
-    ];
-    play(&rt, rt.alloc(), &tables);
-}
+/// The plays of admission.
+pub(crate) const PLAYS: &[&str] = &[
+    BASE,
+    JOBS,
+    NODES,
+    DRAINS,
+    MOVES,
+    PLANS,
+    STOPS,
+    PLACES,
+    SAFE_PLACES,
+    REPORTS,
+    STATUSES,
+];

@@ -137,35 +137,35 @@ fn fault_of_change(frame: usize, at: usize, value: u8) -> usize {
     NONE
 }
 
-#[test]
-fn reads_frames(rt: HostRuntime) {
-    let alloc = rt.alloc();
-    for (number, frame) in FRAMES.iter().enumerate() {
-        assert!(rt; fault_of(alloc, frame) == NONE, "frame {number}");
-        for cut in 0..frame.len() {
-            assert!(rt;
-                fault_of(alloc, &frame[..cut]) == cut.min(4),
-                "frame {number} cut at {cut}"
-            );
-        }
-        let mut bytes = Vec::new(alloc);
-        assert!(rt; bytes.extend_from_slice(frame).is_ok());
-        for (at, old) in frame.iter().enumerate() {
-            for value in 0..=255u8 {
-                *bytes.get_mut(at).expect(&rt, "a place") = value;
-                let wanted = if value == *old {
-                    NONE
-                } else {
-                    fault_of_change(number, at, value)
-                };
-                assert!(rt;
-                    fault_of(alloc, &bytes) == wanted,
-                    "{value} at {at} of frame {number}"
-                );
-            }
-            *bytes.get_mut(at).expect(&rt, "a place") = *old;
+// Cut anywhere a frame is at fault at the length in its header, or where it ends before that.
+fn is_refused_cut(alloc: Global, frame: &[u8]) -> bool {
+    for cut in 0..frame.len() {
+        if fault_of(alloc, frame.get(..cut).unwrap_or(&[])) != cut.min(4) {
+            return false;
         }
     }
+    true
+}
+
+// With another value of one byte it is at fault as the rules say, and it is left as it was.
+fn is_changed(alloc: Global, frame: usize, at: usize, bytes: &mut [u8]) -> bool {
+    let old = bytes.get(at).copied().unwrap_or(0);
+    let mut holds = true;
+    for value in 0..=255u8 {
+        if let Some(byte) = bytes.get_mut(at) {
+            *byte = value;
+        }
+        let wanted = if value == old {
+            NONE
+        } else {
+            fault_of_change(frame, at, value)
+        };
+        holds = holds && fault_of(alloc, bytes) == wanted;
+    }
+    if let Some(byte) = bytes.get_mut(at) {
+        *byte = old;
+    }
+    holds
 }
 
 // The index before the entries, how many there are, and the fault: at most 32, and each has an
@@ -184,34 +184,54 @@ const COUNTS: &[(u64, u8, usize)] = &[
 ];
 
 // Entries of term 1, no-ops, in an Append of term 1 from server 1 to server 2.
+fn put_append(out: &mut Vec<u8>, prev_index: u64, count: u8) -> bool {
+    let size = 33 + 9 * u32::from(count);
+    let mut put = true;
+    out.clear();
+    for part in [
+        &[1, 3, 1, 2][..],
+        &size.to_be_bytes(),
+        &[0, 0, 0, 0, 0, 0, 0, 1],
+        &prev_index.to_be_bytes(),
+        &[0; 16],
+        &[count],
+    ] {
+        put = put && out.extend_from_slice(part).is_ok();
+    }
+    for _ in 0..count {
+        put = put && out.extend_from_slice(&[0, 0, 0, 0, 0, 0, 0, 1, 0]).is_ok();
+    }
+    put
+}
+
+fn is_counted(alloc: Global, bytes: &mut Vec<u8>) -> bool {
+    for (prev_index, count, place) in COUNTS {
+        if !put_append(bytes, *prev_index, *count) || fault_of(alloc, bytes) != *place {
+            return false;
+        }
+    }
+    true
+}
+
+fn is_read(alloc: Global, number: usize, frame: &[u8], bytes: &mut Vec<u8>) -> bool {
+    bytes.clear();
+    let mut holds = bytes.extend_from_slice(frame).is_ok()
+        && fault_of(alloc, frame) == NONE
+        && is_refused_cut(alloc, frame);
+    for at in 0..frame.len() {
+        holds = holds && is_changed(alloc, number, at, bytes);
+    }
+    holds
+}
+
 #[test]
-fn counts_entries(rt: HostRuntime) {
-    let alloc = rt.alloc();
-    for row in COUNTS {
-        let (prev_index, count, place) = *row;
-        let size = 33 + 9 * u32::from(count);
-        let (size, prev) = (size.to_be_bytes(), prev_index.to_be_bytes());
-        let mut bytes = Vec::new(alloc);
-        for part in [
-            &[1, 3, 1, 2][..],
-            &size,
-            &[0, 0, 0, 0, 0, 0, 0, 1],
-            &prev,
-            &[0; 16],
-            &[count],
-        ] {
-            assert!(rt; bytes.extend_from_slice(part).is_ok());
-        }
-        for _ in 0..count {
-            assert!(rt;
-                bytes
-                    .extend_from_slice(&[0, 0, 0, 0, 0, 0, 0, 1, 0])
-                    .is_ok()
-            );
-        }
+fn reads_frames(rt: HostRuntime) {
+    let mut bytes = Vec::new(rt.alloc());
+    for (number, frame) in FRAMES.iter().enumerate() {
         assert!(rt;
-            fault_of(alloc, &bytes) == place,
-            "{count} behind {prev_index}"
+            is_read(rt.alloc(), number, frame, &mut bytes),
+            "frame {number}"
         );
     }
+    assert!(rt; is_counted(rt.alloc(), &mut bytes));
 }

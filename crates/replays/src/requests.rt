@@ -1,0 +1,170 @@
+//! Requests: their commands, byte by byte, and what a group makes of them. And the settings of a
+//! scenario, as they are read.
+use fsm_state::Cluster;
+use machine::Machine;
+use rows::ServerId;
+use runner::reading::scenario;
+use runner::request::read_request;
+use runner::step::{Step, read_step};
+use scenarios::claims::safe_state;
+use std::alloc::Global;
+use std::rt::Files;
+use std::{fs, io};
+use world::{Done, RaftEvent, RaftWorld};
+
+/// Says the bytes of the command of each line of `requests`.
+pub(crate) fn commands(rt: &HostRuntime) -> io::Result<()> {
+    let lines = fs::read_to_string(rt, "requests")?;
+    for line in lines.lines() {
+        let mut bytes = Vec::new(rt.alloc());
+        let is_written = put_request(rt.alloc(), line, &mut bytes);
+        println!(rt; "{line}: {is_written} {bytes:?}")?;
+    }
+    Ok(())
+}
+
+fn put_request(alloc: Global, line: &str, out: &mut Vec<u8>) -> bool {
+    match read_request(alloc, line) {
+        Ok(Some(request)) => Cluster::write_command(&request.into_command(), out).is_ok(),
+        _ => false,
+    }
+}
+
+fn event_of(step: Step) -> Option<RaftEvent<Cluster>> {
+    match step {
+        Step::Timeout(server) => Some(RaftEvent::Timeout(server)),
+        Step::Beat(server) => Some(RaftEvent::Beat(server)),
+        Step::Crash(server) => Some(RaftEvent::Crash(server)),
+        Step::Restart(server) => Some(RaftEvent::Restart(server)),
+        Step::Deliver(number) => Some(RaftEvent::Deliver(number)),
+        Step::Request(server, request) => {
+            Some(RaftEvent::Propose(server, request.into_command()))
+        }
+        Step::Flow(_) => None,
+    }
+}
+
+fn take_step(world: &mut RaftWorld<Cluster>, step: Step) -> bool {
+    match event_of(step) {
+        Some(event) => matches!(world.step(event), Ok(Done::Taken)),
+        None => false,
+    }
+}
+
+// The step is one event, and is taken.
+fn take(world: &mut RaftWorld<Cluster>, alloc: Global, line: &str) -> bool {
+    match read_step(alloc, line) {
+        Ok(Some(step)) => take_step(world, step),
+        _ => false,
+    }
+}
+
+// The state of the server, which is the same where the group's own trace is played again.
+fn put_state(
+    world: &RaftWorld<Cluster>,
+    alloc: Global,
+    server: ServerId,
+    out: &mut Vec<u8>,
+) -> bool {
+    let Ok(again) = RaftWorld::run(alloc, 3, world.trace()) else {
+        return false;
+    };
+    let mut bytes = Vec::new(alloc);
+    match (safe_state(world, server), safe_state(&again, server)) {
+        (Some(state), Some(other)) => {
+            state.save(out).is_ok() && other.save(&mut bytes).is_ok() && bytes == *out
+        }
+        _ => false,
+    }
+}
+
+// A job is put to the leader, and stopped; and its beat has that committed.
+const SERVED: &str = "\
+timeout 1
+deliver 1
+deliver 2
+deliver 3
+deliver 4
+request 1 put web 50 main:2:linux:600:300
+request 1 stop web
+beat 1
+deliver 5
+deliver 6
+deliver 7
+deliver 8";
+
+// What the old leader, server 1, did not commit is cut away under the next one, which has entries
+// of its own at those indexes.
+const CUT: &str = "\
+timeout 1
+deliver 1
+deliver 2
+deliver 3
+deliver 4
+request 1 put web 50 a:1:x:1:1
+crash 1
+timeout 2
+deliver 6
+deliver 7
+request 2 put api 50 a:1:x:1:1
+restart 1
+beat 2
+deliver 8
+deliver 9
+deliver 10
+deliver 11
+beat 2
+deliver 12
+deliver 13
+deliver 14
+deliver 15";
+
+// Plays steps on a group of three; says how many entries all of it agree on, and the bytes of the
+// state of server 1; and what it then refuses: a request to server 1, and message 0.
+fn state(rt: &HostRuntime, name: &str, steps: &str) -> io::Result<()> {
+    let alloc = rt.alloc();
+    let (Ok(mut world), Some(server)) = (
+        RaftWorld::<Cluster>::new(alloc, 3),
+        ServerId::from_number(1),
+    ) else {
+        return Ok(());
+    };
+    let mut is_taken = true;
+    for line in steps.lines() {
+        is_taken = take(&mut world, alloc, line) && is_taken;
+    }
+    let mut bytes = Vec::new(alloc);
+    let is_there = put_state(&world, alloc, server, &mut bytes);
+    println!(rt;
+        "{name}: {} {} {bytes:?}",
+        is_taken && is_there,
+        world.chain().get()
+    )?;
+    if let Err(refusal) = world.step(RaftEvent::Propose(server, Cluster::noop())) {
+        println!(rt; "{refusal}")?;
+        if let Err(refusal) = world.step(RaftEvent::Deliver(0)) {
+            println!(rt; "{}", refusal.number())?;
+        }
+    }
+    Ok(())
+}
+
+/// Says the bytes of a server's replicated state in groups of three.
+pub(crate) fn states(rt: &HostRuntime) -> io::Result<()> {
+    state(rt, "served", SERVED)?;
+    state(rt, "cut", CUT)
+}
+
+/// Says the settings of a scenario as they are read, whatever the program makes of them.
+pub(crate) fn settings(rt: &HostRuntime) -> io::Result<()> {
+    let text = fs::read_to_string(rt, "settings.json")?;
+    if let Ok(read) = scenario(rt.alloc(), &text) {
+        let said = read.settings;
+        println!(rt;
+            "servers {} key {} drop {} repeat {}",
+            said.servers, said.key, said.drop, said.repeat
+        )?;
+        println!(rt; "steps {}", read.steps.len())?;
+    }
+    Ok(())
+}

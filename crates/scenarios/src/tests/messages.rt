@@ -1,0 +1,231 @@
+//! Messages given as values: their frames, and what is read from these; and the outbox that keeps
+//! them.
+use crate::tests::frames::{APPEND, GRANTED, REPLY, VOTE};
+use machine::{Coded, Entry, Tally, TallyCommand};
+use rows::{Actor, Index, ServerId};
+use std::alloc::Global;
+use wire::{Append, AppendHead, Body, Frame, Kind, Message, Outbox, read_message};
+
+/// A message: its kind, its sender and its receiver; its numbers in the order of its frame, 1 for a
+/// yes; its entries, each with its term and with what it adds, 0 for the no-op; and its frame.
+type Row = (Kind, u8, u8, [u64; 4], &'static [(u64, u16)], &'static [u8]);
+
+const MESSAGES: &[Row] = &[
+    (Kind::VoteRequest, 1, 2, [1, 0, 0, 0], &[], VOTE),
+    (
+        Kind::Append,
+        1,
+        2,
+        [3, 4, 2, 4],
+        &[(2, 0), (3, 258)],
+        APPEND,
+    ),
+    (Kind::VoteReply, 2, 1, [3, 2, 1, 0], &[], GRANTED),
+    (Kind::AppendReply, 2, 1, [3, 2, 1, 5], &[], REPLY),
+];
+
+// What the outbox has at the end: the Append is sent from its parts too, and then comes an empty
+// frame.
+const SENT: &[(u8, &[u8])] = &[
+    (2, VOTE),
+    (2, APPEND),
+    (2, APPEND),
+    (1, GRANTED),
+    (1, REPLY),
+    (5, &[]),
+];
+
+fn numbers_of(body: &Body<Tally>) -> [u64; 4] {
+    match body {
+        Body::VoteRequest(said) => {
+            [
+                said.term.get(),
+                said.last_index.get(),
+                said.last_term.get(),
+                0,
+            ]
+        }
+        Body::VoteReply(said) => {
+            [
+                said.term.get(),
+                said.asked.get(),
+                if said.granted { 1 } else { 0 },
+                0,
+            ]
+        }
+        Body::Append(append) => {
+            let head = append.head();
+            [
+                head.term.get(),
+                head.prev_index.get(),
+                head.prev_term.get(),
+                head.commit.get(),
+            ]
+        }
+        Body::AppendReply(said) => {
+            [
+                said.term.get(),
+                said.asked.get(),
+                if said.ok { 1 } else { 0 },
+                said.at.get(),
+            ]
+        }
+    }
+}
+
+/// The term of an entry, and what it adds, 0 for the no-op.
+fn entry_of(entry: &Entry<Coded<Tally>>) -> (u64, u16) {
+    match entry.command.command() {
+        TallyCommand::Noop => (entry.term.get(), 0),
+        TallyCommand::Add(amount) => (entry.term.get(), amount.get()),
+    }
+}
+
+fn has_entries(append: &Append<Tally>, list: &[(u64, u16)]) -> bool {
+    for (entry, wanted) in append.entries().iter().zip(list) {
+        if entry_of(entry) != *wanted {
+            return false;
+        }
+    }
+    append.entries().len() == list.len()
+}
+
+fn is_server(actor: Actor, number: u8) -> bool {
+    match actor {
+        Actor::Server(server) => server.number() == number,
+        _ => false,
+    }
+}
+
+/// Whether the frame is read as the message of its row.
+fn says(alloc: Global, row: &Row) -> bool {
+    let (kind, from, to, numbers, list, frame) = *row;
+    let Ok(message) = read_message::<Tally>(alloc, frame) else {
+        return false;
+    };
+    let entries = match message.body() {
+        Body::Append(append) => has_entries(append, list),
+        _ => list.is_empty(),
+    };
+    entries
+        && message.kind() == kind
+        && is_server(message.from(), from)
+        && is_server(message.to(), to)
+        && numbers_of(message.body()) == numbers
+}
+
+// The body, with its `Append` put together of its parts.
+fn put_together(body: Body<Tally>) -> Option<Body<Tally>> {
+    match body {
+        Body::Append(append) => {
+            let (head, entries) = append.into_parts();
+            match Append::new(head, entries) {
+                Some(append) => Some(Body::Append(append)),
+                None => None,
+            }
+        }
+        other => Some(other),
+    }
+}
+
+fn send(outbox: &mut Outbox, from: Actor, to: Actor, body: Body<Tally>) -> bool {
+    match Message::new(from, to, body) {
+        Some(message) => outbox.send(&message).is_ok(),
+        None => false,
+    }
+}
+
+/// Sends the message of a frame, put together anew.
+fn sends(outbox: &mut Outbox, alloc: Global, frame: &[u8]) -> bool {
+    let Ok(message) = read_message::<Tally>(alloc, frame) else {
+        return false;
+    };
+    let (from, to) = (message.from(), message.to());
+    match put_together(message.into_body()) {
+        Some(body) => send(outbox, from, to, body),
+        None => false,
+    }
+}
+
+fn server_of(actor: Actor) -> Option<ServerId> {
+    match actor {
+        Actor::Server(server) => Some(server),
+        Actor::Client(_) => None,
+    }
+}
+
+fn send_parts(outbox: &mut Outbox, from: Actor, to: Actor, append: &Append<Tally>) -> bool {
+    let Some(from) = server_of(from) else {
+        return false;
+    };
+    let Some(to) = server_of(to) else {
+        return false;
+    };
+    if from == to {
+        return false;
+    }
+    let sent = outbox.send_append(from, to, &append.head(), append.entries());
+    sent.is_ok()
+}
+
+/// Sends the `Append` of a frame from its parts, and no other message.
+fn sends_parts(outbox: &mut Outbox, alloc: Global, frame: &[u8]) -> bool {
+    let Ok(message) = read_message::<Tally>(alloc, frame) else {
+        return false;
+    };
+    match message.body() {
+        Body::Append(append) => send_parts(outbox, message.from(), message.to(), append),
+        _ => true,
+    }
+}
+
+/// Whether the entries of the frame are too many behind this index.
+fn is_too_far(alloc: Global, frame: &[u8], index: u64) -> bool {
+    let Ok(message) = read_message::<Tally>(alloc, frame) else {
+        return false;
+    };
+    match (message.into_body(), Index::new(index)) {
+        (Body::Append(append), Some(prev_index)) => {
+            let (head, entries) = append.into_parts();
+            Append::new(AppendHead { prev_index, ..head }, entries).is_none()
+        }
+        _ => false,
+    }
+}
+
+fn push(outbox: &mut Outbox, alloc: Global) -> bool {
+    match ServerId::from_number(5) {
+        Some(server) => outbox.push(Actor::Server(server), Vec::new(alloc)).is_ok(),
+        None => false,
+    }
+}
+
+fn fill(outbox: &mut Outbox, alloc: Global) -> bool {
+    let mut sent = true;
+    for row in MESSAGES {
+        sent = sent
+            && says(alloc, row)
+            && sends_parts(outbox, alloc, row.5)
+            && sends(outbox, alloc, row.5);
+    }
+    sent && push(outbox, alloc) && push(outbox, alloc) && outbox.len() == 7
+}
+
+fn is_filled(frames: &[Frame]) -> bool {
+    for (frame, (to, bytes)) in frames.iter().zip(SENT) {
+        if !is_server(frame.to(), *to) || frame.bytes() != *bytes {
+            return false;
+        }
+    }
+    frames.len() == SENT.len()
+}
+
+#[test]
+fn says_and_hears(rt: HostRuntime) {
+    let mut outbox = Outbox::new(rt.alloc());
+    assert!(rt; fill(&mut outbox, rt.alloc()));
+    outbox.truncate(6);
+    assert!(rt; is_filled(&outbox.into_frames()));
+    // The second entry's index would be 2^40.
+    assert!(rt; is_too_far(rt.alloc(), APPEND, 1_099_511_627_774));
+}
