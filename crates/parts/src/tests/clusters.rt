@@ -22,7 +22,7 @@ impl Played for Cluster {
             'U' => uses(self, first, [second as u64, third as u64]),
             'L' => lives(self, id_of(alloc, words), true),
             'D' => lives(self, id_of(alloc, words), false),
-            'F' => match self.fork(alloc) {
+            'F' => match self.fork() {
                 Ok(copy) => is_same(self, &copy, alloc),
                 Err(_) => false,
             },
