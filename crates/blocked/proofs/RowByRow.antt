@@ -13,6 +13,7 @@ use Rattle.rows.specs.Keys.{name_cmp}
 use Rattle.fsm_tables.specs.Rows.{row_of, put}
 use Rattle.fsm_tables.proofs.RowLaws.{row_of-put}
 use Rattle.cluster_model.specs.Words.{State, is_blocked}
+use Rattle.cluster_model.proofs.Lists.{rest_from}
 use Rattle.group_model.specs.Blocked.{BlockedEval, room_with, room_over, blocked_eval}
 use Rattle.blocked.specs.declared.rooms.ClassRoom.{ClassRoom}
 use Rattle.blocked.specs.Rooms.{room_class, index_or_zero, room_in}
@@ -38,11 +39,6 @@ noted class index rooms = λ i c. at c i where
       ∙ by c (bytes_eq c class) refl
 
 -- ---- nodes, from the last to the first
-
-rest_from : {X : Type 0} (xs : List X) (i : ℕ) (x : X) → Some x ≡ slice_get xs i → drop i xs ≡ x ∷ drop (suc i) xs
-rest_from [] i x e = absurd cc
-rest_from (y ∷ xs) zero x e = let same : x ≡ y = cc in ap (λ z. z ∷ xs) (sym same)
-rest_from (y ∷ xs) (suc i) x e = rest_from xs i x e
 
 pub node_before : (nodes : List Node) (at : ℕ) (n : Node) → 0 < at → Some n ≡ slice_get nodes (at - 1) → room_with n.class n.room (room_over (drop at nodes)) ≡ room_over (drop (at - 1) nodes)
 node_before nodes at n lt e =

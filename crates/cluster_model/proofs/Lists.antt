@@ -1,6 +1,6 @@
 -- Laws of lists and tests.
-use Rattle.std.proofs.Common.{◌≡◌, Bool, true, false, cond, ◌&&◌, ◌||◌, T, List, [], ◌∷◌, filter, map, refl, sym, ap}
-use Rattle.std.specs.List.{list_any}
+use Rattle.std.proofs.Common.{◌≡◌, ℕ, zero, suc, Bool, true, false, cond, ◌&&◌, ◌||◌, T, List, [], ◌∷◌, drop, filter, map, Some, refl, sym, ap}
+use Rattle.std.specs.List.{list_any, slice_get}
 
 pub maps : {A B C : Type 0} (g : B → C) (f : A → B) (xs : List A) → map g (map f xs) ≡ map (λ x. g (f x)) xs
 maps g f [] = refl
@@ -60,3 +60,9 @@ filter_both p q (x ∷ xs) = elim (p x) as (λ b. filter q (cond b (x ∷ filter
   | true ↦ ap (λ zs. cond (q x) (x ∷ zs) zs) (filter_both p q xs)
   | false ↦ filter_both p q xs
 ]
+
+-- what is left of a list from a place on
+pub rest_from : {A : Type 0} (xs : List A) (i : ℕ) (x : A) → Some x ≡ slice_get xs i → drop i xs ≡ x ∷ drop (suc i) xs
+rest_from [] i x e = absurd cc
+rest_from (y ∷ xs) zero x e = let same : x ≡ y = cc in ap (λ z. z ∷ xs) (sym same)
+rest_from (y ∷ xs) (suc i) x e = rest_from xs i x e

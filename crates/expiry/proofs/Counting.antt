@@ -11,7 +11,7 @@ use Rattle.fsm_tables.specs.Rows.{has_row, put}
 use Rattle.fsm_tables.proofs.RowLaws.{first, second}
 use Rattle.cluster_model.specs.Words.{is_ready}
 use Rattle.cluster_model.proofs.Keys.{at_number}
-use Rattle.cluster_model.proofs.Lists.{maps_same}
+use Rattle.cluster_model.proofs.Lists.{maps_same, rest_from}
 use Rattle.fsm_state.proofs.StepLaws.{put_only}
 use Rattle.group_model.specs.Expiry.{BeatCount, count_node, counted_node, beat_count_of, beat_counts_over, one_beat_more, with_beat}
 use Rattle.group_model.proofs.KeptRows.{put_front, below_kept}
@@ -23,12 +23,6 @@ put_first n nodes h =
     (below_kept nat_cmp node_number count_node (λ x. counted_node x (beat_count_of x.number [])) (λ x. refl) (λ x. is_ready x.status) n.number nodes h)
 
 -- ---- from the last node to the first
-
--- the rest of the nodes from a place on
-rest_from : (nodes : List Node) (i : ℕ) (n : Node) → Some n ≡ slice_get nodes i → drop i nodes ≡ n ∷ drop (suc i) nodes
-rest_from [] i n e = absurd cc
-rest_from (x ∷ nodes) zero n e = let same : n ≡ x = cc in ap (λ y. y ∷ nodes) (sym same)
-rest_from (x ∷ nodes) (suc i) n e = rest_from nodes i n e
 
 rest_rises : (i : ℕ) (nodes : List Node) → T (is_rising nat_cmp node_number nodes) → T (is_rising nat_cmp node_number (drop i nodes))
 rest_rises zero nodes h = h
