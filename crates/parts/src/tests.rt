@@ -4,6 +4,7 @@
 mod admission;
 mod clusters;
 mod commands;
+mod desks;
 mod effects;
 mod full_tables;
 mod lines;

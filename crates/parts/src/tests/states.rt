@@ -84,7 +84,12 @@ live L
 dead D
 fork F
 lists S
-is-at T";
+is-at T
+broker B
+blocked Z
+heartbeats H
+moves M
+queue Q";
 
 fn verb_of(head: &str) -> char {
     match look_up(VERBS, head) {
