@@ -106,7 +106,8 @@ impl Broker {
     /// Refused where the pair is not outstanding. It takes no memory.
     pub fn ack(&mut self, eval: EvalId, token: Token) -> Result<(), PairError>
         ensures ok { OnOk result (IsPair eval token self.old × (self.new ≡ with_ack eval self.old)) }
-        ensures err { IfErr result (λ e. RefusesPair eval token self.old e × (self.new ≡ self.old)) }
+        ensures err { IfErr result (λ e.
+            RefusesPair eval token self.old e × (self.new ≡ self.old)) }
     {
         self.check(eval, token)?;
         self.set_acked(&eval);
@@ -117,7 +118,8 @@ impl Broker {
     /// memory.
     pub fn nack(&mut self, eval: EvalId, token: Token) -> Result<(), PairError>
         ensures ok { OnOk result (IsPair eval token self.old × (self.new ≡ with_nack eval self.old)) }
-        ensures err { IfErr result (λ e. RefusesPair eval token self.old e × (self.new ≡ self.old)) }
+        ensures err { IfErr result (λ e.
+            RefusesPair eval token self.old e × (self.new ≡ self.old)) }
     {
         self.check(eval, token)?;
         self.set_free(&eval);

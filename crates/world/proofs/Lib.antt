@@ -13,3 +13,4 @@ pub mod Runs
 pub mod Histories
 pub mod Replays
 pub mod Same
+pub mod Loads

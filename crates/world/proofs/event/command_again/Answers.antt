@@ -1,5 +1,5 @@
 use Rattle.std.proofs.Common.{◌≡◌, ◌++◌, [], length, sym, ◌∙◌, subst, append-nil}
-use Rattle.raft_core.proofs.Loads.{no_fault}
+use Rattle.world.proofs.Loads.{no_fault}
 use Rattle.world.proofs.Events.{read_again}
 use Rattle.world.proofs.event.command_again.Goals as goal
 
