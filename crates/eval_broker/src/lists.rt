@@ -1,5 +1,5 @@
 //! The lists beside the tasks.
-ghost use Rattle.std.specs.Prelude.{◌≡◌, ◌≤◌, [], IfSome, OnOk, length, T as Holds, if◌then◌else◌};
+ghost use Rattle.std.specs.Prelude.{◌≡◌, ◌≤◌, IfSome, OnOk, length, T as Holds, if◌then◌else◌};
 ghost use Rattle.rows.specs.Keys.{eval_cmp};
 ghost use Rattle.rows.specs.Rising.{is_rising};
 ghost use Rattle.fsm_tables.specs.Rows.{put as with_row};

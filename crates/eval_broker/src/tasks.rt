@@ -1,5 +1,5 @@
 //! The tasks, with the lists beside them.
-ghost use Rattle.std.specs.Prelude.{◌≡◌, ◌≤◌, ◌+◌, OnOk, OnErr, option_map, length, map, filter, T as Holds};
+ghost use Rattle.std.specs.Prelude.{◌≡◌, ◌≤◌, ◌+◌, OnOk, option_map, length, map, filter, T as Holds};
 ghost use Rattle.rows.specs.Keys.{eval_cmp};
 ghost use Rattle.fsm_tables.specs.Rows.{put as with_row};
 ghost use Rattle.fsm_tables.specs.Shelves.{without as without_row, has_space};
