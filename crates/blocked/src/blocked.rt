@@ -11,7 +11,7 @@ use crate::order::in_order;
 use crate::rebuild::{classes_of, evals_of, rooms_of};
 use crate::rooms::Rooms;
 use fsm_state::Cluster;
-use fsm_tables::Shelf;
+use fsm_tables::ReservedTable;
 use rows::{ClassName, EvalId, Evaluation, Index, Job, JobName, NoMemory, Sequence};
 use std::alloc::Global;
 use std::marker::Model;
@@ -23,7 +23,7 @@ use std::marker::Model;
 /// documentation, "Scheduling in Nomad": blocked evaluations.)
 #[derive(Drop)]
 pub struct Blocked {
-    evals: Shelf<BlockedEval>,
+    evals: ReservedTable<BlockedEval>,
     rooms: Rooms,
 }
 
@@ -41,7 +41,7 @@ impl Blocked {
         ensures { result ≡ record { evals = []; rooms = [] } }
     {
         Blocked {
-            evals: Shelf::empty(alloc),
+            evals: ReservedTable::empty(alloc),
             rooms: Rooms::none(alloc),
         }
     }

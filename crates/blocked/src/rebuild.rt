@@ -7,7 +7,7 @@ ghost use Rattle.blocked.specs.Rooms.{room_in};
 use crate::held::BlockedEval;
 use crate::rooms::Rooms;
 use fsm_state::Cluster;
-use fsm_tables::{Shelf, Table};
+use fsm_tables::{ReservedTable, Table};
 use rows::{ClassName, EvalStatus, Evaluation, Job, NoMemory, Node, Sequence};
 use std::alloc::Global;
 
@@ -44,7 +44,7 @@ fn held_of(alloc: Global, state: &Cluster, row: &Evaluation) -> Result<BlockedEv
 }
 
 /// The blocked evaluations of a state, in rising id.
-pub(crate) fn evals_of(alloc: Global, state: &Cluster) -> Result<Shelf<BlockedEval>, NoMemory>
+pub(crate) fn evals_of(alloc: Global, state: &Cluster) -> Result<ReservedTable<BlockedEval>, NoMemory>
     ensures { let blocked = filter (λ e. stands_blocked e.status) state.now.evals in
         IfOk result (λ evals. evals.rows ≡ map (blocked_eval state.now) blocked) }
 {
@@ -60,7 +60,7 @@ pub(crate) fn evals_of(alloc: Global, state: &Cluster) -> Result<Shelf<BlockedEv
         }
         held.push(held_of(alloc, state, row)?)?;
     }
-    Ok(Shelf::of_rising(held))
+    Ok(ReservedTable::of_rising(held))
 }
 
 /// The room that nodes of a class got last.

@@ -3,7 +3,7 @@ ghost use Rattle.std.specs.Prelude.{◌≡◌, [], OnOk, OnErr};
 ghost use Rattle.group_model.specs.Blocked.{room_with};
 ghost use Rattle.blocked.specs.Rooms.{room_in};
 
-use fsm_tables::{Row, Shelf};
+use fsm_tables::{Row, ReservedTable};
 use rows::{ClassName, Index, NoMemory, Ranged};
 use std::alloc::Global;
 use std::marker::Model;
@@ -44,7 +44,7 @@ impl Row for ClassRoom {
 /// rising class.
 #[derive(Drop)]
 pub(crate) struct Rooms {
-    rows: Shelf<ClassRoom>,
+    rows: ReservedTable<ClassRoom>,
 }
 
 impl Model for Rooms {
@@ -62,7 +62,7 @@ impl Rooms {
         ensures { result ≡ [] }
     {
         Rooms {
-            rows: Shelf::empty(alloc),
+            rows: ReservedTable::empty(alloc),
         }
     }
 

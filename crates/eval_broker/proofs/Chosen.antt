@@ -18,7 +18,7 @@ use Rattle.fsm_tables.proofs.RowLaws.{first, second, some_same}
 use Rattle.fsm_tables.proofs.SetLaws.{found_first}
 use Rattle.fsm_tables.specs.declared.urgency.Urgency.{Urgency}
 use Rattle.fsm_tables.specs.Urgencies.{urgency_cmp}
-use Rattle.fsm_tables.proofs.Shelves.{found_tied}
+use Rattle.fsm_tables.proofs.ReservedTables.{found_tied}
 use Rattle.fsm_tables.proofs.Urgencies.{urgency_cmp_total}
 use Rattle.group_model.specs.Brokers.{Task, task_id, task_of, is_free, MOST, job_is_free, may_be_given, next}
 use Rattle.group_model.proofs.KeptRows.{all_found}

@@ -10,10 +10,10 @@ use Rattle.std.proofs.lemmas.Map.Lookups.{exact_bytes}
 use Rattle.rows.specs.Keys.{name_cmp}
 use Rattle.fsm_tables.specs.Rows.{by_order, row_of, has_row, put}
 use Rattle.fsm_tables.proofs.RowLaws.{rising_put}
-use Rattle.fsm_tables.specs.Shelves.{without}
+use Rattle.fsm_tables.specs.ReservedTables.{without}
 use Rattle.fsm_tables.specs.declared.urgency.Urgency.{Urgency}
 use Rattle.fsm_tables.specs.Urgencies.{urgency_cmp}
-use Rattle.fsm_tables.proofs.Shelves.{rising_without, found_tied, room_left}
+use Rattle.fsm_tables.proofs.ReservedTables.{rising_without, found_tied, room_left}
 use Rattle.group_model.specs.Brokers.{Task, task_of}
 use Rattle.eval_broker.specs.declared.ranks.Rank.{Rank}
 use Rattle.eval_broker.specs.declared.ranks.Head.{Head}

@@ -11,8 +11,8 @@ use Rattle.rows.proofs.KeyLaws.{eval_cmp_total}
 use Rattle.rows.specs.Rising.{is_rising}
 use Rattle.fsm_tables.specs.Rows.{has_row, put}
 use Rattle.fsm_tables.proofs.RowLaws.{first, second, rising_put, row_of-put}
-use Rattle.fsm_tables.specs.Shelves.{without}
-use Rattle.fsm_tables.proofs.Shelves.{rising_without, row_of-without, length-without, found_tied}
+use Rattle.fsm_tables.specs.ReservedTables.{without}
+use Rattle.fsm_tables.proofs.ReservedTables.{rising_without, row_of-without, length-without, found_tied}
 use Rattle.group_model.specs.Brokers.{Task, task_id, task_of}
 use Rattle.eval_broker.specs.Inner.Lists.{is_in, is_listed, IsListing}
 use Rattle.eval_broker.proofs.Orders.{same_id, is_equal, no, true_false, and_right, has_put, has_without, has_first, has_later, has_tied, has_below}

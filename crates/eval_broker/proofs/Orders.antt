@@ -13,10 +13,10 @@ use Rattle.rows.specs.Rising.{is_below, is_rising}
 use Rattle.fsm_tables.specs.Rows.{row_of, put}
 use Rattle.fsm_tables.proofs.RowLaws.{both, first, equal, none_below, below_less, row_of-put}
 use Rattle.fsm_tables.proofs.SetLaws.{same_rows}
-use Rattle.fsm_tables.specs.Shelves.{without}
+use Rattle.fsm_tables.specs.ReservedTables.{without}
 use Rattle.fsm_tables.specs.declared.urgency.Urgency.{Urgency}
 use Rattle.fsm_tables.specs.Urgencies.{urgency_cmp}
-use Rattle.fsm_tables.proofs.Shelves.{row_of-without}
+use Rattle.fsm_tables.proofs.ReservedTables.{row_of-without}
 use Rattle.fsm_tables.proofs.Urgencies.{urgency_cmp_total}
 use Rattle.eval_broker.specs.declared.ranks.Rank.{Rank}
 use Rattle.eval_broker.specs.declared.ranks.Head.{Head}

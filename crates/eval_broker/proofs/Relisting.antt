@@ -12,10 +12,10 @@ use Rattle.rows.specs.Rising.{is_rising}
 use Rattle.fsm_tables.specs.Rows.{has_row, put}
 use Rattle.fsm_tables.proofs.RowLaws.{rising_put, row_of-put}
 use Rattle.fsm_tables.proofs.SetLaws.{same_rows}
-use Rattle.fsm_tables.specs.Shelves.{Stock, without}
+use Rattle.fsm_tables.specs.ReservedTables.{Stock, without}
 use Rattle.fsm_tables.specs.declared.urgency.Urgency.{Urgency}
 use Rattle.fsm_tables.specs.Urgencies.{urgency_cmp}
-use Rattle.fsm_tables.proofs.Shelves.{rising_without, row_of-without, length-without, without_none}
+use Rattle.fsm_tables.proofs.ReservedTables.{rising_without, row_of-without, length-without, without_none}
 use Rattle.fsm_tables.proofs.Urgencies.{urgency_cmp_total}
 use Rattle.group_model.specs.Brokers.{Task, task_id, task_of}
 use Rattle.eval_broker.specs.declared.ranks.Rank.{Rank}

@@ -11,8 +11,8 @@ use Rattle.rows.specs.Rising.{is_rising}
 use Rattle.fsm_tables.specs.Rows.{by_order, has_row, put}
 use Rattle.fsm_tables.proofs.RowLaws.{first, second, none_below, below_less, below_tied, rising_put, row_of-put, length-put, some_same}
 use Rattle.fsm_tables.proofs.SetLaws.{same_rows}
-use Rattle.fsm_tables.specs.Shelves.{without}
-use Rattle.fsm_tables.proofs.Shelves.{rising_without, row_of-without, found_tied}
+use Rattle.fsm_tables.specs.ReservedTables.{without}
+use Rattle.fsm_tables.proofs.ReservedTables.{rising_without, row_of-without, found_tied}
 use Rattle.cluster_model.specs.Words.{same_eval}
 use Rattle.raft_model.specs.Logs.{MAX}
 use Rattle.group_model.specs.Brokers.{Broker, Task, Gives, UsedUp, task_id, task_of, with_task, goes_out, next_token, next, delivery_of, given, gives, deliver}

@@ -3,7 +3,7 @@ ghost use Rattle.std.specs.Prelude.{◌≡◌, ◌≤◌, IfSome, OnOk, length, 
 ghost use Rattle.rows.specs.Keys.{eval_cmp};
 ghost use Rattle.rows.specs.Rising.{is_rising};
 ghost use Rattle.fsm_tables.specs.Rows.{put as with_row};
-ghost use Rattle.fsm_tables.specs.Shelves.{without as without_row, has_space};
+ghost use Rattle.fsm_tables.specs.ReservedTables.{without as without_row, has_space};
 ghost use Rattle.fsm_tables.specs.Urgencies.{urgency_cmp};
 ghost use Rattle.group_model.specs.Brokers.{task_id};
 ghost use Rattle.eval_broker.specs.Answers.{urgency_of};
@@ -11,18 +11,18 @@ ghost use Rattle.eval_broker.specs.Inner.Lists.{head_cmp, is_failed, head_of as 
 
 use crate::ranks::{Head, Rank, head_of};
 use crate::task::Task;
-use fsm_tables::{Shelf, Urgency};
+use fsm_tables::{ReservedTable, Urgency};
 use rows::{EvalId, JobName, NoMemory};
 
 /// The lists beside the tasks: so nothing is searched by walking.
 #[derive(Drop)]
 pub(crate) struct Lists {
     /// All of them, by job.
-    pub ranks: Shelf<Rank>,
+    pub ranks: ReservedTable<Rank>,
     /// Of each job of which none is out or acked, the first that waits for a worker.
-    pub heads: Shelf<Head>,
+    pub heads: ReservedTable<Head>,
     /// Those given out as often as may be, and neither out nor acked.
-    pub failed: Shelf<Urgency>,
+    pub failed: ReservedTable<Urgency>,
 }
 
 impl Lists {
@@ -90,7 +90,7 @@ impl Lists {
     }
 
     /// Takes out what the lists have of a task, if it is there.
-    pub fn take_out(&mut self, tasks: &Shelf<Task>, id: &EvalId)
+    pub fn take_out(&mut self, tasks: &ReservedTable<Task>, id: &EvalId)
         requires rising { Holds (is_rising eval_cmp task_id tasks.now.rows) }
         requires listed { AreListed tasks.now.rows self.old }
         requires room { HaveRoom (length tasks.now.rows) self.old }
@@ -107,7 +107,7 @@ impl Lists {
     }
 
     /// Brings in what the lists have of a task, if it is there.
-    pub fn bring_in(&mut self, tasks: &Shelf<Task>, id: &EvalId)
+    pub fn bring_in(&mut self, tasks: &ReservedTable<Task>, id: &EvalId)
         requires rising { Holds (is_rising eval_cmp task_id tasks.now.rows) }
         requires listed { AreListed (without_row eval_cmp task_id id.now tasks.now.rows) self.old }
         requires room { HaveRoom (length tasks.now.rows) self.old }

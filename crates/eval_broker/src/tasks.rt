@@ -2,7 +2,7 @@
 ghost use Rattle.std.specs.Prelude.{◌≡◌, ◌≤◌, ◌+◌, OnOk, option_map, length, map, filter, T as Holds};
 ghost use Rattle.rows.specs.Keys.{eval_cmp};
 ghost use Rattle.fsm_tables.specs.Rows.{put as with_row};
-ghost use Rattle.fsm_tables.specs.Shelves.{without as without_row, has_space};
+ghost use Rattle.fsm_tables.specs.ReservedTables.{without as without_row, has_space};
 ghost use Rattle.group_model.specs.Brokers.{task_id, task_of, next as next_of};
 ghost use Rattle.eval_broker.specs.Inner.Lists.{AreKept, HaveRoom, is_failed};
 ghost use Rattle.eval_broker.specs.Answers.{urgency_of};
@@ -10,13 +10,13 @@ ghost use Rattle.group_model.specs.Order.{in_order};
 
 use crate::lists::Lists;
 use crate::task::Task;
-use fsm_tables::{Shelf, Urgency};
+use fsm_tables::{ReservedTable, Urgency};
 use rows::{EvalId, NoMemory};
 
 /// The tasks by id, and the lists beside them.
 #[derive(Drop)]
 pub(crate) struct Tasks {
-    pub tasks: Shelf<Task>,
+    pub tasks: ReservedTable<Task>,
     pub lists: Lists,
 }
 

@@ -6,7 +6,7 @@ ghost use Rattle.group_model.specs.BeatCounts.{beat_heard, expiry_refusal};
 
 use crate::beat_count::BeatCount;
 use fsm_state::Cluster;
-use fsm_tables::{Shelf, Table};
+use fsm_tables::{ReservedTable, Table};
 use rows::{Index, NoMemory, Node, NodeId, NodeStatus, Refusal};
 use std::alloc::Global;
 use std::marker::Model;
@@ -30,7 +30,7 @@ impl From<UnknownNode> for Refusal {
 /// own.)
 #[derive(Drop)]
 pub struct Expiry {
-    counts: Shelf<BeatCount>,
+    counts: ReservedTable<BeatCount>,
 }
 
 impl Model for Expiry {
@@ -53,11 +53,11 @@ fn is_ready(row: &Node) -> bool
 }
 
 /// The ready ones of the nodes, none of which was heard of yet.
-fn counts_over(alloc: Global, nodes: &Table<Node>) -> Result<Shelf<BeatCount>, NoMemory>
+fn counts_over(alloc: Global, nodes: &Table<Node>) -> Result<ReservedTable<BeatCount>, NoMemory>
     ensures { IfOk result (λ counts. counts.rows ≡ beat_counts_over nodes.now []) }
 {
     nodes.ranges();
-    let mut counts = Shelf::empty(alloc);
+    let mut counts = ReservedTable::empty(alloc);
     counts.make_room(nodes.len())?;
     let mut at = nodes.len();
     while at > 0 {
@@ -81,7 +81,7 @@ impl Expiry {
         ensures { result ≡ [] }
     {
         Expiry {
-            counts: Shelf::empty(alloc),
+            counts: ReservedTable::empty(alloc),
         }
     }
 

@@ -6,5 +6,5 @@ pub mod Entries
 pub mod Filters
 pub mod Bounds
 pub mod Listed
-pub mod Shelves
+pub mod ReservedTables
 pub mod Urgencies

@@ -4,5 +4,5 @@ pub mod Claims
 pub mod LiveNames
 pub mod Lookups
 pub mod Inner
-pub mod Shelves
+pub mod ReservedTables
 pub mod Urgencies

@@ -10,7 +10,7 @@ mod keys;
 mod laws;
 mod listing;
 mod name;
-mod shelf;
+mod reserved_table;
 mod table;
 mod tables;
 mod urgency;
@@ -18,7 +18,7 @@ mod usage;
 
 pub use laws::tables_are_sets;
 pub use name::AllocName;
-pub use shelf::Shelf;
+pub use reserved_table::ReservedTable;
 pub use table::{CopiedRow, Row, Table};
 pub use tables::Tables;
 pub use urgency::Urgency;

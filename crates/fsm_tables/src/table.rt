@@ -59,7 +59,7 @@ impl<T: Row> Drop for Table<T> {
 }
 
 /// Where the row of a key stands, or where it would.
-fn place<T: Row>(rows: &[T], key: &T::Key) -> Result<usize, usize>
+pub(crate) fn place<T: Row>(rows: &[T], key: &T::Key) -> Result<usize, usize>
     requires { Holds (is_rising T.Key.cmp T.key_of rows.now) }
     ensures { PlaceOf T.Key.cmp T.key_of key.now rows.now result }
 {

@@ -1,2 +1,2 @@
 -- Rows that go.
-pub use Rattle.fsm_tables.specs.Shelves.{without}
+pub use Rattle.fsm_tables.specs.ReservedTables.{without}

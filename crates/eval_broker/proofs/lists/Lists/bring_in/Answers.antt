@@ -1,7 +1,7 @@
 use Rattle.std.proofs.Common.{◌≤◌, cond, length, sym, ap, ◌∙◌, arith, subst, T}
 use Rattle.std.specs.Prelude.{◌||◌, nat_lt, IfSome}
 use Rattle.fsm_tables.specs.Rows.{has_row, put}
-use Rattle.fsm_tables.specs.Shelves.{Stock}
+use Rattle.fsm_tables.specs.ReservedTables.{Stock}
 use Rattle.fsm_tables.specs.Urgencies.{urgency_cmp}
 use Rattle.fsm_tables.specs.declared.urgency.Urgency.{Urgency}
 use Rattle.eval_broker.specs.declared.ranks.Rank.{Rank}

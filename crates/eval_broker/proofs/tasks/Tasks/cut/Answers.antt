@@ -2,12 +2,12 @@ use Rattle.std.proofs.Common.{T, List, length, sym, subst}
 use Rattle.rows.specs.Keys.{eval_cmp}
 use Rattle.rows.proofs.KeyLaws.{eval_cmp_total}
 use Rattle.rows.specs.Rising.{is_rising}
-use Rattle.fsm_tables.proofs.Shelves.{rising_without}
+use Rattle.fsm_tables.proofs.ReservedTables.{rising_without}
 use Rattle.group_model.specs.Brokers.{Task, task_id}
 use Rattle.eval_broker.specs.Inner.Lists.{AreListed, HaveRoom}
 use Rattle.eval_broker.proofs.Relisting.{no_more}
 use Rattle.eval_broker.proofs.Stored.{room_kept, no_loss}
-use Rattle.fsm_tables.specs.Shelves.{without}
+use Rattle.fsm_tables.specs.ReservedTables.{without}
 use Rattle.eval_broker.proofs.tasks.Tasks.cut.Goals as goal
 
 pub returns-clause-kept : goal.returns-clause-kept

@@ -4,7 +4,7 @@ use Rattle.rows.proofs.KeyLaws.{eval_cmp_total}
 use Rattle.rows.specs.Rising.{is_rising}
 use Rattle.fsm_tables.specs.Rows.{put}
 use Rattle.fsm_tables.proofs.RowLaws.{rising_put}
-use Rattle.fsm_tables.specs.Shelves.{without}
+use Rattle.fsm_tables.specs.ReservedTables.{without}
 use Rattle.group_model.specs.Brokers.{Task, task_id}
 use Rattle.eval_broker.specs.Inner.Lists.{AreListed, HaveRoom}
 use Rattle.eval_broker.proofs.Stored.{put_without, room_kept, no_loss}

@@ -2,10 +2,9 @@
 ghost use Rattle.std.specs.Prelude.{◌≡◌, ◌≤◌, [], OnOk, option_map, T as Holds};
 ghost use Rattle.rows.specs.Rising.{is_rising};
 ghost use Rattle.fsm_tables.specs.Rows.{row_of, put};
-ghost use Rattle.fsm_tables.specs.Inner.Places.{PlaceOf};
-ghost use Rattle.fsm_tables.specs.Shelves.{without, has_space};
+ghost use Rattle.fsm_tables.specs.ReservedTables.{without, has_space};
 
-use crate::table::Row;
+use crate::table::{Row, place};
 use rows::NoMemory;
 use std::alloc::Global;
 use std::marker::Model;
@@ -13,14 +12,14 @@ use std::marker::Model;
 /// Rows in strictly rising key, with room for more that is made beforehand. Contracts see the rows
 /// and for how many there is room. What `make_room` made room for, `put` and `cut` keep and take no
 /// memory.
-pub struct Shelf<T: Row> {
+pub struct ReservedTable<T: Row> {
     rows: Vec<T>,
 }
 
-impl<T: Row> Model for Shelf<T> {
+impl<T: Row> Model for ReservedTable<T> {
     ghost use Rattle.std.specs.Prelude.{T as Holds, vec_capacity};
     ghost use Rattle.rows.specs.Rising.{is_rising};
-    ghost use Rattle.fsm_tables.specs.Shelves.{Stock};
+    ghost use Rattle.fsm_tables.specs.ReservedTables.{Stock};
 
     ghost Value = { Stock T };
 
@@ -29,36 +28,28 @@ impl<T: Row> Model for Shelf<T> {
     ghost invariant = { λ a. Holds (is_rising T.Key.cmp T.key_of a.rows.items) };
 }
 
-impl<T: Row> Drop for Shelf<T> {
+impl<T: Row> Drop for ReservedTable<T> {
     fn drop(self) {
-        let Shelf { rows: _ } = self;
+        let ReservedTable { rows: _ } = self;
     }
 }
 
-/// Where the row of a key stands, or where it would.
-fn place_in<T: Row>(rows: &[T], key: &T::Key) -> Result<usize, usize>
-    requires { Holds (is_rising T.Key.cmp T.key_of rows.now) }
-    ensures { PlaceOf T.Key.cmp T.key_of key.now rows.now result }
-{
-    rows.binary_search_by(|row| row.key().cmp(key))
-}
-
-impl<T: Row> Shelf<T> {
+impl<T: Row> ReservedTable<T> {
     /// No rows. It takes no memory.
-    pub fn empty(alloc: Global) -> Shelf<T>
+    pub fn empty(alloc: Global) -> ReservedTable<T>
         ensures { result.rows ≡ [] }
     {
-        Shelf {
+        ReservedTable {
             rows: Vec::new(alloc),
         }
     }
 
     /// These rows, which are in strictly rising key. It takes no memory.
-    pub fn of_rising(rows: Vec<T>) -> Shelf<T>
+    pub fn of_rising(rows: Vec<T>) -> ReservedTable<T>
         requires { Holds (is_rising T.Key.cmp T.key_of rows.items) }
         ensures { result.rows ≡ rows.items }
     {
-        Shelf { rows }
+        ReservedTable { rows }
     }
 
     /// The rows, in strictly rising key.
@@ -74,7 +65,7 @@ impl<T: Row> Shelf<T> {
         ensures { option_map (λ row. row.now) result
             ≡ row_of T.Key.cmp T.key_of key.now self.now.rows }
     {
-        match place_in(&self.rows, key) {
+        match place(&self.rows, key) {
             Ok(at) => Some(&self.rows[at]),
             Err(_) => None,
         }
@@ -97,7 +88,7 @@ impl<T: Row> Shelf<T> {
         ensures rows { self.new.rows ≡ put T.Key.cmp T.key_of row self.old.rows }
         ensures room { self.old.room ≤ self.new.room }
     {
-        match place_in(&self.rows, row.key()) {
+        match place(&self.rows, row.key()) {
             Ok(at) => {
                 self.rows[at] = row;
             }
@@ -112,7 +103,7 @@ impl<T: Row> Shelf<T> {
         ensures rows { self.new.rows ≡ without T.Key.cmp T.key_of key.now self.old.rows }
         ensures room { self.old.room ≤ self.new.room }
     {
-        if let Ok(at) = place_in(&self.rows, key) {
+        if let Ok(at) = place(&self.rows, key) {
             let _ = self.rows.remove(at);
         }
     }

@@ -10,7 +10,7 @@ use Rattle.rows.specs.Rising.{is_below, is_rising}
 use Rattle.fsm_tables.specs.Rows.{row_of, has_row, put}
 use Rattle.fsm_tables.specs.Inner.Places.{PlaceOf}
 use Rattle.fsm_tables.proofs.RowLaws.{both, first, second, less, equal, some_none, none_below, below_tied, length-put}
-use Rattle.fsm_tables.specs.Shelves.{without}
+use Rattle.fsm_tables.specs.ReservedTables.{without}
 
 nothing : {A : Type 0} (b : Bool) → ◌≡◌ {A = Option A} None (cond b None None)
 nothing true = refl

@@ -1,10 +1,10 @@
 use Rattle.std.proofs.Common.{◌≡◌, T, subst, sym, ap, ◌∙◌, Ok, Err}
 use Rattle.rows.specs.Rising.{is_rising}
 use Rattle.fsm_tables.specs.Inner.Places.{PlaceOf}
-use Rattle.fsm_tables.specs.Shelves.{Stock, without}
-use Rattle.fsm_tables.proofs.Shelves.{rising_without}
-use Rattle.fsm_tables.proofs.Shelves.{cut_found, cut_missed}
-use Rattle.fsm_tables.proofs.shelf.Shelf.cut.Goals as goal
+use Rattle.fsm_tables.specs.ReservedTables.{Stock, without}
+use Rattle.fsm_tables.proofs.ReservedTables.{rising_without}
+use Rattle.fsm_tables.proofs.ReservedTables.{cut_found, cut_missed}
+use Rattle.fsm_tables.proofs.reserved_table.ReservedTable.cut.Goals as goal
 
 pub invariant_of-self : goal.invariant_of-self
 invariant_of-self g c =

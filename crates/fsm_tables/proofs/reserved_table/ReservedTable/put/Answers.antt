@@ -1,8 +1,8 @@
 use Rattle.std.proofs.Common.{T, subst, sym, is_ok}
 use Rattle.rows.specs.Rising.{is_rising}
 use Rattle.fsm_tables.proofs.RowLaws.{rising_put}
-use Rattle.fsm_tables.proofs.Shelves.{either_rising}
-use Rattle.fsm_tables.proofs.shelf.Shelf.put.Goals as goal
+use Rattle.fsm_tables.proofs.ReservedTables.{either_rising}
+use Rattle.fsm_tables.proofs.reserved_table.ReservedTable.put.Goals as goal
 
 pub invariant_of-self : goal.invariant_of-self
 invariant_of-self g c =
