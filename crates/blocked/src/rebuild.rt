@@ -44,7 +44,10 @@ fn held_of(alloc: Global, state: &Cluster, row: &Evaluation) -> Result<BlockedEv
 }
 
 /// The blocked evaluations of a state, in rising id.
-pub(crate) fn evals_of(alloc: Global, state: &Cluster) -> Result<ReservedTable<BlockedEval>, NoMemory>
+pub(crate) fn evals_of(
+    alloc: Global,
+    state: &Cluster,
+) -> Result<ReservedTable<BlockedEval>, NoMemory>
     ensures { let blocked = filter (λ e. stands_blocked e.status) state.now.evals in
         IfOk result (λ evals. evals.rows ≡ map (blocked_eval state.now) blocked) }
 {

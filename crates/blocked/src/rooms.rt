@@ -3,7 +3,7 @@ ghost use Rattle.std.specs.Prelude.{◌≡◌, [], OnOk, OnErr};
 ghost use Rattle.group_model.specs.Blocked.{room_with};
 ghost use Rattle.blocked.specs.Rooms.{room_in};
 
-use fsm_tables::{Row, ReservedTable};
+use fsm_tables::{ReservedTable, Row};
 use rows::{ClassName, Index, NoMemory, Ranged};
 use std::alloc::Global;
 use std::marker::Model;
