@@ -49,7 +49,8 @@ impl Broker {
     pub fn rebuild(alloc: Global, state: &Cluster) -> Result<Broker, NoMemory>
         ensures { IfOk result (λ b. b ≡ broker_over state.now.evals no_tasks) }
     {
-        let tasks = Tasks::over(alloc, state.eval_table().rows())?;
+        let evals = state.evals(alloc)?;
+        let tasks = Tasks::over(alloc, evals.as_slice())?;
         Ok(Broker {
             tasks,
             serial: Index::ZERO,
