@@ -1,5 +1,5 @@
 //! A task's rank among those of its job, and the heads of jobs.
-ghost use Rattle.std.specs.Prelude.{◌≡◌, option_map, T as IsTrue};
+ghost use Rattle.std.specs.Prelude.{◌≡◌, option_map, T as Holds};
 ghost use Rattle.std.specs.List.{slice_get};
 ghost use Rattle.rows.specs.Keys.{name_cmp};
 ghost use Rattle.rows.specs.Rising.{is_rising};
@@ -58,7 +58,7 @@ fn rank_at(ranks: &[Rank], at: usize) -> Option<&Rank>
 
 /// The first rank of a job. It takes time in the logarithm of all ranks.
 fn first_of<'a>(ranks: &'a [Rank], job: &JobName) -> Option<&'a Rank>
-    requires { IsTrue (is_rising rank_cmp (λ p. p) ranks.now) }
+    requires { Holds (is_rising rank_cmp (λ p. p) ranks.now) }
     ensures { option_map (λ p. p.now) result ≡ row_of name_cmp rank_job job.now ranks.now }
 {
     let at = ranks.partition_point(|rank| rank.job < *job);
@@ -68,7 +68,7 @@ fn first_of<'a>(ranks: &'a [Rank], job: &JobName) -> Option<&'a Rank>
 
 /// The first of a job that waits, where none of the job is out or acked.
 pub(crate) fn head_of(ranks: &[Rank], job: &JobName) -> Option<Head>
-    requires { IsTrue (is_rising rank_cmp (λ p. p) ranks.now) }
+    requires { Holds (is_rising rank_cmp (λ p. p) ranks.now) }
     ensures { result ≡ head_by job.now ranks.now }
 {
     first_of(ranks, job)?.head()
