@@ -40,14 +40,6 @@ pub both_tests : {A : Type 0} (a b : Bool) (x y : A) → cond a (cond b x y) y �
 both_tests true b x y = refl
 both_tests false b x y = refl
 
-pub passes : (b : Bool) → b ≡ true → T b
-passes true e = tt
-passes false e = absurd cc
-
-pub is_true : (b : Bool) → T b → b ≡ true
-is_true true h = refl
-is_true false h = absurd h
-
 pub same_truth : (a b : Bool) → (T a → T b) → (T b → T a) → a ≡ b
 same_truth true true f g = refl
 same_truth true false f g = absurd (f tt)

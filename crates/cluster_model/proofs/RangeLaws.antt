@@ -30,7 +30,7 @@ use Rattle.fsm_tables.specs.Claims.{is_active, is_wanted}
 use Rattle.fsm_tables.specs.Lookups.{lives_on}
 use Rattle.cluster_model.specs.Words.{State, no_rows, same_eval, same_alloc, node_of, no_node, is_open}
 use Rattle.cluster_model.specs.Effect.{applied, with_next_count, new_eval, with_evals, touched, is_named, owns, with_job, job_row, stop_job, without_job, node_row, down, draining, drained, lost, moves, with_migrate_mark, set_status, stop, is_ended_by, frees, with_room, altered, alloc_row, with_places, client_state_of, told, told_all, downed}
-use Rattle.cluster_model.specs.States.{AreTables, AllFit, IsState}
+use Rattle.rows.specs.States.{AreTables, AllFit, IsState}
 use Rattle.cluster_model.proofs.StateLaws.{either, applied_has_count, applied_are_tables, empty_are_tables}
 
 -- ---- rows put and changed

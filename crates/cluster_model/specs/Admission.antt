@@ -19,7 +19,7 @@ use Rattle.rows.specs.declared.refusal.Refusal.{Refusal}
 use Rattle.rows.specs.declared.refusal.Refusal.TheVariants as refusals
 use Rattle.fsm_tables.specs.Claims.{is_live}
 use Rattle.fsm_tables.specs.Lookups.{lives_on}
-use Rattle.cluster_model.specs.Limits.{most_jobs, most_evals, most_allocs}
+use Rattle.rows.specs.Limits.{most_jobs, most_evals, most_allocs}
 use Rattle.cluster_model.specs.Words.{State, job_of, node_of, eval_of, alloc_of, is_some_and, no_job, no_node, no_alloc, is_ready, is_draining, is_pending, is_blocked}
 use Rattle.cluster_model.specs.Safe.{is_safe}
 use Rattle.cluster_model.specs.Effect.{with_next_count, is_named, owns, moves, is_ended_by, told_all, planned}

@@ -30,7 +30,7 @@ use Rattle.rows.specs.Keys.{name_cmp, eval_cmp, alloc_cmp, job_name, node_number
 use Rattle.fsm_tables.specs.Rows.{put_within}
 use Rattle.fsm_tables.specs.Claims.{is_wanted, is_active, is_live}
 use Rattle.fsm_tables.specs.Lookups.{lives_on, is_active_on}
-use Rattle.cluster_model.specs.Limits.{most_jobs, most_nodes, most_evals, most_allocs}
+use Rattle.rows.specs.Limits.{most_jobs, most_nodes, most_evals, most_allocs}
 use Rattle.cluster_model.specs.Words.{State, same_eval, same_alloc, node_of, no_node, is_open}
 
 -- one more command was applied

@@ -1,10 +1,8 @@
-pub mod Limits
 pub mod Words
 pub mod Safe
 pub mod SafeFacts
 pub mod Effect
 pub mod Admission
-pub mod States
 pub mod Plans
 pub mod ClusterMachine
 pub mod Worked

@@ -14,7 +14,7 @@ use Rattle.cluster_model.specs.Safe.{fits, are_distinct, same_name}
 use Rattle.cluster_model.specs.Effect.{is_ended_by, stop}
 use Rattle.rows.specs.declared.command.AcceptedPlace.{AcceptedPlace}
 use Rattle.rows.specs.declared.command.AcceptedPlan.{AcceptedPlan}
-use Rattle.cluster_model.specs.Limits.{most_allocs}
+use Rattle.rows.specs.Limits.{most_allocs}
 use Rattle.cluster_model.specs.Words.{State}
 
 -- ---- what a number has, and what a change of rows ends

@@ -15,8 +15,8 @@ ghost use Rattle.cluster_model.specs.Safe.{is_safe};
 ghost use Rattle.cluster_model.specs.Admission.{admission};
 ghost use Rattle.rows.specs.Fits.{CommandFits};
 ghost use Rattle.machine.specs.Meaning.{IsMachineRefusal};
-ghost use Rattle.cluster_model.specs.States.{AreTables};
-ghost use Rattle.cluster_model.specs.States.{IsState};
+ghost use Rattle.rows.specs.States.{AreTables};
+ghost use Rattle.rows.specs.States.{IsState};
 
 /// The empty state is safe, its count is 0, its tables are in order, with every row in its ranges,
 /// and each state admits the no-op.

@@ -2,7 +2,7 @@
 use Rattle.std.proofs.Common.{◌≡◌, ℕ, ◌≤◌, ◌<◌, Bool, true, List, [], length, Ok, Err, refl, arith, inl, inr}
 use Rattle.std.proofs.lemmas.Bool.{cases_lt, le-ltb}
 use Rattle.rows.specs.Rising.{keeps}
-use Rattle.fields.specs.Format.{Format, Lawful, IsBytes, list, ruled_list, some}
+use Rattle.fields_model.specs.Format.{Format, Lawful, IsBytes, list, ruled_list, some}
 
 pub ruled_is_empty : {A : Type 0} (most : ℕ) (rule : List A → A → Bool) (f : Format A) (behind : List A → Format A) → Lawful (ruled_list 1 most rule f behind)
     → (bytes : List ℕ) (at : ℕ) (items : List A) (next : ℕ) → IsBytes bytes → (ruled_list 1 most rule f behind).read bytes at ≡ Ok (items, next)

@@ -1,7 +1,7 @@
 //! What stands in rows as one byte by a code.
-ghost use Rattle.fields.specs.Format.{GivesExactly};
-ghost use Rattle.fields.specs.Rows.{node_status, drain_mode, eval_status, desired, client_state};
-ghost use Rattle.fields.specs.Laws.RowLaws.{node_status_lawful, drain_mode_lawful, eval_status_lawful, desired_lawful, client_state_lawful};
+ghost use Rattle.fields_model.specs.Format.{GivesExactly};
+ghost use Rattle.fields_model.specs.Rows.{node_status, drain_mode, eval_status, desired, client_state};
+ghost use Rattle.fields_model.proofs.RowLaws.{node_status_lawful, drain_mode_lawful, eval_status_lawful, desired_lawful, client_state_lawful};
 
 use crate::field::Field;
 use crate::reading::read_u8;

@@ -1,8 +1,8 @@
 //! Commands, and what a worker submits, as bytes.
 ghost use Rattle.std.specs.Prelude.{◌≡◌};
-ghost use Rattle.fields.specs.Format.{Gives, GivesExactly, Puts, number};
-ghost use Rattle.fields.specs.Commands.{job_spec, node_spec, rising_ids, place, accepted_place, plan, plan_end, accepted_plan, accepted_end, reported_state, report, reports, status_change, command, bodies, later_bodies, tag_of};
-ghost use Rattle.fields.specs.Laws.CommandLaws.{job_spec_lawful, node_spec_lawful, rising_ids_lawful, place_lawful, accepted_place_lawful, plan_lawful, accepted_plan_lawful, reported_state_lawful, report_lawful, reports_lawful, status_change_lawful, command_lawful};
+ghost use Rattle.fields_model.specs.Format.{Gives, GivesExactly, Puts, number};
+ghost use Rattle.fields_model.specs.Commands.{job_spec, node_spec, rising_ids, place, accepted_place, plan, plan_end, accepted_plan, accepted_end, reported_state, report, reports, status_change, command, bodies, later_bodies, tag_of};
+ghost use Rattle.fields_model.proofs.CommandLaws.{job_spec_lawful, node_spec_lawful, rising_ids_lawful, place_lawful, accepted_place_lawful, plan_lawful, accepted_plan_lawful, reported_state_lawful, report_lawful, reports_lawful, status_change_lawful, command_lawful};
 
 use crate::field::Field;
 use crate::list::{append_counted, read_list};
@@ -74,8 +74,8 @@ impl Field for NodeSpec {
 
 /// A count of one byte, at most 64, and that many items.
 impl<F: Field> Field for Batch<F> {
-    ghost use Rattle.fields.specs.Commands.{batch};
-    ghost use Rattle.fields.specs.Laws.BatchLaws.{batch_lawful};
+    ghost use Rattle.fields_model.specs.Commands.{batch};
+    ghost use Rattle.fields_model.proofs.BatchLaws.{batch_lawful};
 
     ghost format = { batch F.format };
 

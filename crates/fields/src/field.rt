@@ -1,6 +1,6 @@
-ghost use Rattle.fields.specs.Format.{Format, Gives, GivesExactly, Puts, Writes, Lawful, whole};
-ghost use Rattle.fields.specs.Fields.{term, index, server, bool, byte, u16, u32, u64, actor};
-ghost use Rattle.fields.specs.Laws.FieldLaws.{term_lawful, index_lawful, server_lawful, bool_lawful, byte_lawful, u16_lawful, u32_lawful, u64_lawful, actor_lawful};
+ghost use Rattle.fields_model.specs.Format.{Format, Gives, GivesExactly, Puts, Writes, Lawful, whole};
+ghost use Rattle.fields_model.specs.Fields.{term, index, server, bool, byte, u16, u32, u64, actor};
+ghost use Rattle.fields_model.proofs.FieldLaws.{term_lawful, index_lawful, server_lawful, bool_lawful, byte_lawful, u16_lawful, u32_lawful, u64_lawful, actor_lawful};
 
 use crate::reading::{
     read_actor, read_bool, read_index, read_server, read_term, read_u8, read_u16, read_u32,

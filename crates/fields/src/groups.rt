@@ -1,10 +1,10 @@
 //! Groups of a job, and ids that rise, as bytes.
 ghost use Rattle.rows.specs.Groups.{group_is_new};
 ghost use Rattle.rows.specs.Ids.{id_rises};
-ghost use Rattle.fields.specs.Format.{GivesExactly};
-ghost use Rattle.fields.specs.Rows.{group, group_behind, groups, alloc_id_behind};
+ghost use Rattle.fields_model.specs.Format.{GivesExactly};
+ghost use Rattle.fields_model.specs.Rows.{group, group_behind, groups, allocation_id_behind};
 ghost use Rattle.fields.specs.Inner.RowReading.{group_of};
-ghost use Rattle.fields.specs.Laws.RowLaws.{group_lawful, group_is_ruled, groups_lawful, alloc_id_is_ruled};
+ghost use Rattle.fields_model.proofs.RowLaws.{group_lawful, group_is_ruled, groups_lawful, allocation_id_is_ruled};
 
 use crate::field::Field;
 use crate::list::append_counted;
@@ -108,9 +108,9 @@ impl Field for Groups {
 impl RuledField for AllocId {
     ghost rule = { id_rises };
 
-    ghost behind = { alloc_id_behind };
+    ghost behind = { allocation_id_behind };
 
-    ghost ruled = { alloc_id_is_ruled };
+    ghost ruled = { allocation_id_is_ruled };
 
     fn read_behind(
         alloc: Global,
@@ -118,7 +118,7 @@ impl RuledField for AllocId {
         at: usize,
         front: &[AllocId],
     ) -> Result<(AllocId, usize), Refusal>
-        ensures { GivesExactly result ((alloc_id_behind front.now).read bytes.now at) }
+        ensures { GivesExactly result ((allocation_id_behind front.now).read bytes.now at) }
     {
         let (id, next) = AllocId::read_at(alloc, bytes, at)?;
         if id.may_follow(front) {

@@ -1,7 +1,7 @@
 //! Names, sizes, ids and tokens as bytes.
-ghost use Rattle.fields.specs.Format.{GivesExactly};
-ghost use Rattle.fields.specs.Ids.{name, quantity, size, node_id, ordinal, priority, group_count, from_one, eval_id, alloc_id, token, delivery};
-ghost use Rattle.fields.specs.Laws.IdLaws.{name_lawful, quantity_lawful, size_lawful, node_id_lawful, ordinal_lawful, priority_lawful, group_count_lawful, from_one_lawful, eval_id_lawful, alloc_id_lawful, token_lawful, delivery_lawful};
+ghost use Rattle.fields_model.specs.Format.{GivesExactly};
+ghost use Rattle.fields_model.specs.Ids.{name, quantity, size, node_id, ordinal, priority, group_count, from_one, evaluation_id, allocation_id, token, delivery};
+ghost use Rattle.fields_model.proofs.IdLaws.{name_lawful, quantity_lawful, size_lawful, node_id_lawful, ordinal_lawful, priority_lawful, group_count_lawful, from_one_lawful, evaluation_id_lawful, allocation_id_lawful, token_lawful, delivery_lawful};
 
 use crate::field::Field;
 use crate::reading::{read_name, read_u8, read_u16, read_u32, read_u64};
@@ -223,12 +223,12 @@ impl Field for Size {
 
 /// The entry, and then the place in two bytes, below 256.
 impl Field for EvalId {
-    ghost format = { eval_id };
+    ghost format = { evaluation_id };
 
-    ghost lawful = { eval_id_lawful };
+    ghost lawful = { evaluation_id_lawful };
 
     fn read_at(alloc: Global, bytes: &[u8], at: usize) -> Result<(EvalId, usize), Refusal>
-        ensures { GivesExactly result (eval_id.read bytes.now at) }
+        ensures { GivesExactly result (evaluation_id.read bytes.now at) }
     {
         let (index, at) = EntryIndex::read_at(alloc, bytes, at)?;
         match read_u16(bytes, at)? {
@@ -251,12 +251,12 @@ impl Field for EvalId {
 
 /// The entry, and then the place in one byte.
 impl Field for AllocId {
-    ghost format = { alloc_id };
+    ghost format = { allocation_id };
 
-    ghost lawful = { alloc_id_lawful };
+    ghost lawful = { allocation_id_lawful };
 
     fn read_at(alloc: Global, bytes: &[u8], at: usize) -> Result<(AllocId, usize), Refusal>
-        ensures { GivesExactly result (alloc_id.read bytes.now at) }
+        ensures { GivesExactly result (allocation_id.read bytes.now at) }
     {
         let (index, at) = EntryIndex::read_at(alloc, bytes, at)?;
         let (slot, at) = Ordinal::read_at(alloc, bytes, at)?;

@@ -1,5 +1,5 @@
-//! Fields as bytes, both ways: what formats are, with their laws, and a reader and a writer for
-//! each field, for lists and for options. One value has one text.
+//! Fields as bytes, both ways: a reader and a writer for each field, row and command, for lists and
+//! for options, by the formats of `fields_model`. One value has one text.
 #![tactic(auto)]
 
 mod codes;
@@ -16,8 +16,7 @@ mod writing;
 
 pub use field::{Field, read_whole, write};
 pub use laws::{
-    actors_are_lawful, combinations_are_lawful, lists_are_lawful, numbers_are_lawful,
-    rows_are_lawful, ruled_lists_are_lawful, texts_are_whole, texts_are_within_limits,
+    combinations_are_lawful, lists_are_lawful, ruled_lists_are_lawful, texts_are_whole,
 };
 pub use list::{
     read_items, read_list, read_long_list, read_option, write_counted, write_items, write_list,

@@ -1,7 +1,7 @@
 //! Lists and options of any field. A list is its count, in one byte or in four, and then its items;
 //! an option is a flag, and the value where there is one.
 ghost use Rattle.std.specs.Prelude.{length, ◌≤◌};
-ghost use Rattle.fields.specs.Format.{Gives, Puts, Writes, items_at, items, list, option};
+ghost use Rattle.fields_model.specs.Format.{Gives, Puts, Writes, items_at, items, list, option};
 
 use crate::field::Field;
 use crate::reading::{read_bool, read_count, read_long_count};

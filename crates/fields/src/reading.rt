@@ -2,9 +2,9 @@
 //! follows, with the place after it; else `Frame` with the place of the field. These readers take
 //! no memory: they answer no other refusal.
 ghost use Rattle.std.specs.Prelude.{◌≡◌, ◌≤◌, ◌+◌, ◌<◌, length, drop, IfSome, IfNone};
-ghost use Rattle.fields.specs.Format.{GivesExactly, number};
-ghost use Rattle.fields.specs.Ids.{name};
-ghost use Rattle.fields.specs.Fields.{term, index, server, byte, u16, u32, u64, bool, actor};
+ghost use Rattle.fields_model.specs.Format.{GivesExactly, number};
+ghost use Rattle.fields_model.specs.Ids.{name};
+ghost use Rattle.fields_model.specs.Fields.{term, index, server, byte, u16, u32, u64, bool, actor};
 
 use byteorder::{BigEndian, ByteOrder};
 use rows::{Actor, ClientId, Index, Name, Refusal, ServerId, Term};

@@ -2,11 +2,11 @@
 ghost use Rattle.std.specs.Prelude.{◌≡◌};
 ghost use Rattle.std.specs.Ordering.{nat_cmp};
 ghost use Rattle.rows.specs.Rising.{is_behind};
-ghost use Rattle.rows.specs.Keys.{name_cmp, eval_cmp, alloc_cmp, job_name, node_number, eval_id as eval_key, alloc_id as alloc_key};
-ghost use Rattle.fields.specs.Format.{Gives, GivesExactly, Puts};
-ghost use Rattle.fields.specs.Rows.{job, job_behind, node, node_behind, node_end, evaluation, evaluation_behind, allocation, allocation_behind, allocation_place, allocation_end};
+ghost use Rattle.rows.specs.Keys.{name_cmp, eval_cmp, alloc_cmp, job_name, node_number, eval_id, alloc_id};
+ghost use Rattle.fields_model.specs.Format.{Gives, GivesExactly, Puts};
+ghost use Rattle.fields_model.specs.Rows.{job, job_behind, node, node_behind, node_end, evaluation, evaluation_behind, allocation, allocation_behind, allocation_place, allocation_end};
 ghost use Rattle.fields.specs.Inner.RowReading.{job_behind_key, node_behind_key, evaluation_of, allocation_of};
-ghost use Rattle.fields.specs.Laws.RowLaws.{job_lawful, job_is_ruled, node_lawful, node_is_ruled, evaluation_lawful, evaluation_is_ruled, allocation_lawful, allocation_is_ruled};
+ghost use Rattle.fields_model.proofs.RowLaws.{job_lawful, job_is_ruled, node_lawful, node_is_ruled, evaluation_lawful, evaluation_is_ruled, allocation_lawful, allocation_is_ruled};
 
 use crate::field::Field;
 use crate::ruled::RuledField;
@@ -239,7 +239,7 @@ impl Field for Evaluation {
 
 /// Whether the id is above that of the last row, if there is one.
 fn is_evaluation_above(front: &[Evaluation], id: &EvalId) -> bool
-    ensures { result ≡ is_behind eval_cmp eval_key front.now id.now }
+    ensures { result ≡ is_behind eval_cmp eval_id front.now id.now }
 {
     match front.last() {
         None => true,
@@ -249,7 +249,7 @@ fn is_evaluation_above(front: &[Evaluation], id: &EvalId) -> bool
 
 /// In a table ids rise strictly: one that does not is a fault at the row's first byte.
 impl RuledField for Evaluation {
-    ghost rule = { λ front e. is_behind eval_cmp eval_key front e.id };
+    ghost rule = { λ front e. is_behind eval_cmp eval_id front e.id };
 
     ghost behind = { evaluation_behind };
 
@@ -351,7 +351,7 @@ impl Field for Allocation {
 
 /// Whether the id is above that of the last row, if there is one.
 fn is_allocation_above(front: &[Allocation], id: &AllocId) -> bool
-    ensures { result ≡ is_behind alloc_cmp alloc_key front.now id.now }
+    ensures { result ≡ is_behind alloc_cmp alloc_id front.now id.now }
 {
     match front.last() {
         None => true,
@@ -361,7 +361,7 @@ fn is_allocation_above(front: &[Allocation], id: &AllocId) -> bool
 
 /// In a table ids rise strictly: one that does not is a fault at the row's first byte.
 impl RuledField for Allocation {
-    ghost rule = { λ front a. is_behind alloc_cmp alloc_key front a.id };
+    ghost rule = { λ front a. is_behind alloc_cmp alloc_id front a.id };
 
     ghost behind = { allocation_behind };
 

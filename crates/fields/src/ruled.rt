@@ -1,6 +1,6 @@
 //! Lists that keep a rule, as an order or that there are no doubles.
 ghost use Rattle.std.specs.Prelude.{List, [], Bool};
-ghost use Rattle.fields.specs.Format.{Format, Gives, IsRuled, ruled_at, ruled_list};
+ghost use Rattle.fields_model.specs.Format.{Format, Gives, IsRuled, ruled_at, ruled_list};
 
 use crate::field::Field;
 use crate::reading::{read_count, read_long_count};

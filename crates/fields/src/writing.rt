@@ -1,8 +1,8 @@
 //! Writing a field to the end of a buffer. A writer puts the one text of the value there; without
 //! memory it leaves the buffer as it was.
 ghost use Rattle.std.specs.Prelude.{◌≡◌, take, OnOk, OnErr};
-ghost use Rattle.fields.specs.Format.{Writes};
-ghost use Rattle.fields.specs.Fields.{term, index, server, byte, u16, u32, u64, bool, actor};
+ghost use Rattle.fields_model.specs.Format.{Writes};
+ghost use Rattle.fields_model.specs.Fields.{term, index, server, byte, u16, u32, u64, bool, actor};
 
 use byteorder::{BigEndian, ByteOrder};
 use rows::{Actor, Index, NoMemory, ServerId, Term};
@@ -24,7 +24,7 @@ pub(crate) fn take_back(
 }
 
 /// A number in one byte.
-#[tactic(auto, unfolding(crate::specs::Format::spelled))]
+#[tactic(auto, unfolding(fields_model::specs::Format::spelled))]
 pub fn write_u8(value: &u8, out: &mut Vec<u8>) -> Result<(), NoMemory>
     ensures { Writes byte value.now result out.old.items out.new.items }
 {
@@ -33,7 +33,7 @@ pub fn write_u8(value: &u8, out: &mut Vec<u8>) -> Result<(), NoMemory>
 }
 
 /// A number in two bytes, the highest first.
-#[tactic(auto, unfolding(crate::specs::Format::spelled))]
+#[tactic(auto, unfolding(fields_model::specs::Format::spelled))]
 pub fn write_u16(value: &u16, out: &mut Vec<u8>) -> Result<(), NoMemory>
     ensures { Writes u16 value.now result out.old.items out.new.items }
 {
@@ -44,7 +44,7 @@ pub fn write_u16(value: &u16, out: &mut Vec<u8>) -> Result<(), NoMemory>
 }
 
 /// A number in four bytes, the highest first.
-#[tactic(auto, unfolding(crate::specs::Format::spelled))]
+#[tactic(auto, unfolding(fields_model::specs::Format::spelled))]
 pub fn write_u32(value: &u32, out: &mut Vec<u8>) -> Result<(), NoMemory>
     ensures { Writes u32 value.now result out.old.items out.new.items }
 {
@@ -55,7 +55,7 @@ pub fn write_u32(value: &u32, out: &mut Vec<u8>) -> Result<(), NoMemory>
 }
 
 /// A number in eight bytes, the highest first.
-#[tactic(auto, unfolding(crate::specs::Format::spelled))]
+#[tactic(auto, unfolding(fields_model::specs::Format::spelled))]
 pub fn write_u64(value: &u64, out: &mut Vec<u8>) -> Result<(), NoMemory>
     ensures { Writes u64 value.now result out.old.items out.new.items }
 {

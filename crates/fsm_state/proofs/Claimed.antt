@@ -14,6 +14,7 @@ use Rattle.fsm_tables.proofs.RowLaws.{both, first, second, less}
 use Rattle.rows.specs.declared.allocation.AllocId.{AllocId}
 use Rattle.rows.specs.Keys.{alloc_cmp, alloc_id}
 use Rattle.rows.specs.Rising.{is_below, is_rising}
+use Rattle.rows.proofs.Truth.{is_true}
 use Rattle.std.specs.Ordering.{is_lt, is_eq}
 use Rattle.cluster_model.proofs.Keys.{at_alloc}
 use Rattle.cluster_model.specs.Words.{State, is_some_and, same_alloc}
@@ -26,7 +27,7 @@ use Rattle.cluster_model.proofs.PlanLaws.{all_wanted_count, all_append, distinct
 use Rattle.cluster_model.proofs.RangeLaws.{all_mapped}
 use Rattle.cluster_model.proofs.AfterLaws.{planned_is_safe, safe_is_planned, RowCounts, rows_count}
 use Rattle.fsm_state.specs.Inner.Claimed.{fits_steps, bears_node, is_first}
-use Rattle.cluster_model.proofs.Lists.{same_truth, is_true}
+use Rattle.cluster_model.proofs.Lists.{same_truth}
 
 one_step : (a s u : ℕ) → (nat_le a u && nat_le s (u - a)) ≡ nat_le (a + s) u
 one_step a s u = grind arith

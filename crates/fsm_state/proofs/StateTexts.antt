@@ -3,29 +3,25 @@ use Rattle.std.proofs.Common.{◌≡◌, ◌<◌, ◌^◌, ℕ, List, [], ◌++�
 use Rattle.std.specs.Prelude.{Result}
 use Rattle.std.proofs.lemmas.List.{append_assoc, append-nil}
 use Rattle.rows.specs.declared.refusal.NoMemory.{NoMemory}
-use Rattle.fields.specs.Format.{Puts, Writes, list}
-use Rattle.fields.specs.Fields.{index}
-use Rattle.fields.specs.Rows.{allocation}
-use Rattle.fields.specs.StateText.{jobs, nodes, evaluations, allocations, state}
-use Rattle.fields.proofs.RangeLaws.{fits_state}
+use Rattle.fields_model.specs.Format.{Puts, Writes, list}
+use Rattle.fields_model.specs.Fields.{index}
+use Rattle.fields_model.specs.Rows.{allocation}
+use Rattle.fields_model.specs.StateText.{jobs, nodes, evaluations, allocations, state}
+use Rattle.fields_model.proofs.RangeLaws.{fits_state}
 use Rattle.fsm_tables.specs.TableRows.{TablesFit}
 use Rattle.cluster_model.specs.Words.{State}
-use Rattle.cluster_model.proofs.Lists.{is_true}
 
 pub all_fit : (s : State) → s.count < 2 ^ 40 → TablesFit (record { jobs = s.jobs; nodes = s.nodes; evals = s.evals; allocs = s.allocs }) → state.Fits s
-all_fit s low t = fits_state s (
-  low,
-  (
-    (t.jobs.few, is_true _ t.jobs.rising, t.jobs.fit),
-    (
-      (t.nodes.few, is_true _ t.nodes.rising, t.nodes.fit),
-      (
-        (t.evals.few, is_true _ t.evals.rising, t.evals.fit),
-        (t.allocs.few, is_true _ t.allocs.rising, t.allocs.fit),
-      ),
-    ),
-  ),
-)
+all_fit s low t = fits_state s (record {
+    count = low;
+    tables = record {
+      jobs = record { rising = t.jobs.rising; few = t.jobs.few };
+      nodes = record { rising = t.nodes.rising; few = t.nodes.few };
+      evals = record { rising = t.evals.rising; few = t.evals.few };
+      allocs = record { rising = t.allocs.rising; few = t.allocs.few };
+    };
+    rows = record { jobs = t.jobs.fit; nodes = t.nodes.fit; evals = t.evals.fit; allocs = t.allocs.fit };
+  })
 
 -- five parts, one after the other
 parts : (o0 o1 o2 o3 o4 a b c d e : List ℕ) → o1 ≡ o0 ++ a → o2 ≡ o1 ++ b → o3 ≡ o2 ++ c → o4 ≡ o3 ++ d → o4 ++ e ≡ o0 ++ (a ++ (b ++ (c ++ (d ++ e))))

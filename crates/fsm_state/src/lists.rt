@@ -1,12 +1,12 @@
 //! States made of rows.
-ghost use Rattle.cluster_model.specs.Limits.{most_allocs, most_evals, most_jobs, most_nodes};
+ghost use Rattle.rows.specs.Limits.{most_allocs, most_evals, most_jobs, most_nodes};
 ghost use Rattle.std.specs.Prelude.{◌≡◌, ◌≤◌, ℕ, List, [], OnOk, IfOk, length, T as Holds};
 ghost use Rattle.std.specs.Ordering.{nat_cmp};
 ghost use Rattle.rows.specs.Keys.{name_cmp, eval_cmp, alloc_cmp, job_name, node_number, eval_id, alloc_id};
 ghost use Rattle.rows.specs.Rising.{is_rising};
 ghost use Rattle.fsm_tables.specs.Rows.{put_within};
 ghost use Rattle.cluster_model.specs.Words.{State};
-ghost use Rattle.cluster_model.specs.States.{InOrder};
+ghost use Rattle.rows.specs.States.{InOrder};
 
 use crate::cluster::Cluster;
 use fsm_tables::{CopiedRow, Row};

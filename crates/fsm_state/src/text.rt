@@ -1,7 +1,7 @@
 //! A state as bytes.
-ghost use Rattle.fields.specs.Commands.{command as text_of_command};
-ghost use Rattle.fields.specs.StateText.{state};
-ghost use Rattle.fields.proofs.StateTextLaws.{state_lawful};
+ghost use Rattle.fields_model.specs.Commands.{command};
+ghost use Rattle.fields_model.specs.StateText.{state};
+ghost use Rattle.fields_model.proofs.StateTextLaws.{state_lawful};
 
 use crate::cluster::Cluster;
 use fields::{Field, read_long_ruled_list, write_long_counted};
@@ -18,10 +18,10 @@ impl Cluster {
 }
 
 /// Says that a command is one that has a text. It does nothing.
-pub(crate) fn has_text(command: &Command)
-    ensures { text_of_command.Fits command.now }
+pub(crate) fn has_text(value: &Command)
+    ensures { command.Fits value.now }
 {
-    command.ranges();
+    value.ranges();
 }
 
 /// The count in eight bytes, and then the rows of jobs, nodes, evaluations and allocations: each

@@ -3,7 +3,7 @@ use Rattle.std.proofs.Common.{◌≡◌, Bool, true, false, cond, Option, Some, 
 use Rattle.std.specs.List.{AllByRecursion}
 use Rattle.rows.specs.Fits.{EvalIdFits, PlanFits, CommandFits}
 use Rattle.rows.specs.declared.refusal.Refusal.{Refusal}
-use Rattle.cluster_model.specs.States.{IsState}
+use Rattle.rows.specs.States.{IsState}
 use Rattle.group_model.specs.Brokers.{Task}
 use Rattle.group_model.specs.Desks.{Desk, QueuedPlan, applied_state, whole_state}
 use Rattle.group_model.specs.Inputs.{Act, Ask, AskPropose}

@@ -16,7 +16,8 @@ use Rattle.rows.specs.declared.allocation.AllocId.{AllocId}
 use Rattle.rows.specs.declared.allocation.Allocation.{Allocation}
 use Rattle.cluster_model.specs.Words.{State}
 use Rattle.fsm_tables.specs.Lookups.{lives_on}
-use Rattle.cluster_model.specs.States.{IsState}
+use Rattle.rows.specs.States.{IsState}
+use Rattle.rows.proofs.Truth.{is_true}
 use Rattle.group_model.specs.Order as ordering
 use Rattle.group_model.specs.Order.{Picked, pick, picked_one, or_head}
 use Rattle.group_model.specs.Drains.{movers, group_moves, firsts, same_group, moves_of}
@@ -64,10 +65,6 @@ rising_ids (a ∷ rows) = λ i. below a.id rows i && rising_ids rows i where
   below : (k : AllocId) (rows : List Allocation) → is_below alloc_cmp (λ a. a) k (map alloc_id rows) ≡ is_below alloc_cmp alloc_id k rows
   below k [] = refl
   below k (b ∷ rows) = ap (λ x. is_lt (alloc_cmp k b.id) && x) (below k rows)
-
-is_true : (b : Bool) → T b → b ≡ true
-is_true true h = refl
-is_true false h = absurd h
 
 ids_fit : (rows : List Allocation) → AllByRecursion AllocationFits rows → AllByRecursion AllocIdFits (map alloc_id rows)
 ids_fit [] h = tt

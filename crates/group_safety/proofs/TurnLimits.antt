@@ -2,7 +2,7 @@
 use Rattle.std.proofs.Common.{◌≡◌, ℕ, Bool, true, false, cond, ◌==◌, Option, Some, None, Result, Ok, Err, List, [], ◌∷◌, subst, slice_get}
 use Rattle.rows.specs.declared.command.Command.{Command}
 use Rattle.rows.specs.declared.refusal.Refusal.{Refusal}
-use Rattle.fields.proofs.RangeLaws.{fits_command}
+use Rattle.fields_model.proofs.RangeLaws.{fits_command}
 use Rattle.machine.specs.declared.entry.Entry.{Entry}
 use Rattle.raft_model.specs.Messages.{Message}
 use Rattle.raft_model.specs.Servers as rafts

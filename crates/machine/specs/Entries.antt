@@ -1,6 +1,6 @@
 -- Entries as bytes: the term in eight bytes, and then the command.
-use Rattle.fields.specs.Format.{Format, made, ◌then◌}
-use Rattle.fields.specs.Fields.{term}
+use Rattle.fields_model.specs.Format.{Format, made, ◌then◌}
+use Rattle.fields_model.specs.Fields.{term}
 use Rattle.machine.specs.declared.entry.Entry.{Entry}
 
 abbrev pub entry : {C : Type 0} → Format C → Format (Entry C)

@@ -1,5 +1,5 @@
 ghost use Rattle.std.specs.Prelude.{◌≡◌, ◌≤◌};
-ghost use Rattle.fields.specs.Format.{GivesExactly};
+ghost use Rattle.fields_model.specs.Format.{GivesExactly};
 ghost use Rattle.machine.specs.Tally.{tally, tally_command, tally_meaning};
 ghost use Rattle.machine.specs.Laws.TallyLaws.{tally_is_lawful, tally_command_lawful, tally_lawful};
 

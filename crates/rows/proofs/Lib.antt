@@ -2,3 +2,4 @@ mod Names
 mod Ascii
 pub mod KeyLaws
 pub mod RisingLaws
+pub mod Truth

@@ -8,6 +8,8 @@ pub mod Batches
 pub mod Keys
 pub mod Fits
 pub mod State
-pub mod Tables
+pub mod Limits
+pub mod States
 pub mod Changes
+pub mod Requests
 pub mod Laws

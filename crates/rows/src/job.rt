@@ -1,6 +1,6 @@
 ghost use Rattle.std.specs.Prelude.{◌≡◌, ◌<◌, ◌≤◌, IfSome, IfNone, IfOk, IfErr, bytes_eq};
 ghost use Rattle.std.specs.List.{list_any};
-ghost use Rattle.rows.specs.Groups.{AreGroups, is_new_name as name_is_new};
+ghost use Rattle.rows.specs.Groups.{AreGroups, is_new_name};
 ghost use Rattle.rows.specs.Fits.{PriorityFits};
 ghost use Rattle.rows.specs.declared.refusal.Refusal.TheVariants as refusals;
 
@@ -139,7 +139,7 @@ fn is_name_taken(groups: &[Group], name: &GroupName) -> bool
 
 /// Whether no group in front has the name.
 pub fn is_new_name(front: &[Group], name: &GroupName) -> bool
-    ensures { result ≡ name_is_new front.now name.now }
+    ensures { result ≡ is_new_name front.now name.now }
 {
     !is_name_taken(front, name)
 }

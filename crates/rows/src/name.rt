@@ -1,6 +1,6 @@
 ghost use Rattle.std.specs.Prelude.{◌≡◌, IfOk, IfErr, IfSome, IfNone, false};
 ghost use Rattle.std.specs.List.{list_all};
-ghost use Rattle.rows.specs.Names.{is_name as are_name, is_name_byte as stands_in_name, NameFits};
+ghost use Rattle.rows.specs.Names.{is_name, is_name_byte, NameFits};
 ghost use Rattle.rows.specs.declared.refusal.Refusal.TheVariants as refusals;
 
 use crate::refusal::Refusal;
@@ -49,7 +49,7 @@ impl Name {
     /// The name that these bytes are; none where they are no name.
     pub fn from_bytes(bytes: &[u8]) -> Option<Name>
         ensures some { IfSome result (λ n. (n ≡ bytes.now) × NameFits bytes.now) }
-        ensures none { IfNone result (are_name bytes.now ≡ false) }
+        ensures none { IfNone result (is_name bytes.now ≡ false) }
     {
         if !is_name(bytes) {
             return None;
@@ -65,7 +65,7 @@ impl Name {
     /// The name of a text. `BadName` where it is not 1 to 32 of `a` to `z`, `0` to `9` and `-`.
     pub fn read(text: &str) -> Result<Name, Refusal>
         ensures ok { IfOk result (λ n. (n ≡ text.now) × NameFits text.now) }
-        ensures err { IfErr result (λ e. (e ≡ refusals.BadName) × (are_name text.now ≡ false)) }
+        ensures err { IfErr result (λ e. (e ≡ refusals.BadName) × (is_name text.now ≡ false)) }
     {
         match Name::from_bytes(text.as_bytes()) {
             Some(name) => Ok(name),
@@ -91,21 +91,21 @@ impl Name {
 
 /// Whether a byte may stand in a name.
 fn is_name_byte(byte: u8) -> bool
-    ensures { result ≡ stands_in_name byte }
+    ensures { result ≡ is_name_byte byte }
 {
     (byte >= b'a' && byte <= b'z') || (byte >= b'0' && byte <= b'9') || byte == b'-'
 }
 
 /// Whether each byte may stand in a name.
 fn are_name_bytes(bytes: &[u8]) -> bool
-    ensures { result ≡ list_all stands_in_name bytes.now }
+    ensures { result ≡ list_all is_name_byte bytes.now }
 {
     bytes.iter().all(|byte| is_name_byte(*byte))
 }
 
 /// Whether the bytes are a name: 1 to 32 bytes of `a` to `z`, `0` to `9` and `-`.
 fn is_name(bytes: &[u8]) -> bool
-    ensures { result ≡ are_name bytes.now }
+    ensures { result ≡ is_name bytes.now }
 {
     !bytes.is_empty() && bytes.len() <= Name::MOST && are_name_bytes(bytes)
 }

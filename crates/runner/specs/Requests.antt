@@ -1,14 +1,12 @@
 -- The text of requests.
 use Rattle.std.specs.Prelude.{◌≡◌, ◌≢◌, ℕ, List, [], ◌∷◌, true, false, Bool, map, codes, decimal}
 use Rattle.std.specs.List.{All, join_with_byte}
-use Rattle.rows.specs.Fits.{JobSpecFits, NodeIdFits}
-use Rattle.rows.specs.Names.{NameFits}
-use Rattle.rows.specs.declared.command.Command.{Command}
-use Rattle.rows.specs.declared.command.Command.TheVariants as commands
+use Rattle.rows.specs.Fits.{CommandFits}
+use Rattle.rows.specs.Requests.{command_of}
 use Rattle.rows.specs.declared.job.Group.{Group}
 use Rattle.rows.specs.declared.job.JobSpec.{JobSpec}
-use Rattle.runner.specs.declared.request.Request.{Request}
-use Rattle.runner.specs.declared.request.Request.TheVariants.{Put, Stop, Eval, Drain}
+use Rattle.rows.specs.declared.request.OperatorRequest.{OperatorRequest}
+use Rattle.rows.specs.declared.request.OperatorRequest.TheVariants.{PutJob, StopJob, PutEval, DrainNode}
 
 -- no byte of the text is the separator
 abbrev pub IsWithout : ℕ → List ℕ → Type 0
@@ -34,26 +32,16 @@ mode_text false = codes "slow"
 abbrev pub drain_text : ℕ → Bool → List ℕ
 drain_text node force = join_with_byte 32 (decimal node ∷ mode_text force ∷ [])
 
-abbrev pub request_text : Request → List ℕ
-request_text (Put job) = join_with_byte 32 (codes "put" ∷ job_text job ∷ [])
-request_text (Stop name) = join_with_byte 32 (codes "stop" ∷ name ∷ [])
-request_text (Eval name) = join_with_byte 32 (codes "eval" ∷ name ∷ [])
-request_text (Drain node force) = join_with_byte 32 (codes "drain" ∷ drain_text node force ∷ [])
+abbrev pub request_text : OperatorRequest → List ℕ
+request_text (PutJob job) = join_with_byte 32 (codes "put" ∷ job_text job ∷ [])
+request_text (StopJob name) = join_with_byte 32 (codes "stop" ∷ name ∷ [])
+request_text (PutEval name) = join_with_byte 32 (codes "eval" ∷ name ∷ [])
+request_text (DrainNode node force) = join_with_byte 32 (codes "drain" ∷ drain_text node force ∷ [])
 
 -- the values of a request are within their limits
-abbrev pub RequestFits : Request → Type 0
-RequestFits (Put job) = JobSpecFits job
-RequestFits (Stop name) = NameFits name
-RequestFits (Eval name) = NameFits name
-RequestFits (Drain node force) = NodeIdFits node
+abbrev pub RequestFits : OperatorRequest → Type 0
+RequestFits request = CommandFits (command_of request)
 
 -- the one text of a request whose values are within their limits
-abbrev pub IsRequestText : Request → List ℕ → Type 0
+abbrev pub IsRequestText : OperatorRequest → List ℕ → Type 0
 IsRequestText request text = RequestFits request × (text ≡ request_text request)
-
--- the command that is proposed for a request
-abbrev pub command_of : Request → Command
-command_of (Put job) = commands.JobPut job
-command_of (Stop name) = commands.JobStop name
-command_of (Eval name) = commands.EvalPut name
-command_of (Drain node force) = commands.Drain node force

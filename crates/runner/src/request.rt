@@ -4,48 +4,23 @@ ghost use Rattle.rows.specs.Fits.{GroupFits, GroupsFit, JobSpecFits, NodeIdFits,
 ghost use Rattle.rows.specs.Names.{NameFits};
 ghost use Rattle.rows.specs.declared.job.Group.{Group};
 ghost use Rattle.rows.specs.declared.job.JobSpec.{JobSpec};
-ghost use Rattle.runner.specs.declared.request.Request.{Request};
-ghost use Rattle.runner.specs.declared.request.Request.TheVariants.{Drain, Eval, Stop};
-ghost use Rattle.runner.specs.Requests.{IsRequestText, RequestFits, command_of, drain_text, group_text, groups_text, job_text, request_text};
+ghost use Rattle.rows.specs.declared.request.OperatorRequest.{OperatorRequest};
+ghost use Rattle.rows.specs.declared.request.OperatorRequest.TheVariants.{DrainNode, PutEval, StopJob};
+ghost use Rattle.runner.specs.Requests.{IsRequestText, RequestFits, drain_text, group_text, groups_text, job_text, request_text};
 
 use crate::word::{cut, read_count, read_name, read_node, read_priority, read_quantity};
-use rows::{Command, Group, Groups, JobName, JobSpec, NoMemory, NodeId, Priority, Sequence, Size};
+use rows::{
+    Group, Groups, JobName, JobSpec, NoMemory, NodeId, OperatorRequest, Priority, Sequence, Size,
+};
 use std::alloc::Global;
 
-/// What a scenario asks of a server. (Nomad documentation, "jobs HTTP API", "nodes HTTP API".)
-#[derive(Drop)]
-pub enum Request {
-    /// `put NAME PRIORITY GROUPS`: the job is put, in place of the one of its name. A group is
-    /// written as `NAME:COUNT:CLASS:CPU:MEMORY`, with commas between groups.
-    Put(JobSpec),
-    /// `stop NAME`: nothing of the job is to run any more.
-    Stop(JobName),
-    /// `eval NAME`: the job is looked at once more.
-    Eval(JobName),
-    /// `drain NODE slow` or `drain NODE force`: the node takes no more, and what runs there moves;
-    /// the second says whether all at once.
-    Drain(NodeId, bool),
-}
-
-impl Request {
-    /// The command that is proposed for it.
-    pub fn into_command(self) -> Command
-        ensures { result ≡ command_of self }
-    {
-        match self {
-            Request::Put(job) => Command::JobPut(job),
-            Request::Stop(name) => Command::JobStop(name),
-            Request::Eval(name) => Command::EvalPut(name),
-            Request::Drain(node, force) => Command::Drain(node, force),
-        }
-    }
-}
-
-/// Reads the text of a request: exactly the one text of each, with one space between words and
-/// numbers in decimal without leading zeros.
-pub fn read_request(alloc: Global, text: &str) -> Result<Option<Request>, NoMemory>
+/// Reads the text of a request: `put NAME PRIORITY GROUPS`, `stop NAME`, `eval NAME`, and
+/// `drain NODE slow` or `drain NODE force`. A group is written as `NAME:COUNT:CLASS:CPU:MEMORY`,
+/// with commas between groups. It reads exactly the one text of each request, with one space
+/// between words and numbers in decimal without leading zeros.
+pub fn read_request(alloc: Global, text: &str) -> Result<Option<OperatorRequest>, NoMemory>
     ensures named { IfOk result (λ read. IfSome read (λ request. IsRequestText request text.now)) }
-    ensures read { (request : Request) → RequestFits request → text.now ≡ request_text request
+    ensures read { (request : OperatorRequest) → RequestFits request → text.now ≡ request_text request
         → IfOk result (λ read. read ≡ Some request) }
 {
     let Some((verb, words)) = cut(text, ' ') else {
@@ -55,41 +30,41 @@ pub fn read_request(alloc: Global, text: &str) -> Result<Option<Request>, NoMemo
         return Ok(read_small_request(verb, words));
     }
     match read_job(alloc, words)? {
-        Some(job) => Ok(Some(Request::Put(job))),
+        Some(job) => Ok(Some(OperatorRequest::PutJob(job))),
         None => Ok(None),
     }
 }
 
 // A request other than `put`: it takes no memory.
-fn read_small_request(verb: &str, words: &str) -> Option<Request>
+fn read_small_request(verb: &str, words: &str) -> Option<OperatorRequest>
     ensures named { IfSome result (λ request. IsRequestText request (verb.now ++ 32 ∷ words.now)) }
     ensures stop { (name : List ℕ) → NameFits name → verb.now ≡ codes "stop" → words.now ≡ name
-        → result ≡ Some (Stop name) }
+        → result ≡ Some (StopJob name) }
     ensures eval { (name : List ℕ) → NameFits name → verb.now ≡ codes "eval" → words.now ≡ name
-        → result ≡ Some (Eval name) }
+        → result ≡ Some (PutEval name) }
     ensures drain { (node : ℕ) (force : Bool) → NodeIdFits node → verb.now ≡ codes "drain"
-        → words.now ≡ drain_text node force → result ≡ Some (Drain node force) }
+        → words.now ≡ drain_text node force → result ≡ Some (DrainNode node force) }
 {
     match verb {
-        "stop" => Some(Request::Stop(read_name(words)?)),
-        "eval" => Some(Request::Eval(read_name(words)?)),
+        "stop" => Some(OperatorRequest::StopJob(read_name(words)?)),
+        "eval" => Some(OperatorRequest::PutEval(read_name(words)?)),
         "drain" => read_drain(words),
         _ => None,
     }
 }
 
 // What stands behind `drain`.
-fn read_drain(words: &str) -> Option<Request>
+fn read_drain(words: &str) -> Option<OperatorRequest>
     ensures named { IfSome result (λ request. (node : ℕ) × (force : Bool) × NodeIdFits node
-        × (words.now ≡ drain_text node force) × (request ≡ Drain node force)) }
+        × (words.now ≡ drain_text node force) × (request ≡ DrainNode node force)) }
     ensures read { (node : ℕ) (force : Bool) → NodeIdFits node → words.now ≡ drain_text node force
-        → result ≡ Some (Drain node force) }
+        → result ≡ Some (DrainNode node force) }
 {
     let (node, mode) = cut(words, ' ')?;
     let node = read_node(node)?;
     match mode {
-        "slow" => Some(Request::Drain(node, false)),
-        "force" => Some(Request::Drain(node, true)),
+        "slow" => Some(OperatorRequest::DrainNode(node, false)),
+        "force" => Some(OperatorRequest::DrainNode(node, true)),
         _ => None,
     }
 }

@@ -1,15 +1,15 @@
 //! The steps of a scenario.
 ghost use Rattle.std.specs.Prelude.{◌≡◌, ◌≢◌, ◌<◌, ◌+◌, ◌++◌, ◌∷◌, ℕ, List, Some, IfOk, IfSome, codes, decimal};
-ghost use Rattle.runner.specs.declared.request.Request.{Request};
+ghost use Rattle.rows.specs.declared.request.OperatorRequest.{OperatorRequest};
 ghost use Rattle.runner.specs.declared.step.Step.{Step};
 ghost use Rattle.runner.specs.declared.step.Step.TheVariants as steps;
 ghost use Rattle.runner.specs.Requests.{RequestFits, request_text};
 ghost use Rattle.runner.specs.Steps.{IsLine};
 ghost use Rattle.runner.specs.Inner.RequestSteps.{IsRequestStep};
 
-use crate::request::{Request, read_request};
+use crate::request::read_request;
 use crate::word::{cut, read_number, read_server};
-use rows::{NoMemory, ServerId};
+use rows::{NoMemory, OperatorRequest, ServerId};
 use std::alloc::Global;
 
 /// One step of a scenario: an event of the group, or a flow of messages.
@@ -29,7 +29,7 @@ pub enum Step {
     /// number out.
     Flow(Option<u64>),
     /// `request S REQUEST`: the request is put to server S.
-    Request(ServerId, Request),
+    Request(ServerId, OperatorRequest),
 }
 
 /// Reads the line of a step: exactly the one text of each step, with one space between words and
@@ -46,9 +46,9 @@ pub fn read_step(alloc: Global, line: &str) -> Result<Option<Step>, NoMemory>
 
 // What stands behind `request`.
 fn read_request_step(alloc: Global, words: &str) -> Result<Option<Step>, NoMemory>
-    ensures named { IfOk result (λ read. IfSome read (λ step. (server : ℕ) × (request : Request)
+    ensures named { IfOk result (λ read. IfSome read (λ step. (server : ℕ) × (request : OperatorRequest)
         × (step ≡ steps.Request server request) × IsRequestStep server request words.now)) }
-    ensures read { (server : ℕ) (request : Request) → server < 5 → RequestFits request
+    ensures read { (server : ℕ) (request : OperatorRequest) → server < 5 → RequestFits request
         → words.now ≡ decimal (server + 1) ++ 32 ∷ request_text request
         → IfOk result (λ read. read ≡ Some (steps.Request server request)) }
 {

@@ -4,9 +4,9 @@ use Rattle.std.proofs.lemmas.Bool.{and_parts, eqb-true, eq-eqb, le-leb}
 use Rattle.std.proofs.lemmas.List.{append-nil, drop_all, append_cancel_left}
 use Rattle.std.specs.Prelude.{IfOk}
 use Rattle.rows.specs.declared.refusal.Refusal.{Refusal}
-use Rattle.fields.specs.Format.{Gives, ◌>>=◌, Format, spelled, number_at, number, IsBytes, Lawful}
-use Rattle.fields.specs.Laws.FormatLaws.{bind_ok, guard_in, past, length-spelled, number_lawful}
-use Rattle.fields.proofs.WholeTexts.{no_text_begins_another}
+use Rattle.fields_model.specs.Format.{Gives, ◌>>=◌, Format, spelled, number_at, number, IsBytes, Lawful}
+use Rattle.fields_model.proofs.FormatLaws.{bind_ok, guard_in, past, length-spelled, number_lawful}
+use Rattle.fields_model.proofs.WholeTexts.{no_text_begins_another}
 use Rattle.rows.specs.declared.actor.Actor.{Actor}
 use Rattle.wire.specs.declared.header.Header.{Header}
 use Rattle.wire.specs.Appends.{Append}

@@ -1,11 +1,11 @@
 -- The laws of a frame's header and of its bodies.
 use Rattle.std.proofs.Common.{◌≡◌, ℕ, ◌≤◌, Some, refl, arith}
 use Rattle.std.proofs.Math.Nat.{le_refl, mul-le-mul_right}
-use Rattle.fields.specs.Format.{Format, number, placed, Lawful, IsVariant}
-use Rattle.fields.specs.Fields.{actor}
-use Rattle.fields.specs.Laws.FormatLaws.{number_lawful, then_lawful, depends_lawful, made_lawful, list_lawful, coded_lawful, kept_lawful, variant_lawful}
-use Rattle.fields.proofs.PlacedLaws.{placed_lawful}
-use Rattle.fields.specs.Laws.FieldLaws.{actor_lawful}
+use Rattle.fields_model.specs.Format.{Format, number, placed, Lawful, IsVariant}
+use Rattle.fields_model.specs.Fields.{actor}
+use Rattle.fields_model.proofs.FormatLaws.{number_lawful, then_lawful, depends_lawful, made_lawful, list_lawful, coded_lawful, kept_lawful, variant_lawful}
+use Rattle.fields_model.proofs.PlacedLaws.{placed_lawful}
+use Rattle.fields_model.proofs.FieldLaws.{actor_lawful}
 use Rattle.wire.specs.declared.kind.Kind.{Kind}
 use Rattle.wire.specs.declared.kind.Kind.TheVariants as kinds
 use Rattle.wire.specs.declared.vote.VoteRequest.{VoteRequest}

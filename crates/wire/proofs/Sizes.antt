@@ -5,7 +5,7 @@ use Rattle.std.proofs.lemmas.List.{append-nil}
 use Rattle.std.proofs.Math.Seq.{take-append_seam, drop-append_seam}
 use Rattle.std.specs.Prelude.{OnErr}
 use Rattle.rows.specs.declared.refusal.NoMemory.{NoMemory}
-use Rattle.fields.specs.Format.{Grows}
+use Rattle.fields_model.specs.Format.{Grows}
 use Rattle.wire.specs.Frames.{sized}
 
 -- four bytes at a place, the end of what stood there, and a text behind them

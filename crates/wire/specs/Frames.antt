@@ -1,6 +1,6 @@
 -- Frames: the bytes of a message, and how they are read.
 use Rattle.std.specs.Prelude.{◌≡◌, ℕ, ◌+◌, ◌^◌, List, [], ◌∷◌, ◌++◌, length, Result, Ok, Err, ◌&&◌, nat_eq, nat_le, if◌then◌else◌}
-use Rattle.fields.specs.Format.{Reading, ◌>>=◌, Format, spelled, number_at}
+use Rattle.fields_model.specs.Format.{Reading, ◌>>=◌, Format, spelled, number_at}
 use Rattle.rows.specs.declared.actor.Actor.{Actor}
 use Rattle.wire.specs.declared.header.Header.{Header}
 use Rattle.wire.specs.Messages.{Message, kind_of}

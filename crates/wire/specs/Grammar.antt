@@ -1,7 +1,7 @@
 -- The parts of a frame: version, kind, addresses and bodies, each by what it is made of.
 use Rattle.std.specs.Prelude.{ℕ, ◌-◌, ◌^◌, min, List, Option, Some, None, ◌==◌, if◌then◌else◌}
-use Rattle.fields.specs.Format.{Format, number, ◌then◌, depends, made, list, placed, variant, coded, kept}
-use Rattle.fields.specs.Fields.{byte, term, index, bool, actor}
+use Rattle.fields_model.specs.Format.{Format, number, ◌then◌, depends, made, list, placed, variant, coded, kept}
+use Rattle.fields_model.specs.Fields.{byte, term, index, bool, actor}
 use Rattle.rows.specs.declared.actor.Actor.{Actor}
 use Rattle.machine.specs.declared.entry.Entry.{Entry}
 use Rattle.machine.specs.Entries.{entry}

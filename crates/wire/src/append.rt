@@ -1,5 +1,5 @@
 ghost use Rattle.std.specs.Prelude.{◌≡◌, ◌<◌, ◌≤◌, ◌+◌, ◌^◌, ◌⊎◌, length, IfSome, IfNone};
-ghost use Rattle.fields.specs.Format.{Gives, GivesExactly, Puts};
+ghost use Rattle.fields_model.specs.Format.{Gives, GivesExactly, Puts};
 ghost use Rattle.wire.specs.Grammar.{append_head, append_reply, append as append_format, most_entries};
 ghost use Rattle.wire.specs.Laws.GrammarLaws.{append_head_lawful, append_reply_lawful};
 

@@ -1,5 +1,5 @@
 ghost use Rattle.std.specs.Prelude.{◌≡◌, IfOk};
-ghost use Rattle.fields.specs.Format.{Gives, Puts};
+ghost use Rattle.fields_model.specs.Format.{Gives, Puts};
 ghost use Rattle.wire.specs.Messages.{kind_of};
 ghost use Rattle.wire.specs.Grammar.{body as body_format};
 

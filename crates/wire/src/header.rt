@@ -1,5 +1,5 @@
 ghost use Rattle.std.specs.Prelude.{◌≡◌, true, IfOk};
-ghost use Rattle.fields.specs.Format.{Gives, Puts};
+ghost use Rattle.fields_model.specs.Format.{Gives, Puts};
 ghost use Rattle.wire.specs.Messages.{may_go};
 ghost use Rattle.wire.specs.Grammar.{header as header_format};
 

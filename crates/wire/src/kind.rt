@@ -1,5 +1,5 @@
 ghost use Rattle.std.specs.Prelude.{◌≡◌};
-ghost use Rattle.fields.specs.Format.{GivesExactly};
+ghost use Rattle.fields_model.specs.Format.{GivesExactly};
 ghost use Rattle.wire.specs.Messages.{may_come_from, may_go, is_server, is_another_server};
 ghost use Rattle.wire.specs.Grammar.{kind};
 ghost use Rattle.wire.specs.Laws.GrammarLaws.{kind_lawful};

@@ -1,6 +1,6 @@
 //! The laws of frames.
 ghost use Rattle.std.specs.Prelude.{◌≡◌, ◌≤◌, ◌++◌, List, ℕ, Ok, length};
-ghost use Rattle.fields.specs.Format.{IsBytes};
+ghost use Rattle.fields_model.specs.Format.{IsBytes};
 ghost use Rattle.wire.specs.Messages.{Message};
 ghost use Rattle.wire.specs.Frames.{message_at, message_text, IsFrame, MessageFits, frame_limit};
 

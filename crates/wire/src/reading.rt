@@ -1,5 +1,5 @@
 ghost use Rattle.std.specs.Prelude.{◌≡◌, IfOk, Ok};
-ghost use Rattle.fields.specs.Format.{Gives, GivesExactly};
+ghost use Rattle.fields_model.specs.Format.{Gives, GivesExactly};
 ghost use Rattle.wire.specs.Messages.{Message as MessageOf};
 ghost use Rattle.wire.specs.Frames.{size_at, message_at, message_text, IsFrame, MessageFits};
 

@@ -1,4 +1,4 @@
-ghost use Rattle.fields.specs.Format.{GivesExactly};
+ghost use Rattle.fields_model.specs.Format.{GivesExactly};
 ghost use Rattle.wire.specs.Grammar.{vote_request, vote_reply};
 ghost use Rattle.wire.specs.Laws.GrammarLaws.{vote_request_lawful, vote_reply_lawful};
 

@@ -1,5 +1,5 @@
 ghost use Rattle.std.specs.Prelude.{◌≡◌, ◌++◌, ◌+◌, ◌<◌, ◌≤◌, ◌^◌, true, length, take, drop, OnOk, OnErr};
-ghost use Rattle.fields.specs.Format.{Grows};
+ghost use Rattle.fields_model.specs.Format.{Grows};
 ghost use Rattle.rows.specs.declared.actor.Actor.TheVariants as actors;
 ghost use Rattle.wire.specs.declared.kind.Kind.TheVariants as kinds;
 ghost use Rattle.wire.specs.Messages.{kind_of, may_go, append_message};
@@ -16,7 +16,7 @@ use machine::{Coded, Entry, Machine};
 use rows::{Actor, NoMemory, ServerId};
 
 /// Puts the number of the bytes behind the four at a place into those four.
-#[tactic(auto, unfolding(fields::specs::Format::spelled), using(crate::proofs::Rules::drops))]
+#[tactic(auto, unfolding(fields_model::specs::Format::spelled), using(crate::proofs::Rules::drops))]
 fn put_size(out: &mut Vec<u8>, at: usize)
     requires room { at + 4 ≤ length out.old.items }
     requires short { length out.old.items < at + 4 + 2 ^ 32 }

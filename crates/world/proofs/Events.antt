@@ -1,7 +1,7 @@
 -- Events of the program's world as the model's.
 use Rattle.std.proofs.Common.{◌≡◌, ◌∙◌, ap, sym, ℕ, Result, Ok, Err, List, [], ◌∷◌, ◌++◌, length, append-nil}
 use Rattle.std.proofs.lemmas.List.{map-append}
-use Rattle.fields.specs.Format.{Format}
+use Rattle.fields_model.specs.Format.{Format}
 use Rattle.world.specs.declared.event.RaftEvent.{RaftEvent}
 use Rattle.world.specs.Events.{event_of, events_of}
 

@@ -2,7 +2,7 @@
 use Rattle.std.proofs.Common.{◌≡◌, ℕ, Result, Ok, Err, refl, sym, ◌∙◌}
 use Rattle.rows.specs.declared.refusal.Refusal.{Refusal}
 use Rattle.rows.specs.declared.refusal.Refusal.TheVariants as refusals
-use Rattle.fields.specs.Format.{Refuses}
+use Rattle.fields_model.specs.Format.{Refuses}
 
 no_answer : {A : Type 0} (reading : Result A ℕ) (v : A) (place : ℕ) → reading ≡ Ok v → reading ≡ Err place → ⊥
 no_answer reading v place is fault = absurd (cc (sym is ∙ fault))

@@ -7,8 +7,8 @@ use Rattle.rows.specs.declared.evaluation.Evaluation.{Evaluation}
 use Rattle.rows.specs.declared.job.Group.{Group}
 use Rattle.rows.specs.declared.job.Job.{Job}
 use Rattle.rows.specs.declared.node.Node.{Node}
-use Rattle.fields.specs.Format.{Reading, ◌>>=◌, Format}
-use Rattle.fields.specs.Rows.{make_group, group_others, make_job, job_others, make_node, node_others, make_evaluation, evaluation_others, make_allocation, allocation_others}
+use Rattle.fields_model.specs.Format.{Reading, ◌>>=◌, Format}
+use Rattle.fields_model.specs.Rows.{make_group, group_others, make_job, job_others, make_node, node_others, make_evaluation, evaluation_others, make_allocation, allocation_others}
 
 -- what follows a key that was read
 abbrev pub after_key : {K R V : Type 0} → (K × R → V) → Format R → K → List ℕ → ℕ → Reading V

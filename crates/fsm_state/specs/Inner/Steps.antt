@@ -17,7 +17,7 @@ use Rattle.rows.specs.Keys.{name_cmp, eval_cmp, alloc_cmp, job_name, node_number
 use Rattle.fsm_tables.specs.Rows.{row_of, put_within}
 use Rattle.fsm_tables.specs.TableRows.{TableRows}
 use Rattle.fsm_tables.specs.Claims.{is_active, is_live}
-use Rattle.cluster_model.specs.Limits.{most_jobs, most_nodes, most_evals, most_allocs}
+use Rattle.rows.specs.Limits.{most_jobs, most_nodes, most_evals, most_allocs}
 use Rattle.cluster_model.specs.Words.{State, alloc_of, is_open}
 use Rattle.cluster_model.specs.Effect.{lost_row, lost, is_ended_by, client_state_of, with_evals}
 use Rattle.rows.specs.declared.command.StatusChange.{StatusChange}

@@ -3,7 +3,7 @@
 ghost use Rattle.std.specs.Prelude.{◌≡◌, List, ◌++◌, ◌≤◌, ◌+◌, ◌&&◌, ◌<◌, ◌^◌, nat_le, IfOk, OnOk, length};
 ghost use Rattle.std.specs.List.{list_all};
 ghost use Rattle.fsm_tables.specs.Claims.{used, Claim as AnyClaim};
-ghost use Rattle.cluster_model.specs.Limits.{most_allocs};
+ghost use Rattle.rows.specs.Limits.{most_allocs};
 ghost use Rattle.cluster_model.specs.Safe.{is_safe};
 ghost use Rattle.cluster_model.specs.Words.{node_of, alloc_of};
 ghost use Rattle.cluster_model.specs.Effect.{with_next_count, planned};

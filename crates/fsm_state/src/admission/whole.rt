@@ -1,7 +1,7 @@
 //! Whether the state after a plan is safe, by a look at all that is claimed then.
 ghost use Rattle.std.specs.Prelude.{◌≡◌, ◌≤◌, List, ◌++◌, ◌+◌, ◌&&◌, ◌<◌, IfOk, OnOk, length};
 ghost use Rattle.std.specs.List.{list_all};
-ghost use Rattle.cluster_model.specs.Limits.{most_allocs};
+ghost use Rattle.rows.specs.Limits.{most_allocs};
 ghost use Rattle.cluster_model.specs.Safe.{is_safe, is_placed, are_distinct, are_safe};
 ghost use Rattle.cluster_model.specs.Effect.{with_next_count, planned, stop};
 ghost use Rattle.cluster_model.specs.Plans.{are_free, is_made, left_by};

@@ -1,8 +1,8 @@
 -- The law of entries.
 use Rattle.std.proofs.Common.{refl}
-use Rattle.fields.specs.Format.{Format, Lawful}
-use Rattle.fields.specs.Laws.FormatLaws.{made_lawful, then_lawful}
-use Rattle.fields.specs.Laws.FieldLaws.{term_lawful}
+use Rattle.fields_model.specs.Format.{Format, Lawful}
+use Rattle.fields_model.proofs.FormatLaws.{made_lawful, then_lawful}
+use Rattle.fields_model.proofs.FieldLaws.{term_lawful}
 use Rattle.machine.specs.Entries.{entry}
 
 pub entry_lawful : {C : Type 0} (commands : Format C) → Lawful commands → Lawful (entry commands)

@@ -1,6 +1,6 @@
 -- What the writers of a frame's parts do.
 use Rattle.std.specs.Prelude.{◌≡◌, ℕ, List, ◌++◌}
-use Rattle.fields.specs.Format.{Format}
+use Rattle.fields_model.specs.Format.{Format}
 use Rattle.wire.specs.Frames.{sized}
 
 -- the text of the value, which has one, comes to the end behind its length

@@ -1,10 +1,10 @@
 -- The laws of the parts of a frame that are fields by themselves.
 use Rattle.std.proofs.Common.{◌≡◌, ℕ, Some, sym, ap, ◌∙◌, refl, inl, inr}
 use Rattle.std.proofs.lemmas.Bool.{cases_eq, eq-eqb, ne_eqb}
-use Rattle.fields.specs.Format.{Lawful}
-use Rattle.fields.specs.Fields.{byte}
-use Rattle.fields.specs.Laws.FormatLaws.{then_lawful, made_lawful, coded_lawful}
-use Rattle.fields.specs.Laws.FieldLaws.{byte_lawful, term_lawful, index_lawful, bool_lawful}
+use Rattle.fields_model.specs.Format.{Lawful}
+use Rattle.fields_model.specs.Fields.{byte}
+use Rattle.fields_model.proofs.FormatLaws.{then_lawful, made_lawful, coded_lawful}
+use Rattle.fields_model.proofs.FieldLaws.{byte_lawful, term_lawful, index_lawful, bool_lawful}
 use Rattle.wire.specs.declared.kind.Kind.{Kind}
 use Rattle.wire.specs.declared.kind.Kind.TheVariants as kinds
 use Rattle.wire.specs.declared.vote.VoteRequest.{VoteRequest}

@@ -1,4 +1,4 @@
-use Rattle.fields.specs.Commands.{bodies, tag_of}
+use Rattle.fields_model.specs.Commands.{bodies, tag_of}
 use Rattle.fields.proofs.Loop.{part_put}
 use Rattle.fields.proofs.commands.append_body.Goals as goal
 

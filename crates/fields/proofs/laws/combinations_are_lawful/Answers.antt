@@ -1,6 +1,6 @@
 use Rattle.std.proofs.Common.{arith}
-use Rattle.fields.specs.Laws.FormatLaws.{number_lawful, string_lawful, then_lawful, depends_lawful, made_lawful, coded_lawful, kept_lawful, choice_lawful, variant_choice, no_choice}
-use Rattle.fields.proofs.PlacedLaws.{one_field_lawful, placed_lawful}
+use Rattle.fields_model.proofs.FormatLaws.{number_lawful, string_lawful, then_lawful, depends_lawful, made_lawful, coded_lawful, kept_lawful, choice_lawful, variant_choice, no_choice}
+use Rattle.fields_model.proofs.PlacedLaws.{one_field_lawful, placed_lawful}
 use Rattle.fields.proofs.laws.combinations_are_lawful.Goals as goal
 
 pub returns : goal.returns

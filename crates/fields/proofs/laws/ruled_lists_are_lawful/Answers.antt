@@ -1,5 +1,5 @@
 use Rattle.std.proofs.Common.{arith}
-use Rattle.fields.specs.Laws.FormatLaws.{ruled_list_lawful, kept_is_ruled}
+use Rattle.fields_model.proofs.FormatLaws.{ruled_list_lawful, kept_is_ruled}
 use Rattle.fields.proofs.laws.ruled_lists_are_lawful.Goals as goal
 
 pub returns : goal.returns

@@ -1,5 +1,5 @@
 use Rattle.std.proofs.Common.{refl, ◌++◌, zero-add}
-use Rattle.fields.proofs.WholeTexts.{no_text_begins_another}
+use Rattle.fields_model.proofs.WholeTexts.{no_text_begins_another}
 use Rattle.machine.proofs.laws.commands_are_whole.Goals as goal
 
 pub returns : goal.returns

@@ -1,5 +1,5 @@
 use Rattle.std.proofs.Common.{arith}
-use Rattle.fields.proofs.PlacedLaws.{placed_lawful}
+use Rattle.fields_model.proofs.PlacedLaws.{placed_lawful}
 use Rattle.machine.specs.Laws.EntryLaws.{entry_lawful}
 use Rattle.machine.proofs.laws.entries_are_lawful.Goals as goal
 

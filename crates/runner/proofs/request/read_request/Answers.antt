@@ -1,36 +1,36 @@
 use Rattle.std.proofs.Common.{◌≡◌, ◌∙◌, ◌++◌, ◌∷◌, ℕ, List, Bool, Option, Some, codes, refl, rules}
 use Rattle.rows.specs.Fits.{NodeIdFits}
 use Rattle.rows.specs.Names.{NameFits}
-use Rattle.runner.specs.declared.request.Request.{Request}
-use Rattle.runner.specs.declared.request.Request.TheVariants.{Drain, Eval, Put, Stop}
+use Rattle.rows.specs.declared.request.OperatorRequest.{OperatorRequest}
+use Rattle.rows.specs.declared.request.OperatorRequest.TheVariants.{DrainNode, PutEval, PutJob, StopJob}
 use Rattle.runner.specs.Requests.{IsWithout, RequestFits, drain_text, request_text}
 use Rattle.runner.proofs.Words.{name_lacks}
 use Rattle.runner.proofs.request.read_request.Goals as goal
 
 -- each request's text is a verb, a space, and what stands behind it
-verb_of : (r : Request) → (verb : List ℕ) × (words : List ℕ) × IsWithout 32 verb × (request_text r ≡ verb ++ 32 ∷ words)
-verb_of (Put job) = (codes "put", _, name_lacks 32 (codes "put") refl refl, refl)
-verb_of (Stop name) = (codes "stop", _, name_lacks 32 (codes "stop") refl refl, refl)
-verb_of (Eval name) = (codes "eval", _, name_lacks 32 (codes "eval") refl refl, refl)
-verb_of (Drain node force) = (codes "drain", _, name_lacks 32 (codes "drain") refl refl, refl)
+verb_of : (r : OperatorRequest) → (verb : List ℕ) × (words : List ℕ) × IsWithout 32 verb × (request_text r ≡ verb ++ 32 ∷ words)
+verb_of (PutJob job) = (codes "put", _, name_lacks 32 (codes "put") refl refl, refl)
+verb_of (StopJob name) = (codes "stop", _, name_lacks 32 (codes "stop") refl refl, refl)
+verb_of (PutEval name) = (codes "eval", _, name_lacks 32 (codes "eval") refl refl, refl)
+verb_of (DrainNode node force) = (codes "drain", _, name_lacks 32 (codes "drain") refl refl, refl)
 
 -- a request other than `put` is the one that is read
-small : (r : Request) (verb words : List ℕ) (read : Option Request) → RequestFits r
+small : (r : OperatorRequest) (verb words : List ℕ) (read : Option OperatorRequest) → RequestFits r
     → ((front back : List ℕ) → IsWithout 32 front → request_text r ≡ front ++ 32 ∷ back → (verb ≡ front) × (words ≡ back))
     → (verb ≡ codes "put" → ⊥)
-    → ((name : List ℕ) → NameFits name → verb ≡ codes "stop" → words ≡ name → read ≡ Some (Stop name))
-    → ((name : List ℕ) → NameFits name → verb ≡ codes "eval" → words ≡ name → read ≡ Some (Eval name))
-    → ((node : ℕ) (force : Bool) → NodeIdFits node → verb ≡ codes "drain" → words ≡ drain_text node force → read ≡ Some (Drain node force))
+    → ((name : List ℕ) → NameFits name → verb ≡ codes "stop" → words ≡ name → read ≡ Some (StopJob name))
+    → ((name : List ℕ) → NameFits name → verb ≡ codes "eval" → words ≡ name → read ≡ Some (PutEval name))
+    → ((node : ℕ) (force : Bool) → NodeIdFits node → verb ≡ codes "drain" → words ≡ drain_text node force → read ≡ Some (DrainNode node force))
     → read ≡ Some r
-small (Put job) verb words read fits first not_put stop eval drain =
+small (PutJob job) verb words read fits first not_put stop eval drain =
     absurd (not_put (first (codes "put") _ (name_lacks 32 (codes "put") refl refl) refl).0)
-small (Stop name) verb words read fits first not_put stop eval drain =
+small (StopJob name) verb words read fits first not_put stop eval drain =
     let is = first (codes "stop") name (name_lacks 32 (codes "stop") refl refl) refl in
     stop name fits is.0 is.1
-small (Eval name) verb words read fits first not_put stop eval drain =
+small (PutEval name) verb words read fits first not_put stop eval drain =
     let is = first (codes "eval") name (name_lacks 32 (codes "eval") refl refl) refl in
     eval name fits is.0 is.1
-small (Drain node force) verb words read fits first not_put stop eval drain =
+small (DrainNode node force) verb words read fits first not_put stop eval drain =
     let is = first (codes "drain") _ (name_lacks 32 (codes "drain") refl refl) refl in
     drain node force fits is.0 is.1
 

@@ -1,5 +1,5 @@
 use Rattle.std.proofs.Common.{ap, subst, ◌∙◌, arith}
-use Rattle.fields.specs.Format.{Gives}
+use Rattle.fields_model.specs.Format.{Gives}
 use Rattle.wire.specs.Frames.{message_at}
 use Rattle.wire.proofs.Framing.{ShortCommands, message_only, found_of}
 use Rattle.wire.proofs.reading.read_message.Goals as goal

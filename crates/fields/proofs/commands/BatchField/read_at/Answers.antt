@@ -1,5 +1,5 @@
 use Rattle.std.proofs.Common.{◌<◌, ◌≤◌, length, arith}
-use Rattle.fields.specs.Laws.BatchLaws.{batch_lawful}
+use Rattle.fields_model.proofs.BatchLaws.{batch_lawful}
 use Rattle.fields.proofs.commands.BatchField.read_at.Goals as goal
 
 pub unreachable-requires : goal.unreachable-requires

@@ -1,7 +1,7 @@
 use Rattle.std.proofs.Common.{arith}
-use Rattle.fields.specs.Laws.FormatLaws.{list_lawful}
-use Rattle.fields.specs.Commands.{report}
-use Rattle.fields.specs.Laws.CommandLaws.{report_lawful}
+use Rattle.fields_model.proofs.FormatLaws.{list_lawful}
+use Rattle.fields_model.specs.Commands.{report}
+use Rattle.fields_model.proofs.CommandLaws.{report_lawful}
 use Rattle.fields.proofs.Counted.{list_is_empty}
 use Rattle.fields.proofs.commands.ReportsField.read_at.Goals as goal
 

@@ -1,8 +1,8 @@
 use Rattle.std.proofs.Common.{arith}
-use Rattle.fields.specs.Laws.FormatLaws.{ruled_list_lawful}
+use Rattle.fields_model.proofs.FormatLaws.{ruled_list_lawful}
 use Rattle.rows.specs.Groups.{group_is_new}
-use Rattle.fields.specs.Rows.{group, group_behind}
-use Rattle.fields.specs.Laws.RowLaws.{group_lawful, group_is_ruled}
+use Rattle.fields_model.specs.Rows.{group, group_behind}
+use Rattle.fields_model.proofs.RowLaws.{group_lawful, group_is_ruled}
 use Rattle.fields.proofs.Counted.{ruled_is_empty}
 use Rattle.fields.proofs.groups.GroupsField.read_at.Goals as goal
 

@@ -1,8 +1,8 @@
 use Rattle.std.proofs.Common.{◌++◌, subst, ap, ◌∙◌}
-use Rattle.fields.specs.Format.{Writes, list}
-use Rattle.fields.specs.Fields.{index}
-use Rattle.fields.specs.Rows.{allocation}
-use Rattle.fields.specs.StateText.{jobs, nodes, evaluations}
+use Rattle.fields_model.specs.Format.{Writes, list}
+use Rattle.fields_model.specs.Fields.{index}
+use Rattle.fields_model.specs.Rows.{allocation}
+use Rattle.fields_model.specs.StateText.{jobs, nodes, evaluations}
 use Rattle.fsm_state.proofs.StateTexts.{put_state}
 use Rattle.fsm_state.proofs.text.ClusterField.append.Goals as goal
 

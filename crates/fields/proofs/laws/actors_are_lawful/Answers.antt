@@ -1,5 +1,0 @@
-use Rattle.fields.specs.Laws.FieldLaws.{server_lawful, actor_lawful}
-use Rattle.fields.proofs.laws.actors_are_lawful.Goals as goal
-
-pub returns : goal.returns
-returns c = record { server = server_lawful; actor = actor_lawful }

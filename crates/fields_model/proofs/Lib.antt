@@ -1,0 +1,12 @@
+pub mod NumberBytes
+pub mod FormatLaws
+pub mod FieldLaws
+pub mod IdLaws
+pub mod RowLaws
+pub mod BatchLaws
+pub mod CommandLaws
+pub mod WholeTexts
+pub mod OptionLaws
+pub mod PlacedLaws
+pub mod StateTextLaws
+pub mod RangeLaws

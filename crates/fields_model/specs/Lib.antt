@@ -1,0 +1,6 @@
+pub mod Format
+pub mod Fields
+pub mod Ids
+pub mod Rows
+pub mod Commands
+pub mod StateText

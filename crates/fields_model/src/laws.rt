@@ -1,0 +1,62 @@
+//! The laws of the formats. Each function has an empty body: what it says is its contract.
+ghost use Rattle.std.specs.Prelude.{◌≡◌, ◌≤◌};
+ghost use Rattle.fields_model.specs.Format.{Lawful};
+ghost use Rattle.fields_model.specs.Fields.{term, index, server, byte, u16, u32, u64, bool, actor};
+ghost use Rattle.fields_model.specs.Ids.{name, size, node_id, evaluation_id, allocation_id, token, delivery};
+ghost use Rattle.fields_model.specs.Rows.{job, node, evaluation, allocation};
+ghost use Rattle.fields_model.specs.Commands.{plan, reports, command};
+ghost use Rattle.fields_model.specs.StateText.{state};
+ghost use Rattle.rows.specs.State.{State};
+ghost use Rattle.rows.specs.States.{IsState};
+ghost use Rattle.rows.specs.Fits.{CommandFits};
+ghost use Rattle.rows.specs.declared.command.Command.{Command};
+
+/// Numbers, flags, terms and places in the log have lawful formats: what is read stands there, what
+/// stands there is read, whatever follows it, and a fault lies within the bytes.
+pub fn numbers_are_lawful()
+    ensures byte { Lawful byte }
+    ensures u16 { Lawful u16 }
+    ensures u32 { Lawful u32 }
+    ensures u64 { Lawful u64 }
+    ensures bool { Lawful bool }
+    ensures term { Lawful term }
+    ensures index { Lawful index }
+{}
+
+/// Servers have lawful formats, and actors, who are servers and clients.
+pub fn actors_are_lawful()
+    ensures server { Lawful server }
+    ensures actor { Lawful actor }
+{}
+
+/// The rows, tokens, plans and commands of the replicated state have lawful formats, and so has its
+/// text: at most 65,536 bytes a command, and 10,064,216 a state.
+pub fn rows_are_lawful()
+    ensures name { Lawful name }
+    ensures size { Lawful size }
+    ensures node_id { Lawful node_id }
+    ensures evaluation_id { Lawful evaluation_id }
+    ensures allocation_id { Lawful allocation_id }
+    ensures token { Lawful token }
+    ensures delivery { Lawful delivery }
+    ensures job { Lawful job }
+    ensures node { Lawful node }
+    ensures evaluation { Lawful evaluation }
+    ensures allocation { Lawful allocation }
+    ensures plan { Lawful plan }
+    ensures reports { Lawful reports }
+    ensures command { Lawful command }
+    ensures command_short { command.most ≤ 65536 }
+    ensures state { Lawful state }
+    ensures state_short { state.most ≡ 10064216 }
+{}
+
+/// The states that have a text are those with each table within its limit and in strictly rising
+/// key, and each part of each row within its own; the commands that have one are those whose parts
+/// are within theirs.
+pub fn texts_are_within_limits()
+    ensures state { (s : State) → IsState s → state.Fits s }
+    ensures only_state { (s : State) → state.Fits s → IsState s }
+    ensures command { (c : Command) → CommandFits c → command.Fits c }
+    ensures only_command { (c : Command) → command.Fits c → CommandFits c }
+{}
