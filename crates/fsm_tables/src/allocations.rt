@@ -10,7 +10,7 @@ use crate::indexes::{Indexes, put_indexed};
 use crate::listing::{first_under, rows_between};
 use crate::name::AllocName;
 use crate::table::Table;
-use crate::usage::{Usage, held_by, shift};
+use crate::usage::{Usage, held_by, shift, sums_of};
 use rows::{AllocId, Allocation, JobName, NoMemory, NodeId, Sequence};
 use std::alloc::Global;
 use std::marker::Model;
@@ -59,6 +59,21 @@ impl Allocations {
             mem: [0; 65],
             indexes: Indexes::empty(alloc),
         }
+    }
+
+    /// These rows: the sums are added up in one walk, and each index is brought into order at once.
+    pub fn of_rows(rows: Table<Allocation>) -> Result<Allocations, NoMemory>
+        requires { length rows ≤ 65536 }
+        ensures { IfOk result (λ a. a ≡ rows) }
+    {
+        let (cpu, mem) = sums_of(&rows);
+        let indexes = Indexes::of_rows(rows.memory(), rows.rows())?;
+        Ok(Allocations {
+            rows,
+            cpu,
+            mem,
+            indexes,
+        })
     }
 
     /// The same rows once more.

@@ -1,9 +1,12 @@
 //! An index of allocations: an entry for each row that is listed, in the order of what it is listed
 //! by, and then of its id.
-ghost use Rattle.std.specs.Prelude.{◌≡◌, OnOk, OnErr, IfOk, option_map, []};
+ghost use Rattle.std.specs.Prelude.{◌≡◌, OnOk, OnErr, IfOk, option_map, [], Some, T as Holds};
+ghost use Rattle.std.specs.List.{filter_map};
 ghost use Rattle.std.specs.BTreeSet.{IsOrdered};
 ghost use Rattle.std.specs.BTreeMap.Range.{IsLeBy};
-ghost use Rattle.fsm_tables.specs.Inner.Index.{entry_cmp, entry_of, is_entry, IsSame, Gains, Loses, HasIdsBetween, first_id};
+ghost use Rattle.rows.specs.Keys.{alloc_cmp, alloc_id};
+ghost use Rattle.rows.specs.Rising.{is_rising};
+ghost use Rattle.fsm_tables.specs.Inner.Index.{entry_cmp, entry_of, is_entry, AreIndexed, IsSame, Gains, Loses, HasIdsBetween, first_id};
 
 use rows::{AllocId, Allocation, NoMemory};
 use std::alloc::{AllocError, Global};
@@ -56,6 +59,19 @@ pub(crate) fn entry_of<K: IndexKey>(row: Option<&Allocation>) -> Option<Entry<K>
     Some(Entry { key, id: row.id })
 }
 
+/// The entries of rows, in the order of the rows.
+fn entries_of<K: IndexKey>(alloc: Global, rows: &[Allocation]) -> Result<Vec<Entry<K>>, NoMemory>
+    ensures { IfOk result (λ es. es.items ≡ filter_map (λ r. entry_of K.key_of (Some r)) rows.now) }
+{
+    let mut entries = Vec::new(alloc);
+    for row in rows {
+        if let Some(entry) = entry_of(Some(row)) {
+            entries.push(entry)?;
+        }
+    }
+    Ok(entries)
+}
+
 /// Whether there is an entry and it is this one.
 fn is_this<K: IndexKey>(entry: &Option<Entry<K>>, other: &Entry<K>) -> bool
     ensures { result ≡ is_entry K.cmp entry.now other.now }
@@ -89,6 +105,15 @@ impl<K: IndexKey> AllocIndex<K> {
         AllocIndex {
             entries: BTreeSet::new(alloc),
         }
+    }
+
+    /// The index of rows in rising id: all entries are brought into order at once.
+    pub fn of_rows(alloc: Global, rows: &[Allocation]) -> Result<AllocIndex<K>, NoMemory>
+        requires { Holds (is_rising alloc_cmp alloc_id rows.now) }
+        ensures { IfOk result (λ index. AreIndexed K.cmp K.key_of rows.now index) }
+    {
+        let entries = BTreeSet::from_iter(alloc, entries_of::<K>(alloc, rows)?)?;
+        Ok(AllocIndex { entries })
     }
 
     /// The same index once more, made by a copy, in time of the entries.
