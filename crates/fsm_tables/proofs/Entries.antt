@@ -42,7 +42,7 @@ only Equal lo hi h = refl
 only Greater lo hi h = absurd cc
 
 module _ {K : Type 0} (R : K → K → Ordering) (o : IsTotalOrder R) where
-  entries_total : IsTotalOrder (entry_cmp R)
+  pub entries_total : IsTotalOrder (entry_cmp R)
   entries_total = then_total (on_total (λ (e : Entry K). e.key) o) (on_total (λ (e : Entry K). e.id) alloc_cmp_total)
 
   -- whether an entry is kept is the same at each entry that it ties with
@@ -69,7 +69,7 @@ module _ {K : Type 0} (R : K → K → Ordering) (o : IsTotalOrder R) where
 
   -- ---- a put
 
-  then_ids : (r s : Ordering) → ordering_then r s ≡ Equal → s ≡ Equal
+  pub then_ids : (r s : Ordering) → ordering_then r s ≡ Equal → s ≡ Equal
   then_ids Less s h = absurd cc
   then_ids Equal s h = h
   then_ids Greater s h = absurd cc

@@ -1,7 +1,7 @@
 ghost use Rattle.std.specs.Prelude.{◌≡◌, List, [], ◌≤◌, OnOk, OnErr, IfOk, filter, option_map, length, nat_lt, ◌||◌, T as Holds};
 ghost use Rattle.fsm_tables.specs.Rows.{row_of, has_row, put, put_within};
 ghost use Rattle.rows.specs.Keys.{alloc_cmp, alloc_id};
-ghost use Rattle.fsm_tables.specs.Claims.{claims, used};
+ghost use Rattle.fsm_tables.specs.Claims.{claims, used, are_distinct};
 ghost use Rattle.fsm_tables.specs.LiveNames.{live_named};
 ghost use Rattle.fsm_tables.specs.Lookups.{lives_as, lives_for, lives_on, is_active_on};
 
@@ -150,6 +150,14 @@ impl Allocations {
         let least = first(OnNode::stopping(node));
         let greatest = last(OnNode::live(node));
         rows_between(&self.rows, &self.indexes.nodes, least, greatest)
+    }
+
+    /// Whether no two live allocations are of one name.
+    pub fn are_named_once(&self) -> bool
+        ensures { result ≡ are_distinct (claims self.now) }
+    {
+        self.rows.ranges();
+        self.indexes.names.has_keys_once()
     }
 
     /// The row of an id.

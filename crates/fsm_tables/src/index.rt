@@ -5,7 +5,8 @@ ghost use Rattle.std.specs.List.{filter_map};
 ghost use Rattle.std.specs.BTreeSet.{IsOrdered};
 ghost use Rattle.std.specs.BTreeMap.Range.{IsLeBy};
 ghost use Rattle.rows.specs.Keys.{alloc_cmp, alloc_id};
-ghost use Rattle.rows.specs.Rising.{is_rising};
+ghost use Rattle.rows.specs.Rising.{is_above, is_rising};
+ghost use Rattle.fsm_tables.specs.declared.index.Entry.{Entry as AnyEntry};
 ghost use Rattle.fsm_tables.specs.Inner.Index.{entry_cmp, entry_of, is_entry, AreIndexed, IsSame, Gains, Loses, HasIdsBetween, first_id};
 
 use rows::{AllocId, Allocation, NoMemory};
@@ -82,6 +83,16 @@ fn is_this<K: IndexKey>(entry: &Option<Entry<K>>, other: &Entry<K>) -> bool
     }
 }
 
+/// Whether an entry's key is above that of the last one, if there is one.
+fn is_above<K: IndexKey>(last: &Option<Entry<K>>, entry: &Entry<K>) -> bool
+    ensures { result ≡ is_above K.cmp (λ (e : AnyEntry K). e.key) last.now entry.now.key }
+{
+    match last {
+        Some(last) => last.key.cmp(&entry.key).is_lt(),
+        None => true,
+    }
+}
+
 /// Entries in strictly rising order. Contracts see the set of them.
 #[derive(Drop)]
 pub(crate) struct AllocIndex<K: IndexKey> {
@@ -144,6 +155,22 @@ impl<K: IndexKey> AllocIndex<K> {
                 self.entries.remove(entry);
             }
         }
+    }
+
+    /// Whether no two entries are of one key: in the order of the keys each is above the last one.
+    pub fn has_keys_once(&self) -> bool
+        ensures once { result ≡ is_rising K.cmp (λ (e : AnyEntry K). e.key) self.now.keys }
+        ensures ordered { IsOrdered (entry_cmp K.cmp) self.now }
+    {
+        let _count = self.entries.len();
+        let mut last = None;
+        for entry in &self.entries {
+            if !is_above(&last, entry) {
+                return false;
+            }
+            last = Some(*entry);
+        }
+        true
     }
 
     /// The ids of the entries from one to another, in rising order.

@@ -2,7 +2,7 @@ ghost use Rattle.std.specs.Prelude.{◌≡◌, ◌≤◌, OnOk, OnErr, IfOk, fil
 ghost use Rattle.std.specs.Ordering.{nat_cmp};
 ghost use Rattle.rows.specs.Keys.{name_cmp, eval_cmp, alloc_cmp, job_name, node_number, eval_id, alloc_id};
 ghost use Rattle.fsm_tables.specs.Rows.{row_of, put_within};
-ghost use Rattle.fsm_tables.specs.Claims.{claims, used};
+ghost use Rattle.fsm_tables.specs.Claims.{claims, used, are_distinct};
 ghost use Rattle.fsm_tables.specs.LiveNames.{live_named};
 ghost use Rattle.fsm_tables.specs.Lookups.{lives_as, lives_for, lives_on, is_active_on};
 ghost use Rattle.fsm_tables.specs.TableRows.{no_rows, TablesFit};
@@ -166,6 +166,13 @@ impl Tables {
         ensures { IfOk result (λ rows. rows ≡ filter (is_active_on node) self.now.allocs) }
     {
         self.allocs.active_on(node)
+    }
+
+    /// Whether no two live allocations are of one name. It takes one walk over the index by name.
+    pub fn are_named_once(&self) -> bool
+        ensures { result ≡ are_distinct (claims self.now.allocs) }
+    {
+        self.allocs.are_named_once()
     }
 
     /// What the live allocations on a node take of it: the sums of their processor time and of
