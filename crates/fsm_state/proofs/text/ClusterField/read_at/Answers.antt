@@ -1,32 +1,29 @@
-use Rattle.std.proofs.Common.{subst, sym, arith}
-use Rattle.std.specs.Ordering.{nat_cmp}
-use Rattle.rows.specs.Keys.{name_cmp, eval_cmp, alloc_cmp, job_name, node_number, eval_id, alloc_id}
+use Rattle.std.proofs.Common.{arith}
 use Rattle.fields.proofs.StateTextLaws.{jobs_lawful, nodes_lawful, evaluations_lawful, allocations_lawful}
 use Rattle.fields.proofs.RangeLaws.{jobs_fits, nodes_fits, evaluations_fits, allocations_fits}
 use Rattle.cluster_model.proofs.Lists.{passes}
-use Rattle.cluster_model.specs.States.{InOrder}
 use Rattle.fsm_state.proofs.text.ClusterField.read_at.Goals as goal
 
 pub from_rows-requires-clause-jobs : goal.from_rows-requires-clause-jobs
 from_rows-requires-clause-jobs c =
     let s = jobs_lawful.found c.args.bytes.now c.in_ok-count.at c.in_ok-jobs.jobs c.in_ok-jobs.at (λ i. omega (arith, c.type_inv.bytes i)) c.in_ok-jobs.ensures in
     let fits = jobs_fits c.in_ok-jobs.jobs s.fits in
-    subst (InOrder name_cmp job_name 256) (sym c.as_slice.ensures) (record { rising = passes _ fits.1; few = fits.0 })
+    record { rising = passes _ fits.1; few = fits.0 }
 
 pub from_rows-requires-clause-nodes : goal.from_rows-requires-clause-nodes
 from_rows-requires-clause-nodes c =
     let s = nodes_lawful.found c.args.bytes.now c.in_ok-jobs.at c.in_ok-nodes.nodes c.in_ok-nodes.at (λ i. omega (arith, c.type_inv.bytes i)) c.in_ok-nodes.ensures in
     let fits = nodes_fits c.in_ok-nodes.nodes s.fits in
-    subst (InOrder nat_cmp node_number 64) (sym c.as_slice-2.ensures) (record { rising = passes _ fits.1; few = fits.0 })
+    record { rising = passes _ fits.1; few = fits.0 }
 
 pub from_rows-requires-clause-evals : goal.from_rows-requires-clause-evals
 from_rows-requires-clause-evals c =
     let s = evaluations_lawful.found c.args.bytes.now c.in_ok-nodes.at c.in_ok-evals.evals c.in_ok-evals.at (λ i. omega (arith, c.type_inv.bytes i)) c.in_ok-evals.ensures in
     let fits = evaluations_fits c.in_ok-evals.evals s.fits in
-    subst (InOrder eval_cmp eval_id 65536) (sym c.as_slice-3.ensures) (record { rising = passes _ fits.1; few = fits.0 })
+    record { rising = passes _ fits.1; few = fits.0 }
 
 pub from_rows-requires-clause-allocs : goal.from_rows-requires-clause-allocs
 from_rows-requires-clause-allocs c =
     let s = allocations_lawful.found c.args.bytes.now c.in_ok-evals.at c.in_ok-allocs.allocs c.in_ok-allocs.at (λ i. omega (arith, c.type_inv.bytes i)) c.in_ok-allocs.ensures in
     let fits = allocations_fits c.in_ok-allocs.allocs s.fits in
-    subst (InOrder alloc_cmp alloc_id 65536) (sym c.as_slice-4.ensures) (record { rising = passes _ fits.1; few = fits.0 })
+    record { rising = passes _ fits.1; few = fits.0 }
