@@ -1,12 +1,13 @@
 -- What a safe state is: what the live allocations hold fits the nodes, and no name is held twice.
-use Rattle.std.specs.Prelude.{Bool, true, not, ◌&&◌, List, [], ◌∷◌, nat_eq, nat_le, bytes_eq}
-use Rattle.std.specs.List.{list_all, list_any}
+use Rattle.std.specs.Prelude.{Bool, ◌&&◌, List, nat_le}
+use Rattle.std.specs.List.{list_all}
 use Rattle.std.specs.Ordering.{nat_cmp}
 use Rattle.rows.specs.declared.size.Size.{Size}
 use Rattle.rows.specs.declared.node.Node.{Node}
 use Rattle.rows.specs.Keys.{node_number}
 use Rattle.fsm_tables.specs.Rows.{has_row}
 use Rattle.fsm_tables.specs.Claims.{Claim, claims, used}
+pub use Rattle.fsm_tables.specs.Claims.{same_name, are_distinct}
 use Rattle.cluster_model.specs.Words.{State}
 
 -- so much use is within a size
@@ -20,15 +21,6 @@ is_within cs n = fits (used n.number cs) n.size
 -- the node that a claim names has a row
 abbrev pub is_placed : List Node → Claim → Bool
 is_placed nodes c = has_row nat_cmp node_number c.node nodes
-
--- two claims are of one name `job.group[index]`
-abbrev pub same_name : Claim → Claim → Bool
-same_name c d = bytes_eq c.job d.job && bytes_eq c.group d.group && nat_eq c.index d.index
-
--- no two claims are of one name
-abbrev pub are_distinct : List Claim → Bool
-are_distinct [] = true
-are_distinct (c ∷ cs) = not (list_any (same_name c) cs) && are_distinct cs
 
 abbrev pub are_safe : List Node → List Claim → Bool
 are_safe nodes cs = list_all (is_within cs) nodes && list_all (is_placed nodes) cs && are_distinct cs

@@ -1,24 +1,17 @@
 -- What is claimed after a plan, one claim after the other, as the code looks at it.
-use Rattle.std.proofs.Common.{◌≡◌, ℕ, ◌+◌, ◌-◌, Bool, true, false, cond, not, ◌&&◌, ◌||◌, T, List, [], ◌∷◌, ◌++◌, length, map, take, drop, Some, refl, sym, ap, subst, ◌∙◌, arith}
+use Rattle.std.proofs.Common.{◌≡◌, ℕ, ◌+◌, ◌-◌, Bool, true, false, cond, not, ◌&&◌, T, List, [], ◌∷◌, ◌++◌, length, map, take, drop, refl, sym, ap, subst, ◌∙◌, arith}
 use Rattle.std.specs.Prelude.{sum_by, nat_eq, nat_le}
-use Rattle.std.specs.List.{AllByRecursion, list_all, list_any}
+use Rattle.std.specs.List.{AllByRecursion, list_all}
 use Rattle.std.proofs.lemmas.List.{take-append-drop, length-drop}
 use Rattle.std.proofs.Math.Seq.{take-length}
 use Rattle.std.proofs.lemmas.List.Sums.{sum_by-cons}
 use Rattle.rows.specs.declared.node.Node.{Node}
 use Rattle.rows.specs.declared.allocation.Allocation.{Allocation}
 use Rattle.rows.specs.declared.command.AcceptedPlan.{AcceptedPlan}
-use Rattle.fsm_tables.specs.Claims.{Claim, claim_of, claims, on_node, is_live}
-use Rattle.fsm_tables.specs.LiveNames.{is_called, live_named, name_of}
-use Rattle.fsm_tables.proofs.RowLaws.{both, first, second, less}
-use Rattle.rows.specs.declared.allocation.AllocId.{AllocId}
-use Rattle.rows.specs.Keys.{alloc_cmp, alloc_id}
-use Rattle.rows.specs.Rising.{is_below, is_rising}
 use Rattle.rows.proofs.Truth.{is_true}
-use Rattle.std.specs.Ordering.{is_lt, is_eq}
-use Rattle.cluster_model.proofs.Keys.{at_alloc}
-use Rattle.cluster_model.specs.Words.{State, is_some_and, same_alloc}
-use Rattle.cluster_model.specs.Safe.{is_safe, are_safe, is_within, same_name, are_distinct}
+use Rattle.fsm_tables.specs.Claims.{Claim, claim_of, claims, on_node, is_live}
+use Rattle.cluster_model.specs.Words.{State}
+use Rattle.cluster_model.specs.Safe.{is_safe, are_safe, is_within, are_distinct}
 use Rattle.cluster_model.specs.Effect.{with_next_count, stop, planned}
 use Rattle.cluster_model.proofs.SafeLaws.{Fewer, nothing, kept, gone, fewer_distinct, distinct_of, stop_releases}
 use Rattle.cluster_model.proofs.UseLaws.{Counts, number_fits, safe_by_numbers, low_numbers}
@@ -26,7 +19,7 @@ use Rattle.cluster_model.specs.Plans.{wanted, are_free, is_made, left, left_by, 
 use Rattle.cluster_model.proofs.PlanLaws.{all_wanted_count, all_append, distinct-append, kept_is_distinct}
 use Rattle.cluster_model.proofs.RangeLaws.{all_mapped}
 use Rattle.cluster_model.proofs.AfterLaws.{planned_is_safe, safe_is_planned, RowCounts, rows_count}
-use Rattle.fsm_state.specs.Inner.Claimed.{fits_steps, bears_node, is_first}
+use Rattle.fsm_state.specs.Inner.Claimed.{fits_steps, bears_node}
 use Rattle.cluster_model.proofs.Lists.{same_truth}
 
 one_step : (a s u : ℕ) → (nat_le a u && nat_le s (u - a)) ≡ nat_le (a + s) u
@@ -83,47 +76,6 @@ bears_is_safe p s k =
 
 -- ---- names
 
-is_apart : (x : AllocId) (b : Allocation) → T (is_lt (alloc_cmp x b.id)) → same_alloc b.id x ≡ false
-is_apart x b h = sym (at_alloc x b) ∙ ap is_eq (less _ h)
-
-is_other : (l s o : Bool) → s ≡ false → T (not l || s) → T (not l || o)
-is_other false s o e g = tt
-is_other true s o e g = absurd (subst T e g)
-
-one_first : (a : Allocation) (rest : List Allocation) (b : Allocation) → T (is_lt (alloc_cmp a.id b.id)) → T (is_first (a ∷ rest) b) → T (is_first rest b)
-one_first a rest b lt g =
-    elim (is_live a && is_called (name_of b) a) as (λ t. T (not (is_live b) || is_some_and (λ c. same_alloc b.id c.id) (cond t (Some a) (live_named (name_of b) rest))) → T (is_first rest b)) [
-      | true ↦ λ g. is_other (is_live b) (same_alloc b.id a.id) (is_some_and (λ c. same_alloc b.id c.id) (live_named (name_of b) rest)) (is_apart a.id b lt) g
-      | false ↦ λ g. g
-    ] g
-
-rest_first : (a : Allocation) (rest ys : List Allocation) → T (is_below alloc_cmp alloc_id a.id ys) → T (list_all (is_first (a ∷ rest)) ys) → T (list_all (is_first rest) ys)
-rest_first a rest [] h g = tt
-rest_first a rest (b ∷ ys) h g = both _ _ (one_first a rest b (first _ _ h) (first _ _ g)) (rest_first a rest ys (second _ _ h) (second _ _ g))
-
-none_like : (a : Allocation) (rest ys : List Allocation) → T (is_live a) → T (is_below alloc_cmp alloc_id a.id ys) → T (list_all (is_first (a ∷ rest)) ys) → T (not (list_any (same_name (claim_of a)) (claims ys)))
-none_like a rest [] live h g = tt
-none_like a rest (b ∷ ys) live h g =
-    let found : Bool → Bool → Bool = λ l t. is_some_and (λ c. same_alloc b.id c.id) (cond (l && t) (Some a) (live_named (name_of b) rest)) in
-    let behind : T (not (list_any (same_name (claim_of a)) (claims ys))) = none_like a rest ys live (second _ _ h) (second _ _ g) in
-    elim (is_live b) as (λ l. T (not l || found (is_live a) (is_called (name_of b) a)) → T (not (list_any (same_name (claim_of a)) (cond l (claim_of b ∷ claims ys) (claims ys))))) [
-      | true ↦ λ g. elim (is_called (name_of b) a) as (λ t. T (found (is_live a) t) → T (not (t || list_any (same_name (claim_of a)) (claims ys)))) [
-        | true ↦ λ g. absurd (subst T (is_apart a.id b (first _ _ h)) (subst (λ l. T (found l true)) (is_true (is_live a) live) g))
-        | false ↦ λ g. behind
-      ] g
-      | false ↦ λ g. behind
-    ] (first _ _ g)
-
--- where each live row is found by its name, names are held once
-pub distinct_by_first : (rows : List Allocation) → T (is_rising alloc_cmp alloc_id rows) → T (list_all (is_first rows) rows) → T (are_distinct (claims rows))
-distinct_by_first [] h g = tt
-distinct_by_first (a ∷ rows) h g =
-    let rest : T (are_distinct (claims rows)) = distinct_by_first rows (second _ _ h) (rest_first a rows rows (first _ _ h) (second _ _ g)) in
-    elim (is_live a) as (λ b. is_live a ≡ b → T (are_distinct (cond b (claim_of a ∷ claims rows) (claims rows)))) [
-      | true ↦ λ e. both _ _ (none_like a rows rows (subst T (sym e) tt) (first _ _ h) (second _ _ g)) rest
-      | false ↦ λ e. rest
-    ] refl
-
 fewer_left : (l m : Bool) (c : Claim) (cs ds : List Claim) → Fewer cs ds → Fewer (cond (l && not m) (c ∷ cs) cs) (cond l (c ∷ ds) ds)
 fewer_left true true c cs ds f = gone c cs ds f
 fewer_left true false c cs ds f = kept c cs ds f
@@ -146,9 +98,6 @@ front_distinct n cs h = both_distinct (take n cs) (drop n cs) h ∙ ap are_disti
 
 tail_itself : (n : ℕ) (cs : List Claim) → take (length cs - n) (drop n cs) ≡ drop n cs
 tail_itself n cs = ap (λ m. take m (drop n cs)) (sym (length-drop n cs)) ∙ take-length (drop n cs)
-
-pub named_once : (b : Bool) (rows : List Allocation) → T (is_rising alloc_cmp alloc_id rows) → b ≡ list_all (is_first rows) rows → b ≡ true → T (are_distinct (claims rows))
-named_once b rows h e is = distinct_by_first rows h (subst T (sym is ∙ e) tt)
 
 -- the answer where the names that are wanted are distinct, and where they are not
 pub front_yes : (n : ℕ) (cs : List Claim) (b c : Bool) → T (are_distinct (take n cs)) → b ≡ are_distinct (take (length cs - n) (drop n cs)) → c ≡ are_free (take n cs) (take (length cs - n) (drop n cs)) → b ≡ true → c ≡ are_distinct cs

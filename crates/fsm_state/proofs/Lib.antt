@@ -1,7 +1,6 @@
 pub mod Touching
 pub mod Losses
 pub mod Turns
-pub mod Filling
 pub mod Admitting
 pub mod StateTexts
 pub mod Alone

@@ -76,15 +76,22 @@ impl Cluster {
         }
     }
 
-    /// A state without rows, after so many commands.
-    pub(crate) fn at_count(alloc: Global, count: Index) -> Cluster
-        ensures { result ≡ record no_rows { count = count } }
+    /// The state of these tables, after so many commands.
+    pub(crate) fn of_tables(alloc: Global, count: Index, tables: Tables) -> Cluster
+        ensures { result ≡ record {
+          count = count;
+          jobs = tables.jobs;
+          nodes = tables.nodes;
+          evals = tables.evals;
+          allocs = tables.allocs;
+        } }
     {
+        let named_once = tables.are_named_once();
         Cluster {
             alloc,
             count,
-            tables: Tables::empty(alloc),
-            named_once: true,
+            tables,
+            named_once,
         }
     }
 
@@ -258,6 +265,13 @@ impl Cluster {
         ensures { Holds result → Holds (are_distinct (claims self.now.allocs)) }
     {
         self.named_once
+    }
+
+    /// Whether no two live allocations are of one name, by a walk over the live ones.
+    pub(crate) fn are_named_once(&self) -> bool
+        ensures { result ≡ are_distinct (claims self.now.allocs) }
+    {
+        self.tables.are_named_once()
     }
 
     /// Whether the live allocation that the name finds, if there is one, is among these.

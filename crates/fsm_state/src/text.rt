@@ -37,14 +37,7 @@ impl Field for Cluster {
         let (nodes, at) = read_long_ruled_list::<Node>(alloc, bytes, at, 64)?;
         let (evals, at) = read_long_ruled_list::<Evaluation>(alloc, bytes, at, 65_536)?;
         let (allocs, at) = read_long_ruled_list::<Allocation>(alloc, bytes, at, 65_536)?;
-        let state = Cluster::from_rows(
-            alloc,
-            count,
-            jobs.as_slice(),
-            nodes.as_slice(),
-            evals.as_slice(),
-            allocs.as_slice(),
-        )?;
+        let state = Cluster::from_rows(alloc, count, jobs, nodes, evals, allocs)?;
         Ok((state, at))
     }
 

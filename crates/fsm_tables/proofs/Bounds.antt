@@ -124,7 +124,7 @@ turned true false = refl
 turned false true = refl
 turned false false = refl
 
-called : (n : AllocName) (a : Allocation) → is_eq (alloc_name_cmp n (name_of a)) ≡ is_called n a
+pub called : (n : AllocName) (a : Allocation) → is_eq (alloc_name_cmp n (name_of a)) ≡ is_called n a
 called n a =
     eq_then (name_cmp n.job a.job) (ordering_then (name_cmp n.group a.group) (nat_cmp n.index a.index))
     ∙ ap (λ b. is_eq (name_cmp n.job a.job) && b) (eq_then (name_cmp n.group a.group) (nat_cmp n.index a.index))

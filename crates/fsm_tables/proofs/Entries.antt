@@ -3,16 +3,16 @@
 use Rattle.std.proofs.Common.{◌≡◌, Bool, true, false, not, cond, ◌&&◌, ◌⊎◌, inl, inr, T, List, [], ◌∷◌, Option, Some, None, refl, sym, ap, subst, ◌∙◌}
 use Rattle.std.specs.Prelude.{filter, map, ◌||◌, option_map}
 use Rattle.std.specs.Option.{option_and_then}
-use Rattle.std.specs.List.{list_any, slice_get, AllByRecursion}
+use Rattle.std.specs.List.{list_any, filter_map, cons_option, slice_get, AllByRecursion}
 use Rattle.std.specs.List.Sorted.{IsStrictlySortedBy}
 use Rattle.std.specs.declared.cmp.Ordering.{Ordering}
 use Rattle.std.specs.declared.cmp.Ordering.TheVariants.{Less, Equal, Greater}
 use Rattle.std.specs.declared.ops.Bound.TheVariants.{Included}
 use Rattle.std.specs.BTreeMap.{is_at}
 use Rattle.std.specs.BTreeMap.Range.{range_contains}
-use Rattle.std.specs.BTreeSet.{BTreeSet, contains}
+use Rattle.std.specs.BTreeSet.{BTreeSet, contains, IsFromIterResult}
 use Rattle.std.specs.Cmp.{IsTotalOrder, tied_itself, tied_back, alike_right, on_total, then_total, both_ways}
-use Rattle.std.specs.Ordering.{is_eq, is_le, is_lt, ordering_then, ordering_reverse}
+use Rattle.std.specs.Ordering.{eq_by_cmp, is_eq, is_le, is_lt, ordering_then, ordering_reverse}
 use Rattle.rows.specs.declared.allocation.AllocId.{AllocId}
 use Rattle.rows.specs.declared.allocation.Allocation.{Allocation}
 use Rattle.rows.specs.Keys.{alloc_cmp, alloc_id}
@@ -21,7 +21,7 @@ use Rattle.fsm_tables.specs.declared.index.Entry.{Entry}
 use Rattle.fsm_tables.specs.Inner.Index.{entry_cmp, entry_under, entry_of, is_entry, AreIndexed, IsSame, Gains, Loses, has_id, is_entry_within, is_between, passes, entries_between, AreIdsOf}
 use Rattle.fsm_tables.specs.Rows.{row_of, put}
 use Rattle.rows.specs.Rising.{is_rising}
-use Rattle.fsm_tables.proofs.RowLaws.{equal, row_of-put}
+use Rattle.fsm_tables.proofs.RowLaws.{first, second, equal, none_below, below_tied, row_of-put}
 use Rattle.fsm_tables.proofs.Filters.{exact_ids, row_found, rows_are_filtered, first_row}
 
 -- the entry of a row has its id
@@ -42,7 +42,7 @@ only Equal lo hi h = refl
 only Greater lo hi h = absurd cc
 
 module _ {K : Type 0} (R : K → K → Ordering) (o : IsTotalOrder R) where
-  entries_total : IsTotalOrder (entry_cmp R)
+  pub entries_total : IsTotalOrder (entry_cmp R)
   entries_total = then_total (on_total (λ (e : Entry K). e.key) o) (on_total (λ (e : Entry K). e.id) alloc_cmp_total)
 
   -- whether an entry is kept is the same at each entry that it ties with
@@ -69,7 +69,7 @@ module _ {K : Type 0} (R : K → K → Ordering) (o : IsTotalOrder R) where
 
   -- ---- a put
 
-  then_ids : (r s : Ordering) → ordering_then r s ≡ Equal → s ≡ Equal
+  pub then_ids : (r s : Ordering) → ordering_then r s ≡ Equal → s ≡ Equal
   then_ids Less s h = absurd cc
   then_ids Equal s h = h
   then_ids Greater s h = absurd cc
@@ -147,6 +147,32 @@ module _ {K : Type 0} (R : K → K → Ordering) (o : IsTotalOrder R) where
 
   pub none_indexed : (key_of : Allocation → Option K) (s : BTreeSet (Entry K)) → s.keys ≡ [] → AreIndexed R key_of [] s
   none_indexed key_of s none k = ap (list_any (is_at (entry_cmp R k))) none
+
+  -- ---- rows in rising id, all at once
+
+  row_entry : (z : Option (Entry K)) (e : Entry K) (es : List (Entry K)) → list_any (eq_by_cmp (entry_cmp R) e) (cons_option z es) ≡ (is_entry R z e || list_any (eq_by_cmp (entry_cmp R) e) es)
+  row_entry None e es = refl
+  row_entry (Some x) e es = ap (λ b. b || list_any (eq_by_cmp (entry_cmp R) e) es) (ap is_eq (entries_total.antisymm e x) ∙ tie_reversed (entry_cmp R x e))
+
+  one_of_two : (same here there : Bool) → (here ≡ true → same ≡ true) → (same ≡ true → there ≡ false) → (here || there) ≡ cond same here there
+  one_of_two true true there h t = refl
+  one_of_two true false there h t = t refl
+  one_of_two false true there h t = let never : false ≡ true = h refl in absurd cc
+  one_of_two false false there h t = refl
+
+  module _ (key_of : Allocation → Option K) where
+    any_entry : (rows : List Allocation) (e : Entry K) → T (is_rising alloc_cmp alloc_id rows)
+        → list_any (eq_by_cmp (entry_cmp R) e) (filter_map (λ r. entry_of key_of (Some r)) rows) ≡ is_entry R (entry_of key_of (row_of alloc_cmp alloc_id e.id rows)) e
+    any_entry [] e h = refl
+    any_entry (a ∷ rows) e h =
+        row_entry (entry_of key_of (Some a)) e (filter_map (λ r. entry_of key_of (Some r)) rows)
+        ∙ ap (λ b. is_entry R (entry_of key_of (Some a)) e || b) (any_entry rows e (second _ _ h))
+        ∙ one_of_two (is_eq (alloc_cmp e.id a.id)) _ _ (own_id a (key_of a) e) (λ t.
+        ap (λ r. is_entry R (entry_of key_of r) e) (none_below alloc_cmp alloc_id alloc_cmp_total e.id rows (below_tied alloc_cmp alloc_id alloc_cmp_total e.id a.id rows (equal _ (subst T (sym t) tt)) (first _ _ h))))
+        ∙ sym (entry_either key_of a rows (is_eq (alloc_cmp e.id a.id)) (row_of alloc_cmp alloc_id e.id rows) e)
+
+    pub rows_indexed : (rows : List Allocation) (s : BTreeSet (Entry K)) → T (is_rising alloc_cmp alloc_id rows) → IsFromIterResult (entry_cmp R) (filter_map (λ r. entry_of key_of (Some r)) rows) s → AreIndexed R key_of rows s
+    rows_indexed rows s rising made e = made.0 e ∙ any_entry rows e rising
 
   -- ---- the ids between two entries
 

@@ -6,5 +6,6 @@ pub mod Entries
 pub mod Filters
 pub mod Bounds
 pub mod Listed
+pub mod NamedOnce
 pub mod ReservedTables
 pub mod Urgencies

@@ -1,7 +1,8 @@
 -- How the sums change as one allocation's row is made or replaced.
-use Rattle.std.proofs.Common.{◌≡◌, ℕ, ◌+◌, ◌*◌, ◌<◌, ◌≤◌, length, ◌∷◌, Bool, true, false, cond, T, List, [], Option, Some, refl, sym, ap, zero, suc, replicate, ◌∙◌, ◌^◌, arith}
+use Rattle.std.proofs.Common.{◌≡◌, ℕ, ◌+◌, ◌*◌, ◌<◌, ◌≤◌, length, ◌∷◌, Bool, true, false, cond, T, List, [], Option, Some, refl, sym, ap, zero, suc, replicate, ◌∙◌, ◌^◌, arith, drop, get_or}
 use Rattle.std.specs.Prelude.{sum_by, slice_index, nat_eq}
 use Rattle.std.specs.List.{AllByRecursion}
+use Rattle.std.proofs.lemmas.List.{drop_more}
 use Rattle.std.proofs.lemmas.List.Sums.{sum_by-cons}
 use Rattle.rows.specs.declared.size.Size.{Size}
 use Rattle.rows.specs.declared.allocation.Allocation.{Allocation}
@@ -100,6 +101,41 @@ zeros (suc k) (suc n) = zeros k n
 
 pub none_summed : (part : Size → ℕ) → AreSummed part [] (replicate 65 0)
 none_summed part n lt = zeros 65 n
+
+-- ---- sums of all rows, added up in one walk
+
+-- but for the rows that are left, each node's number is the sum over the live allocations on it
+abbrev pub AreSummedBut : (Size → ℕ) → List Allocation → List Allocation → List ℕ → Type 0
+AreSummedBut part left rows sums = (n : ℕ) → n < 65 → slice_index sums n + sum_by (on_node n part) (claims left) ≡ sum_by (on_node n part) (claims rows)
+
+pub summed_begin : (part : Size → ℕ) (rows : List Allocation) → AreSummedBut part rows rows (replicate 65 0)
+summed_begin part rows n lt = let none : slice_index (replicate 65 0) n ≡ 0 = zeros 65 n in omega (arith, none)
+
+no_more : (b : Bool) (x : ℕ) → x ≡ 0 → cond b x x ≡ 0
+no_more true x e = e
+no_more false x e = e
+
+-- one more row
+pub summed_step : (part : Size → ℕ) (rows : List Allocation) (i : ℕ) (a : Allocation) (old new : List ℕ) (to : ℕ × ℕ) → AreSummedBut part (drop i rows) rows old → i < length rows → a ≡ get_or rows i a → Adds part (Some a) to
+    → ((n : ℕ) → n < 65 → slice_index new n + cond (nat_eq 0 n) 0 0 ≡ slice_index old n + cond (nat_eq to.0 n) to.1 0) → AreSummedBut part (drop (i + 1) rows) rows new
+summed_step part rows i a old new to s lt is t shift n small =
+    let w = on_node n part in
+    let before : slice_index old n + sum_by w (claims (drop i rows)) ≡ sum_by w (claims rows) = s n small in
+    let one : slice_index new n + cond (nat_eq 0 n) 0 0 ≡ slice_index old n + cond (nat_eq to.0 n) to.1 0 = shift n small in
+    let gain : cond (nat_eq to.0 n) to.1 0 ≡ weight w a = t n in
+    let zero_less : ℕ = 0 in
+    let none : cond (nat_eq 0 n) zero_less zero_less ≡ zero_less = no_more (nat_eq 0 n) zero_less refl in
+    let left : sum_by w (claims (drop i rows)) ≡ weight w a + sum_by w (claims (drop (i + 1) rows)) =
+    ap (λ zs. sum_by w (claims zs)) (drop_more rows i a lt ∙ ap (λ z. z ∷ drop (i + 1) rows) (sym is)) ∙ more w (claim_of a) (is_live a) (claims (drop (i + 1) rows)) _ refl in
+    omega (arith, before, one, gain, none, left)
+
+-- and each has room for one more
+pub room_left : (part : Size → ℕ) → IsPart part → (left rows : List Allocation) (old : List ℕ) (to : ℕ × ℕ) → AreSummedBut part left rows old → AllByRecursion AllocationFits rows → length rows ≤ 65536 → to.0 < 65 → to.1 ≤ 1000000
+    → slice_index old to.0 + to.1 < 2 ^ 64
+room_left part small left rows old to s fit few place le =
+    let sum : slice_index old to.0 + sum_by (on_node to.0 part) (claims left) ≡ sum_by (on_node to.0 part) (claims rows) = s to.0 place in
+    let bound : sum_by (on_node to.0 part) (claims rows) ≤ length rows * 1000000 = sum_bound part small to.0 rows fit in
+    omega arith
 
 -- ---- a row's share
 

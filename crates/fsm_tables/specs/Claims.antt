@@ -1,5 +1,6 @@
 -- What the live allocations hold: room on a node, and a name.
-use Rattle.std.specs.Prelude.{ℕ, Bool, true, false, cond, ◌&&◌, List, [], ◌∷◌, nat_eq, sum_by}
+use Rattle.std.specs.Prelude.{ℕ, Bool, true, false, not, cond, ◌&&◌, List, [], ◌∷◌, nat_eq, bytes_eq, sum_by}
+use Rattle.std.specs.List.{list_any}
 use Rattle.rows.specs.declared.size.Size.{Size}
 use Rattle.rows.specs.declared.allocation.Desired.{Desired}
 use Rattle.rows.specs.declared.allocation.Desired.TheVariants as desires
@@ -36,6 +37,15 @@ claim_of a = record { job = a.job; group = a.group; index = a.index; node = a.no
 abbrev pub claims : List Allocation → List Claim
 claims [] = []
 claims (a ∷ others) = cond (is_live a) (claim_of a ∷ claims others) (claims others)
+
+-- two claims are of one name `job.group[index]`
+abbrev pub same_name : Claim → Claim → Bool
+same_name c d = bytes_eq c.job d.job && bytes_eq c.group d.group && nat_eq c.index d.index
+
+-- no two claims are of one name
+abbrev pub are_distinct : List Claim → Bool
+are_distinct [] = true
+are_distinct (c ∷ cs) = not (list_any (same_name c) cs) && are_distinct cs
 
 -- what a claim takes of a node: a part of its size, if it names the node
 abbrev pub on_node : ℕ → (Size → ℕ) → Claim → ℕ

@@ -1,7 +1,7 @@
 ghost use Rattle.std.specs.Prelude.{◌≡◌, List, [], ◌≤◌, OnOk, OnErr, IfOk, filter, option_map, length, nat_lt, ◌||◌, T as Holds};
 ghost use Rattle.fsm_tables.specs.Rows.{row_of, has_row, put, put_within};
 ghost use Rattle.rows.specs.Keys.{alloc_cmp, alloc_id};
-ghost use Rattle.fsm_tables.specs.Claims.{claims, used};
+ghost use Rattle.fsm_tables.specs.Claims.{claims, used, are_distinct};
 ghost use Rattle.fsm_tables.specs.LiveNames.{live_named};
 ghost use Rattle.fsm_tables.specs.Lookups.{lives_as, lives_for, lives_on, is_active_on};
 
@@ -10,7 +10,7 @@ use crate::indexes::{Indexes, put_indexed};
 use crate::listing::{first_under, rows_between};
 use crate::name::AllocName;
 use crate::table::Table;
-use crate::usage::{Usage, held_by, shift};
+use crate::usage::{Usage, held_by, shift, sums_of};
 use rows::{AllocId, Allocation, JobName, NoMemory, NodeId, Sequence};
 use std::alloc::Global;
 use std::marker::Model;
@@ -59,6 +59,21 @@ impl Allocations {
             mem: [0; 65],
             indexes: Indexes::empty(alloc),
         }
+    }
+
+    /// These rows: the sums are added up in one walk, and each index is brought into order at once.
+    pub fn of_rows(rows: Table<Allocation>) -> Result<Allocations, NoMemory>
+        requires { length rows ≤ 65536 }
+        ensures { IfOk result (λ a. a ≡ rows) }
+    {
+        let (cpu, mem) = sums_of(&rows);
+        let indexes = Indexes::of_rows(rows.memory(), rows.rows())?;
+        Ok(Allocations {
+            rows,
+            cpu,
+            mem,
+            indexes,
+        })
     }
 
     /// The same rows once more.
@@ -135,6 +150,14 @@ impl Allocations {
         let least = first(OnNode::stopping(node));
         let greatest = last(OnNode::live(node));
         rows_between(&self.rows, &self.indexes.nodes, least, greatest)
+    }
+
+    /// Whether no two live allocations are of one name.
+    pub fn are_named_once(&self) -> bool
+        ensures { result ≡ are_distinct (claims self.now) }
+    {
+        self.rows.ranges();
+        self.indexes.names.has_keys_once()
     }
 
     /// The row of an id.

@@ -1,9 +1,13 @@
 //! An index of allocations: an entry for each row that is listed, in the order of what it is listed
 //! by, and then of its id.
-ghost use Rattle.std.specs.Prelude.{◌≡◌, OnOk, OnErr, IfOk, option_map, []};
+ghost use Rattle.std.specs.Prelude.{◌≡◌, OnOk, OnErr, IfOk, option_map, [], Some, T as Holds};
+ghost use Rattle.std.specs.List.{filter_map};
 ghost use Rattle.std.specs.BTreeSet.{IsOrdered};
 ghost use Rattle.std.specs.BTreeMap.Range.{IsLeBy};
-ghost use Rattle.fsm_tables.specs.Inner.Index.{entry_cmp, entry_of, is_entry, IsSame, Gains, Loses, HasIdsBetween, first_id};
+ghost use Rattle.rows.specs.Keys.{alloc_cmp, alloc_id};
+ghost use Rattle.rows.specs.Rising.{is_above, is_rising};
+ghost use Rattle.fsm_tables.specs.declared.index.Entry.{Entry as AnyEntry};
+ghost use Rattle.fsm_tables.specs.Inner.Index.{entry_cmp, entry_of, is_entry, AreIndexed, IsSame, Gains, Loses, HasIdsBetween, first_id};
 
 use rows::{AllocId, Allocation, NoMemory};
 use std::alloc::{AllocError, Global};
@@ -56,6 +60,19 @@ pub(crate) fn entry_of<K: IndexKey>(row: Option<&Allocation>) -> Option<Entry<K>
     Some(Entry { key, id: row.id })
 }
 
+/// The entries of rows, in the order of the rows.
+fn entries_of<K: IndexKey>(alloc: Global, rows: &[Allocation]) -> Result<Vec<Entry<K>>, NoMemory>
+    ensures { IfOk result (λ es. es.items ≡ filter_map (λ r. entry_of K.key_of (Some r)) rows.now) }
+{
+    let mut entries = Vec::new(alloc);
+    for row in rows {
+        if let Some(entry) = entry_of(Some(row)) {
+            entries.push(entry)?;
+        }
+    }
+    Ok(entries)
+}
+
 /// Whether there is an entry and it is this one.
 fn is_this<K: IndexKey>(entry: &Option<Entry<K>>, other: &Entry<K>) -> bool
     ensures { result ≡ is_entry K.cmp entry.now other.now }
@@ -63,6 +80,16 @@ fn is_this<K: IndexKey>(entry: &Option<Entry<K>>, other: &Entry<K>) -> bool
     match entry {
         Some(entry) => entry.cmp(other).is_eq(),
         None => false,
+    }
+}
+
+/// Whether an entry's key is above that of the last one, if there is one.
+fn is_above<K: IndexKey>(last: &Option<Entry<K>>, entry: &Entry<K>) -> bool
+    ensures { result ≡ is_above K.cmp (λ (e : AnyEntry K). e.key) last.now entry.now.key }
+{
+    match last {
+        Some(last) => last.key.cmp(&entry.key).is_lt(),
+        None => true,
     }
 }
 
@@ -89,6 +116,15 @@ impl<K: IndexKey> AllocIndex<K> {
         AllocIndex {
             entries: BTreeSet::new(alloc),
         }
+    }
+
+    /// The index of rows in rising id: all entries are brought into order at once.
+    pub fn of_rows(alloc: Global, rows: &[Allocation]) -> Result<AllocIndex<K>, NoMemory>
+        requires { Holds (is_rising alloc_cmp alloc_id rows.now) }
+        ensures { IfOk result (λ index. AreIndexed K.cmp K.key_of rows.now index) }
+    {
+        let entries = BTreeSet::from_iter(alloc, entries_of::<K>(alloc, rows)?)?;
+        Ok(AllocIndex { entries })
     }
 
     /// The same index once more, made by a copy, in time of the entries.
@@ -119,6 +155,22 @@ impl<K: IndexKey> AllocIndex<K> {
                 self.entries.remove(entry);
             }
         }
+    }
+
+    /// Whether no two entries are of one key: in the order of the keys each is above the last one.
+    pub fn has_keys_once(&self) -> bool
+        ensures once { result ≡ is_rising K.cmp (λ (e : AnyEntry K). e.key) self.now.keys }
+        ensures ordered { IsOrdered (entry_cmp K.cmp) self.now }
+    {
+        let _count = self.entries.len();
+        let mut last = None;
+        for entry in &self.entries {
+            if !is_above(&last, entry) {
+                return false;
+            }
+            last = Some(*entry);
+        }
+        true
     }
 
     /// The ids of the entries from one to another, in rising order.

@@ -1,6 +1,7 @@
 //! The two indexes of the allocations' rows, and a put that keeps them.
-ghost use Rattle.std.specs.Prelude.{◌≡◌, ◌⊎◌, [], OnOk, OnErr, IfOk, option_map};
+ghost use Rattle.std.specs.Prelude.{◌≡◌, ◌⊎◌, [], OnOk, OnErr, IfOk, option_map, T as Holds};
 ghost use Rattle.rows.specs.Keys.{alloc_cmp, alloc_id};
+ghost use Rattle.rows.specs.Rising.{is_rising};
 ghost use Rattle.fsm_tables.specs.Inner.Index.{entry_of, IsSame, Gains, Loses};
 ghost use Rattle.fsm_tables.specs.Inner.Keys.{alloc_name_cmp, live_name, on_node_cmp, active_on, AreListed};
 ghost use Rattle.fsm_tables.specs.Rows.{put};
@@ -51,6 +52,17 @@ impl Indexes {
             names: AllocIndex::empty(alloc),
             nodes: AllocIndex::empty(alloc),
         }
+    }
+
+    /// The entries of rows in rising id.
+    pub fn of_rows(alloc: Global, rows: &[Allocation]) -> Result<Indexes, NoMemory>
+        requires { Holds (is_rising alloc_cmp alloc_id rows.now) }
+        ensures { IfOk result (λ indexes. AreListed rows.now indexes) }
+    {
+        Ok(Indexes {
+            names: AllocIndex::of_rows(alloc, rows)?,
+            nodes: AllocIndex::of_rows(alloc, rows)?,
+        })
     }
 
     /// The same entries once more.

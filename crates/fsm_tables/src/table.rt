@@ -4,7 +4,7 @@ ghost use Rattle.rows.specs.Rising.{is_rising};
 ghost use Rattle.fsm_tables.specs.Rows.{row_of, put, put_within};
 ghost use Rattle.fsm_tables.specs.Inner.Places.{PlaceOf};
 
-use rows::{NoMemory, Ranged, Sequence};
+use rows::{NoMemory, Ranged, Sequence, all_ranges};
 use std::alloc::Global;
 use std::marker::Model;
 
@@ -87,6 +87,16 @@ impl<T: Row> Table<T> {
         Table {
             rows: Vec::new(alloc),
         }
+    }
+
+    /// The table of these rows, which are in strictly rising key: without a search for each, and
+    /// without memory.
+    pub fn of_rising(rows: Vec<T>) -> Table<T>
+        requires { Holds (is_rising T.Key.cmp T.key_of rows.items) }
+        ensures { result ≡ rows.items }
+    {
+        all_ranges(&rows);
+        Table { rows }
     }
 
     /// Where it takes its memory from.

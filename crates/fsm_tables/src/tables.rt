@@ -1,8 +1,8 @@
-ghost use Rattle.std.specs.Prelude.{◌≡◌, OnOk, OnErr, IfOk, filter, option_map, length};
+ghost use Rattle.std.specs.Prelude.{◌≡◌, ◌≤◌, OnOk, OnErr, IfOk, filter, option_map, length};
 ghost use Rattle.std.specs.Ordering.{nat_cmp};
 ghost use Rattle.rows.specs.Keys.{name_cmp, eval_cmp, alloc_cmp, job_name, node_number, eval_id, alloc_id};
 ghost use Rattle.fsm_tables.specs.Rows.{row_of, put_within};
-ghost use Rattle.fsm_tables.specs.Claims.{claims, used};
+ghost use Rattle.fsm_tables.specs.Claims.{claims, used, are_distinct};
 ghost use Rattle.fsm_tables.specs.LiveNames.{live_named};
 ghost use Rattle.fsm_tables.specs.Lookups.{lives_as, lives_for, lives_on, is_active_on};
 ghost use Rattle.fsm_tables.specs.TableRows.{no_rows, TablesFit};
@@ -61,6 +61,28 @@ impl Tables {
             evals: Table::empty(alloc),
             allocs: Allocations::empty(alloc),
         }
+    }
+
+    /// The tables of these rows. Each sum of what nodes have in use is added up in one walk, and
+    /// each index is brought into order at once. `NoMemory` where there is no memory for an index.
+    pub fn of_rows(
+        jobs: Table<Job>,
+        nodes: Table<Node>,
+        evals: Table<Evaluation>,
+        allocs: Table<Allocation>,
+    ) -> Result<Tables, NoMemory>
+        requires jobs { length jobs ≤ 256 }
+        requires nodes { length nodes ≤ 64 }
+        requires evals { length evals ≤ 65536 }
+        requires allocs { length allocs ≤ 65536 }
+        ensures { IfOk result (λ t. t ≡ record { jobs = jobs; nodes = nodes; evals = evals; allocs = allocs }) }
+    {
+        Ok(Tables {
+            jobs,
+            nodes,
+            evals,
+            allocs: Allocations::of_rows(allocs)?,
+        })
     }
 
     /// The same tables once more: each list, index and sum is copied as it is, in time of the rows
@@ -144,6 +166,13 @@ impl Tables {
         ensures { IfOk result (λ rows. rows ≡ filter (is_active_on node) self.now.allocs) }
     {
         self.allocs.active_on(node)
+    }
+
+    /// Whether no two live allocations are of one name. It takes one walk over the index by name.
+    pub fn are_named_once(&self) -> bool
+        ensures { result ≡ are_distinct (claims self.now.allocs) }
+    {
+        self.allocs.are_named_once()
     }
 
     /// What the live allocations on a node take of it: the sums of their processor time and of

@@ -1,7 +1,8 @@
-ghost use Rattle.std.specs.Prelude.{◌≡◌, ◌≤◌, ◌<◌, ◌+◌, ◌^◌, ℕ, Some, cond, nat_eq, slice_index, option_map};
+ghost use Rattle.std.specs.Prelude.{◌≡◌, ◌≤◌, ◌<◌, ◌+◌, ◌^◌, ℕ, Some, cond, length, nat_eq, slice_index, option_map};
 ghost use Rattle.fsm_tables.specs.Claims.{is_wanted, is_active, is_live};
-ghost use Rattle.fsm_tables.specs.Inner.Sums.{IsShare};
+ghost use Rattle.fsm_tables.specs.Inner.Sums.{AreSummed, IsShare};
 
+use crate::table::Table;
 use rows::{Allocation, ClientState, Desired};
 
 /// What the live allocations on a node take of it together: sums of processor time in MHz and of
@@ -93,4 +94,21 @@ pub(crate) fn shift(sums: &mut [u64; 65], to: (usize, u64), from: (usize, u64))
 {
     sums[to.0] += to.1;
     sums[from.0] -= from.1;
+}
+
+/// What the live ones of the rows take of each node, by node number: sums of processor time and of
+/// memory, added up in one walk.
+pub(crate) fn sums_of(rows: &Table<Allocation>) -> ([u64; 65], [u64; 65])
+    requires { length rows.now ≤ 65536 }
+    ensures cpu { AreSummed (λ z. z.cpu) rows.now result.0 }
+    ensures mem { AreSummed (λ z. z.mem) rows.now result.1 }
+{
+    let mut cpu = [0; 65];
+    let mut mem = [0; 65];
+    for row in rows.rows() {
+        let share = held(row);
+        shift(&mut cpu, (share.node, share.cpu), (0, 0));
+        shift(&mut mem, (share.node, share.mem), (0, 0));
+    }
+    (cpu, mem)
 }

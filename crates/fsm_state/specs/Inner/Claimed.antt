@@ -1,10 +1,9 @@
 -- What is claimed after a plan, one claim after the other, as the code looks at it.
-use Rattle.std.specs.Prelude.{T, take, ℕ, ◌-◌, Bool, true, not, ◌&&◌, ◌||◌, List, [], ◌∷◌, nat_eq, nat_le, if◌then◌else◌}
+use Rattle.std.specs.Prelude.{T, take, ℕ, ◌-◌, Bool, true, not, ◌&&◌, List, [], ◌∷◌, nat_eq, nat_le, if◌then◌else◌}
 use Rattle.rows.specs.declared.node.Node.{Node}
 use Rattle.rows.specs.declared.allocation.Allocation.{Allocation}
 use Rattle.fsm_tables.specs.Claims.{Claim, claim_of, claims, is_live}
-use Rattle.fsm_tables.specs.LiveNames.{live_named, name_of}
-use Rattle.cluster_model.specs.Words.{State, is_some_and, same_alloc}
+use Rattle.cluster_model.specs.Words.{State}
 use Rattle.cluster_model.specs.Safe.{are_distinct}
 use Rattle.cluster_model.specs.Plans.{is_made}
 
@@ -28,7 +27,3 @@ left_one x n a rest = if is_live a && not (is_made x 0 n a) then (claim_of a ∷
 -- the first claims are of rows of the state: they are of names held once, if the state's are
 abbrev pub HeldOnce : ℕ → List Claim → State → Type 0
 HeldOnce held cs s = T (are_distinct (claims s.allocs)) → T (are_distinct (take held cs))
-
--- whether a row that is live is the one that its name finds
-abbrev pub is_first : List Allocation → Allocation → Bool
-is_first rows a = not (is_live a) || is_some_and (λ b. same_alloc a.id b.id) (live_named (name_of a) rows)

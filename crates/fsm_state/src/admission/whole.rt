@@ -5,13 +5,13 @@ ghost use Rattle.rows.specs.Limits.{most_allocs};
 ghost use Rattle.cluster_model.specs.Safe.{is_safe, is_placed, are_distinct, are_safe};
 ghost use Rattle.cluster_model.specs.Effect.{with_next_count, planned, stop};
 ghost use Rattle.cluster_model.specs.Plans.{are_free, is_made, left_by};
-ghost use Rattle.fsm_state.specs.Inner.Claimed.{bears_node, left_one, is_first, HeldOnce};
+ghost use Rattle.fsm_state.specs.Inner.Claimed.{bears_node, left_one, HeldOnce};
 ghost use Rattle.rows.specs.declared.allocation.Allocation.{Allocation as Row};
 ghost use Rattle.fsm_tables.specs.Claims.{Claim as AnyClaim};
 
 use crate::admission::claims::{Claim, add_wanted, are_distinct, claim_by, is_claimed};
 use crate::cluster::{Cluster, is_among};
-use fsm_tables::{AllocName, is_live};
+use fsm_tables::is_live;
 use rows::{AcceptedPlan, AllocId, Allocation, Desired, NoMemory, Node, Ranged, Sequence};
 
 /// A row after the stops of a plan.
@@ -68,32 +68,6 @@ fn are_free(claims: &[Claim], others: &[Claim]) -> bool
 }
 
 impl Cluster {
-    /// Whether a row, where it is live, is the one that its name finds.
-    fn is_first(&self, row: &Allocation) -> bool
-        ensures { result ≡ is_first self.now.allocs row.now }
-    {
-        if is_live(row) {
-            match self.live_named(&AllocName::of(row)) {
-                Some(other) => row.id == other.id,
-                None => false,
-            }
-        } else {
-            true
-        }
-    }
-
-    /// Whether each live row is the one that its name finds: then no two are of one name.
-    fn are_named_once(&self) -> bool
-        ensures { result ≡ list_all (is_first self.now.allocs) self.now.allocs }
-    {
-        for row in self.alloc_table().rows() {
-            if !self.is_first(row) {
-                return false;
-            }
-        }
-        true
-    }
-
     /// Whether no two claims are of one name, where the first `held` are of rows of this state: if
     /// names are held once in it, the others are looked at alone.
     fn are_held_once(&self, claims: &[Claim], held: usize) -> bool
@@ -101,7 +75,6 @@ impl Cluster {
         requires held { HeldOnce held claims.now self.now }
         ensures { result ≡ are_distinct claims.now }
     {
-        self.ranges();
         if self.are_named_once() {
             are_distinct(&claims[held..]) && are_free(&claims[..held], &claims[held..])
         } else {
