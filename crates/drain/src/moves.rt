@@ -2,9 +2,9 @@ ghost use Rattle.std.specs.Prelude.{◌≡◌, ◌⊎◌, [], Ok, Err, IfOk, IfE
 ghost use Rattle.std.specs.List.{list_any};
 ghost use Rattle.rows.specs.declared.refusal.Refusal.TheVariants as refusals;
 ghost use Rattle.rows.specs.declared.node.DrainMode.TheVariants as drains;
-ghost use Rattle.group_model.specs.Drains.{is_done as nothing_lives, next_moves as moves_next, moves_of};
-ghost use Rattle.group_model.specs.Drains.{group_moves as moves_already, firsts};
-ghost use Rattle.drain.specs.Inner.Groups.{is_met as has_met, first_stays};
+ghost use Rattle.group_model.specs.Drains.{is_done, next_moves, moves_of};
+ghost use Rattle.group_model.specs.Drains.{group_moves, firsts};
+ghost use Rattle.drain.specs.Inner.Groups.{is_met, first_stays};
 
 use crate::group::JobGroup;
 use fsm_state::Cluster;
@@ -18,7 +18,7 @@ const MOST: usize = 64;
 /// Whether nothing lives on a node, so that its drain is done. It takes one step, and no memory.
 /// (Nomad documentation, "node drain" command.)
 pub fn is_done(state: &Cluster, node: NodeId) -> bool
-    ensures { result ≡ nothing_lives node state.now }
+    ensures { result ≡ is_done node state.now }
 {
     state.alloc_table().ranges();
     let in_use = state.used(node).cpu > 0;
@@ -61,7 +61,7 @@ fn has_marked(rows: &[Allocation], group: &GroupName) -> bool
 
 /// Whether a live allocation of the job and group of this one is on the move, on whichever node.
 fn group_moves(state: &Cluster, row: &Allocation) -> Result<bool, NoMemory>
-    ensures { IfOk result (λ moves. moves ≡ moves_already state.now.allocs row.now) }
+    ensures { IfOk result (λ moves. moves ≡ group_moves state.now.allocs row.now) }
 {
     let rows = state.live_of_job(&row.job)?;
     Ok(has_marked(rows.as_slice(), &row.group))
@@ -69,7 +69,7 @@ fn group_moves(state: &Cluster, row: &Allocation) -> Result<bool, NoMemory>
 
 /// Whether the job and group of an allocation are among these.
 fn is_met(groups: &Table<JobGroup>, row: &Allocation) -> bool
-    ensures { result ≡ has_met groups.now row.now }
+    ensures { result ≡ is_met groups.now row.now }
 {
     groups.get(&JobGroup::of(row)).is_some()
 }
@@ -120,8 +120,8 @@ pub fn next_moves(
     state: &Cluster,
     node: NodeId,
 ) -> Result<Sequence<AllocId>, Refusal>
-    ensures ok { IfOk result (λ ids. moves_next state.now node ≡ Ok ids) }
-    ensures err { let moves = moves_next state.now node in
+    ensures ok { IfOk result (λ ids. next_moves state.now node ≡ Ok ids) }
+    ensures err { let moves = next_moves state.now node in
         IfErr result (λ e. (e ≡ refusals.NoMemory) ⊎ (moves ≡ Err e)) }
 {
     let Some(row) = state.node(node) else {
