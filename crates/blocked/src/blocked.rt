@@ -1,6 +1,6 @@
 ghost use Rattle.std.specs.Prelude.{◌≡◌, [], OnOk, OnErr, IfOk, filter, map};
-ghost use Rattle.group_model.specs.Order.{in_order as all_in_order};
-ghost use Rattle.group_model.specs.Blocked.{BlockedEval as AnyBlockedEval, blocked_id, due as all_due, made_due};
+ghost use Rattle.group_model.specs.Order.{in_order};
+ghost use Rattle.group_model.specs.Blocked.{BlockedEval as AnyBlockedEval, blocked_id, due, made_due};
 ghost use Rattle.group_model.specs.Blocked.{with_blocked, without_blocked, with_class_room, blocked_over, blocked_with_job};
 ghost use Rattle.blocked.specs.Rooms.{blocked_of};
 ghost use Rattle.blocked.specs.Inner.Anew.{is_of};
@@ -113,8 +113,8 @@ impl Blocked {
     /// The ids of the evaluations that are due, higher priority first and then lower id.
     pub fn due(&self, alloc: Global) -> Result<Sequence<EvalId>, NoMemory>
         ensures { let priority = λ (b : AnyBlockedEval). b.row.priority in
-            let due = all_in_order priority (all_due (blocked_of self.now)) in
-            IfOk result (λ ids. ids ≡ map blocked_id due) }
+            let all = in_order priority (due (blocked_of self.now)) in
+            IfOk result (λ ids. ids ≡ map blocked_id all) }
     {
         let urgencies = due_now(alloc, &self.rooms, self.evals.rows())?;
         let ids = in_order(alloc, urgencies.as_slice())?;

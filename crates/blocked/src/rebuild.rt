@@ -1,6 +1,6 @@
 //! The blocked evaluations of a whole state.
 ghost use Rattle.std.specs.Prelude.{◌≡◌, IfOk, filter, map};
-ghost use Rattle.cluster_model.specs.Words.{is_blocked as stands_blocked};
+ghost use Rattle.cluster_model.specs.Words.{is_blocked};
 ghost use Rattle.group_model.specs.Blocked.{blocked_eval, room_over};
 ghost use Rattle.blocked.specs.Rooms.{room_in};
 
@@ -13,7 +13,7 @@ use std::alloc::Global;
 
 /// Whether an evaluation is blocked.
 fn is_blocked(row: &Evaluation) -> bool
-    ensures { result ≡ stands_blocked row.now.status }
+    ensures { result ≡ is_blocked row.now.status }
 {
     match row.status {
         EvalStatus::Blocked => true,
@@ -48,7 +48,7 @@ pub(crate) fn evals_of(
     alloc: Global,
     state: &Cluster,
 ) -> Result<ReservedTable<BlockedEval>, NoMemory>
-    ensures { let blocked = filter (λ e. stands_blocked e.status) state.now.evals in
+    ensures { let blocked = filter (λ e. is_blocked e.status) state.now.evals in
         IfOk result (λ evals. evals.rows ≡ map (blocked_eval state.now) blocked) }
 {
     let table = state.eval_table();

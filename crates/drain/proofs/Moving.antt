@@ -1,6 +1,5 @@
 -- The moves without force, one after the other.
 use Rattle.std.proofs.Common.{◌≡◌, ℕ, zero, suc, ◌-◌, ◌+◌, ◌<◌, Bool, true, false, not, cond, ◌&&◌, ◌||◌, List, [], ◌∷◌, ◌++◌, length, get_or, map, filter, take, drop, bytes_eq, T, refl, sym, ap, subst, ◌∙◌, arith}
-use Rattle.std.specs.List.{list_any}
 use Rattle.std.proofs.lemmas.List.{append_assoc, append-nil, length_push, at_drop_more}
 use Rattle.std.proofs.lemmas.Map.Text.{is_eq-slice_cmp}
 use Rattle.std.specs.Cmp.Lexicographic.{nat_list_cmp_total}
@@ -13,35 +12,18 @@ use Rattle.rows.specs.declared.allocation.Allocation.{Allocation}
 use Rattle.rows.specs.declared.node.DrainMode.TheVariants as drains
 use Rattle.fsm_tables.specs.Rows.{put}
 use Rattle.fsm_tables.specs.Claims.{is_live}
-use Rattle.fsm_tables.specs.Lookups.{lives_for, lives_on}
+use Rattle.fsm_tables.specs.Lookups.{lives_on}
 use Rattle.cluster_model.specs.Words.{State}
-use Rattle.cluster_model.proofs.Keys.{names_turn}
 use Rattle.cluster_model.proofs.Lists.{anys_same, filter_both}
 use Rattle.group_model.specs.Drains.{same_group, group_moves, firsts, movers}
 use Rattle.drain.specs.declared.group.JobGroup.{JobGroup}
 use Rattle.drain.specs.Inner.Groups.{group_of, job_group_cmp, itself, is_met, firsts_but, stays}
-use Rattle.drain.proofs.Groups.{any_both, met_more, firsts_are, firsts_kept}
+use Rattle.drain.proofs.Groups.{met_more, firsts_are, firsts_kept}
 
 -- ---- a group that is on the move
 
--- told by the live ones of the job
-regrouped : (live job group mark : Bool) → (live && job && (mark && group)) ≡ (job && group && (live && mark))
-regrouped true true true mark = elim mark as (λ b. (b && true) ≡ b) [ true ↦ refl | false ↦ refl ]
-regrouped true true false mark = elim mark as (λ b. (b && false) ≡ false) [ true ↦ refl | false ↦ refl ]
-regrouped true false group mark = refl
-regrouped false true true mark = refl
-regrouped false true false mark = refl
-regrouped false false group mark = refl
-
-pub moves_by_job : (a : Allocation) (rows : List Allocation) → list_any (λ (b : Allocation). b.migrate && bytes_eq b.group a.group) (filter (lives_for a.job) rows) ≡ group_moves rows a
-moves_by_job a rows =
-    any_both (lives_for a.job) (λ (b : Allocation). b.migrate && bytes_eq b.group a.group) rows
-    ∙ anys_same _ (λ b. same_group a b && (is_live b && b.migrate)) (λ b.
-    regrouped (is_live b) (bytes_eq b.job a.job) (bytes_eq b.group a.group) b.migrate
-    ∙ (λ i. names_turn b.job a.job i && names_turn b.group a.group i && (is_live b && b.migrate))) rows
-
 -- it is the same for all of the group
-same_name : (xs ys zs : List ℕ) → bytes_eq xs ys ≡ true → bytes_eq ys zs ≡ bytes_eq xs zs
+pub same_name : (xs ys zs : List ℕ) → bytes_eq xs ys ≡ true → bytes_eq ys zs ≡ bytes_eq xs zs
 same_name xs ys zs e =
     let tie : name_cmp xs ys ≡ Equal = equal _ (subst T (sym (is_eq-slice_cmp xs ys ∙ e)) tt) in
     sym (is_eq-slice_cmp ys zs) ∙ ap is_eq (sym (nat_list_cmp_total.congr xs ys zs tie)) ∙ is_eq-slice_cmp xs zs

@@ -2,6 +2,7 @@
 #![tactic(auto)]
 
 mod group;
+mod marked;
 mod moves;
 
 pub use moves::{is_done, next_moves};

@@ -1,15 +1,15 @@
-ghost use Rattle.std.specs.Prelude.{◌≡◌, ◌⊎◌, [], Ok, Err, IfOk, IfErr, ◌&&◌, bytes_eq, filter, map, not, take};
-ghost use Rattle.std.specs.List.{list_any};
+ghost use Rattle.std.specs.Prelude.{◌≡◌, ◌⊎◌, [], Ok, Err, IfOk, IfErr, filter, map, not, take};
 ghost use Rattle.rows.specs.declared.refusal.Refusal.TheVariants as refusals;
 ghost use Rattle.rows.specs.declared.node.DrainMode.TheVariants as drains;
-ghost use Rattle.group_model.specs.Drains.{is_done as nothing_lives, next_moves as moves_next, moves_of};
-ghost use Rattle.group_model.specs.Drains.{group_moves as moves_already, firsts};
-ghost use Rattle.drain.specs.Inner.Groups.{is_met as has_met, first_stays};
+ghost use Rattle.group_model.specs.Drains.{is_done, next_moves, moves_of};
+ghost use Rattle.group_model.specs.Drains.{firsts};
+ghost use Rattle.drain.specs.Inner.Groups.{first_stays};
 
 use crate::group::JobGroup;
+use crate::marked::{Marked, is_met};
 use fsm_state::Cluster;
 use fsm_tables::Table;
-use rows::{AllocId, Allocation, DrainMode, GroupName, NoMemory, NodeId, Refusal, Sequence};
+use rows::{AllocId, Allocation, DrainMode, NoMemory, NodeId, Refusal, Sequence};
 use std::alloc::Global;
 
 /// The most allocations that move at once: 64.
@@ -18,7 +18,7 @@ const MOST: usize = 64;
 /// Whether nothing lives on a node, so that its drain is done. It takes one step, and no memory.
 /// (Nomad documentation, "node drain" command.)
 pub fn is_done(state: &Cluster, node: NodeId) -> bool
-    ensures { result ≡ nothing_lives node state.now }
+    ensures { result ≡ is_done node state.now }
 {
     state.alloc_table().ranges();
     let in_use = state.used(node).cpu > 0;
@@ -52,28 +52,6 @@ fn forced(alloc: Global, state: &Cluster, node: NodeId) -> Result<Sequence<Alloc
     Ok(ids)
 }
 
-/// Whether one of these of the group is on the move.
-fn has_marked(rows: &[Allocation], group: &GroupName) -> bool
-    ensures { result ≡ list_any (λ b. b.migrate && bytes_eq b.group group.now) rows.now }
-{
-    rows.iter().any(|row| row.migrate && row.group == *group)
-}
-
-/// Whether a live allocation of the job and group of this one is on the move, on whichever node.
-fn group_moves(state: &Cluster, row: &Allocation) -> Result<bool, NoMemory>
-    ensures { IfOk result (λ moves. moves ≡ moves_already state.now.allocs row.now) }
-{
-    let rows = state.live_of_job(&row.job)?;
-    Ok(has_marked(rows.as_slice(), &row.group))
-}
-
-/// Whether the job and group of an allocation are among these.
-fn is_met(groups: &Table<JobGroup>, row: &Allocation) -> bool
-    ensures { result ≡ has_met groups.now row.now }
-{
-    groups.get(&JobGroup::of(row)).is_some()
-}
-
 /// The ids of the first 64 that are each the first of its job and group, of which none is on the
 /// move.
 fn first_of_groups(
@@ -84,6 +62,7 @@ fn first_of_groups(
     ensures { IfOk result (λ ids. ids ≡ first_stays state.now (firsts [] rows.now)) }
 {
     let mut met: Table<JobGroup> = Table::empty(alloc);
+    let mut marked = Marked::none(alloc);
     let mut ids = Sequence::new(alloc);
     for row in rows {
         if ids.len() == MOST {
@@ -93,7 +72,7 @@ fn first_of_groups(
             continue;
         }
         met.put(JobGroup::of(row))?;
-        if group_moves(state, row)? {
+        if marked.group_moves(state, row)? {
             continue;
         }
         ids.push(row.id)?;
@@ -120,8 +99,8 @@ pub fn next_moves(
     state: &Cluster,
     node: NodeId,
 ) -> Result<Sequence<AllocId>, Refusal>
-    ensures ok { IfOk result (λ ids. moves_next state.now node ≡ Ok ids) }
-    ensures err { let moves = moves_next state.now node in
+    ensures ok { IfOk result (λ ids. next_moves state.now node ≡ Ok ids) }
+    ensures err { let moves = next_moves state.now node in
         IfErr result (λ e. (e ≡ refusals.NoMemory) ⊎ (moves ≡ Err e)) }
 {
     let Some(row) = state.node(node) else {

@@ -12,13 +12,15 @@ use Rattle.rows.specs.Rising.{is_below, is_rising}
 use Rattle.fsm_tables.proofs.RowLaws.{first, second, less, none_below, some_same}
 use Rattle.fsm_tables.specs.Urgencies.{urgency_cmp}
 use Rattle.group_model.specs.Order.{Picked, or_head, pick, picked_one}
-use Rattle.group_model.specs.Order.{first as first_by}
 use Rattle.group_model.specs.Brokers.{Task, task_id, task_of}
 use Rattle.eval_broker.specs.Answers.{urgency_of}
 use Rattle.eval_broker.proofs.Orders.{same_id, is_equal, true_false, none_some}
 
 abbrev priority : Task → ℕ
 priority t = t.priority
+
+abbrev first_task : List Task → Option Task
+first_task ts = picked_one priority (pick priority ts)
 
 -- one task comes no later than another
 abbrev pub NoLater : Task → Task → Type 0
@@ -42,14 +44,14 @@ picked_all P (t ∷ ts) all k e = by (pick priority ts) (picked_all P ts all.1) 
         subst (λ (p : Picked Task). P p.one) same all.0
 
 -- the head is first where none that follows has a higher priority
-head_first : (t : Task) (ts : List Task) → AllByRecursion (λ y. nat_lt (priority t) (priority y) ≡ false) ts → first_by priority (t ∷ ts) ≡ Some t
+head_first : (t : Task) (ts : List Task) → AllByRecursion (λ y. nat_lt (priority t) (priority y) ≡ false) ts → first_task (t ∷ ts) ≡ Some t
 head_first t ts all = by (pick priority ts) (picked_all (λ y. nat_lt (priority t) (priority y) ≡ false) ts all) where
   by : (o : Option (Picked Task)) → ((k : Picked Task) → o ≡ Some k → nat_lt (priority t) (priority k.one) ≡ false) → picked_one priority (Some (or_head priority t ts o)) ≡ Some t
   by None all = refl
   by (Some k) all = ap (λ b. picked_one priority (Some (cond b (record { one = k.one; others = t ∷ k.others }) (record { one = t; others = ts })))) (all k refl)
 
 -- and is passed where the first of those that follow has one
-head_passed : (t y : Task) (ts : List Task) → first_by priority ts ≡ Some t → nat_lt (priority y) (priority t) ≡ true → first_by priority (y ∷ ts) ≡ Some t
+head_passed : (t y : Task) (ts : List Task) → first_task ts ≡ Some t → nat_lt (priority y) (priority t) ≡ true → first_task (y ∷ ts) ≡ Some t
 head_passed t y ts e lt = by (pick priority ts) e where
   by : (o : Option (Picked Task)) → picked_one priority o ≡ Some t → picked_one priority (Some (or_head priority y ts o)) ≡ Some t
   by None e = absurd (cc)
@@ -106,27 +108,27 @@ module _ (passes : Task → Bool) (t : Task) where
     by true e rest = (no_later_priority (priority t) (priority y) (eval_cmp t.id y.id) (all.0 e), rest)
     by false e rest = rest
 
-  pub first_is : (ts : List Task) → T (is_rising eval_cmp task_id ts) → task_of t.id ts ≡ Some t → passes t ≡ true → None_before ts → first_by priority (filter passes ts) ≡ Some t
+  pub first_is : (ts : List Task) → T (is_rising eval_cmp task_id ts) → task_of t.id ts ≡ Some t → passes t ≡ true → None_before ts → first_task (filter passes ts) ≡ Some t
   first_is [] rising found is all = absurd (cc)
   first_is (y ∷ ts) rising found is all = by (is_eq (eval_cmp t.id y.id)) refl found (λ later. first_is ts (second _ _ rising) later is all.1) where
-    here : y ≡ t → first_by priority (filter passes (y ∷ ts)) ≡ Some t
+    here : y ≡ t → first_task (filter passes (y ∷ ts)) ≡ Some t
     here e =
-        ap (λ b. first_by priority (cond b (y ∷ filter passes ts) (filter passes ts))) (ap passes e ∙ is)
-        ∙ ap (λ (x : Task). first_by priority (x ∷ filter passes ts)) e ∙ head_first t (filter passes ts) (kept ts all.1)
+        ap (λ b. first_task (cond b (y ∷ filter passes ts) (filter passes ts))) (ap passes e ∙ is)
+        ∙ ap (λ (x : Task). first_task (x ∷ filter passes ts)) e ∙ head_first t (filter passes ts) (kept ts all.1)
 
-    past : (b : Bool) → passes y ≡ b → task_of t.id ts ≡ Some t → first_by priority (filter passes ts) ≡ Some t → first_by priority (cond b (y ∷ filter passes ts) (filter passes ts)) ≡ Some t
+    past : (b : Bool) → passes y ≡ b → task_of t.id ts ≡ Some t → first_task (filter passes ts) ≡ Some t → first_task (cond b (y ∷ filter passes ts) (filter passes ts)) ≡ Some t
     past true e later rest =
         let behind : eval_cmp y.id t.id ≡ Less = below_found y.id t.id ts t (first _ _ rising) later in
         head_passed t y (filter passes ts) rest (later_priority (priority t) (priority y) (eval_cmp t.id y.id) (ap is_gt (eval_cmp_total.antisymm t.id y.id ∙ ap ordering_reverse behind)) (all.0 e))
     past false e later rest = rest
 
-    by : (b : Bool) → is_eq (eval_cmp t.id y.id) ≡ b → cond b (Some y) (task_of t.id ts) ≡ Some t → (task_of t.id ts ≡ Some t → first_by priority (filter passes ts) ≡ Some t) → first_by priority (filter passes (y ∷ ts)) ≡ Some t
+    by : (b : Bool) → is_eq (eval_cmp t.id y.id) ≡ b → cond b (Some y) (task_of t.id ts) ≡ Some t → (task_of t.id ts ≡ Some t → first_task (filter passes ts) ≡ Some t) → first_task (filter passes (y ∷ ts)) ≡ Some t
     by true e f rest = here (some_same _ _ f)
     by false e f rest = past (passes y) refl f (rest f)
 
 -- none where none passes
-pub none_passes : (passes : Task → Bool) (ts : List Task) → AllByRecursion (λ y. passes y ≡ true → ⊥) ts → first_by priority (filter passes ts) ≡ None
-none_passes passes ts all = ap (first_by priority) (empty ts all) where
+pub none_passes : (passes : Task → Bool) (ts : List Task) → AllByRecursion (λ y. passes y ≡ true → ⊥) ts → first_task (filter passes ts) ≡ None
+none_passes passes ts all = ap first_task (empty ts all) where
   empty : (ts : List Task) → AllByRecursion (λ y. passes y ≡ true → ⊥) ts → filter passes ts ≡ []
   empty [] all = refl
   empty (y ∷ ts) all = by (passes y) refl (empty ts all.1) where
@@ -144,7 +146,7 @@ module _ (P : Task → Type 0) (passes : Task → Bool) where
     by true e rest = ((all.0, e), rest)
     by false e rest = rest
 
-  pub first_passes : (ts : List Task) (t : Task) → AllByRecursion P ts → first_by priority (filter passes ts) ≡ Some t → P t × (passes t ≡ true)
+  pub first_passes : (ts : List Task) (t : Task) → AllByRecursion P ts → first_task (filter passes ts) ≡ Some t → P t × (passes t ≡ true)
   first_passes ts t all e = by (pick priority (filter passes ts)) (picked_all (λ t. P t × (passes t ≡ true)) (filter passes ts) (kept_all ts all)) e where
     by : (o : Option (Picked Task)) → ((k : Picked Task) → o ≡ Some k → P k.one × (passes k.one ≡ true)) → picked_one priority o ≡ Some t → P t × (passes t ≡ true)
     by None all e = absurd (cc)

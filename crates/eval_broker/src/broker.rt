@@ -2,7 +2,7 @@
 ghost use Rattle.std.specs.Prelude.{◌≡◌, ◌+◌, ◌<◌, ◌^◌, true, false, nat_lt, IfOk, IfErr, IfSome, IfNone, OnOk, OnErr, Ok};
 ghost use Rattle.raft_model.specs.Logs.{MAX};
 ghost use Rattle.group_model.specs.Brokers.{Nothing, UsedUp, Gives, no_tasks, task_of, broker_over, broker_with, deliver};
-ghost use Rattle.group_model.specs.Brokers.{outstanding as outstanding_by, with_ack, with_nack};
+ghost use Rattle.group_model.specs.Brokers.{outstanding, with_ack, with_nack};
 ghost use Rattle.eval_broker.specs.Answers.{pair_of, IsPair, RefusesPair, failed_in_order};
 
 use crate::answers::{PairError, SerialsUsedUp};
@@ -129,7 +129,7 @@ impl Broker {
 
     /// For a state of which index an outstanding pair waits; refused where it is none.
     pub fn check(&self, eval: EvalId, token: Token) -> Result<Index, PairError>
-        ensures ok { IfOk result (λ wait. outstanding_by eval token self.now ≡ Ok wait) }
+        ensures ok { IfOk result (λ wait. outstanding eval token self.now ≡ Ok wait) }
         ensures err { IfErr result (λ e. RefusesPair eval token self.now e) }
     {
         match self.outstanding(eval) {

@@ -2,12 +2,12 @@
 ghost use Rattle.std.specs.Prelude.{◌≡◌, ◌≤◌, IfSome, OnOk, length, T as Holds, if◌then◌else◌};
 ghost use Rattle.rows.specs.Keys.{eval_cmp};
 ghost use Rattle.rows.specs.Rising.{is_rising};
-ghost use Rattle.fsm_tables.specs.Rows.{put as with_row};
-ghost use Rattle.fsm_tables.specs.ReservedTables.{without as without_row, has_space};
+ghost use Rattle.fsm_tables.specs.Rows.{put};
+ghost use Rattle.fsm_tables.specs.ReservedTables.{without, has_space};
 ghost use Rattle.fsm_tables.specs.Urgencies.{urgency_cmp};
 ghost use Rattle.group_model.specs.Brokers.{task_id};
 ghost use Rattle.eval_broker.specs.Answers.{urgency_of};
-ghost use Rattle.eval_broker.specs.Inner.Lists.{head_cmp, is_failed, head_of as head_by, AreHeads, AreHeadsBut, AreListed, HaveRoom, KeepRoom};
+ghost use Rattle.eval_broker.specs.Inner.Lists.{head_cmp, is_failed, head_of, AreHeads, AreHeadsBut, AreListed, HaveRoom, KeepRoom};
 
 use crate::ranks::{Head, Rank, head_of};
 use crate::task::Task;
@@ -41,7 +41,7 @@ impl Lists {
 
     /// The first of a job that waits, where none of the job is out or acked.
     fn head_of(&self, job: &JobName) -> Option<Head>
-        ensures { result ≡ head_by job.now self.now.ranks.rows }
+        ensures { result ≡ head_of job.now self.now.ranks.rows }
     {
         head_of(self.ranks.rows(), job)
     }
@@ -62,7 +62,7 @@ impl Lists {
     /// Brings in the head of a job.
     fn add_head(&mut self, job: &JobName)
         requires heads { AreHeadsBut job.now self.old.ranks.rows self.old.heads.rows }
-        requires room { IfSome (head_by job.now self.old.ranks.rows) (λ h.
+        requires room { IfSome (head_of job.now self.old.ranks.rows) (λ h.
             Holds (has_space head_cmp (λ x. x) h self.old.heads)) }
         ensures heads { AreHeads self.old.ranks.rows self.new.heads.rows }
         ensures ranks { self.new.ranks ≡ self.old.ranks }
@@ -78,7 +78,7 @@ impl Lists {
     fn add_failed(&mut self, task: &Task)
         requires { Holds (has_space urgency_cmp (λ u. u) (urgency_of task.now) self.old.failed) }
         ensures failed { let old = self.old.failed.rows in
-            let one = with_row urgency_cmp (λ u. u) (urgency_of task.now) old in
+            let one = put urgency_cmp (λ u. u) (urgency_of task.now) old in
             self.new.failed.rows ≡ (if is_failed task.now then one else old) }
         ensures ranks { self.new.ranks ≡ self.old.ranks }
         ensures heads { self.new.heads ≡ self.old.heads }
@@ -94,7 +94,7 @@ impl Lists {
         requires rising { Holds (is_rising eval_cmp task_id tasks.now.rows) }
         requires listed { AreListed tasks.now.rows self.old }
         requires room { HaveRoom (length tasks.now.rows) self.old }
-        ensures listed { AreListed (without_row eval_cmp task_id id.now tasks.now.rows) self.new }
+        ensures listed { AreListed (without eval_cmp task_id id.now tasks.now.rows) self.new }
         ensures kept { KeepRoom self.old self.new }
     {
         if let Some(task) = tasks.get(id) {
@@ -109,7 +109,7 @@ impl Lists {
     /// Brings in what the lists have of a task, if it is there.
     pub fn bring_in(&mut self, tasks: &ReservedTable<Task>, id: &EvalId)
         requires rising { Holds (is_rising eval_cmp task_id tasks.now.rows) }
-        requires listed { AreListed (without_row eval_cmp task_id id.now tasks.now.rows) self.old }
+        requires listed { AreListed (without eval_cmp task_id id.now tasks.now.rows) self.old }
         requires room { HaveRoom (length tasks.now.rows) self.old }
         ensures listed { AreListed tasks.now.rows self.new }
         ensures kept { KeepRoom self.old self.new }

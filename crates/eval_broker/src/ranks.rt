@@ -4,7 +4,7 @@ ghost use Rattle.std.specs.List.{slice_get};
 ghost use Rattle.rows.specs.Keys.{name_cmp};
 ghost use Rattle.rows.specs.Rising.{is_rising};
 ghost use Rattle.fsm_tables.specs.Rows.{row_of};
-ghost use Rattle.eval_broker.specs.Inner.Lists.{rank_cmp, rank_job, head_at, head_of as head_by};
+ghost use Rattle.eval_broker.specs.Inner.Lists.{rank_cmp, rank_job, head_at, head_of};
 
 use fsm_tables::{Row, Urgency};
 use rows::{JobName, Ranged};
@@ -69,7 +69,7 @@ fn first_of<'a>(ranks: &'a [Rank], job: &JobName) -> Option<&'a Rank>
 /// The first of a job that waits, where none of the job is out or acked.
 pub(crate) fn head_of(ranks: &[Rank], job: &JobName) -> Option<Head>
     requires { Holds (is_rising rank_cmp (λ p. p) ranks.now) }
-    ensures { result ≡ head_by job.now ranks.now }
+    ensures { result ≡ head_of job.now ranks.now }
 {
     first_of(ranks, job)?.head()
 }

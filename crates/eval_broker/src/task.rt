@@ -1,8 +1,8 @@
 //! A pending evaluation as the broker keeps it.
 ghost use Rattle.std.specs.Prelude.{◌≡◌, ◌<◌, option_map, None};
-ghost use Rattle.group_model.specs.Brokers.{Free, Acked, MOST, is_free as is_unmarked, carry, goes_out, set_mark};
+ghost use Rattle.group_model.specs.Brokers.{Free, Acked, MOST, is_free, carry, goes_out, set_mark};
 ghost use Rattle.eval_broker.specs.Answers.{pair_of_mark, urgency_of};
-ghost use Rattle.eval_broker.specs.Inner.Lists.{rank_of, is_spent as is_used_up, is_failed as has_failed};
+ghost use Rattle.eval_broker.specs.Inner.Lists.{rank_of, is_spent, is_failed};
 
 use crate::ranks::Rank;
 use fsm_tables::{Row, Urgency};
@@ -164,7 +164,7 @@ impl Task {
 
     /// Whether it was given out as often as may be, and is neither out nor acked.
     pub fn is_failed(&self) -> bool
-        ensures { result ≡ has_failed self.now }
+        ensures { result ≡ is_failed self.now }
     {
         self.is_free() && self.is_spent()
     }
@@ -173,7 +173,7 @@ impl Task {
 impl Task {
     /// Whether it is neither out nor acked.
     fn is_free(&self) -> bool
-        ensures { result ≡ is_unmarked self.now.mark }
+        ensures { result ≡ is_free self.now.mark }
     {
         match self.mark {
             Mark::Free => true,
@@ -183,7 +183,7 @@ impl Task {
 
     /// Whether it was given out as often as may be.
     fn is_spent(&self) -> bool
-        ensures { result ≡ is_used_up self.now }
+        ensures { result ≡ is_spent self.now }
     {
         self.deliveries >= MOST_DELIVERIES
     }

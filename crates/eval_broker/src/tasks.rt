@@ -1,9 +1,9 @@
 //! The tasks, with the lists beside them.
 ghost use Rattle.std.specs.Prelude.{◌≡◌, ◌≤◌, ◌+◌, OnOk, option_map, length, map, filter, T as Holds};
 ghost use Rattle.rows.specs.Keys.{eval_cmp};
-ghost use Rattle.fsm_tables.specs.Rows.{put as with_row};
-ghost use Rattle.fsm_tables.specs.ReservedTables.{without as without_row, has_space};
-ghost use Rattle.group_model.specs.Brokers.{task_id, task_of, next as next_of};
+ghost use Rattle.fsm_tables.specs.Rows.{put};
+ghost use Rattle.fsm_tables.specs.ReservedTables.{without, has_space};
+ghost use Rattle.group_model.specs.Brokers.{task_id, task_of, next};
 ghost use Rattle.eval_broker.specs.Inner.Lists.{AreKept, HaveRoom, is_failed};
 ghost use Rattle.eval_broker.specs.Answers.{urgency_of};
 ghost use Rattle.group_model.specs.Order.{in_order};
@@ -45,10 +45,10 @@ impl Tasks {
     pub fn put(&mut self, task: Task)
         requires kept { AreKept self.old }
         requires space { Holds (has_space eval_cmp task_id task self.old.tasks) }
-        requires room { let new = with_row eval_cmp task_id task self.old.tasks.rows in
+        requires room { let new = put eval_cmp task_id task self.old.tasks.rows in
             HaveRoom (length new) self.old.lists }
         ensures kept { AreKept self.new }
-        ensures rows { self.new.tasks.rows ≡ with_row eval_cmp task_id task self.old.tasks.rows }
+        ensures rows { self.new.tasks.rows ≡ put eval_cmp task_id task self.old.tasks.rows }
     {
         let id = task.id();
         self.lists.take_out(&self.tasks, &id);
@@ -61,7 +61,7 @@ impl Tasks {
         requires kept { AreKept self.old }
         ensures kept { AreKept self.new }
         ensures rows { self.new.tasks.rows
-            ≡ without_row eval_cmp task_id id.now self.old.tasks.rows }
+            ≡ without eval_cmp task_id id.now self.old.tasks.rows }
     {
         self.lists.take_out(&self.tasks, id);
         self.tasks.cut(id);
@@ -70,7 +70,7 @@ impl Tasks {
     /// The task that is given out next, if there is one.
     pub fn next(&self) -> Option<&Task>
         requires { AreKept self.now }
-        ensures { option_map (λ t. t.now) result ≡ next_of self.now.tasks.rows }
+        ensures { option_map (λ t. t.now) result ≡ next self.now.tasks.rows }
     {
         let head = self.lists.heads.rows().first()?;
         self.tasks.get(&head.urgency.id)

@@ -1,6 +1,6 @@
 ghost use Rattle.std.specs.Prelude.{◌≡◌, [], Some, None, Ok, Err, OnOk, OnErr, IfOk, IfErr, option_map};
 ghost use Rattle.rows.specs.declared.refusal.Refusal.TheVariants as refusals;
-ghost use Rattle.cluster_model.specs.Words.{is_ready as stands_ready};
+ghost use Rattle.cluster_model.specs.Words.{is_ready};
 ghost use Rattle.group_model.specs.Expiry.{beat_count_of, beat_counts_over, beat_counts_with};
 ghost use Rattle.group_model.specs.BeatCounts.{beat_heard, expiry_refusal};
 
@@ -44,7 +44,7 @@ impl Model for Expiry {
 
 /// Whether a node is ready.
 fn is_ready(row: &Node) -> bool
-    ensures { result ≡ stands_ready row.now.status }
+    ensures { result ≡ is_ready row.now.status }
 {
     match row.status {
         NodeStatus::Ready => true,

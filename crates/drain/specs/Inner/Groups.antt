@@ -1,5 +1,6 @@
 -- Groups of jobs that were met, and the allocations of the others.
-use Rattle.std.specs.Prelude.{Bool, not, ◌||◌, if◌then◌else◌, List, [], ◌∷◌, map, filter, take}
+use Rattle.std.specs.Prelude.{◌≡◌, Bool, not, ◌||◌, ◌&&◌, if◌then◌else◌, List, [], ◌∷◌, map, filter, take}
+use Rattle.std.specs.BTreeSet.{contains}
 use Rattle.std.specs.declared.cmp.Ordering.{Ordering}
 use Rattle.std.specs.Ordering.{ordering_then}
 use Rattle.rows.specs.declared.allocation.AllocId.{AllocId}
@@ -9,6 +10,7 @@ use Rattle.fsm_tables.specs.Rows.{has_row}
 use Rattle.cluster_model.specs.Words.{State}
 use Rattle.group_model.specs.Drains.{same_group, group_moves}
 use Rattle.drain.specs.declared.group.JobGroup.{JobGroup}
+use Rattle.drain.specs.declared.marked.Marked.{Marked}
 
 abbrev pub group_of : Allocation → JobGroup
 group_of a = record { job = a.job; group = a.group }
@@ -35,3 +37,7 @@ stays s a = not (group_moves s.allocs a)
 -- the ids of the first 64 of these that stay
 abbrev pub first_stays : State → List Allocation → List AllocId
 first_stays s rows = take 64 (map (λ (a : Allocation). a.id) (filter (stays s) rows))
+
+-- the groups are those on the move of the jobs that were looked at, and no other
+abbrev pub AreMarked : List Allocation → Marked → Type 0
+AreMarked rows m = (a : Allocation) → is_met m.groups a ≡ (contains name_cmp m.jobs a.job && group_moves rows a)

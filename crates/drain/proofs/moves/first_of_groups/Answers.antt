@@ -10,6 +10,7 @@ pub loop-row-init : goal.loop-row-init
 loop-row-init c =
     let empty : length c.new-ids.result ≡ 0 = ap length c.new-ids.ensures in
     record {
+      marked = c.none-marked.ensures c.args.state.now.allocs;
       few = omega arith;
       all = ap (λ ids. ids ++ take (64 - length ids) (ids_left c.args.state.now c.empty-met.result c.args.rows.now)) c.new-ids.ensures
           ∙ ap (λ groups. take 64 (ids_left c.args.state.now groups c.args.rows.now)) c.empty-met.ensures
@@ -25,6 +26,7 @@ loop-row-preserved-then-is_met c =
     let here = at_row (ids_left s groups) c.args.rows.now c.loop-row.row-index c.row-item.result (omega arith) c.row-item.is in
     let met = sym c.is_met.ensures ∙ c.if-is_met.true in
     record {
+      marked = c.loop-row.invariant.marked;
       few = c.loop-row.invariant.few;
       all = ap (λ more. ids ++ take (64 - length ids) more) (sym (here ∙ met_row s groups c.row-item.result rest met)) ∙ c.loop-row.invariant.all;
     }
@@ -39,8 +41,9 @@ loop-row-preserved-then-branch c =
     let here = at_row (ids_left s groups) c.args.rows.now c.loop-row.row-index row (omega arith) c.row-item.is in
     let met = sym c.is_met.ensures ∙ c.if-is_met.false in
     let next = c.in_ok-put.ensures.ok ∙ ap (λ g. put job_group_cmp itself g groups) c.of.ensures in
-    let moving = sym c.in_ok-group_moves.ensures ∙ c.if-branch.true in
+    let moving = sym c.in_ok-group_moves.ensures.moves ∙ c.if-branch.true in
     record {
+      marked = c.in_ok-group_moves.ensures.marked;
       few = c.loop-row.invariant.few;
       all = ap (λ more. ids ++ take (64 - length ids) (ids_left s more rest)) next
           ∙ ap (λ more. ids ++ take (64 - length ids) more) (sym (here ∙ moving_row s groups row rest met moving))
@@ -57,11 +60,12 @@ loop-row-preserved c =
     let here = at_row (ids_left s groups) c.args.rows.now c.loop-row.row-index row (omega arith) c.row-item.is in
     let met = sym c.is_met.ensures ∙ c.if-is_met.false in
     let next = c.in_ok-put.ensures.ok ∙ ap (λ g. put job_group_cmp itself g groups) c.of.ensures in
-    let staying = sym c.in_ok-group_moves.ensures ∙ c.if-branch.false in
+    let staying = sym c.in_ok-group_moves.ensures.moves ∙ c.if-branch.false in
     let pushed = c.in_ok-push.ensures.ok in
     let longer : length c.push.new.self ≡ length ids + 1 = ap length pushed ∙ length_push ids row.id in
     let below : length ids < 64 = omega arith in
     record {
+      marked = c.in_ok-group_moves.ensures.marked;
       few = omega arith;
       all = ap (λ (zs : List AllocId). zs ++ take (64 - length zs) (ids_left s c.put.new.self rest)) pushed
           ∙ ap (λ more. (ids ++ row.id ∷ []) ++ take (64 - length (ids ++ row.id ∷ [])) (ids_left s more rest)) next
