@@ -37,7 +37,7 @@ use Rattle.fsm_state.specs.Inner.Alone.{claim_name, is_free_but, is_name_free, c
 
 -- ---- names
 
-turned_name : (c d : Claim) → T (same_name c d) → T (same_name d c)
+pub turned_name : (c d : Claim) → T (same_name c d) → T (same_name d c)
 turned_name c d h = join c d c h (itself c)
 
 -- whether one of the claims is of the name of d
@@ -52,7 +52,7 @@ not_held c d (e ∷ cs) g h =
       | false ↦ λ t. not_held c d cs g (rest_other (same_name c e) (list_any (same_name c) cs) h)
     ] refl
 
-stop_lives : (ids : List AllocId) (a : Allocation) → is_live (stop ids a) ≡ (is_live a && not (list_any (same_alloc a.id) ids))
+pub stop_lives : (ids : List AllocId) (a : Allocation) → is_live (stop ids a) ≡ (is_live a && not (list_any (same_alloc a.id) ids))
 stop_lives ids a =
     elim (list_any (same_alloc a.id) ids) as (λ m. is_live (cond (m && is_wanted a.desired) (record a { desired = desires.Stop }) a) ≡ (is_live a && not m)) [
       | true ↦ elim (is_wanted a.desired) as (λ b. is_wanted a.desired ≡ b → is_live (cond b (record a { desired = desires.Stop }) a) ≡ (is_live a && false)) [
@@ -64,7 +64,7 @@ stop_lives ids a =
 
 -- where names are held once, what stops leave holds a name where it finds a row that they do not
 -- name
-free_of : (ids : List AllocId) (d : Claim) (rows : List Allocation) → T (are_distinct (claims rows)) → not (holds_name d (claims (map (stop ids) rows))) ≡ is_name_free ids rows d
+pub free_of : (ids : List AllocId) (d : Claim) (rows : List Allocation) → T (are_distinct (claims rows)) → not (holds_name d (claims (map (stop ids) rows))) ≡ is_name_free ids rows d
 free_of ids d [] h = refl
 free_of ids d (a ∷ rows) h =
     let rest = claims (map (stop ids) rows) in
@@ -116,7 +116,7 @@ ends_are true false = refl
 ends_are false true = refl
 ends_are false false = refl
 
-ended_sum : (w : Claim → ℕ) (ids : List AllocId) (rows : List Allocation) → sum_by w (ended (stop ids) rows) ≡ sum_by (gone w ids) rows
+pub ended_sum : (w : Claim → ℕ) (ids : List AllocId) (rows : List Allocation) → sum_by w (ended (stop ids) rows) ≡ sum_by (gone w ids) rows
 ended_sum w ids [] = refl
 ended_sum w ids (a ∷ rows) =
     let es = ended (stop ids) rows in
@@ -162,7 +162,7 @@ one_sum : (w : Claim → ℕ) (o : Option Allocation) (rest : List Claim) → su
 one_sum w None rest = omega arith
 one_sum w (Some a) rest = elim (is_live a) as (λ l. sum_by w (cond l (claim_of a ∷ rest) rest) ≡ cond l (w (claim_of a)) 0 + sum_by w rest) [ true ↦ sum_by-cons w (claim_of a) rest | false ↦ omega arith ]
 
-gone_sum : (w : Claim → ℕ) (ids : List AllocId) (rows : List Allocation) → T (is_rising alloc_cmp alloc_id rows) → sum_by (gone w ids) rows ≡ sum_by w (ended_by ids rows)
+pub gone_sum : (w : Claim → ℕ) (ids : List AllocId) (rows : List Allocation) → T (is_rising alloc_cmp alloc_id rows) → sum_by (gone w ids) rows ≡ sum_by w (ended_by ids rows)
 gone_sum w [] rows h = none_gone w rows
 gone_sum w (id ∷ ids) rows h =
     let rest : sum_by (gone w ids) rows ≡ sum_by w (ended_by ids rows) = gone_sum w ids rows h in

@@ -81,7 +81,7 @@ fewer_left true true c cs ds f = gone c cs ds f
 fewer_left true false c cs ds f = kept c cs ds f
 fewer_left false m c cs ds f = f
 
-left_fewer : (x slot n : ℕ) (rows : List Allocation) → Fewer (left x slot n rows) (claims rows)
+pub left_fewer : (x slot n : ℕ) (rows : List Allocation) → Fewer (left x slot n rows) (claims rows)
 left_fewer x slot n [] = nothing
 left_fewer x slot n (a ∷ rows) = fewer_left (is_live a) (is_made x slot n a) (claim_of a) (left x slot n rows) (claims rows) (left_fewer x slot n rows)
 

@@ -261,7 +261,7 @@ impl Cluster {
     /// Whether it is known that no two live allocations are of one name. It is known of each state
     /// that was made by puts none of which gave a live row the name of another; where it is not
     /// known, names may be held once all the same.
-    pub(crate) fn is_named_once(&self) -> bool
+    pub fn is_named_once(&self) -> bool
         ensures { Holds result → Holds (are_distinct (claims self.now.allocs)) }
     {
         self.named_once

@@ -1,0 +1,4 @@
+pub mod Stopping
+pub mod Fewness
+pub mod Naming
+pub mod Rooming

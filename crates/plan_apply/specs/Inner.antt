@@ -1,0 +1,3 @@
+pub mod Stops
+pub mod Names
+pub mod Overlay
