@@ -115,7 +115,7 @@ ends_are true false = refl
 ends_are false true = refl
 ends_are false false = refl
 
-ended_sum : (w : Claim → ℕ) (ids : List AllocId) (rows : List Allocation) → sum_by w (ended (stop ids) rows) ≡ sum_by (gone w ids) rows
+pub ended_sum : (w : Claim → ℕ) (ids : List AllocId) (rows : List Allocation) → sum_by w (ended (stop ids) rows) ≡ sum_by (gone w ids) rows
 ended_sum w ids [] = refl
 ended_sum w ids (a ∷ rows) =
     let es = ended (stop ids) rows in
@@ -161,7 +161,7 @@ one_sum : (w : Claim → ℕ) (o : Option Allocation) (rest : List Claim) → su
 one_sum w None rest = omega arith
 one_sum w (Some a) rest = elim (is_live a) as (λ l. sum_by w (cond l (claim_of a ∷ rest) rest) ≡ cond l (w (claim_of a)) 0 + sum_by w rest) [ true ↦ sum_by-cons w (claim_of a) rest | false ↦ omega arith ]
 
-gone_sum : (w : Claim → ℕ) (ids : List AllocId) (rows : List Allocation) → T (is_rising alloc_cmp alloc_id rows) → sum_by (gone w ids) rows ≡ sum_by w (ended_by ids rows)
+pub gone_sum : (w : Claim → ℕ) (ids : List AllocId) (rows : List Allocation) → T (is_rising alloc_cmp alloc_id rows) → sum_by (gone w ids) rows ≡ sum_by w (ended_by ids rows)
 gone_sum w [] rows h = none_gone w rows
 gone_sum w (id ∷ ids) rows h =
     let rest : sum_by (gone w ids) rows ≡ sum_by w (ended_by ids rows) = gone_sum w ids rows h in
