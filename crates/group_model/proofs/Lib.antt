@@ -3,3 +3,4 @@ pub mod Following
 pub mod BlockedRows
 pub mod Reasoned
 pub mod FullLogs
+pub mod WorkedPlans
