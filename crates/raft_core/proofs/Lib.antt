@@ -10,4 +10,5 @@ pub mod Quorums
 pub mod Replies
 pub mod Sends
 pub mod Stepping
+pub mod Watches
 pub mod Follows

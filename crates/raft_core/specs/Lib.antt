@@ -5,4 +5,5 @@ pub mod Inputs
 pub mod Steps
 pub mod Refusals
 pub mod Commits
+pub mod Watching
 pub mod Inner

@@ -52,6 +52,12 @@ refusal m n me s (Bytes bytes) =
     if is_up s.mode then frame_refusal m n me bytes else Some refusals.Down
 refusal m n me s (Own input) = refusal_by (step m n me s input)
 
+-- Why server `me` of n refuses a message that was read, if it does: it is down; the message is not
+-- from a server of the group, or is for another.
+abbrev pub message_refusal : {S C : Type 0} → ℕ → ℕ → Server C → WireMessage S C → Option Refusal
+message_refusal n me s read =
+    if is_up s.mode then misdirected n me read.from read.to else Some refusals.Down
+
 -- ---- want of memory
 
 -- In which modes an input may want memory. A crash takes none, nor does a leader at a timeout, or
@@ -78,6 +84,11 @@ abbrev pub IsRefused : {S C : Type 0} → Meaning S C → ℕ → ℕ → Server
 IsRefused m n me s h refusals.NoMemory = MayLack s.mode h
 IsRefused m n me s h cause = refusal m n me s h ≡ Some cause
 
+-- the same of a message that was read
+abbrev pub IsMessageRefused : {S C : Type 0} → ℕ → ℕ → Server C → WireMessage S C → Refusal → Type 0
+IsMessageRefused n me s read refusals.NoMemory = is_up s.mode ≡ true
+IsMessageRefused n me s read cause = message_refusal n me s read ≡ Some cause
+
 -- want of memory in a step is a crash, but that a restart changes nothing
 abbrev pub LackLeaves : {S C : Type 0} → Meaning S C → RaftView C → Server C → Handed C → RaftView C → Type 0
 LackLeaves m old s (Own Restart) new = new ≡ old
@@ -88,6 +99,17 @@ abbrev pub RefusalLeaves : {S C : Type 0} → Meaning S C → RaftView C → Ser
     → Type 0
 RefusalLeaves m old s h refusals.NoMemory new = LackLeaves m old s h new
 RefusalLeaves m old s h cause new = new ≡ old
+
+-- the same of a message that was read
+abbrev pub MessageRefusalLeaves : {S C : Type 0} → Meaning S C → RaftView C → Server C → Refusal
+    → RaftView C → Type 0
+MessageRefusalLeaves m old s refusals.NoMemory new = Represents m new (crashed s)
+MessageRefusalLeaves m old s cause new = new ≡ old
+
+-- any refusal but want of memory shows a watcher nothing
+abbrev pub RefusalShows : {W : Type 0} → Refusal → W → W → Type 0
+RefusalShows refusals.NoMemory old new = Unit {0}
+RefusalShows cause old new = new ≡ old
 
 -- ---- other calls
 

@@ -1,15 +1,17 @@
 -- Which server a value is, and what it does with what is handed in.
 use Rattle.std.specs.Prelude.{◌≡◌, ℕ, ◌==◌, ◌||◌, ◌&&◌, Bool, nat_lt, Option, Some, None, Ok, List}
 use Rattle.machine.specs.Meaning.{Meaning}
+use Rattle.wire.specs.Messages.{Message as WireMessage}
 use Rattle.wire.specs.Frames.{Frame}
 use Rattle.raft_model.specs.Servers.{Server, Turn, Mode}
 use Rattle.raft_model.specs.Servers.{Down as DownMode, Follower as FollowerMode, Candidate as CandidateMode, Leader as LeaderMode}
-use Rattle.raft_model.specs.Steps.{Input, step}
+use Rattle.raft_model.specs.Messages.{Message}
+use Rattle.raft_model.specs.Steps.{Input, Arrives, step}
 use Rattle.raft_core.specs.declared.role.Role.{Role}
 use Rattle.raft_core.specs.declared.role.Role.TheVariants as roles
 use Rattle.raft_core.specs.Stored.{Stored}
 use Rattle.raft_core.specs.RaftView.{RaftView}
-use Rattle.raft_core.specs.Frames.{Sends}
+use Rattle.raft_core.specs.Frames.{Means, Sends}
 use Rattle.raft_core.specs.Inputs.{Handed, Reads}
 
 -- which server of the definitions a value is
@@ -46,3 +48,9 @@ abbrev pub Takes : {S C : Type 0} → Meaning S C → RaftView C → Server C �
     → List Frame → List Frame → Type 0
 Takes {C = C} m old s h new before after =
     (input : Input C) → Reads m h input → Steps m old s input new before after
+
+-- and so for the arrival of each message that the one that was read is
+abbrev pub TakesMessage : {S C : Type 0} → Meaning S C → RaftView C → Server C → WireMessage S C
+    → RaftView C → List Frame → List Frame → Type 0
+TakesMessage {C = C} m old s read new before after =
+    (message : Message C) → Means read message → Steps m old s (Arrives message) new before after

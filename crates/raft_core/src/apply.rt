@@ -1,21 +1,61 @@
 //! Entries of a log are applied to a machine.
 
-ghost use Rattle.std.specs.Prelude.{◌≡◌, ◌+◌, ◌^◌, ◌<◌, ◌≤◌, length, take, OnOk};
+ghost use Rattle.std.specs.Prelude.{◌≡◌, ◌+◌, ◌^◌, ◌<◌, ◌≤◌, length, take, drop, OnOk};
 ghost use Rattle.machine.specs.After.{after_from};
 ghost use Rattle.raft_model.specs.Logs.{commands, state_after};
+ghost use Rattle.raft_core.specs.Watching.{sees_all};
 
+use crate::watch::{Unwatched, Watch};
 use machine::{Coded, Entry, Machine};
-use rows::NoMemory;
+use rows::{NoMemory, Term};
+
+/// A leader of this term applies the entries, one after the other, and a watcher sees each.
+pub fn apply_all_watched<M: Machine, W: Watch<M>>(
+    machine: &mut M,
+    term: Term,
+    entries: &[Entry<Coded<M>>],
+    watch: &mut W,
+) -> Result<(), NoMemory>
+    requires { M.meaning.count machine.old + length entries.now < 2 ^ 40 }
+    ensures state { OnOk result (machine.new
+        ≡ after_from M.meaning machine.old (commands entries.now)) }
+    ensures seen { OnOk result (watch.new
+        ≡ sees_all M.meaning W.sees term machine.old entries.now watch.old) }
+{
+    for entry in entries {
+        machine.apply(entry.command.command())?;
+        watch.see(term, entry, machine)?;
+    }
+    Ok(())
+}
+
+/// The same for the entries of a log behind the first `from`, up to the first `to`.
+pub fn apply_range_watched<M: Machine, W: Watch<M>>(
+    machine: &mut M,
+    term: Term,
+    log: &[Entry<Coded<M>>],
+    from: usize,
+    to: usize,
+    watch: &mut W,
+) -> Result<(), NoMemory>
+    requires order { from ≤ to }
+    requires within { to ≤ length log.now }
+    requires short { to < 2 ^ 40 }
+    requires state { machine.old ≡ state_after M.meaning (take from log.now) }
+    ensures state { OnOk result (machine.new ≡ state_after M.meaning (take to log.now)) }
+    ensures seen { OnOk result (watch.new ≡ sees_all M.meaning W.sees term
+        (state_after M.meaning (take from log.now)) (drop from (take to log.now)) watch.old) }
+{
+    apply_all_watched(machine, term, &log[from..to], watch)
+}
 
 /// Applies the entries, one after the other.
 pub fn apply_all<M: Machine>(machine: &mut M, entries: &[Entry<Coded<M>>]) -> Result<(), NoMemory>
     requires { M.meaning.count machine.old + length entries.now < 2 ^ 40 }
     ensures { OnOk result (machine.new ≡ after_from M.meaning machine.old (commands entries.now)) }
 {
-    for entry in entries {
-        machine.apply(entry.command.command())?;
-    }
-    Ok(())
+    // Nobody watches, so that the term says nothing.
+    apply_all_watched(machine, Term::ZERO, entries, &mut Unwatched)
 }
 
 /// Brings a machine on from the state after the first `from` entries of a log to that after the
@@ -32,5 +72,5 @@ pub fn apply_range<M: Machine>(
     requires state { machine.old ≡ state_after M.meaning (take from log.now) }
     ensures { OnOk result (machine.new ≡ state_after M.meaning (take to log.now)) }
 {
-    apply_all(machine, &log[from..to])
+    apply_range_watched(machine, Term::ZERO, log, from, to, &mut Unwatched)
 }

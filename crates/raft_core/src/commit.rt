@@ -1,15 +1,17 @@
 //! How far a leader's commit index rises. (Raft, extended version 2014, section 5.3, and section
 //! 5.4.2.)
 
-ghost use Rattle.std.specs.Prelude.{◌≡◌, ◌≢◌, ◌^◌, ◌<◌, ◌≤◌, ◌⊎◌, ℕ, Bool, List, length, take, IfOk};
+ghost use Rattle.std.specs.Prelude.{◌≡◌, ◌≢◌, ◌^◌, ◌<◌, ◌≤◌, ◌⊎◌, ℕ, Bool, List, length, take, drop, IfOk};
 ghost use Rattle.raft_model.specs.Logs.{state_after};
 ghost use Rattle.raft_model.specs.Quorums.{count, is_quorum, index_at};
 ghost use Rattle.raft_model.specs.Servers.{Server, Leader, advanced, greatest};
 ghost use Rattle.raft_core.specs.Commits.{holds, IsGreatest, IsRisen};
 ghost use Rattle.raft_core.specs.Inner.Commits.{is_chosen_in};
+ghost use Rattle.raft_core.specs.Watching.{sees_all};
 
-use crate::apply::apply_range;
+use crate::apply::apply_range_watched;
 use crate::log::term_at;
+use crate::watch::Watch;
 use machine::{Coded, Entry, Machine};
 use rows::{Index, NoMemory, ServerId, Term};
 
@@ -85,14 +87,16 @@ fn risen<M: Machine>(
     commit.get()
 }
 
-/// A leader's commit index rises, the machine being brought on first by what is newly committed.
-pub fn advance<M: Machine>(
+/// A leader's commit index rises, the machine being brought on first by what is newly committed,
+/// and a watcher sees each entry of that.
+pub fn advance<M: Machine, W: Watch<M>>(
     machine: &mut M,
     me: ServerId,
     commit: Index,
     term: Term,
     log: &[Entry<Coded<M>>],
     matched: &[u64],
+    watch: &mut W,
 ) -> Result<Index, NoMemory>
     requires group { length matched.now ≤ 5 }
     requires short { length log.now < 2 ^ 40 }
@@ -103,12 +107,21 @@ pub fn advance<M: Machine>(
         (length log.now)) }
     ensures within { IfOk result (λ n. n ≤ length log.now) }
     ensures state { IfOk result (λ n. machine.new ≡ state_after M.meaning (take n log.now)) }
+    ensures seen { IfOk result (λ n. watch.new ≡ sees_all M.meaning W.sees term
+        (state_after M.meaning (take commit log.now)) (drop commit (take n log.now)) watch.old) }
 {
     let to = risen::<M>(me, commit, term, log, matched);
     let Some(to) = Index::new(to) else {
         unreachable!()
     };
-    apply_range(machine, log, commit.get() as usize, to.get() as usize)?;
+    apply_range_watched(
+        machine,
+        term,
+        log,
+        commit.get() as usize,
+        to.get() as usize,
+        watch,
+    )?;
     Ok(to)
 }
 

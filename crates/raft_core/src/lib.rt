@@ -13,6 +13,7 @@ mod raft;
 mod role;
 mod sending;
 mod stable;
+mod watch;
 
 pub use commit::commit_is_greatest;
 pub use input::Input;
@@ -20,3 +21,4 @@ pub use no_projection::NoProjection;
 pub use raft::{NotRestarted, Raft};
 pub use role::Role;
 pub use stable::Stable;
+pub use watch::{Unwatched, Watch};

@@ -10,14 +10,16 @@ ghost use Rattle.raft_model.specs.Logs.{state_after};
 ghost use Rattle.raft_model.specs.Servers.{Server, is_up, is_leader, met, crashed, restarted};
 ghost use Rattle.raft_core.specs.Inputs.{handed};
 ghost use Rattle.raft_core.specs.Steps.{Represents, Stores, Takes, role_of, is_member};
-ghost use Rattle.raft_core.specs.Refusals.{refusal, IsRefused, RefusalLeaves, WhyNot};
+ghost use Rattle.raft_core.specs.Refusals.{refusal, IsRefused, RefusalLeaves, RefusalShows, WhyNot};
 ghost use Rattle.raft_core.specs.Inner.Stops.{Stops};
 ghost use Rattle.raft_core.specs.Inner.Views.{with_server};
 ghost use Rattle.raft_core.specs.RaftView.{KeepsAhead};
+ghost use Rattle.raft_core.specs.Watching.{sees_step};
 
 use crate::input::Input;
 use crate::role::Role;
 use crate::stable::Stable;
+use crate::watch::{Unwatched, Watch};
 use machine::{Coded, Entry, Machine};
 use rows::{Index, NoMemory, Refusal, ServerId, Term};
 use std::alloc::Global;
@@ -283,7 +285,12 @@ impl<M: Machine> Raft<M> {
     /// One input is taken. After want of memory what is stored is as it was, and frames may stand
     /// behind those that were there.
     #[tactic(auto, using(crate::proofs::Keeps::kept_by_view))]
-    fn take(&mut self, input: Input, outbox: &mut Outbox) -> Result<(), Refusal>
+    fn take<W: Watch<M>>(
+        &mut self,
+        input: Input,
+        outbox: &mut Outbox,
+        watch: &mut W,
+    ) -> Result<(), Refusal>
         ensures same { (self.new.me ≡ self.old.me) × (self.new.size ≡ self.old.size) }
         ensures taken { OnOk result (Takes M.meaning self.old self.old.server (handed input.entry)
             self.new outbox.old outbox.new) }
@@ -292,6 +299,9 @@ impl<M: Machine> Raft<M> {
         ensures kept { OnOk result (KeepsAhead self.old self.new) }
         ensures stopped { IfErr result (λ cause.
             Stops M.meaning self.old (handed input.entry) cause self.new outbox.old outbox.new) }
+        ensures seen { OnOk result (watch.new
+            ≡ sees_step M.meaning W.sees self.old.server self.new.server watch.old) }
+        ensures unseen { IfErr result (λ cause. RefusalShows cause watch.old watch.new) }
     {
         let is_up = self.is_up();
         match input {
@@ -326,7 +336,7 @@ impl<M: Machine> Raft<M> {
                 if !is_up {
                     return Err(Refusal::Down);
                 }
-                self.frame(bytes, outbox)
+                self.frame(bytes, outbox, watch)
             }
         }
     }
@@ -355,8 +365,39 @@ impl<M: Machine> Raft<M> {
             RefusalLeaves M.meaning self.old s (handed input.entry) cause self.new) }
         ensures unsent { OnErr result (outbox.new ≡ outbox.old) }
     {
+        self.step_watched(input, outbox, &mut Unwatched)
+    }
+
+    /// The same step, watched: the watcher sees each entry that a leader newly applies, once and in
+    /// order, with the state that it left.
+    ///
+    /// A refusal shows it nothing. With `NoMemory` it is fit only to be dropped.
+    pub fn step_watched<W: Watch<M>>(
+        &mut self,
+        input: Input,
+        outbox: &mut Outbox,
+        watch: &mut W,
+    ) -> Result<(), Refusal>
+        ensures same { (self.new.me ≡ self.old.me) × (self.new.size ≡ self.old.size) }
+        ensures taken { OnOk result ((s : Server M.Command) → Represents M.meaning self.old s →
+            Takes M.meaning self.old s (handed input.entry) self.new outbox.old outbox.new) }
+        ensures admitted { OnOk result ((s : Server M.Command) → Represents M.meaning self.old s →
+            refusal M.meaning self.old.size self.old.me s (handed input.entry) ≡ None) }
+        ensures kept { OnOk result (KeepsAhead self.old self.new) }
+        ensures refused { IfErr result (λ cause. (s : Server M.Command) →
+            Represents M.meaning self.old s →
+            IsRefused M.meaning self.old.size self.old.me s (handed input.entry) cause) }
+        ensures left { IfErr result (λ cause. (s : Server M.Command) →
+            Represents M.meaning self.old s →
+            RefusalLeaves M.meaning self.old s (handed input.entry) cause self.new) }
+        ensures unsent { OnErr result (outbox.new ≡ outbox.old) }
+        ensures seen { OnOk result ((s next : Server M.Command) →
+            Represents M.meaning self.old s → Represents M.meaning self.new next →
+            watch.new ≡ sees_step M.meaning W.sees s next watch.old) }
+        ensures unseen { IfErr result (λ cause. RefusalShows cause watch.old watch.new) }
+    {
         let before = outbox.len();
-        match self.take(input, outbox) {
+        match self.take(input, outbox, watch) {
             Ok(()) => Ok(()),
             Err(cause) => match cause {
                 Refusal::NoMemory => {

@@ -3,6 +3,7 @@ use Rattle.std.specs.Prelude.{◌≡◌, ℕ, List, Some}
 use Rattle.rows.specs.declared.refusal.Refusal.{Refusal}
 use Rattle.rows.specs.declared.refusal.Refusal.TheVariants as refusals
 use Rattle.machine.specs.Meaning.{Meaning}
+use Rattle.wire.specs.Messages.{Message as WireMessage}
 use Rattle.wire.specs.Frames.{Frame}
 use Rattle.raft_model.specs.Messages.{Message}
 use Rattle.raft_model.specs.Servers.{Server}
@@ -11,7 +12,7 @@ use Rattle.raft_core.specs.RaftView.{RaftView}
 use Rattle.raft_core.specs.Frames.{IsFrameOf}
 use Rattle.raft_core.specs.Inputs.{Handed, Own}
 use Rattle.raft_core.specs.Steps.{Steps}
-use Rattle.raft_core.specs.Refusals.{refusal, frame_refusal, MayLack}
+use Rattle.raft_core.specs.Refusals.{refusal, frame_refusal, misdirected, MayLack}
 use Rattle.raft_core.specs.Inner.Turns.{Lost}
 
 -- memory was wanting; a restart takes none
@@ -42,3 +43,10 @@ abbrev pub TakesFrame : {S C : Type 0} → Meaning S C → RaftView C → Server
     → List Frame → List Frame → Type 0
 TakesFrame {C = C} m old s bytes new before after =
     (message : Message C) → IsFrameOf m bytes message → Steps m old s (Arrives message) new before after
+
+-- the same of a message that was read
+abbrev pub MessageStops : {S C : Type 0} → RaftView C → WireMessage S C → Refusal → RaftView C
+    → List Frame → List Frame → Type 0
+MessageStops old read refusals.NoMemory new before after = Lost old new before after
+MessageStops old read cause new before after =
+    (misdirected old.size old.me read.from read.to ≡ Some cause) × Unchanged old new before after

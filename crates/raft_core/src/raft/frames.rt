@@ -1,27 +1,31 @@
-//! Frames that come.
+//! Frames and messages that come.
 
 ghost use Rattle.std.specs.Prelude.{◌≡◌, ◌≢◌, ◌<◌, true, None, OnOk, OnErr, IfOk, IfErr, Some};
 ghost use Rattle.rows.specs.declared.actor.Actor.TheVariants as actors;
-ghost use Rattle.raft_model.specs.Servers.{is_up, met};
+ghost use Rattle.raft_model.specs.Servers.{Server, is_up, met};
 ghost use Rattle.raft_model.specs.Steps.{receives};
 ghost use Rattle.raft_core.specs.Frames.{term_of, body_of};
+ghost use Rattle.raft_core.specs.Steps.{Represents, TakesMessage};
 ghost use Rattle.raft_core.specs.Inner.Turns.{Turned, Lost};
-ghost use Rattle.raft_core.specs.Inner.Stops.{TakesFrame, FrameStops};
-ghost use Rattle.raft_core.specs.Refusals.{frame_refusal, misdirected};
+ghost use Rattle.raft_core.specs.Inner.Stops.{TakesFrame, FrameStops, MessageStops};
+ghost use Rattle.raft_core.specs.Refusals.{frame_refusal, misdirected, message_refusal, IsMessageRefused, MessageRefusalLeaves, RefusalShows};
 ghost use Rattle.raft_core.specs.RaftView.{KeepsAhead};
+ghost use Rattle.raft_core.specs.Watching.{sees_step};
 
 use super::Raft;
+use crate::watch::Watch;
 use machine::Machine;
 use rows::{Actor, NoMemory, Refusal, ServerId};
 use wire::{Body, Message, Outbox, read_message};
 
 impl<M: Machine> Raft<M> {
     /// A message of another server of the group is taken.
-    fn receive(
+    fn receive<W: Watch<M>>(
         &mut self,
         from: ServerId,
         body: Body<M>,
         outbox: &mut Outbox,
+        watch: &mut W,
     ) -> Result<(), NoMemory>
         requires up { is_up self.old.server.mode ≡ true }
         requires member { from < self.old.size }
@@ -31,13 +35,15 @@ impl<M: Machine> Raft<M> {
             (receives M.meaning.noop self.old.size self.old.me (met (term_of body) self.old.server)
             from (term_of body) (body_of body))) }
         ensures kept { OnOk result (KeepsAhead self.old self.new) }
+        ensures seen { OnOk result (watch.new
+            ≡ sees_step M.meaning W.sees self.old.server self.new.server watch.old) }
         ensures lost { OnErr result (Lost self.old self.new outbox.old outbox.new) }
     {
         match body {
             Body::VoteRequest(request) => self.vote_request(from, &request, outbox),
             Body::VoteReply(reply) => self.vote_reply(from, &reply),
             Body::Append(append) => self.append(from, append, outbox),
-            Body::AppendReply(reply) => self.append_reply(from, &reply),
+            Body::AppendReply(reply) => self.append_reply(from, &reply, watch),
         }
     }
 
@@ -66,8 +72,87 @@ impl<M: Machine> Raft<M> {
         Ok(from)
     }
 
+    /// A message comes to a server that is up.
+    fn message<W: Watch<M>>(
+        &mut self,
+        message: Message<M>,
+        outbox: &mut Outbox,
+        watch: &mut W,
+    ) -> Result<(), Refusal>
+        requires { is_up self.old.server.mode ≡ true }
+        ensures same { (self.new.me ≡ self.old.me) × (self.new.size ≡ self.old.size) }
+        ensures taken { OnOk result
+            (TakesMessage M.meaning self.old self.old.server message self.new outbox.old
+            outbox.new) }
+        ensures admitted { OnOk result
+            (misdirected self.old.size self.old.me message.from message.to ≡ None) }
+        ensures kept { OnOk result (KeepsAhead self.old self.new) }
+        ensures stopped { IfErr result (λ cause.
+            MessageStops self.old message cause self.new outbox.old outbox.new) }
+        ensures seen { OnOk result (watch.new
+            ≡ sees_step M.meaning W.sees self.old.server self.new.server watch.old) }
+        ensures unseen { IfErr result (λ cause. RefusalShows cause watch.old watch.new) }
+    {
+        let from = self.sender(&message)?;
+        self.receive(from, message.into_body(), outbox, watch)?;
+        Ok(())
+    }
+
+    /// One watched step with a message that was read: what a step with its frame is, and the frame
+    /// is not read again.
+    ///
+    /// One that is down refuses it with `Down`. Then `Frame` names offset 2 where its sender is not
+    /// of the group, or 3 where it is for another server. A refusal changes nothing, sends nothing
+    /// and shows nothing. With `NoMemory` the server is down, with its stored part as it was and
+    /// nothing sent, and the watcher is fit only to be dropped.
+    pub fn receive_message<W: Watch<M>>(
+        &mut self,
+        message: Message<M>,
+        outbox: &mut Outbox,
+        watch: &mut W,
+    ) -> Result<(), Refusal>
+        ensures same { (self.new.me ≡ self.old.me) × (self.new.size ≡ self.old.size) }
+        ensures taken { OnOk result ((s : Server M.Command) → Represents M.meaning self.old s →
+            TakesMessage M.meaning self.old s message self.new outbox.old outbox.new) }
+        ensures admitted { OnOk result ((s : Server M.Command) → Represents M.meaning self.old s →
+            message_refusal self.old.size self.old.me s message ≡ None) }
+        ensures kept { OnOk result (KeepsAhead self.old self.new) }
+        ensures refused { IfErr result (λ cause. (s : Server M.Command) →
+            Represents M.meaning self.old s →
+            IsMessageRefused self.old.size self.old.me s message cause) }
+        ensures left { IfErr result (λ cause. (s : Server M.Command) →
+            Represents M.meaning self.old s →
+            MessageRefusalLeaves M.meaning self.old s cause self.new) }
+        ensures unsent { OnErr result (outbox.new ≡ outbox.old) }
+        ensures seen { OnOk result ((s next : Server M.Command) →
+            Represents M.meaning self.old s → Represents M.meaning self.new next →
+            watch.new ≡ sees_step M.meaning W.sees s next watch.old) }
+        ensures unseen { IfErr result (λ cause. RefusalShows cause watch.old watch.new) }
+    {
+        if !self.is_up() {
+            return Err(Refusal::Down);
+        }
+        let before = outbox.len();
+        match self.message(message, outbox, watch) {
+            Ok(()) => Ok(()),
+            Err(cause) => match cause {
+                Refusal::NoMemory => {
+                    outbox.truncate(before);
+                    self.go_down();
+                    Err(Refusal::NoMemory)
+                }
+                other => Err(other),
+            },
+        }
+    }
+
     /// A frame comes to a server that is up.
-    pub(super) fn frame(&mut self, bytes: &[u8], outbox: &mut Outbox) -> Result<(), Refusal>
+    pub(super) fn frame<W: Watch<M>>(
+        &mut self,
+        bytes: &[u8],
+        outbox: &mut Outbox,
+        watch: &mut W,
+    ) -> Result<(), Refusal>
         requires { is_up self.old.server.mode ≡ true }
         ensures same { (self.new.me ≡ self.old.me) × (self.new.size ≡ self.old.size) }
         ensures taken { OnOk result
@@ -78,10 +163,11 @@ impl<M: Machine> Raft<M> {
         ensures kept { OnOk result (KeepsAhead self.old self.new) }
         ensures stopped { IfErr result (λ cause.
             FrameStops M.meaning self.old bytes.now cause self.new outbox.old outbox.new) }
+        ensures seen { OnOk result (watch.new
+            ≡ sees_step M.meaning W.sees self.old.server self.new.server watch.old) }
+        ensures unseen { IfErr result (λ cause. RefusalShows cause watch.old watch.new) }
     {
         let message = read_message::<M>(self.alloc, bytes)?;
-        let from = self.sender(&message)?;
-        self.receive(from, message.into_body(), outbox)?;
-        Ok(())
+        self.message(message, outbox, watch)
     }
 }

@@ -97,6 +97,9 @@ impl<M: Machine> Raft<M> {
     ///
     /// The machine after the whole log is made where there is none, and kept. A refusal never drops
     /// it; a command that it finds no memory to apply is appended, and it is dropped.
+    ///
+    /// Nothing is committed by it: a leader alone is no quorum of 3 or 5. So a watcher has nothing
+    /// to see.
     pub fn propose(&mut self, command: M::Command) -> Result<(), Refusal>
         ensures same { (self.new.me ≡ self.old.me) × (self.new.size ≡ self.old.size) }
         // Whatever was sent before, nothing is sent.

@@ -7,10 +7,12 @@ ghost use Rattle.raft_model.specs.Messages.{AppendReply as AppendReplyBody};
 ghost use Rattle.raft_model.specs.Quorums.{index_at};
 ghost use Rattle.raft_core.specs.Inner.Replies.{hears, next_after, match_after};
 ghost use Rattle.raft_core.specs.RaftView.{KeepsAhead};
+ghost use Rattle.raft_core.specs.Watching.{sees_step};
 
 use super::Raft;
 use crate::commit::advance;
 use crate::role::Role;
+use crate::watch::Watch;
 use machine::Machine;
 use rows::{Index, NoMemory, ServerId};
 use wire::AppendReply;
@@ -66,13 +68,21 @@ fn learn(next: &mut [u64], matched: &mut [u64], last: u64, from: ServerId, ok: b
 
 impl<M: Machine> Raft<M> {
     /// A leader hears what another server holds, or that it refuses; then its commit index rises.
-    fn hear(&mut self, from: ServerId, ok: bool, at: Index) -> Result<(), NoMemory>
+    fn hear<W: Watch<M>>(
+        &mut self,
+        from: ServerId,
+        ok: bool,
+        at: Index,
+        watch: &mut W,
+    ) -> Result<(), NoMemory>
         requires up { is_up self.old.server.mode ≡ true }
         requires member { from < self.old.size }
         ensures same { (self.new.me ≡ self.old.me) × (self.new.size ≡ self.old.size) }
         ensures heard { OnOk result (self.new.server
             ≡ hears self.old.size self.old.me self.old.server from ok at self.old.server.mode) }
         ensures kept { OnOk result (KeepsAhead self.old self.new) }
+        ensures seen { OnOk result (watch.new
+            ≡ sees_step M.meaning W.sees self.old.server self.new.server watch.old) }
         ensures lost { OnErr result (crashed self.new.server ≡ crashed self.old.server) }
     {
         match self.role {
@@ -93,6 +103,7 @@ impl<M: Machine> Raft<M> {
                     self.term,
                     &self.log,
                     &self.matched,
+                    watch,
                 )?;
                 self.machine = Some(machine);
                 self.ahead = ahead;
@@ -103,10 +114,11 @@ impl<M: Machine> Raft<M> {
 
     /// An answer to an Append counts where it answers one of this term, and the server leads.
     #[tactic(auto, using(crate::proofs::Keeps::kept_by_view))]
-    pub(super) fn append_reply(
+    pub(super) fn append_reply<W: Watch<M>>(
         &mut self,
         from: ServerId,
         reply: &AppendReply,
+        watch: &mut W,
     ) -> Result<(), NoMemory>
         requires up { is_up self.old.server.mode ≡ true }
         requires member { from < self.old.size }
@@ -116,6 +128,8 @@ impl<M: Machine> Raft<M> {
             (met reply.now.term self.old.server) from reply.now.term
             (AppendReplyBody reply.now.asked reply.now.ok reply.now.at)).server) }
         ensures kept { OnOk result (KeepsAhead self.old self.new) }
+        ensures seen { OnOk result (watch.new
+            ≡ sees_step M.meaning W.sees self.old.server self.new.server watch.old) }
         ensures lost { OnErr result (crashed self.new.server ≡ crashed self.old.server) }
     {
         if self.term.get() < reply.term.get() {
@@ -125,6 +139,6 @@ impl<M: Machine> Raft<M> {
         if reply.asked.get() != self.term.get() {
             return Ok(());
         }
-        self.hear(from, reply.ok, reply.at)
+        self.hear(from, reply.ok, reply.at, watch)
     }
 }
