@@ -1,7 +1,7 @@
 -- What is kept of a plan at a safe state is admitted there, but for a full table.
-use Rattle.std.proofs.Common.{◌≡◌, ℕ, zero, suc, ◌+◌, ◌≤◌, Bool, true, false, cond, not, ◌&&◌, ◌||◌, T, List, [], ◌∷◌, ◌++◌, length, map, filter, Option, Some, None, Result, Ok, Err, is_none, refl, sym, ap, subst, ◌∙◌, arith}
-use Rattle.std.specs.Prelude.{nat_eq, nat_lt, nat_le, bytes_eq, sum_by}
-use Rattle.std.specs.List.{AllByRecursion, list_all, list_any}
+use Rattle.std.proofs.Common.{◌≡◌, ℕ, zero, suc, ◌+◌, ◌≤◌, Bool, true, false, cond, not, ◌&&◌, T, List, [], ◌∷◌, ◌++◌, length, map, filter, Option, Some, None, Result, Ok, Err, is_none, refl, sym, ap, subst, ◌∙◌, arith}
+use Rattle.std.specs.Prelude.{nat_eq, nat_lt, nat_le, sum_by}
+use Rattle.std.specs.List.{list_all, list_any}
 use Rattle.std.specs.Cmp.Lexicographic.{slice_cmp}
 use Rattle.std.specs.Ordering.{nat_cmp, is_eq}
 use Rattle.std.specs.declared.cmp.Ordering.TheVariants.{Equal}
@@ -14,31 +14,25 @@ use Rattle.rows.specs.declared.plan.Plan.{Plan}
 use Rattle.rows.specs.declared.node.Node.{Node}
 use Rattle.rows.specs.declared.allocation.AllocId.{AllocId}
 use Rattle.rows.specs.declared.command.AcceptedPlace.{AcceptedPlace}
-use Rattle.rows.specs.declared.command.AcceptedPlan.{AcceptedPlan}
-use Rattle.rows.specs.declared.command.Command.TheVariants as commands
 use Rattle.rows.specs.declared.refusal.Refusal.{Refusal}
 use Rattle.rows.specs.declared.refusal.Refusal.TheVariants as refusals
-use Rattle.rows.specs.Fits.{PlanFits}
 use Rattle.rows.specs.Keys.{name_cmp, job_name, node_number}
-use Rattle.fsm_tables.specs.Claims.{Claim, claims, on_node, used}
+use Rattle.fsm_tables.specs.Claims.{Claim, on_node, used}
 use Rattle.fsm_tables.specs.Rows.{row_of}
 use Rattle.fsm_tables.proofs.RowLaws.{both, first, second}
 use Rattle.fsm_tables.proofs.Filters.{found_at}
 use Rattle.cluster_model.specs.Words.{State, same_alloc, job_of, node_of, eval_of, is_some_and, is_pending, no_job}
-use Rattle.cluster_model.specs.Safe.{fits, are_distinct, is_safe}
-use Rattle.cluster_model.specs.SafeFacts.{Safe}
-use Rattle.cluster_model.specs.States.{IsState}
+use Rattle.cluster_model.specs.Safe.{are_distinct, is_safe}
 use Rattle.cluster_model.specs.Effect.{stop, with_next_count, planned}
-use Rattle.cluster_model.specs.Admission.{first_of, admission, is_live_of, is_stopped, is_asked, fits_job}
-use Rattle.cluster_model.specs.Plans.{room_of, fits_number, kept_claims, wanted, left, left_by, IsKnown}
+use Rattle.cluster_model.specs.Admission.{first_of, is_live_of, is_stopped, is_asked, fits_job}
+use Rattle.cluster_model.specs.Plans.{room_of, fits_number, kept_claims, wanted, left_by, IsKnown}
 use Rattle.cluster_model.proofs.SafeFacts.{T-le, le-T}
 use Rattle.cluster_model.proofs.SafeLaws.{Fewer, nothing, kept, gone, fewer_distinct}
 use Rattle.cluster_model.proofs.AfterLaws.{planned_is_safe}
-use Rattle.cluster_model.proofs.Lists.{is_true}
 use Rattle.group_model.specs.Acceptance.{Accepted, once_after, kept_stops, kept_where, with_kept, claimed, on, keep_places, keep_upto, keep, is_eval_of, accept_of, accept, plan_of_accepted}
 use Rattle.group_safety.proofs.PlanLimits.{accept_fits}
 use Rattle.fsm_state.proofs.Claimed.{left_fewer}
-use Rattle.plan_apply.specs.Admitted.{full_for, KeptIsAdmitted}
+use Rattle.plan_apply.specs.Admitted.{KeptIsAdmitted}
 use Rattle.plan_apply.specs.Inner.Overlay.{stops_alone}
 use Rattle.plan_apply.proofs.Fewness.{places_past, split_places, all_places, few_more}
 use Rattle.plan_apply.proofs.Keeping.{Holds, upto_holds}

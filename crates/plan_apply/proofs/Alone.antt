@@ -1,6 +1,6 @@
 -- Names that are held once among all claims keep claims distinct.
-use Rattle.std.proofs.Common.{◌≡◌, ℕ, ◌+◌, ◌≤◌, Bool, true, false, cond, not, ◌&&◌, ◌||◌, T, List, [], ◌∷◌, ◌++◌, length, filter, refl, sym, ap, subst, ◌∙◌, arith, length-append}
-use Rattle.std.specs.Prelude.{nat_eq, sum_by}
+use Rattle.std.proofs.Common.{◌≡◌, ℕ, ◌+◌, ◌≤◌, true, false, cond, ◌||◌, T, List, [], ◌∷◌, ◌++◌, length, filter, refl, sym, subst, ◌∙◌, arith}
+use Rattle.std.specs.Prelude.{nat_eq}
 use Rattle.std.specs.List.{list_all, list_any}
 use Rattle.std.proofs.lemmas.List.Sums.{length-filter, sum_by-append, sum_by-cons}
 use Rattle.fsm_tables.specs.Claims.{Claim}
@@ -42,11 +42,11 @@ none_named q (d ∷ ds) e =
 
 pub once_is_distinct : (cs ds : List Claim) → T (are_distinct cs) → T (list_all (is_held_once (cs ++ ds)) ds) → T (are_distinct (cs ++ ds))
 once_is_distinct cs ds h g = distinct_count (cs ++ ds) (λ q.
-  elim (list_any (same_name q) ds) as (λ b. list_any (same_name q) ds ≡ b → named q (cs ++ ds) ≤ 1) [
-    | true ↦ λ e. once_named q (cs ++ ds) ds (subst T (sym e) tt) g
-    | false ↦ λ e.
-        let both = sum_by-append (λ c. cond (same_name q c) 1 0) cs ds in
-        let none : named q ds ≡ 0 = none_named q ds e in
-        let most : named q cs ≤ 1 = count_distinct cs h q in
-        omega (arith, both, none, most)
-  ] refl)
+    elim (list_any (same_name q) ds) as (λ b. list_any (same_name q) ds ≡ b → named q (cs ++ ds) ≤ 1) [
+      | true ↦ λ e. once_named q (cs ++ ds) ds (subst T (sym e) tt) g
+      | false ↦ λ e.
+          let both = sum_by-append (λ c. cond (same_name q c) 1 0) cs ds in
+          let none : named q ds ≡ 0 = none_named q ds e in
+          let most : named q cs ≤ 1 = count_distinct cs h q in
+          omega (arith, both, none, most)
+    ] refl)

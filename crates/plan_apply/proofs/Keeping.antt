@@ -1,6 +1,6 @@
 -- What holds of what is kept so far, node by node: each number's use is within what it has, no two
 -- claims are of one name, and the job asks for each place.
-use Rattle.std.proofs.Common.{◌≡◌, ℕ, zero, suc, ◌+◌, ◌≤◌, Bool, true, false, cond, not, ◌&&◌, ◌||◌, T, List, [], ◌∷◌, ◌++◌, length, map, filter, Option, Some, None, is_some, refl, sym, ap, subst, ◌∙◌, arith, append_assoc}
+use Rattle.std.proofs.Common.{◌≡◌, ℕ, zero, suc, Bool, true, false, cond, ◌&&◌, ◌||◌, T, List, [], ◌∷◌, ◌++◌, map, Option, Some, None, is_some, refl, sym, ap, subst, ◌∙◌, arith, append_assoc}
 use Rattle.std.specs.Prelude.{nat_eq, nat_lt, bytes_eq, sum_by, find, filter_map}
 use Rattle.std.specs.List.{AllByRecursion, list_all, list_any, cons_option}
 use Rattle.std.specs.Ordering.{nat_cmp}
@@ -30,7 +30,6 @@ use Rattle.cluster_model.specs.Plans.{room_of, fits_number}
 use Rattle.cluster_model.proofs.SafeFacts.{test_by_safe}
 use Rattle.cluster_model.proofs.SafeLaws.{stop_releases, released, fewer_safe, distinct_of}
 use Rattle.cluster_model.proofs.UseLaws.{number_fits}
-use Rattle.cluster_model.proofs.Lists.{is_true}
 use Rattle.group_model.specs.Acceptance.{Accepted, is_group_of, with_group_size, sized_on, claim_at, place_claims, is_held_once, bears, on, kept_on, kept_where, with_kept, claimed, keep_places, keep_upto}
 use Rattle.plan_apply.specs.Inner.Overlay.{stops_alone}
 use Rattle.plan_apply.proofs.Alone.{once_is_distinct}
