@@ -8,6 +8,7 @@ mod desks;
 mod effects;
 mod full_tables;
 mod lines;
+mod plan_checks;
 mod state_texts;
 mod states;
 mod tallies;

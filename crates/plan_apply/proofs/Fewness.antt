@@ -1,5 +1,5 @@
 -- What is kept of a plan's places is no more than its places.
-use Rattle.std.proofs.Common.{◌≡◌, ℕ, ◌+◌, ◌≤◌, suc, Bool, true, false, cond, ◌&&◌, List, [], ◌∷◌, ◌++◌, length, filter, Option, Some, None, is_some, refl, ap, sym, subst, ◌∙◌, arith, length-append}
+use Rattle.std.proofs.Common.{◌≡◌, ℕ, ◌+◌, ◌≤◌, suc, Bool, true, false, cond, ◌&&◌, List, [], ◌∷◌, length, filter, Option, Some, None, is_some, ap, sym, subst, ◌∙◌, arith, length-append}
 use Rattle.std.specs.Prelude.{nat_eq, nat_lt, filter_map}
 use Rattle.std.specs.List.{cons_option, list_all}
 use Rattle.rows.specs.declared.job.Job.{Job}
@@ -9,7 +9,7 @@ use Rattle.rows.specs.declared.plan.Plan.{Plan}
 use Rattle.rows.specs.declared.command.AcceptedPlace.{AcceptedPlace}
 use Rattle.cluster_model.specs.Words.{State, node_of}
 use Rattle.fsm_tables.specs.Claims.{Claim}
-use Rattle.group_model.specs.Acceptance.{Accepted, sized_on, bears, on, kept_on, kept_where, with_kept, claimed, keep_places, keep_upto}
+use Rattle.group_model.specs.Acceptance.{Accepted, sized_on, bears, on, kept_where, with_kept, claimed, keep_places, keep_upto}
 use Rattle.plan_apply.specs.Inner.Overlay.{all_sized}
 
 -- the places past a number

@@ -1,5 +1,5 @@
 -- Names told from the rows and from what is kept, as the code looks at them.
-use Rattle.std.proofs.Common.{◌≡◌, ℕ, zero, suc, ◌+◌, ◌≤◌, Bool, true, false, cond, not, ◌&&◌, ◌||◌, T, List, [], ◌∷◌, ◌++◌, length, map, filter, Option, Some, None, refl, sym, ap, subst, ◌∙◌, arith, length-append}
+use Rattle.std.proofs.Common.{◌≡◌, ℕ, zero, suc, ◌+◌, ◌≤◌, Bool, true, false, cond, not, ◌&&◌, ◌||◌, T, List, [], ◌∷◌, ◌++◌, length, map, filter, Some, None, refl, sym, ap, subst, ◌∙◌, arith, length-append}
 use Rattle.std.specs.Prelude.{nat_eq, bytes_eq}
 use Rattle.std.specs.List.{list_any, slice_get}
 use Rattle.std.proofs.lemmas.List.Elements.{filter-append}
@@ -10,7 +10,7 @@ use Rattle.rows.proofs.Truth.{is_true}
 use Rattle.fsm_tables.specs.Claims.{Claim, claim_of, claims, is_live}
 use Rattle.fsm_tables.specs.LiveNames.{is_called, live_named}
 use Rattle.fsm_tables.specs.declared.name.AllocName.{AllocName}
-use Rattle.fsm_tables.proofs.RowLaws.{both, first, second}
+use Rattle.fsm_tables.proofs.RowLaws.{first, second}
 use Rattle.cluster_model.specs.Words.{same_alloc}
 use Rattle.cluster_model.specs.Effect.{stop}
 use Rattle.cluster_model.specs.Safe.{same_name, are_distinct}
@@ -33,10 +33,10 @@ kept_is ids d [] = refl
 kept_is ids d (a ∷ rows) =
     let rest = claims (map (stop ids) rows) in
     sym ((λ i. holds_name d (cond (stop_lives ids a i) ((stop_releases ids).same_claim a i ∷ rest) rest))
-      ∙ elim (is_live a && not (list_any (same_alloc a.id) ids)) as (λ b. holds_name d (cond b (claim_of a ∷ rest) rest) ≡ ((b && is_called (claim_name d) a) || list_any (keeps_name (claim_name d) ids) rows)) [
-        | true ↦ ap (λ t. same_name (claim_of a) d || t) (sym (kept_is ids d rows))
-        | false ↦ sym (kept_is ids d rows)
-      ])
+    ∙ elim (is_live a && not (list_any (same_alloc a.id) ids)) as (λ b. holds_name d (cond b (claim_of a ∷ rest) rest) ≡ ((b && is_called (claim_name d) a) || list_any (keeps_name (claim_name d) ids) rows)) [
+      | true ↦ ap (λ t. same_name (claim_of a) d || t) (sym (kept_is ids d rows))
+      | false ↦ sym (kept_is ids d rows)
+    ])
 
 or_true : (b : Bool) → (b || true) ≡ true
 or_true true = refl
@@ -131,9 +131,9 @@ alone_is job ids rows ks ms k le =
     let cs = claims (map (stop ids) rows) in
     let left = length (filter p cs) in
     let none : nat_eq left 0 ≡ not (list_any (keeps_name (place_name job k) ids) rows) =
-        none_counted p cs ∙ ap not (anys_same p (λ c. same_name c d) (name_turn d) cs ∙ sym (kept_is ids d rows)) in
+    none_counted p cs ∙ ap not (anys_same p (λ c. same_name c d) (name_turn d) cs ∙ sym (kept_is ids d rows)) in
     let all : length (filter p ((cs ++ place_claims job ks) ++ place_claims job ms)) ≡ left + length (filter (same_place k) ks) + length (filter (same_place k) ms) =
-        ap length (filter-append p (cs ++ place_claims job ks) (place_claims job ms))
-        ∙ length-append (filter p (cs ++ place_claims job ks)) (filter p (place_claims job ms))
-        ∙ (λ i. (ap length (filter-append p cs (place_claims job ks)) ∙ length-append (filter p cs) (filter p (place_claims job ks)) ∙ ap (λ (n : ℕ). left + n) (same_count job k ks)) i + same_count job k ms i) in
+    ap length (filter-append p (cs ++ place_claims job ks) (place_claims job ms))
+    ∙ length-append (filter p (cs ++ place_claims job ks)) (filter p (place_claims job ms))
+    ∙ (λ i. (ap length (filter-append p cs (place_claims job ks)) ∙ length-append (filter p cs) (filter p (place_claims job ks)) ∙ ap (λ (n : ℕ). left + n) (same_count job k ks)) i + same_count job k ms i) in
     sym (ap (λ (n : ℕ). nat_eq n 1) all ∙ split_one left (length (filter (same_place k) ks)) (length (filter (same_place k) ms)) le ∙ ap (λ b. is_single ks ms k && b) none)

@@ -1,5 +1,5 @@
 -- A node's use told from the sums of the state and from what is kept, as the code looks at them.
-use Rattle.std.proofs.Common.{◌≡◌, ℕ, ◌+◌, ◌≤◌, Bool, true, false, cond, ◌&&◌, T, List, ◌++◌, map, refl, sym, ap, ◌∙◌, arith}
+use Rattle.std.proofs.Common.{◌≡◌, ℕ, ◌+◌, Bool, true, false, ◌&&◌, T, List, ◌++◌, map, sym, ap, ◌∙◌, arith}
 use Rattle.std.specs.Prelude.{sum_by, nat_le}
 use Rattle.std.proofs.lemmas.List.Sums.{sum_by-append}
 use Rattle.rows.specs.declared.node.Node.{Node}
@@ -14,7 +14,7 @@ use Rattle.cluster_model.specs.Safe.{is_within}
 use Rattle.cluster_model.specs.Plans.{ended}
 use Rattle.cluster_model.proofs.SafeLaws.{stop_releases}
 use Rattle.cluster_model.proofs.UseLaws.{released_sum}
-use Rattle.group_model.specs.Acceptance.{Accepted, place_claims, claimed}
+use Rattle.group_model.specs.Acceptance.{place_claims}
 use Rattle.fsm_state.proofs.Alone.{ended_sum, gone_sum}
 use Rattle.plan_apply.specs.Inner.Stops.{AreEnded}
 
@@ -28,7 +28,7 @@ part_is w s rows job ks ms r h e =
     let ids = map alloc_id rows in
     let left = claims (map (stop ids) s.allocs) in
     moved (sum_by w (claims s.allocs)) (sum_by w left) (sum_by w (ended (stop ids) s.allocs)) (sum_by w (map claim_of rows)) (sum_by w (place_claims job ks)) (sum_by w (place_claims job ms)) r
-      (released_sum w (stop ids) (stop_releases ids) s.allocs) (ended_sum w ids s.allocs ∙ gone_sum w ids s.allocs h ∙ ap (sum_by w) e)
+    (released_sum w (stop ids) (stop_releases ids) s.allocs) (ended_sum w ids s.allocs ∙ gone_sum w ids s.allocs h ∙ ap (sum_by w) e)
     ∙ ap (λ (n : ℕ). nat_le n r) (sym (sum_by-append w (left ++ place_claims job ks) (place_claims job ms) ∙ ap (λ (n : ℕ). n + sum_by w (place_claims job ms)) (sum_by-append w left (place_claims job ks))))
 
 -- the test, of numbers that are these

@@ -1,6 +1,6 @@
 -- Stops one after the other are those that the definition keeps, and their rows claim what they
 -- end.
-use Rattle.std.proofs.Common.{◌≡◌, ℕ, ◌+◌, ◌≤◌, suc, Bool, true, false, cond, not, ◌&&◌, ◌||◌, T, List, [], ◌∷◌, ◌++◌, length, map, filter, Option, Some, None, refl, sym, ap, subst, ◌∙◌, arith, append_assoc, length-append}
+use Rattle.std.proofs.Common.{◌≡◌, ℕ, ◌≤◌, suc, Bool, true, false, cond, not, ◌&&◌, ◌||◌, List, [], ◌∷◌, ◌++◌, length, map, filter, Option, Some, None, refl, sym, ap, subst, ◌∙◌, arith, append_assoc}
 use Rattle.std.specs.Prelude.{nat_eq, bytes_eq}
 use Rattle.std.specs.List.{list_any}
 use Rattle.std.proofs.lemmas.List.{map-append, append-nil}
@@ -104,7 +104,7 @@ ended_more [] id rows e = refl
 ended_more (x ∷ ids) id rows e =
     let last = claim_if_live (row_of alloc_cmp alloc_id id rows) [] in
     let apart : list_any (same_alloc x) (ids ++ id ∷ []) ≡ list_any (same_alloc x) ids =
-        list_any-append (same_alloc x) ids (id ∷ []) ∙ ap (λ b. list_any (same_alloc x) ids || (b || false)) (id_turn x id ∙ not_first (same_alloc id x) (list_any (same_alloc id) ids) e) ∙ or_false (list_any (same_alloc x) ids) in
+    list_any-append (same_alloc x) ids (id ∷ []) ∙ ap (λ b. list_any (same_alloc x) ids || (b || false)) (id_turn x id ∙ not_first (same_alloc id x) (list_any (same_alloc id) ids) e) ∙ or_false (list_any (same_alloc x) ids) in
     (λ i. cond (apart i) (ended_more ids id rows (not_second (same_alloc id x) (list_any (same_alloc id) ids) e) i) (claim_if_live (row_of alloc_cmp alloc_id x rows) (ended_more ids id rows (not_second (same_alloc id x) (list_any (same_alloc id) ids) e) i)))
     ∙ either_claim (list_any (same_alloc x) ids) (row_of alloc_cmp alloc_id x rows) (ended_by ids rows) last
 

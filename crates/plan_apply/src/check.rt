@@ -33,12 +33,7 @@ fn as_batch<T: Drop>(items: Sequence<T>) -> Batch<T>
 }
 
 /// What is kept of a plan of a job.
-fn keep(
-    alloc: Global,
-    state: &Cluster,
-    job: &Job,
-    plan: &Plan,
-) -> Result<Accepted, NoMemory>
+fn keep(alloc: Global, state: &Cluster, job: &Job, plan: &Plan) -> Result<Accepted, NoMemory>
     ensures kept { IfOk result (λ a. kept_by a ≡ keep state.now job.now plan.now) }
     ensures plan { IfOk result (λ a. a.plan ≡ plan_of_accepted plan.now (kept_by a)) }
 {

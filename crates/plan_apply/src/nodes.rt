@@ -134,7 +134,7 @@ pub(crate) fn kept_places(
     requires few_stops { length stopped.now ≤ 64 }
     ensures kept { let start = stops_alone (map alloc_id stopped.now) in
         IfOk result (λ kept. kept_so_far stopped.now kept
-            ≡ keep_upto state.now job.now plan.now start 64) }
+        ≡ keep_upto state.now job.now plan.now start 64) }
     ensures few { IfOk result (λ kept. length kept.places ≤ 64) }
 {
     plan.ranges();

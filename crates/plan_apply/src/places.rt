@@ -5,9 +5,7 @@ ghost use Rattle.cluster_model.specs.Words.{is_ready};
 ghost use Rattle.cluster_model.specs.Admission.{may_hold};
 ghost use Rattle.plan_apply.specs.Inner.Overlay.{all_sized};
 
-use rows::{
-    AcceptedPlace, Group, Job, NoMemory, Node, NodeId, NodeStatus, Place, Sequence,
-};
+use rows::{AcceptedPlace, Group, Job, NoMemory, Node, NodeId, NodeStatus, Place, Sequence};
 use std::alloc::Global;
 
 /// The places on a node.
@@ -48,9 +46,7 @@ fn may_hold(group: &Group, node: &Node) -> bool
 fn is_group_of(node: &Node, place: &Place, group: &Group) -> bool
     ensures { result ≡ is_group_of node.now place.now group.now }
 {
-    group.name == place.group
-        && place.index.get() < group.count.get()
-        && may_hold(group, node)
+    group.name == place.group && place.index.get() < group.count.get() && may_hold(group, node)
 }
 
 /// The group of a place, if the node takes it.

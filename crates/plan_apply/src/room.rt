@@ -74,7 +74,17 @@ pub(crate) fn has_room(
     let less = freed(node.number, stopped);
     let held = taken(node.number, kept.places.as_slice());
     let new = taken(node.number, more);
-    let cpu = is_enough(node.size.cpu.get() as u64, used.cpu, held.cpu + new.cpu, less.cpu);
-    let mem = is_enough(node.size.mem.get() as u64, used.mem, held.mem + new.mem, less.mem);
+    let cpu = is_enough(
+        node.size.cpu.get() as u64,
+        used.cpu,
+        held.cpu + new.cpu,
+        less.cpu,
+    );
+    let mem = is_enough(
+        node.size.mem.get() as u64,
+        used.mem,
+        held.mem + new.mem,
+        less.mem,
+    );
     cpu && mem
 }

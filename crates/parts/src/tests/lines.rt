@@ -2,8 +2,8 @@
 
 // For each kind of line the tag in front of its bytes, `-` for none, and its fields: a number of 1,
 // 2, 4 or 8 bytes, a name (n), an id of an allocation (a) or of an evaluation (e), a token (t), a
-// list with its count in one byte (A, P, R, G), or one of some words. What stands behind the key of
-// a row has a line of its own.
+// list with its count in one byte (A, P, L, N, R, G), or one of some words. What stands behind the
+// key of a row has a line of its own.
 const FORMATS: &str = "\
 noop 0 -
 add 1 2
@@ -19,6 +19,8 @@ eval 8 n
 status 9 es8
 plan 10 etn8AP
 report 11 1R
+submit - etn88AL
+kept - etn8APN
 state - 8
 rows - 4
 job - n1y8G
@@ -129,6 +131,8 @@ fn put_word(out: &mut Vec<u8>, kind: char, word: &str) -> bool {
     let items = match kind {
         'A' => "a",
         'P' => "n1144",
+        'L' => "n11",
+        'N' => "1",
         'R' => "ar",
         'G' => "n1n44",
         _ => return put_field(out, kind, word),

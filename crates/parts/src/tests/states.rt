@@ -89,7 +89,8 @@ broker B
 blocked Z
 heartbeats H
 moves M
-queue Q";
+queue Q
+accept P";
 
 fn verb_of(head: &str) -> char {
     match look_up(VERBS, head) {

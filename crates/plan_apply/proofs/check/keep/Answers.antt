@@ -1,7 +1,6 @@
-use Rattle.std.proofs.Common.{◌≡◌, ◌≤◌, List, length, map, sym, ap, ◌∙◌, arith}
+use Rattle.std.proofs.Common.{◌≡◌, List, length, map, sym, ap, ◌∙◌, arith}
 use Rattle.std.proofs.lemmas.List.{length-map}
 use Rattle.rows.specs.declared.allocation.AllocId.{AllocId}
-use Rattle.rows.specs.declared.allocation.Allocation.{Allocation}
 use Rattle.rows.specs.Keys.{alloc_id}
 use Rattle.group_model.specs.Acceptance.{kept_stops, keep_upto}
 use Rattle.plan_apply.specs.Inner.Overlay.{stops_alone}

@@ -1,4 +1,4 @@
-use Rattle.std.proofs.Common.{not, ◌&&◌, sym, ap, map, ◌∙◌}
+use Rattle.std.proofs.Common.{not, ◌&&◌, ap, map, ◌∙◌}
 use Rattle.std.specs.List.{list_any}
 use Rattle.rows.specs.Keys.{alloc_id}
 use Rattle.plan_apply.specs.Inner.Names.{place_name, keeps_name}

@@ -1,8 +1,8 @@
-use Rattle.std.proofs.Common.{◌≡◌, ◌+◌, ◌≤◌, length, map, sym, ap, ◌∙◌, arith}
+use Rattle.std.proofs.Common.{◌≡◌, ◌+◌, length, map, sym, ap, ◌∙◌, arith}
 use Rattle.rows.specs.Keys.{alloc_id}
 use Rattle.group_model.specs.Acceptance.{Accepted, on, keep_places}
 use Rattle.plan_apply.specs.Inner.Overlay.{kept_so_far, stops_alone}
-use Rattle.plan_apply.proofs.Fewness.{places_past, all_places, split_places, few_more, next_number}
+use Rattle.plan_apply.proofs.Fewness.{all_places, split_places, few_more, next_number}
 use Rattle.plan_apply.proofs.nodes.kept_places.Goals as goal
 
 pub loop-before-init : goal.loop-before-init
