@@ -4,3 +4,4 @@
 mod frames;
 mod messages;
 mod servers;
+mod watching;

@@ -10,11 +10,18 @@ use wire::Outbox;
 /// sender, its receiver and the length of its body; the numbers that the body begins with, and the
 /// bytes behind these.
 #[derive(Clone, Copy)]
-struct Frame(u8, u8, u8, u8, &'static [u64], &'static [u8]);
+pub(super) struct Frame(
+    pub(super) u8,
+    pub(super) u8,
+    pub(super) u8,
+    pub(super) u8,
+    pub(super) &'static [u64],
+    pub(super) &'static [u8],
+);
 
 /// What is done with a server.
 #[derive(Clone, Copy)]
-enum Act {
+pub(super) enum Act {
     Timeout,
     Beat,
     Crash,
@@ -38,10 +45,10 @@ use Act::{Ahead, Beat, Crash, Hear, Propose, Reload, Restart, Timeout};
 type Turn = (Act, (u8, usize), [u64; 5], usize, &'static [Frame]);
 
 /// Nothing is refused.
-const TAKEN: (u8, usize) = (0, 0);
+pub(super) const TAKEN: (u8, usize) = (0, 0);
 
 // What stands behind the numbers: of a vote reply, that it is granted, and that it is not.
-const YES: &[u8] = &[1];
+pub(super) const YES: &[u8] = &[1];
 
 const NO: &[u8] = &[0];
 
@@ -49,20 +56,20 @@ const NO: &[u8] = &[0];
 // again from the first entry.
 const OK_1: &[u8] = &[1, 0, 0, 0, 0, 0, 0, 0, 1];
 
-const OK_2: &[u8] = &[1, 0, 0, 0, 0, 0, 0, 0, 2];
+pub(super) const OK_2: &[u8] = &[1, 0, 0, 0, 0, 0, 0, 0, 2];
 
-const OK_3: &[u8] = &[1, 0, 0, 0, 0, 0, 0, 0, 3];
+pub(super) const OK_3: &[u8] = &[1, 0, 0, 0, 0, 0, 0, 0, 3];
 
 const NOT_OK: &[u8] = &[0, 0, 0, 0, 0, 0, 0, 0, 0];
 
 // Of an Append: its entries, no-ops of these terms.
 const OF_NONE: &[u8] = &[0];
 
-const OF_1: &[u8] = &[1, 0, 0, 0, 0, 0, 0, 0, 1, 0];
+pub(super) const OF_1: &[u8] = &[1, 0, 0, 0, 0, 0, 0, 0, 1, 0];
 
 const OF_2: &[u8] = &[1, 0, 0, 0, 0, 0, 0, 0, 2, 0];
 
-const OF_3: &[u8] = &[1, 0, 0, 0, 0, 0, 0, 0, 3, 0];
+pub(super) const OF_3: &[u8] = &[1, 0, 0, 0, 0, 0, 0, 0, 3, 0];
 
 const OF_1_1: &[u8] = &[2, 0, 0, 0, 0, 0, 0, 0, 1, 0, 0, 0, 0, 0, 0, 0, 0, 1, 0];
 
@@ -495,7 +502,7 @@ const FOLLOWERS: &[Case] = &[
 ];
 
 // Puts the bytes of a frame in the place of others.
-fn put_frame(bytes: &mut Vec<u8>, frame: &Frame) -> bool {
+pub(super) fn put_frame(bytes: &mut Vec<u8>, frame: &Frame) -> bool {
     let Frame(kind, from, to, size, numbers, rest) = *frame;
     bytes.clear();
     let mut put = bytes
@@ -508,7 +515,7 @@ fn put_frame(bytes: &mut Vec<u8>, frame: &Frame) -> bool {
 }
 
 /// The number of a refusal, with the leader or the place that goes with it.
-fn number_of(answer: Result<(), Refusal>) -> (u8, usize) {
+pub(super) fn number_of(answer: Result<(), Refusal>) -> (u8, usize) {
     match answer {
         Ok(()) => TAKEN,
         Err(refusal) => match refusal {
@@ -532,7 +539,7 @@ fn ahead(raft: &mut Raft<Tally>, count: u64, sum: u16) -> (u8, usize) {
     }
 }
 
-fn propose(raft: &mut Raft<Tally>, number: u16) -> (u8, usize) {
+pub(super) fn propose(raft: &mut Raft<Tally>, number: u16) -> (u8, usize) {
     match Amount::new(number) {
         Some(amount) => number_of(raft.propose(TallyCommand::Add(amount))),
         None => (99, 0),
