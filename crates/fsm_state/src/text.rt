@@ -43,7 +43,6 @@ impl Field for Cluster {
 
     fn append(&self, out: &mut Vec<u8>) -> Result<(), NoMemory> {
         self.fits();
-        self.ranges();
         self.applied().append(out)?;
         write_long_counted(self.job_table().rows(), 256, out)?;
         write_long_counted(self.node_table().rows(), 64, out)?;
