@@ -4,3 +4,5 @@ pub mod BlockedRows
 pub mod Reasoned
 pub mod FullLogs
 pub mod WorkedPlans
+pub mod Subs
+pub mod PlanLimits

@@ -21,7 +21,7 @@ use Rattle.rows.proofs.Truth.{is_true}
 use Rattle.group_model.specs.Order as ordering
 use Rattle.group_model.specs.Order.{Picked, pick, picked_one, or_head}
 use Rattle.group_model.specs.Drains.{movers, group_moves, firsts, same_group, moves_of}
-use Rattle.group_safety.proofs.Subs.{Sub, none, keep, skip, sub_filter, sub_take, sub_trans, sub_all, sub_rising, take_length}
+use Rattle.group_model.proofs.Subs.{Sub, none, keep, skip, sub_filter, sub_take, sub_trans, sub_all, sub_rising, take_length}
 
 pub picked_of : {X : Type 0} (P : X → Type 0) (priority : X → ℕ) (xs : List X) (p : Picked X) → AllByRecursion P xs → pick priority xs ≡ Some p → P p.one × AllByRecursion P p.others
 picked_of P priority [] p h e = absurd (cc)

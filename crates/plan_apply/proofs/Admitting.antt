@@ -30,7 +30,7 @@ use Rattle.cluster_model.proofs.SafeFacts.{T-le, le-T}
 use Rattle.cluster_model.proofs.SafeLaws.{Fewer, nothing, kept, gone, fewer_distinct}
 use Rattle.cluster_model.proofs.AfterLaws.{planned_is_safe}
 use Rattle.group_model.specs.Acceptance.{Accepted, once_after, kept_stops, kept_where, with_kept, claimed, on, keep_places, keep_upto, keep, is_eval_of, accept_of, accept, plan_of_accepted}
-use Rattle.group_safety.proofs.PlanLimits.{accept_fits}
+use Rattle.group_model.proofs.PlanLimits.{accept_fits}
 use Rattle.fsm_state.proofs.Claimed.{left_fewer}
 use Rattle.plan_apply.specs.Admitted.{KeptIsAdmitted}
 use Rattle.plan_apply.specs.Inner.Overlay.{stops_alone}
