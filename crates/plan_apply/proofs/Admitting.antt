@@ -1,7 +1,7 @@
 -- What is kept of a plan at a safe state is admitted there, but for a full table.
 use Rattle.std.proofs.Common.{◌≡◌, ℕ, zero, suc, ◌+◌, ◌≤◌, Bool, true, false, cond, not, ◌&&◌, T, List, [], ◌∷◌, ◌++◌, length, map, filter, Option, Some, None, Result, Ok, Err, is_none, refl, sym, ap, subst, ◌∙◌, arith}
 use Rattle.std.specs.Prelude.{nat_eq, nat_lt, nat_le, sum_by}
-use Rattle.std.specs.List.{list_all, list_any}
+use Rattle.std.specs.List.{AllByRecursion, list_all, list_any}
 use Rattle.std.specs.Cmp.Lexicographic.{slice_cmp}
 use Rattle.std.specs.Ordering.{nat_cmp, is_eq}
 use Rattle.std.specs.declared.cmp.Ordering.TheVariants.{Equal}
@@ -16,6 +16,7 @@ use Rattle.rows.specs.declared.allocation.AllocId.{AllocId}
 use Rattle.rows.specs.declared.command.AcceptedPlace.{AcceptedPlace}
 use Rattle.rows.specs.declared.refusal.Refusal.{Refusal}
 use Rattle.rows.specs.declared.refusal.Refusal.TheVariants as refusals
+use Rattle.rows.specs.Fits.{JobFits}
 use Rattle.rows.specs.Keys.{name_cmp, job_name, node_number}
 use Rattle.fsm_tables.specs.Claims.{Claim, on_node, used}
 use Rattle.fsm_tables.specs.Rows.{row_of}
@@ -30,7 +31,6 @@ use Rattle.cluster_model.proofs.SafeFacts.{T-le, le-T}
 use Rattle.cluster_model.proofs.SafeLaws.{Fewer, nothing, kept, gone, fewer_distinct}
 use Rattle.cluster_model.proofs.AfterLaws.{planned_is_safe}
 use Rattle.group_model.specs.Acceptance.{Accepted, once_after, kept_stops, kept_where, with_kept, claimed, on, keep_places, keep_upto, keep, is_eval_of, accept_of, accept, plan_of_accepted}
-use Rattle.group_safety.proofs.PlanLimits.{accept_fits}
 use Rattle.fsm_state.proofs.Claimed.{left_fewer}
 use Rattle.plan_apply.specs.Admitted.{KeptIsAdmitted}
 use Rattle.plan_apply.specs.Inner.Overlay.{stops_alone}
@@ -154,13 +154,20 @@ fewer_open : (b : Bool) (x y : ℕ) → x ≤ y → (b && nat_lt 0 y) ≡ false 
 fewer_open false x y le e = refl
 fewer_open true x y le e = grind (arith, e, le)
 
+job_fits : (name : List ℕ) (rows : List Job) (j : Job) → AllByRecursion JobFits rows → row_of name_cmp job_name name rows ≡ Some j → JobFits j
+job_fits name [] j h e = absurd cc
+job_fits name (x ∷ rows) j h e = elim (is_eq (name_cmp name x.name)) as (λ b. cond b (Some x) (row_of name_cmp job_name name rows) ≡ Some j → JobFits j) [
+  | true ↦ λ e. let same : x ≡ j = cc in subst JobFits same h.0
+  | false ↦ λ e. job_fits name rows j h.1 e
+] e
+
 pub kept_is_admitted : KeptIsAdmitted
 kept_is_admitted s p wait a state safe fit pending e =
     let h = parts s p wait a e in
     let j = h.job in
     let q = plan_of_accepted p a in
     let begun = kept_stops s p in
-    let holds : Holds s j a = subst (Holds s j) h.is (upto_holds s j p begun safe 64) in
+    let holds : Holds s j a = subst (Holds s j) h.is (upto_holds s j (job_fits p.job s.jobs j state.rows.jobs h.row) p fit.6.1 begun safe 64) in
     let ids : a.stops ≡ begun = sym (ap (λ (z : Accepted). z.stops) h.is) ∙ upto_ids s j p (stops_alone begun) 64 in
     let few : length a.places ≤ length p.places = subst (λ (z : Accepted). length z.places ≤ length p.places) h.is (omega (arith, upto_few s j p begun 64)) in
     let known_job : no_job p.job s ≡ false = ap is_none h.row in
@@ -168,7 +175,6 @@ kept_is_admitted s p wait a state safe fit pending e =
     let stopped : (is_stopped p.job s && nat_lt 0 (length a.places)) ≡ false = ap (λ o. is_some_and (λ (r : Job). r.stopped) o && nat_lt 0 (length a.places)) h.row ∙ fewer_open j.stopped (length a.places) (length p.places) few h.allows in
     let asked : T (list_all (fits_job s p.job) a.places) = subst (λ o. T (list_all (λ k. is_some_and (λ (r : Job). list_any (is_asked s k) r.groups) o) a.places)) (sym h.row) holds.asked in
     let full = nat_lt 65536 (length s.allocs + length a.places) in
-    let fits = accept_fits s p wait a state.rows fit e in
     let rest : List (Bool × Refusal) = (is_stopped p.job s && nat_lt 0 (length a.places), refusals.JobStopped) ∷ (not (list_all (fits_job s p.job) a.places), refusals.OutOfRange) ∷ (not (is_safe (planned q (with_next_count s))), refusals.OutOfRange) ∷ [] in
     (λ i. first_of ((not_true (is_some_and (λ r. is_pending r.status) (eval_of p.eval s)) pending i, refusals.NotOutstanding) ∷ (known_job i, refusals.UnknownJob) ∷ (not_true (list_all (is_live_of p.job s) a.stops) live i, refusals.UnknownAlloc) ∷ (full, refusals.TableFull) ∷ rest))
     ∙ elim full as (λ b. full ≡ b → cond b (Some refusals.TableFull) (first_of rest) ≡ cond b (Some refusals.TableFull) None) [
@@ -180,7 +186,7 @@ kept_is_admitted s p wait a state safe fit pending e =
             allocs_rising = state.tables.allocs.rising;
             nodes = state.rows.nodes;
             allocs = state.rows.allocs;
-            places = fits.5.1;
+            places = holds.limits;
           } in
           let done = safe_after s p a j (found_at name_cmp job_name names_exact p.job j s.jobs h.row) holds known in
           λ i. first_of ((stopped i, refusals.JobStopped) ∷ (not_true (list_all (fits_job s p.job) a.places) asked i, refusals.OutOfRange) ∷ (not_true (is_safe (planned q (with_next_count s))) done i, refusals.OutOfRange) ∷ [])

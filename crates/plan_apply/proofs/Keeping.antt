@@ -17,6 +17,7 @@ use Rattle.rows.specs.declared.plan.Plan.{Plan}
 use Rattle.rows.specs.declared.command.AcceptedPlace.{AcceptedPlace}
 use Rattle.rows.specs.declared.allocation.AllocId.{AllocId}
 use Rattle.rows.specs.Keys.{node_number}
+use Rattle.rows.specs.Fits.{GroupFits, JobFits, PlaceFits, AcceptedPlaceFits}
 use Rattle.fsm_tables.specs.Claims.{Claim, claims, on_node, used}
 use Rattle.fsm_tables.specs.Rows.{row_of}
 use Rattle.fsm_tables.proofs.RowLaws.{both, first, second}
@@ -30,6 +31,7 @@ use Rattle.cluster_model.specs.Plans.{room_of, fits_number}
 use Rattle.cluster_model.proofs.SafeFacts.{test_by_safe}
 use Rattle.cluster_model.proofs.SafeLaws.{stop_releases, released, fewer_safe, distinct_of}
 use Rattle.cluster_model.proofs.UseLaws.{number_fits}
+use Rattle.cluster_model.proofs.PlanLaws.{all_append}
 use Rattle.group_model.specs.Acceptance.{Accepted, is_group_of, with_group_size, sized_on, claim_at, place_claims, is_held_once, bears, on, kept_on, kept_where, with_kept, claimed, keep_places, keep_upto}
 use Rattle.plan_apply.specs.Inner.Overlay.{stops_alone}
 use Rattle.plan_apply.proofs.Alone.{once_is_distinct}
@@ -38,6 +40,7 @@ pub record Holds (s : State) (j : Job) (a : Accepted) : Type 0 where
   pub fit : (n : ℕ) → T (fits_number s.nodes (claimed s j.name a) n)
   pub distinct : T (are_distinct (claimed s j.name a))
   pub asked : T (list_all (λ k. list_any (is_asked s k) j.groups) a.places)
+  pub limits : AllByRecursion AcceptedPlaceFits a.places
 
 -- ---- the places of one node
 
@@ -72,38 +75,55 @@ one_asks s n k (x ∷ gs) g e f =
       | false ↦ λ t f. any_there (is_asked s (with_size k g) x) (list_any (is_asked s (with_size k g)) gs) (one_asks s n k gs g e f)
     ] refl f
 
--- places that a node takes: the job asks for them, and they are on the node
-module _ (s : State) (j : Job) (n : Node) (m : ℕ) (e : node_of m s ≡ Some n) where
-  abbrev Taken : AcceptedPlace → Type 0
-  Taken k = T (list_any (is_asked s k) j.groups) × (k.node ≡ m)
+-- a place that a node takes: the job asks for it, it is on the node, and within its limits
+abbrev Taken : State → Job → ℕ → AcceptedPlace → Type 0
+Taken s j m k = T (list_any (is_asked s k) j.groups) × (k.node ≡ m) × AcceptedPlaceFits k
 
-  one_taken : (k : Place) (o : Option Group) → k.node ≡ m → find (is_group_of n k) j.groups ≡ o → (ks : List AcceptedPlace) → AllByRecursion Taken ks → AllByRecursion Taken (cons_option (with_group_size k o) ks)
+-- a place of a plan on the node, within its limits
+abbrev There : ℕ → Place → Type 0
+There m k = (k.node ≡ m) × PlaceFits k
+
+found_fits : (test : Group → Bool) (gs : List Group) (g : Group) → AllByRecursion GroupFits gs → find test gs ≡ Some g → GroupFits g
+found_fits test [] g h e = absurd cc
+found_fits test (x ∷ gs) g h e = elim (test x) as (λ b. cond b (Some x) (find test gs) ≡ Some g → GroupFits g) [
+  | true ↦ λ e. let same : x ≡ g = cc in subst GroupFits same h.0
+  | false ↦ λ e. found_fits test gs g h.1 e
+] e
+
+module _ (s : State) (j : Job) (fit : JobFits j) (n : Node) (m : ℕ) (e : node_of m s ≡ Some n) where
+  one_taken : (k : Place) (o : Option Group) → There m k → find (is_group_of n k) j.groups ≡ o → (ks : List AcceptedPlace) → AllByRecursion (Taken s j m) ks → AllByRecursion (Taken s j m) (cons_option (with_group_size k o) ks)
   one_taken k None is f ks h = h
-  one_taken k (Some g) is f ks h = ((one_asks s n k j.groups g (subst (λ i. node_of i s ≡ Some n) (sym is) e) f, is), h)
+  one_taken k (Some g) is f ks h =
+      let fits = found_fits (is_group_of n k) j.groups g fit.3.1 f in
+      ((one_asks s n k j.groups g (subst (λ i. node_of i s ≡ Some n) (sym is.0) e) f, is.0, (is.1.0, is.1.1, is.1.2, fits.3)), h)
 
-  all_taken : (ks : List Place) → AllByRecursion (λ (k : Place). k.node ≡ m) ks → AllByRecursion Taken (filter_map (sized_on j n) ks)
+  all_taken : (ks : List Place) → AllByRecursion (There m) ks → AllByRecursion (Taken s j m) (filter_map (sized_on j n) ks)
   all_taken [] h = tt
   all_taken (k ∷ ks) h = one_taken k (find (is_group_of n k) j.groups) h.0 refl (filter_map (sized_on j n) ks) (all_taken ks h.1)
 
-all_asked : (s : State) (j : Job) (m : ℕ) (ks : List AcceptedPlace) → AllByRecursion (λ k. T (list_any (is_asked s k) j.groups) × (k.node ≡ m)) ks → T (list_all (λ k. list_any (is_asked s k) j.groups) ks)
+all_asked : (s : State) (j : Job) (m : ℕ) (ks : List AcceptedPlace) → AllByRecursion (Taken s j m) ks → T (list_all (λ k. list_any (is_asked s k) j.groups) ks)
 all_asked s j m [] h = tt
 all_asked s j m (k ∷ ks) h = both _ _ h.0.0 (all_asked s j m ks h.1)
+
+all_fit : (s : State) (j : Job) (m : ℕ) (ks : List AcceptedPlace) → AllByRecursion (Taken s j m) ks → AllByRecursion AcceptedPlaceFits ks
+all_fit s j m [] h = tt
+all_fit s j m (k ∷ ks) h = (h.0.2, all_fit s j m ks h.1)
 
 number_of : (a b : ℕ) → T (nat_eq a b) → a ≡ b
 number_of a b h = grind arith
 
-on_it : (m : ℕ) (ks : List Place) → AllByRecursion (λ (k : Place). k.node ≡ m) (on m ks)
-on_it m [] = tt
-on_it m (k ∷ ks) = elim (nat_eq k.node m) as (λ b. nat_eq k.node m ≡ b → AllByRecursion (λ (k : Place). k.node ≡ m) (cond b (k ∷ on m ks) (on m ks))) [
-  | true ↦ λ t. (number_of k.node m (subst T (sym t) tt), on_it m ks)
-  | false ↦ λ t. on_it m ks
+on_it : (m : ℕ) (ks : List Place) → AllByRecursion PlaceFits ks → AllByRecursion (There m) (on m ks)
+on_it m [] h = tt
+on_it m (k ∷ ks) h = elim (nat_eq k.node m) as (λ b. nat_eq k.node m ≡ b → AllByRecursion (There m) (cond b (k ∷ on m ks) (on m ks))) [
+  | true ↦ λ t. ((number_of k.node m (subst T (sym t) tt), h.0), on_it m ks h.1)
+  | false ↦ λ t. on_it m ks h.1
 ] refl
 
 -- they take nothing of other nodes
 apart_zero : (a m n x : ℕ) → a ≡ m → nat_eq m n ≡ false → cond (nat_eq a n) x 0 ≡ 0
 apart_zero a m n x p e = ap (λ i. cond (nat_eq i n) x 0) p ∙ ap (λ b. cond b x 0) e
 
-none_elsewhere : (part : Size → ℕ) (s : State) (j : Job) (job : List ℕ) (m n : ℕ) → nat_eq m n ≡ false → (ks : List AcceptedPlace) → AllByRecursion (λ k. T (list_any (is_asked s k) j.groups) × (k.node ≡ m)) ks → sum_by (on_node n part) (place_claims job ks) ≡ 0
+none_elsewhere : (part : Size → ℕ) (s : State) (j : Job) (job : List ℕ) (m n : ℕ) → nat_eq m n ≡ false → (ks : List AcceptedPlace) → AllByRecursion (Taken s j m) ks → sum_by (on_node n part) (place_claims job ks) ≡ 0
 none_elsewhere part s j job m n e [] h = refl
 none_elsewhere part s j job m n e (k ∷ ks) h =
     let rest : sum_by (on_node n part) (place_claims job ks) ≡ 0 = none_elsewhere part s j job m n e ks h.1 in
@@ -115,7 +135,7 @@ same_sum w cs ds e = let all = sum_by-append w cs ds in omega (arith, all, e)
 
 -- ---- a node that keeps its places
 
-module _ (s : State) (j : Job) (m : ℕ) (n : Node) (e : node_of m s ≡ Some n) (a : Accepted) (h : Holds s j a) (ks : List AcceptedPlace) (taken : AllByRecursion (λ k. T (list_any (is_asked s k) j.groups) × (k.node ≡ m)) ks) (b : T (bears j.name (claimed s j.name a) n ks)) where
+module _ (s : State) (j : Job) (m : ℕ) (n : Node) (e : node_of m s ≡ Some n) (a : Accepted) (h : Holds s j a) (ks : List AcceptedPlace) (taken : AllByRecursion (Taken s j m) ks) (b : T (bears j.name (claimed s j.name a) n ks)) where
   abbrev cs : List Claim
   cs = claimed s j.name a
 
@@ -147,30 +167,31 @@ module _ (s : State) (j : Job) (m : ℕ) (n : Node) (e : node_of m s ≡ Some n)
     fit = λ i. subst (λ zs. T (fits_number s.nodes zs i)) together (fit_at i);
     distinct = subst (λ zs. T (are_distinct zs)) together (once_is_distinct cs ds h.distinct (first (list_all (is_held_once (cs ++ ds)) ds) (is_within (cs ++ ds) n) b));
     asked = subst T (sym (list_all-append (λ k. list_any (is_asked s k) j.groups) a.places ks)) (both _ _ h.asked (all_asked s j m ks taken));
+    limits = all_append AcceptedPlaceFits a.places ks h.limits (all_fit s j m ks taken);
   }
 
 -- ---- one node more, and all
 
 refused_holds : (s : State) (j : Job) (a : Accepted) (rs : List ℕ) → Holds s j a → Holds s j (record a { refused = rs })
-refused_holds s j a rs h = record { fit = h.fit; distinct = h.distinct; asked = h.asked }
+refused_holds s j a rs h = record { fit = h.fit; distinct = h.distinct; asked = h.asked; limits = h.limits }
 
-kept_holds : (s : State) (j : Job) (m : ℕ) (n : Node) → node_of m s ≡ Some n → (a : Accepted) → Holds s j a → (ks : List Place) → AllByRecursion (λ (k : Place). k.node ≡ m) ks → Holds s j (with_kept m a (kept_on j (claimed s j.name a) ks n))
-kept_holds s j m n e a h ks f =
+kept_holds : (s : State) (j : Job) (fit : JobFits j) (m : ℕ) (n : Node) → node_of m s ≡ Some n → (a : Accepted) → Holds s j a → (ks : List Place) → AllByRecursion (There m) ks → Holds s j (with_kept m a (kept_on j (claimed s j.name a) ks n))
+kept_holds s j fit m n e a h ks f =
     let each = list_all (λ k. is_some (sized_on j n k)) ks in
     let ms = filter_map (sized_on j n) ks in
     let borne = bears j.name (claimed s j.name a) n ms in
     elim (each && borne) as (λ b. (each && borne) ≡ b → Holds s j (with_kept m a (cond b (Some ms) None))) [
-      | true ↦ λ t. more_holds s j m n e a h ms (all_taken s j n m e ks f) (second each borne (subst T (sym t) tt))
+      | true ↦ λ t. more_holds s j m n e a h ms (all_taken s j fit n m e ks f) (second each borne (subst T (sym t) tt))
       | false ↦ λ t. refused_holds s j a (a.refused ++ m ∷ []) h
     ] refl
 
-where_holds : (s : State) (j : Job) (m : ℕ) (o : Option Node) → node_of m s ≡ o → (a : Accepted) → Holds s j a → (ks : List Place) → AllByRecursion (λ (k : Place). k.node ≡ m) ks → Holds s j (with_kept m a (kept_where j (claimed s j.name a) ks o))
-where_holds s j m None e a h ks f = refused_holds s j a (a.refused ++ m ∷ []) h
-where_holds s j m (Some n) e a h ks f = kept_holds s j m n e a h ks f
+where_holds : (s : State) (j : Job) (fit : JobFits j) (m : ℕ) (o : Option Node) → node_of m s ≡ o → (a : Accepted) → Holds s j a → (ks : List Place) → AllByRecursion (There m) ks → Holds s j (with_kept m a (kept_where j (claimed s j.name a) ks o))
+where_holds s j fit m None e a h ks f = refused_holds s j a (a.refused ++ m ∷ []) h
+where_holds s j fit m (Some n) e a h ks f = kept_holds s j fit m n e a h ks f
 
-places_hold : (s : State) (j : Job) (m : ℕ) (a : Accepted) → Holds s j a → (ks : List Place) → AllByRecursion (λ (k : Place). k.node ≡ m) ks → Holds s j (keep_places s j m a ks)
-places_hold s j m a h [] f = h
-places_hold s j m a h (k ∷ ks) f = where_holds s j m (node_of m s) refl a h (k ∷ ks) f
+places_hold : (s : State) (j : Job) (fit : JobFits j) (m : ℕ) (a : Accepted) → Holds s j a → (ks : List Place) → AllByRecursion (There m) ks → Holds s j (keep_places s j m a ks)
+places_hold s j fit m a h [] f = h
+places_hold s j fit m a h (k ∷ ks) f = where_holds s j fit m (node_of m s) refl a h (k ∷ ks) f
 
 stops_hold : (s : State) (j : Job) (ids : List AllocId) → Safe s → Holds s j (stops_alone ids)
 stops_hold s j ids safe =
@@ -180,8 +201,9 @@ stops_hold s j ids safe =
       fit = λ n. subst (λ zs. T (fits_number s.nodes zs n)) (sym (append-nil left)) (number_fits s.nodes left still n);
       distinct = subst (λ zs. T (are_distinct zs)) (sym (append-nil left)) (distinct_of s.nodes left still);
       asked = tt;
+      limits = tt;
     }
 
-pub upto_holds : (s : State) (j : Job) (p : Plan) (ids : List AllocId) → Safe s → (m : ℕ) → Holds s j (keep_upto s j p (stops_alone ids) m)
-upto_holds s j p ids safe zero = stops_hold s j ids safe
-upto_holds s j p ids safe (suc m) = places_hold s j (suc m) (keep_upto s j p (stops_alone ids) m) (upto_holds s j p ids safe m) (on (suc m) p.places) (on_it (suc m) p.places)
+pub upto_holds : (s : State) (j : Job) → JobFits j → (p : Plan) → AllByRecursion PlaceFits p.places → (ids : List AllocId) → Safe s → (m : ℕ) → Holds s j (keep_upto s j p (stops_alone ids) m)
+upto_holds s j fit p places ids safe zero = stops_hold s j ids safe
+upto_holds s j fit p places ids safe (suc m) = places_hold s j fit (suc m) (keep_upto s j p (stops_alone ids) m) (upto_holds s j fit p places ids safe m) (on (suc m) p.places) (on_it (suc m) p.places places)
