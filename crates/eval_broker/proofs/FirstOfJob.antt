@@ -1,9 +1,7 @@
 -- The first rank of a job, where the ranks are in order.
-use Rattle.std.proofs.Common.{◌≡◌, ℕ, zero, suc, ◌<◌, ◌≤◌, Bool, true, false, cond, T, List, [], ◌∷◌, length, get_or, Option, Some, None, refl, sym, ap, subst, ◌∙◌, arith}
-use Rattle.std.specs.Prelude.{bytes_eq}
-use Rattle.std.specs.List.{slice_get}
+use Rattle.std.proofs.Common.{◌≡◌, ℕ, Bool, true, false, cond, T, List, [], ◌∷◌, ◌++◌, Option, Some, None, refl, sym, ap, subst, ◌∙◌}
+use Rattle.std.specs.Prelude.{bytes_eq, option_map}
 use Rattle.std.proofs.lemmas.Map.Text.{is_eq-slice_cmp}
-use Rattle.std.specs.List.Sorted.{IsPartitionedBy, IsPartitionPoint}
 use Rattle.std.specs.declared.cmp.Ordering.{Ordering}
 use Rattle.std.specs.declared.cmp.Ordering.TheVariants.{Less, Equal, Greater}
 use Rattle.std.specs.Ordering.{bool_cmp, is_eq, is_lt, ordering_then, ordering_reverse}
@@ -16,7 +14,8 @@ use Rattle.fsm_tables.proofs.RowLaws.{first, second, less}
 use Rattle.fsm_tables.specs.Urgencies.{urgency_cmp}
 use Rattle.eval_broker.specs.declared.ranks.Rank.{Rank}
 use Rattle.eval_broker.specs.Inner.Lists.{rank_cmp, rank_job}
-use Rattle.eval_broker.proofs.Orders.{is_equal, no, true_false}
+use Rattle.eval_broker.proofs.Orders.{is_equal, true_false}
+use Rattle.eval_broker.proofs.Splits.{below_middle, rising_back}
 
 -- whether a rank is of an earlier job
 abbrev pub is_early : List ℕ → Rank → Bool
@@ -26,24 +25,6 @@ not_later : (a b job : List ℕ) (r : Ordering) → name_cmp a b ≡ r → (s : 
 not_later a b job Less e s h early = ap is_lt (nat_list_cmp_total.trans a b job e (less _ (subst T (sym early) tt)))
 not_later a b job Equal e s h early = ap is_lt (nat_list_cmp_total.congr a b job e) ∙ early
 not_later a b job Greater e s h early = absurd (cc)
-
-early_below : (job : List ℕ) (p : Rank) (ps : List Rank) (j : ℕ) (d : Rank) → T (is_below rank_cmp (λ x. x) p ps) → j < length ps → is_early job (get_or ps j d) ≡ true → is_early job p ≡ true
-early_below job p [] j d h lt e = absurd (omega arith)
-early_below job p (y ∷ ys) zero d h lt e = not_later p.job y.job job (name_cmp p.job y.job) refl _ (less _ (first _ _ h)) e
-early_below job p (y ∷ ys) (suc j) d h lt e = early_below job p ys j d (second _ _ h) (omega arith) e
-
--- those of earlier jobs come first
-pub early_first : (job : List ℕ) (ps : List Rank) → T (is_rising rank_cmp (λ x. x) ps) → IsPartitionedBy (is_early job) ps
-early_first job [] h i j d le lt e = absurd (omega arith)
-early_first job (y ∷ ys) h zero zero d le lt e = e
-early_first job (y ∷ ys) h zero (suc j) d le lt e = early_below job y ys j d (first _ _ h) (omega arith) e
-early_first job (y ∷ ys) h (suc i) zero d le lt e = absurd (omega arith)
-early_first job (y ∷ ys) h (suc i) (suc j) d le lt e = early_first job ys (second _ _ h) i j d (omega arith) (omega arith) e
-
--- the rank, if it is of the job
-abbrev if_of : List ℕ → Option Rank → Option Rank
-if_of job None = None
-if_of job (Some p) = cond (is_eq (name_cmp job p.job)) (Some p) None
 
 unequal : (a b : List ℕ) (r : Ordering) → name_cmp a b ≡ r → is_lt r ≡ true → is_eq (name_cmp b a) ≡ false
 unequal a b Less e t = ap is_eq (nat_list_cmp_total.antisymm b a ∙ ap ordering_reverse e)
@@ -64,30 +45,53 @@ none_later job p (y ∷ ys) late off h =
       bad : (r : Ordering) → rank_cmp p y ≡ r → T (is_lt r) → true ≡ false
       bad r q t = absurd (subst (λ (o : Ordering). T (is_lt o)) (sym q ∙ ap (λ o. ordering_then o (ordering_then (bool_cmp p.is_free y.is_free) (ordering_then (bool_cmp p.is_spent y.is_spent) (urgency_cmp p.urgency y.urgency)))) e) t)
 
-pub first_of_job : (job : List ℕ) (ps : List Rank) (at : ℕ) → T (is_rising rank_cmp (λ x. x) ps) → at ≤ length ps
-    → IsPartitionPoint (λ p. is_early job p ≡ true) (λ p. is_early job p ≡ false) ps at → row_of name_cmp rank_job job ps ≡ if_of job (slice_get ps at)
-first_of_job job [] zero h le point = refl
-first_of_job job [] (suc at) h le point = absurd (omega arith)
-first_of_job job (y ∷ ys) zero h le point = by (is_eq (name_cmp job y.job)) refl where
-  by : (b : Bool) → is_eq (name_cmp job y.job) ≡ b → cond b (Some y) (row_of name_cmp rank_job job ys) ≡ cond b (Some y) None
-  by true e = refl
-  by false e = none_later job y ys (point.1 0 y (omega arith) (omega arith)) e (first _ _ h)
-first_of_job job (y ∷ ys) (suc at) h le point =
-    ap (λ b. cond b (Some y) (row_of name_cmp rank_job job ys)) (unequal y.job job (name_cmp y.job job) refl (point.0 0 y (omega arith) (omega arith)))
-    ∙ first_of_job job ys at (second _ _ h) (omega arith) (λ i d ge lt. point.0 (suc i) d (omega arith) (omega arith), λ i d ge lt. point.1 (suc i) d (omega arith) (omega arith))
+-- ---- on both sides of one of the ranks
 
--- ---- as the search finds it
+pub unmapped : {A B : Type 0} (f : A → B) (m : Option A) → option_map f m ≡ None → m ≡ None
+unmapped f None e = refl
+unmapped f (Some x) e = absurd (cc)
 
-module _ (job : List ℕ) (ps : List Rank) (at : ℕ) (rising : T (is_rising rank_cmp (λ x. x) ps)) (le : at ≤ length ps) (point : IsPartitionPoint (λ p. is_early job p ≡ true) (λ p. is_early job p ≡ false) ps at) where
-  pub found_at : (p : Rank) → Some p ≡ slice_get ps at → bytes_eq p.job job ≡ true → Some p ≡ row_of name_cmp rank_job job ps
-  found_at p e same =
-      sym (first_of_job job ps at rising le point ∙ ap (if_of job) (sym e)
-      ∙ ap (λ b. cond b (Some p) None) (ap is_eq (tied_back nat_list_cmp_total p.job job (is_equal _ (is_eq-slice_cmp p.job job ∙ same)))))
+module _ (job : List ℕ) where
+  -- none on its left is of a later job than its own
+  pub job_right : (l : List Rank) (x : Rank) (r : List Rank) → T (is_rising rank_cmp (λ p. p) (l ++ x ∷ r)) → is_early job x ≡ true → row_of name_cmp rank_job job (l ++ x ∷ r) ≡ row_of name_cmp rank_job job r
+  job_right [] x r h early = ap (λ b. cond b (Some x) (row_of name_cmp rank_job job r)) (unequal x.job job (name_cmp x.job job) refl early)
+  job_right (y ∷ l) x r h early =
+      let under = below_middle rank_cmp (λ p. p) y l x r (first _ _ h) in
+      let before : is_early job y ≡ true = not_later y.job x.job job (name_cmp y.job x.job) refl _ under early in
+      ap (λ b. cond b (Some y) (row_of name_cmp rank_job job (l ++ x ∷ r))) (unequal y.job job (name_cmp y.job job) refl before)
+      ∙ job_right l x r (second _ _ h) early
 
-  pub other_at : (p : Rank) → Some p ≡ slice_get ps at → bytes_eq p.job job ≡ false → None ≡ row_of name_cmp rank_job job ps
-  other_at p e apart =
-      sym (first_of_job job ps at rising le point ∙ ap (if_of job) (sym e)
-      ∙ ap (λ b. cond b (Some p) None) (no _ (λ t. true_false _ (sym (is_eq-slice_cmp p.job job) ∙ ap is_eq (tied_back nat_list_cmp_total job p.job (is_equal _ t))) apart)))
+  in_front : (l zs : List Rank) (p : Rank) → row_of name_cmp rank_job job l ≡ Some p → row_of name_cmp rank_job job (l ++ zs) ≡ Some p
+  in_front [] zs p e = absurd (cc)
+  in_front (y ∷ l) zs p e = by (is_eq (name_cmp job y.job)) e (in_front l zs p) where
+    by : (b : Bool) → cond b (Some y) (row_of name_cmp rank_job job l) ≡ Some p → (row_of name_cmp rank_job job l ≡ Some p → row_of name_cmp rank_job job (l ++ zs) ≡ Some p) → cond b (Some y) (row_of name_cmp rank_job job (l ++ zs)) ≡ Some p
+    by true e rest = e
+    by false e rest = rest e
 
-  pub none_at : None ≡ slice_get ps at → None ≡ row_of name_cmp rank_job job ps
-  none_at e = sym (first_of_job job ps at rising le point ∙ ap (if_of job) (sym e))
+  pub job_left : (l zs : List Rank) (m : Option Rank) → row_of name_cmp rank_job job l ≡ m → (m ≡ None → ⊥) → row_of name_cmp rank_job job (l ++ zs) ≡ m
+  job_left l zs None e some = absurd (some refl)
+  job_left l zs (Some p) e some = in_front l zs p e
+
+  behind : (l zs : List Rank) → row_of name_cmp rank_job job l ≡ None → row_of name_cmp rank_job job (l ++ zs) ≡ row_of name_cmp rank_job job zs
+  behind [] zs e = refl
+  behind (y ∷ l) zs e = by (is_eq (name_cmp job y.job)) e (behind l zs) where
+    by : (b : Bool) → cond b (Some y) (row_of name_cmp rank_job job l) ≡ None → (row_of name_cmp rank_job job l ≡ None → row_of name_cmp rank_job job (l ++ zs) ≡ row_of name_cmp rank_job job zs) → cond b (Some y) (row_of name_cmp rank_job job (l ++ zs)) ≡ row_of name_cmp rank_job job zs
+    by true e rest = absurd (cc)
+    by false e rest = rest e
+
+  same_job : (p : Rank) → bytes_eq p.job job ≡ is_eq (name_cmp job p.job)
+  same_job p = sym (is_eq-slice_cmp p.job job) ∙ by (name_cmp job p.job) (nat_list_cmp_total.antisymm p.job job) where
+    by : (r : Ordering) → name_cmp p.job job ≡ ordering_reverse r → is_eq (name_cmp p.job job) ≡ is_eq r
+    by Less e = ap is_eq e
+    by Equal e = ap is_eq e
+    by Greater e = ap is_eq e
+
+  -- it is the first itself, or there is none
+  pub job_here : (l : List Rank) (x : Rank) (r : List Rank) → T (is_rising rank_cmp (λ p. p) (l ++ x ∷ r)) → is_early job x ≡ false → row_of name_cmp rank_job job l ≡ None
+      → row_of name_cmp rank_job job (l ++ x ∷ r) ≡ cond (bytes_eq x.job job) (Some x) None
+  job_here l x r h late none =
+      behind l (x ∷ r) none ∙ by (is_eq (name_cmp job x.job)) refl ∙ ap (λ b. cond b (Some x) None) (sym (same_job x))
+    where
+      by : (b : Bool) → is_eq (name_cmp job x.job) ≡ b → cond b (Some x) (row_of name_cmp rank_job job r) ≡ cond b (Some x) None
+      by true e = refl
+      by false e = none_later job x r late e (first _ _ (rising_back rank_cmp (λ p. p) l (x ∷ r) h))

@@ -2,3 +2,4 @@ pub mod Answers
 pub mod Calls
 pub mod Worked
 pub mod Inner
+pub mod Laws

@@ -66,7 +66,7 @@ impl Broker {
         match row.status {
             EvalStatus::Pending => {
                 let task = Task::carried(row, self.tasks.get(&row.id));
-                self.tasks.make_room()?;
+                self.tasks.make_room(&task)?;
                 self.tasks.put(task);
             }
             _ => self.tasks.cut(&row.id),

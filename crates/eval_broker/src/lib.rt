@@ -8,8 +8,10 @@ mod laws;
 mod lists;
 mod ranks;
 mod rebuild;
+mod reserved_tree;
 mod task;
 mod tasks;
+mod tree;
 
 pub use answers::{PairError, SerialsUsedUp};
 pub use broker::Broker;

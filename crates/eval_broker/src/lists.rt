@@ -10,6 +10,7 @@ ghost use Rattle.eval_broker.specs.Answers.{urgency_of};
 ghost use Rattle.eval_broker.specs.Inner.Lists.{head_cmp, is_failed, head_of, AreHeads, AreHeadsBut, AreListed, HaveRoom, KeepRoom};
 
 use crate::ranks::{Head, Rank, head_of};
+use crate::reserved_tree::ReservedTree;
 use crate::task::Task;
 use fsm_tables::{ReservedTable, Urgency};
 use rows::{EvalId, JobName, NoMemory};
@@ -18,24 +19,25 @@ use rows::{EvalId, JobName, NoMemory};
 #[derive(Drop)]
 pub(crate) struct Lists {
     /// All of them, by job.
-    pub ranks: ReservedTable<Rank>,
+    pub ranks: ReservedTree<Rank>,
     /// Of each job of which none is out or acked, the first that waits for a worker.
-    pub heads: ReservedTable<Head>,
+    pub heads: ReservedTree<Head>,
     /// Those given out as often as may be, and neither out nor acked.
     pub failed: ReservedTable<Urgency>,
 }
 
 impl Lists {
-    /// Makes room for so many tasks in all. Without memory no row changes, and no room goes.
-    pub fn make_room(&mut self, count: usize) -> Result<(), NoMemory>
+    /// Makes room for so many tasks in all, by means of any task. Without memory no row changes,
+    /// and no room goes.
+    pub fn make_room(&mut self, count: usize, any: &Task) -> Result<(), NoMemory>
         ensures ranks { self.new.ranks.rows ≡ self.old.ranks.rows }
         ensures heads { self.new.heads.rows ≡ self.old.heads.rows }
         ensures failed { self.new.failed.rows ≡ self.old.failed.rows }
         ensures ok { OnOk result (HaveRoom count self.new) }
         ensures kept { KeepRoom self.old self.new }
     {
-        self.ranks.make_room(count)?;
-        self.heads.make_room(count)?;
+        self.ranks.make_room(count, any.rank())?;
+        self.heads.make_room(count, any.head())?;
         self.failed.make_room(count)
     }
 
@@ -43,7 +45,7 @@ impl Lists {
     fn head_of(&self, job: &JobName) -> Option<Head>
         ensures { result ≡ head_of job.now self.now.ranks.rows }
     {
-        head_of(self.ranks.rows(), job)
+        head_of(self.ranks.tree(), job)
     }
 
     /// Takes out the head of a job.
@@ -90,7 +92,7 @@ impl Lists {
     }
 
     /// Takes out what the lists have of a task, if it is there.
-    pub fn take_out(&mut self, tasks: &ReservedTable<Task>, id: &EvalId)
+    pub fn take_out(&mut self, tasks: &ReservedTree<Task>, id: &EvalId)
         requires rising { Holds (is_rising eval_cmp task_id tasks.now.rows) }
         requires listed { AreListed tasks.now.rows self.old }
         requires room { HaveRoom (length tasks.now.rows) self.old }
@@ -107,7 +109,7 @@ impl Lists {
     }
 
     /// Brings in what the lists have of a task, if it is there.
-    pub fn bring_in(&mut self, tasks: &ReservedTable<Task>, id: &EvalId)
+    pub fn bring_in(&mut self, tasks: &ReservedTree<Task>, id: &EvalId)
         requires rising { Holds (is_rising eval_cmp task_id tasks.now.rows) }
         requires listed { AreListed (without eval_cmp task_id id.now tasks.now.rows) self.old }
         requires room { HaveRoom (length tasks.now.rows) self.old }

@@ -1,11 +1,12 @@
 //! A task's rank among those of its job, and the heads of jobs.
-ghost use Rattle.std.specs.Prelude.{◌≡◌, option_map, T as Holds};
-ghost use Rattle.std.specs.List.{slice_get};
+ghost use Rattle.std.specs.Prelude.{◌≡◌, Some, None, bytes_eq, if◌then◌else◌, option_map, T as Holds};
 ghost use Rattle.rows.specs.Keys.{name_cmp};
 ghost use Rattle.rows.specs.Rising.{is_rising};
 ghost use Rattle.fsm_tables.specs.Rows.{row_of};
+ghost use Rattle.eval_broker.specs.Inner.Trees.{tree_rows};
 ghost use Rattle.eval_broker.specs.Inner.Lists.{rank_cmp, rank_job, head_at, head_of};
 
+use crate::tree::Tree;
 use fsm_tables::{Row, Urgency};
 use rows::{JobName, Ranged};
 
@@ -47,29 +48,40 @@ impl Rank {
             None
         }
     }
-}
 
-/// The rank at an index, if there is one.
-fn rank_at(ranks: &[Rank], at: usize) -> Option<&Rank>
-    ensures { option_map (λ p. p.now) result ≡ slice_get ranks.now at }
-{
-    ranks.get(at)
+    /// The rank, if it is of a job.
+    fn of_job(&self, job: &JobName) -> Option<&Rank>
+        ensures { option_map (λ p. p.now) result
+            ≡ (if bytes_eq self.now.job job.now then Some self.now else None) }
+    {
+        if self.job == *job { Some(self) } else { None }
+    }
 }
 
 /// The first rank of a job. It takes time in the logarithm of all ranks.
-fn first_of<'a>(ranks: &'a [Rank], job: &JobName) -> Option<&'a Rank>
-    requires { Holds (is_rising rank_cmp (λ p. p) ranks.now) }
-    ensures { option_map (λ p. p.now) result ≡ row_of name_cmp rank_job job.now ranks.now }
+fn first_of<'a>(ranks: &'a Tree<Rank>, job: &JobName) -> Option<&'a Rank>
+    requires { Holds (is_rising rank_cmp (λ p. p) (tree_rows ranks.now)) }
+    ensures { option_map (λ p. p.now) result
+        ≡ row_of name_cmp rank_job job.now (tree_rows ranks.now) }
 {
-    let at = ranks.partition_point(|rank| rank.job < *job);
-    let rank = rank_at(ranks, at)?;
-    if rank.job == *job { Some(rank) } else { None }
+    match ranks {
+        Tree::Leaf => None,
+        Tree::Fork(branch) => {
+            if branch.row.job < *job {
+                return first_of(&branch.right, job);
+            }
+            match first_of(&branch.left, job) {
+                None => branch.row.of_job(job),
+                found => found,
+            }
+        }
+    }
 }
 
 /// The first of a job that waits, where none of the job is out or acked.
-pub(crate) fn head_of(ranks: &[Rank], job: &JobName) -> Option<Head>
-    requires { Holds (is_rising rank_cmp (λ p. p) ranks.now) }
-    ensures { result ≡ head_of job.now ranks.now }
+pub(crate) fn head_of(ranks: &Tree<Rank>, job: &JobName) -> Option<Head>
+    requires { Holds (is_rising rank_cmp (λ p. p) (tree_rows ranks.now)) }
+    ensures { result ≡ head_of job.now (tree_rows ranks.now) }
 {
     first_of(ranks, job)?.head()
 }

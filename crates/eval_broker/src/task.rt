@@ -2,9 +2,9 @@
 ghost use Rattle.std.specs.Prelude.{◌≡◌, ◌<◌, option_map, None};
 ghost use Rattle.group_model.specs.Brokers.{Free, Acked, MOST, is_free, carry, goes_out, set_mark};
 ghost use Rattle.eval_broker.specs.Answers.{pair_of_mark, urgency_of};
-ghost use Rattle.eval_broker.specs.Inner.Lists.{rank_of, is_spent, is_failed};
+ghost use Rattle.eval_broker.specs.Inner.Lists.{rank_of, head_for, is_spent, is_failed};
 
-use crate::ranks::Rank;
+use crate::ranks::{Head, Rank};
 use fsm_tables::{Row, Urgency};
 use rows::{Delivery, EvalId, Evaluation, Index, JobName, Priority, Ranged, Token};
 use std::marker::Model;
@@ -25,7 +25,7 @@ pub(crate) enum Mark {
 
 /// A pending evaluation, how often it was given out, and its mark. Contracts see a task of the
 /// broker's definitions.
-#[derive(Drop)]
+#[derive(Clone, Copy)]
 pub(crate) struct Task {
     id: EvalId,
     job: JobName,
@@ -36,7 +36,7 @@ pub(crate) struct Task {
 
 impl Model for Task {
     ghost use Rattle.group_model.specs.Brokers.{Task as AnyTask};
-    ghost use Rattle.eval_broker.specs.Inner.Tasks.{mark_of};
+    ghost use Rattle.eval_broker.specs.Inner.Tasks.{mark_of, held_of};
 
     ghost Value = { AnyTask };
 
@@ -46,6 +46,24 @@ impl Model for Task {
       priority = t.priority;
       deliveries = t.deliveries;
       mark = mark_of t.mark;
+    } };
+
+    ghost inverse = { λ t. record {
+      id = t.id;
+      job = t.job;
+      priority = t.priority;
+      deliveries = t.deliveries;
+      mark = held_of t.mark;
+    } };
+
+    ghost use Rattle.eval_broker.specs.Laws.Marks.{given_back};
+
+    ghost inverse_ok = { λ t h i. record {
+      id = t.id;
+      job = t.job;
+      priority = t.priority;
+      deliveries = t.deliveries;
+      mark = given_back t.mark i;
     } };
 }
 
@@ -159,6 +177,16 @@ impl Task {
             is_free: self.is_free(),
             is_spent: self.is_spent(),
             urgency: self.urgency(),
+        }
+    }
+
+    /// The task as the head of its job.
+    pub fn head(&self) -> Head
+        ensures { result ≡ head_for self.now }
+    {
+        Head {
+            urgency: self.urgency(),
+            job: self.job,
         }
     }
 

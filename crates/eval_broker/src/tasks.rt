@@ -9,14 +9,15 @@ ghost use Rattle.eval_broker.specs.Answers.{urgency_of};
 ghost use Rattle.group_model.specs.Order.{in_order};
 
 use crate::lists::Lists;
+use crate::reserved_tree::ReservedTree;
 use crate::task::Task;
-use fsm_tables::{ReservedTable, Urgency};
+use fsm_tables::Urgency;
 use rows::{EvalId, NoMemory};
 
 /// The tasks by id, and the lists beside them.
 #[derive(Drop)]
 pub(crate) struct Tasks {
-    pub tasks: ReservedTable<Task>,
+    pub tasks: ReservedTree<Task>,
     pub lists: Lists,
 }
 
@@ -28,17 +29,16 @@ impl Tasks {
         self.tasks.get(id)
     }
 
-    /// Makes room for one task more. Without memory no row changes.
-    pub fn make_room(&mut self) -> Result<(), NoMemory>
+    /// Makes room for one task more, by means of any task. Without memory no row changes.
+    pub fn make_room(&mut self, any: &Task) -> Result<(), NoMemory>
         requires kept { AreKept self.old }
         ensures kept { AreKept self.new }
         ensures rows { self.new.tasks.rows ≡ self.old.tasks.rows }
         ensures tasks { OnOk result (length self.old.tasks.rows + 1 ≤ self.new.tasks.room) }
         ensures lists { OnOk result (HaveRoom (length self.old.tasks.rows + 1) self.new.lists) }
     {
-        let count = self.tasks.rows().len() + 1;
-        self.tasks.make_room(count)?;
-        self.lists.make_room(count)
+        self.tasks.make_space(*any)?;
+        self.lists.make_room(self.tasks.room(), any)
     }
 
     /// Makes or replaces a task. There is room for it, so it takes no memory.
@@ -72,7 +72,7 @@ impl Tasks {
         requires { AreKept self.now }
         ensures { option_map (λ t. t.now) result ≡ next self.now.tasks.rows }
     {
-        let head = self.lists.heads.rows().first()?;
+        let head = self.lists.heads.first()?;
         self.tasks.get(&head.urgency.id)
     }
 

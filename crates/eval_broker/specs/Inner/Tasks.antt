@@ -7,3 +7,9 @@ abbrev pub mark_of : Held → Mark
 mark_of held.Free = Free
 mark_of (held.Out token wait) = Out token wait
 mark_of held.Acked = Acked
+
+-- and back
+abbrev pub held_of : Mark → Held
+held_of Free = held.Free
+held_of (Out token wait) = held.Out token wait
+held_of Acked = held.Acked
