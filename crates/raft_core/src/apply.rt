@@ -9,6 +9,23 @@ use crate::watch::{Unwatched, Watch};
 use machine::{Coded, Entry, Machine};
 use rows::{NoMemory, Term};
 
+/// A leader of this term applies an entry, and a watcher sees it.
+fn apply_watched<M: Machine, W: Watch<M>>(
+    machine: &mut M,
+    term: Term,
+    entry: &Entry<Coded<M>>,
+    watch: &mut W,
+) -> Result<(), NoMemory>
+    requires { M.meaning.count machine.old + 1 < 2 ^ 40 }
+    ensures state { OnOk result (machine.new
+        ≡ M.meaning.applied machine.old entry.now.command) }
+    ensures seen { OnOk result (watch.new
+        ≡ W.sees watch.old term entry.now machine.new) }
+{
+    machine.apply(entry.command.command())?;
+    watch.see(term, entry, machine)
+}
+
 /// A leader of this term applies the entries, one after the other, and a watcher sees each.
 pub fn apply_all_watched<M: Machine, W: Watch<M>>(
     machine: &mut M,
@@ -23,8 +40,7 @@ pub fn apply_all_watched<M: Machine, W: Watch<M>>(
         ≡ sees_all M.meaning W.sees term machine.old entries.now watch.old) }
 {
     for entry in entries {
-        machine.apply(entry.command.command())?;
-        watch.see(term, entry, machine)?;
+        apply_watched(machine, term, entry, watch)?;
     }
     Ok(())
 }

@@ -8,7 +8,7 @@ use rows::{NoMemory, Term};
 
 /// What watches a leader apply entries. It sees each of them once, in order, with the state that it
 /// left, before the next one is applied. It sees none that a follower applies.
-pub trait Watch<M: Machine>: Drop {
+pub trait Watch<M: Machine> {
     /// What an entry makes of it: the leader's term, the entry, and the state that it left.
     ghost sees: { Self → ℕ → Entry M.Command → M → Self };
 

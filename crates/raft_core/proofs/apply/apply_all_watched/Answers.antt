@@ -9,8 +9,8 @@ loop-entry-init g c =
     let a = c.args in
     record { within = omega arith; state = from-none m a.machine.now a.entries.now; seen = seen-none m g.W.Watch.sees a.term a.machine.now a.entries.now a.watch.now }
 
-pub apply-requires : goal.apply-requires
-apply-requires g c =
+pub apply_watched-requires : goal.apply_watched-requires
+apply_watched-requires g c =
     let m = g.M.Machine.meaning in
     let done = c.loop-entry.invariant in
     let counted = from-count m g.met.M.Machine.lawful c.args.machine.now c.args.entries.now c.loop-entry.entry-index c.loop-entry.machine done.within done.state in
@@ -22,9 +22,9 @@ loop-entry-preserved g c =
     let a = c.args in
     let at = c.loop-entry in
     let old = at.invariant in
-    let applied = rw c.command.ensures at c.in_ok-apply.ensures in
+    let did = c.in_ok-apply_watched.ensures in
     record {
       within = omega (arith, c.loop-entry-test.true);
-      state = from-next m a.machine.now a.entries.now at.entry-index c.entry-item.result at.machine c.apply.new.self c.loop-entry-test.true c.entry-item.is old.state applied;
-      seen = seen-next m g.W.Watch.sees a.term a.machine.now a.entries.now at.entry-index c.entry-item.result at.machine c.apply.new.self a.watch.now at.watch c.see.new.self c.loop-entry-test.true c.entry-item.is old.state applied old.seen c.in_ok-see.ensures;
+      state = from-next m a.machine.now a.entries.now at.entry-index c.entry-item.result at.machine c.apply_watched.new.machine c.loop-entry-test.true c.entry-item.is old.state did.state;
+      seen = seen-next m g.W.Watch.sees a.term a.machine.now a.entries.now at.entry-index c.entry-item.result at.machine c.apply_watched.new.machine a.watch.now at.watch c.apply_watched.new.watch c.loop-entry-test.true c.entry-item.is old.state did.state old.seen did.seen;
     }
