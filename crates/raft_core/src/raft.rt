@@ -22,7 +22,7 @@ use machine::{Coded, Entry, Machine};
 use rows::{Index, NoMemory, Refusal, ServerId, Term};
 use std::alloc::Global;
 use std::marker::Model;
-use wire::Outbox;
+use wire::Frames;
 
 /// One server of a group of 3 or 5. Term, vote and log are stored; the rest is lost in a crash. It
 /// is down while it has no machine.
@@ -283,7 +283,7 @@ impl<M: Machine> Raft<M> {
     /// One input is taken. After want of memory what is stored is as it was, and frames may stand
     /// behind those that were there.
     #[tactic(auto, using(crate::proofs::Keeps::kept_by_view))]
-    fn take(&mut self, input: Input, outbox: &mut Outbox) -> Result<(), Refusal>
+    fn take(&mut self, input: Input, outbox: &mut Frames) -> Result<(), Refusal>
         ensures same { (self.new.me ≡ self.old.me) × (self.new.size ≡ self.old.size) }
         ensures taken { OnOk result (Takes M.meaning self.old self.old.server (handed input.entry)
             self.new outbox.old outbox.new) }
@@ -340,7 +340,7 @@ impl<M: Machine> Raft<M> {
     /// is 2^40 - 1; a Restart of one that is up with `OutOfRange`. A refusal changes nothing and
     /// sends nothing. With `NoMemory` the server is down, with its stored part as it was and
     /// nothing sent. A leader that leads on keeps its machine after its whole log.
-    pub fn step(&mut self, input: Input, outbox: &mut Outbox) -> Result<(), Refusal>
+    pub fn step(&mut self, input: Input, outbox: &mut Frames) -> Result<(), Refusal>
         ensures same { (self.new.me ≡ self.old.me) × (self.new.size ≡ self.old.size) }
         ensures taken { OnOk result ((s : Server M.Command) → Represents M.meaning self.old s →
             Takes M.meaning self.old s (handed input.entry) self.new outbox.old outbox.new) }

@@ -13,7 +13,7 @@ ghost use Rattle.raft_core.specs.RaftView.{KeepsAhead};
 use super::Raft;
 use machine::Machine;
 use rows::{Actor, NoMemory, Refusal, ServerId};
-use wire::{Body, Message, Outbox, read_message};
+use wire::{Body, Frames, Message, read_message};
 
 impl<M: Machine> Raft<M> {
     /// A message of another server of the group is taken.
@@ -21,7 +21,7 @@ impl<M: Machine> Raft<M> {
         &mut self,
         from: ServerId,
         body: Body<M>,
-        outbox: &mut Outbox,
+        outbox: &mut Frames,
     ) -> Result<(), NoMemory>
         requires up { is_up self.old.server.mode ≡ true }
         requires member { from < self.old.size }
@@ -67,7 +67,7 @@ impl<M: Machine> Raft<M> {
     }
 
     /// A frame comes to a server that is up.
-    pub(super) fn frame(&mut self, bytes: &[u8], outbox: &mut Outbox) -> Result<(), Refusal>
+    pub(super) fn frame(&mut self, bytes: &[u8], outbox: &mut Frames) -> Result<(), Refusal>
         requires { is_up self.old.server.mode ≡ true }
         ensures same { (self.new.me ≡ self.old.me) × (self.new.size ≡ self.old.size) }
         ensures taken { OnOk result
