@@ -24,7 +24,7 @@ use machine::{Coded, Entry, Machine};
 use rows::{Index, NoMemory, Refusal, ServerId, Term};
 use std::alloc::Global;
 use std::marker::Model;
-use wire::Outbox;
+use wire::Frames;
 
 /// One server of a group of 3 or 5. Term, vote and log are stored; the rest is lost in a crash. It
 /// is down while it has no machine.
@@ -288,7 +288,7 @@ impl<M: Machine> Raft<M> {
     fn take<W: Watch<M>>(
         &mut self,
         input: Input,
-        outbox: &mut Outbox,
+        outbox: &mut Frames,
         watch: &mut W,
     ) -> Result<(), Refusal>
         ensures same { (self.new.me ≡ self.old.me) × (self.new.size ≡ self.old.size) }
@@ -350,7 +350,7 @@ impl<M: Machine> Raft<M> {
     /// is 2^40 - 1; a Restart of one that is up with `OutOfRange`. A refusal changes nothing and
     /// sends nothing. With `NoMemory` the server is down, with its stored part as it was and
     /// nothing sent. A leader that leads on keeps its machine after its whole log.
-    pub fn step(&mut self, input: Input, outbox: &mut Outbox) -> Result<(), Refusal>
+    pub fn step(&mut self, input: Input, outbox: &mut Frames) -> Result<(), Refusal>
         ensures same { (self.new.me ≡ self.old.me) × (self.new.size ≡ self.old.size) }
         ensures taken { OnOk result ((s : Server M.Command) → Represents M.meaning self.old s →
             Takes M.meaning self.old s (handed input.entry) self.new outbox.old outbox.new) }
@@ -375,7 +375,7 @@ impl<M: Machine> Raft<M> {
     pub fn step_watched<W: Watch<M>>(
         &mut self,
         input: Input,
-        outbox: &mut Outbox,
+        outbox: &mut Frames,
         watch: &mut W,
     ) -> Result<(), Refusal>
         ensures same { (self.new.me ≡ self.old.me) × (self.new.size ≡ self.old.size) }

@@ -4,12 +4,12 @@ ghost use Rattle.raft_core.specs.Inner.Turns.{Sent};
 
 use machine::Machine;
 use rows::{NoMemory, ServerId};
-use wire::{Body, Message, Outbox};
+use wire::{Body, Frames, Message};
 
 /// Sends the frame of a message from one server to another.
 #[tactic(auto, using(crate::proofs::Sends::may_go_between, crate::proofs::Sends::sent_front, crate::proofs::Sends::sent_all))]
 pub fn send<M: Machine>(
-    outbox: &mut Outbox,
+    outbox: &mut Frames,
     from: ServerId,
     to: ServerId,
     body: Body<M>,

@@ -30,7 +30,7 @@ fn put_request(alloc: Global, line: &str, out: &mut Vec<u8>) -> bool {
     }
 }
 
-fn event_of(step: Step) -> Option<RaftEvent<Cluster>> {
+fn event_of(alloc: Global, step: Step) -> Option<RaftEvent<Cluster>> {
     match step {
         Step::Timeout(server) => Some(RaftEvent::Timeout(server)),
         Step::Beat(server) => Some(RaftEvent::Beat(server)),
@@ -38,14 +38,15 @@ fn event_of(step: Step) -> Option<RaftEvent<Cluster>> {
         Step::Restart(server) => Some(RaftEvent::Restart(server)),
         Step::Deliver(number) => Some(RaftEvent::Deliver(number)),
         Step::Request(server, request) => {
-            Some(RaftEvent::Propose(server, request.into_command()))
+            let command = Box::new(alloc, request.into_command()).ok()?;
+            Some(RaftEvent::Propose(server, command))
         }
         Step::Flow(_) => None,
     }
 }
 
-fn take_step(world: &mut RaftWorld<Cluster>, step: Step) -> bool {
-    match event_of(step) {
+fn take_step(world: &mut RaftWorld<Cluster>, alloc: Global, step: Step) -> bool {
+    match event_of(alloc, step) {
         Some(event) => matches!(world.step(event), Ok(Done::Taken)),
         None => false,
     }
@@ -54,7 +55,7 @@ fn take_step(world: &mut RaftWorld<Cluster>, step: Step) -> bool {
 // The step is one event, and is taken.
 fn take(world: &mut RaftWorld<Cluster>, alloc: Global, line: &str) -> bool {
     match read_step(alloc, line) {
-        Ok(Some(step)) => take_step(world, step),
+        Ok(Some(step)) => take_step(world, alloc, step),
         _ => false,
     }
 }
@@ -140,7 +141,10 @@ fn state(rt: &HostRuntime, name: &str, steps: &str) -> io::Result<()> {
         is_taken && is_there,
         world.chain().get()
     )?;
-    if let Err(refusal) = world.step(RaftEvent::Propose(server, Cluster::noop())) {
+    let Ok(noop) = Box::new(alloc, Cluster::noop()) else {
+        return Ok(());
+    };
+    if let Err(refusal) = world.step(RaftEvent::Propose(server, noop)) {
         println!(rt; "{refusal}")?;
         if let Err(refusal) = world.step(RaftEvent::Deliver(0)) {
             println!(rt; "{}", refusal.number())?;

@@ -142,6 +142,7 @@ fn steps_of<'a>(alloc: Global, scenario: &Scenario) -> Result<Vec<Step>, Fault<'
 // A group of servers, and its messages in flight.
 #[derive(Drop)]
 struct Play {
+    alloc: Global,
     world: RaftWorld<Cluster>,
     flight: Flight,
 }
@@ -152,6 +153,7 @@ impl Play {
     {
         match RaftWorld::new(alloc, usize::from(servers)) {
             Ok(world) => Ok(Play {
+                alloc,
                 world,
                 flight: Flight::new(alloc),
             }),
@@ -172,7 +174,8 @@ impl Play {
             Step::Restart(server) => self.event(RaftEvent::Restart(server)),
             Step::Flow(count) => Ok(self.flow(count.unwrap_or(FLOW))?),
             Step::Request(server, request) => {
-                self.event(RaftEvent::Propose(server, request.into_command()))
+                let command = Box::new(self.alloc, request.into_command())?;
+                self.event(RaftEvent::Propose(server, command))
             }
         }
     }

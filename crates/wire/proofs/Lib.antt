@@ -1,3 +1,4 @@
+pub mod Buffers
 pub mod GrammarLaws
 pub mod Framing
 pub mod Rules

@@ -1,2 +1,4 @@
 -- Words of private contracts.
+pub mod Ends
+pub mod Said
 pub mod Sizes

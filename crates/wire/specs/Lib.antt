@@ -2,5 +2,6 @@ pub mod Appends
 pub mod Messages
 pub mod Grammar
 pub mod Frames
+pub mod Buffers
 pub mod Inner
 pub mod Laws

@@ -2,12 +2,13 @@ ghost use Rattle.std.specs.Prelude.{◌≡◌, IfOk};
 ghost use Rattle.fields.specs.Format.{Gives, Puts};
 ghost use Rattle.wire.specs.Messages.{kind_of};
 ghost use Rattle.wire.specs.Grammar.{body as body_format};
+ghost use Rattle.wire.specs.Inner.Said.{said_body, HavePlaces};
 
-use crate::append::{Append, AppendReply, append_append, read_append};
+use crate::append::{Append, AppendHead, AppendReply, append_append, read_append};
 use crate::kind::Kind;
 use crate::vote::{VoteReply, VoteRequest};
 use fields::Field;
-use machine::Machine;
+use machine::{Coded, Entry, Machine};
 use rows::{NoMemory, Refusal};
 use std::alloc::Global;
 
@@ -77,5 +78,38 @@ pub fn append_body<M: Machine>(body: &Body<M>, out: &mut Vec<u8>) -> Result<(), 
         Body::VoteReply(reply) => reply.append(out),
         Body::Append(append) => append_append(&append.head(), append.entries(), out),
         Body::AppendReply(reply) => reply.append(out),
+    }
+}
+
+/// What is to be sent: a body, or an `Append` whose entries stay in a log.
+#[derive(Drop)]
+pub enum Said<'a, M: Machine> {
+    /// A body.
+    Body(&'a Body<M>),
+    /// The parts of an `Append`.
+    Entries(&'a AppendHead, &'a [Entry<Coded<M>>]),
+}
+
+impl<'a, M: Machine> Said<'a, M> {
+    /// The kind of the message.
+    pub fn kind(&self) -> Kind
+        ensures { result ≡ kind_of (said_body self.now) }
+    {
+        match self {
+            Said::Body(body) => body.kind(),
+            Said::Entries(_, _) => Kind::Append,
+        }
+    }
+}
+
+/// Puts what is said to the end.
+pub fn append_said<M: Machine>(said: &Said<'_, M>, out: &mut Vec<u8>) -> Result<(), NoMemory>
+    requires { HavePlaces said.now }
+    ensures { Puts (body_format M.meaning.commands (kind_of (said_body said.now))) (said_body said.now)
+        result out.old.items out.new.items }
+{
+    match said {
+        Said::Body(body) => append_body(body, out),
+        Said::Entries(head, entries) => append_append(head, entries, out),
     }
 }

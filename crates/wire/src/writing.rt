@@ -1,19 +1,16 @@
 ghost use Rattle.std.specs.Prelude.{◌≡◌, ◌++◌, ◌+◌, ◌<◌, ◌≤◌, ◌^◌, true, length, take, drop, OnOk, OnErr};
 ghost use Rattle.fields.specs.Format.{Grows};
-ghost use Rattle.rows.specs.declared.actor.Actor.TheVariants as actors;
-ghost use Rattle.wire.specs.declared.kind.Kind.TheVariants as kinds;
-ghost use Rattle.wire.specs.Messages.{kind_of, may_go, append_message};
-ghost use Rattle.wire.specs.Grammar.{body as body_format, append as append_format};
+ghost use Rattle.wire.specs.Messages.{kind_of, may_go};
+ghost use Rattle.wire.specs.Grammar.{body as body_format};
 ghost use Rattle.wire.specs.Frames.{sized, AddsFrame};
+ghost use Rattle.wire.specs.Inner.Said.{said_body, HavePlaces};
 ghost use Rattle.wire.specs.Inner.Sizes.{AddsSized};
 
-use crate::append::{AppendHead, append_append};
-use crate::body::{Body, append_body};
+use crate::body::{Said, append_said};
 use crate::header::{Header, append_header};
-use crate::kind::Kind;
-use crate::message::{Message, header_of};
-use machine::{Coded, Entry, Machine};
-use rows::{Actor, NoMemory, ServerId};
+use crate::message::Message;
+use machine::Machine;
+use rows::{Actor, NoMemory};
 
 /// Puts the number of the bytes behind the four at a place into those four.
 #[tactic(auto, unfolding(fields::specs::Format::spelled), using(crate::proofs::Rules::drops))]
@@ -26,71 +23,64 @@ fn put_size(out: &mut Vec<u8>, at: usize)
     out[at..at + 4].copy_from_slice(&size.to_be_bytes());
 }
 
-/// Puts the body to the end, behind its length.
-fn append_sized<M: Machine>(body: &Body<M>, out: &mut Vec<u8>) -> Result<(), NoMemory>
-    ensures ok { OnOk result (AddsSized (body_format M.meaning.commands (kind_of body.now)) body.now
-        out.old.items out.new.items) }
+/// Puts what is said to the end, behind its length.
+fn append_sized<M: Machine>(said: &Said<'_, M>, out: &mut Vec<u8>) -> Result<(), NoMemory>
+    requires { HavePlaces said.now }
+    ensures ok { OnOk result (AddsSized (body_format M.meaning.commands (kind_of (said_body said.now)))
+        (said_body said.now) out.old.items out.new.items) }
     ensures err { OnErr result (Grows out.old.items out.new.items) }
 {
     let size_at = out.len();
     out.extend_from_slice(&[0; 4])?;
-    append_body(body, out)?;
+    append_said(said, out)?;
     put_size(out, size_at);
     Ok(())
-}
-
-/// Puts the body of an `Append` of these parts to the end, behind its length.
-fn append_sized_entries<M: Machine>(
-    head: &AppendHead,
-    entries: &[Entry<Coded<M>>],
-    out: &mut Vec<u8>,
-) -> Result<(), NoMemory>
-    requires few { length entries.now ≤ 32 }
-    requires places { head.now.prev_index + length entries.now < 2 ^ 40 }
-    ensures ok { OnOk result (AddsSized (append_format M.meaning.commands)
-        (record { head = head.now; entries = entries.now }) out.old.items out.new.items) }
-    ensures err { OnErr result (Grows out.old.items out.new.items) }
-{
-    let size_at = out.len();
-    out.extend_from_slice(&[0; 4])?;
-    append_append(head, entries, out)?;
-    put_size(out, size_at);
-    Ok(())
-}
-
-/// Puts the frame of an `Append` to the end; after an error a part of it may stand there.
-#[tactic(auto, using(crate::proofs::Rules::appends))]
-pub fn append_entries_frame<M: Machine>(
-    from: ServerId,
-    to: ServerId,
-    head: &AppendHead,
-    entries: &[Entry<Coded<M>>],
-    out: &mut Vec<u8>,
-) -> Result<(), NoMemory>
-    requires allowed { may_go kinds.Append (actors.Server from) (actors.Server to) ≡ true }
-    requires few { length entries.now ≤ 32 }
-    requires places { head.now.prev_index + length entries.now < 2 ^ 40 }
-    ensures ok { OnOk result (AddsFrame M.meaning.commands (append_message {S = M} from to head.now entries.now)
-        out.old.items out.new.items) }
-    ensures err { OnErr result (Grows out.old.items out.new.items) }
-{
-    let header = Header {
-        kind: Kind::Append,
-        from: Actor::Server(from),
-        to: Actor::Server(to),
-    };
-    append_header(&header, out)?;
-    append_sized_entries(head, entries, out)
 }
 
 /// Puts the frame to the end; after an error a part of it may stand there.
 #[tactic(auto, using(crate::proofs::Rules::appends))]
-fn append_frame<M: Machine>(message: &Message<M>, out: &mut Vec<u8>) -> Result<(), NoMemory>
-    ensures ok { OnOk result (AddsFrame M.meaning.commands message.now out.old.items out.new.items) }
+fn append_frame<M: Machine>(
+    from: &Actor,
+    to: &Actor,
+    said: &Said<'_, M>,
+    out: &mut Vec<u8>,
+) -> Result<(), NoMemory>
+    requires allowed { may_go (kind_of (said_body said.now)) from.now to.now ≡ true }
+    requires places { HavePlaces said.now }
+    ensures ok { OnOk result (AddsFrame M.meaning.commands
+        (record { from = from.now; to = to.now; body = said_body said.now }) out.old.items out.new.items) }
     ensures err { OnErr result (Grows out.old.items out.new.items) }
 {
-    append_header(&header_of(message), out)?;
-    append_sized(message.body(), out)
+    let header = Header {
+        kind: said.kind(),
+        from: *from,
+        to: *to,
+    };
+    append_header(&header, out)?;
+    append_sized(said, out)
+}
+
+/// Puts the one frame of the message of these parts to the end, or changes nothing. Its kind goes
+/// from there to there; the entries of an `Append` are at most 32, each with a place in the log,
+/// below 2^40.
+pub fn write_frame<M: Machine>(
+    from: &Actor,
+    to: &Actor,
+    said: &Said<'_, M>,
+    out: &mut Vec<u8>,
+) -> Result<(), NoMemory>
+    requires allowed { may_go (kind_of (said_body said.now)) from.now to.now ≡ true }
+    requires places { HavePlaces said.now }
+    ensures ok { OnOk result (AddsFrame M.meaning.commands
+        (record { from = from.now; to = to.now; body = said_body said.now }) out.old.items out.new.items) }
+    ensures err { OnErr result (out.new.items ≡ out.old.items) }
+{
+    let start = out.len();
+    let done = append_frame(from, to, said, out);
+    if done.is_err() {
+        out.truncate(start);
+    }
+    done
 }
 
 /// Puts the one frame of a message to the end, or changes nothing.
@@ -98,10 +88,6 @@ pub fn write_message<M: Machine>(message: &Message<M>, out: &mut Vec<u8>) -> Res
     ensures ok { OnOk result (AddsFrame M.meaning.commands message.now out.old.items out.new.items) }
     ensures err { OnErr result (out.new.items ≡ out.old.items) }
 {
-    let start = out.len();
-    let done = append_frame(message, out);
-    if done.is_err() {
-        out.truncate(start);
-    }
-    done
+    let said = Said::Body(message.body());
+    write_frame(&message.from(), &message.to(), &said, out)
 }

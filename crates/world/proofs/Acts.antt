@@ -26,7 +26,6 @@ use Rattle.world.specs.Inner.HistoryView.{HistoryView}
 use Rattle.world.specs.Inner.Inputs.{ActsIn, IsSent, handed_by, is_restart}
 use Rattle.world.specs.Inner.Parts.{IsFor, PartTaken, PartCrashed, PartStays, IsPartRefused, PartDone}
 use Rattle.world.proofs.Zips.{zip_at, zip_length}
-use Rattle.world.proofs.Posts.{Posts, step_posts}
 use Rattle.world.proofs.Inputs.{WasSent, Brings, brings}
 use Rattle.world.proofs.Taken.{took, Moved, moved, numbered_on, goes_by, reached_on}
 use Rattle.world.proofs.Refused.{IsAddressed, refused_is}
@@ -45,14 +44,6 @@ is_a_restart m (Proposes i command) h = absurd (cc)
 is_a_restart m (Compacts i) h = absurd (cc)
 is_a_restart m (Crashes i) h = absurd (cc)
 is_a_restart m (Restarts i) h = tt
-
--- what a server sends has room
-pub few : {S C : Type 0} (m : Meaning S C) (h h2 : RaftView C) (past sent : List Frame) (e : Event C) → IsFor m h past e →
-    ((s : Server C) → Represents m h s → Takes m h s (handed_by past e) h2 [] sent) → length sent ≤ h.size
-few m h h2 past sent e for taken =
-    let t = taken h.server refl for.input for.reads in
-    let short : length t.turn.sent ≤ h.size = subst (λ q. Posts h.size q) t.step (step_posts m h.size h.me for.inside h.server for.input) in
-    omega (arith, short, ap length t.sent.added, zip_length (FrameCarries m) t.sent.frames t.turn.sent t.sent.carry)
 
 abbrev pub history_of : {C : Type 0} → WorldView C → HistoryView C
 history_of view = record { sent = view.sent; trace = view.trace; chain = view.chain }
@@ -107,26 +98,26 @@ module _ {S C : Type 0} (m : Meaning S C) (old : WorldView C) (e : Event C) (i :
   module _ (h2 : RaftView C) (new : WorldView C) (servers : new.servers ≡ slice_set old.servers i h2) (same : (h2.me ≡ h.me) × (h2.size ≡ h.size)) where
     taken : PartTaken m h (history_of old) e h2 (history_of new) → Acted m old e (Ok done.Taken) new
     taken p =
-        let move : (w : World C) → RepresentsWorld m old w → (turn : Turn C) × Moved m old new e i h h2 p.frames a.reached.numbered a.here servers p.sent w turn =
-        λ w st. let c = scene w st in let b = c.brings in let t = p.taken c.server c.represents b.input b.reads in (t.turn, moved m old new e i h h2 p.frames a.reached.numbered a.here servers p.sent w st c.server b.input c.at b.takes t) in
-        let happened = goes_by m old new e i h h2 p.frames a.reached.numbered a.here servers p.sent p.event p.trace move (λ w st. let q = move w st in let d = q.1 in p.chain q.0.server d.represents) in
-        record { ok = happened; err = tt; cause = tt; world = reached_on m old new e happened (numbered_on m old new e i h h2 p.frames a.reached.numbered a.here servers p.sent same) a.reached }
+        let move : (w : World C) → RepresentsWorld m old w → (turn : Turn C) × Moved m old new e i h h2 a.reached.numbered a.here servers w turn =
+        λ w st. let c = scene w st in let b = c.brings in let t = p.taken c.server c.represents b.input b.reads in (t.turn, moved m old new e i h h2 a.reached.numbered a.here servers w st c.server b.input c.at b.takes t) in
+        let happened = goes_by m old new e i h h2 a.reached.numbered a.here servers p.event p.trace move (λ w st. let q = move w st in let d = q.1 in p.chain q.0.server d.represents) in
+        record { ok = happened; err = tt; cause = tt; world = reached_on m old new e happened (numbered_on m old new e i h h2 a.reached.numbered a.here servers same) a.reached }
 
     fallen : PartCrashed m h (history_of old) e i h2 (history_of new) → Acted m old e (Ok done.Crashed) new
     fallen p =
         let none : new.sent ≡ old.sent ++ [] = p.sent ∙ sym (append-nil old.sent) in
-        let crash : (w : World C) (st : RepresentsWorld m old w) → let c = scene w st in Steps m h c.server Crash h2 [] [] =
-        λ w st. let c = scene w st in let l = p.fell c.server c.represents in record { turn = silent (crashed c.server); step = rw l.0 refl; represents = l.1; sent = record { frames = []; added = refl; carry = tt } } in
-        let move : (w : World C) → RepresentsWorld m old w → (turn : Turn C) × Moved m old new (Crashes i) i h h2 [] a.reached.numbered a.here servers none w turn =
-        λ w st. let c = scene w st in let t = crash w st in (t.turn, moved m old new (Crashes i) i h h2 [] a.reached.numbered a.here servers none w st c.server Crash c.at refl t) in
-        let happened = goes_by m old new (Crashes i) i h h2 [] a.reached.numbered a.here servers none tt p.trace move (λ w st. omega (arith, p.chain)) in
+        let crash : (w : World C) (st : RepresentsWorld m old w) → let c = scene w st in Steps m h c.server Crash h2 old.sent new.sent =
+        λ w st. let c = scene w st in let l = p.fell c.server c.represents in record { turn = silent (crashed c.server); step = rw l.0 refl; represents = l.1; sent = record { frames = []; added = none; carry = tt } } in
+        let move : (w : World C) → RepresentsWorld m old w → (turn : Turn C) × Moved m old new (Crashes i) i h h2 a.reached.numbered a.here servers w turn =
+        λ w st. let c = scene w st in let t = crash w st in (t.turn, moved m old new (Crashes i) i h h2 a.reached.numbered a.here servers w st c.server Crash c.at refl t) in
+        let happened = goes_by m old new (Crashes i) i h h2 a.reached.numbered a.here servers tt p.trace move (λ w st. omega (arith, p.chain)) in
         let lacking : (w : World C) (s : Server C) → RepresentsWorld m old w → slice_get w.servers i ≡ Some s → MayWantFor w e s =
         λ w s st at. let c = scene w st in let b = c.brings in let is : c.server ≡ s = same_Some c.server s (sym c.at ∙ at) in (b.input, b.is, b.wants s.mode (p.lacks s (c.represents ∙ is))) in
         record {
           ok = inl (record { who = i; actor = λ w st. a.acts w st.sent; lacking = lacking; happened = happened });
           err = tt;
           cause = tt;
-          world = reached_on m old new (Crashes i) happened (numbered_on m old new (Crashes i) i h h2 [] a.reached.numbered a.here servers none same) a.reached;
+          world = reached_on m old new (Crashes i) happened (numbered_on m old new (Crashes i) i h h2 a.reached.numbered a.here servers same) a.reached;
         }
 
     -- a server that is as it was leaves the world as it was

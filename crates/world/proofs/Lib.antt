@@ -1,5 +1,4 @@
 pub mod Zips
-pub mod Posts
 pub mod Heights
 pub mod Inputs
 pub mod Taken

@@ -3,7 +3,6 @@ use Rattle.std.proofs.Common.{◌≡◌, ℕ, inl, inr, max, Some, Result, Ok, L
 use Rattle.std.specs.List.{AllZip}
 use Rattle.rows.specs.declared.refusal.Refusal.{Refusal}
 use Rattle.machine.specs.Meaning.{Meaning}
-use Rattle.wire.specs.Frames.{Frame}
 use Rattle.raft_model.specs.Servers.{Server, Turn}
 use Rattle.raft_model.specs.Steps.{Input, step}
 use Rattle.raft_model.specs.Worlds.{World, Event, Run, more, IsEvent, happens, takes, after_turn}
@@ -23,10 +22,10 @@ module _ {S C : Type 0} (m : Meaning S C) where
   pub took : (w : World C) (i : ℕ) (x : Input C) (s : Server C) (r : Result (Turn C) Refusal) → slice_get w.servers i ≡ Some s → step m (length w.servers) i s x ≡ r → takes m w i x ≡ after_turn m w i r
   took w i x s r here is = rw here (ap (λ q. after_turn m w i q) is)
 
--- server i, which is h, takes the event, and is h2 then; what it sends comes behind what was sent
-module _ {S C : Type 0} (m : Meaning S C) (old new : WorldView C) (e : Event C) (i : ℕ) (h h2 : RaftView C) (frames : List Frame)
+-- server i, which is h, takes the event, and is h2 then
+module _ {S C : Type 0} (m : Meaning S C) (old new : WorldView C) (e : Event C) (i : ℕ) (h h2 : RaftView C)
     (numbered : Numbered old) (here : slice_get old.servers i ≡ Some h)
-    (servers : new.servers ≡ slice_set old.servers i h2) (sent : new.sent ≡ old.sent ++ frames) where
+    (servers : new.servers ≡ slice_set old.servers i h2) where
   -- the world after the step, and that the event leads there
   pub record Moved (w : World C) (turn : Turn C) : Type 0 where
     pub server : Server C
@@ -40,13 +39,12 @@ module _ {S C : Type 0} (m : Meaning S C) (old new : WorldView C) (e : Event C) 
   pub count_kept : length new.servers ≡ length old.servers
   count_kept = ap length servers ∙ set-length old.servers i h2
 
-  pub moved : (w : World C) (st : RepresentsWorld m old w) (s : Server C) (x : Input C) → slice_get w.servers i ≡ Some s → happens m w e ≡ takes m w i x → (t : Steps m h s x h2 [] frames) → Moved w t.turn
+  pub moved : (w : World C) (st : RepresentsWorld m old w) (s : Server C) (x : Input C) → slice_get w.servers i ≡ Some s → happens m w e ≡ takes m w i x → (t : Steps m h s x h2 old.sent new.sent) → Moved w t.turn
   moved w st s x at feed t =
       let n = numbered i h here in
       let size : h.size ≡ length w.servers = n.1 ∙ zip_length (Represents m) old.servers w.servers st.servers in
       let stepped : step m (length w.servers) i s x ≡ Ok t.turn = subst (λ (k : ℕ). step m k i s x ≡ Ok t.turn) size (subst (λ (j : ℕ). step m h.size j s x ≡ Ok t.turn) n.0 t.step) in
       let next : World C = record { servers = slice_set w.servers i t.turn.server; sent = w.sent ++ t.turn.sent } in
-      let carried : AllZip (FrameCarries m) frames t.turn.sent = subst (λ fs. AllZip (FrameCarries m) fs t.turn.sent) (sym t.sent.added) t.sent.carry in
       record {
         server = s;
         next = next;
@@ -56,7 +54,7 @@ module _ {S C : Type 0} (m : Meaning S C) (old new : WorldView C) (e : Event C) 
         represents = t.represents;
         world = record {
           servers = subst (λ l. AllZip (Represents m) l next.servers) (sym servers) (zip_set (Represents m) old.servers w.servers i h2 t.turn.server st.servers t.represents);
-          sent = subst (λ l. AllZip (FrameCarries m) l next.sent) (sym sent) (zip_append (FrameCarries m) old.sent w.sent frames t.turn.sent st.sent carried);
+          sent = subst (λ l. AllZip (FrameCarries m) l next.sent) (sym t.sent.added) (zip_append (FrameCarries m) old.sent w.sent t.sent.frames t.turn.sent st.sent t.sent.carry);
         };
       }
 

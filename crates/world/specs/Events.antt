@@ -17,7 +17,7 @@ abbrev pub event_of : {S C : Type 0} → RaftEvent S C → Event C
 event_of (events.Deliver k) = Deliver (place_of k)
 event_of (events.Timeout i) = TimesOut i
 event_of (events.Beat i) = Beats i
-event_of (events.Propose i command) = Proposes i command
+event_of (events.Propose i command) = Proposes i command.value
 event_of (events.Crash i) = Crashes i
 event_of (events.Restart i) = Restarts i
 

@@ -18,8 +18,9 @@ pub enum RaftEvent<M: Machine> {
     /// A server's heartbeat timer ends: a leader sends to each other server the entries that it may
     /// lack. (Raft, section 5.2.)
     Beat(ServerId),
-    /// A command is proposed to a server. (Raft, section 5.3.)
-    Propose(ServerId, M::Command),
+    /// A command is proposed to a server. (Raft, section 5.3.) It stands apart, so that the other
+    /// events cost no more than two words.
+    Propose(ServerId, Box<M::Command>),
     /// A server stops, and keeps what it stores.
     Crash(ServerId),
     /// A server that is down starts again from what it stores.
@@ -49,15 +50,16 @@ pub(crate) fn command_again<M: Machine>(
 impl<M: Machine> RaftEvent<M> {
     /// The same event.
     pub(crate) fn again(&self, alloc: Global) -> Result<RaftEvent<M>, NoMemory>
-        ensures { IfOk result (λ again. (again ≡ self.now) × IsEvent M.meaning (event_of again)) }
+        ensures { IfOk result (λ again. (event_of again ≡ event_of self.now)
+            × IsEvent M.meaning (event_of again)) }
     {
         match self {
             RaftEvent::Deliver(k) => Ok(RaftEvent::Deliver(*k)),
             RaftEvent::Timeout(server) => Ok(RaftEvent::Timeout(*server)),
             RaftEvent::Beat(server) => Ok(RaftEvent::Beat(*server)),
             RaftEvent::Propose(server, command) => {
-                let command = command_again::<M>(alloc, command)?;
-                Ok(RaftEvent::Propose(*server, command))
+                let command = command_again::<M>(alloc, command.as_ref())?;
+                Ok(RaftEvent::Propose(*server, Box::new(alloc, command)?))
             }
             RaftEvent::Crash(server) => Ok(RaftEvent::Crash(*server)),
             RaftEvent::Restart(server) => Ok(RaftEvent::Restart(*server)),

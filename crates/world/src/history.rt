@@ -1,5 +1,5 @@
 //! What is kept beside the servers of a group, and what one event changes.
-ghost use Rattle.std.specs.Prelude.{◌≡◌, ◌++◌, ◌+◌, ◌≤◌, max, length, vec_len, vec_capacity, []};
+ghost use Rattle.std.specs.Prelude.{◌≡◌, max, []};
 ghost use Rattle.raft_model.specs.Servers.{Server};
 ghost use Rattle.raft_core.specs.Steps.{Represents};
 ghost use Rattle.world.specs.Events.{event_of, events_of};
@@ -8,20 +8,22 @@ ghost use Rattle.world.specs.Inner.Parts.{IsFor, PartDone};
 
 use crate::done::Done;
 use crate::event::RaftEvent;
-use crate::input::hand;
+use crate::input::{copy_frame, hand};
 use machine::Machine;
 use raft_core::Raft;
 use rows::{Index, Refusal, ServerId};
 use std::alloc::Global;
 use std::marker::Model;
-use wire::{Frame, Outbox};
+use wire::Frames;
 
 /// All messages that were ever sent among the servers, all events that happened, and the greatest
 /// number of entries that any server has applied.
 #[derive(Drop)]
 pub(crate) struct History<M: Machine> {
     alloc: Global,
-    sent: Vec<Frame>,
+    sent: Frames,
+    // The frame that is delivered, apart from the others, to which its receiver adds.
+    delivered: Vec<u8>,
     trace: Vec<RaftEvent<M>>,
     chain: Index,
 }
@@ -32,7 +34,7 @@ impl<M: Machine> Model for History<M> {
 
     ghost Value = { HistoryView M.Command };
 
-    ghost view = { λ a. record { sent = a.sent.items; trace = events_of a.trace.items; chain = a.chain } };
+    ghost view = { λ a. record { sent = a.sent; trace = events_of a.trace.items; chain = a.chain } };
 }
 
 /// The greater of the chain so far and what a server has applied.
@@ -46,18 +48,6 @@ fn longer<M: Machine>(chain: Index, raft: &Raft<M>) -> Index
     }
 }
 
-/// Moves frames to the end of those that were sent, where room was made for them.
-fn keep_frames(sent: &mut Vec<Frame>, outbox: Outbox)
-    requires { vec_len sent.old + length outbox ≤ vec_capacity sent.old }
-    ensures { sent.new.items ≡ sent.old.items ++ outbox }
-{
-    let mut frames = outbox.into_frames();
-    match sent.append(&mut frames) {
-        Ok(()) => {}
-        Err(_) => unreachable!(),
-    }
-}
-
 impl<M: Machine> History<M> {
     /// Before the first event.
     pub(crate) fn new(alloc: Global) -> History<M>
@@ -65,13 +55,14 @@ impl<M: Machine> History<M> {
     {
         History {
             alloc,
-            sent: Vec::new(alloc),
+            sent: Frames::new(alloc),
+            delivered: Vec::new(alloc),
             trace: Vec::new(alloc),
             chain: Index::ZERO,
         }
     }
 
-    pub(crate) fn sent(&self) -> &[Frame]
+    pub(crate) fn sent(&self) -> &Frames
         ensures { result.now ≡ self.now.sent }
     {
         &self.sent
@@ -89,31 +80,26 @@ impl<M: Machine> History<M> {
         self.chain
     }
 
-    /// A server of a group of this size takes an event, and what it sends is kept. Where it finds
-    /// no memory, its crash is kept instead; where there is none to keep what is sent, nothing
-    /// happens.
+    /// A server takes an event, and what it sends is put behind what was sent. Where it finds no
+    /// memory, its crash is kept instead; where there is none to keep the event, nothing happens.
     pub(crate) fn take(
         &mut self,
         raft: &mut Raft<M>,
-        size: usize,
         server: ServerId,
         event: RaftEvent<M>,
     ) -> Result<Done, Refusal>
-        requires group { raft.old.size ≡ size }
-        requires event { IsFor M.meaning raft.old self.old.sent (event_of event) }
+        requires { IsFor M.meaning raft.old self.old.sent (event_of event) }
         ensures same { (raft.new.me ≡ raft.old.me) × (raft.new.size ≡ raft.old.size) }
         ensures done { PartDone M.meaning raft.old self.old (event_of event) server result raft.new
             self.new }
     {
         self.trace.reserve(1)?;
-        self.sent.reserve(size)?;
+        copy_frame(&self.sent, &event, &mut self.delivered)?;
         let input = event.again(self.alloc)?;
-        let mut outbox = Outbox::new(self.alloc);
-        match hand(raft, &self.sent, input, &mut outbox) {
+        match hand(raft, &self.delivered, input, &mut self.sent) {
             Ok(()) => {
                 self.chain = longer(self.chain, raft);
                 self.trace.push_reserved(event);
-                keep_frames(&mut self.sent, outbox);
                 Ok(Done::Taken)
             }
             Err(refusal) => match refusal {

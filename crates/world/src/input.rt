@@ -1,5 +1,4 @@
-ghost use Rattle.std.specs.Prelude.{◌≡◌, IfSome, IfNone, OnOk, IfErr, OnSome, List, slice_get};
-ghost use Rattle.std.specs.Option.{option_copied};
+ghost use Rattle.std.specs.Prelude.{◌≡◌, IfSome, IfNone, OnOk, OnErr, IfErr, OnSome, List, slice_get};
 ghost use Rattle.rows.specs.declared.refusal.Refusal.TheVariants as refusals;
 ghost use Rattle.wire.specs.Frames.{Frame};
 ghost use Rattle.raft_model.specs.Servers.{Server};
@@ -9,26 +8,27 @@ ghost use Rattle.raft_core.specs.Inputs.{Own};
 ghost use Rattle.raft_core.specs.Steps.{Represents, Takes};
 ghost use Rattle.raft_core.specs.Refusals.{IsRefused};
 ghost use Rattle.world.specs.Events.{place_of, event_of};
-ghost use Rattle.world.specs.Inner.Inputs.{ActsIn, NobodyActsIn, IsSent, Leaves, handed_by};
+ghost use Rattle.world.specs.Inner.Inputs.{ActsIn, NobodyActsIn, IsSent, HasFrame, Leaves, handed_by};
 
 use crate::event::RaftEvent;
 use machine::Machine;
 use raft_core::{Input, Raft};
-use rows::{Actor, Refusal, ServerId};
-use wire::{Frame, Outbox};
+use rows::{Actor, NoMemory, Refusal, ServerId};
+use wire::{Frame, Frames};
 
 /// The k-th frame, from 1.
-fn frame_at(sent: &[Frame], k: u64) -> Option<&Frame>
-    ensures { option_copied result ≡ slice_get sent.now (place_of k) }
+fn frame_at(sent: &Frames, k: u64) -> Option<Frame<'_>>
+    ensures { result ≡ slice_get sent.now (place_of k) }
 {
-    if k == 0 || k > sent.len() as u64 {
+    let count = sent.len() as u64;
+    if k == 0 || k > count {
         return None;
     }
     sent.get((k - 1) as usize)
 }
 
 /// The server that is to receive the k-th message; none where there is no such message.
-fn receiver<M: Machine>(sent: &[Frame], k: u64) -> Option<ServerId>
+fn receiver<M: Machine>(sent: &Frames, k: u64) -> Option<ServerId>
     ensures some { IfSome result (λ i. ActsIn M.meaning sent.now (Deliver (place_of k)) i) }
     ensures sent { OnSome result (IsSent {C = M.Command} sent.now (Deliver (place_of k))) }
     ensures none { IfNone result
@@ -41,7 +41,7 @@ fn receiver<M: Machine>(sent: &[Frame], k: u64) -> Option<ServerId>
 }
 
 /// The server that takes the event; none where there is no such message.
-pub(crate) fn actor<M: Machine>(sent: &[Frame], event: &RaftEvent<M>) -> Option<ServerId>
+pub(crate) fn actor<M: Machine>(sent: &Frames, event: &RaftEvent<M>) -> Option<ServerId>
     ensures some { IfSome result (λ i. ActsIn M.meaning sent.now (event_of event.now) i) }
     ensures sent { OnSome result (IsSent sent.now (event_of event.now)) }
     ensures none { IfNone result
@@ -81,34 +81,55 @@ fn propose<M: Machine>(raft: &mut Raft<M>, command: M::Command) -> Result<(), Re
     }
 }
 
-/// A server takes what an event hands to it.
-pub(crate) fn hand<M: Machine>(
-    raft: &mut Raft<M>,
-    sent: &[Frame],
-    event: RaftEvent<M>,
-    outbox: &mut Outbox,
-) -> Result<(), Refusal>
-    requires { IsSent sent.now (event_of event) }
-    ensures same { (raft.new.me ≡ raft.old.me) × (raft.new.size ≡ raft.old.size) }
-    ensures taken { OnOk result ((s : Server M.Command) → Represents M.meaning raft.old s →
-        Takes M.meaning raft.old s (handed_by sent.now (event_of event)) raft.new outbox.old outbox.new) }
-    ensures refused { IfErr result (λ cause. (s : Server M.Command) →
-        Represents M.meaning raft.old s →
-        IsRefused M.meaning raft.old.size raft.old.me s (handed_by sent.now (event_of event)) cause) }
-    ensures left { IfErr result (λ cause. (s : Server M.Command) → Represents M.meaning raft.old s →
-        Leaves M.meaning raft.old s (handed_by sent.now (event_of event)) cause raft.new) }
+/// Copies the frame that an event delivers.
+pub(crate) fn copy_frame<M: Machine>(
+    sent: &Frames,
+    event: &RaftEvent<M>,
+    frame: &mut Vec<u8>,
+) -> Result<(), NoMemory>
+    ensures { OnOk result (HasFrame sent.now (event_of event.now) frame.new.items) }
 {
     match event {
         RaftEvent::Deliver(k) => {
-            let Some(frame) = frame_at(sent, k) else {
-                unreachable!()
-            };
-            raft.step(Input::Frame(frame.bytes()), outbox)
+            frame.clear();
+            if let Some(found) = frame_at(sent, *k) {
+                frame.extend_from_slice(found.bytes())?;
+            }
+            Ok(())
         }
-        RaftEvent::Timeout(_) => raft.step(Input::Timeout, outbox),
-        RaftEvent::Beat(_) => raft.step(Input::Beat, outbox),
-        RaftEvent::Propose(_, command) => propose(raft, command),
-        RaftEvent::Crash(_) => raft.step(Input::Crash, outbox),
-        RaftEvent::Restart(_) => raft.step(Input::Restart, outbox),
+        RaftEvent::Timeout(_) => Ok(()),
+        RaftEvent::Beat(_) => Ok(()),
+        RaftEvent::Propose(_, _) => Ok(()),
+        RaftEvent::Crash(_) => Ok(()),
+        RaftEvent::Restart(_) => Ok(()),
+    }
+}
+
+/// A server takes what an event hands to it, of which `frame` is the frame, if it delivers one. What
+/// the server sends is put behind what was sent.
+pub(crate) fn hand<M: Machine>(
+    raft: &mut Raft<M>,
+    frame: &[u8],
+    event: RaftEvent<M>,
+    sent: &mut Frames,
+) -> Result<(), Refusal>
+    requires { HasFrame sent.old (event_of event) frame.now }
+    ensures same { (raft.new.me ≡ raft.old.me) × (raft.new.size ≡ raft.old.size) }
+    ensures taken { OnOk result ((s : Server M.Command) → Represents M.meaning raft.old s →
+        Takes M.meaning raft.old s (handed_by sent.old (event_of event)) raft.new sent.old sent.new) }
+    ensures unsent { OnErr result (sent.new ≡ sent.old) }
+    ensures refused { IfErr result (λ cause. (s : Server M.Command) →
+        Represents M.meaning raft.old s →
+        IsRefused M.meaning raft.old.size raft.old.me s (handed_by sent.old (event_of event)) cause) }
+    ensures left { IfErr result (λ cause. (s : Server M.Command) → Represents M.meaning raft.old s →
+        Leaves M.meaning raft.old s (handed_by sent.old (event_of event)) cause raft.new) }
+{
+    match event {
+        RaftEvent::Deliver(_) => raft.step(Input::Frame(frame), sent),
+        RaftEvent::Timeout(_) => raft.step(Input::Timeout, sent),
+        RaftEvent::Beat(_) => raft.step(Input::Beat, sent),
+        RaftEvent::Propose(_, command) => propose(raft, Box::into_inner(command)),
+        RaftEvent::Crash(_) => raft.step(Input::Crash, sent),
+        RaftEvent::Restart(_) => raft.step(Input::Restart, sent),
     }
 }

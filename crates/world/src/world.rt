@@ -21,7 +21,7 @@ use raft_safety::{log_matching, one_leader_a_term, one_list, states_are_safe, wi
 use rows::{Index, NoMemory, Refusal, ServerId};
 use std::alloc::Global;
 use std::marker::Model;
-use wire::{Frame, frames_are_whole};
+use wire::{Frames, frames_are_whole};
 
 /// A group of 3 or 5 servers that replicate the machine `M`, all messages that were ever sent among
 /// them, and all events that happened.
@@ -88,9 +88,8 @@ impl<M: Machine> RaftWorld<M> {
         // A frame that a server of the group sent is not refused for its bytes.
         frames_are_whole::<M>();
         within_limits::<M>();
-        let size = self.servers.len();
         let raft = &mut self.servers[server.place()];
-        self.history.take(raft, size, server, event)
+        self.history.take(raft, server, event)
     }
 
     /// An event happens, if its actor is there and up.
@@ -265,7 +264,7 @@ impl<M: Machine> RaftWorld<M> {
     }
 
     /// All frames that were ever sent, in order.
-    pub fn sent(&self) -> &[Frame]
+    pub fn sent(&self) -> &Frames
         ensures { result.now ≡ self.now.sent }
     {
         self.history.sent()

@@ -17,7 +17,7 @@ use crate::role::Role;
 use crate::sending::send;
 use machine::{Coded, Entry, Machine};
 use rows::{Index, NoMemory, ServerId, Term};
-use wire::{Append, AppendHead, AppendReply, Body, Outbox};
+use wire::{Append, AppendHead, AppendReply, Body, Frames};
 
 impl<M: Machine> Raft<M> {
     /// It follows the sender of an Append or of a snapshot, in the sender's term.
@@ -36,7 +36,7 @@ impl<M: Machine> Raft<M> {
         &mut self,
         from: ServerId,
         head: &AppendHead,
-        outbox: &mut Outbox,
+        outbox: &mut Frames,
     ) -> Result<(), NoMemory>
         requires up { is_up self.old.server.mode ≡ true }
         requires other { from ≢ self.old.me }
@@ -73,7 +73,7 @@ impl<M: Machine> Raft<M> {
         from: ServerId,
         head: &AppendHead,
         entries: Vec<Entry<Coded<M>>>,
-        outbox: &mut Outbox,
+        outbox: &mut Frames,
     ) -> Result<(), NoMemory>
         requires up { is_up self.old.server.mode ≡ true }
         requires other { from ≢ self.old.me }
@@ -88,10 +88,6 @@ impl<M: Machine> Raft<M> {
         ensures kept { OnOk result (KeepsAhead self.old self.new) }
         ensures lost { OnErr result (Lost self.old self.new outbox.old outbox.new) }
     {
-        // From here on an early return leaves the server down.
-        let Some(mut machine) = self.machine.take() else {
-            unreachable!()
-        };
         self.ahead = None;
         let Some(reached) = Index::new(head.prev_index.get() + entries.len() as u64) else {
             unreachable!()
@@ -107,20 +103,24 @@ impl<M: Machine> Raft<M> {
         let Some(risen) = Index::new(commit.max(head.commit.get().min(reached.get()))) else {
             unreachable!()
         };
+        let Some(machine) = &mut self.machine else {
+            unreachable!()
+        };
         // The one change of the log comes last, and is whole or not at all.
-        adopt(
-            &mut self.log,
-            &mut machine,
-            commit,
-            risen.get(),
-            head.prev_index.get(),
-            entries,
-        )?;
-        self.commit = risen;
-        self.role = Role::Follower;
-        self.machine = Some(machine);
-        self.follow(from, head.term);
-        Ok(())
+        let prev = head.prev_index.get();
+        match adopt(&mut self.log, machine, commit, risen.get(), prev, entries) {
+            Ok(()) => {
+                self.commit = risen;
+                self.role = Role::Follower;
+                self.follow(from, head.term);
+                Ok(())
+            }
+            Err(lacking) => {
+                // The machine may have been brought on in part: the server is down.
+                self.machine = None;
+                Err(lacking)
+            }
+        }
     }
 
     /// Entries come, or none: a leader is heard of.
@@ -128,7 +128,7 @@ impl<M: Machine> Raft<M> {
         &mut self,
         from: ServerId,
         message: Append<M>,
-        outbox: &mut Outbox,
+        outbox: &mut Frames,
     ) -> Result<(), NoMemory>
         requires up { is_up self.old.server.mode ≡ true }
         requires other { from ≢ self.old.me }

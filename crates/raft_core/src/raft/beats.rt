@@ -15,7 +15,7 @@ use crate::log::term_at;
 use crate::role::Role;
 use machine::{Coded, Entry, Machine};
 use rows::{Index, NoMemory, ServerId, Term};
-use wire::{AppendHead, Outbox};
+use wire::{AppendHead, Frames};
 
 /// The entries behind an index, at most 32: no Append has more.
 fn entries_behind<M: Machine>(log: &[Entry<Coded<M>>], index: u64) -> &[Entry<Coded<M>>]
@@ -30,7 +30,7 @@ fn entries_behind<M: Machine>(log: &[Entry<Coded<M>>], index: u64) -> &[Entry<Co
 /// Sends another server the entries of the log from index `next` on, at most 32.
 #[tactic(auto, using(crate::proofs::Sends::may_go_between))]
 fn send_from<M: Machine>(
-    outbox: &mut Outbox,
+    outbox: &mut Frames,
     me: ServerId,
     to: ServerId,
     term: Term,
@@ -60,7 +60,7 @@ fn send_from<M: Machine>(
 
 /// Sends all others the entries from their next indexes on, in rising number.
 fn send_to_others<M: Machine>(
-    outbox: &mut Outbox,
+    outbox: &mut Frames,
     me: ServerId,
     term: Term,
     commit: Index,
@@ -86,7 +86,7 @@ fn send_to_others<M: Machine>(
 
 impl<M: Machine> Raft<M> {
     /// A leader sends to each other server; others send nothing, and take no memory.
-    pub(super) fn beat(&self, outbox: &mut Outbox) -> Result<(), NoMemory>
+    pub(super) fn beat(&self, outbox: &mut Frames) -> Result<(), NoMemory>
         requires { is_up self.now.server.mode ≡ true }
         ensures taken { OnOk result
             (Turned M.meaning self.now self.now outbox.old outbox.new

@@ -16,7 +16,7 @@ use super::Raft;
 use crate::watch::Watch;
 use machine::Machine;
 use rows::{Actor, NoMemory, Refusal, ServerId};
-use wire::{Body, Message, Outbox, read_message};
+use wire::{Body, Frames, Message, read_message};
 
 impl<M: Machine> Raft<M> {
     /// A message of another server of the group is taken.
@@ -24,7 +24,7 @@ impl<M: Machine> Raft<M> {
         &mut self,
         from: ServerId,
         body: Body<M>,
-        outbox: &mut Outbox,
+        outbox: &mut Frames,
         watch: &mut W,
     ) -> Result<(), NoMemory>
         requires up { is_up self.old.server.mode ≡ true }
@@ -76,7 +76,7 @@ impl<M: Machine> Raft<M> {
     fn message<W: Watch<M>>(
         &mut self,
         message: Message<M>,
-        outbox: &mut Outbox,
+        outbox: &mut Frames,
         watch: &mut W,
     ) -> Result<(), Refusal>
         requires { is_up self.old.server.mode ≡ true }
@@ -108,7 +108,7 @@ impl<M: Machine> Raft<M> {
     pub fn receive_message<W: Watch<M>>(
         &mut self,
         message: Message<M>,
-        outbox: &mut Outbox,
+        outbox: &mut Frames,
         watch: &mut W,
     ) -> Result<(), Refusal>
         ensures same { (self.new.me ≡ self.old.me) × (self.new.size ≡ self.old.size) }
@@ -150,7 +150,7 @@ impl<M: Machine> Raft<M> {
     pub(super) fn frame<W: Watch<M>>(
         &mut self,
         bytes: &[u8],
-        outbox: &mut Outbox,
+        outbox: &mut Frames,
         watch: &mut W,
     ) -> Result<(), Refusal>
         requires { is_up self.old.server.mode ≡ true }

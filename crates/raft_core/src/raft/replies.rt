@@ -89,25 +89,32 @@ impl<M: Machine> Raft<M> {
             Role::Follower => Ok(()),
             Role::Candidate => Ok(()),
             Role::Leader => {
-                // From here on an early return leaves the server down.
-                let Some(mut machine) = self.machine.take() else {
-                    unreachable!()
-                };
-                let ahead = self.ahead.take();
                 let last = self.log.len() as u64;
                 learn(&mut self.next, &mut self.matched, last, from, ok, at);
-                self.commit = advance(
-                    &mut machine,
+                let Some(machine) = &mut self.machine else {
+                    unreachable!()
+                };
+                let (commit, term) = (self.commit, self.term);
+                match advance(
+                    machine,
                     self.me,
-                    self.commit,
-                    self.term,
+                    commit,
+                    term,
                     &self.log,
                     &self.matched,
                     watch,
-                )?;
-                self.machine = Some(machine);
-                self.ahead = ahead;
-                Ok(())
+                ) {
+                    Ok(risen) => {
+                        self.commit = risen;
+                        Ok(())
+                    }
+                    Err(lacking) => {
+                        // The machine may have been brought on in part: the server is down.
+                        self.machine = None;
+                        self.ahead = None;
+                        Err(lacking)
+                    }
+                }
             }
         }
     }

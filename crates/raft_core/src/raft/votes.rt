@@ -19,7 +19,7 @@ use crate::role::Role;
 use crate::sending::send;
 use machine::{Coded, Entry, Machine};
 use rows::{Index, NoMemory, Refusal, ServerId, Term};
-use wire::{Body, Outbox, VoteReply, VoteRequest};
+use wire::{Body, Frames, VoteReply, VoteRequest};
 
 /// The server at a place, from 0.
 pub(super) fn server_at(place: usize) -> ServerId
@@ -60,7 +60,7 @@ fn ask<M: Machine>(
     me: ServerId,
     size: usize,
     request: &VoteRequest,
-    outbox: &mut Outbox,
+    outbox: &mut Frames,
 ) -> Result<(), NoMemory>
     requires { size ≤ 5 }
     ensures ok { OnOk result (Sends M.meaning outbox.old outbox.new
@@ -117,7 +117,7 @@ impl<M: Machine> Raft<M> {
         &mut self,
         from: ServerId,
         request: &VoteRequest,
-        outbox: &mut Outbox,
+        outbox: &mut Frames,
     ) -> Result<(), NoMemory>
         requires up { is_up self.old.server.mode ≡ true }
         requires other { from ≢ self.old.me }
@@ -213,7 +213,7 @@ impl<M: Machine> Raft<M> {
     }
 
     /// It stands in the next term, with its own vote, and asks all others for theirs.
-    pub(super) fn stand(&mut self, outbox: &mut Outbox) -> Result<(), NoMemory>
+    pub(super) fn stand(&mut self, outbox: &mut Frames) -> Result<(), NoMemory>
         requires up { is_up self.old.server.mode ≡ true }
         requires term { self.old.server.term + 1 < 2 ^ 40 }
         requires room { length self.old.server.log + 1 < 2 ^ 40 }
@@ -246,7 +246,7 @@ impl<M: Machine> Raft<M> {
     }
 
     /// It has heard of no leader: unless it leads, it stands for election.
-    pub(super) fn timeout(&mut self, outbox: &mut Outbox) -> Result<(), Refusal>
+    pub(super) fn timeout(&mut self, outbox: &mut Frames) -> Result<(), Refusal>
         requires { is_up self.old.server.mode ≡ true }
         ensures same { (self.new.me ≡ self.old.me) × (self.new.size ≡ self.old.size) }
         ensures taken { OnOk result (

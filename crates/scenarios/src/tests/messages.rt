@@ -4,7 +4,7 @@ use crate::tests::frames::{APPEND, GRANTED, REPLY, VOTE};
 use machine::{Coded, Entry, Tally, TallyCommand};
 use rows::{Actor, Index, ServerId};
 use std::alloc::Global;
-use wire::{Append, AppendHead, Body, Frame, Kind, Message, Outbox, read_message};
+use wire::{Append, AppendHead, Body, Frames, Kind, Message, read_message};
 
 /// A message: its kind, its sender and its receiver; its numbers in the order of its frame, 1 for a
 /// yes; its entries, each with its term and with what it adds, 0 for the no-op; and its frame.
@@ -24,15 +24,16 @@ const MESSAGES: &[Row] = &[
     (Kind::AppendReply, 2, 1, [3, 2, 1, 5], &[], REPLY),
 ];
 
-// What the outbox has at the end: the Append is sent from its parts too, and then comes an empty
-// frame.
+// What the outbox has at the end: the Append is sent from its parts too, and a frame that is cut
+// away again leaves its place to the last one.
 const SENT: &[(u8, &[u8])] = &[
     (2, VOTE),
     (2, APPEND),
     (2, APPEND),
     (1, GRANTED),
     (1, REPLY),
-    (5, &[]),
+    (2, VOTE),
+    (1, REPLY),
 ];
 
 fn numbers_of(body: &Body<Tally>) -> [u64; 4] {
@@ -128,7 +129,7 @@ fn put_together(body: Body<Tally>) -> Option<Body<Tally>> {
     }
 }
 
-fn send(outbox: &mut Outbox, from: Actor, to: Actor, body: Body<Tally>) -> bool {
+fn send(outbox: &mut Frames, from: Actor, to: Actor, body: Body<Tally>) -> bool {
     match Message::new(from, to, body) {
         Some(message) => outbox.send(&message).is_ok(),
         None => false,
@@ -136,7 +137,7 @@ fn send(outbox: &mut Outbox, from: Actor, to: Actor, body: Body<Tally>) -> bool 
 }
 
 /// Sends the message of a frame, put together anew.
-fn sends(outbox: &mut Outbox, alloc: Global, frame: &[u8]) -> bool {
+fn sends(outbox: &mut Frames, alloc: Global, frame: &[u8]) -> bool {
     let Ok(message) = read_message::<Tally>(alloc, frame) else {
         return false;
     };
@@ -154,7 +155,7 @@ fn server_of(actor: Actor) -> Option<ServerId> {
     }
 }
 
-fn send_parts(outbox: &mut Outbox, from: Actor, to: Actor, append: &Append<Tally>) -> bool {
+fn send_parts(outbox: &mut Frames, from: Actor, to: Actor, append: &Append<Tally>) -> bool {
     let Some(from) = server_of(from) else {
         return false;
     };
@@ -169,7 +170,7 @@ fn send_parts(outbox: &mut Outbox, from: Actor, to: Actor, append: &Append<Tally
 }
 
 /// Sends the `Append` of a frame from its parts, and no other message.
-fn sends_parts(outbox: &mut Outbox, alloc: Global, frame: &[u8]) -> bool {
+fn sends_parts(outbox: &mut Frames, alloc: Global, frame: &[u8]) -> bool {
     let Ok(message) = read_message::<Tally>(alloc, frame) else {
         return false;
     };
@@ -193,14 +194,7 @@ fn is_too_far(alloc: Global, frame: &[u8], index: u64) -> bool {
     }
 }
 
-fn push(outbox: &mut Outbox, alloc: Global) -> bool {
-    match ServerId::from_number(5) {
-        Some(server) => outbox.push(Actor::Server(server), Vec::new(alloc)).is_ok(),
-        None => false,
-    }
-}
-
-fn fill(outbox: &mut Outbox, alloc: Global) -> bool {
+fn fill(outbox: &mut Frames, alloc: Global) -> bool {
     let mut sent = true;
     for row in MESSAGES {
         sent = sent
@@ -208,24 +202,28 @@ fn fill(outbox: &mut Outbox, alloc: Global) -> bool {
             && sends_parts(outbox, alloc, row.5)
             && sends(outbox, alloc, row.5);
     }
-    sent && push(outbox, alloc) && push(outbox, alloc) && outbox.len() == 7
+    sent && sends(outbox, alloc, VOTE) && sends(outbox, alloc, GRANTED) && outbox.len() == 7
 }
 
-fn is_filled(frames: &[Frame]) -> bool {
-    for (frame, (to, bytes)) in frames.iter().zip(SENT) {
+fn is_filled(outbox: &Frames) -> bool {
+    for (at, (to, bytes)) in SENT.iter().enumerate() {
+        let Some(frame) = outbox.get(at) else {
+            return false;
+        };
         if !is_server(frame.to(), *to) || frame.bytes() != *bytes {
             return false;
         }
     }
-    frames.len() == SENT.len()
+    outbox.len() == SENT.len() && outbox.get(SENT.len()).is_none()
 }
 
 #[test]
 fn says_and_hears(rt: HostRuntime) {
-    let mut outbox = Outbox::new(rt.alloc());
+    let mut outbox = Frames::new(rt.alloc());
     assert!(rt; fill(&mut outbox, rt.alloc()));
     outbox.truncate(6);
-    assert!(rt; is_filled(&outbox.into_frames()));
+    assert!(rt; sends(&mut outbox, rt.alloc(), REPLY));
+    assert!(rt; is_filled(&outbox));
     // The second entry's index would be 2^40.
     assert!(rt; is_too_far(rt.alloc(), APPEND, 1_099_511_627_774));
 }

@@ -4,7 +4,7 @@ use machine::{Amount, Machine, Tally, TallyCommand};
 use raft_core::{Input, NoProjection, Raft, Role, Stable};
 use rows::{Actor, Refusal, ServerId};
 use std::alloc::Global;
-use wire::Outbox;
+use wire::Frames;
 
 /// A frame: its kind (1 a vote request, 2 a vote reply, 3 an Append, 4 the answer to one), its
 /// sender, its receiver and the length of its body; the numbers that the body begins with, and the
@@ -547,7 +547,7 @@ pub(super) fn propose(raft: &mut Raft<Tally>, number: u16) -> (u8, usize) {
 }
 
 /// Acts on a server, all but `Reload`, which does nothing here.
-fn perform(raft: &mut Raft<Tally>, act: &Act, bytes: &[u8], sent: &mut Outbox) -> (u8, usize) {
+fn perform(raft: &mut Raft<Tally>, act: &Act, bytes: &[u8], sent: &mut Frames) -> (u8, usize) {
     let input = match act {
         Timeout => Input::Timeout,
         Beat => Input::Beat,
@@ -593,19 +593,22 @@ fn shown(raft: &Raft<Tally>) -> [u64; 5] {
     ]
 }
 
-fn is_sent(sent: &Outbox, frames: &[Frame], bytes: &mut Vec<u8>) -> bool {
-    for (frame, wanted) in sent.frames().iter().zip(frames) {
+fn is_sent(sent: &Frames, frames: &[Frame], bytes: &mut Vec<u8>) -> bool {
+    for (at, wanted) in frames.iter().enumerate() {
+        let Some(frame) = sent.get(at) else {
+            return false;
+        };
         let same = put_frame(bytes, wanted) && frame.bytes() == bytes.as_slice();
         if !same || !matches!(frame.to(), Actor::Server(to) if to.number() == wanted.2) {
             return false;
         }
     }
-    sent.len() >= frames.len()
+    true
 }
 
 fn holds(raft: &mut Raft<Tally>, alloc: Global, turn: &Turn) -> bool {
     let (act, answer, state, count, frames) = *turn;
-    let mut sent = Outbox::new(alloc);
+    let mut sent = Frames::new(alloc);
     let mut bytes = Vec::new(alloc);
     let heard = match act {
         Hear(frame) => put_frame(&mut bytes, &frame),

@@ -10,7 +10,7 @@ use raft_core::{Input, Raft, Stable, Watch};
 use rows::{NoMemory, Refusal, ServerId, Term};
 use std::alloc::Global;
 use std::marker::Model;
-use wire::{Outbox, read_message};
+use wire::{Frames, read_message};
 
 /// A watcher that writes down four numbers an entry: the leader's term and the entry's, and the
 /// count and the sum of the state that it left.
@@ -112,7 +112,7 @@ fn hear(
     raft: &mut Raft<Tally>,
     alloc: Global,
     bytes: &[u8],
-    sent: &mut Outbox,
+    sent: &mut Frames,
     diary: &mut Diary,
 ) -> Result<(), Refusal> {
     raft.receive_message(read_message(alloc, bytes)?, sent, diary)
@@ -127,7 +127,7 @@ fn perform(
     bytes: &[u8],
     diary: &mut Diary,
 ) -> (u8, usize) {
-    let mut sent = Outbox::new(alloc);
+    let mut sent = Frames::new(alloc);
     let input = match act {
         Timeout => Input::Timeout,
         Beat => Input::Beat,

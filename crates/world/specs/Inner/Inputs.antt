@@ -39,6 +39,11 @@ abbrev pub bytes_of : Option Frame → List ℕ
 bytes_of None = []
 bytes_of (Some frame) = frame.bytes
 
+-- the bytes are those of the frame that the event delivers, if it delivers one
+abbrev pub HasFrame : {C : Type 0} → List Frame → Event C → List ℕ → Type 0
+HasFrame sent (Deliver k) bytes = bytes ≡ bytes_of (slice_get sent k)
+HasFrame sent _ bytes = Unit {0}
+
 -- what is handed to the server that takes the event
 abbrev pub handed_by : {C : Type 0} → List Frame → Event C → Handed C
 handed_by sent (Deliver k) = Bytes (bytes_of (slice_get sent k))

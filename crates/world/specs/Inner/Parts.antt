@@ -28,9 +28,7 @@ module _ {S C : Type 0} (m : Meaning S C) (raft : RaftView C) (past : HistoryVie
   -- the server took it
   pub record PartTaken (after : RaftView C) (now : HistoryView C) : Type 0 where
     pub event : IsEvent m e
-    pub frames : List Frame
-    pub taken : (s : Server C) → Represents m raft s → Takes m raft s (handed_by past.sent e) after [] frames
-    pub sent : now.sent ≡ past.sent ++ frames
+    pub taken : (s : Server C) → Represents m raft s → Takes m raft s (handed_by past.sent e) after past.sent now.sent
     pub trace : now.trace ≡ past.trace ++ e ∷ []
     pub chain : (s : Server C) → Represents m after s → now.chain ≡ max past.chain (committed s)
 

@@ -3,8 +3,10 @@ use Rattle.raft_core.specs.Inputs.{Bytes, Own}
 use Rattle.world.proofs.Refused.{step_leaves}
 use Rattle.world.proofs.input.hand.Goals as goal
 
-pub returns-in-Some-clause-left : goal.returns-in-Some-clause-left
-returns-in-Some-clause-left g c = rw (c.in-Deliver.is, ← c.in-Some.ensures, ← c.bytes.ensures) (step_leaves g.M.Machine.meaning c.args.raft.now (Bytes c.bytes.result.now) c.step.new.self c.step.result c.step.ensures.left)
+pub returns-in-Deliver-clause-left : goal.returns-in-Deliver-clause-left
+returns-in-Deliver-clause-left g c =
+    let here = rw c.in-Deliver.is at c.requires in
+    rw (c.in-Deliver.is, ← here) (step_leaves g.M.Machine.meaning c.args.raft.now (Bytes c.args.frame.now) c.step.new.self c.step.result c.step.ensures.left)
 
 pub returns-in-Timeout-clause-left : goal.returns-in-Timeout-clause-left
 returns-in-Timeout-clause-left g c = rw c.in-Timeout.is (step_leaves g.M.Machine.meaning c.args.raft.now (Own Timeout) c.step-in-Timeout.new.self c.step-in-Timeout.result c.step-in-Timeout.ensures.left)

@@ -2,15 +2,15 @@ use Rattle.std.proofs.Common.{◌≡◌, ◌+◌, false, length, arith}
 use Rattle.raft_core.proofs.Follows.{accepts}
 use Rattle.raft_core.proofs.raft.Raft.accept_append.Goals as goal
 
-pub returns-clause-taken : goal.returns-clause-taken
-returns-clause-taken g c =
+pub returns-in-Ok-clause-taken : goal.returns-in-Ok-clause-taken
+returns-in-Ok-clause-taken g c =
     let m = g.M.Machine.meaning in
     let a = c.args in
-    let old-is = rw (← c.in-Some.ensures.value) at c.self.view_is in
+    let old-is = rw c.in-Some-machine.is at c.self.view_is in
     let later = rw (← old-is) at c.requires.later in
     let held = rw (← old-is) at c.requires.held in
-    let reached : c.in-Some-new.reached ≡ a.head.now.prev_index + length a.entries.items = omega (arith, c.in-Some-new.ensures.some.0, c.get.ensures.value, c.len.ensures, a.entries.ok.0) in
+    let reached : c.in-Some.reached ≡ a.head.now.prev_index + length a.entries.items = omega (arith, c.in-Some.ensures.some.0, c.get.ensures.value, c.len.ensures, a.entries.ok.0) in
     let sent = rw reached at c.in_ok-send.ensures.ok in
-    let risen = rw (c.max.ensures, c.min.ensures, c.get-commit.ensures.value, c.get-2.ensures.value, c.get-3.ensures.value, reached) at c.in-Some-new-2.ensures.some.0 in
-    let grown = rw (c.get-commit.ensures.value, c.get-5.ensures.value) at c.in_ok-adopt.ensures.ok in
+    let risen = rw (c.max.ensures, c.min.ensures, c.get-commit.ensures.value, c.get-2.ensures.value, c.get-3.ensures.value, reached) at c.in-Some-new.ensures.some.0 in
+    let grown = rw (c.get-commit.ensures.value, c.get-prev.ensures.value) at c.in-Ok.ensures.ok in
     rw (← old-is) (accepts m _ c.follow.new.self a.outbox.now c.send.new.outbox a.from a.head.now.term a.head.now.prev_index _ a.head.now.commit later a.entries.items _ _ false held grown risen c.follow.ensures sent)

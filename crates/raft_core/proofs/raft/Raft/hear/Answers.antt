@@ -12,11 +12,12 @@ invariant_of-self g c =
     let match : c.learn.new.matched ≡ match_after (length i.log.items) a.from a.ok a.at i.matched.items = rw (c.deref_mut-in-Leader.ensures.value, last) at c.learn.ensures.matched in
     let next_whole = put_back i.next.items c.learn.new.next i.next.len (omega (arith, ap length next, next-length (length i.log.items) a.from a.at a.ok i.next.items i.matched.items, i.next.ok.0)) in
     let match_whole = put_back i.matched.items c.learn.new.matched i.matched.len (omega (arith, ap length match, match-length (length i.log.items) a.from a.at a.ok i.matched.items, i.matched.ok.0)) in
-    let live = rw (← c.in-Some.ensures.value) at c.self.invariant.live in
-    rw (next_whole, match_whole, next, match, c.take.ensures.after, c.take-ahead.ensures.after) (keeps g.M.Machine.meaning i.me i.size i.log.items i.role i.votes.items i.next.items i.matched.items a.from a.at a.ok i.commit i.commit i.machine _ i.ahead _ c.self.invariant live.levels (omega arith) tt tt)
+    let live = rw c.in-Some.is at c.self.invariant.live in
+    let done = rw c.deref.ensures.value at c.in-Ok.ensures in
+    rw (next_whole, match_whole, next, match) (keeps g.M.Machine.meaning i.me i.size i.log.items i.role i.votes.items i.next.items i.matched.items a.from a.at a.ok i.commit c.in-Ok.risen i.machine (Some c.advance.new.machine) i.ahead i.ahead c.self.invariant live.levels (omega arith) (done.within, done.state) (second_stays g.M.Machine.meaning i.log.items i.role i.machine (Some c.advance.new.machine) i.ahead refl c.self.invariant.second))
 
-pub invariant_of-self-in-Leader : goal.invariant_of-self-in-Leader
-invariant_of-self-in-Leader g c =
+pub invariant_of-self-in-Err : goal.invariant_of-self-in-Err
+invariant_of-self-in-Err g c =
     let i = c.self.inside in
     let a = c.args in
     let last : c.len-last.result ≡ length i.log.items = omega (arith, c.len-last.ensures, i.log.ok.0) in
@@ -24,13 +25,11 @@ invariant_of-self-in-Leader g c =
     let match : c.learn.new.matched ≡ match_after (length i.log.items) a.from a.ok a.at i.matched.items = rw (c.deref_mut-in-Leader.ensures.value, last) at c.learn.ensures.matched in
     let next_whole = put_back i.next.items c.learn.new.next i.next.len (omega (arith, ap length next, next-length (length i.log.items) a.from a.at a.ok i.next.items i.matched.items, i.next.ok.0)) in
     let match_whole = put_back i.matched.items c.learn.new.matched i.matched.len (omega (arith, ap length match, match-length (length i.log.items) a.from a.at a.ok i.matched.items, i.matched.ok.0)) in
-    let live = rw (← c.in-Some.ensures.value) at c.self.invariant.live in
-    let done = rw c.deref.ensures.value at c.in_ok-self-inside-in-Leader.ensures in
-    rw (next_whole, match_whole, next, match, c.take-ahead.ensures.value) (keeps g.M.Machine.meaning i.me i.size i.log.items i.role i.votes.items i.next.items i.matched.items a.from a.at a.ok i.commit c.in_ok-self-inside-in-Leader.field-0 i.machine (Some c.advance.new.machine) i.ahead i.ahead c.self.invariant live.levels (omega arith) (done.within, done.state) (second_stays g.M.Machine.meaning i.log.items i.role i.machine (Some c.advance.new.machine) i.ahead refl c.self.invariant.second))
+    let live = rw c.in-Some.is at c.self.invariant.live in
+    rw (next_whole, match_whole, next, match) (keeps g.M.Machine.meaning i.me i.size i.log.items i.role i.votes.items i.next.items i.matched.items a.from a.at a.ok i.commit i.commit i.machine _ i.ahead _ c.self.invariant live.levels (omega arith) tt tt)
 
-pub returns-in_ok-self-inside-in-Leader-clause-heard :
-    goal.returns-in_ok-self-inside-in-Leader-clause-heard
-returns-in_ok-self-inside-in-Leader-clause-heard g c =
+pub returns-in-Ok-clause-heard : goal.returns-in-Ok-clause-heard
+returns-in-Ok-clause-heard g c =
     let i = c.self.inside in
     let a = c.args in
     let last : c.len-last.result ≡ length i.log.items = omega (arith, c.len-last.ensures, i.log.ok.0) in
@@ -38,6 +37,6 @@ returns-in_ok-self-inside-in-Leader-clause-heard g c =
     let match : c.learn.new.matched ≡ match_after (length i.log.items) a.from a.ok a.at i.matched.items = rw (c.deref_mut-in-Leader.ensures.value, last) at c.learn.ensures.matched in
     let next_whole = put_back i.next.items c.learn.new.next i.next.len (omega (arith, ap length next, next-length (length i.log.items) a.from a.at a.ok i.next.items i.matched.items, i.next.ok.0)) in
     let match_whole = put_back i.matched.items c.learn.new.matched i.matched.len (omega (arith, ap length match, match-length (length i.log.items) a.from a.at a.ok i.matched.items, i.matched.ok.0)) in
-    let old-is = rw (← c.in-Some.ensures.value) at c.self.view_is in
-    let risen = rw (c.deref.ensures.value, c.deref-in-Leader.ensures.value) at c.in_ok-self-inside-in-Leader.ensures.value in
-    heard_by a.self.now i.me i.size i.term i.vote i.log.items i.commit i.known i.role i.votes.items i.next.items i.matched.items _ _ c.in_ok-self-inside-in-Leader.field-0 a.from a.at a.ok _ old-is c.in-Leader.is (next_whole ∙ next) (match_whole ∙ match) c.self.invariant.matched_each risen
+    let old-is = rw c.in-Some.is at c.self.view_is in
+    let risen = rw (c.deref.ensures.value, c.deref-in-Leader.ensures.value) at c.in-Ok.ensures.value in
+    heard_by a.self.now i.me i.size i.term i.vote i.log.items i.commit i.known i.role i.votes.items i.next.items i.matched.items _ _ c.in-Ok.risen a.from a.at a.ok _ old-is c.in-Leader.is (next_whole ∙ next) (match_whole ∙ match) c.self.invariant.matched_each risen

@@ -1,28 +1,17 @@
-use Rattle.std.proofs.Common.{◌≡◌, ◌≤◌, length, true, false, inl, inr, refl, sym, ◌∙◌, arith}
+use Rattle.std.proofs.Common.{◌≡◌, true, false, inl, inr, refl, sym, ◌∙◌}
 use Rattle.world.specs.Events.{event_of, events_of}
 use Rattle.world.specs.declared.event.RaftEvent.TheVariants as events
 use Rattle.world.specs.Inner.HistoryView.{HistoryView}
 use Rattle.world.specs.Inner.Inputs.{is_restart}
 use Rattle.world.proofs.Events.{one_event_more}
 use Rattle.world.proofs.Refused.{fallen, stayed, part_refused}
-use Rattle.world.proofs.Acts.{few}
 use Rattle.world.proofs.history.History.take.Goals as goal
-
-pub keep_frames-requires : goal.keep_frames-requires
-keep_frames-requires g c =
-    let taken = rw (c.deref.ensures.value, c.in_ok-reserve-2.ensures.items, c.in_ok-input.ensures.0, c.new-outbox.ensures) at c.in-Ok.ensures.taken in
-    let for = rw (← c.self.view_is) at c.requires.event in
-    let short : length c.hand.new.outbox ≤ c.args.raft.now.size = few g.M.Machine.meaning c.args.raft.now c.hand.new.raft c.self.inside.sent.items c.hand.new.outbox (event_of c.args.event) for taken in
-    omega (arith, short, c.requires.group, c.in_ok-reserve-2.ensures.ok)
 
 pub returns-in-Ok-clause-done : goal.returns-in-Ok-clause-done
 returns-in-Ok-clause-done g c =
-    let taken = rw (c.deref.ensures.value, c.in_ok-reserve-2.ensures.items, c.in_ok-input.ensures.0, c.new-outbox.ensures) at c.in-Ok.ensures.taken in
     rw (← c.self.view_is) (record {
       event = rw c.in_ok-input.ensures.0 at c.in_ok-input.ensures.1;
-      frames = c.hand.new.outbox;
-      taken = taken;
-      sent = rw c.in_ok-reserve-2.ensures.items at c.keep_frames.ensures;
+      taken = rw c.in_ok-input.ensures.0 at c.in-Ok.ensures.taken;
       trace = one_event_more c.reserve.new.self.items c.push_reserved.new.self.items c.self.inside.trace.items c.args.event c.in_ok-reserve.ensures.items c.push_reserved.ensures.items;
       chain = c.longer-self-inside.ensures;
     })
@@ -30,42 +19,42 @@ returns-in-Ok-clause-done g c =
 pub returns-then-is_restart-clause-done : goal.returns-then-is_restart-clause-done
 returns-then-is_restart-clause-done g c =
     let e = event_of c.args.event in
-    let sent = c.self.inside.sent.items in
+    let sent = c.self.inside.sent in
     let h = c.args.raft.now in
     let so : is_restart e ≡ true = sym c.is_restart.ensures ∙ c.if-is_restart.true in
-    let lacks = rw (c.in-NoMemory.is, c.deref.ensures.value, c.in_ok-reserve-2.ensures.items, c.in_ok-input.ensures.0) at c.in-Err.ensures.refused in
-    let left = rw (c.in-NoMemory.is, c.deref.ensures.value, c.in_ok-reserve-2.ensures.items, c.in_ok-input.ensures.0) at c.in-Err.ensures.left in
+    let lacks = rw (c.in-NoMemory.is, c.in_ok-input.ensures.0) at c.in-Err.ensures.refused in
+    let left = rw (c.in-NoMemory.is, c.in_ok-input.ensures.0) at c.in-Err.ensures.left in
     rw (← c.self.view_is) (inr (record {
       restart = so;
       down = λ s r. (let q = stayed g.M.Machine.meaning h c.hand.new.raft sent s e so (lacks s r) (left s r) in q.0);
       same_raft = (let q = stayed g.M.Machine.meaning h c.hand.new.raft sent h.server e so (lacks h.server refl) (left h.server refl) in q.1);
-      same_past = rw (c.in_ok-reserve-2.ensures.items, c.in_ok-reserve.ensures.items) refl;
+      same_past = rw (c.in-Err.ensures.unsent, c.in_ok-reserve.ensures.items) refl;
     }))
 
 pub returns-in-NoMemory-clause-done : goal.returns-in-NoMemory-clause-done
 returns-in-NoMemory-clause-done g c =
     let e = event_of c.args.event in
-    let sent = c.self.inside.sent.items in
+    let sent = c.self.inside.sent in
     let h = c.args.raft.now in
     let other : is_restart e ≡ false = sym c.is_restart.ensures ∙ c.if-is_restart.false in
-    let lacks = rw (c.in-NoMemory.is, c.deref.ensures.value, c.in_ok-reserve-2.ensures.items, c.in_ok-input.ensures.0) at c.in-Err.ensures.refused in
-    let left = rw (c.in-NoMemory.is, c.deref.ensures.value, c.in_ok-reserve-2.ensures.items, c.in_ok-input.ensures.0) at c.in-Err.ensures.left in
+    let lacks = rw (c.in-NoMemory.is, c.in_ok-input.ensures.0) at c.in-Err.ensures.refused in
+    let left = rw (c.in-NoMemory.is, c.in_ok-input.ensures.0) at c.in-Err.ensures.left in
     rw (← c.self.view_is) (inl (record {
       other = other;
       lacks = lacks;
       fell = λ s r. fallen g.M.Machine.meaning h c.hand.new.raft sent s e other (lacks s r) (left s r);
-      sent = c.in_ok-reserve-2.ensures.items;
+      sent = c.in-Err.ensures.unsent;
       trace = one_event_more c.reserve.new.self.items c.push_reserved-in-NoMemory.new.self.items c.self.inside.trace.items (events.Crash c.args.server) c.in_ok-reserve.ensures.items c.push_reserved-in-NoMemory.ensures.items;
       chain = refl;
     }))
 
 pub returns : goal.returns
 returns g c =
-    let past : HistoryView g.row.M-Command.Denot = record { sent = c.self.inside.sent.items; trace = events_of c.self.inside.trace.items; chain = c.self.inside.chain } in
-    let refused = rw (c.deref.ensures.value, c.in_ok-reserve-2.ensures.items, c.in_ok-input.ensures.0) at c.in-Err.ensures.refused in
-    let left = rw (c.deref.ensures.value, c.in_ok-reserve-2.ensures.items, c.in_ok-input.ensures.0) at c.in-Err.ensures.left in
+    let past : HistoryView g.row.M-Command.Denot = record { sent = c.self.inside.sent; trace = events_of c.self.inside.trace.items; chain = c.self.inside.chain } in
+    let refused = rw c.in_ok-input.ensures.0 at c.in-Err.ensures.refused in
+    let left = rw c.in_ok-input.ensures.0 at c.in-Err.ensures.left in
     let p = part_refused g.M.Machine.meaning c.args.raft.now c.hand.new.raft past (event_of c.args.event) c.in-Err.refusal c.in_default.not-NoMemory refused left in
     rw (← c.self.view_is) (record {
       same = c.hand.ensures.same;
-      done = (p.0, rw (c.in_ok-reserve-2.ensures.items, c.in_ok-reserve.ensures.items) refl, p.1);
+      done = (p.0, rw (c.in-Err.ensures.unsent, c.in_ok-reserve.ensures.items) refl, p.1);
     })

@@ -1,7 +1,7 @@
-use Rattle.std.proofs.Common.{ap, subst, arith, slice_set}
+use Rattle.std.proofs.Common.{ap, subst, slice_set}
 use Rattle.world.specs.Events.{event_of}
 use Rattle.world.specs.WorldView.{WorldView}
-use Rattle.world.proofs.Acts.{Acted, acted, at_actor, is_for, size_is, in_any_case}
+use Rattle.world.proofs.Acts.{Acted, acted, at_actor, is_for, in_any_case}
 use Rattle.world.proofs.world.RaftWorld.act.Goals as goal
 
 pub take-requires : goal.take-requires
@@ -12,10 +12,7 @@ take-requires g c =
     let h = c.index_mut-raft.result.now in
     let old : WorldView g.row.M-Command.Denot = record { servers = i.servers.items; sent = i.history.sent; trace = i.history.trace; chain = i.history.chain } in
     let a = at_actor m old c.args.self.now e c.args.server c.place.result h c.self.view_is c.self.invariant c.place.ensures.value c.requires.member c.index_mut-raft.ensures.value c.requires.actor in
-    record {
-      group = omega (arith, size_is m old e c.args.server h a, c.len-size.ensures, i.servers.ok.0);
-      event = is_for m old e c.args.server h a (rw (← c.self.view_is) at c.requires.sent);
-    }
+    is_for m old e c.args.server h a (rw (← c.self.view_is) at c.requires.sent)
 
 pub invariant_of-self : goal.invariant_of-self
 invariant_of-self g c =

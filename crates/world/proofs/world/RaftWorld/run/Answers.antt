@@ -24,8 +24,11 @@ loop-event-preserved g c =
     let m = g.M.Machine.meaning in
     let inside : c.loop-event.event-index < length c.args.events.now = omega arith in
     let item = c.event-item.result in
-    let more : take (c.loop-event.event-index + 1) c.args.events.now ≡ take c.loop-event.event-index c.args.events.now ++ c.in_ok-again.field-0 ∷ [] =
-    take_more c.args.events.now c.loop-event.event-index item inside ∙ ap (λ e. take c.loop-event.event-index c.args.events.now ++ e ∷ []) (sym c.event-item.is ∙ sym c.in_ok-again.ensures.0) in
-    subst (λ es. Played m c.args.n es c.step-done.new.self) (sym (one_event_more (take c.loop-event.event-index c.args.events.now) _ (take c.loop-event.event-index c.args.events.now) c.in_ok-again.field-0 refl more))
+    let before = take c.loop-event.event-index c.args.events.now in
+    let more : take (c.loop-event.event-index + 1) c.args.events.now ≡ before ++ item ∷ [] =
+    take_more c.args.events.now c.loop-event.event-index item inside ∙ ap (λ e. before ++ e ∷ []) (sym c.event-item.is) in
+    let again : events_of (take (c.loop-event.event-index + 1) c.args.events.now) ≡ events_of before ++ event_of c.in_ok-again.field-0 ∷ [] =
+    one_event_more before _ before item refl more ∙ ap (λ e. events_of before ++ e ∷ []) (sym c.in_ok-again.ensures.0) in
+    subst (λ es. Played m c.args.n es c.step-done.new.self) (sym again)
     (play_next m c.args.n (events_of (take c.loop-event.event-index c.args.events.now)) c.loop-event.world c.step-done.new.self (event_of c.in_ok-again.field-0) c.step-done.result c.in_ok-again.ensures.1
     c.loop-event.invariant c.step-done.ensures.ok c.step-done.ensures.err c.step-done.ensures.cause c.if-lacks_memory.ensures)

@@ -1,0 +1,17 @@
+-- What is said, as the body of a message.
+use Rattle.std.specs.Prelude.{◌≤◌, ◌<◌, ◌+◌, ◌^◌, length}
+use Rattle.wire.specs.declared.body.Body.{Body}
+use Rattle.wire.specs.declared.body.Body.TheVariants as bodies
+use Rattle.wire.specs.declared.body.Said.{Said}
+use Rattle.wire.specs.declared.body.Said.TheVariants as said
+
+abbrev pub said_body : {S C : Type 0} → Said S C → Body S C
+said_body (said.Body body) = body.now
+said_body (said.Entries head entries) =
+    bodies.Append (record { head = head.now; entries = entries.now })
+
+-- entries are at most 32, and each has a place below 2^40
+abbrev pub HavePlaces : {S C : Type 0} → Said S C → Type 0
+HavePlaces (said.Body body) = Unit {0}
+HavePlaces (said.Entries head entries) =
+    (length entries.now ≤ 32) × (head.now.prev_index + length entries.now < 2 ^ 40)
