@@ -18,7 +18,9 @@ kept_so_far rows k = record { stops = map alloc_id rows; places = k.places; refu
 -- the places with their groups' sizes, where the node takes each of them
 abbrev pub all_sized : Job → Node → List Place → Option (List AcceptedPlace)
 all_sized j n ks =
-    if list_all (λ k. is_some (sized_on j n k)) ks then Some (filter_map (sized_on j n) ks) else None
+    if list_all (λ k. is_some (sized_on j n k)) ks
+    then Some (filter_map (sized_on j n) ks)
+    else None
 
 -- the stops that are kept, and no place yet
 abbrev pub stops_alone : List AllocId → Accepted
