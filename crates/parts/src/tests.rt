@@ -13,3 +13,4 @@ mod states;
 mod tallies;
 mod texts;
 mod values;
+mod workers;

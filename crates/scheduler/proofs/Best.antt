@@ -14,19 +14,19 @@ use Rattle.fsm_tables.specs.Claims.{Claim}
 use Rattle.cluster_model.specs.Words.{State}
 use Rattle.group_model.specs.Scheduling.{has_room_for, fullness_with, is_as_good, IsBest, fits_nowhere}
 use Rattle.scheduler.specs.declared.load.Load.{Load}
-use Rattle.scheduler.specs.Inner.Loads.{load_of, takes, fullness_on, IsBestAt, IsBestOf}
+use Rattle.scheduler.specs.Inner.Loads.{load_of, takes_one_of, fullness_on, IsBestAt, IsBestOf}
 use Rattle.scheduler.proofs.Found.{node_found, numbers_rise}
 
 -- ---- while the list is walked
 
 -- after so many of them
 pub record BestSoFar (f : Load → Load) (g : Group) (ls : List Load) (found : Bool) (best most at : ℕ) : Type 0 where
-  pub none : found ≡ false → (j : ℕ) (d : Load) → j < at → takes g (f (get_or ls j d)) ≡ false
+  pub none : found ≡ false → (j : ℕ) (d : Load) → j < at → takes_one_of g (f (get_or ls j d)) ≡ false
   pub within : found ≡ true → best < at
-  pub fits : found ≡ true → (d : Load) → takes g (f (get_or ls best d)) ≡ true
+  pub fits : found ≡ true → (d : Load) → takes_one_of g (f (get_or ls best d)) ≡ true
   pub most_is : found ≡ true → (d : Load) → most ≡ fullness_on g (f (get_or ls best d))
-  pub fullest : found ≡ true → (j : ℕ) (d : Load) → j < at → takes g (f (get_or ls j d)) ≡ true → fullness_on g (f (get_or ls j d)) ≤ most
-  pub first : found ≡ true → (j : ℕ) (d : Load) → j < best → takes g (f (get_or ls j d)) ≡ true → fullness_on g (f (get_or ls j d)) < most
+  pub fullest : found ≡ true → (j : ℕ) (d : Load) → j < at → takes_one_of g (f (get_or ls j d)) ≡ true → fullness_on g (f (get_or ls j d)) ≤ most
+  pub first : found ≡ true → (j : ℕ) (d : Load) → j < best → takes_one_of g (f (get_or ls j d)) ≡ true → fullness_on g (f (get_or ls j d)) < most
 
 pub both_kinds : true ≡ false → ⊥
 both_kinds e = absurd cc
@@ -42,13 +42,13 @@ module _ (f : Load → Load) (g : Group) (ls : List Load) where
 
   module _ (found : Bool) (best most at : ℕ) (x : Load) (so_far : BestSoFar f g ls found best most at) (lt : at < length ls) (is : x ≡ get_or ls at x) where
     -- the next does not take it
-    pub not_taken : takes g (f x) ≡ false → BestSoFar f g ls found best most (at + 1)
+    pub not_taken : takes_one_of g (f x) ≡ false → BestSoFar f g ls found best most (at + 1)
     not_taken t = record {
-      none = λ e. here_or_before (λ l. takes g (f l) ≡ false) at x lt is t (so_far.none e);
+      none = λ e. here_or_before (λ l. takes_one_of g (f l) ≡ false) at x lt is t (so_far.none e);
       within = λ e. let below = so_far.within e in omega (arith, below);
       fits = so_far.fits;
       most_is = so_far.most_is;
-      fullest = λ e. here_or_before (λ l. takes g (f l) ≡ true → fullness_on g (f l) ≤ most) at x lt is (λ u. absurd (both_kinds (sym u ∙ t))) (so_far.fullest e);
+      fullest = λ e. here_or_before (λ l. takes_one_of g (f l) ≡ true → fullness_on g (f l) ≤ most) at x lt is (λ u. absurd (both_kinds (sym u ∙ t))) (so_far.fullest e);
       first = so_far.first;
     }
 
@@ -59,21 +59,21 @@ module _ (f : Load → Load) (g : Group) (ls : List Load) where
       within = λ e. let below = so_far.within e in omega (arith, below);
       fits = so_far.fits;
       most_is = so_far.most_is;
-      fullest = λ e. here_or_before (λ l. takes g (f l) ≡ true → fullness_on g (f l) ≤ most) at x lt is (λ u. le) (so_far.fullest e);
+      fullest = λ e. here_or_before (λ l. takes_one_of g (f l) ≡ true → fullness_on g (f l) ≤ most) at x lt is (λ u. le) (so_far.fullest e);
       first = so_far.first;
     }
 
     -- it is the best so far
-    pub taken : takes g (f x) ≡ true → (n : ℕ) → n ≡ fullness_on g (f x) → (found ≡ true → most < n) → BestSoFar f g ls true at n (at + 1)
+    pub taken : takes_one_of g (f x) ≡ true → (n : ℕ) → n ≡ fullness_on g (f x) → (found ≡ true → most < n) → BestSoFar f g ls true at n (at + 1)
     taken t n same fuller = record {
       none = λ e. absurd (both_kinds e);
       within = λ e. omega arith;
-      fits = λ e d. ap (λ l. takes g (f l)) (sym (is ∙ get_or_default ls at x d lt)) ∙ t;
+      fits = λ e d. ap (λ l. takes_one_of g (f l)) (sym (is ∙ get_or_default ls at x d lt)) ∙ t;
       most_is = λ e d. same ∙ ap (λ l. fullness_on g (f l)) (is ∙ get_or_default ls at x d lt);
-      fullest = λ e. here_or_before (λ l. takes g (f l) ≡ true → fullness_on g (f l) ≤ n) at x lt is (λ u. omega (arith, same)) (λ j d below u. let lt = before j d below u in omega (arith, lt));
+      fullest = λ e. here_or_before (λ l. takes_one_of g (f l) ≡ true → fullness_on g (f l) ≤ n) at x lt is (λ u. omega (arith, same)) (λ j d below u. let lt = before j d below u in omega (arith, lt));
       first = λ e. before;
     } where
-      before : (j : ℕ) (d : Load) → j < at → takes g (f (get_or ls j d)) ≡ true → fullness_on g (f (get_or ls j d)) < n
+      before : (j : ℕ) (d : Load) → j < at → takes_one_of g (f (get_or ls j d)) ≡ true → fullness_on g (f (get_or ls j d)) < n
       before j d below u = elim found as (λ b. found ≡ b → fullness_on g (f (get_or ls j d)) < n) [
         | true ↦ λ e. let le = so_far.fullest e j d below u in let lt = fuller e in omega (arith, le, lt)
         | false ↦ λ e. absurd (both_kinds (sym u ∙ so_far.none e j d below))
@@ -109,7 +109,7 @@ module _ (s : State) (cs before : List Claim) (g : Group) (f : Load → Load) (r
   pub nowhere : IsBestOf f g (map (load_of before) s.nodes) None → fits_nowhere s cs g ≡ true
   nowhere none = all_by_place (λ n. not (has_room_for cs g n)) s.nodes (λ j d lt.
       let long : length (map (load_of before) s.nodes) ≡ length s.nodes = length-map s.nodes (load_of before) in
-      ap not (ap (takes g) (sym (load_at j (load_of cs d) d lt)) ∙ none j (load_of cs d) (omega (arith, lt, long))))
+      ap not (ap (takes_one_of g) (sym (load_at j (load_of cs d) d lt)) ∙ none j (load_of cs d) (omega (arith, lt, long))))
 
   pub best_node : (at : ℕ) (l : Load) → IsBestAt f g (map (load_of before) s.nodes) at → l ≡ get_or (map (load_of before) s.nodes) at l → IsBest s cs g l.node
   best_node at l best is =
@@ -118,7 +118,7 @@ module _ (s : State) (cs before : List Claim) (g : Group) (f : Load → Load) (r
       let node : l.node ≡ get_or s.nodes at l.node = ap (λ (x : Load). x.node) (is ∙ get_or-map (load_of before) s.nodes at l.node l lt) in
       record {
         there = ap (λ (n : Node). row_of nat_cmp node_number n.number s.nodes) node ∙ node_found s.nodes at l.node rising lt ∙ ap Some (sym node);
-        fits = ap (has_room_for cs g) node ∙ ap (takes g) (sym (load_at at l l.node lt)) ∙ best.fits l;
+        fits = ap (has_room_for cs g) node ∙ ap (takes_one_of g) (sym (load_at at l l.node lt)) ∙ best.fits l;
         best = all_by_place (λ m. not (has_room_for cs g m) || is_as_good cs g l.node m) s.nodes (λ j d below. good at l best lt node j d below);
       }
     where
@@ -127,7 +127,7 @@ module _ (s : State) (cs before : List Claim) (g : Group) (f : Load → Load) (r
       good at l best lt node j d below = elim (has_room_for cs g (get_or s.nodes j d)) as (λ b. has_room_for cs g (get_or s.nodes j d) ≡ b → (not b || is_as_good cs g l.node (get_or s.nodes j d)) ≡ true) [
         | true ↦ λ e.
             let long : length (map (load_of before) s.nodes) ≡ length s.nodes = length-map s.nodes (load_of before) in
-            let t : takes g (f (get_or (map (load_of before) s.nodes) j l)) ≡ true = ap (takes g) (load_at j l d below) ∙ e in
+            let t : takes_one_of g (f (get_or (map (load_of before) s.nodes) j l)) ≡ true = ap (takes_one_of g) (load_at j l d below) ∙ e in
             let fuller = best.fullest j l (omega (arith, below, long)) t in
             let mine : fullness_on g (f (get_or (map (load_of before) s.nodes) at l)) ≡ fullness_with cs g l.node = ap (fullness_on g) (load_at at l l.node lt) ∙ ap (fullness_with cs g) (sym node) in
             let other : fullness_on g (f (get_or (map (load_of before) s.nodes) j l)) ≡ fullness_with cs g (get_or s.nodes j d) = ap (fullness_on g) (load_at j l d below) in

@@ -17,7 +17,7 @@ use Rattle.fsm_tables.specs.declared.name.AllocName.{AllocName}
 use Rattle.fsm_tables.specs.Lookups.{lives_for}
 use Rattle.fsm_tables.proofs.RowLaws.{first, second, less, some_same}
 use Rattle.cluster_model.specs.Words.{State}
-use Rattle.scheduler.specs.Inner.Growing.{IsLive, AreLive}
+use Rattle.scheduler.specs.Inner.Growing.{IsLiveRow, AreLiveRows}
 
 module _ {K X : Type 0} (R : K → K → Ordering) (key : X → K) (o : IsTotalOrder R) where
   -- a row behind another
@@ -83,7 +83,7 @@ named_among P n a (b ∷ rows) h e =
     ] refl e
 
 -- what a name finds is a live row
-pub named_live : (s : State) (n : AllocName) (a : Allocation) → T (is_rising alloc_cmp alloc_id s.allocs) → live_named n s.allocs ≡ Some a → IsLive s a
+pub named_live : (s : State) (n : AllocName) (a : Allocation) → T (is_rising alloc_cmp alloc_id s.allocs) → live_named n s.allocs ≡ Some a → IsLiveRow s a
 named_live s n a h e = named_among (λ z. row_of alloc_cmp alloc_id z.id s.allocs ≡ Some z) n a s.allocs (each_found alloc_cmp alloc_id alloc_cmp_total s.allocs h) e
 
 live_first : (l b : Bool) → (l && b) ≡ true → l ≡ true
@@ -98,5 +98,5 @@ those_of_job P job (a ∷ rows) h = elim (lives_for job a) as (λ b. lives_for j
 ] refl
 
 -- and so are the live ones of a job
-pub job_live : (s : State) (job : List ℕ) → T (is_rising alloc_cmp alloc_id s.allocs) → AreLive s (filter (lives_for job) s.allocs)
+pub job_live : (s : State) (job : List ℕ) → T (is_rising alloc_cmp alloc_id s.allocs) → AreLiveRows s (filter (lives_for job) s.allocs)
 job_live s job h = those_of_job (λ z. row_of alloc_cmp alloc_id z.id s.allocs ≡ Some z) job s.allocs (each_found alloc_cmp alloc_id alloc_cmp_total s.allocs h)

@@ -27,7 +27,7 @@ use Rattle.group_model.specs.Acceptance.{claim_at, place_claims}
 use Rattle.group_model.specs.Scheduling.{PlanPart, with_stop, claimed_by}
 use Rattle.scheduler.specs.declared.load.Load.{Load}
 use Rattle.scheduler.specs.Inner.Loads.{load_of, less, more, sum_within}
-use Rattle.scheduler.specs.Inner.Growing.{fresh, IsLive}
+use Rattle.scheduler.specs.Inner.Growing.{fresh, IsLiveRow}
 
 -- ---- one more stop
 
@@ -94,7 +94,7 @@ less_share a n c d e f =
     ]
 
 module _ (s : State) (job : List ℕ) (p : PlanPart) where
-  stops_of : (w : Claim → ℕ) (a : Allocation) → T (is_rising alloc_cmp alloc_id s.allocs) → IsLive s a
+  stops_of : (w : Claim → ℕ) (a : Allocation) → T (is_rising alloc_cmp alloc_id s.allocs) → IsLiveRow s a
       → sum_by w (claimed_by s job (with_stop (Some a) p)) + cond (list_any (same_alloc a.id) p.stops) 0 (w (claim_of a)) ≡ sum_by w (claimed_by s job p)
   stops_of w a rising live =
       let one = one_stops w s.allocs rising p.stops a live.0 live.1 in
@@ -102,7 +102,7 @@ module _ (s : State) (job : List ℕ) (p : PlanPart) where
       let old = sum_by-append w (claims (map (stop p.stops) s.allocs)) (place_claims job p.places) in
       omega (arith, one, new, old)
 
-  less_one : (a : Allocation) (n : Node) → T (is_rising alloc_cmp alloc_id s.allocs) → IsLive s a
+  less_one : (a : Allocation) (n : Node) → T (is_rising alloc_cmp alloc_id s.allocs) → IsLiveRow s a
       → less (fresh p.stops (Some a)) (load_of (claimed_by s job p) n) ≡ load_of (claimed_by s job (with_stop (Some a) p)) n
   less_one a n rising live =
       let old = claimed_by s job p in
@@ -115,7 +115,7 @@ module _ (s : State) (job : List ℕ) (p : PlanPart) where
         | false ↦ λ g h. less_share a n _ _ _ _ g h
       ] (stops_of (on_node n.number (λ z. z.cpu)) a rising live) (stops_of (on_node n.number (λ z. z.mem)) a rising live)
 
-  pub loads_less : (o : Option Allocation) (ns : List Node) → T (is_rising alloc_cmp alloc_id s.allocs) → ((a : Allocation) → o ≡ Some a → IsLive s a)
+  pub loads_less : (o : Option Allocation) (ns : List Node) → T (is_rising alloc_cmp alloc_id s.allocs) → ((a : Allocation) → o ≡ Some a → IsLiveRow s a)
       → map (less (fresh p.stops o)) (map (load_of (claimed_by s job p)) ns) ≡ map (load_of (claimed_by s job (with_stop o p))) ns
   loads_less None ns rising live = maps (less None) (load_of (claimed_by s job p)) ns
   loads_less (Some a) ns rising live =

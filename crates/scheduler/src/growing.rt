@@ -1,11 +1,10 @@
 //! A plan that grows: its stops and places so far, and how full the nodes are with them.
 ghost use Rattle.std.specs.Prelude.{◌≡◌, ◌++◌, ◌∷◌, [], IfOk, OnOk, map, option_map};
 ghost use Rattle.std.specs.List.{list_any};
-ghost use Rattle.cluster_model.specs.Words.{same_alloc, job_of};
+ghost use Rattle.cluster_model.specs.Words.{same_alloc};
 ghost use Rattle.group_model.specs.Scheduling.{is_full, with_stop, first_part, IsNext, GoesOn};
-ghost use Rattle.scheduler.specs.Inner.Names.{wanted_groups as groups_wanted};
 ghost use Rattle.scheduler.specs.Inner.Loads.{less, more};
-ghost use Rattle.scheduler.specs.Inner.Growing.{part_of, fresh, first_unwanted, AreLoads, AreLive};
+ghost use Rattle.scheduler.specs.Inner.Growing.{part_of, fresh, first_unwanted, AreLoads, AreLiveRows};
 
 use crate::load::{Load, best, loads_of, put_on, take_off};
 use crate::wanted::{WantedName, is_wanted, wanted_groups};
@@ -61,7 +60,8 @@ fn stop(plan: &mut Growing, row: Option<&Allocation>) -> Result<(), NoMemory>
     ensures part { let a = option_map (λ r. r.now) row.entry in
         OnOk result (part_of plan.new ≡ with_stop a (part_of plan.old)) }
     ensures loads { let a = option_map (λ r. r.now) row.entry in
-        OnOk result (plan.new.loads.items ≡ map (less (fresh plan.old.stops a)) plan.old.loads.items) }
+        let off = less (fresh plan.old.stops a) in
+        OnOk result (plan.new.loads.items ≡ map off plan.old.loads.items) }
 {
     let gone = fresh(plan.stops.as_slice(), row);
     take_off(&mut plan.loads, gone);
@@ -90,7 +90,8 @@ fn place(
 ) -> Result<(), NoMemory>
     requires { AreLoads state.now job.now plan.old }
     ensures loads { OnOk result (AreLoads state.now job.now plan.new) }
-    ensures next { OnOk result (IsNext state.now job.now name.now (part_of plan.old) (part_of plan.new)) }
+    ensures next { let next = part_of plan.new in
+        OnOk result (IsNext state.now job.now name.now (part_of plan.old) next) }
 {
     state.node_table().ranges();
     state.alloc_table().ranges();
@@ -118,7 +119,8 @@ pub(crate) fn place_all(
     names: &[WantedName],
 ) -> Result<(), NoMemory>
     requires { AreLoads state.now job.now plan.old }
-    ensures { OnOk result (GoesOn state.now job.now (part_of plan.old) names.now (part_of plan.new)) }
+    ensures { let whole = part_of plan.new in
+        OnOk result (GoesOn state.now job.now (part_of plan.old) names.now whole) }
 {
     for name in names {
         if is_full(plan) {
@@ -139,8 +141,9 @@ fn stop_unwanted(
 ) -> Result<(), NoMemory>
     requires empty { part_of plan.old ≡ record { stops = []; places = [] } }
     requires loads { AreLoads state.now job.now plan.old }
-    requires live { AreLive state.now rows.now }
-    ensures part { OnOk result (part_of plan.new ≡ record { stops = first_unwanted groups.now rows.now; places = [] }) }
+    requires live { AreLiveRows state.now rows.now }
+    ensures part { let those = first_unwanted groups.now rows.now in
+        OnOk result (part_of plan.new ≡ record { stops = those; places = [] }) }
     ensures loads { OnOk result (AreLoads state.now job.now plan.new) }
 {
     state.alloc_table().ranges();

@@ -4,7 +4,7 @@ ghost use Rattle.std.specs.Prelude.{IfOk, IfNone, IfSome};
 ghost use Rattle.fsm_tables.specs.Claims.{claims};
 ghost use Rattle.cluster_model.specs.Admission.{may_hold};
 ghost use Rattle.group_model.specs.Scheduling.{fullness};
-ghost use Rattle.scheduler.specs.Inner.Loads.{load_of, less, more, takes, fullness_on, IsBestOf};
+ghost use Rattle.scheduler.specs.Inner.Loads.{load_of, less, more, takes_one_of, fullness_on, IsBestOf};
 
 use fsm_state::Cluster;
 use rows::{AcceptedPlace, Allocation, Group, NoMemory, Node, NodeStatus, Ranged, Size};
@@ -23,7 +23,8 @@ pub(crate) struct Load {
 
 /// What is in use of each node of a state, in rising number.
 pub(crate) fn loads_of(alloc: Global, state: &Cluster) -> Result<Vec<Load>, NoMemory>
-    ensures { IfOk result (λ loads. loads.items ≡ map (load_of (claims state.now.allocs)) state.now.nodes) }
+    ensures { let load = load_of (claims state.now.allocs) in
+        IfOk result (λ loads. loads.items ≡ map load state.now.nodes) }
 {
     let mut loads = Vec::new(alloc);
     let nodes = state.node_table().rows();
@@ -103,9 +104,9 @@ impl Load {
 
     /// How full the node is with one more of a group; none where it does not take it.
     fn fullness_with(&self, group: &Group) -> Option<u64>
-        ensures some { IfSome result (λ n. (takes group.now self.now ≡ true)
+        ensures some { IfSome result (λ n. (takes_one_of group.now self.now ≡ true)
             × (n ≡ fullness_on group.now self.now)) }
-        ensures none { IfNone result (takes group.now self.now ≡ false) }
+        ensures none { IfNone result (takes_one_of group.now self.now ≡ false) }
     {
         self.node.ranges();
         if !may_hold(group, &self.node) {
@@ -130,9 +131,9 @@ impl Load {
 /// take it.
 fn fullness_without(load: &Load, gone: Option<&Allocation>, group: &Group) -> Option<u64>
     ensures some { let l = less (option_map (λ r. r.now) gone.entry) load.now in
-        IfSome result (λ n. (takes group.now l ≡ true) × (n ≡ fullness_on group.now l)) }
+        IfSome result (λ n. (takes_one_of group.now l ≡ true) × (n ≡ fullness_on group.now l)) }
     ensures none { let l = less (option_map (λ r. r.now) gone.entry) load.now in
-        IfNone result (takes group.now l ≡ false) }
+        IfNone result (takes_one_of group.now l ≡ false) }
 {
     load.less(gone).fullness_with(group)
 }

@@ -14,8 +14,8 @@ fn add_missing(
     job: &JobName,
     group: &Group,
 ) -> Result<(), NoMemory>
-    ensures { let those = filter (is_missing state.now job.now) (names_from group.now 0 group.now.count) in
-        OnOk result (names.new ≡ names.old ++ those) }
+    ensures { let those = names_from group.now 0 group.now.count in
+        OnOk result (names.new ≡ names.old ++ filter (is_missing state.now job.now) those) }
 {
     for number in 0..group.count.get() {
         let Some(index) = Ordinal::new(number) else {

@@ -4,7 +4,7 @@ ghost use Rattle.group_model.specs.Reasons.{reason_of};
 ghost use Rattle.group_model.specs.NextStep.{gives_back, after_refusal, has_changes};
 ghost use Rattle.group_model.specs.NextStep.{outcome_of, after_plan};
 ghost use Rattle.group_model.specs.NextStep.{IsStepWith, IsStepOn, IsNextStep};
-ghost use Rattle.scheduler.specs.Works.{asked_of, response_of, outcome_as_asked, step_of};
+ghost use Rattle.scheduler.specs.Works.{asked_as, response_as, outcome_as, step_as};
 
 use crate::planning::plan;
 use crate::work::{AskedRequest, EvalOutcome, Step, Work};
@@ -32,7 +32,7 @@ fn gives_back(refusal: &Refusal) -> bool
 
 /// What a worker does after a refusal.
 fn after_refusal(asked: &AskedRequest, refusal: &Refusal) -> Step
-    ensures { step_of result ≡ after_refusal (asked_of asked.now) (reason_of refusal.now) }
+    ensures { step_as result ≡ after_refusal (asked_as asked.now) (reason_of refusal.now) }
 {
     match asked {
         AskedRequest::Submit(eval, token) if gives_back(refusal) => Step::Nack(*eval, *token),
@@ -51,7 +51,7 @@ fn has_changes(plan: &WorkerPlan) -> bool
 
 /// What the work comes to where a plan changes nothing.
 fn outcome_of(plan: &WorkerPlan) -> EvalOutcome
-    ensures { outcome_as_asked result ≡ outcome_of plan.now }
+    ensures { outcome_as result ≡ outcome_of plan.now }
 {
     if plan.all_placed {
         EvalOutcome::Complete
@@ -62,7 +62,7 @@ fn outcome_of(plan: &WorkerPlan) -> EvalOutcome
 
 /// What a plan comes to: it is submitted where something stops or is placed; else the work is over.
 fn after_plan(delivery: &Delivery, eval: &Evaluation, plan: WorkerPlan) -> Step
-    ensures { step_of result ≡ after_plan delivery.now eval.now plan }
+    ensures { step_as result ≡ after_plan delivery.now eval.now plan }
 {
     if !has_changes(&plan) {
         return Step::Finish(delivery.eval, delivery.token, outcome_of(&plan));
@@ -87,7 +87,8 @@ fn step_with(
     delivery: &Delivery,
     eval: &Evaluation,
 ) -> Result<Step, NoMemory>
-    ensures { IfOk result (λ step. IsStepWith state.now index plans delivery.now eval.now (step_of step)) }
+    ensures { let d = delivery.now in
+        IfOk result (λ step. IsStepWith state.now index plans d eval.now (step_as step)) }
 {
     if plans >= MOST_PLANS {
         return Ok(Step::Nack(delivery.eval, delivery.token));
@@ -104,7 +105,7 @@ fn step_on(
     plans: u64,
     delivery: &Delivery,
 ) -> Result<Step, NoMemory>
-    ensures { IfOk result (λ step. IsStepOn state.now index plans delivery.now (step_of step)) }
+    ensures { IfOk result (λ step. IsStepOn state.now index plans delivery.now (step_as step)) }
 {
     if index < delivery.wait {
         return Ok(Step::Later);
@@ -134,7 +135,8 @@ pub fn next_step(
     work: &Work,
     plans: u64,
 ) -> Result<Step, NoMemory>
-    ensures { IfOk result (λ step. IsNextStep state.now index (response_of work.now) plans (step_of step)) }
+    ensures { let response = response_as work.now in
+        IfOk result (λ step. IsNextStep state.now index response plans (step_as step)) }
 {
     match work {
         Work::Delivered(None) => Ok(Step::Drop),

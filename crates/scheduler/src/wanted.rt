@@ -76,7 +76,8 @@ pub(crate) fn wanted_groups<'a>(state: &'a Cluster, job: &JobName) -> &'a [Group
 
 /// Whether a group wants the name of an allocation of its job.
 fn wants(group: &Group, row: &Allocation) -> bool
-    ensures { result ≡ (bytes_eq row.now.group group.now.name && nat_lt row.now.index group.now.count) }
+    ensures { let g = group.now in
+        result ≡ (bytes_eq row.now.group g.name && nat_lt row.now.index g.count) }
 {
     row.group == group.name && row.index.get() < group.count.get()
 }

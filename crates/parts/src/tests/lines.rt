@@ -2,8 +2,8 @@
 
 // For each kind of line the tag in front of its bytes, `-` for none, and its fields: a number of 1,
 // 2, 4 or 8 bytes, a name (n), an id of an allocation (a) or of an evaluation (e), a token (t), a
-// list with its count in one byte (A, P, R, G), or one of some words. What stands behind the key of
-// a row has a line of its own.
+// list with its count in one byte (A, P, K, R, G), or one of some words. What stands behind the key
+// of a row has a line of its own; so have plans and steps of workers, with numbers of ours.
 const FORMATS: &str = "\
 noop 0 -
 add 1 2
@@ -29,6 +29,12 @@ any-job - 1y8G
 any-node - n44uym8
 any-evaluation - n1s8
 any-allocation - nn1144dcye
+planned - AK88y
+later 90 -
+nothing 91 -
+submit 92 etn88AK
+finish 93 ets8
+nack 94 et
 raw - 1111111111111111111111111111111111111111111111111111111111111111\
 1111111111111111111111111111111111111111111111111111111111111111";
 
@@ -129,6 +135,7 @@ fn put_word(out: &mut Vec<u8>, kind: char, word: &str) -> bool {
     let items = match kind {
         'A' => "a",
         'P' => "n1144",
+        'K' => "n11",
         'R' => "ar",
         'G' => "n1n44",
         _ => return put_field(out, kind, word),

@@ -89,7 +89,9 @@ broker B
 blocked Z
 heartbeats H
 moves M
-queue Q";
+queue Q
+plans P
+work W";
 
 fn verb_of(head: &str) -> char {
     match look_up(VERBS, head) {

@@ -23,15 +23,17 @@ abbrev pub AreLoads : State → List ℕ → Growing → Type 0
 AreLoads s job p = p.loads.items ≡ map (load_of (claimed_by s job (part_of p))) s.nodes
 
 -- it is a live row of the state
-abbrev pub IsLive : State → Allocation → Type 0
-IsLive s a = (is_live a ≡ true) × (alloc_of a.id s ≡ Some a)
+abbrev pub IsLiveRow : State → Allocation → Type 0
+IsLiveRow s a = (is_live a ≡ true) × (alloc_of a.id s ≡ Some a)
 
-abbrev pub AreLive : State → List Allocation → Type 0
-AreLive s rows = AllByRecursion (IsLive s) rows
+abbrev pub AreLiveRows : State → List Allocation → Type 0
+AreLiveRows s rows = AllByRecursion (IsLiveRow s) rows
 
 -- no group wants it
 abbrev pub is_not_wanted : List Group → Allocation → Bool
 is_not_wanted groups a = not (list_any (is_of_name a) (names_of_groups groups))
 
 abbrev pub first_unwanted : List Group → List Allocation → List AllocId
-first_unwanted groups rows = take MOST_CHANGES (map (λ (a : Allocation). a.id) (filter (is_not_wanted groups) rows))
+first_unwanted groups rows =
+    let those = filter (is_not_wanted groups) rows in
+    take MOST_CHANGES (map (λ (a : Allocation). a.id) those)

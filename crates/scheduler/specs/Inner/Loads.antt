@@ -36,8 +36,8 @@ more k l =
 abbrev pub load_with : Group → Load → Size
 load_with g l = with_size (record { cpu = l.cpu; mem = l.mem }) g.size
 
-abbrev pub takes : Group → Load → Bool
-takes g l = may_hold g l.node && fits (load_with g l) l.node.size
+abbrev pub takes_one_of : Group → Load → Bool
+takes_one_of g l = may_hold g l.node && fits (load_with g l) l.node.size
 
 abbrev pub fullness_on : Group → Load → ℕ
 fullness_on g l = fullness (load_with g l) l.node.size
@@ -46,11 +46,13 @@ fullness_on g l = fullness (load_with g l) l.node.size
 -- is fuller, and those before it are less full
 pub record IsBestAt (f : Load → Load) (g : Group) (ls : List Load) (at : ℕ) : Type 0 where
   pub within : at < length ls
-  pub fits : (d : Load) → takes g (f (get_or ls at d)) ≡ true
-  pub fullest : (j : ℕ) (d : Load) → j < length ls → takes g (f (get_or ls j d)) ≡ true → fullness_on g (f (get_or ls j d)) ≤ fullness_on g (f (get_or ls at d))
-  pub first : (j : ℕ) (d : Load) → j < at → takes g (f (get_or ls j d)) ≡ true → fullness_on g (f (get_or ls j d)) < fullness_on g (f (get_or ls at d))
+  pub fits : (d : Load) → takes_one_of g (f (get_or ls at d)) ≡ true
+  pub fullest : (j : ℕ) (d : Load) → j < length ls → takes_one_of g (f (get_or ls j d)) ≡ true
+      → fullness_on g (f (get_or ls j d)) ≤ fullness_on g (f (get_or ls at d))
+  pub first : (j : ℕ) (d : Load) → j < at → takes_one_of g (f (get_or ls j d)) ≡ true
+      → fullness_on g (f (get_or ls j d)) < fullness_on g (f (get_or ls at d))
 
 -- such a place, or that none takes it
 abbrev pub IsBestOf : (Load → Load) → Group → List Load → Option ℕ → Type 0
-IsBestOf f g ls None = (j : ℕ) (d : Load) → j < length ls → takes g (f (get_or ls j d)) ≡ false
+IsBestOf f g ls None = (j : ℕ) (d : Load) → j < length ls → takes_one_of g (f (get_or ls j d)) ≡ false
 IsBestOf f g ls (Some at) = IsBestAt f g ls at

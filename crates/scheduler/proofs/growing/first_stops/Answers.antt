@@ -4,7 +4,7 @@ use Rattle.rows.specs.Keys.{alloc_cmp, alloc_id}
 use Rattle.rows.specs.Rising.{is_rising}
 use Rattle.group_model.specs.Scheduling.{claimed_by}
 use Rattle.scheduler.specs.Inner.Loads.{load_of}
-use Rattle.scheduler.specs.Inner.Growing.{AreLive, first_unwanted}
+use Rattle.scheduler.specs.Inner.Growing.{AreLiveRows, first_unwanted}
 use Rattle.scheduler.proofs.Found.{job_live}
 use Rattle.scheduler.proofs.Names.{unwanted_of_job}
 use Rattle.scheduler.proofs.Shares.{nothing_claimed}
@@ -21,7 +21,7 @@ pub stop_unwanted-requires-clause-live : goal.stop_unwanted-requires-clause-live
 stop_unwanted-requires-clause-live c =
     let s = c.args.state.now in
     let allocs = subst (λ (rows : List Allocation). T (is_rising alloc_cmp alloc_id rows)) c.alloc_table.ensures.rows c.ranges-2.ensures.rising in
-    subst (AreLive s) (sym (c.as_slice.ensures ∙ c.in_ok-rows.ensures)) (job_live s c.args.job.now allocs)
+    subst (AreLiveRows s) (sym (c.as_slice.ensures ∙ c.in_ok-rows.ensures)) (job_live s c.args.job.now allocs)
 
 pub returns-clause-part : goal.returns-clause-part
 returns-clause-part c =

@@ -7,7 +7,7 @@ use Rattle.rows.specs.Rising.{is_rising}
 use Rattle.fsm_tables.proofs.RowLaws.{some_same}
 use Rattle.group_model.specs.Scheduling.{PlanPart, claimed_by}
 use Rattle.scheduler.specs.Inner.Loads.{load_of, less}
-use Rattle.scheduler.specs.Inner.Growing.{part_of, fresh, IsLive}
+use Rattle.scheduler.specs.Inner.Growing.{part_of, fresh, IsLiveRow}
 use Rattle.scheduler.proofs.Found.{all_at}
 use Rattle.scheduler.proofs.Lists.{at_item}
 use Rattle.scheduler.proofs.Names.{unwanted_ids, unwanted_row, one_taken}
@@ -31,7 +31,7 @@ loop-row-preserved c =
     let few = c.loop-row.invariant.few in
     let below : length ids < 64 = omega (arith, few, c.len.ensures, c.if-len-eq-MOST.false) in
     let allocs = subst (λ (rows : List Allocation). T (is_rising alloc_cmp alloc_id rows)) c.alloc_table.ensures.rows c.ranges-2.ensures.rising in
-    let live = subst (IsLive s) (sym c.row-item.is) (all_at (IsLive s) c.args.rows.now c.loop-row.row-index row c.requires.live within) in
+    let live = subst (IsLiveRow s) (sym c.row-item.is) (all_at (IsLiveRow s) c.args.rows.now c.loop-row.row-index row c.requires.live within) in
     record {
       few = omega (arith, longer, below);
       stops = ap (λ (zs : List AllocId). zs ++ take (64 - length zs) rest) pushed
@@ -41,6 +41,6 @@ loop-row-preserved c =
       places = ap (λ (q : PlanPart). q.places) part ∙ c.loop-row.invariant.places;
       loads = c.in_ok-stop.ensures.loads
           ∙ ap (map (less (fresh ids (Some row)))) c.loop-row.invariant.loads
-          ∙ loads_less s job p (Some row) s.nodes allocs (λ a e. subst (IsLive s) (some_same row a e) live)
+          ∙ loads_less s job p (Some row) s.nodes allocs (λ a e. subst (IsLiveRow s) (some_same row a e) live)
           ∙ ap (λ q. map (load_of (claimed_by s job q)) s.nodes) (sym part);
     }
