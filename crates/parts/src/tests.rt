@@ -14,3 +14,4 @@ mod states;
 mod tallies;
 mod texts;
 mod values;
+mod workers;

@@ -1,7 +1,9 @@
 //! The replicated state as it is played: what numbers say of it, its lists, and its look-ups.
 use crate::tests::lines::put_pair;
 use crate::tests::states::{Played, is_text, numbers, play};
-use crate::tests::{admission, commands, desks, effects, full_tables, plan_checks, state_texts};
+use crate::tests::{
+    admission, commands, desks, effects, full_tables, plan_checks, state_texts, workers,
+};
 use fields::{RuledField, read_whole, write, write_long_list};
 use fsm_state::Cluster;
 use fsm_tables::{AllocName, Tables};
@@ -13,7 +15,8 @@ use std::alloc::Global;
 // NODE CPU MEMORY`: of the node. `live ID`: the allocation is the live one of its name. `dead ID`:
 // none is live under its name. `fork`: a copy has the same text. `lists`: the lists of its rows are
 // its text, each row is found by its key, and its one allocation is put into other tables. `accept
-// WAIT PLAN = ANSWER`: of the plan this is kept. Others are of the parts of a desk over it.
+// WAIT PLAN = ANSWER`: of the plan this is kept. Others are of the parts of a desk over it, and of
+// workers.
 impl Played for Cluster {
     fn holds(&self, alloc: Global, verb: char, words: &str) -> bool {
         let [first, second, third, fourth] = numbers(words);
@@ -28,7 +31,8 @@ impl Played for Cluster {
                 Err(_) => false,
             },
             'S' => lists(self, alloc) && finds_rows(self) && puts_allocations(self, alloc),
-            'P' => plan_checks::accepts(self, alloc, words),
+            'Y' => plan_checks::accepts(self, alloc, words),
+            'P' | 'W' => workers::holds(self, alloc, verb, words),
             _ => desks::holds(self, alloc, verb, words),
         }
     }
@@ -157,6 +161,7 @@ fn states_are_as_they_are_played(rt: HostRuntime) {
         state_texts::PLAYS,
         desks::PLAYS,
         plan_checks::PLAYS,
+        workers::PLAYS,
     ] {
         for tables in plays {
             play(&rt, alloc, Cluster::empty(alloc), tables);

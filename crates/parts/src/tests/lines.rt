@@ -3,7 +3,7 @@
 // For each kind of line the tag in front of its bytes, `-` for none, and its fields: a number of 1,
 // 2, 4 or 8 bytes, a name (n), an id of an allocation (a) or of an evaluation (e), a token (t), a
 // list with its count in one byte (A, P, L, N, R, G), or one of some words. What stands behind the
-// key of a row has a line of its own.
+// key of a row has a line of its own; so have plans and steps of workers, with numbers of ours.
 const FORMATS: &str = "\
 noop 0 -
 add 1 2
@@ -19,7 +19,7 @@ eval 8 n
 status 9 es8
 plan 10 etn8AP
 report 11 1R
-submit - etn88AL
+offer - etn88AL
 kept - etn8APN
 state - 8
 rows - 4
@@ -31,6 +31,12 @@ any-job - 1y8G
 any-node - n44uym8
 any-evaluation - n1s8
 any-allocation - nn1144dcye
+planned - AL88y
+later 90 -
+nothing 91 -
+submit 92 etn88AL
+finish 93 ets8
+nack 94 et
 raw - 1111111111111111111111111111111111111111111111111111111111111111\
 1111111111111111111111111111111111111111111111111111111111111111";
 

@@ -17,7 +17,7 @@ take put web 50 main:1:linux:600:300
 take plan 4.0 1.1 web 4 - main:0:1:600:300
 take put api 50 main:1:linux:400:100
 take plan 6.0 1.2 api 6 - main:0:2:400:100
-accept 7 submit 4.0 1.1 web 4 7 5.0 main:0:2 = kept 4.0 1.1 web 7 5.0 main:0:2:600:300 -
+accept 7 offer 4.0 1.1 web 4 7 5.0 main:0:2 = kept 4.0 1.1 web 7 5.0 main:0:2:600:300 -
 take plan 4.0 1.1 web 7 5.0 main:0:2:600:300
 used 1 0 0
 used 2 1000 400";
@@ -31,7 +31,7 @@ take put web 50 main:1:linux:600:300
 take plan 4.0 1.1 web 4 - main:0:1:600:300
 take put api 50 main:1:linux:401:100
 take plan 6.0 1.2 api 6 - main:0:2:401:100
-accept 7 submit 4.0 1.1 web 4 7 5.0 main:0:2 = kept 4.0 1.1 web 7 5.0 - 2";
+accept 7 offer 4.0 1.1 web 4 7 5.0 main:0:2 = kept 4.0 1.1 web 7 5.0 - 2";
 
 // Jobs web and api, whose evaluations are 5.0 and 6.0; 7.0 lives on node 1 as main[0] of web, 8.0
 // on node 2 as main[0] of api. Of node 1 400 and 700 are left, of node 2 600 and 900, of node 4 all.
@@ -49,95 +49,95 @@ keep";
 
 // Why a plan is refused as a whole; of two reasons the first.
 const REFUSALS: &str = "\
-accept 9 submit 5.0 1.1 web 5 8 7.0 - = 6
-accept 8 submit 5.0 1.1 web 5 8 7.0 - = kept 5.0 1.1 web 8 7.0 - -
-accept 7 submit 5.0 1.1 web 5 8 7.0 - = kept 5.0 1.1 web 8 7.0 - -
-accept 8 submit 5.0 1.1 web 5 8 - - = kept 5.0 1.1 web 8 - - -
-accept 8 submit 5.0 1.1 none 5 8 7.0 - = 8
-accept 8 submit 9.0 1.1 web 5 8 7.0 - = 8
-accept 8 submit 6.0 1.1 web 5 8 7.0 - = 8
-accept 8 submit 5.0 1.1 web 4 8 7.0 - = 7
-accept 8 submit 5.0 1.1 web 6 8 7.0 - = 7
-accept 9 submit 5.0 1.1 none 5 8 7.0 - = 6
-accept 9 submit 5.0 1.1 web 4 8 7.0 - = 6
-accept 8 submit 6.0 1.1 web 4 8 7.0 - = 8
+accept 9 offer 5.0 1.1 web 5 8 7.0 - = 6
+accept 8 offer 5.0 1.1 web 5 8 7.0 - = kept 5.0 1.1 web 8 7.0 - -
+accept 7 offer 5.0 1.1 web 5 8 7.0 - = kept 5.0 1.1 web 8 7.0 - -
+accept 8 offer 5.0 1.1 web 5 8 - - = kept 5.0 1.1 web 8 - - -
+accept 8 offer 5.0 1.1 none 5 8 7.0 - = 8
+accept 8 offer 9.0 1.1 web 5 8 7.0 - = 8
+accept 8 offer 6.0 1.1 web 5 8 7.0 - = 8
+accept 8 offer 5.0 1.1 web 4 8 7.0 - = 7
+accept 8 offer 5.0 1.1 web 6 8 7.0 - = 7
+accept 9 offer 5.0 1.1 none 5 8 7.0 - = 6
+accept 9 offer 5.0 1.1 web 4 8 7.0 - = 6
+accept 8 offer 6.0 1.1 web 4 8 7.0 - = 8
 take stop web
-accept 9 submit 5.0 1.1 web 9 9 7.0 - = kept 5.0 1.1 web 9 7.0 - -
-accept 9 submit 5.0 1.1 web 9 9 7.0 main:1:2 = 18
-accept 9 submit 5.0 1.1 web 5 9 7.0 main:1:2 = 7
-accept 9 submit 6.0 1.1 web 9 9 7.0 main:1:2 = 8
-accept 10 submit 5.0 1.1 web 9 9 7.0 main:1:2 = 6
+accept 9 offer 5.0 1.1 web 9 9 7.0 - = kept 5.0 1.1 web 9 7.0 - -
+accept 9 offer 5.0 1.1 web 9 9 7.0 main:1:2 = 18
+accept 9 offer 5.0 1.1 web 5 9 7.0 main:1:2 = 7
+accept 9 offer 6.0 1.1 web 9 9 7.0 main:1:2 = 8
+accept 10 offer 5.0 1.1 web 9 9 7.0 main:1:2 = 6
 again
 take status 5.0 complete 0
-accept 9 submit 5.0 1.1 web 5 9 7.0 - = kept 5.0 1.1 web 9 7.0 - -";
+accept 9 offer 5.0 1.1 web 5 9 7.0 - = kept 5.0 1.1 web 9 7.0 - -";
 
 // Stops are those of live allocations of the job, once each, as they are first named.
 const STOPS: &str = "\
 again
-accept 8 submit 5.0 1.1 web 5 8 8.0,7.0,9.0,7.0 - = kept 5.0 1.1 web 8 7.0 - -
+accept 8 offer 5.0 1.1 web 5 8 8.0,7.0,9.0,7.0 - = kept 5.0 1.1 web 8 7.0 - -
 take plan 5.0 1.1 web 8 - side:0:2:100:100
-accept 9 submit 5.0 1.1 web 5 9 9.0,7.0,9.0 - = kept 5.0 1.1 web 9 9.0,7.0 - -
+accept 9 offer 5.0 1.1 web 5 9 9.0,7.0,9.0 - = kept 5.0 1.1 web 9 9.0,7.0 - -
 take report 1 7.0:failed
-accept 10 submit 5.0 1.1 web 5 10 9.0,7.0 - = kept 5.0 1.1 web 10 9.0 - -";
+accept 10 offer 5.0 1.1 web 5 10 9.0,7.0 - = kept 5.0 1.1 web 10 9.0 - -";
 
 // A name is held once: by a row that does not stop, by a place of a lower node, or by one place of
 // this node.
 const NAMES: &str = "\
 again
-accept 8 submit 5.0 1.1 web 5 8 - main:0:2 = kept 5.0 1.1 web 8 - - 2
-accept 8 submit 5.0 1.1 web 5 8 8.0 main:0:2 = kept 5.0 1.1 web 8 - - 2
-accept 8 submit 5.0 1.1 web 5 8 7.0 main:0:2 = kept 5.0 1.1 web 8 7.0 main:0:2:600:300 -
-accept 8 submit 5.0 1.1 web 5 8 7.0 main:0:1 = kept 5.0 1.1 web 8 7.0 main:0:1:600:300 -
-accept 8 submit 5.0 1.1 web 5 8 7.0 main:1:2,main:1:1 = kept 5.0 1.1 web 8 7.0 main:1:1:600:300 2
-accept 8 submit 5.0 1.1 web 5 8 - side:0:2,side:0:2 = kept 5.0 1.1 web 8 - - 2
-accept 8 submit 5.0 1.1 web 5 8 - side:0:2,side:1:2 = \
+accept 8 offer 5.0 1.1 web 5 8 - main:0:2 = kept 5.0 1.1 web 8 - - 2
+accept 8 offer 5.0 1.1 web 5 8 8.0 main:0:2 = kept 5.0 1.1 web 8 - - 2
+accept 8 offer 5.0 1.1 web 5 8 7.0 main:0:2 = kept 5.0 1.1 web 8 7.0 main:0:2:600:300 -
+accept 8 offer 5.0 1.1 web 5 8 7.0 main:0:1 = kept 5.0 1.1 web 8 7.0 main:0:1:600:300 -
+accept 8 offer 5.0 1.1 web 5 8 7.0 main:1:2,main:1:1 = kept 5.0 1.1 web 8 7.0 main:1:1:600:300 2
+accept 8 offer 5.0 1.1 web 5 8 - side:0:2,side:0:2 = kept 5.0 1.1 web 8 - - 2
+accept 8 offer 5.0 1.1 web 5 8 - side:0:2,side:1:2 = \
 kept 5.0 1.1 web 8 - side:0:2:100:100,side:1:2:100:100 -";
 
 // A node's use is within its size, with all of its places or none, and what was not stopped gives
 // back nothing.
 const ROOM: &str = "\
-accept 8 submit 5.0 1.1 web 5 8 - main:1:2 = kept 5.0 1.1 web 8 - main:1:2:600:300 -
-accept 8 submit 5.0 1.1 web 5 8 - side:0:2,main:1:2 = kept 5.0 1.1 web 8 - - 2
-accept 8 submit 5.0 1.1 web 5 8 8.0 side:0:2,main:1:2 = kept 5.0 1.1 web 8 - - 2
-accept 8 submit 5.0 1.1 web 5 8 - side:1:2,side:0:1,main:1:2 = \
+accept 8 offer 5.0 1.1 web 5 8 - main:1:2 = kept 5.0 1.1 web 8 - main:1:2:600:300 -
+accept 8 offer 5.0 1.1 web 5 8 - side:0:2,main:1:2 = kept 5.0 1.1 web 8 - - 2
+accept 8 offer 5.0 1.1 web 5 8 8.0 side:0:2,main:1:2 = kept 5.0 1.1 web 8 - - 2
+accept 8 offer 5.0 1.1 web 5 8 - side:1:2,side:0:1,main:1:2 = \
 kept 5.0 1.1 web 8 - side:0:1:100:100 2
-accept 8 submit 5.0 1.1 web 5 8 - wide:0:1 = kept 5.0 1.1 web 8 - - 1
-accept 8 submit 5.0 1.1 web 5 8 7.0,7.0 wide:0:1,wide:1:1 = \
+accept 8 offer 5.0 1.1 web 5 8 - wide:0:1 = kept 5.0 1.1 web 8 - - 1
+accept 8 offer 5.0 1.1 web 5 8 7.0,7.0 wide:0:1,wide:1:1 = \
 kept 5.0 1.1 web 8 7.0 wide:0:1:401:1,wide:1:1:401:1 -
-accept 8 submit 5.0 1.1 web 5 8 7.0,7.0 main:1:1,wide:0:1 = kept 5.0 1.1 web 8 7.0 - 1
-accept 8 submit 5.0 1.1 web 5 8 - tall:0:1 = kept 5.0 1.1 web 8 - - 1
-accept 8 submit 5.0 1.1 web 5 8 - tall:0:2 = kept 5.0 1.1 web 8 - tall:0:2:1:701 -";
+accept 8 offer 5.0 1.1 web 5 8 7.0,7.0 main:1:1,wide:0:1 = kept 5.0 1.1 web 8 7.0 - 1
+accept 8 offer 5.0 1.1 web 5 8 - tall:0:1 = kept 5.0 1.1 web 8 - - 1
+accept 8 offer 5.0 1.1 web 5 8 - tall:0:2 = kept 5.0 1.1 web 8 - tall:0:2:1:701 -";
 
 // A node takes places of the job's groups, of its class, below their counts, where it is ready and
 // eligible. Nodes come in rising number.
 const NODES: &str = "\
-accept 8 submit 5.0 1.1 web 5 8 - none:0:2 = kept 5.0 1.1 web 8 - - 2
-accept 8 submit 5.0 1.1 web 5 8 - side:3:2 = kept 5.0 1.1 web 8 - side:3:2:100:100 -
-accept 8 submit 5.0 1.1 web 5 8 - side:4:2 = kept 5.0 1.1 web 8 - - 2
-accept 8 submit 5.0 1.1 web 5 8 - side:0:4 = kept 5.0 1.1 web 8 - - 4
-accept 8 submit 5.0 1.1 web 5 8 - arm:0:2 = kept 5.0 1.1 web 8 - - 2
-accept 8 submit 5.0 1.1 web 5 8 - arm:0:4 = kept 5.0 1.1 web 8 - arm:0:4:1:1 -
-accept 8 submit 5.0 1.1 web 5 8 - side:0:64,side:1:3 = kept 5.0 1.1 web 8 - - 3,64
-accept 8 submit 5.0 1.1 web 5 8 - side:0:2,side:1:1,side:2:2 = \
+accept 8 offer 5.0 1.1 web 5 8 - none:0:2 = kept 5.0 1.1 web 8 - - 2
+accept 8 offer 5.0 1.1 web 5 8 - side:3:2 = kept 5.0 1.1 web 8 - side:3:2:100:100 -
+accept 8 offer 5.0 1.1 web 5 8 - side:4:2 = kept 5.0 1.1 web 8 - - 2
+accept 8 offer 5.0 1.1 web 5 8 - side:0:4 = kept 5.0 1.1 web 8 - - 4
+accept 8 offer 5.0 1.1 web 5 8 - arm:0:2 = kept 5.0 1.1 web 8 - - 2
+accept 8 offer 5.0 1.1 web 5 8 - arm:0:4 = kept 5.0 1.1 web 8 - arm:0:4:1:1 -
+accept 8 offer 5.0 1.1 web 5 8 - side:0:64,side:1:3 = kept 5.0 1.1 web 8 - - 3,64
+accept 8 offer 5.0 1.1 web 5 8 - side:0:2,side:1:1,side:2:2 = \
 kept 5.0 1.1 web 8 - side:1:1:100:100,side:0:2:100:100,side:2:2:100:100 -
 take drain 2 slow
-accept 9 submit 5.0 1.1 web 5 9 - side:0:2,side:1:1 = kept 5.0 1.1 web 9 - side:1:1:100:100 2
+accept 9 offer 5.0 1.1 web 5 9 - side:0:2,side:1:1 = kept 5.0 1.1 web 9 - side:1:1:100:100 2
 again
 take lose 2
-accept 9 submit 5.0 1.1 web 5 9 - side:0:2,side:1:1 = kept 5.0 1.1 web 9 - side:1:1:100:100 2";
+accept 9 offer 5.0 1.1 web 5 9 - side:0:2,side:1:1 = kept 5.0 1.1 web 9 - side:1:1:100:100 2";
 
 // A name that is live twice, and a node past its size: states that no log makes.
 const UNSAFE: &str = "\
 again
 force plan 5.0 1.1 web 8 - main:0:2:600:300
-accept 9 submit 5.0 1.1 web 5 9 7.0 main:0:1 = kept 5.0 1.1 web 9 7.0 - 1
-accept 9 submit 5.0 1.1 web 5 9 9.0 main:0:1 = kept 5.0 1.1 web 9 9.0 - 1
-accept 9 submit 5.0 1.1 web 5 9 7.0,9.0 main:0:1 = \
+accept 9 offer 5.0 1.1 web 5 9 7.0 main:0:1 = kept 5.0 1.1 web 9 7.0 - 1
+accept 9 offer 5.0 1.1 web 5 9 9.0 main:0:1 = kept 5.0 1.1 web 9 9.0 - 1
+accept 9 offer 5.0 1.1 web 5 9 7.0,9.0 main:0:1 = \
 kept 5.0 1.1 web 9 7.0,9.0 main:0:1:600:300 -
 force plan 5.0 1.1 web 9 - main:1:2:600:300
-accept 10 submit 5.0 1.1 web 5 10 - side:0:2 = kept 5.0 1.1 web 10 - - 2
-accept 10 submit 5.0 1.1 web 5 10 10.0 side:0:2 = kept 5.0 1.1 web 10 10.0 - 2
-accept 10 submit 5.0 1.1 web 5 10 9.0,10.0 side:0:2 = \
+accept 10 offer 5.0 1.1 web 5 10 - side:0:2 = kept 5.0 1.1 web 10 - - 2
+accept 10 offer 5.0 1.1 web 5 10 10.0 side:0:2 = kept 5.0 1.1 web 10 10.0 - 2
+accept 10 offer 5.0 1.1 web 5 10 9.0,10.0 side:0:2 = \
 kept 5.0 1.1 web 10 9.0,10.0 side:0:2:100:100 -";
 
 pub(crate) const PLAYS: &[&[&str]] = &[

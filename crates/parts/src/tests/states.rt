@@ -90,7 +90,9 @@ blocked Z
 heartbeats H
 moves M
 queue Q
-accept P";
+accept Y
+plans P
+work W";
 
 fn verb_of(head: &str) -> char {
     match look_up(VERBS, head) {

@@ -1,0 +1,31 @@
+-- Lists, as loops make them.
+use Rattle.std.proofs.Common.{◌≡◌, ℕ, zero, suc, ◌+◌, ◌<◌, ◌≤◌, List, [], ◌∷◌, ◌++◌, length, get_or, set, map, take, drop, refl, sym, ap, ◌∙◌, arith}
+use Rattle.std.proofs.lemmas.List.{append_assoc, at_drop_more}
+
+module _ {A : Type 0} where
+  -- the item at a place becomes what `f` makes of it, as those before it did
+  pub mapped_more : (f : A → A) (xs : List A) (i : ℕ) (y d : A) → i < length xs → y ≡ f (get_or xs i d) →
+      take (i + 1) (set xs i y) ++ map f (drop (i + 1) (set xs i y)) ≡ take i xs ++ map f (drop i xs)
+  mapped_more f [] i y d lt e = absurd (omega (arith, lt))
+  mapped_more f (x ∷ xs) zero y d lt e = ap (λ z. z ∷ map f xs) e
+  mapped_more f (x ∷ xs) (suc i) y d lt e =
+      let next : suc i + 1 ≡ suc (i + 1) = omega arith in
+      ap (λ n. take n (x ∷ set xs i y) ++ map f (drop n (x ∷ set xs i y))) next
+      ∙ ap (λ zs. x ∷ zs) (mapped_more f xs i y d (omega (arith, lt)) e)
+
+  pub mapped_all : (f : A → A) (xs ys : List A) (i : ℕ) → length xs ≤ i → take i xs ++ map f (drop i xs) ≡ ys → xs ≡ ys
+  mapped_all f [] ys zero le e = e
+  mapped_all f [] ys (suc i) le e = e
+  mapped_all f (x ∷ xs) ys zero le e = absurd (omega (arith, le))
+  mapped_all f (x ∷ xs) ys (suc i) le e = ap (λ zs. x ∷ zs) (mapped_all f xs (take i xs ++ map f (drop i xs)) i (omega (arith, le)) refl) ∙ e
+
+-- what is left of a list begins with the item at the place
+pub at_item : {X Y : Type 0} (F : List X → Y) (xs : List X) (i : ℕ) (a : X) → i < length xs → a ≡ get_or xs i a → F (drop i xs) ≡ F (a ∷ drop (i + 1) xs)
+at_item F xs i a lt e = at_drop_more F xs i a lt ∙ ap (λ x. F (x ∷ drop (i + 1) xs)) (sym e)
+
+-- one more of what `f` makes of the items
+pub mapped_next : {X Y : Type 0} (f : X → Y) (done : List Y) (y : Y) (xs : List X) (i : ℕ) (a : X) → i < length xs → a ≡ get_or xs i a → y ≡ f a → (done ++ y ∷ []) ++ map f (drop (i + 1) xs) ≡ done ++ map f (drop i xs)
+mapped_next f done y xs i a lt e same =
+    append_assoc done (y ∷ []) (map f (drop (i + 1) xs))
+    ∙ ap (λ z. done ++ z ∷ map f (drop (i + 1) xs)) same
+    ∙ sym (at_item (λ zs. done ++ map f zs) xs i a lt e)

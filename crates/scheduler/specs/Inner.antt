@@ -1,0 +1,4 @@
+-- Words of private contracts.
+pub mod Names
+pub mod Loads
+pub mod Growing

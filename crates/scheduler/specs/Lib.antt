@@ -1,0 +1,3 @@
+pub mod Works
+pub mod Laws
+pub mod Inner

@@ -1,0 +1,19 @@
+//! What scheduling workers plan for an evaluation, and what they do next with what their server was
+//! answered.
+#![tactic(auto)]
+
+mod growing;
+mod laws;
+mod load;
+mod missing;
+mod planning;
+mod stepping;
+mod wanted;
+mod work;
+mod worker_plan;
+
+pub use laws::plans_are_determined;
+pub use planning::plan;
+pub use stepping::next_step;
+pub use work::{AskedRequest, EvalOutcome, PlanResult, Step, Work};
+pub use worker_plan::WorkerPlan;

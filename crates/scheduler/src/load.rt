@@ -1,0 +1,180 @@
+//! How full the nodes are, and which is the best for one more allocation.
+ghost use Rattle.std.specs.Prelude.{◌≡◌, ◌+◌, ◌≤◌, ◌<◌, false, true, map, option_map};
+ghost use Rattle.std.specs.Prelude.{IfOk, IfNone, IfSome};
+ghost use Rattle.fsm_tables.specs.Claims.{claims};
+ghost use Rattle.cluster_model.specs.Admission.{may_hold};
+ghost use Rattle.group_model.specs.Scheduling.{fullness};
+ghost use Rattle.scheduler.specs.Inner.Loads.{load_of, less, more, takes_one_of, fullness_on, IsBestOf};
+
+use fsm_state::Cluster;
+use rows::{AcceptedPlace, Allocation, Group, NoMemory, Node, NodeStatus, Ranged, Size};
+use std::alloc::Global;
+
+/// A node, and what is in use of it: sums of processor time in MHz and of memory in MB.
+#[derive(Clone, Copy)]
+pub(crate) struct Load {
+    /// The node's row.
+    pub node: Node,
+    /// Processor time, in MHz.
+    pub cpu: u64,
+    /// Memory, in MB.
+    pub mem: u64,
+}
+
+/// What is in use of each node of a state, in rising number.
+pub(crate) fn loads_of(alloc: Global, state: &Cluster) -> Result<Vec<Load>, NoMemory>
+    ensures { let load = load_of (claims state.now.allocs) in
+        IfOk result (λ loads. loads.items ≡ map load state.now.nodes) }
+{
+    let mut loads = Vec::new(alloc);
+    let nodes = state.node_table().rows();
+    for node in nodes {
+        let used = state.used(node.number);
+        loads.push(Load {
+            node: *node,
+            cpu: used.cpu,
+            mem: used.mem,
+        })?;
+    }
+    Ok(loads)
+}
+
+/// Whether a node may hold what a group asks for, if it has room: it is ready, eligible and of the
+/// class.
+fn may_hold(group: &Group, node: &Node) -> bool
+    ensures { result ≡ may_hold group.now node.now }
+{
+    let is_ready = match node.status {
+        NodeStatus::Ready => true,
+        NodeStatus::Down => false,
+    };
+    is_ready && node.eligible && group.class == node.class
+}
+
+/// What is in use of a room with some more; none where that is past the room.
+fn filled(used: u64, more: u64, room: u64) -> Option<u64>
+    ensures some { IfSome result (λ n. (n ≡ used + more) × (n ≤ room)) }
+    ensures none { IfNone result (room < used + more) }
+{
+    if more <= room && used <= room - more {
+        Some(used + more)
+    } else {
+        None
+    }
+}
+
+/// How full a node of a size is with so much of it in use, in thousandths of its processor time and
+/// of its memory together.
+fn fullness(cpu: u64, mem: u64, size: &Size) -> u64
+    requires { (cpu ≤ 1000000) × (mem ≤ 1000000) }
+    ensures { result ≡ fullness (record { cpu = cpu; mem = mem }) size.now }
+{
+    1000 * cpu / size.cpu.get() as u64 + 1000 * mem / size.mem.get() as u64
+}
+
+impl Load {
+    /// What is in use without what an allocation takes, if there is one.
+    fn less(&self, row: Option<&Allocation>) -> Load
+        ensures { result ≡ less (option_map (λ r. r.now) row.entry) self.now }
+    {
+        match row {
+            Some(row) if row.node == self.node.number => Load {
+                node: self.node,
+                cpu: self.cpu.saturating_sub(row.size.cpu.get() as u64),
+                mem: self.mem.saturating_sub(row.size.mem.get() as u64),
+            },
+            _ => *self,
+        }
+    }
+
+    /// What is in use with what a place takes.
+    fn more(&self, place: &AcceptedPlace) -> Load
+        ensures { result ≡ more place.now self.now }
+    {
+        if place.node == self.node.number {
+            Load {
+                node: self.node,
+                cpu: self.cpu.saturating_add(place.size.cpu.get() as u64),
+                mem: self.mem.saturating_add(place.size.mem.get() as u64),
+            }
+        } else {
+            *self
+        }
+    }
+
+    /// How full the node is with one more of a group; none where it does not take it.
+    fn fullness_with(&self, group: &Group) -> Option<u64>
+        ensures some { IfSome result (λ n. (takes_one_of group.now self.now ≡ true)
+            × (n ≡ fullness_on group.now self.now)) }
+        ensures none { IfNone result (takes_one_of group.now self.now ≡ false) }
+    {
+        self.node.ranges();
+        if !may_hold(group, &self.node) {
+            return None;
+        }
+        let size = &self.node.size;
+        match filled(self.cpu, group.size.cpu.get() as u64, size.cpu.get() as u64) {
+            None => None,
+            Some(cpu) => match filled(
+                self.mem,
+                group.size.mem.get() as u64,
+                size.mem.get() as u64,
+            ) {
+                None => None,
+                Some(mem) => Some(fullness(cpu, mem, size)),
+            },
+        }
+    }
+}
+
+/// How full a node is with one more of a group, once an allocation is gone; none where it does not
+/// take it.
+fn fullness_without(load: &Load, gone: Option<&Allocation>, group: &Group) -> Option<u64>
+    ensures some { let l = less (option_map (λ r. r.now) gone.entry) load.now in
+        IfSome result (λ n. (takes_one_of group.now l ≡ true) × (n ≡ fullness_on group.now l)) }
+    ensures none { let l = less (option_map (λ r. r.now) gone.entry) load.now in
+        IfNone result (takes_one_of group.now l ≡ false) }
+{
+    load.less(gone).fullness_with(group)
+}
+
+/// The place in the list of the fullest node that takes one more of a group, and of two as full the
+/// first, once an allocation is gone.
+pub(crate) fn best(loads: &[Load], group: &Group, gone: Option<&Allocation>) -> Option<usize>
+    ensures { let row = option_map (λ r. r.now) gone.entry in
+        IsBestOf (less row) group.now loads.now result }
+{
+    let mut is_found = false;
+    let mut best = 0;
+    let mut most = 0;
+    for at in 0..loads.len() {
+        let Some(fullness) = fullness_without(&loads[at], gone, group) else {
+            continue;
+        };
+        if is_found && fullness <= most {
+            continue;
+        }
+        is_found = true;
+        best = at;
+        most = fullness;
+    }
+    if is_found { Some(best) } else { None }
+}
+
+/// Takes off what an allocation takes, if there is one.
+pub(crate) fn take_off(loads: &mut [Load], row: Option<&Allocation>)
+    ensures { loads.new ≡ map (less (option_map (λ r. r.now) row.entry)) loads.old }
+{
+    for load in loads.iter_mut() {
+        *load = load.less(row);
+    }
+}
+
+/// Puts on what a place takes.
+pub(crate) fn put_on(loads: &mut [Load], place: &AcceptedPlace)
+    ensures { loads.new ≡ map (more place.now) loads.old }
+{
+    for load in loads.iter_mut() {
+        *load = load.more(place);
+    }
+}
