@@ -9,10 +9,10 @@ use rows::{
 use scheduler::{AskedRequest, EvalOutcome, PlanResult, Step, Work, next_step, plan};
 use std::alloc::Global;
 
-// `plans EVAL INDEX : planned STOPS PLACES VERSION SNAPSHOT ALL`: the plan for an evaluation from the
-// state of this index. `work INDEX PLANS WORK : STEP`: the step with such work, after so many plans.
-// Work is `delivered EVAL WAIT`, `placed EVAL LAST`, `none - 0`, or `refused WHAT NUMBER` of a
-// request for 4.0; all are under token 1.1.
+// `plans EVAL INDEX : planned STOPS PLACES VERSION SNAPSHOT ALL`: the plan for an evaluation from
+// the state of this index. `work INDEX PLANS WORK : STEP`: the step with such work, after so many
+// plans. Work is `delivered EVAL WAIT`, `placed EVAL LAST`, `none - 0`, or `refused WHAT NUMBER` of
+// a request for 4.0; all are under token 1.1.
 
 // Two nodes run a job of two, which then asks for one of another size.
 const REPLACED: &str = "\
