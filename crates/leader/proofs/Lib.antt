@@ -1,0 +1,4 @@
+pub mod Firsts
+pub mod Turning
+pub mod Acts
+pub mod Staying
