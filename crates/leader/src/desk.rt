@@ -1,7 +1,8 @@
-ghost use Rattle.std.specs.Prelude.{◌≡◌, ◌⊎◌, None, is_some, option_map, OnOk, OnErr, IfOk, IfErr, IfSome, Ok, Err};
+ghost use Rattle.std.specs.Prelude.{◌≡◌, ◌⊎◌, true, None, is_some, option_map, OnOk, OnErr, IfOk, IfErr, IfSome, Ok, Err};
 ghost use Rattle.rows.specs.Keys.{eval_id};
 ghost use Rattle.cluster_model.specs.Words.{State};
 ghost use Rattle.group_model.specs.Blocked.{first_due};
+ghost use Rattle.leader.specs.Staying.{FollowsIfOpen};
 ghost use Rattle.leader.specs.Errors.{desk_refusal};
 ghost use Rattle.leader.specs.Verdicts.{judged_by, IsProposal, on_plan_turn};
 ghost use Rattle.leader.specs.OpenDesks.{IsOpenedBy, IsOverBlocked, LacksMemory, if_open, at_open, on_deliver, on_outstanding, on_ack, on_nack, on_lapse, on_submit, on_free_turn, on_reap};
@@ -10,7 +11,9 @@ use crate::desk_error::DeskError;
 use crate::judged::JudgedPlan;
 use crate::open_desk::OpenDesk;
 use fsm_state::Cluster;
-use rows::{Delivery, EvalId, Index, LeaderTerm, NoMemory, Plan, Refusal, ServerId, Token};
+use rows::{
+    Command, Delivery, EvalId, Index, LeaderTerm, NoMemory, Plan, Refusal, ServerId, Token,
+};
 use std::alloc::Global;
 use std::marker::Model;
 
@@ -65,6 +68,19 @@ impl Desk {
         ensures { self.new ≡ None }
     {
         self.opened = None;
+    }
+
+    /// Follows an entry that was applied, by its command and the state that it left; it is called
+    /// after each of them. An open desk that was of the state before the entry is of this one then;
+    /// a closed one stays closed. Without memory the desk is only to be dropped or cleared.
+    pub fn changed(&mut self, command: &Command, state: &Cluster) -> Result<(), NoMemory>
+        ensures follows { OnOk result (FollowsIfOpen command.now state.now self.old self.new) }
+        ensures closed { OnErr result (is_some self.old ≡ true) }
+    {
+        match &mut self.opened {
+            Some(desk) => desk.changed(self.alloc, command, state),
+            None => Ok(()),
+        }
     }
 
     /// Gives out the evaluation that goes next, to be planned from a state of index `wait` or

@@ -1,11 +1,13 @@
 //! An open desk.
-ghost use Rattle.std.specs.Prelude.{◌≡◌, ◌⊎◌, option_map, OnErr, IfOk, IfErr, IfSome, Ok, Err};
+ghost use Rattle.std.specs.Prelude.{◌≡◌, ◌⊎◌, option_map, OnOk, OnErr, IfOk, IfErr, IfSome, Ok, Err};
 ghost use Rattle.rows.specs.declared.refusal.Refusal.TheVariants as refusals;
+ghost use Rattle.leader.specs.Staying.{Follows};
 ghost use Rattle.leader.specs.Errors.{desk_refusal};
 ghost use Rattle.leader.specs.Verdicts.{judged_by, IsProposal, on_plan_turn};
 ghost use Rattle.leader.specs.OpenDesks.{IsOpened, on_deliver, on_outstanding, on_ack, on_nack, on_lapse, on_submit, on_free_turn, on_reap};
 
 use crate::desk_error::DeskError;
+use crate::following::follow;
 use crate::judged::{JudgedPlan, judge};
 use crate::turns::{first_blocked, first_pending};
 use blocked::Blocked;
@@ -13,7 +15,9 @@ use eval_broker::Broker;
 use expiry::Expiry;
 use fsm_state::Cluster;
 use plan_queue::PlanQueue;
-use rows::{Delivery, EvalId, Index, LeaderTerm, NoMemory, Plan, Refusal, ServerId, Token};
+use rows::{
+    Command, Delivery, EvalId, Index, LeaderTerm, NoMemory, Plan, Refusal, ServerId, Token,
+};
 use std::alloc::Global;
 use std::marker::Model;
 
@@ -51,6 +55,26 @@ impl OpenDesk {
             expiry: Expiry::rebuild(alloc, state)?,
             term,
         })
+    }
+
+    /// Follows an entry that was applied, by its command and the state that it left. Without memory
+    /// the desk is only to be dropped.
+    pub fn changed(
+        &mut self,
+        alloc: Global,
+        command: &Command,
+        state: &Cluster,
+    ) -> Result<(), NoMemory>
+        ensures { OnOk result (Follows command.now state.now self.old self.new) }
+    {
+        follow(
+            alloc,
+            &mut self.broker,
+            &mut self.blocked,
+            &mut self.expiry,
+            command,
+            state,
+        )
     }
 
     /// Gives out the evaluation that goes next, if one does.
