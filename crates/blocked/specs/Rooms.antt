@@ -1,9 +1,10 @@
 -- What is kept: blocked evaluations in rising id, and the room of classes in rising class; and what
 -- that is.
 use Rattle.std.specs.Prelude.{ℕ, Option, Some, None, List}
+use Rattle.rows.specs.declared.node.Node.{Node}
 use Rattle.rows.specs.Keys.{name_cmp}
 use Rattle.fsm_tables.specs.Rows.{row_of}
-use Rattle.group_model.specs.Blocked.{BlockedEval, BlockedEvals}
+use Rattle.group_model.specs.Blocked.{BlockedEval, BlockedEvals, room_over}
 use Rattle.blocked.specs.declared.rooms.ClassRoom.{ClassRoom}
 
 abbrev pub room_class : ClassRoom → List ℕ
@@ -23,3 +24,7 @@ pub record BlockedRows : Type 0 where
 
 abbrev pub blocked_of : BlockedRows → BlockedEvals
 blocked_of b = record { evals = b.evals; room = room_in b.rooms }
+
+-- the same evaluations, with the room of these nodes
+abbrev pub with_room_of : List Node → BlockedEvals → BlockedEvals
+with_room_of nodes b = record b { room = room_over nodes }

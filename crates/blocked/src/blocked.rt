@@ -1,18 +1,19 @@
 ghost use Rattle.std.specs.Prelude.{◌≡◌, [], OnOk, OnErr, IfOk, filter, map};
 ghost use Rattle.group_model.specs.Order.{in_order};
 ghost use Rattle.group_model.specs.Blocked.{BlockedEval as AnyBlockedEval, blocked_id, due, made_due};
-ghost use Rattle.group_model.specs.Blocked.{with_blocked, without_blocked, with_class_room, blocked_over, blocked_with_job};
-ghost use Rattle.blocked.specs.Rooms.{blocked_of};
+ghost use Rattle.group_model.specs.Blocked.{with_blocked, without_blocked, with_class_room};
+ghost use Rattle.group_model.specs.Blocked.{blocked_over, blocked_with_eval, blocked_with_job};
+ghost use Rattle.blocked.specs.Rooms.{blocked_of, with_room_of};
 ghost use Rattle.blocked.specs.Inner.Anew.{is_of};
 
 use crate::due::{due_now, due_then};
 use crate::held::BlockedEval;
 use crate::order::in_order;
-use crate::rebuild::{classes_of, evals_of, rooms_of};
+use crate::rebuild::{classes_of, evals_of, held_of, is_blocked, rooms_of};
 use crate::rooms::Rooms;
 use fsm_state::Cluster;
-use fsm_tables::ReservedTable;
-use rows::{ClassName, EvalId, Evaluation, Index, Job, JobName, NoMemory, Sequence};
+use fsm_tables::{ReservedTable, Table};
+use rows::{ClassName, EvalId, Evaluation, Index, Job, JobName, NoMemory, Node, Sequence};
 use std::alloc::Global;
 use std::marker::Model;
 
@@ -69,6 +70,27 @@ impl Blocked {
         Ok(())
     }
 
+    /// Follows a row that was made or replaced in this state: one that is blocked is put, with the
+    /// classes that its job asks for; any other is taken. Without memory nothing changes.
+    pub fn changed(
+        &mut self,
+        alloc: Global,
+        row: &Evaluation,
+        state: &Cluster,
+    ) -> Result<(), NoMemory>
+        ensures ok { OnOk result (
+            blocked_of self.new ≡ blocked_with_eval state.now row.now (blocked_of self.old)) }
+        ensures err { OnErr result (self.new ≡ self.old) }
+    {
+        if is_blocked(row) {
+            let held = held_of(alloc, state, row)?;
+            self.put(held.row, held.classes)
+        } else {
+            self.take(row.id);
+            Ok(())
+        }
+    }
+
     /// A job's row was made or replaced: its blocked evaluations are put anew, with the classes
     /// that its groups ask for. Without memory some may be, so that the value is only to be dropped.
     pub fn put_job(&mut self, alloc: Global, job: &Job) -> Result<(), NoMemory>
@@ -108,6 +130,17 @@ impl Blocked {
         let ids = in_order(alloc, urgencies.as_slice())?;
         self.rooms.note(class, index)?;
         Ok(ids)
+    }
+
+    /// The room of these nodes takes the place of what was noted before; it takes time of the
+    /// nodes alone. Without memory nothing changes.
+    pub fn renew_rooms(&mut self, alloc: Global, nodes: &Table<Node>) -> Result<(), NoMemory>
+        ensures ok { OnOk result
+            (blocked_of self.new ≡ with_room_of nodes.now (blocked_of self.old)) }
+        ensures err { OnErr result (self.new ≡ self.old) }
+    {
+        self.rooms = rooms_of(alloc, nodes)?;
+        Ok(())
     }
 
     /// The ids of the evaluations that are due, higher priority first and then lower id.

@@ -12,7 +12,7 @@ use rows::{ClassName, EvalStatus, Evaluation, Job, NoMemory, Node, Sequence};
 use std::alloc::Global;
 
 /// Whether an evaluation is blocked.
-fn is_blocked(row: &Evaluation) -> bool
+pub(crate) fn is_blocked(row: &Evaluation) -> bool
     ensures { result ≡ is_blocked row.now.status }
 {
     match row.status {
@@ -33,7 +33,11 @@ pub(crate) fn classes_of(alloc: Global, job: &Job) -> Result<Sequence<ClassName>
 }
 
 /// A blocked evaluation of a state.
-fn held_of(alloc: Global, state: &Cluster, row: &Evaluation) -> Result<BlockedEval, NoMemory>
+pub(crate) fn held_of(
+    alloc: Global,
+    state: &Cluster,
+    row: &Evaluation,
+) -> Result<BlockedEval, NoMemory>
     ensures { IfOk result (λ held. held ≡ blocked_eval state.now row.now) }
 {
     let classes = match state.job(&row.job) {

@@ -16,7 +16,7 @@ use Rattle.group_model.specs.Worked.Brokers.{after_gift}
 use Rattle.eval_broker.specs.Calls.{Call, Changed, Next, Ack, Nack, Followed, after_call, after_calls, rebuilt, Holds, HoldsAfterCalls}
 
 -- over any rows, whatever was there before
-over_holds : (es : List Evaluation) (b : Broker) → HoldsPending es (broker_over es b).tasks
+pub over_holds : (es : List Evaluation) (b : Broker) → HoldsPending es (broker_over es b).tasks
 over_holds es b = go (filter (λ e. is_pending e.status) es) where
   carried_key : (e : Evaluation) (o : Option Task) → task_key (carry e o) ≡ eval_key e
   carried_key e None = refl
@@ -27,14 +27,14 @@ over_holds es b = go (filter (λ e. is_pending e.status) es) where
   go (x ∷ xs) = λ i. carried_key x (task_of x.id b.tasks) i ∷ go xs i
 
 -- a task that changes in rank keeps its evaluation
-keys_kept : (f : Task → Task) → ((t : Task) → task_key (f t) ≡ task_key t) → (id : EvalId) (ts : List Task) → map task_key (with_task id f ts) ≡ map task_key ts
+pub keys_kept : (f : Task → Task) → ((t : Task) → task_key (f t) ≡ task_key t) → (id : EvalId) (ts : List Task) → map task_key (with_task id f ts) ≡ map task_key ts
 keys_kept f keeps id [] = refl
 keys_kept f keeps id (t ∷ ts) = λ i. by (same_eval t.id id) i ∷ keys_kept f keeps id ts i where
   by : (b : Bool) → task_key (cond b (f t) t) ≡ task_key t
   by true = keeps t
   by false = refl
 
-gift_keeps : (term wait : ℕ) (b : Broker) → map task_key (after_gift b (deliver term wait b)).tasks ≡ map task_key b.tasks
+pub gift_keeps : (term wait : ℕ) (b : Broker) → map task_key (after_gift b (deliver term wait b)).tasks ≡ map task_key b.tasks
 gift_keeps term wait b = by (next b.tasks) where
   used : (t : Task) (c : Bool) → map task_key (after_gift b (cond c (Gives (delivery_of term wait t b) (given term wait t b)) UsedUp)).tasks ≡ map task_key b.tasks
   used t true = keys_kept (goes_out (next_token term b) wait) (λ t. refl) t.id b.tasks

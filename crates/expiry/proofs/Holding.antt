@@ -18,8 +18,8 @@ same_nodes : (find : ℕ → Option BeatCount) (nodes : List Node) → map count
 same_nodes find [] = refl
 same_nodes find (n ∷ nodes) = ap (λ ns. n.number ∷ ns) (same_nodes find nodes)
 
-over_holds : (nodes : List Node) (old : List BeatCount) → HoldsReady nodes (beat_counts_over nodes old)
-over_holds nodes old = same_nodes (λ n. beat_count_of n old) (filter (λ (n : Node). is_ready n.status) nodes)
+pub over_ready : (nodes : List Node) (old : List BeatCount) → HoldsReady nodes (beat_counts_over nodes old)
+over_ready nodes old = same_nodes (λ n. beat_count_of n old) (filter (λ (n : Node). is_ready n.status) nodes)
 
 beat_stays : (n : ℕ) (counts : List BeatCount) → map count_node (with_beat n counts) ≡ map count_node counts
 beat_stays n [] = refl
@@ -30,11 +30,11 @@ beat_stays n (c ∷ counts) = λ i. one (nat_eq c.node n) i ∷ beat_stays n cou
 
 held_after : (calls : List Call) (nodes : List Node) (counts : List BeatCount) → T (is_rising nat_cmp node_number nodes) → HoldsReady nodes counts → HoldsAfter nodes counts calls
 held_after [] nodes counts rising holds = holds
-held_after (Rebuild s its ∷ calls) nodes counts rising holds = held_after calls s.nodes (beat_counts_over s.nodes []) its (over_holds s.nodes [])
+held_after (Rebuild s its ∷ calls) nodes counts rising holds = held_after calls s.nodes (beat_counts_over s.nodes []) its (over_ready s.nodes [])
 held_after (Changed row ∷ calls) nodes counts rising holds =
     let after = put nat_cmp node_number row nodes in
     held_after calls after _ (rising_put nat_cmp node_number nat_cmp_total row nodes rising)
-    (sym (ap (map count_node) (counts_follow nodes row counts rising holds)) ∙ over_holds after counts)
+    (sym (ap (map count_node) (counts_follow nodes row counts rising holds)) ∙ over_ready after counts)
 held_after (Beat n ∷ calls) nodes counts rising holds = held_after calls nodes (with_beat n counts) rising (beat_stays n counts ∙ holds)
 
 pub always_held : (calls : List Call) → HoldsAfter [] [] calls

@@ -71,7 +71,7 @@ pub(crate) fn holds(state: &Cluster, alloc: Global, verb: char, words: &str) -> 
     }
 }
 
-fn eval_of(alloc: Global, word: &str) -> Option<EvalId> {
+pub(crate) fn eval_of(alloc: Global, word: &str) -> Option<EvalId> {
     let mut bytes = Vec::new(alloc);
     if put_pair(&mut bytes, word, 2) {
         read_whole(alloc, &bytes).ok()

@@ -1,0 +1,11 @@
+pub mod Firsts
+pub mod Turning
+pub mod Acts
+pub mod Staying
+pub mod Tables
+pub mod MadeRows
+pub mod Holding
+pub mod ToldEvals
+pub mod Commands
+pub mod Follows
+pub mod Followed

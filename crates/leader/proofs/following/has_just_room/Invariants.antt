@@ -1,0 +1,9 @@
+use Rattle.std.proofs.Common.{◌≡◌, drop}
+use Rattle.std.specs.Prelude.{nat_eq}
+use Rattle.std.specs.List.{list_any}
+use Rattle.rows.specs.declared.node.Node.{Node}
+use Rattle.leader.proofs.following.has_just_room.Given as goal
+
+abbrev pub invariant-loop-node : goal.invariant-loop-node
+invariant-loop-node l =
+    list_any (λ (n : Node). nat_eq n.room l.state.count) (drop l.node-index l.node-items) ≡ list_any (λ (n : Node). nat_eq n.room l.state.count) l.node-items

@@ -1,0 +1,13 @@
+use Rattle.std.proofs.Common.{Ok, ap, sym, ◌∙◌}
+use Rattle.std.specs.Prelude.{find}
+use Rattle.blocked.specs.Rooms.{blocked_of}
+use Rattle.leader.specs.OpenDesks.{OpenDesk, on_free_turn}
+use Rattle.leader.specs.Inner.Still.{is_blocked_in}
+use Rattle.leader.proofs.Turning.{freed_is}
+use Rattle.leader.proofs.open_desk.OpenDesk.free_turn.Goals as goal
+
+pub returns : goal.returns
+returns c =
+    let whole = c.args.whole.now in
+    let found = c.first_blocked.ensures ∙ ap (find (is_blocked_in whole)) (c.as_slice.ensures ∙ c.in_ok-due.ensures) ∙ freed_is whole (blocked_of c.self.inside.blocked) in
+    ap (λ (o : OpenDesk). on_free_turn whole o) (sym c.self.view_is) ∙ ap Ok (sym found)

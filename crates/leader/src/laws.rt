@@ -1,0 +1,33 @@
+//! Laws of an open desk. The functions have empty bodies: what they say is their contracts.
+ghost use Rattle.leader.specs.GroupActs.{TakesByDeliver, SubmitsBySubmit, FinishesByAck, NacksByNack};
+ghost use Rattle.leader.specs.GroupActs.{LapsesByLapse, PlanTurnsByVerdict, FreesByFreeTurn, ReapsByReap};
+ghost use Rattle.leader.specs.Staying.{OpensOver, DeliverStays, AckStays, NackStays, LapseStays, SubmitStays, PlanTurnStays};
+
+/// What a server of the group makes of a request of a worker, or of a turn, at an open desk is told
+/// by the answer of the desk's call.
+/// - `take`: by `deliver`, in the leader's term and for its last index.
+/// - `submit`, `finish`, `nack`: by `submit` on the applied state, `ack` and `nack`.
+/// - `lapse`, `plan_turn`, `reap`: by the call of the name, on the state after the whole log.
+/// - `free_turn`: the same, where what is kept of blocked evaluations is of the applied state.
+pub fn calls_are_of_the_group()
+    ensures take { TakesByDeliver }
+    ensures submit { SubmitsBySubmit }
+    ensures finish { FinishesByAck }
+    ensures nack { NacksByNack }
+    ensures lapse { LapsesByLapse }
+    ensures plan_turn { PlanTurnsByVerdict }
+    ensures free_turn { FreesByFreeTurn }
+    ensures reap { ReapsByReap }
+{}
+
+/// A desk that opens over a state has its pending and its blocked evaluations and its ready nodes;
+/// and a call that changes the desk, but for `changed`, leaves it so.
+pub fn calls_stay_over_the_state()
+    ensures opened { OpensOver }
+    ensures deliver { DeliverStays }
+    ensures ack { AckStays }
+    ensures nack { NackStays }
+    ensures lapse { LapseStays }
+    ensures submit { SubmitStays }
+    ensures plan_turn { PlanTurnStays }
+{}
