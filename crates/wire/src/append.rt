@@ -1,6 +1,6 @@
 ghost use Rattle.std.specs.Prelude.{◌≡◌, ◌<◌, ◌≤◌, ◌+◌, ◌^◌, ◌⊎◌, length, IfSome, IfNone};
 ghost use Rattle.fields_model.specs.Format.{Gives, GivesExactly, Puts};
-ghost use Rattle.wire.specs.Grammar.{append_head, append_reply, append as append_format, most_entries};
+ghost use Rattle.wire.specs.Grammar.{append_head, append_reply, append, most_entries};
 ghost use Rattle.wire.specs.Laws.GrammarLaws.{append_head_lawful, append_reply_lawful};
 
 use fields::{
@@ -189,7 +189,7 @@ pub fn read_append<M: Machine>(
     bytes: &[u8],
     at: usize,
 ) -> Result<(Append<M>, usize), Refusal>
-    ensures { Gives result ((append_format M.meaning.commands).read bytes.now at) }
+    ensures { Gives result ((append M.meaning.commands).read bytes.now at) }
 {
     let (head, at) = AppendHead::read_at(alloc, bytes, at)?;
     let (entries, end) = read_list(alloc, bytes, at, most_entries(head.prev_index))?;
@@ -205,7 +205,7 @@ pub fn append_append<M: Machine>(
 ) -> Result<(), NoMemory>
     requires few { length entries.now ≤ 32 }
     requires places { head.now.prev_index + length entries.now < 2 ^ 40 }
-    ensures { Puts (append_format M.meaning.commands) (record { head = head.now; entries = entries.now }) result out.old.items out.new.items }
+    ensures { Puts (append M.meaning.commands) (record { head = head.now; entries = entries.now }) result out.old.items out.new.items }
 {
     head.append(out)?;
     write_u8(&(entries.len() as u8), out)?;

@@ -1,7 +1,7 @@
 ghost use Rattle.std.specs.Prelude.{◌≡◌, IfOk};
 ghost use Rattle.fields_model.specs.Format.{Gives, Puts};
 ghost use Rattle.wire.specs.Messages.{kind_of};
-ghost use Rattle.wire.specs.Grammar.{body as body_format};
+ghost use Rattle.wire.specs.Grammar.{body};
 ghost use Rattle.wire.specs.Inner.Said.{said_body, HavePlaces};
 
 use crate::append::{Append, AppendHead, AppendReply, append_append, read_append};
@@ -46,7 +46,7 @@ pub fn read_body<M: Machine>(
     bytes: &[u8],
     at: usize,
 ) -> Result<(Body<M>, usize), Refusal>
-    ensures value { Gives result ((body_format M.meaning.commands kind).read bytes.now at) }
+    ensures value { Gives result ((body M.meaning.commands kind).read bytes.now at) }
     ensures same_kind { IfOk result (λ b. kind_of b.0 ≡ kind) }
 {
     match kind {
@@ -70,10 +70,10 @@ pub fn read_body<M: Machine>(
 }
 
 /// Puts the body to the end.
-pub fn append_body<M: Machine>(body: &Body<M>, out: &mut Vec<u8>) -> Result<(), NoMemory>
-    ensures { Puts (body_format M.meaning.commands (kind_of body.now)) body.now result out.old.items out.new.items }
+pub fn append_body<M: Machine>(value: &Body<M>, out: &mut Vec<u8>) -> Result<(), NoMemory>
+    ensures { Puts (body M.meaning.commands (kind_of value.now)) value.now result out.old.items out.new.items }
 {
-    match body {
+    match value {
         Body::VoteRequest(request) => request.append(out),
         Body::VoteReply(reply) => reply.append(out),
         Body::Append(append) => append_append(&append.head(), append.entries(), out),
@@ -105,7 +105,7 @@ impl<'a, M: Machine> Said<'a, M> {
 /// Puts what is said to the end.
 pub fn append_said<M: Machine>(said: &Said<'_, M>, out: &mut Vec<u8>) -> Result<(), NoMemory>
     requires { HavePlaces said.now }
-    ensures { Puts (body_format M.meaning.commands (kind_of (said_body said.now))) (said_body said.now)
+    ensures { Puts (body M.meaning.commands (kind_of (said_body said.now))) (said_body said.now)
         result out.old.items out.new.items }
 {
     match said {

@@ -1,7 +1,7 @@
 ghost use Rattle.std.specs.Prelude.{◌≡◌, true, IfOk};
 ghost use Rattle.fields_model.specs.Format.{Gives, Puts};
 ghost use Rattle.wire.specs.Messages.{may_go};
-ghost use Rattle.wire.specs.Grammar.{header as header_format};
+ghost use Rattle.wire.specs.Grammar.{header};
 
 use crate::kind::Kind;
 use fields::{Field, read_actor, read_u8, write_actor, write_u8};
@@ -24,7 +24,7 @@ const VERSION: u8 = 1;
 
 /// The header at a place, and the place after it.
 pub fn read_header(alloc: Global, bytes: &[u8], at: usize) -> Result<(Header, usize), Refusal>
-    ensures value { Gives result (header_format.read bytes.now at) }
+    ensures value { Gives result (header.read bytes.now at) }
     ensures allowed { IfOk result (λ h. may_go h.0.kind h.0.from h.0.to ≡ true) }
 {
     let (version, kind_at) = read_u8(bytes, at)?;
@@ -44,12 +44,12 @@ pub fn read_header(alloc: Global, bytes: &[u8], at: usize) -> Result<(Header, us
 }
 
 /// Puts the header to the end.
-pub fn append_header(header: &Header, out: &mut Vec<u8>) -> Result<(), NoMemory>
-    requires { may_go header.now.kind header.now.from header.now.to ≡ true }
-    ensures { Puts header_format header.now result out.old.items out.new.items }
+pub fn append_header(value: &Header, out: &mut Vec<u8>) -> Result<(), NoMemory>
+    requires { may_go value.now.kind value.now.from value.now.to ≡ true }
+    ensures { Puts header value.now result out.old.items out.new.items }
 {
     write_u8(&VERSION, out)?;
-    header.kind.append(out)?;
-    write_actor(&header.from, out)?;
-    write_actor(&header.to, out)
+    value.kind.append(out)?;
+    write_actor(&value.from, out)?;
+    write_actor(&value.to, out)
 }

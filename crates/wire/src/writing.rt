@@ -1,7 +1,7 @@
 ghost use Rattle.std.specs.Prelude.{◌≡◌, ◌++◌, ◌+◌, ◌<◌, ◌≤◌, ◌^◌, true, length, take, drop, OnOk, OnErr};
 ghost use Rattle.fields_model.specs.Format.{Grows};
 ghost use Rattle.wire.specs.Messages.{kind_of, may_go};
-ghost use Rattle.wire.specs.Grammar.{body as body_format};
+ghost use Rattle.wire.specs.Grammar.{body};
 ghost use Rattle.wire.specs.Frames.{sized, AddsFrame};
 ghost use Rattle.wire.specs.Inner.Said.{said_body, HavePlaces};
 ghost use Rattle.wire.specs.Inner.Sizes.{AddsSized};
@@ -26,7 +26,7 @@ fn put_size(out: &mut Vec<u8>, at: usize)
 /// Puts what is said to the end, behind its length.
 fn append_sized<M: Machine>(said: &Said<'_, M>, out: &mut Vec<u8>) -> Result<(), NoMemory>
     requires { HavePlaces said.now }
-    ensures ok { OnOk result (AddsSized (body_format M.meaning.commands (kind_of (said_body said.now)))
+    ensures ok { OnOk result (AddsSized (body M.meaning.commands (kind_of (said_body said.now)))
         (said_body said.now) out.old.items out.new.items) }
     ensures err { OnErr result (Grows out.old.items out.new.items) }
 {
