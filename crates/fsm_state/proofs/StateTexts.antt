@@ -13,15 +13,15 @@ use Rattle.cluster_model.specs.Words.{State}
 
 pub all_fit : (s : State) → s.count < 2 ^ 40 → TablesFit (record { jobs = s.jobs; nodes = s.nodes; evals = s.evals; allocs = s.allocs }) → state.Fits s
 all_fit s low t = fits_state s (record {
-    count = low;
-    tables = record {
-      jobs = record { rising = t.jobs.rising; few = t.jobs.few };
-      nodes = record { rising = t.nodes.rising; few = t.nodes.few };
-      evals = record { rising = t.evals.rising; few = t.evals.few };
-      allocs = record { rising = t.allocs.rising; few = t.allocs.few };
-    };
-    rows = record { jobs = t.jobs.fit; nodes = t.nodes.fit; evals = t.evals.fit; allocs = t.allocs.fit };
-  })
+  count = low;
+  tables = record {
+    jobs = record { rising = t.jobs.rising; few = t.jobs.few };
+    nodes = record { rising = t.nodes.rising; few = t.nodes.few };
+    evals = record { rising = t.evals.rising; few = t.evals.few };
+    allocs = record { rising = t.allocs.rising; few = t.allocs.few };
+  };
+  rows = record { jobs = t.jobs.fit; nodes = t.nodes.fit; evals = t.evals.fit; allocs = t.allocs.fit };
+})
 
 -- five parts, one after the other
 parts : (o0 o1 o2 o3 o4 a b c d e : List ℕ) → o1 ≡ o0 ++ a → o2 ≡ o1 ++ b → o3 ≡ o2 ++ c → o4 ≡ o3 ++ d → o4 ++ e ≡ o0 ++ (a ++ (b ++ (c ++ (d ++ e))))
