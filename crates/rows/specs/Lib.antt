@@ -1,4 +1,5 @@
 pub mod Refusals
+pub mod Reasons
 pub mod Words
 pub mod Names
 pub mod Rising

@@ -1,7 +1,7 @@
 ghost use Rattle.std.specs.Prelude.{◌≡◌, ◌<◌, ◌≤◌, IfSome, IfNone};
 
 use crate::index::Index;
-use crate::list_rules::Ranged;
+use crate::list_rules::{Ranged, Ruled};
 use crate::name::ClassName;
 use crate::size::Size;
 use std::fmt;
@@ -57,6 +57,20 @@ impl fmt::Display for NodeId {
 
     fn fmt<W: fmt::Write>(&self, f: &mut fmt::Formatter<W>) -> fmt::Result {
         write!(f, "{}", self.number())
+    }
+}
+
+/// Numbers of nodes that are listed by themselves strictly rise.
+impl Ruled for NodeId {
+    ghost use Rattle.rows.specs.Ids.{node_rises};
+
+    ghost rule = { node_rises };
+
+    fn may_follow(&self, front: &[NodeId]) -> bool {
+        match front.last() {
+            None => true,
+            Some(last) => *last < *self,
+        }
     }
 }
 
