@@ -5,6 +5,7 @@ ghost use Rattle.rows.specs.declared.refusal.Refusal.TheVariants as refusals;
 ghost use Rattle.rows.specs.Ids.{AreRisingNodes};
 ghost use Rattle.rows.specs.Changes.{change_of};
 
+use crate::actor::ServerId;
 use crate::command::StatusChange;
 use crate::evaluation::EvalId;
 use crate::index::Index;
@@ -174,6 +175,15 @@ pub enum WorkerResponse {
     PlanResult(PlanResult),
     /// A request is refused.
     Refused(AskedRequest, Reason),
+}
+
+/// What came for a server's workers, with the server that sent it.
+#[derive(Drop)]
+pub struct Work {
+    /// Who answered.
+    pub from: ServerId,
+    /// What it answered.
+    pub response: WorkerResponse,
 }
 
 /// Which request of an agent is answered by yes or no.
