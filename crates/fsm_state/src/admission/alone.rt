@@ -157,7 +157,7 @@ impl Cluster {
     {
         self.ranges();
         plan.ranges();
-        if self.is_named_once() && self.are_dated() {
+        if self.knows_names_distinct() && self.are_dated() {
             self.passes_alone(plan)
         } else {
             self.bears_all(plan)
