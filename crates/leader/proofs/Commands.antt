@@ -30,7 +30,7 @@ use Rattle.cluster_model.specs.Effect.{applied, with_next_count, with_evals, is_
 use Rattle.cluster_model.proofs.Keys.{at_eval, at_number}
 use Rattle.cluster_model.proofs.Lists.{maps_same}
 use Rattle.cluster_model.proofs.StateLaws.{applied_are_tables}
-use Rattle.group_model.specs.Expiry.{BeatCount, count_node, counted_node, beats_of, beat_count_of, beat_counts_over, HoldsReady}
+use Rattle.group_model.specs.Expiry.{BeatCount, counted_node, beats_of, beat_count_of, beat_counts_over, HoldsReady}
 use Rattle.group_model.specs.Blocked.{room_over, classes_of, blocked_eval, blocked_over}
 use Rattle.group_model.proofs.Following.{counts_follow, counts_stay}
 use Rattle.group_model.proofs.BlockedRows.{blocked_follow_jobs}

@@ -1,11 +1,9 @@
 -- What is kept of the rows that pass a test: a key of each, and more that the rows do not tell.
-use Rattle.std.proofs.Common.{◌≡◌, T, List, [], ◌∷◌, map, filter, Bool, Option, Some, refl, sym, ap, subst, ◌∙◌}
-use Rattle.std.specs.List.{AllByRecursion}
+use Rattle.std.proofs.Common.{◌≡◌, T, List, [], ◌∷◌, map, filter, Bool, Option, refl, sym, ap, ◌∙◌}
 use Rattle.std.specs.declared.cmp.Ordering.{Ordering}
 use Rattle.std.specs.Cmp.{IsTotalOrder}
 use Rattle.rows.specs.Rising.{is_rising}
 use Rattle.fsm_tables.specs.Rows.{row_of}
-use Rattle.group_model.proofs.KeptRows.{all_found, rising_back, rising_kept}
 use Rattle.leader.proofs.Tables.{made_of, row_of-map, kept, row_of-kept}
 
 module _ {K A B Q : Type 0} (R : K → K → Ordering) (ka : A → K) (kb : B → K) (kq : Q → K) (qa : A → Q) (qb : B → Q) (same_a : (a : A) → kq (qa a) ≡ ka a) (same_b : (b : B) → kq (qb b) ≡ kb b) (keep : A → Bool) (o : IsTotalOrder R) where

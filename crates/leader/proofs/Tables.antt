@@ -8,7 +8,7 @@ use Rattle.std.specs.Ordering.{is_eq}
 use Rattle.std.specs.Cmp.{IsTotalOrder, tied_itself}
 use Rattle.rows.specs.Rising.{is_rising}
 use Rattle.fsm_tables.specs.Rows.{row_of, has_row, put, put_within}
-use Rattle.fsm_tables.proofs.RowLaws.{first, second, some_none, some_same, none_below, below_tied, row_of-put, rising_put}
+use Rattle.fsm_tables.proofs.RowLaws.{first, second, none_below, below_tied, row_of-put, rising_put}
 use Rattle.fsm_tables.proofs.SetLaws.{same_rows}
 use Rattle.fsm_tables.proofs.ReservedTables.{found_tied}
 use Rattle.fsm_state.proofs.StepLaws.{row_tied}
