@@ -11,6 +11,9 @@ pub mod request;
 pub mod scenario;
 pub mod shelf;
 pub mod step;
+mod list;
+mod spelled;
 mod word;
+mod worker;
 
 pub use program::nomadsim;

@@ -4,9 +4,22 @@ use Rattle.runner.specs.Objects.{strings}
 use Rattle.runner.proofs.Objects.{same_items}
 use Rattle.runner.proofs.scenario.scenario_of.Goals as goal
 
+pub returns-in_err-nodes-clause-refused : goal.returns-in_err-nodes-clause-refused
+returns-in_err-nodes-clause-refused c =
+    let same : c.from_residual.result ≡ Err c.in_err-nodes.field-0.0 = search rules in
+    rw same (elim c.in_err-nodes.ensures.refused [
+      | inl memory ↦ inl memory
+      | inr none ↦ inr (
+        none.0,
+        λ s is.
+            let items : items_view c.in-Some-list_of.nodes.now.items ≡ items_of is.nodes.0 = search (rules, is.nodes) in
+            none.1 s.nodes.items (rw (same_items _ _ items) is.nodes.2),
+      )
+    ])
+
 pub returns-in_err-steps-clause-refused : goal.returns-in_err-steps-clause-refused
 returns-in_err-steps-clause-refused c =
-    let same : c.from_residual.result ≡ Err c.in_err-steps.field-0.0 = search rules in
+    let same : c.from_residual-in_err-steps.result ≡ Err c.in_err-steps.field-0.0 = search rules in
     rw same (elim c.in_err-steps.ensures.refused [
       | inl memory ↦ inl memory
       | inr none ↦ inr (
