@@ -5,14 +5,14 @@
 pub mod command;
 pub mod fault;
 mod flight;
+mod list;
 pub mod program;
 pub mod reading;
 pub mod request;
 pub mod scenario;
 pub mod shelf;
-pub mod step;
-mod list;
 mod spelled;
+pub mod step;
 mod word;
 mod worker;
 

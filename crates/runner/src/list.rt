@@ -10,7 +10,10 @@ use rows::{Batch, NoMemory, Sequence};
 use std::alloc::Global;
 
 /// One item or more, with commas between.
-pub(crate) fn read_items<T: Spelled>(alloc: Global, text: &str) -> Result<Option<Sequence<T>>, NoMemory>
+pub(crate) fn read_items<T: Spelled>(
+    alloc: Global,
+    text: &str,
+) -> Result<Option<Sequence<T>>, NoMemory>
     ensures named { IfOk result (λ read. IfSome read (λ items. AllByRecursion T.Fits items
         × (1 ≤ length items) × (text.now ≡ join_with_byte 44 (map T.spelling items)))) }
     ensures read { (items : List T) → AllByRecursion T.Fits items → 1 ≤ length items
@@ -28,7 +31,10 @@ pub(crate) fn read_items<T: Spelled>(alloc: Global, text: &str) -> Result<Option
 }
 
 /// At most 64 items with commas between, or a dash where there are none.
-pub(crate) fn read_batch<T: Spelled>(alloc: Global, text: &str) -> Result<Option<Batch<T>>, NoMemory>
+pub(crate) fn read_batch<T: Spelled>(
+    alloc: Global,
+    text: &str,
+) -> Result<Option<Batch<T>>, NoMemory>
     ensures named { IfOk result (λ read. IfSome read (λ items. BatchFits T.Fits items
         × (text.now ≡ comma_list (map T.spelling items)))) }
     ensures read { (items : List T) → BatchFits T.Fits items

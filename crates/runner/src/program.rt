@@ -133,11 +133,8 @@ fn is_settled(settings: &Settings) -> bool {
 // Clients and workers take no steps yet, nor does what serves them.
 fn is_taken(step: &Step) -> bool {
     match step {
-        Step::Deliver(_)
-        | Step::Timeout(_)
-        | Step::Beat(_)
-        | Step::Request(_, _)
-        | Step::Flow(_) => true,
+        Step::Deliver(_) | Step::Timeout(_) | Step::Beat(_) | Step::Request(_, _) | Step::Flow(_) =>
+            true,
         Step::Crash(actor) | Step::Restart(actor) => matches!(actor, Actor::Server(_)),
         _ => false,
     }

@@ -10,9 +10,7 @@ ghost use Rattle.runner.specs.Requests.{IsRequestText, RequestFits, drain_text, 
 
 use crate::list::read_items;
 use crate::word::{cut, read_count, read_name, read_node, read_priority, read_quantity};
-use rows::{
-    Group, Groups, JobName, JobSpec, NoMemory, NodeId, OperatorRequest, Priority, Size,
-};
+use rows::{Group, Groups, JobName, JobSpec, NoMemory, NodeId, OperatorRequest, Priority, Size};
 use std::alloc::Global;
 
 /// Reads the text of a request: `put NAME PRIORITY GROUPS`, `stop NAME`, `eval NAME`, and

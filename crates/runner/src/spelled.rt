@@ -8,7 +8,8 @@ use crate::word::{
     read_server, read_small,
 };
 use rows::{
-    Actor, AllocId, ClientId, EntryIndex, EvalId, Group, Index, LeaderTerm, Name, Place, ServerId, Token,
+    Actor, AllocId, ClientId, EntryIndex, EvalId, Group, Index, LeaderTerm, Name, Place, ServerId,
+    Token,
 };
 
 /// A type whose values have one text each, in which no space and no comma stands.

@@ -6,8 +6,7 @@ ghost use Rattle.runner.specs.Requests.{IsWithout};
 
 use itoa::Buffer;
 use rows::{
-    ClientId, GroupCount, Index, Name, NodeId, Ordinal, Priority, Quantity, Serial,
-    ServerId,
+    ClientId, GroupCount, Index, Name, NodeId, Ordinal, Priority, Quantity, Serial, ServerId,
 };
 
 /// What stands before the first `separator`, and what behind it; none where the text has no

@@ -2,7 +2,7 @@
 use Rattle.std.specs.Prelude.{◌≡◌, ℕ, List, [], None, drop, get_or}
 use Rattle.std.specs.List.{join_with_byte}
 use Rattle.runner.specs.declared.step.Step.{Step}
-use Rattle.runner.specs.declared.step.Step.TheVariants.{Deliver, Timeout, Beat, Plan, Free, Reap, Work, Request, Ask, Flow}
+use Rattle.runner.specs.declared.step.Step.TheVariants.{Timeout, Beat, Plan, Free, Reap, Work, Request, Ask, Flow}
 use Rattle.rows.specs.declared.worker.WorkerRequest.TheVariants.{Submit}
 use Rattle.runner.specs.Steps.{StepFits, step_words}
 

@@ -1,4 +1,4 @@
-use Rattle.std.proofs.Common.{◌≡◌, ◌∙◌, ◌++◌, ◌∷◌, [], List, add-one, ap, arith, eqb, length, lit<, map, refl, rules, sym, take}
+use Rattle.std.proofs.Common.{◌≡◌, ◌∙◌, ◌++◌, ◌∷◌, [], add-one, ap, arith, eqb, length, lit<, map, refl, rules, sym, take}
 use Rattle.std.proofs.lemmas.List.{length-map, length_push, take_all}
 use Rattle.std.specs.List.{slice_split}
 use Rattle.std.proofs.lemmas.Iterator.Consumers.{YieldsList-end, YieldsList-turn}

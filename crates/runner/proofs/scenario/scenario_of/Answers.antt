@@ -1,5 +1,5 @@
 use Rattle.std.proofs.Common.{◌≡◌, Err, inl, inr, map, rules, string_bytes}
-use Rattle.serde_json.specs.View.{items_of, items_view}
+use Rattle.serde_json.specs.View.{items_of, items_view, view}
 use Rattle.runner.specs.Objects.{strings}
 use Rattle.runner.proofs.Objects.{same_items}
 use Rattle.runner.proofs.scenario.scenario_of.Goals as goal
@@ -13,7 +13,8 @@ returns-in_err-nodes-clause-refused c =
         none.0,
         λ s is.
             let items : items_view c.in-Some-list_of.nodes.now.items ≡ items_of is.nodes.0 = search (rules, is.nodes) in
-            none.1 s.nodes.items (rw (same_items _ _ items) is.nodes.2),
+            let same : map view c.deref.result.now ≡ is.nodes.0 = search (rules, same_items _ _ items) in
+            none.1 s.nodes.items (rw same is.nodes.2),
       )
     ])
 
@@ -25,7 +26,7 @@ returns-in_err-steps-clause-refused c =
       | inr none ↦ inr (
         none.0,
         λ s is.
-            let items : items_view c.in-Some-list_of.steps.now.items ≡ items_of (strings (map string_bytes s.steps.items)) = search (rules, is.steps) in
+            let items : items_view c.in-Some-list_of-2.steps.now.items ≡ items_of (strings (map string_bytes s.steps.items)) = search (rules, is.steps) in
             none.1 (map string_bytes s.steps.items) (search (rules, same_items _ _ items)),
       )
     ])

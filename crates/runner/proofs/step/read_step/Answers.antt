@@ -1,4 +1,4 @@
-use Rattle.std.proofs.Common.{◌≡◌, ◌∙◌, ◌⊎◌, Option, None, Some, ap, codes, inl, inr, rules, sym}
+use Rattle.std.proofs.Common.{◌≡◌, ◌∙◌, ◌⊎◌, Option, None, Some, ap, inl, inr, sym}
 use Rattle.std.specs.Option.{IfSome}
 use Rattle.runner.specs.declared.step.Step.{Step}
 use Rattle.runner.specs.declared.step.Step.TheVariants.{Flow}

@@ -1,6 +1,6 @@
 use Rattle.std.proofs.Common.{◌∷◌, List, [], arith, decimal, map, rules}
 use Rattle.std.specs.List.{AllByRecursion}
-use Rattle.rows.specs.Fits.{AllocIdFits, PlaceFits}
+use Rattle.rows.specs.Fits.{AllocIdFits}
 use Rattle.rows.specs.declared.allocation.AllocId.{AllocId}
 use Rattle.rows.specs.declared.plan.Place.{Place}
 use Rattle.runner.specs.Inner.Plain.{IsNoDash}
