@@ -10,7 +10,7 @@ ghost use Rattle.raft_core.specs.Inner.Turns.{Turned, Lost};
 ghost use Rattle.raft_core.specs.Inner.Stops.{TakesFrame, FrameStops, MessageStops};
 ghost use Rattle.raft_core.specs.Refusals.{frame_refusal, misdirected, message_refusal, IsMessageRefused, MessageRefusalLeaves, RefusalShows};
 ghost use Rattle.raft_core.specs.RaftView.{KeepsAhead};
-ghost use Rattle.raft_core.specs.Watching.{sees_step};
+ghost use Rattle.raft_core.specs.Watching.{SeesStep};
 
 use super::Raft;
 use crate::watch::Watch;
@@ -35,8 +35,8 @@ impl<M: Machine> Raft<M> {
             (receives M.meaning.noop self.old.size self.old.me (met (term_of body) self.old.server)
             from (term_of body) (body_of body))) }
         ensures kept { OnOk result (KeepsAhead self.old self.new) }
-        ensures seen { OnOk result (watch.new
-            ≡ sees_step M.meaning W.sees self.old.server self.new.server watch.old) }
+        ensures seen { OnOk result
+            (SeesStep M.meaning W.sees self.old.server self.new.server watch.old watch.new) }
         ensures lost { OnErr result (Lost self.old self.new outbox.old outbox.new) }
     {
         match body {
@@ -89,8 +89,8 @@ impl<M: Machine> Raft<M> {
         ensures kept { OnOk result (KeepsAhead self.old self.new) }
         ensures stopped { IfErr result (λ cause.
             MessageStops self.old message cause self.new outbox.old outbox.new) }
-        ensures seen { OnOk result (watch.new
-            ≡ sees_step M.meaning W.sees self.old.server self.new.server watch.old) }
+        ensures seen { OnOk result
+            (SeesStep M.meaning W.sees self.old.server self.new.server watch.old watch.new) }
         ensures unseen { IfErr result (λ cause. RefusalShows cause watch.old watch.new) }
     {
         let from = self.sender(&message)?;
@@ -126,7 +126,7 @@ impl<M: Machine> Raft<M> {
         ensures unsent { OnErr result (outbox.new ≡ outbox.old) }
         ensures seen { OnOk result ((s next : Server M.Command) →
             Represents M.meaning self.old s → Represents M.meaning self.new next →
-            watch.new ≡ sees_step M.meaning W.sees s next watch.old) }
+            SeesStep M.meaning W.sees s next watch.old watch.new) }
         ensures unseen { IfErr result (λ cause. RefusalShows cause watch.old watch.new) }
     {
         if !self.is_up() {
@@ -163,8 +163,8 @@ impl<M: Machine> Raft<M> {
         ensures kept { OnOk result (KeepsAhead self.old self.new) }
         ensures stopped { IfErr result (λ cause.
             FrameStops M.meaning self.old bytes.now cause self.new outbox.old outbox.new) }
-        ensures seen { OnOk result (watch.new
-            ≡ sees_step M.meaning W.sees self.old.server self.new.server watch.old) }
+        ensures seen { OnOk result
+            (SeesStep M.meaning W.sees self.old.server self.new.server watch.old watch.new) }
         ensures unseen { IfErr result (λ cause. RefusalShows cause watch.old watch.new) }
     {
         let message = read_message::<M>(self.alloc, bytes)?;

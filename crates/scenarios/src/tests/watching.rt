@@ -1,5 +1,5 @@
 //! What a watcher sees of single servers: of the entries that each newly applies while it leads.
-ghost use Rattle.std.specs.Prelude.{List, ℕ, ◌∷◌, [], ◌++◌};
+ghost use Rattle.std.specs.Prelude.{◌≡◌, List, ℕ, ◌∷◌, [], ◌++◌};
 
 use crate::tests::servers::{
     Act, Frame, OF_1, OF_3, OK_2, OK_3, TAKEN, YES, number_of, propose, put_frame,
@@ -7,7 +7,7 @@ use crate::tests::servers::{
 use Act::{Ahead, Beat, Crash, Hear, Propose, Reload, Restart, Timeout};
 use machine::{Coded, Entry, Machine, Tally};
 use raft_core::{Input, Raft, Stable, Watch};
-use rows::{NoMemory, Refusal, ServerId, Term};
+use rows::{LeaderTerm, NoMemory, Refusal, ServerId};
 use std::alloc::Global;
 use std::marker::Model;
 use wire::{Frames, read_message};
@@ -28,12 +28,12 @@ impl Model for Diary {
 }
 
 impl Watch<Tally> for Diary {
-    ghost sees = { λ d term entry state.
-        d ++ term ∷ entry.term ∷ state.count ∷ state.sum ∷ [] };
+    ghost sees = { λ d term entry state new.
+        new ≡ d ++ term ∷ entry.term ∷ state.count ∷ state.sum ∷ [] };
 
     fn see(
         &mut self,
-        term: Term,
+        term: LeaderTerm,
         entry: &Entry<Coded<Tally>>,
         machine: &Tally,
     ) -> Result<(), NoMemory> {
