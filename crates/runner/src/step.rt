@@ -24,9 +24,9 @@ pub enum Step {
     Beat(ServerId),
     /// `plan S`: server S, if it leads, weighs the first plan that waits.
     Plan(ServerId),
-    /// `free S`: server S, if it leads, has the evaluations tried again that room may now help.
+    /// `free S`: server S, if it leads, makes a blocked evaluation pending that has room now.
     Free(ServerId),
-    /// `reap S`: server S, if it leads, gives up an evaluation that was delivered too often.
+    /// `reap S`: server S, if it leads, gives up an evaluation that was given out too often.
     Reap(ServerId),
     /// `lapse S E`: at server S, if it leads, the delivery of evaluation E has lasted too long.
     Lapse(ServerId, EvalId),
