@@ -1,12 +1,12 @@
 //! Commands, and what a worker submits, as bytes.
 ghost use Rattle.std.specs.Prelude.{◌≡◌};
-ghost use Rattle.fields_model.specs.Format.{Gives, GivesExactly, Puts, number};
+ghost use Rattle.fields_model.specs.Format.{Gives, GivesExactly, Puts};
 ghost use Rattle.fields_model.specs.Commands.{job_spec, node_spec, rising_ids, place, accepted_place, plan, plan_end, accepted_plan, accepted_end, reported_state, report, reports, status_change, command, bodies, later_bodies, tag_of};
 ghost use Rattle.fields_model.proofs.CommandLaws.{job_spec_lawful, node_spec_lawful, rising_ids_lawful, place_lawful, accepted_place_lawful, plan_lawful, accepted_plan_lawful, reported_state_lawful, report_lawful, reports_lawful, status_change_lawful, command_lawful};
 
 use crate::field::Field;
 use crate::list::{append_counted, read_list};
-use crate::reading::{read_bool, read_count, read_index, read_u8, read_u64};
+use crate::reading::{read_bool, read_count, read_index, read_u8, read_zero};
 use crate::ruled::read_ruled_list;
 use crate::writing::write_u8;
 use rows::{
@@ -319,16 +319,6 @@ impl Field for Reports {
 
     fn append(&self, out: &mut Vec<u8>) -> Result<(), NoMemory> {
         append_counted(self.as_slice(), 64, out)
-    }
-}
-
-/// Eight bytes that are all 0. `Frame` names the first where they are cut or another number.
-fn read_zero(bytes: &[u8], at: usize) -> Result<(u64, usize), Refusal>
-    ensures { GivesExactly result ((number 8 0 1).read bytes.now at) }
-{
-    match read_u64(bytes, at)? {
-        (0, next) => Ok((0, next)),
-        _ => Err(Refusal::Frame(at)),
     }
 }
 

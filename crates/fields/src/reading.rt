@@ -126,6 +126,16 @@ pub fn read_actor(bytes: &[u8], at: usize) -> Result<(Actor, usize), Refusal>
     }
 }
 
+/// Eight bytes that are all 0. `Frame` names the first where they are cut or another number.
+pub(crate) fn read_zero(bytes: &[u8], at: usize) -> Result<(u64, usize), Refusal>
+    ensures { GivesExactly result ((number 8 0 1).read bytes.now at) }
+{
+    match read_u64(bytes, at)? {
+        (0, next) => Ok((0, next)),
+        _ => Err(Refusal::Frame(at)),
+    }
+}
+
 /// The count of a list, in one byte. `Frame` names it where it is cut or more than `most`.
 pub(crate) fn read_count(bytes: &[u8], at: usize, most: u8) -> Result<(usize, usize), Refusal>
     ensures { GivesExactly result ((number 1 0 (most + 1)).read bytes.now at) }

@@ -3,7 +3,7 @@ use Rattle.std.proofs.Common.{◌≡◌, refl}
 use Rattle.rows.specs.declared.refusal.Refusal.{Refusal}
 use Rattle.rows.specs.declared.refusal.Refusal.TheVariants as refusals
 use Rattle.rows.specs.Refusals.{number_of}
-use Rattle.group_model.specs.Reasons.{reason_of, reason_number}
+use Rattle.rows.specs.Reasons.{reason_of, reason_number}
 
 pub same_number : (r : Refusal) → reason_number (reason_of r) ≡ number_of r
 same_number refusals.NoMemory = refl

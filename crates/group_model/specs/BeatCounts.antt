@@ -7,7 +7,7 @@ use Rattle.rows.specs.declared.command.Command.TheVariants as commands
 use Rattle.group_model.specs.Expiry.{BeatCount, beat_count_of, with_beat}
 use Rattle.group_model.specs.Desks.{Desk}
 use Rattle.group_model.specs.Inputs.{Act, AskPropose, asks}
-use Rattle.group_model.specs.Messages.{OfHeartbeat}
+use Rattle.rows.specs.declared.worker.ClientRequestKind.TheVariants as kinds
 use Rattle.group_model.specs.ClientRequests.{answers, beats_at}
 use Rattle.group_model.specs.Turns.{expire}
 
@@ -30,8 +30,8 @@ expiry_refusal n beats counts = expiry_refusal_of beats (beat_count_of n counts)
 -- ---- what a desk makes of that
 
 abbrev pub answers_beat : ℕ → ℕ → Desk → Result (List BeatCount) Refusal → Act
-answers_beat me c d (Ok counts) = answers me c OfHeartbeat None (Some (record d { beat_counts = counts }))
-answers_beat me c d (Err r) = answers me c OfHeartbeat (Some r) (Some d)
+answers_beat me c d (Ok counts) = answers me c kinds.Heartbeat None (Some (record d { beat_counts = counts }))
+answers_beat me c d (Err r) = answers me c kinds.Heartbeat (Some r) (Some d)
 
 -- a heartbeat at an open desk is one of its counts
 abbrev pub BeatsByCounts : Type 0

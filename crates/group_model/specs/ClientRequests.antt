@@ -10,6 +10,9 @@ use Rattle.rows.specs.declared.command.Command.{Command}
 use Rattle.rows.specs.declared.command.Command.TheVariants as commands
 use Rattle.rows.specs.declared.refusal.Refusal.{Refusal}
 use Rattle.rows.specs.declared.refusal.Refusal.TheVariants as refusals
+use Rattle.rows.specs.declared.worker.ClientRequestKind.{ClientRequestKind}
+use Rattle.rows.specs.declared.worker.ClientRequestKind.TheVariants as kinds
+use Rattle.rows.specs.Reasons.{reason_of}
 use Rattle.raft_model.specs.Servers.{Server, is_leader}
 use Rattle.raft_model.specs.Steps.{admitted}
 use Rattle.cluster_model.specs.Words.{State}
@@ -18,8 +21,7 @@ use Rattle.fsm_tables.specs.Lookups.{lives_on}
 use Rattle.cluster_model.specs.Effect.{told_all}
 use Rattle.cluster_model.specs.Admission.{admission}
 use Rattle.cluster_model.specs.ClusterMachine.{cluster_meaning}
-use Rattle.group_model.specs.Reasons.{reason_of}
-use Rattle.group_model.specs.Messages.{ServiceMessage, ToClient, ClientRequest, Register, Heartbeat, Pull, ReportStates, ClientRequestKind, OfRegister, OfHeartbeat, OfReport, Shown, Listing, Told}
+use Rattle.group_model.specs.Messages.{ServiceMessage, ToClient, ClientRequest, Register, Heartbeat, Pull, ReportStates, Shown, Listing, Told}
 use Rattle.group_model.specs.Expiry.{BeatCount, beat_count_of, with_beat}
 use Rattle.group_model.specs.Desks.{Desk, applied_state, whole_state}
 use Rattle.group_model.specs.Inputs.{Act, AskPropose, sends}
@@ -79,11 +81,11 @@ writes me s c kind command d =
 -- ---- a heartbeat, at an open desk
 
 abbrev pub beats_at : ℕ → ℕ → Desk → Option BeatCount → Act
-beats_at me c o None = answers me c OfHeartbeat (Some refusals.UnknownNode) (Some o)
-beats_at me c o (Some p) = answers me c OfHeartbeat None (Some (record o { beat_counts = with_beat c o.beat_counts }))
+beats_at me c o None = answers me c kinds.Heartbeat (Some refusals.UnknownNode) (Some o)
+beats_at me c o (Some p) = answers me c kinds.Heartbeat None (Some (record o { beat_counts = with_beat c o.beat_counts }))
 
 abbrev pub takes_heartbeat : ℕ → ℕ → Result Desk Refusal → Option Desk → Act
-takes_heartbeat me c (Err r) d = answers me c OfHeartbeat (Some r) d
+takes_heartbeat me c (Err r) d = answers me c kinds.Heartbeat (Some r) d
 takes_heartbeat me c (Ok o) d = beats_at me c o (beat_count_of c o.beat_counts)
 
 -- ---- Pull: any server answers, from its applied state
@@ -100,7 +102,7 @@ pulls me s c d = sends (ToClient me c (Listing s.commit (listed c (applied_state
 
 -- each request; `open_desk` is the desk, or why it is not open
 abbrev pub serves_client : ℕ → Server Command → ℕ → Result Desk Refusal → Option Desk → ClientRequest → Act
-serves_client me s c open_desk d (Register class size) = writes me s c OfRegister (commands.NodePut (record { number = c; class = class; size = size })) d
+serves_client me s c open_desk d (Register class size) = writes me s c kinds.Register (commands.NodePut (record { number = c; class = class; size = size })) d
 serves_client me s c open_desk d Heartbeat = takes_heartbeat me c open_desk d
 serves_client me s c open_desk d Pull = pulls me s c d
-serves_client me s c open_desk d (ReportStates items) = writes me s c OfReport (commands.Report c items) d
+serves_client me s c open_desk d (ReportStates items) = writes me s c kinds.Report (commands.Report c items) d

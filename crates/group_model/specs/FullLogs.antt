@@ -2,9 +2,9 @@
 use Rattle.std.specs.Prelude.{◌≡◌, ℕ, true, false, nat_lt, Option, Some, None, length}
 use Rattle.rows.specs.declared.command.Command.{Command}
 use Rattle.rows.specs.declared.refusal.Refusal.TheVariants as refusals
+use Rattle.rows.specs.declared.worker.ClientRequestKind.{ClientRequestKind}
 use Rattle.raft_model.specs.Logs.{MAX}
 use Rattle.raft_model.specs.Servers.{Server, is_leader}
-use Rattle.group_model.specs.Messages.{ClientRequestKind}
 use Rattle.group_model.specs.Desks.{Desk, whole_state}
 use Rattle.group_model.specs.ClientRequests.{answers, is_taken_already, writes}
 

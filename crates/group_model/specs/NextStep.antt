@@ -4,9 +4,17 @@ use Rattle.std.specs.Prelude.{◌≡◌, ◌⊎◌, ℕ, Bool, true, false, ◌|
 use Rattle.rows.specs.declared.evaluation.Evaluation.{Evaluation}
 use Rattle.rows.specs.declared.token.Delivery.{Delivery}
 use Rattle.rows.specs.declared.plan.Plan.{Plan}
+use Rattle.rows.specs.declared.reason.Reason.{Reason}
+use Rattle.rows.specs.declared.reason.Reason.TheVariants.{SnapshotTooOld, JobChanged, UnknownJob, QueueFull, JobStopped}
+use Rattle.rows.specs.declared.worker.EvalOutcome.{EvalOutcome}
+use Rattle.rows.specs.declared.worker.EvalOutcome.TheVariants.{Complete, Blocked}
+use Rattle.rows.specs.declared.worker.WorkerRequest.{WorkerRequest}
+use Rattle.rows.specs.declared.worker.WorkerRequest.TheVariants.{Submit, Finish, Nack}
+use Rattle.rows.specs.declared.worker.AskedRequest.{AskedRequest}
+use Rattle.rows.specs.declared.worker.AskedRequest.TheVariants as asked
+use Rattle.rows.specs.declared.worker.WorkerResponse.{WorkerResponse}
+use Rattle.rows.specs.declared.worker.WorkerResponse.TheVariants.{Delivered, PlanResult, Refused}
 use Rattle.cluster_model.specs.Words.{State, eval_of}
-use Rattle.group_model.specs.Reasons.{Reason, SnapshotTooOld, JobChanged, UnknownJob, QueueFull, JobStopped}
-use Rattle.group_model.specs.Messages.{WorkerRequest, Submit, Finish, Nack, AskedRequest, AskedSubmit, WorkerResponse, Delivered, PlanResult, Refused, EvalOutcome, Complete, Blocked}
 use Rattle.group_model.specs.Scheduling.{WorkerPlan, IsPlanFor}
 
 pub data WorkerStep : Type 0 where
@@ -30,7 +38,7 @@ gives_back JobStopped = true
 gives_back _ = false
 
 abbrev pub after_refusal : AskedRequest → Reason → WorkerStep
-after_refusal (AskedSubmit eval token) reason =
+after_refusal (asked.Submit eval token) reason =
     if gives_back reason then Ask (Nack eval token) else Drop
 after_refusal _ reason = Drop
 
@@ -93,6 +101,6 @@ IsStepOnDelivery s index plans (Some d) step = IsStepOn s index plans d step
 -- delivery. After a plan's result the state must have the leader's last index by then.
 abbrev pub IsNextStep : State → ℕ → WorkerResponse → ℕ → WorkerStep → Type 0
 IsNextStep s index (Delivered what) plans step = IsStepOnDelivery s index plans what step
-IsNextStep s index (PlanResult eval token last placed nodes) plans step =
-    IsStepOn s index plans (record { eval = eval; token = token; wait = last }) step
+IsNextStep s index (PlanResult r) plans step =
+    IsStepOn s index plans (record { eval = r.eval; token = r.token; wait = r.last }) step
 IsNextStep s index (Refused asked reason) plans step = step ≡ after_refusal asked reason

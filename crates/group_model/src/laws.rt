@@ -2,7 +2,7 @@
 ghost use Rattle.std.specs.Prelude.{◌≡◌};
 ghost use Rattle.rows.specs.declared.refusal.Refusal.{Refusal};
 ghost use Rattle.rows.specs.Refusals.{number_of};
-ghost use Rattle.group_model.specs.Reasons.{reason_of, reason_number};
+ghost use Rattle.rows.specs.Reasons.{reason_of, reason_number};
 ghost use Rattle.group_model.specs.OneRow.{BrokerFollows, CountsFollow, DueByRoom};
 ghost use Rattle.group_model.specs.OneRow.{BlockedFollowEvals, BlockedFollowNodes};
 ghost use Rattle.group_model.specs.OneRow.{BlockedFollowJobs};

@@ -18,7 +18,13 @@ use Rattle.raft_model.specs.Steps.{admitted}
 use Rattle.cluster_model.specs.Words.{State}
 use Rattle.cluster_model.specs.Words.{node_of}
 use Rattle.cluster_model.specs.ClusterMachine.{cluster_meaning}
-use Rattle.group_model.specs.Messages.{ServiceMessage, BetweenServers, ToServer, ToClient, WorkerMessage, Asks, Answers, WorkerRequest, Take, Submit, Finish, Nack, EvalOutcome, change_of, ClientRequest, Register, Heartbeat, Pull, ReportStates, ClientRequestKind, OfRegister, OfReport, Listing, Told}
+use Rattle.rows.specs.declared.worker.EvalOutcome.{EvalOutcome}
+use Rattle.rows.specs.declared.worker.WorkerRequest.{WorkerRequest}
+use Rattle.rows.specs.declared.worker.WorkerRequest.TheVariants.{Take, Submit, Finish, Nack}
+use Rattle.rows.specs.declared.worker.ClientRequestKind.{ClientRequestKind}
+use Rattle.rows.specs.declared.worker.ClientRequestKind.TheVariants as kinds
+use Rattle.rows.specs.Changes.{change_of}
+use Rattle.group_model.specs.Messages.{ServiceMessage, BetweenServers, ToServer, ToClient, WorkerMessage, Asks, Answers, ClientRequest, Register, Heartbeat, Pull, ReportStates, Listing, Told}
 use Rattle.group_model.specs.Order.{Picked, pick}
 use Rattle.group_model.specs.Brokers.{Task, Given, Nothing, UsedUp, Gives, deliver, outstanding}
 use Rattle.group_model.specs.Expiry.{BeatCount, beat_count_of}
@@ -112,11 +118,11 @@ module _ (me : ℕ) (s : Server Command) where
   sober_beats c o (Some p) = record { no_plan = λ p h. cc; honest = (tt, tt) }
 
   pub sober_client : (c : ℕ) (r : Result Desk Refusal) (d : Option Desk) (request : ClientRequest) → Sober s (serves_client me s c r d request)
-  sober_client c r d (Register class size) = sober_writes c OfRegister (commands.NodePut (record { number = c; class = class; size = size })) (λ p h. cc) d
+  sober_client c r d (Register class size) = sober_writes c kinds.Register (commands.NodePut (record { number = c; class = class; size = size })) (λ p h. cc) d
   sober_client c (Err e) d Heartbeat = record { no_plan = λ p h. cc; honest = (tt, tt) }
   sober_client c (Ok o) d Heartbeat = sober_beats c o (beat_count_of c o.beat_counts)
   sober_client c r d Pull = record { no_plan = λ p h. cc; honest = ((refl, refl), tt) }
-  sober_client c r d (ReportStates items) = sober_writes c OfReport (commands.Report c items) (λ p h. cc) d
+  sober_client c r d (ReportStates items) = sober_writes c kinds.Report (commands.Report c items) (λ p h. cc) d
 
   -- ---- turns but that of plans
 

@@ -8,11 +8,12 @@ use Rattle.rows.specs.declared.command.Command.TheVariants as commands
 use Rattle.rows.specs.declared.command.StatusChange.TheVariants as changes
 use Rattle.rows.specs.declared.refusal.Refusal.{Refusal}
 use Rattle.rows.specs.declared.refusal.Refusal.TheVariants as refusals
+use Rattle.rows.specs.declared.worker.AskedRequest.TheVariants as asked
 use Rattle.rows.specs.Keys.{eval_id}
+use Rattle.rows.specs.Changes.{change_of}
 use Rattle.raft_model.specs.Steps.{admitted}
 use Rattle.cluster_model.specs.ClusterMachine.{cluster_meaning}
 use Rattle.group_model.specs.Order.{Picked}
-use Rattle.group_model.specs.Messages.{AskedFinish, change_of}
 use Rattle.group_model.specs.Brokers.{Given, Nothing, UsedUp, Gives, Task, task_id, deliver, outstanding, is_outstanding, with_ack, with_nack}
 use Rattle.group_model.specs.Blocked.{first_due}
 use Rattle.group_model.specs.Desks.{Desk, QueuedPlan, applied_state, whole_state}
@@ -51,12 +52,12 @@ finishes_by_ack me from s id token outcome o = by (outstanding id token o.desk.b
   new : OpenDesk
   new = with_broker (with_ack id o.desk.broker) o
 
-  at : (c : Command) (r : Option Refusal) → finishes_by me from id token c o.desk r ≡ proposes_at new c (refuses me from (AskedFinish id token) (Some o.desk)) r
+  at : (c : Command) (r : Option Refusal) → finishes_by me from id token c o.desk r ≡ proposes_at new c (refuses me from (asked.Finish id token) (Some o.desk)) r
   at c None = refl
   at c (Some r) = refl
 
   by : (r : Result ℕ Refusal) → finishes_of me s from id token outcome o.desk r
-      ≡ finish_act (refuses me from (AskedFinish id token) (Some o.desk)) s (commands.EvalStatus id (change_of outcome)) (once_outstanding new r)
+      ≡ finish_act (refuses me from (asked.Finish id token) (Some o.desk)) s (commands.EvalStatus id (change_of outcome)) (once_outstanding new r)
   by (Err r) = refl
   by (Ok wait) = at (commands.EvalStatus id (change_of outcome)) (admitted cluster_meaning s (commands.EvalStatus id (change_of outcome)))
 

@@ -10,12 +10,14 @@ use Rattle.rows.specs.declared.command.Command.TheVariants as commands
 use Rattle.rows.specs.declared.command.StatusChange.{StatusChange}
 use Rattle.rows.specs.declared.command.StatusChange.TheVariants as changes
 use Rattle.rows.specs.declared.refusal.Refusal.{Refusal}
+use Rattle.rows.specs.declared.worker.EvalOutcome.{EvalOutcome}
+use Rattle.rows.specs.declared.worker.AskedRequest.TheVariants as asked
+use Rattle.rows.specs.declared.worker.WorkerResponse.TheVariants.{Delivered}
+use Rattle.rows.specs.Changes.{change_of}
 use Rattle.raft_model.specs.Servers.{Server}
 use Rattle.raft_model.specs.Steps.{admitted}
 use Rattle.cluster_model.specs.ClusterMachine.{cluster_meaning}
 use Rattle.cluster_model.specs.Words.{State}
-use Rattle.group_model.specs.Messages.{AskedTake, AskedSubmit, AskedFinish, AskedNack, Delivered}
-use Rattle.group_model.specs.Messages.{EvalOutcome, change_of}
 use Rattle.group_model.specs.Brokers.{deliver, outstanding}
 use Rattle.group_model.specs.Blocked.{blocked_over}
 use Rattle.group_model.specs.Desks.{Desk, applied_state, whole_state}
@@ -33,7 +35,7 @@ use Rattle.leader.specs.Verdicts.{Judged, once_picked}
 -- ---- requests of workers, at an open desk
 
 abbrev pub take_act : ℕ → ℕ → OpenDesk → Answered (Option Delivery) → Act
-take_act me from o (Err r) = refuses me from AskedTake (Some o.desk) r
+take_act me from o (Err r) = refuses me from asked.Take (Some o.desk) r
 take_act me from o (Ok p) = responds me from (Delivered p.0) (Some p.1.desk)
 
 abbrev pub TakesByDeliver : Type 0
@@ -42,7 +44,7 @@ TakesByDeliver = (me from wait : ℕ) (o : OpenDesk)
     ≡ take_act me from o (on_deliver wait o)
 
 abbrev pub submit_act : ℕ → ℕ → Plan → OpenDesk → Answered (Unit {0}) → Act
-submit_act me from p o (Err r) = refuses me from (AskedSubmit p.eval p.token) (Some o.desk) r
+submit_act me from p o (Err r) = refuses me from (asked.Submit p.eval p.token) (Some o.desk) r
 submit_act me from p o (Ok q) = rests (Some q.1.desk)
 
 abbrev pub SubmitsBySubmit : Type 0
@@ -51,7 +53,7 @@ SubmitsBySubmit = (me from : ℕ) (applied : State) (p : Plan) (o : OpenDesk)
     ≡ submit_act me from p o (on_submit from applied p o)
 
 abbrev pub nack_act : ℕ → ℕ → EvalId → Token → OpenDesk → Answered (Unit {0}) → Act
-nack_act me from id token o (Err r) = refuses me from (AskedNack id token) (Some o.desk) r
+nack_act me from id token o (Err r) = refuses me from (asked.Nack id token) (Some o.desk) r
 nack_act me from id token o (Ok q) = rests (Some q.1.desk)
 
 abbrev pub NacksByNack : Type 0
@@ -73,7 +75,7 @@ abbrev pub FinishesByAck : Type 0
 FinishesByAck = (me from : ℕ) (s : Server Command) (id : EvalId) (token : Token)
     (outcome : EvalOutcome) (o : OpenDesk) →
     let c = commands.EvalStatus id (change_of outcome) in
-    let refused = refuses me from (AskedFinish id token) (Some o.desk) in
+    let refused = refuses me from (asked.Finish id token) (Some o.desk) in
     finishes_of me s from id token outcome o.desk (outstanding id token o.desk.broker)
     ≡ finish_act refused s c (on_ack id token o)
 

@@ -5,7 +5,7 @@ use Rattle.machine.specs.Meaning.{Meaning}
 use Rattle.machine.specs.declared.entry.Entry.{Entry}
 use Rattle.raft_model.specs.Logs.{commands, state_after}
 use Rattle.raft_model.specs.Servers.{Server, is_leader, extended}
-use Rattle.raft_core.specs.RaftView.{IsLive, IsAhead, HasRoom, IsRaft, while_up, mode_of}
+use Rattle.raft_core.specs.RaftView.{IsLive, IsAhead, HasRoom, HasTerm, IsRaft, while_up, mode_of}
 use Rattle.raft_core.specs.declared.role.Role.{Role}
 use Rattle.raft_core.specs.declared.role.Role.TheVariants as roles
 
@@ -52,11 +52,12 @@ module _ {S C : Type 0} (m : Meaning S C) where
   }
 
   -- one more entry
-  pub grown : (me size : ℕ) (log : List (Entry C)) (e : Entry C) (old new : Role) (commit : ℕ) (votes : List Bool) (next matched : List ℕ) (machine was is : Option S) → IsRaft m me size log old commit votes next matched machine was → length log + 1 < 2 ^ 40 → HasRoom new (log ++ e ∷ []) → IfSome is (IsAhead m (log ++ e ∷ []) new machine) → IsRaft m me size (log ++ e ∷ []) new commit votes next matched machine is
-  grown me size log e old new commit votes next matched machine was is kept short room ahead = record {
+  pub grown : (me size term : ℕ) (log : List (Entry C)) (e : Entry C) (old new : Role) (commit : ℕ) (votes : List Bool) (next matched : List ℕ) (machine was is : Option S) → IsRaft m me size term log old commit votes next matched machine was → HasTerm new term → length log + 1 < 2 ^ 40 → HasRoom new (log ++ e ∷ []) → IfSome is (IsAhead m (log ++ e ∷ []) new machine) → IsRaft m me size term (log ++ e ∷ []) new commit votes next matched machine is
+  grown me size term log e old new commit votes next matched machine was is kept elected short room ahead = record {
     number = kept.number;
     group = kept.group;
     short = omega (arith, length-append log (e ∷ []));
+    elected = elected;
     room = room;
     votes_each = kept.votes_each;
     next_each = kept.next_each;
@@ -72,11 +73,12 @@ module _ {S C : Type 0} (m : Meaning S C) where
   live_reset log commit matched levels n (Some s) is live = record { committed = live.committed; state = live.state; levels = λ j. rw is (zero_levels n j) }
 
   -- nothing is known of what others hold, and no second machine is there
-  pub reset : (me size : ℕ) (log : List (Entry C)) (role : Role) (commit : ℕ) (votes : List Bool) (old_next old_matched next matched : List ℕ) (first n k : ℕ) (machine was : Option S) → IsRaft m me size log role commit votes old_next old_matched machine was → 1 ≤ first → first ≤ 2 ^ 40 → next ≡ replicate n first → matched ≡ replicate k 0 → length next ≡ size → length matched ≡ size → IsRaft m me size log role commit votes next matched machine None
-  reset me size log role commit votes old_next old_matched next matched first n k machine was is least most begins none next_each matched_each = record {
+  pub reset : (me size term : ℕ) (log : List (Entry C)) (role : Role) (commit : ℕ) (votes : List Bool) (old_next old_matched next matched : List ℕ) (first n k : ℕ) (machine was : Option S) → IsRaft m me size term log role commit votes old_next old_matched machine was → 1 ≤ first → first ≤ 2 ^ 40 → next ≡ replicate n first → matched ≡ replicate k 0 → length next ≡ size → length matched ≡ size → IsRaft m me size term log role commit votes next matched machine None
+  reset me size term log role commit votes old_next old_matched next matched first n k machine was is least most begins none next_each matched_each = record {
     number = is.number;
     group = is.group;
     short = is.short;
+    elected = is.elected;
     room = is.room;
     votes_each = is.votes_each;
     next_each = next_each;

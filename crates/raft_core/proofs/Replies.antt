@@ -94,13 +94,14 @@ pub second_stays : {S C : Type 0} (m : Meaning S C) (log : List (Entry C)) (role
 second_stays m log role old new None up kept = tt
 second_stays m log role old new (Some s) up kept = record { up = up; leads = kept.leads; state = kept.state }
 
-module _ {S C : Type 0} (m : Meaning S C) (me size : ℕ) (log : List (Entry C)) (role : Role) (votes : List Bool) (next match : List ℕ) (i at : ℕ) where
+module _ {S C : Type 0} (m : Meaning S C) (me size term : ℕ) (log : List (Entry C)) (role : Role) (votes : List Bool) (next match : List ℕ) (i at : ℕ) where
   -- a server keeps what its type asks, whatever an answer says
-  pub keeps : (ok : Bool) (before after : ℕ) (old new was is : Option S) → IsRaft m me size log role before votes next match old was → ((j : ℕ) → slice_index match j < 2 ^ 40) → at < 2 ^ 40 → IfSome new (λ s. (after ≤ length log) × (s ≡ state_after m (take after log))) → IfSome is (IsAhead m log role new) → IsRaft m me size log role after votes (next_after (length log) i ok at next match) (match_after (length log) i ok at match) new is
+  pub keeps : (ok : Bool) (before after : ℕ) (old new was is : Option S) → IsRaft m me size term log role before votes next match old was → ((j : ℕ) → slice_index match j < 2 ^ 40) → at < 2 ^ 40 → IfSome new (λ s. (after ≤ length log) × (s ≡ state_after m (take after log))) → IfSome is (IsAhead m log role new) → IsRaft m me size term log role after votes (next_after (length log) i ok at next match) (match_after (length log) i ok at match) new is
   keeps ok before after old new was is kept levels short live ahead = record {
     number = kept.number;
     group = kept.group;
     short = kept.short;
+    elected = kept.elected;
     room = kept.room;
     votes_each = kept.votes_each;
     next_each = next-length (length log) i at ok next match ∙ kept.next_each;

@@ -12,63 +12,62 @@ use Rattle.raft_model.specs.Quorums.{is_quorum, marked}
 use Rattle.raft_model.specs.Messages.{VoteRequest, VoteReply, Append, to_others}
 use Rattle.raft_model.specs.Servers.{Server, Turn, Mode, Down, Follower, Candidate, Leader, is_up, is_leader, silent, met, stood, grants, granted, counted, with_votes, following, follows_append, is_held, vote_request}
 use Rattle.raft_model.specs.Steps.{receives, step, Timeout}
-use Rattle.raft_core.specs.Watching.{sees_all, sees_step}
+use Rattle.raft_core.specs.Watching.{SeesAll, SeesStep}
 use Rattle.raft_core.specs.Refusals.{RefusalShows}
 
-module _ {S C W : Type 0} (m : Meaning S C) (sees : W → ℕ → Entry C → S → W) (term : ℕ) where
+module _ {S C W : Type 0} (m : Meaning S C) (Sees : W → ℕ → Entry C → S → W → Type 0) (term : ℕ) where
   -- nothing is seen yet
-  pub seen-none : (s : S) (es : List (Entry C)) (w : W) → w ≡ sees_all m sees term s (take 0 es) w
+  pub seen-none : (s : S) (es : List (Entry C)) (w : W) → SeesAll m Sees term s (take 0 es) w w
   seen-none s es w = refl
 
-  seen-append : (s : S) (xs ys : List (Entry C)) (w : W) → sees_all m sees term s (xs ++ ys) w ≡ sees_all m sees term (after_from m s (commands xs)) ys (sees_all m sees term s xs w)
+  seen-one : (s : S) (xs : List (Entry C)) (e : Entry C) (w mid new : W) → SeesAll m Sees term s xs w mid → Sees mid term e (m.applied (after_from m s (commands xs)) e.command) new → SeesAll m Sees term s (xs ++ e ∷ []) w new
   unfolding commands
-  seen-append s [] ys w = refl
-  seen-append s (x ∷ xs) ys w = seen-append (m.applied s x.command) xs ys (sees w term x (m.applied s x.command))
+  seen-one s [] e w mid new before is = (new, rw before at is, refl)
+  seen-one s (x ∷ xs) e w mid new before is = (before.0, before.1, seen-one (m.applied s x.command) xs e before.0 mid new before.2 is)
 
   -- one more entry is seen
-  pub seen-next : (s₀ : S) (es : List (Entry C)) (i : ℕ) (e : Entry C) (s t : S) (w₀ w v : W) → i < length es → e ≡ get_or es i e → s ≡ after_from m s₀ (commands (take i es)) → t ≡ m.applied s e.command → w ≡ sees_all m sees term s₀ (take i es) w₀ → v ≡ sees w term e t → v ≡ sees_all m sees term s₀ (take (i + 1) es) w₀
+  pub seen-next : (s₀ : S) (es : List (Entry C)) (i : ℕ) (e : Entry C) (s t : S) (w₀ w v : W) → i < length es → e ≡ get_or es i e → s ≡ after_from m s₀ (commands (take i es)) → t ≡ m.applied s e.command → SeesAll m Sees term s₀ (take i es) w₀ w → Sees w term e t v → SeesAll m Sees term s₀ (take (i + 1) es) w₀ v
   seen-next s₀ es i e s t w₀ w v within read old step before is =
       let whole : take (i + 1) es ≡ take i es ++ e ∷ [] = take_more es i e within ∙ ap (λ x. take i es ++ x ∷ []) (sym read) in
       let state : t ≡ m.applied (after_from m s₀ (commands (take i es))) e.command = step ∙ ap (λ x. m.applied x e.command) old in
-      is ∙ ap (λ x. sees x term e t) before ∙ ap (λ x. sees (sees_all m sees term s₀ (take i es) w₀) term e x) state
-      ∙ sym (ap (λ x. sees_all m sees term s₀ x w₀) whole ∙ seen-append s₀ (take i es) (e ∷ []) w₀)
+      rw whole (seen-one s₀ (take i es) e w₀ w v before (rw state at is))
 
   -- the entries from one place to another are seen from the state before them on
-  pub seen_range : (es : List (Entry C)) (from to : ℕ) (s : S) (w v : W) → from ≤ to → s ≡ state_after m (take from es) → v ≡ sees_all m sees term s (slice_range es from to) w → v ≡ sees_all m sees term (state_after m (take from es)) (drop from (take to es)) w
+  pub seen_range : (es : List (Entry C)) (from to : ℕ) (s : S) (w v : W) → from ≤ to → s ≡ state_after m (take from es) → SeesAll m Sees term s (slice_range es from to) w v → SeesAll m Sees term (state_after m (take from es)) (drop from (take to es)) w v
   seen_range es from to s w v le old is =
       let range : drop from (take to es) ≡ slice_range es from to = ap (λ (n : ℕ). drop from (take n es)) (omega arith) ∙ drop-take from (to - from) es in
-      is ∙ ap (λ x. sees_all m sees term x (slice_range es from to) w) old ∙ ap (λ x. sees_all m sees term (state_after m (take from es)) x w) (sym range)
+      rw (range, ← old) is
 
   -- where nothing is newly applied there is nothing to see
-  nothing_seen : (s : S) (n : ℕ) (log : List (Entry C)) (w : W) → sees_all m sees term s (drop n (take n log)) w ≡ w
+  nothing_seen : (s : S) (n : ℕ) (log : List (Entry C)) (w : W) → SeesAll m Sees term s (drop n (take n log)) w w
   nothing_seen s n log w =
       let none : drop n (take n log) ≡ [] = ap (λ (k : ℕ). drop n (take k log)) (omega arith) ∙ drop-take n 0 log in
-      ap (λ x. sees_all m sees term s x w) none
+      rw none refl
 
-module _ {S C W : Type 0} (m : Meaning S C) (sees : W → ℕ → Entry C → S → W) where
+module _ {S C W : Type 0} (m : Meaning S C) (Sees : W → ℕ → Entry C → S → W → Type 0) where
   -- one that does not lead shows nothing, nor one whose commit stays
-  idle : (s t : Server C) (w : W) → is_leader t.mode ≡ false → sees_step m sees s t w ≡ w
+  idle : (s t : Server C) (w : W) → is_leader t.mode ≡ false → SeesStep m Sees s t w w
   idle s t w other = rw other refl
 
-  still_at : (b : Bool) (s t : Server C) (w : W) → is_leader t.mode ≡ b → t.commit ≡ s.commit → sees_step m sees s t w ≡ w
+  still_at : (b : Bool) (s t : Server C) (w : W) → is_leader t.mode ≡ b → t.commit ≡ s.commit → SeesStep m Sees s t w w
   still_at false s t w is same = rw is refl
-  still_at true s t w is same = rw (is, same) (nothing_seen m sees t.term (state_after m (take s.commit s.log)) s.commit t.log w)
+  still_at true s t w is same = rw (is, same) (nothing_seen m Sees t.term (state_after m (take s.commit s.log)) s.commit t.log w)
 
-  pub still : (s t : Server C) (w : W) → t.commit ≡ s.commit → sees_step m sees s t w ≡ w
+  pub still : (s t : Server C) (w : W) → t.commit ≡ s.commit → SeesStep m Sees s t w w
   still s t w same = still_at (is_leader t.mode) s t w refl same
 
   met_commit : (term : ℕ) (s : Server C) (b : Bool) → nat_lt s.term term ≡ b → (met term s).commit ≡ s.commit
   met_commit term s true is = rw is refl
   met_commit term s false is = rw is refl
 
-  pub after_met : (term : ℕ) (s : Server C) (w : W) → sees_step m sees s (met term s) w ≡ w
+  pub after_met : (term : ℕ) (s : Server C) (w : W) → SeesStep m Sees s (met term s) w w
   after_met term s w = still s (met term s) w (met_commit term s (nat_lt s.term term) refl)
 
   granted_commit : (s : Server C) (from : ℕ) (b : Bool) → (granted s from b).commit ≡ s.commit
   granted_commit s from true = refl
   granted_commit s from false = refl
 
-  pub after_request : (n me : ℕ) (s : Server C) (from term index last : ℕ) (w : W) → sees_step m sees s (receives m.noop n me (met term s) from term (VoteRequest index last)).server w ≡ w
+  pub after_request : (n me : ℕ) (s : Server C) (from term index last : ℕ) (w : W) → SeesStep m Sees s (receives m.noop n me (met term s) from term (VoteRequest index last)).server w w
   after_request n me s from term index last w =
       let t = met term s in
       still s (granted t from (grants t from term index last)) w (granted_commit t from (grants t from term index last) ∙ met_commit term s (nat_lt s.term term) refl)
@@ -87,7 +86,7 @@ module _ {S C W : Type 0} (m : Meaning S C) (sees : W → ℕ → Entry C → S 
   reply_commit noop n s from true = counted_commit noop n s from s.mode
   reply_commit noop n s from false = refl
 
-  pub after_vote : (n me : ℕ) (s : Server C) (from term asked : ℕ) (granting : Bool) (w : W) → sees_step m sees s (receives m.noop n me (met term s) from term (VoteReply asked granting)).server w ≡ w
+  pub after_vote : (n me : ℕ) (s : Server C) (from term asked : ℕ) (granting : Bool) (w : W) → SeesStep m Sees s (receives m.noop n me (met term s) from term (VoteReply asked granting)).server w w
   after_vote n me s from term asked granting w =
       let t = met term s in
       still s (receives m.noop n me t from term (VoteReply asked granting)).server w (reply_commit m.noop n t from ((asked == t.term) && granting) ∙ met_commit term s (nat_lt s.term term) refl)
@@ -96,25 +95,25 @@ module _ {S C W : Type 0} (m : Meaning S C) (sees : W → ℕ → Entry C → S 
   follows_idle me s from prev prev_term commit entries true is other = rw is other
   follows_idle me s from prev prev_term commit entries false is other = rw is other
 
-  append_at : (n me : ℕ) (s t : Server C) (from term prev prev_term commit : ℕ) (entries : List (Entry C)) (w : W) (a b : Bool) → t.commit ≡ s.commit → nat_lt term t.term ≡ a → is_leader t.mode ≡ b → sees_step m sees s (receives m.noop n me t from term (Append prev prev_term commit entries)).server w ≡ w
+  append_at : (n me : ℕ) (s t : Server C) (from term prev prev_term commit : ℕ) (entries : List (Entry C)) (w : W) (a b : Bool) → t.commit ≡ s.commit → nat_lt term t.term ≡ a → is_leader t.mode ≡ b → SeesStep m Sees s (receives m.noop n me t from term (Append prev prev_term commit entries)).server w w
   append_at n me s t from term prev prev_term commit entries w true b same low leads = rw low (still s t w same)
   append_at n me s t from term prev prev_term commit entries w false true same low leads = rw (low, leads) (still s t w same)
   append_at n me s t from term prev prev_term commit entries w false false same low leads =
       let f = following t from in
       rw (low, leads) (idle s (follows_append me f from prev prev_term commit entries).server w (follows_idle me f from prev prev_term commit entries (is_held f prev prev_term) refl refl))
 
-  pub after_append : (n me : ℕ) (s : Server C) (from term prev prev_term commit : ℕ) (entries : List (Entry C)) (w : W) → sees_step m sees s (receives m.noop n me (met term s) from term (Append prev prev_term commit entries)).server w ≡ w
+  pub after_append : (n me : ℕ) (s : Server C) (from term prev prev_term commit : ℕ) (entries : List (Entry C)) (w : W) → SeesStep m Sees s (receives m.noop n me (met term s) from term (Append prev prev_term commit entries)).server w w
   after_append n me s from term prev prev_term commit entries w =
       let t = met term s in
       append_at n me s t from term prev prev_term commit entries w (nat_lt term t.term) (is_leader t.mode) (met_commit term s (nat_lt s.term term) refl) refl refl
 
-  timeout_at : (n me : ℕ) (s : Server C) (turn : Turn C) (w : W) (a b c : Bool) → is_up s.mode ≡ a → is_leader s.mode ≡ b → (nat_lt s.term MAX && nat_lt (length s.log) MAX) ≡ c → step m n me s Timeout ≡ Ok turn → sees_step m sees s turn.server w ≡ w
+  timeout_at : (n me : ℕ) (s : Server C) (turn : Turn C) (w : W) (a b c : Bool) → is_up s.mode ≡ a → is_leader s.mode ≡ b → (nat_lt s.term MAX && nat_lt (length s.log) MAX) ≡ c → step m n me s Timeout ≡ Ok turn → SeesStep m Sees s turn.server w w
   timeout_at n me s turn w false b c up leads room is = absurd (let e = rw up at is in cc)
   timeout_at n me s turn w true true c up leads room is = let e : silent s ≡ turn = let q = rw (up, leads) at is in cc in rw (← e) (still s s w refl)
   timeout_at n me s turn w true false true up leads room is = let e = rw (up, leads, room) at is in let q : record { server = stood n me s; sent = to_others me (vote_request me (stood n me s)) n } ≡ turn = cc in rw (← q) (idle s (stood n me s) w refl)
   timeout_at n me s turn w true false false up leads room is = absurd (let e = rw (up, leads, room) at is in cc)
 
-  pub after_timeout : (n me : ℕ) (s : Server C) (turn : Turn C) (w : W) → step m n me s Timeout ≡ Ok turn → sees_step m sees s turn.server w ≡ w
+  pub after_timeout : (n me : ℕ) (s : Server C) (turn : Turn C) (w : W) → step m n me s Timeout ≡ Ok turn → SeesStep m Sees s turn.server w w
   after_timeout n me s turn w is = timeout_at n me s turn w (is_up s.mode) (is_leader s.mode) (nat_lt s.term MAX && nat_lt (length s.log) MAX) refl refl refl is
 
 pub refusal_shows : {W : Type 0} (cause : Refusal) (w : W) → RefusalShows cause w w

@@ -58,12 +58,19 @@ HasRoom Follower log = Unit {0}
 HasRoom Candidate log = length log + 1 < 2 ^ 40
 HasRoom Leader log = Unit {0}
 
+-- who stands or leads does so in a term from 1 on
+abbrev pub HasTerm : Role → ℕ → Type 0
+HasTerm Follower term = Unit {0}
+HasTerm Candidate term = 1 ≤ term
+HasTerm Leader term = 1 ≤ term
+
 -- Each of the lists by server number has an item for each server. A next index is one that a log
 -- may grow to.
-pub record IsRaft {S C : Type 0} (m : Meaning S C) (me size : ℕ) (log : List (Entry C)) (role : Role) (commit : ℕ) (votes : List Bool) (next matched : List ℕ) (machine ahead : Option S) : Type 0 where
+pub record IsRaft {S C : Type 0} (m : Meaning S C) (me size term : ℕ) (log : List (Entry C)) (role : Role) (commit : ℕ) (votes : List Bool) (next matched : List ℕ) (machine ahead : Option S) : Type 0 where
   pub number : me < size
   pub group : size ≤ 5
   pub short : length log < 2 ^ 40
+  pub elected : HasTerm role term
   pub room : HasRoom role log
   pub votes_each : length votes ≡ size
   pub next_each : length next ≡ size

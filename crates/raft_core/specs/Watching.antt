@@ -1,24 +1,29 @@
--- What a watcher makes of the entries that a leader applies.
-use Rattle.std.specs.Prelude.{ℕ, if◌then◌else◌, List, [], ◌∷◌, take, drop}
+-- What a watcher may make of the entries that a leader applies.
+use Rattle.std.specs.Prelude.{◌≡◌, ℕ, Bool, true, false, List, [], ◌∷◌, take, drop}
 use Rattle.machine.specs.Meaning.{Meaning}
 use Rattle.machine.specs.declared.entry.Entry.{Entry}
 use Rattle.raft_model.specs.Logs.{state_after}
 use Rattle.raft_model.specs.Servers.{Server, is_leader}
 
--- Watcher w sees a leader of this term apply entries in state s, one after the other: each with the
--- state that it left.
-abbrev pub sees_all : {S C W : Type 0} → Meaning S C → (W → ℕ → Entry C → S → W) → ℕ → S
-    → List (Entry C) → W → W
-sees_all m sees term s [] w = w
-sees_all m sees term s (e ∷ es) w =
-    sees_all m sees term (m.applied s e.command) es (sees w term e (m.applied s e.command))
+-- Watcher w is `new` once it saw a leader of this term apply entries in state s, one after the
+-- other: each with the state that it left.
+abbrev pub SeesAll : {S C W : Type 0} → Meaning S C → (W → ℕ → Entry C → S → W → Type 0) → ℕ → S
+    → List (Entry C) → W → W → Type 0
+SeesAll m Sees term s [] w new = new ≡ w
+SeesAll {W = W} m Sees term s (e ∷ es) w new =
+    (mid : W) × Sees w term e (m.applied s e.command) mid
+    × SeesAll m Sees term (m.applied s e.command) es mid new
 
--- Watcher w sees a step of a server: where that leads after it, the entries that it newly applied,
--- from the state on in which it was; else nothing.
-abbrev pub sees_step : {S C W : Type 0} → Meaning S C → (W → ℕ → Entry C → S → W)
-    → Server C → Server C → W → W
-sees_step m sees before after w =
-    if is_leader after.mode
-    then sees_all m sees after.term (state_after m (take before.commit before.log))
-    (drop before.commit (take after.commit after.log)) w
-    else w
+-- a step of a server that leads after it, or does not: the entries that it newly applied are seen,
+-- from the state on in which it was; else nothing
+abbrev pub SeesWhere : {S C W : Type 0} → Meaning S C → (W → ℕ → Entry C → S → W → Type 0) → Bool
+    → Server C → Server C → W → W → Type 0
+SeesWhere m Sees true before after w new =
+    SeesAll m Sees after.term (state_after m (take before.commit before.log))
+    (drop before.commit (take after.commit after.log)) w new
+SeesWhere m Sees false before after w new = new ≡ w
+
+-- Watcher w is `new` once it saw a step of a server.
+abbrev pub SeesStep : {S C W : Type 0} → Meaning S C → (W → ℕ → Entry C → S → W → Type 0)
+    → Server C → Server C → W → W → Type 0
+SeesStep m Sees before after w new = SeesWhere m Sees (is_leader after.mode) before after w new

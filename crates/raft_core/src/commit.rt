@@ -7,13 +7,13 @@ ghost use Rattle.raft_model.specs.Quorums.{count, is_quorum, index_at};
 ghost use Rattle.raft_model.specs.Servers.{Server, Leader, advanced, greatest};
 ghost use Rattle.raft_core.specs.Commits.{holds, IsGreatest, IsRisen};
 ghost use Rattle.raft_core.specs.Inner.Commits.{is_chosen_in};
-ghost use Rattle.raft_core.specs.Watching.{sees_all};
+ghost use Rattle.raft_core.specs.Watching.{SeesAll};
 
 use crate::apply::apply_range_watched;
 use crate::log::term_at;
 use crate::watch::Watch;
 use machine::{Coded, Entry, Machine};
-use rows::{Index, NoMemory, ServerId, Term};
+use rows::{Index, LeaderTerm, NoMemory, ServerId};
 
 /// How many servers hold an index: the leader `me`, and each that is known to.
 fn count_holders(me: ServerId, matched: &[u64], index: u64) -> usize
@@ -64,7 +64,7 @@ fn next_lower(me: ServerId, matched: &[u64], index: u64) -> u64
 fn risen<M: Machine>(
     me: ServerId,
     commit: Index,
-    term: Term,
+    term: LeaderTerm,
     log: &[Entry<Coded<M>>],
     matched: &[u64],
 ) -> u64
@@ -93,7 +93,7 @@ pub fn advance<M: Machine, W: Watch<M>>(
     machine: &mut M,
     me: ServerId,
     commit: Index,
-    term: Term,
+    term: LeaderTerm,
     log: &[Entry<Coded<M>>],
     matched: &[u64],
     watch: &mut W,
@@ -107,8 +107,9 @@ pub fn advance<M: Machine, W: Watch<M>>(
         (length log.now)) }
     ensures within { IfOk result (λ n. n ≤ length log.now) }
     ensures state { IfOk result (λ n. machine.new ≡ state_after M.meaning (take n log.now)) }
-    ensures seen { IfOk result (λ n. watch.new ≡ sees_all M.meaning W.sees term
-        (state_after M.meaning (take commit log.now)) (drop commit (take n log.now)) watch.old) }
+    ensures seen { IfOk result (λ n. SeesAll M.meaning W.sees term
+        (state_after M.meaning (take commit log.now)) (drop commit (take n log.now)) watch.old
+        watch.new) }
 {
     let to = risen::<M>(me, commit, term, log, matched);
     let Some(to) = Index::new(to) else {

@@ -5,7 +5,7 @@ mod propose;
 mod replies;
 mod votes;
 
-ghost use Rattle.std.specs.Prelude.{◌≡◌, true, false, None, length, take, replicate, OnOk, OnErr, IfOk, IfErr, MatchOption};
+ghost use Rattle.std.specs.Prelude.{◌≡◌, ◌≤◌, true, false, None, length, take, replicate, OnOk, OnErr, IfOk, IfErr, IfSome, MatchOption};
 ghost use Rattle.raft_model.specs.Logs.{state_after};
 ghost use Rattle.raft_model.specs.Servers.{Server, is_up, is_leader, met, crashed, restarted};
 ghost use Rattle.raft_core.specs.Inputs.{handed};
@@ -14,14 +14,14 @@ ghost use Rattle.raft_core.specs.Refusals.{refusal, IsRefused, RefusalLeaves, Re
 ghost use Rattle.raft_core.specs.Inner.Stops.{Stops};
 ghost use Rattle.raft_core.specs.Inner.Views.{with_server};
 ghost use Rattle.raft_core.specs.RaftView.{KeepsAhead};
-ghost use Rattle.raft_core.specs.Watching.{sees_step};
+ghost use Rattle.raft_core.specs.Watching.{SeesStep};
 
 use crate::input::Input;
 use crate::role::Role;
 use crate::stable::Stable;
 use crate::watch::{Unwatched, Watch};
 use machine::{Coded, Entry, Machine};
-use rows::{Index, NoMemory, Refusal, ServerId, Term};
+use rows::{Index, LeaderTerm, NoMemory, Refusal, ServerId, Term};
 use std::alloc::Global;
 use std::marker::Model;
 use wire::Frames;
@@ -56,7 +56,7 @@ impl<M: Machine> Model for Raft<M> {
 
     ghost view = { λ a. with_ahead a.me a.size a.ahead (while_up a.machine (record { term = a.term; vote = a.vote; log = a.log.items; covered = 0; commit = a.commit; known = a.known; mode = mode_of a.role a.votes.items a.next.items a.matched.items })) };
 
-    ghost invariant = { λ a. IsRaft M.meaning a.me a.size a.log.items a.role a.commit a.votes.items a.next.items a.matched.items a.machine a.ahead };
+    ghost invariant = { λ a. IsRaft M.meaning a.me a.size a.term a.log.items a.role a.commit a.votes.items a.next.items a.matched.items a.machine a.ahead };
 }
 
 /// A stored part that could not be started, and why: the number is past the group's size, or that
@@ -162,6 +162,20 @@ impl<M: Machine> Raft<M> {
         Stable { term, vote, log }
     }
 
+    /// Its number.
+    pub fn me(&self) -> ServerId
+        ensures { result ≡ self.now.me }
+    {
+        self.me
+    }
+
+    /// How many servers its group has.
+    pub fn size(&self) -> usize
+        ensures { result ≡ self.now.size }
+    {
+        self.size
+    }
+
     /// What it is doing, while it is up.
     pub fn role(&self) -> Option<Role>
         ensures { (s : Server M.Command) → Represents M.meaning self.now s →
@@ -204,9 +218,11 @@ impl<M: Machine> Raft<M> {
 
     /// How many entries are applied, while it is up: all that are committed.
     pub fn applied(&self) -> Option<Index>
-        ensures { (s : Server M.Command) → Represents M.meaning self.now s →
+        ensures value { (s : Server M.Command) → Represents M.meaning self.now s →
             MatchOption result (is_up s.mode ≡ false) (λ n. (is_up s.mode ≡ true)
             × (n ≡ s.commit)) }
+        ensures held { (s : Server M.Command) → Represents M.meaning self.now s →
+            IfSome result (λ n. n ≤ length s.log) }
     {
         match self.machine {
             Some(_) => Some(self.commit),
@@ -223,13 +239,30 @@ impl<M: Machine> Raft<M> {
         self.machine.as_ref()
     }
 
-    fn is_up(&self) -> bool
-        ensures { result ≡ is_up self.now.server.mode }
+    /// Whether it is up: it has not crashed since it last started.
+    pub fn is_up(&self) -> bool
+        ensures { (s : Server M.Command) → Represents M.meaning self.now s →
+            result ≡ is_up s.mode }
     {
         match self.machine {
             Some(_) => true,
             None => false,
         }
+    }
+
+    /// Its term while it leads.
+    pub fn leader_term(&self) -> Option<LeaderTerm>
+        ensures { (s : Server M.Command) → Represents M.meaning self.now s →
+            MatchOption result (is_leader s.mode ≡ false) (λ n. (is_leader s.mode ≡ true)
+            × (n ≡ s.term)) }
+    {
+        if self.machine.is_none() || !self.role.leads() {
+            return None;
+        }
+        let Some(term) = LeaderTerm::new(self.term.get()) else {
+            unreachable!()
+        };
+        Some(term)
     }
 
     fn is_leader(&self) -> bool
@@ -299,8 +332,8 @@ impl<M: Machine> Raft<M> {
         ensures kept { OnOk result (KeepsAhead self.old self.new) }
         ensures stopped { IfErr result (λ cause.
             Stops M.meaning self.old (handed input.entry) cause self.new outbox.old outbox.new) }
-        ensures seen { OnOk result (watch.new
-            ≡ sees_step M.meaning W.sees self.old.server self.new.server watch.old) }
+        ensures seen { OnOk result
+            (SeesStep M.meaning W.sees self.old.server self.new.server watch.old watch.new) }
         ensures unseen { IfErr result (λ cause. RefusalShows cause watch.old watch.new) }
     {
         let is_up = self.is_up();
@@ -345,8 +378,8 @@ impl<M: Machine> Raft<M> {
     /// behind those in the outbox.
     ///
     /// One that is down refuses every input but Restart with `Down`. Then of a frame `Frame` names
-    /// the offset of its first fault, or 2 where its sender is not of the group, or 3 where it is
-    /// for another server; a Timeout is refused with `Exhausted` where the term or the last index
+    /// the offset of its first fault, or 1 where its kind is none by which servers keep one log, 2
+    /// where its sender is not of the group, or 3 where it is for another server; a Timeout is refused with `Exhausted` where the term or the last index
     /// is 2^40 - 1; a Restart of one that is up with `OutOfRange`. A refusal changes nothing and
     /// sends nothing. With `NoMemory` the server is down, with its stored part as it was and
     /// nothing sent. A leader that leads on keeps its machine after its whole log.
@@ -393,7 +426,7 @@ impl<M: Machine> Raft<M> {
         ensures unsent { OnErr result (outbox.new ≡ outbox.old) }
         ensures seen { OnOk result ((s next : Server M.Command) →
             Represents M.meaning self.old s → Represents M.meaning self.new next →
-            watch.new ≡ sees_step M.meaning W.sees s next watch.old) }
+            SeesStep M.meaning W.sees s next watch.old watch.new) }
         ensures unseen { IfErr result (λ cause. RefusalShows cause watch.old watch.new) }
     {
         let before = outbox.len();

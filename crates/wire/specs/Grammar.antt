@@ -1,7 +1,7 @@
 -- The parts of a frame: version, kind, addresses and bodies, each by what it is made of.
-use Rattle.std.specs.Prelude.{ℕ, ◌-◌, ◌^◌, min, List, Option, Some, None, ◌==◌, if◌then◌else◌}
-use Rattle.fields_model.specs.Format.{Format, number, ◌then◌, depends, made, list, placed, variant, coded, kept}
-use Rattle.fields_model.specs.Fields.{byte, term, index, bool, actor}
+use Rattle.std.specs.Prelude.{ℕ, ◌-◌, ◌^◌, min, List, [], ◌∷◌, Option, Some, None}
+use Rattle.fields_model.specs.Format.{Format, number, ◌then◌, depends, made, list, placed, variant, coded, kept, numbered}
+use Rattle.fields_model.specs.Fields.{term, index, bool, actor}
 use Rattle.rows.specs.declared.actor.Actor.{Actor}
 use Rattle.machine.specs.declared.entry.Entry.{Entry}
 use Rattle.machine.specs.Entries.{entry}
@@ -16,6 +16,7 @@ use Rattle.wire.specs.Appends.{Append}
 use Rattle.wire.specs.declared.body.Body.{Body}
 use Rattle.wire.specs.declared.body.Body.TheVariants as bodies
 use Rattle.wire.specs.Messages.{may_come_from, may_go}
+use Rattle.wire.specs.Services.{take_body, delivered_body, submit_body, plan_result_body, finish_body, nack_body, refused_body, register_body, told_body}
 
 -- ---- the header
 
@@ -23,23 +24,29 @@ use Rattle.wire.specs.Messages.{may_come_from, may_go}
 abbrev pub version : Format (Unit {0})
 version = coded (λ _. Some tt) (λ _. 1) (number 1 1 2)
 
--- the number of a kind
-abbrev pub kind_of_number : ℕ → Option Kind
-kind_of_number n =
-    if n == 1 then Some kinds.VoteRequest
-    else if n == 2 then Some kinds.VoteReply
-    else if n == 3 then Some kinds.Append
-    else if n == 4 then Some kinds.AppendReply
-    else None
-
+-- the number of a kind; 5 and 6, and 15 to 18, are none
 abbrev pub number_of_kind : Kind → ℕ
 number_of_kind kinds.VoteRequest = 1
 number_of_kind kinds.VoteReply = 2
 number_of_kind kinds.Append = 3
 number_of_kind kinds.AppendReply = 4
+number_of_kind kinds.Take = 7
+number_of_kind kinds.Delivered = 8
+number_of_kind kinds.Submit = 9
+number_of_kind kinds.PlanResult = 10
+number_of_kind kinds.Finish = 11
+number_of_kind kinds.Nack = 12
+number_of_kind kinds.Refused = 13
+number_of_kind kinds.Register = 14
+number_of_kind kinds.Told = 19
+
+abbrev pub all_kinds : List Kind
+all_kinds =
+    kinds.VoteRequest ∷ kinds.VoteReply ∷ kinds.Append ∷ kinds.AppendReply ∷ kinds.Take ∷ kinds.Delivered ∷ kinds.Submit
+    ∷ kinds.PlanResult ∷ kinds.Finish ∷ kinds.Nack ∷ kinds.Refused ∷ kinds.Register ∷ kinds.Told ∷ []
 
 abbrev pub kind : Format Kind
-kind = coded kind_of_number number_of_kind byte
+kind = numbered all_kinds number_of_kind
 
 -- who sends and who receives
 abbrev pub addresses : Kind → Format (Actor × Actor)
@@ -114,3 +121,12 @@ body commands kinds.VoteRequest = variant (λ v. bodies.VoteRequest v) vote_requ
 body commands kinds.VoteReply = variant (λ v. bodies.VoteReply v) vote_reply_of vote_reply
 body commands kinds.Append = variant (λ v. bodies.Append v) append_of (append commands)
 body commands kinds.AppendReply = variant (λ v. bodies.AppendReply v) append_reply_of append_reply
+body commands kinds.Take = take_body
+body commands kinds.Delivered = delivered_body
+body commands kinds.Submit = submit_body
+body commands kinds.PlanResult = plan_result_body
+body commands kinds.Finish = finish_body
+body commands kinds.Nack = nack_body
+body commands kinds.Refused = refused_body
+body commands kinds.Register = register_body
+body commands kinds.Told = told_body

@@ -1,5 +1,6 @@
 pub mod Appends
 pub mod Messages
+pub mod Services
 pub mod Grammar
 pub mod Frames
 pub mod Buffers

@@ -2,6 +2,10 @@
 use Rattle.std.specs.Prelude.{ℕ, List, Bool, false, true, not, nat_eq}
 use Rattle.rows.specs.declared.actor.Actor.{Actor}
 use Rattle.rows.specs.declared.actor.Actor.TheVariants.{Server, Client}
+use Rattle.rows.specs.declared.worker.WorkerRequest.{WorkerRequest}
+use Rattle.rows.specs.declared.worker.WorkerRequest.TheVariants as requests
+use Rattle.rows.specs.declared.worker.WorkerResponse.{WorkerResponse}
+use Rattle.rows.specs.declared.worker.WorkerResponse.TheVariants as responses
 use Rattle.machine.specs.declared.entry.Entry.{Entry}
 use Rattle.wire.specs.declared.kind.Kind.{Kind}
 use Rattle.wire.specs.declared.kind.Kind.TheVariants as kinds
@@ -16,11 +20,45 @@ pub record Message (S C : Type 0) : Type 0 where
   pub to : Actor
   pub body : Body S C
 
+abbrev pub request_kind : WorkerRequest → Kind
+request_kind requests.Take = kinds.Take
+request_kind (requests.Submit _) = kinds.Submit
+request_kind (requests.Finish _ _ _) = kinds.Finish
+request_kind (requests.Nack _ _) = kinds.Nack
+
+abbrev pub response_kind : WorkerResponse → Kind
+response_kind (responses.Delivered _) = kinds.Delivered
+response_kind (responses.PlanResult _) = kinds.PlanResult
+response_kind (responses.Refused _ _) = kinds.Refused
+
 abbrev pub kind_of : {S C : Type 0} → Body S C → Kind
 kind_of (bodies.VoteRequest _) = kinds.VoteRequest
 kind_of (bodies.VoteReply _) = kinds.VoteReply
 kind_of (bodies.Append _) = kinds.Append
 kind_of (bodies.AppendReply _) = kinds.AppendReply
+kind_of (bodies.Request request) = request_kind request
+kind_of (bodies.Response response) = response_kind response
+kind_of (bodies.Register _ _) = kinds.Register
+kind_of (bodies.Told _ _) = kinds.Told
+
+-- the kinds by which servers keep one log
+abbrev pub is_of_log : Kind → Bool
+is_of_log kinds.VoteRequest = true
+is_of_log kinds.VoteReply = true
+is_of_log kinds.Append = true
+is_of_log kinds.AppendReply = true
+is_of_log _ = false
+
+-- the kinds that workers and the leader's desk send each other
+abbrev pub is_of_desk : Kind → Bool
+is_of_desk kinds.Take = true
+is_of_desk kinds.Delivered = true
+is_of_desk kinds.Submit = true
+is_of_desk kinds.PlanResult = true
+is_of_desk kinds.Finish = true
+is_of_desk kinds.Nack = true
+is_of_desk kinds.Refused = true
+is_of_desk _ = false
 
 abbrev pub is_server : Actor → Bool
 is_server (Server _) = true
@@ -30,19 +68,33 @@ abbrev pub is_another_server : Actor → Actor → Bool
 is_another_server (Server from) (Server to) = not (nat_eq to from)
 is_another_server _ _ = false
 
--- who sends messages of a kind
-abbrev pub may_come_from : Kind → Actor → Bool
-may_come_from kinds.VoteRequest from = is_server from
-may_come_from kinds.VoteReply from = is_server from
-may_come_from kinds.Append from = is_server from
-may_come_from kinds.AppendReply from = is_server from
+abbrev pub are_servers : Actor → Actor → Bool
+are_servers (Server _) (Server _) = true
+are_servers _ _ = false
 
--- to whom messages of a kind go from there: those between servers go to another one
+abbrev pub is_client_to_server : Actor → Actor → Bool
+is_client_to_server (Client _) (Server _) = true
+is_client_to_server _ _ = false
+
+abbrev pub is_server_to_client : Actor → Actor → Bool
+is_server_to_client (Server _) (Client _) = true
+is_server_to_client _ _ = false
+
+-- who sends messages of a kind: an agent registers, and all others come from servers
+abbrev pub may_come_from : Kind → Actor → Bool
+may_come_from kinds.Register from = not (is_server from)
+may_come_from _ from = is_server from
+
+-- to whom messages of a kind go from there: those by which servers keep one log go to another one,
+-- those of workers and the leader's desk may go to the sender itself
 abbrev pub may_go : Kind → Actor → Actor → Bool
 may_go kinds.VoteRequest from to = is_another_server from to
 may_go kinds.VoteReply from to = is_another_server from to
 may_go kinds.Append from to = is_another_server from to
 may_go kinds.AppendReply from to = is_another_server from to
+may_go kinds.Register from to = is_client_to_server from to
+may_go kinds.Told from to = is_server_to_client from to
+may_go _ from to = are_servers from to
 
 -- an Append of these parts, from one server to another
 abbrev pub append_message : {S C : Type 0} → ℕ → ℕ → AppendHead → List (Entry C) → Message S C

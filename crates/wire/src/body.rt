@@ -6,10 +6,15 @@ ghost use Rattle.wire.specs.Inner.Said.{said_body, HavePlaces};
 
 use crate::append::{Append, AppendHead, AppendReply, append_append, read_append};
 use crate::kind::Kind;
+use crate::services::{
+    append_request, append_response, read_desk_body, request_kind, response_kind,
+};
 use crate::vote::{VoteReply, VoteRequest};
-use fields::Field;
+use fields::{Field, append_told_reason, read_told_reason};
 use machine::{Coded, Entry, Machine};
-use rows::{NoMemory, Refusal};
+use rows::{
+    ClassName, ClientRequestKind, NoMemory, Reason, Refusal, Size, WorkerRequest, WorkerResponse,
+};
 use std::alloc::Global;
 
 /// What a message says, by its kind.
@@ -23,6 +28,15 @@ pub enum Body<M: Machine> {
     Append(Append<M>),
     /// The answer to a leader.
     AppendReply(AppendReply),
+    /// What a server's workers ask of the leader's desk.
+    Request(WorkerRequest),
+    /// What the leader's desk answers.
+    Response(WorkerResponse),
+    /// A node's agent registers the node, of this class and size. (Nomad documentation,
+    /// "Architecture".)
+    Register(ClassName, Size),
+    /// Which request of an agent is answered: it is taken, or it is refused for this reason.
+    Told(ClientRequestKind, Option<Reason>),
 }
 
 impl<M: Machine> Body<M> {
@@ -35,6 +49,10 @@ impl<M: Machine> Body<M> {
             Body::VoteReply(_) => Kind::VoteReply,
             Body::Append(_) => Kind::Append,
             Body::AppendReply(_) => Kind::AppendReply,
+            Body::Request(request) => request_kind(request),
+            Body::Response(response) => response_kind(response),
+            Body::Register(_, _) => Kind::Register,
+            Body::Told(_, _) => Kind::Told,
         }
     }
 }
@@ -66,6 +84,17 @@ pub fn read_body<M: Machine>(
             let (reply, end) = AppendReply::read_at(alloc, bytes, at)?;
             Ok((Body::AppendReply(reply), end))
         }
+        Kind::Register => {
+            let (class, at) = ClassName::read_at(alloc, bytes, at)?;
+            let (size, end) = Size::read_at(alloc, bytes, at)?;
+            Ok((Body::Register(class, size), end))
+        }
+        Kind::Told => {
+            let (asked, at) = ClientRequestKind::read_at(alloc, bytes, at)?;
+            let (reason, end) = read_told_reason(bytes, at)?;
+            Ok((Body::Told(asked, reason), end))
+        }
+        _ => read_desk_body(alloc, kind, bytes, at),
     }
 }
 
@@ -78,6 +107,16 @@ pub fn append_body<M: Machine>(value: &Body<M>, out: &mut Vec<u8>) -> Result<(),
         Body::VoteReply(reply) => reply.append(out),
         Body::Append(append) => append_append(&append.head(), append.entries(), out),
         Body::AppendReply(reply) => reply.append(out),
+        Body::Request(request) => append_request::<M>(request, out),
+        Body::Response(response) => append_response::<M>(response, out),
+        Body::Register(class, size) => {
+            class.append(out)?;
+            size.append(out)
+        }
+        Body::Told(asked, reason) => {
+            asked.append(out)?;
+            append_told_reason(reason, out)
+        }
     }
 }
 

@@ -1,6 +1,6 @@
 ghost use Rattle.std.specs.Prelude.{◌≡◌};
 ghost use Rattle.fields_model.specs.Format.{GivesExactly};
-ghost use Rattle.wire.specs.Messages.{may_come_from, may_go, is_server, is_another_server};
+ghost use Rattle.wire.specs.Messages.{is_of_log, is_of_desk, may_come_from, may_go, is_server, is_another_server};
 ghost use Rattle.wire.specs.Grammar.{kind};
 ghost use Rattle.wire.specs.Laws.GrammarLaws.{kind_lawful};
 
@@ -19,27 +19,71 @@ pub enum Kind {
     Append,
     /// 4: the answer to a leader.
     AppendReply,
+    /// 7: a worker asks for an evaluation.
+    Take,
+    /// 8: an evaluation for a worker, or that there is none.
+    Delivered,
+    /// 9: a worker submits a plan.
+    Submit,
+    /// 10: what became of a plan.
+    PlanResult,
+    /// 11: a worker ends its work on an evaluation.
+    Finish,
+    /// 12: a worker gives an evaluation back.
+    Nack,
+    /// 13: a worker's request is refused.
+    Refused,
+    /// 14: a node's agent registers.
+    Register,
+    /// 19: whether an agent's request is taken.
+    Told,
 }
 
 impl Kind {
-    /// Whether this actor sends messages of the kind.
+    /// Whether the message is one of those by which servers keep one log.
+    pub fn is_of_log(self) -> bool
+        ensures { result ≡ is_of_log self }
+    {
+        matches!(
+            self,
+            Kind::VoteRequest | Kind::VoteReply | Kind::Append | Kind::AppendReply
+        )
+    }
+
+    /// Whether the message is one of those that workers and the leader's desk send each other.
+    pub fn is_of_desk(self) -> bool
+        ensures { result ≡ is_of_desk self }
+    {
+        match self {
+            Kind::Take | Kind::Submit | Kind::Finish | Kind::Nack => true,
+            Kind::Delivered | Kind::PlanResult | Kind::Refused => true,
+            _ => false,
+        }
+    }
+
+    /// Whether this actor sends messages of the kind: an agent registers, and all others come from
+    /// servers.
     pub fn may_come_from(self, from: &Actor) -> bool
         ensures { result ≡ may_come_from self from.now }
     {
         match self {
-            Kind::VoteRequest | Kind::VoteReply => is_server(from),
-            Kind::Append | Kind::AppendReply => is_server(from),
+            Kind::Register => !is_server(from),
+            _ => is_server(from),
         }
     }
 
-    /// Whether messages of the kind go from this actor to that one: those between servers go to
-    /// another one.
+    /// Whether messages of the kind go from this actor to that one: those by which servers keep one
+    /// log go to another server, those of workers and the leader's desk to any, an agent's to a
+    /// server, and the answer to it from a server.
     pub fn may_go(self, from: &Actor, to: &Actor) -> bool
         ensures { result ≡ may_go self from.now to.now }
     {
         match self {
             Kind::VoteRequest | Kind::VoteReply => is_another_server(from, to),
             Kind::Append | Kind::AppendReply => is_another_server(from, to),
+            Kind::Register => !is_server(from) && is_server(to),
+            Kind::Told => is_server(from) && !is_server(to),
+            _ => is_server(from) && is_server(to),
         }
     }
 }
@@ -69,16 +113,35 @@ impl Field for Kind {
             (2, next) => Ok((Kind::VoteReply, next)),
             (3, next) => Ok((Kind::Append, next)),
             (4, next) => Ok((Kind::AppendReply, next)),
+            (7, next) => Ok((Kind::Take, next)),
+            (8, next) => Ok((Kind::Delivered, next)),
+            (9, next) => Ok((Kind::Submit, next)),
+            (10, next) => Ok((Kind::PlanResult, next)),
+            (11, next) => Ok((Kind::Finish, next)),
+            (12, next) => Ok((Kind::Nack, next)),
+            (13, next) => Ok((Kind::Refused, next)),
+            (14, next) => Ok((Kind::Register, next)),
+            (19, next) => Ok((Kind::Told, next)),
             _ => Err(Refusal::Frame(at)),
         }
     }
 
     fn append(&self, out: &mut Vec<u8>) -> Result<(), NoMemory> {
-        match self {
-            Kind::VoteRequest => write_u8(&1, out),
-            Kind::VoteReply => write_u8(&2, out),
-            Kind::Append => write_u8(&3, out),
-            Kind::AppendReply => write_u8(&4, out),
-        }
+        let number = match self {
+            Kind::VoteRequest => 1,
+            Kind::VoteReply => 2,
+            Kind::Append => 3,
+            Kind::AppendReply => 4,
+            Kind::Take => 7,
+            Kind::Delivered => 8,
+            Kind::Submit => 9,
+            Kind::PlanResult => 10,
+            Kind::Finish => 11,
+            Kind::Nack => 12,
+            Kind::Refused => 13,
+            Kind::Register => 14,
+            Kind::Told => 19,
+        };
+        write_u8(&number, out)
     }
 }

@@ -9,6 +9,7 @@ mod kind;
 mod laws;
 mod message;
 mod reading;
+mod services;
 mod vote;
 mod writing;
 

@@ -7,7 +7,7 @@ use crate::body::Body;
 use crate::header::Header;
 use crate::kind::Kind;
 use machine::Machine;
-use rows::{Actor, ServerId};
+use rows::{Actor, ClientId, ServerId};
 use std::marker::Model;
 
 /// A message of one actor to another, in a group that replicates the machine `M`. Each message goes
@@ -44,7 +44,7 @@ impl<M: Machine> Message<M> {
         }
     }
 
-    /// The message of one server to another, for a kind that goes between servers.
+    /// The message of one server to another, or to itself, for a kind that goes there.
     pub fn between(from: ServerId, to: ServerId, body: Body<M>) -> Message<M>
         requires { may_go (kind_of body) (actors.Server from) (actors.Server to) ≡ true }
         ensures { result ≡ record { from = actors.Server from; to = actors.Server to; body = body } }
@@ -52,6 +52,27 @@ impl<M: Machine> Message<M> {
         Message {
             from: Actor::Server(from),
             to: Actor::Server(to),
+            body,
+        }
+    }
+
+    /// The message of a client's agent to a server, for a kind that goes there.
+    pub fn to_server(from: ClientId, to: ServerId, body: Body<M>) -> Message<M>
+        requires { may_go (kind_of body) (actors.Client from) (actors.Server to) ≡ true }
+        ensures { result ≡ record { from = actors.Client from; to = actors.Server to; body = body } }
+    {
+        let (from, to) = (Actor::Client(from), Actor::Server(to));
+        Message { from, to, body }
+    }
+
+    /// The message of a server to a client's agent, for a kind that goes there.
+    pub fn to_client(from: ServerId, to: ClientId, body: Body<M>) -> Message<M>
+        requires { may_go (kind_of body) (actors.Server from) (actors.Client to) ≡ true }
+        ensures { result ≡ record { from = actors.Server from; to = actors.Client to; body = body } }
+    {
+        Message {
+            from: Actor::Server(from),
+            to: Actor::Client(to),
             body,
         }
     }

@@ -9,7 +9,9 @@ use Rattle.cluster_model.specs.Worked.Words.{eval_id}
 use Rattle.group_model.specs.Desks.{Desk}
 use Rattle.group_model.specs.Inputs as inputs
 use Rattle.group_model.specs.Members as members
-use Rattle.group_model.specs.Messages.{GroupMessage, Service, BetweenServers, Asks, Answers, Take, Delivered}
+use Rattle.rows.specs.declared.worker.WorkerRequest.TheVariants.{Take}
+use Rattle.rows.specs.declared.worker.WorkerResponse.TheVariants.{Delivered}
+use Rattle.group_model.specs.Messages.{GroupMessage, Service, BetweenServers, Asks, Answers}
 use Rattle.group_model.specs.Brokers.{Task, failed}
 use Rattle.group_model.specs.Worked.Words.{token, entry, log, leader, after_inputs, sent_by}
 

@@ -2,8 +2,13 @@
 use Rattle.std.specs.Prelude.{ℕ, Some, None, [], ◌∷◌}
 use Rattle.cluster_model.specs.Words.{no_rows}
 use Rattle.cluster_model.specs.Worked.Words.{web, eval_id}
-use Rattle.group_model.specs.Reasons.{Reason, SnapshotTooOld, JobChanged, UnknownJob, QueueFull, JobStopped, NotOutstanding, NotLeader}
-use Rattle.group_model.specs.Messages.{Submit, Finish, Nack, AskedTake, AskedSubmit, AskedFinish, WorkerResponse, Delivered, PlanResult, Refused, Complete, Blocked}
+use Rattle.rows.specs.declared.reason.Reason.{Reason}
+use Rattle.rows.specs.declared.reason.Reason.TheVariants.{SnapshotTooOld, JobChanged, UnknownJob, QueueFull, JobStopped, NotOutstanding, NotLeader}
+use Rattle.rows.specs.declared.worker.EvalOutcome.TheVariants.{Complete, Blocked}
+use Rattle.rows.specs.declared.worker.WorkerRequest.TheVariants.{Submit, Finish, Nack}
+use Rattle.rows.specs.declared.worker.AskedRequest.TheVariants as asked
+use Rattle.rows.specs.declared.worker.WorkerResponse.{WorkerResponse}
+use Rattle.rows.specs.declared.worker.WorkerResponse.TheVariants.{Delivered, PlanResult, Refused}
 use Rattle.group_model.specs.NextStep.{WorkerStep, Later, Drop, Ask, IsNextStep}
 use Rattle.group_model.specs.Worked.Words.{token}
 use Rattle.group_model.specs.Worked.Scheduling.{on_node, one_node, one_lives}
@@ -14,10 +19,10 @@ delivered entry wait =
 
 -- one was placed, and the leader's last index is this
 abbrev pub placed_one : ℕ → WorkerResponse
-placed_one last = PlanResult (eval_id 3 0) (token 1 1) last 1 []
+placed_one last = PlanResult (record { eval = eval_id 3 0; token = token 1 1; last = last; placed = 1; refused = [] })
 
 abbrev pub refused : Reason → WorkerResponse
-refused reason = Refused (AskedSubmit (eval_id 3 0) (token 1 1)) reason
+refused reason = Refused (asked.Submit (eval_id 3 0) (token 1 1)) reason
 
 abbrev pub gives_it_back : WorkerStep
 gives_it_back = Ask (Nack (eval_id 3 0) (token 1 1))
@@ -86,7 +91,7 @@ PlanUnderOldToken = IsNextStep no_rows 0 (refused NotOutstanding) 16 Drop
 -- another request that is refused
 abbrev pub FinishRefused : Type 0
 FinishRefused =
-    IsNextStep no_rows 0 (Refused (AskedFinish (eval_id 3 0) (token 1 1)) SnapshotTooOld) 0 Drop
+    IsNextStep no_rows 0 (Refused (asked.Finish (eval_id 3 0) (token 1 1)) SnapshotTooOld) 0 Drop
 
 abbrev pub TakeRefused : Type 0
-TakeRefused = IsNextStep no_rows 0 (Refused AskedTake (NotLeader None)) 0 Drop
+TakeRefused = IsNextStep no_rows 0 (Refused asked.Take (NotLeader None)) 0 Drop

@@ -2,8 +2,10 @@
 use Rattle.std.specs.Prelude.{◌≡◌, Bool, true, false, is_some, Option, Some, None, List, [], ◌∷◌, ◌++◌, slice_get}
 use Rattle.group_model.specs.Inputs as inputs
 use Rattle.group_model.specs.Members.{Member}
-use Rattle.group_model.specs.Reasons as reasons
-use Rattle.group_model.specs.Messages.{Service, BetweenServers, Answers, Delivered, Refused, AskedTake}
+use Rattle.rows.specs.declared.reason.Reason.TheVariants as reasons
+use Rattle.rows.specs.declared.worker.AskedRequest.TheVariants as asked
+use Rattle.rows.specs.declared.worker.WorkerResponse.TheVariants.{Delivered, Refused}
+use Rattle.group_model.specs.Messages.{Service, BetweenServers, Answers}
 use Rattle.group_model.specs.Worlds as worlds
 use Rattle.group_model.specs.Worlds.{Event, Deliver, AtServer}
 use Rattle.group_model.specs.Worked.Words.{after_events}
@@ -35,7 +37,7 @@ OpenAtNoop = first_after committed ≡ Some (true, true)
 abbrev pub NotYetOpen : Type 0
 NotYetOpen =
     slice_get (after_events (worlds.first 3 []) (elected ++ AtServer 1 (inputs.TakeFrom 0) ∷ Deliver 3 ∷ [])).sent 4
-    ≡ Some (Service (BetweenServers 0 1 (Answers (Refused AskedTake reasons.NotOpen))))
+    ≡ Some (Service (BetweenServers 0 1 (Answers (Refused asked.Take reasons.NotOpen))))
 
 -- Once the no-op is committed the same Take is answered: there is nothing to work on.
 abbrev pub OpenThen : Type 0

@@ -4,6 +4,10 @@ use Rattle.rows.specs.declared.refusal.Refusal.{Refusal}
 use Rattle.rows.specs.declared.plan.Plan.{Plan}
 use Rattle.rows.specs.declared.command.Command.{Command}
 use Rattle.rows.specs.declared.command.Command.TheVariants as commands
+use Rattle.rows.specs.declared.reason.Reason.TheVariants as reasons
+use Rattle.rows.specs.declared.worker.WorkerRequest.TheVariants.{Take, Submit}
+use Rattle.rows.specs.declared.worker.AskedRequest.TheVariants as asked
+use Rattle.rows.specs.declared.worker.WorkerResponse.TheVariants.{Delivered, PlanResult, Refused}
 use Rattle.machine.specs.declared.entry.Entry.{Entry}
 use Rattle.raft_model.specs.Servers as rafts
 use Rattle.cluster_model.specs.Words.{no_rows}
@@ -12,8 +16,7 @@ use Rattle.group_model.specs.Desks.{after_entries}
 use Rattle.group_model.specs.Inputs as inputs
 use Rattle.group_model.specs.Members as members
 use Rattle.group_model.specs.Members.{Member}
-use Rattle.group_model.specs.Reasons as reasons
-use Rattle.group_model.specs.Messages.{Service, BetweenServers, Asks, Answers, Take, Submit, Delivered, PlanResult, Refused, AskedSubmit}
+use Rattle.group_model.specs.Messages.{Service, BetweenServers, Asks, Answers}
 use Rattle.group_model.specs.Order.{in_order}
 use Rattle.group_model.specs.Worked.Words.{token, entry, after_inputs, sent_by, a, b, narrow, at_narrow}
 
@@ -40,12 +43,12 @@ both_submitted = takes_from 1 ∷ takes_from 2 ∷ submits 1 (plan_of 3 1 a) ∷
 
 -- the first plan is appended
 abbrev pub FirstPlan : Type 0
-FirstPlan = sent_by (members.step 3 0 (after_inputs at_narrow both_submitted) inputs.PlanTurn) ≡ Service (BetweenServers 0 1 (Answers (PlanResult (eval_id 3 0) (token 1 1) 5 1 []))) ∷ []
+FirstPlan = sent_by (members.step 3 0 (after_inputs at_narrow both_submitted) inputs.PlanTurn) ≡ Service (BetweenServers 0 1 (Answers (PlanResult (record { eval = eval_id 3 0; token = token 1 1; last = 5; placed = 1; refused = [] })))) ∷ []
 
 -- The second is held against the state after the whole log, where the first has its room, though
 -- nothing more is committed.
 abbrev pub SecondPlan : Type 0
-SecondPlan = sent_by (members.step 3 0 (after_inputs at_narrow (both_submitted ++ inputs.PlanTurn ∷ [])) inputs.PlanTurn) ≡ Service (BetweenServers 0 2 (Answers (PlanResult (eval_id 4 0) (token 1 2) 5 0 (1 ∷ [])))) ∷ []
+SecondPlan = sent_by (members.step 3 0 (after_inputs at_narrow (both_submitted ++ inputs.PlanTurn ∷ [])) inputs.PlanTurn) ≡ Service (BetweenServers 0 2 (Answers (PlanResult (record { eval = eval_id 4 0; token = token 1 2; last = 5; placed = 0; refused = 1 ∷ [] })))) ∷ []
 
 abbrev pub OneEntry : Type 0
 OneEntry = (after_inputs at_narrow (both_submitted ++ inputs.PlanTurn ∷ inputs.PlanTurn ∷ inputs.PlanTurn ∷ [])).raft.log ≡ narrow ++ entry 1 (commands.Plan (record {
@@ -61,7 +64,7 @@ OneEntry = (after_inputs at_narrow (both_submitted ++ inputs.PlanTurn ∷ inputs
 abbrev pub OldTokenPlan : Type 0
 OldTokenPlan =
     sent_by (members.step 3 0 (after_inputs at_narrow (takes_from 1 ∷ inputs.Lapse (eval_id 3 0) ∷ takes_from 2 ∷ submits 1 (plan_of 3 1 a) ∷ [])) inputs.PlanTurn)
-    ≡ Service (BetweenServers 0 1 (Answers (Refused (AskedSubmit (eval_id 3 0) (token 1 1)) reasons.TokenDiffers))) ∷ []
+    ≡ Service (BetweenServers 0 1 (Answers (Refused (asked.Submit (eval_id 3 0) (token 1 1)) reasons.TokenDiffers))) ∷ []
 
 -- A leader of term 2 over the same rows, whose no-op is applied: a plan under a token of term 1 is
 -- refused.
@@ -80,7 +83,7 @@ FirstOfTheTerm = sent_by (members.step 3 0 next_leader (takes_from 1)) ≡ Servi
 abbrev pub OldTermPlan : Type 0
 OldTermPlan =
     sent_by (members.step 3 0 (after_inputs next_leader (takes_from 1 ∷ submits 1 (plan_of 3 1 a) ∷ [])) inputs.PlanTurn)
-    ≡ Service (BetweenServers 0 1 (Answers (Refused (AskedSubmit (eval_id 3 0) (token 1 1)) reasons.TokenDiffers))) ∷ []
+    ≡ Service (BetweenServers 0 1 (Answers (Refused (asked.Submit (eval_id 3 0) (token 1 1)) reasons.TokenDiffers))) ∷ []
 
 abbrev pub open_after : Result members.Turn Refusal → Bool
 open_after (Ok turn) = is_some turn.member.desk

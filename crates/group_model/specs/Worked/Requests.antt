@@ -10,9 +10,11 @@ use Rattle.cluster_model.specs.Worked.Words.{linux, api, main, size, eval_id, al
 use Rattle.group_model.specs.Inputs as inputs
 use Rattle.group_model.specs.Members as members
 use Rattle.group_model.specs.Members.{Member}
-use Rattle.group_model.specs.Reasons as reasons
-use Rattle.group_model.specs.Reasons.{Reason}
-use Rattle.group_model.specs.Messages.{GroupMessage, Service, ToServer, ToClient, Register, Pull, ReportStates, Listing, Told, ClientRequestKind, OfRegister, OfReport}
+use Rattle.rows.specs.declared.reason.Reason.{Reason}
+use Rattle.rows.specs.declared.reason.Reason.TheVariants as reasons
+use Rattle.rows.specs.declared.worker.ClientRequestKind.{ClientRequestKind}
+use Rattle.rows.specs.declared.worker.ClientRequestKind.TheVariants as kinds
+use Rattle.group_model.specs.Messages.{GroupMessage, Service, ToServer, ToClient, Register, Pull, ReportStates, Listing, Told}
 use Rattle.group_model.specs.Worked.Words.{token, entry, leads, after_inputs, sent_by, a, narrow}
 
 -- ---- the live allocations of its node, at the applied state
@@ -58,7 +60,7 @@ abbrev pub ReportedTwice : Type 0
 ReportedTwice = (after_inputs at_placed (runs_five ∷ runs_five ∷ [])).raft.log ≡ (after_inputs at_placed (runs_five ∷ [])).raft.log
 
 abbrev pub ToldBothTimes : Type 0
-ToldBothTimes = sent_by (members.step 3 0 (after_inputs at_placed (runs_five ∷ [])) runs_five) ≡ told OfReport None
+ToldBothTimes = sent_by (members.step 3 0 (after_inputs at_placed (runs_five ∷ [])) runs_five) ≡ told kinds.Report None
 
 -- So is a node that is ready; one of another size is refused, and so is all at a server that does
 -- not lead.
@@ -66,7 +68,7 @@ abbrev pub SameNode : Type 0
 SameNode = (after_inputs at_placed (registers (size 1000 1000) ∷ [])).raft.log ≡ placed_log
 
 abbrev pub OtherSize : Type 0
-OtherSize = sent_by (members.step 3 0 at_placed (registers (size 1000 999))) ≡ told OfRegister (Some reasons.NodeDiffers)
+OtherSize = sent_by (members.step 3 0 at_placed (registers (size 1000 999))) ≡ told kinds.Register (Some reasons.NodeDiffers)
 
 abbrev pub AtNoLeader : Type 0
-AtNoLeader = sent_by (members.step 3 0 members.newcomer (registers (size 1000 1000))) ≡ told OfRegister (Some (reasons.NotLeader None))
+AtNoLeader = sent_by (members.step 3 0 members.newcomer (registers (size 1000 1000))) ≡ told kinds.Register (Some (reasons.NotLeader None))

@@ -7,14 +7,14 @@ ghost use Rattle.raft_model.specs.Messages.{AppendReply as AppendReplyBody};
 ghost use Rattle.raft_model.specs.Quorums.{index_at};
 ghost use Rattle.raft_core.specs.Inner.Replies.{hears, next_after, match_after};
 ghost use Rattle.raft_core.specs.RaftView.{KeepsAhead};
-ghost use Rattle.raft_core.specs.Watching.{sees_step};
+ghost use Rattle.raft_core.specs.Watching.{SeesStep};
 
 use super::Raft;
 use crate::commit::advance;
 use crate::role::Role;
 use crate::watch::Watch;
 use machine::Machine;
-use rows::{Index, NoMemory, ServerId};
+use rows::{Index, LeaderTerm, NoMemory, ServerId};
 use wire::AppendReply;
 
 /// Another server holds its log up to `at`: its match index is no less, and its next index follows.
@@ -81,20 +81,23 @@ impl<M: Machine> Raft<M> {
         ensures heard { OnOk result (self.new.server
             ≡ hears self.old.size self.old.me self.old.server from ok at self.old.server.mode) }
         ensures kept { OnOk result (KeepsAhead self.old self.new) }
-        ensures seen { OnOk result (watch.new
-            ≡ sees_step M.meaning W.sees self.old.server self.new.server watch.old) }
+        ensures seen { OnOk result
+            (SeesStep M.meaning W.sees self.old.server self.new.server watch.old watch.new) }
         ensures lost { OnErr result (crashed self.new.server ≡ crashed self.old.server) }
     {
         match self.role {
             Role::Follower => Ok(()),
             Role::Candidate => Ok(()),
             Role::Leader => {
+                let Some(term) = LeaderTerm::new(self.term.get()) else {
+                    unreachable!()
+                };
                 let last = self.log.len() as u64;
                 learn(&mut self.next, &mut self.matched, last, from, ok, at);
                 let Some(machine) = &mut self.machine else {
                     unreachable!()
                 };
-                let (commit, term) = (self.commit, self.term);
+                let commit = self.commit;
                 let log = &self.log;
                 match advance(machine, self.me, commit, term, log, &self.matched, watch) {
                     Ok(risen) => {
@@ -128,8 +131,8 @@ impl<M: Machine> Raft<M> {
             (met reply.now.term self.old.server) from reply.now.term
             (AppendReplyBody reply.now.asked reply.now.ok reply.now.at)).server) }
         ensures kept { OnOk result (KeepsAhead self.old self.new) }
-        ensures seen { OnOk result (watch.new
-            ≡ sees_step M.meaning W.sees self.old.server self.new.server watch.old) }
+        ensures seen { OnOk result
+            (SeesStep M.meaning W.sees self.old.server self.new.server watch.old watch.new) }
         ensures lost { OnErr result (crashed self.new.server ≡ crashed self.old.server) }
     {
         if self.term.get() < reply.term.get() {

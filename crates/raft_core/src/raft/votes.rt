@@ -148,6 +148,7 @@ impl<M: Machine> Raft<M> {
     /// It leads, and appends a no-op of its term.
     fn lead(&mut self) -> Result<(), NoMemory>
         requires up { is_up self.old.server.mode ≡ true }
+        requires elected { 1 ≤ self.old.server.term }
         requires room { length self.old.server.log + 1 < 2 ^ 40 }
         ensures same { (self.new.me ≡ self.old.me) × (self.new.size ≡ self.old.size) }
         ensures won { OnOk result (self.new.server

@@ -1,5 +1,5 @@
 //! What a watcher sees of single servers: of the entries that each newly applies while it leads.
-ghost use Rattle.std.specs.Prelude.{List, ℕ, ◌∷◌, [], ◌++◌};
+ghost use Rattle.std.specs.Prelude.{◌≡◌, List, ℕ, ◌∷◌, [], ◌++◌};
 
 use crate::tests::servers::{
     Act, Frame, OF_1, OF_3, OK_2, OK_3, TAKEN, YES, number_of, propose, put_frame,
@@ -7,7 +7,7 @@ use crate::tests::servers::{
 use Act::{Ahead, Beat, Crash, Hear, Propose, Reload, Restart, Timeout};
 use machine::{Coded, Entry, Machine, Tally};
 use raft_core::{Input, Raft, Stable, Watch};
-use rows::{NoMemory, Refusal, ServerId, Term};
+use rows::{LeaderTerm, NoMemory, Refusal, ServerId};
 use std::alloc::Global;
 use std::marker::Model;
 use wire::{Frames, read_message};
@@ -28,12 +28,12 @@ impl Model for Diary {
 }
 
 impl Watch<Tally> for Diary {
-    ghost sees = { λ d term entry state.
-        d ++ term ∷ entry.term ∷ state.count ∷ state.sum ∷ [] };
+    ghost sees = { λ d term entry state new.
+        new ≡ d ++ term ∷ entry.term ∷ state.count ∷ state.sum ∷ [] };
 
     fn see(
         &mut self,
-        term: Term,
+        term: LeaderTerm,
         entry: &Entry<Coded<Tally>>,
         machine: &Tally,
     ) -> Result<(), NoMemory> {
@@ -79,9 +79,12 @@ const LEADS: &[Turn] = &[
     (Hear(Frame(4, 4, 1, 25, &[1, 1], OK_3)), (15, 2), &[]),
     (Hear(Frame(4, 4, 3, 25, &[1, 1], OK_3)), (15, 2), &[]),
     (Hear(Frame(4, 2, 3, 25, &[1, 1], OK_3)), (15, 3), &[]),
+    (Hear(Frame(7, 2, 1, 0, &[], &[])), (15, 1), &[]),
+    (Hear(Frame(7, 4, 3, 0, &[], &[])), (15, 1), &[]),
     (Crash, TAKEN, &[]),
     (Hear(Frame(4, 2, 1, 25, &[1, 1], OK_3)), (16, 0), &[]),
     (Hear(Frame(4, 4, 1, 25, &[1, 1], OK_3)), (16, 0), &[]),
+    (Hear(Frame(7, 2, 1, 0, &[], &[])), (16, 0), &[]),
     (Restart, TAKEN, &[]),
     (Timeout, TAKEN, &[]),
     (Hear(Frame(2, 3, 1, 17, &[2, 2], YES)), TAKEN, &[]),

@@ -12,9 +12,9 @@ invariant_of-self g c =
     let match : c.learn.new.matched ≡ match_after (length i.log.items) a.from a.ok a.at i.matched.items = rw (c.deref_mut-in-Leader.ensures.value, last) at c.learn.ensures.matched in
     let next_whole = put_back i.next.items c.learn.new.next i.next.len (omega (arith, ap length next, next-length (length i.log.items) a.from a.at a.ok i.next.items i.matched.items, i.next.ok.0)) in
     let match_whole = put_back i.matched.items c.learn.new.matched i.matched.len (omega (arith, ap length match, match-length (length i.log.items) a.from a.at a.ok i.matched.items, i.matched.ok.0)) in
-    let live = rw c.in-Some.is at c.self.invariant.live in
+    let live = rw c.in-Some-machine.is at c.self.invariant.live in
     let done = rw c.deref.ensures.value at c.in-Ok.ensures in
-    rw (next_whole, match_whole, next, match) (keeps g.M.Machine.meaning i.me i.size i.log.items i.role i.votes.items i.next.items i.matched.items a.from a.at a.ok i.commit c.in-Ok.risen i.machine (Some c.advance.new.machine) i.ahead i.ahead c.self.invariant live.levels (omega arith) (done.within, done.state) (second_stays g.M.Machine.meaning i.log.items i.role i.machine (Some c.advance.new.machine) i.ahead refl c.self.invariant.second))
+    rw (next_whole, match_whole, next, match) (keeps g.M.Machine.meaning i.me i.size i.term i.log.items i.role i.votes.items i.next.items i.matched.items a.from a.at a.ok i.commit c.in-Ok.risen i.machine (Some c.advance.new.machine) i.ahead i.ahead c.self.invariant live.levels (omega arith) (done.within, done.state) (second_stays g.M.Machine.meaning i.log.items i.role i.machine (Some c.advance.new.machine) i.ahead refl c.self.invariant.second))
 
 pub invariant_of-self-in-Err : goal.invariant_of-self-in-Err
 invariant_of-self-in-Err g c =
@@ -25,8 +25,8 @@ invariant_of-self-in-Err g c =
     let match : c.learn.new.matched ≡ match_after (length i.log.items) a.from a.ok a.at i.matched.items = rw (c.deref_mut-in-Leader.ensures.value, last) at c.learn.ensures.matched in
     let next_whole = put_back i.next.items c.learn.new.next i.next.len (omega (arith, ap length next, next-length (length i.log.items) a.from a.at a.ok i.next.items i.matched.items, i.next.ok.0)) in
     let match_whole = put_back i.matched.items c.learn.new.matched i.matched.len (omega (arith, ap length match, match-length (length i.log.items) a.from a.at a.ok i.matched.items, i.matched.ok.0)) in
-    let live = rw c.in-Some.is at c.self.invariant.live in
-    rw (next_whole, match_whole, next, match) (keeps g.M.Machine.meaning i.me i.size i.log.items i.role i.votes.items i.next.items i.matched.items a.from a.at a.ok i.commit i.commit i.machine _ i.ahead _ c.self.invariant live.levels (omega arith) tt tt)
+    let live = rw c.in-Some-machine.is at c.self.invariant.live in
+    rw (next_whole, match_whole, next, match) (keeps g.M.Machine.meaning i.me i.size i.term i.log.items i.role i.votes.items i.next.items i.matched.items a.from a.at a.ok i.commit i.commit i.machine _ i.ahead _ c.self.invariant live.levels (omega arith) tt tt)
 
 pub returns-in-Ok-clause-heard : goal.returns-in-Ok-clause-heard
 returns-in-Ok-clause-heard g c =
@@ -37,6 +37,7 @@ returns-in-Ok-clause-heard g c =
     let match : c.learn.new.matched ≡ match_after (length i.log.items) a.from a.ok a.at i.matched.items = rw (c.deref_mut-in-Leader.ensures.value, last) at c.learn.ensures.matched in
     let next_whole = put_back i.next.items c.learn.new.next i.next.len (omega (arith, ap length next, next-length (length i.log.items) a.from a.at a.ok i.next.items i.matched.items, i.next.ok.0)) in
     let match_whole = put_back i.matched.items c.learn.new.matched i.matched.len (omega (arith, ap length match, match-length (length i.log.items) a.from a.at a.ok i.matched.items, i.matched.ok.0)) in
-    let old-is = rw c.in-Some.is at c.self.view_is in
-    let risen = rw (c.deref.ensures.value, c.deref-in-Leader.ensures.value) at c.in-Ok.ensures.value in
+    let old-is = rw c.in-Some-machine.is at c.self.view_is in
+    let term = c.in-Some.ensures.some.0 ∙ c.get.ensures.value in
+    let risen = rw (c.deref.ensures.value, c.deref-in-Leader.ensures.value, term) at c.in-Ok.ensures.value in
     heard_by a.self.now i.me i.size i.term i.vote i.log.items i.commit i.known i.role i.votes.items i.next.items i.matched.items _ _ c.in-Ok.risen a.from a.at a.ok _ old-is c.in-Leader.is (next_whole ∙ next) (match_whole ∙ match) c.self.invariant.matched_each risen

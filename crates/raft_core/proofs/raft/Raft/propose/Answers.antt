@@ -18,7 +18,7 @@ invariant_of-self-2 g c =
     let room = leader_room i.machine _ _ i.log.items (i.log.items ++ entry ∷ []) _ _ _ i.role i.votes.items i.next.items i.matched.items leads in
     let ahead = rw (c.deref.ensures.value, c.push_reserved.ensures.items, c.in_ok-reserve.ensures.items) at c.brought_on.ensures in
     let second = second_grown m i.machine c.brought_on.result _ _ i.log.items (i.log.items ++ entry ∷ []) _ _ _ i.role i.votes.items i.next.items i.matched.items leads ahead in
-    rw (c.push_reserved.ensures.items, c.in_ok-reserve.ensures.items) (grown m i.me i.size i.log.items entry i.role i.role i.commit i.votes.items i.next.items i.matched.items i.machine i.ahead c.brought_on.result c.self.invariant short room second)
+    rw (c.push_reserved.ensures.items, c.in_ok-reserve.ensures.items) (grown m i.me i.size i.term i.log.items entry i.role i.role i.commit i.votes.items i.next.items i.matched.items i.machine i.ahead c.brought_on.result c.self.invariant c.self.invariant.elected short room second)
 
 pub returns-clause-taken : goal.returns-clause-taken
 returns-clause-taken g c =

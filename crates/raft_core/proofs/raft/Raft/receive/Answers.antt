@@ -1,5 +1,3 @@
-use Rattle.std.proofs.Common.{sym, ap, ◌∙◌}
-use Rattle.raft_core.specs.Watching.{sees_step}
 use Rattle.raft_core.proofs.Applies.{on_ok}
 use Rattle.raft_core.proofs.Watches.{after_append}
 use Rattle.raft_core.proofs.raft.Raft.receive.Goals as goal
@@ -11,4 +9,4 @@ returns-in-Append-clause-seen g c =
     let a = c.args in
     let s = a.self.now in
     let head = c.in-Append.append.head in
-    on_ok c.append.result (λ t. sym (ap (λ x. sees_step m sees s.server x a.watch.now) t.server ∙ after_append m sees s.size s.me s.server a.from head.term head.prev_index head.prev_term head.commit c.in-Append.append.entries a.watch.now)) c.append.ensures.taken
+    on_ok c.append.result (λ t. rw t.server (after_append m sees s.size s.me s.server a.from head.term head.prev_index head.prev_term head.commit c.in-Append.append.entries a.watch.now)) c.append.ensures.taken

@@ -14,6 +14,7 @@ invariant_of-result-2 g c =
       number = member-below size c.args.me member;
       group = member-small size c.args.me member;
       short = c.stable.invariant;
+      elected = tt;
       room = tt;
       votes_each = ap length made.votes ∙ length-replicate size _;
       next_each = ap length made.next ∙ length-replicate size _;

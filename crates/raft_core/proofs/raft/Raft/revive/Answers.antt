@@ -10,6 +10,7 @@ invariant_of-self-2 g c =
       number = kept.number;
       group = kept.group;
       short = kept.short;
+      elected = tt;
       room = tt;
       votes_each = kept.votes_each;
       next_each = kept.next_each;

@@ -1,0 +1,68 @@
+-- The frames of what servers and clients of a group send each other: of the log's messages, and of
+-- those beside them.
+use Rattle.std.specs.Prelude.{◌≡◌, ℕ, Option, Some, None, List, ◌++◌}
+use Rattle.std.specs.List.{AllZip}
+use Rattle.rows.specs.declared.actor.Actor.{Actor}
+use Rattle.rows.specs.declared.actor.Actor.TheVariants.{Server, Client}
+use Rattle.rows.specs.declared.command.Command.{Command}
+use Rattle.machine.specs.Meaning.{Meaning}
+use Rattle.wire.specs.Messages.{Message as WireMessage}
+use Rattle.wire.specs.Frames.{Frame, MessageFits, message_text}
+use Rattle.wire.specs.declared.body.Body.{Body}
+use Rattle.wire.specs.declared.body.Body.TheVariants as bodies
+use Rattle.raft_core.specs.Frames.{IsFrameOf}
+use Rattle.group_model.specs.Messages.{GroupMessage, Raft, Service, ServiceMessage, BetweenServers, ToServer, ToClient, Asks, Answers, Register, Told}
+
+-- what a body says beside the log's messages, from one actor to another
+abbrev pub service_between : {S C : Type 0} → Actor → Actor → Body S C → Option ServiceMessage
+service_between (Server from) (Server to) (bodies.Request request) = Some (BetweenServers from to (Asks request))
+service_between (Server from) (Server to) (bodies.Response response) = Some (BetweenServers from to (Answers response))
+service_between (Client client) (Server server) (bodies.Register class size) = Some (ToServer client server (Register class size))
+service_between (Server server) (Client client) (bodies.Told kind refused) = Some (ToClient server client (Told kind refused))
+service_between _ _ _ = None
+
+-- the message beside the log's that was read, if it is one
+abbrev pub service_of : {S C : Type 0} → WireMessage S C → Option ServiceMessage
+service_of read = service_between read.from read.to read.body
+
+-- the bytes are the frame of a message beside the log's
+pub record IsServiceFrame {S C : Type 0} (m : Meaning S C) (bytes : List ℕ) (message : ServiceMessage) : Type 0 where
+  pub read : WireMessage S C
+  pub fits : MessageFits m.commands read
+  pub text : bytes ≡ message_text m.commands read
+  pub means : service_of read ≡ Some message
+
+-- the bytes are the message's frame
+abbrev pub IsGroupFrame : {S : Type 0} → Meaning S Command → List ℕ → GroupMessage → Type 0
+IsGroupFrame m bytes (Raft message) = IsFrameOf m bytes message
+IsGroupFrame m bytes (Service message) = IsServiceFrame m bytes message
+
+-- who is to receive a message
+abbrev pub service_receiver : ServiceMessage → Actor
+service_receiver (BetweenServers from to message) = Server to
+service_receiver (ToServer client server request) = Server server
+service_receiver (ToClient server client response) = Client client
+
+abbrev pub receiver_of : GroupMessage → Actor
+receiver_of (Raft message) = Server message.to
+receiver_of (Service message) = service_receiver message
+
+-- a frame on its way carries the message, to its receiver
+pub record CarriesGroup {S : Type 0} (m : Meaning S Command) (frame : Frame) (message : GroupMessage) : Type 0 where
+  pub to : frame.to ≡ receiver_of message
+  pub bytes : IsGroupFrame m frame.bytes message
+
+-- to the frames that were there, those of the messages were added, one for one and in order, and
+-- nothing else
+pub record SendsGroup {S : Type 0} (m : Meaning S Command) (before after : List Frame) (messages : List GroupMessage) : Type 0 where
+  pub frames : List Frame
+  pub added : after ≡ before ++ frames
+  pub carry : AllZip (CarriesGroup m) frames messages
+
+-- ---- the laws
+
+-- a frame is of one message at most
+abbrev pub FramesAreOfOne : {S : Type 0} → Meaning S Command → Type 0
+FramesAreOfOne m =
+    (bytes : List ℕ) (x y : GroupMessage)
+    → IsGroupFrame m bytes x → IsGroupFrame m bytes y → x ≡ y

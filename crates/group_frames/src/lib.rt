@@ -1,0 +1,11 @@
+//! The frames of what servers and clients of a group send each other.
+#![tactic(auto)]
+
+ghost use Rattle.rows.specs.declared.command.Command.{Command};
+ghost use Rattle.cluster_model.specs.ClusterMachine.{cluster_meaning};
+ghost use Rattle.group_frames.specs.GroupFrames.{FramesAreOfOne};
+
+/// A frame is of one message at most, of the log's or beside them.
+pub fn frames_are_of_one_message()
+    ensures { FramesAreOfOne cluster_meaning }
+{}

@@ -1,0 +1,127 @@
+//! What workers and the leader's desk send each other, as bodies.
+ghost use Rattle.std.specs.Prelude.{◌≡◌, true, IfOk};
+ghost use Rattle.fields_model.specs.Format.{Gives, Puts};
+ghost use Rattle.wire.specs.declared.body.Body.TheVariants as bodies;
+ghost use Rattle.wire.specs.Messages.{kind_of, request_kind, response_kind, is_of_desk};
+ghost use Rattle.wire.specs.Grammar.{body};
+
+use crate::body::Body;
+use crate::kind::Kind;
+use fields::{Field, read_option, write_option};
+use machine::Machine;
+use rows::{
+    AskedRequest, EvalId, EvalOutcome, NoMemory, Plan, PlanResult, Reason, Refusal, Token,
+    WorkerRequest, WorkerResponse,
+};
+use std::alloc::Global;
+
+/// The kind of a message that asks this.
+pub fn request_kind(request: &WorkerRequest) -> Kind
+    ensures { result ≡ request_kind request.now }
+{
+    match request {
+        WorkerRequest::Take => Kind::Take,
+        WorkerRequest::Submit(_) => Kind::Submit,
+        WorkerRequest::Finish(_, _, _) => Kind::Finish,
+        WorkerRequest::Nack(_, _) => Kind::Nack,
+    }
+}
+
+/// The kind of a message that answers this.
+pub fn response_kind(response: &WorkerResponse) -> Kind
+    ensures { result ≡ response_kind response.now }
+{
+    match response {
+        WorkerResponse::Delivered(_) => Kind::Delivered,
+        WorkerResponse::PlanResult(_) => Kind::PlanResult,
+        WorkerResponse::Refused(_, _) => Kind::Refused,
+    }
+}
+
+/// The body of a message of this kind, which workers and the leader's desk send each other, and the
+/// place after it.
+pub fn read_desk_body<M: Machine>(
+    alloc: Global,
+    kind: Kind,
+    bytes: &[u8],
+    at: usize,
+) -> Result<(Body<M>, usize), Refusal>
+    requires { is_of_desk kind ≡ true }
+    ensures value { Gives result ((body M.meaning.commands kind).read bytes.now at) }
+    ensures same_kind { IfOk result (λ b. kind_of b.0 ≡ kind) }
+{
+    match kind {
+        Kind::Delivered => {
+            let (delivery, end) = read_option(alloc, bytes, at)?;
+            Ok((Body::Response(WorkerResponse::Delivered(delivery)), end))
+        }
+        Kind::PlanResult => {
+            let (result, end) = PlanResult::read_at(alloc, bytes, at)?;
+            Ok((Body::Response(WorkerResponse::PlanResult(result)), end))
+        }
+        Kind::Refused => {
+            let (asked, at) = AskedRequest::read_at(alloc, bytes, at)?;
+            let (reason, end) = Reason::read_at(alloc, bytes, at)?;
+            Ok((Body::Response(WorkerResponse::Refused(asked, reason)), end))
+        }
+        Kind::Take => Ok((Body::Request(WorkerRequest::Take), at)),
+        Kind::Submit => {
+            let (plan, end) = Plan::read_at(alloc, bytes, at)?;
+            Ok((Body::Request(WorkerRequest::Submit(plan)), end))
+        }
+        Kind::Finish => {
+            let (eval, at) = EvalId::read_at(alloc, bytes, at)?;
+            let (token, at) = Token::read_at(alloc, bytes, at)?;
+            let (outcome, end) = EvalOutcome::read_at(alloc, bytes, at)?;
+            let request = WorkerRequest::Finish(eval, token, outcome);
+            Ok((Body::Request(request), end))
+        }
+        Kind::Nack => {
+            let (eval, at) = EvalId::read_at(alloc, bytes, at)?;
+            let (token, end) = Token::read_at(alloc, bytes, at)?;
+            Ok((Body::Request(WorkerRequest::Nack(eval, token)), end))
+        }
+        _ => unreachable!(),
+    }
+}
+
+/// Puts what a worker asks to the end, as the body of its kind.
+pub fn append_request<M: Machine>(
+    request: &WorkerRequest,
+    out: &mut Vec<u8>,
+) -> Result<(), NoMemory>
+    ensures { Puts (body {S = M} M.meaning.commands (request_kind request.now)) (bodies.Request request.now)
+        result out.old.items out.new.items }
+{
+    match request {
+        WorkerRequest::Take => Ok(()),
+        WorkerRequest::Submit(plan) => plan.append(out),
+        WorkerRequest::Finish(eval, token, outcome) => {
+            eval.append(out)?;
+            token.append(out)?;
+            outcome.append(out)
+        }
+        WorkerRequest::Nack(eval, token) => {
+            eval.append(out)?;
+            token.append(out)
+        }
+    }
+}
+
+/// Puts what the leader's desk answers to the end, as the body of its kind.
+pub fn append_response<M: Machine>(
+    response: &WorkerResponse,
+    out: &mut Vec<u8>,
+) -> Result<(), NoMemory>
+    ensures { Puts (body {S = M} M.meaning.commands (response_kind response.now)) (bodies.Response response.now)
+        result out.old.items out.new.items }
+{
+    match response {
+        WorkerResponse::Delivered(delivery) => write_option(delivery, out),
+        WorkerResponse::PlanResult(result) => result.append(out),
+        WorkerResponse::Refused(asked, reason) => {
+            asked.append(out)?;
+            reason.append(out)
+        }
+    }
+}
