@@ -23,6 +23,7 @@ use Rattle.leader.specs.Staying.{IsOver, Follows, FollowsIfOpen}
 use Rattle.leader.proofs.Staying.{opens_over}
 use Rattle.server.specs.ServerViews.{group_desk, IsOfLeader}
 use Rattle.server.specs.Inner.DeskWatch.{OpensWhere, DeskSees}
+use Rattle.server.specs.Inner.LogSteps.{where_leads}
 use Rattle.server.proofs.Leads.{LeadsOn, stays, rises}
 
 -- tables are in order in each state of a log
@@ -42,7 +43,7 @@ IsAt term s d = IfSome d (λ o. (o.term ≡ term) × IsOver s o)
 module _ (term : ℕ) (s : State) (tables : AreTables s) (e : Entry Command) where
   opens_at : (b : Bool) (mid : Option OpenDesk) → (e.term == term) ≡ b → OpensWhere b term (applied s e.command) mid → (group_desk mid ≡ after_entry term e.term (applied s e.command) None) × IsAt term (applied s e.command) mid
   opens_at true None is h = absurd h
-  opens_at true (Some o) is h = rw is (ap (λ d. Some d) h.desk, h.term, opens_over (applied s e.command) term o h)
+  opens_at true (Some o) is h = rw is (ap (λ d. Some d) h.desk, (h.term, opens_over (applied s e.command) term o h))
   opens_at false None is h = rw is (refl, tt)
   opens_at false (Some o) is h = absurd (cc)
 
@@ -51,7 +52,7 @@ module _ (term : ℕ) (s : State) (tables : AreTables s) (e : Entry Command) whe
   one_entry (Some o) None at h = absurd h
   one_entry (Some o) (Some p) at h =
       let f = h.desk (record { before = s; tables = tables; left = refl; of = at.1 }) in
-      (ap (λ d. Some d) f.desk, h.term ∙ at.0, f.over)
+      (ap (λ d. Some d) f.desk, (h.term ∙ at.0, f.over))
 
 -- entry by entry
 all_entries : (term : ℕ) (s : State) (es : List (Entry Command)) (w new : Option OpenDesk) → AreTables s → IsAt term s w → SeesAll cluster_meaning DeskSees term s es w new → (group_desk new ≡ after_entries term s es (group_desk w)) × IsAt term (after_from cluster_meaning s (commands es)) new
@@ -75,17 +76,53 @@ state_on log c d le =
     after_range cluster_meaning log c d (state_after cluster_meaning (take c log)) (after_from cluster_meaning (state_after cluster_meaning (take c log)) (commands (drop c (take d log)))) le refl
     (ap (λ es. after_from cluster_meaning (state_after cluster_meaning (take c log)) (commands es)) range)
 
--- what becomes of a desk that is closed where the server does not lead any more
-abbrev pub where_leads : Bool → Option OpenDesk → Option OpenDesk
-where_leads true d = d
-where_leads false d = None
+-- a desk is the leader's, of its term and of the state that it has applied
+abbrev IsLed : Server Command → Option OpenDesk → Type 0
+IsLed s d = IfSome d (λ o. (is_leader s.mode ≡ true) × ((o.term ≡ s.term) × IsOver (applied_state s) o))
 
--- it is the definitions', and of the leader
-pub record HasGoneOn (s t : Server Command) (w new : Option OpenDesk) : Type 0 where
-  pub desk : group_desk new ≡ desk_after s t (group_desk w)
-  pub over : IfSome new (λ o. (is_leader t.mode ≡ true) × (o.term ≡ t.term) × IsOver (applied_state t) o)
+led : (raft : RaftView Command) (d : Option OpenDesk) → IfSome d (IsOfLeader raft) → IsLed raft.server d
+led raft None h = tt
+led raft (Some o) h = (h.leads, (h.term, h.over))
 
-module _ (s t : Server Command) where
-  gone_on : (new : Option OpenDesk) (d : Option Desk) → is_leader t.mode ≡ true → (group_desk new ≡ d) × IsAt t.term (applied_state t) new → (group_desk new ≡ d) × IfSome new (λ o. (is_leader t.mode ≡ true) × (o.term ≡ t.term) × IsOver (applied_state t) o)
-  gone_on None d leads h = (h.0, tt)
-  gone_on (Some o) d leads h = (h.0, leads, h.1.0, h.1.1)
+is_of_leader : (raft : RaftView Command) (d : Option OpenDesk) → IsLed raft.server d → IfSome d (IsOfLeader raft)
+is_of_leader raft None h = tt
+is_of_leader raft (Some o) h = record { leads = h.0; term = h.1.0; over = h.1.1 }
+
+led_at : (s : Server Command) (term : ℕ) (d : Option OpenDesk) → term ≡ s.term → IsLed s d → IsAt term (applied_state s) d
+led_at s term None is h = tt
+led_at s term (Some o) is h = (h.1.0 ∙ sym is, h.1.1)
+
+at_led : (s : Server Command) (d : Option OpenDesk) → is_leader s.mode ≡ true → IsAt s.term (applied_state s) d → IsLed s d
+at_led s None leads h = tt
+at_led s (Some o) leads h = (leads, (h.0, h.1))
+
+none_led : (s : Server Command) (votes : List Bool) (d : Option OpenDesk) → s.mode ≡ Candidate votes → IsLed s d → d ≡ None
+none_led s votes None mode h = refl
+none_led s votes (Some o) mode h = absurd (let q : false ≡ true = sym (ap is_leader mode) ∙ h.0 in cc)
+
+abbrev GoesOn : Server Command → Server Command → Option OpenDesk → Option OpenDesk → Type 0
+GoesOn s t w new = (group_desk new ≡ desk_after s t (group_desk w)) × IsLed t new
+
+module _ (s t : Server Command) (w seen : Option OpenDesk) where
+  leads_still : is_leader t.mode ≡ true → IsLed s w → SeesAll cluster_meaning DeskSees t.term (applied_state s) (newly s t) w seen → LeadsOn s t → GoesOn s t w seen
+  leads_still leads h sees (stays was term log commit) =
+      let all = all_entries t.term (applied_state s) (newly s t) w seen (log_tables (take s.commit s.log)) (led_at s t.term w term h) sees in
+      let state : after_from cluster_meaning (applied_state s) (commands (newly s t)) ≡ applied_state t =
+      subst (λ (l : List (Entry Command)). after_from cluster_meaning (state_after cluster_meaning (take s.commit l)) (commands (newly s t)) ≡ applied_state t) log (state_on t.log s.commit t.commit commit) in
+      (rw leads all.0, at_led t seen leads (subst (λ x. IsAt t.term x seen) state all.1))
+  leads_still leads h sees (rises votes mode commit) =
+      let nothing : newly s t ≡ [] = ap (λ c. drop s.commit (take c t.log)) commit ∙ drop_same s.commit t.log in
+      let none : w ≡ None = none_led s votes w mode h in
+      let same : seen ≡ w = subst (λ es. SeesAll cluster_meaning DeskSees t.term (applied_state s) es w seen) nothing sees in
+      rw (same, none, leads, nothing) (refl, tt)
+
+  leads_or : (b : Bool) → is_leader t.mode ≡ b → IsLed s w → SeesStep cluster_meaning DeskSees s t w seen → (is_leader t.mode ≡ true → LeadsOn s t) → GoesOn s t w (where_leads b seen)
+  leads_or true leads h sees on = leads_still leads h (rw leads at sees) (on leads)
+  leads_or false leads h sees on = rw leads (refl, tt)
+
+-- The desk after a step of the log, closed where the server does not lead, is that of the
+-- definitions; and it is of the leader.
+pub goes_on : (s t : RaftView Command) (w seen new : Option OpenDesk) → IfSome w (IsOfLeader s) → SeesStep cluster_meaning DeskSees s.server t.server w seen → (is_leader t.server.mode ≡ true → LeadsOn s.server t.server) → new ≡ where_leads (is_leader t.server.mode) seen → (group_desk new ≡ desk_after s.server t.server (group_desk w)) × IfSome new (IsOfLeader t)
+goes_on s t w seen new h sees on is =
+    let g = leads_or s.server t.server w seen (is_leader t.server.mode) refl (led s w h) sees on in
+    rw is (g.0, is_of_leader t (where_leads (is_leader t.server.mode) seen) g.1)

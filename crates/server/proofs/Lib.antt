@@ -1,2 +1,3 @@
 pub mod Leads
 pub mod DeskFollows
+pub mod LogSteps
