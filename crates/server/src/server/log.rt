@@ -59,7 +59,7 @@ impl Server {
         input: Input<'_>,
         outbox: &mut Outbox,
     ) -> Result<(), Refusal>
-        requires { log_ask input.entry ≢ None }
+        requires { log_ask input ≢ None }
         ensures same { (self.new.raft.me ≡ self.old.raft.me)
             × (self.new.raft.size ≡ self.old.raft.size) }
         ensures taken { OnOk result (TakesAsk self.old (log_ask input.entry) self.new outbox.old
