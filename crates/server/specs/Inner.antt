@@ -1,2 +1,3 @@
 pub mod DeskWatch
 pub mod Acts
+pub mod LogSteps

@@ -1,4 +1,6 @@
 mod asks;
+mod frames;
+mod log;
 mod proposing;
 mod requests;
 mod steps;
