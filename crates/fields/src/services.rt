@@ -12,7 +12,7 @@ use crate::ruled::{RuledField, read_ruled_list};
 use crate::writing::write_u8;
 use rows::{
     AskedRequest, ClientRequestKind, EvalId, EvalOutcome, Index, Leader, NoMemory, NodeId,
-    PlaceCount, PlanResult, Reason, Refusal, RisingNodes, Ruled, ServerId, Token,
+    PlaceCount, PlanResult, Ranged, Reason, Refusal, RisingNodes, Ruled, ServerId, Token,
 };
 use std::alloc::Global;
 
@@ -115,6 +115,7 @@ impl Field for RisingNodes {
     }
 
     fn append(&self, out: &mut Vec<u8>) -> Result<(), NoMemory> {
+        self.ranges();
         append_counted(self.as_slice(), 255, out)
     }
 }
@@ -261,9 +262,10 @@ impl Field for Reason {
     fn read_at(_alloc: Global, bytes: &[u8], at: usize) -> Result<(Reason, usize), Refusal>
         ensures { GivesExactly result (reason.read bytes.now at) }
     {
-        match read_told(bytes, at, 1)? {
-            (Some(reason), end) => Ok((reason, end)),
-            (None, _) => Err(Refusal::Frame(at)),
+        let (told, end) = read_told(bytes, at, 1)?;
+        match told {
+            Some(reason) => Ok((reason, end)),
+            None => Err(Refusal::Frame(at)),
         }
     }
 

@@ -67,7 +67,7 @@ change_again (changes.Blocked snapshot) = refl
 change_again changes.Complete = refl
 change_again changes.Failed = refl
 
-none_else : (n : ℕ) → n < 1 → 0 ≡ n
+pub none_else : (n : ℕ) → n < 1 → 0 ≡ n
 none_else n lt = omega arith
 
 parts_again : (p : EvalStatus × ℕ) → p.1 < snapshot_limit p.0 → change_parts (change_to p) ≡ p

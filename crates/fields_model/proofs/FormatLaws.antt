@@ -10,7 +10,7 @@ use Rattle.std.proofs.lemmas.List.{drop_at, take_at, length-take, drop-drop, tak
 use Rattle.std.proofs.Math.Nat.{mul-le-mul_right, le_trans}
 use Rattle.byteorder.specs.Endian.{big_number}
 use Rattle.byteorder.specs.Numbers.{big_number-reads_back, length-bytes_high_first}
-use Rattle.fields_model.specs.Format.{Reading, ◌>>=◌, Format, spelled, number_at, number, string, nothing, ◌then◌, made, items_at, list, tagged, option_case, code_at, coded, kept, depends, keyed, keyed_behind, value_in, enumerated, ruled_at, ruled_list, IsRuled, part_text, PartFits, variant, IsVariant, never, either, choice, IsBytes, Stands, Lawful}
+use Rattle.fields_model.specs.Format.{Reading, ◌>>=◌, Format, spelled, number_at, number, string, nothing, ◌then◌, made, items_at, list, tagged, option_case, code_at, coded, kept, depends, keyed, keyed_behind, value_in, enumerated, with_number, numbered, ruled_at, ruled_list, IsRuled, part_text, PartFits, variant, IsVariant, never, either, choice, IsBytes, Stands, Lawful}
 use Rattle.fields_model.proofs.NumberBytes.{bytes_again}
 
 -- ---- steps that did not fail
@@ -580,3 +580,15 @@ value_again code first (x ∷ xs) codes n v e =
 
 pub enumerated_lawful : {V : Type 0} (first : ℕ) (values : List V) (code : V → ℕ) → map code values ≡ range_with_len first (length values) → Lawful (enumerated first values code)
 enumerated_lawful first values code codes = coded_lawful (value_in first values) code (number 1 0 256) (λ a b fits e. value_again code first values codes a b e) (number_lawful 1 0 256 (omega arith) (omega arith))
+
+-- a value that a number stands for has that number
+with_number_again : {V : Type 0} (number_of : V → ℕ) (values : List V) (n : ℕ) (v : V) → with_number number_of values n ≡ Some v → number_of v ≡ n
+with_number_again number_of [] n v e = absurd cc
+with_number_again number_of (x ∷ xs) n v e =
+    elim (cases_eq n (number_of x)) [
+      | inl same ↦ let f = rw (eq-eqb _ _ same) at e in ap number_of (sym (some_is x v f)) ∙ sym same
+      | inr other ↦ let f = rw (ne_eqb _ _ other) at e in with_number_again number_of xs n v f
+    ]
+
+pub numbered_lawful : {V : Type 0} (values : List V) (number_of : V → ℕ) → Lawful (numbered values number_of)
+numbered_lawful values number_of = coded_lawful (with_number number_of values) number_of (number 1 0 256) (λ a b fits e. with_number_again number_of values a b e) (number_lawful 1 0 256 (omega arith) (omega arith))

@@ -5,6 +5,7 @@ pub mod IdLaws
 pub mod RowLaws
 pub mod BatchLaws
 pub mod CommandLaws
+pub mod ServiceLaws
 pub mod WholeTexts
 pub mod OptionLaws
 pub mod PlacedLaws

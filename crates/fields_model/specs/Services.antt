@@ -108,9 +108,9 @@ reason = coded (λ o. o) (λ r. Some r) (told_from 1)
 -- which is none exactly for 7
 abbrev pub asked_number : AskedRequest → ℕ
 asked_number asked.Take = 7
-asked_number (asked.Submit eval token) = 9
-asked_number (asked.Finish eval token) = 11
-asked_number (asked.Nack eval token) = 12
+asked_number (asked.Submit _ _) = 9
+asked_number (asked.Finish _ _) = 11
+asked_number (asked.Nack _ _) = 12
 
 abbrev pub is_asked_number : ℕ → Bool
 is_asked_number n = nat_eq n 7 || nat_eq n 9 || nat_eq n 11 || nat_eq n 12
@@ -126,15 +126,15 @@ asked_take_of asked.Take = Some tt
 asked_take_of _ = None
 
 abbrev pub asked_submit_of : AskedRequest → Option (EvalId × Token)
-asked_submit_of (asked.Submit eval token) = Some (eval, token)
+asked_submit_of (asked.Submit eval t) = Some (eval, t)
 asked_submit_of _ = None
 
 abbrev pub asked_finish_of : AskedRequest → Option (EvalId × Token)
-asked_finish_of (asked.Finish eval token) = Some (eval, token)
+asked_finish_of (asked.Finish eval t) = Some (eval, t)
 asked_finish_of _ = None
 
 abbrev pub asked_nack_of : AskedRequest → Option (EvalId × Token)
-asked_nack_of (asked.Nack eval token) = Some (eval, token)
+asked_nack_of (asked.Nack eval t) = Some (eval, t)
 asked_nack_of _ = None
 
 abbrev pub asked_bodies : ℕ → Format AskedRequest

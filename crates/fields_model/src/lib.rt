@@ -5,4 +5,7 @@
 
 mod laws;
 
-pub use laws::{actors_are_lawful, numbers_are_lawful, rows_are_lawful, texts_are_within_limits};
+pub use laws::{
+    actors_are_lawful, numbers_are_lawful, rows_are_lawful, services_are_lawful,
+    texts_are_within_limits,
+};

@@ -10,6 +10,7 @@ mod follows;
 mod full_tables;
 mod lines;
 mod plan_checks;
+mod services;
 mod state_texts;
 mod states;
 mod tallies;

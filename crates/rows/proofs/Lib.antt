@@ -2,4 +2,5 @@ mod Names
 mod Ascii
 pub mod KeyLaws
 pub mod RisingLaws
+pub mod NodeLaws
 pub mod Truth

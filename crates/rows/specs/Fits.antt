@@ -4,7 +4,7 @@ use Rattle.std.specs.List.{AllByRecursion}
 use Rattle.rows.specs.Names.{NameFits}
 use Rattle.rows.specs.Groups.{AreGroups}
 use Rattle.rows.specs.Batches.{BatchFits}
-use Rattle.rows.specs.Ids.{AreRisingIds}
+use Rattle.rows.specs.Ids.{AreRisingIds, AreRisingNodes}
 use Rattle.rows.specs.declared.size.Size.{Size}
 use Rattle.rows.specs.declared.token.Token.{Token}
 use Rattle.rows.specs.declared.token.Delivery.{Delivery}
@@ -120,6 +120,10 @@ ReportsFit rs = (1 ≤ length rs) × BatchFits ReportFits rs
 
 abbrev pub RisingIdsFit : List AllocId → Type 0
 RisingIdsFit ids = AreRisingIds ids × AllByRecursion AllocIdFits ids
+
+-- nodes in strictly rising number are at most 64
+abbrev pub RisingNodesFit : List ℕ → Type 0
+RisingNodesFit nodes = AreRisingNodes nodes × BatchFits NodeIdFits nodes
 
 abbrev pub CommandFits : Command → Type 0
 CommandFits commands.Noop = Unit {0}

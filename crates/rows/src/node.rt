@@ -60,6 +60,16 @@ impl fmt::Display for NodeId {
     }
 }
 
+impl Ranged for NodeId {
+    ghost use Rattle.rows.specs.Fits.{NodeIdFits};
+
+    ghost Fits = { NodeIdFits };
+
+    fn ranges(&self) {
+        let _number = self.number();
+    }
+}
+
 /// Numbers of nodes that are listed by themselves strictly rise.
 impl Ruled for NodeId {
     ghost use Rattle.rows.specs.Ids.{node_rises};

@@ -9,7 +9,7 @@ use crate::actor::ServerId;
 use crate::command::StatusChange;
 use crate::evaluation::EvalId;
 use crate::index::Index;
-use crate::list_rules::keep_rule;
+use crate::list_rules::{Ranged, all_ranges, keep_rule};
 use crate::node::NodeId;
 use crate::plan::Plan;
 use crate::reason::Reason;
@@ -147,6 +147,16 @@ impl RisingNodes {
         ensures fits { AreRisingNodes result.now }
     {
         &self.items
+    }
+}
+
+impl Ranged for RisingNodes {
+    ghost use Rattle.rows.specs.Fits.{RisingNodesFit};
+
+    ghost Fits = { RisingNodesFit };
+
+    fn ranges(&self) {
+        all_ranges(self.as_slice());
     }
 }
 

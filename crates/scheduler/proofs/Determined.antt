@@ -14,7 +14,7 @@ use Rattle.fsm_tables.specs.Rows.{row_of}
 use Rattle.fsm_tables.specs.Claims.{Claim}
 use Rattle.fsm_tables.proofs.RowLaws.{some_same}
 use Rattle.cluster_model.specs.Words.{State, eval_of}
-use Rattle.group_model.specs.Messages.{Delivered, PlanResult, Refused}
+use Rattle.rows.specs.declared.worker.WorkerResponse.TheVariants.{Delivered, PlanResult, Refused}
 use Rattle.group_model.specs.Scheduling.{WantedName, PlanPart, is_full, with_stop, with_place, place_on, live_of_name, has_room_for, is_as_good, fullness_with, IsBest, fits_nowhere, IsNext, GoesOn, unsized, first_part, missing_names}
 use Rattle.group_model.specs.NextStep.{WorkerStep, IsStepWith, IsStepWithRow, IsStepOn, IsStepOnDelivery, after_plan}
 use Rattle.scheduler.specs.Laws.{OnePlan, OneStep}
@@ -113,7 +113,7 @@ step_on_delivery s index plans (Some d) a b g h = step_on s index plans d a b g 
 
 pub one_step : OneStep
 one_step s index (Delivered what) plans a b g h = step_on_delivery s index plans what a b g h
-one_step s index (PlanResult eval token last placed nodes) plans a b g h = step_on s index plans (record { eval = eval; token = token; wait = last }) a b g h
+one_step s index (PlanResult r) plans a b g h = step_on s index plans (record { eval = r.eval; token = r.token; wait = r.last }) a b g h
 one_step s index (Refused asked reason) plans a b g h = g ∙ sym h
 
 -- ---- limits

@@ -1,8 +1,8 @@
 -- That plans and steps are determined.
 use Rattle.std.specs.Prelude.{◌≡◌, ℕ}
 use Rattle.rows.specs.declared.evaluation.Evaluation.{Evaluation}
+use Rattle.rows.specs.declared.worker.WorkerResponse.{WorkerResponse}
 use Rattle.cluster_model.specs.Words.{State}
-use Rattle.group_model.specs.Messages.{WorkerResponse}
 use Rattle.group_model.specs.Scheduling.{WorkerPlan, IsPlanFor}
 use Rattle.group_model.specs.NextStep.{WorkerStep, IsNextStep}
 

@@ -1,3 +1,3 @@
-pub mod Works
+pub mod Steps
 pub mod Laws
 pub mod Inner

@@ -7,13 +7,13 @@ mod laws;
 mod load;
 mod missing;
 mod planning;
+mod step;
 mod stepping;
 mod wanted;
-mod work;
 mod worker_plan;
 
 pub use laws::plans_are_determined;
 pub use planning::plan;
+pub use step::Step;
 pub use stepping::next_step;
-pub use work::{AskedRequest, EvalOutcome, PlanResult, Step, Work};
 pub use worker_plan::WorkerPlan;

@@ -16,8 +16,11 @@ use Rattle.wire.specs.declared.append.AppendReply.{AppendReply}
 use Rattle.wire.specs.Appends.{Append}
 use Rattle.wire.specs.declared.body.Body.{Body}
 use Rattle.wire.specs.declared.body.Body.TheVariants as bodies
+use Rattle.rows.specs.declared.worker.WorkerRequest.TheVariants as requests
+use Rattle.rows.specs.declared.worker.WorkerResponse.TheVariants as responses
 use Rattle.wire.specs.Messages.{kind_of, may_come_from, may_go}
 use Rattle.wire.specs.Grammar.{version, kind, addresses, header, append_head, most_entries, entries, append, vote_request_of, vote_reply_of, append_of, append_reply_of, body}
+use Rattle.wire.proofs.ServiceLaws.{take_body_lawful, delivered_body_lawful, submit_body_lawful, plan_result_body_lawful, finish_body_lawful, nack_body_lawful, refused_body_lawful, register_body_lawful, told_body_lawful}
 use Rattle.wire.specs.Laws.GrammarLaws.{kind_lawful, vote_request_lawful, vote_reply_lawful, append_head_lawful, append_reply_lawful}
 
 -- ---- the header
@@ -79,6 +82,15 @@ body_lawful commands lc kinds.VoteRequest = variant_lawful _ _ _ is_vote_request
 body_lawful commands lc kinds.VoteReply = variant_lawful _ _ _ is_vote_reply vote_reply_lawful
 body_lawful commands lc kinds.Append = variant_lawful _ _ _ is_append (append_lawful commands lc)
 body_lawful commands lc kinds.AppendReply = variant_lawful _ _ _ is_append_reply append_reply_lawful
+body_lawful commands lc kinds.Take = take_body_lawful
+body_lawful commands lc kinds.Delivered = delivered_body_lawful
+body_lawful commands lc kinds.Submit = submit_body_lawful
+body_lawful commands lc kinds.PlanResult = plan_result_body_lawful
+body_lawful commands lc kinds.Finish = finish_body_lawful
+body_lawful commands lc kinds.Nack = nack_body_lawful
+body_lawful commands lc kinds.Refused = refused_body_lawful
+body_lawful commands lc kinds.Register = register_body_lawful
+body_lawful commands lc kinds.Told = told_body_lawful
 
 -- a body is one of its own kind alone
 pub body_has_kind : {S C : Type 0} (commands : Format C) (k : Kind) (b : Body S C) → (body commands k).Fits b → kind_of b ≡ k
@@ -86,10 +98,28 @@ body_has_kind commands kinds.VoteRequest (bodies.VoteRequest _) fits = refl
 body_has_kind commands kinds.VoteReply (bodies.VoteReply _) fits = refl
 body_has_kind commands kinds.Append (bodies.Append _) fits = refl
 body_has_kind commands kinds.AppendReply (bodies.AppendReply _) fits = refl
+body_has_kind commands kinds.Take (bodies.Request requests.Take) fits = refl
+body_has_kind commands kinds.Delivered (bodies.Response (responses.Delivered _)) fits = refl
+body_has_kind commands kinds.Submit (bodies.Request (requests.Submit _)) fits = refl
+body_has_kind commands kinds.PlanResult (bodies.Response (responses.PlanResult _)) fits = refl
+body_has_kind commands kinds.Finish (bodies.Request (requests.Finish _ _ _)) fits = refl
+body_has_kind commands kinds.Nack (bodies.Request (requests.Nack _ _)) fits = refl
+body_has_kind commands kinds.Refused (bodies.Response (responses.Refused _ _)) fits = refl
+body_has_kind commands kinds.Register (bodies.Register _ _) fits = refl
+body_has_kind commands kinds.Told (bodies.Told _ _) fits = refl
 body_has_kind commands kinds.VoteRequest _ fits = absurd fits
 body_has_kind commands kinds.VoteReply _ fits = absurd fits
 body_has_kind commands kinds.Append _ fits = absurd fits
 body_has_kind commands kinds.AppendReply _ fits = absurd fits
+body_has_kind commands kinds.Take _ fits = absurd fits
+body_has_kind commands kinds.Delivered _ fits = absurd fits
+body_has_kind commands kinds.Submit _ fits = absurd fits
+body_has_kind commands kinds.PlanResult _ fits = absurd fits
+body_has_kind commands kinds.Finish _ fits = absurd fits
+body_has_kind commands kinds.Nack _ fits = absurd fits
+body_has_kind commands kinds.Refused _ fits = absurd fits
+body_has_kind commands kinds.Register _ fits = absurd fits
+body_has_kind commands kinds.Told _ fits = absurd fits
 
 -- no body is longer than a frame has room for, where no command is longer than 65,536 bytes
 pub body_is_short : (S : Type 0) {C : Type 0} (commands : Format C) → commands.most ≤ 65536 → (k : Kind) → (body {S = S} commands k).most ≤ 16777208
@@ -97,3 +127,12 @@ body_is_short S commands short kinds.VoteRequest = omega arith
 body_is_short S commands short kinds.VoteReply = omega arith
 body_is_short S commands short kinds.Append = omega arith
 body_is_short S commands short kinds.AppendReply = omega arith
+body_is_short S commands short kinds.Take = omega arith
+body_is_short S commands short kinds.Delivered = omega arith
+body_is_short S commands short kinds.Submit = omega arith
+body_is_short S commands short kinds.PlanResult = omega arith
+body_is_short S commands short kinds.Finish = omega arith
+body_is_short S commands short kinds.Nack = omega arith
+body_is_short S commands short kinds.Refused = omega arith
+body_is_short S commands short kinds.Register = omega arith
+body_is_short S commands short kinds.Told = omega arith

@@ -1,4 +1,5 @@
 pub mod Buffers
+pub mod ServiceLaws
 pub mod GrammarLaws
 pub mod Framing
 pub mod Rules

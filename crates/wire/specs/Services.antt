@@ -27,19 +27,19 @@ take_request_of (bodies.Request requests.Take) = Some tt
 take_request_of _ = None
 
 abbrev pub submit_request_of : {S C : Type 0} → Body S C → Option Plan
-submit_request_of (bodies.Request (requests.Submit plan)) = Some plan
+submit_request_of (bodies.Request (requests.Submit p)) = Some p
 submit_request_of _ = None
 
 abbrev pub finish_request_of : {S C : Type 0} → Body S C → Option (EvalId × (Token × EvalOutcome))
-finish_request_of (bodies.Request (requests.Finish eval token outcome)) = Some (eval, (token, outcome))
+finish_request_of (bodies.Request (requests.Finish eval t outcome)) = Some (eval, (t, outcome))
 finish_request_of _ = None
 
 abbrev pub nack_request_of : {S C : Type 0} → Body S C → Option (EvalId × Token)
-nack_request_of (bodies.Request (requests.Nack eval token)) = Some (eval, token)
+nack_request_of (bodies.Request (requests.Nack eval t)) = Some (eval, t)
 nack_request_of _ = None
 
 abbrev pub delivered_of : {S C : Type 0} → Body S C → Option (Option Delivery)
-delivered_of (bodies.Response (responses.Delivered delivery)) = Some delivery
+delivered_of (bodies.Response (responses.Delivered d)) = Some d
 delivered_of _ = None
 
 abbrev pub plan_result_of : {S C : Type 0} → Body S C → Option PlanResult

@@ -4,9 +4,11 @@ use crate::tests::lines::{put_line, put_pair};
 use fields::{read_whole, write};
 use fsm_state::Cluster;
 use rows::{
-    Delivery, EvalId, Index, Leader, LeaderTerm, NoMemory, Refusal, Sequence, Serial, Token,
+    AskedRequest, Delivery, EvalId, EvalOutcome, Index, Leader, LeaderTerm, NoMemory, PlaceCount,
+    PlanResult, Reason, Refusal, RisingNodes, Sequence, Serial, Token, WorkerRequest,
+    WorkerResponse,
 };
-use scheduler::{AskedRequest, EvalOutcome, PlanResult, Step, Work, next_step, plan};
+use scheduler::{Step, next_step, plan};
 use std::alloc::Global;
 
 // `plans EVAL INDEX : planned STOPS PLACES VERSION SNAPSHOT ALL`: the plan for an evaluation from
@@ -200,33 +202,34 @@ fn asked_of(word: &str, eval: EvalId, token: Token) -> AskedRequest {
     }
 }
 
-// The work of a kind, of an evaluation and an index.
-fn answered(alloc: Global, kind: &str, eval: EvalId, index: Index) -> Option<Work> {
+// The response of a kind, of an evaluation and an index.
+fn answered(alloc: Global, kind: &str, eval: EvalId, index: Index) -> Option<WorkerResponse> {
     let token = token()?;
     match kind {
-        "delivered" => Some(Work::Delivered(Some(Delivery {
+        "delivered" => Some(WorkerResponse::Delivered(Some(Delivery {
             eval,
             token,
             wait: index,
         }))),
-        "placed" => Some(Work::PlanResult(PlanResult {
+        "placed" => Some(WorkerResponse::PlanResult(PlanResult {
             eval,
             token,
             last: index,
-            placed: 1,
-            refused: Sequence::new(alloc),
+            placed: PlaceCount::new(1)?,
+            refused: RisingNodes::check(Sequence::new(alloc)).ok()?,
         })),
         _ => None,
     }
 }
 
-fn work_of(alloc: Global, kind: &str, words: &str) -> Option<Work> {
+fn response_of(alloc: Global, kind: &str, words: &str) -> Option<WorkerResponse> {
     let (first, second) = words.split_once(' ')?;
     match kind {
-        "none" => Some(Work::Delivered(None)),
+        "none" => Some(WorkerResponse::Delivered(None)),
         "refused" => {
             let asked = asked_of(first, eval_of(alloc, "4.0")?, token()?);
-            Some(Work::Refused(asked, refusal_of(second)))
+            let reason = Reason::of(refusal_of(second));
+            Some(WorkerResponse::Refused(asked, reason))
         }
         _ => answered(alloc, kind, eval_of(alloc, first)?, index_of(second)?),
     }
@@ -249,20 +252,28 @@ fn put_pair_of(out: &mut Vec<u8>, kind: u8, eval: EvalId, token: Token) -> Resul
     write(&token, out)
 }
 
+// What is asked of the leader as a line of its kind.
+fn put_asked(out: &mut Vec<u8>, request: &WorkerRequest) -> Result<(), NoMemory> {
+    match request {
+        WorkerRequest::Take => write(&95u8, out),
+        WorkerRequest::Submit(plan) => {
+            write(&92u8, out)?;
+            write(plan, out)
+        }
+        WorkerRequest::Finish(eval, token, outcome) => {
+            put_pair_of(out, 93, *eval, *token)?;
+            put_outcome(out, *outcome)
+        }
+        WorkerRequest::Nack(eval, token) => put_pair_of(out, 94, *eval, *token),
+    }
+}
+
 // A step as a line of its kind.
 fn put_step(out: &mut Vec<u8>, step: &Step) -> Result<(), NoMemory> {
     match step {
         Step::Later => write(&90u8, out),
         Step::Drop => write(&91u8, out),
-        Step::Submit(plan) => {
-            write(&92u8, out)?;
-            write(plan, out)
-        }
-        Step::Finish(eval, token, outcome) => {
-            put_pair_of(out, 93, *eval, *token)?;
-            put_outcome(out, *outcome)
-        }
-        Step::Nack(eval, token) => put_pair_of(out, 94, *eval, *token),
+        Step::Ask(request) => put_asked(out, request),
     }
 }
 
@@ -272,9 +283,9 @@ fn step_is(state: &Cluster, alloc: Global, asked: &str, wanted: &str) -> Option<
     let (kind, rest) = rest.split_once(' ')?;
     let index = index_of(index)?;
     let plans = index_of(plans)?.get();
-    let work = work_of(alloc, kind, rest)?;
+    let response = response_of(alloc, kind, rest)?;
     let mut bytes = Vec::new(alloc);
-    match next_step(alloc, state, index, &work, plans) {
+    match next_step(alloc, state, index, &response, plans) {
         Ok(step) => Some(put_step(&mut bytes, &step).is_ok() && are_of(&bytes, alloc, wanted)),
         Err(_) => None,
     }
