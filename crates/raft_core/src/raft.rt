@@ -5,7 +5,7 @@ mod propose;
 mod replies;
 mod votes;
 
-ghost use Rattle.std.specs.Prelude.{◌≡◌, true, false, None, length, take, replicate, OnOk, OnErr, IfOk, IfErr, MatchOption};
+ghost use Rattle.std.specs.Prelude.{◌≡◌, ◌≤◌, true, false, None, length, take, replicate, OnOk, OnErr, IfOk, IfErr, IfSome, MatchOption};
 ghost use Rattle.raft_model.specs.Logs.{state_after};
 ghost use Rattle.raft_model.specs.Servers.{Server, is_up, is_leader, met, crashed, restarted};
 ghost use Rattle.raft_core.specs.Inputs.{handed};
@@ -162,6 +162,20 @@ impl<M: Machine> Raft<M> {
         Stable { term, vote, log }
     }
 
+    /// Its number.
+    pub fn me(&self) -> ServerId
+        ensures { result ≡ self.now.me }
+    {
+        self.me
+    }
+
+    /// How many servers its group has.
+    pub fn size(&self) -> usize
+        ensures { result ≡ self.now.size }
+    {
+        self.size
+    }
+
     /// What it is doing, while it is up.
     pub fn role(&self) -> Option<Role>
         ensures { (s : Server M.Command) → Represents M.meaning self.now s →
@@ -204,9 +218,11 @@ impl<M: Machine> Raft<M> {
 
     /// How many entries are applied, while it is up: all that are committed.
     pub fn applied(&self) -> Option<Index>
-        ensures { (s : Server M.Command) → Represents M.meaning self.now s →
+        ensures value { (s : Server M.Command) → Represents M.meaning self.now s →
             MatchOption result (is_up s.mode ≡ false) (λ n. (is_up s.mode ≡ true)
             × (n ≡ s.commit)) }
+        ensures held { (s : Server M.Command) → Represents M.meaning self.now s →
+            IfSome result (λ n. n ≤ length s.log) }
     {
         match self.machine {
             Some(_) => Some(self.commit),

@@ -1,13 +1,9 @@
-// A library with one function.
+//! A server of the group: its part of the log, and the leader's desk beside it.
 #![tactic(auto)]
 
-ghost use Rattle.std.specs.Prelude.{◌≡◌};
-ghost use Rattle.server.specs.Echo.{echo_of};
+mod server;
+mod server_desk;
+mod server_input;
 
-// The `ensures` clause is the contract: what `echo` returns is `echo_of` of its argument, a definition
-// in `specs/Echo.antt`, which a caller's clause can cite too.
-pub fn echo(x: usize) -> usize
-    ensures { result ≡ echo_of x }
-{
-    x
-}
+pub use server::{Outbox, Server};
+pub use server_input::ServerInput;

@@ -1,0 +1,2 @@
+pub mod OneMessage
+pub mod Sending

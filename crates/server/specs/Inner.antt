@@ -1,0 +1,2 @@
+pub mod DeskWatch
+pub mod Acts

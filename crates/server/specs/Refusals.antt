@@ -1,0 +1,117 @@
+-- Why a server of the group refuses what is handed in, and what a refusal leaves.
+use Rattle.std.specs.Prelude.{◌≡◌, ℕ, Bool, true, false, nat_lt, is_some, if◌then◌else◌, Option, Some, None, Result, Ok, Err, List}
+use Rattle.rows.specs.declared.actor.Actor.{Actor}
+use Rattle.rows.specs.declared.actor.Actor.TheVariants.{Server as ServerActor, Client}
+use Rattle.rows.specs.declared.command.Command.{Command}
+use Rattle.rows.specs.declared.refusal.Refusal.{Refusal}
+use Rattle.rows.specs.declared.refusal.Refusal.TheVariants as refusals
+use Rattle.wire.specs.Messages.{Message as WireMessage}
+use Rattle.wire.specs.Frames.{message_at}
+use Rattle.raft_model.specs.Servers.{is_up, is_leader}
+use Rattle.raft_core.specs.Refusals.{is_server_at}
+use Rattle.cluster_model.specs.Words.{State}
+use Rattle.cluster_model.specs.ClusterMachine.{cluster_meaning}
+use Rattle.group_model.specs.Inputs.{Input, Arrives, Timeout, Beat, Request, TakeFrom, SubmitTo, FinishAt, NackAt, PlanTurn, Lapse, Expire, DrainTurn, FreeTurn, Reap, Compact, Crash, Restart}
+use Rattle.group_model.specs.Members.{Member, Turn, step}
+use Rattle.server.specs.ServerViews.{ServerView, IsMember, SameMember, crashed_member}
+use Rattle.server.specs.Handings.{Handing, FrameBytes, OwnInput}
+
+-- ---- bytes
+
+-- a server of the group, or any client
+abbrev pub is_of_group : ℕ → Actor → Bool
+is_of_group n (ServerActor place) = nat_lt place n
+is_of_group n (Client client) = true
+
+-- a message must come from a server of the group or from a client, and be for this server
+abbrev pub wrong_address : ℕ → ℕ → Actor → Actor → Option Refusal
+wrong_address n me from to =
+    if is_of_group n from
+    then (if is_server_at me to then None else Some (refusals.Frame 3))
+    else Some (refusals.Frame 2)
+
+-- a message that was read, or the place of a frame's first fault
+abbrev pub read_refusal : ℕ → ℕ → Result (WireMessage State Command) ℕ → Option Refusal
+read_refusal n me (Ok read) = wrong_address n me read.from read.to
+read_refusal n me (Err place) = Some (refusals.Frame place)
+
+abbrev pub bytes_refusal : ℕ → ℕ → List ℕ → Option Refusal
+bytes_refusal n me bytes = read_refusal n me (message_at {S = State} cluster_meaning.commands bytes)
+
+-- ---- what is handed in
+
+-- the refusal of a step, if it is one
+abbrev pub refusal_in : Result Turn Refusal → Option Refusal
+refusal_in (Ok turn) = None
+refusal_in (Err refusal) = Some refusal
+
+-- Why server `me` of n refuses what is handed in, if it does: it is down; bytes are no frame, or
+-- one for another; else as the definitions say.
+abbrev pub handing_refusal : ℕ → ℕ → Member → Handing → Option Refusal
+handing_refusal n me s (FrameBytes bytes) =
+    if is_up s.raft.mode then bytes_refusal n me bytes else Some refusals.Down
+handing_refusal n me s (OwnInput input) = refusal_in (step n me s input)
+
+-- ---- want of memory
+
+-- a leader at whose desk something is to be done
+pub record HasOpenDesk (s : Member) : Type 0 where
+  pub leads : is_leader s.raft.mode ≡ true
+  pub is_open : is_some s.desk ≡ true
+
+-- its workers ask a server of the group
+pub record AsksMember (n : ℕ) (s : Member) (to : ℕ) : Type 0 where
+  pub up : is_up s.raft.mode ≡ true
+  pub of_group : nat_lt to n ≡ true
+
+-- Which inputs may want memory, and when. A crash takes none, nor does what is outstanding and is
+-- free again, a leader at a timeout, or another at a beat.
+abbrev pub MayTakeMemory : ℕ → Member → Input → Type 0
+MayTakeMemory n s (Arrives message) = is_up s.raft.mode ≡ true
+MayTakeMemory n s Timeout = (is_up s.raft.mode ≡ true) × (is_leader s.raft.mode ≡ false)
+MayTakeMemory n s Beat = is_leader s.raft.mode ≡ true
+MayTakeMemory n s (Request request) = is_leader s.raft.mode ≡ true
+MayTakeMemory n s (TakeFrom to) = AsksMember n s to
+MayTakeMemory n s (SubmitTo to plan) = AsksMember n s to
+MayTakeMemory n s (FinishAt to eval token outcome) = AsksMember n s to
+MayTakeMemory n s (NackAt to eval token) = AsksMember n s to
+MayTakeMemory n s PlanTurn = HasOpenDesk s
+MayTakeMemory n s (Lapse eval) = ⊥
+MayTakeMemory n s (Expire node beats) = HasOpenDesk s
+MayTakeMemory n s (DrainTurn node) = HasOpenDesk s
+MayTakeMemory n s FreeTurn = HasOpenDesk s
+MayTakeMemory n s Reap = HasOpenDesk s
+MayTakeMemory n s Compact = is_up s.raft.mode ≡ true
+MayTakeMemory n s Crash = ⊥
+MayTakeMemory n s Restart = is_up s.raft.mode ≡ false
+
+-- bytes that are no message may want memory too
+abbrev pub MayLackMemory : ℕ → Member → Handing → Type 0
+MayLackMemory n s (FrameBytes bytes) = is_up s.raft.mode ≡ true
+MayLackMemory n s (OwnInput input) = MayTakeMemory n s input
+
+-- ---- both
+
+-- this refusal may be answered: want of memory where some may be wanted, any other where it is the
+-- one above
+abbrev pub IsHandingRefused : ℕ → ℕ → Member → Handing → Refusal → Type 0
+IsHandingRefused n me s h refusals.NoMemory = MayLackMemory n s h
+IsHandingRefused n me s h cause = handing_refusal n me s h ≡ Some cause
+
+-- want of memory is a crash, but that a restart changes nothing
+abbrev pub NoMemoryLeaves : ServerView → Member → Handing → ServerView → Type 0
+NoMemoryLeaves old s (OwnInput Restart) new = new ≡ old
+NoMemoryLeaves old s h new = IsMember new (crashed_member s)
+
+-- any other refusal leaves the same server
+abbrev pub HandingRefusalLeaves : ServerView → Member → Handing → Refusal → ServerView → Type 0
+HandingRefusalLeaves old s h refusals.NoMemory new = NoMemoryLeaves old s h new
+HandingRefusalLeaves old s h cause new = SameMember old new
+
+-- ---- other calls
+
+-- why there is no copy of the state
+abbrev pub WhyNoSnapshot : Member → Refusal → Type 0
+WhyNoSnapshot s refusals.NoMemory = is_up s.raft.mode ≡ true
+WhyNoSnapshot s refusals.Down = is_up s.raft.mode ≡ false
+WhyNoSnapshot s _ = ⊥

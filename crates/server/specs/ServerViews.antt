@@ -1,0 +1,41 @@
+-- What a contract sees of a server of the group, which server of the definitions it is, and what
+-- its type keeps.
+use Rattle.std.specs.Prelude.{◌≡◌, true, Option, Some, None, option_map}
+use Rattle.rows.specs.declared.command.Command.{Command}
+use Rattle.raft_model.specs.Servers.{is_leader, crashed}
+use Rattle.raft_core.specs.RaftView.{RaftView, SameServer}
+use Rattle.raft_core.specs.Steps.{Represents}
+use Rattle.cluster_model.specs.ClusterMachine.{cluster_meaning}
+use Rattle.group_model.specs.Desks.{Desk, applied_state}
+use Rattle.group_model.specs.Members.{Member}
+use Rattle.leader.specs.OpenDesks.{OpenDesk}
+use Rattle.leader.specs.Staying.{IsOver}
+
+-- its part of the log, and the desk, none where that is closed
+pub record ServerView : Type 0 where
+  pub raft : RaftView Command
+  pub desk : Option OpenDesk
+
+-- the group's desk of one that is kept
+abbrev pub group_desk : Option OpenDesk → Option Desk
+group_desk d = option_map (λ (o : OpenDesk). o.desk) d
+
+-- which server of the definitions a value is
+pub record IsMember (view : ServerView) (s : Member) : Type 0 where
+  pub raft : Represents cluster_meaning view.raft s.raft
+  pub desk : group_desk view.desk ≡ s.desk
+
+-- two values that are one server; one may hold the machine after the whole log, and the other not
+pub record SameMember (old new : ServerView) : Type 0 where
+  pub raft : SameServer old.raft new.raft
+  pub desk : new.desk ≡ old.desk
+
+-- a server that lost what it does not store
+abbrev pub crashed_member : Member → Member
+crashed_member s = record { raft = crashed s.raft; desk = None }
+
+-- An open desk is the leader's, of its term, and of the state that it has applied.
+pub record IsOfLeader (raft : RaftView Command) (o : OpenDesk) : Type 0 where
+  pub leads : is_leader raft.server.mode ≡ true
+  pub term : o.term ≡ raft.server.term
+  pub over : IsOver (applied_state raft.server) o

@@ -1,0 +1,130 @@
+ghost use Rattle.std.specs.Prelude.{◌≡◌, true, false, OnOk, OnErr, IfOk, IfErr, MatchOption};
+ghost use Rattle.raft_model.specs.Servers.{is_up};
+ghost use Rattle.raft_core.specs.Steps.{role_of};
+ghost use Rattle.raft_core.specs.Refusals.{WhyNot};
+ghost use Rattle.group_model.specs.Desks.{applied_state};
+ghost use Rattle.group_model.specs.Members.{Member, newcomer};
+ghost use Rattle.server.specs.ServerViews.{IsMember};
+ghost use Rattle.server.specs.Refusals.{WhyNoSnapshot};
+
+use crate::server_desk::ServerDesk;
+use fsm_state::Cluster;
+use machine::Machine;
+use raft_core::{Raft, Role, Stable};
+use rows::{Index, Refusal, Sequence, ServerId, Term, Work};
+use std::alloc::Global;
+use std::marker::Model;
+use std::sync::Arc;
+use wire::Frames;
+
+/// What a server sends and hands out.
+#[derive(Drop)]
+pub struct Outbox {
+    /// The frames of the messages that it sends.
+    pub frames: Frames,
+    /// What came for its workers.
+    pub work: Sequence<Work>,
+}
+
+/// A server of a group of 3 or 5: its part of the log, whose machine is the replicated state, and
+/// the leader's desk, which is open while it leads and has applied an entry of its term. (Nomad
+/// documentation, "Consensus Protocol" and "Scheduling in Nomad".)
+#[derive(Drop)]
+pub struct Server {
+    alloc: Global,
+    raft: Raft<Cluster>,
+    desk: ServerDesk,
+}
+
+impl Model for Server {
+    ghost use Rattle.std.specs.Prelude.{IfSome};
+    ghost use Rattle.server.specs.ServerViews.{ServerView, IsOfLeader};
+
+    ghost Value = { ServerView };
+
+    ghost view = { λ s. record { raft = s.raft; desk = s.desk } };
+
+    ghost invariant = { λ s. IfSome s.desk (IsOfLeader s.raft) };
+}
+
+impl Server {
+    /// The server of this number in a group of `size`, before its first input.
+    ///
+    /// It is refused with `OutOfRange` where `size` is not 3 or 5 or the number is past it, and
+    /// with `NoMemory`.
+    pub fn new(alloc: Global, me: ServerId, size: usize) -> Result<Server, Refusal>
+        ensures number { IfOk result (λ s. (s.raft.me ≡ me) × (s.raft.size ≡ size)) }
+        ensures newcomer { IfOk result (λ s. IsMember s newcomer) }
+        ensures refused { IfErr result (λ e. WhyNot size me e) }
+    {
+        match Raft::restart(alloc, me, size, Stable::new(alloc)) {
+            Ok(raft) => Ok(Server {
+                alloc,
+                raft,
+                desk: ServerDesk::closed(alloc),
+            }),
+            Err(not) => Err(not.refusal),
+        }
+    }
+
+    /// Its number.
+    pub fn me(&self) -> ServerId
+        ensures { result ≡ self.now.raft.me }
+    {
+        self.raft.me()
+    }
+
+    /// What it is doing in the group, while it is up.
+    pub fn role(&self) -> Option<Role>
+        ensures { (s : Member) → IsMember self.now s → result ≡ role_of s.raft.mode }
+    {
+        self.raft.role()
+    }
+
+    /// Its current term, also while it is down.
+    pub fn term(&self) -> Term
+        ensures { (s : Member) → IsMember self.now s → result ≡ s.raft.term }
+    {
+        self.raft.term()
+    }
+
+    /// The index of the last entry of its log, also while it is down; 0 where there is none.
+    pub fn last(&self) -> Index
+        ensures { (s : Member) → IsMember self.now s → result ≡ length s.raft.log }
+    {
+        self.raft.last()
+    }
+
+    /// How many entries are applied, while it is up: all that are committed.
+    pub fn applied(&self) -> Option<Index>
+        ensures { (s : Member) → IsMember self.now s →
+            MatchOption result (is_up s.raft.mode ≡ false) (λ n. (is_up s.raft.mode ≡ true)
+            × (n ≡ s.raft.commit)) }
+    {
+        self.raft.applied()
+    }
+
+    /// The replicated state after the committed entries, while it is up.
+    pub fn state(&self) -> Option<&Cluster>
+        ensures { (s : Member) → IsMember self.now s →
+            MatchOption result (is_up s.raft.mode ≡ false) (λ r. (is_up s.raft.mode ≡ true)
+            × (r.now ≡ applied_state s.raft)) }
+    {
+        self.raft.machine()
+    }
+
+    /// A copy of the replicated state after the committed entries, and how many those are.
+    ///
+    /// It is refused with `Down` while the server is down, and with `NoMemory`.
+    pub fn snapshot(&self) -> Result<(Arc<Cluster>, Index), Refusal>
+        ensures state { IfOk result (λ p. (s : Member) → IsMember self.now s →
+            (is_up s.raft.mode ≡ true) × (p.0 ≡ applied_state s.raft) × (p.1 ≡ s.raft.commit)) }
+        ensures refused { IfErr result (λ e. (s : Member) → IsMember self.now s →
+            WhyNoSnapshot s e) }
+    {
+        let (Some(state), Some(applied)) = (self.raft.machine(), self.raft.applied()) else {
+            return Err(Refusal::Down);
+        };
+        Ok((Arc::new(self.alloc, state.fork()?)?, applied))
+    }
+}

@@ -1,0 +1,41 @@
+//! What comes to a server of the group.
+ghost use Rattle.std.specs.Prelude.{◌≡◌, IfOk};
+
+use rows::{
+    Batch, EvalId, EvalOutcome, JobSpec, NoMemory, OperatorRequest, Plan, Sequence, ServerId, Token,
+};
+use std::alloc::Global;
+
+/// What comes to a server of the group.
+#[derive(Drop)]
+pub enum ServerInput {
+    /// A frame from the net: all of its bytes.
+    Frame(Sequence<u8>),
+    /// It has heard of no leader for long enough to stand for election.
+    Timeout,
+    /// It is time to be heard of: a leader sends to each other server the entries that it does not
+    /// have yet.
+    Beat,
+    /// What an operator asks.
+    Request(OperatorRequest),
+    /// Its workers ask this server for an evaluation.
+    Take(ServerId),
+    /// Its workers ask this server to accept a plan.
+    Submit(ServerId, Plan),
+    /// Its workers end their work on an evaluation at this server's desk.
+    Finish(ServerId, EvalId, Token, EvalOutcome),
+    /// Its workers give an evaluation back to this server's desk.
+    Nack(ServerId, EvalId, Token),
+    /// A turn of the desk: the plan that goes first is judged.
+    PlanTurn,
+    /// The worker of an evaluation was not heard of for too long.
+    Lapse(EvalId),
+    /// A turn of the desk: a blocked evaluation that has room now becomes pending.
+    FreeTurn,
+    /// A turn of the desk: an evaluation that was given out too often becomes failed.
+    Reap,
+    /// It stops, and loses what it does not store.
+    Crash,
+    /// It starts again with what it stored.
+    Restart,
+}
