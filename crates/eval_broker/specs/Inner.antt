@@ -1,3 +1,4 @@
 pub mod Tasks
 pub mod Trees
 pub mod Lists
+pub mod Weights

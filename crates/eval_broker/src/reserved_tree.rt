@@ -1,10 +1,11 @@
 //! Rows by key in a tree, with room made beforehand, so that a later put takes no memory.
-ghost use Rattle.std.specs.Prelude.{◌≡◌, ◌≤◌, ◌+◌, [], OnOk, OnErr, IfOk, length, option_map, T as Holds};
+ghost use Rattle.std.specs.Prelude.{◌≡◌, ◌≤◌, ◌+◌, [], Some, OnOk, OnErr, IfOk, length, option_map, T as Holds};
 ghost use Rattle.std.specs.List.{slice_get};
 ghost use Rattle.rows.specs.Rising.{is_rising};
 ghost use Rattle.fsm_tables.specs.Rows.{row_of, put};
 ghost use Rattle.fsm_tables.specs.ReservedTables.{without, has_space};
-ghost use Rattle.eval_broker.specs.Inner.Trees.{tree_rows, chain_length};
+ghost use Rattle.eval_broker.specs.Inner.Trees.{tree_rows, chain_length, top_weight};
+ghost use Rattle.eval_broker.specs.Inner.Weights.{weight_at};
 
 use crate::tree;
 use crate::tree::{Branch, Tree};
@@ -68,7 +69,9 @@ fn drop_chain<T: Drop>(spares: Tree<T>) {
 }
 
 /// The weight of the fork that was made at this place, from 0: as if drawn.
-fn weight(place: usize) -> u64 {
+fn weight(place: usize) -> u64
+    ensures { result ≡ weight_at place }
+{
     let mixed = (place as u64).wrapping_mul(0x9E37_79B9_7F4A_7C15);
     let mixed = (mixed ^ (mixed >> 32)).wrapping_mul(0xD6E8_FEB8_6659_FD93);
     mixed ^ (mixed >> 32)
@@ -82,6 +85,7 @@ fn add_spare<T: Drop>(
     row: T,
 ) -> Result<(), NoMemory>
     ensures ok { OnOk result (chain_length spares.new ≡ chain_length spares.old + 1) }
+    ensures weight { OnOk result (top_weight spares.new ≡ Some weight) }
     ensures err { OnErr result (spares.new ≡ spares.old) }
 {
     let mut branch = Box::new(

@@ -1,7 +1,6 @@
 -- The laws of what workers and the leader's desk tell each other, and of what an agent is told.
-use Rattle.std.proofs.Common.{◌≡◌, ℕ, zero, suc, ◌+◌, ◌^◌, ◌≤◌, ◌<◌, Bool, true, false, nat_eq, List, [], ◌∷◌, Option, Some, None, refl, ap, sym, ◌∙◌, arith, if◌then◌else◌}
+use Rattle.std.proofs.Common.{◌≡◌, ℕ, zero, suc, ◌+◌, ◌^◌, ◌≤◌, ◌<◌, Bool, true, false, nat_eq, [], ◌∷◌, Option, Some, None, refl, ap, sym, arith, if◌then◌else◌}
 use Rattle.rows.specs.Ids.{node_rises}
-use Rattle.rows.specs.Reasons.{reason_number}
 use Rattle.rows.specs.declared.evaluation.EvalId.{EvalId}
 use Rattle.rows.specs.declared.token.Token.{Token}
 use Rattle.rows.specs.declared.reason.Reason.{Reason}

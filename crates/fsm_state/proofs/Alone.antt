@@ -7,6 +7,7 @@ use Rattle.std.specs.Cmp.{nat_cmp_is}
 use Rattle.std.specs.declared.cmp.Ordering.TheVariants.{Greater}
 use Rattle.std.specs.Ordering.{nat_cmp, ordering_then, is_eq, is_lt}
 use Rattle.std.proofs.lemmas.Bool.{cases_lt}
+use Rattle.std.proofs.lemmas.List.{map-id}
 use Rattle.std.proofs.lemmas.List.Sums.{sum_by-cons, sum_by-append}
 use Rattle.rows.specs.declared.size.Size.{Size}
 use Rattle.rows.specs.declared.allocation.AllocId.{AllocId}
@@ -18,7 +19,7 @@ use Rattle.rows.specs.Rising.{is_below, is_rising}
 use Rattle.fsm_tables.specs.Rows.{row_of, has_row, put, put_within}
 use Rattle.fsm_tables.proofs.RowLaws.{both, first, second, sum_by-put}
 use Rattle.fsm_tables.specs.Inner.Sums.{weight_of, weight}
-use Rattle.fsm_tables.specs.Claims.{Claim, claim_of, claims, on_node, is_live, is_wanted, is_active}
+use Rattle.fsm_tables.specs.Claims.{Claim, claim_of, claims, on_node, used, is_live, is_wanted, is_active}
 use Rattle.fsm_tables.specs.LiveNames.{live_named}
 use Rattle.cluster_model.specs.Words.{State, same_alloc}
 use Rattle.cluster_model.specs.Safe.{same_name, are_distinct, is_safe}
@@ -204,6 +205,24 @@ room_is : (p : AcceptedPlan) (s : State) (n : ℕ) → T (is_rising alloc_cmp al
 room_is p s n h = λ i.
     part_is (on_node n (λ z. z.cpu)) p s (room_of (row_of nat_cmp node_number n s.nodes)).cpu h i
     && part_is (on_node n (λ z. z.mem)) p s (room_of (row_of nat_cmp node_number n s.nodes)).mem h i
+
+-- one answer and then another, where both are asked for
+pub and_then : (r q a b w : Bool) → r ≡ a → q ≡ b → r ≡ true → (a && b) ≡ w → q ≡ w
+and_then r q a b w e f t g = f ∙ ap (λ x. x && b) (sym t ∙ e) ∙ g
+
+pub and_else : (r a b w : Bool) → r ≡ a → r ≡ false → (a && b) ≡ w → r ≡ w
+and_else r a b w e t g = t ∙ ap (λ x. x && b) (sym t ∙ e) ∙ g
+
+-- the test of a node's room, of numbers that are these
+pub has_room_is : (s : State) (es ws : List Claim) (n : ℕ) → {r1 u1 m1 l1 r2 u2 m2 l2 : ℕ}
+    → r1 ≡ (room_of (row_of nat_cmp node_number n s.nodes)).cpu → u1 ≡ (used n (claims s.allocs)).cpu
+    → m1 ≡ (used n (map (λ (c : Claim). c) ws)).cpu → l1 ≡ (used n (map (λ (c : Claim). c) es)).cpu
+    → r2 ≡ (room_of (row_of nat_cmp node_number n s.nodes)).mem → u2 ≡ (used n (claims s.allocs)).mem
+    → m2 ≡ (used n (map (λ (c : Claim). c) ws)).mem → l2 ≡ (used n (map (λ (c : Claim). c) es)).mem
+    → (nat_le (u1 + m1) (r1 + l1) && nat_le (u2 + m2) (r2 + l2)) ≡ has_room s es ws n
+has_room_is s es ws n a1 b1 d1 e1 a2 b2 d2 e2 =
+    (λ i. nat_le (b1 i + d1 i) (a1 i + e1 i) && nat_le (b2 i + d2 i) (a2 i + e2 i))
+    ∙ (λ i. has_room s (map-id es i) (map-id ws i) n)
 
 off_zero : (n x : ℕ) → 1 ≤ n → cond (nat_eq n 0) x 0 ≡ 0
 off_zero n x le = grind arith

@@ -19,6 +19,7 @@ use Rattle.rows.specs.Keys.{name_cmp, eval_cmp, job_name, node_number, eval_id}
 use Rattle.rows.specs.Rising.{is_below, is_rising}
 use Rattle.fsm_tables.specs.Rows.{by_order, row_of, has_row, put, put_within}
 use Rattle.fsm_tables.proofs.RowLaws.{both, less, first, second, none_below, below_less, below_tied, some_none, some_same}
+use Rattle.fsm_tables.proofs.ReservedTables.{found_tied}
 use Rattle.cluster_model.specs.Words.{is_some_and, same_eval, is_open}
 use Rattle.cluster_model.specs.Effect.{stop_job, down, draining, drained, set_status}
 use Rattle.rows.proofs.KeyLaws.{eval_cmp_total}
@@ -44,17 +45,9 @@ module _ {K X : Type 0} (R : K → K → Ordering) (key : X → K) where
         | false ↦ λ e. ap (λ zs. y ∷ zs) (none_only f k ys e)
       ] e
 
-  found_tied : (k : K) (r : X) (ys : List X) → row_of R key k ys ≡ Some r → R k (key r) ≡ Equal
-  found_tied k r [] e = absurd (some_none r (sym e))
-  found_tied k r (y ∷ ys) e =
-      elim (R k (key y)) as (λ q. R k (key y) ≡ q → cond (is_eq q) (Some y) (row_of R key k ys) ≡ Some r → R k (key r) ≡ Equal) [
-        | Less ↦ λ p e. found_tied k r ys e
-        | Equal ↦ λ p e. ap (λ z. R k (key z)) (sym (some_same y r e)) ∙ p
-        | Greater ↦ λ p e. found_tied k r ys e
-      ] refl e
-
   module _ (o : IsTotalOrder R) where
-    row_tied : (j k : K) → R j k ≡ Equal → (ys : List X) → row_of R key j ys ≡ row_of R key k ys
+    -- keys that are alike find the same row
+    pub row_tied : (j k : K) → R j k ≡ Equal → (ys : List X) → row_of R key j ys ≡ row_of R key k ys
     row_tied j k e [] = refl
     row_tied j k e (y ∷ ys) = λ i. cond (is_eq (o.congr j k (key y) e i)) (Some y) (row_tied j k e ys i)
 
@@ -72,7 +65,7 @@ module _ {K X : Type 0} (R : K → K → Ordering) (key : X → K) where
               ap (λ q. by_order q (f r ∷ y ∷ ys) (f r ∷ ys) (y ∷ put R key (f r) ys)) tie
               ∙ (λ i. f (sym same i) ∷ sym (below_only f k ys (below_tied R key o k (key y) ys p (first _ _ h))) i)
           | Greater ↦ λ p e.
-              let past : R (key (f r)) (key y) ≡ Greater = ap (λ q. R q (key y)) (keeps r) ∙ sym (o.congr k (key r) (key y) (found_tied k r ys e)) ∙ p in
+              let past : R (key (f r)) (key y) ≡ Greater = ap (λ q. R q (key y)) (keeps r) ∙ sym (o.congr k (key r) (key y) (found_tied R key o k ys r e)) ∙ p in
               ap (λ q. by_order q (f r ∷ y ∷ ys) (f r ∷ ys) (y ∷ put R key (f r) ys)) past
               ∙ ap (λ zs. y ∷ zs) (put_only f keeps k r ys (second _ _ h) e)
         ] refl e
@@ -82,7 +75,7 @@ module _ {K X : Type 0} (R : K → K → Ordering) (key : X → K) where
         elim (row_of R key k ys) as (λ m. row_of R key k ys ≡ m → put_changed R key most f m ys ≡ map (only R key f k) ys) [
           | None ↦ λ e. sym (none_only f k ys e)
           | Some r ↦ λ e.
-              let there : row_of R key (key (f r)) ys ≡ Some r = ap (λ q. row_of R key q ys) (keeps r) ∙ sym (row_tied k (key r) (found_tied k r ys e) ys) ∙ e in
+              let there : row_of R key (key (f r)) ys ≡ Some r = ap (λ q. row_of R key q ys) (keeps r) ∙ sym (row_tied k (key r) (found_tied R key o k ys r e) ys) ∙ e in
               ap (λ (m : Option X). cond (is_some m || nat_lt (length ys) most) (put R key (f r) ys) ys) there
               ∙ put_only f keeps k r ys h e
         ] refl

@@ -29,7 +29,7 @@ pub struct Cluster {
     tables: Tables,
     /// Whether it is known that no two live allocations are of one name: each put keeps it by a
     /// look at the row's own name.
-    named_once: bool,
+    knows_names_distinct: bool,
 }
 
 impl Model for Cluster {
@@ -48,7 +48,8 @@ impl Model for Cluster {
       allocs = c.tables.allocs;
     } };
 
-    ghost invariant = { λ c. Holds c.named_once → Holds (are_distinct (claims c.tables.allocs)) };
+    ghost invariant = { λ c. Holds c.knows_names_distinct
+        → Holds (are_distinct (claims c.tables.allocs)) };
 }
 
 /// Whether the id is among these.
@@ -72,7 +73,7 @@ impl Cluster {
             alloc,
             count: Index::ZERO,
             tables: Tables::empty(alloc),
-            named_once: true,
+            knows_names_distinct: true,
         }
     }
 
@@ -86,12 +87,12 @@ impl Cluster {
           allocs = tables.allocs;
         } }
     {
-        let named_once = tables.are_named_once();
+        let knows_names_distinct = tables.are_named_once();
         Cluster {
             alloc,
             count,
             tables,
-            named_once,
+            knows_names_distinct,
         }
     }
 
@@ -103,7 +104,7 @@ impl Cluster {
             alloc: self.alloc,
             count: self.count,
             tables: self.tables.fork()?,
-            named_once: self.named_once,
+            knows_names_distinct: self.knows_names_distinct,
         })
     }
 
@@ -261,10 +262,10 @@ impl Cluster {
     /// Whether it is known that no two live allocations are of one name. It is known of each state
     /// that was made by puts none of which gave a live row the name of another; where it is not
     /// known, names may be held once all the same.
-    pub fn is_named_once(&self) -> bool
+    pub fn knows_names_distinct(&self) -> bool
         ensures { Holds result → Holds (are_distinct (claims self.now.allocs)) }
     {
-        self.named_once
+        self.knows_names_distinct
     }
 
     /// Whether no two live allocations are of one name, by a walk over the live ones.
@@ -297,7 +298,7 @@ impl Cluster {
         ensures { OnOk result (self.new ≡ put_alloc row self.old) }
     {
         self.ranges();
-        self.named_once = self.named_once && self.takes_no_name(&row);
+        self.knows_names_distinct = self.knows_names_distinct && self.takes_no_name(&row);
         self.tables.put_alloc(row)
     }
 }

@@ -7,7 +7,9 @@ mod apply;
 mod cluster;
 mod lists;
 mod replicated;
+mod room;
 mod text;
 mod touch;
 
 pub use cluster::Cluster;
+pub use room::{TakesRoom, is_enough, taken};

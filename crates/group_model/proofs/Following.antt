@@ -49,7 +49,7 @@ module _ (es : List Evaluation) (ts : List Task) (rising : T (is_rising eval_cmp
       (subst (λ ks. T (is_rising eval_cmp (λ (k : Key). k.id) ks)) (sym holds) (rising_kept eval_cmp eval_id (λ (k : Key). k.id) eval_key (λ e. refl) (λ e. is_pending e.status) es rising))
 
   -- over the rows that they hold the tasks stay
-  tasks_stay : tasks_over es ts ≡ ts
+  pub tasks_stay : tasks_over es ts ≡ ts
   tasks_stay = carried (λ id. task_of id ts) (filter (λ e. is_pending e.status) es) ts holds (all_found eval_cmp task_id eval_cmp_total ts tasks_rise)
 
   tasks_follow : (e : Evaluation) → tasks_over (put eval_cmp eval_id e es) ts ≡ tasks_with e ts
@@ -87,7 +87,8 @@ module _ (ns : List Node) (cs : List BeatCount) (rising : T (is_rising nat_cmp n
       rising_back nat_cmp count_node (λ (k : ℕ). k) count_node (λ c. refl) cs
       (subst (λ ks. T (is_rising nat_cmp (λ (k : ℕ). k) ks)) (sym holds) (rising_kept nat_cmp node_number (λ (k : ℕ). k) node_number (λ n. refl) (λ n. is_ready n.status) ns rising))
 
-  counts_stay : beat_counts_over ns cs ≡ cs
+  -- over the nodes that they are of the counts stay
+  pub counts_stay : beat_counts_over ns cs ≡ cs
   counts_stay = counted (λ n. beat_count_of n cs) (filter (λ n. is_ready n.status) ns) cs holds (all_found nat_cmp count_node nat_cmp_total cs counts_rise)
 
 pub counts_follow : CountsFollow

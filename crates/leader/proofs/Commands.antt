@@ -21,7 +21,8 @@ use Rattle.rows.proofs.KeyLaws.{eval_cmp_total}
 use Rattle.fsm_tables.specs.Rows.{row_of, put, put_within}
 use Rattle.fsm_tables.proofs.RowLaws.{equal, row_of-put}
 use Rattle.fsm_tables.specs.Lookups.{lives_on}
-use Rattle.fsm_state.proofs.StepLaws.{put_only}
+use Rattle.fsm_tables.proofs.ReservedTables.{found_tied}
+use Rattle.fsm_state.proofs.StepLaws.{put_only, row_tied}
 use Rattle.rows.specs.Limits.{most_jobs, most_nodes}
 use Rattle.rows.specs.States.{AreTables}
 use Rattle.cluster_model.specs.Words.{State, is_ready, is_open, is_blocked, same_eval, no_node, job_of, node_of}
@@ -29,14 +30,13 @@ use Rattle.cluster_model.specs.Effect.{applied, with_next_count, with_evals, is_
 use Rattle.cluster_model.proofs.Keys.{at_eval, at_number}
 use Rattle.cluster_model.proofs.Lists.{maps_same}
 use Rattle.cluster_model.proofs.StateLaws.{applied_are_tables}
-use Rattle.group_model.specs.Expiry.{BeatCount, count_node, counted_node, beats_of, beat_count_of, beat_counts_over, HoldsReady}
+use Rattle.group_model.specs.Expiry.{BeatCount, counted_node, beats_of, beat_count_of, beat_counts_over, HoldsReady}
 use Rattle.group_model.specs.Blocked.{room_over, classes_of, blocked_eval, blocked_over}
-use Rattle.group_model.proofs.Following.{counts_follow}
+use Rattle.group_model.proofs.Following.{counts_follow, counts_stay}
 use Rattle.group_model.proofs.BlockedRows.{blocked_follow_jobs}
 use Rattle.blocked.specs.Rooms.{with_room_of}
 use Rattle.leader.specs.Inner.Changes.{IsRowOf, AreChanges, TouchChanged, row_if_any, TellsEvals, at_job, tell_job, at_node, tell_node, has_just_room, tell_rooms}
-use Rattle.leader.proofs.Tables.{tied, alike, found_again, put_or_none, made_of, row_of-map}
-use Rattle.leader.proofs.Holding.{held_stays}
+use Rattle.leader.proofs.Tables.{found_again, put_or_none, made_of, row_of-map}
 
 -- ---- evaluations
 
@@ -71,8 +71,8 @@ module _ (id : EvalId) (to : StatusChange) (evals : List Evaluation) where
   is_told k e found same =
       let tie : eval_cmp id e.id ≡ Equal = equal _ (subst T (sym (at_eval id e ∙ same)) tt) in
       let there : row_of eval_cmp eval_id id after ≡ Some (set_status id to e) =
-      at_row id ∙ ap (made_of (set_status id to)) (alike eval_cmp eval_id eval_cmp_total id e.id tie evals ∙ found_again eval_cmp eval_id eval_cmp_total k e evals found) in
-      let is : is_eq (eval_cmp k (eval_id (set_status id to e))) ≡ true = ap (λ q. is_eq (eval_cmp k q)) (set_id e) ∙ ap is_eq (tied eval_cmp eval_id k e evals found) in
+      at_row id ∙ ap (made_of (set_status id to)) (row_tied eval_cmp eval_id eval_cmp_total id e.id tie evals ∙ found_again eval_cmp eval_id eval_cmp_total k e evals found) in
+      let is : is_eq (eval_cmp k (eval_id (set_status id to e))) ≡ true = ap (λ q. is_eq (eval_cmp k q)) (set_id e) ∙ ap is_eq (found_tied eval_cmp eval_id eval_cmp_total k evals e found) in
       ap (λ (m : Option Evaluation). list_any (λ (r : Evaluation). is_eq (eval_cmp k r.id)) (row_if_any m)) there
       ∙ ap (λ b. b || false) is
 
@@ -159,11 +159,6 @@ job_told s (commands.Report n rs) = refl
 -- ---- nodes
 
 module _ (counts : List BeatCount) where
-  counts_stay : (nodes : List Node) → T (is_rising nat_cmp node_number nodes) → HoldsReady nodes counts → beat_counts_over nodes counts ≡ counts
-  counts_stay nodes h of = held_stays nat_cmp node_number count_node (λ (k : ℕ). k) node_number count_node (λ n. refl) (λ c. refl) (λ n. is_ready n.status) nat_cmp_total counted_node is nodes counts h of where
-    is : (n : Node) (c : BeatCount) → node_number n ≡ count_node c → counted_node n (Some c) ≡ c
-    is n c k = λ i. record { node = k i; beats = c.beats }
-
   -- a change that keeps numbers and statuses
   mapped_counts : (f : Node → Node) → ((n : Node) → (node_number (f n) ≡ n.number) × (is_ready (f n).status ≡ is_ready n.status)) → (nodes : List Node) → beat_counts_over (map f nodes) counts ≡ beat_counts_over nodes counts
   mapped_counts f keeps [] = refl
@@ -190,7 +185,7 @@ same_number n m e = let yes : is_eq (nat_cmp n m) ≡ true = ap is_eq e in grind
 -- the row of a node that comes is of its number
 put_number : (x : ℕ) (n : NodeSpec) (nodes : List Node) (m : Option Node) → row_of nat_cmp node_number n.number nodes ≡ m → node_number (node_row x n m) ≡ n.number
 put_number x n nodes None e = refl
-put_number x n nodes (Some old) e = same_number n.number old.number (tied nat_cmp node_number n.number old nodes e)
+put_number x n nodes (Some old) e = same_number n.number old.number (found_tied nat_cmp node_number nat_cmp_total n.number nodes old e)
 
 -- a node that is down is one that is put
 down_is_put : (n : ℕ) (r : Node) (nodes : List Node) → T (is_rising nat_cmp node_number nodes) → row_of nat_cmp node_number n nodes ≡ Some r → put nat_cmp node_number (down_row r) nodes ≡ map (down n) nodes
@@ -200,7 +195,7 @@ down_is_put n r nodes h e =
 
 module _ (s : State) (counts : List BeatCount) (rising : T (is_rising nat_cmp node_number s.nodes)) (of : HoldsReady s.nodes counts) where
   stays : counts ≡ beat_counts_over s.nodes counts
-  stays = sym (counts_stay counts s.nodes rising of)
+  stays = sym (counts_stay s.nodes counts rising of)
 
   mapped : (f : Node → Node) → ((n : Node) → (node_number (f n) ≡ n.number) × (is_ready (f n).status ≡ is_ready n.status)) → counts ≡ beat_counts_over (map f s.nodes) counts
   mapped f keeps = stays ∙ sym (mapped_counts counts f keeps s.nodes)
@@ -218,7 +213,7 @@ module _ (s : State) (counts : List BeatCount) (rising : T (is_rising nat_cmp no
       let is = down_is_put n r s.nodes rising e in
       let there : row_of nat_cmp node_number n (map (down n) s.nodes) ≡ Some (down_row r) =
       ap (row_of nat_cmp node_number n) (sym is) ∙ row_of-put nat_cmp node_number nat_cmp_total n (down_row r) s.nodes
-      ∙ ap (λ o. cond (is_eq o) (Some (down_row r)) (node_of n s)) (tied nat_cmp node_number n r s.nodes e) in
+      ∙ ap (λ o. cond (is_eq o) (Some (down_row r)) (node_of n s)) (found_tied nat_cmp node_number nat_cmp_total n s.nodes r e) in
       ap (λ (m : Option Node). at_node m counts) there
       ∙ sym (counts_follow s.nodes (down_row r) counts rising of)
       ∙ ap (λ nodes. beat_counts_over nodes counts) is

@@ -1,11 +1,9 @@
 -- What is kept of the rows that pass a test: a key of each, and more that the rows do not tell.
-use Rattle.std.proofs.Common.{◌≡◌, T, List, [], ◌∷◌, map, filter, Bool, Option, Some, refl, sym, ap, subst, ◌∙◌}
-use Rattle.std.specs.List.{AllByRecursion}
+use Rattle.std.proofs.Common.{◌≡◌, T, List, [], ◌∷◌, map, filter, Bool, Option, refl, sym, ap, ◌∙◌}
 use Rattle.std.specs.declared.cmp.Ordering.{Ordering}
 use Rattle.std.specs.Cmp.{IsTotalOrder}
 use Rattle.rows.specs.Rising.{is_rising}
 use Rattle.fsm_tables.specs.Rows.{row_of}
-use Rattle.group_model.proofs.KeptRows.{all_found, rising_back, rising_kept}
 use Rattle.leader.proofs.Tables.{made_of, row_of-map, kept, row_of-kept}
 
 module _ {K A B Q : Type 0} (R : K → K → Ordering) (ka : A → K) (kb : B → K) (kq : Q → K) (qa : A → Q) (qb : B → Q) (same_a : (a : A) → kq (qa a) ≡ ka a) (same_b : (b : B) → kq (qb b) ≡ kb b) (keep : A → Bool) (o : IsTotalOrder R) where
@@ -13,33 +11,11 @@ module _ {K A B Q : Type 0} (R : K → K → Ordering) (ka : A → K) (kb : B �
   abbrev pub Of : List A → List B → Type 0
   Of rows held = map qb held ≡ map qa (filter keep rows)
 
-  held_rise : (rows : List A) (held : List B) → T (is_rising R ka rows) → Of rows held → T (is_rising R kb held)
-  held_rise rows held h of = rising_back R kb kq qb same_b held (subst (λ (ks : List Q). T (is_rising R kq ks)) (sym of) (rising_kept R ka kq qa same_a keep rows h))
-
   -- what is held under a key, and the row of that key
   pub held_at : (k : K) (rows : List A) (held : List B) → T (is_rising R ka rows) → Of rows held → made_of qb (row_of R kb k held) ≡ kept R ka kq qa same_a keep o (row_of R ka k rows)
   held_at k rows held h of = sym (row_of-map R kb kq qb same_b k held) ∙ ap (row_of R kq k) of ∙ row_of-kept R ka kq qa same_a keep o k rows h
 
   module _ (carry : A → Option B → B) where
-    carried : ((a : A) (b : B) → qa a ≡ qb b → carry a (Some b) ≡ b) → (find : K → Option B) (rows : List A) (held : List B) → map qb held ≡ map qa rows → AllByRecursion (λ b. find (kb b) ≡ Some b) held → map (λ a. carry a (find (ka a))) rows ≡ held
-    carried is find [] [] of a = refl
-    carried is find [] (b ∷ held) of a = absurd cc
-    carried is find (x ∷ rows) [] of a = absurd cc
-    carried is find (x ∷ rows) (b ∷ held) of a =
-        let here : qa x ≡ qb b = heads of in
-        let found : find (ka x) ≡ Some b = ap find (sym (same_a x) ∙ ap kq here ∙ same_b b) ∙ a.0 in
-        λ i. (ap (carry x) found ∙ is x b here) i ∷ carried is find rows held (tails of) a.1 i
-      where
-        heads : qb b ∷ map qb held ≡ qa x ∷ map qa rows → qa x ≡ qb b
-        heads e = cc
-
-        tails : qb b ∷ map qb held ≡ qa x ∷ map qa rows → map qb held ≡ map qa rows
-        tails e = cc
-
-    -- over the rows that it is of it stays
-    pub held_stays : ((a : A) (b : B) → qa a ≡ qb b → carry a (Some b) ≡ b) → (rows : List A) (held : List B) → T (is_rising R ka rows) → Of rows held → map (λ a. carry a (row_of R kb (ka a) held)) (filter keep rows) ≡ held
-    held_stays is rows held h of = carried is (λ k. row_of R kb k held) (filter keep rows) held of (all_found R kb o held (held_rise rows held h of))
-
     -- over any rows it is of them
     pub of_rows : ((a : A) (m : Option B) → qb (carry a m) ≡ qa a) → (find : A → Option B) (rows : List A) → Of rows (map (λ a. carry a (find a)) (filter keep rows))
     of_rows keeps find rows = go (filter keep rows) where

@@ -13,11 +13,13 @@ use Rattle.rows.specs.Rising.{is_rising}
 use Rattle.rows.proofs.KeyLaws.{eval_cmp_total}
 use Rattle.fsm_tables.specs.Rows.{row_of, has_row, put, put_within}
 use Rattle.fsm_tables.proofs.RowLaws.{equal, some_none, row_of-put, rising_put_within, length-put}
+use Rattle.fsm_tables.proofs.ReservedTables.{found_tied}
+use Rattle.fsm_state.proofs.StepLaws.{row_tied}
 use Rattle.rows.specs.Limits.{most_evals}
 use Rattle.cluster_model.specs.Words.{State}
 use Rattle.cluster_model.specs.Effect.{new_eval, with_evals}
 use Rattle.leader.specs.Inner.Changes.{IsRowOf, TouchChanged, row_if_any}
-use Rattle.leader.proofs.Tables.{alike, found_again, tied}
+use Rattle.leader.proofs.Tables.{found_again}
 
 abbrev pub slot_id : ℕ → ℕ → EvalId
 slot_id x slot = record { index = x; slot = slot }
@@ -163,8 +165,8 @@ covered x n jobs before le id none =
 
     other : (r : Evaluation) → find id after ≡ Some r → (k : ℕ) → k < length jobs → (b : Bool) → is_eq (eval_cmp id (slot_id x k)) ≡ b → b ≡ false
     other r e k lt true q =
-        let there : find (slot_id x k) after ≡ Some r = sym (alike eval_cmp eval_id eval_cmp_total id (slot_id x k) (equal _ (subst T (sym q) tt)) after) ∙ e in
-        let is = ap is_eq (tied eval_cmp eval_id id r after e) in
+        let there : find (slot_id x k) after ≡ Some r = sym (row_tied eval_cmp eval_id eval_cmp_total id (slot_id x k) (equal _ (subst T (sym q) tt)) after) ∙ e in
+        let is = ap is_eq (found_tied eval_cmp eval_id eval_cmp_total id after r e) in
         sym (listed (λ (y : Evaluation). is_eq (eval_cmp id y.id)) x k r after n (omega (arith, lt, le)) there is) ∙ none
     other r e k lt false q = refl
 

@@ -8,29 +8,16 @@ use Rattle.std.specs.Ordering.{is_eq}
 use Rattle.std.specs.Cmp.{IsTotalOrder, tied_itself}
 use Rattle.rows.specs.Rising.{is_rising}
 use Rattle.fsm_tables.specs.Rows.{row_of, has_row, put, put_within}
-use Rattle.fsm_tables.proofs.RowLaws.{first, second, some_none, some_same, none_below, below_tied, row_of-put, rising_put}
+use Rattle.fsm_tables.proofs.RowLaws.{first, second, none_below, below_tied, row_of-put, rising_put}
 use Rattle.fsm_tables.proofs.SetLaws.{same_rows}
+use Rattle.fsm_tables.proofs.ReservedTables.{found_tied}
+use Rattle.fsm_state.proofs.StepLaws.{row_tied}
 
 module _ {K X : Type 0} (R : K → K → Ordering) (key : X → K) where
-  -- a row that is found has a key like the one looked for
-  pub tied : (k : K) (r : X) (ys : List X) → row_of R key k ys ≡ Some r → R k (key r) ≡ Equal
-  tied k r [] e = absurd (some_none r (sym e))
-  tied k r (y ∷ ys) e =
-      elim (R k (key y)) as (λ q. R k (key y) ≡ q → cond (is_eq q) (Some y) (row_of R key k ys) ≡ Some r → R k (key r) ≡ Equal) [
-        | Less ↦ λ p e. tied k r ys e
-        | Equal ↦ λ p e. ap (λ z. R k (key z)) (sym (some_same y r e)) ∙ p
-        | Greater ↦ λ p e. tied k r ys e
-      ] refl e
-
   module _ (o : IsTotalOrder R) where
-    -- keys that are alike find the same row
-    pub alike : (j k : K) → R j k ≡ Equal → (ys : List X) → row_of R key j ys ≡ row_of R key k ys
-    alike j k e [] = refl
-    alike j k e (y ∷ ys) = λ i. cond (is_eq (o.congr j k (key y) e i)) (Some y) (alike j k e ys i)
-
     -- a row that is found is found under its own key
     pub found_again : (k : K) (r : X) (ys : List X) → row_of R key k ys ≡ Some r → row_of R key (key r) ys ≡ Some r
-    found_again k r ys e = sym (alike k (key r) (tied k r ys e) ys) ∙ e
+    found_again k r ys e = sym (row_tied R key o k (key r) (found_tied R key o k ys r e) ys) ∙ e
 
     -- one row after the other is put
     abbrev pub puts : List X → List X → List X
@@ -50,7 +37,7 @@ module _ {K X : Type 0} (R : K → K → Ordering) (key : X → K) where
     else_put x xs before after here others k none =
         elim (R k (key x)) as (λ r. R k (key x) ≡ r → (is_eq r || list_any (λ y. is_eq (R k (key y))) xs ≡ false → row_of R key k after ≡ row_of R key k before) → row_of R key k after ≡ cond (is_eq r) (Some x) (row_of R key k before)) [
           | Less ↦ λ e rest. rest none
-          | Equal ↦ λ e rest. alike k (key x) e after ∙ here
+          | Equal ↦ λ e rest. row_tied R key o k (key x) e after ∙ here
           | Greater ↦ λ e rest. rest none
         ] refl (others k)
         ∙ sym (row_of-put R key o k x before)

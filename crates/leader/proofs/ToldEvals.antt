@@ -10,15 +10,17 @@ use Rattle.rows.specs.Rising.{is_rising}
 use Rattle.rows.proofs.KeyLaws.{eval_cmp_total}
 use Rattle.fsm_tables.specs.Rows.{row_of, put}
 use Rattle.fsm_tables.proofs.RowLaws.{equal, some_same, row_of-put, rising_put}
+use Rattle.fsm_tables.proofs.ReservedTables.{found_tied}
+use Rattle.fsm_state.proofs.StepLaws.{row_tied}
 use Rattle.cluster_model.specs.Words.{State, is_pending}
 use Rattle.group_model.specs.Brokers.{Broker, Task, Key, task_id, task_key, eval_key, task_of, carry, tasks_over, broker_over, HoldsPending}
 use Rattle.group_model.specs.Blocked.{blocked_over}
-use Rattle.group_model.proofs.Following.{broker_follows}
+use Rattle.group_model.proofs.Following.{broker_follows, tasks_stay}
 use Rattle.group_model.proofs.BlockedRows.{blocked_follow_evals}
 use Rattle.group_model.proofs.KeptRows.{all_found}
 use Rattle.leader.specs.Inner.Changes.{IsRowOf, broker_after, blocked_after}
-use Rattle.leader.proofs.Tables.{alike, tied, puts, Else, else_put, puts_all, made_of, kept, row_of-kept}
-use Rattle.leader.proofs.Holding.{held_at, held_stays, of_rows}
+use Rattle.leader.proofs.Tables.{puts, Else, else_put, puts_all, made_of, kept, row_of-kept}
+use Rattle.leader.proofs.Holding.{held_at, of_rows}
 
 abbrev pending : Evaluation → Bool
 pending e = is_pending e.status
@@ -33,15 +35,12 @@ carried_key : (e : Evaluation) (o : Option Task) → task_key (carry e o) ≡ ev
 carried_key e None = refl
 carried_key e (Some t) = refl
 
-carried_is : (e : Evaluation) (t : Task) → eval_key e ≡ task_key t → carry e (Some t) ≡ t
-carried_is e t k = λ i. record { id = (k i).id; job = (k i).job; priority = (k i).priority; deliveries = t.deliveries; mark = t.mark }
-
 carried_twice : (e f : Evaluation) (o : Option Task) → carry e (Some (carry f o)) ≡ carry e o
 carried_twice e f None = refl
 carried_twice e f (Some t) = refl
 
 pub over_stays : (evals : List Evaluation) (b : Broker) → T (is_rising eval_cmp eval_id evals) → HoldsPending evals b.tasks → broker_over evals b ≡ b
-over_stays evals b h of = λ i. record b { tasks = held_stays eval_cmp eval_id task_id key_id eval_key task_key (λ e. refl) (λ t. refl) pending eval_cmp_total carry carried_is evals b.tasks h of i }
+over_stays evals b h of = λ i. record b { tasks = tasks_stay evals b.tasks h of i }
 
 pub over_holds : (evals : List Evaluation) (b : Broker) → HoldsPending evals (broker_over evals b).tasks
 over_holds evals b = of_rows eval_cmp eval_id task_id key_id eval_key task_key (λ e. refl) (λ t. refl) pending eval_cmp_total carry carried_key (λ e. task_of e.id b.tasks) evals
@@ -78,7 +77,7 @@ module _ (e : Evaluation) (before after : List Evaluation) (ts : List Task) (ris
   from_before r None q = ap (carry r) (sym (no_task r None q refl))
   from_before r (Some x) q =
       elim (pending x) as (λ b. pending x ≡ b → carry r (cond b (Some (carry x (task_of x.id ts))) None) ≡ carry r (task_of r.id ts)) [
-        | true ↦ λ p. carried_twice r x (task_of x.id ts) ∙ ap (carry r) (sym (alike eval_cmp task_id eval_cmp_total r.id x.id (tied eval_cmp eval_id r.id x before q) ts))
+        | true ↦ λ p. carried_twice r x (task_of x.id ts) ∙ ap (carry r) (sym (row_tied eval_cmp task_id eval_cmp_total r.id x.id (found_tied eval_cmp eval_id eval_cmp_total r.id before x q) ts))
         | false ↦ λ p. ap (carry r) (sym (no_task r (Some x) q (ap (λ b. cond b (Some (carry x (task_of x.id ts))) None) p)))
       ] refl
 
@@ -87,7 +86,7 @@ module _ (e : Evaluation) (before after : List Evaluation) (ts : List Task) (ris
       ap (carry r) (task_over r.id (put eval_cmp eval_id e before) ts (rising_put eval_cmp eval_id eval_cmp_total e before rising) ∙ ap (Carried ts) (row_of-put eval_cmp eval_id eval_cmp_total r.id e before))
       ∙ elim (is_eq (eval_cmp r.id e.id)) as (λ b. is_eq (eval_cmp r.id e.id) ≡ b → carry r (Carried ts (cond b (Some e) (find r.id before))) ≡ carry r (task_of r.id ts)) [
         | true ↦ λ q.
-            let same : r ≡ e = some_same r e (sym found ∙ alike eval_cmp eval_id eval_cmp_total r.id e.id (equal _ (subst T (sym q) tt)) after ∙ is_row) in
+            let same : r ≡ e = some_same r e (sym found ∙ row_tied eval_cmp eval_id eval_cmp_total r.id e.id (equal _ (subst T (sym q) tt)) after ∙ is_row) in
             ap (λ x. carry r (Carried ts (Some x))) (sym same)
             ∙ ap (λ b. carry r (cond b (Some (carry r (task_of r.id ts))) None)) pend
             ∙ carried_twice r r (task_of r.id ts)

@@ -1,5 +1,5 @@
 -- A node's use told from the sums of the state and from what is kept, as the code looks at them.
-use Rattle.std.proofs.Common.{◌≡◌, ℕ, ◌+◌, Bool, true, false, ◌&&◌, T, List, ◌++◌, map, sym, ap, ◌∙◌, arith}
+use Rattle.std.proofs.Common.{◌≡◌, ℕ, ◌+◌, ◌&&◌, T, List, ◌++◌, map, sym, ap, ◌∙◌, arith}
 use Rattle.std.specs.Prelude.{sum_by, nat_le}
 use Rattle.std.proofs.lemmas.List.Sums.{sum_by-append}
 use Rattle.rows.specs.declared.node.Node.{Node}
@@ -42,9 +42,3 @@ pub room_test : (s : State) (rows : List Allocation) (job : List ℕ) (ks ms : L
 room_test s rows job ks ms n u1 h1 m1 r1 l1 u2 h2 m2 r2 l2 h e a1 a2 b1 b2 d1 d2 f1 f2 g1 g2 =
     (λ i. nat_le (a1 i + (b1 i + d1 i)) (f1 i + g1 i) && nat_le (a2 i + (b2 i + d2 i)) (f2 i + g2 i))
     ∙ (λ i. part_is (on_node n.number (λ z. z.cpu)) s rows job ks ms n.size.cpu h e i && part_is (on_node n.number (λ z. z.mem)) s rows job ks ms n.size.mem h e i)
-
-pub and_then : (r q a b w : Bool) → r ≡ a → q ≡ b → r ≡ true → (a && b) ≡ w → q ≡ w
-and_then r q a b w e f t g = f ∙ ap (λ x. x && b) (sym t ∙ e) ∙ g
-
-pub and_else : (r a b w : Bool) → r ≡ a → r ≡ false → (a && b) ≡ w → r ≡ w
-and_else r a b w e t g = t ∙ ap (λ x. x && b) (sym t ∙ e) ∙ g

@@ -71,7 +71,7 @@ fn is_kept(state: &Cluster, name: &AllocName, stopped: &[Allocation]) -> bool
     match state.live_named(name) {
         None => false,
         Some(row) if !is_among(row.id, stopped) => true,
-        Some(_) if state.is_named_once() => false,
+        Some(_) if state.knows_names_distinct() => false,
         Some(_) => is_kept_in(state.alloc_table().rows(), name, stopped),
     }
 }

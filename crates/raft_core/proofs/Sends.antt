@@ -1,5 +1,5 @@
 -- Frames sent one after the other.
-use Rattle.std.proofs.Common.{◌≡◌, ◌≢◌, ℕ, suc, ◌+◌, ◌==◌, true, false, List, [], ◌∷◌, ◌++◌, refl, sym, ap, ◌∙◌, append_assoc, arith}
+use Rattle.std.proofs.Common.{◌≡◌, ◌≢◌, ℕ, IfSome, suc, ◌+◌, ◌==◌, true, false, List, [], ◌∷◌, ◌++◌, refl, sym, ap, ◌∙◌, append_assoc, arith}
 use Rattle.std.proofs.lemmas.Bool.{eq-eqb, ne_eqb}
 use Rattle.std.proofs.Math.Seq.{take-append_seam, take-length}
 use Rattle.std.proofs.lemmas.List.{append-nil}
@@ -7,11 +7,13 @@ use Rattle.std.specs.List.{AllZip}
 use Rattle.machine.specs.Meaning.{Meaning}
 use Rattle.raft_model.specs.Messages.{Message, to_others}
 use Rattle.rows.specs.declared.actor.Actor.TheVariants.{Server}
-use Rattle.wire.specs.Frames.{Frame}
-use Rattle.wire.specs.Messages.{may_go, kind_of, is_another_server}
+use Rattle.wire.specs.Frames.{Frame, ListsFrame, frame_of}
+use Rattle.wire.specs.Messages.{Message as WireMessage, may_go, kind_of, is_of_log, is_another_server}
+use Rattle.wire.specs.declared.kind.Kind.{Kind}
+use Rattle.wire.specs.declared.kind.Kind.TheVariants as kinds
 use Rattle.wire.specs.declared.body.Body.{Body}
 use Rattle.wire.specs.declared.body.Body.TheVariants as bodies
-use Rattle.raft_core.specs.Frames.{FrameCarries, Sends}
+use Rattle.raft_core.specs.Frames.{FrameCarries, Means, Sends, log_message}
 use Rattle.raft_core.specs.Inner.Turns.{Sent}
 
 module _ {S C : Type 0} (m : Meaning S C) where
@@ -58,12 +60,43 @@ module _ {S C : Type 0} (m : Meaning S C) where
 pub sent_all : (a : List Frame) → Sent a a
 sent_all a = take-length a
 
-another : (from to : ℕ) → from ≢ to → is_another_server (Server from) (Server to) ≡ true
+pub another : (from to : ℕ) → from ≢ to → is_another_server (Server from) (Server to) ≡ true
 another from to other = let e : (to == from) ≡ false = ne_eqb to from (λ q. other (sym q)) in rw e refl
 
--- messages between servers go to another one
-pub may_go_between : {S C : Type 0} (from to : ℕ) (body : Body S C) → from ≢ to → may_go (kind_of body) (Server from) (Server to) ≡ true
-may_go_between from to (bodies.VoteRequest v) other = another from to other
-may_go_between from to (bodies.VoteReply v) other = another from to other
-may_go_between from to (bodies.Append a) other = another from to other
-may_go_between from to (bodies.AppendReply r) other = another from to other
+may_go_by : (kind : Kind) (from to : ℕ) → from ≢ to → is_of_log kind ≡ true → may_go kind (Server from) (Server to) ≡ true
+may_go_by kinds.VoteRequest from to other log = another from to other
+may_go_by kinds.VoteReply from to other log = another from to other
+may_go_by kinds.Append from to other log = another from to other
+may_go_by kinds.AppendReply from to other log = another from to other
+may_go_by kinds.Take from to other log = refl
+may_go_by kinds.Delivered from to other log = refl
+may_go_by kinds.Submit from to other log = refl
+may_go_by kinds.PlanResult from to other log = refl
+may_go_by kinds.Finish from to other log = refl
+may_go_by kinds.Nack from to other log = refl
+may_go_by kinds.Refused from to other log = refl
+may_go_by kinds.Register from to other log = absurd (cc log)
+may_go_by kinds.Told from to other log = absurd (cc log)
+
+-- messages of the log go to another server
+pub may_go_between : {S C : Type 0} (from to : ℕ) (body : Body S C) → from ≢ to → is_of_log (kind_of body) ≡ true → may_go (kind_of body) (Server from) (Server to) ≡ true
+may_go_between from to body other log = may_go_by (kind_of body) from to other log
+
+module _ {S C : Type 0} (m : Meaning S C) where
+  sends_said : (read : WireMessage S C) (x : Message C) (before after : List Frame) → Means read x → ListsFrame m.commands read before after → Sends m before after (x ∷ [])
+  sends_said read x before after means listed = record {
+    frames = frame_of m.commands read ∷ [];
+    added = listed.1;
+    carry = (record { to = means.to; bytes = record { read = read; fits = listed.0; text = refl; means = means } }, tt);
+  }
+
+  -- the frame of a body carries the message that it says
+  pub sends_one : (from to : ℕ) (body : Body S C) (before after : List Frame) → ListsFrame m.commands (record { from = Server from; to = Server to; body = body }) before after → IfSome (log_message from to body) (λ x. Sends m before after (x ∷ []))
+  sends_one from to (bodies.VoteRequest v) before after listed = sends_said _ _ before after (record { from = refl; to = refl; said = refl }) listed
+  sends_one from to (bodies.VoteReply v) before after listed = sends_said _ _ before after (record { from = refl; to = refl; said = refl }) listed
+  sends_one from to (bodies.Append a) before after listed = sends_said _ _ before after (record { from = refl; to = refl; said = refl }) listed
+  sends_one from to (bodies.AppendReply r) before after listed = sends_said _ _ before after (record { from = refl; to = refl; said = refl }) listed
+  sends_one from to (bodies.Request r) before after listed = tt
+  sends_one from to (bodies.Response r) before after listed = tt
+  sends_one from to (bodies.Register class size) before after listed = tt
+  sends_one from to (bodies.Told kind reason) before after listed = tt

@@ -1,34 +1,36 @@
 -- Messages between servers, and the frames that carry them.
-use Rattle.std.specs.Prelude.{◌≡◌, ℕ, List, ◌++◌}
+use Rattle.std.specs.Prelude.{◌≡◌, ℕ, Option, Some, None, List, ◌++◌}
 use Rattle.std.specs.List.{AllZip}
 use Rattle.rows.specs.declared.actor.Actor.TheVariants.{Server}
 use Rattle.machine.specs.Meaning.{Meaning}
 use Rattle.wire.specs.Messages.{Message as WireMessage}
 use Rattle.wire.specs.Frames.{Frame, MessageFits, message_text}
 use Rattle.wire.specs.declared.body.Body.{Body as WireBody}
-use Rattle.wire.specs.declared.body.Body.TheVariants.{VoteRequest, VoteReply, Append, AppendReply}
-use Rattle.raft_model.specs.Messages.{Message, Body}
+use Rattle.wire.specs.declared.body.Body.TheVariants.{VoteRequest, VoteReply, Append, AppendReply, Request, Response, Register, Told}
+use Rattle.raft_model.specs.Messages.{Message}
 use Rattle.raft_model.specs.Messages.{VoteRequest as VoteRequestBody, VoteReply as VoteReplyBody, Append as AppendBody, AppendReply as AppendReplyBody}
 
--- what the body of a frame says: the sender's term, and the rest
-abbrev pub term_of : {S C : Type 0} → WireBody S C → ℕ
-term_of (VoteRequest v) = v.term
-term_of (VoteReply v) = v.term
-term_of (Append a) = a.head.term
-term_of (AppendReply r) = r.term
-
-abbrev pub body_of : {S C : Type 0} → WireBody S C → Body C
-body_of (VoteRequest v) = VoteRequestBody v.last_index v.last_term
-body_of (VoteReply v) = VoteReplyBody v.asked v.granted
-body_of (Append a) = AppendBody a.head.prev_index a.head.prev_term a.head.commit a.entries
-body_of (AppendReply r) = AppendReplyBody r.asked r.ok r.at
+-- the message of one server to another that the body of a frame says, by which they keep one log;
+-- what workers, the leader's desk and agents send is none
+abbrev pub log_message : {S C : Type 0} → ℕ → ℕ → WireBody S C → Option (Message C)
+log_message from to (VoteRequest v) =
+    Some (record { from = from; to = to; term = v.term; body = VoteRequestBody v.last_index v.last_term })
+log_message from to (VoteReply v) =
+    Some (record { from = from; to = to; term = v.term; body = VoteReplyBody v.asked v.granted })
+log_message from to (Append a) =
+    Some (record { from = from; to = to; term = a.head.term; body = AppendBody a.head.prev_index a.head.prev_term a.head.commit a.entries })
+log_message from to (AppendReply r) =
+    Some (record { from = from; to = to; term = r.term; body = AppendReplyBody r.asked r.ok r.at })
+log_message from to (Request _) = None
+log_message from to (Response _) = None
+log_message from to (Register _ _) = None
+log_message from to (Told _ _) = None
 
 -- the message that is read from a frame is this one
 pub record Means {S C : Type 0} (read : WireMessage S C) (message : Message C) : Type 0 where
   pub from : read.from ≡ Server message.from
   pub to : read.to ≡ Server message.to
-  pub term : message.term ≡ term_of read.body
-  pub body : message.body ≡ body_of read.body
+  pub said : log_message message.from message.to read.body ≡ Some message
 
 -- the bytes are the message's frame
 pub record IsFrameOf {S C : Type 0} (m : Meaning S C) (bytes : List ℕ) (message : Message C) : Type 0 where

@@ -5,7 +5,7 @@ use Rattle.rows.specs.declared.actor.Actor.TheVariants.{Server as ServerActor, C
 use Rattle.rows.specs.declared.refusal.Refusal.{Refusal}
 use Rattle.rows.specs.declared.refusal.Refusal.TheVariants as refusals
 use Rattle.machine.specs.Meaning.{Meaning}
-use Rattle.wire.specs.Messages.{Message as WireMessage}
+use Rattle.wire.specs.Messages.{Message as WireMessage, kind_of, is_of_log}
 use Rattle.wire.specs.Frames.{message_at}
 use Rattle.raft_model.specs.Servers.{Server, Turn, Mode, is_up, is_leader, crashed}
 use Rattle.raft_model.specs.Steps.{Input, Arrives, Timeout, Beat, Propose, Compact, Crash, Restart, step}
@@ -37,26 +37,34 @@ misdirected n me from to =
     then (if is_server_at me to then None else Some (refusals.Frame 3))
     else Some (refusals.Frame 2)
 
+-- What is wrong with a message that was read, for server `me` of n: its kind, if that is none by
+-- which servers keep one log; else its sender or receiver.
+abbrev pub message_fault : {S C : Type 0} → ℕ → ℕ → WireMessage S C → Option Refusal
+message_fault n me read =
+    if is_of_log (kind_of read.body)
+    then misdirected n me read.from read.to
+    else Some (refusals.Frame 1)
+
 -- a message that was read, or the place of a frame's first fault
 abbrev pub unreadable : {S C : Type 0} → ℕ → ℕ → Result (WireMessage S C) ℕ → Option Refusal
-unreadable n me (Ok message) = misdirected n me message.from message.to
+unreadable n me (Ok message) = message_fault n me message
 unreadable n me (Err place) = Some (refusals.Frame place)
 
 abbrev pub frame_refusal : {S C : Type 0} → Meaning S C → ℕ → ℕ → List ℕ → Option Refusal
 frame_refusal {S = S} m n me bytes = unreadable {S = S} n me (message_at m.commands bytes)
 
 -- Why server `me` of n refuses what is handed in, if it does: it is down; bytes are no frame, or
--- one for another; else as the definitions say.
+-- none for it; else as the definitions say.
 abbrev pub refusal : {S C : Type 0} → Meaning S C → ℕ → ℕ → Server C → Handed C → Option Refusal
 refusal m n me s (Bytes bytes) =
     if is_up s.mode then frame_refusal m n me bytes else Some refusals.Down
 refusal m n me s (Own input) = refusal_by (step m n me s input)
 
--- Why server `me` of n refuses a message that was read, if it does: it is down; the message is not
--- from a server of the group, or is for another.
+-- Why server `me` of n refuses a message that was read, if it does: it is down; the message is of
+-- another kind, is not from a server of the group, or is for another.
 abbrev pub message_refusal : {S C : Type 0} → ℕ → ℕ → Server C → WireMessage S C → Option Refusal
 message_refusal n me s read =
-    if is_up s.mode then misdirected n me read.from read.to else Some refusals.Down
+    if is_up s.mode then message_fault n me read else Some refusals.Down
 
 -- ---- want of memory
 

@@ -378,8 +378,8 @@ impl<M: Machine> Raft<M> {
     /// behind those in the outbox.
     ///
     /// One that is down refuses every input but Restart with `Down`. Then of a frame `Frame` names
-    /// the offset of its first fault, or 2 where its sender is not of the group, or 3 where it is
-    /// for another server; a Timeout is refused with `Exhausted` where the term or the last index
+    /// the offset of its first fault, or 1 where its kind is none by which servers keep one log, 2
+    /// where its sender is not of the group, or 3 where it is for another server; a Timeout is refused with `Exhausted` where the term or the last index
     /// is 2^40 - 1; a Restart of one that is up with `OutOfRange`. A refusal changes nothing and
     /// sends nothing. With `NoMemory` the server is down, with its stored part as it was and
     /// nothing sent. A leader that leads on keeps its machine after its whole log.

@@ -1,5 +1,6 @@
-ghost use Rattle.std.specs.Prelude.{◌≡◌, ◌≢◌, ◌∷◌, [], OnOk, OnErr};
-ghost use Rattle.raft_core.specs.Frames.{Sends, term_of, body_of};
+ghost use Rattle.std.specs.Prelude.{◌≡◌, ◌≢◌, ◌∷◌, [], true, OnOk, OnErr, IfSome};
+ghost use Rattle.wire.specs.Messages.{kind_of, is_of_log};
+ghost use Rattle.raft_core.specs.Frames.{Sends, log_message};
 ghost use Rattle.raft_core.specs.Inner.Turns.{Sent};
 
 use machine::Machine;
@@ -7,16 +8,17 @@ use rows::{NoMemory, ServerId};
 use wire::{Body, Frames, Message};
 
 /// Sends the frame of a message from one server to another.
-#[tactic(auto, using(crate::proofs::Sends::may_go_between, crate::proofs::Sends::sent_front, crate::proofs::Sends::sent_all))]
+#[tactic(auto, using(crate::proofs::Sends::may_go_between, crate::proofs::Sends::sends_one, crate::proofs::Sends::sent_front, crate::proofs::Sends::sent_all))]
 pub fn send<M: Machine>(
     outbox: &mut Frames,
     from: ServerId,
     to: ServerId,
     body: Body<M>,
 ) -> Result<(), NoMemory>
-    requires { from ≢ to }
-    ensures ok { OnOk result (Sends M.meaning outbox.old outbox.new
-        (record { from = from; to = to; term = term_of body; body = body_of body } ∷ [])) }
+    requires other { from ≢ to }
+    requires log { is_of_log (kind_of body) ≡ true }
+    ensures ok { OnOk result (IfSome (log_message from to body) (λ message.
+        Sends M.meaning outbox.old outbox.new (message ∷ []))) }
     ensures front { Sent outbox.old outbox.new }
     ensures err { OnErr result (outbox.new ≡ outbox.old) }
 {

@@ -3,6 +3,7 @@
 #![tactic(auto)]
 
 mod folder;
+mod lines;
 mod requests;
 mod said;
 
@@ -17,6 +18,8 @@ fn main(rt: HostRuntime) -> io::Result<()> {
     said::texts(&rt)?;
     said::outputs(&rt)?;
     requests::commands(&rt)?;
+    lines::lines(&rt)?;
+    lines::nodes(&rt)?;
     requests::settings(&rt)?;
     requests::states(&rt)
 }

@@ -2,7 +2,7 @@
 //! scenario, as they are read.
 use fsm_state::Cluster;
 use machine::Machine;
-use rows::ServerId;
+use rows::{Actor, ServerId};
 use runner::reading::scenario;
 use runner::request::read_request;
 use runner::step::{Step, read_step};
@@ -34,14 +34,22 @@ fn event_of(alloc: Global, step: Step) -> Option<RaftEvent<Cluster>> {
     match step {
         Step::Timeout(server) => Some(RaftEvent::Timeout(server)),
         Step::Beat(server) => Some(RaftEvent::Beat(server)),
-        Step::Crash(server) => Some(RaftEvent::Crash(server)),
-        Step::Restart(server) => Some(RaftEvent::Restart(server)),
+        Step::Crash(actor) => Some(RaftEvent::Crash(server_of(actor)?)),
+        Step::Restart(actor) => Some(RaftEvent::Restart(server_of(actor)?)),
         Step::Deliver(number) => Some(RaftEvent::Deliver(number)),
         Step::Request(server, request) => {
             let command = Box::new(alloc, request.into_command()).ok()?;
             Some(RaftEvent::Propose(server, command))
         }
-        Step::Flow(_) => None,
+        // A flow is no event, and this world has neither desks nor clients.
+        _ => None,
+    }
+}
+
+fn server_of(actor: Actor) -> Option<ServerId> {
+    match actor {
+        Actor::Server(server) => Some(server),
+        Actor::Client(_) => None,
     }
 }
 

@@ -2,5 +2,6 @@ pub mod Turns
 pub mod Lines
 pub mod Numbers
 pub mod Objects
-pub mod Groups
+pub mod CommaLists
+pub mod StepParts
 pub mod Words

@@ -1,2 +1,4 @@
 -- Words of private contracts.
+pub mod Plain
 pub mod RequestSteps
+pub mod StepParts

@@ -2,6 +2,8 @@ pub mod Words
 pub mod Flight
 pub mod Objects
 pub mod Requests
+pub mod WorkerLines
 pub mod Steps
 pub mod Faults
 pub mod Inner
+pub mod Laws

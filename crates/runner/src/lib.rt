@@ -5,12 +5,15 @@
 pub mod command;
 pub mod fault;
 mod flight;
+mod list;
 pub mod program;
 pub mod reading;
 pub mod request;
 pub mod scenario;
 pub mod shelf;
+mod spelled;
 pub mod step;
 mod word;
+mod worker;
 
 pub use program::nomadsim;

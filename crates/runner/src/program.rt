@@ -15,7 +15,7 @@ use crate::step::{Step, read_step};
 use clap::error::ErrorKind;
 use fsm_state::Cluster;
 use raft_core::{Raft, Role};
-use rows::{NoMemory, Refusal, ServerId};
+use rows::{Actor, NoMemory, Refusal, ServerId};
 use std::alloc::Global;
 use std::io::{self, Write};
 use world::{RaftEvent, RaftWorld};
@@ -115,15 +115,29 @@ fn load<'a, F: Shelf>(alloc: Global, shelf: &mut F, file: &'a str) -> Result<Sce
         return Err(Fault::BadScenario);
     };
     match scenario(alloc, text) {
-        Ok(scenario) if is_served(&scenario.settings) => Ok(scenario),
+        Ok(scenario) if is_served(&scenario) => Ok(scenario),
         Err(Refusal::NoMemory) => Err(Fault::NoMemory),
         _ => Err(Fault::BadScenario),
     }
 }
 
-// Messages are not yet lost, repeated or taken out of order.
-fn is_served(settings: &Settings) -> bool {
+// Messages are not yet lost, repeated or taken out of order, and there are no nodes yet.
+fn is_served(scenario: &Scenario) -> bool {
+    is_settled(&scenario.settings) && scenario.nodes.is_empty()
+}
+
+fn is_settled(settings: &Settings) -> bool {
     settings.drop == 0 && settings.repeat == 0 && settings.order == Order::Sent
+}
+
+// Clients and workers take no steps yet, nor does what serves them.
+fn is_taken(step: &Step) -> bool {
+    match step {
+        Step::Deliver(_) | Step::Timeout(_) | Step::Beat(_) | Step::Request(_, _) | Step::Flow(_) =>
+            true,
+        Step::Crash(actor) | Step::Restart(actor) => matches!(actor, Actor::Server(_)),
+        _ => false,
+    }
 }
 
 fn steps_of<'a>(alloc: Global, scenario: &Scenario) -> Result<Vec<Step>, Fault<'a>> {
@@ -132,6 +146,9 @@ fn steps_of<'a>(alloc: Global, scenario: &Scenario) -> Result<Vec<Step>, Fault<'
         let Some(step) = read_step(alloc, line.as_str())? else {
             return Err(Fault::BadScenario);
         };
+        if !is_taken(&step) {
+            return Err(Fault::BadScenario);
+        }
         if steps.push(step).is_err() {
             return Err(Fault::NoMemory);
         }
@@ -170,13 +187,21 @@ impl Play {
             Step::Deliver(message) => self.event(RaftEvent::Deliver(message)),
             Step::Timeout(server) => self.event(RaftEvent::Timeout(server)),
             Step::Beat(server) => self.event(RaftEvent::Beat(server)),
-            Step::Crash(server) => self.event(RaftEvent::Crash(server)),
-            Step::Restart(server) => self.event(RaftEvent::Restart(server)),
+            Step::Crash(actor) => match actor {
+                Actor::Server(server) => self.event(RaftEvent::Crash(server)),
+                Actor::Client(_) => Err(Refusal::OutOfRange),
+            },
+            Step::Restart(actor) => match actor {
+                Actor::Server(server) => self.event(RaftEvent::Restart(server)),
+                Actor::Client(_) => Err(Refusal::OutOfRange),
+            },
             Step::Flow(count) => Ok(self.flow(count.unwrap_or(FLOW))?),
             Step::Request(server, request) => {
                 let command = Box::new(self.alloc, request.into_command())?;
                 self.event(RaftEvent::Propose(server, command))
             }
+            // A scenario with such a step is refused before its first step.
+            _ => Err(Refusal::OutOfRange),
         }
     }
 

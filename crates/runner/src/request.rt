@@ -8,10 +8,9 @@ ghost use Rattle.rows.specs.declared.request.OperatorRequest.{OperatorRequest};
 ghost use Rattle.rows.specs.declared.request.OperatorRequest.TheVariants.{DrainNode, PutEval, StopJob};
 ghost use Rattle.runner.specs.Requests.{IsRequestText, RequestFits, drain_text, group_text, groups_text, job_text, request_text};
 
+use crate::list::read_items;
 use crate::word::{cut, read_count, read_name, read_node, read_priority, read_quantity};
-use rows::{
-    Group, Groups, JobName, JobSpec, NoMemory, NodeId, OperatorRequest, Priority, Sequence, Size,
-};
+use rows::{Group, Groups, JobName, JobSpec, NoMemory, NodeId, OperatorRequest, Priority, Size};
 use std::alloc::Global;
 
 /// Reads the text of a request: `put NAME PRIORITY GROUPS`, `stop NAME`, `eval NAME`, and
@@ -110,18 +109,14 @@ fn read_groups(alloc: Global, text: &str) -> Result<Option<Groups>, NoMemory>
     ensures read { (groups : List Group) → GroupsFit groups → text.now ≡ groups_text groups
         → IfOk result (λ read. read ≡ Some groups) }
 {
-    let mut groups = Sequence::new(alloc);
-    for part in text.split(',') {
-        let Some(group) = read_group(part) else {
-            return Ok(None);
-        };
-        groups.push(group)?;
-    }
+    let Some(groups) = read_items(alloc, text)? else {
+        return Ok(None);
+    };
     Ok(Groups::check(groups).ok())
 }
 
-// One group.
-fn read_group(text: &str) -> Option<Group>
+/// One group, as `NAME:COUNT:CLASS:CPU:MEMORY`.
+pub(crate) fn read_group(text: &str) -> Option<Group>
     ensures named { IfSome result (λ group. GroupFits group × (text.now ≡ group_text group)) }
     ensures read { (group : Group) → GroupFits group → text.now ≡ group_text group
         → result ≡ Some group }

@@ -1,16 +1,19 @@
 //! Scenario files.
-ghost use Rattle.std.specs.Prelude.{◌≡◌, ◌≢◌, ◌≤◌, ◌<◌, ◌⊎◌, ℕ, List, Some, IfOk, IfErr, MatchOption, codes, map, option_map, string_bytes};
+ghost use Rattle.std.specs.Prelude.{◌≡◌, ◌≢◌, ◌+◌, ◌≤◌, ◌<◌, ◌⊎◌, ℕ, List, Some, IfOk, IfErr, MatchOption, codes, map, option_map, string_bytes};
+ghost use Rattle.rows.specs.Fits.{QuantityFits};
+ghost use Rattle.rows.specs.Names.{NameFits};
+ghost use Rattle.rows.specs.declared.node.NodeSpec.{NodeSpec};
+ghost use Rattle.rows.specs.declared.size.Size.{Size};
 ghost use Rattle.rows.specs.declared.refusal.Refusal.TheVariants.{NoMemory, OutOfRange};
-ghost use Rattle.serde_json.specs.Data.{no_items};
 ghost use Rattle.serde_json.specs.Find.{as_object};
 ghost use Rattle.serde_json.specs.View.{view, items_view};
 ghost use Rattle.world.specs.WorldView.{IsGroup};
 ghost use Rattle.runner.specs.declared.scenario.Order.{Order};
 ghost use Rattle.runner.specs.declared.scenario.Settings.{Settings};
 ghost use Rattle.runner.specs.declared.scenario.Scenario.{Scenario};
-ghost use Rattle.runner.specs.Objects.{HasSettings, IsScenario, list_at, members_count, whole_number_at, order_text, strings, text_at};
+ghost use Rattle.runner.specs.Objects.{AreNodes, HasSettings, HasSize, IsNode, IsScenario, list_at, members_count, whole_number_at, order_text, strings, text_at};
 
-use rows::Refusal;
+use rows::{ClassName, Name, NodeId, NodeSpec, Quantity, Refusal, Size};
 use serde_json::Value;
 use std::alloc::Global;
 
@@ -23,7 +26,7 @@ pub enum Order {
     Any,
 }
 
-/// What a scenario says beside its steps.
+/// What a scenario says beside its nodes and its steps.
 #[derive(Clone, Copy, Debug, PartialEq, Eq)]
 pub struct Settings {
     /// How many servers there are, 3 or 5.
@@ -38,11 +41,13 @@ pub struct Settings {
     pub order: Order,
 }
 
-/// A scenario: its settings, and its steps as texts.
+/// A scenario: its settings, its nodes, and its steps as texts.
 #[derive(Drop)]
 pub struct Scenario {
-    /// What is said beside the steps.
+    /// What is said beside the nodes and the steps.
     pub settings: Settings,
+    /// The nodes, numbered from 1 in their order, at most 64.
+    pub nodes: Vec<NodeSpec>,
     /// The lines of the steps, in order.
     pub steps: Vec<String>,
 }
@@ -116,16 +121,6 @@ fn order_of(value: &Value) -> Option<Order>
     }
 }
 
-// The list of nodes, which is empty.
-fn nodes_of(value: &Value) -> Option<()>
-    ensures { MatchOption result
-        (list_at (codes "nodes") (view value.now) ≢ Some no_items)
-        (λ _. list_at (codes "nodes") (view value.now) ≡ Some no_items) }
-{
-    let nodes = list_of(value, "nodes")?;
-    if nodes.is_empty() { Some(()) } else { None }
-}
-
 fn settings_of(value: &Value) -> Option<Settings>
     ensures { MatchOption result
         ((s : Settings) → ¬ HasSettings (view value.now) s) (HasSettings (view value.now)) }
@@ -133,7 +128,6 @@ fn settings_of(value: &Value) -> Option<Settings>
     if keys_of(value)? != 7 {
         return None;
     }
-    nodes_of(value)?;
     let servers = servers_of(value)?;
     let key = number_of(value, "key")?;
     let drop = percent_of(value, "drop")?;
@@ -149,6 +143,66 @@ fn settings_of(value: &Value) -> Option<Settings>
         repeat,
         order,
     })
+}
+
+fn class_of(value: &Value) -> Option<ClassName>
+    ensures { MatchOption result
+        ((n : List ℕ) → text_at (codes "class") (view value.now) ≡ Some n → ¬ NameFits n)
+        (λ n. (text_at (codes "class") (view value.now) ≡ Some n) × NameFits n) }
+{
+    Name::read(text_of(value, "class")?).ok()
+}
+
+fn quantity_of(value: &Value, key: &str) -> Option<Quantity>
+    ensures { MatchOption result
+        ((n : ℕ) → whole_number_at key.now (view value.now) ≡ Some n → ¬ QuantityFits n)
+        (λ n. (whole_number_at key.now (view value.now) ≡ Some n) × QuantityFits n) }
+{
+    let number = number_of(value, key)?;
+    Quantity::new(u32::try_from(number).ok()?)
+}
+
+fn size_of(value: &Value) -> Option<Size>
+    ensures { MatchOption result
+        ((z : Size) → ¬ HasSize (view value.now) z) (HasSize (view value.now)) }
+{
+    let cpu = quantity_of(value, "cpu")?;
+    let mem = quantity_of(value, "mem")?;
+    Some(Size { cpu, mem })
+}
+
+// The node behind so many others.
+fn node_of(value: &Value, others: usize) -> Option<NodeSpec>
+    ensures { MatchOption result
+        ((n : NodeSpec) → n.number ≡ others + 1 → ¬ IsNode (view value.now) n)
+        (λ n. (n.number ≡ others + 1) × IsNode (view value.now) n) }
+{
+    if keys_of(value)? != 3 || 64 <= others {
+        return None;
+    }
+    let number = NodeId::from_number(others as u8 + 1)?;
+    let class = class_of(value)?;
+    let size = size_of(value)?;
+    Some(NodeSpec {
+        number,
+        class,
+        size,
+    })
+}
+
+fn nodes_of(alloc: Global, list: &[Value]) -> Result<Vec<NodeSpec>, Refusal>
+    ensures ok { IfOk result (λ nodes. AreNodes 1 (map view list.now) nodes.items) }
+    ensures refused { IfErr result (λ refusal. (refusal ≡ NoMemory)
+        ⊎ ((refusal ≡ OutOfRange) × ((nodes : List NodeSpec) → ¬ AreNodes 1 (map view list.now) nodes))) }
+{
+    let mut nodes = Vec::new(alloc);
+    for value in list {
+        let Some(node) = node_of(value, nodes.len()) else {
+            return Err(Refusal::OutOfRange);
+        };
+        nodes.push(node)?;
+    }
+    Ok(nodes)
 }
 
 fn copied(alloc: Global, text: &str) -> Result<String, Refusal>
@@ -183,9 +237,17 @@ pub(crate) fn scenario_of(alloc: Global, value: &Value) -> Result<Scenario, Refu
     let Some(settings) = settings_of(value) else {
         return Err(Refusal::OutOfRange);
     };
+    let Some(nodes) = list_of(value, "nodes") else {
+        return Err(Refusal::OutOfRange);
+    };
+    let nodes = nodes_of(alloc, nodes)?;
     let Some(steps) = list_of(value, "steps") else {
         return Err(Refusal::OutOfRange);
     };
     let steps = texts_of(alloc, steps)?;
-    Ok(Scenario { settings, steps })
+    Ok(Scenario {
+        settings,
+        nodes,
+        steps,
+    })
 }

@@ -1,18 +1,27 @@
 //! The steps of a scenario.
-ghost use Rattle.std.specs.Prelude.{◌≡◌, ◌≢◌, ◌<◌, ◌+◌, ◌++◌, ◌∷◌, ℕ, List, Some, IfOk, IfSome, codes, decimal};
+ghost use Rattle.std.specs.Prelude.{◌≡◌, ◌<◌, ◌≤◌, ◌^◌, ◌++◌, ◌∷◌, ℕ, List, Some, None, IfOk, IfSome, codes, decimal};
+ghost use Rattle.rows.specs.declared.plan.Plan.{Plan};
 ghost use Rattle.rows.specs.declared.request.OperatorRequest.{OperatorRequest};
+ghost use Rattle.rows.specs.declared.evaluation.EvalId.{EvalId};
+ghost use Rattle.rows.specs.declared.token.Token.{Token};
+ghost use Rattle.rows.specs.declared.worker.EvalOutcome.{EvalOutcome};
+ghost use Rattle.rows.specs.declared.worker.WorkerRequest.TheVariants as asks;
 ghost use Rattle.runner.specs.declared.step.Step.{Step};
 ghost use Rattle.runner.specs.declared.step.Step.TheVariants as steps;
 ghost use Rattle.runner.specs.Requests.{RequestFits, request_text};
 ghost use Rattle.runner.specs.Steps.{IsLine};
 ghost use Rattle.runner.specs.Inner.RequestSteps.{IsRequestStep};
+ghost use Rattle.runner.specs.Inner.StepParts.{HasParts, IsSmall, IsTurn};
 
 use crate::request::read_request;
-use crate::word::{cut, read_number, read_server};
-use rows::{NoMemory, OperatorRequest, ServerId};
+use crate::spelled::{Spelled, cut_pair, cut_word, read_pair};
+use crate::word::{cut, read_number};
+use crate::worker::{read_outcome, read_plan};
+use rows::{Actor, ClientId, EvalId, NoMemory, OperatorRequest, ServerId, WorkerRequest};
 use std::alloc::Global;
 
-/// One step of a scenario: an event of the group, or a flow of messages.
+/// One step of a scenario: an event of the group, a turn of a server's worker, or a flow of
+/// messages.
 #[derive(Drop)]
 pub enum Step {
     /// `deliver K`: the K-th message ever sent comes, K being from 1 to 2^64 - 1.
@@ -21,15 +30,32 @@ pub enum Step {
     Timeout(ServerId),
     /// `beat S`: server S, if it leads, sends to each other server the entries that it may lack.
     Beat(ServerId),
-    /// `crash S`: server S stops, and keeps what it stored.
-    Crash(ServerId),
-    /// `restart S`: server S, which is down, begins again from what it stored.
-    Restart(ServerId),
+    /// `plan S`: server S, if it leads, weighs the first plan that waits.
+    Plan(ServerId),
+    /// `free S`: server S, if it leads, has the evaluations tried again that room may now help.
+    Free(ServerId),
+    /// `reap S`: server S, if it leads, gives up an evaluation that was delivered too often.
+    Reap(ServerId),
+    /// `lapse S E`: at server S, if it leads, the delivery of evaluation E has lasted too long.
+    Lapse(ServerId, EvalId),
+    /// `crash S`, `crash cC`: server S or client C stops, and keeps what it stored.
+    Crash(Actor),
+    /// `restart S`, `restart cC`: server S or client C, which is down, begins again from what it
+    /// stored.
+    Restart(Actor),
+    /// `register C S`: client C tells server S of its node.
+    Register(ClientId, ServerId),
+    /// `request S REQUEST`: the request is put to server S.
+    Request(ServerId, OperatorRequest),
+    /// `take S T`, `submit S T E TOKEN NAME VERSION SNAPSHOT STOPS PLACES`, `finish S T E TOKEN
+    /// STATUS SNAPSHOT`, `nack S T E TOKEN`: server S asks server T for an evaluation; to accept a
+    /// plan; to end the work on evaluation E; to take it back.
+    Ask(ServerId, ServerId, WorkerRequest),
+    /// `work S`: a worker of server S takes up the oldest answer that came for it.
+    Work(ServerId),
     /// `flow N`: up to N messages in flight are taken, one after the other; `flow` alone leaves the
     /// number out.
     Flow(Option<u64>),
-    /// `request S REQUEST`: the request is put to server S.
-    Request(ServerId, OperatorRequest),
 }
 
 /// Reads the line of a step: exactly the one text of each step, with one space between words and
@@ -38,24 +64,36 @@ pub fn read_step(alloc: Global, line: &str) -> Result<Option<Step>, NoMemory>
     ensures named { IfOk result (λ read. IfSome read (λ step. IsLine step line.now)) }
     ensures read { (step : Step) → IsLine step line.now → IfOk result (λ read. read ≡ Some step) }
 {
-    if let Some(words) = line.strip_prefix("request ") {
-        return read_request_step(alloc, words);
+    let Some((verb, words)) = cut(line, ' ') else {
+        return Ok(read_bare(line));
+    };
+    match verb {
+        "request" => read_request_step(alloc, words),
+        "submit" => read_submit(alloc, words),
+        _ => Ok(read_small(verb, words)),
     }
-    Ok(read_event(line))
+}
+
+// A step of one word.
+fn read_bare(line: &str) -> Option<Step>
+    ensures named { IfSome result (λ step. (line.now ≡ codes "flow") × (step ≡ steps.Flow None)) }
+    ensures read { line.now ≡ codes "flow" → result ≡ Some (steps.Flow None) }
+{
+    if line == "flow" {
+        Some(Step::Flow(None))
+    } else {
+        None
+    }
 }
 
 // What stands behind `request`.
 fn read_request_step(alloc: Global, words: &str) -> Result<Option<Step>, NoMemory>
     ensures named { IfOk result (λ read. IfSome read (λ step. (server : ℕ) × (request : OperatorRequest)
         × (step ≡ steps.Request server request) × IsRequestStep server request words.now)) }
-    ensures read { (server : ℕ) (request : OperatorRequest) → server < 5 → RequestFits request
-        → words.now ≡ decimal (server + 1) ++ 32 ∷ request_text request
+    ensures read { (server : ℕ) (request : OperatorRequest) → IsRequestStep server request words.now
         → IfOk result (λ read. read ≡ Some (steps.Request server request)) }
 {
-    let Some((server, text)) = cut(words, ' ') else {
-        return Ok(None);
-    };
-    let Some(server) = read_server(server) else {
+    let Some((server, text)) = cut_word(words) else {
         return Ok(None);
     };
     match read_request(alloc, text)? {
@@ -64,35 +102,105 @@ fn read_request_step(alloc: Global, words: &str) -> Result<Option<Step>, NoMemor
     }
 }
 
-// A step other than a request: it takes no memory.
-fn read_event(line: &str) -> Option<Step>
-    ensures named { IfSome result (λ step. IsLine step line.now) }
-    ensures read { (step : Step) → IsLine step line.now
-        → ((words : List ℕ) → line.now ≢ codes "request " ++ words) → result ≡ Some step }
+// What stands behind `submit`.
+fn read_submit(alloc: Global, words: &str) -> Result<Option<Step>, NoMemory>
+    ensures named { IfOk result (λ read. IfSome read (λ step. (server : ℕ) × (to : ℕ) × (plan : Plan)
+        × (step ≡ steps.Ask server to (asks.Submit plan)) × HasParts step (codes "submit") words.now)) }
+    ensures read { (server to : ℕ) (plan : Plan)
+        → HasParts (steps.Ask server to (asks.Submit plan)) (codes "submit") words.now
+        → IfOk result (λ read. read ≡ Some (steps.Ask server to (asks.Submit plan))) }
 {
-    if line == "flow" {
-        return Some(Step::Flow(None));
+    let Some((server, to, text)) = cut_pair(words) else {
+        return Ok(None);
+    };
+    match read_plan(alloc, text)? {
+        Some(plan) => Ok(Some(Step::Ask(server, to, WorkerRequest::Submit(plan)))),
+        None => Ok(None),
     }
-    if let Some(count) = line.strip_prefix("flow ") {
-        return Some(Step::Flow(Some(read_number(count)?)));
+}
+
+// A step that takes no memory, of more than one word.
+fn read_small(verb: &str, words: &str) -> Option<Step>
+    ensures named { IfSome result (λ step. IsSmall step × HasParts step verb.now words.now) }
+    ensures read { (step : Step) → IsSmall step → HasParts step verb.now words.now
+        → result ≡ Some step }
+{
+    match verb {
+        "deliver" => read_delivery(words),
+        "lapse" => {
+            let (server, eval) = read_pair(words)?;
+            Some(Step::Lapse(server, eval))
+        }
+        "crash" => Some(Step::Crash(Actor::read_text(words)?)),
+        "restart" => Some(Step::Restart(Actor::read_text(words)?)),
+        "register" => {
+            let (client, server) = read_pair(words)?;
+            Some(Step::Register(client, server))
+        }
+        "take" => {
+            let (server, to) = read_pair(words)?;
+            Some(Step::Ask(server, to, WorkerRequest::Take))
+        }
+        "finish" => read_finish(words),
+        "nack" => {
+            let Some((server, to, rest)) = cut_pair(words) else {
+                return None;
+            };
+            let (eval, token) = read_pair(rest)?;
+            Some(Step::Ask(server, to, WorkerRequest::Nack(eval, token)))
+        }
+        "flow" => Some(Step::Flow(Some(read_number(words)?))),
+        _ => read_turn(verb, words),
     }
-    if let Some(message) = line.strip_prefix("deliver ") {
-        let message = read_number(message)?;
-        return if message == 0 {
-            None
-        } else {
-            Some(Step::Deliver(message))
-        };
+}
+
+// A step that names a server and nothing else.
+fn read_turn(verb: &str, words: &str) -> Option<Step>
+    ensures named { IfSome result (λ step. IsTurn step × HasParts step verb.now words.now) }
+    ensures read { (step : Step) → IsTurn step → HasParts step verb.now words.now
+        → result ≡ Some step }
+{
+    let server = ServerId::read_text(words)?;
+    match verb {
+        "timeout" => Some(Step::Timeout(server)),
+        "beat" => Some(Step::Beat(server)),
+        "plan" => Some(Step::Plan(server)),
+        "free" => Some(Step::Free(server)),
+        "reap" => Some(Step::Reap(server)),
+        "work" => Some(Step::Work(server)),
+        _ => None,
     }
-    if let Some(server) = line.strip_prefix("timeout ") {
-        return Some(Step::Timeout(read_server(server)?));
+}
+
+// What stands behind `deliver`.
+fn read_delivery(words: &str) -> Option<Step>
+    ensures named { IfSome result (λ step. (message : ℕ) × (step ≡ steps.Deliver message)
+        × (1 ≤ message) × (message < 2 ^ 64) × (words.now ≡ decimal message)) }
+    ensures read { (message : ℕ) → 1 ≤ message → message < 2 ^ 64 → words.now ≡ decimal message
+        → result ≡ Some (steps.Deliver message) }
+{
+    let message = read_number(words)?;
+    if message == 0 {
+        None
+    } else {
+        Some(Step::Deliver(message))
     }
-    if let Some(server) = line.strip_prefix("beat ") {
-        return Some(Step::Beat(read_server(server)?));
-    }
-    if let Some(server) = line.strip_prefix("crash ") {
-        return Some(Step::Crash(read_server(server)?));
-    }
-    let server = line.strip_prefix("restart ")?;
-    Some(Step::Restart(read_server(server)?))
+}
+
+// What stands behind `finish`.
+fn read_finish(words: &str) -> Option<Step>
+    ensures named { IfSome result (λ step. (server : ℕ) × (to : ℕ) × (eval : EvalId) × (token : Token) × (outcome : EvalOutcome)
+        × (step ≡ steps.Ask server to (asks.Finish eval token outcome)) × HasParts step (codes "finish") words.now) }
+    ensures read { (server to : ℕ) (eval : EvalId) (token : Token) (outcome : EvalOutcome)
+        → HasParts (steps.Ask server to (asks.Finish eval token outcome)) (codes "finish") words.now
+        → result ≡ Some (steps.Ask server to (asks.Finish eval token outcome)) }
+{
+    let Some((server, to, rest)) = cut_pair(words) else {
+        return None;
+    };
+    let Some((eval, token, rest)) = cut_pair(rest) else {
+        return None;
+    };
+    let outcome = read_outcome(rest)?;
+    Some(Step::Ask(server, to, WorkerRequest::Finish(eval, token, outcome)))
 }

@@ -1,11 +1,13 @@
 //! The words of a line: names, numbers, and where a line is cut.
 ghost use Rattle.std.specs.Prelude.{◌≡◌, ◌<◌, ◌+◌, ◌^◌, ◌++◌, ◌∷◌, ℕ, List, Some, IfSome, IsSomeAnd, decimal};
-ghost use Rattle.rows.specs.Fits.{GroupCountFits, NodeIdFits, PriorityFits, QuantityFits};
+ghost use Rattle.rows.specs.Fits.{FromOneFits, GroupCountFits, IndexFits, NodeIdFits, OrdinalFits, PriorityFits, QuantityFits};
 ghost use Rattle.rows.specs.Names.{NameFits};
 ghost use Rattle.runner.specs.Requests.{IsWithout};
 
 use itoa::Buffer;
-use rows::{GroupCount, Name, NodeId, Priority, Quantity, ServerId};
+use rows::{
+    ClientId, GroupCount, Index, Name, NodeId, Ordinal, Priority, Quantity, Serial, ServerId,
+};
 
 /// What stands before the first `separator`, and what behind it; none where the text has no
 /// `separator`.
@@ -41,8 +43,8 @@ pub fn read_number(text: &str) -> Option<u64>
     }
 }
 
-// A number in decimal without leading zeros, below 2^8.
-fn read_small(text: &str) -> Option<u8>
+/// A number in decimal without leading zeros, below 2^8.
+pub fn read_small(text: &str) -> Option<u8>
     ensures named { IfSome result (λ number. text.now ≡ decimal number) }
     ensures read { (number : ℕ) → number < 2 ^ 8 → text.now ≡ decimal number
         → result ≡ Some number }
@@ -95,4 +97,49 @@ pub fn read_quantity(text: &str) -> Option<Quantity>
 {
     let number = u32::try_from(read_number(text)?).ok()?;
     Quantity::new(number)
+}
+
+/// A client's number, from 1 to 64.
+pub fn read_client(text: &str) -> Option<ClientId>
+    ensures named { IfSome result (λ client. NodeIdFits client × (text.now ≡ decimal client)) }
+    ensures read { (client : ℕ) → NodeIdFits client → text.now ≡ decimal client → result ≡ Some client }
+{
+    ClientId::from_number(read_small(text)?)
+}
+
+/// A place in the log or before it, from 0 to 2^40 - 1.
+pub fn read_index(text: &str) -> Option<Index>
+    ensures named { IfSome result (λ index. IndexFits index × (text.now ≡ decimal index)) }
+    ensures read { (index : ℕ) → IndexFits index → text.now ≡ decimal index → result ≡ Some index }
+{
+    Index::new(read_number(text)?)
+}
+
+/// The serial of a delivery, from 1 to 2^40 - 1.
+pub fn read_serial(text: &str) -> Option<Serial>
+    ensures named { IfSome result (λ serial. FromOneFits serial × (text.now ≡ decimal serial)) }
+    ensures read { (serial : ℕ) → FromOneFits serial → text.now ≡ decimal serial → result ≡ Some serial }
+{
+    Serial::new(read_number(text)?)
+}
+
+/// Which of at most 64, from 0 to 63.
+pub fn read_ordinal(text: &str) -> Option<Ordinal>
+    ensures named { IfSome result (λ ordinal. OrdinalFits ordinal × (text.now ≡ decimal ordinal)) }
+    ensures read { (ordinal : ℕ) → OrdinalFits ordinal → text.now ≡ decimal ordinal → result ≡ Some ordinal }
+{
+    Ordinal::new(read_small(text)?)
+}
+
+/// A number in decimal without leading zeros, below 2^64, and what stands behind the separator that
+/// follows it.
+pub fn cut_number(text: &str, separator: char) -> Option<(u64, &str)>
+    requires { separator < 48 }
+    ensures named { IfSome result (λ parts. text.now ≡ decimal parts.0 ++ separator ∷ parts.1.now) }
+    ensures read { (number : ℕ) (rest : List ℕ) → number < 2 ^ 64
+        → text.now ≡ decimal number ++ separator ∷ rest
+        → IsSomeAnd result (λ parts. (parts.0 ≡ number) × (parts.1.now ≡ rest)) }
+{
+    let (number, rest) = cut(text, separator)?;
+    Some((read_number(number)?, rest))
 }

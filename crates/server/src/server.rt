@@ -1,4 +1,11 @@
-ghost use Rattle.std.specs.Prelude.{◌≡◌, true, false, OnOk, OnErr, IfOk, IfErr, MatchOption};
+mod asks;
+mod proposing;
+mod requests;
+mod steps;
+mod turns;
+
+ghost use Rattle.std.specs.Prelude.{◌≡◌, true, false, length, IfOk, IfErr, MatchOption};
+ghost use Rattle.std.specs.Arc.{arc_value};
 ghost use Rattle.raft_model.specs.Servers.{is_up};
 ghost use Rattle.raft_core.specs.Steps.{role_of};
 ghost use Rattle.raft_core.specs.Refusals.{WhyNot};
@@ -118,7 +125,7 @@ impl Server {
     /// It is refused with `Down` while the server is down, and with `NoMemory`.
     pub fn snapshot(&self) -> Result<(Arc<Cluster>, Index), Refusal>
         ensures state { IfOk result (λ p. (s : Member) → IsMember self.now s →
-            (is_up s.raft.mode ≡ true) × (p.0 ≡ applied_state s.raft) × (p.1 ≡ s.raft.commit)) }
+            (is_up s.raft.mode ≡ true) × (arc_value p.0 ≡ applied_state s.raft) × (p.1 ≡ s.raft.commit)) }
         ensures refused { IfErr result (λ e. (s : Member) → IsMember self.now s →
             WhyNoSnapshot s e) }
     {

@@ -1,6 +1,6 @@
 -- The laws of the bodies that workers, the leader's desk and agents send.
 use Rattle.std.proofs.Common.{◌≡◌, ℕ, List, Option, Some, ap, sym, refl}
-use Rattle.fields_model.specs.Format.{Lawful, IsVariant}
+use Rattle.fields_model.specs.Format.{Lawful}
 use Rattle.fields_model.proofs.FormatLaws.{nothing_lawful, then_lawful, variant_lawful}
 use Rattle.fields_model.proofs.OptionLaws.{option_lawful}
 use Rattle.fields_model.proofs.IdLaws.{name_lawful, size_lawful, evaluation_id_lawful, token_lawful, delivery_lawful}

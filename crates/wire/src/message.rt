@@ -61,11 +61,8 @@ impl<M: Machine> Message<M> {
         requires { may_go (kind_of body) (actors.Client from) (actors.Server to) ≡ true }
         ensures { result ≡ record { from = actors.Client from; to = actors.Server to; body = body } }
     {
-        Message {
-            from: Actor::Client(from),
-            to: Actor::Server(to),
-            body,
-        }
+        let (from, to) = (Actor::Client(from), Actor::Server(to));
+        Message { from, to, body }
     }
 
     /// The message of a server to a client's agent, for a kind that goes there.

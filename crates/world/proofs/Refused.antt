@@ -4,14 +4,16 @@ use Rattle.std.proofs.lemmas.Bool.{lt-ltb, eq-eqb}
 use Rattle.rows.specs.declared.refusal.Refusal.{Refusal}
 use Rattle.rows.specs.declared.refusal.Refusal.TheVariants as refusals
 use Rattle.machine.specs.Meaning.{Meaning}
-use Rattle.wire.specs.Messages.{Message as WireMessage}
+use Rattle.wire.specs.Messages.{Message as WireMessage, kind_of, is_of_log}
+use Rattle.wire.specs.declared.body.Body.{Body}
+use Rattle.wire.specs.declared.body.Body.TheVariants as bodies
 use Rattle.wire.specs.Frames.{Frame, MessageFits, message_at, message_text}
 use Rattle.raft_model.specs.Messages.{Message}
 use Rattle.raft_model.specs.Servers.{Server, Mode, Down, Follower, Candidate, Leader, Turn, is_up, is_leader, crashed}
 use Rattle.raft_model.specs.Steps.{Input, Arrives, Timeout, Beat, Propose, Compact, Crash, Restart, step}
 use Rattle.raft_model.specs.Worlds.{Event, Deliver, TimesOut, Beats, Proposes, Compacts, Crashes, Restarts}
 use Rattle.raft_core.specs.RaftView.{RaftView, SameServer}
-use Rattle.raft_core.specs.Frames.{IsFrameOf}
+use Rattle.raft_core.specs.Frames.{IsFrameOf, log_message}
 use Rattle.raft_core.specs.Inputs.{Handed, Bytes, Own, Reads}
 use Rattle.raft_core.specs.Steps.{Represents}
 use Rattle.raft_core.specs.Refusals.{refusal, refusal_by, frame_refusal, MayLack, IsRefused, LackLeaves, RefusalLeaves}
@@ -33,6 +35,17 @@ IsAddressed n me Compact = Unit {0}
 IsAddressed n me Crash = Unit {0}
 IsAddressed n me Restart = Unit {0}
 
+-- a body that says a message of the log is of such a kind
+said_kind : {S C : Type 0} (from to : ℕ) (body : Body S C) (x : Message C) → log_message from to body ≡ Some x → is_of_log (kind_of body) ≡ true
+said_kind from to (bodies.VoteRequest v) x is = refl
+said_kind from to (bodies.VoteReply v) x is = refl
+said_kind from to (bodies.Append a) x is = refl
+said_kind from to (bodies.AppendReply r) x is = refl
+said_kind from to (bodies.Request r) x is = absurd (cc is)
+said_kind from to (bodies.Response r) x is = absurd (cc is)
+said_kind from to (bodies.Register class size) x is = absurd (cc is)
+said_kind from to (bodies.Told kind reason) x is = absurd (cc is)
+
 module _ {S C : Type 0} (m : Meaning S C) (n me : ℕ)
     (again : (y : WireMessage S C) → MessageFits m.commands y → message_at m.commands (message_text m.commands y) ≡ Ok y) where
   -- a frame that was sent to this server is not refused for its bytes
@@ -43,7 +56,8 @@ module _ {S C : Type 0} (m : Meaning S C) (n me : ℕ)
       let mine : (x.to == me) ≡ true = eq-eqb x.to me to in
       let f_from = f.means.from in
       let f_to = f.means.to in
-      rw (read, f_from, f_to, inside, mine) refl
+      let kind : is_of_log (kind_of f.read.body) ≡ true = said_kind x.from x.to f.read.body x f.means.said in
+      rw (read, kind, f_from, f_to, inside, mine) refl
 
   frame_refused : (s : Server C) (bytes : List ℕ) (x : Message C) (r : Refusal) (up : Bool) → is_up s.mode ≡ up → IsFrameOf m bytes x → x.from < n → x.to ≡ me →
       (if up then frame_refusal m n me bytes else Some refusals.Down) ≡ Some r → step m n me s (Arrives x) ≡ Err r

@@ -1,5 +1,5 @@
 -- Trees of rows.
-use Rattle.std.specs.Prelude.{ℕ, suc, List, [], ◌∷◌, ◌++◌}
+use Rattle.std.specs.Prelude.{ℕ, suc, List, [], ◌∷◌, ◌++◌, Option, Some, None}
 use Rattle.eval_broker.specs.declared.tree.Tree.{Tree, Leaf, Fork'}
 
 -- the rows, from the left to the right
@@ -16,3 +16,8 @@ chain_length (Fork' p left row weight right) = suc (chain_length left)
 abbrev pub below_top : {X : Type 0} → Tree X → List X
 below_top Leaf = []
 below_top (Fork' p left row weight right) = tree_rows left ++ tree_rows right
+
+-- the weight of the topmost fork
+abbrev pub top_weight : {X : Type 0} → Tree X → Option ℕ
+top_weight Leaf = None
+top_weight (Fork' p left row weight right) = Some weight

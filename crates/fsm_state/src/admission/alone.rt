@@ -12,6 +12,7 @@ ghost use Rattle.fsm_state.specs.Inner.Alone.{claim_name, is_name_free, claim_if
 
 use crate::admission::claims::{Claim, add_wanted, are_distinct, claim_by};
 use crate::cluster::{Cluster, is_among};
+use crate::room::{is_enough, taken};
 use fsm_tables::{AllocName, Usage, is_live};
 use rows::{AcceptedPlan, AllocId, NoMemory, NodeId, Ranged, Sequence};
 
@@ -24,32 +25,6 @@ fn named(claim: &Claim) -> AllocName
         group: claim.group,
         index: claim.index,
     }
-}
-
-/// What claims take of a node.
-fn taken(node: NodeId, claims: &[Claim]) -> Usage
-    requires { length claims.now ≤ 64 }
-    ensures cpu { result.cpu ≡ (used node claims.now).cpu }
-    ensures mem { result.mem ≡ (used node claims.now).mem }
-    ensures small { (result.cpu ≤ 64000000) × (result.mem ≤ 64000000) }
-{
-    let mut taken = Usage { cpu: 0, mem: 0 };
-    for claim in claims {
-        if claim.node == node {
-            taken.cpu += claim.size.cpu.get() as u64;
-            taken.mem += claim.size.mem.get() as u64;
-        }
-    }
-    taken
-}
-
-/// Whether a room bears what is used of it and some more, once some is given back.
-fn is_enough(room: u64, used: u64, more: u64, less: u64) -> bool
-    requires { room + less < 2 ^ 64 }
-    ensures { result ≡ nat_le (used + more) (room + less) }
-{
-    let room = room + less;
-    used <= room && more <= room - used
 }
 
 impl Cluster {
@@ -182,7 +157,7 @@ impl Cluster {
     {
         self.ranges();
         plan.ranges();
-        if self.is_named_once() && self.are_dated() {
+        if self.knows_names_distinct() && self.are_dated() {
             self.passes_alone(plan)
         } else {
             self.bears_all(plan)

@@ -5,6 +5,7 @@ ghost use Rattle.fsm_tables.specs.Claims.{Claim as AnyClaim, claim_of};
 ghost use Rattle.cluster_model.specs.Safe.{same_name, are_distinct};
 ghost use Rattle.cluster_model.specs.Plans.{place_claim, wanted};
 
+use crate::room::TakesRoom;
 use rows::{
     AcceptedPlace, AcceptedPlan, Allocation, GroupName, JobName, NoMemory, NodeId, Ordinal,
     Sequence, Size,
@@ -33,6 +34,18 @@ impl Model for Claim {
       node = c.node;
       size = c.size;
     } };
+}
+
+impl TakesRoom for Claim {
+    ghost claim = { λ job c. c };
+
+    fn node(&self) -> NodeId {
+        self.node
+    }
+
+    fn size(&self) -> Size {
+        self.size
+    }
 }
 
 /// What a row claims.

@@ -12,7 +12,7 @@ use Rattle.raft_core.specs.RaftView.{RaftView}
 use Rattle.raft_core.specs.Frames.{IsFrameOf}
 use Rattle.raft_core.specs.Inputs.{Handed, Own}
 use Rattle.raft_core.specs.Steps.{Steps}
-use Rattle.raft_core.specs.Refusals.{refusal, frame_refusal, misdirected, MayLack}
+use Rattle.raft_core.specs.Refusals.{refusal, frame_refusal, message_fault, MayLack}
 use Rattle.raft_core.specs.Inner.Turns.{Lost}
 
 -- memory was wanting; a restart takes none
@@ -49,4 +49,4 @@ abbrev pub MessageStops : {S C : Type 0} → RaftView C → WireMessage S C → 
     → List Frame → List Frame → Type 0
 MessageStops old read refusals.NoMemory new before after = Lost old new before after
 MessageStops old read cause new before after =
-    (misdirected old.size old.me read.from read.to ≡ Some cause) × Unchanged old new before after
+    (message_fault old.size old.me read ≡ Some cause) × Unchanged old new before after

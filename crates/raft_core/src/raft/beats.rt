@@ -28,7 +28,7 @@ fn entries_behind<M: Machine>(log: &[Entry<Coded<M>>], index: u64) -> &[Entry<Co
 }
 
 /// Sends another server the entries of the log from index `next` on, at most 32.
-#[tactic(auto, using(crate::proofs::Sends::may_go_between))]
+#[tactic(auto, using(crate::proofs::Sends::another))]
 fn send_from<M: Machine>(
     outbox: &mut Frames,
     me: ServerId,

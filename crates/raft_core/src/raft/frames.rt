@@ -1,14 +1,15 @@
 //! Frames and messages that come.
 
-ghost use Rattle.std.specs.Prelude.{◌≡◌, ◌≢◌, ◌<◌, true, None, OnOk, OnErr, IfOk, IfErr, Some};
+ghost use Rattle.std.specs.Prelude.{◌≡◌, ◌≢◌, ◌<◌, true, None, OnOk, OnErr, IfOk, IfErr, IfSome, Some};
 ghost use Rattle.rows.specs.declared.actor.Actor.TheVariants as actors;
 ghost use Rattle.raft_model.specs.Servers.{Server, is_up, met};
 ghost use Rattle.raft_model.specs.Steps.{receives};
-ghost use Rattle.raft_core.specs.Frames.{term_of, body_of};
+ghost use Rattle.wire.specs.Messages.{kind_of, is_of_log};
+ghost use Rattle.raft_core.specs.Frames.{log_message};
 ghost use Rattle.raft_core.specs.Steps.{Represents, TakesMessage};
 ghost use Rattle.raft_core.specs.Inner.Turns.{Turned, Lost};
 ghost use Rattle.raft_core.specs.Inner.Stops.{TakesFrame, FrameStops, MessageStops};
-ghost use Rattle.raft_core.specs.Refusals.{frame_refusal, misdirected, message_refusal, IsMessageRefused, MessageRefusalLeaves, RefusalShows};
+ghost use Rattle.raft_core.specs.Refusals.{frame_refusal, misdirected, message_fault, message_refusal, IsMessageRefused, MessageRefusalLeaves, RefusalShows};
 ghost use Rattle.raft_core.specs.RaftView.{KeepsAhead};
 ghost use Rattle.raft_core.specs.Watching.{SeesStep};
 
@@ -30,10 +31,11 @@ impl<M: Machine> Raft<M> {
         requires up { is_up self.old.server.mode ≡ true }
         requires member { from < self.old.size }
         requires other { from ≢ self.old.me }
-        ensures taken { OnOk result
-            (Turned M.meaning self.old self.new outbox.old outbox.new
-            (receives M.meaning.noop self.old.size self.old.me (met (term_of body) self.old.server)
-            from (term_of body) (body_of body))) }
+        requires log { is_of_log (kind_of body) ≡ true }
+        ensures taken { OnOk result (IfSome (log_message from self.old.me body) (λ x.
+            Turned M.meaning self.old self.new outbox.old outbox.new
+            (receives M.meaning.noop self.old.size self.old.me (met x.term self.old.server)
+            from x.term x.body))) }
         ensures kept { OnOk result (KeepsAhead self.old self.new) }
         ensures seen { OnOk result
             (SeesStep M.meaning W.sees self.old.server self.new.server watch.old watch.new) }
@@ -44,6 +46,8 @@ impl<M: Machine> Raft<M> {
             Body::VoteReply(reply) => self.vote_reply(from, &reply),
             Body::Append(append) => self.append(from, append, outbox),
             Body::AppendReply(reply) => self.append_reply(from, &reply, watch),
+            Body::Request(_) | Body::Response(_) => unreachable!(),
+            Body::Register(_, _) | Body::Told(_, _) => unreachable!(),
         }
     }
 
@@ -85,7 +89,7 @@ impl<M: Machine> Raft<M> {
             (TakesMessage M.meaning self.old self.old.server message self.new outbox.old
             outbox.new) }
         ensures admitted { OnOk result
-            (misdirected self.old.size self.old.me message.from message.to ≡ None) }
+            (message_fault self.old.size self.old.me message ≡ None) }
         ensures kept { OnOk result (KeepsAhead self.old self.new) }
         ensures stopped { IfErr result (λ cause.
             MessageStops self.old message cause self.new outbox.old outbox.new) }
@@ -93,6 +97,9 @@ impl<M: Machine> Raft<M> {
             (SeesStep M.meaning W.sees self.old.server self.new.server watch.old watch.new) }
         ensures unseen { IfErr result (λ cause. RefusalShows cause watch.old watch.new) }
     {
+        if !message.kind().is_of_log() {
+            return Err(Refusal::Frame(1));
+        }
         let from = self.sender(&message)?;
         self.receive(from, message.into_body(), outbox, watch)?;
         Ok(())
@@ -101,8 +108,9 @@ impl<M: Machine> Raft<M> {
     /// One watched step with a message that was read: what a step with its frame is, and the frame
     /// is not read again.
     ///
-    /// One that is down refuses it with `Down`. Then `Frame` names offset 2 where its sender is not
-    /// of the group, or 3 where it is for another server. A refusal changes nothing, sends nothing
+    /// One that is down refuses it with `Down`. Then `Frame` names offset 1 where its kind is none
+    /// by which servers keep one log, 2 where its sender is not of the group, or 3 where it is for
+    /// another server. A refusal changes nothing, sends nothing
     /// and shows nothing. With `NoMemory` the server is down, with its stored part as it was and
     /// nothing sent, and the watcher is fit only to be dropped.
     pub fn receive_message<W: Watch<M>>(

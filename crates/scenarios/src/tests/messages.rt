@@ -71,6 +71,7 @@ fn numbers_of(body: &Body<Tally>) -> [u64; 4] {
                 said.at.get(),
             ]
         }
+        _ => [0; 4],
     }
 }
 

@@ -1,11 +1,21 @@
 -- What the parts of a step do, on a server that is up.
-use Rattle.std.specs.Prelude.{◌≡◌, List, length, take, Result, Ok, Err, Some}
+use Rattle.std.specs.Prelude.{◌≡◌, ℕ, true, List, length, take, Option, None, Some, Result, Ok, Err}
+use Rattle.rows.specs.declared.size.Size.{Size}
+use Rattle.rows.specs.declared.command.Command.{Command}
 use Rattle.rows.specs.declared.refusal.Refusal.{Refusal}
 use Rattle.rows.specs.declared.refusal.Refusal.TheVariants as refusals
+use Rattle.rows.specs.declared.worker.WorkerRequest.{WorkerRequest}
+use Rattle.rows.specs.declared.worker.WorkerRequest.TheVariants.{Take, Submit, Finish, Nack}
+use Rattle.rows.specs.declared.worker.WorkerResponse.{WorkerResponse}
 use Rattle.wire.specs.Frames.{Frame}
-use Rattle.raft_model.specs.Servers.{crashed}
-use Rattle.group_model.specs.Inputs.{Input, Act}
-use Rattle.group_model.specs.Members.{Member, acts, done}
+use Rattle.raft_model.specs.Servers.{Server, is_leader, crashed, extended}
+use Rattle.raft_model.specs.Steps as raft_steps
+use Rattle.cluster_model.specs.ClusterMachine.{cluster_meaning}
+use Rattle.group_model.specs.Messages.{Register}
+use Rattle.group_model.specs.Inputs.{Input, TakeFrom, SubmitTo, FinishAt, NackAt, Act}
+use Rattle.group_model.specs.WorkerRequests.{serves_request, hands_out}
+use Rattle.group_model.specs.ClientRequests.{serves_client}
+use Rattle.group_model.specs.Members.{Member, open_desk, acts, done}
 use Rattle.server.specs.declared.server.Outbox.{Outbox}
 use Rattle.server.specs.ServerViews.{ServerView, SameMember, group_desk}
 use Rattle.server.specs.Turns.{TakesTurn}
@@ -23,6 +33,29 @@ DoesAct old act new before after =
 -- that of an input of its own
 abbrev pub act_of : ServerView → Input → Result Act Refusal
 act_of view input = acts view.raft.size view.raft.me (member_of view) input
+
+-- that of a request of another server's workers, or of its own
+abbrev pub request_act : ServerView → ℕ → WorkerRequest → Result Act Refusal
+request_act view from request =
+    let s = member_of view in
+    Ok (serves_request view.raft.me s.raft from (open_desk s) s.desk request)
+
+-- that of an answer to its own workers
+abbrev pub response_act : ServerView → ℕ → WorkerResponse → Result Act Refusal
+response_act view from response = Ok (hands_out from response (member_of view).desk)
+
+-- that of a client that comes
+abbrev pub register_act : ServerView → ℕ → List ℕ → Size → Result Act Refusal
+register_act view client class size =
+    let s = member_of view in
+    Ok (serves_client view.raft.me s.raft client (open_desk s) s.desk (Register class size))
+
+-- a request of its own workers, as an input
+abbrev pub asks_of : ℕ → WorkerRequest → Input
+asks_of to Take = TakeFrom to
+asks_of to (Submit plan) = SubmitTo to plan
+asks_of to (Finish eval token outcome) = FinishAt to eval token outcome
+asks_of to (Nack eval token) = NackAt to eval token
 
 -- what was sent before still stands in front
 abbrev pub KeepsFront : List Frame → List Frame → Type 0
@@ -50,3 +83,16 @@ DeclinesOwn old input refusals.NoMemory new before after =
 DeclinesOwn old input cause new before after =
     (done old.raft.size old.raft.me (member_of old) (act_of old input) ≡ Err cause)
     × DoesNothing old new before after
+
+-- ---- proposals
+
+-- a leader appended a command that nothing refused
+pub record IsProposed (s : Server Command) (c : Command) (new : Server Command) : Type 0 where
+  pub leads : is_leader s.mode ≡ true
+  pub admitted : raft_steps.admitted cluster_meaning s c ≡ None
+  pub log : new ≡ extended s c
+
+-- why the log refuses a command
+abbrev pub WhyNotProposed : Server Command → Command → Refusal → Type 0
+WhyNotProposed s c refusals.NoMemory = is_leader s.mode ≡ true
+WhyNotProposed s c cause = raft_steps.proposes cluster_meaning s c ≡ Err cause

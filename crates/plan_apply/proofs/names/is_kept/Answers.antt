@@ -11,4 +11,4 @@ pub returns-in-Some : goal.returns-in-Some
 returns-in-Some c = sym (found_kept c.args.name.now (map alloc_id c.args.stopped.now) c.in-Some.row.now c.args.state.now.allocs (sym c.in-Some.ensures) (sym (ap not c.if-not-is_among.ensures)))
 
 pub returns-in-Some-2 : goal.returns-in-Some-2
-returns-in-Some-2 c = sym (once_kept c.args.name.now (map alloc_id c.args.stopped.now) c.in-Some.row.now c.args.state.now.allocs (c.if-is_named_once.ensures tt) (sym c.in-Some.ensures) (sym c.if-not-is_among.ensures))
+returns-in-Some-2 c = sym (once_kept c.args.name.now (map alloc_id c.args.stopped.now) c.in-Some.row.now c.args.state.now.allocs (c.if-knows_names_distinct.ensures tt) (sym c.in-Some.ensures) (sym c.if-not-is_among.ensures))

@@ -1,5 +1,6 @@
 use Rattle.std.proofs.Common.{◌≡◌, ◌∙◌, ℕ, Bool, List, arith, codes, decimal, false, refl, rules, sym, true}
-use Rattle.runner.proofs.Words.{apart, decimal_lacks}
+use Rattle.runner.proofs.Words.{apart}
+use Rattle.runner.specs.Laws.PlainTexts.{decimal_lacks}
 use Rattle.runner.specs.Requests.{mode_text}
 use Rattle.runner.proofs.request.read_drain.Goals as goal
 

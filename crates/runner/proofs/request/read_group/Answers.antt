@@ -1,5 +1,5 @@
 use Rattle.std.proofs.Common.{◌≡◌, arith, decimal, refl, rules}
-use Rattle.runner.proofs.Words.{decimal_lacks, name_lacks}
+use Rattle.runner.specs.Laws.PlainTexts.{decimal_lacks, name_lacks}
 use Rattle.runner.proofs.request.read_group.Goals as goal
 
 pub returns-in_err-count-clause-read : goal.returns-in_err-count-clause-read

@@ -4,7 +4,7 @@ use Rattle.rows.specs.Names.{NameFits}
 use Rattle.rows.specs.declared.request.OperatorRequest.{OperatorRequest}
 use Rattle.rows.specs.declared.request.OperatorRequest.TheVariants.{DrainNode, PutEval, PutJob, StopJob}
 use Rattle.runner.specs.Requests.{IsWithout, RequestFits, drain_text, request_text}
-use Rattle.runner.proofs.Words.{name_lacks}
+use Rattle.runner.specs.Laws.PlainTexts.{name_lacks}
 use Rattle.runner.proofs.request.read_request.Goals as goal
 
 -- each request's text is a verb, a space, and what stands behind it

@@ -6,7 +6,7 @@ use Rattle.fsm_state.proofs.cluster.Cluster.bears_plan.Goals as goal
 pub returns-then-are_dated : goal.returns-then-are_dated
 returns-then-are_dated c =
     let tables = c.ranges-2.ensures.tables in
-    let once = c.is_named_once.ensures (subst T (sym c.if-is_named_once.true) tt) in
+    let once = c.knows_names_distinct.ensures (subst T (sym c.if-knows_names_distinct.true) tt) in
     subst (λ (safe : Bool). IfOk c.passes_alone.result (λ b. b ≡ safe))
     (alone_is_safe c.args.plan.now c.args.self.now (record {
       dated = subst T c.if-are_dated.ensures tt;

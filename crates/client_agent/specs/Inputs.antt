@@ -1,0 +1,23 @@
+-- What is handed to a client.
+use Rattle.std.specs.Prelude.{◌≡◌, ℕ}
+use Rattle.cluster_model.specs.ClusterMachine.{cluster_meaning}
+use Rattle.group_model.specs.Messages.{ClientResponse, ToClient}
+use Rattle.group_model.specs.Clients.{Input, Arrives, RegisterAt, Crash, Restart}
+use Rattle.group_frames.specs.GroupFrames.{IsServiceFrame}
+use Rattle.client_agent.specs.declared.input.ClientInput.{ClientInput}
+use Rattle.client_agent.specs.declared.input.ClientInput.TheVariants as inputs
+
+-- an input of the definitions that it is to the client of this number: bytes are the arrival of
+-- each response to it whose frame they are
+abbrev pub AgentReads : ℕ → ClientInput → Input → Type 0
+AgentReads me (inputs.Frame bytes) input =
+    (from : ℕ) × (response : ClientResponse)
+    × IsServiceFrame cluster_meaning bytes (ToClient from me response)
+    × (input ≡ Arrives from response)
+AgentReads me (inputs.Register server) input = input ≡ RegisterAt server
+AgentReads me inputs.Crash input = input ≡ Crash
+AgentReads me inputs.Restart input = input ≡ Restart
+
+abbrev pub IsFrameInput : ClientInput → Type 0
+IsFrameInput (inputs.Frame bytes) = Unit {0}
+IsFrameInput _ = ⊥

@@ -1,0 +1,4 @@
+pub mod AgentView
+pub mod Inputs
+pub mod Steps
+pub mod Refusals

@@ -1,0 +1,36 @@
+-- The first word of a step's line, and what stands behind it.
+use Rattle.std.specs.Prelude.{◌≡◌, ℕ, List, [], None, drop, get_or}
+use Rattle.std.specs.List.{join_with_byte}
+use Rattle.runner.specs.declared.step.Step.{Step}
+use Rattle.runner.specs.declared.step.Step.TheVariants.{Timeout, Beat, Plan, Free, Reap, Work, Request, Ask, Flow}
+use Rattle.rows.specs.declared.worker.WorkerRequest.TheVariants.{Submit}
+use Rattle.runner.specs.Steps.{StepFits, step_words}
+
+abbrev pub verb_of : Step → List ℕ
+verb_of step = get_or (step_words step) 0 []
+
+abbrev pub operands_of : Step → List ℕ
+operands_of step = join_with_byte 32 (drop 1 (step_words step))
+
+-- a step, its first word, and what stands behind that
+pub record HasParts (step : Step) (verb operands : List ℕ) : Type 0 where
+  pub fits : StepFits step
+  pub first : verb ≡ verb_of step
+  pub behind : operands ≡ operands_of step
+
+-- a step that names a server and nothing else, and goes to that server alone
+abbrev pub IsTurn : Step → Type 0
+IsTurn (Timeout server) = Unit {0}
+IsTurn (Beat server) = Unit {0}
+IsTurn (Plan server) = Unit {0}
+IsTurn (Free server) = Unit {0}
+IsTurn (Reap server) = Unit {0}
+IsTurn (Work server) = Unit {0}
+IsTurn _ = ⊥
+
+-- a step that takes no memory, of more than one word
+abbrev pub IsSmall : Step → Type 0
+IsSmall (Flow None) = ⊥
+IsSmall (Request server request) = ⊥
+IsSmall (Ask server to (Submit plan)) = ⊥
+IsSmall _ = Unit {0}

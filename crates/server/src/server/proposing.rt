@@ -1,0 +1,28 @@
+//! Commands that the server proposes.
+ghost use Rattle.std.specs.Prelude.{◌≡◌, true, OnOk, OnErr, IfErr};
+ghost use Rattle.raft_model.specs.Servers.{is_up};
+ghost use Rattle.server.specs.ServerViews.{SameMember};
+ghost use Rattle.server.specs.Inner.Acts.{IsProposed, WhyNotProposed};
+
+use super::Server;
+use rows::{Command, Refusal};
+
+impl Server {
+    /// A leader appends a command that nothing refuses; its desk stays as it is. Any refusal, want
+    /// of memory too, leaves the server as it was.
+    pub(super) fn propose(&mut self, command: Command) -> Result<(), Refusal>
+        requires { is_up self.old.raft.server.mode ≡ true }
+        ensures same { (self.new.raft.me ≡ self.old.raft.me)
+            × (self.new.raft.size ≡ self.old.raft.size) }
+        ensures desk { self.new.desk ≡ self.old.desk }
+        ensures taken { OnOk result (
+            IsProposed self.old.raft.server command self.new.raft.server) }
+        ensures refused { IfErr result (λ cause.
+            WhyNotProposed self.old.raft.server command cause) }
+        ensures unchanged { OnErr result (SameMember self.old self.new) }
+    {
+        // How many entries are applied is known to be no more than there are.
+        let _applied = self.raft.applied();
+        self.raft.propose(command)
+    }
+}
