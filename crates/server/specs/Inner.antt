@@ -1,2 +1,4 @@
 pub mod DeskWatch
 pub mod Acts
+pub mod Replies
+pub mod Plans

@@ -1,5 +1,9 @@
 mod asks;
+mod gate;
+mod plans;
 mod proposing;
+mod register;
+mod replies;
 mod requests;
 mod steps;
 mod turns;

@@ -1,0 +1,2 @@
+pub mod DeskCalls
+pub mod Serving
