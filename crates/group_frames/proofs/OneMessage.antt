@@ -10,8 +10,8 @@ use Rattle.wire.specs.Frames.{MessageFits, message_text}
 use Rattle.wire.specs.declared.body.Body.{Body}
 use Rattle.wire.specs.declared.body.Body.TheVariants as bodies
 use Rattle.wire.proofs.Framing.{ShortCommands, frames_apart}
-use Rattle.raft_model.specs.Messages.{Message, Body as RaftBody}
-use Rattle.raft_core.specs.Frames.{Means, IsFrameOf}
+use Rattle.raft_model.specs.Messages.{Message}
+use Rattle.raft_core.specs.Frames.{Means, IsFrameOf, log_message}
 use Rattle.group_model.specs.Messages.{GroupMessage, Raft, Service, ServiceMessage}
 use Rattle.group_frames.specs.GroupFrames.{service_of, service_between, IsServiceFrame, IsGroupFrame, FramesAreOfOne}
 
@@ -24,8 +24,22 @@ same_service h = cc
 no_service : {a : ServiceMessage} → (let x : Option ServiceMessage = None in x ≡ Some a) → ⊥
 no_service h = cc
 
-same_parts : {f g t u k l : ℕ} {a b : RaftBody Command} → f ≡ g → t ≡ u → k ≡ l → a ≡ b → (let x : Message Command = record { from = f; to = t; term = k; body = a } in x ≡ record { from = g; to = u; term = l; body = b })
-same_parts p q r s = rw (p, q, r, s) refl
+same_message : {a b : Message Command} → (let x : Option (Message Command) = Some a in x ≡ Some b) → a ≡ b
+same_message h = cc
+
+no_message : {a : Message Command} → (let x : Option (Message Command) = None in x ≡ Some a) → ⊥
+no_message h = cc
+
+-- what is of the log is nothing beside it
+apart : {S : Type 0} (i j : ℕ) (body : Body S Command) (x : Message Command) (y : ServiceMessage) → log_message i j body ≡ Some x → service_between (Server i) (Server j) body ≡ Some y → ⊥
+apart i j (bodies.VoteRequest v) x y p h = no_service h
+apart i j (bodies.VoteReply v) x y p h = no_service h
+apart i j (bodies.Append a) x y p h = no_service h
+apart i j (bodies.AppendReply r) x y p h = no_service h
+apart i j (bodies.Request r) x y p h = no_message p
+apart i j (bodies.Response r) x y p h = no_message p
+apart i j (bodies.Register class size) x y p h = no_message p
+apart i j (bodies.Told kind refused) x y p h = no_message p
 
 module _ {S : Type 0} (m : Meaning S Command) (law : LawfulMachine m) where
   one_text : (r q : WireMessage S Command) → MessageFits m.commands r → MessageFits m.commands q → message_text m.commands r ≡ message_text m.commands q → r ≡ q
@@ -37,12 +51,14 @@ module _ {S : Type 0} (m : Meaning S Command) (law : LawfulMachine m) where
   one_log r x y p q =
       let from : x.from ≡ y.from = same_place (sym p.from ∙ q.from) in
       let to : x.to ≡ y.to = same_place (sym p.to ∙ q.to) in
-      let term : x.term ≡ y.term = p.term ∙ sym q.term in
-      let body : x.body ≡ y.body = p.body ∙ sym q.body in
-      same_parts from to term body
+      let said : log_message y.from y.to r.body ≡ Some x =
+          subst (λ (i : ℕ). log_message i y.to r.body ≡ Some x) from
+          (subst (λ (j : ℕ). log_message x.from j r.body ≡ Some x) to p.said) in
+      same_message (sym said ∙ q.said)
 
-  log_is_no_service : (from to : Actor) (body : Body S Command) (x : Message Command) (y : ServiceMessage) → Means (record { from = from; to = to; body = body }) x → service_between from to body ≡ Some y → ⊥
-  log_is_no_service from to body x y p h = no_service h
+  log_is_no_service : (r : WireMessage S Command) (x : Message Command) (y : ServiceMessage) → Means r x → service_of r ≡ Some y → ⊥
+  log_is_no_service r x y p h =
+      apart x.from x.to r.body x y p.said (subst (λ (a : Actor). service_between a (Server x.to) r.body ≡ Some y) p.from (subst (λ (a : Actor). service_between r.from a r.body ≡ Some y) p.to h))
 
   pub one_message : FramesAreOfOne m
   one_message bytes (Raft x) (Raft y) p q =
@@ -53,7 +69,7 @@ module _ {S : Type 0} (m : Meaning S Command) (law : LawfulMachine m) where
       ap (λ z. Service z) (same_service (sym (subst (λ (r : WireMessage S Command). service_of r ≡ Some x) same p.means) ∙ q.means))
   one_message bytes (Raft x) (Service y) p q =
       let same : p.read ≡ q.read = one_text p.read q.read p.fits q.fits (sym p.text ∙ q.text) in
-      absurd (log_is_no_service q.read.from q.read.to q.read.body x y (rw same at p.means) q.means)
+      absurd (log_is_no_service q.read x y (rw same at p.means) q.means)
   one_message bytes (Service x) (Raft y) p q =
       let same : q.read ≡ p.read = one_text q.read p.read q.fits p.fits (sym q.text ∙ p.text) in
-      absurd (log_is_no_service p.read.from p.read.to p.read.body y x (rw same at q.means) p.means)
+      absurd (log_is_no_service p.read y x (rw same at q.means) p.means)

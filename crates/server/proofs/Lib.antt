@@ -6,3 +6,6 @@ pub mod Refusing
 pub mod Plans
 pub mod Clients
 pub mod Replies
+pub mod Leads
+pub mod DeskFollows
+pub mod LogSteps

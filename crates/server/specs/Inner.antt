@@ -2,3 +2,4 @@ pub mod DeskWatch
 pub mod Acts
 pub mod Replies
 pub mod Plans
+pub mod LogSteps

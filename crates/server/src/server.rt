@@ -1,6 +1,8 @@
 mod asks;
 mod gate;
 mod plans;
+mod frames;
+mod log;
 mod proposing;
 mod register;
 mod replies;

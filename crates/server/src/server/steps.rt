@@ -1,15 +1,17 @@
 //! One step of a server.
-ghost use Rattle.std.specs.Prelude.{◌≡◌, true, None, length, take, OnOk, OnErr, IfErr};
+ghost use Rattle.std.specs.Prelude.{◌≡◌, true, false, None, take, OnOk, OnErr, IfErr};
 ghost use Rattle.raft_model.specs.Servers.{is_up, crashed};
-ghost use Rattle.group_model.specs.Inputs.{Restart};
 ghost use Rattle.group_model.specs.Members.{Member};
 ghost use Rattle.server.specs.ServerViews.{IsMember};
-ghost use Rattle.server.specs.Handings.{FrameBytes, OwnInput, handing};
+ghost use Rattle.server.specs.Handings.{handing};
 ghost use Rattle.server.specs.Turns.{TakesHanding};
 ghost use Rattle.server.specs.Refusals.{handing_refusal, IsHandingRefused, HandingRefusalLeaves};
+ghost use Rattle.server.specs.Inner.Acts.{member_of};
+ghost use Rattle.server.specs.Inner.LogSteps.{DeclinesHanding};
 
 use super::{Outbox, Server};
 use crate::server_input::ServerInput;
+use raft_core::Input;
 use rows::{Refusal, WorkerRequest};
 
 impl Server {
@@ -37,28 +39,86 @@ impl Server {
             HandingRefusalLeaves self.old s (handing input) cause self.new) }
         ensures unsent { OnErr result (outbox.new ≡ outbox.old) }
     {
-        unreachable!()
+        if !self.raft.is_up() {
+            return self.wake(input, outbox);
+        }
+        let sent = outbox.frames.len();
+        match self.act(input, outbox) {
+            Ok(()) => Ok(()),
+            Err(cause) => match cause {
+                Refusal::NoMemory => {
+                    self.collapse(sent, outbox);
+                    Err(Refusal::NoMemory)
+                }
+                other => Err(other),
+            },
+        }
     }
 
-    /// A frame comes: all of its bytes. It is what `step` does with an input Frame.
-    ///
-    /// A server that is down refuses it with `Down`. Then `Frame` names the offset of the frame's
-    /// first fault, or 2 where its sender is a server outside the group, or 3 where it is for
-    /// another. A refusal changes nothing and sends nothing. With `NoMemory` the server is down,
-    /// with its stored part as it was and nothing sent.
-    pub fn receive(&mut self, frame: &[u8], outbox: &mut Outbox) -> Result<(), Refusal>
+    /// One that is down takes a restart alone.
+    fn wake(&mut self, input: ServerInput, outbox: &mut Outbox) -> Result<(), Refusal>
+        requires { is_up self.old.raft.server.mode ≡ false }
         ensures same { (self.new.raft.me ≡ self.old.raft.me)
             × (self.new.raft.size ≡ self.old.raft.size) }
-        ensures taken { OnOk result ((s : Member) → IsMember self.old s →
-            TakesHanding self.old s (FrameBytes frame.now) self.new outbox.old outbox.new) }
-        ensures admitted { OnOk result ((s : Member) → IsMember self.old s →
-            handing_refusal self.old.raft.size self.old.raft.me s (FrameBytes frame.now) ≡ None) }
-        ensures refused { IfErr result (λ cause. (s : Member) → IsMember self.old s →
-            IsHandingRefused self.old.raft.size self.old.raft.me s (FrameBytes frame.now) cause) }
-        ensures left { IfErr result (λ cause. (s : Member) → IsMember self.old s →
-            HandingRefusalLeaves self.old s (FrameBytes frame.now) cause self.new) }
+        ensures taken { OnOk result (TakesHanding self.old (member_of self.old) (handing input)
+            self.new outbox.old outbox.new) }
+        ensures refused { IfErr result (λ cause. IsHandingRefused self.old.raft.size
+            self.old.raft.me (member_of self.old) (handing input) cause) }
+        ensures left { OnErr result (self.new ≡ self.old) }
         ensures unsent { OnErr result (outbox.new ≡ outbox.old) }
     {
-        unreachable!()
+        match input {
+            ServerInput::Restart => self.step_log(Input::Restart, outbox),
+            _ => Err(Refusal::Down),
+        }
+    }
+
+    /// One that is up takes an input. Want of memory may leave it in the middle of the step.
+    fn act(&mut self, input: ServerInput, outbox: &mut Outbox) -> Result<(), Refusal>
+        requires { is_up self.old.raft.server.mode ≡ true }
+        ensures same { (self.new.raft.me ≡ self.old.raft.me)
+            × (self.new.raft.size ≡ self.old.raft.size) }
+        ensures taken { OnOk result (TakesHanding self.old (member_of self.old) (handing input)
+            self.new outbox.old outbox.new) }
+        ensures admitted { OnOk result (handing_refusal self.old.raft.size self.old.raft.me
+            (member_of self.old) (handing input) ≡ None) }
+        ensures stopped { IfErr result (λ cause. DeclinesHanding self.old (handing input) cause
+            self.new outbox.old outbox.new) }
+    {
+        match input {
+            ServerInput::Frame(bytes) => self.hear(bytes.as_slice(), outbox),
+            ServerInput::Timeout => self.step_log(Input::Timeout, outbox),
+            ServerInput::Beat => self.step_log(Input::Beat, outbox),
+            ServerInput::Request(request) => self.propose(request.into_command()),
+            ServerInput::Take(to) => self.ask(to, WorkerRequest::Take, outbox),
+            ServerInput::Submit(to, plan) => self.ask(to, WorkerRequest::Submit(plan), outbox),
+            ServerInput::Finish(to, eval, token, outcome) => {
+                self.ask(to, WorkerRequest::Finish(eval, token, outcome), outbox)
+            }
+            ServerInput::Nack(to, eval, token) => {
+                self.ask(to, WorkerRequest::Nack(eval, token), outbox)
+            }
+            ServerInput::PlanTurn => self.plan_turn(outbox),
+            ServerInput::Lapse(eval) => self.lapse(eval),
+            ServerInput::FreeTurn => self.free_turn(),
+            ServerInput::Reap => self.reap(),
+            ServerInput::Crash => self.step_log(Input::Crash, outbox),
+            ServerInput::Restart => Err(Refusal::OutOfRange),
+        }
+    }
+
+    /// Memory was wanting in the middle of a step: the server is down, and nothing of the step was
+    /// sent. It takes no memory.
+    pub(super) fn collapse(&mut self, sent: usize, outbox: &mut Outbox)
+        ensures same { (self.new.raft.me ≡ self.old.raft.me)
+            × (self.new.raft.size ≡ self.old.raft.size) }
+        ensures server { self.new.raft.server ≡ crashed self.old.raft.server }
+        ensures desk { self.new.desk ≡ None }
+        ensures frames { outbox.new.frames ≡ take sent outbox.old.frames }
+        ensures work { outbox.new.work ≡ outbox.old.work }
+    {
+        outbox.frames.truncate(sent);
+        self.raft.crash();
+        self.desk.clear();
     }
 }

@@ -1,0 +1,81 @@
+-- What a step of the log makes of a server of the group.
+use Rattle.std.specs.Prelude.{◌≡◌, ℕ, Bool, true, false, Option, Some, None, Result, Ok, Err, List}
+use Rattle.rows.specs.declared.command.Command.{Command}
+use Rattle.rows.specs.declared.refusal.Refusal.{Refusal}
+use Rattle.rows.specs.declared.refusal.Refusal.TheVariants as refusals
+use Rattle.wire.specs.Messages.{Message as WireMessage}
+use Rattle.raft_model.specs.Messages.{Message}
+use Rattle.raft_model.specs.Steps as raft_steps
+use Rattle.raft_core.specs.declared.input.Input.{Input as RaftInput}
+use Rattle.raft_core.specs.declared.input.Input.TheVariants as raft_inputs
+use Rattle.raft_core.specs.Frames.{Means}
+use Rattle.cluster_model.specs.Words.{State}
+use Rattle.cluster_model.specs.ClusterMachine.{cluster_meaning}
+use Rattle.group_model.specs.Messages.{GroupMessage, Raft, Service}
+use Rattle.group_model.specs.Inputs.{Input, Ask, AskTimeout, AskBeat, AskCrash, AskRestart, asks}
+use Rattle.group_model.specs.Members.{hears_log}
+use Rattle.group_frames.specs.GroupFrames.{service_of}
+use Rattle.leader.specs.OpenDesks.{OpenDesk}
+use Rattle.server.specs.declared.server.Outbox.{Outbox}
+use Rattle.server.specs.declared.server_input.ServerInput.{ServerInput}
+use Rattle.server.specs.ServerViews.{ServerView}
+use Rattle.server.specs.Handings.{Handing, FrameBytes, OwnInput}
+use Rattle.server.specs.Turns.{TakesTurn, TakesHanding, takes_in}
+use Rattle.server.specs.Refusals.{MayLackMemory, handing_refusal, wrong_address}
+use Rattle.server.specs.Inner.Acts.{member_of, DoesAct, Falters, DoesNothing}
+
+-- a desk, closed where the server does not lead
+abbrev pub where_leads : Bool → Option OpenDesk → Option OpenDesk
+where_leads true d = d
+where_leads false d = None
+
+-- after want of memory the desk is closed; any other refusal leaves it
+abbrev pub DeskAfterRefusal : Refusal → Option OpenDesk → Option OpenDesk → Type 0
+DeskAfterRefusal refusals.NoMemory old new = new ≡ None
+DeskAfterRefusal cause old new = new ≡ old
+
+-- the log took a message, and the desk followed
+abbrev pub HearsLog : ServerView → Message Command → ServerView → Outbox → Outbox → Type 0
+HearsLog old said new before after =
+    TakesTurn (hears_log old.raft.size old.raft.me (member_of old) said) new before after
+
+-- an input of the log's own is asked of it, and no frame
+abbrev pub log_ask : RaftInput → Option Ask
+log_ask (raft_inputs.Frame bytes) = None
+log_ask raft_inputs.Timeout = Some AskTimeout
+log_ask raft_inputs.Beat = Some AskBeat
+log_ask raft_inputs.Crash = Some AskCrash
+log_ask raft_inputs.Restart = Some AskRestart
+
+abbrev pub TakesAsk : ServerView → Option Ask → ServerView → Outbox → Outbox → Type 0
+TakesAsk old None new before after = ⊥
+TakesAsk old (Some ask) new before after =
+    DoesAct old (Ok (asks ask (member_of old).desk)) new before after
+
+-- ---- messages that were read
+
+-- a message that was read is this one
+abbrev pub MeansGroup : WireMessage State Command → GroupMessage → Type 0
+MeansGroup read (Raft said) = Means read said
+MeansGroup read (Service message) = service_of read ≡ Some message
+
+abbrev pub TakesRead : ServerView → WireMessage State Command → ServerView → Outbox → Outbox → Type 0
+TakesRead old read new before after =
+    (message : GroupMessage) → MeansGroup read message
+    → TakesTurn (takes_in old.raft.size old.raft.me (member_of old) message) new before after
+
+-- it is refused: for want of memory, or for its sender or receiver
+abbrev pub DeclinesRead : ServerView → WireMessage State Command → Refusal → ServerView → Outbox → Outbox → Type 0
+DeclinesRead old read refusals.NoMemory new before after = Falters old new before after
+DeclinesRead old read cause new before after =
+    (wrong_address old.raft.size old.raft.me read.from read.to ≡ Some cause)
+    × DoesNothing old new before after
+
+-- ---- what is handed in, to a server that is up
+
+abbrev pub DeclinesHanding : ServerView → Handing → Refusal → ServerView → Outbox → Outbox → Type 0
+DeclinesHanding old h refusals.NoMemory new before after =
+    MayLackMemory old.raft.size (member_of old) h × Falters old new before after
+DeclinesHanding old h cause new before after =
+    (handing_refusal old.raft.size old.raft.me (member_of old) h ≡ Some cause)
+    × DoesNothing old new before after

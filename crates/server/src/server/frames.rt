@@ -1,0 +1,200 @@
+//! Frames that come.
+ghost use Rattle.std.specs.Prelude.{◌≡◌, true, false, None, Some, OnOk, OnErr, IfErr};
+ghost use Rattle.rows.specs.declared.actor.Actor.TheVariants as actors;
+ghost use Rattle.rows.specs.declared.refusal.Refusal.TheVariants as refusals;
+ghost use Rattle.wire.specs.Messages.{kind_of, may_go, is_of_log};
+ghost use Rattle.raft_model.specs.Servers.{is_up};
+ghost use Rattle.raft_core.specs.Refusals.{is_server_at};
+ghost use Rattle.group_model.specs.Messages.{ServiceMessage};
+ghost use Rattle.group_model.specs.Inputs.{Arrives};
+ghost use Rattle.group_model.specs.Members.{Member, step};
+ghost use Rattle.group_frames.specs.GroupFrames.{service_between};
+ghost use Rattle.server.specs.ServerViews.{IsMember};
+ghost use Rattle.server.specs.Handings.{FrameBytes};
+ghost use Rattle.server.specs.Turns.{TakesHanding, TakesTurn};
+ghost use Rattle.server.specs.Refusals.{handing_refusal, wrong_address, is_of_group, IsHandingRefused, HandingRefusalLeaves};
+ghost use Rattle.server.specs.Inner.Acts.{DoesAct, Falters, request_act, member_of};
+ghost use Rattle.server.specs.Inner.LogSteps.{DeclinesHanding, TakesRead, DeclinesRead};
+
+use super::{Outbox, Server};
+use fsm_state::Cluster;
+use rows::{Actor, NoMemory, Refusal, ServerId, WorkerRequest};
+use wire::{Body, Message, read_message};
+
+impl Server {
+    /// A frame comes: all of its bytes. It is what `step` does with an input Frame.
+    ///
+    /// A server that is down refuses it with `Down`. Then `Frame` names the offset of the frame's
+    /// first fault, or 2 where its sender is a server outside the group, or 3 where it is for
+    /// another. A refusal changes nothing and sends nothing. With `NoMemory` the server is down,
+    /// with its stored part as it was and nothing sent.
+    pub fn receive(&mut self, frame: &[u8], outbox: &mut Outbox) -> Result<(), Refusal>
+        ensures same { (self.new.raft.me ≡ self.old.raft.me)
+            × (self.new.raft.size ≡ self.old.raft.size) }
+        ensures taken { OnOk result ((s : Member) → IsMember self.old s →
+            TakesHanding self.old s (FrameBytes frame.now) self.new outbox.old outbox.new) }
+        ensures admitted { OnOk result ((s : Member) → IsMember self.old s →
+            handing_refusal self.old.raft.size self.old.raft.me s (FrameBytes frame.now) ≡ None) }
+        ensures refused { IfErr result (λ cause. (s : Member) → IsMember self.old s →
+            IsHandingRefused self.old.raft.size self.old.raft.me s (FrameBytes frame.now) cause) }
+        ensures left { IfErr result (λ cause. (s : Member) → IsMember self.old s →
+            HandingRefusalLeaves self.old s (FrameBytes frame.now) cause self.new) }
+        ensures unsent { OnErr result (outbox.new ≡ outbox.old) }
+    {
+        if !self.raft.is_up() {
+            return Err(Refusal::Down);
+        }
+        let sent = outbox.frames.len();
+        match self.hear(frame, outbox) {
+            Ok(()) => Ok(()),
+            Err(cause) => match cause {
+                Refusal::NoMemory => {
+                    self.collapse(sent, outbox);
+                    Err(Refusal::NoMemory)
+                }
+                other => Err(other),
+            },
+        }
+    }
+
+    /// A frame comes to a server that is up.
+    pub(super) fn hear(&mut self, frame: &[u8], outbox: &mut Outbox) -> Result<(), Refusal>
+        requires { is_up self.old.raft.server.mode ≡ true }
+        ensures same { (self.new.raft.me ≡ self.old.raft.me)
+            × (self.new.raft.size ≡ self.old.raft.size) }
+        ensures taken { OnOk result (TakesHanding self.old (member_of self.old)
+            (FrameBytes frame.now) self.new outbox.old outbox.new) }
+        ensures admitted { OnOk result (handing_refusal self.old.raft.size self.old.raft.me
+            (member_of self.old) (FrameBytes frame.now) ≡ None) }
+        ensures stopped { IfErr result (λ cause. DeclinesHanding self.old (FrameBytes frame.now)
+            cause self.new outbox.old outbox.new) }
+    {
+        let message = read_message::<Cluster>(self.alloc, frame)?;
+        self.message(message, outbox)
+    }
+
+    /// A message comes to a server that is up.
+    fn message(&mut self, message: Message<Cluster>, outbox: &mut Outbox) -> Result<(), Refusal>
+        requires { is_up self.old.raft.server.mode ≡ true }
+        ensures same { (self.new.raft.me ≡ self.old.raft.me)
+            × (self.new.raft.size ≡ self.old.raft.size) }
+        ensures taken { OnOk result (TakesRead self.old message self.new outbox.old outbox.new) }
+        ensures admitted { OnOk result (wrong_address self.old.raft.size self.old.raft.me
+            message.from message.to ≡ None) }
+        ensures stopped { IfErr result (λ cause. DeclinesRead self.old message cause self.new
+            outbox.old outbox.new) }
+    {
+        if message.body().kind().is_of_log() {
+            return self.hear_log(message, outbox);
+        }
+        let from = message.from();
+        self.check_sender(&from)?;
+        self.check_receiver(&message.to())?;
+        self.serve(from, message.into_body(), outbox)?;
+        Ok(())
+    }
+
+    /// A message must come from a server of the group or from a client.
+    fn check_sender(&self, from: &Actor) -> Result<(), Refusal>
+        ensures ok { OnOk result (is_of_group self.now.raft.size from.now ≡ true) }
+        ensures err { IfErr result (λ cause. (is_of_group self.now.raft.size from.now ≡ false)
+            × (cause ≡ refusals.Frame 2)) }
+    {
+        match from {
+            Actor::Server(from) => {
+                if from.place() < self.raft.size() {
+                    Ok(())
+                } else {
+                    Err(Refusal::Frame(2))
+                }
+            }
+            Actor::Client(_) => Ok(()),
+        }
+    }
+
+    /// A message must be for this server.
+    fn check_receiver(&self, to: &Actor) -> Result<(), Refusal>
+        ensures ok { OnOk result (to.now ≡ actors.Server self.now.raft.me) }
+        ensures err { IfErr result (λ cause. (is_server_at self.now.raft.me to.now ≡ false)
+            × (cause ≡ refusals.Frame 3)) }
+    {
+        match to {
+            Actor::Server(to) => {
+                if to.place() == self.raft.me().place() {
+                    Ok(())
+                } else {
+                    Err(Refusal::Frame(3))
+                }
+            }
+            Actor::Client(_) => Err(Refusal::Frame(3)),
+        }
+    }
+
+    /// A message beside the log's comes, from a server of the group or from a client.
+    fn serve(
+        &mut self,
+        from: Actor,
+        body: Body<Cluster>,
+        outbox: &mut Outbox,
+    ) -> Result<(), NoMemory>
+        requires up { is_up self.old.raft.server.mode ≡ true }
+        requires member { is_of_group self.old.raft.size from ≡ true }
+        requires service { is_of_log (kind_of body) ≡ false }
+        requires goes { may_go (kind_of body) from (actors.Server self.old.raft.me) ≡ true }
+        ensures same { (self.new.raft.me ≡ self.old.raft.me)
+            × (self.new.raft.size ≡ self.old.raft.size) }
+        ensures taken { OnOk result ((message : ServiceMessage) →
+            service_between from (actors.Server self.old.raft.me) body ≡ Some message →
+            TakesTurn (step self.old.raft.size self.old.raft.me (member_of self.old)
+            (Arrives message)) self.new outbox.old outbox.new) }
+        ensures lost { OnErr result (Falters self.old self.new outbox.old outbox.new) }
+    {
+        match body {
+            Body::Request(request) => {
+                let Actor::Server(from) = from else {
+                    unreachable!()
+                };
+                self.serve_request(from, request, outbox)
+            }
+            Body::Response(response) => {
+                let Actor::Server(from) = from else {
+                    unreachable!()
+                };
+                self.hand_out(from, response, outbox)
+            }
+            Body::Register(class, size) => {
+                let Actor::Client(client) = from else {
+                    unreachable!()
+                };
+                self.register(client, class, size, outbox)
+            }
+            Body::Told(_, _) => unreachable!(),
+            Body::VoteRequest(_) | Body::VoteReply(_) => unreachable!(),
+            Body::Append(_) | Body::AppendReply(_) => unreachable!(),
+        }
+    }
+
+    /// Workers ask the desk of a server that is up.
+    fn serve_request(
+        &mut self,
+        from: ServerId,
+        request: WorkerRequest,
+        outbox: &mut Outbox,
+    ) -> Result<(), NoMemory>
+        requires { is_up self.old.raft.server.mode ≡ true }
+        ensures same { (self.new.raft.me ≡ self.old.raft.me)
+            × (self.new.raft.size ≡ self.old.raft.size) }
+        ensures taken { OnOk result (DoesAct self.old (request_act self.old from request) self.new
+            outbox.old outbox.new) }
+        ensures lost { OnErr result (Falters self.old self.new outbox.old outbox.new) }
+    {
+        match request {
+            WorkerRequest::Take => self.serve_take(from, outbox),
+            WorkerRequest::Submit(plan) => self.serve_submit(from, plan, outbox),
+            WorkerRequest::Finish(eval, token, outcome) => {
+                self.serve_finish(from, eval, token, outcome, outbox)
+            }
+            WorkerRequest::Nack(eval, token) => self.serve_nack(from, eval, token, outbox),
+        }
+    }
+}

@@ -1,0 +1,80 @@
+//! What comes to the server's part of the log, and the desk that follows it.
+ghost use Rattle.std.specs.Prelude.{◌≡◌, ◌≢◌, true, None, OnOk, OnErr, IfOk, IfErr};
+ghost use Rattle.rows.specs.declared.command.Command.{Command};
+ghost use Rattle.raft_model.specs.Messages.{Message as MessageOf};
+ghost use Rattle.raft_model.specs.Servers.{is_leader};
+ghost use Rattle.raft_core.specs.Frames.{Means};
+ghost use Rattle.raft_core.specs.Inputs.{handed};
+ghost use Rattle.raft_core.specs.Refusals.{message_refusal, refusal, IsRefused, IsMessageRefused, RefusalLeaves, MessageRefusalLeaves};
+ghost use Rattle.cluster_model.specs.ClusterMachine.{cluster_meaning};
+ghost use Rattle.server.specs.Inner.LogSteps.{where_leads, DeskAfterRefusal, HearsLog, TakesAsk, log_ask};
+
+use super::{Outbox, Server};
+use crate::server_desk::ServerDesk;
+use fsm_state::Cluster;
+use raft_core::{Input, Raft};
+use rows::Refusal;
+use wire::Message;
+
+/// The desk is closed where the server does not lead.
+fn settle(raft: &Raft<Cluster>, desk: &mut ServerDesk)
+    ensures { desk.new ≡ where_leads (is_leader raft.now.server.mode) desk.old }
+{
+    if raft.leader_term().is_none() {
+        desk.clear();
+    }
+}
+
+impl Server {
+    /// A message of the log comes.
+    pub(super) fn hear_log(
+        &mut self,
+        message: Message<Cluster>,
+        outbox: &mut Outbox,
+    ) -> Result<(), Refusal>
+        ensures same { (self.new.raft.me ≡ self.old.raft.me)
+            × (self.new.raft.size ≡ self.old.raft.size) }
+        ensures taken { OnOk result ((said : MessageOf Command) → Means message said →
+            HearsLog self.old said self.new outbox.old outbox.new) }
+        ensures admitted { OnOk result (
+            message_refusal self.old.raft.size self.old.raft.me self.old.raft.server message
+            ≡ None) }
+        ensures refused { IfErr result (λ cause. IsMessageRefused self.old.raft.size
+            self.old.raft.me self.old.raft.server message cause) }
+        ensures left { IfErr result (λ cause. MessageRefusalLeaves cluster_meaning self.old.raft
+            self.old.raft.server cause self.new.raft) }
+        ensures desk { IfErr result (λ cause. DeskAfterRefusal cause self.old.desk self.new.desk) }
+        ensures unsent { OnErr result (outbox.new ≡ outbox.old) }
+    {
+        let heard = self
+            .raft
+            .receive_message(message, &mut outbox.frames, &mut self.desk);
+        settle(&self.raft, &mut self.desk);
+        heard
+    }
+
+    /// An input of the log's own: a timeout, a beat, a crash or a restart.
+    pub(super) fn step_log(
+        &mut self,
+        input: Input<'_>,
+        outbox: &mut Outbox,
+    ) -> Result<(), Refusal>
+        requires { log_ask input.entry ≢ None }
+        ensures same { (self.new.raft.me ≡ self.old.raft.me)
+            × (self.new.raft.size ≡ self.old.raft.size) }
+        ensures taken { OnOk result (TakesAsk self.old (log_ask input.entry) self.new outbox.old
+            outbox.new) }
+        ensures refused { IfErr result (λ cause. IsRefused cluster_meaning self.old.raft.size
+            self.old.raft.me self.old.raft.server (handed input.entry) cause) }
+        ensures left { IfErr result (λ cause. RefusalLeaves cluster_meaning self.old.raft
+            self.old.raft.server (handed input.entry) cause self.new.raft) }
+        ensures desk { IfErr result (λ cause. DeskAfterRefusal cause self.old.desk self.new.desk) }
+        ensures unsent { OnErr result (outbox.new ≡ outbox.old) }
+    {
+        let stepped = self
+            .raft
+            .step_watched(input, &mut outbox.frames, &mut self.desk);
+        settle(&self.raft, &mut self.desk);
+        stepped
+    }
+}
