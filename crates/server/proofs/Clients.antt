@@ -11,7 +11,7 @@ use Rattle.raft_model.specs.Servers.{is_leader}
 use Rattle.raft_model.specs.Steps.{admitted}
 use Rattle.cluster_model.specs.ClusterMachine.{cluster_meaning}
 use Rattle.group_model.specs.Desks.{whole_state}
-use Rattle.group_model.specs.Inputs.{Act}
+use Rattle.group_model.specs.Inputs.{Act, AskPropose}
 use Rattle.group_model.specs.ClientRequests.{tells, answers, is_taken_already}
 use Rattle.server.specs.declared.server.Outbox.{Outbox}
 use Rattle.server.specs.ServerViews.{ServerView, SameMember, group_desk}
@@ -52,4 +52,5 @@ module _ (old new : ServerView) (before after : Outbox) (client : ℕ) (class : 
           SendsOne before.frames after.frames (tells old.raft.me client kinds.Register None) → DoesAct old (register_act old client class size) new before after
       node_proposed p desk sent =
           let free : admitted cluster_meaning old.raft.server (commands.NodePut (node_by client class size)) ≡ None = p.admitted in
-          rw (leads, fresh, free) (does_proposed old new before after (commands.NodePut (node_by client class size)) (tells old.raft.me client kinds.Register None ∷ []) (group_desk old.desk) p (ap group_desk desk) sent work)
+          let is : register_act old client class size ≡ Ok (record { ask = Some (AskPropose (commands.NodePut (node_by client class size))); desk = group_desk old.desk; sent = tells old.raft.me client kinds.Register None ∷ []; work = [] }) = rw (leads, fresh, free) refl in
+          rw is (does_proposed old new before after (commands.NodePut (node_by client class size)) (tells old.raft.me client kinds.Register None ∷ []) (group_desk old.desk) p (ap group_desk desk) sent work)

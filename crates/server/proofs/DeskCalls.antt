@@ -1,6 +1,6 @@
 -- What the calls of a desk answer and leave, where it is open, and that it stays the leader's.
-use Rattle.std.proofs.Common.{◌≡◌, ℕ, Bool, true, false, cond, Option, Some, None, Result, Ok, Err, refl, sym, ap, ◌∙◌}
-use Rattle.std.specs.Prelude.{IfSome, is_some}
+use Rattle.std.proofs.Common.{◌≡◌, ℕ, Bool, true, false, cond, Option, Some, None, Result, Ok, Err, refl, sym, subst, ap, ◌∙◌}
+use Rattle.std.specs.Prelude.{IfSome, IfOk, OnErr, is_some}
 use Rattle.rows.specs.declared.evaluation.EvalId.{EvalId}
 use Rattle.rows.specs.declared.token.Token.{Token}
 use Rattle.rows.specs.declared.plan.Plan.{Plan}
@@ -62,7 +62,7 @@ module _ {A : Type 0} (call : OpenDesk → Answered A) where
   pub refused : (old : Option OpenDesk) (o : OpenDesk) (e : Refusal) → old ≡ Some o → at_open call old ≡ Err e → call o ≡ Err e
   refused old o e has h = refused_by e (call o) (rw has at h)
 
-  left_by : OpenDesk → Answered A → OpenDesk
+  abbrev left_by : OpenDesk → Answered A → OpenDesk
   left_by o (Err e) = o
   left_by o (Ok p) = p.1
 
@@ -78,6 +78,11 @@ module _ {A : Type 0} (call : OpenDesk → Answered A) (keeps : Keeps call) (raf
       let of : IsOfLeader raft k.before = rw k.was at inv in
       let left = keeps (applied_state raft.server) k.before a k.after of.over k.answers in
       rw k.is (record { leads = of.leads; term = left.1 ∙ of.term; over = left.0 })
+
+-- whether it was refused or not
+pub still_leaders : {A E : Type 0} (call : OpenDesk → Answered A) → Keeps call → (raft : RaftView Command) (old new : Option OpenDesk) (r : Result A E) → IfOk r (λ (a : A). at_open call old ≡ Ok (a, new)) → OnErr r (new ≡ old) → IfSome old (IsOfLeader raft) → IfSome new (IsOfLeader raft)
+still_leaders call keeps raft old new (Ok a) ok err inv = stays_leaders call keeps raft old a new ok inv
+still_leaders call keeps raft old new (Err e) ok err inv = subst (λ (d : Option OpenDesk). IfSome d (IsOfLeader raft)) (sym err) inv
 
 term_kept : {A : Type 0} (call : OpenDesk → Answered A) (o : OpenDesk) (a : A) (new : OpenDesk) → (left_by call o (call o)).term ≡ o.term → call o ≡ Ok (a, new) → new.term ≡ o.term
 term_kept {A} call o a new keeps h = sym (ap (λ (r : Answered A). (left_by call o r).term) h) ∙ keeps

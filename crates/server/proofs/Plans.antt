@@ -77,7 +77,7 @@ module _ (old new : ServerView) (before after : Outbox) (from : ℕ) (p : Accept
         let o = open_of old.desk h.is_open in
         let is = settling_is o.0 o.1 in
         let said = rw (told_is (suc (length old.raft.server.log))) at sent in
-        let q : IsProposed old.raft.server (plan_command w.plan a) new.raft.server = rw (sym k.plan) proposed in
+        let q : IsProposed old.raft.server (plan_command w.plan a) new.raft.server = subst (λ (x : AcceptedPlan). IsProposed old.raft.server (commands.Plan x) new.raft.server) k.plan proposed in
         let free : admitted cluster_meaning old.raft.server (plan_command w.plan a) ≡ None = q.admitted in
         rw (is, some, free) (does_proposed old new before after (plan_command w.plan a) (told_result old.raft.me w (suc (length old.raft.server.log)) a ∷ []) (Some o.0.desk) q (ap group_desk (desk ∙ o.1)) said work)
 
@@ -87,7 +87,7 @@ module _ (old new : ServerView) (before after : Outbox) (from : ℕ) (p : Accept
         let o = open_of old.desk h.is_open in
         let is = settling_is o.0 o.1 in
         let said = rw (refusal_is e) at sent in
-        let because : admitted cluster_meaning old.raft.server (plan_command w.plan a) ≡ Some e = rw (sym k.plan) why in
+        let because : admitted cluster_meaning old.raft.server (plan_command w.plan a) ≡ Some e = subst (λ (x : AcceptedPlan). admitted cluster_meaning old.raft.server (commands.Plan x) ≡ Some e) k.plan why in
         rw (is, some, because) (does_alone old new before after (told_refusal old.raft.me w e ∷ []) (Some o.0.desk) [] same (ap group_desk (desk ∙ o.1)) said (work ∙ sym (append-nil before.work)))
 
     -- the log is full

@@ -1,6 +1,8 @@
 -- What a server does with a request of workers, by what its desk's calls answer.
-use Rattle.std.proofs.Common.{◌≡◌, ◌≢◌, ℕ, true, [], Option, Some, None, Result, Ok, Err, length, refl, sym, ap, ◌∙◌}
+use Rattle.std.proofs.Common.{◌≡◌, ◌≢◌, ℕ, ◌<◌, nat_lt, true, [], ◌∷◌, Option, Some, None, Result, Ok, Err, length, refl, sym, ap, ◌∙◌}
 use Rattle.std.specs.Prelude.{IfSome}
+use Rattle.std.proofs.lemmas.Bool.{lt-ltb}
+use Rattle.std.proofs.lemmas.List.{append-nil}
 use Rattle.rows.specs.declared.evaluation.EvalId.{EvalId}
 use Rattle.rows.specs.declared.token.Token.{Token}
 use Rattle.rows.specs.declared.token.Delivery.{Delivery}
@@ -20,11 +22,11 @@ use Rattle.rows.specs.Changes.{change_of}
 use Rattle.raft_model.specs.Servers.{Server, is_leader}
 use Rattle.raft_model.specs.Steps.{admitted}
 use Rattle.cluster_model.specs.ClusterMachine.{cluster_meaning}
-use Rattle.group_model.specs.Messages.{BetweenServers, Answers}
+use Rattle.group_model.specs.Messages.{BetweenServers, Asks, Answers}
 use Rattle.group_model.specs.Brokers.{with_ack}
 use Rattle.group_model.specs.Desks.{Desk, applied_state}
-use Rattle.group_model.specs.Inputs.{Act, AskPropose, rests, asks}
-use Rattle.group_model.specs.Members.{open_desk}
+use Rattle.group_model.specs.Inputs.{Act, AskPropose, rests, asks, sends}
+use Rattle.group_model.specs.Members.{open_desk, asks_server}
 use Rattle.group_model.specs.WorkerRequests.{refuses, responds, serves_request}
 use Rattle.leader.specs.OpenDesks.{OpenDesk, Answered, if_open, at_open, with_broker, once_outstanding, on_deliver, on_outstanding, on_ack, on_nack, on_submit}
 use Rattle.leader.specs.GroupActs.{take_act, submit_act, nack_act, finish_act, proposes_at}
@@ -32,13 +34,13 @@ use Rattle.leader.proofs.Acts.{takes_by_deliver, submits_by_submit, nacks_by_nac
 use Rattle.server.specs.declared.server.Outbox.{Outbox}
 use Rattle.server.specs.ServerViews.{ServerView, IsOfLeader, group_desk}
 use Rattle.server.specs.Refusals.{HasOpenDesk}
-use Rattle.server.specs.Inner.Acts.{member_of, DoesAct, IsProposed, WhyNotProposed, request_act}
+use Rattle.server.specs.Inner.Acts.{member_of, act_of, asks_of, DoesAct, IsProposed, WhyNotProposed, request_act}
 use Rattle.server.specs.Inner.Replies.{SendsOne}
 use Rattle.server.proofs.DeskCalls.{open_of, Called, called, refused}
-use Rattle.server.proofs.Serving.{does_respond, does_rest, does_proposed, refused_why}
+use Rattle.server.proofs.Serving.{does_alone, does_respond, does_rest, does_proposed, refused_why}
 use Rattle.group_frames.proofs.Sending.{sends_nothing}
 
-abbrev act_taken : Act → Result Act Refusal
+abbrev pub act_taken : Act → Result Act Refusal
 act_taken a = Ok a
 
 -- which request is refused
@@ -148,8 +150,8 @@ module _ (old new : ServerView) (before after : Outbox) (from : ℕ) (same : new
         let c = commands.EvalStatus id (change_of outcome) in
         let new_o = with_broker (with_ack id o.0.desk.broker) o.0 in
         let is = finish_is o.0 (open_is old o.0 h o.1) o.1 id token outcome
-            ∙ ap (λ (r : Result ℕ Refusal). act_taken (finish_act refusing old.raft.server c (once_outstanding new_o r))) out
-            ∙ ap (λ (r : Option Refusal). act_taken (proposes_at new_o c refusing r)) (refused_why old.raft.server c e h.leads other why) in
+        ∙ ap (λ (r : Result ℕ Refusal). act_taken (finish_act refusing old.raft.server c (once_outstanding new_o r))) out
+        ∙ ap (λ (r : Option Refusal). act_taken (proposes_at new_o c refusing r)) (refused_why old.raft.server c e h.leads other why) in
         refuses_open o.0 (request_act old from (requests.Finish id token outcome)) (asked.Finish id token) e o.1 is desk sent
 
   pub submit_taken : (p : Plan) (u : Unit {0}) → HasOpenDesk (member_of old) → at_open (on_submit from (applied_state old.raft.server) p) old.desk ≡ Ok (u, new.desk) → after ≡ before → DoesAct old (request_act old from (requests.Submit p)) new before after
@@ -173,11 +175,26 @@ finish_taken old new before after from id token outcome u h p call nothing =
     let refusing = refuses old.raft.me from (asked.Finish id token) (Some k.before.desk) in
     let c = commands.EvalStatus id (change_of outcome) in
     let is = rw (open_is old k.before h k.was) (ap act_taken (finishes_by_ack old.raft.me from old.raft.server id token outcome k.before))
-        ∙ ap (λ (r : Answered (Unit {0})). act_taken (finish_act refusing old.raft.server c r)) k.answers
-        ∙ ap (λ (r : Option Refusal). act_taken (proposes_at k.after c refusing r)) p.admitted in
+    ∙ ap (λ (r : Answered (Unit {0})). act_taken (finish_act refusing old.raft.server c r)) k.answers
+    ∙ ap (λ (r : Option Refusal). act_taken (proposes_at k.after c refusing r)) p.admitted in
     rw (is, nothing) (does_proposed old new before before c [] (Some k.after.desk) p (ap group_desk k.is) (sends_nothing cluster_meaning before.frames) refl)
 
 -- an outstanding pair is acked
 pub acks : (d : Option OpenDesk) (id : EvalId) (token : Token) (wait : ℕ) (e : Refusal) → if_open (on_outstanding id token) d ≡ Ok wait → at_open (on_ack id token) d ≡ Err e → ⊥
-acks None id token wait e out no = absurd cc
-acks (Some o) id token wait e out no = absurd (let x = refused (on_ack id token) (Some o) o e refl no in let y = rw out at x in cc)
+acks None id token wait e out err = absurd cc
+acks (Some o) id token wait e out err = absurd (let x = refused (on_ack id token) (Some o) o e refl err in let y = rw out at x in cc)
+
+-- ---- what its own workers ask of a server
+
+asks_is : (old : ServerView) (to : ℕ) (request : WorkerRequest) → act_of old (asks_of to request) ≡ asks_server old.raft.size old.raft.me (member_of old) to request
+asks_is old to requests.Take = refl
+asks_is old to (requests.Submit p) = refl
+asks_is old to (requests.Finish id token outcome) = refl
+asks_is old to (requests.Nack id token) = refl
+
+pub asks_taken : (old : ServerView) (to : ℕ) (request : WorkerRequest) (before after : Outbox) → to < old.raft.size → SendsOne before.frames after.frames (BetweenServers old.raft.me to (Asks request)) → after.work ≡ before.work →
+    DoesAct old (act_of old (asks_of to request)) old before after
+asks_taken old to request before after below sent work =
+    let member : nat_lt to old.raft.size ≡ true = lt-ltb to old.raft.size below in
+    let is : act_of old (asks_of to request) ≡ Ok (sends (BetweenServers old.raft.me to (Asks request) ∷ []) (group_desk old.desk)) = asks_is old to request ∙ rw member refl in
+    rw is (does_alone old old before after (BetweenServers old.raft.me to (Asks request) ∷ []) (group_desk old.desk) [] refl refl sent (work ∙ sym (append-nil before.work)))

@@ -109,14 +109,14 @@ module _ (old new : ServerView) (before after : Outbox) where
   does_rest act d is same desk out =
       rw (is, out) (does_alone_of d same desk)
     where
-    does_alone_of : (d : Option Desk) → new.raft.server ≡ old.raft.server → group_desk new.desk ≡ d → DoesAct old (Ok (rests d)) new before before
-    does_alone_of d same desk = record {
-      turn = record { member = record { raft = old.raft.server; desk = d }; sent = []; work = [] };
-      is = refl;
-      member = record { raft = same; desk = desk };
-      sent = sends_nothing cluster_meaning before.frames;
-      work = sym (append-nil before.work);
-    }
+      does_alone_of : (d : Option Desk) → new.raft.server ≡ old.raft.server → group_desk new.desk ≡ d → DoesAct old (Ok (rests d)) new before before
+      does_alone_of d same desk = record {
+        turn = record { member = record { raft = old.raft.server; desk = d }; sent = []; work = [] };
+        is = refl;
+        member = record { raft = same; desk = desk };
+        sent = sends_nothing cluster_meaning before.frames;
+        work = sym (append-nil before.work);
+      }
 
 -- ---- an act is of the log and not of the desk that was
 

@@ -1,8 +1,8 @@
 mod asks;
-mod gate;
-mod plans;
 mod frames;
+mod gate;
 mod log;
+mod plans;
 mod proposing;
 mod register;
 mod replies;

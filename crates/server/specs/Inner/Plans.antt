@@ -1,6 +1,8 @@
 -- What becomes of a plan that was judged.
-use Rattle.std.specs.Prelude.{◌≡◌, ℕ, Result, Ok, IfOk, length}
+use Rattle.std.specs.Prelude.{◌≡◌, ℕ, List, Result, Ok, IfOk, length}
 use Rattle.rows.specs.Ids.{AreRisingNodes}
+use Rattle.rows.specs.declared.allocation.AllocId.{AllocId}
+use Rattle.rows.specs.declared.command.AcceptedPlace.{AcceptedPlace}
 use Rattle.rows.specs.declared.command.AcceptedPlan.{AcceptedPlan}
 use Rattle.rows.specs.declared.refusal.Refusal.{Refusal}
 use Rattle.rows.specs.declared.worker.WorkerResponse.{WorkerResponse}
@@ -23,6 +25,10 @@ settling view j =
 -- the nodes of which nothing is kept strictly rise
 abbrev pub RefusesRising : Judged → Type 0
 RefusesRising j = IfOk j.kept (λ (a : Accepted). AreRisingNodes a.refused)
+
+-- what is kept
+abbrev pub kept_with : List AllocId → List AcceptedPlace → List ℕ → Accepted
+kept_with stops places refused = record { stops = stops; places = places; refused = refused }
 
 -- the result that its sender is told
 abbrev pub result_with : AcceptedPlan → ℕ → Accepted → WorkerResponse

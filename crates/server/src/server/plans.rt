@@ -8,7 +8,7 @@ ghost use Rattle.plan_apply.specs.Answers.{kept_by};
 ghost use Rattle.leader.specs.Verdicts.{judged_by, IsProposal};
 ghost use Rattle.server.specs.Refusals.{HasOpenDesk};
 ghost use Rattle.server.specs.Inner.Acts.{DoesAct, Falters, member_of};
-ghost use Rattle.server.specs.Inner.Plans.{settling, RefusesRising, KeptOf, result_with};
+ghost use Rattle.server.specs.Inner.Plans.{settling, RefusesRising, KeptOf, kept_with, result_with};
 
 use super::replies::{send_refusal, send_response};
 use super::{Outbox, Server};
@@ -52,8 +52,8 @@ fn rising(nodes: Sequence<NodeId>) -> RisingNodes
 /// What the sender of a plan is told of what is kept of it.
 fn result_of(plan: &AcceptedPlan, last: Index, refused: Sequence<NodeId>) -> WorkerResponse
     requires { AreRisingNodes refused }
-    ensures { (stops : List AllocId) → let a = record { stops = stops; places = plan.now.places; refused = refused } in
-        result ≡ result_with plan.now last a }
+    ensures { (stops : List AllocId) →
+        result ≡ result_with plan.now last (kept_with stops plan.now.places refused) }
 {
     WorkerResponse::PlanResult(PlanResult {
         eval: plan.eval,
@@ -99,20 +99,18 @@ impl Server {
         send_response(&mut outbox.frames, me, from, response)?;
         match self.propose(Command::Plan(plan)) {
             Ok(()) => Ok(()),
-            Err(Refusal::NoMemory) => Err(NoMemory),
-            Err(refusal) => {
-                outbox.frames.truncate(before);
-                send_refusal(&mut outbox.frames, me, from, asked, refusal)
-            }
+            Err(cause) => match cause {
+                Refusal::NoMemory => Err(NoMemory),
+                refusal => {
+                    outbox.frames.truncate(before);
+                    send_refusal(&mut outbox.frames, me, from, asked, refusal)
+                }
+            },
         }
     }
 
     /// What becomes of a plan that was judged.
-    pub(super) fn settle(
-        &mut self,
-        judged: JudgedPlan,
-        outbox: &mut Outbox,
-    ) -> Result<(), NoMemory>
+    pub(super) fn settle(&mut self, judged: JudgedPlan, outbox: &mut Outbox) -> Result<(), NoMemory>
         requires is_open { HasOpenDesk (member_of self.old) }
         requires proposal { IsProposal judged }
         requires rises { RefusesRising (judged_by judged) }

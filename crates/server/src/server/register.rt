@@ -41,15 +41,15 @@ fn is_registered(state: &Cluster, node: NodeId) -> bool
 
 /// Whether the state after a leader's whole log admits that the node comes, and it would change no
 /// row.
-fn stands_already(raft: &mut Raft<Cluster>, spec: NodeSpec) -> Result<bool, NoMemory>
+fn stands_already(raft: &mut Raft<Cluster>, spec: &NodeSpec) -> Result<bool, NoMemory>
     requires { is_leader raft.old.server.mode ≡ true }
-    ensures value { let command = commands.NodePut spec in
+    ensures value { let command = commands.NodePut spec.now in
         IfOk result (λ b. b ≡ is_taken_already (whole_state raft.old.server) command) }
     ensures same { SameServer raft.old raft.new }
 {
     match raft.projected() {
         Ok(whole) => {
-            let admitted = whole.admits(&Command::NodePut(spec))?.is_none();
+            let admitted = whole.admits(&Command::NodePut(*spec))?.is_none();
             Ok(admitted && is_registered(whole, spec.number))
         }
         Err(_) => Err(NoMemory),
@@ -84,18 +84,20 @@ impl Server {
             class,
             size,
         };
-        if stands_already(&mut self.raft, spec)? {
+        if stands_already(&mut self.raft, &spec)? {
             return send_told(&mut outbox.frames, me, client, kind, None);
         }
         let before = outbox.frames.len();
         send_told(&mut outbox.frames, me, client, kind, None)?;
         match self.propose(Command::NodePut(spec)) {
             Ok(()) => Ok(()),
-            Err(Refusal::NoMemory) => Err(NoMemory),
-            Err(refusal) => {
-                outbox.frames.truncate(before);
-                send_told(&mut outbox.frames, me, client, kind, Some(refusal))
-            }
+            Err(cause) => match cause {
+                Refusal::NoMemory => Err(NoMemory),
+                refusal => {
+                    outbox.frames.truncate(before);
+                    send_told(&mut outbox.frames, me, client, kind, Some(refusal))
+                }
+            },
         }
     }
 }

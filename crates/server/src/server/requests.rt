@@ -17,12 +17,7 @@ use rows::{
 };
 
 /// A plan comes to an open desk, on the state that is applied.
-fn submit(
-    raft: &Raft<Cluster>,
-    desk: &mut Desk,
-    from: ServerId,
-    plan: Plan,
-) -> Result<(), Refusal>
+fn submit(raft: &Raft<Cluster>, desk: &mut Desk, from: ServerId, plan: Plan) -> Result<(), Refusal>
     requires { is_up raft.now.server.mode ≡ true }
     ensures ok { let call = on_submit from (applied_state raft.now.server) plan in
         IfOk result (λ u. at_open call desk.old ≡ Ok (u, desk.new)) }
@@ -84,8 +79,10 @@ impl Server {
         }
         match submit(&self.raft, &mut self.desk.desk, from, plan) {
             Ok(()) => Ok(()),
-            Err(Refusal::NoMemory) => Err(NoMemory),
-            Err(refusal) => send_refusal(&mut outbox.frames, me, from, asked, refusal),
+            Err(cause) => match cause {
+                Refusal::NoMemory => Err(NoMemory),
+                refusal => send_refusal(&mut outbox.frames, me, from, asked, refusal),
+            },
         }
     }
 
@@ -107,20 +104,23 @@ impl Server {
         ensures lost { OnErr result (Falters self.old self.new outbox.old outbox.new) }
     {
         let me = self.raft.me();
-        let asked = AskedRequest::Finish(eval, token);
+        let (eval, token) = (&eval, &token);
+        let asked = AskedRequest::Finish(*eval, *token);
         if let Err(refusal) = self.open_desk() {
             return send_refusal(&mut outbox.frames, me, from, asked, refusal);
         }
-        if let Err(error) = self.desk.desk.outstanding(eval, token) {
+        if let Err(error) = self.desk.desk.outstanding(*eval, *token) {
             return send_refusal(&mut outbox.frames, me, from, asked, Refusal::from(error));
         }
-        match self.propose(Command::EvalStatus(eval, outcome.into_change())) {
-            Ok(()) => match self.desk.desk.ack(eval, token) {
+        match self.propose(Command::EvalStatus(*eval, outcome.into_change())) {
+            Ok(()) => match self.desk.desk.ack(*eval, *token) {
                 Ok(()) => Ok(()),
                 Err(_) => unreachable!(),
             },
-            Err(Refusal::NoMemory) => Err(NoMemory),
-            Err(refusal) => send_refusal(&mut outbox.frames, me, from, asked, refusal),
+            Err(cause) => match cause {
+                Refusal::NoMemory => Err(NoMemory),
+                refusal => send_refusal(&mut outbox.frames, me, from, asked, refusal),
+            },
         }
     }
 
@@ -141,11 +141,12 @@ impl Server {
         ensures lost { OnErr result (Falters self.old self.new outbox.old outbox.new) }
     {
         let me = self.raft.me();
-        let asked = AskedRequest::Nack(eval, token);
+        let (eval, token) = (&eval, &token);
+        let asked = AskedRequest::Nack(*eval, *token);
         if let Err(refusal) = self.open_desk() {
             return send_refusal(&mut outbox.frames, me, from, asked, refusal);
         }
-        match self.desk.desk.nack(eval, token) {
+        match self.desk.desk.nack(*eval, *token) {
             Ok(()) => Ok(()),
             Err(error) => {
                 send_refusal(&mut outbox.frames, me, from, asked, Refusal::from(error))
