@@ -1,16 +1,12 @@
 -- What a client does is a step of the definitions.
-use Rattle.std.proofs.Common.{◌≡◌, ℕ, ◌<◌, Bool, true, false, is_some, Option, Some, None, List, [], ◌∷◌, map, Ok, nat_lt, refl, sym, ap, ◌∙◌, subst, lt-ltb}
-use Rattle.std.proofs.lemmas.List.{append-nil}
+use Rattle.std.proofs.Common.{◌≡◌, ℕ, ◌<◌, true, false, is_some, Option, Some, None, List, [], ◌∷◌, map, Ok, nat_lt, refl, ap, ◌∙◌, subst, lt-ltb}
 use Rattle.rows.specs.declared.actor.Actor.{Actor}
 use Rattle.rows.specs.declared.actor.Actor.TheVariants.{Server, Client as ClientActor}
-use Rattle.rows.specs.declared.node.NodeSpec.{NodeSpec}
-use Rattle.rows.specs.declared.command.Command.{Command}
-use Rattle.machine.specs.Meaning.{Meaning}
 use Rattle.wire.specs.Frames.{Frame}
 use Rattle.wire.specs.declared.body.Body.{Body}
 use Rattle.wire.specs.declared.body.Body.TheVariants as bodies
 use Rattle.cluster_model.specs.ClusterMachine.{cluster_meaning}
-use Rattle.group_model.specs.Messages.{ServiceMessage, BetweenServers, ToServer, ToClient, ClientResponse, Register, Told, Listing, Service}
+use Rattle.group_model.specs.Messages.{ServiceMessage, ToServer, ToClient, ClientResponse, Register, Told, Listing, Service}
 use Rattle.group_model.specs.Clients.{Client, Life, Input, Arrives, RegisterAt, Crash, Restart, Turn, step, lives, new_life, takes_response}
 use Rattle.group_frames.specs.GroupFrames.{SendsGroup, service_between}
 use Rattle.group_frames.proofs.Sending.{sends_nothing}

@@ -1,4 +1,3 @@
 -- Words of private contracts.
 pub mod Plain
-pub mod RequestSteps
 pub mod StepParts

@@ -193,7 +193,8 @@ fn node_of(value: &Value, others: usize) -> Option<NodeSpec>
 fn nodes_of(alloc: Global, list: &[Value]) -> Result<Vec<NodeSpec>, Refusal>
     ensures ok { IfOk result (λ nodes. AreNodes 1 (map view list.now) nodes.items) }
     ensures refused { IfErr result (λ refusal. (refusal ≡ NoMemory)
-        ⊎ ((refusal ≡ OutOfRange) × ((nodes : List NodeSpec) → ¬ AreNodes 1 (map view list.now) nodes))) }
+        ⊎ ((refusal ≡ OutOfRange)
+        × ((nodes : List NodeSpec) → ¬ AreNodes 1 (map view list.now) nodes))) }
 {
     let mut nodes = Vec::new(alloc);
     for value in list {

@@ -1,17 +1,9 @@
 //! The steps of a scenario.
-ghost use Rattle.std.specs.Prelude.{◌≡◌, ◌<◌, ◌≤◌, ◌^◌, ◌++◌, ◌∷◌, ℕ, List, Some, None, IfOk, IfSome, codes, decimal};
-ghost use Rattle.rows.specs.declared.plan.Plan.{Plan};
-ghost use Rattle.rows.specs.declared.request.OperatorRequest.{OperatorRequest};
-ghost use Rattle.rows.specs.declared.evaluation.EvalId.{EvalId};
-ghost use Rattle.rows.specs.declared.token.Token.{Token};
-ghost use Rattle.rows.specs.declared.worker.EvalOutcome.{EvalOutcome};
-ghost use Rattle.rows.specs.declared.worker.WorkerRequest.TheVariants as asks;
+ghost use Rattle.std.specs.Prelude.{◌≡◌, ◌<◌, ◌≤◌, ◌^◌, ℕ, Some, None, IfOk, IfSome, codes, decimal};
 ghost use Rattle.runner.specs.declared.step.Step.{Step};
 ghost use Rattle.runner.specs.declared.step.Step.TheVariants as steps;
-ghost use Rattle.runner.specs.Requests.{RequestFits, request_text};
 ghost use Rattle.runner.specs.Steps.{IsLine};
-ghost use Rattle.runner.specs.Inner.RequestSteps.{IsRequestStep};
-ghost use Rattle.runner.specs.Inner.StepParts.{HasParts, IsSmall, IsTurn};
+ghost use Rattle.runner.specs.Inner.StepParts.{HasParts, IsFinish, IsRequest, IsSmall, IsSubmit, IsTurn};
 
 use crate::request::read_request;
 use crate::spelled::{Spelled, cut_pair, cut_word, read_pair};
@@ -32,9 +24,9 @@ pub enum Step {
     Beat(ServerId),
     /// `plan S`: server S, if it leads, weighs the first plan that waits.
     Plan(ServerId),
-    /// `free S`: server S, if it leads, has the evaluations tried again that room may now help.
+    /// `free S`: server S, if it leads, makes a blocked evaluation pending that has room now.
     Free(ServerId),
-    /// `reap S`: server S, if it leads, gives up an evaluation that was delivered too often.
+    /// `reap S`: server S, if it leads, gives up an evaluation that was given out too often.
     Reap(ServerId),
     /// `lapse S E`: at server S, if it leads, the delivery of evaluation E has lasted too long.
     Lapse(ServerId, EvalId),
@@ -88,10 +80,10 @@ fn read_bare(line: &str) -> Option<Step>
 
 // What stands behind `request`.
 fn read_request_step(alloc: Global, words: &str) -> Result<Option<Step>, NoMemory>
-    ensures named { IfOk result (λ read. IfSome read (λ step. (server : ℕ) × (request : OperatorRequest)
-        × (step ≡ steps.Request server request) × IsRequestStep server request words.now)) }
-    ensures read { (server : ℕ) (request : OperatorRequest) → IsRequestStep server request words.now
-        → IfOk result (λ read. read ≡ Some (steps.Request server request)) }
+    ensures named { IfOk result (λ read. IfSome read (λ step. IsRequest step
+        × HasParts step (codes "request") words.now)) }
+    ensures read { (step : Step) → IsRequest step → HasParts step (codes "request") words.now
+        → IfOk result (λ read. read ≡ Some step) }
 {
     let Some((server, text)) = cut_word(words) else {
         return Ok(None);
@@ -104,11 +96,10 @@ fn read_request_step(alloc: Global, words: &str) -> Result<Option<Step>, NoMemor
 
 // What stands behind `submit`.
 fn read_submit(alloc: Global, words: &str) -> Result<Option<Step>, NoMemory>
-    ensures named { IfOk result (λ read. IfSome read (λ step. (server : ℕ) × (to : ℕ) × (plan : Plan)
-        × (step ≡ steps.Ask server to (asks.Submit plan)) × HasParts step (codes "submit") words.now)) }
-    ensures read { (server to : ℕ) (plan : Plan)
-        → HasParts (steps.Ask server to (asks.Submit plan)) (codes "submit") words.now
-        → IfOk result (λ read. read ≡ Some (steps.Ask server to (asks.Submit plan))) }
+    ensures named { IfOk result (λ read. IfSome read (λ step. IsSubmit step
+        × HasParts step (codes "submit") words.now)) }
+    ensures read { (step : Step) → IsSubmit step → HasParts step (codes "submit") words.now
+        → IfOk result (λ read. read ≡ Some step) }
 {
     let Some((server, to, text)) = cut_pair(words) else {
         return Ok(None);
@@ -189,11 +180,10 @@ fn read_delivery(words: &str) -> Option<Step>
 
 // What stands behind `finish`.
 fn read_finish(words: &str) -> Option<Step>
-    ensures named { IfSome result (λ step. (server : ℕ) × (to : ℕ) × (eval : EvalId) × (token : Token) × (outcome : EvalOutcome)
-        × (step ≡ steps.Ask server to (asks.Finish eval token outcome)) × HasParts step (codes "finish") words.now) }
-    ensures read { (server to : ℕ) (eval : EvalId) (token : Token) (outcome : EvalOutcome)
-        → HasParts (steps.Ask server to (asks.Finish eval token outcome)) (codes "finish") words.now
-        → result ≡ Some (steps.Ask server to (asks.Finish eval token outcome)) }
+    ensures named { IfSome result (λ step. IsFinish step
+        × HasParts step (codes "finish") words.now) }
+    ensures read { (step : Step) → IsFinish step → HasParts step (codes "finish") words.now
+        → result ≡ Some step }
 {
     let Some((server, to, rest)) = cut_pair(words) else {
         return None;

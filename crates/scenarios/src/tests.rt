@@ -1,6 +1,7 @@
 //! The tests. What they want is published, or worked out by hand from the rules, and never taken
 //! from the program's own output.
 
+mod agents;
 mod frames;
 mod messages;
 mod servers;

@@ -1,21 +1,20 @@
 -- What an event did to a server and to what is kept beside the servers, as what it did to the
 -- world.
-use Rattle.std.proofs.Common.{◌≡◌, ◌≢◌, ℕ, zero, suc, ◌<◌, ◌≤◌, true, false, inl, inr, Some, Result, Ok, Err, IfOk, OnErr, IfErr, List, [], ◌∷◌, ◌++◌, length, append-nil, refl, sym, ap, ◌∙◌, subst, arith, slice_get, slice_set, get_or}
+use Rattle.std.proofs.Common.{◌≡◌, ◌≢◌, ℕ, zero, suc, ◌<◌, true, false, inl, inr, Some, Result, Ok, Err, IfOk, OnErr, IfErr, List, [], ◌∷◌, ◌++◌, length, append-nil, refl, sym, ap, ◌∙◌, subst, arith, slice_get, slice_set, get_or}
 use Rattle.std.proofs.lemmas.Option.{same_Some, slice_get_read}
 use Rattle.std.specs.List.{AllZip}
 use Rattle.rows.specs.declared.refusal.Refusal.{Refusal}
 use Rattle.rows.specs.declared.refusal.Refusal.TheVariants as refusals
 use Rattle.machine.specs.Meaning.{Meaning}
 use Rattle.wire.specs.Messages.{Message as WireMessage}
-use Rattle.wire.specs.Frames.{Frame, MessageFits, message_at, message_text}
+use Rattle.wire.specs.Frames.{MessageFits, message_at, message_text}
 use Rattle.raft_model.specs.Messages.{Message}
 use Rattle.raft_model.specs.Servers.{Server, Turn, silent, is_up, crashed, restarted}
 use Rattle.raft_model.specs.Steps.{Input, Arrives, Timeout, Beat, Propose, Compact, Crash, Restart, step}
 use Rattle.raft_model.specs.Worlds.{World, Event, Deliver, TimesOut, Beats, Proposes, Compacts, Crashes, Restarts, Run, IsRestart}
 use Rattle.raft_core.specs.RaftView.{RaftView, SameServer}
-use Rattle.raft_core.specs.Frames.{FrameCarries}
 use Rattle.raft_core.specs.Refusals.{refusal}
-use Rattle.raft_core.specs.Steps.{Represents, Steps, Takes}
+use Rattle.raft_core.specs.Steps.{Represents, Steps}
 use Rattle.raft_safety.specs.Claims.{IsAmongMembers}
 use Rattle.raft_safety.proofs.Places.{get-within}
 use Rattle.world.specs.declared.done.Done.{Done}

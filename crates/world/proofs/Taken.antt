@@ -1,5 +1,5 @@
 -- An input that a server took, as an event of the world.
-use Rattle.std.proofs.Common.{◌≡◌, ℕ, inl, inr, max, Some, Result, Ok, List, [], ◌∷◌, ◌++◌, length, refl, sym, ap, ◌∙◌, subst, slice_get, slice_set}
+use Rattle.std.proofs.Common.{◌≡◌, ℕ, inl, inr, max, Some, Result, Ok, [], ◌∷◌, ◌++◌, length, refl, sym, ap, ◌∙◌, subst, slice_get, slice_set}
 use Rattle.std.specs.List.{AllZip}
 use Rattle.rows.specs.declared.refusal.Refusal.{Refusal}
 use Rattle.machine.specs.Meaning.{Meaning}

@@ -3,7 +3,7 @@ use Rattle.std.specs.Prelude.{◌≡◌, ℕ, List, [], None, drop, get_or}
 use Rattle.std.specs.List.{join_with_byte}
 use Rattle.runner.specs.declared.step.Step.{Step}
 use Rattle.runner.specs.declared.step.Step.TheVariants.{Timeout, Beat, Plan, Free, Reap, Work, Request, Ask, Flow}
-use Rattle.rows.specs.declared.worker.WorkerRequest.TheVariants.{Submit}
+use Rattle.rows.specs.declared.worker.WorkerRequest.TheVariants.{Submit, Finish}
 use Rattle.runner.specs.Steps.{StepFits, step_words}
 
 abbrev pub verb_of : Step → List ℕ
@@ -34,3 +34,15 @@ IsSmall (Flow None) = ⊥
 IsSmall (Request server request) = ⊥
 IsSmall (Ask server to (Submit plan)) = ⊥
 IsSmall _ = Unit {0}
+
+abbrev pub IsRequest : Step → Type 0
+IsRequest (Request server request) = Unit {0}
+IsRequest _ = ⊥
+
+abbrev pub IsSubmit : Step → Type 0
+IsSubmit (Ask server to (Submit plan)) = Unit {0}
+IsSubmit _ = ⊥
+
+abbrev pub IsFinish : Step → Type 0
+IsFinish (Ask server to (Finish eval token outcome)) = Unit {0}
+IsFinish _ = ⊥
