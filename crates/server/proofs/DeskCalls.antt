@@ -1,5 +1,5 @@
 -- What the calls of a desk answer and leave, where it is open, and that it stays the leader's.
-use Rattle.std.proofs.Common.{◌≡◌, ℕ, Bool, true, false, cond, Option, Some, None, Result, Ok, Err, refl, sym, subst, ap, ◌∙◌}
+use Rattle.std.proofs.Common.{◌≡◌, ◌≢◌, ◌⊎◌, inl, inr, ℕ, Bool, true, false, cond, Option, Some, None, Result, Ok, Err, refl, sym, subst, ap, ◌∙◌}
 use Rattle.std.specs.Prelude.{IfSome, IfOk, OnErr, is_some}
 use Rattle.rows.specs.declared.evaluation.EvalId.{EvalId}
 use Rattle.rows.specs.declared.token.Token.{Token}
@@ -14,7 +14,7 @@ use Rattle.group_model.specs.Desks.{Desk, QueuedPlan, applied_state}
 use Rattle.group_model.specs.Plans.{submitted}
 use Rattle.group_model.specs.Queues.{first_plan}
 use Rattle.raft_core.specs.RaftView.{RaftView}
-use Rattle.leader.specs.OpenDesks.{OpenDesk, Answered, leaves_open, at_open, with_broker, once_given, once_outstanding, once_submitted, on_deliver, on_outstanding, on_ack, on_nack, on_lapse, on_submit}
+use Rattle.leader.specs.OpenDesks.{OpenDesk, LacksMemory, Answered, leaves_open, at_open, with_broker, once_given, once_outstanding, once_submitted, on_deliver, on_outstanding, on_ack, on_nack, on_lapse, on_submit}
 use Rattle.leader.specs.Verdicts.{once_picked, on_plan_turn}
 use Rattle.leader.specs.Staying.{IsOver}
 use Rattle.leader.proofs.Staying.{deliver_stays, ack_stays, nack_stays, lapse_stays, submit_stays, plan_turn_stays}
@@ -65,6 +65,12 @@ module _ {A : Type 0} (call : OpenDesk → Answered A) where
   abbrev left_by : OpenDesk → Answered A → OpenDesk
   left_by o (Err e) = o
   left_by o (Ok p) = p.1
+
+-- a refusal that is no want of memory
+pub not_lacking : {P : Type 0} (d : Option OpenDesk) (e : Refusal) → e ≢ refusals.NoMemory → LacksMemory d e ⊎ P → P
+not_lacking d e other (inr p) = p
+not_lacking None e other (inl l) = absurd l
+not_lacking (Some o) e other (inl l) = absurd (other l)
 
 -- a call leaves the desk of its state and in its term
 abbrev pub Keeps : {A : Type 0} → (OpenDesk → Answered A) → Type 0

@@ -1,5 +1,6 @@
 -- What a server's parts do is what the definitions say.
 use Rattle.std.proofs.Common.{◌≡◌, ◌≢◌, if◌then◌else◌, subst, ℕ, zero, suc, Bool, true, false, Option, Some, None, Result, Ok, Err, List, [], ◌∷◌, ◌++◌, map, take, drop, length, refl, sym, ap, ◌∙◌}
+use Rattle.std.specs.Prelude.{OnOk}
 use Rattle.std.proofs.lemmas.List.{append-nil}
 use Rattle.std.proofs.Math.Seq.{take-append_seam}
 use Rattle.rows.specs.declared.command.Command.{Command}
@@ -147,6 +148,11 @@ falters old new before after same front work = record {
   front = front;
   work = work;
 }
+
+-- what comes of a call that was taken
+pub on_ok : {A E : Type 0} {P Q : Type 0} (r : Result A E) → (P → Q) → OnOk r P → OnOk r Q
+on_ok (Ok a) f p = f p
+on_ok (Err e) f p = tt
 
 -- ---- refusals of an input
 

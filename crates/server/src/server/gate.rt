@@ -3,10 +3,12 @@ ghost use Rattle.std.specs.Prelude.{◌≡◌, true, Err, OnOk, IfErr};
 ghost use Rattle.group_model.specs.Members.{open_desk};
 ghost use Rattle.raft_model.specs.Servers.{is_leader};
 ghost use Rattle.server.specs.Refusals.{HasOpenDesk};
+ghost use Rattle.leader.specs.OpenDesks.{if_open, on_outstanding};
 ghost use Rattle.server.specs.Inner.Acts.{member_of};
+ghost use Rattle.server.specs.Inner.Replies.{HasPair};
 
 use super::Server;
-use rows::{Leader, Refusal};
+use rows::{EvalId, Leader, Refusal, Token};
 
 impl Server {
     /// Whether it leads.
@@ -28,6 +30,17 @@ impl Server {
         if !self.desk.desk.is_open() {
             return Err(Refusal::NotOpen);
         }
+        Ok(())
+    }
+
+    /// That a pair of evaluation and token is outstanding at its open desk: `NotOutstanding` where
+    /// the evaluation is not, `TokenDiffers` where it is under another token.
+    pub(super) fn has_pair(&self, eval: &EvalId, token: &Token) -> Result<(), Refusal>
+        ensures has { OnOk result (HasPair eval.now token.now self.now.desk) }
+        ensures lacks { IfErr result
+            (λ e. if_open (on_outstanding eval.now token.now) self.now.desk ≡ Err e) }
+    {
+        self.desk.desk.outstanding(*eval, *token)?;
         Ok(())
     }
 }

@@ -1,9 +1,10 @@
 //! What workers ask of the leader's desk, and what it answers them.
-ghost use Rattle.std.specs.Prelude.{◌≡◌, ◌⊎◌, true, Ok, Err, OnOk, OnErr, IfOk, IfErr};
+ghost use Rattle.std.specs.Prelude.{◌≡◌, ◌≢◌, true, Ok, Err, OnOk, OnErr, IfOk, IfErr};
+ghost use Rattle.rows.specs.declared.refusal.Refusal.TheVariants as refusals;
 ghost use Rattle.rows.specs.declared.worker.WorkerRequest.TheVariants as requests;
 ghost use Rattle.raft_model.specs.Servers.{is_up};
 ghost use Rattle.group_model.specs.Desks.{applied_state};
-ghost use Rattle.leader.specs.OpenDesks.{LacksMemory, at_open, on_submit};
+ghost use Rattle.leader.specs.OpenDesks.{at_open, on_submit};
 ghost use Rattle.server.specs.Inner.Acts.{DoesAct, Falters, request_act, response_act};
 
 use super::replies::{send_refusal, send_response};
@@ -16,13 +17,14 @@ use rows::{
     WorkerResponse,
 };
 
-/// A plan comes to an open desk, on the state that is applied.
+/// A plan comes to the desk, on the state that is applied.
+#[tactic(auto, using(crate::proofs::DeskCalls::not_lacking))]
 fn submit(raft: &Raft<Cluster>, desk: &mut Desk, from: ServerId, plan: Plan) -> Result<(), Refusal>
     requires { is_up raft.now.server.mode ≡ true }
     ensures ok { let call = on_submit from (applied_state raft.now.server) plan in
         IfOk result (λ u. at_open call desk.old ≡ Ok (u, desk.new)) }
     ensures err { let call = on_submit from (applied_state raft.now.server) plan in
-        IfErr result (λ e. LacksMemory desk.old e ⊎ (at_open call desk.old ≡ Err e)) }
+        IfErr result (λ e. e ≢ refusals.NoMemory → at_open call desk.old ≡ Err e) }
     ensures left { OnErr result (desk.new ≡ desk.old) }
 {
     let Some(state) = raft.machine() else {
@@ -109,8 +111,8 @@ impl Server {
         if let Err(refusal) = self.open_desk() {
             return send_refusal(&mut outbox.frames, me, from, asked, refusal);
         }
-        if let Err(error) = self.desk.desk.outstanding(*eval, *token) {
-            return send_refusal(&mut outbox.frames, me, from, asked, Refusal::from(error));
+        if let Err(refusal) = self.has_pair(eval, token) {
+            return send_refusal(&mut outbox.frames, me, from, asked, refusal);
         }
         match self.propose(Command::EvalStatus(*eval, outcome.into_change())) {
             Ok(()) => match self.desk.desk.ack(*eval, *token) {
