@@ -42,7 +42,7 @@ apart i j (bodies.Register class size) x y p h = no_message p
 apart i j (bodies.Told kind refused) x y p h = no_message p
 
 module _ {S : Type 0} (m : Meaning S Command) (law : LawfulMachine m) where
-  one_text : (r q : WireMessage S Command) → MessageFits m.commands r → MessageFits m.commands q → message_text m.commands r ≡ message_text m.commands q → r ≡ q
+  pub one_text : (r q : WireMessage S Command) → MessageFits m.commands r → MessageFits m.commands q → message_text m.commands r ≡ message_text m.commands q → r ≡ q
   one_text r q fr fq same =
       let short : ShortCommands m.commands = record { lawful = law.commands_lawful; short = law.commands_short } in
       frames_apart m.commands short r q [] [] fr fq (ap (λ (t : List ℕ). t ++ []) same)
@@ -56,7 +56,7 @@ module _ {S : Type 0} (m : Meaning S Command) (law : LawfulMachine m) where
           (subst (λ (j : ℕ). log_message x.from j r.body ≡ Some x) to p.said) in
       same_message (sym said ∙ q.said)
 
-  log_is_no_service : (r : WireMessage S Command) (x : Message Command) (y : ServiceMessage) → Means r x → service_of r ≡ Some y → ⊥
+  pub log_is_no_service : (r : WireMessage S Command) (x : Message Command) (y : ServiceMessage) → Means r x → service_of r ≡ Some y → ⊥
   log_is_no_service r x y p h =
       apart x.from x.to r.body x y p.said (subst (λ (a : Actor). service_between a (Server x.to) r.body ≡ Some y) p.from (subst (λ (a : Actor). service_between r.from a r.body ≡ Some y) p.to h))
 

@@ -9,3 +9,5 @@ pub mod Replies
 pub mod Leads
 pub mod DeskFollows
 pub mod LogSteps
+pub mod Handings
+pub mod Proposing

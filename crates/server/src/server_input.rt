@@ -1,9 +1,8 @@
 //! What comes to a server of the group.
 ghost use Rattle.std.specs.Prelude.{◌≡◌, IfOk};
 
-use rows::{
-    Batch, EvalId, EvalOutcome, JobSpec, NoMemory, OperatorRequest, Plan, Sequence, ServerId, Token,
-};
+use crate::copies::{copied, copied_plan, copied_request};
+use rows::{EvalId, EvalOutcome, NoMemory, OperatorRequest, Plan, Sequence, ServerId, Token};
 use std::alloc::Global;
 
 /// What comes to a server of the group.
@@ -38,4 +37,32 @@ pub enum ServerInput {
     Crash,
     /// It starts again with what it stored.
     Restart,
+}
+
+impl ServerInput {
+    /// The same input once more.
+    pub fn try_clone(&self, alloc: Global) -> Result<ServerInput, NoMemory>
+        ensures { IfOk result (λ copy. copy ≡ self.now) }
+    {
+        Ok(match self {
+            ServerInput::Frame(bytes) => ServerInput::Frame(copied(alloc, bytes.as_slice())?),
+            ServerInput::Timeout => ServerInput::Timeout,
+            ServerInput::Beat => ServerInput::Beat,
+            ServerInput::Request(request) => {
+                ServerInput::Request(copied_request(alloc, request)?)
+            }
+            ServerInput::Take(to) => ServerInput::Take(*to),
+            ServerInput::Submit(to, plan) => ServerInput::Submit(*to, copied_plan(alloc, plan)?),
+            ServerInput::Finish(to, eval, token, outcome) => {
+                ServerInput::Finish(*to, *eval, *token, *outcome)
+            }
+            ServerInput::Nack(to, eval, token) => ServerInput::Nack(*to, *eval, *token),
+            ServerInput::PlanTurn => ServerInput::PlanTurn,
+            ServerInput::Lapse(eval) => ServerInput::Lapse(*eval),
+            ServerInput::FreeTurn => ServerInput::FreeTurn,
+            ServerInput::Reap => ServerInput::Reap,
+            ServerInput::Crash => ServerInput::Crash,
+            ServerInput::Restart => ServerInput::Restart,
+        })
+    }
 }

@@ -1,0 +1,10 @@
+use Rattle.std.proofs.Common.{refl, ap}
+use Rattle.raft_model.specs.Servers.{newcomer}
+use Rattle.server.specs.ServerViews.{group_desk}
+use Rattle.server.proofs.server.Server.new.Goals as goal
+
+pub returns-in-Ok-clause-newcomer : goal.returns-in-Ok-clause-newcomer
+returns-in-Ok-clause-newcomer c = record {
+  raft = c.in-Ok.ensures.server newcomer (rw c.new.ensures (record { term = refl; vote = refl; log = refl; covered = refl }));
+  desk = ap group_desk c.closed.ensures;
+}
