@@ -1,4 +1,4 @@
-use Rattle.std.proofs.Common.{◌≡◌, ◌<◌, ap, ◌∙◌, arith}
+use Rattle.std.proofs.Common.{◌≡◌, ◌<◌, refl, ap, ◌∙◌, arith}
 use Rattle.server.specs.ServerViews.{ServerView}
 use Rattle.server.proofs.Requests.{asks_taken}
 use Rattle.server.proofs.server.Server.ask.Goals as goal
