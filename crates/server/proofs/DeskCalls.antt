@@ -14,7 +14,7 @@ use Rattle.group_model.specs.Desks.{Desk, QueuedPlan, applied_state}
 use Rattle.group_model.specs.Plans.{submitted}
 use Rattle.group_model.specs.Queues.{first_plan}
 use Rattle.raft_core.specs.RaftView.{RaftView}
-use Rattle.leader.specs.OpenDesks.{OpenDesk, LacksMemory, Answered, leaves_open, at_open, with_broker, once_given, once_outstanding, once_submitted, on_deliver, on_outstanding, on_ack, on_nack, on_lapse, on_submit}
+use Rattle.leader.specs.OpenDesks.{OpenDesk, IsOverBlocked, LacksMemory, Answered, leaves_open, at_open, with_broker, once_given, once_outstanding, once_submitted, on_deliver, on_outstanding, on_ack, on_nack, on_lapse, on_submit}
 use Rattle.leader.specs.Verdicts.{once_picked, on_plan_turn}
 use Rattle.leader.specs.Staying.{IsOver}
 use Rattle.leader.proofs.Staying.{deliver_stays, ack_stays, nack_stays, lapse_stays, submit_stays, plan_turn_stays}
@@ -132,3 +132,8 @@ picked_term whole o (Some p) = refl
 
 pub plan_turn_keeps : (whole : State) → Keeps (on_plan_turn whole)
 plan_turn_keeps whole s o a new over h = (plan_turn_stays s whole o a new over h, term_kept (on_plan_turn whole) o a new (picked_term whole o (first_plan o.desk.plans)) h)
+
+-- an open desk has the blocked evaluations of the applied state
+pub over_blocked : (raft : RaftView Command) (d : Option OpenDesk) → is_some (group_desk d) ≡ true → IfSome d (IsOfLeader raft) → IsOverBlocked (applied_state raft.server) d
+over_blocked raft None h inv = absurd cc
+over_blocked raft (Some o) h inv = inv.over.blocked

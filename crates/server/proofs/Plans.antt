@@ -1,6 +1,7 @@
 -- What a server does with the plan whose turn it is.
 use Rattle.std.proofs.Common.{◌≡◌, ◌≢◌, ℕ, suc, ◌+◌, ◌-◌, ◌^◌, ◌≤◌, Bool, true, false, Option, Some, None, Result, Ok, Err, List, [], ◌∷◌, map, length, refl, sym, subst, ap, ◌∙◌, arith}
-use Rattle.std.specs.Prelude.{IfOk, IfSome, nat_lt}
+use Rattle.std.specs.Prelude.{IfOk, OnOk, option_map, nat_lt}
+use Rattle.rows.specs.declared.refusal.NoMemory.{NoMemory}
 use Rattle.std.proofs.lemmas.Bool.{le-ltb}
 use Rattle.std.proofs.lemmas.List.{append-nil}
 use Rattle.rows.specs.Ids.{AreRisingNodes}
@@ -28,7 +29,8 @@ use Rattle.group_model.specs.Members.{open_desk}
 use Rattle.group_model.specs.Plans.{after_accept, proposes_plan, told_result, told_refusal, plan_command}
 use Rattle.group_model.specs.Queues.{first_plan}
 use Rattle.leader.specs.OpenDesks.{OpenDesk, Answered, at_open}
-use Rattle.leader.specs.Verdicts.{Judged, verdict_for, once_picked, on_plan_turn}
+use Rattle.leader.specs.declared.judged.JudgedPlan.{JudgedPlan}
+use Rattle.leader.specs.Verdicts.{Judged, judged_by, verdict_for, once_picked, on_plan_turn}
 use Rattle.leader.specs.GroupActs.{judged_act}
 use Rattle.leader.proofs.Acts.{plan_turns_by_verdict}
 use Rattle.server.specs.declared.server.Outbox.{Outbox}
@@ -100,6 +102,20 @@ module _ (old new : ServerView) (before after : Outbox) (from : ℕ) (p : Accept
         SendsOne before.frames after.frames (BetweenServers old.raft.me from (Answers (Refused (asked.Submit p.eval p.token) (reason_of e)))) → DoesAct old (settling old (record { queued = w; kept = Ok a })) new before after
     kept_refused e why other = refused_as e (refused_why old.raft.server (commands.Plan p) e h.leads other why)
 
+-- the same of what the sending answers
+module _ (old new : ServerView) (before after : Outbox) (from : ℕ) (p : AcceptedPlan) (a : Accepted) (h : HasOpenDesk (member_of old)) (work : after.work ≡ before.work) where
+  pub none_sent : (r : Result (Unit {0}) NoMemory) → keeps_some a ≡ false → new.raft.server ≡ old.raft.server → new.desk ≡ old.desk →
+      OnOk r (SendsOne before.frames after.frames (BetweenServers old.raft.me from (Answers (result_with p (length old.raft.server.log) a)))) →
+      OnOk r ((w : QueuedPlan) → KeptOf from p a w → DoesAct old (settling old (record { queued = w; kept = Ok a })) new before after)
+  none_sent (Ok u) none same desk sent = λ w k. keeps_none old new before after from p a w k h work none same desk sent
+  none_sent (Err e) none same desk sent = tt
+
+  pub refusal_sent : (r : Result (Unit {0}) NoMemory) (e : Refusal) → keeps_some a ≡ true → WhyNotProposed old.raft.server (commands.Plan p) e → e ≢ refusals.NoMemory → new.raft.server ≡ old.raft.server → new.desk ≡ old.desk →
+      OnOk r (SendsOne before.frames after.frames (BetweenServers old.raft.me from (Answers (Refused (asked.Submit p.eval p.token) (reason_of e))))) →
+      OnOk r ((w : QueuedPlan) → KeptOf from p a w → DoesAct old (settling old (record { queued = w; kept = Ok a })) new before after)
+  refusal_sent (Ok u) e some why other same desk sent = λ w k. kept_refused old new before after from p a w k h work some e why other same desk sent
+  refusal_sent (Err x) e some why other same desk sent = tt
+
 -- nothing is kept of it
 pub settles_refused : (old new : ServerView) (before after : Outbox) (w : QueuedPlan) (e : Refusal) → HasOpenDesk (member_of old) → new.raft.server ≡ old.raft.server → new.desk ≡ old.desk →
     SendsOne before.frames after.frames (told_refusal old.raft.me w e) → after.work ≡ before.work → DoesAct old (settling old (record { queued = w; kept = Err e })) new before after
@@ -125,11 +141,14 @@ picked_rises whole o j (Some p) h =
     let pair = outstanding p.one.plan.eval p.one.plan.token o.desk.broker in
     subst RefusesRising (same_some h) (if_kept (verdict_for whole p.one.plan pair) (λ a is. verdict_rises whole p.one.plan a pair is))
 
--- what is judged tells nodes that strictly rise
-pub judged_rises : (whole : State) (d new : Option OpenDesk) (j : Judged) → at_open (on_plan_turn whole) d ≡ Ok (Some j, new) → RefusesRising j
+judged_rises : (whole : State) (d new : Option OpenDesk) (j : Judged) → at_open (on_plan_turn whole) d ≡ Ok (Some j, new) → RefusesRising j
 judged_rises whole d new j call =
     let k = called (on_plan_turn whole) d (Some j) new call in
     picked_rises whole k.before j (first_plan k.before.desk.plans) (ap (λ (t : Option Judged × OpenDesk). t.0) (same_answer k.answers))
+
+-- what is judged tells nodes that strictly rise
+pub answer_rises : (whole : State) (d new : Option OpenDesk) (answer : Option JudgedPlan) (j : JudgedPlan) → at_open (on_plan_turn whole) d ≡ Ok (option_map judged_by answer, new) → answer ≡ Some j → RefusesRising (judged_by j)
+answer_rises whole d new answer j call is = judged_rises whole d new (judged_by j) (rw is at call)
 
 module _ (old mid new : ServerView) (before after : Outbox) (h : HasOpenDesk (member_of old)) (same : SameServer old.raft mid.raft) where
   plan_turn_is : (j : Option Judged) (o next : OpenDesk) → old.desk ≡ Some o → on_plan_turn (whole_state old.raft.server) o ≡ Ok (j, next) → act_of old PlanTurn ≡ Ok (judged_act old.raft.me old.raft.server next.desk j)

@@ -2,8 +2,10 @@
 ghost use Rattle.std.specs.Prelude.{◌≡◌, true, is_some, option_map, None, Ok, OnOk, OnErr, IfOk, IfErr, IfSome};
 ghost use Rattle.raft_model.specs.Servers.{is_up, is_leader};
 ghost use Rattle.raft_core.specs.RaftView.{SameServer};
-ghost use Rattle.group_model.specs.Desks.{whole_state};
-ghost use Rattle.leader.specs.OpenDesks.{if_open, at_open, on_free_turn, on_reap};
+ghost use Rattle.rows.specs.Keys.{eval_id};
+ghost use Rattle.group_model.specs.Blocked.{first_due};
+ghost use Rattle.group_model.specs.Desks.{applied_state, whole_state};
+ghost use Rattle.leader.specs.OpenDesks.{IsOverBlocked, if_open, at_open, on_reap};
 ghost use Rattle.leader.specs.Verdicts.{judged_by, IsProposal, on_plan_turn};
 ghost use Rattle.group_model.specs.Inputs.{PlanTurn, Lapse, FreeTurn, Reap};
 ghost use Rattle.server.specs.declared.server.Outbox.{Outbox as AnyOutbox};
@@ -41,13 +43,14 @@ fn judge_first(raft: &mut Raft<Cluster>, desk: &mut Desk) -> Result<Option<Judge
     }
 }
 
-/// The evaluation that is freed first, by the state after the leader's whole log.
+/// The evaluation that is freed first, by the state after the leader's whole log, at a desk of the
+/// applied state.
 fn first_freed(raft: &mut Raft<Cluster>, desk: &Desk) -> Result<Option<EvalId>, NoMemory>
     requires leads { is_leader raft.old.server.mode ≡ true }
-    requires is_open { is_some desk.now ≡ true }
+    requires over { IsOverBlocked (applied_state raft.old.server) desk.now }
     ensures same { SameServer raft.old raft.new }
-    ensures value { let turn = if_open (on_free_turn (whole_state raft.old.server)) desk.now in
-        IfOk result (λ id. turn ≡ Ok id) }
+    ensures value { let s = raft.old.server in let due = first_due (applied_state s) (whole_state s) in
+        IfOk result (λ id. id ≡ option_map eval_id due) }
 {
     match raft.projected() {
         Ok(whole) => match desk.free_turn(whole) {
