@@ -74,7 +74,7 @@ module _ (old new : ServerView) (before after : Outbox) (from : ℕ) (id : EvalI
 
 module _ (old new : ServerView) (before after : Outbox) (from : ℕ) (p : Plan) (h : HasOpenDesk (member_of old)) where
   submit_is : (o : OpenDesk) → old.desk ≡ Some o → request_act old from (requests.Submit p) ≡ Ok (submit_act old.raft.me from p o (on_submit from (applied_state old.raft.server) p o))
-  submit_is o has = rw (open_is old o h has) (ap act_taken (submits_by_submit old.raft.me from (applied_state old.raft.server) p o))
+  submit_is o has = rw (open_is old o h has, has) (ap act_taken (submits_by_submit old.raft.me from (applied_state old.raft.server) p o))
 
   pub submit_declined : (e : Refusal) (r : Result (Unit {0}) NoMemory) → at_open (on_submit from (applied_state old.raft.server) p) old.desk ≡ Err e → new.raft.server ≡ old.raft.server → new.desk ≡ old.desk → after.work ≡ before.work →
       OnOk r (SendsOne before.frames after.frames (BetweenServers old.raft.me from (Answers (Refused (asked.Submit p.eval p.token) (reason_of e))))) → OnOk r (DoesAct old (request_act old from (requests.Submit p)) new before after)

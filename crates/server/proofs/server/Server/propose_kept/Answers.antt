@@ -32,6 +32,5 @@ returns-in_default-cause-clause-taken c =
     let some : keeps_some (kept_by c.args.accepted) ≡ true = sym c.keeps_some-keeps_some.ensures ∙ c.if-not-keeps_some.false in
     let front = front_of _ _ _ c.in_ok-send_response.ensures.sent in
     let cut : c.truncate.new.self ≡ c.args.outbox.now.frames = c.truncate.ensures ∙ rw c.len-before.ensures front in
-    let is : c.in_default-cause.refusal ≡ c.in-Err.cause = sym c.in_default-cause.refusal-is in
     let same = c.in-Err.ensures.unchanged in
-    refusal_sent old c.propose.new.self c.args.outbox.now _ c.args.from c.args.accepted.plan (kept_by c.args.accepted) c.requires.is_open refl c.send_refusal-in_default-cause.result c.in-Err.cause some c.in-Err.ensures.refused c.in_default-cause.not-NoMemory same.raft.server same.desk (rw (cut, me, is) at c.send_refusal-in_default-cause.ensures.sent)
+    refusal_sent old c.propose.new.self c.args.outbox.now _ c.args.from c.args.accepted.plan (kept_by c.args.accepted) c.requires.is_open refl c.send_refusal-in_default-cause.result c.in-Err.cause some c.in-Err.ensures.refused c.in_default-cause.not-NoMemory same.raft.server same.desk (rw (cut, me) at c.send_refusal-in_default-cause.ensures.sent)

@@ -12,7 +12,6 @@ pub returns-in_default-cause-clause-taken : goal.returns-in_default-cause-clause
 returns-in_default-cause-clause-taken c =
     let old = c.args.self.now in
     let me : c.me-me.result ≡ old.raft.me = c.me-me.ensures ∙ ap (λ (v : ServerView). v.raft.me) c.self.view_is in
-    let is : c.in_default-cause.refusal ≡ c.in-Err-propose.cause = sym c.in_default-cause.refusal-is in
     let same = c.in-Err-propose.ensures.unchanged in
     finish_declined old c.propose.new.self c.args.outbox.now _ c.args.from c.args.eval c.args.token c.args.outcome c.in_default.ensures.open c.in_default-has_pair.ensures.has c.in-Err-propose.cause c.send_refusal-in_default-cause.result
-    (rw c.into_change.ensures at c.in-Err-propose.ensures.refused) c.in_default-cause.not-NoMemory same.raft.server same.desk refl (rw (me, is) at c.send_refusal-in_default-cause.ensures.sent)
+    (rw c.into_change.ensures at c.in-Err-propose.ensures.refused) c.in_default-cause.not-NoMemory same.raft.server same.desk refl (rw me at c.send_refusal-in_default-cause.ensures.sent)

@@ -8,6 +8,5 @@ returns-in_default-cause-clause-taken c =
     let e = rw (← c.self-inside.view_is) at c.self.view_is in
     let old : ServerView = record { raft = c.self-inside.inside.0.1.0; desk = c.self-inside.inside.0.1.1.0.desk } in
     let me : c.me-me.result ≡ old.raft.me = c.me-me.ensures in
-    let is : c.in_default-cause.refusal ≡ c.in-Err-submit.cause = sym c.in_default-cause.refusal-is in
     rw (← e) (submit_declined old _ c.args.outbox.now _ c.args.from c.args.plan (rw (← e) at c.in_default.ensures.open) c.in-Err-submit.cause c.send_refusal-in_default-cause.result
-    (c.in-Err-submit.ensures.err c.in_default-cause.not-NoMemory) refl c.in-Err-submit.ensures.left refl (rw (me, is) at c.send_refusal-in_default-cause.ensures.sent))
+    (c.in-Err-submit.ensures.err c.in_default-cause.not-NoMemory) refl c.in-Err-submit.ensures.left refl (rw me at c.send_refusal-in_default-cause.ensures.sent))
