@@ -1,6 +1,7 @@
 -- What is handed in, by the parts of a step.
 use Rattle.std.proofs.Common.{◌≡◌, ◌≢◌, ℕ, Bool, true, false, nat_lt, Option, Some, None, Result, Ok, Err, List, length, take, refl, sym, ap, subst, ◌∙◌, if◌then◌else◌}
 use Rattle.std.proofs.Math.Seq.{take-length}
+use Rattle.std.specs.Prelude.{OnOk, OnErr, IfErr}
 use Rattle.rows.specs.declared.actor.Actor.{Actor}
 use Rattle.rows.specs.declared.actor.Actor.TheVariants as actors
 use Rattle.rows.specs.declared.command.Command.{Command}
@@ -11,7 +12,7 @@ use Rattle.rows.specs.declared.worker.WorkerRequest.TheVariants as requests
 use Rattle.rows.specs.declared.worker.WorkerResponse.{WorkerResponse}
 use Rattle.rows.specs.declared.worker.WorkerResponse.TheVariants as responses
 use Rattle.wire.specs.Messages.{Message as WireMessage, kind_of, is_of_log, may_go, request_kind, response_kind}
-use Rattle.wire.specs.Frames.{Frame}
+use Rattle.wire.specs.Frames.{Frame, MessageFits, message_text}
 use Rattle.wire.specs.declared.body.Body.{Body}
 use Rattle.wire.specs.declared.body.Body.TheVariants as bodies
 use Rattle.wire.specs.declared.kind.Kind.{Kind}
@@ -27,8 +28,8 @@ use Rattle.cluster_model.proofs.ClusterMachine.{cluster_lawful}
 use Rattle.group_model.specs.Messages.{GroupMessage, Raft, Service, ServiceMessage}
 use Rattle.group_model.specs.Inputs.{Input, Restart}
 use Rattle.group_model.specs.Members.{Member, Turn, acts, wakes, done, step}
-use Rattle.group_frames.specs.GroupFrames.{service_of, service_between}
-use Rattle.group_frames.proofs.OneMessage.{log_is_no_service}
+use Rattle.group_frames.specs.GroupFrames.{service_of, service_between, IsGroupFrame}
+use Rattle.group_frames.proofs.OneMessage.{one_text, log_is_no_service}
 use Rattle.leader.specs.OpenDesks.{OpenDesk}
 use Rattle.server.specs.declared.server.Outbox.{Outbox}
 use Rattle.server.specs.ServerViews.{ServerView, IsMember, SameMember, crashed_member, group_desk}
@@ -36,6 +37,7 @@ use Rattle.server.specs.Handings.{Handing, FrameBytes, OwnInput}
 use Rattle.server.specs.Turns.{TakesTurn, TakesHanding}
 use Rattle.server.specs.Refusals.{refusal_in, is_of_group, wrong_address, handing_refusal, MayLackMemory, IsHandingRefused, NoMemoryLeaves, HandingRefusalLeaves}
 use Rattle.server.specs.Inner.Acts.{member_of, act_of, DoesAct, Falters, DoesNothing, DeclinesOwn}
+use Rattle.server.proofs.LogSteps.{said_of}
 use Rattle.server.specs.Inner.LogSteps.{DeskAfterRefusal, HearsLog, MeansGroup, TakesRead, DeclinesRead, DeclinesHanding}
 
 -- ---- the server that a value is
@@ -100,3 +102,86 @@ module _ (old new : ServerView) (before after : Outbox) (read : WireMessage Stat
 falls : (h : Handing) (old new : ServerView) (s : Member) → is_up s.raft.mode ≡ true → MayLackMemory old.raft.size s h → IsMember new (crashed_member s) → NoMemoryLeaves old s h new
 falls (OwnInput Restart) old new s up lack is = absurd (let q : true ≡ false = sym up ∙ lack in cc)
 falls h old new s up lack is = is
+
+-- ---- every server that a value is
+
+abbrev Answer : Type 0
+Answer = Result (Unit {0}) Refusal
+
+pub for_member : (P : Member → Type 0) (v : ServerView) → P (member_of v) → (s : Member) → IsMember v s → P s
+for_member P v h s is = subst P (member_is v s is) h
+
+pub ok_for_member : (P : Member → Type 0) (v : ServerView) (r : Answer) → OnOk r (P (member_of v)) → OnOk r ((s : Member) → IsMember v s → P s)
+ok_for_member P v (Ok u) h = for_member P v h
+ok_for_member P v (Err cause) h = tt
+
+pub err_for_member : (P : Refusal → Member → Type 0) (v : ServerView) (r : Answer) → IfErr r (λ cause. P cause (member_of v)) → IfErr r (λ cause. (s : Member) → IsMember v s → P cause s)
+err_for_member P v (Ok u) h = tt
+err_for_member P v (Err cause) h = for_member (P cause) v h
+
+-- ---- a refusal that is not want of memory
+
+module _ (old new : ServerView) (h : Handing) (before after : Outbox) where
+  pub declined_parts : (cause : Refusal) → cause ≢ refusals.NoMemory → DeclinesHanding old h cause new before after → (handing_refusal old.raft.size old.raft.me (member_of old) h ≡ Some cause) × DoesNothing old new before after
+  declined_parts refusals.NoMemory other d = absurd (other refl)
+  declined_parts cause other d = d
+
+pub refused_of : (n me : ℕ) (s : Member) (h : Handing) (cause : Refusal) → cause ≢ refusals.NoMemory → handing_refusal n me s h ≡ Some cause → IsHandingRefused n me s h cause
+refused_of n me s h refusals.NoMemory other is = absurd (other refl)
+refused_of n me s h cause other is = is
+
+pub left_of : (old new : ServerView) (s : Member) (h : Handing) (cause : Refusal) → cause ≢ refusals.NoMemory → SameMember old new → HandingRefusalLeaves old s h cause new
+left_of old new s h refusals.NoMemory other is = absurd (other refl)
+left_of old new s h cause other is = is
+
+-- ---- turns that send nothing
+
+module _ (old new : ServerView) (h : Handing) (input : Input) (is : h ≡ OwnInput input) (up : is_up old.raft.server.mode ≡ true) (o : Outbox) where
+  pub silent_taken : (r : Answer) → OnOk r ((out : Outbox) → DoesAct old (act_of old input) new out out) → OnOk r (TakesHanding old (member_of old) h new o o)
+  silent_taken (Ok u) d = subst (λ x. TakesHanding old (member_of old) x new o o) (sym is) (own_taken old new o o input up (d o))
+  silent_taken (Err cause) d = tt
+
+  pub silent_admitted : (r : Answer) → OnOk r ((out : Outbox) → DoesAct old (act_of old input) new out out) → OnOk r (handing_refusal old.raft.size old.raft.me (member_of old) h ≡ None)
+  silent_admitted (Ok u) d = ap (handing_refusal old.raft.size old.raft.me (member_of old)) is ∙ own_admitted old new o o input up (d o)
+  silent_admitted (Err cause) d = tt
+
+  pub silent_declined : (r : Answer) → IfErr r (λ cause. (out : Outbox) → DeclinesOwn old input cause new out out) → IfErr r (λ cause. DeclinesHanding old h cause new o o)
+  silent_declined (Ok u) d = tt
+  silent_declined (Err cause) d = subst (λ x. DeclinesHanding old x cause new o o) (sym is) (own_declined old new o o input up cause (d o))
+
+-- ---- a frame that was read
+
+module _ (old new : ServerView) (before after : Outbox) (bytes : List ℕ) (read : WireMessage State Command) (fits : MessageFits cluster_meaning.commands read) (text : bytes ≡ message_text cluster_meaning.commands read) where
+  means : (x : GroupMessage) → IsGroupFrame cluster_meaning bytes x → MeansGroup read x
+  means (Raft said) is = subst (λ (r : WireMessage State Command). Means r said) (one_text cluster_meaning cluster_lawful is.read read is.fits fits (sym is.text ∙ text)) is.means
+  means (Service message) is = subst (λ (r : WireMessage State Command). service_of r ≡ Some message) (one_text cluster_meaning cluster_lawful is.read read is.fits fits (sym is.text ∙ text)) is.means
+
+  pub read_taken : (r : Answer) → OnOk r (TakesRead old read new before after) → OnOk r (TakesHanding old (member_of old) (FrameBytes bytes) new before after)
+  read_taken (Ok u) h = λ x is. h x (means x is)
+  read_taken (Err cause) h = tt
+
+-- ---- a message of the log that was read
+
+module _ (old new : ServerView) (before after : Outbox) (read : WireMessage State Command) (up : is_up old.raft.server.mode ≡ true) (log : is_of_log (kind_of read.body) ≡ true) (goes : may_go (kind_of read.body) read.from read.to ≡ true) where
+  up_fault : (b : Bool) (x : Option Refusal) → (if b then x else Some refusals.Down) ≡ None → x ≡ None
+  up_fault true x h = h
+  up_fault false x h = absurd (cc)
+
+  pub log_taken : (r : Answer) → OnOk r (message_refusal old.raft.size old.raft.me old.raft.server read ≡ None) → OnOk r ((said : Message Command) → Means read said → HearsLog old said new before after) → OnOk r (TakesRead old read new before after)
+  log_taken (Ok u) none heard =
+      let fault = up_fault (is_up old.raft.server.mode) (message_fault old.raft.size old.raft.me read) none in
+      log_read old new before after read fault (said_of old.raft.size old.raft.me read fault) heard
+  log_taken (Err cause) none heard = tt
+
+  pub log_admitted : (r : Answer) → OnOk r (message_refusal old.raft.size old.raft.me old.raft.server read ≡ None) → OnOk r (wrong_address old.raft.size old.raft.me read.from read.to ≡ None)
+  log_admitted (Ok u) none = sym (log_refusal old.raft.size old.raft.me old.raft.server read up log goes) ∙ none
+  log_admitted (Err cause) none = tt
+
+  pub log_stops : (new.raft.me ≡ old.raft.me) → (new.raft.size ≡ old.raft.size) → (r : Answer)
+      → IfErr r (λ cause. IsMessageRefused old.raft.size old.raft.me old.raft.server read cause)
+      → IfErr r (λ cause. MessageRefusalLeaves cluster_meaning old.raft old.raft.server cause new.raft)
+      → IfErr r (λ cause. DeskAfterRefusal cause old.desk new.desk)
+      → OnErr r (after ≡ before)
+      → IfErr r (λ cause. DeclinesRead old read cause new before after)
+  log_stops me size (Ok u) is left desk unsent = tt
+  log_stops me size (Err cause) is left desk unsent = log_declined old new before after read up log goes me size cause is left desk unsent

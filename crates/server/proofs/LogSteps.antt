@@ -1,7 +1,7 @@
 -- What a step of the log makes of a server of the group.
 use Rattle.std.proofs.Common.{◌≡◌, ◌≢◌, ℕ, Bool, true, false, nat_lt, cond, Option, Some, None, Result, Ok, Err, List, [], ◌++◌, map, refl, sym, ap, subst, ◌∙◌, if◌then◌else◌}
 use Rattle.std.proofs.lemmas.List.{append-nil}
-use Rattle.std.specs.Prelude.{IfSome, OnOk, IfErr}
+use Rattle.std.specs.Prelude.{IfSome, OnOk, OnErr, IfErr}
 use Rattle.rows.specs.declared.actor.Actor.{Actor}
 use Rattle.rows.specs.declared.actor.Actor.TheVariants as actors
 use Rattle.rows.specs.declared.command.Command.{Command}
@@ -269,3 +269,19 @@ module _ (old : ServerView) (raft : RaftView Command) (seen desk : Option OpenDe
   own_desk (Ok u) refused left unseen = tt
   own_desk (Err refusals.NoMemory) refused left unseen = none_kept old raft seen desk inside closed (lack_is_down old.raft raft input asked (refused old.raft.server refl) (left old.raft.server refl))
   own_desk (Err cause) refused left unseen = all_kept old raft seen desk inside closed (left old.raft.server refl) unseen
+
+-- ---- a restart that is refused
+
+closed_where_down : (raft : RaftView Command) (d : Option OpenDesk) → is_up raft.server.mode ≡ false → IfSome d (IsOfLeader raft) → d ≡ None
+closed_where_down raft None down h = refl
+closed_where_down raft (Some o) down h = absurd (let q : true ≡ false = sym h.leads ∙ down_leads_not raft.server.mode down in cc)
+
+pub restart_left : (old new : ServerView) (r : Answer) → IfSome old.desk (IsOfLeader old.raft) → is_up old.raft.server.mode ≡ false
+    → IfErr r (λ cause. RefusalLeaves cluster_meaning old.raft old.raft.server (Own raft_steps.Restart) cause new.raft)
+    → IfErr r (λ cause. DeskAfterRefusal cause old.desk new.desk)
+    → OnErr r (new ≡ old)
+restart_left old new (Ok u) inside down left desk = tt
+restart_left old new (Err refusals.NoMemory) inside down left desk =
+    let same : new.desk ≡ old.desk = desk ∙ sym (closed_where_down old.raft old.desk down inside) in
+    λ i. record { raft = left i; desk = same i }
+restart_left old new (Err cause) inside down left desk = λ i. record { raft = left i; desk = desk i }

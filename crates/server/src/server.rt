@@ -1,7 +1,11 @@
 mod asks;
 mod frames;
+mod gate;
 mod log;
+mod plans;
 mod proposing;
+mod register;
+mod replies;
 mod requests;
 mod steps;
 mod turns;

@@ -3,6 +3,7 @@ ghost use Rattle.std.specs.Prelude.{◌≡◌, true, OnOk, IfErr};
 ghost use Rattle.raft_model.specs.Servers.{is_up};
 ghost use Rattle.server.specs.Inner.Acts.{DoesAct, DeclinesOwn, act_of, asks_of};
 
+use super::replies::send_request;
 use super::{Outbox, Server};
 use rows::{Refusal, ServerId, WorkerRequest};
 
@@ -20,6 +21,10 @@ impl Server {
         ensures stopped { IfErr result (λ cause.
             DeclinesOwn self.now (asks_of to request) cause self.now outbox.old outbox.new) }
     {
-        unreachable!()
+        if to.place() >= self.raft.size() {
+            return Err(Refusal::OutOfRange);
+        }
+        send_request(&mut outbox.frames, self.raft.me(), to, request)?;
+        Ok(())
     }
 }

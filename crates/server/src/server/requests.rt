@@ -1,13 +1,37 @@
-//! What workers ask of the leader's desk, what it answers them, and clients that come.
-ghost use Rattle.std.specs.Prelude.{◌≡◌, true, OnOk, OnErr};
+//! What workers ask of the leader's desk, and what it answers them.
+ghost use Rattle.std.specs.Prelude.{◌≡◌, ◌≢◌, true, Ok, Err, OnOk, OnErr, IfOk, IfErr};
+ghost use Rattle.rows.specs.declared.refusal.Refusal.TheVariants as refusals;
 ghost use Rattle.rows.specs.declared.worker.WorkerRequest.TheVariants as requests;
 ghost use Rattle.raft_model.specs.Servers.{is_up};
-ghost use Rattle.server.specs.Inner.Acts.{DoesAct, Falters, request_act, response_act, register_act};
+ghost use Rattle.group_model.specs.Desks.{applied_state};
+ghost use Rattle.leader.specs.OpenDesks.{at_open, on_submit};
+ghost use Rattle.server.specs.Inner.Acts.{DoesAct, Falters, request_act, response_act};
 
+use super::replies::{send_refusal, send_response};
 use super::{Outbox, Server};
+use fsm_state::Cluster;
+use leader::Desk;
+use raft_core::Raft;
 use rows::{
-    ClassName, ClientId, EvalId, EvalOutcome, NoMemory, Plan, ServerId, Size, Token, WorkerResponse,
+    AskedRequest, Command, EvalId, EvalOutcome, NoMemory, Plan, Refusal, ServerId, Token, Work,
+    WorkerResponse,
 };
+
+/// A plan comes to the desk, on the state that is applied.
+#[tactic(auto, using(crate::proofs::DeskCalls::not_lacking))]
+fn submit(raft: &Raft<Cluster>, desk: &mut Desk, from: ServerId, plan: Plan) -> Result<(), Refusal>
+    requires { is_up raft.now.server.mode ≡ true }
+    ensures ok { let call = on_submit from (applied_state raft.now.server) plan in
+        IfOk result (λ u. at_open call desk.old ≡ Ok (u, desk.new)) }
+    ensures err { let call = on_submit from (applied_state raft.now.server) plan in
+        IfErr result (λ e. e ≢ refusals.NoMemory → at_open call desk.old ≡ Err e) }
+    ensures left { OnErr result (desk.new ≡ desk.old) }
+{
+    let Some(state) = raft.machine() else {
+        unreachable!()
+    };
+    desk.submit(from, plan, state)
+}
 
 impl Server {
     /// Take: the evaluation that goes next, or none, is sent; or why not.
@@ -19,7 +43,20 @@ impl Server {
             self.new outbox.old outbox.new) }
         ensures lost { OnErr result (Falters self.old self.new outbox.old outbox.new) }
     {
-        unreachable!()
+        let me = self.raft.me();
+        let asked = AskedRequest::Take;
+        if let Err(refusal) = self.open_desk() {
+            return send_refusal(&mut outbox.frames, me, from, asked, refusal);
+        }
+        match self.desk.desk.deliver(self.raft.last()) {
+            Ok(given) => {
+                let response = WorkerResponse::Delivered(given);
+                send_response(&mut outbox.frames, me, from, response)
+            }
+            Err(error) => {
+                send_refusal(&mut outbox.frames, me, from, asked, Refusal::from(error))
+            }
+        }
     }
 
     /// Submit: the plan waits for a turn; or it is sent why not.
@@ -37,7 +74,18 @@ impl Server {
             self.new outbox.old outbox.new) }
         ensures lost { OnErr result (Falters self.old self.new outbox.old outbox.new) }
     {
-        unreachable!()
+        let me = self.raft.me();
+        let asked = AskedRequest::Submit(plan.eval, plan.token);
+        if let Err(refusal) = self.open_desk() {
+            return send_refusal(&mut outbox.frames, me, from, asked, refusal);
+        }
+        match submit(&self.raft, &mut self.desk.desk, from, plan) {
+            Ok(()) => Ok(()),
+            Err(cause) => match cause {
+                Refusal::NoMemory => Err(NoMemory),
+                refusal => send_refusal(&mut outbox.frames, me, from, asked, refusal),
+            },
+        }
     }
 
     /// Finish: the status is proposed, and the pair is done with; or it is sent why not.
@@ -57,7 +105,25 @@ impl Server {
             self.new outbox.old outbox.new) }
         ensures lost { OnErr result (Falters self.old self.new outbox.old outbox.new) }
     {
-        unreachable!()
+        let me = self.raft.me();
+        let (eval, token) = (&eval, &token);
+        let asked = AskedRequest::Finish(*eval, *token);
+        if let Err(refusal) = self.open_desk() {
+            return send_refusal(&mut outbox.frames, me, from, asked, refusal);
+        }
+        if let Err(refusal) = self.has_pair(eval, token) {
+            return send_refusal(&mut outbox.frames, me, from, asked, refusal);
+        }
+        match self.propose(Command::EvalStatus(*eval, outcome.into_change())) {
+            Ok(()) => match self.desk.desk.ack(*eval, *token) {
+                Ok(()) => Ok(()),
+                Err(_) => unreachable!(),
+            },
+            Err(cause) => match cause {
+                Refusal::NoMemory => Err(NoMemory),
+                refusal => send_refusal(&mut outbox.frames, me, from, asked, refusal),
+            },
+        }
     }
 
     /// Nack: the pair is free again; or it is sent why not.
@@ -76,7 +142,18 @@ impl Server {
             self.new outbox.old outbox.new) }
         ensures lost { OnErr result (Falters self.old self.new outbox.old outbox.new) }
     {
-        unreachable!()
+        let me = self.raft.me();
+        let (eval, token) = (&eval, &token);
+        let asked = AskedRequest::Nack(*eval, *token);
+        if let Err(refusal) = self.open_desk() {
+            return send_refusal(&mut outbox.frames, me, from, asked, refusal);
+        }
+        match self.desk.desk.nack(*eval, *token) {
+            Ok(()) => Ok(()),
+            Err(error) => {
+                send_refusal(&mut outbox.frames, me, from, asked, Refusal::from(error))
+            }
+        }
     }
 
     /// An answer is for its own workers.
@@ -91,25 +168,6 @@ impl Server {
             self.now outbox.old outbox.new) }
         ensures lost { OnErr result (outbox.new ≡ outbox.old) }
     {
-        unreachable!()
-    }
-
-    /// Register: the client's node is proposed, unless the same ready row stands; the client is
-    /// told.
-    pub(super) fn register(
-        &mut self,
-        client: ClientId,
-        class: ClassName,
-        size: Size,
-        outbox: &mut Outbox,
-    ) -> Result<(), NoMemory>
-        requires { is_up self.old.raft.server.mode ≡ true }
-        ensures same { (self.new.raft.me ≡ self.old.raft.me)
-            × (self.new.raft.size ≡ self.old.raft.size) }
-        ensures taken { OnOk result (DoesAct self.old (register_act self.old client class size)
-            self.new outbox.old outbox.new) }
-        ensures lost { OnErr result (Falters self.old self.new outbox.old outbox.new) }
-    {
-        unreachable!()
+        outbox.work.push(Work { from, response })
     }
 }

@@ -62,11 +62,14 @@ impl Server {
             × (self.new.raft.size ≡ self.old.raft.size) }
         ensures taken { OnOk result (TakesHanding self.old (member_of self.old) (handing input)
             self.new outbox.old outbox.new) }
+        ensures admitted { OnOk result (handing_refusal self.old.raft.size self.old.raft.me
+            (member_of self.old) (handing input) ≡ None) }
         ensures refused { IfErr result (λ cause. IsHandingRefused self.old.raft.size
             self.old.raft.me (member_of self.old) (handing input) cause) }
         ensures left { OnErr result (self.new ≡ self.old) }
         ensures unsent { OnErr result (outbox.new ≡ outbox.old) }
     {
+        let _ = &self.desk;
         match input {
             ServerInput::Restart => self.step_log(Input::Restart, outbox),
             _ => Err(Refusal::Down),

@@ -1,12 +1,82 @@
 //! Turns of the desk.
-ghost use Rattle.std.specs.Prelude.{◌≡◌, true, OnOk, IfErr};
-ghost use Rattle.raft_model.specs.Servers.{is_up};
+ghost use Rattle.std.specs.Prelude.{◌≡◌, true, is_some, option_map, None, Ok, OnOk, OnErr, IfOk, IfErr, IfSome};
+ghost use Rattle.raft_model.specs.Servers.{is_up, is_leader};
+ghost use Rattle.raft_core.specs.RaftView.{SameServer};
+ghost use Rattle.rows.specs.Keys.{eval_id};
+ghost use Rattle.group_model.specs.Blocked.{first_due};
+ghost use Rattle.group_model.specs.Desks.{applied_state, whole_state};
+ghost use Rattle.leader.specs.OpenDesks.{IsOverBlocked, if_open, at_open, on_reap};
+ghost use Rattle.leader.specs.Verdicts.{judged_by, IsProposal, on_plan_turn};
 ghost use Rattle.group_model.specs.Inputs.{PlanTurn, Lapse, FreeTurn, Reap};
 ghost use Rattle.server.specs.declared.server.Outbox.{Outbox as AnyOutbox};
 ghost use Rattle.server.specs.Inner.Acts.{DoesAct, DeclinesOwn, act_of};
 
 use super::{Outbox, Server};
-use rows::{EvalId, Refusal};
+use fsm_state::Cluster;
+use leader::{Desk, JudgedPlan};
+use raft_core::Raft;
+use rows::{Command, EvalId, NoMemory, Refusal, StatusChange};
+
+/// The plan that goes first leaves the queue of an open desk and is judged on the state after the
+/// leader's whole log. Without memory the desk is closed.
+fn judge_first(raft: &mut Raft<Cluster>, desk: &mut Desk) -> Result<Option<JudgedPlan>, NoMemory>
+    requires leads { is_leader raft.old.server.mode ≡ true }
+    requires is_open { is_some desk.old ≡ true }
+    ensures same { SameServer raft.old raft.new }
+    ensures turn { let turn = at_open (on_plan_turn (whole_state raft.old.server)) desk.old in
+        IfOk result (λ j. turn ≡ Ok (option_map judged_by j, desk.new)) }
+    ensures proposal { IfOk result (λ j. IfSome j IsProposal) }
+    ensures lost { OnErr result (desk.new ≡ None) }
+{
+    match raft.projected() {
+        Ok(whole) => match desk.plan_turn(whole) {
+            Ok(judged) => Ok(judged),
+            Err(_) => {
+                desk.clear();
+                Err(NoMemory)
+            }
+        },
+        Err(_) => {
+            desk.clear();
+            Err(NoMemory)
+        }
+    }
+}
+
+/// The evaluation that is freed first, by the state after the leader's whole log, at a desk of the
+/// applied state.
+fn first_freed(raft: &mut Raft<Cluster>, desk: &Desk) -> Result<Option<EvalId>, NoMemory>
+    requires leads { is_leader raft.old.server.mode ≡ true }
+    requires over { IsOverBlocked (applied_state raft.old.server) desk.now }
+    ensures same { SameServer raft.old raft.new }
+    ensures value { let s = raft.old.server in let due = first_due (applied_state s) (whole_state s) in
+        IfOk result (λ id. id ≡ option_map eval_id due) }
+{
+    match raft.projected() {
+        Ok(whole) => match desk.free_turn(whole) {
+            Ok(id) => Ok(id),
+            Err(_) => Err(NoMemory),
+        },
+        Err(_) => Err(NoMemory),
+    }
+}
+
+/// The evaluation that is reaped first, by the state after the leader's whole log.
+fn first_reaped(raft: &mut Raft<Cluster>, desk: &Desk) -> Result<Option<EvalId>, NoMemory>
+    requires leads { is_leader raft.old.server.mode ≡ true }
+    requires is_open { is_some desk.now ≡ true }
+    ensures same { SameServer raft.old raft.new }
+    ensures value { let turn = if_open (on_reap (whole_state raft.old.server)) desk.now in
+        IfOk result (λ id. turn ≡ Ok id) }
+{
+    match raft.projected() {
+        Ok(whole) => match desk.reap(whole) {
+            Ok(id) => Ok(id),
+            Err(_) => unreachable!(),
+        },
+        Err(_) => Err(NoMemory),
+    }
+}
 
 impl Server {
     /// The plan that goes first is judged, what is kept of it is proposed, and its sender is told.
@@ -19,7 +89,11 @@ impl Server {
         ensures stopped { IfErr result (λ cause.
             DeclinesOwn self.old PlanTurn cause self.new outbox.old outbox.new) }
     {
-        unreachable!()
+        self.open_desk()?;
+        match judge_first(&mut self.raft, &mut self.desk.desk)? {
+            Some(judged) => Ok(self.settle(judged, outbox)?),
+            None => Ok(()),
+        }
     }
 
     /// An outstanding evaluation is free again.
@@ -33,7 +107,9 @@ impl Server {
         ensures stopped { IfErr result (λ cause. (out : AnyOutbox) →
             DeclinesOwn self.old (Lapse eval) cause self.new out out) }
     {
-        unreachable!()
+        self.open_desk()?;
+        self.desk.desk.lapse(eval)?;
+        Ok(())
     }
 
     /// The first evaluation that is due, if there is one, is proposed as pending.
@@ -46,7 +122,11 @@ impl Server {
         ensures stopped { IfErr result (λ cause. (out : AnyOutbox) →
             DeclinesOwn self.old FreeTurn cause self.new out out) }
     {
-        unreachable!()
+        self.open_desk()?;
+        match first_freed(&mut self.raft, &self.desk.desk)? {
+            Some(eval) => self.propose(Command::EvalStatus(eval, StatusChange::Pending)),
+            None => Ok(()),
+        }
     }
 
     /// The first evaluation that was given out too often, if there is one, is proposed as failed.
@@ -59,6 +139,10 @@ impl Server {
         ensures stopped { IfErr result (λ cause. (out : AnyOutbox) →
             DeclinesOwn self.old Reap cause self.new out out) }
     {
-        unreachable!()
+        self.open_desk()?;
+        match first_reaped(&mut self.raft, &self.desk.desk)? {
+            Some(eval) => self.propose(Command::EvalStatus(eval, StatusChange::Failed)),
+            None => Ok(()),
+        }
     }
 }

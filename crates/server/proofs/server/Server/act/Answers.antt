@@ -1,0 +1,41 @@
+use Rattle.std.proofs.Common.{ap}
+use Rattle.group_model.specs.Inputs.{Lapse, FreeTurn, Reap}
+use Rattle.server.specs.Handings.{handing}
+use Rattle.server.proofs.Handings.{silent_taken, silent_admitted, silent_declined}
+use Rattle.server.proofs.server.Server.act.Goals as goal
+
+pub returns-in-Lapse-clause-taken : goal.returns-in-Lapse-clause-taken
+returns-in-Lapse-clause-taken c =
+    silent_taken c.args.self.now c.lapse.new.self (handing c.args.input) (Lapse c.in-Lapse.eval) (ap handing c.in-Lapse.is) c.requires c.args.outbox.now c.lapse.result c.lapse.ensures.taken
+
+pub returns-in-Lapse-clause-admitted : goal.returns-in-Lapse-clause-admitted
+returns-in-Lapse-clause-admitted c =
+    silent_admitted c.args.self.now c.lapse.new.self (handing c.args.input) (Lapse c.in-Lapse.eval) (ap handing c.in-Lapse.is) c.requires c.args.outbox.now c.lapse.result c.lapse.ensures.taken
+
+pub returns-in-Lapse-clause-stopped : goal.returns-in-Lapse-clause-stopped
+returns-in-Lapse-clause-stopped c =
+    silent_declined c.args.self.now c.lapse.new.self (handing c.args.input) (Lapse c.in-Lapse.eval) (ap handing c.in-Lapse.is) c.requires c.args.outbox.now c.lapse.result c.lapse.ensures.stopped
+
+pub returns-in-FreeTurn-clause-taken : goal.returns-in-FreeTurn-clause-taken
+returns-in-FreeTurn-clause-taken c =
+    silent_taken c.args.self.now c.free_turn.new.self (handing c.args.input) FreeTurn (ap handing c.in-FreeTurn.is) c.requires c.args.outbox.now c.free_turn.result c.free_turn.ensures.taken
+
+pub returns-in-FreeTurn-clause-admitted : goal.returns-in-FreeTurn-clause-admitted
+returns-in-FreeTurn-clause-admitted c =
+    silent_admitted c.args.self.now c.free_turn.new.self (handing c.args.input) FreeTurn (ap handing c.in-FreeTurn.is) c.requires c.args.outbox.now c.free_turn.result c.free_turn.ensures.taken
+
+pub returns-in-FreeTurn-clause-stopped : goal.returns-in-FreeTurn-clause-stopped
+returns-in-FreeTurn-clause-stopped c =
+    silent_declined c.args.self.now c.free_turn.new.self (handing c.args.input) FreeTurn (ap handing c.in-FreeTurn.is) c.requires c.args.outbox.now c.free_turn.result c.free_turn.ensures.stopped
+
+pub returns-in-Reap-clause-taken : goal.returns-in-Reap-clause-taken
+returns-in-Reap-clause-taken c =
+    silent_taken c.args.self.now c.reap.new.self (handing c.args.input) Reap (ap handing c.in-Reap.is) c.requires c.args.outbox.now c.reap.result c.reap.ensures.taken
+
+pub returns-in-Reap-clause-admitted : goal.returns-in-Reap-clause-admitted
+returns-in-Reap-clause-admitted c =
+    silent_admitted c.args.self.now c.reap.new.self (handing c.args.input) Reap (ap handing c.in-Reap.is) c.requires c.args.outbox.now c.reap.result c.reap.ensures.taken
+
+pub returns-in-Reap-clause-stopped : goal.returns-in-Reap-clause-stopped
+returns-in-Reap-clause-stopped c =
+    silent_declined c.args.self.now c.reap.new.self (handing c.args.input) Reap (ap handing c.in-Reap.is) c.requires c.args.outbox.now c.reap.result c.reap.ensures.stopped

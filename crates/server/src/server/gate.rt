@@ -1,0 +1,46 @@
+//! Whether the desk may be asked.
+ghost use Rattle.std.specs.Prelude.{◌≡◌, true, Err, OnOk, IfErr};
+ghost use Rattle.group_model.specs.Members.{open_desk};
+ghost use Rattle.raft_model.specs.Servers.{is_leader};
+ghost use Rattle.server.specs.Refusals.{HasOpenDesk};
+ghost use Rattle.leader.specs.OpenDesks.{if_open, on_outstanding};
+ghost use Rattle.server.specs.Inner.Acts.{member_of};
+ghost use Rattle.server.specs.Inner.Replies.{HasPair};
+
+use super::Server;
+use rows::{EvalId, Leader, Refusal, Token};
+
+impl Server {
+    /// Whether it leads.
+    pub(super) fn leads(&self) -> bool
+        ensures { result ≡ is_leader self.now.raft.server.mode }
+    {
+        self.raft.leader_term().is_some()
+    }
+
+    /// That its desk is open: `NotLeader` with the leader that it knows where it does not lead,
+    /// then `NotOpen`.
+    pub(super) fn open_desk(&self) -> Result<(), Refusal>
+        ensures open { OnOk result (HasOpenDesk (member_of self.now)) }
+        ensures shut { IfErr result (λ e. open_desk (member_of self.now) ≡ Err e) }
+    {
+        if !self.leads() {
+            return Err(Refusal::NotLeader(Leader::new(self.raft.known_leader())));
+        }
+        if !self.desk.desk.is_open() {
+            return Err(Refusal::NotOpen);
+        }
+        Ok(())
+    }
+
+    /// That a pair of evaluation and token is outstanding at its open desk: `NotOutstanding` where
+    /// the evaluation is not, `TokenDiffers` where it is under another token.
+    pub(super) fn has_pair(&self, eval: &EvalId, token: &Token) -> Result<(), Refusal>
+        ensures has { OnOk result (HasPair eval.now token.now self.now.desk) }
+        ensures lacks { IfErr result
+            (λ e. if_open (on_outstanding eval.now token.now) self.now.desk ≡ Err e) }
+    {
+        self.desk.desk.outstanding(*eval, *token)?;
+        Ok(())
+    }
+}
