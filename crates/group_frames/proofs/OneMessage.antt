@@ -1,8 +1,7 @@
 -- A frame is of one message at most.
-use Rattle.std.proofs.Common.{◌≡◌, ℕ, Option, Some, None, List, [], ◌++◌, refl, sym, ap, subst, ◌∙◌}
-use Rattle.std.proofs.lemmas.List.{append-nil}
+use Rattle.std.proofs.Common.{◌≡◌, ℕ, Option, Some, None, List, [], ◌++◌, sym, ap, subst, ◌∙◌}
 use Rattle.rows.specs.declared.actor.Actor.{Actor}
-use Rattle.rows.specs.declared.actor.Actor.TheVariants.{Server, Client}
+use Rattle.rows.specs.declared.actor.Actor.TheVariants.{Server}
 use Rattle.rows.specs.declared.command.Command.{Command}
 use Rattle.machine.specs.Meaning.{Meaning, LawfulMachine}
 use Rattle.wire.specs.Messages.{Message as WireMessage}
@@ -11,9 +10,9 @@ use Rattle.wire.specs.declared.body.Body.{Body}
 use Rattle.wire.specs.declared.body.Body.TheVariants as bodies
 use Rattle.wire.proofs.Framing.{ShortCommands, frames_apart}
 use Rattle.raft_model.specs.Messages.{Message}
-use Rattle.raft_core.specs.Frames.{Means, IsFrameOf, log_message}
-use Rattle.group_model.specs.Messages.{GroupMessage, Raft, Service, ServiceMessage}
-use Rattle.group_frames.specs.GroupFrames.{service_of, service_between, IsServiceFrame, IsGroupFrame, FramesAreOfOne}
+use Rattle.raft_core.specs.Frames.{Means, log_message}
+use Rattle.group_model.specs.Messages.{Raft, Service, ServiceMessage}
+use Rattle.group_frames.specs.GroupFrames.{service_of, service_between, FramesAreOfOne}
 
 same_place : {a b : ℕ} → (let x : Actor = Server a in x ≡ Server b) → a ≡ b
 same_place h = cc
@@ -52,8 +51,8 @@ module _ {S : Type 0} (m : Meaning S Command) (law : LawfulMachine m) where
       let from : x.from ≡ y.from = same_place (sym p.from ∙ q.from) in
       let to : x.to ≡ y.to = same_place (sym p.to ∙ q.to) in
       let said : log_message y.from y.to r.body ≡ Some x =
-          subst (λ (i : ℕ). log_message i y.to r.body ≡ Some x) from
-          (subst (λ (j : ℕ). log_message x.from j r.body ≡ Some x) to p.said) in
+      subst (λ (i : ℕ). log_message i y.to r.body ≡ Some x) from
+      (subst (λ (j : ℕ). log_message x.from j r.body ≡ Some x) to p.said) in
       same_message (sym said ∙ q.said)
 
   pub log_is_no_service : (r : WireMessage S Command) (x : Message Command) (y : ServiceMessage) → Means r x → service_of r ≡ Some y → ⊥

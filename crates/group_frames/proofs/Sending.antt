@@ -1,14 +1,14 @@
 -- Frames of the group that are sent.
-use Rattle.std.proofs.Common.{◌≡◌, Some, None, List, [], ◌∷◌, ◌++◌, map, refl, sym, ap, ◌∙◌, append_assoc}
+use Rattle.std.proofs.Common.{◌≡◌, Some, List, [], ◌∷◌, ◌++◌, map, refl, sym}
 use Rattle.std.proofs.lemmas.List.{append-nil}
 use Rattle.std.specs.List.{AllZip}
 use Rattle.rows.specs.declared.command.Command.{Command}
 use Rattle.machine.specs.Meaning.{Meaning}
 use Rattle.wire.specs.Messages.{Message as WireMessage}
-use Rattle.wire.specs.Frames.{Frame, ListsFrame, MessageFits, message_text}
+use Rattle.wire.specs.Frames.{Frame, ListsFrame, message_text}
 use Rattle.raft_model.specs.Messages.{Message}
 use Rattle.raft_core.specs.Frames.{Sends, FrameCarries}
-use Rattle.group_model.specs.Messages.{GroupMessage, Raft, Service, ServiceMessage}
+use Rattle.group_model.specs.Messages.{Raft, Service, ServiceMessage}
 use Rattle.group_frames.specs.GroupFrames.{service_of, receiver_of, CarriesGroup, SendsGroup}
 
 module _ {S : Type 0} (m : Meaning S Command) where

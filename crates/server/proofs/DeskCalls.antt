@@ -14,7 +14,7 @@ use Rattle.group_model.specs.Desks.{Desk, QueuedPlan, applied_state}
 use Rattle.group_model.specs.Plans.{submitted}
 use Rattle.group_model.specs.Queues.{first_plan}
 use Rattle.raft_core.specs.RaftView.{RaftView}
-use Rattle.leader.specs.OpenDesks.{OpenDesk, IsOverBlocked, LacksMemory, Answered, leaves_open, at_open, with_broker, once_given, once_outstanding, once_submitted, on_deliver, on_outstanding, on_ack, on_nack, on_lapse, on_submit}
+use Rattle.leader.specs.OpenDesks.{OpenDesk, IsOverBlocked, LacksMemory, Answered, leaves_open, at_open, with_broker, once_given, once_outstanding, once_submitted, on_deliver, on_ack, on_nack, on_lapse, on_submit}
 use Rattle.leader.specs.Verdicts.{once_picked, on_plan_turn}
 use Rattle.leader.specs.Staying.{IsOver}
 use Rattle.leader.proofs.Staying.{deliver_stays, ack_stays, nack_stays, lapse_stays, submit_stays, plan_turn_stays}

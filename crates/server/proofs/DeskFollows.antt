@@ -1,12 +1,12 @@
 -- The desk after a step of the log is what it makes of the entries that it sees; and it is of the
 -- applied state then.
-use Rattle.std.proofs.Common.{◌≡◌, ℕ, zero, suc, ◌≤◌, Bool, true, false, ◌==◌, Option, Some, None, Ok, List, [], ◌∷◌, ◌++◌, take, drop, ◌-◌, refl, sym, ap, subst, ◌∙◌, arith}
+use Rattle.std.proofs.Common.{◌≡◌, ℕ, zero, suc, ◌≤◌, Bool, true, false, ◌==◌, Option, Some, None, List, [], ◌∷◌, take, drop, ◌-◌, refl, sym, ap, subst, ◌∙◌, arith}
 use Rattle.std.proofs.lemmas.List.{drop-take}
 use Rattle.std.specs.Prelude.{IfSome}
 use Rattle.std.specs.List.{slice_range}
 use Rattle.rows.specs.declared.command.Command.{Command}
 use Rattle.rows.specs.States.{AreTables}
-use Rattle.machine.specs.After.{after, after_from}
+use Rattle.machine.specs.After.{after_from}
 use Rattle.machine.specs.declared.entry.Entry.{Entry}
 use Rattle.raft_model.specs.Logs.{commands, state_after}
 use Rattle.raft_model.specs.Servers.{Server, is_leader, Candidate}
@@ -16,10 +16,10 @@ use Rattle.cluster_model.specs.Words.{State}
 use Rattle.cluster_model.specs.Effect.{applied}
 use Rattle.cluster_model.specs.ClusterMachine.{cluster_meaning}
 use Rattle.cluster_model.proofs.StateLaws.{empty_are_tables, applied_are_tables}
-use Rattle.group_model.specs.Desks.{Desk, follow_state, opened, after_entry, after_entries, applied_state, newly, desk_after}
+use Rattle.group_model.specs.Desks.{after_entry, after_entries, applied_state, newly, desk_after}
 use Rattle.raft_core.proofs.Applies.{after_range}
-use Rattle.leader.specs.OpenDesks.{OpenDesk, IsOpened, IsOpenedBy}
-use Rattle.leader.specs.Staying.{IsOver, Follows, FollowsIfOpen}
+use Rattle.leader.specs.OpenDesks.{OpenDesk}
+use Rattle.leader.specs.Staying.{IsOver}
 use Rattle.leader.proofs.Staying.{opens_over}
 use Rattle.server.specs.ServerViews.{group_desk, IsOfLeader}
 use Rattle.server.specs.Inner.DeskWatch.{OpensWhere, DeskSees}

@@ -1,5 +1,5 @@
 -- What is handed in, by the parts of a step.
-use Rattle.std.proofs.Common.{◌≡◌, ◌≢◌, ℕ, Bool, true, false, nat_lt, Option, Some, None, Result, Ok, Err, List, length, take, refl, sym, ap, subst, ◌∙◌, if◌then◌else◌}
+use Rattle.std.proofs.Common.{◌≡◌, ◌≢◌, ℕ, Bool, true, false, Option, Some, None, Result, Ok, Err, List, length, take, refl, sym, ap, subst, ◌∙◌, if◌then◌else◌}
 use Rattle.std.proofs.Math.Seq.{take-length}
 use Rattle.std.specs.Prelude.{OnOk, OnErr, IfErr}
 use Rattle.rows.specs.declared.actor.Actor.{Actor}
@@ -7,36 +7,28 @@ use Rattle.rows.specs.declared.actor.Actor.TheVariants as actors
 use Rattle.rows.specs.declared.command.Command.{Command}
 use Rattle.rows.specs.declared.refusal.Refusal.{Refusal}
 use Rattle.rows.specs.declared.refusal.Refusal.TheVariants as refusals
-use Rattle.rows.specs.declared.worker.WorkerRequest.{WorkerRequest}
-use Rattle.rows.specs.declared.worker.WorkerRequest.TheVariants as requests
-use Rattle.rows.specs.declared.worker.WorkerResponse.{WorkerResponse}
-use Rattle.rows.specs.declared.worker.WorkerResponse.TheVariants as responses
-use Rattle.wire.specs.Messages.{Message as WireMessage, kind_of, is_of_log, may_go, request_kind, response_kind}
-use Rattle.wire.specs.Frames.{Frame, MessageFits, message_text}
-use Rattle.wire.specs.declared.body.Body.{Body}
-use Rattle.wire.specs.declared.body.Body.TheVariants as bodies
+use Rattle.wire.specs.Messages.{Message as WireMessage, kind_of, is_of_log, may_go}
+use Rattle.wire.specs.Frames.{MessageFits, message_text}
 use Rattle.wire.specs.declared.kind.Kind.{Kind}
 use Rattle.wire.specs.declared.kind.Kind.TheVariants as kinds
 use Rattle.raft_model.specs.Messages.{Message}
 use Rattle.raft_model.specs.Servers.{Server, is_up, crashed}
-use Rattle.raft_core.specs.Frames.{Means, log_message}
-use Rattle.raft_core.specs.RaftView.{SameServer}
-use Rattle.raft_core.specs.Refusals.{misdirected, message_fault, message_refusal, is_server_of, is_server_at, IsMessageRefused, MessageRefusalLeaves}
+use Rattle.raft_core.specs.Frames.{Means}
+use Rattle.raft_core.specs.Refusals.{misdirected, message_fault, message_refusal, IsMessageRefused, MessageRefusalLeaves}
 use Rattle.cluster_model.specs.Words.{State}
 use Rattle.cluster_model.specs.ClusterMachine.{cluster_meaning}
 use Rattle.cluster_model.proofs.ClusterMachine.{cluster_lawful}
-use Rattle.group_model.specs.Messages.{GroupMessage, Raft, Service, ServiceMessage}
+use Rattle.group_model.specs.Messages.{GroupMessage, Raft, Service}
 use Rattle.group_model.specs.Inputs.{Input, Restart}
-use Rattle.group_model.specs.Members.{Member, Turn, acts, wakes, done, step}
-use Rattle.group_frames.specs.GroupFrames.{service_of, service_between, IsGroupFrame}
+use Rattle.group_model.specs.Members.{Member, wakes, done, step}
+use Rattle.group_frames.specs.GroupFrames.{service_of, IsGroupFrame}
 use Rattle.group_frames.proofs.OneMessage.{one_text, log_is_no_service}
-use Rattle.leader.specs.OpenDesks.{OpenDesk}
 use Rattle.server.specs.declared.server.Outbox.{Outbox}
-use Rattle.server.specs.ServerViews.{ServerView, IsMember, SameMember, crashed_member, group_desk}
+use Rattle.server.specs.ServerViews.{ServerView, IsMember, SameMember, crashed_member}
 use Rattle.server.specs.Handings.{Handing, FrameBytes, OwnInput}
 use Rattle.server.specs.Turns.{TakesTurn, TakesHanding}
-use Rattle.server.specs.Refusals.{refusal_in, is_of_group, wrong_address, handing_refusal, MayLackMemory, IsHandingRefused, NoMemoryLeaves, HandingRefusalLeaves}
-use Rattle.server.specs.Inner.Acts.{member_of, act_of, DoesAct, Falters, DoesNothing, DeclinesOwn}
+use Rattle.server.specs.Refusals.{refusal_in, wrong_address, handing_refusal, MayLackMemory, IsHandingRefused, NoMemoryLeaves, HandingRefusalLeaves}
+use Rattle.server.specs.Inner.Acts.{member_of, act_of, DoesAct, DoesNothing, DeclinesOwn}
 use Rattle.server.proofs.LogSteps.{said_of}
 use Rattle.server.specs.Inner.LogSteps.{DeskAfterRefusal, HearsLog, MeansGroup, TakesRead, DeclinesRead, DeclinesHanding}
 

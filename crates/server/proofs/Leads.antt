@@ -1,14 +1,13 @@
 -- How a server that leads after a step of its log came to it, as its desk has to know: it led
 -- before, in the same term, and commit did not fall; or it was a candidate, and nothing is newly
 -- applied.
-use Rattle.std.proofs.Common.{◌≡◌, ℕ, ◌≤◌, ◌⊎◌, inl, inr, Bool, true, false, ◌&&◌, ◌==◌, nat_lt, nat_le, Some, None, Result, Ok, Err, List, length, refl, ap, subst, sym, ◌∙◌, slice_set, arith}
-use Rattle.rows.specs.declared.refusal.Refusal.{Refusal}
+use Rattle.std.proofs.Common.{◌≡◌, ℕ, ◌≤◌, ◌⊎◌, inl, inr, Bool, true, false, ◌&&◌, ◌==◌, nat_lt, nat_le, None, Result, Ok, List, length, refl, ap, subst, sym, ◌∙◌, slice_set, arith}
 use Rattle.machine.specs.Meaning.{Meaning}
 use Rattle.raft_model.specs.Logs.{MAX}
 use Rattle.raft_model.specs.Quorums.{is_quorum, marked}
 use Rattle.raft_model.specs.Messages.{Message, Body, VoteRequest, VoteReply, Append, AppendReply, Install, InstallReply}
-use Rattle.raft_model.specs.Servers.{Server, Turn, Mode, Down, Follower, Candidate, Leader, is_up, is_leader, silent, met, grants, counted, is_held, advanced_in, is_chosen, greatest, hears_ok, hears_refusal}
-use Rattle.raft_model.specs.Steps.{Input, Arrives, Timeout, Beat, Compact, Crash, Restart, receives, times_out, acts, wakes, step}
+use Rattle.raft_model.specs.Servers.{Server, Turn, Mode, Down, Follower, Candidate, Leader, is_up, is_leader, met, grants, counted, is_held, advanced_in, is_chosen, greatest, hears_ok, hears_refusal}
+use Rattle.raft_model.specs.Steps.{Arrives, Timeout, Beat, Crash, Restart, receives, times_out, step}
 use Rattle.raft_core.proofs.Commits.{is_greatest}
 
 bool_cases : (b : Bool) → (b ≡ true) ⊎ (b ≡ false)

@@ -1,5 +1,5 @@
 -- What a step of the log makes of a server of the group.
-use Rattle.std.proofs.Common.{◌≡◌, ◌≢◌, ℕ, Bool, true, false, nat_lt, cond, Option, Some, None, Result, Ok, Err, List, [], ◌++◌, map, refl, sym, ap, subst, ◌∙◌, if◌then◌else◌}
+use Rattle.std.proofs.Common.{◌≡◌, ◌≢◌, ℕ, Bool, true, false, Option, Some, None, Result, Ok, Err, [], ◌++◌, map, refl, sym, ap, subst, ◌∙◌, if◌then◌else◌}
 use Rattle.std.proofs.lemmas.List.{append-nil}
 use Rattle.std.specs.Prelude.{IfSome, OnOk, OnErr, IfErr}
 use Rattle.rows.specs.declared.actor.Actor.{Actor}
@@ -22,16 +22,16 @@ use Rattle.raft_core.specs.declared.input.Input.{Input as RaftInput}
 use Rattle.raft_core.specs.declared.input.Input.TheVariants as raft_inputs
 use Rattle.raft_core.specs.RaftView.{RaftView}
 use Rattle.raft_core.specs.Frames.{Means}
-use Rattle.raft_core.specs.Inputs.{Handed, handed, Own}
+use Rattle.raft_core.specs.Inputs.{handed, Own}
 use Rattle.raft_core.specs.Steps.{Represents, Steps, Takes, TakesMessage}
 use Rattle.raft_core.specs.Refusals.{message_fault, message_refusal, is_server_of, is_server_at, MayLack, IsRefused, LackLeaves, RefusalLeaves, MessageRefusalLeaves, RefusalShows}
 use Rattle.raft_core.specs.Watching.{SeesStep}
 use Rattle.cluster_model.specs.Words.{State}
 use Rattle.cluster_model.specs.ClusterMachine.{cluster_meaning}
-use Rattle.group_model.specs.Messages.{Raft, Service}
-use Rattle.group_model.specs.Desks.{Desk, desk_after}
+use Rattle.group_model.specs.Messages.{Raft}
+use Rattle.group_model.specs.Desks.{desk_after}
 use Rattle.group_model.specs.Inputs.{Act, Ask, AskTimeout, AskBeat, AskCrash, AskRestart, input_of}
-use Rattle.group_model.specs.Members.{Member, logged}
+use Rattle.group_model.specs.Members.{logged}
 use Rattle.group_frames.proofs.Sending.{sends_log}
 use Rattle.leader.specs.OpenDesks.{OpenDesk}
 use Rattle.server.specs.declared.server.Outbox.{Outbox}

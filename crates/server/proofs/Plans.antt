@@ -1,5 +1,5 @@
 -- What a server does with the plan whose turn it is.
-use Rattle.std.proofs.Common.{◌≡◌, ◌≢◌, ℕ, suc, ◌+◌, ◌-◌, ◌^◌, ◌≤◌, Bool, true, false, Option, Some, None, Result, Ok, Err, List, [], ◌∷◌, map, length, refl, sym, subst, ap, ◌∙◌, arith}
+use Rattle.std.proofs.Common.{◌≡◌, ◌≢◌, ℕ, suc, ◌+◌, ◌^◌, ◌≤◌, true, false, Option, Some, None, Result, Ok, Err, [], ◌∷◌, length, refl, sym, subst, ap, ◌∙◌, arith}
 use Rattle.std.specs.Prelude.{IfOk, OnOk, option_map, nat_lt}
 use Rattle.rows.specs.declared.refusal.NoMemory.{NoMemory}
 use Rattle.std.proofs.lemmas.Bool.{le-ltb}
@@ -13,22 +13,21 @@ use Rattle.rows.specs.declared.refusal.Refusal.TheVariants as refusals
 use Rattle.rows.specs.declared.worker.AskedRequest.TheVariants as asked
 use Rattle.rows.specs.declared.worker.WorkerResponse.TheVariants.{Refused}
 use Rattle.raft_model.specs.Logs.{MAX}
-use Rattle.raft_model.specs.Servers.{Server, is_leader}
+use Rattle.raft_model.specs.Servers.{Server}
 use Rattle.raft_model.specs.Steps.{admitted}
 use Rattle.rows.specs.declared.command.Command.{Command}
 use Rattle.raft_core.specs.RaftView.{SameServer}
 use Rattle.cluster_model.specs.Words.{State}
 use Rattle.cluster_model.specs.ClusterMachine.{cluster_meaning}
-use Rattle.group_model.specs.Messages.{ServiceMessage, BetweenServers, Answers}
+use Rattle.group_model.specs.Messages.{BetweenServers, Answers}
 use Rattle.group_model.specs.Order.{Picked}
 use Rattle.group_model.specs.Acceptance.{Accepted, keeps_some}
 use Rattle.group_model.specs.Brokers.{outstanding}
-use Rattle.group_model.specs.Desks.{Desk, QueuedPlan, whole_state}
-use Rattle.group_model.specs.Inputs.{PlanTurn, Act, rests}
-use Rattle.group_model.specs.Members.{open_desk}
-use Rattle.group_model.specs.Plans.{after_accept, proposes_plan, told_result, told_refusal, plan_command}
+use Rattle.group_model.specs.Desks.{QueuedPlan, whole_state}
+use Rattle.group_model.specs.Inputs.{PlanTurn, Act}
+use Rattle.group_model.specs.Plans.{after_accept, told_result, told_refusal, plan_command}
 use Rattle.group_model.specs.Queues.{first_plan}
-use Rattle.leader.specs.OpenDesks.{OpenDesk, Answered, at_open}
+use Rattle.leader.specs.OpenDesks.{OpenDesk, at_open}
 use Rattle.leader.specs.declared.judged.JudgedPlan.{JudgedPlan}
 use Rattle.leader.specs.Verdicts.{Judged, judged_by, verdict_for, once_picked, on_plan_turn}
 use Rattle.leader.specs.GroupActs.{judged_act}

@@ -1,5 +1,5 @@
 -- The nodes of which nothing of a plan is kept strictly rise.
-use Rattle.std.proofs.Common.{◌≡◌, ℕ, zero, suc, ◌≤◌, ◌<◌, Bool, true, false, if◌then◌else◌, Option, Some, None, Result, Ok, Err, List, [], ◌∷◌, ◌++◌, refl, sym, subst, ap, ◌∙◌, arith}
+use Rattle.std.proofs.Common.{◌≡◌, ℕ, zero, suc, ◌≤◌, Bool, true, false, if◌then◌else◌, Option, Some, None, Result, Ok, Err, List, [], ◌∷◌, ◌++◌, refl, subst, ◌∙◌, arith}
 use Rattle.std.specs.Prelude.{not, ◌&&◌, nat_eq, nat_lt, length}
 use Rattle.std.proofs.lemmas.Bool.{lt-ltb}
 use Rattle.std.proofs.lemmas.Cmp.{nat_cmp_total}
@@ -16,7 +16,7 @@ use Rattle.rows.specs.declared.refusal.Refusal.{Refusal}
 use Rattle.rows.specs.declared.refusal.Refusal.TheVariants as refusals
 use Rattle.rows.proofs.RisingLaws.{keeps_rising}
 use Rattle.cluster_model.specs.Words.{State, job_of, node_of}
-use Rattle.group_model.specs.Acceptance.{Accepted, NODES, kept_stops, claimed, kept_where, with_kept, on, keep_places, keep_upto, keep, is_eval_of, accept_of, accept}
+use Rattle.group_model.specs.Acceptance.{Accepted, NODES, kept_stops, claimed, kept_where, with_kept, on, keep_places, keep_upto, keep, is_eval_of, accept_of}
 use Rattle.leader.specs.Verdicts.{verdict_for}
 
 -- all at most this

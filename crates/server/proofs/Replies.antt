@@ -1,5 +1,5 @@
 -- Messages of the desk go from a server to any.
-use Rattle.std.proofs.Common.{◌≡◌, ℕ, true, Option, Some, None, refl, sym, ap}
+use Rattle.std.proofs.Common.{◌≡◌, ℕ, true, refl}
 use Rattle.rows.specs.declared.actor.Actor.TheVariants as actors
 use Rattle.rows.specs.declared.worker.WorkerRequest.{WorkerRequest}
 use Rattle.rows.specs.declared.worker.WorkerRequest.TheVariants as requests

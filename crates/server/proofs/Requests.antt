@@ -61,8 +61,8 @@ module _ (old new : ServerView) (before after : Outbox) (from : ℕ) (id : EvalI
       let c = commands.EvalStatus id (change_of outcome) in
       let acked = with_broker (with_ack id o.0.desk.broker) o.0 in
       let is : request_act old from (requests.Finish id token outcome) ≡ Ok (refusing e) = finish_is o.0 has
-          ∙ ap (λ (r : Result ℕ Refusal). act_taken (finish_act refusing old.raft.server c (once_outstanding acked r))) out
-          ∙ ap (λ (r : Option Refusal). act_taken (proposes_at acked c refusing r)) (refused_why old.raft.server c e h.leads other why) in
+      ∙ ap (λ (r : Result ℕ Refusal). act_taken (finish_act refusing old.raft.server c (once_outstanding acked r))) out
+      ∙ ap (λ (r : Option Refusal). act_taken (proposes_at acked c refusing r)) (refused_why old.raft.server c e h.leads other why) in
       subst (λ (act : Result Act Refusal). DoesAct old act new before after) (sym is) (does_alone old new before after (BetweenServers old.raft.me from (Answers (Refused (asked.Finish id token) (reason_of e))) ∷ []) (Some o.0.desk) [] same (ap group_desk (desk ∙ has)) sent (work ∙ sym (append-nil before.work)))
 
   pub finish_declined : (e : Refusal) (r : Result (Unit {0}) NoMemory) → WhyNotProposed old.raft.server (commands.EvalStatus id (change_of outcome)) e → e ≢ refusals.NoMemory → new.raft.server ≡ old.raft.server → new.desk ≡ old.desk → after.work ≡ before.work →
@@ -84,7 +84,7 @@ module _ (old new : ServerView) (before after : Outbox) (from : ℕ) (p : Plan) 
       let has : old.desk ≡ Some o.0 = o.1 in
       let why = refused (on_submit from (applied_state old.raft.server) p) old.desk o.0 e has call in
       let is : request_act old from (requests.Submit p) ≡ Ok (refuses old.raft.me from (asked.Submit p.eval p.token) (Some o.0.desk) e) = submit_is o.0 has
-          ∙ ap (λ (r : Answered (Unit {0})). act_taken (submit_act old.raft.me from p o.0 r)) why in
+      ∙ ap (λ (r : Answered (Unit {0})). act_taken (submit_act old.raft.me from p o.0 r)) why in
       subst (λ (act : Result Act Refusal). DoesAct old act new before after) (sym is) (does_alone old new before after (BetweenServers old.raft.me from (Answers (Refused (asked.Submit p.eval p.token) (reason_of e))) ∷ []) (Some o.0.desk) [] same (ap group_desk (desk ∙ has)) sent (work ∙ sym (append-nil before.work)))
 
 -- ---- what its own workers ask of a server

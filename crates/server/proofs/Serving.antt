@@ -1,18 +1,14 @@
 -- What a server's parts do is what the definitions say.
-use Rattle.std.proofs.Common.{◌≡◌, ◌≢◌, if◌then◌else◌, subst, ℕ, zero, suc, Bool, true, false, Option, Some, None, Result, Ok, Err, List, [], ◌∷◌, ◌++◌, map, take, drop, length, refl, sym, ap, ◌∙◌}
+use Rattle.std.proofs.Common.{◌≡◌, ◌≢◌, if◌then◌else◌, subst, ℕ, zero, suc, Bool, true, false, Option, Some, None, Result, Ok, Err, List, [], ◌∷◌, ◌++◌, map, take, drop, refl, sym, ap, ◌∙◌}
 use Rattle.std.specs.Prelude.{OnOk}
 use Rattle.std.proofs.lemmas.List.{append-nil}
 use Rattle.std.proofs.Math.Seq.{take-append_seam}
 use Rattle.rows.specs.declared.command.Command.{Command}
 use Rattle.rows.specs.declared.refusal.Refusal.{Refusal}
 use Rattle.rows.specs.declared.refusal.Refusal.TheVariants as refusals
-use Rattle.rows.specs.declared.worker.AskedRequest.{AskedRequest}
 use Rattle.rows.specs.declared.worker.WorkerResponse.{WorkerResponse}
-use Rattle.rows.specs.declared.worker.WorkerResponse.TheVariants.{Refused}
 use Rattle.rows.specs.declared.worker.Work.{Work}
-use Rattle.rows.specs.Reasons.{reason_of}
 use Rattle.wire.specs.Frames.{Frame}
-use Rattle.raft_model.specs.Logs.{state_after}
 use Rattle.raft_model.specs.Servers.{Server, Turn, Mode, Down, Follower, Candidate, Leader, is_up, is_leader, silent, extended, crashed}
 use Rattle.raft_model.specs.Steps as raft_steps
 use Rattle.raft_core.specs.RaftView.{SameServer}
@@ -25,9 +21,8 @@ use Rattle.group_model.specs.WorkerRequests.{responds}
 use Rattle.group_frames.specs.GroupFrames.{SendsGroup}
 use Rattle.group_frames.proofs.Sending.{sends_nothing}
 use Rattle.server.specs.declared.server.Outbox.{Outbox}
-use Rattle.server.specs.ServerViews.{ServerView, SameMember, group_desk}
+use Rattle.server.specs.ServerViews.{ServerView, group_desk}
 use Rattle.server.specs.Turns.{TakesTurn}
-use Rattle.server.specs.Refusals.{HasOpenDesk, MayTakeMemory}
 use Rattle.server.specs.Inner.Acts.{member_of, act_of, DoesAct, DeclinesOwn, DoesNothing, Falters, KeepsFront, IsProposed, WhyNotProposed}
 use Rattle.server.specs.Inner.Replies.{SendsOne}
 

@@ -1,6 +1,6 @@
 -- What a contract sees of a server of the group, which server of the definitions it is, and what
 -- its type keeps.
-use Rattle.std.specs.Prelude.{◌≡◌, true, Option, Some, None, option_map}
+use Rattle.std.specs.Prelude.{◌≡◌, true, Option, None, option_map}
 use Rattle.rows.specs.declared.command.Command.{Command}
 use Rattle.raft_model.specs.Servers.{is_leader, crashed}
 use Rattle.raft_core.specs.RaftView.{RaftView, SameServer}

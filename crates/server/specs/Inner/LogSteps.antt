@@ -1,26 +1,23 @@
 -- What a step of the log makes of a server of the group.
-use Rattle.std.specs.Prelude.{◌≡◌, ℕ, Bool, true, false, Option, Some, None, Result, Ok, Err, List}
+use Rattle.std.specs.Prelude.{◌≡◌, Bool, true, false, Option, Some, None, Ok}
 use Rattle.rows.specs.declared.command.Command.{Command}
 use Rattle.rows.specs.declared.refusal.Refusal.{Refusal}
 use Rattle.rows.specs.declared.refusal.Refusal.TheVariants as refusals
 use Rattle.wire.specs.Messages.{Message as WireMessage}
 use Rattle.raft_model.specs.Messages.{Message}
-use Rattle.raft_model.specs.Steps as raft_steps
 use Rattle.raft_core.specs.declared.input.Input.{Input as RaftInput}
 use Rattle.raft_core.specs.declared.input.Input.TheVariants as raft_inputs
 use Rattle.raft_core.specs.Frames.{Means}
 use Rattle.cluster_model.specs.Words.{State}
-use Rattle.cluster_model.specs.ClusterMachine.{cluster_meaning}
 use Rattle.group_model.specs.Messages.{GroupMessage, Raft, Service}
-use Rattle.group_model.specs.Inputs.{Input, Ask, AskTimeout, AskBeat, AskCrash, AskRestart, asks}
+use Rattle.group_model.specs.Inputs.{Ask, AskTimeout, AskBeat, AskCrash, AskRestart, asks}
 use Rattle.group_model.specs.Members.{hears_log}
 use Rattle.group_frames.specs.GroupFrames.{service_of}
 use Rattle.leader.specs.OpenDesks.{OpenDesk}
 use Rattle.server.specs.declared.server.Outbox.{Outbox}
-use Rattle.server.specs.declared.server_input.ServerInput.{ServerInput}
 use Rattle.server.specs.ServerViews.{ServerView}
-use Rattle.server.specs.Handings.{Handing, FrameBytes, OwnInput}
-use Rattle.server.specs.Turns.{TakesTurn, TakesHanding, takes_in}
+use Rattle.server.specs.Handings.{Handing}
+use Rattle.server.specs.Turns.{TakesTurn, takes_in}
 use Rattle.server.specs.Refusals.{MayLackMemory, handing_refusal, wrong_address}
 use Rattle.server.specs.Inner.Acts.{member_of, DoesAct, Falters, DoesNothing}
 

@@ -54,11 +54,7 @@ impl Server {
     }
 
     /// An input of the log's own: a timeout, a beat, a crash or a restart.
-    pub(super) fn step_log(
-        &mut self,
-        input: Input<'_>,
-        outbox: &mut Outbox,
-    ) -> Result<(), Refusal>
+    pub(super) fn step_log(&mut self, input: Input<'_>, outbox: &mut Outbox) -> Result<(), Refusal>
         requires { log_ask input ≢ None }
         ensures same { (self.new.raft.me ≡ self.old.raft.me)
             × (self.new.raft.size ≡ self.old.raft.size) }

@@ -1,4 +1,4 @@
-use Rattle.std.proofs.Common.{◌≡◌, refl, sym, ap, ◌∙◌}
+use Rattle.std.proofs.Common.{◌≡◌, refl, ap, ◌∙◌}
 use Rattle.leader.specs.OpenDesks.{on_ack}
 use Rattle.server.specs.ServerViews.{ServerView}
 use Rattle.server.proofs.DeskCalls.{still_leaders, ack_keeps}
