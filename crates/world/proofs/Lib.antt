@@ -13,3 +13,14 @@ pub mod Histories
 pub mod Replays
 pub mod Same
 pub mod Loads
+pub mod GroupScenes
+pub mod GroupHistories
+pub mod GroupHeights
+pub mod GroupServers
+pub mod GroupClients
+pub mod GroupOwn
+pub mod GroupDeliveries
+pub mod GroupSleeping
+pub mod GroupBegins
+pub mod GroupRuns
+pub mod GroupReplays

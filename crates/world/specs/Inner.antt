@@ -2,3 +2,5 @@
 pub mod HistoryView
 pub mod Inputs
 pub mod Parts
+pub mod GroupInputs
+pub mod GroupParts

@@ -1,8 +1,10 @@
-//! The whole group in one value: its servers, and all frames that were ever sent.
+//! The whole group in one value: its servers and clients, and all frames that were ever sent; and
+//! its servers alone, over any machine.
 #![tactic(auto)]
 
 mod done;
 mod event;
+mod group;
 mod history;
 mod input;
 mod machines;
@@ -10,4 +12,5 @@ mod world;
 
 pub use done::Done;
 pub use event::RaftEvent;
+pub use group::{Event, World};
 pub use world::RaftWorld;

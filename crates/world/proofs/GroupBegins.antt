@@ -1,0 +1,1 @@
+-- A group before its first event.

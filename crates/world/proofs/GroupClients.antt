@@ -1,0 +1,1 @@
+-- What an event did to a client of a group, as what it did to the group.

@@ -1,0 +1,1 @@
+-- A frame that was sent and comes, as an event of the group.

@@ -1,0 +1,1 @@
+-- How far a group has committed, from one world to the next.

@@ -1,0 +1,1 @@
+-- What is kept beside the actors of a group, after an event.

@@ -1,0 +1,1 @@
+-- An input of a server's or a client's own, as an event of the group.

@@ -1,0 +1,1 @@
+-- What becomes of a list of events that is handed in.

@@ -1,0 +1,1 @@
+-- Runs of a group, and what holds of them.

@@ -1,0 +1,58 @@
+-- Which actor of a group takes an event, and what it is for it.
+use Rattle.std.proofs.Common.{◌≡◌, ℕ, true, false, Some, Result, Ok, Err, List, [], map, length, slice_get}
+use Rattle.rows.specs.declared.refusal.Refusal.{Refusal}
+use Rattle.wire.specs.Frames.{Frame}
+use Rattle.raft_model.specs.Servers.{is_up}
+use Rattle.cluster_model.specs.ClusterMachine.{cluster_meaning}
+use Rattle.group_model.specs.Messages.{GroupMessage, Service}
+use Rattle.group_model.specs.Inputs as servers
+use Rattle.group_model.specs.Clients as clients
+use Rattle.group_model.specs.Members.{Member, Turn}
+use Rattle.group_model.specs.Worlds.{World, Event, AtServer, AtClient, IsRestart, happens, after_turn, after_client, crash_of}
+use Rattle.group_safety.specs.Claims.{IsFromMember}
+use Rattle.group_frames.specs.GroupFrames.{SendsGroup}
+use Rattle.client_agent.specs.declared.input.ClientInput.{ClientInput}
+use Rattle.client_agent.specs.AgentView.{AgentView}
+use Rattle.client_agent.specs.Steps.{AgentTakes}
+use Rattle.client_agent.specs.Refusals.{AgentMayLack, agent_refusal}
+use Rattle.server.specs.declared.server.Outbox.{Outbox}
+use Rattle.server.specs.ServerViews.{ServerView}
+use Rattle.server.specs.Handings.{Handing}
+use Rattle.server.specs.Turns.{TakesHanding, TakesTurn}
+use Rattle.server.specs.Refusals.{MayLackMemory, handing_refusal}
+use Rattle.world.specs.GroupEvents.{work_of, turn_work}
+use Rattle.world.specs.GroupSteps.{MayWantAt}
+use Rattle.world.specs.Inner.GroupInputs.{is_restart_input}
+
+-- all that was sent came from the group of n
+abbrev pub SendersIn : ℕ → World → Type 0
+SendersIn n w = (k : ℕ) (x : GroupMessage) → slice_get w.sent k ≡ Some x → IsFromMember n x
+
+-- in this world the event is that server i, which is s and has this view, is handed h
+pub record ServerTakes (view : ServerView) (h : Handing) (w : World) (e : Event) (i : ℕ) (s : Member) : Type 0 where
+  pub turns : Result Turn Refusal
+  pub happens : happens w e ≡ after_turn w i turns
+  pub taken : (new : ServerView) (before after : Outbox) → TakesHanding view s h new before after → TakesTurn turns new before after
+  pub work : work_of w e ≡ turn_work turns
+  pub crash : crash_of w e ≡ Some (AtServer i servers.Crash)
+  pub wants : MayLackMemory (length w.servers) s h → MayWantAt w e
+  pub refuses : SendersIn (length w.servers) w → (r : Refusal) → handing_refusal (length w.servers) i s h ≡ Some r → turns ≡ Err r
+  pub restart : is_restart_input h ≡ true → IsRestart e
+  pub wakes : is_restart_input h ≡ true → is_up s.raft.mode ≡ false → (turn : Turn) × (turns ≡ Ok turn)
+
+-- what a client's turn made of it
+pub record ClientTurned (turns : Result clients.Turn Refusal) (new : AgentView) (before after : List Frame) : Type 0 where
+  pub turn : clients.Turn
+  pub is : turns ≡ Ok turn
+  pub client : new.client ≡ turn.client
+  pub sent : SendsGroup cluster_meaning before after (map Service turn.sent)
+
+-- in this world the event is that client c, which has this view, is handed `given`
+pub record ClientTakes (view : AgentView) (given : ClientInput) (w : World) (e : Event) (c : ℕ) : Type 0 where
+  pub turns : Result clients.Turn Refusal
+  pub happens : happens w e ≡ after_client w c turns
+  pub taken : (new : AgentView) (before after : List Frame) → AgentTakes view given new before after → ClientTurned turns new before after
+  pub work : work_of w e ≡ []
+  pub crash : crash_of w e ≡ Some (AtClient c clients.Crash)
+  pub wants : AgentMayLack view.size view.client given → MayWantAt w e
+  pub refuses : SendersIn (length w.servers) w → (r : Refusal) → agent_refusal view.size view.client given ≡ Some r → turns ≡ Err r

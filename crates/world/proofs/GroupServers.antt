@@ -1,0 +1,1 @@
+-- What an event did to a server of a group, as what it did to the group.

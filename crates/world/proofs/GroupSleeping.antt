@@ -1,0 +1,1 @@
+-- Events whose actor is not there, or is down.

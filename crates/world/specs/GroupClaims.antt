@@ -1,0 +1,36 @@
+-- What holds of every group that was reached. Moments, and the servers and logs at them, are those
+-- of the value's runs.
+use Rattle.std.specs.Prelude.{◌≡◌, ℕ, List, length}
+use Rattle.rows.specs.declared.command.Command.{Command}
+use Rattle.machine.specs.declared.entry.Entry.{Entry}
+use Rattle.group_model.specs.Worlds.{World}
+use Rattle.group_safety.specs.Claims.{OneList, SafeStates, PlansAreBacked}
+use Rattle.world.specs.GroupView.{GroupView, GroupRunsTo}
+
+-- The value has a run, and there is one list, of length `chain`: in each of its runs what a server
+-- had applied is the beginning of that list, at every moment; no two servers ever led one term; and
+-- whoever leads a term has in its log what a server in a term up to that one had applied by then.
+-- (Raft, Figure 3, election safety, leader completeness and state machine safety.)
+pub record OneGroupList (view : GroupView) : Type 0 where
+  pub past : List World
+  pub world : World
+  pub runs : GroupRunsTo view past world
+  pub list : List (Entry Command)
+  pub long : length list ≡ view.chain
+  pub ever : (past : List World) (w : World) → GroupRunsTo view past w → OneList past w list
+
+-- The value has a run, and in each of its runs the state after each first part of that list is
+-- safe: no node's use is past its size, and no two live allocations are of one name.
+pub record SafeGroupStates (view : GroupView) : Type 0 where
+  pub past : List World
+  pub world : World
+  pub runs : GroupRunsTo view past world
+  pub ever : (past : List World) (w : World) → GroupRunsTo view past w → (list : List (Entry Command)) → OneList past w list → SafeStates list
+
+-- The value has a run, and in each of its runs each plan of that list was appended by a plan turn of
+-- its term's leader, while its evaluation was outstanding under its token at that leader's desk.
+pub record BackedPlans (view : GroupView) : Type 0 where
+  pub past : List World
+  pub world : World
+  pub runs : GroupRunsTo view past world
+  pub ever : (past : List World) (w : World) → GroupRunsTo view past w → (list : List (Entry Command)) → OneList past w list → PlansAreBacked view.trace past w list

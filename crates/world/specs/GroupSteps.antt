@@ -1,0 +1,124 @@
+-- What a step of a group does, and what becomes of a list of events.
+use Rattle.std.specs.Prelude.{◌≡◌, ◌≢◌, ℕ, ◌<◌, ◌≤◌, ◌⊎◌, Some, Ok, Err, List, [], ◌∷◌, ◌++◌, length, slice_get}
+use Rattle.std.specs.List.{AllZip}
+use Rattle.rows.specs.declared.node.NodeSpec.{NodeSpec}
+use Rattle.rows.specs.declared.refusal.Refusal.{Refusal}
+use Rattle.rows.specs.declared.refusal.Refusal.TheVariants as refusals
+use Rattle.raft_model.specs.Worlds.{Outcome}
+use Rattle.group_model.specs.Clients as clients
+use Rattle.group_model.specs.Members.{Member}
+use Rattle.group_model.specs.Worlds.{World, Event, Deliver, AtServer, AtClient, first, happens, crash_of, IsRestart, Trace}
+use Rattle.server.specs.ServerViews.{SameMember}
+use Rattle.server.specs.Refusals.{MayTakeMemory}
+use Rattle.world.specs.declared.done.Done.{Done}
+use Rattle.world.specs.declared.done.Done.TheVariants.{Taken, Crashed}
+use Rattle.world.specs.WorldView.{IsGroup}
+use Rattle.world.specs.GroupEvents.{work_of}
+use Rattle.world.specs.GroupView.{GroupView, RepresentsGroup, GroupRunsTo, IsGroupWorld, nodes_of, renumbered}
+use Rattle.world.specs.Steps.{Lacked}
+
+-- The event happens in each world that `old` represents, and makes it one that `new` represents;
+-- what its server's workers get is put behind what is not fetched yet. Each run of the old value
+-- goes on to one of the new value, by this event.
+pub record GroupEventHappened (old : GroupView) (e : Event) (new : GroupView) : Type 0 where
+  pub size : length new.servers ≡ length old.servers
+  pub nodes : nodes_of new ≡ nodes_of old
+  pub trace : new.trace ≡ old.trace ++ e ∷ []
+  pub work : (w : World) → RepresentsGroup old w → new.outbox.work ≡ old.outbox.work ++ work_of w e
+  pub worlds : (w : World) → RepresentsGroup old w →
+      (next : World) × (happens w e ≡ Ok next) × RepresentsGroup new next
+  pub runs : (past : List World) (w : World) → GroupRunsTo old past w →
+      (next : World) × (happens w e ≡ Ok next) × GroupRunsTo new (past ++ w ∷ []) next
+
+-- In this world the event may want memory: what comes may, and a server's input as that says; of a
+-- client's inputs a Register alone.
+abbrev pub MayWantAt : World → Event → Type 0
+MayWantAt w (Deliver k) = Unit {0}
+MayWantAt w (AtServer i input) =
+    (s : Member) → slice_get w.servers i ≡ Some s → MayTakeMemory (length w.servers) s input
+MayWantAt w (AtClient c (clients.RegisterAt server)) = server < length w.servers
+MayWantAt w (AtClient c _) = ⊥
+
+-- the event's actor found no memory, and crashes in its place
+pub record GroupActorCrashed (old : GroupView) (e : Event) (new : GroupView) : Type 0 where
+  pub crash : Event
+  pub actor : (w : World) → RepresentsGroup old w → crash_of w e ≡ Some crash
+  pub lacking : (w : World) → RepresentsGroup old w → MayWantAt w e
+  pub happened : GroupEventHappened old crash new
+
+-- a restart that could be, of an actor that finds no memory: it stays down
+pub record GroupStaysDown (old : GroupView) (e : Event) (new : GroupView) : Type 0 where
+  pub restart : IsRestart e
+  pub could : (w : World) → RepresentsGroup old w → (next : World) × (happens w e ≡ Ok next)
+  pub same : new ≡ old
+
+-- what became of an event that was not refused
+abbrev pub IsGroupDone : GroupView → Event → Done → GroupView → Type 0
+IsGroupDone old e Taken new = GroupEventHappened old e new
+IsGroupDone old e Crashed new = GroupActorCrashed old e new ⊎ GroupStaysDown old e new
+
+-- Nothing happened: the same servers, clients, messages, events and chain. A leader that refused a
+-- command may have made its machine after its whole log.
+pub record SameGroup (old new : GroupView) : Type 0 where
+  pub servers : AllZip SameMember old.servers new.servers
+  pub clients : new.clients ≡ old.clients
+  pub outbox : new.outbox ≡ old.outbox
+  pub trace : new.trace ≡ old.trace
+  pub chain : new.chain ≡ old.chain
+
+-- the definitions refuse the event in the same way, in each run of the value
+abbrev pub RefusesGroupEvent : GroupView → Event → Refusal → Type 0
+RefusesGroupEvent view e r = (past : List World) (w : World) → GroupRunsTo view past w → happens w e ≡ Err r
+
+-- the event's actor is there, and is up or is to restart: the definitions do not refuse the event
+-- for its being down
+abbrev pub IsGroupAwake : GroupView → Event → Type 0
+IsGroupAwake view e = (past : List World) (w : World) → GroupRunsTo view past w → happens w e ≢ Err refusals.Down
+
+-- the group before its first event: n servers and these nodes' clients that never did anything
+pub record IsNewGroup (n : ℕ) (nodes : List NodeSpec) (view : GroupView) : Type 0 where
+  pub size : IsGroup n
+  pub count : length view.servers ≡ n
+  pub nodes_are : nodes_of view ≡ renumbered 1 nodes
+  pub few : length nodes ≤ 64
+  pub trace : view.trace ≡ []
+  pub chain : view.chain ≡ 0
+  pub work : view.outbox.work ≡ []
+  pub represents : RepresentsGroup view (first n (nodes_of view))
+
+-- why there is no group: its size, too many nodes, or want of memory
+abbrev pub WhyNoGroup : ℕ → List NodeSpec → Refusal → Type 0
+WhyNoGroup n nodes r = (r ≡ refusals.NoMemory) ⊎ ((r ≡ refusals.OutOfRange) × (IsGroup n → length nodes ≤ 64 → ⊥))
+
+-- the value's trace is that of the events handed in: each was kept, was replaced by its actor's
+-- crash, or was left out
+pub record GroupPlayed (n : ℕ) (nodes : List NodeSpec) (handed : List Event) (view : GroupView) : Type 0 where
+  pub count : length view.servers ≡ n
+  pub nodes_are : nodes_of view ≡ renumbered 1 nodes
+  pub outcomes : List Outcome
+  pub past : List World
+  pub world : World
+  pub trace : Trace n (renumbered 1 nodes) handed outcomes view.trace past world
+  pub runs : GroupRunsTo view past world
+
+-- memory was wanting for one of the events handed in
+pub record GroupPlayedShort (n : ℕ) (nodes : List NodeSpec) (handed : List Event) (view : GroupView) : Type 0 where
+  pub outcomes : List Outcome
+  pub past : List World
+  pub world : World
+  pub trace : Trace n (renumbered 1 nodes) handed outcomes view.trace past world
+  pub place : ℕ
+  pub outcome : Outcome
+  pub at : slice_get outcomes place ≡ Some outcome
+  pub lacked : Lacked outcome
+
+-- two values of one run: it leads to the same servers, clients, messages and chain
+pub record SameGroupRun (one other : GroupView) : Type 0 where
+  pub trace : other.trace ≡ one.trace
+  pub chain : other.chain ≡ one.chain
+  pub runs : (past : List World) (w : World) → GroupRunsTo one past w → GroupRunsTo other past w
+
+-- A value of this trace, this many servers and these nodes comes again from its trace, unless
+-- memory was wanting for one of the events.
+abbrev pub GroupReplays : ℕ → List NodeSpec → List Event → GroupView → Type 0
+GroupReplays n nodes handed view = (old : GroupView) → IsGroupWorld old → length old.servers ≡ n → nodes_of old ≡ renumbered 1 nodes → old.trace ≡ handed → SameGroupRun old view ⊎ GroupPlayedShort n nodes handed view

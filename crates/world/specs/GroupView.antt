@@ -1,0 +1,78 @@
+-- What a contract sees of a group, which world of the definitions it represents, and that a run
+-- leads there.
+use Rattle.std.specs.Prelude.{◌≡◌, ℕ, zero, suc, Option, Some, None, List, [], ◌∷◌, length, map, slice_get}
+use Rattle.std.specs.List.{AllZip}
+use Rattle.rows.specs.declared.node.NodeSpec.{NodeSpec}
+use Rattle.raft_safety.specs.Claims.{IsGreatestCommit}
+use Rattle.cluster_model.specs.ClusterMachine.{cluster_meaning}
+use Rattle.group_model.specs.Clients.{Client}
+use Rattle.group_model.specs.Worlds.{World, Event, raft_of}
+use Rattle.group_safety.specs.Claims.{logs}
+use Rattle.group_safety.specs.Limits.{NodesFit, LimitedRun}
+use Rattle.group_frames.specs.GroupFrames.{CarriesGroup}
+use Rattle.client_agent.specs.AgentView.{AgentView}
+use Rattle.server.specs.declared.server.Outbox.{Outbox}
+use Rattle.server.specs.ServerViews.{ServerView, IsMember}
+use Rattle.world.specs.WorldView.{IsGroup}
+
+-- the servers, the clients, all frames that were ever sent with what came for workers and was not
+-- fetched yet, all events that happened, and how many entries were ever applied
+pub record GroupView : Type 0 where
+  pub servers : List ServerView
+  pub clients : List AgentView
+  pub outbox : Outbox
+  pub trace : List Event
+  pub chain : ℕ
+
+abbrev pub client_in : AgentView → Client
+client_in a = a.client
+
+abbrev pub node_in : AgentView → NodeSpec
+node_in a = a.client.node
+
+-- the nodes of its clients
+abbrev pub nodes_of : GroupView → List NodeSpec
+nodes_of view = map node_in view.clients
+
+-- these nodes, numbered from k on in their order, whatever number they had
+abbrev pub renumbered : ℕ → List NodeSpec → List NodeSpec
+renumbered k [] = []
+renumbered k (node ∷ nodes) = record node { number = k } ∷ renumbered (suc k) nodes
+
+-- its servers and clients are those of the world, and its frames carry the messages there, one for
+-- one
+pub record RepresentsGroup (view : GroupView) (w : World) : Type 0 where
+  pub servers : AllZip IsMember view.servers w.servers
+  pub clients : map client_in view.clients ≡ w.clients
+  pub sent : AllZip (CarriesGroup cluster_meaning) view.outbox.frames w.sent
+
+-- The trace is that of a run through the worlds `past` to w, which the value represents, its inputs
+-- are within their limits, and `chain` is the greatest number of entries that any server had
+-- committed at some moment of it.
+pub record GroupRunsTo (view : GroupView) (past : List World) (w : World) : Type 0 where
+  pub run : LimitedRun (length view.servers) (nodes_of view) view.trace past w
+  pub represents : RepresentsGroup view w
+  pub chain : IsGreatestCommit (logs past) (raft_of w) view.chain
+
+-- each server knows its place and the size of the group
+abbrev pub ServersKnowPlaces : GroupView → Type 0
+ServersKnowPlaces view = (i : ℕ) (s : ServerView) → slice_get view.servers i ≡ Some s → (s.raft.me ≡ i) × (s.raft.size ≡ length view.servers)
+
+-- so does each client, which is numbered as its node, from 1
+abbrev pub ClientsKnowPlaces : GroupView → Type 0
+ClientsKnowPlaces view = (i : ℕ) (a : AgentView) → slice_get view.clients i ≡ Some a → (a.client.node.number ≡ suc i) × (a.size ≡ length view.servers)
+
+-- what every group keeps
+pub record IsGroupWorld (view : GroupView) : Type 0 where
+  pub past : List World
+  pub world : World
+  pub runs : GroupRunsTo view past world
+  pub servers : ServersKnowPlaces view
+  pub clients : ClientsKnowPlaces view
+  pub nodes : NodesFit (nodes_of view)
+  pub size : IsGroup (length view.servers)
+
+-- client c of the value; none where there is no such
+abbrev pub client_view : List AgentView → ℕ → Option AgentView
+client_view clients zero = None
+client_view clients (suc k) = slice_get clients k

@@ -1,0 +1,99 @@
+//! What can happen to a group of servers and clients.
+ghost use Rattle.std.specs.Prelude.{◌≡◌, IfOk};
+ghost use Rattle.rows.specs.Fits.{CommandFits};
+ghost use Rattle.rows.specs.Requests.{command_of};
+ghost use Rattle.group_safety.specs.Limits.{InputFits};
+ghost use Rattle.server.specs.Handings.{handing};
+ghost use Rattle.world.specs.GroupEvents.{server_input};
+ghost use Rattle.world.specs.Inner.GroupInputs.{is_frame, is_restart_input, is_client_frame, is_client_restart};
+
+use client_agent::ClientInput;
+use rows::{ClientId, EvalOutcome, NoMemory, OperatorRequest, Ranged, ServerId};
+use server::ServerInput;
+use std::alloc::Global;
+
+/// What can happen to a group. A loss is a message that is never delivered, a repeat one that is
+/// delivered twice.
+#[derive(Drop)]
+pub enum Event {
+    /// The k-th message of all that were ever sent, from 1, comes to its receiver.
+    Deliver(u64),
+    /// A server takes an input of its own, which is no frame.
+    Server(ServerId, ServerInput),
+    /// A client takes an input of its own, which is no frame.
+    Client(ClientId, ClientInput),
+}
+
+impl Event {
+    /// The same event once more.
+    pub fn try_clone(&self, alloc: Global) -> Result<Event, NoMemory>
+        ensures { IfOk result (λ again. again ≡ self.now) }
+    {
+        Ok(match self {
+            Event::Deliver(k) => Event::Deliver(*k),
+            Event::Server(server, input) => Event::Server(*server, input.try_clone(alloc)?),
+            Event::Client(client, input) => Event::Client(*client, input.try_clone(alloc)?),
+        })
+    }
+}
+
+/// Whether it is a frame.
+pub(super) fn is_frame(input: &ServerInput) -> bool
+    ensures { result ≡ is_frame (handing input.now) }
+{
+    matches!(input, ServerInput::Frame(_))
+}
+
+/// Whether a server starts again.
+pub(super) fn is_restart(input: &ServerInput) -> bool
+    ensures { result ≡ is_restart_input (handing input.now) }
+{
+    matches!(input, ServerInput::Restart)
+}
+
+/// Whether it is a frame.
+pub(super) fn is_client_frame(input: &ClientInput) -> bool
+    ensures { result ≡ is_client_frame input.now }
+{
+    matches!(input, ClientInput::Frame(_))
+}
+
+/// Whether a client starts again.
+pub(super) fn is_client_restart(input: &ClientInput) -> bool
+    ensures { result ≡ is_client_restart input.now }
+{
+    matches!(input, ClientInput::Restart)
+}
+
+/// Says that the parts of a request are within their limits; it does nothing.
+fn request_ranges(request: &OperatorRequest)
+    ensures { CommandFits (command_of request.now) }
+{
+    match request {
+        OperatorRequest::PutJob(job) => job.ranges(),
+        OperatorRequest::StopJob(name) | OperatorRequest::PutEval(name) => {
+            let _name = name.as_bytes();
+        }
+        OperatorRequest::DrainNode(node, _) => {
+            let _node = node.number();
+        }
+    }
+}
+
+/// Says that the parts of an input that a command may take up are within their limits; it does
+/// nothing.
+pub(super) fn ranges(input: &ServerInput)
+    ensures { InputFits (server_input (handing input.now)) }
+{
+    match input {
+        ServerInput::Request(request) => request_ranges(request),
+        ServerInput::Submit(_, plan) => plan.ranges(),
+        ServerInput::Finish(_, eval, _, outcome) => {
+            eval.ranges();
+            if let EvalOutcome::Blocked(snapshot) = outcome {
+                let _snapshot = snapshot.get();
+            }
+        }
+        _ => {}
+    }
+}

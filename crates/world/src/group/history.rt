@@ -1,0 +1,251 @@
+//! What is kept beside the servers and clients of a group, and what one event changes.
+ghost use Rattle.std.specs.Prelude.{◌≡◌, max, [], slice_get, IfSome, OnSome, IfNone, OnOk};
+ghost use Rattle.group_model.specs.Members.{Member};
+ghost use Rattle.group_model.specs.Worlds.{Deliver, AtServer, AtClient};
+ghost use Rattle.server.specs.Handings.{FrameBytes, handing};
+ghost use Rattle.server.specs.ServerViews.{IsMember};
+ghost use Rattle.client_agent.specs.declared.input.ClientInput.TheVariants as client_inputs;
+ghost use Rattle.world.specs.Events.{place_of};
+ghost use Rattle.world.specs.GroupEvents.{server_input, client_input, group_events};
+ghost use Rattle.world.specs.Inner.Inputs.{committed, bytes_of};
+ghost use Rattle.world.specs.Inner.GroupParts.{ServerDone, ClientDone};
+
+use crate::done::Done;
+use crate::group::event::{Event, is_restart};
+use client_agent::{Agent, ClientInput};
+use rows::{ClientId, Index, NoMemory, Refusal, Sequence, ServerId, Work};
+use server::{Outbox, Server, ServerInput};
+use std::alloc::Global;
+use std::marker::Model;
+use wire::{Frame, Frames};
+
+/// All messages that were ever sent in the group, with what came for workers; all events that
+/// happened; and the greatest number of entries that any server has applied.
+#[derive(Drop)]
+pub(crate) struct GroupHistory {
+    alloc: Global,
+    outbox: Outbox,
+    // The frame that is delivered, apart from the others, to which its receiver adds.
+    delivered: Vec<u8>,
+    trace: Vec<Event>,
+    chain: Index,
+}
+
+impl Model for GroupHistory {
+    ghost use Rattle.world.specs.Inner.GroupParts.{GroupHistoryView};
+    ghost use Rattle.world.specs.GroupEvents.{group_events};
+
+    ghost Value = { GroupHistoryView };
+
+    ghost view = { λ a. record { outbox = a.outbox; trace = group_events a.trace.items; chain = a.chain } };
+}
+
+/// The greater of the chain so far and what a server has applied.
+fn longer(chain: Index, server: &Server) -> Index
+    ensures { (s : Member) → IsMember server.now s → result ≡ max chain (committed s.raft) }
+{
+    match server.applied() {
+        Some(applied) if applied.get() > chain.get() => applied,
+        _ => chain,
+    }
+}
+
+impl GroupHistory {
+    /// Before the first event.
+    pub(crate) fn new(alloc: Global) -> GroupHistory
+        ensures { result ≡ record { outbox = record { frames = []; work = [] }; trace = []; chain = 0 } }
+    {
+        GroupHistory {
+            alloc,
+            outbox: Outbox {
+                frames: Frames::new(alloc),
+                work: Sequence::new(alloc),
+            },
+            delivered: Vec::new(alloc),
+            trace: Vec::new(alloc),
+            chain: Index::ZERO,
+        }
+    }
+
+    pub(crate) fn sent(&self) -> &Frames
+        ensures { result.now ≡ self.now.outbox.frames }
+    {
+        &self.outbox.frames
+    }
+
+    pub(crate) fn trace(&self) -> &[Event]
+        ensures { group_events result.now ≡ self.now.trace }
+    {
+        &self.trace
+    }
+
+    pub(crate) fn chain(&self) -> Index
+        ensures { result ≡ self.now.chain }
+    {
+        self.chain
+    }
+
+    /// What came for workers and was not fetched yet.
+    pub(crate) fn take_work(&mut self) -> Sequence<Work>
+        ensures work { result ≡ self.old.outbox.work }
+        ensures rest { self.new ≡ record { outbox = record { frames = self.old.outbox.frames; work = [] }; trace = self.old.trace; chain = self.old.chain } }
+    {
+        std::mem::replace(&mut self.outbox.work, Sequence::new(self.alloc))
+    }
+
+    /// The k-th frame, from 1.
+    pub(crate) fn frame(&self, k: u64) -> Option<Frame<'_>>
+        ensures { result ≡ slice_get self.now.outbox.frames (place_of k) }
+    {
+        let sent = &self.outbox.frames;
+        let count = sent.len() as u64;
+        if k == 0 || k > count {
+            return None;
+        }
+        sent.get((k - 1) as usize)
+    }
+
+    /// Copies the k-th frame.
+    fn copy_frame(&mut self, k: u64) -> Result<(), NoMemory>
+        ensures same { self.new ≡ self.old }
+        ensures bytes { OnOk result (self.delivered.new.items
+            ≡ bytes_of (slice_get self.old.outbox.frames (place_of k))) }
+    {
+        self.delivered.clear();
+        let count = self.outbox.frames.len() as u64;
+        if k == 0 || k > count {
+            return Ok(());
+        }
+        if let Some(frame) = self.outbox.frames.get((k - 1) as usize) {
+            self.delivered.extend_from_slice(frame.bytes())?;
+        }
+        Ok(())
+    }
+
+    /// A server takes an input of its own, and what it sends is put behind what was sent. Where it
+    /// finds no memory, its crash is kept instead; where there is none to keep the event, nothing
+    /// happens.
+    pub(crate) fn take_input(
+        &mut self,
+        server: &mut Server,
+        me: ServerId,
+        input: ServerInput,
+    ) -> Result<Done, Refusal>
+        ensures same { (server.new.raft.me ≡ server.old.raft.me)
+            × (server.new.raft.size ≡ server.old.raft.size) }
+        ensures done { ServerDone server.old self.old (handing input)
+            (AtServer me (server_input (handing input))) me result server.new self.new }
+    {
+        self.trace.reserve(1)?;
+        let again = input.try_clone(self.alloc)?;
+        match server.step(again, &mut self.outbox) {
+            Ok(()) => {
+                self.chain = longer(self.chain, server);
+                self.trace.push_reserved(Event::Server(me, input));
+                Ok(Done::Taken)
+            }
+            Err(cause) => match cause {
+                Refusal::NoMemory => {
+                    if is_restart(&input) {
+                        return Ok(Done::Crashed);
+                    }
+                    self.trace.push_reserved(Event::Server(me, ServerInput::Crash));
+                    Ok(Done::Crashed)
+                }
+                other => Err(other),
+            },
+        }
+    }
+
+    /// A frame that was sent comes to a server. Where that finds no memory, its crash is kept
+    /// instead; where there is none for the frame or to keep the event, nothing happens.
+    pub(crate) fn deliver_to_server(
+        &mut self,
+        server: &mut Server,
+        me: ServerId,
+        k: u64,
+    ) -> Result<Done, Refusal>
+        ensures same { (server.new.raft.me ≡ server.old.raft.me)
+            × (server.new.raft.size ≡ server.old.raft.size) }
+        ensures done { ServerDone server.old self.old
+            (FrameBytes (bytes_of (slice_get self.old.outbox.frames (place_of k))))
+            (Deliver (place_of k)) me result server.new self.new }
+    {
+        self.trace.reserve(1)?;
+        self.copy_frame(k)?;
+        match server.receive(&self.delivered, &mut self.outbox) {
+            Ok(()) => {
+                self.chain = longer(self.chain, server);
+                self.trace.push_reserved(Event::Deliver(k));
+                Ok(Done::Taken)
+            }
+            Err(cause) => match cause {
+                Refusal::NoMemory => {
+                    self.trace.push_reserved(Event::Server(me, ServerInput::Crash));
+                    Ok(Done::Crashed)
+                }
+                other => Err(other),
+            },
+        }
+    }
+
+    /// A client takes an input of its own, and what it sends is put behind what was sent. Where it
+    /// finds no memory, its crash is kept instead; where there is none to keep the event, nothing
+    /// happens.
+    pub(crate) fn take_client_input(
+        &mut self,
+        client: &mut Agent,
+        me: ClientId,
+        input: ClientInput,
+    ) -> Result<Done, Refusal>
+        ensures same { client.new.size ≡ client.old.size }
+        ensures done { ClientDone client.old self.old input (AtClient me (client_input input)) me
+            result client.new self.new }
+    {
+        self.trace.reserve(1)?;
+        let again = input.try_clone(self.alloc)?;
+        match client.step(again, &mut self.outbox.frames) {
+            Ok(()) => {
+                self.trace.push_reserved(Event::Client(me, input));
+                Ok(Done::Taken)
+            }
+            Err(cause) => match cause {
+                Refusal::NoMemory => {
+                    self.trace.push_reserved(Event::Client(me, ClientInput::Crash));
+                    Ok(Done::Crashed)
+                }
+                other => Err(other),
+            },
+        }
+    }
+
+    /// A frame that was sent comes to a client. Where that finds no memory, its crash is kept
+    /// instead; where there is none for the frame or to keep the event, nothing happens.
+    pub(crate) fn deliver_to_client(
+        &mut self,
+        client: &mut Agent,
+        me: ClientId,
+        k: u64,
+    ) -> Result<Done, Refusal>
+        ensures same { client.new.size ≡ client.old.size }
+        ensures done { ClientDone client.old self.old
+            (client_inputs.Frame (bytes_of (slice_get self.old.outbox.frames (place_of k))))
+            (Deliver (place_of k)) me result client.new self.new }
+    {
+        self.trace.reserve(1)?;
+        self.copy_frame(k)?;
+        match client.receive(&self.delivered, &mut self.outbox.frames) {
+            Ok(()) => {
+                self.trace.push_reserved(Event::Deliver(k));
+                Ok(Done::Taken)
+            }
+            Err(cause) => match cause {
+                Refusal::NoMemory => {
+                    self.trace.push_reserved(Event::Client(me, ClientInput::Crash));
+                    Ok(Done::Crashed)
+                }
+                other => Err(other),
+            },
+        }
+    }
+}

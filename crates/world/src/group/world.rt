@@ -1,0 +1,460 @@
+//! A group of servers and clients in one value.
+ghost use Rattle.std.specs.Prelude.{◌≡◌, ◌≢◌, ℕ, ◌<◌, ◌≤◌, suc, false, Some, None, Err, length, replicate, slice_get, [], IfOk, OnErr, IfErr, IfSome, IfNone, MatchBool, List};
+ghost use Rattle.std.specs.Option.{option_copied};
+ghost use Rattle.std.specs.List.{AllZip};
+ghost use Rattle.rows.specs.declared.refusal.Refusal.TheVariants as refusals;
+ghost use Rattle.rows.specs.declared.actor.Actor.TheVariants as actors;
+ghost use Rattle.raft_safety.specs.Claims.{IsGreatestCommit};
+ghost use Rattle.group_model.specs.Members.{newcomer};
+ghost use Rattle.group_model.specs.Clients.{agent_of};
+ghost use Rattle.group_model.specs.Worlds.{World, Deliver, AtServer, AtClient, raft_of};
+ghost use Rattle.group_safety.specs.Claims.{logs};
+ghost use Rattle.server.specs.Handings.{handing};
+ghost use Rattle.server.specs.ServerViews.{ServerView, IsMember};
+ghost use Rattle.world.specs.WorldView.{IsGroup};
+ghost use Rattle.world.specs.Events.{place_of};
+ghost use Rattle.world.specs.GroupEvents.{server_input, client_input, group_event, group_events};
+ghost use Rattle.world.specs.GroupView.{GroupRunsTo, client_view};
+ghost use Rattle.world.specs.GroupSteps.{IsGroupDone, SameGroup, RefusesGroupEvent, IsGroupAwake, IsNewGroup, WhyNoGroup, GroupPlayed, GroupReplays};
+ghost use Rattle.world.specs.GroupClaims.{OneGroupList, SafeGroupStates, BackedPlans};
+ghost use Rattle.world.specs.Inner.GroupInputs.{new_agents, is_frame, is_client_frame, IsSentTo};
+ghost use Rattle.world.specs.Inner.GroupParts.{GroupStepped};
+
+use crate::done::Done;
+use crate::group::event::{Event, is_client_frame, is_client_restart, is_frame, is_restart, ranges};
+use crate::group::history::GroupHistory;
+use client_agent::{Agent, ClientInput};
+use fsm_state::Cluster;
+use group_safety::{limits_are_kept, one_list, plans_are_backed, senders_are_members, states_are_safe};
+use rows::{
+    Actor, ClientId, Index, NoMemory, NodeId, NodeSpec, Refusal, Sequence, ServerId, Work, all_ranges,
+};
+use server::{Server, ServerInput};
+use std::alloc::Global;
+use std::marker::Model;
+use wire::{Frames, frames_are_whole};
+
+/// A group of 3 or 5 servers and at most 64 clients, all messages that were ever sent among them,
+/// and all events that happened.
+#[derive(Drop)]
+pub struct World {
+    servers: Vec<Server>,
+    clients: Vec<Agent>,
+    history: GroupHistory,
+}
+
+impl Model for World {
+    ghost use Rattle.world.specs.GroupView.{GroupView, IsGroupWorld};
+
+    ghost Value = { GroupView };
+
+    ghost view = { λ a. record { servers = a.servers.items; clients = a.clients.items; outbox = a.history.outbox; trace = a.history.trace; chain = a.history.chain } };
+
+    ghost invariant = { λ a. IsGroupWorld (record { servers = a.servers.items; clients = a.clients.items; outbox = a.history.outbox; trace = a.history.trace; chain = a.history.chain }) };
+}
+
+/// The server at this place, before its first input.
+fn new_server(alloc: Global, place: usize, n: usize) -> Result<Server, NoMemory>
+    requires { (IsGroup n) × (place < n) }
+    ensures number { IfOk result (λ s. (s.raft.me ≡ place) × (s.raft.size ≡ n)) }
+    ensures server { IfOk result (λ s. IsMember s newcomer) }
+{
+    let Some(me) = ServerId::from_place(place) else {
+        unreachable!()
+    };
+    match Server::new(alloc, me, n) {
+        Ok(server) => Ok(server),
+        Err(refusal) => match refusal {
+            Refusal::NoMemory => Err(NoMemory),
+            _ => unreachable!(),
+        },
+    }
+}
+
+/// The client of the node at this place, before its first input. Its number is its place's.
+fn new_client(alloc: Global, place: usize, node: &NodeSpec, n: usize) -> Agent
+    requires { (IsGroup n) × (place < 64) }
+    ensures { result ≡ record { size = n; client = agent_of (record node.now { number = suc place }) } }
+{
+    let Some(number) = NodeId::from_number(place as u8 + 1) else {
+        unreachable!()
+    };
+    let node = NodeSpec { number, class: node.class, size: node.size };
+    match Agent::new(alloc, node, n) {
+        Ok(client) => client,
+        Err(_) => unreachable!(),
+    }
+}
+
+/// The servers before their first input.
+fn new_servers(alloc: Global, n: usize) -> Result<Vec<Server>, NoMemory>
+    requires { IsGroup n }
+    ensures count { IfOk result (λ servers. length servers.items ≡ n) }
+    ensures places { IfOk result (λ servers. (i : ℕ) (s : ServerView) →
+        slice_get servers.items i ≡ Some s → (s.raft.me ≡ i) × (s.raft.size ≡ n)) }
+    ensures newcomers { IfOk result (λ servers.
+        AllZip IsMember servers.items (replicate n newcomer)) }
+{
+    let mut servers = Vec::new(alloc);
+    for place in 0..n {
+        servers.push(new_server(alloc, place, n)?)?;
+    }
+    Ok(servers)
+}
+
+/// The clients of these nodes before their first input.
+fn new_clients(alloc: Global, nodes: &[NodeSpec], n: usize) -> Result<Vec<Agent>, NoMemory>
+    requires size { IsGroup n }
+    requires few { length nodes.now ≤ 64 }
+    ensures { IfOk result (λ clients. clients.items ≡ new_agents n 1 nodes.now) }
+{
+    let mut clients = Vec::new(alloc);
+    for place in 0..nodes.len() {
+        clients.push(new_client(alloc, place, &nodes[place], n))?;
+    }
+    Ok(clients)
+}
+
+/// Where a client stands, from 0.
+fn place_of_client(client: ClientId) -> usize
+    ensures { suc result ≡ client }
+{
+    usize::from(client.number() - 1)
+}
+
+fn lacks_memory(done: &Result<Done, Refusal>) -> bool
+    ensures { MatchBool result (done.now ≡ Err refusals.NoMemory)
+        (done.now ≢ Err refusals.NoMemory) }
+{
+    match done {
+        Ok(_) => false,
+        Err(Refusal::NoMemory) => true,
+        Err(_) => false,
+    }
+}
+
+impl World {
+    /// A server takes an input of its own.
+    fn hand_server(&mut self, me: ServerId, input: ServerInput) -> Result<Done, Refusal>
+        requires member { me < length self.old.servers }
+        requires own { is_frame (handing input) ≡ false }
+        requires awake { IsGroupAwake self.old (AtServer me (server_input (handing input))) }
+        ensures { GroupStepped self.old (AtServer me (server_input (handing input))) result self.new }
+    {
+        limits_are_kept();
+        ranges(&input);
+        let server = &mut self.servers[me.place()];
+        self.history.take_input(server, me, input)
+    }
+
+    /// A frame that was sent comes to a server.
+    fn bring_to_server(&mut self, me: ServerId, k: u64) -> Result<Done, Refusal>
+        requires member { me < length self.old.servers }
+        requires sent { IsSentTo self.old.outbox.frames (place_of k) (actors.Server me) }
+        requires awake { IsGroupAwake self.old (Deliver (place_of k)) }
+        ensures { GroupStepped self.old (Deliver (place_of k)) result self.new }
+    {
+        // A frame that a server of the group sent is not refused for its bytes.
+        frames_are_whole::<Cluster>();
+        limits_are_kept();
+        senders_are_members();
+        let server = &mut self.servers[me.place()];
+        self.history.deliver_to_server(server, me, k)
+    }
+
+    /// A client takes an input of its own.
+    fn hand_client(&mut self, me: ClientId, input: ClientInput) -> Result<Done, Refusal>
+        requires member { me ≤ length self.old.clients }
+        requires own { is_client_frame input ≡ false }
+        requires awake { IsGroupAwake self.old (AtClient me (client_input input)) }
+        ensures { GroupStepped self.old (AtClient me (client_input input)) result self.new }
+    {
+        let client = &mut self.clients[place_of_client(me)];
+        self.history.take_client_input(client, me, input)
+    }
+
+    /// A frame that was sent comes to a client.
+    fn bring_to_client(&mut self, me: ClientId, k: u64) -> Result<Done, Refusal>
+        requires member { me ≤ length self.old.clients }
+        requires sent { IsSentTo self.old.outbox.frames (place_of k) (actors.Client me) }
+        requires awake { IsGroupAwake self.old (Deliver (place_of k)) }
+        ensures { GroupStepped self.old (Deliver (place_of k)) result self.new }
+    {
+        // A frame that a server of the group sent is not refused for its bytes.
+        frames_are_whole::<Cluster>();
+        limits_are_kept();
+        senders_are_members();
+        let client = &mut self.clients[place_of_client(me)];
+        self.history.deliver_to_client(client, me, k)
+    }
+
+    /// An input of a server's own.
+    fn at_server(&mut self, me: ServerId, input: ServerInput) -> Result<Done, Refusal>
+        ensures { GroupStepped self.old (AtServer me (server_input (handing input))) result self.new }
+    {
+        let Some(server) = self.server(me) else {
+            return Err(Refusal::OutOfRange);
+        };
+        if server.role().is_none() && !is_restart(&input) {
+            return Err(Refusal::Down);
+        }
+        if is_frame(&input) {
+            return Err(Refusal::OutOfRange);
+        }
+        self.hand_server(me, input)
+    }
+
+    /// An input of a client's own.
+    fn at_client(&mut self, me: ClientId, input: ClientInput) -> Result<Done, Refusal>
+        ensures { GroupStepped self.old (AtClient me (client_input input)) result self.new }
+    {
+        let Some(client) = self.client(me) else {
+            return Err(Refusal::OutOfRange);
+        };
+        if !client.is_up() && !is_client_restart(&input) {
+            return Err(Refusal::Down);
+        }
+        if is_client_frame(&input) {
+            return Err(Refusal::OutOfRange);
+        }
+        self.hand_client(me, input)
+    }
+
+    /// A frame that was sent to a server comes.
+    fn to_server(&mut self, me: ServerId, k: u64) -> Result<Done, Refusal>
+        requires { IsSentTo self.old.outbox.frames (place_of k) (actors.Server me) }
+        ensures { GroupStepped self.old (Deliver (place_of k)) result self.new }
+    {
+        let Some(server) = self.server(me) else {
+            return Err(Refusal::OutOfRange);
+        };
+        if server.role().is_none() {
+            return Err(Refusal::Down);
+        }
+        self.bring_to_server(me, k)
+    }
+
+    /// A frame that was sent to a client comes.
+    fn to_client(&mut self, me: ClientId, k: u64) -> Result<Done, Refusal>
+        requires { IsSentTo self.old.outbox.frames (place_of k) (actors.Client me) }
+        ensures { GroupStepped self.old (Deliver (place_of k)) result self.new }
+    {
+        let Some(client) = self.client(me) else {
+            return Err(Refusal::OutOfRange);
+        };
+        if !client.is_up() {
+            return Err(Refusal::Down);
+        }
+        self.bring_to_client(me, k)
+    }
+
+    /// A message that was sent comes to its receiver.
+    fn deliver(&mut self, k: u64) -> Result<Done, Refusal>
+        ensures { GroupStepped self.old (Deliver (place_of k)) result self.new }
+    {
+        let Some(to) = self.receiver(k) else {
+            return Err(Refusal::OutOfRange);
+        };
+        match to {
+            Actor::Server(me) => self.to_server(me, k),
+            Actor::Client(me) => self.to_client(me, k),
+        }
+    }
+
+    /// An event happens, if its actor is there and up.
+    fn take(&mut self, event: Event) -> Result<Done, Refusal>
+        ensures { GroupStepped self.old (group_event event) result self.new }
+    {
+        match event {
+            Event::Deliver(k) => self.deliver(k),
+            Event::Server(me, input) => self.at_server(me, input),
+            Event::Client(me, input) => self.at_client(me, input),
+        }
+    }
+
+    /// One event happens.
+    ///
+    /// It is refused with `OutOfRange` where no such message was sent, or the group has no such
+    /// server or client; then with `Down` where that is down and is not to restart; then with
+    /// `OutOfRange` where the input is a frame (frames come by a Deliver alone). Then as the server
+    /// or the client refuses it (`Server::step`, `Agent::step`). With `NoMemory` the world itself
+    /// lacks memory. A refusal changes nothing, but that a leader that refuses a command may hold
+    /// its machine after its whole log from then on.
+    pub fn step(&mut self, event: Event) -> Result<Done, Refusal>
+        // It is a step of the definitions; or the event's actor crashed for want of memory, in a
+        // restart with nothing changed.
+        ensures ok { IfOk result (λ done. IsGroupDone self.old (group_event event) done self.new) }
+        ensures err { OnErr result (SameGroup self.old self.new) }
+        // The definitions refuse it too, for the same reason.
+        ensures cause { IfErr result (λ refusal. refusal ≢ refusals.NoMemory →
+            RefusesGroupEvent self.old (group_event event) refusal) }
+        // Want of memory is not answered for an actor that is down.
+        ensures memory { IfErr result (λ refusal. refusal ≡ refusals.NoMemory →
+            IsGroupAwake self.old (group_event event)) }
+        // And these hold whatever happened so far, whether or not this event was refused.
+        ensures one_list { OneGroupList self.new }
+        ensures safe_states { SafeGroupStates self.new }
+        ensures plans_backed { BackedPlans self.new }
+        ensures size { IsGroup (length self.new.servers) }
+    {
+        let done = self.take(event);
+        self.group_size();
+        self.one_list();
+        self.safe_states();
+        self.plans_backed();
+        done
+    }
+
+    /// A group of `n` servers and of these nodes' clients before its first event: followers in term
+    /// 0 with empty logs, and clients that are up. Client k is the one of the k-th node, whatever
+    /// number that has.
+    ///
+    /// It is refused with `OutOfRange` where `n` is not 3 or 5 or there are more than 64 nodes, and
+    /// with `NoMemory`.
+    pub fn new(alloc: Global, n: usize, nodes: &[NodeSpec]) -> Result<World, Refusal>
+        ensures ok { IfOk result (λ w. IsNewGroup n nodes.now w) }
+        ensures refused { IfErr result (λ refusal. WhyNoGroup n nodes.now refusal) }
+    {
+        if n != 3 && n != 5 {
+            return Err(Refusal::OutOfRange);
+        }
+        if nodes.len() > 64 {
+            return Err(Refusal::OutOfRange);
+        }
+        all_ranges(nodes);
+        Ok(World {
+            servers: new_servers(alloc, n)?,
+            clients: new_clients(alloc, nodes, n)?,
+            history: GroupHistory::new(alloc),
+        })
+    }
+
+    /// The group after these events, from its beginning; those that are refused are passed over. It
+    /// is refused with `OutOfRange` where `n` is not 3 or 5 or there are more than 64 nodes, and
+    /// with `NoMemory` where the world lacks memory.
+    pub fn run(
+        alloc: Global,
+        n: usize,
+        nodes: &[NodeSpec],
+        events: &[Event],
+    ) -> Result<World, Refusal>
+        ensures played { IfOk result (λ w. GroupPlayed n nodes.now (group_events events.now) w) }
+        // The trace of a group leads to that group again.
+        ensures replays { IfOk result (λ w. GroupReplays n nodes.now (group_events events.now) w) }
+        ensures refused { IfErr result (λ refusal. WhyNoGroup n nodes.now refusal) }
+        ensures one_list { IfOk result (λ w. OneGroupList w) }
+        ensures safe_states { IfOk result (λ w. SafeGroupStates w) }
+        ensures plans_backed { IfOk result (λ w. BackedPlans w) }
+        ensures size { IfOk result (λ w. IsGroup (length w.servers)) }
+    {
+        let mut world = Self::new(alloc, n, nodes)?;
+        for event in events {
+            let done = world.step(event.try_clone(alloc)?);
+            if lacks_memory(&done) {
+                return Err(Refusal::NoMemory);
+            }
+        }
+        world.group_size();
+        world.one_list();
+        world.safe_states();
+        world.plans_backed();
+        Ok(world)
+    }
+
+    /// A group has 3 or 5 servers.
+    pub fn group_size(&self)
+        ensures { IsGroup (length self.now.servers) }
+    {
+        // The type's own promise is known where a field is looked at.
+        let _ = &self.servers;
+    }
+
+    /// There is one list of entries, of length `chain()`, of which every server that was up had
+    /// applied a first part, at every moment of the run that led here; no two servers ever led one
+    /// term; and whoever led a term had in its log what was applied in the terms up to it. (Raft,
+    /// Figure 3, election safety, leader completeness and state machine safety.)
+    pub fn one_list(&self)
+        ensures { OneGroupList self.now }
+    {
+        let _ = &self.servers;
+        limits_are_kept();
+        one_list();
+    }
+
+    /// The state after each first part of that list is safe: no node's use is past its size, and no
+    /// two live allocations are of one name.
+    pub fn safe_states(&self)
+        ensures { SafeGroupStates self.now }
+    {
+        let _ = &self.servers;
+        limits_are_kept();
+        states_are_safe();
+    }
+
+    /// Each plan of that list was appended by a plan turn of its term's leader, while its
+    /// evaluation was outstanding under its token at that leader's desk. (Nomad documentation,
+    /// "Scheduling in Nomad": plan queue.)
+    pub fn plans_backed(&self)
+        ensures { BackedPlans self.now }
+    {
+        let _ = &self.servers;
+        limits_are_kept();
+        plans_are_backed();
+    }
+
+    /// The greatest number of entries that any server has applied so far; 0 while nothing is
+    /// applied.
+    pub fn chain(&self) -> Index
+        ensures value { result ≡ self.now.chain }
+        ensures greatest { (past : List World) (w : World) → GroupRunsTo self.now past w →
+            IsGreatestCommit (logs past) (raft_of w) result }
+    {
+        self.history.chain()
+    }
+
+    /// The events that happened, in order, with a crash in place of each in which an actor found no
+    /// memory.
+    pub fn trace(&self) -> &[Event]
+        ensures { group_events result.now ≡ self.now.trace }
+    {
+        self.history.trace()
+    }
+
+    /// All frames that were ever sent, in order.
+    pub fn sent(&self) -> &Frames
+        ensures { result.now ≡ self.now.outbox.frames }
+    {
+        self.history.sent()
+    }
+
+    /// Who is to receive the k-th message of all that were sent, from 1; none where there is no
+    /// such message.
+    pub fn receiver(&self, k: u64) -> Option<Actor>
+        ensures some { IfSome result (λ to. IsSentTo self.now.outbox.frames (place_of k) to) }
+        ensures none { IfNone result (slice_get self.now.outbox.frames (place_of k) ≡ None) }
+    {
+        Some(self.history.frame(k)?.to())
+    }
+
+    /// What came for the servers' workers since this was last asked, in order.
+    pub fn take_work(&mut self) -> Sequence<Work>
+        ensures work { result ≡ self.old.outbox.work }
+        ensures rest { self.new ≡ record self.old { outbox = record self.old.outbox { work = [] } } }
+    {
+        self.history.take_work()
+    }
+
+    /// A server; none where the group has fewer.
+    pub fn server(&self, server: ServerId) -> Option<&Server>
+        ensures { option_copied result ≡ slice_get self.now.servers server }
+    {
+        self.servers.get(server.place())
+    }
+
+    /// A client; none where the group has fewer.
+    pub fn client(&self, client: ClientId) -> Option<&Agent>
+        ensures { option_copied result ≡ client_view self.now.clients client }
+    {
+        self.clients.get(place_of_client(client))
+    }
+}
