@@ -40,43 +40,8 @@ use Rattle.world.specs.GroupSteps.{GroupEventHappened, GroupActorCrashed, IsGrou
 use Rattle.world.specs.Inner.GroupParts.{GroupHistoryView, ClientTook, ClientFell, IsClientRefused, ClientDone, GroupStepped}
 use Rattle.world.proofs.Zips.{zip_length, zip_append}
 use Rattle.world.proofs.GroupScenes.{SendersIn, ClientTurned, ClientTakes}
-
--- ---- STAND-IN: of GroupServers and GroupHeights
-
-abbrev pub history_of : GroupView → GroupHistoryView
-history_of view = record { outbox = view.outbox; trace = view.trace; chain = view.chain }
-
--- what became of an event, and that the group is still one that was reached
-pub record GroupActed (old : GroupView) (e : Event) (result : Result Done Refusal) (new : GroupView) : Type 0 where
-  pub stepped : GroupStepped old e result new
-  pub world : IsGroupWorld new
-
-module _ {C : Type 0} (past : List (raft_worlds.World C)) (w next : raft_worlds.World C) (height : ℕ) (same : next.servers ≡ w.servers) where
-  was_before : (k j : ℕ) (s : Server C) → At (past ++ w ∷ []) next k j s → (l : ℕ) × At past w l j s
-  was_before k j s at = elim (get-split (past ++ w ∷ []) (next ∷ []) k at.world at.world_is) [
-    | inl e ↦ (k, record { world = at.world; world_is = e; here = at.here })
-    | inr e ↦
-        let is : next ≡ at.world = get-one next e.0 at.world e.1 in
-        let here : slice_get w.servers j ≡ Some s = subst (λ l. slice_get l j ≡ Some s) same (subst (λ (x : raft_worlds.World C). slice_get x.servers j ≡ Some s) (sym is) at.here) in
-        let l = get-later past (w ∷ []) 0 w refl in
-        (l.0, record { world = w; world_is = l.1; here = here })
-  ]
-
-  pub height_kept : IsGreatestCommit past w height → IsGreatestCommit (past ++ w ∷ []) next height
-  height_kept h = record {
-    bound = λ k j s at up. let e = was_before k j s at in h.bound e.0 j s e.1 up;
-    reached = elim h.reached [
-      | inl e ↦ inl e
-      | inr r ↦ inr (record {
-          moment = r.moment;
-          who = r.who;
-          server = r.server;
-          at = record { world = r.at.world; world_is = get-more (past ++ w ∷ []) (next ∷ []) r.moment r.at.world r.at.world_is; here = r.at.here };
-          up = r.up;
-          commit = r.commit;
-        })
-    ];
-  }
+use Rattle.world.proofs.GroupHeights.{height_kept}
+use Rattle.world.proofs.GroupServers.{history_of, GroupActed, same_group}
 
 -- ---- no event changes a client's node
 
@@ -232,7 +197,7 @@ module _ (old new : GroupView) (f : Event) (c p : ℕ) (view after : AgentView) 
           let m = move w r.represents in
           let next = world_after w m.turn in
           let run : LimitedRun (length old.servers) (nodes_of old) (old.trace ++ f ∷ []) (past ++ w ∷ []) next = limits.more f next r.run fits m.happens in
-          let height : IsGreatestCommit (logs past ++ raft_of w ∷ []) (raft_of next) old.chain = height_kept (logs past) (raft_of w) (raft_of next) old.chain refl r.chain in (
+          let height : IsGreatestCommit (logs (past ++ w ∷ [])) (raft_of next) old.chain = height_kept past w next old.chain r.chain refl in (
             next,
             m.happens,
             record {
@@ -241,9 +206,7 @@ module _ (old new : GroupView) (f : Event) (c p : ℕ) (view after : AgentView) 
                   (subst (λ l. LimitedRun (length old.servers) l new.trace (past ++ w ∷ []) next) (sym nodes_kept)
                   (subst (λ es. LimitedRun (length old.servers) (nodes_of old) es (past ++ w ∷ []) next) (sym trace) run));
               represents = represents_after w r.represents m;
-              chain =
-                  subst (λ h. IsGreatestCommit (logs (past ++ w ∷ [])) (raft_of next) h) (sym chain)
-                  (subst (λ l. IsGreatestCommit l (raft_of next) old.chain) (sym (map_append raft_of past (w ∷ []))) height);
+              chain = subst (λ h. IsGreatestCommit (logs (past ++ w ∷ [])) (raft_of next) h) (sym chain) height;
             },
           );
     }
@@ -290,13 +253,6 @@ lacks_up n c client_inputs.Restart h = absurd h
 crashes : (w : World) (c : ℕ) (x : Client) (l : Life) → client_at w.clients c ≡ Some x → x.life ≡ Some l →
     happens w (AtClient c clients.Crash) ≡ after_client w c (Ok (record { client = record x { life = None }; sent = [] }))
 crashes w c x l here up = ap (λ o. client_input_to w c clients.Crash o) here ∙ ap (λ o. after_client w c (clients.step_of (length w.servers) x o clients.Crash)) up
-
-same_members : (xs : List ServerView) → AllZip SameMember xs xs
-same_members [] = tt
-same_members (x ∷ xs) = (record { raft = record { me = refl; size = refl; server = refl }; desk = refl }, same_members xs)
-
-same_group : (view : GroupView) → SameGroup view view
-same_group view = record { servers = same_members view.servers; clients = refl; outbox = refl; trace = refl; chain = refl }
 
 -- ---- where a client stands
 

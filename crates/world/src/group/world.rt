@@ -7,8 +7,7 @@ ghost use Rattle.rows.specs.declared.actor.Actor.TheVariants as actors;
 ghost use Rattle.raft_safety.specs.Claims.{IsGreatestCommit};
 ghost use Rattle.group_model.specs.Members.{newcomer};
 ghost use Rattle.group_model.specs.Clients.{agent_of};
-ghost use Rattle.group_model.specs.Worlds as worlds;
-ghost use Rattle.group_model.specs.Worlds.{Deliver, AtServer, AtClient, raft_of};
+ghost use Rattle.group_model.specs.Worlds.{World, Deliver, AtServer, AtClient, raft_of};
 ghost use Rattle.group_safety.specs.Claims.{logs};
 ghost use Rattle.server.specs.Handings.{handing};
 ghost use Rattle.server.specs.ServerViews.{ServerView, IsMember};
@@ -407,8 +406,8 @@ impl World {
     /// applied.
     pub fn chain(&self) -> Index
         ensures value { result ≡ self.now.chain }
-        ensures greatest { (past : List worlds.World) (w : worlds.World) →
-            GroupRunsTo self.now past w → IsGreatestCommit (logs past) (raft_of w) result }
+        ensures greatest { (past : List World) (w : World) → GroupRunsTo self.now past w →
+            IsGreatestCommit (logs past) (raft_of w) result }
     {
         self.history.chain()
     }
