@@ -1,5 +1,5 @@
 -- What an event did to a client and to what is kept beside the actors, as what it did to the group.
-use Rattle.std.proofs.Common.{◌≡◌, ◌≢◌, ℕ, zero, suc, Bool, true, false, cond, nat_lt, is_some, inl, inr, Option, Some, None, Result, Ok, Err, IfOk, OnErr, IfErr, List, [], ◌∷◌, ◌++◌, length, map, append-nil, refl, sym, ap, ◌∙◌, subst, arith, ◌≤◌, slice_get, slice_set, get_or}
+use Rattle.std.proofs.Common.{◌≡◌, ◌≢◌, ℕ, zero, suc, Bool, true, false, cond, nat_lt, is_some, inl, inr, Option, Some, None, Result, Ok, Err, List, [], ◌∷◌, ◌++◌, length, map, append-nil, refl, sym, ap, ◌∙◌, subst, arith, ◌≤◌, slice_get, slice_set, get_or}
 use Rattle.std.proofs.lemmas.Option.{slice_get_read}
 use Rattle.std.specs.List.{AllZip}
 use Rattle.rows.specs.declared.node.NodeSpec.{NodeSpec}
@@ -7,13 +7,10 @@ use Rattle.rows.specs.declared.refusal.Refusal.{Refusal}
 use Rattle.rows.specs.declared.refusal.Refusal.TheVariants as refusals
 use Rattle.rows.specs.declared.command.Command.{Command}
 use Rattle.raft_model.specs.Messages.{Message}
-use Rattle.raft_model.specs.Servers.{Server}
-use Rattle.raft_model.specs.Worlds as raft_worlds
-use Rattle.raft_model.specs.Chains.{At, WasCommitted}
 use Rattle.raft_safety.specs.Claims.{IsGreatestCommit}
-use Rattle.raft_safety.proofs.Places.{get_set-cases, get-more, get-later, get-split, get-one}
+use Rattle.raft_safety.proofs.Places.{get_set-cases}
 use Rattle.cluster_model.specs.ClusterMachine.{cluster_meaning}
-use Rattle.group_model.specs.Messages.{GroupMessage, Raft, Service, ServiceMessage, BetweenServers, ToServer, ToClient, ClientResponse, Listing, Told, Shown, ClientRequest}
+use Rattle.group_model.specs.Messages.{GroupMessage, Raft, Service, ServiceMessage, BetweenServers, ToServer, ToClient, ClientResponse, Listing, Told}
 use Rattle.group_model.specs.Inputs as servers
 use Rattle.group_model.specs.Members as members
 use Rattle.group_model.specs.Members.{Member}
@@ -23,23 +20,23 @@ use Rattle.group_model.specs.Worlds.{World, Event, Deliver, AtServer, AtClient, 
 use Rattle.group_safety.specs.Claims.{SendersAreMembers, logs}
 use Rattle.group_safety.specs.Limits.{EventFits, NodesFit, LimitedRun, LimitsAreKept}
 use Rattle.group_safety.specs.Limits as limits
-use Rattle.group_safety.proofs.Lists.{get_map, map_get, map_set, map_append, set_same}
+use Rattle.group_safety.proofs.Lists.{get_map, map_get, map_set, set_same}
 use Rattle.group_frames.specs.GroupFrames.{CarriesGroup, SendsGroup}
 use Rattle.client_agent.specs.declared.input.ClientInput.{ClientInput}
 use Rattle.client_agent.specs.declared.input.ClientInput.TheVariants as client_inputs
-use Rattle.client_agent.specs.AgentView.{AgentView, crashed_agent}
+use Rattle.client_agent.specs.AgentView.{AgentView}
 use Rattle.client_agent.specs.Refusals.{AgentMayLack, agent_refusal}
-use Rattle.server.specs.ServerViews.{ServerView, IsMember, SameMember}
+use Rattle.server.specs.ServerViews.{ServerView, IsMember}
 use Rattle.server.specs.declared.server.Outbox.{Outbox}
 use Rattle.world.specs.declared.done.Done.{Done}
 use Rattle.world.specs.declared.done.Done.TheVariants as done
 use Rattle.world.specs.WorldView.{IsGroup}
 use Rattle.world.specs.GroupEvents.{work_of}
-use Rattle.world.specs.GroupView.{GroupView, RepresentsGroup, GroupRunsTo, ServersKnowPlaces, ClientsKnowPlaces, IsGroupWorld, client_in, node_in, nodes_of, client_view}
-use Rattle.world.specs.GroupSteps.{GroupEventHappened, GroupActorCrashed, IsGroupDone, SameGroup, RefusesGroupEvent, IsGroupAwake}
-use Rattle.world.specs.Inner.GroupParts.{GroupHistoryView, ClientTook, ClientFell, IsClientRefused, ClientDone, GroupStepped}
+use Rattle.world.specs.GroupView.{GroupView, RepresentsGroup, GroupRunsTo, IsGroupWorld, client_in, node_in, nodes_of, client_view}
+use Rattle.world.specs.GroupSteps.{GroupEventHappened, SameGroup, RefusesGroupEvent, IsGroupAwake}
+use Rattle.world.specs.Inner.GroupParts.{GroupHistoryView, ClientTook, ClientFell, IsClientRefused, ClientDone}
 use Rattle.world.proofs.Zips.{zip_length, zip_append}
-use Rattle.world.proofs.GroupScenes.{SendersIn, ClientTurned, ClientTakes}
+use Rattle.world.proofs.GroupScenes.{SendersIn, ClientTakes}
 use Rattle.world.proofs.GroupHeights.{height_kept}
 use Rattle.world.proofs.GroupServers.{history_of, GroupActed, same_group}
 
