@@ -1,5 +1,5 @@
 -- Events whose actor is not there, or is down.
-use Rattle.std.proofs.Common.{◌≡◌, ◌≢◌, ◌⊎◌, inl, inr, ◌&&◌, ℕ, zero, suc, nat_lt, nat_eq, Bool, true, false, if◌then◌else◌, is_some, Option, Some, None, option_map, Result, Ok, Err, List, [], ◌∷◌, map, length, refl, sym, ap, ◌∙◌, subst, slice_get}
+use Rattle.std.proofs.Common.{◌≡◌, ◌≢◌, ◌⊎◌, inl, inr, ◌&&◌, ℕ, zero, suc, ◌<◌, ◌≤◌, nat_lt, nat_eq, Bool, true, false, if◌then◌else◌, is_some, Option, Some, None, option_map, Result, Ok, Err, List, [], ◌∷◌, map, length, refl, sym, ap, ◌∙◌, subst, slice_get, arith}
 use Rattle.std.proofs.lemmas.Option.{slice_get-map}
 use Rattle.std.specs.List.{AllZip}
 use Rattle.rows.specs.declared.actor.Actor.{Actor}
@@ -15,6 +15,7 @@ use Rattle.raft_model.specs.Logs.{MAX, state_after}
 use Rattle.raft_model.specs.Servers as rafts
 use Rattle.raft_model.specs.Servers.{Server, Mode, Down, Follower, Candidate, Leader, is_up, is_leader}
 use Rattle.raft_model.specs.Steps as raft_steps
+use Rattle.raft_safety.proofs.Places.{get-within}
 use Rattle.raft_core.specs.Steps.{role_of}
 use Rattle.raft_core.specs.declared.role.Role.{Role}
 use Rattle.cluster_model.specs.Words.{State, node_of, is_draining}
@@ -262,6 +263,10 @@ module _ (view : GroupView) (i : ℕ) where
 clients_match : (cs : List AgentView) (c : ℕ) → client_at (map client_in cs) c ≡ option_map client_in (client_view cs c)
 clients_match cs zero = refl
 clients_match cs (suc k) = slice_get-map client_in cs k
+
+pub client_within : (cs : List AgentView) (c : ℕ) (a : AgentView) → client_view cs c ≡ Some a → c ≤ length cs
+client_within cs zero a at = absurd (cc)
+client_within cs (suc k) a at = let inside : k < length cs = get-within cs k a at in omega arith
 
 -- the client of the definitions at the place of one of the value
 client_of_view : (view : GroupView) (w : World) (c : ℕ) → RepresentsGroup view w → client_at w.clients c ≡ option_map client_in (client_view view.clients c)
