@@ -1,5 +1,5 @@
 -- A frame that was sent and comes, as an event of the group.
-use Rattle.std.proofs.Common.{◌≡◌, ℕ, Bool, true, false, if◌then◌else◌, is_some, Option, Some, None, Result, Ok, Err, List, [], length, refl, sym, ap, ◌∙◌, subst, slice_get}
+use Rattle.std.proofs.Common.{◌≡◌, ℕ, Bool, true, false, if◌then◌else◌, is_some, Option, Some, None, Ok, Err, List, length, refl, sym, ap, ◌∙◌, subst, slice_get}
 use Rattle.std.proofs.lemmas.Bool.{lt-ltb, eq-eqb}
 use Rattle.std.proofs.lemmas.Option.{same_Some}
 use Rattle.std.specs.List.{AllZip}
@@ -26,18 +26,16 @@ use Rattle.group_safety.specs.Claims.{IsFromMember}
 use Rattle.group_frames.specs.GroupFrames.{IsGroupFrame, IsServiceFrame, CarriesGroup, service_between, service_receiver, receiver_of}
 use Rattle.client_agent.specs.declared.input.ClientInput.TheVariants as client_inputs
 use Rattle.client_agent.specs.AgentView.{AgentView}
-use Rattle.client_agent.specs.Steps.{AgentSteps, AgentTakes}
-use Rattle.client_agent.specs.Refusals.{is_client_at, misdirected_to_client, unreadable_to_client, client_frame_refusal}
-use Rattle.server.specs.declared.server.Outbox.{Outbox}
+use Rattle.client_agent.specs.Refusals.{is_client_at, unreadable_to_client, client_frame_refusal}
 use Rattle.server.specs.ServerViews.{ServerView}
 use Rattle.server.specs.Handings.{FrameBytes}
-use Rattle.server.specs.Turns.{TakesTurn, TakesHanding, takes_in}
-use Rattle.server.specs.Refusals.{is_of_group, wrong_address, read_refusal, bytes_refusal}
+use Rattle.server.specs.Turns.{TakesTurn, takes_in}
+use Rattle.server.specs.Refusals.{is_of_group, read_refusal, bytes_refusal}
 use Rattle.world.specs.GroupEvents.{message_work, log_work, input_work, turn_work}
 use Rattle.world.specs.Inner.Inputs.{bytes_of}
 use Rattle.world.specs.Inner.GroupInputs.{IsSentTo}
 use Rattle.world.proofs.Zips.{zip_at}
-use Rattle.world.proofs.GroupScenes.{SendersIn, ServerTakes, ClientTakes}
+use Rattle.world.proofs.GroupScenes.{ServerTakes, ClientTakes}
 use Rattle.world.proofs.GroupOwn.{turned}
 
 pub same_server : {a b : ℕ} → actors.Server a ≡ actors.Server b → a ≡ b

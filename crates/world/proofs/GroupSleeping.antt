@@ -2,7 +2,6 @@
 use Rattle.std.proofs.Common.{◌≡◌, ◌≢◌, ◌⊎◌, inl, inr, ◌&&◌, ℕ, zero, suc, ◌<◌, ◌≤◌, nat_lt, nat_eq, Bool, true, false, if◌then◌else◌, is_some, Option, Some, None, option_map, Result, Ok, Err, List, [], ◌∷◌, map, length, refl, sym, ap, ◌∙◌, subst, slice_get, arith}
 use Rattle.std.proofs.lemmas.Option.{slice_get-map}
 use Rattle.std.specs.List.{AllZip}
-use Rattle.rows.specs.declared.actor.Actor.{Actor}
 use Rattle.rows.specs.declared.actor.Actor.TheVariants as actors
 use Rattle.rows.specs.declared.allocation.AllocId.{AllocId}
 use Rattle.rows.specs.declared.command.Command.{Command}
@@ -10,7 +9,6 @@ use Rattle.rows.specs.declared.node.Node.{Node}
 use Rattle.rows.specs.declared.refusal.Refusal.{Refusal}
 use Rattle.rows.specs.declared.refusal.Refusal.TheVariants as refusals
 use Rattle.machine.specs.Meaning.{IsMachineRefusal}
-use Rattle.wire.specs.Frames.{Frame}
 use Rattle.raft_model.specs.Logs.{MAX, state_after}
 use Rattle.raft_model.specs.Servers as rafts
 use Rattle.raft_model.specs.Servers.{Server, Mode, Down, Follower, Candidate, Leader, is_up, is_leader}
@@ -90,9 +88,9 @@ own_is_no_down : (r : Refusal) → IsMachineRefusal r → r ≢ refusals.Down
 own_is_no_down refusals.Down h e = h
 own_is_no_down _ h e = absurd (cc)
 
-admitted_awake : (s : Server Command) (turn : rafts.Turn Command) (command : Command) (q : Option Refusal) → ((r : Refusal) → q ≡ Some r → r ≢ refusals.Down) → Awake (raft_steps.unless q turn)
-admitted_awake s turn command None h = tt
-admitted_awake s turn command (Some r) h = h r refl
+unless_awake : (turn : rafts.Turn Command) (q : Option Refusal) → ((r : Refusal) → q ≡ Some r → r ≢ refusals.Down) → Awake (raft_steps.unless q turn)
+unless_awake turn None h = tt
+unless_awake turn (Some r) h = h r refl
 
 admission_awake : (s : Server Command) (command : Command) (b : Bool) (r : Refusal) → (if b then cluster_meaning.admission (state_after cluster_meaning s.log) command else Some refusals.Exhausted) ≡ Some r → r ≢ refusals.Down
 admission_awake s command true r h = let law = cluster_lawful in own_is_no_down r (law.refusal_is_its_own (state_after cluster_meaning s.log) command r h)
@@ -102,7 +100,7 @@ log_acts : (n me : ℕ) (s : Server Command) (x : raft_steps.Input Command) → 
 log_acts n me s (raft_steps.Arrives message) = awake_if (nat_lt message.from n) _ _ tt (λ e. cc)
 log_acts n me s raft_steps.Timeout = awake_if (is_leader s.mode) _ _ tt (awake_if (nat_lt s.term MAX && nat_lt (length s.log) MAX) _ _ tt (λ e. cc))
 log_acts n me s raft_steps.Beat = tt
-log_acts n me s (raft_steps.Propose command) = awake_if (is_leader s.mode) _ _ (admitted_awake s _ command _ (λ r h. admission_awake s command (nat_lt (length s.log) MAX) r h)) (λ e. cc)
+log_acts n me s (raft_steps.Propose command) = awake_if (is_leader s.mode) _ _ (unless_awake _ _ (λ r h. admission_awake s command (nat_lt (length s.log) MAX) r h)) (λ e. cc)
 log_acts n me s raft_steps.Compact = tt
 log_acts n me s raft_steps.Crash = tt
 log_acts n me s raft_steps.Restart = λ e. cc
