@@ -4,21 +4,16 @@ use Rattle.std.proofs.lemmas.List.{map-append}
 use Rattle.rows.specs.declared.refusal.Refusal.{Refusal}
 use Rattle.rows.specs.declared.refusal.Refusal.TheVariants as refusals
 use Rattle.raft_model.specs.Servers.{Mode, Down, Follower, Candidate, Leader, is_up, is_leader}
-use Rattle.group_model.specs.Clients.{Client}
 use Rattle.group_model.specs.Inputs.{Input, Arrives, Timeout, Beat, Request, TakeFrom, SubmitTo, FinishAt, NackAt, PlanTurn, Lapse, Expire, DrainTurn, FreeTurn, Reap, Compact, Crash, Restart}
 use Rattle.group_model.specs.Members.{Member}
 use Rattle.group_model.specs.Worlds.{Event}
-use Rattle.client_agent.specs.declared.input.ClientInput.{ClientInput}
-use Rattle.client_agent.specs.declared.input.ClientInput.TheVariants as client_inputs
-use Rattle.client_agent.specs.AgentView.{AgentView, crashed_agent}
-use Rattle.client_agent.specs.Refusals.{AgentMayLack, AgentLackLeaves, AgentRefusalLeaves, IsAgentRefused}
 use Rattle.server.specs.ServerViews.{ServerView, IsMember, SameMember, crashed_member, group_desk}
 use Rattle.server.specs.Handings.{Handing, FrameBytes, OwnInput}
 use Rattle.server.specs.Refusals.{MayLackMemory, MayTakeMemory, NoMemoryLeaves, HandingRefusalLeaves, IsHandingRefused}
 use Rattle.world.specs.declared.group.event.Event.{Event as GroupEvent}
 use Rattle.world.specs.GroupEvents.{group_event, group_events}
 use Rattle.world.specs.Inner.GroupInputs.{is_restart_input}
-use Rattle.world.specs.Inner.GroupParts.{GroupHistoryView, IsServerRefused, IsClientRefused}
+use Rattle.world.specs.Inner.GroupParts.{GroupHistoryView, IsServerRefused}
 
 -- ---- the trace
 
@@ -92,18 +87,3 @@ pub server_refused : (server after : ServerView) (past : GroupHistoryView) (h : 
     ((s : Member) → IsMember server s → HandingRefusalLeaves server s h cause after) → SameMember server after × IsServerRefused server past h e cause
 server_refused server after past h e refusals.NoMemory other refused left = absurd (other refl)
 server_refused server after past h e _ other refused left = (left (member_of server) (is_member_of server), refused)
-
--- ---- a client
-
--- want of memory is a crash
-pub client_fell : (old new : AgentView) (given : ClientInput) → AgentMayLack old.size old.client given → AgentLackLeaves old given new → new ≡ crashed_agent old
-client_fell old new (client_inputs.Frame bytes) may left = left
-client_fell old new (client_inputs.Register server) may left = left
-client_fell old new client_inputs.Crash may left = absurd may
-client_fell old new client_inputs.Restart may left = absurd may
-
--- any other refusal leaves the client, and is that of what is handed in
-pub client_refused : (client after : AgentView) (past : GroupHistoryView) (given : ClientInput) (e : Event) (cause : Refusal) → cause ≢ refusals.NoMemory →
-    IsAgentRefused client.size client.client given cause → AgentRefusalLeaves client given cause after → (after ≡ client) × IsClientRefused client past given e cause
-client_refused client after past given e refusals.NoMemory other refused left = absurd (other refl)
-client_refused client after past given e _ other refused left = (left, refused)
