@@ -1,15 +1,15 @@
 -- What is kept beside the actors of a group, after an event.
-use Rattle.std.proofs.Common.{◌≡◌, ◌≢◌, ℕ, true, false, List, [], ◌∷◌, ◌++◌, refl, ap, ◌∙◌}
+use Rattle.std.proofs.Common.{◌≡◌, ◌≢◌, true, false, List, [], ◌∷◌, ◌++◌, refl, ap, ◌∙◌}
 use Rattle.std.proofs.lemmas.List.{map-append}
 use Rattle.rows.specs.declared.refusal.Refusal.{Refusal}
 use Rattle.rows.specs.declared.refusal.Refusal.TheVariants as refusals
 use Rattle.raft_model.specs.Servers.{Mode, Down, Follower, Candidate, Leader, is_up, is_leader}
-use Rattle.group_model.specs.Inputs.{Input, Arrives, Timeout, Beat, Request, TakeFrom, SubmitTo, FinishAt, NackAt, PlanTurn, Lapse, Expire, DrainTurn, FreeTurn, Reap, Compact, Crash, Restart}
+use Rattle.group_model.specs.Inputs.{Arrives, Timeout, Beat, Request, TakeFrom, SubmitTo, FinishAt, NackAt, PlanTurn, Lapse, Expire, DrainTurn, FreeTurn, Reap, Compact, Crash, Restart}
 use Rattle.group_model.specs.Members.{Member}
 use Rattle.group_model.specs.Worlds.{Event}
 use Rattle.server.specs.ServerViews.{ServerView, IsMember, SameMember, crashed_member, group_desk}
 use Rattle.server.specs.Handings.{Handing, FrameBytes, OwnInput}
-use Rattle.server.specs.Refusals.{MayLackMemory, MayTakeMemory, NoMemoryLeaves, HandingRefusalLeaves, IsHandingRefused}
+use Rattle.server.specs.Refusals.{MayLackMemory, NoMemoryLeaves, HandingRefusalLeaves, IsHandingRefused}
 use Rattle.world.specs.declared.group.event.Event.{Event as GroupEvent}
 use Rattle.world.specs.GroupEvents.{group_event, group_events}
 use Rattle.world.specs.Inner.GroupInputs.{is_restart_input}
@@ -28,9 +28,6 @@ member_of view = record { raft = view.raft.server; desk = group_desk view.desk }
 
 pub is_member_of : (view : ServerView) → IsMember view (member_of view)
 is_member_of view = record { raft = refl; desk = refl }
-
-pub as_it_was : (view : ServerView) → SameMember view view
-as_it_was view = record { raft = record { me = refl; size = refl; server = refl }; desk = refl }
 
 leads_up : (mode : Mode) → is_leader mode ≡ true → is_up mode ≡ true
 leads_up Down h = absurd (cc)
