@@ -18,7 +18,7 @@ invariant_of-self c =
     let past = c.take_input.new.self in
     let after = c.take_input.new.server in
     let new : GroupView = record { servers = slice_set i.servers.items c.place.result after; clients = i.clients.items; outbox = past.outbox; trace = past.trace; chain = past.chain } in
-    let scene = own_scene old c.args.self.now c.args.me c.place.result view c.self.view_is c.self.invariant c.place.ensures.value c.requires.member c.index_mut-server.ensures.value c.args.input c.ranges.ensures c.requires.own in
+    let scene = own_scene old c.args.self.now c.args.me c.place.result view c.self.view_is c.self.invariant c.place.ensures.value c.requires.member c.index_mut-server.ensures.value c.args.input c.ranges-2.ensures c.requires.own in
     let r = server_acted old e c.args.me view h scene c.limits_are_kept.ensures senders (subst (λ (x : GroupView). IsGroupAwake x e) (sym c.self.view_is) c.requires.awake) new after
     (ap (λ k. slice_set i.servers.items k after) c.place.ensures.value) refl c.take_input.ensures.same c.take_input.result c.take_input.ensures.done in
     r.world
@@ -33,7 +33,7 @@ returns c =
     let past = c.take_input.new.self in
     let after = c.take_input.new.server in
     let new : GroupView = record { servers = slice_set i.servers.items c.place.result after; clients = i.clients.items; outbox = past.outbox; trace = past.trace; chain = past.chain } in
-    let scene = own_scene old c.args.self.now c.args.me c.place.result view c.self.view_is c.self.invariant c.place.ensures.value c.requires.member c.index_mut-server.ensures.value c.args.input c.ranges.ensures c.requires.own in
+    let scene = own_scene old c.args.self.now c.args.me c.place.result view c.self.view_is c.self.invariant c.place.ensures.value c.requires.member c.index_mut-server.ensures.value c.args.input c.ranges-2.ensures c.requires.own in
     let r = server_acted old e c.args.me view h scene c.limits_are_kept.ensures senders (subst (λ (x : GroupView). IsGroupAwake x e) (sym c.self.view_is) c.requires.awake) new after
     (ap (λ k. slice_set i.servers.items k after) c.place.ensures.value) refl c.take_input.ensures.same c.take_input.result c.take_input.ensures.done in
     let q = subst (λ (x : GroupView). GroupActed x e c.take_input.result new) c.self.view_is r in
