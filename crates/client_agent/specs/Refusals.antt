@@ -64,12 +64,7 @@ abbrev pub IsAgentRefused : ℕ → Client → ClientInput → Refusal → Type 
 IsAgentRefused n c given refusals.NoMemory = AgentMayLack n c given
 IsAgentRefused n c given cause = agent_refusal n c given ≡ Some cause
 
--- want of memory is a crash, but that a restart changes nothing
-abbrev pub AgentLackLeaves : AgentView → ClientInput → AgentView → Type 0
-AgentLackLeaves old inputs.Restart new = new ≡ old
-AgentLackLeaves old given new = new ≡ crashed_agent old
-
--- any other refusal changes nothing
-abbrev pub AgentRefusalLeaves : AgentView → ClientInput → Refusal → AgentView → Type 0
-AgentRefusalLeaves old given refusals.NoMemory new = AgentLackLeaves old given new
-AgentRefusalLeaves old given cause new = new ≡ old
+-- want of memory is a crash, any other refusal changes nothing
+abbrev pub AgentRefusalLeaves : AgentView → Refusal → AgentView → Type 0
+AgentRefusalLeaves old refusals.NoMemory new = new ≡ crashed_agent old
+AgentRefusalLeaves old cause new = new ≡ old

@@ -148,8 +148,7 @@ impl Agent {
             (agent_refusal self.old.size self.old.client (inputs.Frame frame.now) ≡ None) }
         ensures refused { IfErr result (λ cause.
             IsAgentRefused self.old.size self.old.client (inputs.Frame frame.now) cause) }
-        ensures left { IfErr result (λ cause.
-            AgentRefusalLeaves self.old (inputs.Frame frame.now) cause self.new) }
+        ensures left { IfErr result (λ cause. AgentRefusalLeaves self.old cause self.new) }
         ensures unsent { OnErr result (outbox.new ≡ outbox.old) }
     {
         if !self.is_up() {
@@ -176,8 +175,7 @@ impl Agent {
             (agent_refusal self.old.size self.old.client (inputs.Register server) ≡ None) }
         ensures refused { IfErr result (λ cause.
             IsAgentRefused self.old.size self.old.client (inputs.Register server) cause) }
-        ensures left { IfErr result (λ cause.
-            AgentRefusalLeaves self.old (inputs.Register server) cause self.new) }
+        ensures left { IfErr result (λ cause. AgentRefusalLeaves self.old cause self.new) }
         ensures unsent { OnErr result (outbox.new ≡ outbox.old) }
     {
         if !self.is_up() {
@@ -211,7 +209,7 @@ impl Agent {
             (agent_refusal self.old.size self.old.client input ≡ None) }
         ensures refused { IfErr result (λ cause.
             IsAgentRefused self.old.size self.old.client input cause) }
-        ensures left { IfErr result (λ cause. AgentRefusalLeaves self.old input cause self.new) }
+        ensures left { IfErr result (λ cause. AgentRefusalLeaves self.old cause self.new) }
         ensures unsent { OnErr result (outbox.new ≡ outbox.old) }
     {
         match input {

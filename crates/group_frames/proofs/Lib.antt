@@ -1,2 +1,3 @@
 pub mod OneMessage
 pub mod Sending
+pub mod SomeMessage

@@ -7,7 +7,7 @@ use Rattle.rows.specs.declared.actor.Actor.TheVariants.{Server, Client}
 use Rattle.rows.specs.declared.command.Command.{Command}
 use Rattle.machine.specs.Meaning.{Meaning}
 use Rattle.wire.specs.Messages.{Message as WireMessage}
-use Rattle.wire.specs.Frames.{Frame, MessageFits, message_text}
+use Rattle.wire.specs.Frames.{Frame, MessageFits, IsFrame, message_text}
 use Rattle.wire.specs.declared.body.Body.{Body}
 use Rattle.wire.specs.declared.body.Body.TheVariants as bodies
 use Rattle.raft_core.specs.Frames.{IsFrameOf}
@@ -66,3 +66,9 @@ abbrev pub FramesAreOfOne : {S : Type 0} → Meaning S Command → Type 0
 FramesAreOfOne m =
     (bytes : List ℕ) (x y : GroupMessage)
     → IsGroupFrame m bytes x → IsGroupFrame m bytes y → x ≡ y
+
+-- a frame that can be read is of some message
+abbrev pub FramesAreOfSome : {S : Type 0} → Meaning S Command → Type 0
+FramesAreOfSome {S} m =
+    (bytes : List ℕ) (read : WireMessage S Command) → IsFrame m.commands read bytes
+    → (message : GroupMessage) × IsGroupFrame m bytes message

@@ -3,9 +3,11 @@
 
 ghost use Rattle.rows.specs.declared.command.Command.{Command};
 ghost use Rattle.cluster_model.specs.ClusterMachine.{cluster_meaning};
-ghost use Rattle.group_frames.specs.GroupFrames.{FramesAreOfOne};
+ghost use Rattle.group_frames.specs.GroupFrames.{FramesAreOfOne, FramesAreOfSome};
 
-/// A frame is of one message at most, of the log's or beside them.
+/// A frame is of one message at most, of the log's or beside them, and each frame that can be read
+/// is of one.
 pub fn frames_are_of_one_message()
-    ensures { FramesAreOfOne cluster_meaning }
+    ensures one { FramesAreOfOne cluster_meaning }
+    ensures some { FramesAreOfSome cluster_meaning }
 {}

@@ -1,7 +1,11 @@
 use Rattle.cluster_model.specs.ClusterMachine.{cluster_meaning}
 use Rattle.cluster_model.proofs.ClusterMachine.{cluster_lawful}
 use Rattle.group_frames.proofs.OneMessage.{one_message}
+use Rattle.group_frames.proofs.SomeMessage.{some_message}
 use Rattle.group_frames.proofs.frames_are_of_one_message.Goals as goal
 
-pub returns : goal.returns
-returns c = one_message cluster_meaning cluster_lawful
+pub returns-clause-one : goal.returns-clause-one
+returns-clause-one c = one_message cluster_meaning cluster_lawful
+
+pub returns-clause-some : goal.returns-clause-some
+returns-clause-some c = some_message cluster_meaning
