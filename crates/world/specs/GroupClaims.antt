@@ -3,8 +3,9 @@
 use Rattle.std.specs.Prelude.{◌≡◌, ℕ, List, length}
 use Rattle.rows.specs.declared.command.Command.{Command}
 use Rattle.machine.specs.declared.entry.Entry.{Entry}
-use Rattle.group_model.specs.Worlds.{World}
-use Rattle.group_safety.specs.Claims.{OneList, SafeStates, PlansAreBacked}
+use Rattle.raft_safety.specs.Claims.{IsGreatestCommit}
+use Rattle.group_model.specs.Worlds.{World, raft_of}
+use Rattle.group_safety.specs.Claims.{OneList, SafeStates, PlansAreBacked, logs}
 use Rattle.world.specs.GroupView.{GroupView, GroupRunsTo}
 
 -- The value has a run, and there is one list, of length `chain`: in each of its runs what a server
@@ -34,3 +35,7 @@ pub record BackedPlans (view : GroupView) : Type 0 where
   pub world : World
   pub runs : GroupRunsTo view past world
   pub ever : (past : List World) (w : World) → GroupRunsTo view past w → (list : List (Entry Command)) → OneList past w list → PlansAreBacked view.trace past w list
+
+-- the greatest number of entries that any server had applied at some moment, in each of its runs
+abbrev pub IsGreatestEver : GroupView → ℕ → Type 0
+IsGreatestEver view n = (past : List World) (w : World) → GroupRunsTo view past w → IsGreatestCommit (logs past) (raft_of w) n

@@ -50,6 +50,28 @@ fn longer(chain: Index, server: &Server) -> Index
     }
 }
 
+/// The k-th frame, from 1.
+fn frame_at(sent: &Frames, k: u64) -> Option<Frame<'_>>
+    ensures { result ≡ slice_get sent.now (place_of k) }
+{
+    let count = sent.len() as u64;
+    if k == 0 || k > count {
+        return None;
+    }
+    sent.get((k - 1) as usize)
+}
+
+/// Copies the k-th frame, from 1.
+fn copy_frame(sent: &Frames, k: u64, frame: &mut Vec<u8>) -> Result<(), NoMemory>
+    ensures { OnOk result (frame.new.items ≡ bytes_of (slice_get sent.now (place_of k))) }
+{
+    frame.clear();
+    if let Some(found) = frame_at(sent, k) {
+        frame.extend_from_slice(found.bytes())?;
+    }
+    Ok(())
+}
+
 impl GroupHistory {
     /// Before the first event.
     pub(crate) fn new(alloc: Global) -> GroupHistory
@@ -97,29 +119,7 @@ impl GroupHistory {
     pub(crate) fn frame(&self, k: u64) -> Option<Frame<'_>>
         ensures { result ≡ slice_get self.now.outbox.frames (place_of k) }
     {
-        let sent = &self.outbox.frames;
-        let count = sent.len() as u64;
-        if k == 0 || k > count {
-            return None;
-        }
-        sent.get((k - 1) as usize)
-    }
-
-    /// Copies the k-th frame.
-    fn copy_frame(&mut self, k: u64) -> Result<(), NoMemory>
-        ensures same { self.new ≡ self.old }
-        ensures bytes { OnOk result (self.delivered.new.items
-            ≡ bytes_of (slice_get self.old.outbox.frames (place_of k))) }
-    {
-        self.delivered.clear();
-        let count = self.outbox.frames.len() as u64;
-        if k == 0 || k > count {
-            return Ok(());
-        }
-        if let Some(frame) = self.outbox.frames.get((k - 1) as usize) {
-            self.delivered.extend_from_slice(frame.bytes())?;
-        }
-        Ok(())
+        frame_at(&self.outbox.frames, k)
     }
 
     /// A server takes an input of its own, and what it sends is put behind what was sent. Where it
@@ -172,7 +172,7 @@ impl GroupHistory {
             (Deliver (place_of k)) me result server.new self.new }
     {
         self.trace.reserve(1)?;
-        self.copy_frame(k)?;
+        copy_frame(&self.outbox.frames, k, &mut self.delivered)?;
         match server.receive(&self.delivered, &mut self.outbox) {
             Ok(()) => {
                 self.chain = longer(self.chain, server);
@@ -233,7 +233,7 @@ impl GroupHistory {
             (Deliver (place_of k)) me result client.new self.new }
     {
         self.trace.reserve(1)?;
-        self.copy_frame(k)?;
+        copy_frame(&self.outbox.frames, k, &mut self.delivered)?;
         match client.receive(&self.delivered, &mut self.outbox.frames) {
             Ok(()) => {
                 self.trace.push_reserved(Event::Deliver(k));

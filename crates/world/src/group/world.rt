@@ -4,19 +4,17 @@ ghost use Rattle.std.specs.Option.{option_copied};
 ghost use Rattle.std.specs.List.{AllZip};
 ghost use Rattle.rows.specs.declared.refusal.Refusal.TheVariants as refusals;
 ghost use Rattle.rows.specs.declared.actor.Actor.TheVariants as actors;
-ghost use Rattle.raft_safety.specs.Claims.{IsGreatestCommit};
 ghost use Rattle.group_model.specs.Members.{newcomer};
 ghost use Rattle.group_model.specs.Clients.{agent_of};
-ghost use Rattle.group_model.specs.Worlds.{World, Deliver, AtServer, AtClient, raft_of};
-ghost use Rattle.group_safety.specs.Claims.{logs};
+ghost use Rattle.group_model.specs.Worlds.{Deliver, AtServer, AtClient};
 ghost use Rattle.server.specs.Handings.{handing};
 ghost use Rattle.server.specs.ServerViews.{ServerView, IsMember};
 ghost use Rattle.world.specs.WorldView.{IsGroup};
 ghost use Rattle.world.specs.Events.{place_of};
 ghost use Rattle.world.specs.GroupEvents.{server_input, client_input, group_event, group_events};
-ghost use Rattle.world.specs.GroupView.{GroupRunsTo, client_view};
+ghost use Rattle.world.specs.GroupView.{client_view};
 ghost use Rattle.world.specs.GroupSteps.{IsGroupDone, SameGroup, RefusesGroupEvent, IsGroupAwake, IsNewGroup, WhyNoGroup, GroupPlayed, GroupReplays};
-ghost use Rattle.world.specs.GroupClaims.{OneGroupList, SafeGroupStates, BackedPlans};
+ghost use Rattle.world.specs.GroupClaims.{OneGroupList, SafeGroupStates, BackedPlans, IsGreatestEver};
 ghost use Rattle.world.specs.Inner.GroupInputs.{new_agents, is_frame, is_client_frame, IsSentTo};
 ghost use Rattle.world.specs.Inner.GroupParts.{GroupStepped};
 
@@ -406,8 +404,7 @@ impl World {
     /// applied.
     pub fn chain(&self) -> Index
         ensures value { result ≡ self.now.chain }
-        ensures greatest { (past : List World) (w : World) → GroupRunsTo self.now past w →
-            IsGreatestCommit (logs past) (raft_of w) result }
+        ensures greatest { IsGreatestEver self.now result }
     {
         self.history.chain()
     }
