@@ -1,5 +1,6 @@
 -- A group before its first event.
-use Rattle.std.proofs.Common.{◌≡◌, ℕ, zero, suc, ◌+◌, ◌≤◌, ◌⊎◌, inl, inr, Some, List, [], ◌∷◌, ◌++◌, length, length-append, map, replicate, refl, sym, ap, ◌∙◌, subst, arith, slice_get}
+use Rattle.std.proofs.Common.{◌≡◌, ℕ, zero, suc, ◌+◌, ◌<◌, ◌≤◌, ◌⊎◌, inl, inr, Some, List, [], ◌∷◌, ◌++◌, length, length-append, map, take, replicate, get_or, refl, sym, ap, ◌∙◌, subst, arith, slice_get}
+use Rattle.std.proofs.lemmas.List.{take_more, length-take-le}
 use Rattle.std.specs.List.{AllZip, AllByRecursion}
 use Rattle.rows.specs.Names.{NameFits}
 use Rattle.rows.specs.Fits.{SizeFits, NodeSpecFits}
@@ -21,7 +22,6 @@ use Rattle.world.specs.WorldView.{IsGroup}
 use Rattle.world.specs.GroupView.{GroupView, RepresentsGroup, GroupRunsTo, IsGroupWorld, nodes_of, node_in, client_in, renumbered}
 use Rattle.world.specs.GroupSteps.{IsNewGroup}
 use Rattle.world.specs.Inner.GroupInputs.{new_agents}
-use Rattle.world.specs.Inner.GroupParts.{GroupHistoryView}
 use Rattle.world.proofs.Zips.{zip_append}
 use Rattle.world.proofs.Heights.{first_height}
 
@@ -68,6 +68,17 @@ one_agent_more n k (x ∷ nodes) node =
     ap (λ l. record { size = n; client = agent_of (record x { number = k }) } ∷ l)
     (one_agent_more n (suc k) nodes node ∙ ap (λ j. new_agents n (suc k) nodes ++ record { size = n; client = agent_of (record node { number = j }) } ∷ []) e)
 
+-- the client of the next node is made
+pub agent_more : (n place : ℕ) (nodes : List NodeSpec) (node : NodeSpec) (clients after : List AgentView) (a : AgentView) → place < length nodes → node ≡ get_or nodes place node → clients ≡ new_agents n 1 (take place nodes) →
+    a ≡ record { size = n; client = agent_of (record node { number = suc place }) } → after ≡ clients ++ a ∷ [] → after ≡ new_agents n 1 (take (place + 1) nodes)
+agent_more n place nodes node clients after a inside here were is pushed =
+    let before = take place nodes in
+    let more : take (place + 1) nodes ≡ before ++ node ∷ [] = take_more nodes place node inside ∙ ap (λ e. before ++ e ∷ []) (sym here) in
+    let long : length before ≡ place = length-take-le place nodes (omega (arith, inside)) in
+    let count : suc place ≡ 1 + length before = omega (arith, long) in
+    pushed ∙ (ap (λ l. l ++ a ∷ []) were ∙ (ap (λ x. new_agents n 1 before ++ x ∷ []) is ∙
+    (ap (λ j. new_agents n 1 before ++ record { size = n; client = agent_of (record node { number = j }) } ∷ []) count ∙ (sym (one_agent_more n 1 before node) ∙ ap (new_agents n 1) (sym more)))))
+
 -- their nodes are those that were given, numbered
 agents_nodes : (n k : ℕ) (nodes : List NodeSpec) → map node_in (new_agents n k nodes) ≡ renumbered k nodes
 agents_nodes n k [] = refl
@@ -91,7 +102,7 @@ renumbered_length k (node ∷ nodes) = ap suc (renumbered_length (suc k) nodes)
 
 renumbered_fit : (k : ℕ) (nodes : List NodeSpec) → AllByRecursion NodeSpecFits nodes → AllByRecursion (λ (n : NodeSpec). NameFits n.class × SizeFits n.size) (renumbered k nodes)
 renumbered_fit k [] h = tt
-renumbered_fit k (node ∷ nodes) h = (h.0.1, renumbered_fit (suc k) nodes h.1)
+renumbered_fit k (node ∷ nodes) h = ((h.0.1, h.0.2), renumbered_fit (suc k) nodes h.1)
 
 -- the nodes are within their limits
 pub nodes_fit : (nodes : List NodeSpec) → length nodes ≤ 64 → AllByRecursion NodeSpecFits nodes → NodesFit (renumbered 1 nodes)
@@ -114,12 +125,11 @@ module _ (n : ℕ) (nodes : List NodeSpec) (view : GroupView) where
     pub places : (i : ℕ) (s : ServerView) → slice_get view.servers i ≡ Some s → (s.raft.me ≡ i) × (s.raft.size ≡ n)
     pub newcomers : AllZip IsMember view.servers (replicate n newcomer)
     pub agents : view.clients ≡ new_agents n 1 nodes
-    pub history : record { outbox = view.outbox; trace = view.trace; chain = view.chain } ≡ record { outbox = record { frames = []; work = [] }; trace = []; chain = 0 }
+    pub outbox : view.outbox ≡ record { frames = []; work = [] }
+    pub trace : view.trace ≡ []
+    pub chain : view.chain ≡ 0
 
   module _ (m : MadeGroup) where
-    outbox_is : view.outbox ≡ record { frames = []; work = [] }
-    outbox_is = ap (λ (h : GroupHistoryView). h.outbox) m.history
-
     nodes_are : nodes_of view ≡ renumbered 1 nodes
     nodes_are = ap (map node_in) m.agents ∙ agents_nodes n 1 nodes
 
@@ -129,13 +139,13 @@ module _ (n : ℕ) (nodes : List NodeSpec) (view : GroupView) where
       count = m.count;
       nodes_are = nodes_are;
       few = m.few;
-      trace = ap (λ (h : GroupHistoryView). h.trace) m.history;
-      chain = ap (λ (h : GroupHistoryView). h.chain) m.history;
-      work = ap (λ (o : Outbox). o.work) outbox_is;
+      trace = m.trace;
+      chain = m.chain;
+      work = ap (λ (o : Outbox). o.work) m.outbox;
       represents = record {
         servers = m.newcomers;
         clients = ap (map client_in) m.agents ∙ (agents_clients n 1 nodes ∙ ap (agents 1) (sym nodes_are));
-        sent = subst (λ l. AllZip (CarriesGroup cluster_meaning) l []) (sym (ap (λ (o : Outbox). o.frames) outbox_is)) tt;
+        sent = subst (λ l. AllZip (CarriesGroup cluster_meaning) l []) (sym (ap (λ (o : Outbox). o.frames) m.outbox)) tt;
       };
     }
 
