@@ -22,6 +22,7 @@ use Rattle.world.specs.WorldView.{IsGroup}
 use Rattle.world.specs.GroupView.{GroupView, RepresentsGroup, GroupRunsTo, IsGroupWorld, nodes_of, node_in, client_in, renumbered}
 use Rattle.world.specs.GroupSteps.{IsNewGroup}
 use Rattle.world.specs.Inner.GroupInputs.{new_agents}
+use Rattle.world.specs.Inner.GroupParts.{GroupHistoryView}
 use Rattle.world.proofs.Zips.{zip_append}
 use Rattle.world.proofs.Heights.{first_height}
 
@@ -162,7 +163,22 @@ module _ (n : ℕ) (nodes : List NodeSpec) (view : GroupView) where
     world = first n (nodes_of view);
     runs = new_group_runs (made_new m);
     servers = λ i s at. let k = m.places i s at in (k.0, k.1 ∙ sym m.count);
-    clients = λ i a at. let k = agents_places n 1 nodes i a (subst (λ l. slice_get l i ≡ Some a) m.agents at) in (k.0, k.1 ∙ sym m.count);
+    clients = λ i a at. let k = agents_places n 1 nodes i a (subst (λ l. slice_get l i ≡ Some a) m.agents at) in (omega (arith, k.0), k.1 ∙ sym m.count);
     nodes = subst NodesFit (sym (nodes_are m)) (nodes_fit nodes m.few fit);
     size = subst IsGroup (sym m.count) m.size;
   }
+
+pub made_group : (n : ℕ) (nodes : List NodeSpec) (servers : List ServerView) (clients : List AgentView) (h : GroupHistoryView) → IsGroup n → length nodes ≤ 64 → length servers ≡ n →
+    ((i : ℕ) (s : ServerView) → slice_get servers i ≡ Some s → (s.raft.me ≡ i) × (s.raft.size ≡ n)) → AllZip IsMember servers (replicate n newcomer) → clients ≡ new_agents n 1 nodes →
+    h ≡ record { outbox = record { frames = []; work = [] }; trace = []; chain = 0 } → MadeGroup n nodes (record { servers = servers; clients = clients; outbox = h.outbox; trace = h.trace; chain = h.chain })
+made_group n nodes servers clients h size few count places newcomers agents is = record {
+  size = size;
+  few = few;
+  count = count;
+  places = places;
+  newcomers = newcomers;
+  agents = agents;
+  outbox = ap (λ (x : GroupHistoryView). x.outbox) is;
+  trace = ap (λ (x : GroupHistoryView). x.trace) is;
+  chain = ap (λ (x : GroupHistoryView). x.chain) is;
+}
