@@ -1,1 +1,180 @@
 -- What becomes of a list of events that is handed in.
+use Rattle.std.proofs.Common.{◌≡◌, ◌≢◌, ℕ, ◌⊎◌, inl, inr, Some, Result, Ok, Err, IfOk, IfErr, OnErr, List, [], ◌∷◌, ◌++◌, length, refl, sym, ap, ◌∙◌, subst, slice_get}
+use Rattle.std.proofs.lemmas.List.{map-append}
+use Rattle.rows.specs.declared.node.NodeSpec.{NodeSpec}
+use Rattle.rows.specs.declared.refusal.Refusal.{Refusal}
+use Rattle.rows.specs.declared.refusal.Refusal.TheVariants as refusals
+use Rattle.raft_model.specs.Worlds.{Outcome, Kept, LeftOut}
+use Rattle.raft_model.specs.Worlds.{Crashed as OutcomeCrashed}
+use Rattle.raft_safety.proofs.Places.{get-more, get-last}
+use Rattle.raft_safety.proofs.Chains.{greatest_one}
+use Rattle.group_model.specs.Worlds.{World, Event, IsEvent, IsLeftOut, first, happens, raft_of, Trace, nothing, kept, crashed, left_out}
+use Rattle.group_safety.specs.Claims.{logs}
+use Rattle.group_safety.specs.Limits.{NodesFit, LimitedRun, LimitsAreKept, start, more}
+use Rattle.world.specs.declared.done.Done.{Done}
+use Rattle.world.specs.declared.done.Done.TheVariants.{Taken, Crashed}
+use Rattle.world.specs.declared.group.event.Event.{Event as GroupEvent}
+use Rattle.world.specs.Steps.{Lacked}
+use Rattle.world.specs.GroupEvents.{group_event, group_events}
+use Rattle.world.specs.GroupView.{GroupView, GroupRunsTo, nodes_of, renumbered}
+use Rattle.world.specs.GroupSteps.{IsGroupDone, GroupStaysDown, SameGroup, RefusesGroupEvent, IsNewGroup, GroupPlayed, GroupReplays}
+use Rattle.world.proofs.Runs.{ends_alike, no_end}
+use Rattle.world.proofs.GroupBegins.{new_group_runs}
+use Rattle.world.proofs.GroupRuns.{last_event, group_runs_are_one, same_group_count, same_group_nodes, same_group_runs}
+
+pub group_event_more : (before after : List GroupEvent) (e : GroupEvent) → after ≡ before ++ e ∷ [] → group_events after ≡ group_events before ++ group_event e ∷ []
+group_event_more before after e is = ap group_events is ∙ map-append group_event before (e ∷ [])
+
+-- ---- one event after the other
+
+module _ (n : ℕ) (nodes : List NodeSpec) where
+  pub group_play_begins : (view : GroupView) → IsNewGroup n nodes view → GroupPlayed n nodes [] view
+  group_play_begins view begun = record {
+    count = begun.count;
+    nodes_are = begun.nodes_are;
+    outcomes = [];
+    past = [];
+    world = first n (renumbered 1 nodes);
+    trace = subst (λ es. Trace n (renumbered 1 nodes) [] [] es [] (first n (renumbered 1 nodes))) (sym begun.trace) nothing;
+    runs = subst (λ ns. GroupRunsTo view [] (first n ns)) begun.nodes_are (new_group_runs n nodes view begun);
+  }
+
+  -- an event that left the same group
+  passed_over : (handed : List Event) (old new : GroupView) (e : Event) (r : Refusal) (p : GroupPlayed n nodes handed old) → IsLeftOut p.world e r → SameGroup old new → GroupPlayed n nodes (handed ++ e ∷ []) new
+  passed_over handed old new e r p left same = record {
+    count = same_group_count old new same ∙ p.count;
+    nodes_are = same_group_nodes old new same ∙ p.nodes_are;
+    outcomes = p.outcomes ++ LeftOut r ∷ [];
+    past = p.past;
+    world = p.world;
+    trace = subst (λ es. Trace n (renumbered 1 nodes) (handed ++ e ∷ []) (p.outcomes ++ LeftOut r ∷ []) es p.past p.world) (sym same.trace) (left_out e r p.trace left);
+    runs = same_group_runs old new same p.past p.world p.runs;
+  }
+
+  -- a restart for which there was no memory
+  stayed_down : (handed : List Event) (old new : GroupView) (e : Event) (p : GroupPlayed n nodes handed old) → GroupStaysDown old e new → GroupPlayed n nodes (handed ++ e ∷ []) new
+  stayed_down handed old new e p s =
+      let runs = p.runs in
+      subst (GroupPlayed n nodes (handed ++ e ∷ [])) (sym s.same) (record {
+        count = p.count;
+        nodes_are = p.nodes_are;
+        outcomes = p.outcomes ++ LeftOut refusals.NoMemory ∷ [];
+        past = p.past;
+        world = p.world;
+        trace = left_out e refusals.NoMemory p.trace (inr (s.restart, s.could p.world runs.represents, refl));
+        runs = p.runs;
+      })
+
+  -- an event that happened is one of the definitions
+  module _ (limits : LimitsAreKept) (fit : NodesFit (renumbered 1 nodes)) where
+    was_event : (old new : GroupView) (e : Event) (past : List World) (w next : World) → nodes_of new ≡ renumbered 1 nodes → new.trace ≡ old.trace ++ e ∷ [] → GroupRunsTo new (past ++ w ∷ []) next → IsEvent w e
+    was_event old new e past w next are is r =
+        last_event (length new.servers) (nodes_of new) new.trace (past ++ w ∷ []) next (limits (length new.servers) (nodes_of new) new.trace (past ++ w ∷ []) next (subst NodesFit (sym are) fit) r.run) old.trace e past w is refl
+
+    pub group_play_next : (handed : List Event) (old new : GroupView) (e : Event) (result : Result Done Refusal) → GroupPlayed n nodes handed old →
+        IfOk result (λ done. IsGroupDone old e done new) → OnErr result (SameGroup old new) → IfErr result (λ refusal. refusal ≢ refusals.NoMemory → RefusesGroupEvent old e refusal) → result ≢ Err refusals.NoMemory →
+        GroupPlayed n nodes (handed ++ e ∷ []) new
+    group_play_next handed old new e (Ok Taken) p went err cause memory =
+        let q = went.runs p.past p.world p.runs in
+        let are = went.nodes ∙ p.nodes_are in
+        record {
+          count = went.size ∙ p.count;
+          nodes_are = are;
+          outcomes = p.outcomes ++ Kept ∷ [];
+          past = p.past ++ p.world ∷ [];
+          world = q.0;
+          trace = subst (λ es. Trace n (renumbered 1 nodes) (handed ++ e ∷ []) (p.outcomes ++ Kept ∷ []) es (p.past ++ p.world ∷ []) q.0) (sym went.trace)
+              (kept e q.0 p.trace (was_event old new e p.past p.world q.0 are went.trace q.2) q.1);
+          runs = q.2;
+        }
+    group_play_next handed old new e (Ok Crashed) p went err cause memory = elim went [
+      | inl f ↦
+          let happened = f.happened in
+          let q = happened.runs p.past p.world p.runs in
+          let runs = p.runs in
+          record {
+            count = happened.size ∙ p.count;
+            nodes_are = happened.nodes ∙ p.nodes_are;
+            outcomes = p.outcomes ++ OutcomeCrashed ∷ [];
+            past = p.past ++ p.world ∷ [];
+            world = q.0;
+            trace = subst (λ es. Trace n (renumbered 1 nodes) (handed ++ e ∷ []) (p.outcomes ++ OutcomeCrashed ∷ []) es (p.past ++ p.world ∷ []) q.0) (sym happened.trace)
+                (crashed e f.crash q.0 p.trace (f.actor p.world runs.represents) q.1);
+            runs = q.2;
+          }
+      | inr s ↦ stayed_down handed old new e p s
+    ]
+    group_play_next handed old new e (Err refusal) p went err cause memory =
+        passed_over handed old new e refusal p (inl (cause (λ r. memory (ap (λ x. Err x) r)) p.past p.world p.runs)) err
+
+-- ---- a run comes again from its events, unless memory is wanting
+
+module _ (n : ℕ) (nodes : List NodeSpec) where
+  -- an event for which memory was wanting
+  record Lack (outcomes : List Outcome) : Type 0 where
+    place : ℕ
+    outcome : Outcome
+    at : slice_get outcomes place ≡ Some outcome
+    lacked : Lacked outcome
+
+  lack_on : (outcomes : List Outcome) (o : Outcome) → Lack outcomes → Lack (outcomes ++ o ∷ [])
+  lack_on outcomes o l = record { place = l.place; outcome = l.outcome; at = get-more outcomes (o ∷ []) l.place l.outcome l.at; lacked = l.lacked }
+
+  lack_now : (outcomes : List Outcome) (o : Outcome) → Lacked o → Lack (outcomes ++ o ∷ [])
+  lack_now outcomes o l = record { place = length outcomes; outcome = o; at = get-last outcomes o; lacked = l }
+
+  -- each event was kept, on the way of the run
+  record Same (events trace : List Event) (past past2 : List World) (w w2 : World) : Type 0 where
+    trace_is : trace ≡ events
+    past_is : past ≡ past2
+    world_is : w ≡ w2
+
+  again : (events handed trace : List Event) (outcomes : List Outcome) (past past2 : List World) (w w2 : World) → events ≡ handed → Trace n nodes events outcomes trace past w →
+      LimitedRun n nodes handed past2 w2 → Same events trace past past2 w w2 ⊎ Lack outcomes
+  again events handed trace outcomes past past2 w w2 same nothing start = inl (record { trace_is = refl; past_is = refl; world_is = refl })
+  again events handed trace outcomes past past2 w w2 same nothing (more {events = fs} f next2 run2 fits2 so2) = absurd (no_end fs f (sym same))
+  again events handed trace outcomes past past2 w w2 same (kept {events = es} e next t is so) start = absurd (no_end es e same)
+  again events handed trace outcomes past past2 w w2 same (crashed {events = es} e c next t actor so) start = absurd (no_end es e same)
+  again events handed trace outcomes past past2 w w2 same (left_out {events = es} e r t left) start = absurd (no_end es e same)
+  again events handed trace outcomes past past2 w w2 same (crashed {outcomes = os} e c next t actor so) (more f next2 run2 fits2 so2) = inr (lack_now os OutcomeCrashed tt)
+  again events handed trace outcomes past past2 w w2 same (kept {events = es} {trace = ts} {outcomes = os} {past = before} {w = last} e next t is so) (more {events = fs} {past = before2} {w = last2} f next2 run fits2 so2) =
+      let s = ends_alike es fs e f same in
+      elim (again es fs ts os before before2 last last2 s.0 t run) [
+        | inl q ↦
+            let x : e ≡ f = s.1 in
+            let y : last ≡ last2 = q.world_is in
+            let z : Ok next ≡ Ok next2 = sym so ∙ (ap (λ v. happens v e) y ∙ (ap (λ v. happens last2 v) x ∙ so2)) in
+            inl (record { trace_is = ap (λ l. l ++ e ∷ []) q.trace_is; past_is = ap (λ l. l ++ last ∷ []) q.past_is ∙ ap (λ v. before2 ++ v ∷ []) y; world_is = cc })
+        | inr l ↦ inr (lack_on os Kept l)
+      ]
+  again events handed trace outcomes past past2 w w2 same (left_out {events = es} {trace = ts} {outcomes = os} {past = before} {w = last} e r t left) (more {events = fs} {past = before2} {w = last2} f next2 run fits2 so2) =
+      let s = ends_alike es fs e f same in
+      elim (again es fs ts os before before2 last last2 s.0 t run) [
+        | inl q ↦
+            let x : e ≡ f = s.1 in
+            let y : last ≡ last2 = q.world_is in
+            elim left [
+              | inl refused ↦ absurd (let z : Err r ≡ Ok next2 = sym refused ∙ (ap (λ v. happens v e) y ∙ (ap (λ v. happens last2 v) x ∙ so2)) in cc)
+              | inr lack ↦ inr (lack_now os (LeftOut r) lack.2)
+            ]
+        | inr l ↦ inr (lack_on os (LeftOut r) l)
+      ]
+
+module _ (n : ℕ) (nodes : List NodeSpec) where
+  pub group_replays : (handed : List Event) (view : GroupView) → GroupPlayed n nodes handed view → GroupReplays n nodes handed view
+  group_replays handed view p old reached count are is =
+      let runs = reached.runs in
+      let ns = renumbered 1 nodes in
+      let run : LimitedRun n ns handed reached.past reached.world =
+          subst (λ es. LimitedRun n ns es reached.past reached.world) is (subst (λ v. LimitedRun n v old.trace reached.past reached.world) are (subst (λ k. LimitedRun k (nodes_of old) old.trace reached.past reached.world) count runs.run)) in
+      elim (again n ns handed handed view.trace p.outcomes p.past reached.past p.world reached.world refl p.trace run) [
+        | inl q ↦
+            let new : GroupRunsTo view reached.past reached.world = subst (λ x. GroupRunsTo view reached.past x) q.world_is (subst (λ x. GroupRunsTo view x p.world) q.past_is p.runs) in
+            inl (record {
+              trace = q.trace_is ∙ sym is;
+              chain = greatest_one (logs reached.past) (raft_of reached.world) view.chain old.chain new.chain runs.chain;
+              runs = λ past w r. let same = group_runs_are_one old reached.past past reached.world w runs r in
+                  subst (λ x. GroupRunsTo view past x) same.1 (subst (λ x. GroupRunsTo view x reached.world) same.0 new);
+            })
+        | inr l ↦ inr (record { outcomes = p.outcomes; past = p.past; world = p.world; trace = p.trace; place = l.place; outcome = l.outcome; at = l.at; lacked = l.lacked })
+      ]

@@ -345,6 +345,9 @@ impl World {
         ensures plans_backed { IfOk result (λ w. BackedPlans w) }
         ensures size { IfOk result (λ w. IsGroup (length w.servers)) }
     {
+        // What is handed in is within its limits, and so is what is proposed for it.
+        all_ranges(nodes);
+        limits_are_kept();
         let mut world = Self::new(alloc, n, nodes)?;
         for event in events {
             let done = world.step(event.try_clone(alloc)?);
