@@ -1,19 +1,16 @@
 -- How far a group has committed, from one world to the next.
-use Rattle.std.proofs.Common.{◌≡◌, ℕ, ◌≤◌, inl, inr, max, Some, List, [], ◌∷◌, ◌++◌, map, refl, sym, ap, ◌∙◌, subst, slice_get, slice_set}
-use Rattle.rows.specs.declared.node.NodeSpec.{NodeSpec}
-use Rattle.rows.specs.declared.command.Command.{Command}
+use Rattle.std.proofs.Common.{◌≡◌, ℕ, inl, inr, max, Some, List, [], ◌∷◌, ◌++◌, map, refl, sym, ap, ◌∙◌, subst, slice_get, slice_set}
 use Rattle.raft_model.specs.Servers.{Server}
-use Rattle.raft_model.specs.Servers as rafts
 use Rattle.raft_model.specs.Worlds as raft_worlds
-use Rattle.raft_model.specs.Chains.{At, WasCommitted}
+use Rattle.raft_model.specs.Chains.{At}
 use Rattle.raft_safety.specs.Claims.{IsGreatestCommit}
 use Rattle.raft_safety.proofs.Places.{get-more, get-later, get-split, get-one}
-use Rattle.group_model.specs.Members.{Member, newcomer}
-use Rattle.group_model.specs.Worlds.{World, first, raft_of, raft_part}
+use Rattle.group_model.specs.Members.{Member}
+use Rattle.group_model.specs.Worlds.{World, raft_of, raft_part}
 use Rattle.group_safety.specs.Claims.{logs}
-use Rattle.group_safety.proofs.Lists.{get_map, map_set, map_append, map_replicate}
+use Rattle.group_safety.proofs.Lists.{get_map, map_set, map_append}
 use Rattle.world.specs.Inner.Inputs.{committed}
-use Rattle.world.proofs.Heights.{first_height, height_next}
+use Rattle.world.proofs.Heights.{height_next}
 
 -- where the servers stay, so does the height
 module _ {C : Type 0} (past : List (raft_worlds.World C)) (w next : raft_worlds.World C) (height : ℕ) (same : next.servers ≡ w.servers) where
@@ -42,11 +39,6 @@ module _ {C : Type 0} (past : List (raft_worlds.World C)) (w next : raft_worlds.
       })
     ];
   }
-
-pub group_first_height : (n : ℕ) (nodes : List NodeSpec) → IsGreatestCommit (logs []) (raft_of (first n nodes)) 0
-group_first_height n nodes =
-    let same : raft_worlds.first n ≡ raft_of (first n nodes) = λ t. record { servers = sym (map_replicate raft_part n newcomer) t; sent = [] } in
-    subst (λ (x : raft_worlds.World Command). IsGreatestCommit [] x 0) same (first_height n)
 
 module _ (past : List World) (w next : World) (height : ℕ) (h : IsGreatestCommit (logs past) (raft_of w) height) where
   and_now : logs past ++ raft_of w ∷ [] ≡ logs (past ++ w ∷ [])
