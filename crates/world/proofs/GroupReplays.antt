@@ -20,7 +20,8 @@ use Rattle.world.specs.GroupView.{GroupView, GroupRunsTo, nodes_of, renumbered}
 use Rattle.world.specs.GroupSteps.{IsGroupDone, GroupStaysDown, SameGroup, RefusesGroupEvent, IsNewGroup, GroupPlayed, GroupReplays}
 use Rattle.world.proofs.Runs.{ends_alike, no_end}
 use Rattle.world.proofs.GroupBegins.{new_group_runs}
-use Rattle.world.proofs.GroupRuns.{last_event, group_runs_are_one, same_group_count, same_group_nodes, same_group_runs}
+use Rattle.world.proofs.GroupServers.{same_group_count, same_group_nodes, same_group_runs}
+use Rattle.world.proofs.GroupRuns.{last_event, group_runs_are_one}
 
 pub group_event_more : (before after : List GroupEvent) (e : GroupEvent) → after ≡ before ++ e ∷ [] → group_events after ≡ group_events before ++ group_event e ∷ []
 group_event_more before after e is = ap group_events is ∙ map-append group_event before (e ∷ [])
@@ -166,7 +167,7 @@ module _ (n : ℕ) (nodes : List NodeSpec) where
       let runs = reached.runs in
       let ns = renumbered 1 nodes in
       let run : LimitedRun n ns handed reached.past reached.world =
-          subst (λ es. LimitedRun n ns es reached.past reached.world) is (subst (λ v. LimitedRun n v old.trace reached.past reached.world) are (subst (λ k. LimitedRun k (nodes_of old) old.trace reached.past reached.world) count runs.run)) in
+      subst (λ es. LimitedRun n ns es reached.past reached.world) is (subst (λ v. LimitedRun n v old.trace reached.past reached.world) are (subst (λ k. LimitedRun k (nodes_of old) old.trace reached.past reached.world) count runs.run)) in
       elim (again n ns handed handed view.trace p.outcomes p.past reached.past p.world reached.world refl p.trace run) [
         | inl q ↦
             let new : GroupRunsTo view reached.past reached.world = subst (λ x. GroupRunsTo view reached.past x) q.world_is (subst (λ x. GroupRunsTo view x p.world) q.past_is p.runs) in

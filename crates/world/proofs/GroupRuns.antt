@@ -1,24 +1,14 @@
 -- Runs of a group, and what holds of them.
-use Rattle.std.proofs.Common.{◌≡◌, ℕ, Ok, List, [], ◌∷◌, ◌++◌, length, map, refl, sym, ap, ◌∙◌, subst}
-use Rattle.std.specs.List.{AllZip}
+use Rattle.std.proofs.Common.{◌≡◌, ℕ, Ok, List, [], ◌∷◌, ◌++◌, length, refl, sym, ap, ◌∙◌, subst}
 use Rattle.rows.specs.declared.node.NodeSpec.{NodeSpec}
-use Rattle.rows.specs.declared.command.Command.{Command}
-use Rattle.machine.specs.declared.entry.Entry.{Entry}
-use Rattle.raft_safety.specs.Claims.{IsGreatestCommit}
 use Rattle.raft_safety.proofs.Chains.{greatest_one}
-use Rattle.cluster_model.specs.ClusterMachine.{cluster_meaning}
-use Rattle.group_model.specs.Members.{Member}
 use Rattle.group_model.specs.Worlds as model
 use Rattle.group_model.specs.Worlds.{World, Event, Run, IsEvent, happens, raft_of}
 use Rattle.group_safety.specs.Claims.{OneList, OneExists, AsLongAsCommitted, OfTheList, SafeStates, PlansAreBacked, logs}
 use Rattle.group_safety.specs.Limits.{LimitedRun, LimitsAreKept, start, more}
-use Rattle.group_frames.specs.GroupFrames.{CarriesGroup}
-use Rattle.server.specs.ServerViews.{ServerView, IsMember, SameMember, group_desk}
-use Rattle.world.specs.GroupView.{GroupView, RepresentsGroup, GroupRunsTo, IsGroupWorld, nodes_of, node_in, client_in}
-use Rattle.world.specs.GroupSteps.{SameGroup}
+use Rattle.world.specs.GroupView.{GroupView, GroupRunsTo, IsGroupWorld, nodes_of}
 use Rattle.world.specs.GroupClaims.{OneGroupList, SafeGroupStates, BackedPlans}
 use Rattle.world.proofs.Runs.{ends_alike, no_end}
-use Rattle.world.proofs.Zips.{zip_length}
 
 -- ---- a list of events has one run
 
@@ -48,40 +38,6 @@ module _ (n : ℕ) (nodes : List NodeSpec) where
 -- so all runs of a value are one
 pub group_runs_are_one : (view : GroupView) (past past2 : List World) (w w2 : World) → GroupRunsTo view past w → GroupRunsTo view past2 w2 → (past ≡ past2) × (w ≡ w2)
 group_runs_are_one view past past2 w w2 one other = group_run_is_one (length view.servers) (nodes_of view) view.trace view.trace past past2 w w2 refl one.run other.run
-
--- ---- a group in which nothing happened
-
-members_on : (xs ys : List ServerView) (ss : List Member) → AllZip SameMember xs ys → AllZip IsMember xs ss → AllZip IsMember ys ss
-members_on [] [] ss same r = r
-members_on [] (y ∷ ys) ss same r = absurd same
-members_on (x ∷ xs) [] ss same r = absurd same
-members_on (x ∷ xs) (y ∷ ys) [] same r = absurd r
-members_on (x ∷ xs) (y ∷ ys) (s ∷ ss) same r =
-    let one = same.0 in
-    let is = r.0 in
-    let raft = one.raft in
-    (record { raft = raft.server ∙ is.raft; desk = ap group_desk one.desk ∙ is.desk }, members_on xs ys ss same.1 r.1)
-
-module _ (old new : GroupView) (same : SameGroup old new) where
-  pub same_group_count : length new.servers ≡ length old.servers
-  same_group_count = sym (zip_length SameMember old.servers new.servers same.servers)
-
-  pub same_group_nodes : nodes_of new ≡ nodes_of old
-  same_group_nodes = ap (map node_in) same.clients
-
-  pub same_group_runs : (past : List World) (w : World) → GroupRunsTo old past w → GroupRunsTo new past w
-  same_group_runs past w r =
-      let st = r.represents in
-      record {
-        run = subst (λ n. LimitedRun n (nodes_of new) new.trace past w) (sym same_group_count)
-            (subst (λ ns. LimitedRun (length old.servers) ns new.trace past w) (sym same_group_nodes) (subst (λ es. LimitedRun (length old.servers) (nodes_of old) es past w) (sym same.trace) r.run));
-        represents = record {
-          servers = members_on old.servers new.servers w.servers same.servers st.servers;
-          clients = ap (map client_in) same.clients ∙ st.clients;
-          sent = subst (λ o. AllZip (CarriesGroup cluster_meaning) o.frames w.sent) (sym same.outbox) st.sent;
-        };
-        chain = subst (λ c. IsGreatestCommit (logs past) (raft_of w) c) (sym same.chain) r.chain;
-      }
 
 -- ---- what holds of every group that was reached
 

@@ -252,18 +252,18 @@ module _ (old : GroupView) (e : Event) (i : ℕ) (view : ServerView) (h : Handin
       taken p =
           let move : (w : World) → RepresentsGroup old w → ServerMoved old new e i view after scene.reached scene.here servers clients w =
           λ w st.
-              let f = found w st in
-              let takes = f.takes in
-              let t = takes.taken after old.outbox new.outbox (p.taken f.server f.is) in
-              record {
-                before = f.server;
-                turn = t.turn;
-                at = f.at;
-                happens = takes.happens ∙ ap (λ q. after_turn w i q) t.is;
-                member = t.member;
-                sent = t.sent;
-                work = t.work ∙ ap (λ l. old.outbox.work ++ l) (sym (takes.work ∙ ap turn_work t.is));
-              } in
+          let f = found w st in
+          let takes = f.takes in
+          let t = takes.taken after old.outbox new.outbox (p.taken f.server f.is) in
+          record {
+            before = f.server;
+            turn = t.turn;
+            at = f.at;
+            happens = takes.happens ∙ ap (λ q. after_turn w i q) t.is;
+            member = t.member;
+            sent = t.sent;
+            work = t.work ∙ ap (λ l. old.outbox.work ++ l) (sym (takes.work ∙ ap turn_work t.is));
+          } in
           let happened = moved_on old new e i view after scene.reached scene.here servers clients scene.fits p.trace move (λ w st. let m = move w st in let turn = m.turn in p.chain turn.member m.member) in
           record {
             stepped = record { ok = happened; err = tt; cause = tt; memory = tt };
@@ -275,25 +275,25 @@ module _ (old : GroupView) (e : Event) (i : ℕ) (view : ServerView) (h : Handin
           let crash = AtServer i Crash in
           let move : (w : World) → RepresentsGroup old w → ServerMoved old new crash i view after scene.reached scene.here servers clients w =
           λ w st.
-              let f = found w st in
-              let l = p.fell f.server f.is in
-              let turn : Turn = record { member = crashed_member f.server; sent = []; work = [] } in
-              let stepped : step (length w.servers) i f.server Crash ≡ Ok turn = crash_turn (length w.servers) i f.server l.0 in
-              record {
-                before = f.server;
-                turn = turn;
-                at = f.at;
-                happens = ap (λ o. input_to w i Crash o) f.at ∙ ap (λ q. after_turn w i q) stepped;
-                member = l.1;
-                sent = record { frames = []; added = ap (λ (o : Outbox). o.frames) p.outbox ∙ sym (append-nil old.outbox.frames); carry = tt };
-                work = ap (λ (o : Outbox). o.work) p.outbox ∙ sym (ap (λ l. old.outbox.work ++ l) (ap (λ o. input_work w i Crash o) f.at ∙ ap turn_work stepped) ∙ append-nil old.outbox.work);
-              } in
+          let f = found w st in
+          let l = p.fell f.server f.is in
+          let turn : Turn = record { member = crashed_member f.server; sent = []; work = [] } in
+          let stepped : step (length w.servers) i f.server Crash ≡ Ok turn = crash_turn (length w.servers) i f.server l.0 in
+          record {
+            before = f.server;
+            turn = turn;
+            at = f.at;
+            happens = ap (λ o. input_to w i Crash o) f.at ∙ ap (λ q. after_turn w i q) stepped;
+            member = l.1;
+            sent = record { frames = []; added = ap (λ (o : Outbox). o.frames) p.outbox ∙ sym (append-nil old.outbox.frames); carry = tt };
+            work = ap (λ (o : Outbox). o.work) p.outbox ∙ sym (ap (λ l. old.outbox.work ++ l) (ap (λ o. input_work w i Crash o) f.at ∙ ap turn_work stepped) ∙ append-nil old.outbox.work);
+          } in
           let happened = moved_on old new crash i view after scene.reached scene.here servers clients tt p.trace move (λ w st. omega (arith, p.chain)) in
           let lacking : (w : World) → RepresentsGroup old w → MayWantAt w e =
           λ w st.
-              let f = found w st in
-              let takes = f.takes in
-              takes.wants (subst (λ n. MayLackMemory n f.server h) (size_is w st) (p.lacks f.server f.is)) in
+          let f = found w st in
+          let takes = f.takes in
+          takes.wants (subst (λ n. MayLackMemory n f.server h) (size_is w st) (p.lacks f.server f.is)) in
           record {
             stepped = record {
               ok = inl (record { crash = crash; actor = λ w st. let f = found w st in let takes = f.takes in takes.crash; lacking = lacking; happened = happened });

@@ -1,7 +1,6 @@
 -- Events whose actor is not there, or is down.
-use Rattle.std.proofs.Common.{◌≡◌, ◌≢◌, ◌⊎◌, inl, inr, ◌&&◌, ℕ, zero, suc, ◌<◌, ◌≤◌, nat_lt, nat_eq, Bool, true, false, if◌then◌else◌, is_some, Option, Some, None, option_map, Result, Ok, Err, List, [], ◌∷◌, map, length, refl, sym, ap, ◌∙◌, subst, slice_get, arith}
+use Rattle.std.proofs.Common.{if◌then◌else◌, ◌≡◌, ◌≢◌, ◌⊎◌, inl, inr, ◌&&◌, ℕ, zero, suc, ◌<◌, ◌≤◌, nat_lt, nat_eq, Bool, true, false, is_some, Option, Some, None, option_map, Result, Ok, Err, List, map, length, refl, sym, ap, ◌∙◌, subst, slice_get, arith}
 use Rattle.std.proofs.lemmas.Option.{slice_get-map}
-use Rattle.std.specs.List.{AllZip}
 use Rattle.rows.specs.declared.actor.Actor.TheVariants as actors
 use Rattle.rows.specs.declared.allocation.AllocId.{AllocId}
 use Rattle.rows.specs.declared.command.Command.{Command}
@@ -34,27 +33,21 @@ use Rattle.group_frames.specs.GroupFrames.{CarriesGroup, receiver_of}
 use Rattle.client_agent.specs.declared.input.ClientInput.{ClientInput}
 use Rattle.client_agent.specs.declared.input.ClientInput.TheVariants as client_inputs
 use Rattle.client_agent.specs.AgentView.{AgentView}
-use Rattle.server.specs.ServerViews.{ServerView, IsMember, SameMember}
+use Rattle.server.specs.ServerViews.{ServerView, IsMember}
 use Rattle.server.specs.Handings.{Handing, FrameBytes, OwnInput}
 use Rattle.server.specs.Turns.{takes_in}
 use Rattle.world.specs.GroupEvents.{server_input, client_input}
 use Rattle.world.specs.GroupView.{GroupView, RepresentsGroup, client_in, client_view}
-use Rattle.world.specs.GroupSteps.{SameGroup, RefusesGroupEvent, IsGroupAwake}
+use Rattle.world.specs.GroupSteps.{RefusesGroupEvent, IsGroupAwake}
 use Rattle.world.specs.Inner.GroupInputs.{IsSentTo, is_frame, is_restart_input, is_client_frame, is_client_restart}
 use Rattle.world.specs.Inner.GroupParts.{GroupStepped}
 use Rattle.world.proofs.Zips.{zip_at, zip_none}
 use Rattle.world.proofs.Sleeping.{Awake}
+use Rattle.world.proofs.GroupServers.{same_group}
 use Rattle.world.proofs.GroupOwn.{woken}
 use Rattle.world.proofs.GroupDeliveries.{same_server, Comes, comes, is_for, down_takes, for_client, down_hears}
 
 -- ---- nothing happens
-
-same_members : (xs : List ServerView) → AllZip SameMember xs xs
-same_members [] = tt
-same_members (x ∷ xs) = (record { raft = record { me = refl; size = refl; server = refl }; desk = refl }, same_members xs)
-
-pub same_group : (v : GroupView) → SameGroup v v
-same_group v = record { servers = same_members v.servers; clients = refl; outbox = refl; trace = refl; chain = refl }
 
 -- an event that is refused before its actor is asked
 pub refused_at_once : (view : GroupView) (e : Event) (r : Refusal) → r ≢ refusals.NoMemory → RefusesGroupEvent view e r → GroupStepped view e (Err r) view

@@ -3,7 +3,7 @@ use Rattle.std.specs.Prelude.{ℕ, Option, Some, None, Result, Ok, Err, List, []
 use Rattle.rows.specs.declared.refusal.Refusal.{Refusal}
 use Rattle.rows.specs.declared.worker.Work.{Work}
 use Rattle.rows.specs.declared.worker.WorkerRequest.TheVariants.{Take}
-use Rattle.group_model.specs.Messages.{GroupMessage, Raft, Service, ServiceMessage, BetweenServers, ToServer, ToClient, Asks, ClientResponse, Listing}
+use Rattle.group_model.specs.Messages.{GroupMessage, Raft, Service, ServiceMessage, BetweenServers, ToServer, ToClient, Asks, Listing}
 use Rattle.group_model.specs.Inputs as servers
 use Rattle.group_model.specs.Clients as clients
 use Rattle.group_model.specs.Members.{Member, Turn, step, hears_log}

@@ -4,7 +4,7 @@ use Rattle.rows.specs.declared.actor.Actor.{Actor}
 use Rattle.rows.specs.declared.node.NodeSpec.{NodeSpec}
 use Rattle.wire.specs.Frames.{Frame}
 use Rattle.group_model.specs.Clients.{agent_of}
-use Rattle.group_model.specs.Inputs.{Input, Restart}
+use Rattle.group_model.specs.Inputs.{Restart}
 use Rattle.client_agent.specs.AgentView.{AgentView}
 use Rattle.client_agent.specs.declared.input.ClientInput.{ClientInput}
 use Rattle.client_agent.specs.declared.input.ClientInput.TheVariants as client_inputs

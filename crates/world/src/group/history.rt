@@ -149,7 +149,8 @@ impl GroupHistory {
                     if is_restart(&input) {
                         return Ok(Done::Crashed);
                     }
-                    self.trace.push_reserved(Event::Server(me, ServerInput::Crash));
+                    self.trace
+                        .push_reserved(Event::Server(me, ServerInput::Crash));
                     Ok(Done::Crashed)
                 }
                 other => Err(other),
@@ -181,7 +182,8 @@ impl GroupHistory {
             }
             Err(cause) => match cause {
                 Refusal::NoMemory => {
-                    self.trace.push_reserved(Event::Server(me, ServerInput::Crash));
+                    self.trace
+                        .push_reserved(Event::Server(me, ServerInput::Crash));
                     Ok(Done::Crashed)
                 }
                 other => Err(other),
@@ -211,7 +213,8 @@ impl GroupHistory {
             }
             Err(cause) => match cause {
                 Refusal::NoMemory => {
-                    self.trace.push_reserved(Event::Client(me, ClientInput::Crash));
+                    self.trace
+                        .push_reserved(Event::Client(me, ClientInput::Crash));
                     Ok(Done::Crashed)
                 }
                 other => Err(other),
@@ -241,7 +244,8 @@ impl GroupHistory {
             }
             Err(cause) => match cause {
                 Refusal::NoMemory => {
-                    self.trace.push_reserved(Event::Client(me, ClientInput::Crash));
+                    self.trace
+                        .push_reserved(Event::Client(me, ClientInput::Crash));
                     Ok(Done::Crashed)
                 }
                 other => Err(other),

@@ -19,13 +19,18 @@ ghost use Rattle.world.specs.Inner.GroupInputs.{new_agents, is_frame, is_client_
 ghost use Rattle.world.specs.Inner.GroupParts.{GroupStepped};
 
 use crate::done::Done;
-use crate::group::event::{Event, is_client_frame, is_client_restart, is_frame, is_restart, ranges};
+use crate::group::event::{
+    Event, is_client_frame, is_client_restart, is_frame, is_restart, ranges,
+};
 use crate::group::history::GroupHistory;
 use client_agent::{Agent, ClientInput};
 use fsm_state::Cluster;
-use group_safety::{limits_are_kept, one_list, plans_are_backed, senders_are_members, states_are_safe};
+use group_safety::{
+    limits_are_kept, one_list, plans_are_backed, senders_are_members, states_are_safe,
+};
 use rows::{
-    Actor, ClientId, Index, NoMemory, NodeId, NodeSpec, Refusal, Sequence, ServerId, Work, all_ranges,
+    Actor, ClientId, Index, NoMemory, NodeId, NodeSpec, Refusal, Sequence, ServerId, Work,
+    all_ranges,
 };
 use server::{Server, ServerInput};
 use std::alloc::Global;
@@ -77,7 +82,11 @@ fn new_client(alloc: Global, place: usize, node: &NodeSpec, n: usize) -> Agent
     let Some(number) = NodeId::from_number(place as u8 + 1) else {
         unreachable!()
     };
-    let node = NodeSpec { number, class: node.class, size: node.size };
+    let node = NodeSpec {
+        number,
+        class: node.class,
+        size: node.size,
+    };
     match Agent::new(alloc, node, n) {
         Ok(client) => client,
         Err(_) => unreachable!(),
