@@ -2,8 +2,6 @@
 use Rattle.std.proofs.Common.{◌≡◌, ℕ, Ok, List, [], ◌∷◌, ◌++◌, length, map, refl, sym, ap, ◌∙◌, subst}
 use Rattle.std.specs.List.{AllZip}
 use Rattle.rows.specs.declared.node.NodeSpec.{NodeSpec}
-use Rattle.rows.specs.declared.command.Command.{Command}
-use Rattle.machine.specs.declared.entry.Entry.{Entry}
 use Rattle.raft_safety.specs.Claims.{IsGreatestCommit}
 use Rattle.raft_safety.proofs.Chains.{greatest_one}
 use Rattle.cluster_model.specs.ClusterMachine.{cluster_meaning}
@@ -14,7 +12,7 @@ use Rattle.group_safety.specs.Claims.{OneList, OneExists, AsLongAsCommitted, OfT
 use Rattle.group_safety.specs.Limits.{LimitedRun, LimitsAreKept, start, more}
 use Rattle.group_frames.specs.GroupFrames.{CarriesGroup}
 use Rattle.server.specs.ServerViews.{ServerView, IsMember, SameMember, group_desk}
-use Rattle.world.specs.GroupView.{GroupView, RepresentsGroup, GroupRunsTo, IsGroupWorld, nodes_of, node_in, client_in}
+use Rattle.world.specs.GroupView.{GroupView, GroupRunsTo, IsGroupWorld, nodes_of, node_in, client_in}
 use Rattle.world.specs.GroupSteps.{SameGroup}
 use Rattle.world.specs.GroupClaims.{OneGroupList, SafeGroupStates, BackedPlans}
 use Rattle.world.proofs.Runs.{ends_alike, no_end}
