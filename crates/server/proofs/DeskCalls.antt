@@ -3,21 +3,16 @@ use Rattle.std.proofs.Common.{◌≡◌, ◌≢◌, ◌⊎◌, inl, inr, ℕ, Bo
 use Rattle.std.specs.Prelude.{IfSome, IfOk, OnErr, is_some}
 use Rattle.rows.specs.declared.evaluation.EvalId.{EvalId}
 use Rattle.rows.specs.declared.token.Token.{Token}
-use Rattle.rows.specs.declared.plan.Plan.{Plan}
 use Rattle.rows.specs.declared.command.Command.{Command}
 use Rattle.rows.specs.declared.refusal.Refusal.{Refusal}
 use Rattle.rows.specs.declared.refusal.Refusal.TheVariants as refusals
 use Rattle.cluster_model.specs.Words.{State}
-use Rattle.group_model.specs.Order.{Picked}
 use Rattle.group_model.specs.Brokers.{Given, Nothing, UsedUp, Gives, deliver, outstanding, is_outstanding, with_ack, with_nack}
-use Rattle.group_model.specs.Desks.{Desk, QueuedPlan, applied_state}
-use Rattle.group_model.specs.Plans.{submitted}
-use Rattle.group_model.specs.Queues.{first_plan}
+use Rattle.group_model.specs.Desks.{applied_state}
 use Rattle.raft_core.specs.RaftView.{RaftView}
-use Rattle.leader.specs.OpenDesks.{OpenDesk, IsOverBlocked, LacksMemory, Answered, leaves_open, at_open, with_broker, once_given, once_outstanding, once_submitted, on_deliver, on_ack, on_nack, on_lapse, on_submit}
-use Rattle.leader.specs.Verdicts.{once_picked, on_plan_turn}
+use Rattle.leader.specs.OpenDesks.{OpenDesk, IsOverBlocked, LacksMemory, Answered, leaves_open, at_open, with_broker, once_given, once_outstanding, on_deliver, on_ack, on_nack, on_lapse}
 use Rattle.leader.specs.Staying.{IsOver}
-use Rattle.leader.proofs.Staying.{deliver_stays, ack_stays, nack_stays, lapse_stays, submit_stays, plan_turn_stays}
+use Rattle.leader.proofs.Staying.{deliver_stays, ack_stays, nack_stays, lapse_stays}
 use Rattle.server.specs.ServerViews.{IsOfLeader, group_desk}
 
 -- an open desk, by the group's
@@ -118,20 +113,6 @@ lapse_term id o false = refl
 
 pub lapse_keeps : (id : EvalId) → Keeps (on_lapse id)
 lapse_keeps id s o a new over h = (lapse_stays s id o a new over h, term_kept (on_lapse id) o a new (lapse_term id o (is_outstanding id o.desk.broker)) h)
-
-submit_term : (from : ℕ) (applied : State) (p : Plan) (o : OpenDesk) (r : Result Desk Refusal) → (left_by (on_submit from applied p) o (once_submitted o r)).term ≡ o.term
-submit_term from applied p o (Err e) = refl
-submit_term from applied p o (Ok d) = refl
-
-pub submit_keeps : (from : ℕ) (applied : State) (p : Plan) → Keeps (on_submit from applied p)
-submit_keeps from applied p s o a new over h = (submit_stays s applied from p o a new over h, term_kept (on_submit from applied p) o a new (submit_term from applied p o (submitted from applied o.desk p)) h)
-
-picked_term : (whole : State) (o : OpenDesk) (p : Option (Picked QueuedPlan)) → (once_picked whole o p).1.term ≡ o.term
-picked_term whole o None = refl
-picked_term whole o (Some p) = refl
-
-pub plan_turn_keeps : (whole : State) → Keeps (on_plan_turn whole)
-plan_turn_keeps whole s o a new over h = (plan_turn_stays s whole o a new over h, term_kept (on_plan_turn whole) o a new (picked_term whole o (first_plan o.desk.plans)) h)
 
 -- an open desk has the blocked evaluations of the applied state
 pub over_blocked : (raft : RaftView Command) (d : Option OpenDesk) → is_some (group_desk d) ≡ true → IfSome d (IsOfLeader raft) → IsOverBlocked (applied_state raft.server) d

@@ -1,6 +1,6 @@
 -- The desk after a step of the log is what it makes of the entries that it sees; and it is of the
 -- applied state then.
-use Rattle.std.proofs.Common.{◌≡◌, ℕ, zero, suc, ◌≤◌, Bool, true, false, ◌==◌, Option, Some, None, List, [], ◌∷◌, take, drop, ◌-◌, refl, sym, ap, subst, ◌∙◌, arith}
+use Rattle.std.proofs.Common.{◌≡◌, ℕ, ◌≤◌, Bool, true, false, ◌==◌, Option, Some, None, List, [], ◌∷◌, take, drop, ◌-◌, refl, sym, ap, subst, ◌∙◌, arith}
 use Rattle.std.proofs.lemmas.List.{drop-take}
 use Rattle.std.specs.Prelude.{IfSome}
 use Rattle.std.specs.List.{slice_range}
@@ -24,6 +24,7 @@ use Rattle.leader.proofs.Staying.{opens_over}
 use Rattle.server.specs.ServerViews.{group_desk, IsOfLeader}
 use Rattle.server.specs.Inner.DeskWatch.{OpensWhere, DeskSees}
 use Rattle.server.specs.Inner.LogSteps.{where_leads}
+use Rattle.server.proofs.Serving.{drop_same}
 use Rattle.server.proofs.Leads.{LeadsOn, stays, rises}
 
 -- tables are in order in each state of a log
@@ -64,11 +65,6 @@ all_entries term s (e ∷ es) w new t at h =
     (more.0 ∙ ap (after_entries term (applied s e.command) es) one.0, more.1)
 
 -- ---- a step of the log
-
-drop_same : {A : Type 0} (n : ℕ) (xs : List A) → drop n (take n xs) ≡ []
-drop_same zero xs = refl
-drop_same (suc n) [] = refl
-drop_same (suc n) (x ∷ xs) = drop_same n xs
 
 state_on : (log : List (Entry Command)) (c d : ℕ) → c ≤ d → after_from cluster_meaning (state_after cluster_meaning (take c log)) (commands (drop c (take d log))) ≡ state_after cluster_meaning (take d log)
 state_on log c d le =

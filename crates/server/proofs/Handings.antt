@@ -19,15 +19,15 @@ use Rattle.cluster_model.specs.Words.{State}
 use Rattle.cluster_model.specs.ClusterMachine.{cluster_meaning}
 use Rattle.cluster_model.proofs.ClusterMachine.{cluster_lawful}
 use Rattle.group_model.specs.Messages.{GroupMessage, Raft, Service}
-use Rattle.group_model.specs.Inputs.{Input, Restart}
+use Rattle.group_model.specs.Inputs.{Input}
 use Rattle.group_model.specs.Members.{Member, wakes, done, step}
 use Rattle.group_frames.specs.GroupFrames.{service_of, IsGroupFrame}
 use Rattle.group_frames.proofs.OneMessage.{one_text, log_is_no_service}
 use Rattle.server.specs.declared.server.Outbox.{Outbox}
-use Rattle.server.specs.ServerViews.{ServerView, IsMember, SameMember, crashed_member}
+use Rattle.server.specs.ServerViews.{ServerView, IsMember, SameMember}
 use Rattle.server.specs.Handings.{Handing, FrameBytes, OwnInput}
 use Rattle.server.specs.Turns.{TakesTurn, TakesHanding}
-use Rattle.server.specs.Refusals.{refusal_in, wrong_address, handing_refusal, MayLackMemory, IsHandingRefused, NoMemoryLeaves, HandingRefusalLeaves}
+use Rattle.server.specs.Refusals.{refusal_in, wrong_address, handing_refusal, IsHandingRefused, HandingRefusalLeaves}
 use Rattle.server.specs.Inner.Acts.{member_of, act_of, DoesAct, DoesNothing, DeclinesOwn}
 use Rattle.server.proofs.LogSteps.{said_of}
 use Rattle.server.specs.Inner.LogSteps.{DeskAfterRefusal, HearsLog, MeansGroup, TakesRead, DeclinesRead, DeclinesHanding}
@@ -88,12 +88,6 @@ module _ (old new : ServerView) (before after : Outbox) (read : WireMessage Stat
     sym (log_refusal old.raft.size old.raft.me old.raft.server read up log goes) ∙ is,
     record { same = record { raft = record { me = me; size = size; server = ap (λ v. v.server) left }; desk = desk }; nothing = unsent },
   )
-
--- ---- after want of memory
-
-falls : (h : Handing) (old new : ServerView) (s : Member) → is_up s.raft.mode ≡ true → MayLackMemory old.raft.size s h → IsMember new (crashed_member s) → NoMemoryLeaves old s h new
-falls (OwnInput Restart) old new s up lack is = absurd (let q : true ≡ false = sym up ∙ lack in cc)
-falls h old new s up lack is = is
 
 -- ---- every server that a value is
 

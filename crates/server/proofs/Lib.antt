@@ -3,7 +3,6 @@ pub mod Serving
 pub mod Requests
 pub mod Refusing
 pub mod Plans
-pub mod Replies
 pub mod Leads
 pub mod DeskFollows
 pub mod LogSteps

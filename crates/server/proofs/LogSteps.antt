@@ -7,14 +7,9 @@ use Rattle.rows.specs.declared.actor.Actor.TheVariants as actors
 use Rattle.rows.specs.declared.command.Command.{Command}
 use Rattle.rows.specs.declared.refusal.Refusal.{Refusal}
 use Rattle.rows.specs.declared.refusal.Refusal.TheVariants as refusals
-use Rattle.rows.specs.declared.worker.WorkerRequest.{WorkerRequest}
-use Rattle.rows.specs.declared.worker.WorkerRequest.TheVariants as requests
-use Rattle.rows.specs.declared.worker.WorkerResponse.{WorkerResponse}
-use Rattle.rows.specs.declared.worker.WorkerResponse.TheVariants as responses
-use Rattle.wire.specs.Messages.{Message as WireMessage, kind_of, is_of_log, request_kind, response_kind}
+use Rattle.wire.specs.Messages.{Message as WireMessage, kind_of, is_of_log}
 use Rattle.wire.specs.declared.body.Body.{Body}
-use Rattle.wire.specs.declared.body.Body.TheVariants as bodies
-use Rattle.raft_model.specs.Messages.{Message, VoteRequest, VoteReply, Append, AppendReply}
+use Rattle.raft_model.specs.Messages.{Message}
 use Rattle.raft_model.specs.Servers as rafts
 use Rattle.raft_model.specs.Servers.{Mode, is_leader, is_up}
 use Rattle.raft_model.specs.Steps as raft_steps
@@ -33,6 +28,7 @@ use Rattle.group_model.specs.Desks.{desk_after}
 use Rattle.group_model.specs.Inputs.{Act, Ask, AskTimeout, AskBeat, AskCrash, AskRestart, input_of}
 use Rattle.group_model.specs.Members.{logged}
 use Rattle.group_frames.proofs.Sending.{sends_log}
+use Rattle.group_frames.proofs.SomeMessage.{said_between}
 use Rattle.leader.specs.OpenDesks.{OpenDesk}
 use Rattle.server.specs.declared.server.Outbox.{Outbox}
 use Rattle.server.specs.ServerViews.{ServerView, group_desk, IsOfLeader}
@@ -45,36 +41,14 @@ use Rattle.server.proofs.DeskFollows.{goes_on}
 
 -- ---- the message of the log that was read
 
-no_request : (r : WorkerRequest) → is_of_log (request_kind r) ≡ true → ⊥
-no_request requests.Take h = absurd (cc)
-no_request (requests.Submit plan) h = absurd (cc)
-no_request (requests.Finish eval token outcome) h = absurd (cc)
-no_request (requests.Nack eval token) h = absurd (cc)
-
-no_response : (r : WorkerResponse) → is_of_log (response_kind r) ≡ true → ⊥
-no_response (responses.Delivered what) h = absurd (cc)
-no_response (responses.PlanResult result) h = absurd (cc)
-no_response (responses.Refused asked reason) h = absurd (cc)
-
 no_fault : (a b c : Bool) (x y z : Refusal) → (if a then (if b then (if c then None else Some x) else Some y) else Some z) ≡ None → (a ≡ true) × (b ≡ true) × (c ≡ true)
 no_fault true true true x y z h = (refl, refl, refl)
 no_fault true true false x y z h = absurd (cc)
 no_fault true false c x y z h = absurd (cc)
 no_fault false b c x y z h = absurd (cc)
 
-module _ (n me i j : ℕ) where
-  said_between : (body : Body State Command) → is_of_log (kind_of body) ≡ true → (said : Message Command) × Means (record { from = actors.Server i; to = actors.Server j; body = body }) said
-  said_between (bodies.VoteRequest v) h = (record { from = i; to = j; term = v.term; body = VoteRequest v.last_index v.last_term }, record { from = refl; to = refl; said = refl })
-  said_between (bodies.VoteReply v) h = (record { from = i; to = j; term = v.term; body = VoteReply v.asked v.granted }, record { from = refl; to = refl; said = refl })
-  said_between (bodies.Append a) h = (record { from = i; to = j; term = a.head.term; body = Append a.head.prev_index a.head.prev_term a.head.commit a.entries }, record { from = refl; to = refl; said = refl })
-  said_between (bodies.AppendReply r) h = (record { from = i; to = j; term = r.term; body = AppendReply r.asked r.ok r.at }, record { from = refl; to = refl; said = refl })
-  said_between (bodies.Request r) h = absurd (no_request r h)
-  said_between (bodies.Response r) h = absurd (no_response r h)
-  said_between (bodies.Register class size) h = absurd (cc)
-  said_between (bodies.Told kind refused) h = absurd (cc)
-
 said_by : (n me : ℕ) (from to : Actor) (body : Body State Command) → (is_of_log (kind_of body) ≡ true) × (is_server_of n from ≡ true) × (is_server_at me to ≡ true) → (said : Message Command) × Means (record { from = from; to = to; body = body }) said
-said_by n me (actors.Server i) (actors.Server j) body h = said_between n me i j body h.0
+said_by n me (actors.Server i) (actors.Server j) body h = said_between i j body h.0
 said_by n me (actors.Server i) (actors.Client c) body h = absurd (let q = h.2 in cc)
 said_by n me (actors.Client c) to body h = absurd (let q = h.1 in cc)
 

@@ -1,8 +1,7 @@
 -- What a server does with the plan whose turn it is.
-use Rattle.std.proofs.Common.{◌≡◌, ◌≢◌, ℕ, suc, ◌+◌, ◌^◌, ◌≤◌, true, false, Option, Some, None, Result, Ok, Err, [], ◌∷◌, length, refl, sym, subst, ap, ◌∙◌, arith}
-use Rattle.std.specs.Prelude.{IfOk, OnOk, option_map, nat_lt}
+use Rattle.std.proofs.Common.{◌≡◌, ◌≢◌, ℕ, suc, true, false, Option, Some, None, Result, Ok, Err, [], ◌∷◌, length, refl, sym, subst, ap, ◌∙◌}
+use Rattle.std.specs.Prelude.{IfOk, OnOk, option_map}
 use Rattle.rows.specs.declared.refusal.NoMemory.{NoMemory}
-use Rattle.std.proofs.lemmas.Bool.{le-ltb}
 use Rattle.std.proofs.lemmas.List.{append-nil}
 use Rattle.rows.specs.Ids.{AreRisingNodes}
 use Rattle.rows.specs.Reasons.{reason_of}
@@ -12,44 +11,31 @@ use Rattle.rows.specs.declared.refusal.Refusal.{Refusal}
 use Rattle.rows.specs.declared.refusal.Refusal.TheVariants as refusals
 use Rattle.rows.specs.declared.worker.AskedRequest.TheVariants as asked
 use Rattle.rows.specs.declared.worker.WorkerResponse.TheVariants.{Refused}
-use Rattle.raft_model.specs.Logs.{MAX}
-use Rattle.raft_model.specs.Servers.{Server}
 use Rattle.raft_model.specs.Steps.{admitted}
-use Rattle.rows.specs.declared.command.Command.{Command}
-use Rattle.raft_core.specs.RaftView.{SameServer}
 use Rattle.cluster_model.specs.Words.{State}
 use Rattle.cluster_model.specs.ClusterMachine.{cluster_meaning}
 use Rattle.group_model.specs.Messages.{BetweenServers, Answers}
 use Rattle.group_model.specs.Order.{Picked}
 use Rattle.group_model.specs.Acceptance.{Accepted, keeps_some}
 use Rattle.group_model.specs.Brokers.{outstanding}
-use Rattle.group_model.specs.Desks.{QueuedPlan, whole_state}
-use Rattle.group_model.specs.Inputs.{PlanTurn, Act}
+use Rattle.group_model.specs.Desks.{QueuedPlan}
 use Rattle.group_model.specs.Plans.{after_accept, told_result, told_refusal, plan_command}
 use Rattle.group_model.specs.Queues.{first_plan}
 use Rattle.leader.specs.OpenDesks.{OpenDesk, at_open}
 use Rattle.leader.specs.declared.judged.JudgedPlan.{JudgedPlan}
 use Rattle.leader.specs.Verdicts.{Judged, judged_by, verdict_for, once_picked, on_plan_turn}
-use Rattle.leader.specs.GroupActs.{judged_act}
-use Rattle.leader.proofs.Acts.{plan_turns_by_verdict}
 use Rattle.server.specs.declared.server.Outbox.{Outbox}
 use Rattle.server.specs.ServerViews.{ServerView, group_desk}
 use Rattle.server.specs.Refusals.{HasOpenDesk}
-use Rattle.server.specs.Inner.Acts.{member_of, act_of, DoesAct, IsProposed, WhyNotProposed}
+use Rattle.server.specs.Inner.Acts.{member_of, DoesAct, IsProposed, WhyNotProposed}
 use Rattle.server.specs.Inner.Plans.{settling, RefusesRising, result_with, KeptOf}
 use Rattle.server.specs.Inner.Replies.{SendsOne}
 use Rattle.server.proofs.DeskCalls.{open_of, called}
-use Rattle.server.proofs.Serving.{does_alone, does_proposed, does_rest, does_from, refused_why}
-use Rattle.server.proofs.Requests.{open_is, act_taken}
+use Rattle.server.proofs.Serving.{does_alone, does_proposed, refused_why}
+use Rattle.server.proofs.Requests.{open_is}
 use Rattle.server.proofs.Refusing.{verdict_rises}
 
 -- ---- what is kept of a plan
-
--- the log is full
-pub full : (s : Server Command) (c : Command) → 2 ^ 40 ≤ length s.log + 1 → admitted cluster_meaning s c ≡ Some refusals.Exhausted
-full s c le =
-    let past : nat_lt (length s.log) MAX ≡ false = le-ltb (length s.log) MAX (omega (arith, le)) in
-    rw past refl
 
 module _ (old new : ServerView) (before after : Outbox) (from : ℕ) (p : AcceptedPlan) (a : Accepted) (w : QueuedPlan) (k : KeptOf from p a w) (h : HasOpenDesk (member_of old)) (work : after.work ≡ before.work) where
   settling_is : (o : OpenDesk) → old.desk ≡ Some o → settling old (record { queued = w; kept = Ok a }) ≡ Ok (after_accept old.raft.me old.raft.server o.desk w (Ok a))
@@ -91,11 +77,6 @@ module _ (old new : ServerView) (before after : Outbox) (from : ℕ) (p : Accept
         let because : admitted cluster_meaning old.raft.server (plan_command w.plan a) ≡ Some e = subst (λ (x : AcceptedPlan). admitted cluster_meaning old.raft.server (commands.Plan x) ≡ Some e) k.plan why in
         rw (is, some, because) (does_alone old new before after (told_refusal old.raft.me w e ∷ []) (Some o.0.desk) [] same (ap group_desk (desk ∙ o.1)) said (work ∙ sym (append-nil before.work)))
 
-    -- the log is full
-    pub kept_full : 2 ^ 40 ≤ length old.raft.server.log + 1 → new.raft.server ≡ old.raft.server → new.desk ≡ old.desk →
-        SendsOne before.frames after.frames (BetweenServers old.raft.me from (Answers (Refused (asked.Submit p.eval p.token) (reason_of refusals.Exhausted)))) → DoesAct old (settling old (record { queued = w; kept = Ok a })) new before after
-    kept_full le = refused_as refusals.Exhausted (full old.raft.server (commands.Plan p) le)
-
     -- the log refuses it
     pub kept_refused : (e : Refusal) → WhyNotProposed old.raft.server (commands.Plan p) e → e ≢ refusals.NoMemory → new.raft.server ≡ old.raft.server → new.desk ≡ old.desk →
         SendsOne before.frames after.frames (BetweenServers old.raft.me from (Answers (Refused (asked.Submit p.eval p.token) (reason_of e)))) → DoesAct old (settling old (record { queued = w; kept = Ok a })) new before after
@@ -114,13 +95,6 @@ module _ (old new : ServerView) (before after : Outbox) (from : ℕ) (p : Accept
       OnOk r ((w : QueuedPlan) → KeptOf from p a w → DoesAct old (settling old (record { queued = w; kept = Ok a })) new before after)
   refusal_sent (Ok u) e some why other same desk sent = λ w k. kept_refused old new before after from p a w k h work some e why other same desk sent
   refusal_sent (Err x) e some why other same desk sent = tt
-
--- nothing is kept of it
-pub settles_refused : (old new : ServerView) (before after : Outbox) (w : QueuedPlan) (e : Refusal) → HasOpenDesk (member_of old) → new.raft.server ≡ old.raft.server → new.desk ≡ old.desk →
-    SendsOne before.frames after.frames (told_refusal old.raft.me w e) → after.work ≡ before.work → DoesAct old (settling old (record { queued = w; kept = Err e })) new before after
-settles_refused old new before after w e h same desk sent work =
-    let o = open_of old.desk h.is_open in
-    rw (open_is old o.0 h o.1) (does_alone old new before after (told_refusal old.raft.me w e ∷ []) (Some o.0.desk) [] same (ap group_desk (desk ∙ o.1)) sent (work ∙ sym (append-nil before.work)))
 
 -- ---- the turn
 
@@ -148,23 +122,3 @@ judged_rises whole d new j call =
 -- what is judged tells nodes that strictly rise
 pub answer_rises : (whole : State) (d new : Option OpenDesk) (answer : Option JudgedPlan) (j : JudgedPlan) → at_open (on_plan_turn whole) d ≡ Ok (option_map judged_by answer, new) → answer ≡ Some j → RefusesRising (judged_by j)
 answer_rises whole d new answer j call is = judged_rises whole d new (judged_by j) (rw is at call)
-
-module _ (old mid new : ServerView) (before after : Outbox) (h : HasOpenDesk (member_of old)) (same : SameServer old.raft mid.raft) where
-  plan_turn_is : (j : Option Judged) (o next : OpenDesk) → old.desk ≡ Some o → on_plan_turn (whole_state old.raft.server) o ≡ Ok (j, next) → act_of old PlanTurn ≡ Ok (judged_act old.raft.me old.raft.server next.desk j)
-  plan_turn_is j o next has answers =
-      rw (open_is old o h has) (ap act_taken (plan_turns_by_verdict old.raft.me old.raft.server o ∙ ap (λ (t : Option Judged × OpenDesk). judged_act old.raft.me old.raft.server t.1.desk t.0) (same_answer answers)))
-
-  -- no plan waits
-  pub none_waits : at_open (on_plan_turn (whole_state old.raft.server)) old.desk ≡ Ok (None, mid.desk) → DoesAct old (act_of old PlanTurn) mid before before
-  none_waits call =
-      let k = called (on_plan_turn (whole_state old.raft.server)) old.desk None mid.desk call in
-      does_rest old mid before before (act_of old PlanTurn) (Some k.after.desk) (plan_turn_is None k.before k.after k.was k.answers) same.server (ap group_desk k.is) refl
-
-  -- one was judged, and settled
-  pub one_settled : (j : Judged) → at_open (on_plan_turn (whole_state old.raft.server)) old.desk ≡ Ok (Some j, mid.desk) → HasOpenDesk (member_of mid) → DoesAct mid (settling mid j) new before after → DoesAct old (act_of old PlanTurn) new before after
-  one_settled j call is_open settled =
-      let k = called (on_plan_turn (whole_state old.raft.server)) old.desk (Some j) mid.desk call in
-      let act = after_accept old.raft.me old.raft.server k.after.desk j.queued j.kept in
-      let is : settling mid j ≡ Ok act = rw (open_is mid k.after is_open k.is, same.me, same.server) refl in
-      let did : DoesAct mid (Ok act) new before after = subst (λ (r : Result Act Refusal). DoesAct mid r new before after) is settled in
-      rw (plan_turn_is (Some j) k.before k.after k.was k.answers) (does_from old mid new act before after same.me same.size same.server did)

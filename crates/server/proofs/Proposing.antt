@@ -1,5 +1,5 @@
 -- A command that is proposed.
-use Rattle.std.proofs.Common.{◌≡◌, ℕ, ◌≤◌, Bool, true, false, Option, Some, None, Result, Ok, Err, List, [], ◌∷◌, length, take, drop, zero, suc, refl, sym, ap, subst, ◌∙◌, if◌then◌else◌}
+use Rattle.std.proofs.Common.{◌≡◌, ℕ, ◌≤◌, Bool, true, false, Option, Some, None, Result, Ok, Err, List, [], ◌∷◌, length, refl, sym, ap, subst, ◌∙◌, if◌then◌else◌}
 use Rattle.std.proofs.lemmas.List.{take-append-le}
 use Rattle.std.specs.Prelude.{IfSome, IfErr, OnOk, OnErr, MatchOption}
 use Rattle.rows.specs.declared.command.Command.{Command}
@@ -14,7 +14,7 @@ use Rattle.wire.specs.Frames.{Frame}
 use Rattle.raft_core.specs.Inputs.{Own}
 use Rattle.raft_core.specs.Refusals.{IsRefused, refusal_by}
 use Rattle.cluster_model.specs.ClusterMachine.{cluster_meaning}
-use Rattle.group_model.specs.Desks.{Desk, applied_state, after_entries, desk_after}
+use Rattle.group_model.specs.Desks.{applied_state}
 use Rattle.leader.specs.OpenDesks.{OpenDesk}
 use Rattle.leader.specs.Staying.{IsOver}
 use Rattle.server.specs.ServerViews.{IsOfLeader}
@@ -46,27 +46,11 @@ module _ (n me : ℕ) (s : Server Command) (c : Command) (up : is_up s.mode ≡ 
   refused refusals.NoMemory h = h
   refused cause h = sym step_is ∙ why (raft_steps.step cluster_meaning n me s (raft_steps.Propose c)) _ h
 
--- a leader refuses by what its log admits
-pub leader_refuses : (s : Server Command) (c : Command) (cause : Refusal) → is_leader s.mode ≡ true → raft_steps.proposes cluster_meaning s c ≡ Err cause → raft_steps.admitted cluster_meaning s c ≡ Some cause
-leader_refuses s c cause leads h = by_leader (raft_steps.admitted cluster_meaning s c) (rw leads at h) where
-  by_leader : (a : Option Refusal) → raft_steps.unless a (silent (extended s c)) ≡ Err cause → a ≡ Some cause
-  by_leader None h = absurd (cc)
-  by_leader (Some r) h = cc
-
 -- ---- the desk
-
-drop_same : {A : Type 0} (n : ℕ) (xs : List A) → drop n (take n xs) ≡ []
-drop_same zero xs = refl
-drop_same (suc n) [] = refl
-drop_same (suc n) (x ∷ xs) = drop_same n xs
 
 -- what is applied stays
 applied_stays : (s : Server Command) (c : Command) → s.commit ≤ length s.log → applied_state (extended s c) ≡ applied_state s
 applied_stays s c held = ap (state_after cluster_meaning) (take-append-le s.commit s.log (record { term = s.term; command = c } ∷ []) held)
-
--- a proposal leaves the desk as it is
-pub desk_stays : (s : Server Command) (c : Command) (d : Option Desk) → is_leader s.mode ≡ true → desk_after s (extended s c) d ≡ d
-desk_stays s c d leads = rw leads (ap (λ es. after_entries s.term (applied_state s) es d) (drop_same s.commit (extended s c).log))
 
 -- an open desk is still of the state that is applied
 pub proposal_keeps : (old new : RaftView Command) (c : Command) (d : Option OpenDesk) → IfSome d (IsOfLeader old) → IsProposed old.server c new.server → old.server.commit ≤ length old.server.log → IfSome d (IsOfLeader new)

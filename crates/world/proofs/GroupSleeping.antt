@@ -1,1 +1,408 @@
 -- Events whose actor is not there, or is down.
+use Rattle.std.proofs.Common.{◌≡◌, ◌≢◌, ◌⊎◌, inl, inr, ◌&&◌, ℕ, zero, suc, ◌<◌, ◌≤◌, nat_lt, nat_eq, Bool, true, false, if◌then◌else◌, is_some, Option, Some, None, option_map, Result, Ok, Err, List, [], ◌∷◌, map, length, refl, sym, ap, ◌∙◌, subst, slice_get, arith}
+use Rattle.std.proofs.lemmas.Option.{slice_get-map}
+use Rattle.std.specs.List.{AllZip}
+use Rattle.rows.specs.declared.actor.Actor.TheVariants as actors
+use Rattle.rows.specs.declared.allocation.AllocId.{AllocId}
+use Rattle.rows.specs.declared.command.Command.{Command}
+use Rattle.rows.specs.declared.node.Node.{Node}
+use Rattle.rows.specs.declared.refusal.Refusal.{Refusal}
+use Rattle.rows.specs.declared.refusal.Refusal.TheVariants as refusals
+use Rattle.machine.specs.Meaning.{IsMachineRefusal}
+use Rattle.raft_model.specs.Logs.{MAX, state_after}
+use Rattle.raft_model.specs.Servers as rafts
+use Rattle.raft_model.specs.Servers.{Server, Mode, Down, Follower, Candidate, Leader, is_up, is_leader}
+use Rattle.raft_model.specs.Steps as raft_steps
+use Rattle.raft_safety.proofs.Places.{get-within}
+use Rattle.raft_core.specs.Steps.{role_of}
+use Rattle.raft_core.specs.declared.role.Role.{Role}
+use Rattle.cluster_model.specs.Words.{State, node_of, is_draining}
+use Rattle.cluster_model.specs.ClusterMachine.{cluster_meaning}
+use Rattle.cluster_model.proofs.ClusterMachine.{cluster_lawful}
+use Rattle.group_model.specs.Messages.{GroupMessage, Raft, Service, ServiceMessage, BetweenServers, ToServer, ToClient, ClientResponse}
+use Rattle.group_model.specs.Drains.{is_done, next_moves_of}
+use Rattle.group_model.specs.Brokers.{is_outstanding}
+use Rattle.group_model.specs.Expiry.{BeatCount, beat_count_of}
+use Rattle.group_model.specs.Desks.{Desk, whole_state}
+use Rattle.group_model.specs.Inputs.{Input, Arrives, Timeout, Beat, Request, TakeFrom, SubmitTo, FinishAt, NackAt, PlanTurn, Lapse, Expire, DrainTurn, FreeTurn, Reap, Compact, Crash, Restart, Act, Ask, rests, input_of}
+use Rattle.group_model.specs.Turns.{expire_of, drains_by, drain_turn_of}
+use Rattle.group_model.specs.Members.{Member, Turn, open_or, open_desk, at_desk, takes_message, acts, logged, asks_log, done, step}
+use Rattle.group_model.specs.Clients as clients
+use Rattle.group_model.specs.Clients.{Client, Life}
+use Rattle.group_model.specs.Worlds.{World, Event, Deliver, AtServer, AtClient, happens, delivers, delivers_message, message_to, input_to, takes_input, own_input, own_client_input, client_input_to, client_takes, client_at, after_turn, after_client, refuses_message_at, refuses_response_at}
+use Rattle.group_frames.specs.GroupFrames.{CarriesGroup, receiver_of}
+use Rattle.client_agent.specs.declared.input.ClientInput.{ClientInput}
+use Rattle.client_agent.specs.declared.input.ClientInput.TheVariants as client_inputs
+use Rattle.client_agent.specs.AgentView.{AgentView}
+use Rattle.server.specs.ServerViews.{ServerView, IsMember, SameMember}
+use Rattle.server.specs.Handings.{Handing, FrameBytes, OwnInput}
+use Rattle.server.specs.Turns.{takes_in}
+use Rattle.world.specs.GroupEvents.{server_input, client_input}
+use Rattle.world.specs.GroupView.{GroupView, RepresentsGroup, client_in, client_view}
+use Rattle.world.specs.GroupSteps.{SameGroup, RefusesGroupEvent, IsGroupAwake}
+use Rattle.world.specs.Inner.GroupInputs.{IsSentTo, is_frame, is_restart_input, is_client_frame, is_client_restart}
+use Rattle.world.specs.Inner.GroupParts.{GroupStepped}
+use Rattle.world.proofs.Zips.{zip_at, zip_none}
+use Rattle.world.proofs.Sleeping.{Awake}
+use Rattle.world.proofs.GroupOwn.{woken}
+use Rattle.world.proofs.GroupDeliveries.{same_server, Comes, comes, is_for, down_takes, for_client, down_hears}
+
+-- ---- nothing happens
+
+same_members : (xs : List ServerView) → AllZip SameMember xs xs
+same_members [] = tt
+same_members (x ∷ xs) = (record { raft = record { me = refl; size = refl; server = refl }; desk = refl }, same_members xs)
+
+pub same_group : (v : GroupView) → SameGroup v v
+same_group v = record { servers = same_members v.servers; clients = refl; outbox = refl; trace = refl; chain = refl }
+
+-- an event that is refused before its actor is asked
+pub refused_at_once : (view : GroupView) (e : Event) (r : Refusal) → r ≢ refusals.NoMemory → RefusesGroupEvent view e r → GroupStepped view e (Err r) view
+refused_at_once view e r other says = record { ok = tt; err = same_group view; cause = λ _. says; memory = λ lacks. absurd (other lacks) }
+
+-- ---- what a server says that it does
+
+asleep : (mode : Mode) → is_some (role_of mode) ≡ false → is_up mode ≡ false
+asleep Down h = refl
+asleep Follower h = absurd (cc)
+asleep (Candidate votes) h = absurd (cc)
+asleep (Leader next match) h = absurd (cc)
+
+awake_role : (mode : Mode) → is_some (role_of mode) ≡ true → is_up mode ≡ true
+awake_role Down h = absurd (cc)
+awake_role Follower h = refl
+awake_role (Candidate votes) h = refl
+awake_role (Leader next match) h = refl
+
+-- ---- no refusal for being down
+
+awake_is : {A : Type 0} (q : Result A Refusal) → Awake q → q ≢ Err refusals.Down
+awake_is (Ok a) h e = cc
+awake_is (Err r) h e = h (cc)
+
+awake_if : {A : Type 0} (b : Bool) (x y : Result A Refusal) → Awake x → Awake y → Awake (if b then x else y)
+awake_if true x y f g = f
+awake_if false x y f g = g
+
+own_is_no_down : (r : Refusal) → IsMachineRefusal r → r ≢ refusals.Down
+own_is_no_down refusals.Down h e = h
+own_is_no_down _ h e = absurd (cc)
+
+unless_awake : (turn : rafts.Turn Command) (q : Option Refusal) → ((r : Refusal) → q ≡ Some r → r ≢ refusals.Down) → Awake (raft_steps.unless q turn)
+unless_awake turn None h = tt
+unless_awake turn (Some r) h = h r refl
+
+admission_awake : (s : Server Command) (command : Command) (b : Bool) (r : Refusal) → (if b then cluster_meaning.admission (state_after cluster_meaning s.log) command else Some refusals.Exhausted) ≡ Some r → r ≢ refusals.Down
+admission_awake s command true r h = let law = cluster_lawful in own_is_no_down r (law.refusal_is_its_own (state_after cluster_meaning s.log) command r h)
+admission_awake s command false r h = λ e. cc
+
+log_acts : (n me : ℕ) (s : Server Command) (x : raft_steps.Input Command) → Awake (raft_steps.acts cluster_meaning n me s x)
+log_acts n me s (raft_steps.Arrives message) = awake_if (nat_lt message.from n) _ _ tt (λ e. cc)
+log_acts n me s raft_steps.Timeout = awake_if (is_leader s.mode) _ _ tt (awake_if (nat_lt s.term MAX && nat_lt (length s.log) MAX) _ _ tt (λ e. cc))
+log_acts n me s raft_steps.Beat = tt
+log_acts n me s (raft_steps.Propose command) = awake_if (is_leader s.mode) _ _ (unless_awake _ _ (λ r h. admission_awake s command (nat_lt (length s.log) MAX) r h)) (λ e. cc)
+log_acts n me s raft_steps.Compact = tt
+log_acts n me s raft_steps.Crash = tt
+log_acts n me s raft_steps.Restart = λ e. cc
+
+logged_awake : (s : Member) (act : Act) (q : Result (rafts.Turn Command) Refusal) → Awake q → Awake (logged s act q)
+logged_awake s act (Ok turn) h = tt
+logged_awake s act (Err r) h = h
+
+-- ---- a server that is up
+
+open_awake : (d : Option Desk) → Awake (open_or d)
+open_awake None = λ e. cc
+open_awake (Some d) = tt
+
+desk_awake : (q : Result Desk Refusal) (turn : Desk → Result Act Refusal) → Awake q → ((d : Desk) → Awake (turn d)) → Awake (at_desk q turn)
+desk_awake (Ok d) turn f g = g d
+desk_awake (Err r) turn f g = f
+
+expire_awake : (d : Desk) (n beats : ℕ) (o : Option BeatCount) → Awake (expire_of d n beats o)
+expire_awake d n beats None = λ e. cc
+expire_awake d n beats (Some c) = awake_if (nat_eq c.beats beats) _ _ tt (λ e. cc)
+
+moves_awake : (s : State) (n : Node) → Awake (next_moves_of s (Some n))
+moves_awake s n = awake_if (is_draining n.drain) _ _ tt (λ e. cc)
+
+drains_awake : (d : Desk) (s : State) (n : Node) (q : Result (List AllocId) Refusal) → Awake q → Awake (drains_by d s n q)
+drains_awake d s n (Ok ids) h = awake_if (is_done n.number s) _ _ tt tt
+drains_awake d s n (Err r) h = h
+
+drain_awake : (d : Desk) (s : State) (o : Option Node) → Awake (drain_turn_of d s o)
+drain_awake d s None = λ e. cc
+drain_awake d s (Some n) = drains_awake d s n (next_moves_of s (Some n)) (moves_awake s n)
+
+message_awake : (n me : ℕ) (s : Member) (x : ServiceMessage) → Awake (takes_message n me s x)
+message_awake n me s (BetweenServers from to message) = awake_if (nat_lt from n) _ _ tt (λ e. cc)
+message_awake n me s (ToServer client server request) = tt
+message_awake n me s (ToClient server client response) = λ e. cc
+
+module _ (n me : ℕ) (s : Member) where
+  desk : Awake (open_desk s)
+  desk = awake_if (is_leader s.raft.mode) _ _ (open_awake s.desk) (λ e. cc)
+
+  acts_awake : (x : Input) → Awake (acts n me s x)
+  acts_awake (Arrives message) = message_awake n me s message
+  acts_awake Timeout = tt
+  acts_awake Beat = tt
+  acts_awake (Request request) = tt
+  acts_awake (TakeFrom to) = awake_if (nat_lt to n) _ _ tt (λ e. cc)
+  acts_awake (SubmitTo to plan) = awake_if (nat_lt to n) _ _ tt (λ e. cc)
+  acts_awake (FinishAt to eval token outcome) = awake_if (nat_lt to n) _ _ tt (λ e. cc)
+  acts_awake (NackAt to eval token) = awake_if (nat_lt to n) _ _ tt (λ e. cc)
+  acts_awake PlanTurn = desk_awake (open_desk s) _ desk (λ d. tt)
+  acts_awake (Lapse eval) = desk_awake (open_desk s) _ desk (λ d. awake_if (is_outstanding eval d.broker) _ _ tt (λ e. cc))
+  acts_awake (Expire node beats) = desk_awake (open_desk s) _ desk (λ d. expire_awake d node beats (beat_count_of node d.beat_counts))
+  acts_awake (DrainTurn node) = desk_awake (open_desk s) _ desk (λ d. drain_awake d (whole_state s.raft) (node_of node (whole_state s.raft)))
+  acts_awake FreeTurn = desk_awake (open_desk s) _ desk (λ d. tt)
+  acts_awake Reap = desk_awake (open_desk s) _ desk (λ d. tt)
+  acts_awake Compact = tt
+  acts_awake Crash = tt
+  acts_awake Restart = λ e. cc
+
+  module _ (up : is_up s.raft.mode ≡ true) where
+    log_awake : (x : raft_steps.Input Command) → Awake (raft_steps.step cluster_meaning n me s.raft x)
+    log_awake x = rw up (log_acts n me s.raft x)
+
+    asks_awake : (act : Act) (ask : Option Ask) → Awake (asks_log n me s act ask)
+    asks_awake act None = tt
+    asks_awake act (Some ask) = logged_awake s act _ (log_awake (input_of ask))
+
+    done_awake : (q : Result Act Refusal) → Awake q → Awake (done n me s q)
+    done_awake (Ok act) h = asks_awake act act.ask
+    done_awake (Err r) h = h
+
+    up_steps : (x : Input) → Awake (step n me s x)
+    up_steps x = done_awake _ (rw up (acts_awake x))
+
+    up_takes : (x : GroupMessage) → Awake (takes_in n me s x)
+    up_takes (Raft message) = logged_awake s (rests s.desk) _ (log_awake (raft_steps.Arrives message))
+    up_takes (Service message) = up_steps (Arrives message)
+
+after_awake : (w : World) (i : ℕ) (q : Result Turn Refusal) → Awake q → Awake (after_turn w i q)
+after_awake w i (Ok turn) h = tt
+after_awake w i (Err r) h = h
+
+after_client_awake : (w : World) (c : ℕ) (q : Result clients.Turn Refusal) → Awake q → Awake (after_client w c q)
+after_client_awake w c (Ok turn) h = tt
+after_client_awake w c (Err r) h = h
+
+-- ---- an input of a server's own
+
+absent_takes : (w : World) (i : ℕ) (x : Input) → slice_get w.servers i ≡ None → own_input w i x ≡ Err refusals.OutOfRange
+absent_takes w i (Arrives message) gone = ap (λ o. Err (refuses_message_at o)) gone
+absent_takes w i x gone = ap (λ o. input_to w i x o) gone
+
+module _ (w : World) (i : ℕ) (s : Member) (here : slice_get w.servers i ≡ Some s) where
+  sleeping : (h : Handing) → is_up s.raft.mode ≡ false → is_restart_input h ≡ false → own_input w i (server_input h) ≡ Err refusals.Down
+  sleeping (FrameBytes bytes) down other = ap (λ o. Err (refuses_message_at o)) here ∙ rw down refl
+  sleeping (OwnInput (Arrives message)) down other = ap (λ o. Err (refuses_message_at o)) here ∙ rw down refl
+  sleeping (OwnInput Restart) down other = absurd (cc)
+  sleeping (OwnInput x) down other = ap (λ o. input_to w i x o) here ∙ rw down refl
+
+  -- a frame is no input of its own
+  no_own : (h : Handing) → is_frame h ≡ true → is_up s.raft.mode ≡ true → own_input w i (server_input h) ≡ Err refusals.OutOfRange
+  no_own (FrameBytes bytes) frame up = ap (λ o. Err (refuses_message_at o)) here ∙ rw up refl
+  no_own (OwnInput x) frame up = absurd (cc)
+
+  restart_awake : (up : Bool) → is_up s.raft.mode ≡ up → Awake (step (length w.servers) i s Restart)
+  restart_awake true is = up_steps (length w.servers) i s is Restart
+  restart_awake false is = let q = woken (length w.servers) i s is in subst (λ r. Awake r) (sym q.1) tt
+
+  taken_awake : (x : Input) → Awake (step (length w.servers) i s x) → Awake (takes_input w i x)
+  taken_awake x awake = subst (λ o. Awake (input_to w i x o)) (sym here) (after_awake w i (step (length w.servers) i s x) awake)
+
+  own_awake : (h : Handing) → is_frame h ≡ false → (is_up s.raft.mode ≡ true) ⊎ (is_restart_input h ≡ true) → Awake (own_input w i (server_input h))
+  own_awake (FrameBytes bytes) other up = absurd (cc)
+  own_awake (OwnInput (Arrives message)) other (inl up) = subst (λ o. Awake (let q : Result World Refusal = Err (refuses_message_at o) in q)) (sym here) (rw up (λ e. cc))
+  own_awake (OwnInput (Arrives message)) other (inr so) = absurd (cc)
+  own_awake (OwnInput Restart) other up = taken_awake Restart (restart_awake (is_up s.raft.mode) refl)
+  own_awake (OwnInput x) other (inl up) = taken_awake x (up_steps (length w.servers) i s up x)
+  own_awake (OwnInput x) other (inr so) = absurd (cc)
+
+module _ (view : GroupView) (i : ℕ) where
+  pub server_absent : (h : Handing) → slice_get view.servers i ≡ None → RefusesGroupEvent view (AtServer i (server_input h)) refusals.OutOfRange
+  server_absent h gone past w r = let st = r.represents in absent_takes w i (server_input h) (zip_none IsMember view.servers w.servers i st.servers gone)
+
+  module _ (here : ServerView) (role : Option Role) (at : slice_get view.servers i ≡ Some here) (says : (s : Member) → IsMember here s → role ≡ role_of s.raft.mode) where
+    pub server_sleeps : (h : Handing) → is_some role ≡ false → is_restart_input h ≡ false → RefusesGroupEvent view (AtServer i (server_input h)) refusals.Down
+    server_sleeps h none other past w r =
+        let st = r.represents in
+        let s = zip_at IsMember view.servers w.servers i here st.servers at in
+        sleeping w i s.0 s.1 h (asleep s.0.raft.mode (ap is_some (sym (says s.0 s.2)) ∙ none)) other
+
+    -- what the role says of a server of the definitions
+    up_or : (h : Handing) (s : Member) → IsMember here s → (is_some role ≡ true) ⊎ (is_restart_input h ≡ true) → (is_up s.raft.mode ≡ true) ⊎ (is_restart_input h ≡ true)
+    up_or h s is (inl some) = inl (awake_role s.raft.mode (ap is_some (sym (says s is)) ∙ some))
+    up_or h s is (inr so) = inr so
+
+    is_no_frame : (w : World) (s : Member) → slice_get w.servers i ≡ Some s → (h : Handing) → is_frame h ≡ true → (is_up s.raft.mode ≡ true) ⊎ (is_restart_input h ≡ true) → own_input w i (server_input h) ≡ Err refusals.OutOfRange
+    is_no_frame w s there h frame (inl up) = no_own w i s there h frame up
+    is_no_frame w s there (FrameBytes bytes) frame (inr so) = absurd (cc)
+    is_no_frame w s there (OwnInput x) frame (inr so) = absurd (cc)
+
+    pub frame_is_none : (h : Handing) → is_frame h ≡ true → (is_some role ≡ true) ⊎ (is_restart_input h ≡ true) → RefusesGroupEvent view (AtServer i (server_input h)) refusals.OutOfRange
+    frame_is_none h frame up past w r =
+        let st = r.represents in
+        let s = zip_at IsMember view.servers w.servers i here st.servers at in
+        is_no_frame w s.0 s.1 h frame (up_or h s.0 s.2 up)
+
+    -- a server that is up does not refuse for being down, nor does one that is to restart
+    pub server_awake : (h : Handing) → is_frame h ≡ false → (is_some role ≡ true) ⊎ (is_restart_input h ≡ true) → IsGroupAwake view (AtServer i (server_input h))
+    server_awake h other up past w r =
+        let st = r.represents in
+        let s = zip_at IsMember view.servers w.servers i here st.servers at in
+        awake_is (own_input w i (server_input h)) (own_awake w i s.0 s.1 h other (up_or h s.0 s.2 up))
+
+-- ---- an input of a client's own
+
+clients_match : (cs : List AgentView) (c : ℕ) → client_at (map client_in cs) c ≡ option_map client_in (client_view cs c)
+clients_match cs zero = refl
+clients_match cs (suc k) = slice_get-map client_in cs k
+
+pub client_within : (cs : List AgentView) (c : ℕ) (a : AgentView) → client_view cs c ≡ Some a → c ≤ length cs
+client_within cs zero a at = absurd (cc)
+client_within cs (suc k) a at = let inside : k < length cs = get-within cs k a at in omega arith
+
+-- the client of the definitions at the place of one of the value
+client_of_view : (view : GroupView) (w : World) (c : ℕ) → RepresentsGroup view w → client_at w.clients c ≡ option_map client_in (client_view view.clients c)
+client_of_view view w c st = subst (λ cs. client_at cs c ≡ option_map client_in (client_view view.clients c)) st.clients (clients_match view.clients c)
+
+absent_client_takes : (w : World) (c : ℕ) (x : clients.Input) → client_at w.clients c ≡ None → own_client_input w c x ≡ Err refusals.OutOfRange
+absent_client_takes w c (clients.Arrives from response) gone = ap (λ o. Err (refuses_response_at o)) gone
+absent_client_takes w c x gone = ap (λ o. client_input_to w c x o) gone
+
+no_life : (n : ℕ) (x : Client) (life : Option Life) (given : ClientInput) → is_some life ≡ false → is_client_restart given ≡ false → clients.step_of n x life (client_input given) ≡ Err refusals.Down
+no_life n x (Some l) given down other = absurd (cc down)
+no_life n x None client_inputs.Restart down other = absurd (cc other)
+no_life n x None given down other = refl
+
+lives_awake : (n : ℕ) (x : Client) (life : Option Life) (given : ClientInput) → is_client_frame given ≡ false → (is_some life ≡ true) ⊎ (is_client_restart given ≡ true) → Awake (clients.step_of n x life (client_input given))
+lives_awake n x life (client_inputs.Frame bytes) other up = absurd (cc other)
+lives_awake n x (Some l) (client_inputs.Register server) other up = awake_if (nat_lt server n) _ _ tt (λ e. cc)
+lives_awake n x (Some l) client_inputs.Crash other up = tt
+lives_awake n x (Some l) client_inputs.Restart other up = λ e. cc
+lives_awake n x None client_inputs.Restart other up = tt
+lives_awake n x None given other (inl up) = absurd (cc up)
+lives_awake n x None given other (inr so) = absurd (cc so)
+
+module _ (w : World) (c : ℕ) (x : Client) (here : client_at w.clients c ≡ Some x) where
+  client_sleeping : (given : ClientInput) → is_some x.life ≡ false → is_client_restart given ≡ false → own_client_input w c (client_input given) ≡ Err refusals.Down
+  client_sleeping (client_inputs.Frame bytes) down other = ap (λ o. Err (refuses_response_at o)) here ∙ rw down refl
+  client_sleeping given down other = ap (λ o. client_input_to w c (client_input given) o) here ∙ ap (λ q. after_client w c q) (no_life (length w.servers) x x.life given down other)
+
+  no_own_response : (given : ClientInput) → is_client_frame given ≡ true → (is_some x.life ≡ true) ⊎ (is_client_restart given ≡ true) → own_client_input w c (client_input given) ≡ Err refusals.OutOfRange
+  no_own_response (client_inputs.Frame bytes) frame (inl up) = ap (λ o. Err (refuses_response_at o)) here ∙ rw up refl
+  no_own_response (client_inputs.Frame bytes) frame (inr so) = absurd (cc so)
+  no_own_response given frame up = absurd (cc frame)
+
+  own_client_awake : (given : ClientInput) → is_client_frame given ≡ false → (is_some x.life ≡ true) ⊎ (is_client_restart given ≡ true) → Awake (own_client_input w c (client_input given))
+  own_client_awake (client_inputs.Frame bytes) other up = absurd (cc other)
+  own_client_awake given other up =
+      subst (λ o. Awake (client_input_to w c (client_input given) o)) (sym here) (after_client_awake w c _ (lives_awake (length w.servers) x x.life given other up))
+
+module _ (view : GroupView) (c : ℕ) where
+  pub client_absent : (given : ClientInput) → client_view view.clients c ≡ None → RefusesGroupEvent view (AtClient c (client_input given)) refusals.OutOfRange
+  client_absent given gone past w r = absent_client_takes w c (client_input given) (client_of_view view w c r.represents ∙ ap (λ o. option_map client_in o) gone)
+
+  module _ (here : AgentView) (at : client_view view.clients c ≡ Some here) where
+    client_there : (w : World) → RepresentsGroup view w → client_at w.clients c ≡ Some here.client
+    client_there w st = client_of_view view w c st ∙ ap (λ o. option_map client_in o) at
+
+    pub client_sleeps : (given : ClientInput) → is_some here.client.life ≡ false → is_client_restart given ≡ false → RefusesGroupEvent view (AtClient c (client_input given)) refusals.Down
+    client_sleeps given down other past w r = client_sleeping w c here.client (client_there w r.represents) given down other
+
+    pub response_is_none : (given : ClientInput) → is_client_frame given ≡ true → (is_some here.client.life ≡ true) ⊎ (is_client_restart given ≡ true) → RefusesGroupEvent view (AtClient c (client_input given)) refusals.OutOfRange
+    response_is_none given frame up past w r = no_own_response w c here.client (client_there w r.represents) given frame up
+
+    pub client_awake : (given : ClientInput) → is_client_frame given ≡ false → (is_some here.client.life ≡ true) ⊎ (is_client_restart given ≡ true) → IsGroupAwake view (AtClient c (client_input given))
+    client_awake given other up past w r = awake_is (own_client_input w c (client_input given)) (own_client_awake w c here.client (client_there w r.represents) given other up)
+
+-- ---- what comes
+
+-- there is no such message
+pub nothing_comes : (view : GroupView) (place : ℕ) → slice_get view.outbox.frames place ≡ None → RefusesGroupEvent view (Deliver place) refusals.OutOfRange
+nothing_comes view place gone past w r =
+    let st = r.represents in
+    ap (λ o. delivers w o) (zip_none (CarriesGroup cluster_meaning) view.outbox.frames w.sent place st.sent gone)
+
+lost : (w : World) (i : ℕ) (x : GroupMessage) → receiver_of x ≡ actors.Server i → slice_get w.servers i ≡ None → delivers_message w x ≡ Err refusals.OutOfRange
+lost w i (Raft message) to gone = ap (λ k. message_to w k message (slice_get w.servers k)) (same_server to) ∙ ap (λ o. message_to w i message o) gone
+lost w i (Service (BetweenServers from j message)) to gone =
+    let x : Input = Arrives (BetweenServers from j message) in
+    ap (λ k. input_to w k x (slice_get w.servers k)) (same_server to) ∙ ap (λ o. input_to w i x o) gone
+lost w i (Service (ToServer client j request)) to gone =
+    let x : Input = Arrives (ToServer client j request) in
+    ap (λ k. input_to w k x (slice_get w.servers k)) (same_server to) ∙ ap (λ o. input_to w i x o) gone
+lost w i (Service (ToClient j client response)) to gone = absurd (cc to)
+
+module _ (view : GroupView) (place i : ℕ) (sent : IsSentTo view.outbox.frames place (actors.Server i)) where
+  message : (w : World) → RepresentsGroup view w → Comes view.outbox.frames place w (actors.Server i)
+  message w st = comes view.outbox.frames place w (actors.Server i) st.sent sent
+
+  pub receiver_absent : slice_get view.servers i ≡ None → RefusesGroupEvent view (Deliver place) refusals.OutOfRange
+  receiver_absent gone past w r =
+      let st = r.represents in
+      let m = message w st in
+      ap (λ o. delivers w o) m.at ∙ lost w i m.message m.is_to (zip_none IsMember view.servers w.servers i st.servers gone)
+
+  module _ (here : ServerView) (role : Option Role) (at : slice_get view.servers i ≡ Some here) (says : (s : Member) → IsMember here s → role ≡ role_of s.raft.mode) where
+    pub receiver_sleeps : is_some role ≡ false → RefusesGroupEvent view (Deliver place) refusals.Down
+    receiver_sleeps none past w r =
+        let st = r.represents in
+        let m = message w st in
+        let s = zip_at IsMember view.servers w.servers i here st.servers at in
+        let f = is_for w i s.0 s.1 m.message m.is_to in
+        ap (λ o. delivers w o) m.at ∙ f.happens ∙ ap (λ q. after_turn w i q) (down_takes (length w.servers) i s.0 m.message (asleep s.0.raft.mode (ap is_some (sym (says s.0 s.2)) ∙ none)))
+
+    pub receiver_awake : is_some role ≡ true → IsGroupAwake view (Deliver place)
+    receiver_awake some past w r =
+        let st = r.represents in
+        let m = message w st in
+        let s = zip_at IsMember view.servers w.servers i here st.servers at in
+        let f = is_for w i s.0 s.1 m.message m.is_to in
+        let up : is_up s.0.raft.mode ≡ true = awake_role s.0.raft.mode (ap is_some (sym (says s.0 s.2)) ∙ some) in
+        awake_is (delivers w (slice_get w.sent place))
+        (subst (λ q. Awake q) (sym (ap (λ o. delivers w o) m.at ∙ f.happens)) (after_awake w i _ (up_takes (length w.servers) i s.0 up m.message)))
+
+module _ (view : GroupView) (place c : ℕ) (sent : IsSentTo view.outbox.frames place (actors.Client c)) where
+  -- a response comes
+  record Responds (w : World) : Type 0 where
+    from : ℕ
+    response : ClientResponse
+    is : happens w (Deliver place) ≡ client_takes w c (clients.Arrives from response)
+
+  responds : (w : World) → RepresentsGroup view w → Responds w
+  responds w st =
+      let m = comes view.outbox.frames place w (actors.Client c) st.sent sent in
+      let q = for_client m.message c m.is_to in
+      record { from = q.0; response = q.1; is = ap (λ o. delivers w o) (m.at ∙ ap (λ x. Some x) q.2) }
+
+  pub client_receiver_absent : client_view view.clients c ≡ None → RefusesGroupEvent view (Deliver place) refusals.OutOfRange
+  client_receiver_absent gone past w r =
+      let m = responds w r.represents in
+      let input : clients.Input = clients.Arrives m.from m.response in
+      m.is ∙ ap (λ o. client_input_to w c input o) (client_of_view view w c r.represents ∙ ap (λ o. option_map client_in o) gone)
+
+  module _ (here : AgentView) (at : client_view view.clients c ≡ Some here) where
+    comes_there : (w : World) (st : RepresentsGroup view w) → let m = responds w st in happens w (Deliver place) ≡ after_client w c (clients.step_of (length w.servers) here.client here.client.life (clients.Arrives m.from m.response))
+    comes_there w st =
+        let m = responds w st in
+        let input : clients.Input = clients.Arrives m.from m.response in
+        m.is ∙ ap (λ o. client_input_to w c input o) (client_there view c here at w st)
+
+    pub client_receiver_sleeps : is_some here.client.life ≡ false → RefusesGroupEvent view (Deliver place) refusals.Down
+    client_receiver_sleeps down past w r =
+        let m = responds w r.represents in
+        comes_there w r.represents ∙ ap (λ q. after_client w c q) (down_hears (length w.servers) here.client here.client.life m.from m.response down)
+
+    hears_awake : (n : ℕ) (life : Option Life) (from : ℕ) (response : ClientResponse) → is_some life ≡ true → Awake (clients.step_of n here.client life (clients.Arrives from response))
+    hears_awake n (Some l) from response up = tt
+    hears_awake n None from response up = absurd (cc up)
+
+    pub client_receiver_awake : is_some here.client.life ≡ true → IsGroupAwake view (Deliver place)
+    client_receiver_awake up past w r =
+        let m = responds w r.represents in
+        awake_is (happens w (Deliver place)) (subst (λ q. Awake q) (sym (comes_there w r.represents)) (after_client_awake w c _ (hears_awake (length w.servers) here.client.life m.from m.response up)))

@@ -17,7 +17,7 @@ use rows::Refusal;
 use wire::Message;
 
 /// The desk is closed where the server does not lead.
-fn settle(raft: &Raft<Cluster>, desk: &mut ServerDesk)
+fn close_unless_leading(raft: &Raft<Cluster>, desk: &mut ServerDesk)
     ensures { desk.new ≡ where_leads (is_leader raft.now.server.mode) desk.old }
 {
     if raft.leader_term().is_none() {
@@ -49,7 +49,7 @@ impl Server {
         let heard = self
             .raft
             .receive_message(message, &mut outbox.frames, &mut self.desk);
-        settle(&self.raft, &mut self.desk);
+        close_unless_leading(&self.raft, &mut self.desk);
         heard
     }
 
@@ -70,7 +70,7 @@ impl Server {
         let stepped = self
             .raft
             .step_watched(input, &mut outbox.frames, &mut self.desk);
-        settle(&self.raft, &mut self.desk);
+        close_unless_leading(&self.raft, &mut self.desk);
         stepped
     }
 }

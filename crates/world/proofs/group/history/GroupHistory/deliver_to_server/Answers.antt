@@ -1,0 +1,40 @@
+use Rattle.std.proofs.Common.{◌≡◌, slice_get, inl, refl, ◌∙◌}
+use Rattle.group_model.specs.Worlds.{Deliver}
+use Rattle.server.specs.Handings.{FrameBytes}
+use Rattle.server.specs.declared.server_input.ServerInput.TheVariants as inputs
+use Rattle.world.specs.declared.group.event.Event.TheVariants as events
+use Rattle.world.specs.Events.{place_of}
+use Rattle.world.specs.GroupEvents.{group_events}
+use Rattle.world.specs.Inner.Inputs.{bytes_of}
+use Rattle.world.specs.Inner.GroupParts.{GroupHistoryView}
+use Rattle.world.proofs.GroupHistories.{one_group_event_more, member_fell, server_refused}
+use Rattle.world.proofs.group.history.GroupHistory.deliver_to_server.Goals as goal
+
+pub returns-in-NoMemory-clause-done : goal.returns-in-NoMemory-clause-done
+returns-in-NoMemory-clause-done c =
+    let bytes = bytes_of (slice_get c.self.inside.outbox.frames (place_of c.args.k)) in
+    let old = c.args.server.now in
+    let new = c.receive.new.self in
+    let lacks = rw c.in-NoMemory.is at c.in-Err.ensures.refused in
+    let left = rw c.in-NoMemory.is at c.in-Err.ensures.left in
+    rw (← c.self.view_is) (inl (record {
+      lacks = lacks;
+      fell = λ s r. member_fell old new s (FrameBytes bytes) refl (lacks s r) (left s r);
+      outbox = c.in-Err.ensures.unsent;
+      trace = one_group_event_more c.reserve.new.self.items c.push_reserved-in-NoMemory.new.self.items c.self.inside.trace.items (events.Server c.args.me inputs.Crash) c.in_ok-reserve.ensures.items c.push_reserved-in-NoMemory.ensures.items;
+      chain = refl;
+    }))
+
+pub returns-in_default : goal.returns-in_default
+returns-in_default c =
+    let place = place_of c.args.k in
+    let bytes = bytes_of (slice_get c.self.inside.outbox.frames place) in
+    let past : GroupHistoryView = record { outbox = c.self.inside.outbox; trace = group_events c.self.inside.trace.items; chain = c.self.inside.chain } in
+    let copied : c.deref.result.now ≡ bytes = c.deref.ensures.value ∙ c.in_ok-copy_frame.ensures in
+    let refused = rw copied at c.in-Err.ensures.refused in
+    let left = rw copied at c.in-Err.ensures.left in
+    let p = server_refused c.args.server.now c.receive.new.self past (FrameBytes bytes) (Deliver place) c.in-Err.cause c.in_default.not-NoMemory refused left in
+    rw (← c.self.view_is) (record {
+      same = c.receive.ensures.same;
+      done = (p.0, rw (c.in-Err.ensures.unsent, c.in_ok-reserve.ensures.items) refl, p.1);
+    })
