@@ -1,5 +1,4 @@
 use Rattle.std.proofs.Common.{subst}
-use Rattle.world.specs.GroupView.{GroupView}
 use Rattle.world.specs.GroupClaims.{OneGroupList}
 use Rattle.world.proofs.GroupRuns.{one_group_list}
 use Rattle.world.proofs.group.world.World.one_list.Goals as goal
