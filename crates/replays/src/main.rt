@@ -3,6 +3,7 @@
 #![tactic(auto)]
 
 mod folder;
+mod group;
 mod lines;
 mod requests;
 mod said;
@@ -21,5 +22,6 @@ fn main(rt: HostRuntime) -> io::Result<()> {
     lines::lines(&rt)?;
     lines::nodes(&rt)?;
     requests::settings(&rt)?;
-    requests::states(&rt)
+    requests::states(&rt)?;
+    group::groups(&rt)
 }

@@ -14,7 +14,9 @@ const ABOUT: &str =
 const STEPS: &str = "\
 The file is a JSON object with exactly these keys:
   \"servers\"  3 or 5
-  \"nodes\"    []
+  \"nodes\"    a list of at most 64 objects of exactly the keys \"class\", \"cpu\"
+             (MHz) and \"mem\" (MB), each number from 1 to 1000000; client C is
+             the agent of the C-th node, the first being 1
   \"key\"      0 to 18446744073709551615
   \"drop\"     0
   \"repeat\"   0
@@ -23,11 +25,15 @@ The file is a JSON object with exactly these keys:
     timeout S   server S has heard of no leader for too long
     beat S      server S, if it leads, sends the others what they may lack
     deliver K   the K-th message ever sent comes, the first being 1
-    crash S     server S stops, and keeps what it stored
-    restart S   server S begins again from what it stored
+    crash S, crash cC
+                server S or client C stops, and keeps what it stored
+    restart S, restart cC
+                server S or client C begins again from what it stored
     flow        messages in flight come, the first sent first, until none
                 is left or 10000 have come
     flow N      the same, for up to N of them
+    register C S
+                client C tells server S of its node
     request S put NAME PRIORITY GROUPS
                 a job is put to server S; its priority is from 1 to 100; GROUPS
                 are 1 to 8 of GROUP:COUNT:CLASS:CPU:MEMORY, joined by commas,
@@ -39,14 +45,33 @@ The file is a JSON object with exactly these keys:
     request S drain NODE slow
                 node NODE, 1 to 64, takes no more, and what it runs moves away;
                 with 'force' in place of 'slow', all at once
+    take S T    server S asks server T for an evaluation for its workers
+    work S      a worker of server S takes up the oldest answer that came
+    submit S T E TOKEN NAME VERSION SNAPSHOT STOPS PLACES
+                server S hands server T a plan for evaluation E, INDEX.SLOT,
+                under TOKEN, TERM.SERIAL; STOPS are ids of allocations,
+                INDEX.SLOT, and PLACES are GROUP:INDEX:NODE, joined by commas,
+                with '-' for none
+    finish S T E TOKEN STATUS SNAPSHOT
+                the work on E is over; STATUS is 'blocked', 'complete' or
+                'failed', with SNAPSHOT 0 unless blocked
+    nack S T E TOKEN
+                the work on E is given back
+    plan S      server S, if it leads, weighs the first plan that waits
+    lapse S E   at server S, if it leads, the work on E has lasted too long
+    free S      server S, if it leads, makes a blocked evaluation pending that
+                has room now
+    reap S      server S, if it leads, gives up an evaluation that was given
+                out three times
 
 Example:
   {\"servers\": 3, \"nodes\": [], \"key\": 0, \"drop\": 0, \"repeat\": 0,
    \"order\": \"sent\", \"steps\": [\"timeout 1\", \"flow\"]}
 
 For each step that is refused a line says so, with the number of the refusal,
-and the exit status is 1. Then there is a line for each server, and one with
-the number of events and of messages.";
+and the exit status is 1. Then there is a line for each server, for each
+allocation that is to run, and for each client, and one with the number of
+events and of messages.";
 
 const ENDS: &str = "\
 Example:

@@ -3,6 +3,7 @@ ghost use Rattle.std.specs.Prelude.{◌≤◌};
 ghost use Rattle.runner.specs.Faults.{IsStatus};
 
 use rows::NoMemory;
+use std::io;
 use thiserror::Error;
 
 /// A fault of the program. Its text is what the standard error is told, with its line's end.
@@ -46,5 +47,13 @@ impl Fault<'_> {
             Fault::NoMemory => 3,
             Fault::Output => 2,
         }
+    }
+}
+
+/// What was written, or that the output failed.
+pub(crate) fn said<'a>(written: io::Result<()>) -> Result<(), Fault<'a>> {
+    match written {
+        Ok(()) => Ok(()),
+        Err(_) => Err(Fault::Output),
     }
 }

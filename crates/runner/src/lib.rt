@@ -3,9 +3,11 @@
 #![tactic(auto)]
 
 pub mod command;
+mod ending;
 pub mod fault;
 mod flight;
 mod list;
+mod play;
 pub mod program;
 pub mod reading;
 pub mod request;
@@ -14,6 +16,8 @@ pub mod shelf;
 mod spelled;
 pub mod step;
 mod word;
+mod work_queue;
 mod worker;
+mod workers;
 
 pub use program::nomadsim;

@@ -1,0 +1,238 @@
+//! Groups of servers and clients: what comes for the servers' workers, and that a group's own trace
+//! leads to it again.
+use client_agent::ClientInput;
+use machine::Machine;
+use rows::{
+    Actor, AskedRequest, Delivery, EvalId, PlanResult, ServerId, Token, Work, WorkerRequest,
+    WorkerResponse,
+};
+use runner::reading::scenario;
+use runner::scenario::Scenario;
+use runner::step::{Step, read_step};
+use server::{Server, ServerInput};
+use std::alloc::Global;
+use std::rt::Files;
+use std::{fs, io};
+use world::{Done, Event, World};
+
+const GROUPS: [&str; 8] = [
+    "each-turn",
+    "finish-of-another-token",
+    "lines-of-workers",
+    "plan-survives-its-leader",
+    "take-before-the-desk-is-open",
+    "three-lapses",
+    "token-of-an-old-leader",
+    "two-plans-for-one-room",
+];
+
+fn asking(to: ServerId, request: WorkerRequest) -> ServerInput {
+    match request {
+        WorkerRequest::Take => ServerInput::Take(to),
+        WorkerRequest::Submit(plan) => ServerInput::Submit(to, plan),
+        WorkerRequest::Finish(eval, token, outcome) => {
+            ServerInput::Finish(to, eval, token, outcome)
+        }
+        WorkerRequest::Nack(eval, token) => ServerInput::Nack(to, eval, token),
+    }
+}
+
+fn stop(actor: Actor, server: ServerInput, client: ClientInput) -> Event {
+    match actor {
+        Actor::Server(id) => Event::Server(id, server),
+        Actor::Client(id) => Event::Client(id, client),
+    }
+}
+
+// The event of a step; none of a flow, nor of a worker's turn.
+fn event_of(step: Step) -> Option<Event> {
+    Some(match step {
+        Step::Deliver(message) => Event::Deliver(message),
+        Step::Timeout(server) => Event::Server(server, ServerInput::Timeout),
+        Step::Beat(server) => Event::Server(server, ServerInput::Beat),
+        Step::Plan(server) => Event::Server(server, ServerInput::PlanTurn),
+        Step::Free(server) => Event::Server(server, ServerInput::FreeTurn),
+        Step::Reap(server) => Event::Server(server, ServerInput::Reap),
+        Step::Lapse(server, eval) => Event::Server(server, ServerInput::Lapse(eval)),
+        Step::Crash(actor) => stop(actor, ServerInput::Crash, ClientInput::Crash),
+        Step::Restart(actor) => stop(actor, ServerInput::Restart, ClientInput::Restart),
+        Step::Register(client, server) => Event::Client(client, ClientInput::Register(server)),
+        Step::Request(server, request) => Event::Server(server, ServerInput::Request(request)),
+        Step::Ask(server, to, request) => Event::Server(server, asking(to, request)),
+        Step::Work(_) | Step::Flow(_) => return None,
+    })
+}
+
+fn say_lease(rt: &HostRuntime, eval: &EvalId, token: &Token) -> io::Result<()> {
+    let (index, slot) = (eval.index.get(), eval.slot);
+    let (term, serial) = (token.term.get(), token.serial.get());
+    print!(rt; " {index}.{slot} {term}.{serial}")
+}
+
+fn say_delivery(rt: &HostRuntime, delivery: &Delivery) -> io::Result<()> {
+    say_lease(rt, &delivery.eval, &delivery.token)?;
+    println!(rt; " wait {}", delivery.wait)
+}
+
+fn say_outcome(rt: &HostRuntime, plan: &PlanResult) -> io::Result<()> {
+    say_lease(rt, &plan.eval, &plan.token)?;
+    print!(rt; " last {} placed {} refused", plan.last, plan.placed.get())?;
+    for node in plan.refused.as_slice() {
+        print!(rt; " {node}")?;
+    }
+    println!(rt;)
+}
+
+fn say_asked(rt: &HostRuntime, asked: &AskedRequest) -> io::Result<()> {
+    match asked {
+        AskedRequest::Take => print!(rt; " take")?,
+        AskedRequest::Submit(eval, token) => {
+            print!(rt; " submit")?;
+            say_lease(rt, eval, token)?;
+        }
+        AskedRequest::Finish(eval, token) => {
+            print!(rt; " finish")?;
+            say_lease(rt, eval, token)?;
+        }
+        AskedRequest::Nack(eval, token) => {
+            print!(rt; " nack")?;
+            say_lease(rt, eval, token)?;
+        }
+    }
+    println!(rt;)
+}
+
+fn say_work(rt: &HostRuntime, to: ServerId, work: &Work) -> io::Result<()> {
+    print!(rt; "  to {to} from {}:", work.from)?;
+    match &work.response {
+        WorkerResponse::Delivered(None) => println!(rt; " none"),
+        WorkerResponse::Delivered(Some(delivery)) => say_delivery(rt, delivery),
+        WorkerResponse::PlanResult(plan) => say_outcome(rt, plan),
+        WorkerResponse::Refused(asked, reason) => {
+            print!(rt; " refused {}", reason.number())?;
+            say_asked(rt, asked)
+        }
+    }
+}
+
+// Says what came for the workers of the server that took message k.
+fn say_all(rt: &HostRuntime, world: &mut World, k: u64) -> io::Result<()> {
+    let work = world.take_work();
+    let Some(receiver) = world.receiver(k) else {
+        return Ok(());
+    };
+    match receiver {
+        Actor::Server(to) => {
+            for response in work.as_slice() {
+                say_work(rt, to, response)?;
+            }
+        }
+        Actor::Client(_) => {}
+    }
+    Ok(())
+}
+
+// Message k comes.
+fn come(rt: &HostRuntime, world: &mut World, k: u64) -> io::Result<bool> {
+    let is_taken = matches!(world.step(Event::Deliver(k)), Ok(Done::Taken));
+    say_all(rt, world, k)?;
+    Ok(is_taken)
+}
+
+// All messages come that did not come before: those past the first `seen`.
+fn flow(rt: &HostRuntime, world: &mut World, seen: &mut u64) -> io::Result<bool> {
+    let mut is_taken = true;
+    for _ in 0..100 {
+        if world.sent().len() as u64 <= *seen {
+            break;
+        }
+        *seen = seen.saturating_add(1);
+        is_taken = come(rt, world, *seen)? && is_taken;
+    }
+    Ok(is_taken)
+}
+
+fn take(rt: &HostRuntime, world: &mut World, seen: &mut u64, step: Step) -> io::Result<bool> {
+    match step {
+        Step::Deliver(k) => come(rt, world, k),
+        Step::Flow(_) => flow(rt, world, seen),
+        other => match event_of(other) {
+            Some(event) => Ok(matches!(world.step(event), Ok(Done::Taken))),
+            None => Ok(false),
+        },
+    }
+}
+
+// Plays a scenario's steps, and says whether each was taken.
+fn play(rt: &HostRuntime, world: &mut World, played: &Scenario) -> io::Result<bool> {
+    let mut seen = 0;
+    let mut is_taken = true;
+    for line in &played.steps {
+        is_taken = match read_step(rt.alloc(), line.as_str()) {
+            Ok(Some(step)) => take(rt, world, &mut seen, step)? && is_taken,
+            _ => false,
+        };
+    }
+    Ok(is_taken)
+}
+
+// Whether two servers have the same term, log's end, and replicated state.
+fn are_alike(alloc: Global, one: &Server, other: &Server) -> bool {
+    if one.term() != other.term() || one.last() != other.last() {
+        return false;
+    }
+    if one.applied() != other.applied() {
+        return false;
+    }
+    let (Some(one), Some(other)) = (one.state(), other.state()) else {
+        return one.state().is_none() && other.state().is_none();
+    };
+    let mut left = Vec::new(alloc);
+    let mut right = Vec::new(alloc);
+    one.save(&mut left).is_ok() && other.save(&mut right).is_ok() && left == right
+}
+
+// Whether a group's own trace leads to it again.
+fn replays(alloc: Global, world: &World, played: &Scenario) -> bool {
+    let servers = usize::from(played.settings.servers);
+    let Ok(again) = World::run(alloc, servers, &played.nodes, world.trace()) else {
+        return false;
+    };
+    let mut is_same = world.sent().len() == again.sent().len() && world.chain() == again.chain();
+    for place in 0..servers {
+        let Some(id) = ServerId::from_place(place) else {
+            return false;
+        };
+        is_same = match (world.server(id), again.server(id)) {
+            (Some(one), Some(other)) => are_alike(alloc, one, other) && is_same,
+            _ => false,
+        };
+    }
+    is_same
+}
+
+// Plays the scenario `NAME.json`, which has no worker's turn.
+fn group(rt: &HostRuntime, name: &str) -> io::Result<()> {
+    let alloc = rt.alloc();
+    let text = fs::read_to_string(rt, &format!(in alloc; "{name}.json")?)?;
+    println!(rt; "{name}")?;
+    let Ok(played) = scenario(alloc, &text) else {
+        return Ok(());
+    };
+    let servers = usize::from(played.settings.servers);
+    let Ok(mut world) = World::new(alloc, servers, &played.nodes) else {
+        return Ok(());
+    };
+    let is_taken = play(rt, &mut world, &played)?;
+    let is_same = replays(alloc, &world, &played);
+    println!(rt; "  {is_taken} {is_same} {}", world.chain())
+}
+
+/// Plays scenarios step by step, and says what comes for workers, whether each step was taken,
+/// whether the group's own trace leads to it again, and how many entries were applied.
+pub(crate) fn groups(rt: &HostRuntime) -> io::Result<()> {
+    for name in GROUPS {
+        group(rt, name)?;
+    }
+    Ok(())
+}
