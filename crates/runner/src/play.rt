@@ -34,6 +34,32 @@ fn restart(actor: Actor) -> Event {
     }
 }
 
+// What a server is told by its own step.
+fn at_server(server: ServerId, input: ServerInput) -> Option<Event> {
+    Some(Event::Server(server, input))
+}
+
+// The event that a step is; none of a worker's turn, nor of a flow.
+fn event_of(step: Step) -> Option<Event> {
+    match step {
+        Step::Deliver(message) => Some(Event::Deliver(message)),
+        Step::Timeout(server) => at_server(server, ServerInput::Timeout),
+        Step::Beat(server) => at_server(server, ServerInput::Beat),
+        Step::Plan(server) => at_server(server, ServerInput::PlanTurn),
+        Step::Free(server) => at_server(server, ServerInput::FreeTurn),
+        Step::Reap(server) => at_server(server, ServerInput::Reap),
+        Step::Lapse(server, eval) => at_server(server, ServerInput::Lapse(eval)),
+        Step::Crash(actor) => Some(crash(actor)),
+        Step::Restart(actor) => Some(restart(actor)),
+        Step::Register(client, server) => {
+            Some(Event::Client(client, ClientInput::Register(server)))
+        }
+        Step::Request(server, request) => at_server(server, ServerInput::Request(request)),
+        Step::Ask(server, to, request) => at_server(server, asking(to, request)),
+        Step::Work(_) | Step::Flow(_) => None,
+    }
+}
+
 impl Play {
     /// The group of a scenario, before its first step.
     pub(crate) fn new(alloc: Global, scenario: &Scenario) -> Result<Play, Refusal> {
@@ -53,27 +79,14 @@ impl Play {
     /// Takes a step, or says why it is refused.
     pub(crate) fn take(&mut self, step: Step) -> Result<(), Refusal> {
         match step {
-            Step::Deliver(message) => self.event(Event::Deliver(message)),
-            Step::Timeout(server) => self.input(server, ServerInput::Timeout),
-            Step::Beat(server) => self.input(server, ServerInput::Beat),
-            Step::Plan(server) => self.input(server, ServerInput::PlanTurn),
-            Step::Free(server) => self.input(server, ServerInput::FreeTurn),
-            Step::Reap(server) => self.input(server, ServerInput::Reap),
-            Step::Lapse(server, eval) => self.input(server, ServerInput::Lapse(eval)),
-            Step::Crash(actor) => self.event(crash(actor)),
-            Step::Restart(actor) => self.event(restart(actor)),
-            Step::Register(client, server) => {
-                self.event(Event::Client(client, ClientInput::Register(server)))
-            }
-            Step::Request(server, request) => self.input(server, ServerInput::Request(request)),
-            Step::Ask(server, to, request) => self.input(server, asking(to, request)),
             Step::Work(server) => self.work(server),
             Step::Flow(count) => Ok(self.flow(count.unwrap_or(FLOW))?),
+            other => match event_of(other) {
+                Some(event) => self.event(event),
+                // A worker's turn and a flow are taken above.
+                None => Ok(()),
+            },
         }
-    }
-
-    fn input(&mut self, server: ServerId, input: ServerInput) -> Result<(), Refusal> {
-        self.event(Event::Server(server, input))
     }
 
     fn event(&mut self, event: Event) -> Result<(), Refusal> {
@@ -122,14 +135,19 @@ impl Play {
         if !self.is_up(server) {
             return Ok(());
         }
-        let Some(member) = self.world.server(server) else {
-            return Ok(());
-        };
-        let (state, index) = member.snapshot()?;
-        match self.workers.turn(server, &state, index)? {
-            Some(input) => self.input(server, input),
+        match self.asked(server)? {
+            Some(input) => self.event(Event::Server(server, input)),
             None => Ok(()),
         }
+    }
+
+    // What a worker of a server asks next, at the server's snapshot.
+    fn asked(&mut self, server: ServerId) -> Result<Option<ServerInput>, Refusal> {
+        let Some(member) = self.world.server(server) else {
+            return Ok(None);
+        };
+        let (state, index) = member.snapshot()?;
+        Ok(self.workers.turn(server, &state, index)?)
     }
 
     fn flow(&mut self, count: u64) -> Result<(), NoMemory> {

@@ -102,7 +102,18 @@ impl Workers {
             return Ok(None);
         };
         let plans = self.plans_under(server, &work.response);
-        match next_step(self.alloc, state, index, &work.response, plans)? {
+        let step = next_step(self.alloc, state, index, &work.response, plans)?;
+        self.go_on(server, work, step)
+    }
+
+    // What a worker does with what it took up.
+    fn go_on(
+        &mut self,
+        server: ServerId,
+        work: Work,
+        step: Step,
+    ) -> Result<Option<ServerInput>, NoMemory> {
+        match step {
             Step::Later => {
                 self.waiting[server.place()].put_back(work)?;
                 Ok(None)
