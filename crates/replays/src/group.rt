@@ -1,15 +1,14 @@
 //! Groups of servers and clients: what comes for the servers' workers, and that a group's own trace
 //! leads to it again.
-use client_agent::ClientInput;
 use machine::Machine;
 use rows::{
-    Actor, AskedRequest, Delivery, EvalId, PlanResult, ServerId, Token, Work, WorkerRequest,
-    WorkerResponse,
+    Actor, AskedRequest, Delivery, EvalId, PlanResult, ServerId, Token, Work, WorkerResponse,
 };
+use runner::event::event_of;
 use runner::reading::scenario;
 use runner::scenario::Scenario;
 use runner::step::{Step, read_step};
-use server::{Server, ServerInput};
+use server::Server;
 use std::alloc::Global;
 use std::rt::Files;
 use std::{fs, io};
@@ -25,43 +24,6 @@ const GROUPS: [&str; 8] = [
     "token-of-an-old-leader",
     "two-plans-for-one-room",
 ];
-
-fn asking(to: ServerId, request: WorkerRequest) -> ServerInput {
-    match request {
-        WorkerRequest::Take => ServerInput::Take(to),
-        WorkerRequest::Submit(plan) => ServerInput::Submit(to, plan),
-        WorkerRequest::Finish(eval, token, outcome) => {
-            ServerInput::Finish(to, eval, token, outcome)
-        }
-        WorkerRequest::Nack(eval, token) => ServerInput::Nack(to, eval, token),
-    }
-}
-
-fn stop(actor: Actor, server: ServerInput, client: ClientInput) -> Event {
-    match actor {
-        Actor::Server(id) => Event::Server(id, server),
-        Actor::Client(id) => Event::Client(id, client),
-    }
-}
-
-// The event of a step; none of a flow, nor of a worker's turn.
-fn event_of(step: Step) -> Option<Event> {
-    Some(match step {
-        Step::Deliver(message) => Event::Deliver(message),
-        Step::Timeout(server) => Event::Server(server, ServerInput::Timeout),
-        Step::Beat(server) => Event::Server(server, ServerInput::Beat),
-        Step::Plan(server) => Event::Server(server, ServerInput::PlanTurn),
-        Step::Free(server) => Event::Server(server, ServerInput::FreeTurn),
-        Step::Reap(server) => Event::Server(server, ServerInput::Reap),
-        Step::Lapse(server, eval) => Event::Server(server, ServerInput::Lapse(eval)),
-        Step::Crash(actor) => stop(actor, ServerInput::Crash, ClientInput::Crash),
-        Step::Restart(actor) => stop(actor, ServerInput::Restart, ClientInput::Restart),
-        Step::Register(client, server) => Event::Client(client, ClientInput::Register(server)),
-        Step::Request(server, request) => Event::Server(server, ServerInput::Request(request)),
-        Step::Ask(server, to, request) => Event::Server(server, asking(to, request)),
-        Step::Work(_) | Step::Flow(_) => return None,
-    })
-}
 
 fn say_lease(rt: &HostRuntime, eval: &EvalId, token: &Token) -> io::Result<()> {
     let (index, slot) = (eval.index.get(), eval.slot);
@@ -156,9 +118,9 @@ fn take(rt: &HostRuntime, world: &mut World, seen: &mut u64, step: Step) -> io::
     match step {
         Step::Deliver(k) => come(rt, world, k),
         Step::Flow(_) => flow(rt, world, seen),
-        other => match event_of(other) {
-            Some(event) => Ok(matches!(world.step(event), Ok(Done::Taken))),
-            None => Ok(false),
+        other => match event_of(rt.alloc(), other) {
+            Ok(Some(event)) => Ok(matches!(world.step(event), Ok(Done::Taken))),
+            _ => Ok(false),
         },
     }
 }

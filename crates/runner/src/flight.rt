@@ -1,5 +1,5 @@
 //! Messages in flight.
-ghost use Rattle.std.specs.Prelude.{◌≡◌, ◌++◌, [], OnOk, max, option_to_list};
+ghost use Rattle.std.specs.Prelude.{◌≡◌, ◌++◌, ◌∷◌, [], OnOk, max, MatchOption};
 ghost use Rattle.runner.specs.Flight.{newly_sent};
 
 use rows::NoMemory;
@@ -49,9 +49,10 @@ impl Flight {
         Ok(())
     }
 
-    /// Takes the message at the front.
+    /// Takes the message at the front; none where none is in flight.
     pub(crate) fn take(&mut self) -> Option<u64>
-        ensures front { self.old.waiting ≡ option_to_list result ++ self.new.waiting }
+        ensures front { MatchOption result ((self.old.waiting ≡ []) × (self.new.waiting ≡ []))
+            (λ message. self.old.waiting ≡ message ∷ self.new.waiting) }
         ensures seen { self.new.seen ≡ self.old.seen }
     {
         self.waiting.pop_front()

@@ -4,6 +4,7 @@
 
 pub mod command;
 mod ending;
+pub mod event;
 pub mod fault;
 mod flight;
 mod list;

@@ -1,9 +1,9 @@
 //! A scenario's group, with its messages in flight and its workers; and its steps, one at a time.
+use crate::event::event_of;
 use crate::flight::Flight;
 use crate::scenario::Scenario;
 use crate::step::Step;
-use crate::workers::{Workers, asking};
-use client_agent::ClientInput;
+use crate::workers::Workers;
 use rows::{Actor, NoMemory, Refusal, Sequence, ServerId, Work};
 use server::ServerInput;
 use std::alloc::Global;
@@ -15,49 +15,10 @@ const FLOW: u64 = 10_000;
 /// A group, its messages in flight, and its workers.
 #[derive(Drop)]
 pub(crate) struct Play {
+    alloc: Global,
     world: World,
     flight: Flight,
     workers: Workers,
-}
-
-fn crash(actor: Actor) -> Event {
-    match actor {
-        Actor::Server(server) => Event::Server(server, ServerInput::Crash),
-        Actor::Client(client) => Event::Client(client, ClientInput::Crash),
-    }
-}
-
-fn restart(actor: Actor) -> Event {
-    match actor {
-        Actor::Server(server) => Event::Server(server, ServerInput::Restart),
-        Actor::Client(client) => Event::Client(client, ClientInput::Restart),
-    }
-}
-
-// What a server is told by its own step.
-fn at_server(server: ServerId, input: ServerInput) -> Option<Event> {
-    Some(Event::Server(server, input))
-}
-
-// The event that a step is; none of a worker's turn, nor of a flow.
-fn event_of(step: Step) -> Option<Event> {
-    match step {
-        Step::Deliver(message) => Some(Event::Deliver(message)),
-        Step::Timeout(server) => at_server(server, ServerInput::Timeout),
-        Step::Beat(server) => at_server(server, ServerInput::Beat),
-        Step::Plan(server) => at_server(server, ServerInput::PlanTurn),
-        Step::Free(server) => at_server(server, ServerInput::FreeTurn),
-        Step::Reap(server) => at_server(server, ServerInput::Reap),
-        Step::Lapse(server, eval) => at_server(server, ServerInput::Lapse(eval)),
-        Step::Crash(actor) => Some(crash(actor)),
-        Step::Restart(actor) => Some(restart(actor)),
-        Step::Register(client, server) => {
-            Some(Event::Client(client, ClientInput::Register(server)))
-        }
-        Step::Request(server, request) => at_server(server, ServerInput::Request(request)),
-        Step::Ask(server, to, request) => at_server(server, asking(to, request)),
-        Step::Work(_) | Step::Flow(_) => None,
-    }
 }
 
 impl Play {
@@ -65,6 +26,7 @@ impl Play {
     pub(crate) fn new(alloc: Global, scenario: &Scenario) -> Result<Play, Refusal> {
         let servers = usize::from(scenario.settings.servers);
         Ok(Play {
+            alloc,
             world: World::new(alloc, servers, &scenario.nodes)?,
             flight: Flight::new(alloc),
             workers: Workers::new(alloc),
@@ -81,7 +43,7 @@ impl Play {
         match step {
             Step::Work(server) => self.work(server),
             Step::Flow(count) => Ok(self.flow(count.unwrap_or(FLOW))?),
-            other => match event_of(other) {
+            other => match event_of(self.alloc, other)? {
                 Some(event) => self.event(event),
                 // A worker's turn and a flow are taken above.
                 None => Ok(()),
@@ -130,13 +92,13 @@ impl Play {
     }
 
     // A worker of a server takes up the oldest answer that came for it. A server that is down has
-    // no worker.
+    // no worker. The server's state is copied only where there is something to take up.
     fn work(&mut self, server: ServerId) -> Result<(), Refusal> {
-        if !self.is_up(server) {
+        if !self.is_up(server) || self.workers.is_idle(server) {
             return Ok(());
         }
         match self.asked(server)? {
-            Some(input) => self.event(Event::Server(server, input)),
+            Some(input) => self.event(Event::server(self.alloc, server, input)?),
             None => Ok(()),
         }
     }

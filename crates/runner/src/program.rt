@@ -85,10 +85,11 @@ fn run_scenario<'a, F: Shelf, W: Write>(
     ensures { IfOk result (λ status. status ≤ 1) }
 {
     let scenario = load(alloc, shelf, file)?;
-    let steps = steps_of(alloc, &scenario)?;
+    check_steps(alloc, &scenario)?;
     let mut play = begin(alloc, &scenario)?;
     let mut status = 0;
-    for (step, line) in steps.into_iter().zip(scenario.steps.iter()) {
+    for line in &scenario.steps {
+        let step = step_of(alloc, line.as_str())?;
         if let Err(refusal) = play.take(step) {
             print_refusal(out, refusal, line.as_str())?;
             status = 1;
@@ -121,17 +122,20 @@ fn is_served(settings: &Settings) -> bool {
     settings.drop == 0 && settings.repeat == 0 && settings.order == Order::Sent
 }
 
-fn steps_of<'a>(alloc: Global, scenario: &Scenario) -> Result<Vec<Step>, Fault<'a>> {
-    let mut steps = Vec::new(alloc);
-    for line in &scenario.steps {
-        let Some(step) = read_step(alloc, line.as_str())? else {
-            return Err(Fault::BadScenario);
-        };
-        if steps.push(step).is_err() {
-            return Err(Fault::NoMemory);
-        }
+fn step_of<'a>(alloc: Global, line: &str) -> Result<Step, Fault<'a>> {
+    match read_step(alloc, line)? {
+        Some(step) => Ok(step),
+        None => Err(Fault::BadScenario),
     }
-    Ok(steps)
+}
+
+// Each line is read before the first step is taken, and once more when its step is: a step may hold
+// a plan, so a list of them all would cost more than the lines do.
+fn check_steps<'a>(alloc: Global, scenario: &Scenario) -> Result<(), Fault<'a>> {
+    for line in &scenario.steps {
+        let _step = step_of(alloc, line.as_str())?;
+    }
+    Ok(())
 }
 
 fn begin<'a>(alloc: Global, scenario: &Scenario) -> Result<Play, Fault<'a>> {

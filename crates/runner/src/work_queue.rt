@@ -1,5 +1,5 @@
 //! What waits for one server's workers.
-ghost use Rattle.std.specs.Prelude.{◌≡◌, ◌++◌, ◌∷◌, [], OnOk, option_to_list};
+ghost use Rattle.std.specs.Prelude.{◌≡◌, ◌≢◌, ◌++◌, ◌∷◌, [], OnOk, MatchBool, MatchOption};
 
 use rows::{NoMemory, Work};
 use std::alloc::Global;
@@ -48,9 +48,17 @@ impl WorkQueue {
         Ok(())
     }
 
-    /// Takes the oldest.
+    /// Whether nothing waits.
+    pub(crate) fn is_empty(&self) -> bool
+        ensures { MatchBool result (self.now ≡ []) (self.now ≢ []) }
+    {
+        self.items.is_empty()
+    }
+
+    /// Takes the oldest; none where nothing waits.
     pub(crate) fn take(&mut self) -> Option<Work>
-        ensures { self.old ≡ option_to_list result ++ self.new }
+        ensures { MatchOption result ((self.old ≡ []) × (self.new ≡ []))
+            (λ work. self.old ≡ work ∷ self.new) }
     {
         self.items.pop_front()
     }

@@ -1,4 +1,5 @@
 //! The workers of each server.
+use crate::event::asking;
 use crate::work_queue::WorkQueue;
 use fsm_state::Cluster;
 use rows::{
@@ -39,18 +40,6 @@ fn lease_of(server: ServerId, response: &WorkerResponse) -> Option<Leased> {
     }
 }
 
-/// What a server's workers ask of another server, or of their own, as the input of their server.
-pub(crate) fn asking(to: ServerId, request: WorkerRequest) -> ServerInput {
-    match request {
-        WorkerRequest::Take => ServerInput::Take(to),
-        WorkerRequest::Submit(plan) => ServerInput::Submit(to, plan),
-        WorkerRequest::Finish(eval, token, outcome) => {
-            ServerInput::Finish(to, eval, token, outcome)
-        }
-        WorkerRequest::Nack(eval, token) => ServerInput::Nack(to, eval, token),
-    }
-}
-
 /// What came for the workers of each server and was not taken up, the oldest first; and how many
 /// plans they submitted under each delivery.
 #[derive(Drop)]
@@ -87,6 +76,11 @@ impl Workers {
     /// Forgets what waits for a server's workers. How many plans they submitted stays known.
     pub(crate) fn forget(&mut self, server: ServerId) {
         self.waiting[server.place()].clear();
+    }
+
+    /// Whether nothing waits for a server's workers.
+    pub(crate) fn is_idle(&self, server: ServerId) -> bool {
+        self.waiting[server.place()].is_empty()
     }
 
     /// A worker of a server takes up the oldest that waits, at its server's state of this index,

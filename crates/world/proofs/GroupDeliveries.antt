@@ -155,7 +155,7 @@ module _ (w : World) (i : ℕ) (s : Member) (here : slice_get w.servers i ≡ So
       let same : message.to ≡ i = same_server to in
       record {
         happens = ap (λ k. message_to w k message (slice_get w.servers k)) same ∙ ap (λ o. message_to w i message o) here;
-        work = ap (λ k. log_work w k (Raft message) (slice_get w.servers k)) same ∙ ap (λ o. log_work w i (Raft message) o) here;
+        work = ap (λ k. log_work w k message (slice_get w.servers k)) same ∙ ap (λ o. log_work w i message o) here;
         crash = ap (λ k. Some (AtServer k servers.Crash)) same;
       }
   is_for (Service (BetweenServers from j message)) to = for_input (BetweenServers from j message) j (same_server to) refl refl refl

@@ -42,7 +42,7 @@ use Rattle.world.specs.GroupSteps.{RefusesGroupEvent, IsGroupAwake}
 use Rattle.world.specs.Inner.GroupInputs.{IsSentTo, is_frame, is_restart_input, is_client_frame, is_client_restart}
 use Rattle.world.specs.Inner.GroupParts.{GroupStepped}
 use Rattle.world.proofs.Zips.{zip_at, zip_none}
-use Rattle.world.proofs.Sleeping.{Awake}
+use Rattle.world.proofs.Sleeping.{Awake, awake_is, awake_if, asleep, awake_role, up_awake}
 use Rattle.world.proofs.GroupServers.{same_group}
 use Rattle.world.proofs.GroupOwn.{woken}
 use Rattle.world.proofs.GroupDeliveries.{same_server, Comes, comes, is_for, down_takes, for_client, down_hears}
@@ -53,56 +53,11 @@ use Rattle.world.proofs.GroupDeliveries.{same_server, Comes, comes, is_for, down
 pub refused_at_once : (view : GroupView) (e : Event) (r : Refusal) → r ≢ refusals.NoMemory → RefusesGroupEvent view e r → GroupStepped view e (Err r) view
 refused_at_once view e r other says = record { ok = tt; err = same_group view; cause = λ _. says; memory = λ lacks. absurd (other lacks) }
 
--- ---- what a server says that it does
-
-asleep : (mode : Mode) → is_some (role_of mode) ≡ false → is_up mode ≡ false
-asleep Down h = refl
-asleep Follower h = absurd (cc)
-asleep (Candidate votes) h = absurd (cc)
-asleep (Leader next match) h = absurd (cc)
-
-awake_role : (mode : Mode) → is_some (role_of mode) ≡ true → is_up mode ≡ true
-awake_role Down h = absurd (cc)
-awake_role Follower h = refl
-awake_role (Candidate votes) h = refl
-awake_role (Leader next match) h = refl
-
--- ---- no refusal for being down
-
-awake_is : {A : Type 0} (q : Result A Refusal) → Awake q → q ≢ Err refusals.Down
-awake_is (Ok a) h e = cc
-awake_is (Err r) h e = h (cc)
-
-awake_if : {A : Type 0} (b : Bool) (x y : Result A Refusal) → Awake x → Awake y → Awake (if b then x else y)
-awake_if true x y f g = f
-awake_if false x y f g = g
-
-own_is_no_down : (r : Refusal) → IsMachineRefusal r → r ≢ refusals.Down
-own_is_no_down refusals.Down h e = h
-own_is_no_down _ h e = absurd (cc)
-
-unless_awake : (turn : rafts.Turn Command) (q : Option Refusal) → ((r : Refusal) → q ≡ Some r → r ≢ refusals.Down) → Awake (raft_steps.unless q turn)
-unless_awake turn None h = tt
-unless_awake turn (Some r) h = h r refl
-
-admission_awake : (s : Server Command) (command : Command) (b : Bool) (r : Refusal) → (if b then cluster_meaning.admission (state_after cluster_meaning s.log) command else Some refusals.Exhausted) ≡ Some r → r ≢ refusals.Down
-admission_awake s command true r h = let law = cluster_lawful in own_is_no_down r (law.refusal_is_its_own (state_after cluster_meaning s.log) command r h)
-admission_awake s command false r h = λ e. cc
-
-log_acts : (n me : ℕ) (s : Server Command) (x : raft_steps.Input Command) → Awake (raft_steps.acts cluster_meaning n me s x)
-log_acts n me s (raft_steps.Arrives message) = awake_if (nat_lt message.from n) _ _ tt (λ e. cc)
-log_acts n me s raft_steps.Timeout = awake_if (is_leader s.mode) _ _ tt (awake_if (nat_lt s.term MAX && nat_lt (length s.log) MAX) _ _ tt (λ e. cc))
-log_acts n me s raft_steps.Beat = tt
-log_acts n me s (raft_steps.Propose command) = awake_if (is_leader s.mode) _ _ (unless_awake _ _ (λ r h. admission_awake s command (nat_lt (length s.log) MAX) r h)) (λ e. cc)
-log_acts n me s raft_steps.Compact = tt
-log_acts n me s raft_steps.Crash = tt
-log_acts n me s raft_steps.Restart = λ e. cc
+-- ---- a server that is up does not refuse for being down
 
 logged_awake : (s : Member) (act : Act) (q : Result (rafts.Turn Command) Refusal) → Awake q → Awake (logged s act q)
 logged_awake s act (Ok turn) h = tt
 logged_awake s act (Err r) h = h
-
--- ---- a server that is up
 
 open_awake : (d : Option Desk) → Awake (open_or d)
 open_awake None = λ e. cc
@@ -157,7 +112,7 @@ module _ (n me : ℕ) (s : Member) where
 
   module _ (up : is_up s.raft.mode ≡ true) where
     log_awake : (x : raft_steps.Input Command) → Awake (raft_steps.step cluster_meaning n me s.raft x)
-    log_awake x = rw up (log_acts n me s.raft x)
+    log_awake x = up_awake cluster_meaning cluster_lawful n me s.raft x up
 
     asks_awake : (act : Act) (ask : Option Ask) → Awake (asks_log n me s act ask)
     asks_awake act None = tt

@@ -32,15 +32,15 @@ abbrev pub Awake : {A : Type 0} → Result A Refusal → Type 0
 Awake (Ok a) = Unit {0}
 Awake (Err r) = r ≢ refusals.Down
 
-awake_is : {A : Type 0} (q : Result A Refusal) → Awake q → q ≢ Err refusals.Down
+pub awake_is : {A : Type 0} (q : Result A Refusal) → Awake q → q ≢ Err refusals.Down
 awake_is (Ok a) h e = cc
 awake_is (Err r) h e = h (cc)
 
-awake_if : {A : Type 0} (b : Bool) (x y : Result A Refusal) → Awake x → Awake y → Awake (if b then x else y)
+pub awake_if : {A : Type 0} (b : Bool) (x y : Result A Refusal) → Awake x → Awake y → Awake (if b then x else y)
 awake_if true x y f g = f
 awake_if false x y f g = g
 
-own_is_no_down : (r : Refusal) → IsMachineRefusal r → r ≢ refusals.Down
+pub own_is_no_down : (r : Refusal) → IsMachineRefusal r → r ≢ refusals.Down
 own_is_no_down refusals.Down h e = h
 own_is_no_down _ h e = absurd (cc)
 
@@ -62,7 +62,7 @@ module _ {S C : Type 0} (m : Meaning S C) (law : LawfulMachine m) (n me : ℕ) (
   acts_awake Crash = tt
   acts_awake Restart = λ e. cc
 
-  up_awake : (x : Input C) → is_up s.mode ≡ true → Awake (step m n me s x)
+  pub up_awake : (x : Input C) → is_up s.mode ≡ true → Awake (step m n me s x)
   up_awake x up = rw up (acts_awake x)
 
   restart_awake : Awake (step m n me s Restart)
@@ -73,13 +73,13 @@ module _ {S C : Type 0} (m : Meaning S C) (law : LawfulMachine m) (n me : ℕ) (
   after_awake w i (Err r) h = h
 
 -- what a server says that it does, where it does nothing
-asleep : (mode : Mode) → is_some (role_of mode) ≡ false → is_up mode ≡ false
+pub asleep : (mode : Mode) → is_some (role_of mode) ≡ false → is_up mode ≡ false
 asleep Down h = refl
 asleep Follower h = absurd (cc)
 asleep (Candidate votes) h = absurd (cc)
 asleep (Leader next match) h = absurd (cc)
 
-awake_role : (mode : Mode) → is_some (role_of mode) ≡ true → is_up mode ≡ true
+pub awake_role : (mode : Mode) → is_some (role_of mode) ≡ true → is_up mode ≡ true
 awake_role Down h = absurd (cc)
 awake_role Follower h = refl
 awake_role (Candidate votes) h = refl

@@ -1,8 +1,10 @@
 -- The events of the program's group as those of the definitions, and what workers get by one.
 use Rattle.std.specs.Prelude.{ℕ, Option, Some, None, Result, Ok, Err, List, [], length, map, slice_get}
+use Rattle.rows.specs.declared.command.Command.{Command}
 use Rattle.rows.specs.declared.refusal.Refusal.{Refusal}
 use Rattle.rows.specs.declared.worker.Work.{Work}
 use Rattle.rows.specs.declared.worker.WorkerRequest.TheVariants.{Take}
+use Rattle.raft_model.specs.Messages.{Message}
 use Rattle.group_model.specs.Messages.{GroupMessage, Raft, Service, ServiceMessage, BetweenServers, ToServer, ToClient, Asks, Listing}
 use Rattle.group_model.specs.Inputs as servers
 use Rattle.group_model.specs.Clients as clients
@@ -29,8 +31,8 @@ client_input client_inputs.Restart = clients.Restart
 
 abbrev pub group_event : GroupEvent → Event
 group_event (events.Deliver k) = Deliver (place_of k)
-group_event (events.Server server input) = AtServer server (server_input (handing input))
-group_event (events.Client client input) = AtClient client (client_input input)
+group_event (events.Server server input) = AtServer server (server_input (handing input.value))
+group_event (events.Client client input) = AtClient client (client_input input.value)
 
 abbrev pub group_events : List GroupEvent → List Event
 group_events = map group_event
@@ -46,9 +48,10 @@ abbrev pub input_work : World → ℕ → servers.Input → Option Member → Li
 input_work w i input None = []
 input_work w i input (Some s) = turn_work (step (length w.servers) i s input)
 
-abbrev pub log_work : World → ℕ → GroupMessage → Option Member → List Work
-log_work w i (Raft message) (Some s) = turn_work (hears_log (length w.servers) i s message)
-log_work w i _ _ = []
+-- where a server gets a message of the log
+abbrev pub log_work : World → ℕ → Message Command → Option Member → List Work
+log_work w i message None = []
+log_work w i message (Some s) = turn_work (hears_log (length w.servers) i s message)
 
 abbrev pub service_work : World → ServiceMessage → List Work
 service_work w (BetweenServers from to message) = input_work w to (servers.Arrives (BetweenServers from to message)) (slice_get w.servers to)
@@ -57,7 +60,7 @@ service_work w (ToClient server client response) = []
 
 abbrev pub message_work : World → Option GroupMessage → List Work
 message_work w None = []
-message_work w (Some (Raft message)) = log_work w message.to (Raft message) (slice_get w.servers message.to)
+message_work w (Some (Raft message)) = log_work w message.to message (slice_get w.servers message.to)
 message_work w (Some (Service message)) = service_work w message
 
 abbrev pub work_of : World → Event → List Work

@@ -2,9 +2,10 @@
 ghost use Rattle.std.specs.Prelude.{◌≡◌, IfOk};
 ghost use Rattle.rows.specs.Fits.{CommandFits};
 ghost use Rattle.rows.specs.Requests.{command_of};
+ghost use Rattle.group_model.specs.Worlds.{AtServer, AtClient};
 ghost use Rattle.group_safety.specs.Limits.{InputFits};
 ghost use Rattle.server.specs.Handings.{handing};
-ghost use Rattle.world.specs.GroupEvents.{server_input};
+ghost use Rattle.world.specs.GroupEvents.{server_input, client_input, group_event};
 ghost use Rattle.world.specs.Inner.GroupInputs.{is_frame, is_restart_input, is_client_frame, is_client_restart};
 
 use client_agent::ClientInput;
@@ -13,27 +14,47 @@ use server::ServerInput;
 use std::alloc::Global;
 
 /// What can happen to a group. A loss is a message that is never delivered, a repeat one that is
-/// delivered twice.
+/// delivered twice. An input stands apart, so that each event costs two words.
 #[derive(Drop)]
 pub enum Event {
     /// The k-th message of all that were ever sent, from 1, comes to its receiver.
     Deliver(u64),
     /// A server takes an input of its own, which is no frame.
-    Server(ServerId, ServerInput),
+    Server(ServerId, Box<ServerInput>),
     /// A client takes an input of its own, which is no frame.
-    Client(ClientId, ClientInput),
+    Client(ClientId, Box<ClientInput>),
 }
 
 impl Event {
+    /// A server takes this input.
+    pub fn server(alloc: Global, server: ServerId, input: ServerInput) -> Result<Event, NoMemory>
+        ensures { IfOk result (λ event.
+            group_event event ≡ AtServer server (server_input (handing input))) }
+    {
+        Ok(Event::Server(server, Box::new(alloc, input)?))
+    }
+
+    /// A client takes this input.
+    pub fn client(alloc: Global, client: ClientId, input: ClientInput) -> Result<Event, NoMemory>
+        ensures { IfOk result (λ event.
+            group_event event ≡ AtClient client (client_input input)) }
+    {
+        Ok(Event::Client(client, Box::new(alloc, input)?))
+    }
+
     /// The same event once more.
     pub fn try_clone(&self, alloc: Global) -> Result<Event, NoMemory>
-        ensures { IfOk result (λ again. again ≡ self.now) }
+        ensures { IfOk result (λ again. group_event again ≡ group_event self.now) }
     {
-        Ok(match self {
-            Event::Deliver(k) => Event::Deliver(*k),
-            Event::Server(server, input) => Event::Server(*server, input.try_clone(alloc)?),
-            Event::Client(client, input) => Event::Client(*client, input.try_clone(alloc)?),
-        })
+        match self {
+            Event::Deliver(k) => Ok(Event::Deliver(*k)),
+            Event::Server(server, input) => {
+                Event::server(alloc, *server, input.as_ref().try_clone(alloc)?)
+            }
+            Event::Client(client, input) => {
+                Event::client(alloc, *client, input.as_ref().try_clone(alloc)?)
+            }
+        }
     }
 }
 

@@ -1,5 +1,5 @@
 //! What is kept beside the servers and clients of a group, and what one event changes.
-ghost use Rattle.std.specs.Prelude.{◌≡◌, max, [], slice_get, IfSome, OnSome, IfNone, OnOk};
+ghost use Rattle.std.specs.Prelude.{◌≡◌, max, [], slice_get, IfSome, OnSome, IfNone, OnOk, IfOk};
 ghost use Rattle.group_model.specs.Members.{Member};
 ghost use Rattle.group_model.specs.Worlds.{Deliver, AtServer, AtClient};
 ghost use Rattle.server.specs.Handings.{FrameBytes, handing};
@@ -29,6 +29,9 @@ pub(crate) struct GroupHistory {
     delivered: Vec<u8>,
     trace: Vec<Event>,
     chain: Index,
+    // Room for the crash of a server, or a client, that finds no memory for a frame.
+    server_room: Option<Box<ServerInput>>,
+    client_room: Option<Box<ClientInput>>,
 }
 
 impl Model for GroupHistory {
@@ -72,6 +75,24 @@ fn copy_frame(sent: &Frames, k: u64, frame: &mut Vec<u8>) -> Result<(), NoMemory
     Ok(())
 }
 
+/// Room with this in it: what is there, or else new.
+fn take_room<T: Drop>(
+    alloc: Global,
+    room: &mut Option<Box<T>>,
+    value: T,
+) -> Result<Box<T>, NoMemory>
+    ensures { IfOk result (λ taken. taken.value ≡ value) }
+{
+    match std::mem::replace(room, None) {
+        Some(found) => {
+            let mut taken = found;
+            Box::replace(&mut taken, value);
+            Ok(taken)
+        }
+        None => Ok(Box::new(alloc, value)?),
+    }
+}
+
 impl GroupHistory {
     /// Before the first event.
     pub(crate) fn new(alloc: Global) -> GroupHistory
@@ -86,6 +107,8 @@ impl GroupHistory {
             delivered: Vec::new(alloc),
             trace: Vec::new(alloc),
             chain: Index::ZERO,
+            server_room: None,
+            client_room: None,
         }
     }
 
@@ -129,15 +152,16 @@ impl GroupHistory {
         &mut self,
         server: &mut Server,
         me: ServerId,
-        input: ServerInput,
+        input: Box<ServerInput>,
     ) -> Result<Done, Refusal>
         ensures same { (server.new.raft.me ≡ server.old.raft.me)
             × (server.new.raft.size ≡ server.old.raft.size) }
-        ensures done { ServerDone server.old self.old (handing input)
-            (AtServer me (server_input (handing input))) me result server.new self.new }
+        ensures done { ServerDone server.old self.old (handing input.value)
+            (AtServer me (server_input (handing input.value))) me result server.new self.new }
     {
         self.trace.reserve(1)?;
-        let again = input.try_clone(self.alloc)?;
+        let given = input.as_ref();
+        let again = given.try_clone(self.alloc)?;
         match server.step(again, &mut self.outbox) {
             Ok(()) => {
                 self.chain = longer(self.chain, server);
@@ -146,11 +170,12 @@ impl GroupHistory {
             }
             Err(cause) => match cause {
                 Refusal::NoMemory => {
-                    if is_restart(&input) {
+                    if is_restart(given) {
                         return Ok(Done::Crashed);
                     }
-                    self.trace
-                        .push_reserved(Event::Server(me, ServerInput::Crash));
+                    let mut crash = input;
+                    Box::replace(&mut crash, ServerInput::Crash);
+                    self.trace.push_reserved(Event::Server(me, crash));
                     Ok(Done::Crashed)
                 }
                 other => Err(other),
@@ -174,19 +199,23 @@ impl GroupHistory {
     {
         self.trace.reserve(1)?;
         copy_frame(&self.outbox.frames, k, &mut self.delivered)?;
+        let crash = take_room(self.alloc, &mut self.server_room, ServerInput::Crash)?;
         match server.receive(&self.delivered, &mut self.outbox) {
             Ok(()) => {
+                self.server_room = Some(crash);
                 self.chain = longer(self.chain, server);
                 self.trace.push_reserved(Event::Deliver(k));
                 Ok(Done::Taken)
             }
             Err(cause) => match cause {
                 Refusal::NoMemory => {
-                    self.trace
-                        .push_reserved(Event::Server(me, ServerInput::Crash));
+                    self.trace.push_reserved(Event::Server(me, crash));
                     Ok(Done::Crashed)
                 }
-                other => Err(other),
+                other => {
+                    self.server_room = Some(crash);
+                    Err(other)
+                }
             },
         }
     }
@@ -198,14 +227,14 @@ impl GroupHistory {
         &mut self,
         client: &mut Agent,
         me: ClientId,
-        input: ClientInput,
+        input: Box<ClientInput>,
     ) -> Result<Done, Refusal>
         ensures same { client.new.size ≡ client.old.size }
-        ensures done { ClientDone client.old self.old input (AtClient me (client_input input)) me
+        ensures done { ClientDone client.old self.old input.value (AtClient me (client_input input.value)) me
             result client.new self.new }
     {
         self.trace.reserve(1)?;
-        let again = input.try_clone(self.alloc)?;
+        let again = input.as_ref().try_clone(self.alloc)?;
         match client.step(again, &mut self.outbox.frames) {
             Ok(()) => {
                 self.trace.push_reserved(Event::Client(me, input));
@@ -213,8 +242,9 @@ impl GroupHistory {
             }
             Err(cause) => match cause {
                 Refusal::NoMemory => {
-                    self.trace
-                        .push_reserved(Event::Client(me, ClientInput::Crash));
+                    let mut crash = input;
+                    Box::replace(&mut crash, ClientInput::Crash);
+                    self.trace.push_reserved(Event::Client(me, crash));
                     Ok(Done::Crashed)
                 }
                 other => Err(other),
@@ -237,18 +267,22 @@ impl GroupHistory {
     {
         self.trace.reserve(1)?;
         copy_frame(&self.outbox.frames, k, &mut self.delivered)?;
+        let crash = take_room(self.alloc, &mut self.client_room, ClientInput::Crash)?;
         match client.receive(&self.delivered, &mut self.outbox.frames) {
             Ok(()) => {
+                self.client_room = Some(crash);
                 self.trace.push_reserved(Event::Deliver(k));
                 Ok(Done::Taken)
             }
             Err(cause) => match cause {
                 Refusal::NoMemory => {
-                    self.trace
-                        .push_reserved(Event::Client(me, ClientInput::Crash));
+                    self.trace.push_reserved(Event::Client(me, crash));
                     Ok(Done::Crashed)
                 }
-                other => Err(other),
+                other => {
+                    self.client_room = Some(crash);
+                    Err(other)
+                }
             },
         }
     }

@@ -142,14 +142,15 @@ fn lacks_memory(done: &Result<Done, Refusal>) -> bool
 
 impl World {
     /// A server takes an input of its own.
-    fn hand_server(&mut self, me: ServerId, input: ServerInput) -> Result<Done, Refusal>
+    fn hand_server(&mut self, me: ServerId, input: Box<ServerInput>) -> Result<Done, Refusal>
         requires member { me < length self.old.servers }
-        requires own { is_frame (handing input) ≡ false }
-        requires awake { IsGroupAwake self.old (AtServer me (server_input (handing input))) }
-        ensures { GroupStepped self.old (AtServer me (server_input (handing input))) result self.new }
+        requires own { is_frame (handing input.value) ≡ false }
+        requires awake { IsGroupAwake self.old (AtServer me (server_input (handing input.value))) }
+        ensures { GroupStepped self.old (AtServer me (server_input (handing input.value))) result self.new }
     {
         limits_are_kept();
-        ranges(&input);
+        senders_are_members();
+        ranges(input.as_ref());
         let server = &mut self.servers[me.place()];
         self.history.take_input(server, me, input)
     }
@@ -170,12 +171,14 @@ impl World {
     }
 
     /// A client takes an input of its own.
-    fn hand_client(&mut self, me: ClientId, input: ClientInput) -> Result<Done, Refusal>
+    fn hand_client(&mut self, me: ClientId, input: Box<ClientInput>) -> Result<Done, Refusal>
         requires member { me ≤ length self.old.clients }
-        requires own { is_client_frame input ≡ false }
-        requires awake { IsGroupAwake self.old (AtClient me (client_input input)) }
-        ensures { GroupStepped self.old (AtClient me (client_input input)) result self.new }
+        requires own { is_client_frame input.value ≡ false }
+        requires awake { IsGroupAwake self.old (AtClient me (client_input input.value)) }
+        ensures { GroupStepped self.old (AtClient me (client_input input.value)) result self.new }
     {
+        limits_are_kept();
+        senders_are_members();
         let client = &mut self.clients[place_of_client(me)];
         self.history.take_client_input(client, me, input)
     }
@@ -196,32 +199,34 @@ impl World {
     }
 
     /// An input of a server's own.
-    fn at_server(&mut self, me: ServerId, input: ServerInput) -> Result<Done, Refusal>
-        ensures { GroupStepped self.old (AtServer me (server_input (handing input))) result self.new }
+    fn at_server(&mut self, me: ServerId, input: Box<ServerInput>) -> Result<Done, Refusal>
+        ensures { GroupStepped self.old (AtServer me (server_input (handing input.value))) result self.new }
     {
         let Some(server) = self.server(me) else {
             return Err(Refusal::OutOfRange);
         };
-        if server.role().is_none() && !is_restart(&input) {
+        let given = input.as_ref();
+        if server.role().is_none() && !is_restart(given) {
             return Err(Refusal::Down);
         }
-        if is_frame(&input) {
+        if is_frame(given) {
             return Err(Refusal::OutOfRange);
         }
         self.hand_server(me, input)
     }
 
     /// An input of a client's own.
-    fn at_client(&mut self, me: ClientId, input: ClientInput) -> Result<Done, Refusal>
-        ensures { GroupStepped self.old (AtClient me (client_input input)) result self.new }
+    fn at_client(&mut self, me: ClientId, input: Box<ClientInput>) -> Result<Done, Refusal>
+        ensures { GroupStepped self.old (AtClient me (client_input input.value)) result self.new }
     {
         let Some(client) = self.client(me) else {
             return Err(Refusal::OutOfRange);
         };
-        if !client.is_up() && !is_client_restart(&input) {
+        let given = input.as_ref();
+        if !client.is_up() && !is_client_restart(given) {
             return Err(Refusal::Down);
         }
-        if is_client_frame(&input) {
+        if is_client_frame(given) {
             return Err(Refusal::OutOfRange);
         }
         self.hand_client(me, input)

@@ -1,10 +1,10 @@
-use Rattle.std.proofs.Common.{◌≡◌, slice_get, inl, refl, ◌∙◌}
-use Rattle.group_model.specs.Worlds.{Deliver}
-use Rattle.server.specs.Handings.{FrameBytes}
-use Rattle.server.specs.declared.server_input.ServerInput.TheVariants as inputs
+use Rattle.std.proofs.Common.{◌≡◌, slice_get, inl, [], ◌∷◌, ◌++◌, refl, ap, ◌∙◌}
+use Rattle.group_model.specs.Worlds.{Deliver, AtServer}
+use Rattle.server.specs.Handings.{FrameBytes, handing}
+use Rattle.server.specs.declared.server_input.ServerInput.{ServerInput}
 use Rattle.world.specs.declared.group.event.Event.TheVariants as events
 use Rattle.world.specs.Events.{place_of}
-use Rattle.world.specs.GroupEvents.{group_events}
+use Rattle.world.specs.GroupEvents.{server_input, group_events}
 use Rattle.world.specs.Inner.Inputs.{bytes_of}
 use Rattle.world.specs.Inner.GroupParts.{GroupHistoryView}
 use Rattle.world.proofs.GroupHistories.{one_group_event_more, member_fell, server_refused}
@@ -21,7 +21,8 @@ returns-in-NoMemory-clause-done c =
       lacks = lacks;
       fell = λ s r. member_fell old new s (FrameBytes bytes) refl (lacks s r) (left s r);
       outbox = c.in-Err.ensures.unsent;
-      trace = one_group_event_more c.reserve.new.self.items c.push_reserved-in-NoMemory.new.self.items c.self.inside.trace.items (events.Server c.args.me inputs.Crash) c.in_ok-reserve.ensures.items c.push_reserved-in-NoMemory.ensures.items;
+      trace = one_group_event_more c.reserve.new.self.items c.push_reserved-in-NoMemory.new.self.items c.self.inside.trace.items (events.Server c.args.me c.in_ok-crash.crash) c.in_ok-reserve.ensures.items c.push_reserved-in-NoMemory.ensures.items
+      ∙ ap (λ (x : ServerInput). group_events c.self.inside.trace.items ++ AtServer c.args.me (server_input (handing x)) ∷ []) c.in_ok-crash.ensures;
       chain = refl;
     }))
 

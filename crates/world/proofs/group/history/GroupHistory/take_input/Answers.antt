@@ -1,6 +1,6 @@
-use Rattle.std.proofs.Common.{◌≡◌, true, false, inl, inr, refl, sym, ◌∙◌}
+use Rattle.std.proofs.Common.{◌≡◌, true, false, inl, inr, [], ◌∷◌, ◌++◌, refl, sym, ap, ◌∙◌}
 use Rattle.server.specs.Handings.{handing}
-use Rattle.server.specs.declared.server_input.ServerInput.TheVariants as inputs
+use Rattle.server.specs.declared.server_input.ServerInput.{ServerInput}
 use Rattle.group_model.specs.Worlds.{AtServer}
 use Rattle.world.specs.declared.group.event.Event.TheVariants as events
 use Rattle.world.specs.GroupEvents.{server_input, group_events}
@@ -11,12 +11,12 @@ use Rattle.world.proofs.group.history.GroupHistory.take_input.Goals as goal
 
 pub returns-then-is_restart-clause-done : goal.returns-then-is_restart-clause-done
 returns-then-is_restart-clause-done c =
-    let h = handing c.args.input in
+    let h = handing c.args.input.value in
     let old = c.args.server.now in
     let new = c.step.new.self in
-    let so : is_restart_input h ≡ true = sym c.is_restart.ensures ∙ c.if-is_restart.true in
-    let lacks = rw (c.in-NoMemory.is, c.in_ok-again.ensures) at c.in-Err.ensures.refused in
-    let left = rw (c.in-NoMemory.is, c.in_ok-again.ensures) at c.in-Err.ensures.left in
+    let so : is_restart_input h ≡ true = rw c.as_ref-given.ensures at (sym c.is_restart.ensures ∙ c.if-is_restart.true) in
+    let lacks = rw (c.in-NoMemory.is, c.in_ok-again.ensures, c.as_ref-given.ensures) at c.in-Err.ensures.refused in
+    let left = rw (c.in-NoMemory.is, c.in_ok-again.ensures, c.as_ref-given.ensures) at c.in-Err.ensures.left in
     let s = member_of old in
     let is = is_member_of old in
     rw (← c.self.view_is) (inr (record {
@@ -26,28 +26,29 @@ returns-then-is_restart-clause-done c =
       same_past = rw (c.in-Err.ensures.unsent, c.in_ok-reserve.ensures.items) refl;
     }))
 
-pub returns-in-NoMemory-clause-done : goal.returns-in-NoMemory-clause-done
-returns-in-NoMemory-clause-done c =
-    let h = handing c.args.input in
+pub returns-else-is_restart-clause-done : goal.returns-else-is_restart-clause-done
+returns-else-is_restart-clause-done c =
+    let h = handing c.args.input.value in
     let old = c.args.server.now in
     let new = c.step.new.self in
-    let other : is_restart_input h ≡ false = sym c.is_restart.ensures ∙ c.if-is_restart.false in
-    let lacks = rw (c.in-NoMemory.is, c.in_ok-again.ensures) at c.in-Err.ensures.refused in
-    let left = rw (c.in-NoMemory.is, c.in_ok-again.ensures) at c.in-Err.ensures.left in
+    let other : is_restart_input h ≡ false = rw c.as_ref-given.ensures at (sym c.is_restart.ensures ∙ c.if-is_restart.false) in
+    let lacks = rw (c.in-NoMemory.is, c.in_ok-again.ensures, c.as_ref-given.ensures) at c.in-Err.ensures.refused in
+    let left = rw (c.in-NoMemory.is, c.in_ok-again.ensures, c.as_ref-given.ensures) at c.in-Err.ensures.left in
     rw (← c.self.view_is) (inl (record {
       lacks = lacks;
       fell = λ s r. member_fell old new s h other (lacks s r) (left s r);
       outbox = c.in-Err.ensures.unsent;
-      trace = one_group_event_more c.reserve.new.self.items c.push_reserved-in-NoMemory.new.self.items c.self.inside.trace.items (events.Server c.args.me inputs.Crash) c.in_ok-reserve.ensures.items c.push_reserved-in-NoMemory.ensures.items;
+      trace = one_group_event_more c.reserve.new.self.items c.push_reserved-in-NoMemory.new.self.items c.self.inside.trace.items (events.Server c.args.me c.replace.new.b) c.in_ok-reserve.ensures.items c.push_reserved-in-NoMemory.ensures.items
+      ∙ ap (λ (x : ServerInput). group_events c.self.inside.trace.items ++ AtServer c.args.me (server_input (handing x)) ∷ []) c.replace.ensures.after;
       chain = refl;
     }))
 
-pub returns : goal.returns
-returns c =
-    let h = handing c.args.input in
+pub returns-in_default : goal.returns-in_default
+returns-in_default c =
+    let h = handing c.args.input.value in
     let past : GroupHistoryView = record { outbox = c.self.inside.outbox; trace = group_events c.self.inside.trace.items; chain = c.self.inside.chain } in
-    let refused = rw c.in_ok-again.ensures at c.in-Err.ensures.refused in
-    let left = rw c.in_ok-again.ensures at c.in-Err.ensures.left in
+    let refused = rw (c.in_ok-again.ensures, c.as_ref-given.ensures) at c.in-Err.ensures.refused in
+    let left = rw (c.in_ok-again.ensures, c.as_ref-given.ensures) at c.in-Err.ensures.left in
     let p = server_refused c.args.server.now c.step.new.self past h (AtServer c.args.me (server_input h)) c.in-Err.cause c.in_default.not-NoMemory refused left in
     rw (← c.self.view_is) (record {
       same = c.step.ensures.same;

@@ -1,6 +1,4 @@
 use Rattle.std.proofs.Common.{refl, subst, slice_set}
-use Rattle.group_safety.proofs.LimitedRuns.{limited_runs}
-use Rattle.group_safety.proofs.Senders.{senders}
 use Rattle.group_model.specs.Worlds.{AtClient}
 use Rattle.world.specs.GroupEvents.{client_input}
 use Rattle.world.specs.GroupView.{GroupView}
@@ -12,29 +10,29 @@ use Rattle.world.proofs.group.world.World.hand_client.Goals as goal
 pub invariant_of-self : goal.invariant_of-self
 invariant_of-self c =
     let i = c.self.inside in
-    let e = AtClient c.args.me (client_input c.args.input) in
+    let e = AtClient c.args.me (client_input c.args.input.value) in
     let view = c.index_mut-client.result.now in
     let after = c.take_client_input.new.client in
     let h = c.take_client_input.new.self in
     let old : GroupView = record { servers = i.servers.items; clients = i.clients.items; outbox = i.history.outbox; trace = i.history.trace; chain = i.history.chain } in
     let new : GroupView = record { servers = i.servers.items; clients = slice_set i.clients.items c.place_of_client.result after; outbox = h.outbox; trace = h.trace; chain = h.chain } in
     let r =
-    client_moved old c.args.self.now e c.args.me c.place_of_client.result view c.args.input c.self.view_is c.self.invariant c.place_of_client.ensures c.requires.member c.index_mut-client.ensures.value tt
-    c.requires.awake (λ w st k. own_client view c.args.input w c.args.me k.at k.size c.requires.own) limited_runs senders new after refl refl c.take_client_input.ensures.same c.take_client_input.result
+    client_moved old c.args.self.now e c.args.me c.place_of_client.result view c.args.input.value c.self.view_is c.self.invariant c.place_of_client.ensures c.requires.member c.index_mut-client.ensures.value tt
+    c.requires.awake (λ w st k. own_client view c.args.input.value w c.args.me k.at k.size c.requires.own) c.limits_are_kept.ensures c.senders_are_members.ensures new after refl refl c.take_client_input.ensures.same c.take_client_input.result
     c.take_client_input.ensures.done in
     r.world
 
 pub returns : goal.returns
 returns c =
     let i = c.self.inside in
-    let e = AtClient c.args.me (client_input c.args.input) in
+    let e = AtClient c.args.me (client_input c.args.input.value) in
     let view = c.index_mut-client.result.now in
     let after = c.take_client_input.new.client in
     let h = c.take_client_input.new.self in
     let old : GroupView = record { servers = i.servers.items; clients = i.clients.items; outbox = i.history.outbox; trace = i.history.trace; chain = i.history.chain } in
     let new : GroupView = record { servers = i.servers.items; clients = slice_set i.clients.items c.place_of_client.result after; outbox = h.outbox; trace = h.trace; chain = h.chain } in
     let r =
-    client_moved old c.args.self.now e c.args.me c.place_of_client.result view c.args.input c.self.view_is c.self.invariant c.place_of_client.ensures c.requires.member c.index_mut-client.ensures.value tt
-    c.requires.awake (λ w st k. own_client view c.args.input w c.args.me k.at k.size c.requires.own) limited_runs senders new after refl refl c.take_client_input.ensures.same c.take_client_input.result
+    client_moved old c.args.self.now e c.args.me c.place_of_client.result view c.args.input.value c.self.view_is c.self.invariant c.place_of_client.ensures c.requires.member c.index_mut-client.ensures.value tt
+    c.requires.awake (λ w st k. own_client view c.args.input.value w c.args.me k.at k.size c.requires.own) c.limits_are_kept.ensures c.senders_are_members.ensures new after refl refl c.take_client_input.ensures.same c.take_client_input.result
     c.take_client_input.ensures.done in
     subst (λ (x : GroupView). GroupStepped x e c.take_client_input.result new) c.self.view_is r.stepped

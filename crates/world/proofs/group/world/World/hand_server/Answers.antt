@@ -1,6 +1,5 @@
 use Rattle.std.proofs.Common.{refl, sym, ap, subst, slice_set}
 use Rattle.group_model.specs.Worlds.{AtServer}
-use Rattle.group_safety.proofs.Senders.{senders}
 use Rattle.server.specs.Handings.{handing}
 use Rattle.world.specs.GroupEvents.{server_input}
 use Rattle.world.specs.GroupView.{GroupView}
@@ -11,30 +10,30 @@ use Rattle.world.proofs.group.world.World.hand_server.Goals as goal
 pub invariant_of-self : goal.invariant_of-self
 invariant_of-self c =
     let i = c.self.inside in
-    let h = handing c.args.input in
+    let h = handing c.args.input.value in
     let e = AtServer c.args.me (server_input h) in
     let view = c.index_mut-server.result.now in
     let old : GroupView = record { servers = i.servers.items; clients = i.clients.items; outbox = i.history.outbox; trace = i.history.trace; chain = i.history.chain } in
     let past = c.take_input.new.self in
     let after = c.take_input.new.server in
     let new : GroupView = record { servers = slice_set i.servers.items c.place.result after; clients = i.clients.items; outbox = past.outbox; trace = past.trace; chain = past.chain } in
-    let scene = own_scene old c.args.self.now c.args.me c.place.result view c.self.view_is c.self.invariant c.place.ensures.value c.requires.member c.index_mut-server.ensures.value c.args.input c.ranges-2.ensures c.requires.own in
-    let r = server_acted old e c.args.me view h scene c.limits_are_kept.ensures senders (subst (λ (x : GroupView). IsGroupAwake x e) (sym c.self.view_is) c.requires.awake) new after
+    let scene = own_scene old c.args.self.now c.args.me c.place.result view c.self.view_is c.self.invariant c.place.ensures.value c.requires.member c.index_mut-server.ensures.value c.args.input.value (rw c.as_ref.ensures at c.ranges-2.ensures) c.requires.own in
+    let r = server_acted old e c.args.me view h scene c.limits_are_kept.ensures c.senders_are_members.ensures (subst (λ (x : GroupView). IsGroupAwake x e) (sym c.self.view_is) c.requires.awake) new after
     (ap (λ k. slice_set i.servers.items k after) c.place.ensures.value) refl c.take_input.ensures.same c.take_input.result c.take_input.ensures.done in
     r.world
 
 pub returns : goal.returns
 returns c =
     let i = c.self.inside in
-    let h = handing c.args.input in
+    let h = handing c.args.input.value in
     let e = AtServer c.args.me (server_input h) in
     let view = c.index_mut-server.result.now in
     let old : GroupView = record { servers = i.servers.items; clients = i.clients.items; outbox = i.history.outbox; trace = i.history.trace; chain = i.history.chain } in
     let past = c.take_input.new.self in
     let after = c.take_input.new.server in
     let new : GroupView = record { servers = slice_set i.servers.items c.place.result after; clients = i.clients.items; outbox = past.outbox; trace = past.trace; chain = past.chain } in
-    let scene = own_scene old c.args.self.now c.args.me c.place.result view c.self.view_is c.self.invariant c.place.ensures.value c.requires.member c.index_mut-server.ensures.value c.args.input c.ranges-2.ensures c.requires.own in
-    let r = server_acted old e c.args.me view h scene c.limits_are_kept.ensures senders (subst (λ (x : GroupView). IsGroupAwake x e) (sym c.self.view_is) c.requires.awake) new after
+    let scene = own_scene old c.args.self.now c.args.me c.place.result view c.self.view_is c.self.invariant c.place.ensures.value c.requires.member c.index_mut-server.ensures.value c.args.input.value (rw c.as_ref.ensures at c.ranges-2.ensures) c.requires.own in
+    let r = server_acted old e c.args.me view h scene c.limits_are_kept.ensures c.senders_are_members.ensures (subst (λ (x : GroupView). IsGroupAwake x e) (sym c.self.view_is) c.requires.awake) new after
     (ap (λ k. slice_set i.servers.items k after) c.place.ensures.value) refl c.take_input.ensures.same c.take_input.result c.take_input.ensures.done in
     let q = subst (λ (x : GroupView). GroupActed x e c.take_input.result new) c.self.view_is r in
     q.stepped
