@@ -1,1 +1,7 @@
+pub mod Distinct
+pub mod Indexes
+pub mod Told
+pub mod Fits
+pub mod Sending
 pub mod Taking
+pub mod Hearing

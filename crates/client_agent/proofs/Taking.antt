@@ -1,43 +1,24 @@
 -- What a client does is a step of the definitions.
-use Rattle.std.proofs.Common.{◌≡◌, ℕ, ◌<◌, true, false, is_some, Option, Some, None, List, [], ◌∷◌, map, Ok, nat_lt, refl, ap, ◌∙◌, subst, lt-ltb}
-use Rattle.rows.specs.declared.actor.Actor.{Actor}
-use Rattle.rows.specs.declared.actor.Actor.TheVariants.{Server, Client as ClientActor}
+use Rattle.std.proofs.Common.{◌≡◌, ℕ, ◌<◌, ◌≤◌, Bool, true, false, is_some, Option, Some, None, List, [], ◌∷◌, map, Ok, nat_lt, refl, ap, ◌∙◌, lt-ltb, le-ltb}
+use Rattle.rows.specs.declared.allocation.AllocId.{AllocId}
+use Rattle.rows.specs.declared.listing.ListedAllocation.{ListedAllocation}
+use Rattle.rows.specs.declared.refusal.Refusal.TheVariants as refusals
+use Rattle.rows.specs.declared.worker.ClientRequestKind.{ClientRequestKind}
+use Rattle.rows.specs.declared.reason.Reason.{Reason}
 use Rattle.wire.specs.Frames.{Frame}
-use Rattle.wire.specs.declared.body.Body.{Body}
-use Rattle.wire.specs.declared.body.Body.TheVariants as bodies
 use Rattle.cluster_model.specs.ClusterMachine.{cluster_meaning}
-use Rattle.group_model.specs.Messages.{ServiceMessage, ToServer, ToClient, ClientResponse, Register, Told, Listing, Service}
-use Rattle.group_model.specs.Clients.{Client, Life, Input, Arrives, RegisterAt, Crash, Restart, Turn, step, lives, new_life, takes_response}
-use Rattle.group_frames.specs.GroupFrames.{SendsGroup, service_between}
+use Rattle.group_model.specs.Messages.{ToServer, Listing, Told, Service}
+use Rattle.group_model.specs.Clients.{Client, Life, Started, Input, Arrives, RegisterAt, Ping, PullFrom, End, Crash, Restart, Turn, step, lives, new_life, runs, news, report_messages, with_end, with_started}
+use Rattle.group_frames.specs.GroupFrames.{SendsGroup}
 use Rattle.group_frames.proofs.Sending.{sends_nothing}
 use Rattle.client_agent.specs.declared.input.ClientInput.TheVariants as inputs
+use Rattle.client_agent.specs.declared.asking.Asked.{Asked}
+use Rattle.client_agent.specs.declared.asking.Asked.TheVariants as asked
 use Rattle.client_agent.specs.AgentView.{AgentView, crashed_agent}
 use Rattle.client_agent.specs.Steps.{AgentSteps, AgentTakes}
-
--- ---- a frame
-
--- what a client may be sent: no list of allocations
-abbrev IsNoListing : Option ServiceMessage → Type 0
-IsNoListing (Some (ToClient server client (Listing index rows))) = ⊥
-IsNoListing _ = Unit {0}
-
-no_listing : {S C : Type 0} (from to : Actor) (body : Body S C) → IsNoListing (service_between from to body)
-no_listing (Server i) (Server j) (bodies.Request request) = tt
-no_listing (Server i) (Server j) (bodies.Response response) = tt
-no_listing (Server i) (Server j) _ = tt
-no_listing (Server i) (ClientActor c) (bodies.Told kind refused) = tt
-no_listing (Server i) (ClientActor c) _ = tt
-no_listing (ClientActor c) (Server j) (bodies.Register class size) = tt
-no_listing (ClientActor c) (Server j) _ = tt
-no_listing (ClientActor c) (ClientActor d) _ = tt
-
--- so a response that came in a frame leaves the client as it is
-lets_go : (c : Client) (from client : ℕ) (l : Life) (response : ClientResponse) → IsNoListing (Some (ToClient from client response)) →
-    takes_response c from l response ≡ record { client = c; sent = [] }
-lets_go c from client l (Listing index rows) none = absurd none
-lets_go c from client l (Told kind refused) none = refl
-
--- ---- the steps
+use Rattle.client_agent.specs.Refusals.{agent_refusal, IsAgentRefused}
+use Rattle.client_agent.specs.Inner.Asking.{request_of, handing_of}
+use Rattle.client_agent.specs.Inner.Runs.{followed}
 
 -- the turn of an input is a step
 steps_by : (old new : AgentView) (input : Input) (before after : List Frame) (turn : Turn) → step old.size old.client input ≡ Ok turn → new.client ≡ turn.client →
@@ -56,25 +37,97 @@ no_life : (o : Option Life) → is_some o ≡ false → o ≡ None
 no_life None down = refl
 no_life (Some l) down = absurd (cc down)
 
-pub heard : (old : AgentView) (bytes : List ℕ) (all : List Frame) → is_some old.client.life ≡ true → AgentTakes old (inputs.Frame bytes) old all all
-heard old bytes all up input (from, response, frame, is) =
-    let c = old.client in
-    let life = life_of c.life up in
-    let none : IsNoListing (Some (ToClient from c.node.number response)) = subst IsNoListing frame.means (no_listing frame.read.from frame.read.to frame.read.body) in
-    let turn : step old.size c (Arrives from response) ≡ Ok (record { client = c; sent = [] }) =
-    up_step old.size c life.0 (Arrives from response) life.1 ∙ ap (λ t. Ok t) (lets_go c from c.node.number life.0 response none) in
-    rw is (steps_by old old (Arrives from response) all all (record { client = c; sent = [] }) turn refl (sends_nothing cluster_meaning all))
+-- ---- what a server says
 
-pub registered : (old : AgentView) (server : ℕ) (before after : List Frame) → is_some old.client.life ≡ true → server < old.size →
-    SendsGroup cluster_meaning before after (Service (ToServer old.client.node.number server (Register old.client.node.class old.client.node.size)) ∷ []) →
-    AgentTakes old (inputs.Register server) old before after
-registered old server before after up member sent input is =
+-- a request is taken or refused
+pub told_by : (old : AgentView) (from : ℕ) (kind : ClientRequestKind) (refused : Option Reason) (all : List Frame) → is_some old.client.life ≡ true →
+    AgentSteps old (Arrives from (Told kind refused)) old all all
+told_by old from kind refused all up =
     let c = old.client in
     let life = life_of c.life up in
-    let turn : Turn = record { client = c; sent = ToServer c.node.number server (Register c.node.class c.node.size) ∷ [] } in
-    let there : nat_lt server old.size ≡ true = lt-ltb server old.size member in
-    let taken : step old.size c (RegisterAt server) ≡ Ok turn = up_step old.size c life.0 (RegisterAt server) life.1 ∙ rw there refl in
-    rw is (steps_by old old (RegisterAt server) before after turn taken refl sent)
+    steps_by old old (Arrives from (Told kind refused)) all all (record { client = c; sent = [] }) (up_step old.size c life.0 (Arrives from (Told kind refused)) life.1) refl (sends_nothing cluster_meaning all)
+
+-- a list of an index below that of the last one
+pub list_is_old : (old : AgentView) (l : Life) (from index : ℕ) (rows : List ListedAllocation) (all : List Frame) → old.client.life ≡ Some l → index < l.seen →
+    AgentSteps old (Arrives from (Listing index rows)) old all all
+list_is_old old l from index rows all up below =
+    let c = old.client in
+    let behind : nat_lt index l.seen ≡ true = lt-ltb index l.seen below in
+    steps_by old old (Arrives from (Listing index rows)) all all (record { client = c; sent = [] })
+    (up_step old.size c l (Arrives from (Listing index rows)) up ∙ rw behind refl) refl (sends_nothing cluster_meaning all)
+
+-- any other list
+pub list_is_taken : (old new : AgentView) (l : Life) (from index : ℕ) (rows : List ListedAllocation) (before after : List Frame) → old.client.life ≡ Some l → l.seen ≤ index →
+    (let next = followed old.client.node.size rows old.client.started l in
+    (new.client ≡ record old.client { started = next.ids; life = Some (record l { seen = index; running = next.running }) })
+    → SendsGroup cluster_meaning before after (map Service (report_messages old.client.node.number from (news next l.ended rows)))
+    → AgentSteps old (Arrives from (Listing index rows)) new before after)
+list_is_taken old new l from index rows before after up above made sent =
+    let c = old.client in
+    let next : Started = followed c.node.size rows c.started l in
+    let ahead : nat_lt index l.seen ≡ false = le-ltb index l.seen above in
+    steps_by old new (Arrives from (Listing index rows)) before after (with_started c from index rows l next)
+    (up_step old.size c l (Arrives from (Listing index rows)) up ∙ rw ahead refl) made sent
+
+-- ---- what it is to ask
+
+pub asked_by : (what : Asked) (old : AgentView) (server : ℕ) (before after : List Frame) → is_some old.client.life ≡ true → server < old.size →
+    SendsGroup cluster_meaning before after (Service (ToServer old.client.node.number server (request_of old.client.node what)) ∷ []) →
+    AgentTakes old (handing_of what server) old before after
+asked_by what old server before after up member sent =
+    of what (life_of old.client.life up) (lt-ltb server old.size member) sent where
+      of : (what : Asked) (life : (l : Life) × (old.client.life ≡ Some l)) → nat_lt server old.size ≡ true →
+          SendsGroup cluster_meaning before after (Service (ToServer old.client.node.number server (request_of old.client.node what)) ∷ []) → AgentTakes old (handing_of what server) old before after
+      of asked.Registration life there sent input is =
+          rw is (steps_by old old (RegisterAt server) before after (record { client = old.client; sent = ToServer old.client.node.number server (request_of old.client.node asked.Registration) ∷ [] }) (up_step old.size old.client life.0 (RegisterAt server) life.1 ∙ rw there refl) refl sent)
+      of asked.Heartbeat life there sent input is =
+          rw is (steps_by old old (Ping server) before after (record { client = old.client; sent = ToServer old.client.node.number server (request_of old.client.node asked.Heartbeat) ∷ [] }) (up_step old.size old.client life.0 (Ping server) life.1 ∙ rw there refl) refl sent)
+      of asked.Listing life there sent input is =
+          rw is (steps_by old old (PullFrom server) before after (record { client = old.client; sent = ToServer old.client.node.number server (request_of old.client.node asked.Listing) ∷ [] }) (up_step old.size old.client life.0 (PullFrom server) life.1 ∙ rw there refl) refl sent)
+
+pub asked_while_down : (what : Asked) (n server : ℕ) (c : Client) → is_some c.life ≡ false → agent_refusal n c (handing_of what server) ≡ Some refusals.Down
+asked_while_down asked.Registration n server c down = rw (no_life c.life down) refl
+asked_while_down asked.Heartbeat n server c down = rw (no_life c.life down) refl
+asked_while_down asked.Listing n server c down = rw (no_life c.life down) refl
+
+pub asked_outside : (what : Asked) (n server : ℕ) (c : Client) → is_some c.life ≡ true → n ≤ server → agent_refusal n c (handing_of what server) ≡ Some refusals.OutOfRange
+asked_outside what n server c up beyond = of what (life_of c.life up) (le-ltb server n beyond) where
+  of : (what : Asked) → (l : Life) × (c.life ≡ Some l) → nat_lt server n ≡ false → agent_refusal n c (handing_of what server) ≡ Some refusals.OutOfRange
+  of asked.Registration (l, is) out = rw (is, out) refl
+  of asked.Heartbeat (l, is) out = rw (is, out) refl
+  of asked.Listing (l, is) out = rw (is, out) refl
+
+pub asked_inside : (what : Asked) (n server : ℕ) (c : Client) → is_some c.life ≡ true → server < n → agent_refusal n c (handing_of what server) ≡ None
+asked_inside what n server c up member = of what (life_of c.life up) (lt-ltb server n member) where
+  of : (what : Asked) → (l : Life) × (c.life ≡ Some l) → nat_lt server n ≡ true → agent_refusal n c (handing_of what server) ≡ None
+  of asked.Registration (l, is) there = rw (is, there) refl
+  of asked.Heartbeat (l, is) there = rw (is, there) refl
+  of asked.Listing (l, is) there = rw (is, there) refl
+
+pub asked_may_lack : (what : Asked) (n server : ℕ) (c : Client) → is_some c.life ≡ true → server < n → IsAgentRefused n c (handing_of what server) refusals.NoMemory
+asked_may_lack asked.Registration n server c up member = (up, member)
+asked_may_lack asked.Heartbeat n server c up member = (up, member)
+asked_may_lack asked.Listing n server c up member = (up, member)
+
+-- ---- an end, a crash, a restart
+
+pub ended_by : (old new : AgentView) (l : Life) (id : AllocId) (ok : Bool) (all : List Frame) → old.client.life ≡ Some l → runs l.running id ≡ true →
+    new.client ≡ record old.client { life = Some (with_end l id ok) } → AgentTakes old (inputs.End id ok) new all all
+ended_by old new l id ok all up there made input is =
+    let c = old.client in
+    rw is (steps_by old new (End id ok) all all (record { client = record c { life = Some (with_end l id ok) }; sent = [] }) (up_step old.size c l (End id ok) up ∙ rw there refl) made (sends_nothing cluster_meaning all))
+
+pub end_admitted : (n : ℕ) (c : Client) (l : Life) (id : AllocId) (ok : Bool) → c.life ≡ Some l → runs l.running id ≡ true → agent_refusal n c (inputs.End id ok) ≡ None
+end_admitted n c l id ok up there = rw (up, there) refl
+
+pub end_unknown : (n : ℕ) (c : Client) (l : Life) (id : AllocId) (ok : Bool) → c.life ≡ Some l → runs l.running id ≡ false → agent_refusal n c (inputs.End id ok) ≡ Some refusals.UnknownAlloc
+end_unknown n c l id ok up there = rw (up, there) refl
+
+pub end_may_lack : (n : ℕ) (c : Client) (l : Life) (id : AllocId) (ok : Bool) → c.life ≡ Some l → runs l.running id ≡ true → IsAgentRefused n c (inputs.End id ok) refusals.NoMemory
+end_may_lack n c l id ok up there = rw up there
+
+pub end_while_down : (n : ℕ) (c : Client) (id : AllocId) (ok : Bool) → c.life ≡ None → agent_refusal n c (inputs.End id ok) ≡ Some refusals.Down
+end_while_down n c id ok down = rw down refl
 
 pub crashed_by : (old new : AgentView) (all : List Frame) → is_some old.client.life ≡ true → new ≡ crashed_agent old → AgentTakes old inputs.Crash new all all
 crashed_by old new all up made input is =

@@ -2,7 +2,7 @@
 use Rattle.std.specs.Prelude.{◌≡◌, ℕ}
 use Rattle.cluster_model.specs.ClusterMachine.{cluster_meaning}
 use Rattle.group_model.specs.Messages.{ClientResponse, ToClient}
-use Rattle.group_model.specs.Clients.{Input, Arrives, RegisterAt, Crash, Restart}
+use Rattle.group_model.specs.Clients.{Input, Arrives, RegisterAt, Ping, PullFrom, End, Crash, Restart}
 use Rattle.group_frames.specs.GroupFrames.{IsServiceFrame}
 use Rattle.client_agent.specs.declared.input.ClientInput.{ClientInput}
 use Rattle.client_agent.specs.declared.input.ClientInput.TheVariants as inputs
@@ -15,6 +15,9 @@ AgentReads me (inputs.Frame bytes) input =
     × IsServiceFrame cluster_meaning bytes (ToClient from me response)
     × (input ≡ Arrives from response)
 AgentReads me (inputs.Register server) input = input ≡ RegisterAt server
+AgentReads me (inputs.Ping server) input = input ≡ Ping server
+AgentReads me (inputs.Pull server) input = input ≡ PullFrom server
+AgentReads me (inputs.End id ok) input = input ≡ End id ok
 AgentReads me inputs.Crash input = input ≡ Crash
 AgentReads me inputs.Restart input = input ≡ Restart
 

@@ -2,6 +2,7 @@
 use Rattle.std.specs.Prelude.{◌≡◌, ℕ, ◌<◌, ◌==◌, Bool, true, false, if◌then◌else◌, is_some, Option, Some, None, Result, Ok, Err, List}
 use Rattle.std.specs.Result.{result_err}
 use Rattle.rows.specs.declared.actor.Actor.{Actor}
+use Rattle.rows.specs.declared.allocation.AllocId.{AllocId}
 use Rattle.rows.specs.declared.actor.Actor.TheVariants.{Server, Client as ClientActor}
 use Rattle.rows.specs.declared.refusal.Refusal.{Refusal}
 use Rattle.rows.specs.declared.refusal.Refusal.TheVariants as refusals
@@ -9,7 +10,7 @@ use Rattle.wire.specs.Messages.{Message as WireMessage}
 use Rattle.wire.specs.Frames.{message_at}
 use Rattle.cluster_model.specs.ClusterMachine.{cluster_meaning}
 use Rattle.cluster_model.specs.Words.{State}
-use Rattle.group_model.specs.Clients.{Client, RegisterAt, Crash, Restart, step}
+use Rattle.group_model.specs.Clients.{Client, Life, RegisterAt, Ping, PullFrom, End, Crash, Restart, runs, step}
 use Rattle.raft_core.specs.Refusals.{is_server_of}
 use Rattle.client_agent.specs.declared.input.ClientInput.{ClientInput}
 use Rattle.client_agent.specs.declared.input.ClientInput.TheVariants as inputs
@@ -43,16 +44,27 @@ abbrev pub agent_refusal : ℕ → Client → ClientInput → Option Refusal
 agent_refusal n c (inputs.Frame bytes) =
     if is_some c.life then client_frame_refusal n c.node.number bytes else Some refusals.Down
 agent_refusal n c (inputs.Register server) = result_err (step n c (RegisterAt server))
+agent_refusal n c (inputs.Ping server) = result_err (step n c (Ping server))
+agent_refusal n c (inputs.Pull server) = result_err (step n c (PullFrom server))
+agent_refusal n c (inputs.End id ok) = result_err (step n c (End id ok))
 agent_refusal n c inputs.Crash = result_err (step n c Crash)
 agent_refusal n c inputs.Restart = result_err (step n c Restart)
 
 -- ---- want of memory
 
+-- an allocation runs there
+abbrev pub RunsIn : Option Life → AllocId → Type 0
+RunsIn None id = ⊥
+RunsIn (Some l) id = runs l.running id ≡ true
+
 -- When an input may want memory: a frame, and a message to a server of the group, while the client
--- is up. A crash takes none, nor does a restart.
+-- is up; and the end of an allocation that runs. A crash takes none, nor does a restart.
 abbrev pub AgentMayLack : ℕ → Client → ClientInput → Type 0
 AgentMayLack n c (inputs.Frame bytes) = is_some c.life ≡ true
 AgentMayLack n c (inputs.Register server) = (is_some c.life ≡ true) × (server < n)
+AgentMayLack n c (inputs.Ping server) = (is_some c.life ≡ true) × (server < n)
+AgentMayLack n c (inputs.Pull server) = (is_some c.life ≡ true) × (server < n)
+AgentMayLack n c (inputs.End id ok) = RunsIn c.life id
 AgentMayLack n c inputs.Crash = ⊥
 AgentMayLack n c inputs.Restart = ⊥
 

@@ -1,37 +1,57 @@
-ghost use Rattle.std.specs.Prelude.{◌≡◌, ◌≢◌, ◌⊎◌, ◌<◌, ◌∷◌, [], true, is_some, None, Some, option_map, OnOk, OnErr, IfOk, IfErr};
+ghost use Rattle.std.specs.Prelude.{◌≡◌, ◌≢◌, ◌⊎◌, true, is_some, None, Some, option_map, OnOk, OnErr, IfOk, IfErr, IfSome, List};
+ghost use Rattle.rows.specs.declared.actor.Actor.TheVariants as actors;
 ghost use Rattle.rows.specs.declared.refusal.Refusal.TheVariants as refusals;
-ghost use Rattle.group_model.specs.Messages.{Service, ToServer, Register};
-ghost use Rattle.group_model.specs.Clients.{agent_of};
-ghost use Rattle.cluster_model.specs.ClusterMachine.{cluster_meaning};
-ghost use Rattle.group_frames.specs.GroupFrames.{SendsGroup};
+ghost use Rattle.rows.specs.Listings.{AreListed};
+ghost use Rattle.wire.specs.Frames.{Frame};
+ghost use Rattle.group_model.specs.Messages.{Listing};
+ghost use Rattle.group_model.specs.Clients.{Arrives, agent_of};
 ghost use Rattle.client_agent.specs.declared.input.ClientInput.TheVariants as inputs;
+ghost use Rattle.client_agent.specs.Capacity.{FitTogether, AreDistinct};
 ghost use Rattle.client_agent.specs.AgentView.{crashed_agent};
-ghost use Rattle.client_agent.specs.Steps.{AgentTakes};
+ghost use Rattle.client_agent.specs.Steps.{AgentSteps, AgentTakes};
 ghost use Rattle.client_agent.specs.Refusals.{client_frame_refusal, misdirected_to_client, agent_refusal, IsAgentRefused, AgentRefusalLeaves};
+ghost use Rattle.client_agent.specs.Inner.Asking.{handing_of};
+ghost use Rattle.client_agent.specs.Inner.Heard.{IsHeard, TakesHeard};
 
+use crate::asking::{Asked, client_of, send_asked};
 use crate::input::ClientInput;
+use crate::life::Life;
+use crate::listing::{Heard, Shown, take_shown};
+use crate::running::RunningAllocation;
+use crate::started::Started;
 use fsm_state::Cluster;
-use rows::{Actor, ClientId, Index, NoMemory, NodeSpec, Refusal, ServerId};
+use rows::{Actor, AllocId, Index, NoMemory, NodeSpec, Refusal, ServerId};
 use std::alloc::Global;
 use std::marker::Model;
-use wire::{Body, Frames, Message, read_message};
+use wire::{Body, Frames, read_message};
 
-/// The client of one node: its agent. It stores the node's number, class and size, and how many
-/// servers its group has; that it is up is lost in a crash. (Nomad documentation, "Nomad agents".)
+/// The client of one node: its agent. It stores the node's number, class and size, how many servers
+/// its group has, and the ids of the allocations that it ever started; what runs, what ended and
+/// which list it took last is lost in a crash. What runs fits the node, and no allocation is
+/// started twice. (Nomad documentation, "Nomad agents" and "Allocations".)
 #[derive(Drop)]
 pub struct Agent {
     alloc: Global,
     node: NodeSpec,
     size: usize,
-    is_up: bool,
+    started: Started,
+    life: Option<Life>,
 }
 
 impl Model for Agent {
-    ghost use Rattle.client_agent.specs.AgentView.{AgentView, client_of};
+    ghost use Rattle.std.specs.Prelude.{IfSome};
+    ghost use Rattle.group_model.specs.Clients.{Life as AnyLife};
+    ghost use Rattle.client_agent.specs.AgentView.{AgentView};
+    ghost use Rattle.client_agent.specs.Capacity.{FitTogether};
 
     ghost Value = { AgentView };
 
-    ghost view = { λ a. record { size = a.size; client = client_of a.node a.is_up } };
+    ghost view = { λ a. record {
+      size = a.size;
+      client = record { node = a.node; started = a.started; life = a.life };
+    } };
+
+    ghost invariant = { λ a. IfSome a.life (λ (l : AnyLife). FitTogether a.node.size l.running) };
 }
 
 impl Agent {
@@ -52,7 +72,8 @@ impl Agent {
             alloc,
             node,
             size: n,
-            is_up: true,
+            started: Started::none(alloc),
+            life: Some(Life::new(alloc)),
         })
     }
 
@@ -67,30 +88,47 @@ impl Agent {
     pub fn is_up(&self) -> bool
         ensures { result ≡ is_some self.now.client.life }
     {
-        self.is_up
+        self.life.is_some()
     }
 
-    /// The index of the last list of allocations that it took, while it is up: 0, since it takes
-    /// none yet.
+    /// The index of the last list of allocations that it took since it started, or 0, while it is
+    /// up.
     pub fn seen(&self) -> Option<Index>
         ensures { result ≡ option_map (λ l. l.seen) self.now.client.life }
     {
-        if self.is_up { Some(Index::ZERO) } else { None }
-    }
-
-    /// Its number, which is its node's.
-    fn me(&self) -> ClientId
-        ensures { result ≡ self.now.client.node.number }
-    {
-        match ClientId::from_number(self.node.number.number()) {
-            Some(me) => me,
-            None => unreachable!(),
+        match &self.life {
+            Some(life) => Some(life.seen()),
+            None => None,
         }
     }
 
-    /// Whether a message comes from a server of the group and is for this client; else the refusal
-    /// names the address at fault.
-    fn addressed(&self, from: Actor, to: Actor) -> Result<(), Refusal>
+    /// The allocations that run, in the order in which they were started, while it is up. Together
+    /// they fit the node.
+    pub fn running(&self) -> Option<&[RunningAllocation]>
+        ensures running { option_map (λ all. all.now) result
+            ≡ option_map (λ l. l.running) self.now.client.life }
+        ensures fit { IfSome result (λ all. FitTogether self.now.client.node.size all.now) }
+    {
+        match &self.life {
+            Some(life) => Some(life.running()),
+            None => None,
+        }
+    }
+
+    /// The ids of the allocations that it ever started, in the order in which it did, also while it
+    /// is down. None stands there twice.
+    pub fn started(&self) -> &[AllocId]
+        ensures started { result.now ≡ self.now.client.started }
+        ensures distinct { AreDistinct result.now }
+    {
+        self.started.as_slice()
+    }
+
+    /// Whether a message comes from a server of the group, which is answered, and is for this
+    /// client; else the refusal names the address at fault.
+    fn sender(&self, from: Actor, to: Actor) -> Result<ServerId, Refusal>
+        ensures sender { IfOk result (λ server. from ≡ actors.Server server) }
+        ensures receiver { OnOk result (to ≡ actors.Client self.now.client.node.number) }
         ensures admitted { OnOk result
             (misdirected_to_client self.now.size self.now.client.node.number from to ≡ None) }
         ensures refused { IfErr result (λ cause.
@@ -105,15 +143,15 @@ impl Agent {
         let Actor::Client(to) = to else {
             return Err(Refusal::Frame(3));
         };
-        if to.number() != self.me().number() {
+        if to.number() != client_of(&self.node).number() {
             return Err(Refusal::Frame(3));
         }
-        Ok(())
+        Ok(from)
     }
 
-    /// A frame is read, and what it says is let go: a client is told no more yet than whether a
-    /// request is taken.
-    fn hear(&self, frame: &[u8]) -> Result<(), Refusal>
+    /// What a frame says, which is from a server of the group and for this client.
+    fn read(&self, frame: &[u8]) -> Result<Heard, Refusal>
+        ensures heard { IfOk result (IsHeard self.now.client.node.number frame.now) }
         ensures admitted { OnOk result
             (client_frame_refusal self.now.size self.now.client.node.number frame.now ≡ None) }
         ensures refused { IfErr result (λ cause. cause ≢ refusals.NoMemory →
@@ -121,18 +159,69 @@ impl Agent {
             ≡ Some cause) }
     {
         let message = read_message::<Cluster>(self.alloc, frame)?;
-        self.addressed(message.from(), message.to())
+        let from = self.sender(message.from(), message.to())?;
+        Ok(Heard {
+            from,
+            body: message.into_body(),
+        })
     }
 
-    /// Sends its node's class and size to a server.
-    fn send_node(&self, server: ServerId, outbox: &mut Frames) -> Result<(), NoMemory>
-        ensures ok { OnOk result (SendsGroup cluster_meaning outbox.old outbox.new
-            (Service (ToServer self.now.client.node.number server
-            (Register self.now.client.node.class self.now.client.node.size)) ∷ [])) }
-        ensures err { OnErr result (outbox.new ≡ outbox.old) }
+    /// A server's list comes to a client that is up. One of an index below that of the last one
+    /// changes nothing. Without memory the client is down, with what it had started before.
+    fn take_list(&mut self, list: &Shown<'_>, outbox: &mut Frames) -> Result<(), NoMemory>
+        requires up { is_some self.old.client.life ≡ true }
+        requires listed { AreListed list.now.rows.now }
+        ensures same { self.new.size ≡ self.old.size }
+        ensures taken { OnOk result (AgentSteps self.old
+            (Arrives list.now.from (Listing list.now.index list.now.rows.now)) self.new
+            outbox.old outbox.new) }
+        ensures lost { OnErr result (self.new ≡ crashed_agent self.old) }
+        ensures unsent { OnErr result (outbox.new ≡ outbox.old) }
     {
-        let body: Body<Cluster> = Body::Register(self.node.class, self.node.size);
-        outbox.send(&Message::to_server(self.me(), server, body))
+        let Some(mut life) = self.life.take() else {
+            unreachable!()
+        };
+        if list.index.get() < life.seen().get() {
+            self.life = Some(life);
+            return Ok(());
+        }
+        let before = self.started.len();
+        match take_shown(
+            self.alloc,
+            &self.node,
+            list,
+            &mut self.started,
+            &mut life,
+            outbox,
+        ) {
+            Ok(()) => {
+                self.life = Some(life);
+                Ok(())
+            }
+            Err(NoMemory) => {
+                self.started.truncate(before);
+                Err(NoMemory)
+            }
+        }
+    }
+
+    /// What a server says comes to a client that is up: of what it says, only a list changes it.
+    fn take(&mut self, heard: Heard, outbox: &mut Frames) -> Result<(), NoMemory>
+        requires { is_some self.old.client.life ≡ true }
+        ensures same { self.new.size ≡ self.old.size }
+        ensures taken { OnOk result
+            (TakesHeard self.old heard self.new outbox.old outbox.new) }
+        ensures lost { OnErr result (self.new ≡ crashed_agent self.old) }
+        ensures unsent { OnErr result (outbox.new ≡ outbox.old) }
+    {
+        let Heard { from, body } = heard;
+        match body {
+            Body::List(index, listing) => {
+                let rows = listing.as_slice();
+                self.take_list(&Shown { from, index, rows }, outbox)
+            }
+            _ => Ok(()),
+        }
     }
 
     /// A frame comes, all of its bytes: what a step with it is.
@@ -154,27 +243,29 @@ impl Agent {
         if !self.is_up() {
             return Err(Refusal::Down);
         }
-        match self.hear(frame) {
-            Ok(()) => Ok(()),
+        match self.read(frame) {
+            Ok(heard) => match self.take(heard, outbox) {
+                Ok(()) => Ok(()),
+                Err(_) => Err(Refusal::NoMemory),
+            },
             Err(cause) => {
                 if let Refusal::NoMemory = cause {
-                    self.is_up = false;
+                    self.life = None;
                 }
                 Err(cause)
             }
         }
     }
 
-    /// Its node is registered with a server.
-    #[tactic(auto, using(crate::proofs::Taking::registered))]
-    fn register(&mut self, server: ServerId, outbox: &mut Frames) -> Result<(), Refusal>
+    /// Something is asked of a server.
+    fn ask(&mut self, what: Asked, server: ServerId, outbox: &mut Frames) -> Result<(), Refusal>
         ensures same { self.new.size ≡ self.old.size }
         ensures taken { OnOk result
-            (AgentTakes self.old (inputs.Register server) self.new outbox.old outbox.new) }
+            (AgentTakes self.old (handing_of what server) self.new outbox.old outbox.new) }
         ensures admitted { OnOk result
-            (agent_refusal self.old.size self.old.client (inputs.Register server) ≡ None) }
+            (agent_refusal self.old.size self.old.client (handing_of what server) ≡ None) }
         ensures refused { IfErr result (λ cause.
-            IsAgentRefused self.old.size self.old.client (inputs.Register server) cause) }
+            IsAgentRefused self.old.size self.old.client (handing_of what server) cause) }
         ensures left { IfErr result (λ cause. AgentRefusalLeaves self.old cause self.new) }
         ensures unsent { OnErr result (outbox.new ≡ outbox.old) }
     {
@@ -184,12 +275,39 @@ impl Agent {
         if server.place() >= self.size {
             return Err(Refusal::OutOfRange);
         }
-        match self.send_node(server, outbox) {
+        match send_asked(&self.node, what, server, outbox) {
             Ok(()) => Ok(()),
             Err(_) => {
-                self.is_up = false;
+                self.life = None;
                 Err(Refusal::NoMemory)
             }
+        }
+    }
+
+    /// An allocation that runs ends.
+    fn end(&mut self, id: AllocId, ok: bool) -> Result<(), Refusal>
+        ensures same { self.new.size ≡ self.old.size }
+        ensures taken { OnOk result ((all : List Frame) →
+            AgentTakes self.old (inputs.End id ok) self.new all all) }
+        ensures admitted { OnOk result
+            (agent_refusal self.old.size self.old.client (inputs.End id ok) ≡ None) }
+        ensures refused { IfErr result (λ cause.
+            IsAgentRefused self.old.size self.old.client (inputs.End id ok) cause) }
+        ensures left { IfErr result (λ cause. AgentRefusalLeaves self.old cause self.new) }
+    {
+        let Some(mut life) = self.life.take() else {
+            return Err(Refusal::Down);
+        };
+        if !life.runs(&id) {
+            self.life = Some(life);
+            return Err(Refusal::UnknownAlloc);
+        }
+        match life.end(&id, ok) {
+            Ok(()) => {
+                self.life = Some(life);
+                Ok(())
+            }
+            Err(_) => Err(Refusal::NoMemory),
         }
     }
 
@@ -198,9 +316,11 @@ impl Agent {
     ///
     /// One that is down refuses every input but Restart with `Down`. Then of a frame `Frame` names
     /// the offset of its first fault, or 2 where its sender is no server of the group, or 3 where
-    /// it is not for this client; a Register is refused with `OutOfRange` where the group has no
-    /// such server, and so is a Restart of one that is up. A refusal changes nothing and sends
-    /// nothing. With `NoMemory` the client is down; only a frame and a Register take any.
+    /// it is not for this client; a Register, a Ping or a Pull is refused with `OutOfRange` where
+    /// the group has no such server, and so is a Restart of one that is up; an End is refused with
+    /// `UnknownAlloc` where no such allocation runs. A refusal changes nothing and sends nothing.
+    /// With `NoMemory` the client is down, with what it ever started as it was; a Crash and a
+    /// Restart take none.
     #[tactic(auto, using(crate::proofs::Taking::crashed_by, crate::proofs::Taking::restarted_by))]
     pub fn step(&mut self, input: ClientInput, outbox: &mut Frames) -> Result<(), Refusal>
         ensures same { self.new.size ≡ self.old.size }
@@ -214,19 +334,22 @@ impl Agent {
     {
         match input {
             ClientInput::Frame(bytes) => self.receive(bytes.as_slice(), outbox),
-            ClientInput::Register(server) => self.register(server, outbox),
+            ClientInput::Register(server) => self.ask(Asked::Registration, server, outbox),
+            ClientInput::Ping(server) => self.ask(Asked::Heartbeat, server, outbox),
+            ClientInput::Pull(server) => self.ask(Asked::Listing, server, outbox),
+            ClientInput::End(id, ok) => self.end(id, ok),
             ClientInput::Crash => {
                 if !self.is_up() {
                     return Err(Refusal::Down);
                 }
-                self.is_up = false;
+                self.life = None;
                 Ok(())
             }
             ClientInput::Restart => {
                 if self.is_up() {
                     return Err(Refusal::OutOfRange);
                 }
-                self.is_up = true;
+                self.life = Some(Life::new(self.alloc));
                 Ok(())
             }
         }

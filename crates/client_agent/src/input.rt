@@ -1,7 +1,7 @@
 ghost use Rattle.std.specs.Prelude.{◌≡◌, IfOk, OnErr};
 ghost use Rattle.client_agent.specs.Inputs.{IsFrameInput};
 
-use rows::{NoMemory, Sequence, ServerId};
+use rows::{AllocId, NoMemory, Sequence, ServerId};
 use std::alloc::Global;
 
 /// What comes to a client.
@@ -12,6 +12,15 @@ pub enum ClientInput {
     /// It is to register its node with this server. (Nomad documentation, "Nomad agents": a client
     /// registers itself with the servers.)
     Register(ServerId),
+    /// It is to send a heartbeat to this server. (Nomad documentation, "server" block of the agent
+    /// configuration: heartbeats.)
+    Ping(ServerId),
+    /// It is to ask this server which allocations its node is to run. (Nomad documentation,
+    /// "Allocations".)
+    Pull(ServerId),
+    /// An allocation that runs ends: complete where the flag is set, else failed. (Nomad
+    /// documentation, "Allocations": client status.)
+    End(AllocId, bool),
     /// It stops, and loses what it does not store.
     Crash,
     /// It starts again with what it stored.
@@ -31,6 +40,9 @@ impl ClientInput {
                 Ok(ClientInput::Frame(Sequence::from_vec(copy)))
             }
             ClientInput::Register(server) => Ok(ClientInput::Register(*server)),
+            ClientInput::Ping(server) => Ok(ClientInput::Ping(*server)),
+            ClientInput::Pull(server) => Ok(ClientInput::Pull(*server)),
+            ClientInput::End(id, ok) => Ok(ClientInput::End(*id, *ok)),
             ClientInput::Crash => Ok(ClientInput::Crash),
             ClientInput::Restart => Ok(ClientInput::Restart),
         }

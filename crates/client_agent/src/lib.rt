@@ -2,7 +2,17 @@
 #![tactic(auto)]
 
 mod agent;
+mod asking;
+mod ended;
+mod ids;
 mod input;
+mod life;
+mod listing;
+mod reporting;
+mod running;
+mod started;
+mod starting;
 
 pub use agent::Agent;
 pub use input::ClientInput;
+pub use running::RunningAllocation;

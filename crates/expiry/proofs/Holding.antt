@@ -21,7 +21,8 @@ same_nodes find (n ∷ nodes) = ap (λ ns. n.number ∷ ns) (same_nodes find nod
 pub over_ready : (nodes : List Node) (old : List BeatCount) → HoldsReady nodes (beat_counts_over nodes old)
 over_ready nodes old = same_nodes (λ n. beat_count_of n old) (filter (λ (n : Node). is_ready n.status) nodes)
 
-beat_stays : (n : ℕ) (counts : List BeatCount) → map count_node (with_beat n counts) ≡ map count_node counts
+-- a heartbeat is of no other nodes
+pub beat_stays : (n : ℕ) (counts : List BeatCount) → map count_node (with_beat n counts) ≡ map count_node counts
 beat_stays n [] = refl
 beat_stays n (c ∷ counts) = λ i. one (nat_eq c.node n) i ∷ beat_stays n counts i where
   one : (b : Bool) → count_node (cond b (one_beat_more c) c) ≡ c.node

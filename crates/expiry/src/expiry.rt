@@ -3,26 +3,15 @@ ghost use Rattle.rows.specs.declared.refusal.Refusal.TheVariants as refusals;
 ghost use Rattle.cluster_model.specs.Words.{is_ready};
 ghost use Rattle.group_model.specs.Expiry.{beat_count_of, beat_counts_over, beat_counts_with};
 ghost use Rattle.group_model.specs.BeatCounts.{beat_heard, expiry_refusal};
+ghost use Rattle.expiry.specs.Errors.{refusal_of};
 
 use crate::beat_count::BeatCount;
+use crate::errors::{ExpiryError, UnknownNode};
 use fsm_state::Cluster;
 use fsm_tables::{ReservedTable, Table};
-use rows::{Index, NoMemory, Node, NodeId, NodeStatus, Refusal};
+use rows::{Index, NoMemory, Node, NodeId, NodeStatus};
 use std::alloc::Global;
 use std::marker::Model;
-
-/// That a node is not held, as the answer of a call that is refused for nothing else. `?` makes it
-/// `Refusal::UnknownNode` where the caller has other refusals too.
-#[derive(Clone, Copy, Debug, PartialEq, Eq)]
-pub struct UnknownNode;
-
-impl From<UnknownNode> for Refusal {
-    ghost from_gives = { λ _ e. e ≡ refusals.UnknownNode };
-
-    fn from(_e: UnknownNode) -> Refusal {
-        Refusal::UnknownNode
-    }
-}
 
 /// The ready nodes, each with the number of its heartbeats since the desk opened, or since the node
 /// came back. Contracts see the list of them in rising node. (Nomad documentation, "server" block
@@ -142,13 +131,14 @@ impl Expiry {
     /// Whether a node may be said to be lost, which was heard of so often and not since.
     /// `UnknownNode` where it is not held; `StaleExpiry` where its number is another. It takes no
     /// memory.
-    pub fn expire(&self, node: NodeId, beats: Index) -> Result<(), Refusal>
+    pub fn expire(&self, node: NodeId, beats: Index) -> Result<(), ExpiryError>
         ensures ok { OnOk result (expiry_refusal node beats self.now ≡ None) }
-        ensures err { IfErr result (λ e. expiry_refusal node beats self.now ≡ Some e) }
+        ensures err { IfErr result
+            (λ e. expiry_refusal node beats self.now ≡ Some (refusal_of e)) }
     {
         match self.beats(node) {
-            None => Err(Refusal::UnknownNode),
-            Some(heard) if heard != beats => Err(Refusal::StaleExpiry),
+            None => Err(ExpiryError::UnknownNode),
+            Some(heard) if heard != beats => Err(ExpiryError::StaleExpiry),
             Some(_) => Ok(()),
         }
     }

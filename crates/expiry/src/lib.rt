@@ -2,10 +2,12 @@
 #![tactic(auto)]
 
 mod beat_count;
+mod errors;
 mod expiry;
 mod laws;
 mod worked;
 
-pub use expiry::{Expiry, UnknownNode};
+pub use errors::{ExpiryError, UnknownNode};
+pub use expiry::Expiry;
 pub use laws::{desks_go_by_counts, ready_nodes_are_held};
 pub use worked::worked_heartbeats;

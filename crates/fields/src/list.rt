@@ -98,7 +98,11 @@ pub(crate) fn append_counted<F: Field>(
 
 /// Puts the count in four bytes to the end, and the values. Without memory a part of this may stand
 /// there.
-fn append_long_counted<F: Field>(values: &[F], most: u32, out: &mut Vec<u8>) -> Result<(), NoMemory>
+pub(crate) fn append_long_counted<F: Field>(
+    values: &[F],
+    most: u32,
+    out: &mut Vec<u8>,
+) -> Result<(), NoMemory>
     requires { length values.now ≤ most }
     ensures { Puts (list 4 most F.format) values.now result out.old.items out.new.items }
 {

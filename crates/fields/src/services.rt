@@ -1,18 +1,22 @@
-//! What workers and the leader's desk tell each other, and what an agent is told, as bytes.
+//! What workers and the leader's desk tell each other, and what an agent is told and shown, as
+//! bytes.
 ghost use Rattle.std.specs.Prelude.{◌≡◌};
-ghost use Rattle.rows.specs.Ids.{node_rises};
+ghost use Rattle.rows.specs.Rising.{is_behind};
+ghost use Rattle.rows.specs.Ids.{alloc_cmp, node_rises};
+ghost use Rattle.rows.specs.Listings.{listed_id, listed_rises};
 ghost use Rattle.fields_model.specs.Format.{GivesExactly, Puts, number};
-ghost use Rattle.fields_model.specs.Services.{eval_outcome, place_count, node_id_behind, rising_nodes, plan_result, leader_number, told_leader, told_of, told_parts, told_from, told_reason, reason, no_pair, a_pair, asked_number, asked_request, client_request_kind};
-ghost use Rattle.fields_model.proofs.ServiceLaws.{eval_outcome_lawful, place_count_lawful, node_id_is_ruled, rising_nodes_lawful, plan_result_lawful, reason_lawful, asked_request_lawful, client_request_kind_lawful};
+ghost use Rattle.fields_model.specs.Services.{eval_outcome, place_count, node_id_behind, rising_nodes, plan_result, leader_number, told_leader, told_of, told_parts, told_from, told_reason, reason, no_pair, a_pair, asked_number, asked_request, client_request_kind, live_state, listed_allocation, listed_allocation_behind, listing};
+ghost use Rattle.fields_model.proofs.ServiceLaws.{eval_outcome_lawful, place_count_lawful, node_id_is_ruled, rising_nodes_lawful, plan_result_lawful, reason_lawful, asked_request_lawful, client_request_kind_lawful, live_state_lawful, listed_allocation_lawful, listed_allocation_is_ruled, listing_lawful};
 
 use crate::field::Field;
-use crate::list::append_counted;
+use crate::list::{append_counted, append_long_counted};
 use crate::reading::{read_index, read_u8, read_zero};
-use crate::ruled::{RuledField, read_ruled_list};
+use crate::ruled::{RuledField, read_long_ruled_list, read_ruled_list};
 use crate::writing::write_u8;
 use rows::{
-    AskedRequest, ClientRequestKind, EvalId, EvalOutcome, Index, Leader, NoMemory, NodeId,
-    PlaceCount, PlanResult, Ranged, Reason, Refusal, RisingNodes, Ruled, ServerId, Token,
+    AllocId, AskedRequest, ClientRequestKind, EvalId, EvalOutcome, Index, Leader, ListedAllocation,
+    Listing, LiveState, NoMemory, NodeId, PlaceCount, PlanResult, Ranged, Reason, Refusal,
+    RisingNodes, Ruled, ServerId, Size, Token,
 };
 use std::alloc::Global;
 
@@ -388,5 +392,108 @@ impl Field for ClientRequestKind {
             ClientRequestKind::Report => 18,
         };
         write_u8(&number, out)
+    }
+}
+
+/// One byte: 0 pending, 1 running.
+impl Field for LiveState {
+    ghost format = { live_state };
+
+    ghost lawful = { live_state_lawful };
+
+    fn read_at(_alloc: Global, bytes: &[u8], at: usize) -> Result<(LiveState, usize), Refusal>
+        ensures { GivesExactly result (live_state.read bytes.now at) }
+    {
+        match read_u8(bytes, at)? {
+            (0, next) => Ok((LiveState::Pending, next)),
+            (1, next) => Ok((LiveState::Running, next)),
+            _ => Err(Refusal::Frame(at)),
+        }
+    }
+
+    fn append(&self, out: &mut Vec<u8>) -> Result<(), NoMemory> {
+        let code = match self {
+            LiveState::Pending => 0,
+            LiveState::Running => 1,
+        };
+        write_u8(&code, out)
+    }
+}
+
+/// A live allocation: its id, its size, and what is known of it.
+impl Field for ListedAllocation {
+    ghost format = { listed_allocation };
+
+    ghost lawful = { listed_allocation_lawful };
+
+    fn read_at(alloc: Global, bytes: &[u8], at: usize) -> Result<(ListedAllocation, usize), Refusal>
+        ensures { GivesExactly result (listed_allocation.read bytes.now at) }
+    {
+        let (id, at) = AllocId::read_at(alloc, bytes, at)?;
+        let (size, at) = Size::read_at(alloc, bytes, at)?;
+        let (state, at) = LiveState::read_at(alloc, bytes, at)?;
+        Ok((ListedAllocation { id, size, state }, at))
+    }
+
+    fn append(&self, out: &mut Vec<u8>) -> Result<(), NoMemory> {
+        self.id.append(out)?;
+        self.size.append(out)?;
+        self.state.append(out)
+    }
+}
+
+/// Whether the id is above that of the last row, if there is one.
+fn is_listed_above(front: &[ListedAllocation], id: &AllocId) -> bool
+    ensures { result ≡ is_behind alloc_cmp listed_id front.now id.now }
+{
+    match front.last() {
+        None => true,
+        Some(last) => last.id < *id,
+    }
+}
+
+/// In a list ids rise strictly: one that does not is a fault at the row's first byte.
+impl RuledField for ListedAllocation {
+    ghost rule = { listed_rises };
+
+    ghost behind = { listed_allocation_behind };
+
+    ghost ruled = { listed_allocation_is_ruled };
+
+    fn read_behind(
+        alloc: Global,
+        bytes: &[u8],
+        at: usize,
+        front: &[ListedAllocation],
+    ) -> Result<(ListedAllocation, usize), Refusal>
+        ensures { GivesExactly result ((listed_allocation_behind front.now).read bytes.now at) }
+    {
+        let (id, next) = AllocId::read_at(alloc, bytes, at)?;
+        if !is_listed_above(front, &id) {
+            return Err(Refusal::Frame(at));
+        }
+        let (size, next) = Size::read_at(alloc, bytes, next)?;
+        let (state, next) = LiveState::read_at(alloc, bytes, next)?;
+        Ok((ListedAllocation { id, size, state }, next))
+    }
+}
+
+/// A count of four bytes, at most 65,536, and that many allocations whose ids rise strictly.
+impl Field for Listing {
+    ghost format = { listing };
+
+    ghost lawful = { listing_lawful };
+
+    fn read_at(alloc: Global, bytes: &[u8], at: usize) -> Result<(Listing, usize), Refusal> {
+        let (rows, next) = read_long_ruled_list(alloc, bytes, at, 65_536)?;
+        match Listing::check(rows) {
+            Ok(listing) => Ok((listing, next)),
+            Err(_) => unreachable!(),
+        }
+    }
+
+    fn append(&self, out: &mut Vec<u8>) -> Result<(), NoMemory> {
+        self.ranges();
+        append_long_counted(self.as_slice(), 65_536, out)
     }
 }

@@ -1,6 +1,8 @@
--- The laws of what workers and the leader's desk tell each other, and of what an agent is told.
+-- The laws of what workers and the leader's desk tell each other, and of what an agent is told and
+-- shown.
 use Rattle.std.proofs.Common.{◌≡◌, ℕ, zero, suc, ◌+◌, ◌^◌, ◌≤◌, ◌<◌, Bool, true, false, nat_eq, [], ◌∷◌, Option, Some, None, refl, ap, sym, arith, if◌then◌else◌}
 use Rattle.rows.specs.Ids.{node_rises}
+use Rattle.rows.specs.Listings.{listed_rises}
 use Rattle.rows.specs.declared.evaluation.EvalId.{EvalId}
 use Rattle.rows.specs.declared.token.Token.{Token}
 use Rattle.rows.specs.declared.reason.Reason.{Reason}
@@ -10,13 +12,14 @@ use Rattle.rows.specs.declared.worker.EvalOutcome.TheVariants as outcomes
 use Rattle.rows.specs.declared.worker.AskedRequest.{AskedRequest}
 use Rattle.rows.specs.declared.worker.AskedRequest.TheVariants as asked
 use Rattle.rows.specs.declared.worker.ClientRequestKind.TheVariants as client_requests
+use Rattle.rows.specs.declared.listing.LiveState.TheVariants as live_states
 use Rattle.fields_model.specs.Format.{number, Lawful, IsRuled}
 use Rattle.fields_model.specs.Ids.{node_id}
-use Rattle.fields_model.proofs.FormatLaws.{number_lawful, made_lawful, then_lawful, depends_lawful, coded_lawful, kept_lawful, numbered_lawful, ruled_list_lawful, kept_is_ruled, no_choice, variant_choice, choice_lawful}
+use Rattle.fields_model.proofs.FormatLaws.{number_lawful, made_lawful, then_lawful, depends_lawful, coded_lawful, kept_lawful, numbered_lawful, enumerated_lawful, ruled_list_lawful, kept_is_ruled, keyed_is_ruled, no_choice, variant_choice, choice_lawful}
 use Rattle.fields_model.proofs.FieldLaws.{byte_lawful, index_lawful}
-use Rattle.fields_model.proofs.IdLaws.{node_id_lawful, evaluation_id_lawful, token_lawful}
+use Rattle.fields_model.proofs.IdLaws.{size_lawful, node_id_lawful, evaluation_id_lawful, allocation_id_lawful, token_lawful}
 use Rattle.fields_model.proofs.CommandLaws.{none_else}
-use Rattle.fields_model.specs.Services.{outcome_limit, eval_outcome_of, outcome_parts, eval_outcome, place_count, node_id_behind, rising_nodes, plan_result, leader_of, leader_number, leader_limit, told_leader, told_of, told_parts, told_from, told_reason, reason, asked_number, no_pair, a_pair, asked_take_of, asked_submit_of, asked_finish_of, asked_nack_of, asked_request, client_request_kind}
+use Rattle.fields_model.specs.Services.{outcome_limit, eval_outcome_of, outcome_parts, eval_outcome, place_count, node_id_behind, rising_nodes, plan_result, leader_of, leader_number, leader_limit, told_leader, told_of, told_parts, told_from, told_reason, reason, asked_number, no_pair, a_pair, asked_take_of, asked_submit_of, asked_finish_of, asked_nack_of, asked_request, client_request_kind, live_state, listed_allocation, listed_allocation_behind, listing}
 
 -- ---- what became of an evaluation, and of a plan
 
@@ -185,3 +188,17 @@ asked_request_lawful = choice_lawful asked_number _ _ (kept_lawful _ _ byte_lawf
 
 pub client_request_kind_lawful : Lawful client_request_kind
 client_request_kind_lawful = numbered_lawful (client_requests.Register ∷ client_requests.Heartbeat ∷ client_requests.Report ∷ []) _
+
+-- ---- the live allocations of a node
+
+pub live_state_lawful : Lawful live_state
+live_state_lawful = enumerated_lawful 0 (live_states.Pending ∷ live_states.Running ∷ []) _ refl
+
+pub listed_allocation_lawful : Lawful listed_allocation
+listed_allocation_lawful = made_lawful _ _ _ (λ _. refl) (λ _ _. refl) (then_lawful _ _ allocation_id_lawful (then_lawful _ _ size_lawful live_state_lawful))
+
+pub listed_allocation_is_ruled : IsRuled listed_rises listed_allocation listed_allocation_behind
+listed_allocation_is_ruled = keyed_is_ruled _ _ _ _ _ (λ _. refl) (λ _. refl) allocation_id_lawful (then_lawful _ _ size_lawful live_state_lawful)
+
+pub listing_lawful : Lawful listing
+listing_lawful = ruled_list_lawful 4 65536 _ _ _ (omega arith) (omega arith) listed_allocation_lawful listed_allocation_is_ruled

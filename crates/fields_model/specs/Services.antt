@@ -1,6 +1,8 @@
--- What workers and the leader's desk tell each other, and what an agent is told.
+-- What workers and the leader's desk tell each other, and what an agent is told and shown.
 use Rattle.std.specs.Prelude.{ℕ, zero, suc, ◌+◌, ◌^◌, Bool, ◌||◌, nat_eq, List, [], ◌∷◌, Option, Some, None, if◌then◌else◌}
-use Rattle.rows.specs.Ids.{node_rises}
+use Rattle.rows.specs.Rising.{is_behind}
+use Rattle.rows.specs.Ids.{alloc_cmp, node_rises}
+use Rattle.rows.specs.Listings.{listed_id, listed_rises}
 use Rattle.rows.specs.Reasons.{reason_number}
 use Rattle.rows.specs.declared.evaluation.EvalId.{EvalId}
 use Rattle.rows.specs.declared.token.Token.{Token}
@@ -13,9 +15,14 @@ use Rattle.rows.specs.declared.worker.AskedRequest.TheVariants as asked
 use Rattle.rows.specs.declared.worker.PlanResult.{PlanResult}
 use Rattle.rows.specs.declared.worker.ClientRequestKind.{ClientRequestKind}
 use Rattle.rows.specs.declared.worker.ClientRequestKind.TheVariants as client_requests
-use Rattle.fields_model.specs.Format.{Format, number, made, ◌then◌, depends, coded, kept, numbered, with_number, ruled_list, tagged, variant, never, choice}
+use Rattle.rows.specs.declared.size.Size.{Size}
+use Rattle.rows.specs.declared.allocation.AllocId.{AllocId}
+use Rattle.rows.specs.declared.listing.LiveState.{LiveState}
+use Rattle.rows.specs.declared.listing.LiveState.TheVariants as live_states
+use Rattle.rows.specs.declared.listing.ListedAllocation.{ListedAllocation}
+use Rattle.fields_model.specs.Format.{Format, number, made, ◌then◌, depends, coded, kept, enumerated, keyed, keyed_behind, numbered, with_number, ruled_list, tagged, variant, never, choice}
 use Rattle.fields_model.specs.Fields.{byte, index}
-use Rattle.fields_model.specs.Ids.{node_id, evaluation_id, token}
+use Rattle.fields_model.specs.Ids.{size, node_id, evaluation_id, allocation_id, token}
 
 -- ---- what became of an evaluation, and of a plan
 
@@ -156,3 +163,33 @@ client_request_number client_requests.Report = 18
 
 abbrev pub client_request_kind : Format ClientRequestKind
 client_request_kind = numbered (client_requests.Register ∷ client_requests.Heartbeat ∷ client_requests.Report ∷ []) client_request_number
+
+-- ---- the live allocations of a node
+
+-- one byte: 0 pending, 1 running
+abbrev pub code_of_live_state : LiveState → ℕ
+code_of_live_state live_states.Pending = 0
+code_of_live_state live_states.Running = 1
+
+abbrev pub live_state : Format LiveState
+live_state = enumerated 0 (live_states.Pending ∷ live_states.Running ∷ []) code_of_live_state
+
+-- an allocation: its id, size and state; in a list its id is above the last
+abbrev pub make_listed : AllocId × (Size × LiveState) → ListedAllocation
+make_listed p = record { id = p.0; size = p.1.0; state = p.1.1 }
+
+abbrev pub listed_parts : ListedAllocation → AllocId × (Size × LiveState)
+listed_parts r = (r.id, (r.size, r.state))
+
+abbrev pub listed_others : Format (Size × LiveState)
+listed_others = size then live_state
+
+abbrev pub listed_allocation : Format ListedAllocation
+listed_allocation = keyed make_listed listed_parts allocation_id listed_others
+
+abbrev pub listed_allocation_behind : List ListedAllocation → Format ListedAllocation
+listed_allocation_behind = keyed_behind (is_behind alloc_cmp listed_id) make_listed listed_parts allocation_id listed_others
+
+-- at most 65,536
+abbrev pub listing : Format (List ListedAllocation)
+listing = ruled_list 4 65536 listed_rises listed_allocation listed_allocation_behind

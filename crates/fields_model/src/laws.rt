@@ -5,7 +5,7 @@ ghost use Rattle.fields_model.specs.Fields.{term, index, server, byte, u16, u32,
 ghost use Rattle.fields_model.specs.Ids.{name, size, node_id, evaluation_id, allocation_id, token, delivery};
 ghost use Rattle.fields_model.specs.Rows.{job, node, evaluation, allocation};
 ghost use Rattle.fields_model.specs.Commands.{plan, reports, command};
-ghost use Rattle.fields_model.specs.Services.{eval_outcome, plan_result, asked_request, reason, client_request_kind, told_reason};
+ghost use Rattle.fields_model.specs.Services.{eval_outcome, plan_result, asked_request, reason, client_request_kind, told_reason, listing};
 ghost use Rattle.fields_model.specs.StateText.{state};
 ghost use Rattle.rows.specs.State.{State};
 ghost use Rattle.rows.specs.States.{IsState};
@@ -52,7 +52,8 @@ pub fn rows_are_lawful()
     ensures state_short { state.most ≡ 10064216 }
 {}
 
-/// What workers and the leader's desk tell each other has lawful formats, and what an agent is told.
+/// What workers and the leader's desk tell each other has lawful formats, and what an agent is told
+/// and shown.
 pub fn services_are_lawful()
     ensures eval_outcome { Lawful eval_outcome }
     ensures plan_result { Lawful plan_result }
@@ -60,6 +61,7 @@ pub fn services_are_lawful()
     ensures reason { Lawful reason }
     ensures client_request_kind { Lawful client_request_kind }
     ensures told_reason { Lawful told_reason }
+    ensures listing { Lawful listing }
 {}
 
 /// The states that have a text are those with each table within its limit and in strictly rising

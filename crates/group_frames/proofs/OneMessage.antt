@@ -38,6 +38,10 @@ apart i j (bodies.AppendReply r) x y p h = no_service h
 apart i j (bodies.Request r) x y p h = no_message p
 apart i j (bodies.Response r) x y p h = no_message p
 apart i j (bodies.Register class size) x y p h = no_message p
+apart i j bodies.Heartbeat x y p h = no_message p
+apart i j bodies.Pull x y p h = no_message p
+apart i j (bodies.List index rows) x y p h = no_message p
+apart i j (bodies.Report items) x y p h = no_message p
 apart i j (bodies.Told kind refused) x y p h = no_message p
 
 module _ {S : Type 0} (m : Meaning S Command) (law : LawfulMachine m) where

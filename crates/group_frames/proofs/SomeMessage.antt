@@ -13,7 +13,7 @@ use Rattle.wire.specs.declared.body.Body.{Body}
 use Rattle.wire.specs.declared.body.Body.TheVariants as bodies
 use Rattle.raft_model.specs.Messages.{Message, VoteRequest, VoteReply, Append, AppendReply}
 use Rattle.raft_core.specs.Frames.{Means}
-use Rattle.group_model.specs.Messages.{GroupMessage, Raft, Service, ServiceMessage, BetweenServers, ToServer, ToClient, Asks, Answers, Register, Told}
+use Rattle.group_model.specs.Messages.{GroupMessage, Raft, Service, ServiceMessage, BetweenServers, ToServer, ToClient, Asks, Answers, Register, Heartbeat, Pull, ReportStates, Listing, Told}
 use Rattle.group_frames.specs.GroupFrames.{service_of, IsGroupFrame, FramesAreOfSome}
 
 -- what one server says to another by a kind of the log
@@ -30,6 +30,10 @@ said_between i j (bodies.Response (responses.Delivered what)) h = absurd cc
 said_between i j (bodies.Response (responses.PlanResult result)) h = absurd cc
 said_between i j (bodies.Response (responses.Refused asked reason)) h = absurd cc
 said_between i j (bodies.Register class size) h = absurd cc
+said_between i j bodies.Heartbeat h = absurd cc
+said_between i j bodies.Pull h = absurd cc
+said_between i j (bodies.List index rows) h = absurd cc
+said_between i j (bodies.Report items) h = absurd cc
 said_between i j (bodies.Told kind refused) h = absurd cc
 
 -- what was read says a message
@@ -66,6 +70,18 @@ says from to (bodies.Response (responses.Refused asked reason)) goes = answers f
 says (Client c) (Server j) (bodies.Register class size) goes = inr (ToServer c j (Register class size), refl)
 says (Client c) (Client d) (bodies.Register class size) goes = absurd cc
 says (Server i) to (bodies.Register class size) goes = absurd cc
+says (Client c) (Server j) bodies.Heartbeat goes = inr (ToServer c j Heartbeat, refl)
+says (Client c) (Client d) bodies.Heartbeat goes = absurd cc
+says (Server i) to bodies.Heartbeat goes = absurd cc
+says (Client c) (Server j) bodies.Pull goes = inr (ToServer c j Pull, refl)
+says (Client c) (Client d) bodies.Pull goes = absurd cc
+says (Server i) to bodies.Pull goes = absurd cc
+says (Client c) (Server j) (bodies.Report items) goes = inr (ToServer c j (ReportStates items), refl)
+says (Client c) (Client d) (bodies.Report items) goes = absurd cc
+says (Server i) to (bodies.Report items) goes = absurd cc
+says (Server i) (Client c) (bodies.List index rows) goes = inr (ToClient i c (Listing index rows), refl)
+says (Server i) (Server j) (bodies.List index rows) goes = absurd cc
+says (Client c) to (bodies.List index rows) goes = absurd cc
 says (Server i) (Client c) (bodies.Told kind refused) goes = inr (ToClient i c (Told kind refused), refl)
 says (Server i) (Server j) (bodies.Told kind refused) goes = absurd cc
 says (Client c) to (bodies.Told kind refused) goes = absurd cc

@@ -11,13 +11,17 @@ use Rattle.wire.specs.Frames.{Frame, MessageFits, IsFrame, message_text}
 use Rattle.wire.specs.declared.body.Body.{Body}
 use Rattle.wire.specs.declared.body.Body.TheVariants as bodies
 use Rattle.raft_core.specs.Frames.{IsFrameOf}
-use Rattle.group_model.specs.Messages.{GroupMessage, Raft, Service, ServiceMessage, BetweenServers, ToServer, ToClient, Asks, Answers, Register, Told}
+use Rattle.group_model.specs.Messages.{GroupMessage, Raft, Service, ServiceMessage, BetweenServers, ToServer, ToClient, Asks, Answers, Register, Heartbeat, Pull, ReportStates, Listing, Told}
 
 -- what a body says beside the log's messages, from one actor to another
 abbrev pub service_between : {S C : Type 0} → Actor → Actor → Body S C → Option ServiceMessage
 service_between (Server from) (Server to) (bodies.Request request) = Some (BetweenServers from to (Asks request))
 service_between (Server from) (Server to) (bodies.Response response) = Some (BetweenServers from to (Answers response))
 service_between (Client client) (Server server) (bodies.Register class size) = Some (ToServer client server (Register class size))
+service_between (Client client) (Server server) bodies.Heartbeat = Some (ToServer client server Heartbeat)
+service_between (Client client) (Server server) bodies.Pull = Some (ToServer client server Pull)
+service_between (Client client) (Server server) (bodies.Report items) = Some (ToServer client server (ReportStates items))
+service_between (Server server) (Client client) (bodies.List index rows) = Some (ToClient server client (Listing index rows))
 service_between (Server server) (Client client) (bodies.Told kind refused) = Some (ToClient server client (Told kind refused))
 service_between _ _ _ = None
 

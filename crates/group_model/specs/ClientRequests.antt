@@ -21,7 +21,10 @@ use Rattle.fsm_tables.specs.Lookups.{lives_on}
 use Rattle.cluster_model.specs.Effect.{told_all}
 use Rattle.cluster_model.specs.Admission.{admission}
 use Rattle.cluster_model.specs.ClusterMachine.{cluster_meaning}
-use Rattle.group_model.specs.Messages.{ServiceMessage, ToClient, ClientRequest, Register, Heartbeat, Pull, ReportStates, Shown, Listing, Told}
+use Rattle.rows.specs.declared.listing.LiveState.{LiveState}
+use Rattle.rows.specs.declared.listing.LiveState.TheVariants as live_states
+use Rattle.rows.specs.declared.listing.ListedAllocation.{ListedAllocation}
+use Rattle.group_model.specs.Messages.{ServiceMessage, ToClient, ClientRequest, Register, Heartbeat, Pull, ReportStates, Listing, Told}
 use Rattle.group_model.specs.Expiry.{BeatCount, beat_count_of, with_beat}
 use Rattle.group_model.specs.Desks.{Desk, applied_state, whole_state}
 use Rattle.group_model.specs.Inputs.{Act, AskPropose, sends}
@@ -90,11 +93,16 @@ takes_heartbeat me c (Ok o) d = beats_at me c o (beat_count_of c o.beat_counts)
 
 -- ---- Pull: any server answers, from its applied state
 
-abbrev pub shown : Allocation → Shown
-shown a = record { id = a.id; size = a.size; state = a.client }
+-- what is known of a live one
+abbrev pub live_state : ClientState → LiveState
+live_state clients.Running = live_states.Running
+live_state _ = live_states.Pending
+
+abbrev pub shown : Allocation → ListedAllocation
+shown a = record { id = a.id; size = a.size; state = live_state a.client }
 
 -- the live allocations of a node
-abbrev pub listed : ℕ → State → List Shown
+abbrev pub listed : ℕ → State → List ListedAllocation
 listed n s = map shown (filter (lives_on n) s.allocs)
 
 abbrev pub pulls : ℕ → Server Command → ℕ → Option Desk → Act

@@ -4,8 +4,7 @@
 -- leader and submit plans to it; "Consensus Protocol".)
 use Rattle.std.specs.Prelude.{ℕ, Option, List}
 use Rattle.rows.specs.declared.size.Size.{Size}
-use Rattle.rows.specs.declared.allocation.AllocId.{AllocId}
-use Rattle.rows.specs.declared.allocation.ClientState.{ClientState}
+use Rattle.rows.specs.declared.listing.ListedAllocation.{ListedAllocation}
 use Rattle.rows.specs.declared.command.Report.{Report}
 use Rattle.rows.specs.declared.command.Command.{Command}
 use Rattle.rows.specs.declared.reason.Reason.{Reason}
@@ -32,15 +31,9 @@ pub data ClientRequest : Type 0 where
   -- what became of allocations
   ReportStates : (items : List Report) → ClientRequest
 
--- a live allocation as a client is shown it
-pub record Shown : Type 0 where
-  pub id : AllocId
-  pub size : Size
-  pub state : ClientState
-
 pub data ClientResponse : Type 0 where
   -- the live allocations of the client's node, in rising id, at the state of this index
-  Listing : (index : ℕ) (rows : List Shown) → ClientResponse
+  Listing : (index : ℕ) (rows : List ListedAllocation) → ClientResponse
   -- the request is taken, or refused
   Told : (kind : ClientRequestKind) (refused : Option Reason) → ClientResponse
 

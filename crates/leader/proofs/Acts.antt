@@ -1,6 +1,6 @@
 -- What a server makes of a request or a turn is told by the answer of the desk's call.
 use Rattle.std.proofs.Common.{◌≡◌, ℕ, Bool, true, false, cond, Option, Some, None, Result, Ok, Err, refl, ap, ◌∙◌}
-use Rattle.std.specs.Prelude.{option_map}
+use Rattle.std.specs.Prelude.{nat_eq, option_map}
 use Rattle.rows.specs.declared.evaluation.EvalId.{EvalId}
 use Rattle.rows.specs.declared.evaluation.Evaluation.{Evaluation}
 use Rattle.rows.specs.declared.command.Command.{Command}
@@ -16,16 +16,19 @@ use Rattle.cluster_model.specs.ClusterMachine.{cluster_meaning}
 use Rattle.group_model.specs.Order.{Picked}
 use Rattle.group_model.specs.Brokers.{Given, Nothing, UsedUp, Gives, Task, task_id, deliver, outstanding, is_outstanding, with_ack, with_nack}
 use Rattle.group_model.specs.Blocked.{first_due}
+use Rattle.group_model.specs.Expiry.{BeatCount, beat_count_of}
+use Rattle.group_model.specs.BeatCounts.{beat_heard_of, expiry_refusal_of}
 use Rattle.group_model.specs.Desks.{Desk, QueuedPlan, applied_state, whole_state}
-use Rattle.group_model.specs.Inputs.{rests}
+use Rattle.group_model.specs.Inputs.{AskPropose, rests, asks}
 use Rattle.group_model.specs.Plans.{submitted, judged, turn_of, after_accept}
 use Rattle.group_model.specs.Queues.{first_plan}
-use Rattle.group_model.specs.Turns.{free_turn_of, reap_of}
+use Rattle.group_model.specs.Turns.{expire_of, free_turn_of, reap_of}
+use Rattle.group_model.specs.ClientRequests.{beats_at}
 use Rattle.group_model.specs.WorkerRequests.{refuses, takes_given, submits_of, finishes_of, finishes_by, nacks_of}
-use Rattle.leader.specs.OpenDesks.{OpenDesk, with_broker, once_given, once_submitted, once_outstanding}
+use Rattle.leader.specs.OpenDesks.{OpenDesk, with_broker, once_given, once_submitted, once_outstanding, once_heard, unless_refused}
 use Rattle.leader.specs.Verdicts.{verdict_for, once_picked}
-use Rattle.leader.specs.GroupActs.{take_act, submit_act, nack_act, finish_act, proposes_at, lapse_act, judged_act, status_act}
-use Rattle.leader.specs.GroupActs.{TakesByDeliver, SubmitsBySubmit, NacksByNack, FinishesByAck, LapsesByLapse, PlanTurnsByVerdict, FreesByFreeTurn, ReapsByReap}
+use Rattle.leader.specs.GroupActs.{take_act, submit_act, nack_act, finish_act, proposes_at, lapse_act, expire_act, heartbeat_act, judged_act, status_act}
+use Rattle.leader.specs.GroupActs.{TakesByDeliver, SubmitsBySubmit, NacksByNack, FinishesByAck, LapsesByLapse, PlanTurnsByVerdict, FreesByFreeTurn, ReapsByReap, HeartbeatsByBeat, ExpiresByExpire}
 use Rattle.leader.proofs.Turning.{freed_of_state}
 
 pub takes_by_deliver : TakesByDeliver
@@ -93,3 +96,20 @@ reaps_by_reap s o = by _ where
   by : (t : Option Task) → status_act changes.Failed o.desk (Ok (option_map task_id t)) ≡ Ok (reap_of o.desk t)
   by None = refl
   by (Some t) = refl
+
+pub heartbeats_by_beat : HeartbeatsByBeat
+heartbeats_by_beat me client d o = by (beat_count_of client o.desk.beat_counts) where
+  by : (c : Option BeatCount) → beats_at me client o.desk c ≡ heartbeat_act me client o (once_heard o (beat_heard_of client o.desk.beat_counts c))
+  by None = refl
+  by (Some c) = refl
+
+pub expires_by_expire : ExpiresByExpire
+expires_by_expire node beats o = by (beat_count_of node o.desk.beat_counts) where
+  at : (b : Bool) → cond b (Ok (asks (AskPropose (commands.NodeDown node)) (Some o.desk))) (Err refusals.StaleExpiry)
+      ≡ expire_act node o.desk (unless_refused (cond b None (Some refusals.StaleExpiry)))
+  at true = refl
+  at false = refl
+
+  by : (c : Option BeatCount) → expire_of o.desk node beats c ≡ expire_act node o.desk (unless_refused (expiry_refusal_of beats c))
+  by None = refl
+  by (Some c) = at (nat_eq c.beats beats)

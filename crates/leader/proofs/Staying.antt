@@ -9,15 +9,16 @@ use Rattle.cluster_model.specs.Words.{State, eval_of}
 use Rattle.group_model.specs.Order.{Picked}
 use Rattle.group_model.specs.Worked.Brokers.{after_gift}
 use Rattle.group_model.specs.Brokers.{Broker, Given, Nothing, UsedUp, Gives, Acked, Free, no_tasks, deliver, set_mark, outstanding, is_outstanding, with_ack, with_nack, HoldsPending, task_key}
-use Rattle.group_model.specs.Expiry.{HoldsReady}
+use Rattle.group_model.specs.Expiry.{BeatCount, HoldsReady, beat_count_of}
+use Rattle.group_model.specs.BeatCounts.{beat_heard_of}
 use Rattle.group_model.specs.Desks.{Desk, QueuedPlan}
 use Rattle.group_model.specs.Plans.{QUEUE, joins}
 use Rattle.group_model.specs.Queues.{first_plan}
 use Rattle.eval_broker.proofs.Following.{over_holds, keys_kept, gift_keeps}
-use Rattle.expiry.proofs.Holding.{over_ready}
-use Rattle.leader.specs.OpenDesks.{OpenDesk, Answered, with_broker, on_lapse, once_given, once_outstanding, once_submitted}
+use Rattle.expiry.proofs.Holding.{over_ready, beat_stays as same_nodes}
+use Rattle.leader.specs.OpenDesks.{OpenDesk, Answered, with_broker, on_lapse, once_given, once_outstanding, once_submitted, once_heard}
 use Rattle.leader.specs.Verdicts.{once_picked}
-use Rattle.leader.specs.Staying.{IsOver, OpensOver, DeliverStays, AckStays, NackStays, LapseStays, SubmitStays, PlanTurnStays}
+use Rattle.leader.specs.Staying.{IsOver, OpensOver, DeliverStays, AckStays, NackStays, LapseStays, SubmitStays, PlanTurnStays, BeatStays}
 
 -- what a call leaves, also where it is refused
 abbrev left_by : {A : Type 0} → OpenDesk → Answered A → OpenDesk
@@ -86,3 +87,9 @@ plan_turn_stays s whole o j new h = stays s o new j _ (by (first_plan o.desk.pla
   by : (p : Option (Picked QueuedPlan)) → IsOver s (once_picked whole o p).1
   by None = h
   by (Some p) = record { pending = h.pending; blocked = h.blocked; ready = h.ready }
+
+pub beat_stays : BeatStays
+beat_stays s node o a new h = stays s o new a _ (by (beat_count_of node o.desk.beat_counts)) where
+  by : (c : Option BeatCount) → IsOver s (left_by o (once_heard o (beat_heard_of node o.desk.beat_counts c)))
+  by None = h
+  by (Some c) = record { pending = h.pending; blocked = h.blocked; ready = same_nodes node o.desk.beat_counts ∙ h.ready }

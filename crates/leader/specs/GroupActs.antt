@@ -11,6 +11,7 @@ use Rattle.rows.specs.declared.command.StatusChange.{StatusChange}
 use Rattle.rows.specs.declared.command.StatusChange.TheVariants as changes
 use Rattle.rows.specs.declared.refusal.Refusal.{Refusal}
 use Rattle.rows.specs.declared.worker.EvalOutcome.{EvalOutcome}
+use Rattle.rows.specs.declared.worker.ClientRequestKind.TheVariants as kinds
 use Rattle.rows.specs.declared.worker.AskedRequest.TheVariants as asked
 use Rattle.rows.specs.declared.worker.WorkerResponse.TheVariants.{Delivered}
 use Rattle.rows.specs.Changes.{change_of}
@@ -24,12 +25,13 @@ use Rattle.group_model.specs.Desks.{Desk, applied_state, whole_state}
 use Rattle.group_model.specs.Inputs.{Act, AskPropose, rests, asks}
 use Rattle.group_model.specs.Plans.{submitted, after_accept, plan_turn}
 use Rattle.group_model.specs.Queues.{first_plan}
-use Rattle.group_model.specs.Turns.{lapse, free_turn, reap}
+use Rattle.group_model.specs.Turns.{lapse, expire, free_turn, reap}
+use Rattle.group_model.specs.ClientRequests.{answers, takes_heartbeat}
 use Rattle.group_model.specs.WorkerRequests.{responds, refuses, takes_given, submits_of}
 use Rattle.group_model.specs.WorkerRequests.{finishes_of, nacks_of}
 use Rattle.blocked.specs.Rooms.{blocked_of}
 use Rattle.leader.specs.OpenDesks.{OpenDesk, Answered, on_deliver, on_ack, on_nack, on_lapse}
-use Rattle.leader.specs.OpenDesks.{on_submit, on_free_turn, on_reap}
+use Rattle.leader.specs.OpenDesks.{on_submit, on_free_turn, on_reap, on_beat, on_expire}
 use Rattle.leader.specs.Verdicts.{Judged, once_picked}
 
 -- ---- requests of workers, at an open desk
@@ -79,6 +81,17 @@ FinishesByAck = (me from : ℕ) (s : Server Command) (id : EvalId) (token : Toke
     finishes_of me s from id token outcome o.desk (outstanding id token o.desk.broker)
     ≡ finish_act refused s c (on_ack id token o)
 
+-- ---- a client's heartbeat, at an open desk
+
+-- the client is told; refused, the desk is as it was
+abbrev pub heartbeat_act : ℕ → ℕ → OpenDesk → Answered (Unit {0}) → Act
+heartbeat_act me client o (Err r) = answers me client kinds.Heartbeat (Some r) (Some o.desk)
+heartbeat_act me client o (Ok q) = answers me client kinds.Heartbeat None (Some q.1.desk)
+
+abbrev pub HeartbeatsByBeat : Type 0
+HeartbeatsByBeat = (me client : ℕ) (d : Option Desk) (o : OpenDesk)
+    → takes_heartbeat me client (Ok o.desk) d ≡ heartbeat_act me client o (on_beat client o)
+
 -- ---- turns, at an open desk
 
 abbrev pub lapse_act : Answered (Unit {0}) → Result Act Refusal
@@ -87,6 +100,15 @@ lapse_act (Ok q) = Ok (rests (Some q.1.desk))
 
 abbrev pub LapsesByLapse : Type 0
 LapsesByLapse = (id : EvalId) (o : OpenDesk) → lapse o.desk id ≡ lapse_act (on_lapse id o)
+
+-- that the node is down is proposed
+abbrev pub expire_act : ℕ → Desk → Result (Unit {0}) Refusal → Result Act Refusal
+expire_act node d (Err r) = Err r
+expire_act node d (Ok u) = Ok (asks (AskPropose (commands.NodeDown node)) (Some d))
+
+abbrev pub ExpiresByExpire : Type 0
+ExpiresByExpire = (node beats : ℕ) (o : OpenDesk)
+    → expire o.desk node beats ≡ expire_act node o.desk (on_expire node beats o)
 
 -- what is kept is proposed, unless the log refuses it; and the sender is told
 abbrev pub judged_act : ℕ → Server Command → Desk → Option Judged → Act

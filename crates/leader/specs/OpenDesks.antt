@@ -1,6 +1,6 @@
 -- The leader's desk as one value, none where it is closed; and what its calls answer and leave.
 use Rattle.std.specs.Prelude.{◌≡◌, ℕ, if◌then◌else◌, option_map, filter}
-use Rattle.std.specs.Prelude.{Option, Some, None, Result, Ok, Err}
+use Rattle.std.specs.Prelude.{Option, Some, None, Result, Ok, Err, List}
 use Rattle.rows.specs.declared.evaluation.EvalId.{EvalId}
 use Rattle.rows.specs.declared.token.Token.{Token}
 use Rattle.rows.specs.declared.token.Delivery.{Delivery}
@@ -13,6 +13,8 @@ use Rattle.group_model.specs.Brokers.{Broker, Given, Nothing, UsedUp, Gives, tas
 use Rattle.group_model.specs.Brokers.{outstanding, is_outstanding, with_ack, with_nack, failed}
 use Rattle.group_model.specs.Blocked.{BlockedEval, BlockedEvals, blocked_id, blocked_over, due}
 use Rattle.group_model.specs.Blocked.{is_still_blocked}
+use Rattle.group_model.specs.Expiry.{BeatCount}
+use Rattle.group_model.specs.BeatCounts.{beat_heard, expiry_refusal}
 use Rattle.group_model.specs.Desks.{Desk, opened}
 use Rattle.group_model.specs.Plans.{submitted}
 use Rattle.group_model.specs.Turns.{is_still_pending}
@@ -26,6 +28,9 @@ pub record OpenDesk : Type 0 where
 
 abbrev pub with_desk : Desk → OpenDesk → OpenDesk
 with_desk d o = record o { desk = d }
+
+abbrev pub with_beat_counts : List BeatCount → OpenDesk → OpenDesk
+with_beat_counts counts o = record o { desk = record o.desk { beat_counts = counts } }
 
 abbrev pub with_broker : Broker → OpenDesk → OpenDesk
 with_broker b o = record o { desk = record o.desk { broker = b } }
@@ -128,3 +133,19 @@ abbrev pub on_reap : State → OpenDesk → Result (Option EvalId) Refusal
 on_reap whole o =
     Ok (option_map task_id
     (first (λ t. t.priority) (filter (is_still_pending whole) (failed o.desk.broker))))
+
+-- Beat: a node was heard of once more, unless its heartbeats are not counted.
+abbrev pub once_heard : OpenDesk → Result (List BeatCount) Refusal → Answered (Unit {0})
+once_heard o (Err r) = Err r
+once_heard o (Ok counts) = Ok (tt, with_beat_counts counts o)
+
+abbrev pub on_beat : ℕ → OpenDesk → Answered (Unit {0})
+on_beat node o = once_heard o (beat_heard node o.desk.beat_counts)
+
+-- Expire: whether a node may be said to be lost, which was heard of so often and not since.
+abbrev pub unless_refused : Option Refusal → Result (Unit {0}) Refusal
+unless_refused None = Ok tt
+unless_refused (Some r) = Err r
+
+abbrev pub on_expire : ℕ → ℕ → OpenDesk → Result (Unit {0}) Refusal
+on_expire node beats o = unless_refused (expiry_refusal node beats o.desk.beat_counts)

@@ -9,7 +9,7 @@ use Rattle.group_model.specs.Desks.{follow_state}
 use Rattle.blocked.specs.Rooms.{blocked_of}
 use Rattle.leader.specs.Following.{AreOf, WereOf}
 use Rattle.leader.specs.OpenDesks.{OpenDesk, Answered, IsOpened, on_deliver, on_ack, on_nack}
-use Rattle.leader.specs.OpenDesks.{on_lapse, on_submit}
+use Rattle.leader.specs.OpenDesks.{on_lapse, on_submit, on_beat}
 use Rattle.leader.specs.Verdicts.{on_plan_turn}
 
 -- it has the pending evaluations of the state, the blocked ones, and the ready nodes
@@ -64,3 +64,6 @@ SubmitStays = (s applied : State) (from : ℕ) (p : Plan) (o : OpenDesk)
 
 abbrev pub PlanTurnStays : Type 0
 PlanTurnStays = (s whole : State) (o : OpenDesk) → LeavesOver s (on_plan_turn whole) o
+
+abbrev pub BeatStays : Type 0
+BeatStays = (s : State) (node : ℕ) (o : OpenDesk) → LeavesOver s (on_beat node) o

@@ -5,14 +5,14 @@ ghost use Rattle.group_model.specs.Blocked.{first_due};
 ghost use Rattle.leader.specs.Staying.{FollowsIfOpen};
 ghost use Rattle.leader.specs.Errors.{desk_refusal};
 ghost use Rattle.leader.specs.Verdicts.{judged_by, IsProposal, on_plan_turn};
-ghost use Rattle.leader.specs.OpenDesks.{IsOpenedBy, IsOverBlocked, LacksMemory, if_open, at_open, on_deliver, on_outstanding, on_ack, on_nack, on_lapse, on_submit, on_free_turn, on_reap};
+ghost use Rattle.leader.specs.OpenDesks.{IsOpenedBy, IsOverBlocked, LacksMemory, if_open, at_open, on_deliver, on_outstanding, on_ack, on_nack, on_lapse, on_submit, on_free_turn, on_reap, on_beat, on_expire};
 
 use crate::desk_error::DeskError;
 use crate::judged::JudgedPlan;
 use crate::open_desk::OpenDesk;
 use fsm_state::Cluster;
 use rows::{
-    Command, Delivery, EvalId, Index, LeaderTerm, NoMemory, Plan, Refusal, ServerId, Token,
+    Command, Delivery, EvalId, Index, LeaderTerm, NoMemory, NodeId, Plan, Refusal, ServerId, Token,
 };
 use std::alloc::Global;
 use std::marker::Model;
@@ -67,7 +67,9 @@ impl Desk {
     pub fn clear(&mut self)
         ensures { self.new ≡ None }
     {
-        self.opened = None;
+        if self.is_open() {
+            self.opened = None;
+        }
     }
 
     /// Follows an entry that was applied, by its command and the state that it left; it is called
@@ -211,6 +213,35 @@ impl Desk {
     {
         match &self.opened {
             Some(desk) => Ok(desk.reap(whole)),
+            None => Err(DeskError::NotOpen),
+        }
+    }
+
+    /// A node was heard of once more: the number of its heartbeats rises by one; the greatest,
+    /// 2^40 - 1, stays. `UnknownNode` where it is not ready, since no heartbeats of it are counted.
+    /// It takes no memory, and refused it changes nothing. (Nomad documentation, "server" block of
+    /// the agent configuration: heartbeats of clients.)
+    pub fn beat(&mut self, node: NodeId) -> Result<(), DeskError>
+        ensures ok { IfOk result (λ u. at_open (on_beat node) self.old ≡ Ok (u, self.new)) }
+        ensures err { IfErr result (λ e. at_open (on_beat node) self.old ≡ Err (desk_refusal e)) }
+        ensures left { OnErr result (self.new ≡ self.old) }
+    {
+        match &mut self.opened {
+            Some(desk) => desk.beat(node),
+            None => Err(DeskError::NotOpen),
+        }
+    }
+
+    /// Whether a node may be said to be lost, which was heard of `beats` times and not since; the
+    /// caller proposes `NodeDown` then. `UnknownNode` where it is not ready, `StaleExpiry` where it
+    /// was heard of another number of times. It takes no memory, and changes nothing.
+    pub fn expire(&self, node: NodeId, beats: Index) -> Result<(), DeskError>
+        ensures ok { IfOk result (λ u. if_open (on_expire node beats) self.now ≡ Ok u) }
+        ensures err { IfErr result
+            (λ e. if_open (on_expire node beats) self.now ≡ Err (desk_refusal e)) }
+    {
+        match &self.opened {
+            Some(desk) => desk.expire(node, beats),
             None => Err(DeskError::NotOpen),
         }
     }

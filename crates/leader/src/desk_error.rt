@@ -2,9 +2,10 @@
 ghost use Rattle.std.specs.Prelude.{◌≡◌};
 ghost use Rattle.eval_broker.specs.declared.answers.PairError.TheVariants as pair_errors;
 ghost use Rattle.leader.specs.declared.desk_error.DeskError.TheVariants as desk_errors;
-ghost use Rattle.leader.specs.Errors.{desk_refusal, pair_refused};
+ghost use Rattle.leader.specs.Errors.{desk_refusal, pair_refused, expiry_refused};
 
 use eval_broker::{PairError, SerialsUsedUp};
+use expiry::{ExpiryError, UnknownNode};
 use rows::Refusal;
 
 /// Why a desk refuses a call that takes no memory. `?` makes it the refusal of that number.
@@ -16,8 +17,12 @@ pub enum DeskError {
     NotOutstanding,
     /// 5: it is outstanding under another token.
     TokenDiffers,
+    /// 9: the node is not ready, so no heartbeats of it are counted.
+    UnknownNode,
     /// 14: there is an evaluation to give out, and no serial is left.
     Exhausted,
+    /// 19: the node was heard of another number of times.
+    StaleExpiry,
 }
 
 impl From<DeskError> for Refusal {
@@ -28,7 +33,9 @@ impl From<DeskError> for Refusal {
             DeskError::NotOpen => Refusal::NotOpen,
             DeskError::NotOutstanding => Refusal::NotOutstanding,
             DeskError::TokenDiffers => Refusal::TokenDiffers,
+            DeskError::UnknownNode => Refusal::UnknownNode,
             DeskError::Exhausted => Refusal::Exhausted,
+            DeskError::StaleExpiry => Refusal::StaleExpiry,
         }
     }
 }
@@ -49,5 +56,24 @@ impl From<SerialsUsedUp> for DeskError {
 
     fn from(_e: SerialsUsedUp) -> DeskError {
         DeskError::Exhausted
+    }
+}
+
+impl From<UnknownNode> for DeskError {
+    ghost from_gives = { λ _ r. r ≡ desk_errors.UnknownNode };
+
+    fn from(_e: UnknownNode) -> DeskError {
+        DeskError::UnknownNode
+    }
+}
+
+impl From<ExpiryError> for DeskError {
+    ghost from_gives = { λ e r. r ≡ expiry_refused e };
+
+    fn from(e: ExpiryError) -> DeskError {
+        match e {
+            ExpiryError::UnknownNode => DeskError::UnknownNode,
+            ExpiryError::StaleExpiry => DeskError::StaleExpiry,
+        }
     }
 }

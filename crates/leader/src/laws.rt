@@ -1,14 +1,17 @@
 //! Laws of an open desk. The functions have empty bodies: what they say is their contracts.
 ghost use Rattle.leader.specs.GroupActs.{TakesByDeliver, SubmitsBySubmit, FinishesByAck, NacksByNack};
 ghost use Rattle.leader.specs.GroupActs.{LapsesByLapse, PlanTurnsByVerdict, FreesByFreeTurn, ReapsByReap};
-ghost use Rattle.leader.specs.Staying.{OpensOver, DeliverStays, AckStays, NackStays, LapseStays, SubmitStays, PlanTurnStays};
+ghost use Rattle.leader.specs.GroupActs.{HeartbeatsByBeat, ExpiresByExpire};
+ghost use Rattle.leader.specs.Staying.{OpensOver, DeliverStays, AckStays, NackStays, LapseStays, SubmitStays, PlanTurnStays, BeatStays};
 
-/// What a server of the group makes of a request of a worker, or of a turn, at an open desk is told
-/// by the answer of the desk's call.
+/// What a server of the group makes of a request of a worker, of a client's heartbeat, or of a turn,
+/// at an open desk is told by the answer of the desk's call.
 /// - `take`: by `deliver`, in the leader's term and for its last index.
 /// - `submit`, `finish`, `nack`: by `submit` on the applied state, `ack` and `nack`.
+/// - `heartbeat`: by `beat`.
 /// - `lapse`, `plan_turn`, `reap`: by the call of the name, on the state after the whole log.
 /// - `free_turn`: the same, where what is kept of blocked evaluations is of the applied state.
+/// - `expire`: by the call of the name; where it is not refused, `NodeDown` is proposed.
 pub fn calls_are_of_the_group()
     ensures take { TakesByDeliver }
     ensures submit { SubmitsBySubmit }
@@ -18,6 +21,8 @@ pub fn calls_are_of_the_group()
     ensures plan_turn { PlanTurnsByVerdict }
     ensures free_turn { FreesByFreeTurn }
     ensures reap { ReapsByReap }
+    ensures heartbeat { HeartbeatsByBeat }
+    ensures expire { ExpiresByExpire }
 {}
 
 /// A desk that opens over a state has its pending and its blocked evaluations and its ready nodes;
@@ -30,4 +35,5 @@ pub fn calls_stay_over_the_state()
     ensures lapse { LapseStays }
     ensures submit { SubmitStays }
     ensures plan_turn { PlanTurnStays }
+    ensures beat { BeatStays }
 {}

@@ -4,7 +4,7 @@ ghost use Rattle.rows.specs.declared.refusal.Refusal.TheVariants as refusals;
 ghost use Rattle.leader.specs.Staying.{Follows};
 ghost use Rattle.leader.specs.Errors.{desk_refusal};
 ghost use Rattle.leader.specs.Verdicts.{judged_by, IsProposal, on_plan_turn};
-ghost use Rattle.leader.specs.OpenDesks.{IsOpened, on_deliver, on_outstanding, on_ack, on_nack, on_lapse, on_submit, on_free_turn, on_reap};
+ghost use Rattle.leader.specs.OpenDesks.{IsOpened, on_deliver, on_outstanding, on_ack, on_nack, on_lapse, on_submit, on_free_turn, on_reap, on_beat, on_expire};
 
 use crate::desk_error::DeskError;
 use crate::following::follow;
@@ -16,7 +16,7 @@ use expiry::Expiry;
 use fsm_state::Cluster;
 use plan_queue::PlanQueue;
 use rows::{
-    Command, Delivery, EvalId, Index, LeaderTerm, NoMemory, Plan, Refusal, ServerId, Token,
+    Command, Delivery, EvalId, Index, LeaderTerm, NoMemory, NodeId, Plan, Refusal, ServerId, Token,
 };
 use std::alloc::Global;
 use std::marker::Model;
@@ -153,6 +153,23 @@ impl OpenDesk {
         ensures { on_reap whole.now self.now ≡ Ok result }
     {
         first_pending(self.broker.failed(), whole)
+    }
+
+    /// A node was heard of once more.
+    pub fn beat(&mut self, node: NodeId) -> Result<(), DeskError>
+        ensures ok { IfOk result (λ u. on_beat node self.old ≡ Ok (u, self.new)) }
+        ensures err { IfErr result (λ e. on_beat node self.old ≡ Err (desk_refusal e)) }
+        ensures left { OnErr result (self.new ≡ self.old) }
+    {
+        Ok(self.expiry.beat(node)?)
+    }
+
+    /// Whether a node may be said to be lost, which was heard of so often and not since.
+    pub fn expire(&self, node: NodeId, beats: Index) -> Result<(), DeskError>
+        ensures ok { IfOk result (λ u. on_expire node beats self.now ≡ Ok u) }
+        ensures err { IfErr result (λ e. on_expire node beats self.now ≡ Err (desk_refusal e)) }
+    {
+        Ok(self.expiry.expire(node, beats)?)
     }
 
     /// Takes the plan that goes first out of the queue, and judges it. Without memory the desk is

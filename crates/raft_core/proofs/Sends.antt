@@ -76,6 +76,10 @@ may_go_by kinds.Finish from to other log = refl
 may_go_by kinds.Nack from to other log = refl
 may_go_by kinds.Refused from to other log = refl
 may_go_by kinds.Register from to other log = absurd (cc log)
+may_go_by kinds.Heartbeat from to other log = absurd (cc log)
+may_go_by kinds.Pull from to other log = absurd (cc log)
+may_go_by kinds.List from to other log = absurd (cc log)
+may_go_by kinds.Report from to other log = absurd (cc log)
 may_go_by kinds.Told from to other log = absurd (cc log)
 
 -- messages of the log go to another server
@@ -99,4 +103,8 @@ module _ {S C : Type 0} (m : Meaning S C) where
   sends_one from to (bodies.Request r) before after listed = tt
   sends_one from to (bodies.Response r) before after listed = tt
   sends_one from to (bodies.Register class size) before after listed = tt
+  sends_one from to bodies.Heartbeat before after listed = tt
+  sends_one from to bodies.Pull before after listed = tt
+  sends_one from to (bodies.List index rows) before after listed = tt
+  sends_one from to (bodies.Report items) before after listed = tt
   sends_one from to (bodies.Told kind reason) before after listed = tt

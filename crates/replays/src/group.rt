@@ -1,5 +1,6 @@
 //! Groups of servers and clients: what comes for the servers' workers, and that a group's own trace
 //! leads to it again.
+use crate::snapshots::copies;
 use machine::Machine;
 use rows::{
     Actor, AskedRequest, Delivery, EvalId, PlanResult, ServerId, Token, Work, WorkerResponse,
@@ -14,10 +15,14 @@ use std::rt::Files;
 use std::{fs, io};
 use world::{Done, Event, World};
 
-const GROUPS: [&str; 8] = [
+// The one of which copies of a state are taken.
+const COPIED: &str = "lists-and-reports";
+
+const GROUPS: [&str; 9] = [
     "each-turn",
     "finish-of-another-token",
     "lines-of-workers",
+    COPIED,
     "plan-survives-its-leader",
     "take-before-the-desk-is-open",
     "three-lapses",
@@ -187,7 +192,11 @@ fn group(rt: &HostRuntime, name: &str) -> io::Result<()> {
     };
     let is_taken = play(rt, &mut world, &played)?;
     let is_same = replays(alloc, &world, &played);
-    println!(rt; "  {is_taken} {is_same} {}", world.chain())
+    println!(rt; "  {is_taken} {is_same} {}", world.chain())?;
+    if name == COPIED {
+        copies(rt, &world, &played)?;
+    }
+    Ok(())
 }
 
 /// Plays scenarios step by step, and says what comes for workers, whether each step was taken,

@@ -7,6 +7,7 @@ mod group;
 mod lines;
 mod requests;
 mod said;
+mod snapshots;
 
 use std::{env, io};
 

@@ -5,6 +5,7 @@ use Rattle.rows.specs.Names.{NameFits}
 use Rattle.rows.specs.Groups.{AreGroups}
 use Rattle.rows.specs.Batches.{BatchFits}
 use Rattle.rows.specs.Ids.{AreRisingIds, AreRisingNodes}
+use Rattle.rows.specs.Listings.{AreListed}
 use Rattle.rows.specs.declared.size.Size.{Size}
 use Rattle.rows.specs.declared.token.Token.{Token}
 use Rattle.rows.specs.declared.token.Delivery.{Delivery}
@@ -25,6 +26,7 @@ use Rattle.rows.specs.declared.command.AcceptedPlace.{AcceptedPlace}
 use Rattle.rows.specs.declared.command.AcceptedPlan.{AcceptedPlan}
 use Rattle.rows.specs.declared.command.Report.{Report}
 use Rattle.rows.specs.declared.command.Command.{Command}
+use Rattle.rows.specs.declared.listing.ListedAllocation.{ListedAllocation}
 use Rattle.rows.specs.declared.command.Command.TheVariants as commands
 
 -- ---- numbers
@@ -124,6 +126,12 @@ RisingIdsFit ids = AreRisingIds ids × AllByRecursion AllocIdFits ids
 -- nodes in strictly rising number are at most 64
 abbrev pub RisingNodesFit : List ℕ → Type 0
 RisingNodesFit nodes = AreRisingNodes nodes × BatchFits NodeIdFits nodes
+
+abbrev pub ListedAllocationFits : ListedAllocation → Type 0
+ListedAllocationFits r = AllocIdFits r.id × SizeFits r.size
+
+abbrev pub ListingFits : List ListedAllocation → Type 0
+ListingFits rows = AreListed rows × AllByRecursion ListedAllocationFits rows
 
 abbrev pub CommandFits : Command → Type 0
 CommandFits commands.Noop = Unit {0}

@@ -5,7 +5,7 @@ use Rattle.std.proofs.Math.Seq.{get_or-append_seam}
 use Rattle.std.proofs.lemmas.List.{length-append}
 use Rattle.rows.specs.declared.worker.WorkerRequest.TheVariants.{Take, Submit, Finish, Nack}
 use Rattle.runner.specs.declared.step.Step.{Step}
-use Rattle.runner.specs.declared.step.Step.TheVariants.{Deliver, Timeout, Beat, Plan, Free, Reap, Lapse, Crash, Restart, Register, Request, Ask, Work, Flow}
+use Rattle.runner.specs.declared.step.Step.TheVariants.{Deliver, Timeout, Beat, Plan, Free, Reap, Lapse, Expire, Crash, Restart, Register, Ping, Pull, End, Request, Ask, Work, Flow}
 use Rattle.runner.specs.Inner.StepParts.{IsSmall, operands_of, verb_of}
 use Rattle.runner.specs.Laws.PlainTexts.{name_lacks}
 use Rattle.runner.specs.Requests.{IsWithout}
@@ -23,9 +23,13 @@ parted (Plan server) = inr (name_lacks 32 (codes "plan") refl refl, refl)
 parted (Free server) = inr (name_lacks 32 (codes "free") refl refl, refl)
 parted (Reap server) = inr (name_lacks 32 (codes "reap") refl refl, refl)
 parted (Lapse server eval) = inr (name_lacks 32 (codes "lapse") refl refl, refl)
+parted (Expire server node beat) = inr (name_lacks 32 (codes "expire") refl refl, refl)
 parted (Crash actor) = inr (name_lacks 32 (codes "crash") refl refl, refl)
 parted (Restart actor) = inr (name_lacks 32 (codes "restart") refl refl, refl)
 parted (Register client server) = inr (name_lacks 32 (codes "register") refl refl, refl)
+parted (Ping client server) = inr (name_lacks 32 (codes "ping") refl refl, refl)
+parted (Pull client server) = inr (name_lacks 32 (codes "pull") refl refl, refl)
+parted (End client id ok) = inr (name_lacks 32 (codes "end") refl refl, refl)
 parted (Request server request) = inr (name_lacks 32 (codes "request") refl refl, refl)
 parted (Ask server to Take) = inr (name_lacks 32 (codes "take") refl refl, refl)
 parted (Ask server to (Submit plan)) = inr (name_lacks 32 (codes "submit") refl refl, refl)
@@ -51,9 +55,13 @@ is_small (Plan server) bare request submit = tt
 is_small (Free server) bare request submit = tt
 is_small (Reap server) bare request submit = tt
 is_small (Lapse server eval) bare request submit = tt
+is_small (Expire server node beat) bare request submit = tt
 is_small (Crash actor) bare request submit = tt
 is_small (Restart actor) bare request submit = tt
 is_small (Register client server) bare request submit = tt
+is_small (Ping client server) bare request submit = tt
+is_small (Pull client server) bare request submit = tt
+is_small (End client id ok) bare request submit = tt
 is_small (Request server asked) bare request submit = absurd (request refl)
 is_small (Ask server to Take) bare request submit = tt
 is_small (Ask server to (Submit plan)) bare request submit = absurd (submit refl)

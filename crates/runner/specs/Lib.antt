@@ -4,6 +4,7 @@ pub mod Objects
 pub mod Requests
 pub mod WorkerLines
 pub mod Steps
+pub mod StepEvents
 pub mod Faults
 pub mod Inner
 pub mod Laws

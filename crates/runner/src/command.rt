@@ -34,6 +34,10 @@ The file is a JSON object with exactly these keys:
     flow N      the same, for up to N of them
     register C S
                 client C tells server S of its node
+    ping C S    client C sends server S a heartbeat
+    pull C S    client C asks server S for its list
+    end C ID complete, end C ID failed
+                allocation ID, INDEX.SLOT, which runs at client C, ends
     request S put NAME PRIORITY GROUPS
                 a job is put to server S; its priority is from 1 to 100; GROUPS
                 are 1 to 8 of GROUP:COUNT:CLASS:CPU:MEMORY, joined by commas,
@@ -59,6 +63,9 @@ The file is a JSON object with exactly these keys:
                 the work on E is given back
     plan S      server S, if it leads, weighs the first plan that waits
     lapse S E   at server S, if it leads, the work on E has lasted too long
+    expire S NODE BEAT
+                at server S, if it leads, node NODE, 1 to 64, was heard of BEAT
+                times, and not heard of since for too long
     free S      server S, if it leads, makes a blocked evaluation pending that
                 has room now
     reap S      server S, if it leads, gives up an evaluation that was given

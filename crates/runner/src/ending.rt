@@ -1,6 +1,6 @@
 //! The last lines that a run prints.
 use crate::fault::{Fault, said};
-use client_agent::Agent;
+use client_agent::{Agent, RunningAllocation};
 use fsm_state::Cluster;
 use fsm_tables::is_live;
 use raft_core::Role;
@@ -133,10 +133,28 @@ fn print_clients<'a, W: Write>(out: &mut W, world: &World) -> Result<(), Fault<'
     Ok(())
 }
 
-// A client runs nothing yet.
 fn print_client<'a, W: Write>(out: &mut W, id: ClientId, client: &Agent) -> Result<(), Fault<'a>> {
-    match client.seen() {
-        Some(seen) => said(writeln!(out, "client {id} up seen {seen} running -")),
-        None => said(writeln!(out, "client {id} down")),
+    let (Some(seen), Some(running)) = (client.seen(), client.running()) else {
+        return said(writeln!(out, "client {id} down"));
+    };
+    said(write!(out, "client {id} up seen {seen} running "))?;
+    print_running(out, running)
+}
+
+// The ids of what runs, with commas between, and a dash where nothing runs.
+fn print_running<'a, W: Write>(
+    out: &mut W,
+    running: &[RunningAllocation],
+) -> Result<(), Fault<'a>> {
+    if running.is_empty() {
+        return said(writeln!(out, "-"));
     }
+    let mut separator = "";
+    for allocation in running {
+        let entry = allocation.id.index.get();
+        let slot = allocation.id.slot.get();
+        said(write!(out, "{separator}{entry}.{slot}"))?;
+        separator = ",";
+    }
+    said(writeln!(out))
 }

@@ -8,8 +8,8 @@ use crate::word::{
     read_server, read_small,
 };
 use rows::{
-    Actor, AllocId, ClientId, EntryIndex, EvalId, Group, Index, LeaderTerm, Name, Place, ServerId,
-    Token,
+    Actor, AllocId, ClientId, EntryIndex, EvalId, Group, Index, LeaderTerm, Name, NodeId, Place,
+    ServerId, Token,
 };
 
 /// A type whose values have one text each, in which no space and no comma stands.
@@ -59,6 +59,22 @@ impl Spelled for ClientId {
 
     fn read_text(text: &str) -> Option<ClientId> {
         read_client(text)
+    }
+}
+
+impl Spelled for NodeId {
+    ghost use Rattle.rows.specs.Fits.{NodeIdFits};
+    ghost use Rattle.std.specs.Prelude.{decimal};
+    ghost use Rattle.runner.specs.Laws.PlainTexts.{node_plain};
+
+    ghost Fits = { NodeIdFits };
+
+    ghost spelling = { decimal };
+
+    ghost plain = { node_plain };
+
+    fn read_text(text: &str) -> Option<NodeId> {
+        read_node(text)
     }
 }
 

@@ -3,13 +3,16 @@ ghost use Rattle.std.specs.Prelude.{◌≡◌, ◌<◌, ◌≤◌, ◌^◌, ℕ,
 ghost use Rattle.runner.specs.declared.step.Step.{Step};
 ghost use Rattle.runner.specs.declared.step.Step.TheVariants as steps;
 ghost use Rattle.runner.specs.Steps.{IsLine};
-ghost use Rattle.runner.specs.Inner.StepParts.{HasParts, IsFinish, IsRequest, IsSmall, IsSubmit, IsTurn};
+ghost use Rattle.runner.specs.Inner.StepParts.{HasParts, IsEnd, IsExpire, IsFinish, IsRequest, IsSmall, IsSubmit, IsTurn};
 
 use crate::request::read_request;
 use crate::spelled::{Spelled, cut_pair, cut_word, read_pair};
 use crate::word::{cut, read_number};
 use crate::worker::{read_outcome, read_plan};
-use rows::{Actor, ClientId, EvalId, NoMemory, OperatorRequest, ServerId, WorkerRequest};
+use rows::{
+    Actor, AllocId, ClientId, EvalId, Index, NoMemory, NodeId, OperatorRequest, ServerId,
+    WorkerRequest,
+};
 use std::alloc::Global;
 
 /// One step of a scenario: an event of the group, a turn of a server's worker, or a flow of
@@ -30,6 +33,10 @@ pub enum Step {
     Reap(ServerId),
     /// `lapse S E`: at server S, if it leads, the delivery of evaluation E has lasted too long.
     Lapse(ServerId, EvalId),
+    /// `expire S NODE BEAT`: at server S, if it leads, node NODE, from 1 to 64, was heard of BEAT
+    /// times, from 0 to 2^40 - 1, and not heard of since for too long. (Nomad documentation,
+    /// "server" block of the agent configuration: heartbeat_grace.)
+    Expire(ServerId, NodeId, Index),
     /// `crash S`, `crash cC`: server S or client C stops, and keeps what it stored.
     Crash(Actor),
     /// `restart S`, `restart cC`: server S or client C, which is down, begins again from what it
@@ -37,6 +44,13 @@ pub enum Step {
     Restart(Actor),
     /// `register C S`: client C tells server S of its node.
     Register(ClientId, ServerId),
+    /// `ping C S`: client C sends server S a heartbeat.
+    Ping(ClientId, ServerId),
+    /// `pull C S`: client C asks server S for its list.
+    Pull(ClientId, ServerId),
+    /// `end C ID complete`, `end C ID failed`: allocation ID, which runs at client C, ends, and did
+    /// so well or not.
+    End(ClientId, AllocId, bool),
     /// `request S REQUEST`: the request is put to server S.
     Request(ServerId, OperatorRequest),
     /// `take S T`, `submit S T E TOKEN NAME VERSION SNAPSHOT STOPS PLACES`, `finish S T E TOKEN
@@ -128,6 +142,16 @@ fn read_small(verb: &str, words: &str) -> Option<Step>
             let (client, server) = read_pair(words)?;
             Some(Step::Register(client, server))
         }
+        "ping" => {
+            let (client, server) = read_pair(words)?;
+            Some(Step::Ping(client, server))
+        }
+        "pull" => {
+            let (client, server) = read_pair(words)?;
+            Some(Step::Pull(client, server))
+        }
+        "end" => read_end(words),
+        "expire" => read_expiry(words),
         "take" => {
             let (server, to) = read_pair(words)?;
             Some(Step::Ask(server, to, WorkerRequest::Take))
@@ -176,6 +200,36 @@ fn read_delivery(words: &str) -> Option<Step>
     } else {
         Some(Step::Deliver(message))
     }
+}
+
+// What stands behind `end`.
+fn read_end(words: &str) -> Option<Step>
+    ensures named { IfSome result (λ step. IsEnd step × HasParts step (codes "end") words.now) }
+    ensures read { (step : Step) → IsEnd step → HasParts step (codes "end") words.now
+        → result ≡ Some step }
+{
+    let Some((client, id, end)) = cut_pair(words) else {
+        return None;
+    };
+    match end {
+        "complete" => Some(Step::End(client, id, true)),
+        "failed" => Some(Step::End(client, id, false)),
+        _ => None,
+    }
+}
+
+// What stands behind `expire`.
+fn read_expiry(words: &str) -> Option<Step>
+    ensures named { IfSome result (λ step. IsExpire step
+        × HasParts step (codes "expire") words.now) }
+    ensures read { (step : Step) → IsExpire step → HasParts step (codes "expire") words.now
+        → result ≡ Some step }
+{
+    let Some((server, node, beat)) = cut_pair(words) else {
+        return None;
+    };
+    let beat = Index::read_text(beat)?;
+    Some(Step::Expire(server, node, beat))
 }
 
 // What stands behind `finish`.

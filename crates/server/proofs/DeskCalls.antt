@@ -8,11 +8,13 @@ use Rattle.rows.specs.declared.refusal.Refusal.{Refusal}
 use Rattle.rows.specs.declared.refusal.Refusal.TheVariants as refusals
 use Rattle.cluster_model.specs.Words.{State}
 use Rattle.group_model.specs.Brokers.{Given, Nothing, UsedUp, Gives, deliver, outstanding, is_outstanding, with_ack, with_nack}
+use Rattle.group_model.specs.Expiry.{BeatCount, beat_count_of}
+use Rattle.group_model.specs.BeatCounts.{beat_heard_of}
 use Rattle.group_model.specs.Desks.{applied_state}
 use Rattle.raft_core.specs.RaftView.{RaftView}
-use Rattle.leader.specs.OpenDesks.{OpenDesk, IsOverBlocked, LacksMemory, Answered, leaves_open, at_open, with_broker, once_given, once_outstanding, on_deliver, on_ack, on_nack, on_lapse}
+use Rattle.leader.specs.OpenDesks.{OpenDesk, IsOverBlocked, LacksMemory, Answered, leaves_open, at_open, with_broker, once_given, once_outstanding, once_heard, on_deliver, on_ack, on_nack, on_lapse, on_beat}
 use Rattle.leader.specs.Staying.{IsOver}
-use Rattle.leader.proofs.Staying.{deliver_stays, ack_stays, nack_stays, lapse_stays}
+use Rattle.leader.proofs.Staying.{deliver_stays, ack_stays, nack_stays, lapse_stays, beat_stays}
 use Rattle.server.specs.ServerViews.{IsOfLeader, group_desk}
 
 -- an open desk, by the group's
@@ -113,6 +115,13 @@ lapse_term id o false = refl
 
 pub lapse_keeps : (id : EvalId) → Keeps (on_lapse id)
 lapse_keeps id s o a new over h = (lapse_stays s id o a new over h, term_kept (on_lapse id) o a new (lapse_term id o (is_outstanding id o.desk.broker)) h)
+
+beat_term : (node : ℕ) (o : OpenDesk) (c : Option BeatCount) → (left_by (on_beat node) o (once_heard o (beat_heard_of node o.desk.beat_counts c))).term ≡ o.term
+beat_term node o None = refl
+beat_term node o (Some c) = refl
+
+pub beat_keeps : (node : ℕ) → Keeps (on_beat node)
+beat_keeps node s o a new over h = (beat_stays s node o a new over h, term_kept (on_beat node) o a new (beat_term node o (beat_count_of node o.desk.beat_counts)) h)
 
 -- an open desk has the blocked evaluations of the applied state
 pub over_blocked : (raft : RaftView Command) (d : Option OpenDesk) → is_some (group_desk d) ≡ true → IfSome d (IsOfLeader raft) → IsOverBlocked (applied_state raft.server) d

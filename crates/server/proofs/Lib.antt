@@ -1,6 +1,7 @@
 pub mod DeskCalls
 pub mod Serving
 pub mod Requests
+pub mod Writing
 pub mod Refusing
 pub mod Plans
 pub mod Leads
@@ -8,3 +9,5 @@ pub mod DeskFollows
 pub mod LogSteps
 pub mod Handings
 pub mod Proposing
+pub mod Unmoved
+pub mod Listings

@@ -1,5 +1,6 @@
 pub mod DeskWatch
 pub mod Acts
+pub mod Idle
 pub mod Replies
 pub mod Plans
 pub mod LogSteps

@@ -1,10 +1,12 @@
 mod asks;
+mod clients;
 mod frames;
 mod gate;
+mod idle;
+mod listing;
 mod log;
 mod plans;
 mod proposing;
-mod register;
 mod replies;
 mod requests;
 mod steps;

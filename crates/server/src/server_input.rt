@@ -2,7 +2,9 @@
 ghost use Rattle.std.specs.Prelude.{◌≡◌, IfOk};
 
 use crate::copies::{copied, copied_plan, copied_request};
-use rows::{EvalId, EvalOutcome, NoMemory, OperatorRequest, Plan, Sequence, ServerId, Token};
+use rows::{
+    EvalId, EvalOutcome, Index, NoMemory, NodeId, OperatorRequest, Plan, Sequence, ServerId, Token,
+};
 use std::alloc::Global;
 
 /// What comes to a server of the group.
@@ -29,6 +31,9 @@ pub enum ServerInput {
     PlanTurn,
     /// The worker of an evaluation was not heard of for too long.
     Lapse(EvalId),
+    /// A node that was heard of so often was not heard of since for too long: it goes down. (Nomad
+    /// documentation, "server" block of the agent configuration: heartbeat_grace.)
+    Expire(NodeId, Index),
     /// A turn of the desk: a blocked evaluation that has room now becomes pending.
     FreeTurn,
     /// A turn of the desk: an evaluation that was given out too often becomes failed.
@@ -59,6 +64,7 @@ impl ServerInput {
             ServerInput::Nack(to, eval, token) => ServerInput::Nack(*to, *eval, *token),
             ServerInput::PlanTurn => ServerInput::PlanTurn,
             ServerInput::Lapse(eval) => ServerInput::Lapse(*eval),
+            ServerInput::Expire(node, beats) => ServerInput::Expire(*node, *beats),
             ServerInput::FreeTurn => ServerInput::FreeTurn,
             ServerInput::Reap => ServerInput::Reap,
             ServerInput::Crash => ServerInput::Crash,

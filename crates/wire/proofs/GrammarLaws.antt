@@ -20,7 +20,7 @@ use Rattle.rows.specs.declared.worker.WorkerRequest.TheVariants as requests
 use Rattle.rows.specs.declared.worker.WorkerResponse.TheVariants as responses
 use Rattle.wire.specs.Messages.{kind_of, may_come_from, may_go}
 use Rattle.wire.specs.Grammar.{version, kind, addresses, header, append_head, most_entries, entries, append, vote_request_of, vote_reply_of, append_of, append_reply_of, body}
-use Rattle.wire.proofs.ServiceLaws.{take_body_lawful, delivered_body_lawful, submit_body_lawful, plan_result_body_lawful, finish_body_lawful, nack_body_lawful, refused_body_lawful, register_body_lawful, told_body_lawful}
+use Rattle.wire.proofs.ServiceLaws.{take_body_lawful, delivered_body_lawful, submit_body_lawful, plan_result_body_lawful, finish_body_lawful, nack_body_lawful, refused_body_lawful, register_body_lawful, heartbeat_body_lawful, pull_body_lawful, list_body_lawful, report_body_lawful, told_body_lawful}
 use Rattle.wire.specs.Laws.GrammarLaws.{kind_lawful, vote_request_lawful, vote_reply_lawful, append_head_lawful, append_reply_lawful}
 
 -- ---- the header
@@ -90,6 +90,10 @@ body_lawful commands lc kinds.Finish = finish_body_lawful
 body_lawful commands lc kinds.Nack = nack_body_lawful
 body_lawful commands lc kinds.Refused = refused_body_lawful
 body_lawful commands lc kinds.Register = register_body_lawful
+body_lawful commands lc kinds.Heartbeat = heartbeat_body_lawful
+body_lawful commands lc kinds.Pull = pull_body_lawful
+body_lawful commands lc kinds.List = list_body_lawful
+body_lawful commands lc kinds.Report = report_body_lawful
 body_lawful commands lc kinds.Told = told_body_lawful
 
 -- a body is one of its own kind alone
@@ -106,6 +110,10 @@ body_has_kind commands kinds.Finish (bodies.Request (requests.Finish _ _ _)) fit
 body_has_kind commands kinds.Nack (bodies.Request (requests.Nack _ _)) fits = refl
 body_has_kind commands kinds.Refused (bodies.Response (responses.Refused _ _)) fits = refl
 body_has_kind commands kinds.Register (bodies.Register _ _) fits = refl
+body_has_kind commands kinds.Heartbeat bodies.Heartbeat fits = refl
+body_has_kind commands kinds.Pull bodies.Pull fits = refl
+body_has_kind commands kinds.List (bodies.List _ _) fits = refl
+body_has_kind commands kinds.Report (bodies.Report _) fits = refl
 body_has_kind commands kinds.Told (bodies.Told _ _) fits = refl
 body_has_kind commands kinds.VoteRequest _ fits = absurd fits
 body_has_kind commands kinds.VoteReply _ fits = absurd fits
@@ -119,6 +127,10 @@ body_has_kind commands kinds.Finish _ fits = absurd fits
 body_has_kind commands kinds.Nack _ fits = absurd fits
 body_has_kind commands kinds.Refused _ fits = absurd fits
 body_has_kind commands kinds.Register _ fits = absurd fits
+body_has_kind commands kinds.Heartbeat _ fits = absurd fits
+body_has_kind commands kinds.Pull _ fits = absurd fits
+body_has_kind commands kinds.List _ fits = absurd fits
+body_has_kind commands kinds.Report _ fits = absurd fits
 body_has_kind commands kinds.Told _ fits = absurd fits
 
 -- no body is longer than a frame has room for, where no command is longer than 65,536 bytes
@@ -135,4 +147,8 @@ body_is_short S commands short kinds.Finish = omega arith
 body_is_short S commands short kinds.Nack = omega arith
 body_is_short S commands short kinds.Refused = omega arith
 body_is_short S commands short kinds.Register = omega arith
+body_is_short S commands short kinds.Heartbeat = omega arith
+body_is_short S commands short kinds.Pull = omega arith
+body_is_short S commands short kinds.List = omega arith
+body_is_short S commands short kinds.Report = omega arith
 body_is_short S commands short kinds.Told = omega arith

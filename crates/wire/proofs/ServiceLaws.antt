@@ -2,16 +2,19 @@
 use Rattle.std.proofs.Common.{◌≡◌, ℕ, List, Option, Some, ap, sym, refl}
 use Rattle.fields_model.specs.Format.{Lawful}
 use Rattle.fields_model.proofs.FormatLaws.{nothing_lawful, then_lawful, variant_lawful}
+use Rattle.fields_model.proofs.FieldLaws.{index_lawful}
 use Rattle.fields_model.proofs.OptionLaws.{option_lawful}
 use Rattle.fields_model.proofs.IdLaws.{name_lawful, size_lawful, evaluation_id_lawful, token_lawful, delivery_lawful}
-use Rattle.fields_model.proofs.CommandLaws.{plan_lawful}
-use Rattle.fields_model.proofs.ServiceLaws.{eval_outcome_lawful, plan_result_lawful, asked_request_lawful, reason_lawful, client_request_kind_lawful, told_reason_lawful}
+use Rattle.fields_model.proofs.CommandLaws.{plan_lawful, reports_lawful}
+use Rattle.fields_model.proofs.ServiceLaws.{eval_outcome_lawful, plan_result_lawful, asked_request_lawful, reason_lawful, client_request_kind_lawful, told_reason_lawful, listing_lawful}
 use Rattle.rows.specs.declared.evaluation.EvalId.{EvalId}
 use Rattle.rows.specs.declared.token.Token.{Token}
 use Rattle.rows.specs.declared.token.Delivery.{Delivery}
 use Rattle.rows.specs.declared.size.Size.{Size}
 use Rattle.rows.specs.declared.plan.Plan.{Plan}
 use Rattle.rows.specs.declared.reason.Reason.{Reason}
+use Rattle.rows.specs.declared.listing.ListedAllocation.{ListedAllocation}
+use Rattle.rows.specs.declared.command.Report.{Report}
 use Rattle.rows.specs.declared.worker.EvalOutcome.{EvalOutcome}
 use Rattle.rows.specs.declared.worker.AskedRequest.{AskedRequest}
 use Rattle.rows.specs.declared.worker.PlanResult.{PlanResult}
@@ -20,7 +23,7 @@ use Rattle.rows.specs.declared.worker.WorkerRequest.TheVariants as requests
 use Rattle.rows.specs.declared.worker.WorkerResponse.TheVariants as responses
 use Rattle.wire.specs.declared.body.Body.{Body}
 use Rattle.wire.specs.declared.body.Body.TheVariants as bodies
-use Rattle.wire.specs.Services.{take_request_of, submit_request_of, finish_request_of, nack_request_of, delivered_of, plan_result_of, refused_of, register_of, told_message_of, take_body, delivered_body, submit_body, plan_result_body, finish_body, nack_body, refused_body, register_body, told_body}
+use Rattle.wire.specs.Services.{take_request_of, submit_request_of, finish_request_of, nack_request_of, delivered_of, plan_result_of, refused_of, register_of, heartbeat_of, pull_of, list_of, report_of, told_message_of, take_body, delivered_body, submit_body, plan_result_body, finish_body, nack_body, refused_body, register_body, heartbeat_body, pull_body, list_body, report_body, told_body}
 
 -- one option has one value
 some_is : {A : Type 0} (x y : A) → Some x ≡ Some y → x ≡ y
@@ -82,6 +85,34 @@ module _ {S C : Type 0} where
 
   pub register_body_lawful : Lawful (register_body {S = S} {C = C})
   register_body_lawful = variant_lawful _ _ _ (record { back = λ _. refl; there = register_there }) (then_lawful _ _ name_lawful size_lawful)
+
+  heartbeat_there : (v : Body S C) (a : Unit {0}) → heartbeat_of v ≡ Some a → bodies.Heartbeat ≡ v
+  heartbeat_there bodies.Heartbeat a e = refl
+  heartbeat_there _ a e = absurd cc
+
+  pub heartbeat_body_lawful : Lawful (heartbeat_body {S = S} {C = C})
+  heartbeat_body_lawful = variant_lawful _ _ _ (record { back = λ _. refl; there = heartbeat_there }) nothing_lawful
+
+  pull_there : (v : Body S C) (a : Unit {0}) → pull_of v ≡ Some a → bodies.Pull ≡ v
+  pull_there bodies.Pull a e = refl
+  pull_there _ a e = absurd cc
+
+  pub pull_body_lawful : Lawful (pull_body {S = S} {C = C})
+  pull_body_lawful = variant_lawful _ _ _ (record { back = λ _. refl; there = pull_there }) nothing_lawful
+
+  list_there : (v : Body S C) (a : ℕ × List ListedAllocation) → list_of v ≡ Some a → bodies.List a.0 a.1 ≡ v
+  list_there (bodies.List x y) a e = ap (λ (p : ℕ × List ListedAllocation). bodies.List p.0 p.1) (sym (some_is (x, y) a e))
+  list_there _ a e = absurd cc
+
+  pub list_body_lawful : Lawful (list_body {S = S} {C = C})
+  list_body_lawful = variant_lawful _ _ _ (record { back = λ _. refl; there = list_there }) (then_lawful _ _ index_lawful listing_lawful)
+
+  report_there : (v : Body S C) (a : List Report) → report_of v ≡ Some a → bodies.Report a ≡ v
+  report_there (bodies.Report _) a e = cc
+  report_there _ a e = absurd cc
+
+  pub report_body_lawful : Lawful (report_body {S = S} {C = C})
+  report_body_lawful = variant_lawful _ _ _ (record { back = λ _. refl; there = report_there }) reports_lawful
 
   told_there : (v : Body S C) (a : ClientRequestKind × Option Reason) → told_message_of v ≡ Some a → bodies.Told a.0 a.1 ≡ v
   told_there (bodies.Told x y) a e = ap (λ (p : ClientRequestKind × Option Reason). bodies.Told p.0 p.1) (sym (some_is (x, y) a e))

@@ -16,7 +16,7 @@ use Rattle.wire.specs.Appends.{Append}
 use Rattle.wire.specs.declared.body.Body.{Body}
 use Rattle.wire.specs.declared.body.Body.TheVariants as bodies
 use Rattle.wire.specs.Messages.{may_come_from, may_go}
-use Rattle.wire.specs.Services.{take_body, delivered_body, submit_body, plan_result_body, finish_body, nack_body, refused_body, register_body, told_body}
+use Rattle.wire.specs.Services.{take_body, delivered_body, submit_body, plan_result_body, finish_body, nack_body, refused_body, register_body, heartbeat_body, pull_body, list_body, report_body, told_body}
 
 -- ---- the header
 
@@ -24,7 +24,7 @@ use Rattle.wire.specs.Services.{take_body, delivered_body, submit_body, plan_res
 abbrev pub version : Format (Unit {0})
 version = coded (λ _. Some tt) (λ _. 1) (number 1 1 2)
 
--- the number of a kind; 5 and 6, and 15 to 18, are none
+-- the number of a kind; 5 and 6 are none
 abbrev pub number_of_kind : Kind → ℕ
 number_of_kind kinds.VoteRequest = 1
 number_of_kind kinds.VoteReply = 2
@@ -38,12 +38,17 @@ number_of_kind kinds.Finish = 11
 number_of_kind kinds.Nack = 12
 number_of_kind kinds.Refused = 13
 number_of_kind kinds.Register = 14
+number_of_kind kinds.Heartbeat = 15
+number_of_kind kinds.Pull = 16
+number_of_kind kinds.List = 17
+number_of_kind kinds.Report = 18
 number_of_kind kinds.Told = 19
 
 abbrev pub all_kinds : List Kind
 all_kinds =
     kinds.VoteRequest ∷ kinds.VoteReply ∷ kinds.Append ∷ kinds.AppendReply ∷ kinds.Take ∷ kinds.Delivered ∷ kinds.Submit
-    ∷ kinds.PlanResult ∷ kinds.Finish ∷ kinds.Nack ∷ kinds.Refused ∷ kinds.Register ∷ kinds.Told ∷ []
+    ∷ kinds.PlanResult ∷ kinds.Finish ∷ kinds.Nack ∷ kinds.Refused ∷ kinds.Register ∷ kinds.Heartbeat ∷ kinds.Pull
+    ∷ kinds.List ∷ kinds.Report ∷ kinds.Told ∷ []
 
 abbrev pub kind : Format Kind
 kind = numbered all_kinds number_of_kind
@@ -129,4 +134,8 @@ body commands kinds.Finish = finish_body
 body commands kinds.Nack = nack_body
 body commands kinds.Refused = refused_body
 body commands kinds.Register = register_body
+body commands kinds.Heartbeat = heartbeat_body
+body commands kinds.Pull = pull_body
+body commands kinds.List = list_body
+body commands kinds.Report = report_body
 body commands kinds.Told = told_body

@@ -1,5 +1,5 @@
 -- What a message is, and between whom it may go.
-use Rattle.std.specs.Prelude.{ℕ, List, Bool, false, true, not, nat_eq}
+use Rattle.std.specs.Prelude.{ℕ, List, Bool, false, true, not, nat_eq, if◌then◌else◌}
 use Rattle.rows.specs.declared.actor.Actor.{Actor}
 use Rattle.rows.specs.declared.actor.Actor.TheVariants.{Server, Client}
 use Rattle.rows.specs.declared.worker.WorkerRequest.{WorkerRequest}
@@ -39,6 +39,10 @@ kind_of (bodies.AppendReply _) = kinds.AppendReply
 kind_of (bodies.Request request) = request_kind request
 kind_of (bodies.Response response) = response_kind response
 kind_of (bodies.Register _ _) = kinds.Register
+kind_of bodies.Heartbeat = kinds.Heartbeat
+kind_of bodies.Pull = kinds.Pull
+kind_of (bodies.List _ _) = kinds.List
+kind_of (bodies.Report _) = kinds.Report
 kind_of (bodies.Told _ _) = kinds.Told
 
 -- the kinds by which servers keep one log
@@ -60,6 +64,14 @@ is_of_desk kinds.Nack = true
 is_of_desk kinds.Refused = true
 is_of_desk _ = false
 
+-- the kinds that a node's agent sends
+abbrev pub is_of_agent : Kind → Bool
+is_of_agent kinds.Register = true
+is_of_agent kinds.Heartbeat = true
+is_of_agent kinds.Pull = true
+is_of_agent kinds.Report = true
+is_of_agent _ = false
+
 abbrev pub is_server : Actor → Bool
 is_server (Server _) = true
 is_server (Client _) = false
@@ -80,10 +92,9 @@ abbrev pub is_server_to_client : Actor → Actor → Bool
 is_server_to_client (Server _) (Client _) = true
 is_server_to_client _ _ = false
 
--- who sends messages of a kind: an agent registers, and all others come from servers
+-- who sends messages of a kind: an agent's come from clients, and all others from servers
 abbrev pub may_come_from : Kind → Actor → Bool
-may_come_from kinds.Register from = not (is_server from)
-may_come_from _ from = is_server from
+may_come_from k from = if is_of_agent k then not (is_server from) else is_server from
 
 -- to whom messages of a kind go from there: those by which servers keep one log go to another one,
 -- those of workers and the leader's desk may go to the sender itself
@@ -93,6 +104,10 @@ may_go kinds.VoteReply from to = is_another_server from to
 may_go kinds.Append from to = is_another_server from to
 may_go kinds.AppendReply from to = is_another_server from to
 may_go kinds.Register from to = is_client_to_server from to
+may_go kinds.Heartbeat from to = is_client_to_server from to
+may_go kinds.Pull from to = is_client_to_server from to
+may_go kinds.Report from to = is_client_to_server from to
+may_go kinds.List from to = is_server_to_client from to
 may_go kinds.Told from to = is_server_to_client from to
 may_go _ from to = are_servers from to
 

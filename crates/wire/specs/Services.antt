@@ -3,14 +3,17 @@
 use Rattle.std.specs.Prelude.{ℕ, List, Option, Some, None}
 use Rattle.fields_model.specs.Format.{Format, nothing, ◌then◌, option, variant}
 use Rattle.fields_model.specs.Ids.{name, size, evaluation_id, token, delivery}
-use Rattle.fields_model.specs.Commands.{plan}
-use Rattle.fields_model.specs.Services.{eval_outcome, plan_result, asked_request, reason, client_request_kind, told_reason}
+use Rattle.fields_model.specs.Fields.{index}
+use Rattle.fields_model.specs.Commands.{plan, reports}
+use Rattle.fields_model.specs.Services.{eval_outcome, plan_result, asked_request, reason, client_request_kind, told_reason, listing}
 use Rattle.rows.specs.declared.evaluation.EvalId.{EvalId}
 use Rattle.rows.specs.declared.token.Token.{Token}
 use Rattle.rows.specs.declared.token.Delivery.{Delivery}
 use Rattle.rows.specs.declared.size.Size.{Size}
 use Rattle.rows.specs.declared.plan.Plan.{Plan}
 use Rattle.rows.specs.declared.reason.Reason.{Reason}
+use Rattle.rows.specs.declared.listing.ListedAllocation.{ListedAllocation}
+use Rattle.rows.specs.declared.command.Report.{Report}
 use Rattle.rows.specs.declared.worker.EvalOutcome.{EvalOutcome}
 use Rattle.rows.specs.declared.worker.AskedRequest.{AskedRequest}
 use Rattle.rows.specs.declared.worker.PlanResult.{PlanResult}
@@ -54,6 +57,22 @@ abbrev pub register_of : {S C : Type 0} → Body S C → Option (List ℕ × Siz
 register_of (bodies.Register class room) = Some (class, room)
 register_of _ = None
 
+abbrev pub heartbeat_of : {S C : Type 0} → Body S C → Option (Unit {0})
+heartbeat_of bodies.Heartbeat = Some tt
+heartbeat_of _ = None
+
+abbrev pub pull_of : {S C : Type 0} → Body S C → Option (Unit {0})
+pull_of bodies.Pull = Some tt
+pull_of _ = None
+
+abbrev pub list_of : {S C : Type 0} → Body S C → Option (ℕ × List ListedAllocation)
+list_of (bodies.List place rows) = Some (place, rows)
+list_of _ = None
+
+abbrev pub report_of : {S C : Type 0} → Body S C → Option (List Report)
+report_of (bodies.Report items) = Some items
+report_of _ = None
+
 abbrev pub told_message_of : {S C : Type 0} → Body S C → Option (ClientRequestKind × Option Reason)
 told_message_of (bodies.Told asked why) = Some (asked, why)
 told_message_of _ = None
@@ -83,6 +102,18 @@ refused_body = variant (λ p. bodies.Response (responses.Refused p.0 p.1)) refus
 
 abbrev pub register_body : {S C : Type 0} → Format (Body S C)
 register_body = variant (λ p. bodies.Register p.0 p.1) register_of (name then size)
+
+abbrev pub heartbeat_body : {S C : Type 0} → Format (Body S C)
+heartbeat_body = variant (λ _. bodies.Heartbeat) heartbeat_of nothing
+
+abbrev pub pull_body : {S C : Type 0} → Format (Body S C)
+pull_body = variant (λ _. bodies.Pull) pull_of nothing
+
+abbrev pub list_body : {S C : Type 0} → Format (Body S C)
+list_body = variant (λ p. bodies.List p.0 p.1) list_of (index then listing)
+
+abbrev pub report_body : {S C : Type 0} → Format (Body S C)
+report_body = variant (λ items. bodies.Report items) report_of reports
 
 abbrev pub told_body : {S C : Type 0} → Format (Body S C)
 told_body = variant (λ p. bodies.Told p.0 p.1) told_message_of (client_request_kind then told_reason)

@@ -13,7 +13,8 @@ use crate::vote::{VoteReply, VoteRequest};
 use fields::{Field, append_told_reason, read_told_reason};
 use machine::{Coded, Entry, Machine};
 use rows::{
-    ClassName, ClientRequestKind, NoMemory, Reason, Refusal, Size, WorkerRequest, WorkerResponse,
+    ClassName, ClientRequestKind, Index, Listing, NoMemory, Reason, Refusal, Reports, Size,
+    WorkerRequest, WorkerResponse,
 };
 use std::alloc::Global;
 
@@ -35,6 +36,16 @@ pub enum Body<M: Machine> {
     /// A node's agent registers the node, of this class and size. (Nomad documentation,
     /// "Architecture".)
     Register(ClassName, Size),
+    /// A node's agent says that the node is still there. (Nomad documentation, "server" block of the
+    /// agent configuration: heartbeats.)
+    Heartbeat,
+    /// A node's agent asks which allocations the node is to run. (Nomad documentation,
+    /// "Allocations".)
+    Pull,
+    /// The live allocations of the agent's node, in the state after this many entries.
+    List(Index, Listing),
+    /// A node's agent says what became of allocations.
+    Report(Reports),
     /// Which request of an agent is answered: it is taken, or it is refused for this reason.
     Told(ClientRequestKind, Option<Reason>),
 }
@@ -52,6 +63,10 @@ impl<M: Machine> Body<M> {
             Body::Request(request) => request_kind(request),
             Body::Response(response) => response_kind(response),
             Body::Register(_, _) => Kind::Register,
+            Body::Heartbeat => Kind::Heartbeat,
+            Body::Pull => Kind::Pull,
+            Body::List(_, _) => Kind::List,
+            Body::Report(_) => Kind::Report,
             Body::Told(_, _) => Kind::Told,
         }
     }
@@ -89,6 +104,17 @@ pub fn read_body<M: Machine>(
             let (size, end) = Size::read_at(alloc, bytes, at)?;
             Ok((Body::Register(class, size), end))
         }
+        Kind::Heartbeat => Ok((Body::Heartbeat, at)),
+        Kind::Pull => Ok((Body::Pull, at)),
+        Kind::List => {
+            let (index, at) = Index::read_at(alloc, bytes, at)?;
+            let (rows, end) = Listing::read_at(alloc, bytes, at)?;
+            Ok((Body::List(index, rows), end))
+        }
+        Kind::Report => {
+            let (items, end) = Reports::read_at(alloc, bytes, at)?;
+            Ok((Body::Report(items), end))
+        }
         Kind::Told => {
             let (asked, at) = ClientRequestKind::read_at(alloc, bytes, at)?;
             let (reason, end) = read_told_reason(bytes, at)?;
@@ -113,6 +139,12 @@ pub fn append_body<M: Machine>(value: &Body<M>, out: &mut Vec<u8>) -> Result<(),
             class.append(out)?;
             size.append(out)
         }
+        Body::Heartbeat | Body::Pull => Ok(()),
+        Body::List(index, rows) => {
+            index.append(out)?;
+            rows.append(out)
+        }
+        Body::Report(items) => items.append(out),
         Body::Told(asked, reason) => {
             asked.append(out)?;
             append_told_reason(reason, out)

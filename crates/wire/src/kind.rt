@@ -1,6 +1,6 @@
 ghost use Rattle.std.specs.Prelude.{◌≡◌};
 ghost use Rattle.fields_model.specs.Format.{GivesExactly};
-ghost use Rattle.wire.specs.Messages.{is_of_log, is_of_desk, may_come_from, may_go, is_server, is_another_server};
+ghost use Rattle.wire.specs.Messages.{is_of_log, is_of_desk, is_of_agent, may_come_from, may_go, is_server, is_another_server};
 ghost use Rattle.wire.specs.Grammar.{kind};
 ghost use Rattle.wire.specs.Laws.GrammarLaws.{kind_lawful};
 
@@ -35,6 +35,14 @@ pub enum Kind {
     Refused,
     /// 14: a node's agent registers.
     Register,
+    /// 15: a node's agent says that the node is still there.
+    Heartbeat,
+    /// 16: a node's agent asks which allocations the node is to run.
+    Pull,
+    /// 17: the live allocations of a node.
+    List,
+    /// 18: a node's agent says what became of allocations.
+    Report,
     /// 19: whether an agent's request is taken.
     Told,
 }
@@ -61,28 +69,40 @@ impl Kind {
         }
     }
 
-    /// Whether this actor sends messages of the kind: an agent registers, and all others come from
-    /// servers.
+    /// Whether the message is one that a node's agent sends.
+    pub fn is_of_agent(self) -> bool
+        ensures { result ≡ is_of_agent self }
+    {
+        matches!(
+            self,
+            Kind::Register | Kind::Heartbeat | Kind::Pull | Kind::Report
+        )
+    }
+
+    /// Whether this actor sends messages of the kind: an agent's come from clients, and all others
+    /// from servers.
     pub fn may_come_from(self, from: &Actor) -> bool
         ensures { result ≡ may_come_from self from.now }
     {
-        match self {
-            Kind::Register => !is_server(from),
-            _ => is_server(from),
+        if self.is_of_agent() {
+            !is_server(from)
+        } else {
+            is_server(from)
         }
     }
 
     /// Whether messages of the kind go from this actor to that one: those by which servers keep one
     /// log go to another server, those of workers and the leader's desk to any, an agent's to a
-    /// server, and the answer to it from a server.
+    /// server, and what it is told or shown comes from a server.
     pub fn may_go(self, from: &Actor, to: &Actor) -> bool
         ensures { result ≡ may_go self from.now to.now }
     {
         match self {
             Kind::VoteRequest | Kind::VoteReply => is_another_server(from, to),
             Kind::Append | Kind::AppendReply => is_another_server(from, to),
-            Kind::Register => !is_server(from) && is_server(to),
-            Kind::Told => is_server(from) && !is_server(to),
+            Kind::Register | Kind::Heartbeat => !is_server(from) && is_server(to),
+            Kind::Pull | Kind::Report => !is_server(from) && is_server(to),
+            Kind::List | Kind::Told => is_server(from) && !is_server(to),
             _ => is_server(from) && is_server(to),
         }
     }
@@ -121,6 +141,10 @@ impl Field for Kind {
             (12, next) => Ok((Kind::Nack, next)),
             (13, next) => Ok((Kind::Refused, next)),
             (14, next) => Ok((Kind::Register, next)),
+            (15, next) => Ok((Kind::Heartbeat, next)),
+            (16, next) => Ok((Kind::Pull, next)),
+            (17, next) => Ok((Kind::List, next)),
+            (18, next) => Ok((Kind::Report, next)),
             (19, next) => Ok((Kind::Told, next)),
             _ => Err(Refusal::Frame(at)),
         }
@@ -140,6 +164,10 @@ impl Field for Kind {
             Kind::Nack => 12,
             Kind::Refused => 13,
             Kind::Register => 14,
+            Kind::Heartbeat => 15,
+            Kind::Pull => 16,
+            Kind::List => 17,
+            Kind::Report => 18,
             Kind::Told => 19,
         };
         write_u8(&number, out)

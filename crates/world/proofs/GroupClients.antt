@@ -2,6 +2,7 @@
 use Rattle.std.proofs.Common.{◌≡◌, ◌≢◌, ℕ, zero, suc, Bool, true, false, cond, nat_lt, is_some, inl, inr, Option, Some, None, Result, Ok, Err, List, [], ◌∷◌, ◌++◌, length, map, append-nil, refl, sym, ap, ◌∙◌, subst, arith, ◌≤◌, slice_get, slice_set, get_or}
 use Rattle.std.proofs.lemmas.Option.{slice_get_read}
 use Rattle.std.specs.List.{AllZip}
+use Rattle.rows.specs.declared.allocation.AllocId.{AllocId}
 use Rattle.rows.specs.declared.node.NodeSpec.{NodeSpec}
 use Rattle.rows.specs.declared.refusal.Refusal.{Refusal}
 use Rattle.rows.specs.declared.refusal.Refusal.TheVariants as refusals
@@ -25,7 +26,7 @@ use Rattle.group_frames.specs.GroupFrames.{CarriesGroup, SendsGroup}
 use Rattle.client_agent.specs.declared.input.ClientInput.{ClientInput}
 use Rattle.client_agent.specs.declared.input.ClientInput.TheVariants as client_inputs
 use Rattle.client_agent.specs.AgentView.{AgentView}
-use Rattle.client_agent.specs.Refusals.{AgentMayLack, agent_refusal}
+use Rattle.client_agent.specs.Refusals.{RunsIn, AgentMayLack, agent_refusal}
 use Rattle.server.specs.ServerViews.{ServerView, IsMember}
 use Rattle.server.specs.declared.server.Outbox.{Outbox}
 use Rattle.world.specs.declared.done.Done.{Done}
@@ -239,10 +240,18 @@ alive : (o : Option Life) → is_some o ≡ true → (l : Life) × (o ≡ Some l
 alive None h = absurd (cc)
 alive (Some l) h = (l, refl)
 
+-- one at which an allocation runs is up
+runs_up : (o : Option Life) (id : AllocId) → RunsIn o id → is_some o ≡ true
+runs_up None id h = absurd h
+runs_up (Some l) id h = refl
+
 -- who may want memory is up
 lacks_up : (n : ℕ) (c : Client) (given : ClientInput) → AgentMayLack n c given → is_some c.life ≡ true
 lacks_up n c (client_inputs.Frame bytes) h = h
 lacks_up n c (client_inputs.Register server) h = h.0
+lacks_up n c (client_inputs.Ping server) h = h.0
+lacks_up n c (client_inputs.Pull server) h = h.0
+lacks_up n c (client_inputs.End id ok) h = runs_up c.life id h
 lacks_up n c client_inputs.Crash h = absurd h
 lacks_up n c client_inputs.Restart h = absurd h
 

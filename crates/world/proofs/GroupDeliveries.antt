@@ -88,7 +88,11 @@ goes (actors.Server i) (actors.Server j) (bodies.Request request) x is = goes_so
 goes (actors.Server i) (actors.Server j) (bodies.Response response) x is = goes_so (actors.Server i) (actors.Server j) _ x (record { from_is = refl; to_is = refl }) is
 goes (actors.Server i) (actors.Server j) _ x is = absurd (cc is)
 goes (actors.Client c) (actors.Server j) (bodies.Register class size) x is = goes_so (actors.Client c) (actors.Server j) _ x (record { from_is = refl; to_is = refl }) is
+goes (actors.Client c) (actors.Server j) bodies.Heartbeat x is = goes_so (actors.Client c) (actors.Server j) _ x (record { from_is = refl; to_is = refl }) is
+goes (actors.Client c) (actors.Server j) bodies.Pull x is = goes_so (actors.Client c) (actors.Server j) _ x (record { from_is = refl; to_is = refl }) is
+goes (actors.Client c) (actors.Server j) (bodies.Report items) x is = goes_so (actors.Client c) (actors.Server j) _ x (record { from_is = refl; to_is = refl }) is
 goes (actors.Client c) (actors.Server j) _ x is = absurd (cc is)
+goes (actors.Server i) (actors.Client c) (bodies.List index rows) x is = goes_so (actors.Server i) (actors.Client c) _ x (record { from_is = refl; to_is = refl }) is
 goes (actors.Server i) (actors.Client c) (bodies.Told kind refused) x is = goes_so (actors.Server i) (actors.Client c) _ x (record { from_is = refl; to_is = refl }) is
 goes (actors.Server i) (actors.Client c) _ x is = absurd (cc is)
 goes (actors.Client c) (actors.Client d) _ x is = absurd (cc is)

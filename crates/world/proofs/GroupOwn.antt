@@ -7,7 +7,7 @@ use Rattle.wire.specs.Frames.{Frame}
 use Rattle.raft_model.specs.Servers.{is_up, silent, restarted}
 use Rattle.raft_model.specs.Steps as raft_steps
 use Rattle.cluster_model.specs.ClusterMachine.{cluster_meaning}
-use Rattle.group_model.specs.Inputs.{Input, Timeout, Beat, Request, TakeFrom, SubmitTo, FinishAt, NackAt, PlanTurn, Lapse, FreeTurn, Reap, Crash, Restart, Act, AskRestart, asks}
+use Rattle.group_model.specs.Inputs.{Input, Timeout, Beat, Request, TakeFrom, SubmitTo, FinishAt, NackAt, PlanTurn, Lapse, Expire, FreeTurn, Reap, Crash, Restart, Act, AskRestart, asks}
 use Rattle.group_model.specs.Members.{Member, Turn, acts, wakes, logged, done, step}
 use Rattle.group_model.specs.Clients as clients
 use Rattle.group_model.specs.Worlds.{World, AtServer, AtClient, IsRestart, own_input, takes_input, input_to, own_client_input, client_takes, client_input_to, client_at}
@@ -24,7 +24,7 @@ use Rattle.server.specs.Handings.{OwnInput, handing}
 use Rattle.server.specs.Turns.{TakesTurn}
 use Rattle.server.specs.Refusals.{MayTakeMemory, refusal_in}
 use Rattle.world.specs.GroupEvents.{server_input, client_input, input_work}
-use Rattle.world.specs.GroupSteps.{MayWantAt}
+use Rattle.world.specs.GroupSteps.{RunsThere, MayWantAt}
 use Rattle.world.specs.Inner.GroupInputs.{is_frame, is_client_frame, is_restart_input}
 use Rattle.world.proofs.GroupScenes.{ServerTakes, ClientTurned, ClientTakes}
 
@@ -85,6 +85,7 @@ module _ (view : ServerView) (w : World) (i : ℕ) (s : Member) (me : view.raft.
   by_input (inputs.Nack to eval token) other = plain (NackAt to eval token) refl refl
   by_input inputs.PlanTurn other = plain PlanTurn refl refl
   by_input (inputs.Lapse eval) other = plain (Lapse eval) refl refl
+  by_input (inputs.Expire node beats) other = plain (Expire node beats) refl refl
   by_input inputs.FreeTurn other = plain FreeTurn refl refl
   by_input inputs.Reap other = plain Reap refl refl
   by_input inputs.Crash other = plain Crash refl refl
@@ -120,6 +121,9 @@ module _ (view : AgentView) (w : World) (c : ℕ) (here : client_at w.clients c 
   by_client_input : (given : ClientInput) → is_client_frame given ≡ false → ClientTakes view given w (AtClient c (client_input given)) c
   by_client_input (client_inputs.Frame bytes) other = absurd (cc)
   by_client_input (client_inputs.Register server) other = own_of (client_inputs.Register server) (clients.RegisterAt server) refl (λ new before after t. t (clients.RegisterAt server) refl) refl (λ may. rw size at may.1)
+  by_client_input (client_inputs.Ping server) other = own_of (client_inputs.Ping server) (clients.Ping server) refl (λ new before after t. t (clients.Ping server) refl) refl (λ may. rw size at may.1)
+  by_client_input (client_inputs.Pull server) other = own_of (client_inputs.Pull server) (clients.PullFrom server) refl (λ new before after t. t (clients.PullFrom server) refl) refl (λ may. rw size at may.1)
+  by_client_input (client_inputs.End id ok) other = own_of (client_inputs.End id ok) (clients.End id ok) refl (λ new before after t. t (clients.End id ok) refl) refl (λ may. subst (λ o. RunsThere o id) (sym here) may)
   by_client_input client_inputs.Crash other = own_of client_inputs.Crash clients.Crash refl (λ new before after t. t clients.Crash refl) refl (λ may. may)
   by_client_input client_inputs.Restart other = own_of client_inputs.Restart clients.Restart refl (λ new before after t. t clients.Restart refl) refl (λ may. may)
 

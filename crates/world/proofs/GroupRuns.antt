@@ -4,10 +4,10 @@ use Rattle.rows.specs.declared.node.NodeSpec.{NodeSpec}
 use Rattle.raft_safety.proofs.Chains.{greatest_one}
 use Rattle.group_model.specs.Worlds as model
 use Rattle.group_model.specs.Worlds.{World, Event, Run, IsEvent, happens, raft_of}
-use Rattle.group_safety.specs.Claims.{OneList, OneExists, AsLongAsCommitted, OfTheList, SafeStates, PlansAreBacked, logs}
+use Rattle.group_safety.specs.Claims.{OneList, OneExists, AsLongAsCommitted, OfTheList, SafeStates, PlansAreBacked, StartsArePlaced, logs}
 use Rattle.group_safety.specs.Limits.{LimitedRun, LimitsAreKept, start, more}
 use Rattle.world.specs.GroupView.{GroupView, GroupRunsTo, IsGroupWorld, nodes_of}
-use Rattle.world.specs.GroupClaims.{OneGroupList, SafeGroupStates, BackedPlans}
+use Rattle.world.specs.GroupClaims.{OneGroupList, SafeGroupStates, BackedPlans, PlacedStarts, GroupHeadline}
 use Rattle.world.proofs.Runs.{ends_alike, no_end}
 
 -- ---- a list of events has one run
@@ -76,3 +76,29 @@ module _ (view : GroupView) (r : IsGroupWorld view) (limits : LimitsAreKept) whe
     runs = r.runs;
     ever = λ past w q list one. backed (length view.servers) (nodes_of view) view.trace past w (group_run past w q) list one;
   }
+
+  pub placed_group_starts : OfTheList (λ events past w list. StartsArePlaced past w list) → PlacedStarts view
+  placed_group_starts placed = record {
+    past = r.past;
+    world = r.world;
+    runs = r.runs;
+    ever = λ past w q list one. placed (length view.servers) (nodes_of view) view.trace past w (group_run past w q) list one;
+  }
+
+  pub group_headline : OneExists → AsLongAsCommitted → OfTheList (λ events past w list. SafeStates list) → OfTheList PlansAreBacked → OfTheList (λ events past w list. StartsArePlaced past w list) → GroupHeadline view
+  group_headline exists long safe backed placed =
+      let n = length view.servers in
+      let nodes = nodes_of view in
+      let l = one_group_list exists long in
+      let here = l.ever l.past l.world l.runs in
+      record {
+        past = l.past;
+        world = l.world;
+        runs = l.runs;
+        list = l.list;
+        long = l.long;
+        chain = l.ever;
+        safe = safe n nodes view.trace l.past l.world (group_run l.past l.world l.runs) l.list here;
+        backed = λ past w q. backed n nodes view.trace past w (group_run past w q) l.list (l.ever past w q);
+        placed = λ past w q. placed n nodes view.trace past w (group_run past w q) l.list (l.ever past w q);
+      }

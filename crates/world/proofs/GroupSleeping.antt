@@ -230,6 +230,9 @@ no_life n x None given down other = refl
 lives_awake : (n : ℕ) (x : Client) (life : Option Life) (given : ClientInput) → is_client_frame given ≡ false → (is_some life ≡ true) ⊎ (is_client_restart given ≡ true) → Awake (clients.step_of n x life (client_input given))
 lives_awake n x life (client_inputs.Frame bytes) other up = absurd (cc other)
 lives_awake n x (Some l) (client_inputs.Register server) other up = awake_if (nat_lt server n) _ _ tt (λ e. cc)
+lives_awake n x (Some l) (client_inputs.Ping server) other up = awake_if (nat_lt server n) _ _ tt (λ e. cc)
+lives_awake n x (Some l) (client_inputs.Pull server) other up = awake_if (nat_lt server n) _ _ tt (λ e. cc)
+lives_awake n x (Some l) (client_inputs.End id ok) other up = awake_if (clients.runs l.running id) _ _ tt (λ e. cc)
 lives_awake n x (Some l) client_inputs.Crash other up = tt
 lives_awake n x (Some l) client_inputs.Restart other up = λ e. cc
 lives_awake n x None client_inputs.Restart other up = tt

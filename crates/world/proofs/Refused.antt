@@ -44,6 +44,10 @@ said_kind from to (bodies.AppendReply r) x is = refl
 said_kind from to (bodies.Request r) x is = absurd (cc is)
 said_kind from to (bodies.Response r) x is = absurd (cc is)
 said_kind from to (bodies.Register class size) x is = absurd (cc is)
+said_kind from to bodies.Heartbeat x is = absurd (cc is)
+said_kind from to bodies.Pull x is = absurd (cc is)
+said_kind from to (bodies.List index rows) x is = absurd (cc is)
+said_kind from to (bodies.Report items) x is = absurd (cc is)
 said_kind from to (bodies.Told kind reason) x is = absurd (cc is)
 
 module _ {S C : Type 0} (m : Meaning S C) (n me : ℕ)

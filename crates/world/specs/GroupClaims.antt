@@ -5,7 +5,7 @@ use Rattle.rows.specs.declared.command.Command.{Command}
 use Rattle.machine.specs.declared.entry.Entry.{Entry}
 use Rattle.raft_safety.specs.Claims.{IsGreatestCommit}
 use Rattle.group_model.specs.Worlds.{World, raft_of}
-use Rattle.group_safety.specs.Claims.{OneList, SafeStates, PlansAreBacked, logs}
+use Rattle.group_safety.specs.Claims.{OneList, SafeStates, PlansAreBacked, StartsArePlaced, logs}
 use Rattle.world.specs.GroupView.{GroupView, GroupRunsTo}
 
 -- The value has a run, and there is one list, of length `chain`: in each of its runs what a server
@@ -35,6 +35,30 @@ pub record BackedPlans (view : GroupView) : Type 0 where
   pub world : World
   pub runs : GroupRunsTo view past world
   pub ever : (past : List World) (w : World) → GroupRunsTo view past w → (list : List (Entry Command)) → OneList past w list → PlansAreBacked view.trace past w list
+
+-- The value has a run, and in each of its runs whatever a client ever started was placed on its
+-- node by a plan of that list, which some server had applied by then.
+pub record PlacedStarts (view : GroupView) : Type 0 where
+  pub past : List World
+  pub world : World
+  pub runs : GroupRunsTo view past world
+  pub ever : (past : List World) (w : World) → GroupRunsTo view past w → (list : List (Entry Command)) → OneList past w list → StartsArePlaced past w list
+
+-- The headline, of one list: through every list of deliveries, losses, repeats, elections,
+-- expiries, crashes and restarts, one list of entries exists of which every running server's state,
+-- at every moment, is some first entries applied; in each such state no node is oversubscribed and
+-- no allocation name live twice; each of its plans was appended under its leader's outstanding
+-- token; clients start only what it places on them.
+pub record GroupHeadline (view : GroupView) : Type 0 where
+  pub past : List World
+  pub world : World
+  pub runs : GroupRunsTo view past world
+  pub list : List (Entry Command)
+  pub long : length list ≡ view.chain
+  pub chain : (past : List World) (w : World) → GroupRunsTo view past w → OneList past w list
+  pub safe : SafeStates list
+  pub backed : (past : List World) (w : World) → GroupRunsTo view past w → PlansAreBacked view.trace past w list
+  pub placed : (past : List World) (w : World) → GroupRunsTo view past w → StartsArePlaced past w list
 
 -- the greatest number of entries that any server had applied at some moment, in each of its runs
 abbrev pub IsGreatestEver : GroupView → ℕ → Type 0

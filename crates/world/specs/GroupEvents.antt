@@ -26,6 +26,9 @@ server_input (OwnInput input) = input
 abbrev pub client_input : ClientInput → clients.Input
 client_input (client_inputs.Frame bytes) = clients.Arrives 0 (Listing 0 [])
 client_input (client_inputs.Register server) = clients.RegisterAt server
+client_input (client_inputs.Ping server) = clients.Ping server
+client_input (client_inputs.Pull server) = clients.PullFrom server
+client_input (client_inputs.End id ok) = clients.End id ok
 client_input client_inputs.Crash = clients.Crash
 client_input client_inputs.Restart = clients.Restart
 

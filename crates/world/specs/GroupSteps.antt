@@ -1,13 +1,16 @@
 -- What a step of a group does, and what becomes of a list of events.
-use Rattle.std.specs.Prelude.{◌≡◌, ◌≢◌, ℕ, ◌<◌, ◌≤◌, ◌⊎◌, Some, Ok, Err, List, [], ◌∷◌, ◌++◌, length, slice_get}
+use Rattle.std.specs.Prelude.{◌≡◌, ◌≢◌, ℕ, ◌<◌, ◌≤◌, ◌⊎◌, Option, Some, None, Ok, Err, List, [], ◌∷◌, ◌++◌, length, slice_get}
 use Rattle.std.specs.List.{AllZip}
+use Rattle.rows.specs.declared.allocation.AllocId.{AllocId}
 use Rattle.rows.specs.declared.node.NodeSpec.{NodeSpec}
 use Rattle.rows.specs.declared.refusal.Refusal.{Refusal}
 use Rattle.rows.specs.declared.refusal.Refusal.TheVariants as refusals
 use Rattle.raft_model.specs.Worlds.{Outcome}
 use Rattle.group_model.specs.Clients as clients
+use Rattle.group_model.specs.Clients.{Client}
 use Rattle.group_model.specs.Members.{Member}
-use Rattle.group_model.specs.Worlds.{World, Event, Deliver, AtServer, AtClient, first, happens, crash_of, IsRestart, Trace}
+use Rattle.group_model.specs.Worlds.{World, Event, Deliver, AtServer, AtClient, first, happens, crash_of, client_at, IsRestart, Trace}
+use Rattle.client_agent.specs.Refusals.{RunsIn}
 use Rattle.server.specs.ServerViews.{SameMember}
 use Rattle.server.specs.Refusals.{MayTakeMemory}
 use Rattle.world.specs.declared.done.Done.{Done}
@@ -30,13 +33,22 @@ pub record GroupEventHappened (old : GroupView) (e : Event) (new : GroupView) : 
   pub runs : (past : List World) (w : World) → GroupRunsTo old past w →
       (next : World) × (happens w e ≡ Ok next) × GroupRunsTo new (past ++ w ∷ []) next
 
+-- the allocation runs at the client
+abbrev pub RunsThere : Option Client → AllocId → Type 0
+RunsThere None id = ⊥
+RunsThere (Some x) id = RunsIn x.life id
+
 -- In this world the event may want memory: what comes may, and a server's input as that says; of a
--- client's inputs a Register alone.
+-- client's inputs one that goes to a server of the group, and the end of an allocation that runs
+-- there.
 abbrev pub MayWantAt : World → Event → Type 0
 MayWantAt w (Deliver k) = Unit {0}
 MayWantAt w (AtServer i input) =
     (s : Member) → slice_get w.servers i ≡ Some s → MayTakeMemory (length w.servers) s input
 MayWantAt w (AtClient c (clients.RegisterAt server)) = server < length w.servers
+MayWantAt w (AtClient c (clients.Ping server)) = server < length w.servers
+MayWantAt w (AtClient c (clients.PullFrom server)) = server < length w.servers
+MayWantAt w (AtClient c (clients.End id ok)) = RunsThere (client_at w.clients c) id
 MayWantAt w (AtClient c _) = ⊥
 
 -- the event's actor found no memory, and crashes in its place

@@ -1,7 +1,7 @@
 -- What a client is listed, and what is appended of its requests.
 use Rattle.std.specs.Prelude.{◌≡◌, ℕ, Option, Some, None, List, [], ◌∷◌, ◌++◌}
 use Rattle.rows.specs.declared.size.Size.{Size}
-use Rattle.rows.specs.declared.allocation.ClientState.TheVariants as clients
+use Rattle.rows.specs.declared.listing.LiveState.TheVariants as live_states
 use Rattle.rows.specs.declared.command.ReportedState.TheVariants as reported
 use Rattle.rows.specs.declared.command.Command.{Command}
 use Rattle.rows.specs.declared.command.Command.TheVariants as commands
@@ -33,7 +33,7 @@ abbrev pub pulls : ℕ → List GroupMessage
 pulls commit = sent_by (members.step 3 0 (leads placed_log commit None) (inputs.Arrives (ToServer 1 0 Pull)))
 
 abbrev pub Listed : Type 0
-Listed = pulls 5 ≡ Service (ToClient 0 1 (Listing 5 (record { id = alloc_id 5 0; size = size 600 100; state = clients.Pending } ∷ []))) ∷ []
+Listed = pulls 5 ≡ Service (ToClient 0 1 (Listing 5 (record { id = alloc_id 5 0; size = size 600 100; state = live_states.Pending } ∷ []))) ∷ []
 
 abbrev pub NotAppliedYet : Type 0
 NotAppliedYet = pulls 4 ≡ Service (ToClient 0 1 (Listing 4 [])) ∷ []

@@ -4,7 +4,7 @@ use crate::tests::lines::put_pair;
 use blocked::Blocked;
 use drain::{is_done, next_moves};
 use eval_broker::{Broker, PairError};
-use expiry::Expiry;
+use expiry::{Expiry, ExpiryError};
 use fields::{read_whole, write};
 use fsm_state::Cluster;
 use plan_queue::PlanQueue;
@@ -218,7 +218,7 @@ fn hears(state: &Cluster, alloc: Global) -> bool {
         heard = heard && expiry.changed(row).is_ok();
     }
     heard
-        && expiry.expire(node, Index::ZERO) == Err(Refusal::StaleExpiry)
+        && expiry.expire(node, Index::ZERO) == Err(ExpiryError::StaleExpiry)
         && expiry.expire(node, Index::ZERO.next()).is_ok()
 }
 

@@ -1,13 +1,14 @@
-//! The parts of a desk that follow a state, command by command.
+//! The parts of a desk that follow a state, command by command, and the desk's heartbeats.
 use crate::tests::desks::eval_of;
 use crate::tests::lines::put_line;
+use crate::tests::states::numbers;
 use blocked::Blocked;
 use eval_broker::Broker;
 use expiry::Expiry;
 use fsm_state::Cluster;
-use leader::follow;
+use leader::{Desk, DeskError, follow};
 use machine::Machine;
-use rows::{Command, EvalId, Index, LeaderTerm, NodeId};
+use rows::{Command, EvalId, Index, LeaderTerm, NodeId, Refusal};
 use std::alloc::Global;
 
 // Each line is a command, which is admitted, applied and followed; or says what is found then.
@@ -57,18 +58,75 @@ gives 21.1
 gives 21.0
 gives -";
 
+// `open`, `close`: so is the desk from then on. `beat NODE N`: a heartbeat of the node is refused
+// with N, or counted where N is 0. `expire NODE BEATS N`: so is an expiry of the node after so many
+// heartbeats.
+const HEARD: &str = "\
+noop
+beat 1 3
+expire 1 0 3
+join 1 linux 1000 1000
+join 2 arm 1000 1000
+beat 1 3
+expire 1 0 3
+open
+beat 3 9
+expire 3 0 9
+expire 1 1 19
+expire 1 0 0
+beat 1 0
+expire 1 0 19
+expire 1 1 0
+expire 1 1 0
+expire 1 2 19
+expire 1 1099511627775 19
+expire 2 1 19
+expire 2 0 0
+put a 50 main:1:linux:600:300
+expire 1 1 0
+join 1 linux 1000 1000
+expire 1 1 0
+drain 1 slow
+expire 1 1 0
+beat 1 0
+beat 2 0
+expire 1 1 19
+expire 1 2 0
+expire 2 1 0
+lose 1
+beat 1 9
+expire 1 2 9
+expire 1 0 9
+expire 2 1 0
+join 1 linux 1000 1000
+expire 1 2 19
+expire 1 0 0
+beat 1 0
+expire 1 1 0
+open
+expire 1 1 19
+expire 1 0 0
+expire 2 1 19
+expire 2 0 0
+close
+beat 1 3
+expire 1 0 3
+expire 1 1 3";
+
 #[derive(Drop)]
 struct Followed {
     state: Cluster,
     broker: Broker,
     blocked: Blocked,
     expiry: Expiry,
+    desk: Desk,
 }
 
 fn changes(parts: &mut Followed, alloc: Global, command: &Command) -> bool {
     matches!(parts.state.admits(command), Ok(None))
         && parts.state.count() < 1_000_000
         && parts.state.apply(command).is_ok()
+        && parts.desk.changed(command, &parts.state).is_ok()
         && follow(
             alloc,
             &mut parts.broker,
@@ -123,6 +181,46 @@ fn is_held(expiry: &Expiry, word: &str, wanted: bool) -> bool {
     }
 }
 
+fn opens(desk: &mut Desk, state: &Cluster) -> bool {
+    match LeaderTerm::new(1) {
+        Some(term) => desk.rebuild(state, term).is_ok() && desk.is_open(),
+        None => false,
+    }
+}
+
+fn closes(desk: &mut Desk) -> bool {
+    desk.clear();
+    !desk.is_open()
+}
+
+/// The number of a refusal, 0 for none.
+fn number(answer: Result<(), DeskError>) -> usize {
+    match answer {
+        Ok(()) => 0,
+        Err(error) => usize::from(Refusal::from(error).number()),
+    }
+}
+
+fn node_of(number: usize) -> Option<NodeId> {
+    NodeId::from_number(number.min(255) as u8)
+}
+
+fn hears(desk: &mut Desk, words: &str) -> bool {
+    let [node, wanted, _, _] = numbers(words);
+    match node_of(node) {
+        Some(node) => number(desk.beat(node)) == wanted,
+        None => false,
+    }
+}
+
+fn expires(desk: &Desk, words: &str) -> bool {
+    let [node, beats, wanted, _] = numbers(words);
+    let (Some(node), Some(beats)) = (node_of(node), Index::new(beats as u64)) else {
+        return false;
+    };
+    number(desk.expire(node, beats)) == wanted
+}
+
 fn turn(parts: &mut Followed, alloc: Global, line: &str) -> bool {
     let (head, word) = line.split_once(' ').unwrap_or((line, ""));
     match head {
@@ -130,24 +228,34 @@ fn turn(parts: &mut Followed, alloc: Global, line: &str) -> bool {
         "due" => is_due(&parts.blocked, alloc, word),
         "held" => is_held(&parts.expiry, word, true),
         "lost" => is_held(&parts.expiry, word, false),
+        "open" => opens(&mut parts.desk, &parts.state),
+        "close" => closes(&mut parts.desk),
+        "beat" => hears(&mut parts.desk, word),
+        "expire" => expires(&parts.desk, word),
         _ => takes(parts, alloc, line),
     }
 }
 
-#[test]
-fn parts_follow_the_state(rt: HostRuntime) {
-    let alloc = rt.alloc();
+fn start(alloc: Global) -> Option<Followed> {
     let state = Cluster::new(alloc);
-    let Ok(broker) = Broker::rebuild(alloc, &state) else {
-        panic!(rt; "no memory")
-    };
-    let mut parts = Followed {
+    let broker = Broker::rebuild(alloc, &state).ok()?;
+    Some(Followed {
         state,
         broker,
         blocked: Blocked::new(alloc),
         expiry: Expiry::new(alloc),
-    };
-    for line in RUN.lines() {
-        assert!(rt; turn(&mut parts, alloc, line), "{line}");
+        desk: Desk::closed(alloc),
+    })
+}
+
+#[test]
+fn parts_follow_the_state(rt: HostRuntime) {
+    for table in [RUN, HEARD] {
+        let Some(mut parts) = start(rt.alloc()) else {
+            panic!(rt; "no memory")
+        };
+        for line in table.lines() {
+            assert!(rt; turn(&mut parts, rt.alloc(), line), "{line}");
+        }
     }
 }

@@ -1,12 +1,13 @@
 //! Messages of workers, the leader's desk and agents: the bytes of a value of each kind, put together
 //! by hand from the format, and where other bytes are at fault.
+use crate::tests::lines::put_many;
 use crate::tests::texts::NONE;
 use machine::Tally;
 use rows::{
     Actor, AllocId, AskedRequest, Batch, ClientId, ClientRequestKind, Delivery, EntryIndex, EvalId,
-    EvalOutcome, Index, Leader, LeaderTerm, Name, NodeId, Ordinal, Place, PlaceCount, Plan,
-    PlanResult, Reason, Refusal, RisingNodes, Sequence, Serial, ServerId, Size, Token,
-    WorkerRequest, WorkerResponse,
+    EvalOutcome, Index, Leader, LeaderTerm, ListedAllocation, Listing, LiveState, Name, NodeId,
+    Ordinal, Place, PlaceCount, Plan, PlanResult, Reason, Refusal, Report, ReportedState, Reports,
+    RisingNodes, Sequence, Serial, ServerId, Size, Token, WorkerRequest, WorkerResponse,
 };
 use std::alloc::Global;
 use wire::{Body, Kind, Message, read_message, write_message};
@@ -29,6 +30,11 @@ enum Of {
     TakeRefused,
     SubmitRefused,
     Register,
+    Heartbeat,
+    Pull,
+    List,
+    NoneListed,
+    Report,
     Taken,
     ReportRefused,
 }
@@ -95,6 +101,43 @@ const REGISTER: &[u8] = &[
     5, 108, 105, 110, 117, 120, 0, 0, 3, 232, 0, 0, 3, 232,
 ];
 
+const HEARTBEAT: &[u8] = &[1, 15, 129, 1, 0, 0, 0, 0];
+
+const PULL: &[u8] = &[1, 16, 192, 5, 0, 0, 0, 0];
+
+// 8.0 of 600 and 300 is pending, 8.63 of 1 and 1,000,000 runs.
+const LIST: &[u8] = &[
+    1, 17, 1, 129, 0, 0, 0, 48, //
+    0, 0, 0, 0, 0, 0, 0, 9, 0, 0, 0, 2, //
+    0, 0, 0, 0, 0, 0, 0, 8, 0, 0, 0, 2, 88, 0, 0, 1, 44, 0, //
+    0, 0, 0, 0, 0, 0, 0, 8, 63, 0, 0, 0, 1, 0, 15, 66, 64, 1,
+];
+
+const NONE_LISTED: &[u8] = &[
+    1, 17, 5, 192, 0, 0, 0, 12, 0, 0, 0, 0, 0, 0, 0, 0, 0, 0, 0, 0,
+];
+
+// So many are said to be listed as are allowed, and none is there.
+const MOST_LISTED: &[u8] = &[
+    1, 17, 1, 129, 0, 0, 0, 12, 0, 0, 0, 0, 0, 0, 0, 0, 0, 1, 0, 0,
+];
+
+// The front of the frame of a list of 65,536 allocations, in the state of index 1,024; and what
+// stands behind the id of each: 600, 300, and that it runs.
+const LONGEST: &[u8] = &[
+    1, 17, 1, 129, 0, 18, 0, 12, 0, 0, 0, 0, 0, 0, 4, 0, 0, 1, 0, 0,
+];
+
+const EACH: &[u8] = &[0, 0, 2, 88, 0, 0, 1, 44, 1];
+
+// 8.1 completed, 8.63 failed, 8.1 runs: in any order, and also twice.
+const REPORT: &[u8] = &[
+    1, 18, 129, 1, 0, 0, 0, 31, 3, //
+    0, 0, 0, 0, 0, 0, 0, 8, 1, 2, //
+    0, 0, 0, 0, 0, 0, 0, 8, 63, 3, //
+    0, 0, 0, 0, 0, 0, 0, 8, 1, 1,
+];
+
 const TAKEN: &[u8] = &[1, 19, 1, 129, 0, 0, 0, 3, 14, 0, 0];
 
 const REPORT_REFUSED: &[u8] = &[1, 19, 5, 192, 0, 0, 0, 3, 18, 2, 0];
@@ -144,6 +187,21 @@ const ROWS: &[Row] = &[
         &[8, 9, 10, 18, 20, 28, 36, 37],
     ),
     (Of::Register, Kind::Register, REGISTER, &[8, 14, 18]),
+    (Of::Heartbeat, Kind::Heartbeat, HEARTBEAT, &[]),
+    (Of::Pull, Kind::Pull, PULL, &[]),
+    (
+        Of::List,
+        Kind::List,
+        LIST,
+        &[8, 16, 20, 28, 29, 33, 37, 38, 46, 47, 51, 55],
+    ),
+    (Of::NoneListed, Kind::List, NONE_LISTED, &[8, 16]),
+    (
+        Of::Report,
+        Kind::Report,
+        REPORT,
+        &[8, 9, 17, 18, 19, 27, 28, 29, 37, 38],
+    ),
     (Of::Taken, Kind::Told, TAKEN, &[8, 9, 10]),
     (Of::ReportRefused, Kind::Told, REPORT_REFUSED, &[8, 9, 10]),
 ];
@@ -156,11 +214,27 @@ const CHANGES: &[Change] = &[
     (TAKE, 1, 0, 1),
     (TAKE, 1, 5, 1),
     (TAKE, 1, 6, 1),
-    (TAKE, 1, 15, 1),
-    (TAKE, 1, 16, 1),
-    (TAKE, 1, 17, 1),
-    (TAKE, 1, 18, 1),
     (TAKE, 1, 20, 1),
+    (TAKE, 1, 255, 1),
+    // The body as that of another kind, where the sender and the receiver are of its sort.
+    (TAKE, 1, 15, 2),
+    (TAKE, 1, 16, 2),
+    (TAKE, 1, 17, 3),
+    (TAKE, 1, 18, 2),
+    (HEARTBEAT, 1, 7, 2),
+    (HEARTBEAT, 1, 14, 8),
+    (HEARTBEAT, 1, 16, NONE),
+    (HEARTBEAT, 1, 17, 2),
+    (HEARTBEAT, 1, 18, 8),
+    (HEARTBEAT, 1, 19, 2),
+    (PULL, 1, 15, NONE),
+    (LIST, 1, 8, 3),
+    (LIST, 1, 15, 2),
+    (LIST, 1, 18, 2),
+    (LIST, 1, 19, 8),
+    (REPORT, 1, 15, 8),
+    (REPORT, 1, 16, 8),
+    (REPORT, 1, 17, 2),
     // A sender or a receiver of the wrong sort; a server may send to itself and to others.
     (TAKE, 2, 129, 2),
     (TAKE, 3, 129, 3),
@@ -185,8 +259,36 @@ const CHANGES: &[Change] = &[
     (TAKE_REFUSED, 3, 1, NONE),
     (REGISTER, 2, 1, 2),
     (REGISTER, 3, 130, 3),
+    (HEARTBEAT, 2, 1, 2),
+    (HEARTBEAT, 2, 128, 2),
+    (HEARTBEAT, 2, 192, NONE),
+    (HEARTBEAT, 2, 193, 2),
+    (HEARTBEAT, 3, 0, 3),
+    (HEARTBEAT, 3, 129, 3),
+    (HEARTBEAT, 3, 5, NONE),
+    (HEARTBEAT, 3, 6, 3),
+    (PULL, 2, 5, 2),
+    (PULL, 3, 192, 3),
+    (PULL, 3, 1, NONE),
+    (LIST, 2, 129, 2),
+    (LIST, 2, 5, NONE),
+    (LIST, 3, 1, 3),
+    (LIST, 3, 192, NONE),
+    (REPORT, 2, 1, 2),
+    (REPORT, 2, 192, NONE),
+    (REPORT, 3, 129, 3),
+    (REPORT, 3, 5, NONE),
     (TAKEN, 2, 129, 2),
     (TAKEN, 3, 1, 3),
+    // The version, and the length of the body.
+    (HEARTBEAT, 0, 0, 0),
+    (HEARTBEAT, 7, 1, 4),
+    (PULL, 0, 2, 0),
+    (PULL, 4, 1, 4),
+    (LIST, 0, 2, 0),
+    (LIST, 7, 47, 4),
+    (REPORT, 0, 2, 0),
+    (REPORT, 7, 32, 4),
     // An evaluation for a worker: the option's tag, the evaluation, the token, the index.
     (DELIVERED, 8, 2, 8),
     (DELIVERED, 8, 0, 9),
@@ -292,6 +394,68 @@ const CHANGES: &[Change] = &[
     (REGISTER, 9, 76, 8),
     (REGISTER, 14, 1, 14),
     (REGISTER, 18, 1, 18),
+    // What an agent is shown: at most 65,536 allocations, whose ids rise strictly, and of each what
+    // is known.
+    (LIST, 8, 1, 8),
+    (LIST, 10, 1, 8),
+    (LIST, 11, 1, NONE),
+    (LIST, 15, 0, NONE),
+    (LIST, 16, 1, 16),
+    (LIST, 17, 1, 16),
+    (LIST, 18, 1, 56),
+    (LIST, 19, 0, 20),
+    (LIST, 19, 1, 38),
+    (LIST, 19, 3, 56),
+    (MOST_LISTED, 19, 0, 20),
+    (MOST_LISTED, 19, 1, 16),
+    (LIST, 22, 1, 20),
+    (LIST, 27, 0, 20),
+    (LIST, 27, 9, 38),
+    (LIST, 28, 62, NONE),
+    (LIST, 28, 63, 38),
+    (LIST, 28, 64, 28),
+    (LIST, 29, 1, 29),
+    (LIST, 33, 1, 33),
+    (LIST, 37, 1, NONE),
+    (LIST, 37, 2, 37),
+    (LIST, 40, 1, 38),
+    (LIST, 45, 0, 38),
+    (LIST, 45, 7, 38),
+    (LIST, 45, 9, NONE),
+    (LIST, 46, 0, 38),
+    (LIST, 46, 1, NONE),
+    (LIST, 46, 64, 46),
+    (LIST, 50, 0, 47),
+    (LIST, 54, 63, NONE),
+    (LIST, 54, 65, 51),
+    (LIST, 55, 0, NONE),
+    (LIST, 55, 2, 55),
+    (LIST, 55, 255, 55),
+    (NONE_LISTED, 19, 1, 20),
+    // What an agent reports: 1 to 64 items.
+    (REPORT, 8, 0, 8),
+    (REPORT, 8, 1, 19),
+    (REPORT, 8, 2, 29),
+    (REPORT, 8, 4, 39),
+    (REPORT, 8, 64, 39),
+    (REPORT, 8, 65, 8),
+    (REPORT, 8, 255, 8),
+    (REPORT, 11, 1, 9),
+    (REPORT, 16, 0, 9),
+    (REPORT, 17, 64, 17),
+    (REPORT, 18, 0, 18),
+    (REPORT, 18, 1, NONE),
+    (REPORT, 18, 3, NONE),
+    (REPORT, 18, 4, 18),
+    (REPORT, 21, 1, 19),
+    (REPORT, 26, 0, 19),
+    (REPORT, 26, 1, NONE),
+    (REPORT, 27, 1, NONE),
+    (REPORT, 27, 64, 27),
+    (REPORT, 28, 0, 28),
+    (REPORT, 28, 4, 28),
+    (REPORT, 38, 0, 38),
+    (REPORT, 38, 4, 38),
     // The answer to an agent: 0 where its request is taken.
     (TAKEN, 8, 13, 8),
     (TAKEN, 8, 15, NONE),
@@ -421,6 +585,52 @@ fn desk_body(alloc: Global, of: Of, eval: EvalId, token: Token) -> Option<Body<T
     }
 }
 
+fn id_of(slot: u8) -> Option<AllocId> {
+    let index = EntryIndex::new(8)?;
+    let slot = Ordinal::new(slot)?;
+    Some(AllocId { index, slot })
+}
+
+fn row_of(slot: u8, size: (u32, u32), state: LiveState) -> Option<ListedAllocation> {
+    let id = id_of(slot)?;
+    let size = Size::check(size.0, size.1).ok()?;
+    Some(ListedAllocation { id, size, state })
+}
+
+fn listing_of(alloc: Global) -> Option<Listing> {
+    let mut rows = Sequence::new(alloc);
+    rows.push(row_of(0, (600, 300), LiveState::Pending)?).ok()?;
+    rows.push(row_of(63, (1, 1_000_000), LiveState::Running)?)
+        .ok()?;
+    Listing::check(rows).ok()
+}
+
+fn reports_of(alloc: Global) -> Option<Reports> {
+    let mut items = Sequence::new(alloc);
+    for (slot, state) in [
+        (1, ReportedState::Complete),
+        (63, ReportedState::Failed),
+        (1, ReportedState::Running),
+    ] {
+        let id = id_of(slot)?;
+        items.push(Report { id, state }).ok()?;
+    }
+    Reports::check(items).ok()
+}
+
+/// What an agent says or is shown of allocations.
+fn agent_body(alloc: Global, of: Of) -> Option<Body<Tally>> {
+    match of {
+        Of::List => Some(Body::List(Index::new(9)?, listing_of(alloc)?)),
+        Of::NoneListed => {
+            let rows = Listing::check(Sequence::new(alloc)).ok()?;
+            Some(Body::List(Index::ZERO, rows))
+        }
+        Of::Report => Some(Body::Report(reports_of(alloc)?)),
+        _ => None,
+    }
+}
+
 fn body_of(alloc: Global, of: Of) -> Option<Body<Tally>> {
     match of {
         Of::Take => request(WorkerRequest::Take),
@@ -434,6 +644,9 @@ fn body_of(alloc: Global, of: Of) -> Option<Body<Tally>> {
             let size = Size::check(1000, 1000).ok()?;
             Some(Body::Register(class, size))
         }
+        Of::Heartbeat => Some(Body::Heartbeat),
+        Of::Pull => Some(Body::Pull),
+        Of::List | Of::NoneListed | Of::Report => agent_body(alloc, of),
         Of::Taken => Some(Body::Told(ClientRequestKind::Register, None)),
         Of::ReportRefused => {
             let why = Reason::NotLeader(Leader::new(None));
@@ -533,6 +746,20 @@ fn is_changed(alloc: Global, change: &Change) -> bool {
     copied && fault_of(alloc, &bytes) == place
 }
 
+/// Whether a list of as many allocations as are allowed, from 1.0 to 1024.63, is read and written
+/// again as it was, and is at fault at the last byte with another value there.
+fn is_longest_read(alloc: Global) -> bool {
+    let mut bytes = Vec::new(alloc);
+    let whole = bytes.extend_from_slice(LONGEST).is_ok()
+        && put_many(&mut bytes, "allocation", 0, 65535, EACH)
+        && bytes.len() == 1_179_668
+        && fault_of(alloc, &bytes) == NONE;
+    if let Some(byte) = bytes.get_mut(1_179_667) {
+        *byte = 2;
+    }
+    whole && fault_of(alloc, &bytes) == 1_179_667
+}
+
 #[test]
 fn reads_and_writes_service_messages(rt: HostRuntime) {
     for (number, row) in ROWS.iter().enumerate() {
@@ -540,6 +767,7 @@ fn reads_and_writes_service_messages(rt: HostRuntime) {
         assert!(rt; is_read(rt.alloc(), row), "read {number}");
         assert!(rt; are_ends_at_fault(rt.alloc(), row), "ends {number}");
     }
+    assert!(rt; is_longest_read(rt.alloc()));
 }
 
 #[test]

@@ -19,6 +19,15 @@ use machine::{Coded, Entry, Machine};
 use rows::{Index, NoMemory, ServerId, Term};
 use wire::{Append, AppendHead, AppendReply, Body, Frames};
 
+/// Lets go of a machine, if there is one. A machine is large: where there is none, nothing is moved.
+fn forget<M: Drop>(machine: &mut Option<M>)
+    ensures { machine.new ≡ None }
+{
+    if machine.is_some() {
+        *machine = None;
+    }
+}
+
 impl<M: Machine> Raft<M> {
     /// It follows the sender of an Append or of a snapshot, in the sender's term.
     fn follow(&mut self, from: ServerId, term: Term)
@@ -28,7 +37,7 @@ impl<M: Machine> Raft<M> {
         self.meet(term);
         self.known = Some(from);
         self.role = Role::Follower;
-        self.ahead = None;
+        forget(&mut self.ahead);
     }
 
     /// The entry before those that came is not held: the reply says where to try again.
@@ -88,7 +97,7 @@ impl<M: Machine> Raft<M> {
         ensures kept { OnOk result (KeepsAhead self.old self.new) }
         ensures lost { OnErr result (Lost self.old self.new outbox.old outbox.new) }
     {
-        self.ahead = None;
+        forget(&mut self.ahead);
         let Some(reached) = Index::new(head.prev_index.get() + entries.len() as u64) else {
             unreachable!()
         };

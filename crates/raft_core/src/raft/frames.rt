@@ -47,7 +47,8 @@ impl<M: Machine> Raft<M> {
             Body::Append(append) => self.append(from, append, outbox),
             Body::AppendReply(reply) => self.append_reply(from, &reply, watch),
             Body::Request(_) | Body::Response(_) => unreachable!(),
-            Body::Register(_, _) | Body::Told(_, _) => unreachable!(),
+            Body::Register(_, _) | Body::Heartbeat | Body::Pull | Body::Report(_) => unreachable!(),
+            Body::List(_, _) | Body::Told(_, _) => unreachable!(),
         }
     }
 

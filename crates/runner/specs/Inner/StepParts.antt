@@ -2,7 +2,7 @@
 use Rattle.std.specs.Prelude.{◌≡◌, ℕ, List, [], None, drop, get_or}
 use Rattle.std.specs.List.{join_with_byte}
 use Rattle.runner.specs.declared.step.Step.{Step}
-use Rattle.runner.specs.declared.step.Step.TheVariants.{Timeout, Beat, Plan, Free, Reap, Work, Request, Ask, Flow}
+use Rattle.runner.specs.declared.step.Step.TheVariants.{Timeout, Beat, Plan, Free, Reap, Expire, End, Work, Request, Ask, Flow}
 use Rattle.rows.specs.declared.worker.WorkerRequest.TheVariants.{Submit, Finish}
 use Rattle.runner.specs.Steps.{StepFits, step_words}
 
@@ -46,3 +46,11 @@ IsSubmit _ = ⊥
 abbrev pub IsFinish : Step → Type 0
 IsFinish (Ask server to (Finish eval token outcome)) = Unit {0}
 IsFinish _ = ⊥
+
+abbrev pub IsEnd : Step → Type 0
+IsEnd (End client id ok) = Unit {0}
+IsEnd _ = ⊥
+
+abbrev pub IsExpire : Step → Type 0
+IsExpire (Expire server node beat) = Unit {0}
+IsExpire _ = ⊥

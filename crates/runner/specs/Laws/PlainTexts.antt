@@ -46,8 +46,11 @@ name_plain name fits = (name_lacks 32 name refl fits.2, name_lacks 44 name refl 
 pub index_plain : (n : ℕ) → IndexFits n → IsPlain (decimal n)
 index_plain n fits = number_plain n (omega arith)
 
+pub node_plain : (n : ℕ) → NodeIdFits n → IsPlain (decimal n)
+node_plain n fits = number_plain n (omega arith)
+
 pub client_plain : (n : ℕ) → NodeIdFits n → IsPlain (decimal n)
-client_plain n fits = number_plain n (omega arith)
+client_plain n fits = node_plain n fits
 
 pub server_plain : (server : ℕ) → ServerFits server → IsPlain (server_text server)
 server_plain server fits = number_plain (server + 1) (omega arith)

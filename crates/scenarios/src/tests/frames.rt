@@ -89,7 +89,7 @@ const RULES: &[Rule] = &[
     // As that of a message of workers or the desk: nothing, or nothing behind an option's tag, is
     // left over at once; else an evaluation at 8 and a token at 18, whose term is 0 or cut, or its
     // serial at 26, stand in front of the rest. None of the frames begins with the kind of a
-    // request. Agents and servers send each other the last two.
+    // request. Agents send servers 14 to 16 and 18, and servers send agents 17 and 19.
     (ALL, (1, 1), (7, 7), 8),
     (ALL, (1, 1), (8, 8), 9),
     ((0, 0), (1, 1), (9, 12), 18),
@@ -99,8 +99,9 @@ const RULES: &[Rule] = &[
     ((1, 1), (1, 1), (10, 10), 44),
     ((1, 1), (1, 1), (11, 12), 34),
     (ALL, (1, 1), (13, 13), 8),
-    (ALL, (1, 1), (14, 14), 2),
-    (ALL, (1, 1), (19, 19), 3),
+    (ALL, (1, 1), (14, 16), 2),
+    (ALL, (1, 1), (18, 18), 2),
+    (ALL, (1, 1), (17, 19), 3),
     (ALL, (1, 1), ANY, 1),
     // A server sends to another one.
     ((0, 1), (2, 2), (2, 2), 3),

@@ -1,20 +1,20 @@
 -- What the parts of a step do, on a server that is up.
 use Rattle.std.specs.Prelude.{◌≡◌, ℕ, true, List, length, take, None, Result, Ok, Err}
-use Rattle.rows.specs.declared.size.Size.{Size}
 use Rattle.rows.specs.declared.command.Command.{Command}
 use Rattle.rows.specs.declared.refusal.Refusal.{Refusal}
 use Rattle.rows.specs.declared.refusal.Refusal.TheVariants as refusals
 use Rattle.rows.specs.declared.worker.WorkerRequest.{WorkerRequest}
 use Rattle.rows.specs.declared.worker.WorkerRequest.TheVariants.{Take, Submit, Finish, Nack}
 use Rattle.rows.specs.declared.worker.WorkerResponse.{WorkerResponse}
+use Rattle.rows.specs.declared.worker.ClientRequestKind.{ClientRequestKind}
 use Rattle.wire.specs.Frames.{Frame}
 use Rattle.raft_model.specs.Servers.{Server, is_leader, crashed, extended}
 use Rattle.raft_model.specs.Steps as raft_steps
 use Rattle.cluster_model.specs.ClusterMachine.{cluster_meaning}
-use Rattle.group_model.specs.Messages.{Register}
+use Rattle.group_model.specs.Messages.{ClientRequest}
 use Rattle.group_model.specs.Inputs.{Input, TakeFrom, SubmitTo, FinishAt, NackAt, Act}
 use Rattle.group_model.specs.WorkerRequests.{serves_request, hands_out}
-use Rattle.group_model.specs.ClientRequests.{serves_client}
+use Rattle.group_model.specs.ClientRequests.{serves_client, writes}
 use Rattle.group_model.specs.Members.{Member, open_desk, acts, done}
 use Rattle.server.specs.declared.server.Outbox.{Outbox}
 use Rattle.server.specs.ServerViews.{ServerView, SameMember, group_desk}
@@ -44,11 +44,17 @@ request_act view from request =
 abbrev pub response_act : ServerView → ℕ → WorkerResponse → Result Act Refusal
 response_act view from response = Ok (hands_out from response (member_of view).desk)
 
--- that of a client that comes
-abbrev pub register_act : ServerView → ℕ → List ℕ → Size → Result Act Refusal
-register_act view client class size =
+-- that of a client's request
+abbrev pub client_act : ServerView → ℕ → ClientRequest → Result Act Refusal
+client_act view client request =
     let s = member_of view in
-    Ok (serves_client view.raft.me s.raft client (open_desk s) s.desk (Register class size))
+    Ok (serves_client view.raft.me s.raft client (open_desk s) s.desk request)
+
+-- that of a command that a client's request asks for
+abbrev pub write_act : ServerView → ℕ → ClientRequestKind → Command → Result Act Refusal
+write_act view client kind command =
+    let s = member_of view in
+    Ok (writes view.raft.me s.raft client kind command s.desk)
 
 -- a request of its own workers, as an input
 abbrev pub asks_of : ℕ → WorkerRequest → Input

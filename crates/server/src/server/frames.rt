@@ -168,7 +168,25 @@ impl Server {
                 };
                 self.register(client, class, size, outbox)
             }
-            Body::Told(_, _) => unreachable!(),
+            Body::Heartbeat => {
+                let Actor::Client(client) = from else {
+                    unreachable!()
+                };
+                self.heartbeat(client, outbox)
+            }
+            Body::Pull => {
+                let Actor::Client(client) = from else {
+                    unreachable!()
+                };
+                self.pull(client, outbox)
+            }
+            Body::Report(items) => {
+                let Actor::Client(client) = from else {
+                    unreachable!()
+                };
+                self.report(client, items, outbox)
+            }
+            Body::List(_, _) | Body::Told(_, _) => unreachable!(),
             Body::VoteRequest(_) | Body::VoteReply(_) => unreachable!(),
             Body::Append(_) | Body::AppendReply(_) => unreachable!(),
         }

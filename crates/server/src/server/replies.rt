@@ -2,14 +2,15 @@
 ghost use Rattle.std.specs.Prelude.{◌≡◌, option_map, OnOk, OnErr};
 ghost use Rattle.rows.specs.declared.worker.WorkerResponse.TheVariants as responses;
 ghost use Rattle.rows.specs.Reasons.{reason_of};
-ghost use Rattle.group_model.specs.Messages.{BetweenServers, Asks, Answers};
+ghost use Rattle.group_model.specs.Messages.{BetweenServers, ToClient, Asks, Answers};
+ghost use Rattle.group_model.specs.Messages.{Listing as Lists};
 ghost use Rattle.group_model.specs.ClientRequests.{tells};
 ghost use Rattle.server.specs.Inner.Replies.{SendsOne};
 
 use fsm_state::Cluster;
 use rows::{
-    AskedRequest, ClientId, ClientRequestKind, NoMemory, Reason, Refusal, ServerId, WorkerRequest,
-    WorkerResponse,
+    AskedRequest, ClientId, ClientRequestKind, Index, Listing, NoMemory, Reason, Refusal, ServerId,
+    WorkerRequest, WorkerResponse,
 };
 use wire::{Body, Frames, Message};
 
@@ -83,6 +84,23 @@ pub(super) fn send_told(
     ensures unsent { OnErr result (frames.new ≡ frames.old) }
 {
     let body: Body<Cluster> = Body::Told(kind, told_reason(refusal));
+    let message = Message::to_client(from, to, body);
+    frames.send(&message)
+}
+
+/// The live allocations of a client's node, in the state of this index.
+pub(super) fn send_listing(
+    frames: &mut Frames,
+    from: ServerId,
+    to: ClientId,
+    index: Index,
+    rows: Listing,
+) -> Result<(), NoMemory>
+    ensures sent { let message = ToClient from to (Lists index rows) in
+        OnOk result (SendsOne frames.old frames.new message) }
+    ensures unsent { OnErr result (frames.new ≡ frames.old) }
+{
+    let body: Body<Cluster> = Body::List(index, rows);
     let message = Message::to_client(from, to, body);
     frames.send(&message)
 }

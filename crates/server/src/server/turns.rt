@@ -7,7 +7,7 @@ ghost use Rattle.group_model.specs.Blocked.{first_due};
 ghost use Rattle.group_model.specs.Desks.{applied_state, whole_state};
 ghost use Rattle.leader.specs.OpenDesks.{IsOverBlocked, if_open, at_open, on_reap};
 ghost use Rattle.leader.specs.Verdicts.{judged_by, IsProposal, on_plan_turn};
-ghost use Rattle.group_model.specs.Inputs.{PlanTurn, Lapse, FreeTurn, Reap};
+ghost use Rattle.group_model.specs.Inputs.{PlanTurn, Lapse, Expire, FreeTurn, Reap};
 ghost use Rattle.server.specs.declared.server.Outbox.{Outbox as AnyOutbox};
 ghost use Rattle.server.specs.Inner.Acts.{DoesAct, DeclinesOwn, act_of};
 
@@ -15,7 +15,7 @@ use super::{Outbox, Server};
 use fsm_state::Cluster;
 use leader::{Desk, JudgedPlan};
 use raft_core::Raft;
-use rows::{Command, EvalId, NoMemory, Refusal, StatusChange};
+use rows::{Command, EvalId, Index, NoMemory, NodeId, Refusal, StatusChange};
 
 /// The plan that goes first leaves the queue of an open desk and is judged on the state after the
 /// leader's whole log. Without memory the desk is closed.
@@ -110,6 +110,21 @@ impl Server {
         self.open_desk()?;
         self.desk.desk.lapse(eval)?;
         Ok(())
+    }
+
+    /// A node that was heard of so often, and not since, is proposed as down.
+    pub(super) fn expire(&mut self, node: NodeId, beats: Index) -> Result<(), Refusal>
+        requires { is_up self.old.raft.server.mode ≡ true }
+        ensures same { (self.new.raft.me ≡ self.old.raft.me)
+            × (self.new.raft.size ≡ self.old.raft.size) }
+        ensures taken { OnOk result ((out : AnyOutbox) →
+            DoesAct self.old (act_of self.old (Expire node beats)) self.new out out) }
+        ensures stopped { IfErr result (λ cause. (out : AnyOutbox) →
+            DeclinesOwn self.old (Expire node beats) cause self.new out out) }
+    {
+        self.open_desk()?;
+        self.desk.desk.expire(node, beats)?;
+        self.propose(Command::NodeDown(node))
     }
 
     /// The first evaluation that is due, if there is one, is proposed as pending.

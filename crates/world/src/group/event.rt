@@ -115,6 +115,9 @@ pub(super) fn ranges(input: &ServerInput)
                 let _snapshot = snapshot.get();
             }
         }
+        ServerInput::Expire(node, _) => {
+            let _node = node.number();
+        }
         _ => {}
     }
 }

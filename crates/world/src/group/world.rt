@@ -14,7 +14,7 @@ ghost use Rattle.world.specs.Events.{place_of};
 ghost use Rattle.world.specs.GroupEvents.{server_input, client_input, group_event, group_events};
 ghost use Rattle.world.specs.GroupView.{client_view};
 ghost use Rattle.world.specs.GroupSteps.{IsGroupDone, SameGroup, RefusesGroupEvent, IsGroupAwake, IsNewGroup, WhyNoGroup, GroupPlayed, GroupReplays};
-ghost use Rattle.world.specs.GroupClaims.{OneGroupList, SafeGroupStates, BackedPlans, IsGreatestEver};
+ghost use Rattle.world.specs.GroupClaims.{OneGroupList, SafeGroupStates, BackedPlans, PlacedStarts, GroupHeadline, IsGreatestEver};
 ghost use Rattle.world.specs.Inner.GroupInputs.{new_agents, is_frame, is_client_frame, IsSentTo};
 ghost use Rattle.world.specs.Inner.GroupParts.{GroupStepped};
 
@@ -26,7 +26,8 @@ use crate::group::history::GroupHistory;
 use client_agent::{Agent, ClientInput};
 use fsm_state::Cluster;
 use group_safety::{
-    limits_are_kept, one_list, plans_are_backed, senders_are_members, states_are_safe,
+    limits_are_kept, one_list, plans_are_backed, senders_are_members, starts_are_placed,
+    states_are_safe,
 };
 use rows::{
     Actor, ClientId, Index, NoMemory, NodeId, NodeSpec, Refusal, Sequence, ServerId, Work,
@@ -307,6 +308,9 @@ impl World {
         ensures one_list { OneGroupList self.new }
         ensures safe_states { SafeGroupStates self.new }
         ensures plans_backed { BackedPlans self.new }
+        ensures starts_placed { PlacedStarts self.new }
+        // All four at once.
+        ensures headline { GroupHeadline self.new }
         ensures size { IsGroup (length self.new.servers) }
     {
         let done = self.take(event);
@@ -314,6 +318,8 @@ impl World {
         self.one_list();
         self.safe_states();
         self.plans_backed();
+        self.starts_placed();
+        self.headline();
         done
     }
 
@@ -357,6 +363,9 @@ impl World {
         ensures one_list { IfOk result (λ w. OneGroupList w) }
         ensures safe_states { IfOk result (λ w. SafeGroupStates w) }
         ensures plans_backed { IfOk result (λ w. BackedPlans w) }
+        ensures starts_placed { IfOk result (λ w. PlacedStarts w) }
+        // All four at once.
+        ensures headline { IfOk result (λ w. GroupHeadline w) }
         ensures size { IfOk result (λ w. IsGroup (length w.servers)) }
     {
         // What is handed in is within its limits, and so is what is proposed for it.
@@ -373,6 +382,8 @@ impl World {
         world.one_list();
         world.safe_states();
         world.plans_backed();
+        world.starts_placed();
+        world.headline();
         Ok(world)
     }
 
@@ -415,6 +426,32 @@ impl World {
         let _ = &self.servers;
         limits_are_kept();
         plans_are_backed();
+    }
+
+    /// Whatever a client ever started was placed on its node by a plan of that list, which some
+    /// server had applied by then. (Nomad documentation, "Allocations".)
+    pub fn starts_placed(&self)
+        ensures { PlacedStarts self.now }
+    {
+        let _ = &self.servers;
+        limits_are_kept();
+        starts_are_placed();
+    }
+
+    /// Through every list of deliveries, losses, repeats, elections, expiries, crashes and restarts,
+    /// one list of entries exists of which every running server's state, at every moment, is some
+    /// first entries applied; in each such state no node is oversubscribed and no allocation name
+    /// live twice; each of its plans was appended under its leader's outstanding token; clients
+    /// start only what it places on them.
+    pub fn headline(&self)
+        ensures { GroupHeadline self.now }
+    {
+        let _ = &self.servers;
+        limits_are_kept();
+        one_list();
+        states_are_safe();
+        plans_are_backed();
+        starts_are_placed();
     }
 
     /// The greatest number of entries that any server has applied so far; 0 while nothing is

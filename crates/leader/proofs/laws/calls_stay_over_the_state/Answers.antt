@@ -1,4 +1,4 @@
-use Rattle.leader.proofs.Staying.{opens_over, deliver_stays, ack_stays, nack_stays, lapse_stays, submit_stays, plan_turn_stays}
+use Rattle.leader.proofs.Staying.{opens_over, deliver_stays, ack_stays, nack_stays, lapse_stays, submit_stays, plan_turn_stays, beat_stays}
 use Rattle.leader.proofs.laws.calls_stay_over_the_state.Goals as goal
 
 pub returns : goal.returns
@@ -10,4 +10,5 @@ returns g = record {
   lapse = lapse_stays;
   submit = submit_stays;
   plan_turn = plan_turn_stays;
+  beat = beat_stays;
 }

@@ -1,5 +1,5 @@
 use Rattle.std.proofs.Common.{ap}
-use Rattle.group_model.specs.Inputs.{Lapse, FreeTurn, Reap}
+use Rattle.group_model.specs.Inputs.{Lapse, Expire, FreeTurn, Reap}
 use Rattle.server.specs.Handings.{handing}
 use Rattle.server.proofs.Handings.{silent_taken, silent_admitted, silent_declined}
 use Rattle.server.proofs.server.Server.act.Goals as goal
@@ -15,6 +15,18 @@ returns-in-Lapse-clause-admitted c =
 pub returns-in-Lapse-clause-stopped : goal.returns-in-Lapse-clause-stopped
 returns-in-Lapse-clause-stopped c =
     silent_declined c.args.self.now c.lapse.new.self (handing c.args.input) (Lapse c.in-Lapse.eval) (ap handing c.in-Lapse.is) c.requires c.args.outbox.now c.lapse.result c.lapse.ensures.stopped
+
+pub returns-in-Expire-clause-taken : goal.returns-in-Expire-clause-taken
+returns-in-Expire-clause-taken c =
+    silent_taken c.args.self.now c.expire.new.self (handing c.args.input) (Expire c.in-Expire.node c.in-Expire.beats) (ap handing c.in-Expire.is) c.requires c.args.outbox.now c.expire.result c.expire.ensures.taken
+
+pub returns-in-Expire-clause-admitted : goal.returns-in-Expire-clause-admitted
+returns-in-Expire-clause-admitted c =
+    silent_admitted c.args.self.now c.expire.new.self (handing c.args.input) (Expire c.in-Expire.node c.in-Expire.beats) (ap handing c.in-Expire.is) c.requires c.args.outbox.now c.expire.result c.expire.ensures.taken
+
+pub returns-in-Expire-clause-stopped : goal.returns-in-Expire-clause-stopped
+returns-in-Expire-clause-stopped c =
+    silent_declined c.args.self.now c.expire.new.self (handing c.args.input) (Expire c.in-Expire.node c.in-Expire.beats) (ap handing c.in-Expire.is) c.requires c.args.outbox.now c.expire.result c.expire.ensures.stopped
 
 pub returns-in-FreeTurn-clause-taken : goal.returns-in-FreeTurn-clause-taken
 returns-in-FreeTurn-clause-taken c =

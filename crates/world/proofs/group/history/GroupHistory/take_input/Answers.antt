@@ -39,7 +39,7 @@ returns-else-is_restart-clause-done c =
       fell = λ s r. member_fell old new s h other (lacks s r) (left s r);
       outbox = c.in-Err.ensures.unsent;
       trace = one_group_event_more c.reserve.new.self.items c.push_reserved-in-NoMemory.new.self.items c.self.inside.trace.items (events.Server c.args.me c.replace.new.b) c.in_ok-reserve.ensures.items c.push_reserved-in-NoMemory.ensures.items
-      ∙ ap (λ (x : ServerInput). group_events c.self.inside.trace.items ++ AtServer c.args.me (server_input (handing x)) ∷ []) c.replace.ensures.after;
+          ∙ ap (λ (x : ServerInput). group_events c.self.inside.trace.items ++ AtServer c.args.me (server_input (handing x)) ∷ []) c.replace.ensures.after;
       chain = refl;
     }))
 

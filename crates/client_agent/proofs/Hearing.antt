@@ -1,0 +1,56 @@
+-- What a client hears is what the frame says.
+use Rattle.std.proofs.Common.{◌≡◌, ℕ, true, is_some, Option, Some, None, List, refl, subst, sym, ◌∙◌}
+use Rattle.rows.specs.declared.actor.Actor.TheVariants.{Server, Client as ClientActor}
+use Rattle.rows.specs.declared.command.Command.{Command}
+use Rattle.rows.specs.declared.listing.ListedAllocation.{ListedAllocation}
+use Rattle.wire.specs.Messages.{Message as WireMessage}
+use Rattle.wire.specs.Frames.{Frame, IsFrame}
+use Rattle.wire.specs.declared.body.Body.{Body}
+use Rattle.wire.specs.declared.body.Body.TheVariants as bodies
+use Rattle.cluster_model.specs.Words.{State}
+use Rattle.cluster_model.specs.ClusterMachine.{cluster_meaning}
+use Rattle.cluster_model.proofs.ClusterMachine.{cluster_lawful}
+use Rattle.group_model.specs.Messages.{ServiceMessage, ToClient, ClientResponse, Listing, Told}
+use Rattle.group_model.specs.Clients.{Arrives}
+use Rattle.group_frames.specs.GroupFrames.{service_between, service_of}
+use Rattle.group_frames.proofs.OneMessage.{one_text}
+use Rattle.client_agent.specs.declared.listing.Heard.{Heard}
+use Rattle.client_agent.specs.AgentView.{AgentView}
+use Rattle.client_agent.specs.Steps.{AgentSteps}
+use Rattle.client_agent.specs.Inner.Heard.{IsHeard, TakesHeard}
+use Rattle.client_agent.proofs.Taking.{told_by}
+
+-- the message that was read is that of the frame
+pub heard_of : (me : ℕ) (bytes : List ℕ) (read : WireMessage State Command) (heard : Heard) → IsFrame cluster_meaning.commands read bytes →
+    read.from ≡ Server heard.from → read.to ≡ ClientActor me → read.body ≡ heard.body → IsHeard me bytes heard
+heard_of me bytes read heard frame from to body sender response of =
+    let same : of.read ≡ read = one_text cluster_meaning cluster_lawful of.read read of.fits frame.0 (sym of.text ∙ frame.1) in
+    let said : service_of read ≡ Some (ToClient sender me response) = subst (λ (m : WireMessage State Command). service_of m ≡ Some (ToClient sender me response)) same of.means in
+    (λ i. service_between (sym from i) (sym to i) (sym body i)) ∙ said
+
+-- ---- what is taken of it
+
+same_from : {i j c : ℕ} {r q : ClientResponse} → (let m : Option ServiceMessage = Some (ToClient i c r) in m ≡ Some (ToClient j c q)) → i ≡ j
+same_from h = cc
+
+same_response : {i j c : ℕ} {r q : ClientResponse} → (let m : Option ServiceMessage = Some (ToClient i c r) in m ≡ Some (ToClient j c q)) → r ≡ q
+same_response h = cc
+
+no_response : {j c : ℕ} {q : ClientResponse} → (let m : Option ServiceMessage = None in m ≡ Some (ToClient j c q)) → ⊥
+no_response h = cc
+
+-- a list
+pub takes_list_of : (old new : AgentView) (i index : ℕ) (rows : List ListedAllocation) (before after : List Frame) → AgentSteps old (Arrives i (Listing index rows)) new before after →
+    TakesHeard old (record { from = i; body = bodies.List index rows }) new before after
+takes_list_of old new i index rows before after taken from response of =
+    subst (λ (r : ClientResponse). AgentSteps old (Arrives from r) new before after) (same_response of)
+    (subst (λ (j : ℕ). AgentSteps old (Arrives j (Listing index rows)) new before after) (same_from of) taken)
+
+-- anything else
+pub takes_other : (old : AgentView) (i : ℕ) (body : Body State Command) (all : List Frame) → is_some old.client.life ≡ true →
+    ((index : ℕ) (rows : List ListedAllocation) → body ≡ bodies.List index rows → ⊥) → TakesHeard old (record { from = i; body = body }) old all all
+takes_other old i (bodies.List index rows) all up other from response of = absurd (other index rows refl)
+takes_other old i (bodies.Told kind refused) all up other from response of =
+    subst (λ (r : ClientResponse). AgentSteps old (Arrives from r) old all all) (same_response of)
+    (subst (λ (j : ℕ). AgentSteps old (Arrives j (Told kind refused)) old all all) (same_from of) (told_by old i kind refused all up))
+takes_other old i _ all up other from response of = absurd (no_response of)
