@@ -1,0 +1,2 @@
+-- What the texts of values that this crate reads cite.
+pub mod PlainTexts
