@@ -20,14 +20,6 @@ use Rattle.client_agent.specs.Steps.{AgentSteps}
 use Rattle.client_agent.specs.Inner.Heard.{IsHeard, TakesHeard}
 use Rattle.client_agent.proofs.Taking.{told_by}
 
--- the message that was read is that of the frame
-pub heard_of : (me : ℕ) (bytes : List ℕ) (read : WireMessage State Command) (heard : Heard) → IsFrame cluster_meaning.commands read bytes →
-    read.from ≡ Server heard.from → read.to ≡ ClientActor me → read.body ≡ heard.body → IsHeard me bytes heard
-heard_of me bytes read heard frame from to body sender response of =
-    let same : of.read ≡ read = one_text cluster_meaning cluster_lawful of.read read of.fits frame.0 (sym of.text ∙ frame.1) in
-    let said : service_of read ≡ Some (ToClient sender me response) = subst (λ (m : WireMessage State Command). service_of m ≡ Some (ToClient sender me response)) same of.means in
-    (λ i. service_between (sym from i) (sym to i) (sym body i)) ∙ said
-
 -- ---- what is taken of it
 
 same_from : {i j c : ℕ} {r q : ClientResponse} → (let m : Option ServiceMessage = Some (ToClient i c r) in m ≡ Some (ToClient j c q)) → i ≡ j
@@ -38,13 +30,6 @@ same_response h = cc
 
 no_response : {j c : ℕ} {q : ClientResponse} → (let m : Option ServiceMessage = None in m ≡ Some (ToClient j c q)) → ⊥
 no_response h = cc
-
--- a list
-pub takes_list_of : (old new : AgentView) (i index : ℕ) (rows : List ListedAllocation) (before after : List Frame) → AgentSteps old (Arrives i (Listing index rows)) new before after →
-    TakesHeard old (record { from = i; body = bodies.List index rows }) new before after
-takes_list_of old new i index rows before after taken from response of =
-    subst (λ (r : ClientResponse). AgentSteps old (Arrives from r) new before after) (same_response of)
-    (subst (λ (j : ℕ). AgentSteps old (Arrives j (Listing index rows)) new before after) (same_from of) taken)
 
 -- anything else
 pub takes_other : (old : AgentView) (i : ℕ) (body : Body State Command) (all : List Frame) → is_some old.client.life ≡ true →

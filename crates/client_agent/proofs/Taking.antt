@@ -85,30 +85,6 @@ asked_by what old server before after up member sent =
       of asked.Listing life there sent input is =
           rw is (steps_by old old (PullFrom server) before after (record { client = old.client; sent = ToServer old.client.node.number server (request_of old.client.node asked.Listing) ∷ [] }) (up_step old.size old.client life.0 (PullFrom server) life.1 ∙ rw there refl) refl sent)
 
-pub asked_while_down : (what : Asked) (n server : ℕ) (c : Client) → is_some c.life ≡ false → agent_refusal n c (handing_of what server) ≡ Some refusals.Down
-asked_while_down asked.Registration n server c down = rw (no_life c.life down) refl
-asked_while_down asked.Heartbeat n server c down = rw (no_life c.life down) refl
-asked_while_down asked.Listing n server c down = rw (no_life c.life down) refl
-
-pub asked_outside : (what : Asked) (n server : ℕ) (c : Client) → is_some c.life ≡ true → n ≤ server → agent_refusal n c (handing_of what server) ≡ Some refusals.OutOfRange
-asked_outside what n server c up beyond = of what (life_of c.life up) (le-ltb server n beyond) where
-  of : (what : Asked) → (l : Life) × (c.life ≡ Some l) → nat_lt server n ≡ false → agent_refusal n c (handing_of what server) ≡ Some refusals.OutOfRange
-  of asked.Registration (l, is) out = rw (is, out) refl
-  of asked.Heartbeat (l, is) out = rw (is, out) refl
-  of asked.Listing (l, is) out = rw (is, out) refl
-
-pub asked_inside : (what : Asked) (n server : ℕ) (c : Client) → is_some c.life ≡ true → server < n → agent_refusal n c (handing_of what server) ≡ None
-asked_inside what n server c up member = of what (life_of c.life up) (lt-ltb server n member) where
-  of : (what : Asked) → (l : Life) × (c.life ≡ Some l) → nat_lt server n ≡ true → agent_refusal n c (handing_of what server) ≡ None
-  of asked.Registration (l, is) there = rw (is, there) refl
-  of asked.Heartbeat (l, is) there = rw (is, there) refl
-  of asked.Listing (l, is) there = rw (is, there) refl
-
-pub asked_may_lack : (what : Asked) (n server : ℕ) (c : Client) → is_some c.life ≡ true → server < n → IsAgentRefused n c (handing_of what server) refusals.NoMemory
-asked_may_lack asked.Registration n server c up member = (up, member)
-asked_may_lack asked.Heartbeat n server c up member = (up, member)
-asked_may_lack asked.Listing n server c up member = (up, member)
-
 -- ---- an end, a crash, a restart
 
 pub ended_by : (old new : AgentView) (l : Life) (id : AllocId) (ok : Bool) (all : List Frame) → old.client.life ≡ Some l → runs l.running id ≡ true →
@@ -116,18 +92,6 @@ pub ended_by : (old new : AgentView) (l : Life) (id : AllocId) (ok : Bool) (all 
 ended_by old new l id ok all up there made input is =
     let c = old.client in
     rw is (steps_by old new (End id ok) all all (record { client = record c { life = Some (with_end l id ok) }; sent = [] }) (up_step old.size c l (End id ok) up ∙ rw there refl) made (sends_nothing cluster_meaning all))
-
-pub end_admitted : (n : ℕ) (c : Client) (l : Life) (id : AllocId) (ok : Bool) → c.life ≡ Some l → runs l.running id ≡ true → agent_refusal n c (inputs.End id ok) ≡ None
-end_admitted n c l id ok up there = rw (up, there) refl
-
-pub end_unknown : (n : ℕ) (c : Client) (l : Life) (id : AllocId) (ok : Bool) → c.life ≡ Some l → runs l.running id ≡ false → agent_refusal n c (inputs.End id ok) ≡ Some refusals.UnknownAlloc
-end_unknown n c l id ok up there = rw (up, there) refl
-
-pub end_may_lack : (n : ℕ) (c : Client) (l : Life) (id : AllocId) (ok : Bool) → c.life ≡ Some l → runs l.running id ≡ true → IsAgentRefused n c (inputs.End id ok) refusals.NoMemory
-end_may_lack n c l id ok up there = rw up there
-
-pub end_while_down : (n : ℕ) (c : Client) (id : AllocId) (ok : Bool) → c.life ≡ None → agent_refusal n c (inputs.End id ok) ≡ Some refusals.Down
-end_while_down n c id ok down = rw down refl
 
 pub crashed_by : (old new : AgentView) (all : List Frame) → is_some old.client.life ≡ true → new ≡ crashed_agent old → AgentTakes old inputs.Crash new all all
 crashed_by old new all up made input is =

@@ -1,5 +1,5 @@
 -- The jobs of the allocations that reports end, told from the rows as they are before the reports.
-use Rattle.std.proofs.Common.{◌≡◌, ℕ, Bool, true, false, cond, not, ◌&&◌, ◌||◌, List, [], ◌∷◌, refl, sym, ap, ◌∙◌}
+use Rattle.std.proofs.Common.{◌≡◌, ℕ, Bool, true, false, cond, not, T, ◌&&◌, ◌||◌, List, [], ◌∷◌, refl, sym, ap, ◌∙◌}
 use Rattle.std.specs.Prelude.{nat_eq, bytes_eq}
 use Rattle.std.specs.List.{list_any}
 use Rattle.std.specs.Ordering.{is_eq}
@@ -7,6 +7,7 @@ use Rattle.rows.specs.declared.job.Job.{Job}
 use Rattle.rows.specs.declared.allocation.Allocation.{Allocation}
 use Rattle.rows.specs.declared.command.Report.{Report}
 use Rattle.rows.specs.Keys.{alloc_cmp, alloc_id}
+use Rattle.rows.specs.Rising.{is_rising}
 use Rattle.fsm_tables.specs.Claims.{is_active, is_live}
 use Rattle.cluster_model.specs.Words.{State, alloc_of, is_some_and, same_alloc}
 use Rattle.cluster_model.specs.Effect.{owns, is_ended_by, client_state_of, told, told_all}
@@ -19,14 +20,14 @@ use Rattle.cluster_model.proofs.Keys.{at_alloc}
 use Rattle.fsm_state.proofs.StopLaws.{AreRising, live_stays, one_ended}
 
 -- whether a report is of the allocation
-abbrev is_told : List Report → Allocation → Bool
+abbrev pub is_told : List Report → Allocation → Bool
 is_told rs a = list_any (λ r. same_alloc a.id r.id) rs
 
 -- what no report is of stays
 stays : (n : ℕ) (r : Report) (a : Allocation) → same_alloc a.id r.id ≡ false → told n r a ≡ a
 stays n r a e = ap (λ b. cond (b && nat_eq a.node n && is_active a.client) (record a { client = client_state_of r.state }) a) e
 
-untold : (n : ℕ) (rs : List Report) (a : Allocation) → is_told rs a ≡ false → told_all n rs a ≡ a
+pub untold : (n : ℕ) (rs : List Report) (a : Allocation) → is_told rs a ≡ false → told_all n rs a ≡ a
 untold n [] a e = refl
 untold n (r ∷ rs) a e =
     elim (same_alloc a.id r.id) as (λ b. same_alloc a.id r.id ≡ b → (b || is_told rs a) ≡ false → told_all n rs (told n r a) ≡ a) [
@@ -62,19 +63,25 @@ one_more p r rs (a ∷ rows) =
     ap (λ b. ((same_alloc a.id r.id || is_told rs a) && p a) || b) (one_more p r rs rows)
     ∙ split (same_alloc a.id r.id) (is_told rs a) (p a) (list_any (λ a. same_alloc a.id r.id && p a) rows) (list_any (λ a. is_told rs a && p a) rows)
 
-told_names : (f : Allocation → Allocation) (rs : List Report) (s : State) → AreRising s → (j : Job) → list_any (λ a. is_told rs a && (is_ended_by f a && bytes_eq a.job j.name)) s.allocs ≡ is_one_of (ended_now f rs s) j
-told_names f [] s h j = none_told (λ a. is_ended_by f a && bytes_eq a.job j.name) s.allocs
-told_names f (r ∷ rs) s h j =
-    let p : Allocation → Bool = λ a. is_ended_by f a && bytes_eq a.job j.name in
+-- a told row that passes is that of a report
+pub told_rows : (p : Allocation → Bool) (rs : List Report) (s : State) → T (is_rising alloc_cmp alloc_id s.allocs) → list_any (λ a. is_told rs a && p a) s.allocs ≡ list_any (λ (r : Report). is_some_and p (alloc_of r.id s)) rs
+told_rows p [] s h = none_told p s.allocs
+told_rows p (r ∷ rs) s h =
     let here : list_any (λ a. same_alloc a.id r.id && p a) s.allocs ≡ is_some_and p (alloc_of r.id s) =
     anys_same (λ a. same_alloc a.id r.id && p a) (λ a. is_eq (alloc_cmp r.id a.id) && p a) (λ a. ap (λ b. b && p a) (sym (at_alloc r.id a))) s.allocs
-    ∙ any_at alloc_cmp alloc_id alloc_cmp_total p r.id s.allocs h.allocs in
+    ∙ any_at alloc_cmp alloc_id alloc_cmp_total p r.id s.allocs h in
     one_more p r rs s.allocs
-    ∙ (λ i. here i || told_names f rs s h j i)
+    ∙ (λ i. here i || told_rows p rs s h i)
+
+ended_rows : (f : Allocation → Allocation) (rs : List Report) (s : State) (j : Job) → list_any (λ (r : Report). is_some_and (λ a. is_ended_by f a && bytes_eq a.job j.name) (alloc_of r.id s)) rs ≡ is_one_of (ended_now f rs s) j
+ended_rows f [] s j = refl
+ended_rows f (r ∷ rs) s j =
+    ap (λ b. is_some_and (λ a. is_ended_by f a && bytes_eq a.job j.name) (alloc_of r.id s) || b) (ended_rows f rs s j)
     ∙ sym (one_ended f (alloc_of r.id s) (ended_now f rs s) j)
 
 pub ended_are : (n : ℕ) (rs : List Report) (s : State) → AreRising s → (j : Job) → owns (is_ended_by (told_all n rs)) s.allocs j ≡ is_one_of (ended_now (told_all n rs) rs s) j
 ended_are n rs s h j =
     anys_same (λ a. is_ended_by (told_all n rs) a && bytes_eq a.job j.name) (λ a. is_told rs a && (is_ended_by (told_all n rs) a && bytes_eq a.job j.name))
     (λ a. ap (λ b. b && bytes_eq a.job j.name) (ends_told n rs a) ∙ and_assoc (is_told rs a) (is_ended_by (told_all n rs) a) (bytes_eq a.job j.name)) s.allocs
-    ∙ told_names (told_all n rs) rs s h j
+    ∙ told_rows (λ a. is_ended_by (told_all n rs) a && bytes_eq a.job j.name) rs s h.allocs
+    ∙ ended_rows (told_all n rs) rs s j

@@ -1,6 +1,8 @@
 -- What a server makes of a request or a turn is told by the answer of the desk's call.
-use Rattle.std.proofs.Common.{◌≡◌, ℕ, Bool, true, false, cond, Option, Some, None, Result, Ok, Err, refl, ap, ◌∙◌}
+use Rattle.std.proofs.Common.{◌≡◌, ℕ, Bool, true, false, cond, Option, Some, None, List, [], ◌∷◌, Result, Ok, Err, refl, ap, ◌∙◌}
 use Rattle.std.specs.Prelude.{nat_eq, option_map}
+use Rattle.rows.specs.declared.allocation.AllocId.{AllocId}
+use Rattle.rows.specs.declared.node.Node.{Node}
 use Rattle.rows.specs.declared.evaluation.EvalId.{EvalId}
 use Rattle.rows.specs.declared.evaluation.Evaluation.{Evaluation}
 use Rattle.rows.specs.declared.command.Command.{Command}
@@ -13,23 +15,26 @@ use Rattle.rows.specs.Keys.{eval_id}
 use Rattle.rows.specs.Changes.{change_of}
 use Rattle.raft_model.specs.Steps.{admitted}
 use Rattle.cluster_model.specs.ClusterMachine.{cluster_meaning}
+use Rattle.cluster_model.specs.Words.{State, node_of}
 use Rattle.group_model.specs.Order.{Picked}
 use Rattle.group_model.specs.Brokers.{Given, Nothing, UsedUp, Gives, Task, task_id, deliver, outstanding, is_outstanding, with_ack, with_nack}
 use Rattle.group_model.specs.Blocked.{first_due}
 use Rattle.group_model.specs.Expiry.{BeatCount, beat_count_of}
 use Rattle.group_model.specs.BeatCounts.{beat_heard_of, expiry_refusal_of}
+use Rattle.group_model.specs.Drains.{is_done, next_moves_of}
 use Rattle.group_model.specs.Desks.{Desk, QueuedPlan, applied_state, whole_state}
 use Rattle.group_model.specs.Inputs.{AskPropose, rests, asks}
 use Rattle.group_model.specs.Plans.{submitted, judged, turn_of, after_accept}
 use Rattle.group_model.specs.Queues.{first_plan}
-use Rattle.group_model.specs.Turns.{expire_of, free_turn_of, reap_of}
+use Rattle.group_model.specs.Turns.{expire_of, migrates, drains_by, drain_turn_of, free_turn_of, reap_of}
 use Rattle.group_model.specs.ClientRequests.{beats_at}
 use Rattle.group_model.specs.WorkerRequests.{refuses, takes_given, submits_of, finishes_of, finishes_by, nacks_of}
-use Rattle.leader.specs.OpenDesks.{OpenDesk, with_broker, once_given, once_submitted, once_outstanding, once_heard, unless_refused}
+use Rattle.leader.specs.OpenDesks.{OpenDesk, with_broker, once_given, once_submitted, once_outstanding, once_heard, unless_refused, migrate_if_any, drain_command_of}
 use Rattle.leader.specs.Verdicts.{verdict_for, once_picked}
-use Rattle.leader.specs.GroupActs.{take_act, submit_act, nack_act, finish_act, proposes_at, lapse_act, expire_act, heartbeat_act, judged_act, status_act}
-use Rattle.leader.specs.GroupActs.{TakesByDeliver, SubmitsBySubmit, NacksByNack, FinishesByAck, LapsesByLapse, PlanTurnsByVerdict, FreesByFreeTurn, ReapsByReap, HeartbeatsByBeat, ExpiresByExpire}
+use Rattle.leader.specs.GroupActs.{take_act, submit_act, nack_act, finish_act, proposes_at, lapse_act, expire_act, drain_act, heartbeat_act, judged_act, status_act}
+use Rattle.leader.specs.GroupActs.{TakesByDeliver, SubmitsBySubmit, NacksByNack, FinishesByAck, LapsesByLapse, PlanTurnsByVerdict, FreesByFreeTurn, ReapsByReap, HeartbeatsByBeat, ExpiresByExpire, DrainsByDrainTurn}
 use Rattle.leader.proofs.Turning.{freed_of_state}
+use Rattle.leader.proofs.Draining.{own_number}
 
 pub takes_by_deliver : TakesByDeliver
 takes_by_deliver me from wait o = by (deliver o.term wait o.desk.broker) where
@@ -113,3 +118,24 @@ expires_by_expire node beats o = by (beat_count_of node o.desk.beat_counts) wher
   by : (c : Option BeatCount) → expire_of o.desk node beats c ≡ expire_act node o.desk (unless_refused (expiry_refusal_of beats c))
   by None = refl
   by (Some c) = at (nat_eq c.beats beats)
+
+pub drains_by_drain_turn : DrainsByDrainTurn
+drains_by_drain_turn s node o = by (node_of node whole) refl where
+  whole : State
+  whole = whole_state s
+
+  at : (ids : List AllocId) (b : Bool) → cond b (Ok (asks (AskPropose (commands.DrainDone node)) (Some o.desk))) (Ok (migrates o.desk ids))
+      ≡ drain_act o.desk (Ok (cond b (Some (commands.DrainDone node)) (migrate_if_any ids)))
+  at ids true = refl
+  at [] false = refl
+  at (id ∷ ids) false = refl
+
+  told : (n : Node) → n.number ≡ node → (r : Result (List AllocId) Refusal) → drains_by o.desk whole n r ≡ drain_act o.desk (drain_command_of whole node r)
+  told n same (Err r) = refl
+  told n same (Ok ids) =
+      ap (λ k. cond (is_done k whole) (Ok (asks (AskPropose (commands.DrainDone k)) (Some o.desk))) (Ok (migrates o.desk ids))) same
+      ∙ at ids (is_done node whole)
+
+  by : (m : Option Node) → node_of node whole ≡ m → drain_turn_of o.desk whole m ≡ drain_act o.desk (drain_command_of whole node (next_moves_of whole m))
+  by None e = refl
+  by (Some n) e = told n (own_number node whole n e) (next_moves_of whole (Some n))

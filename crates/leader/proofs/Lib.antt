@@ -1,5 +1,6 @@
 pub mod Firsts
 pub mod Turning
+pub mod Draining
 pub mod Acts
 pub mod Staying
 pub mod Tables

@@ -25,13 +25,14 @@ use Rattle.group_model.specs.Desks.{Desk, applied_state, whole_state}
 use Rattle.group_model.specs.Inputs.{Act, AskPropose, rests, asks}
 use Rattle.group_model.specs.Plans.{submitted, after_accept, plan_turn}
 use Rattle.group_model.specs.Queues.{first_plan}
-use Rattle.group_model.specs.Turns.{lapse, expire, free_turn, reap}
+use Rattle.group_model.specs.Turns.{lapse, expire, drain_turn, free_turn, reap}
 use Rattle.group_model.specs.ClientRequests.{answers, takes_heartbeat}
 use Rattle.group_model.specs.WorkerRequests.{responds, refuses, takes_given, submits_of}
 use Rattle.group_model.specs.WorkerRequests.{finishes_of, nacks_of}
 use Rattle.blocked.specs.Rooms.{blocked_of}
 use Rattle.leader.specs.OpenDesks.{OpenDesk, Answered, on_deliver, on_ack, on_nack, on_lapse}
 use Rattle.leader.specs.OpenDesks.{on_submit, on_free_turn, on_reap, on_beat, on_expire}
+use Rattle.leader.specs.OpenDesks.{on_drain_turn}
 use Rattle.leader.specs.Verdicts.{Judged, once_picked}
 
 -- ---- requests of workers, at an open desk
@@ -109,6 +110,16 @@ expire_act node d (Ok u) = Ok (asks (AskPropose (commands.NodeDown node)) (Some 
 abbrev pub ExpiresByExpire : Type 0
 ExpiresByExpire = (node beats : ℕ) (o : OpenDesk)
     → expire o.desk node beats ≡ expire_act node o.desk (on_expire node beats o)
+
+-- the command, if there is one, is proposed
+abbrev pub drain_act : Desk → Result (Option Command) Refusal → Result Act Refusal
+drain_act d (Err r) = Err r
+drain_act d (Ok None) = Ok (rests (Some d))
+drain_act d (Ok (Some c)) = Ok (asks (AskPropose c) (Some d))
+
+abbrev pub DrainsByDrainTurn : Type 0
+DrainsByDrainTurn = (s : Server Command) (node : ℕ) (o : OpenDesk)
+    → drain_turn s o.desk node ≡ drain_act o.desk (on_drain_turn node (whole_state s) o)
 
 -- what is kept is proposed, unless the log refuses it; and the sender is told
 abbrev pub judged_act : ℕ → Server Command → Desk → Option Judged → Act

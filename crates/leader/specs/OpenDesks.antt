@@ -1,10 +1,13 @@
 -- The leader's desk as one value, none where it is closed; and what its calls answer and leave.
 use Rattle.std.specs.Prelude.{◌≡◌, ℕ, if◌then◌else◌, option_map, filter}
-use Rattle.std.specs.Prelude.{Option, Some, None, Result, Ok, Err, List}
+use Rattle.std.specs.Prelude.{Option, Some, None, Result, Ok, Err, List, [], ◌∷◌}
 use Rattle.rows.specs.declared.evaluation.EvalId.{EvalId}
 use Rattle.rows.specs.declared.token.Token.{Token}
 use Rattle.rows.specs.declared.token.Delivery.{Delivery}
+use Rattle.rows.specs.declared.allocation.AllocId.{AllocId}
 use Rattle.rows.specs.declared.plan.Plan.{Plan}
+use Rattle.rows.specs.declared.command.Command.{Command}
+use Rattle.rows.specs.declared.command.Command.TheVariants as commands
 use Rattle.rows.specs.declared.refusal.Refusal.{Refusal}
 use Rattle.rows.specs.declared.refusal.Refusal.TheVariants as refusals
 use Rattle.cluster_model.specs.Words.{State}
@@ -15,6 +18,7 @@ use Rattle.group_model.specs.Blocked.{BlockedEval, BlockedEvals, blocked_id, blo
 use Rattle.group_model.specs.Blocked.{is_still_blocked}
 use Rattle.group_model.specs.Expiry.{BeatCount}
 use Rattle.group_model.specs.BeatCounts.{beat_heard, expiry_refusal}
+use Rattle.group_model.specs.Drains.{is_done, next_moves}
 use Rattle.group_model.specs.Desks.{Desk, opened}
 use Rattle.group_model.specs.Plans.{submitted}
 use Rattle.group_model.specs.Turns.{is_still_pending}
@@ -149,3 +153,21 @@ unless_refused (Some r) = Err r
 
 abbrev pub on_expire : ℕ → ℕ → OpenDesk → Result (Unit {0}) Refusal
 on_expire node beats o = unless_refused (expiry_refusal node beats o.desk.beat_counts)
+
+-- Drain: what is proposed of a node's drain by the state after the whole log, if anything is: that
+-- it is done where nothing lives on the node, else that its next moves are made.
+abbrev pub migrate_if_any : List AllocId → Option Command
+migrate_if_any [] = None
+migrate_if_any (id ∷ ids) = Some (commands.Migrate (id ∷ ids))
+
+abbrev pub drain_command_of : State → ℕ → Result (List AllocId) Refusal
+    → Result (Option Command) Refusal
+drain_command_of whole node (Err r) = Err r
+drain_command_of whole node (Ok ids) =
+    Ok (if is_done node whole then Some (commands.DrainDone node) else migrate_if_any ids)
+
+abbrev pub drain_command : State → ℕ → Result (Option Command) Refusal
+drain_command whole node = drain_command_of whole node (next_moves whole node)
+
+abbrev pub on_drain_turn : ℕ → State → OpenDesk → Result (Option Command) Refusal
+on_drain_turn node whole o = drain_command whole node

@@ -5,9 +5,10 @@ ghost use Rattle.group_model.specs.Blocked.{first_due};
 ghost use Rattle.leader.specs.Staying.{FollowsIfOpen};
 ghost use Rattle.leader.specs.Errors.{desk_refusal};
 ghost use Rattle.leader.specs.Verdicts.{judged_by, IsProposal, on_plan_turn};
-ghost use Rattle.leader.specs.OpenDesks.{IsOpenedBy, IsOverBlocked, LacksMemory, if_open, at_open, on_deliver, on_outstanding, on_ack, on_nack, on_lapse, on_submit, on_free_turn, on_reap, on_beat, on_expire};
+ghost use Rattle.leader.specs.OpenDesks.{IsOpenedBy, IsOverBlocked, LacksMemory, if_open, at_open, on_deliver, on_outstanding, on_ack, on_nack, on_lapse, on_submit, on_free_turn, on_reap, on_beat, on_expire, on_drain_turn};
 
 use crate::desk_error::DeskError;
+use crate::drains::drain_command;
 use crate::judged::JudgedPlan;
 use crate::open_desk::OpenDesk;
 use fsm_state::Cluster;
@@ -243,6 +244,21 @@ impl Desk {
         match &self.opened {
             Some(desk) => desk.expire(node, beats),
             None => Err(DeskError::NotOpen),
+        }
+    }
+    /// What is proposed at a turn of a node's drain by `whole`, the state after the whole log:
+    /// `DrainDone` where nothing lives on the node, else `Migrate` of the allocations that move
+    /// next; none where there is nothing to do. `UnknownNode` where there is no such node,
+    /// `NotDraining` where it is not drained. It changes nothing. (Nomad documentation, "node
+    /// drain" command.)
+    pub fn drain_turn(&self, node: NodeId, whole: &Cluster) -> Result<Option<Command>, Refusal>
+        ensures ok { IfOk result (λ c. if_open (on_drain_turn node whole.now) self.now ≡ Ok c) }
+        ensures err { let call = on_drain_turn node whole.now in
+            IfErr result (λ e. LacksMemory self.now e ⊎ (if_open call self.now ≡ Err e)) }
+    {
+        match &self.opened {
+            Some(_) => drain_command(self.alloc, whole, node),
+            None => Err(Refusal::NotOpen),
         }
     }
 }

@@ -1,7 +1,7 @@
 //! Laws of an open desk. The functions have empty bodies: what they say is their contracts.
 ghost use Rattle.leader.specs.GroupActs.{TakesByDeliver, SubmitsBySubmit, FinishesByAck, NacksByNack};
 ghost use Rattle.leader.specs.GroupActs.{LapsesByLapse, PlanTurnsByVerdict, FreesByFreeTurn, ReapsByReap};
-ghost use Rattle.leader.specs.GroupActs.{HeartbeatsByBeat, ExpiresByExpire};
+ghost use Rattle.leader.specs.GroupActs.{HeartbeatsByBeat, ExpiresByExpire, DrainsByDrainTurn};
 ghost use Rattle.leader.specs.Staying.{OpensOver, DeliverStays, AckStays, NackStays, LapseStays, SubmitStays, PlanTurnStays, BeatStays};
 
 /// What a server of the group makes of a request of a worker, of a client's heartbeat, or of a turn,
@@ -12,6 +12,8 @@ ghost use Rattle.leader.specs.Staying.{OpensOver, DeliverStays, AckStays, NackSt
 /// - `lapse`, `plan_turn`, `reap`: by the call of the name, on the state after the whole log.
 /// - `free_turn`: the same, where what is kept of blocked evaluations is of the applied state.
 /// - `expire`: by the call of the name; where it is not refused, `NodeDown` is proposed.
+/// - `drain_turn`: by the call of the name, on the state after the whole log: its command, if it
+///   has one, is proposed.
 pub fn calls_are_of_the_group()
     ensures take { TakesByDeliver }
     ensures submit { SubmitsBySubmit }
@@ -23,6 +25,7 @@ pub fn calls_are_of_the_group()
     ensures reap { ReapsByReap }
     ensures heartbeat { HeartbeatsByBeat }
     ensures expire { ExpiresByExpire }
+    ensures drain_turn { DrainsByDrainTurn }
 {}
 
 /// A desk that opens over a state has its pending and its blocked evaluations and its ready nodes;

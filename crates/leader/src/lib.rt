@@ -4,6 +4,7 @@
 
 mod desk;
 mod desk_error;
+mod drains;
 mod following;
 mod judged;
 mod laws;

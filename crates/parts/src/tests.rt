@@ -6,6 +6,7 @@ mod clusters;
 mod commands;
 mod desks;
 mod effects;
+mod fates;
 mod follows;
 mod full_tables;
 mod lines;

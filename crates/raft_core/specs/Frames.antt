@@ -6,7 +6,8 @@ use Rattle.machine.specs.Meaning.{Meaning}
 use Rattle.wire.specs.Messages.{Message as WireMessage}
 use Rattle.wire.specs.Frames.{Frame, MessageFits, message_text}
 use Rattle.wire.specs.declared.body.Body.{Body as WireBody}
-use Rattle.wire.specs.declared.body.Body.TheVariants.{VoteRequest, VoteReply, Append, AppendReply}
+use Rattle.wire.specs.declared.body.Body.TheVariants.{VoteRequest, VoteReply, Append, AppendReply, Request, Response, Register, Heartbeat, Pull, Report, Told}
+use Rattle.wire.specs.declared.body.Body.TheVariants as bodies
 use Rattle.raft_model.specs.Messages.{Message}
 use Rattle.raft_model.specs.Messages.{VoteRequest as VoteRequestBody, VoteReply as VoteReplyBody, Append as AppendBody, AppendReply as AppendReplyBody}
 
@@ -21,7 +22,14 @@ log_message from to (Append a) =
     Some (record { from = from; to = to; term = a.head.term; body = AppendBody a.head.prev_index a.head.prev_term a.head.commit a.entries })
 log_message from to (AppendReply r) =
     Some (record { from = from; to = to; term = r.term; body = AppendReplyBody r.asked r.ok r.at })
-log_message from to _ = None
+log_message from to (Request _) = None
+log_message from to (Response _) = None
+log_message from to (Register _ _) = None
+log_message from to Heartbeat = None
+log_message from to Pull = None
+log_message from to (bodies.List _ _) = None
+log_message from to (Report _) = None
+log_message from to (Told _ _) = None
 
 -- the message that is read from a frame is this one
 pub record Means {S C : Type 0} (read : WireMessage S C) (message : Message C) : Type 0 where

@@ -4,28 +4,62 @@ use std::fs;
 use std::io::{self, ErrorKind, Write};
 use std::rt::Files;
 
-/// The files of the folder that the program runs in, and two more: `text.json` has this text, and
-/// for `full.json` there is no memory.
+/// The files of the folder that the program runs in, and four more: `text.json` has this text, for
+/// `full.json` there is no memory, `transcript` can be written and read again, and for `full` there
+/// is no memory when it is written. No other file can be written.
 #[derive(Drop)]
 pub(crate) struct Folder<'a> {
-    pub(crate) rt: &'a HostRuntime,
-    pub(crate) text: &'a [u8],
+    rt: &'a HostRuntime,
+    text: &'a [u8],
+    transcript: Option<Vec<u8>>,
+}
+
+impl<'a> Folder<'a> {
+    /// A folder without a transcript.
+    pub(crate) fn new(rt: &'a HostRuntime, text: &'a [u8]) -> Folder<'a> {
+        Folder {
+            rt,
+            text,
+            transcript: None,
+        }
+    }
+
+    /// The transcript, once it is written.
+    pub(crate) fn transcript(&self) -> Option<&[u8]> {
+        match &self.transcript {
+            Some(bytes) => Some(bytes.as_slice()),
+            None => None,
+        }
+    }
+}
+
+// A copy of bytes that are in memory.
+fn copied(rt: &HostRuntime, bytes: &[u8]) -> Result<Vec<u8>, ShelfFault> {
+    bytes.to_vec(rt.alloc()).map_err(|_| ShelfFault::NoMemory)
 }
 
 impl Shelf for Folder<'_> {
     fn read(&mut self, name: &str) -> Result<Vec<u8>, ShelfFault> {
         match name {
             "full.json" => Err(ShelfFault::NoMemory),
-            "text.json" => self
-                .text
-                .to_vec(self.rt.alloc())
-                .map_err(|_| ShelfFault::NoMemory),
+            "text.json" => copied(self.rt, self.text),
+            "transcript" => match &self.transcript {
+                Some(bytes) => copied(self.rt, bytes.as_slice()),
+                None => Err(ShelfFault::Failed),
+            },
             _ => fs::read(self.rt, name).map_err(|_| ShelfFault::Failed),
         }
     }
 
-    fn write(&mut self, _name: &str, _bytes: &[u8]) -> Result<(), ShelfFault> {
-        Err(ShelfFault::Failed)
+    fn write(&mut self, name: &str, bytes: &[u8]) -> Result<(), ShelfFault> {
+        match name {
+            "full" => Err(ShelfFault::NoMemory),
+            "transcript" => {
+                self.transcript = Some(copied(self.rt, bytes)?);
+                Ok(())
+            }
+            _ => Err(ShelfFault::Failed),
+        }
     }
 }
 

@@ -5,7 +5,6 @@ use machine::Machine;
 use rows::{
     Actor, AskedRequest, Delivery, EvalId, PlanResult, ServerId, Token, Work, WorkerResponse,
 };
-use runner::event::event_of;
 use runner::reading::scenario;
 use runner::scenario::Scenario;
 use runner::step::{Step, read_step};
@@ -121,12 +120,10 @@ fn flow(rt: &HostRuntime, world: &mut World, seen: &mut u64) -> io::Result<bool>
 
 fn take(rt: &HostRuntime, world: &mut World, seen: &mut u64, step: Step) -> io::Result<bool> {
     match step {
-        Step::Deliver(k) => come(rt, world, k),
+        Step::Event(Event::Deliver(k)) => come(rt, world, k),
+        Step::Event(event) => Ok(matches!(world.step(event), Ok(Done::Taken))),
         Step::Flow(_) => flow(rt, world, seen),
-        other => match event_of(rt.alloc(), other) {
-            Ok(Some(event)) => Ok(matches!(world.step(event), Ok(Done::Taken))),
-            _ => Ok(false),
-        },
+        Step::Work(_) => Ok(false),
     }
 }
 

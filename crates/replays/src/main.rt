@@ -16,6 +16,9 @@ fn main(rt: HostRuntime) -> io::Result<()> {
     for name in &names {
         said::replay(&rt, name)?;
     }
+    said::transcripts(&rt)?;
+    said::pictures(&rt)?;
+    said::no_transcripts(&rt)?;
     said::command_lines(&rt)?;
     said::texts(&rt)?;
     said::outputs(&rt)?;

@@ -2,15 +2,15 @@
 //! scenario, as they are read.
 use fsm_state::Cluster;
 use machine::Machine;
-use rows::{Actor, ServerId};
+use rows::ServerId;
 use runner::reading::scenario;
-use runner::request::read_request;
-use runner::step::{Step, read_step};
 use scenarios::claims::safe_state;
+use server::ServerInput;
 use std::alloc::Global;
 use std::rt::Files;
 use std::{fs, io};
-use world::{Done, RaftEvent, RaftWorld};
+use transcript::read_event;
+use world::{Done, Event, RaftEvent, RaftWorld};
 
 /// Says the bytes of the command of each line of `requests`.
 pub(crate) fn commands(rt: &HostRuntime) -> io::Result<()> {
@@ -23,48 +23,50 @@ pub(crate) fn commands(rt: &HostRuntime) -> io::Result<()> {
     Ok(())
 }
 
+// The input of the event that a line says, if a server takes it.
+fn input_of(alloc: Global, line: &str) -> Option<(ServerId, ServerInput)> {
+    match read_event(alloc, line).ok()? {
+        Event::Server(server, input) => Some((server, input.as_ref().try_clone(alloc).ok()?)),
+        Event::Deliver(_) | Event::Client(_, _) => None,
+    }
+}
+
 fn put_request(alloc: Global, line: &str, out: &mut Vec<u8>) -> bool {
-    match read_request(alloc, line) {
-        Ok(Some(request)) => Cluster::write_command(&request.into_command(), out).is_ok(),
+    let Ok(line) = format!(in alloc; "request 1 {line}") else {
+        return false;
+    };
+    match input_of(alloc, line.as_str()) {
+        Some((_, ServerInput::Request(request))) => {
+            Cluster::write_command(&request.into_command(), out).is_ok()
+        }
         _ => false,
     }
 }
 
-fn event_of(alloc: Global, step: Step) -> Option<RaftEvent<Cluster>> {
-    match step {
-        Step::Timeout(server) => Some(RaftEvent::Timeout(server)),
-        Step::Beat(server) => Some(RaftEvent::Beat(server)),
-        Step::Crash(actor) => Some(RaftEvent::Crash(server_of(actor)?)),
-        Step::Restart(actor) => Some(RaftEvent::Restart(server_of(actor)?)),
-        Step::Deliver(number) => Some(RaftEvent::Deliver(number)),
-        Step::Request(server, request) => {
+// The event of a line, in a world of servers of the log alone.
+fn event_of(alloc: Global, line: &str) -> Option<RaftEvent<Cluster>> {
+    if let Ok(Event::Deliver(number)) = read_event(alloc, line) {
+        return Some(RaftEvent::Deliver(number));
+    }
+    match input_of(alloc, line)? {
+        (server, ServerInput::Timeout) => Some(RaftEvent::Timeout(server)),
+        (server, ServerInput::Beat) => Some(RaftEvent::Beat(server)),
+        (server, ServerInput::Crash) => Some(RaftEvent::Crash(server)),
+        (server, ServerInput::Restart) => Some(RaftEvent::Restart(server)),
+        (server, ServerInput::Request(request)) => {
             let command = Box::new(alloc, request.into_command()).ok()?;
             Some(RaftEvent::Propose(server, command))
         }
-        // A flow is no event, and this world has neither desks nor clients.
+        // This world has no desks.
         _ => None,
     }
 }
 
-fn server_of(actor: Actor) -> Option<ServerId> {
-    match actor {
-        Actor::Server(server) => Some(server),
-        Actor::Client(_) => None,
-    }
-}
-
-fn take_step(world: &mut RaftWorld<Cluster>, alloc: Global, step: Step) -> bool {
-    match event_of(alloc, step) {
+// The line is one event, and is taken.
+fn take(world: &mut RaftWorld<Cluster>, alloc: Global, line: &str) -> bool {
+    match event_of(alloc, line) {
         Some(event) => matches!(world.step(event), Ok(Done::Taken)),
         None => false,
-    }
-}
-
-// The step is one event, and is taken.
-fn take(world: &mut RaftWorld<Cluster>, alloc: Global, line: &str) -> bool {
-    match read_step(alloc, line) {
-        Ok(Some(step)) => take_step(world, alloc, step),
-        _ => false,
     }
 }
 

@@ -2,44 +2,128 @@
 //! where its standard output fails.
 use crate::folder::{Folder, Output};
 use runner::nomadsim;
+use std::alloc::Global;
 use std::io::Write;
 use std::rt::Files;
 use std::{fs, io};
 
+// What a command line said on both outputs, and its exit status.
+#[derive(Drop)]
+struct Printed {
+    out: Vec<u8>,
+    err: Vec<u8>,
+    status: u8,
+}
+
+fn run_words(alloc: Global, folder: &mut Folder<'_>, words: &[&str]) -> Printed {
+    let mut out = Vec::new(alloc);
+    let mut err = Vec::new(alloc);
+    let status = nomadsim(alloc, words, folder, &mut out, &mut err);
+    Printed { out, err, status }
+}
+
+// Whether this was said, and nothing on the standard error.
+fn foreseen(printed: &Printed, wanted: &[u8]) -> &'static str {
+    if printed.out.as_slice() == wanted && printed.err.is_empty() {
+        "as foreseen"
+    } else {
+        "something else"
+    }
+}
+
+// What stands behind the lines of refused steps, which come first.
+fn behind_refusals(text: &[u8]) -> &[u8] {
+    let mut rest = text;
+    for line in text.split(|byte| *byte == b'\n') {
+        if !line.starts_with(b"refused ") {
+            return rest;
+        }
+        rest = rest.get(line.len() + 1..).unwrap_or(&[]);
+    }
+    rest
+}
+
 /// Plays the scenario `NAME.json`, which has to print `NAME.stdout`, and nothing on the standard
-/// error; and tells its exit status.
+/// error; and tells its exit status. Its transcript, played again, has to print the same but for
+/// the refused steps.
 pub(crate) fn replay(rt: &HostRuntime, name: &str) -> io::Result<()> {
     let alloc = rt.alloc();
     let file = format!(in alloc; "{name}.json")?;
     let wanted = fs::read(rt, &format!(in alloc; "{name}.stdout")?)?;
-    let words = ["nomadsim", "run", file.as_str()];
-    let mut out = Vec::new(alloc);
-    let mut err = Vec::new(alloc);
-    let status = nomadsim(
-        alloc,
-        &words,
-        &mut Folder { rt, text: b"" },
-        &mut out,
-        &mut err,
-    );
-    let said = if out == wanted && err.is_empty() {
-        "as foreseen"
-    } else {
-        "something else"
-    };
-    println!(rt; "{name}: {said}, status {status}")
+    let mut folder = Folder::new(rt, b"");
+    let words = ["nomadsim", "run", file.as_str(), "--out", "transcript"];
+    let played = run_words(alloc, &mut folder, &words);
+    let again = run_words(alloc, &mut folder, &["nomadsim", "replay", "transcript"]);
+    print!(rt;
+        "{name}: {}, status {}",
+        foreseen(&played, &wanted),
+        played.status
+    )?;
+    let rest = behind_refusals(&wanted);
+    println!(rt;
+        "; again: {}, status {}",
+        foreseen(&again, rest),
+        again.status
+    )
+}
+
+/// Plays the scenario `NAME.json` of each line of `lessons`; its transcript has to be
+/// `NAME.transcript`.
+pub(crate) fn transcripts(rt: &HostRuntime) -> io::Result<()> {
+    let alloc = rt.alloc();
+    let names = fs::read_to_string(rt, "lessons")?;
+    for name in names.lines() {
+        let file = format!(in alloc; "{name}.json")?;
+        let wanted = fs::read(rt, &format!(in alloc; "{name}.transcript")?)?;
+        let mut folder = Folder::new(rt, b"");
+        let words = ["nomadsim", "run", file.as_str(), "--out", "transcript"];
+        let _played = run_words(alloc, &mut folder, &words);
+        let is_wanted = folder.transcript() == Some(wanted.as_slice());
+        println!(rt; "transcript of {name}: {is_wanted}")?;
+    }
+    Ok(())
+}
+
+/// Draws the transcript of each line of `pictures`; what comes has to be `NAME.svg`.
+pub(crate) fn pictures(rt: &HostRuntime) -> io::Result<()> {
+    let alloc = rt.alloc();
+    let names = fs::read_to_string(rt, "pictures")?;
+    for name in names.lines() {
+        let file = format!(in alloc; "{name}.transcript")?;
+        let wanted = fs::read(rt, &format!(in alloc; "{name}.svg")?)?;
+        let mut folder = Folder::new(rt, b"");
+        let drawn = run_words(alloc, &mut folder, &["nomadsim", "draw", file.as_str()]);
+        println!(rt;
+            "picture of {name}: {}, status {}",
+            foreseen(&drawn, &wanted),
+            drawn.status
+        )?;
+    }
+    Ok(())
+}
+
+/// Plays each line of `no-transcripts`, a `/` in it being a line's end, as a transcript.
+pub(crate) fn no_transcripts(rt: &HostRuntime) -> io::Result<()> {
+    let lines = fs::read(rt, "no-transcripts")?;
+    for (number, line) in lines.split(|byte| *byte == b'\n').enumerate() {
+        let text: Vec<u8> = line
+            .iter()
+            .map(|byte| if *byte == b'/' { b'\n' } else { *byte })
+            .collect(rt.alloc())?;
+        print!(rt; "{}: ", number + 1)?;
+        say(rt, "nomadsim replay text.json", &text)?;
+    }
+    Ok(())
 }
 
 // What a command line says on the standard output, then on the standard error; and its exit status.
 fn say(rt: &HostRuntime, line: &str, text: &[u8]) -> io::Result<()> {
     let alloc = rt.alloc();
     let words: Vec<&str> = line.split_whitespace().collect(alloc)?;
-    let mut out = Vec::new(alloc);
-    let mut err = Vec::new(alloc);
-    let status = nomadsim(alloc, &words, &mut Folder { rt, text }, &mut out, &mut err);
-    io::writer(rt).write_all(&out)?;
-    io::writer(rt).write_all(&err)?;
-    println!(rt; "status {status}")
+    let printed = run_words(alloc, &mut Folder::new(rt, text), &words);
+    io::writer(rt).write_all(&printed.out)?;
+    io::writer(rt).write_all(&printed.err)?;
+    println!(rt; "status {}", printed.status)
 }
 
 /// Plays each line of `command-lines` as a command line.
@@ -59,6 +143,7 @@ pub(crate) fn texts(rt: &HostRuntime) -> io::Result<()> {
     for (number, text) in lines.split(|byte| *byte == b'\n').enumerate() {
         print!(rt; "{}: ", number + 1)?;
         say(rt, "nomadsim run text.json", text)?;
+        say(rt, "nomadsim check text.json", text)?;
     }
     Ok(())
 }
@@ -67,7 +152,7 @@ pub(crate) fn texts(rt: &HostRuntime) -> io::Result<()> {
 // says on the standard error.
 fn fail(rt: &HostRuntime, words: &[&str], left: usize) -> io::Result<()> {
     let mut err = Vec::new(rt.alloc());
-    let mut folder = Folder { rt, text: b"" };
+    let mut folder = Folder::new(rt, b"");
     let status = nomadsim(
         rt.alloc(),
         words,

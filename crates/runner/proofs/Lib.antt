@@ -1,7 +1,6 @@
 pub mod Turns
 pub mod Lines
+pub mod GivenValues
 pub mod Numbers
 pub mod Objects
-pub mod CommaLists
-pub mod StepParts
-pub mod Words
+pub mod Grown

@@ -1,14 +1,11 @@
--- A turn of clap's walk in which it finds no fault, where `help` is the only flag.
-use Rattle.std.proofs.Common.{◌≡◌, ◌∙◌, ℕ, Bool, true, false, zero, suc, List, [], ◌∷◌, length, Option, Some, None, IfSome, ap, refl, subst, cond}
-use Rattle.std.specs.Option.{option_map_or}
-use Rattle.std.specs.Prelude.{slice_get}
-use Rattle.std.specs.Str.{bytes_eq, chars}
+-- Turns of clap's walk in which it finds no fault: none of them meets the subcommand `help`.
+use Rattle.std.proofs.Common.{◌≡◌, ◌&&◌, Bool, true, false, not, List, [], ◌∷◌, Option, Some, None, IfSome, bytes_eq, codes, cond, fold, refl}
 use Rattle.clap.specs.Lexer.{long_of, short_of}
-use Rattle.clap.specs.Walk.{Held, Names, Outcome, Row, Rule, Step, Text, after_flag, arg_by_long, arg_by_short, bundle_met, bundle_step, idle, long_or_other, plain, settled, short_or_plain, subcommand_met, subcommand_or_other, trailing, value, word_met}
-use Rattle.clap.specs.Simple.{Shape, filled, help_rule}
+use Rattle.clap.specs.Walk.{Held, Names, Outcome, Rule, Step, Text, Waiting, Walk, after_flag, after_step, arg_by_index, done, idle, long_or_other, next, option, plain, plain_word, positional, refused, short_or_plain, subcommand, subcommand_met, subcommand_or_other, to_positional, trailing, value, waits, walked, word_met}
+use Rattle.clap.specs.Simple.{Shape}
 use Rattle.clap.specs.Kinds.{Kinds, or_else}
-use Rattle.clap.specs.Faults.{bundle_fault, bundle_step_fault, flag_word_fault, flags_fault, long_fault, other_fault, react_fault, settle_fault, short_fault, use_fault, word_fault}
-use Rattle.clap.specs.declared.error.kind.ErrorKind.TheVariants.{DisplayHelp}
+use Rattle.clap.specs.Faults.{other_fault, turn_fault, walk_fault, word_fault}
+use Rattle.clap.specs.declared.error.kind.ErrorKind.TheVariants.{DisplayHelp, InvalidSubcommand}
 
 -- ---- where both steps have no fault, neither has one
 
@@ -20,84 +17,75 @@ pub no_second : (a b : Kinds) → or_else a b ≡ [] → b ≡ []
 no_second [] b none = none
 no_second (k ∷ ks) b none = cc
 
--- ---- a word that is a flag is a fault, since `help` is the only flag and asks for help
+-- ---- where a walk stops without a fault it has not met `help`
 
-abbrev pub help_flag : Rule
-help_flag = filled help_rule
+abbrev pub IsNoHelp : Option (Text × List Text) → Type 0
+IsNoHelp stopped = IfSome stopped (λ p. bytes_eq p.0 (codes "help") ≡ false)
 
-abbrev pub IsHelp : Option Rule → Type 0
-IsHelp found = IfSome found (λ a. a ≡ help_flag)
+module _ (s : Shape) (names : Names) (answers : s.disable_help_subcommand ≡ false) where
+  abbrev GoesOn : Step → Type 0
+  GoesOn (next waiting) = Unit {0}
+  GoesOn (trailing position) = Unit {0}
+  GoesOn (subcommand name) = ⊥
+  GoesOn value = Unit {0}
 
-help_asked : (c : List Rule) (again : Bool) (h : Held) → react_fault c again help_flag [] h ≡ [] → ⊥
-help_asked c again h none =
-    let asked : DisplayHelp ∷ [] ≡ [] = no_second (settle_fault c again h) (use_fault again help_flag [] (settled c h).rows) none in
-    cc
+  plain_goes_on : (waiting : Waiting) (word : Text) (h : Held) → GoesOn (plain_word s.rules waiting word h).1
+  plain_goes_on idle word h = tt
+  plain_goes_on (option i) word h = tt
+  plain_goes_on positional word h = tt
 
-help_long : (c : List Rule) (again : Bool) (v : Option Text) (h : Held) → long_fault c again (Some help_flag) v h ≡ [] → ⊥
-help_long c again None h none = help_asked c again h none
-help_long c again (Some v) h none = cc
+  flag_goes_on : (waiting : Waiting) (word : Text) (h : Held) (met : Outcome) → GoesOn (after_flag s.rules waiting word h met).1
+  flag_goes_on waiting word h done = tt
+  flag_goes_on waiting word h (waits i) = tt
+  flag_goes_on waiting word h plain = plain_goes_on waiting word h
+  flag_goes_on waiting word h refused = plain_goes_on waiting word h
 
-long_refused : (c : List Rule) (again : Bool) (found : Option Rule) (v : Option Text) (h : Held) → IsHelp found → long_fault c again found v h ≡ [] → ⊥
-long_refused c again None v h is none = cc
-long_refused c again (Some a) v h is none = help_long c again v h (subst (λ x. long_fault c again (Some x) v h ≡ []) is none)
-
-short_refused : (c : List Rule) (again : Bool) (found : Option Rule) (rest : Text) (h : Held) (next : Held → Kinds) → IsHelp found
-    → short_fault c again found rest h next ≡ [] → ⊥
-short_refused c again None rest h next is none = cc
-short_refused c again (Some a) rest h next is none =
-    help_asked c again h (no_first _ _ (subst (λ x. short_fault c again (Some x) rest h next ≡ []) is none))
-
--- ---- a word that is no fault and names no subcommand is `--` or a value, and what is held stays
-
--- no value waits, and no flag of a bundle is to be passed over
-abbrev pub held_with : List Row → Option (Text × List Text) → Held
-held_with rows pending = record { rows = rows; pending = pending; skip = 0 }
-
-abbrev pub dashes_or_value : Bool → ℕ → Step
-dashes_or_value dashes position = cond dashes (trailing position) value
-
-module _ (s : Shape) (longs : (name : Text) → IsHelp (arg_by_long s.rules name)) (shorts : (x : ℕ) → IsHelp (arg_by_short s.rules x)) where
-  -- `-` and letters that are no fault have no letter that is read
-  bundle_is_plain : (k : ℕ) (flags : Text) (h : Held) → flags_fault s.rules s.args_override_self k flags 0 h ≡ [] → bundle_met s.rules k flags 0 plain h ≡ (h, plain)
-  unfolding flags_fault bundle_met
-  bundle_is_plain zero flags h none = refl
-  bundle_is_plain (suc k) flags h none = go (slice_get (chars flags) 0) none
+  other_goes_on : (waiting : Waiting) (word : Text) (long : Option (Text × Option Text)) (h : Held) → GoesOn (long_or_other s.rules waiting word long h).1
+  other_goes_on waiting word (Some p) h = flag_goes_on waiting word _ _
+  other_goes_on waiting word None h = go (short_of word)
     where
-      go : (first : Option ℕ) → bundle_step_fault s.rules s.args_override_self first flags 0 h (flags_fault s.rules s.args_override_self k) ≡ []
-          → bundle_step s.rules first flags 0 plain h (bundle_met s.rules k) ≡ (h, plain)
-      go None none = refl
-      go (Some x) none = absurd (short_refused _ _ _ _ _ _ (shorts x) none)
+      go : (flags : Option Text) → GoesOn (short_or_plain s.rules waiting word flags h).1
+      go None = plain_goes_on waiting word h
+      go (Some flags) = flag_goes_on waiting word _ _
 
-  -- so the word is a value
-  short_is_value : (word : Text) (flags : Option Text) (rows : List Row) (pending : Option (Text × List Text))
-      → option_map_or (λ f. bundle_fault s.rules s.args_override_self f (held_with rows pending)) flags [] ≡ []
-      → short_or_plain s.rules idle word flags (held_with rows pending) ≡ (held_with rows pending, value)
-  short_is_value word None rows pending none = refl
-  short_is_value word (Some flags) rows pending none =
-      ap (λ (met : Held × Outcome). after_flag s.rules idle word met.0 met.1) (bundle_is_plain (length flags) flags (held_with rows pending) none)
+  to_no_help : (found : Option Rule) (word : Text) (w : Walk) (h : Held) → IsNoHelp w.stopped → IsNoHelp (to_positional s.rules found word w h).stopped
+  to_no_help None word w h was = was
+  to_no_help (Some a) word w h was = tt
 
-  other_is_value : (word : Text) (long : Option (Text × Option Text)) (rows : List Row) (pending : Option (Text × List Text))
-      → flag_word_fault s.rules s.args_override_self long word (held_with rows pending) ≡ []
-      → long_or_other s.rules idle word long (held_with rows pending) ≡ (held_with rows pending, value)
-  other_is_value word None rows pending none = short_is_value word (short_of word) rows pending none
-  other_is_value word (Some p) rows pending none = absurd (long_refused _ _ _ _ _ (longs p.0) none)
+  on_no_help : (word : Text) (w : Walk) (h : Held) (step : Step) → GoesOn step → IsNoHelp w.stopped → IsNoHelp (after_step s.rules word w h step).stopped
+  on_no_help word w h (next waiting) goes was = was
+  on_no_help word w h (trailing position) goes was = was
+  on_no_help word w h (subcommand name) goes was = absurd goes
+  on_no_help word w h value goes was = to_no_help (arg_by_index s.rules w.position) word w h was
 
-  pub word_is_value : (word : Text) (position : ℕ) (rows : List Row) (pending : Option (Text × List Text)) → other_fault s None word (held_with rows pending) ≡ []
-      → (dashes : Bool) × (subcommand_or_other s.rules None idle position word (held_with rows pending) ≡ (held_with rows pending, dashes_or_value dashes position))
-  word_is_value word position rows pending none =
-      (bytes_eq word (45 ∷ 45 ∷ []), go (bytes_eq word (45 ∷ 45 ∷ [])) (held_with rows pending) (other_is_value word (long_of word) rows pending) none)
+  -- a subcommand that is named, or none
+  named_no_help : (name : Option Text) (word : Text) (w : Walk) → IsNoHelp w.stopped → other_fault s name word w.held ≡ []
+      → let met = subcommand_or_other s.rules name w.waiting w.position word w.held in IsNoHelp (after_step s.rules word w met.0 met.1).stopped
+  named_no_help None word w was none = go (bytes_eq word (45 ∷ 45 ∷ []))
     where
-      go : (dashes : Bool) (h : Held) → (flag_word_fault s.rules s.args_override_self (long_of word) word h ≡ [] → long_or_other s.rules idle word (long_of word) h ≡ (h, value))
-          → cond dashes [] (flag_word_fault s.rules s.args_override_self (long_of word) word h) ≡ []
-          → cond dashes (h, trailing position) (long_or_other s.rules idle word (long_of word) h) ≡ (h, dashes_or_value dashes position)
-      go true h other none = refl
-      go false h other none = other none
+      go : (b : Bool) → let met = cond b (w.held, trailing w.position) (long_or_other s.rules w.waiting word (long_of word) w.held) in
+          IsNoHelp (after_step s.rules word w met.0 met.1).stopped
+      go true = was
+      go false = on_no_help word w _ _ (other_goes_on w.waiting word (long_of word) w.held) was
+  named_no_help (Some name) word w was none = go (bytes_eq name (codes "help")) s.disable_help_subcommand answers none
+    where
+      go : (b d : Bool) → d ≡ false → cond (b && not d) (DisplayHelp ∷ InvalidSubcommand ∷ []) [] ≡ [] → b ≡ false
+      go true true off none = off
+      go true false off none = absurd (cc)
+      go false d off none = refl
 
-  pub turn_is_value : (names : Names) (is_trailing : Bool) (word : Text) (position : ℕ) (rows : List Row) (pending : Option (Text × List Text)) → subcommand_met names idle word ≡ None
-      → word_fault s names is_trailing idle word (held_with rows pending) ≡ []
-      → (dashes : Bool) × (word_met s.rules names is_trailing idle position word (held_with rows pending) ≡ (held_with rows pending, dashes_or_value dashes position))
-  turn_is_value names true word position rows pending unnamed none = (false, refl)
-  turn_is_value names false word position rows pending unnamed none =
-      let h = held_with rows pending in
-      let is = word_is_value word position rows pending (subst (λ o. other_fault s o word h ≡ []) unnamed none) in
-      (is.0, ap (λ o. subcommand_or_other s.rules o idle position word h) unnamed ∙ is.1)
+  word_no_help : (is_trailing : Bool) (word : Text) (w : Walk) → IsNoHelp w.stopped → word_fault s names is_trailing w.waiting word w.held ≡ []
+      → let met = word_met s.rules names is_trailing w.waiting w.position word w.held in IsNoHelp (after_step s.rules word w met.0 met.1).stopped
+  word_no_help true word w was none = to_no_help (arg_by_index s.rules w.position) word w w.held was
+  word_no_help false word w was none = named_no_help (subcommand_met names w.waiting word) word w was none
+
+  pub stops_at_no_help : (words : List Text) (w : Walk) → IsNoHelp w.stopped → walk_fault s names w words ≡ [] → IsNoHelp (fold (walked s.rules names) w words).stopped
+  unfolding walked walk_fault
+  stops_at_no_help [] w was none = was
+  stops_at_no_help (word ∷ words) w was none =
+      stops_at_no_help words _ (go w.stopped was (no_first _ _ none)) (no_second (turn_fault s names w word) _ none)
+    where
+      go : (stopped : Option (Text × List Text)) → IsNoHelp stopped → turn_fault s names (record w { stopped = stopped }) word ≡ []
+          → IsNoHelp (walked s.rules names (record w { stopped = stopped }) word).stopped
+      go None was none = word_no_help w.is_trailing word (record w { stopped = None }) was (no_first _ _ none)
+      go (Some p) was none = was

@@ -1,3 +1,2 @@
 -- Words of private contracts.
-pub mod Plain
-pub mod StepParts
+pub mod Asking

@@ -1,10 +1,7 @@
 pub mod Words
 pub mod Flight
 pub mod Objects
-pub mod Requests
-pub mod WorkerLines
 pub mod Steps
-pub mod StepEvents
 pub mod Faults
+pub mod Complaints
 pub mod Inner
-pub mod Laws

@@ -1,15 +1,47 @@
 //! The command line.
-ghost use Rattle.std.specs.Prelude.{◌≡◌, true, false, IfOk, IfErr, IfSome, IfNone, Some, map, codes};
-ghost use Rattle.clap.specs.Words.{FailsBy, app_of, fault_of, found_of, kind_of, rows_of, subcommand_rows_of};
+ghost use Rattle.std.specs.Prelude.{◌≡◌, true, false, IfOk, IfErr, IfSome, IfNone, Some, map, codes, option_map};
+ghost use Rattle.clap.specs.Words.{FailsBy, app_of, fault_of, first_of, found_of, kind_of, rows_of, rule_of, subcommand_rows_of};
 ghost use Rattle.clap.specs.declared.builder.command.Command.TheViews.{out-Command};
 ghost use Rattle.clap.specs.declared.error.kind.ErrorKind.TheVariants.{OutOfMemory};
-ghost use Rattle.runner.specs.Words.{IsAsked, IsNamed, Names, is_line, nomadsim_app, run_app};
+ghost use Rattle.runner.specs.Words.{IsAsked, IsNamed, Names, check_app, draw_app, is_line, nomadsim_app, out_option, replay_app, required_word, run_app};
 
 use clap::{Arg, ArgMatches, Command, Error};
 use std::alloc::Global;
 
+const VERSION: &str = "0.1.0";
+
+const SCENARIO: &str = "The scenario's file, '-' for the standard input";
+
 const ABOUT: &str =
     "Plays scenarios on a group of replicated servers, every step of which is proved";
+
+const ENDS: &str = "\
+Examples:
+  nomadsim run data/first-election.json
+  nomadsim run data/first-election.json --out election.txt
+  nomadsim replay election.txt
+  nomadsim draw election.txt > election.svg
+  nomadsim check data/first-election.json
+
+'-' for FILE reads the scenario from the standard input. 'nomadsim run --help'
+says what a scenario's file holds.
+
+Exit status:
+  0  every step was taken, or whatever else was asked for was done
+  1  a step was refused
+  2  the command line or a file is bad, or the output failed
+  3  there was no memory
+
+A refused step is told by its number and its line:
+  1  no memory               8  unknown job         15  frame or line at fault
+  2  not the leader          9  unknown node        16  down
+  3  desk not open          10  node differs        17  queue full
+  4  not outstanding        11  bad name            18  job stopped
+  5  another token          12  out of range        19  stale expiry
+  6  snapshot too old       13  table full          20  node not draining
+  7  job changed            14  exhausted           21  unknown allocation
+
+An actor that finds no memory goes down as in a crash, and the run goes on.";
 
 const STEPS: &str = "\
 The file is a JSON object with exactly these keys:
@@ -18,9 +50,11 @@ The file is a JSON object with exactly these keys:
              (MHz) and \"mem\" (MB), each number from 1 to 1000000; client C is
              the agent of the C-th node, the first being 1
   \"key\"      0 to 18446744073709551615
-  \"drop\"     0
-  \"repeat\"   0
-  \"order\"    \"sent\"
+  \"drop\"     0 to 100, the percentage of messages that are lost
+  \"repeat\"   0 to 100, the percentage of messages that are delivered and put in
+             flight again; \"drop\" and \"repeat\" together are at most 100
+  \"order\"    which message in flight comes next: \"sent\" for the one sent first,
+             \"any\" for one drawn by the key
   \"steps\"    a list of texts, each one of these steps:
     timeout S   server S has heard of no leader for too long
     beat S      server S, if it leads, sends the others what they may lack
@@ -29,8 +63,9 @@ The file is a JSON object with exactly these keys:
                 server S or client C stops, and keeps what it stored
     restart S, restart cC
                 server S or client C begins again from what it stored
-    flow        messages in flight come, the first sent first, until none
-                is left or 10000 have come
+    flow        messages in flight come, in the order that \"order\" says, until
+                none is left or 10000 were taken; \"drop\" and \"repeat\" say
+                how many are lost or come again
     flow N      the same, for up to N of them
     register C S
                 client C tells server S of its node
@@ -66,6 +101,10 @@ The file is a JSON object with exactly these keys:
     expire S NODE BEAT
                 at server S, if it leads, node NODE, 1 to 64, was heard of BEAT
                 times, and not heard of since for too long
+    drain S NODE
+                at server S, if it leads, a turn of the drain of node NODE, 1 to
+                64: its next allocations are marked to move, or its drain ends
+                where nothing lives there
     free S      server S, if it leads, makes a blocked evaluation pending that
                 has room now
     reap S      server S, if it leads, gives up an evaluation that was given
@@ -76,42 +115,136 @@ Example:
    \"order\": \"sent\", \"steps\": [\"timeout 1\", \"flow\"]}
 
 For each step that is refused a line says so, with the number of the refusal,
-and the exit status is 1. Then there is a line for each server, for each
-allocation that is to run, and for each client, and one with the number of
-events and of messages.";
+which 'nomadsim --help' explains, and the exit status is 1. Then there is a line
+for each server, for each allocation that is to run, and for each client, and
+one with the number of events and of messages.
 
-const ENDS: &str = "\
+With --out T the file T gets a transcript of what happened, before the last
+lines are printed; 'nomadsim replay T' and 'nomadsim draw T' take it.";
+
+const REPLAYS: &str = "\
+T is a transcript, as 'nomadsim run FILE --out T' writes it: a line 'servers N',
+a line 'node C CLASS CPU MEM' for each client C, and a line for each event: one
+of the steps of 'nomadsim run --help' other than 'flow' and 'work'.
+
+The events are taken once more, and the lines are printed with which a run ends.
+For each event that is refused a line says so, and the exit status is 1. Where T
+is no transcript, the exit status is 2, and the place of the first line at fault
+is said, as the number of bytes before it.
+
 Example:
-  nomadsim run data/first-election.json
+  nomadsim replay election.txt";
 
-'nomadsim run --help' says what a scenario's file holds.
+const DRAWS: &str = "\
+T is a transcript, as 'nomadsim run FILE --out T' writes it; 'nomadsim replay
+--help' says what it holds. The picture is an SVG, and goes to the standard
+output.
 
-Exit status:
-  0  every step was taken
-  1  a step was refused
-  2  the command line or the file is bad, or the output failed
-  3  there was no memory";
+Example:
+  nomadsim draw election.txt > election.svg";
 
-/// What the words of a command line ask for.
+const CHECKS: &str = "\
+The file and each of its steps are read, and no step is taken. What is wrong is
+printed: the first thing in a file that holds no scenario, else each step that
+is none, with what it has to be. The exit status is 0 where nothing is wrong,
+and 2 where something is. 'nomadsim run --help' says what a scenario's file
+holds.
+
+Example:
+  nomadsim check data/first-election.json";
+
+/// What the words of a command line ask for. Names of files are as they were given.
 #[derive(Clone, Copy, Debug, PartialEq, Eq)]
 pub enum CommandLine<'a> {
-    /// `run FILE`: the scenario in that file is played.
+    /// `run FILE [--out T]`: the scenario in that file is played.
     Run {
-        /// The name of the file, as it was given.
+        /// The scenario's file, `-` for the standard input.
+        file: &'a str,
+        /// The file that gets the transcript, where one is to be written.
+        out: Option<&'a str>,
+    },
+    /// `replay T`: the events of a transcript are taken once more.
+    Replay {
+        /// The transcript's file.
         file: &'a str,
     },
+    /// `draw T`: a transcript is drawn.
+    Draw {
+        /// The transcript's file.
+        file: &'a str,
+    },
+    /// `check FILE`: what is wrong with the scenario in that file is said, and it is not played.
+    Check {
+        /// The scenario's file, `-` for the standard input.
+        file: &'a str,
+    },
+}
+
+// A word that has to be there.
+fn needed<'a>(alloc: Global, id: &'a str, help: &'a str) -> Arg<'a>
+    ensures rule { rule_of result ≡ required_word id.now }
+    ensures local { result.global ≡ false }
+{
+    Arg::new(alloc, id).help(help).required(true)
+}
+
+fn out_arg<'a>(alloc: Global) -> Arg<'a>
+    ensures rule { rule_of result ≡ out_option }
+    ensures local { result.global ≡ false }
+{
+    Arg::new(alloc, "out")
+        .long("out")
+        .value_name("T")
+        .help("The file that gets a transcript of what happened")
 }
 
 fn run_command<'a>(alloc: Global) -> Result<Command<'a>, Error>
     ensures ok { IfOk result (λ c. (app_of c ≡ run_app) × ((out-Command c).has_globals ≡ false)) }
     ensures err { IfErr result (λ e. kind_of e ≡ OutOfMemory) }
 {
-    let file = Arg::new(alloc, "FILE")
-        .help("The scenario's file")
-        .required(true);
+    let file = needed(alloc, "FILE", SCENARIO);
+    let out = out_arg(alloc);
     let command = Command::new(alloc, "run")
         .about("Plays a scenario, and says how it ends")
         .after_help(STEPS)
+        .arg(file)?
+        .arg(out)?;
+    Ok(command)
+}
+
+fn replay_command<'a>(alloc: Global) -> Result<Command<'a>, Error>
+    ensures ok { IfOk result (λ c. (app_of c ≡ replay_app)
+        × ((out-Command c).has_globals ≡ false)) }
+    ensures err { IfErr result (λ e. kind_of e ≡ OutOfMemory) }
+{
+    let file = needed(alloc, "T", "The transcript's file");
+    let command = Command::new(alloc, "replay")
+        .about("Plays a transcript once more, and says how it ends")
+        .after_help(REPLAYS)
+        .arg(file)?;
+    Ok(command)
+}
+
+fn draw_command<'a>(alloc: Global) -> Result<Command<'a>, Error>
+    ensures ok { IfOk result (λ c. (app_of c ≡ draw_app) × ((out-Command c).has_globals ≡ false)) }
+    ensures err { IfErr result (λ e. kind_of e ≡ OutOfMemory) }
+{
+    let file = needed(alloc, "T", "The transcript's file");
+    let command = Command::new(alloc, "draw")
+        .about("Draws a transcript, as an SVG")
+        .after_help(DRAWS)
+        .arg(file)?;
+    Ok(command)
+}
+
+fn check_command<'a>(alloc: Global) -> Result<Command<'a>, Error>
+    ensures ok { IfOk result (λ c. (app_of c ≡ check_app) × ((out-Command c).has_globals ≡ false)) }
+    ensures err { IfErr result (λ e. kind_of e ≡ OutOfMemory) }
+{
+    let file = needed(alloc, "FILE", SCENARIO);
+    let command = Command::new(alloc, "check")
+        .about("Says what is wrong with a scenario, without playing it")
+        .after_help(CHECKS)
         .arg(file)?;
     Ok(command)
 }
@@ -121,12 +254,27 @@ fn program<'a>(alloc: Global) -> Result<Command<'a>, Error>
     ensures err { IfErr result (λ e. kind_of e ≡ OutOfMemory) }
 {
     let run = run_command(alloc)?;
+    let replay = replay_command(alloc)?;
+    let draw = draw_command(alloc)?;
+    let check = check_command(alloc)?;
     let bare = Command::new(alloc, "nomadsim")
+        .version(VERSION)
         .about(ABOUT)
         .after_help(ENDS)
         .subcommand_required(true);
-    let whole = bare.subcommand(run)?;
+    let whole = bare
+        .subcommand(run)?
+        .subcommand(replay)?
+        .subcommand(draw)?
+        .subcommand(check)?;
     Ok(whole)
+}
+
+// The first value of the argument of this name.
+fn value_of<'a>(given: &ArgMatches<'a>, id: &str) -> Option<&'a str>
+    ensures { option_map (λ s. s.now) result ≡ first_of id.now (rows_of (found_of given.now)) }
+{
+    given.get_str(id)
 }
 
 fn run_line<'a>(given: &ArgMatches<'a>) -> Option<CommandLine<'a>>
@@ -134,8 +282,36 @@ fn run_line<'a>(given: &ArgMatches<'a>) -> Option<CommandLine<'a>>
     ensures none { IfNone result (is_line (Some (codes "run", rows_of (found_of given.now)))
         ≡ false) }
 {
-    let file = given.get_str("FILE")?;
-    Some(CommandLine::Run { file })
+    let file = value_of(given, "FILE")?;
+    let out = value_of(given, "out");
+    Some(CommandLine::Run { file, out })
+}
+
+fn replay_line<'a>(given: &ArgMatches<'a>) -> Option<CommandLine<'a>>
+    ensures some { IfSome result (IsNamed (codes "replay") (rows_of (found_of given.now))) }
+    ensures none { IfNone result (is_line (Some (codes "replay", rows_of (found_of given.now)))
+        ≡ false) }
+{
+    let file = value_of(given, "T")?;
+    Some(CommandLine::Replay { file })
+}
+
+fn draw_line<'a>(given: &ArgMatches<'a>) -> Option<CommandLine<'a>>
+    ensures some { IfSome result (IsNamed (codes "draw") (rows_of (found_of given.now))) }
+    ensures none { IfNone result (is_line (Some (codes "draw", rows_of (found_of given.now)))
+        ≡ false) }
+{
+    let file = value_of(given, "T")?;
+    Some(CommandLine::Draw { file })
+}
+
+fn check_line<'a>(given: &ArgMatches<'a>) -> Option<CommandLine<'a>>
+    ensures some { IfSome result (IsNamed (codes "check") (rows_of (found_of given.now))) }
+    ensures none { IfNone result (is_line (Some (codes "check", rows_of (found_of given.now)))
+        ≡ false) }
+{
+    let file = value_of(given, "FILE")?;
+    Some(CommandLine::Check { file })
 }
 
 fn line_of<'a>(matches: &ArgMatches<'a>) -> Option<CommandLine<'a>>
@@ -145,11 +321,15 @@ fn line_of<'a>(matches: &ArgMatches<'a>) -> Option<CommandLine<'a>>
     let (name, given) = matches.subcommand()?;
     match name {
         "run" => run_line(given),
+        "replay" => replay_line(given),
+        "draw" => draw_line(given),
+        "check" => check_line(given),
         _ => None,
     }
 }
 
-/// Reads the words of a command line, of which the first names the program.
+/// Reads the words of a command line, of which the first names the program. Words that ask for help
+/// or for the version are an error too, of a kind of its own, whose text is the answer.
 pub fn command<'a>(alloc: Global, words: &'a [&'a str]) -> Result<CommandLine<'a>, Error>
     ensures named { IfOk result (Names (map (λ w. w.now) words.entry.now)) }
     ensures faults { FailsBy (fault_of nomadsim_app (map (λ w. w.now) words.entry.now)) result }

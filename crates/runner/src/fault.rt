@@ -16,9 +16,16 @@ pub enum Fault<'a> {
     /// The file of this name cannot be read.
     #[error("nomadsim: cannot read {0}\n")]
     CannotRead(&'a str),
+    /// The transcript cannot be written to the file of this name.
+    #[error("nomadsim: cannot write {0}\n")]
+    CannotWrite(&'a str),
     /// The file that was read is no scenario, or one of its steps is none.
     #[error("nomadsim: bad scenario\n")]
     BadScenario,
+    /// The file that was read is no transcript: with the place of the first byte of its first line
+    /// at fault, from 0.
+    #[error("nomadsim: bad transcript at byte {0}\n")]
+    BadTranscript(usize),
     /// There was no memory.
     #[error("nomadsim: no memory\n")]
     NoMemory,
@@ -43,7 +50,9 @@ impl Fault<'_> {
         match self {
             Fault::CommandLine(error) => { if error.use_stderr() { 2 } else { 0 } }
             Fault::CannotRead(_) => 2,
+            Fault::CannotWrite(_) => 2,
             Fault::BadScenario => 2,
+            Fault::BadTranscript(_) => 2,
             Fault::NoMemory => 3,
             Fault::Output => 2,
         }

@@ -1,5 +1,6 @@
 //! Messages in flight.
-ghost use Rattle.std.specs.Prelude.{◌≡◌, ◌++◌, ◌∷◌, [], OnOk, max, MatchOption};
+ghost use Rattle.std.specs.Prelude.{◌≡◌, ◌++◌, ◌∷◌, ◌+◌, ◌<◌, [], OnOk, OnErr, IfSome, IfNone, max, length, MatchOption, slice_get, Some};
+ghost use Rattle.std.specs.List.{remove};
 ghost use Rattle.runner.specs.Flight.{newly_sent};
 
 use rows::NoMemory;
@@ -7,8 +8,8 @@ use std::alloc::Global;
 use std::collections::VecDeque;
 use std::marker::Model;
 
-/// The numbers of the messages that were sent and that no flow has taken, in the order in which
-/// they are taken.
+/// The numbers of the messages in flight: those that were sent, in that order, but for those that a
+/// flow has taken; behind them those that were put in flight again.
 #[derive(Drop)]
 pub(crate) struct Flight {
     waiting: VecDeque<u64>,
@@ -35,6 +36,13 @@ impl Flight {
         }
     }
 
+    /// How many messages are in flight.
+    pub(crate) fn len(&self) -> usize
+        ensures { result ≡ length self.now.waiting }
+    {
+        self.waiting.len()
+    }
+
     /// Puts the messages sent since the last call behind the others, `sent` being the number of all
     /// that were ever sent.
     pub(crate) fn admit(&mut self, sent: u64) -> Result<(), NoMemory>
@@ -56,5 +64,25 @@ impl Flight {
         ensures seen { self.new.seen ≡ self.old.seen }
     {
         self.waiting.pop_front()
+    }
+
+    /// Takes the message at a place, the front being place 0; none where fewer are in flight. The
+    /// others stay in their order.
+    pub(crate) fn take_at(&mut self, place: usize) -> Option<u64>
+        ensures some { IfSome result (λ message. (slice_get self.old.waiting place ≡ Some message)
+            × (self.new.waiting ≡ remove self.old.waiting place)) }
+        ensures none { IfNone result (length self.old.waiting < place + 1) }
+        ensures seen { self.new.seen ≡ self.old.seen }
+    {
+        self.waiting.remove(place)
+    }
+
+    /// Puts a message in flight again, behind the others. Without memory nothing changes.
+    pub(crate) fn put_again(&mut self, message: u64) -> Result<(), NoMemory>
+        ensures behind { OnOk result (self.new.waiting ≡ self.old.waiting ++ message ∷ []) }
+        ensures seen { self.new.seen ≡ self.old.seen }
+        ensures left { OnErr result (self.new ≡ self.old) }
+    {
+        Ok(self.waiting.push_back(message)?)
     }
 }

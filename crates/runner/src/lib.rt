@@ -1,24 +1,22 @@
-//! The program `nomadsim`: its command line, its scenario files, and a run over files and streams
-//! that are handed in.
+//! The program `nomadsim`: its command line, its scenario files, and what it does with them and
+//! with transcripts, over files and streams that are handed in.
 #![tactic(auto)]
 
+pub mod checking;
 pub mod command;
 mod ending;
-pub mod event;
 pub mod fault;
 mod flight;
-mod list;
 mod play;
 pub mod program;
 pub mod reading;
-pub mod request;
+mod replaying;
+mod running;
 pub mod scenario;
 pub mod shelf;
-mod spelled;
 pub mod step;
-mod word;
 mod work_queue;
-mod worker;
 mod workers;
+pub mod wrong;
 
 pub use program::nomadsim;

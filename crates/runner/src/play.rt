@@ -1,9 +1,9 @@
 //! A scenario's group, with its messages in flight and its workers; and its steps, one at a time.
-use crate::event::event_of;
 use crate::flight::Flight;
-use crate::scenario::Scenario;
+use crate::scenario::{Order, Scenario};
 use crate::step::Step;
 use crate::workers::Workers;
+use lossy_net::{Fates, MessageFate, fate};
 use rows::{Actor, NoMemory, Refusal, Sequence, ServerId, Work};
 use server::ServerInput;
 use std::alloc::Global;
@@ -12,13 +12,18 @@ use world::{Event, World};
 // How many messages a `flow` without a number takes at most.
 const FLOW: u64 = 10_000;
 
-/// A group, its messages in flight, and its workers.
+/// A group, its messages in flight, what becomes of them, and its workers.
 #[derive(Drop)]
 pub(crate) struct Play {
     alloc: Global,
     world: World,
     flight: Flight,
     workers: Workers,
+    fates: Fates,
+    order: Order,
+    // How many of a hundred messages are lost, and how many come again.
+    drop: u8,
+    repeat: u8,
 }
 
 impl Play {
@@ -30,6 +35,10 @@ impl Play {
             world: World::new(alloc, servers, &scenario.nodes)?,
             flight: Flight::new(alloc),
             workers: Workers::new(alloc),
+            fates: Fates::new(scenario.settings.key),
+            order: scenario.settings.order,
+            drop: scenario.settings.drop,
+            repeat: scenario.settings.repeat,
         })
     }
 
@@ -41,13 +50,9 @@ impl Play {
     /// Takes a step, or says why it is refused.
     pub(crate) fn take(&mut self, step: Step) -> Result<(), Refusal> {
         match step {
+            Step::Event(event) => self.event(event),
             Step::Work(server) => self.work(server),
             Step::Flow(count) => Ok(self.flow(count.unwrap_or(FLOW))?),
-            other => match event_of(self.alloc, other)? {
-                Some(event) => self.event(event),
-                // A worker's turn and a flow are taken above.
-                None => Ok(()),
-            },
         }
     }
 
@@ -114,15 +119,41 @@ impl Play {
 
     fn flow(&mut self, count: u64) -> Result<(), NoMemory> {
         for _ in 0..count {
-            let Some(message) = self.flight.take() else {
+            let Some(message) = self.take_message() else {
                 return Ok(());
             };
-            match self.event(Event::Deliver(message)) {
-                Err(Refusal::NoMemory) => return Err(NoMemory),
-                // One to an actor that is down is lost.
-                Ok(()) | Err(_) => {}
-            }
+            self.pass(message)?;
         }
         Ok(())
+    }
+
+    // The message in flight that comes next. By lot it is the one at the place that a word gives;
+    // where nothing is in flight no word is drawn.
+    fn take_message(&mut self) -> Option<u64> {
+        match self.order {
+            Order::Sent => self.flight.take(),
+            Order::Any => {
+                let many = self.flight.len();
+                if many == 0 {
+                    return None;
+                }
+                let word = u64::from(self.fates.next());
+                self.flight.take_at((word % many as u64) as usize)
+            }
+        }
+    }
+
+    // A word says what becomes of a message that was taken: it is lost, or it comes, and may be put
+    // in flight again then. One to an actor that is down is lost, whatever the word says.
+    fn pass(&mut self, message: u64) -> Result<(), NoMemory> {
+        let fate = fate(self.fates.next(), self.drop, self.repeat);
+        if fate == MessageFate::Lose {
+            return Ok(());
+        }
+        match self.event(Event::Deliver(message)) {
+            Ok(()) if fate == MessageFate::Repeat => self.flight.put_again(message),
+            Err(Refusal::NoMemory) => Err(NoMemory),
+            Ok(()) | Err(_) => Ok(()),
+        }
     }
 }

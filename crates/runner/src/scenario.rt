@@ -52,7 +52,7 @@ pub struct Scenario {
     pub steps: Vec<String>,
 }
 
-fn number_of(value: &Value, key: &str) -> Option<u64>
+pub(crate) fn number_of(value: &Value, key: &str) -> Option<u64>
     ensures { result ≡ whole_number_at key.now (view value.now) }
 {
     value.get(key).and_then(Value::as_u64)
@@ -67,7 +67,7 @@ fn text_of<'v>(value: &'v Value, key: &str) -> Option<&'v str>
     }
 }
 
-fn list_of<'v>(value: &'v Value, key: &str) -> Option<&'v Vec<Value>>
+pub(crate) fn list_of<'v>(value: &'v Value, key: &str) -> Option<&'v Vec<Value>>
     ensures { option_map (λ v. items_view v.now.items) result ≡ list_at key.now (view value.now) }
 {
     match value.get(key) {
@@ -76,7 +76,7 @@ fn list_of<'v>(value: &'v Value, key: &str) -> Option<&'v Vec<Value>>
     }
 }
 
-fn keys_of(value: &Value) -> Option<usize>
+pub(crate) fn keys_of(value: &Value) -> Option<usize>
     ensures { result ≡ option_map members_count (as_object (view value.now)) }
 {
     match value.as_object() {
@@ -85,7 +85,7 @@ fn keys_of(value: &Value) -> Option<usize>
     }
 }
 
-fn percent_of(value: &Value, key: &str) -> Option<u8>
+pub(crate) fn percent_of(value: &Value, key: &str) -> Option<u8>
     ensures { MatchOption result
         ((n : ℕ) → whole_number_at key.now (view value.now) ≡ Some n → 100 < n)
         (λ n. (whole_number_at key.now (view value.now) ≡ Some n) × (n ≤ 100)) }
@@ -97,7 +97,7 @@ fn percent_of(value: &Value, key: &str) -> Option<u8>
     Some(number as u8)
 }
 
-fn servers_of(value: &Value) -> Option<u8>
+pub(crate) fn servers_of(value: &Value) -> Option<u8>
     ensures { MatchOption result
         ((n : ℕ) → whole_number_at (codes "servers") (view value.now) ≡ Some n → IsGroup n → ⊥)
         (λ n. (whole_number_at (codes "servers") (view value.now) ≡ Some n) × IsGroup n) }
@@ -109,7 +109,7 @@ fn servers_of(value: &Value) -> Option<u8>
     Some(number as u8)
 }
 
-fn order_of(value: &Value) -> Option<Order>
+pub(crate) fn order_of(value: &Value) -> Option<Order>
     ensures { MatchOption result
         ((o : Order) → text_at (codes "order") (view value.now) ≢ Some (order_text o))
         (λ o. text_at (codes "order") (view value.now) ≡ Some (order_text o)) }
@@ -172,7 +172,7 @@ fn size_of(value: &Value) -> Option<Size>
 }
 
 // The node behind so many others.
-fn node_of(value: &Value, others: usize) -> Option<NodeSpec>
+pub(crate) fn node_of(value: &Value, others: usize) -> Option<NodeSpec>
     ensures { MatchOption result
         ((n : NodeSpec) → n.number ≡ others + 1 → ¬ IsNode (view value.now) n)
         (λ n. (n.number ≡ others + 1) × IsNode (view value.now) n) }

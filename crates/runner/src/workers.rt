@@ -1,5 +1,8 @@
 //! The workers of each server.
-use crate::event::asking;
+ghost use Rattle.std.specs.Prelude.{◌≡◌};
+ghost use Rattle.server.specs.Handings.{OwnInput, handing};
+ghost use Rattle.runner.specs.Inner.Asking.{asking};
+
 use crate::work_queue::WorkQueue;
 use fsm_state::Cluster;
 use rows::{
@@ -10,6 +13,20 @@ use scheduler::{Step, next_step};
 use server::ServerInput;
 use std::alloc::Global;
 use std::collections::BTreeMap;
+
+// What a server's workers ask of another server, or of their own, as the input of their server.
+fn asking(to: ServerId, request: WorkerRequest) -> ServerInput
+    ensures { handing result ≡ OwnInput (asking to request) }
+{
+    match request {
+        WorkerRequest::Take => ServerInput::Take(to),
+        WorkerRequest::Submit(plan) => ServerInput::Submit(to, plan),
+        WorkerRequest::Finish(eval, token, outcome) => {
+            ServerInput::Finish(to, eval, token, outcome)
+        }
+        WorkerRequest::Nack(eval, token) => ServerInput::Nack(to, eval, token),
+    }
+}
 
 // A delivery of an evaluation to the workers of a server.
 #[derive(Clone, Copy, PartialEq, Eq, PartialOrd, Ord)]

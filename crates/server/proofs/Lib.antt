@@ -9,5 +9,6 @@ pub mod DeskFollows
 pub mod LogSteps
 pub mod Handings
 pub mod Proposing
+pub mod DrainTurns
 pub mod Unmoved
 pub mod Listings

@@ -15,25 +15,9 @@ use Rattle.cluster_model.specs.Words.{State, alloc_of, is_some_and, same_alloc}
 use Rattle.cluster_model.specs.Effect.{client_state_of, told, told_all}
 use Rattle.cluster_model.proofs.Lists.{anys_same}
 use Rattle.cluster_model.proofs.Keys.{at_alloc}
-use Rattle.fsm_state.proofs.StepLaws.{any_at}
+use Rattle.fsm_state.proofs.Reports.{is_told, untold, told_rows}
 use Rattle.group_model.specs.ClientRequests.{same_state, is_unmoved}
 use Rattle.server.specs.Inner.Idle.{stays_of, is_unmoved_at}
-
--- whether a report is of the allocation
-abbrev is_told : List Report → Allocation → Bool
-is_told rs a = list_any (λ r. same_alloc a.id r.id) rs
-
--- what no report is of stays
-stays : (n : ℕ) (r : Report) (a : Allocation) → same_alloc a.id r.id ≡ false → told n r a ≡ a
-stays n r a e = ap (λ b. cond (b && nat_eq a.node n && is_active a.client) (record a { client = client_state_of r.state }) a) e
-
-untold : (n : ℕ) (rs : List Report) (a : Allocation) → is_told rs a ≡ false → told_all n rs a ≡ a
-untold n [] a e = refl
-untold n (r ∷ rs) a e =
-    elim (same_alloc a.id r.id) as (λ b. same_alloc a.id r.id ≡ b → (b || is_told rs a) ≡ false → told_all n rs (told n r a) ≡ a) [
-      | true ↦ λ t e. absurd cc
-      | false ↦ λ t e. ap (told_all n rs) (stays n r a t) ∙ untold n rs a e
-    ] refl e
 
 same_itself : (state : ClientState) → same_state state state ≡ true
 same_itself clients.Pending = refl
@@ -52,39 +36,6 @@ moves_told n rs a =
       | true ↦ λ e. refl
       | false ↦ λ e. ap (λ (z : Allocation). not (same_state z.client a.client)) (untold n rs a e) ∙ ap not (same_itself a.client)
     ] refl
-
-split : (s t p x y : Bool) → (((s || t) && p) || (x || y)) ≡ (((s && p) || x) || ((t && p) || y))
-split true true true x y = refl
-split true true false x y = refl
-split true false true x y = refl
-split true false false x y = refl
-split false true true true y = refl
-split false true true false y = refl
-split false true false x y = refl
-split false false p x y = refl
-
-none_told : (p : Allocation → Bool) (rows : List Allocation) → list_any (λ a. is_told [] a && p a) rows ≡ false
-none_told p [] = refl
-none_told p (a ∷ rows) = none_told p rows
-
-one_more : (p : Allocation → Bool) (r : Report) (rs : List Report) (rows : List Allocation)
-    → list_any (λ a. is_told (r ∷ rs) a && p a) rows ≡ (list_any (λ a. same_alloc a.id r.id && p a) rows || list_any (λ a. is_told rs a && p a) rows)
-one_more p r rs [] = refl
-one_more p r rs (a ∷ rows) =
-    ap (λ b. ((same_alloc a.id r.id || is_told rs a) && p a) || b) (one_more p r rs rows)
-    ∙ split (same_alloc a.id r.id) (is_told rs a) (p a) (list_any (λ a. same_alloc a.id r.id && p a) rows) (list_any (λ a. is_told rs a && p a) rows)
-
--- a told row that passes is that of a report
-told_rows : (p : Allocation → Bool) (rs : List Report) (s : State) → T (is_rising alloc_cmp alloc_id s.allocs) → list_any (λ a. is_told rs a && p a) s.allocs ≡ list_any (λ (r : Report). is_some_and p (alloc_of r.id s)) rs
-told_rows p [] s h = none_told p s.allocs
-told_rows p (r ∷ rs) s h =
-    let here : list_any (λ a. same_alloc a.id r.id && p a) s.allocs ≡ is_some_and p (alloc_of r.id s) =
-    anys_same (λ a. same_alloc a.id r.id && p a) (λ a. is_eq (alloc_cmp r.id a.id) && p a) (λ a. ap (λ b. b && p a) (sym (at_alloc r.id a))) s.allocs
-    ∙ any_at alloc_cmp alloc_id alloc_cmp_total p r.id s.allocs h in
-    one_more p r rs s.allocs
-    ∙ (λ i. here i || told_rows p rs s h i)
-
--- ---- none moves
 
 not_and : (a b : Bool) → (a && b) ≡ not (not a || not b)
 not_and true true = refl

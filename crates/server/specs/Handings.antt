@@ -1,6 +1,6 @@
 -- What is handed to a server of the group.
 use Rattle.std.specs.Prelude.{ℕ, List}
-use Rattle.group_model.specs.Inputs.{Input, Timeout, Beat, Request, TakeFrom, SubmitTo, FinishAt, NackAt, PlanTurn, Lapse, Expire, FreeTurn, Reap, Crash, Restart}
+use Rattle.group_model.specs.Inputs.{Input, Timeout, Beat, Request, TakeFrom, SubmitTo, FinishAt, NackAt, PlanTurn, Lapse, Expire, DrainTurn, FreeTurn, Reap, Crash, Restart}
 use Rattle.server.specs.declared.server_input.ServerInput.{ServerInput}
 use Rattle.server.specs.declared.server_input.ServerInput.TheVariants as inputs
 
@@ -22,6 +22,7 @@ handing (inputs.Nack to eval token) = OwnInput (NackAt to eval token)
 handing inputs.PlanTurn = OwnInput PlanTurn
 handing (inputs.Lapse eval) = OwnInput (Lapse eval)
 handing (inputs.Expire node beats) = OwnInput (Expire node beats)
+handing (inputs.DrainTurn node) = OwnInput (DrainTurn node)
 handing inputs.FreeTurn = OwnInput FreeTurn
 handing inputs.Reap = OwnInput Reap
 handing inputs.Crash = OwnInput Crash

@@ -34,6 +34,9 @@ pub enum ServerInput {
     /// A node that was heard of so often was not heard of since for too long: it goes down. (Nomad
     /// documentation, "server" block of the agent configuration: heartbeat_grace.)
     Expire(NodeId, Index),
+    /// A turn of a node's drain: it is done where nothing lives on the node, else the allocations
+    /// that move off it next are marked. (Nomad documentation, "node drain" command.)
+    DrainTurn(NodeId),
     /// A turn of the desk: a blocked evaluation that has room now becomes pending.
     FreeTurn,
     /// A turn of the desk: an evaluation that was given out too often becomes failed.
@@ -65,6 +68,7 @@ impl ServerInput {
             ServerInput::PlanTurn => ServerInput::PlanTurn,
             ServerInput::Lapse(eval) => ServerInput::Lapse(*eval),
             ServerInput::Expire(node, beats) => ServerInput::Expire(*node, *beats),
+            ServerInput::DrainTurn(node) => ServerInput::DrainTurn(*node),
             ServerInput::FreeTurn => ServerInput::FreeTurn,
             ServerInput::Reap => ServerInput::Reap,
             ServerInput::Crash => ServerInput::Crash,

@@ -23,4 +23,5 @@ pub mod GroupDeliveries
 pub mod GroupSleeping
 pub mod GroupBegins
 pub mod GroupRuns
+pub mod GroupTraces
 pub mod GroupReplays

@@ -1,10 +1,12 @@
 -- What holds of every group that was reached. Moments, and the servers and logs at them, are those
 -- of the value's runs.
-use Rattle.std.specs.Prelude.{◌≡◌, ℕ, List, length}
+use Rattle.std.specs.Prelude.{◌≡◌, ℕ, ◌<◌, List, length}
 use Rattle.rows.specs.declared.command.Command.{Command}
 use Rattle.machine.specs.declared.entry.Entry.{Entry}
 use Rattle.raft_safety.specs.Claims.{IsGreatestCommit}
-use Rattle.group_model.specs.Worlds.{World, raft_of}
+use Rattle.group_model.specs.Inputs as servers
+use Rattle.group_model.specs.Clients as clients
+use Rattle.group_model.specs.Worlds.{World, Event, Deliver, AtServer, AtClient, raft_of}
 use Rattle.group_safety.specs.Claims.{OneList, SafeStates, PlansAreBacked, StartsArePlaced, logs}
 use Rattle.world.specs.GroupView.{GroupView, GroupRunsTo}
 
@@ -63,3 +65,12 @@ pub record GroupHeadline (view : GroupView) : Type 0 where
 -- the greatest number of entries that any server had applied at some moment, in each of its runs
 abbrev pub IsGreatestEver : GroupView → ℕ → Type 0
 IsGreatestEver view n = (past : List World) (w : World) → GroupRunsTo view past w → IsGreatestCommit (logs past) (raft_of w) n
+
+-- An event that a group of which so many messages were sent may have taken: one of them comes to its
+-- receiver, or an actor takes an input of its own, which is never an arrival.
+abbrev pub IsTraced : ℕ → Event → Type 0
+IsTraced sent (Deliver place) = place < sent
+IsTraced sent (AtServer server (servers.Arrives message)) = ⊥
+IsTraced sent (AtServer server input) = Unit {0}
+IsTraced sent (AtClient client (clients.Arrives from response)) = ⊥
+IsTraced sent (AtClient client input) = Unit {0}

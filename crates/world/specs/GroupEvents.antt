@@ -40,6 +40,12 @@ group_event (events.Client client input) = AtClient client (client_input input.v
 abbrev pub group_events : List GroupEvent → List Event
 group_events = map group_event
 
+-- it is an input of its actor's own
+abbrev pub HasInput : Event → Type 0
+HasInput (Deliver place) = ⊥
+HasInput (AtServer server input) = Unit {0}
+HasInput (AtClient client input) = Unit {0}
+
 -- ---- what a server's workers get
 
 abbrev pub turn_work : Result Turn Refusal → List Work

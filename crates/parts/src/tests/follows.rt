@@ -113,6 +113,38 @@ beat 1 3
 expire 1 0 3
 expire 1 1 3";
 
+// `moves NODE LINE`: a turn of the node's drain proposes the command of that line, `-` for none.
+// `turned NODE N`: it is refused with N.
+const DRAINED: &str = "\
+noop
+join 1 linux 1000 1000
+join 2 linux 1000 1000
+put web 50 main:2:linux:400:300
+plan 4.0 1.1 web 4 - main:0:1:400:300,main:1:1:400:300
+turned 1 3
+open
+turned 1 20
+turned 3 9
+drain 1 slow
+moves 1 migrate 5.0
+drain 1 force
+moves 1 migrate 5.0,5.1
+migrate 5.0
+moves 1 migrate 5.1
+drain 1 slow
+moves 1 -
+report 1 5.0:complete
+moves 1 migrate 5.1
+turned 2 20
+report 1 5.1:failed
+moves 1 drained 1
+drained 1
+turned 1 20
+drain 2 force
+moves 2 drained 2
+close
+turned 2 3";
+
 #[derive(Drop)]
 struct Followed {
     state: Cluster,
@@ -221,6 +253,37 @@ fn expires(desk: &Desk, words: &str) -> bool {
     number(desk.expire(node, beats)) == wanted
 }
 
+// Whether a turn of a node's drain proposes the command of a line.
+fn moves(parts: &Followed, alloc: Global, words: &str) -> bool {
+    let (node, line) = words.split_once(' ').unwrap_or((words, ""));
+    let Some(node) = node_of(node.parse::<usize>().unwrap_or(0)) else {
+        return false;
+    };
+    let mut wanted = Vec::new(alloc);
+    let mut bytes = Vec::new(alloc);
+    match parts.desk.drain_turn(node, &parts.state) {
+        Ok(Some(command)) => {
+            put_line(&mut wanted, line)
+                && Cluster::write_command(&command, &mut bytes).is_ok()
+                && bytes == wanted
+        }
+        Ok(None) => line == "-",
+        Err(_) => false,
+    }
+}
+
+// Whether a turn of a node's drain is refused with a number.
+fn turned(parts: &Followed, words: &str) -> bool {
+    let [node, wanted, _, _] = numbers(words);
+    let Some(node) = node_of(node) else {
+        return false;
+    };
+    match parts.desk.drain_turn(node, &parts.state).err() {
+        Some(refusal) => usize::from(refusal.number()) == wanted,
+        None => false,
+    }
+}
+
 fn turn(parts: &mut Followed, alloc: Global, line: &str) -> bool {
     let (head, word) = line.split_once(' ').unwrap_or((line, ""));
     match head {
@@ -232,6 +295,8 @@ fn turn(parts: &mut Followed, alloc: Global, line: &str) -> bool {
         "close" => closes(&mut parts.desk),
         "beat" => hears(&mut parts.desk, word),
         "expire" => expires(&parts.desk, word),
+        "moves" => moves(parts, alloc, word),
+        "turned" => turned(parts, word),
         _ => takes(parts, alloc, line),
     }
 }
@@ -250,7 +315,7 @@ fn start(alloc: Global) -> Option<Followed> {
 
 #[test]
 fn parts_follow_the_state(rt: HostRuntime) {
-    for table in [RUN, HEARD] {
+    for table in [RUN, HEARD, DRAINED] {
         let Some(mut parts) = start(rt.alloc()) else {
             panic!(rt; "no memory")
         };

@@ -1,5 +1,5 @@
 -- What the parts of a step do, on a server that is up.
-use Rattle.std.specs.Prelude.{◌≡◌, ℕ, true, List, length, take, None, Result, Ok, Err}
+use Rattle.std.specs.Prelude.{◌≡◌, ℕ, true, List, length, take, Option, Some, None, Result, Ok, Err}
 use Rattle.rows.specs.declared.command.Command.{Command}
 use Rattle.rows.specs.declared.refusal.Refusal.{Refusal}
 use Rattle.rows.specs.declared.refusal.Refusal.TheVariants as refusals
@@ -12,10 +12,12 @@ use Rattle.raft_model.specs.Servers.{Server, is_leader, crashed, extended}
 use Rattle.raft_model.specs.Steps as raft_steps
 use Rattle.cluster_model.specs.ClusterMachine.{cluster_meaning}
 use Rattle.group_model.specs.Messages.{ClientRequest}
-use Rattle.group_model.specs.Inputs.{Input, TakeFrom, SubmitTo, FinishAt, NackAt, Act}
+use Rattle.group_model.specs.Desks.{Desk}
+use Rattle.group_model.specs.Inputs.{Input, TakeFrom, SubmitTo, FinishAt, NackAt, Act, AskPropose, rests, asks}
+use Rattle.group_model.specs.Turns.{drain_turn}
 use Rattle.group_model.specs.WorkerRequests.{serves_request, hands_out}
 use Rattle.group_model.specs.ClientRequests.{serves_client, writes}
-use Rattle.group_model.specs.Members.{Member, open_desk, acts, done}
+use Rattle.group_model.specs.Members.{Member, open_or, open_desk, at_desk, acts, done}
 use Rattle.server.specs.declared.server.Outbox.{Outbox}
 use Rattle.server.specs.ServerViews.{ServerView, SameMember, group_desk}
 use Rattle.server.specs.Turns.{TakesTurn}
@@ -102,3 +104,14 @@ pub record IsProposed (s : Server Command) (c : Command) (new : Server Command) 
 abbrev pub WhyNotProposed : Server Command → Command → Refusal → Type 0
 WhyNotProposed s c refusals.NoMemory = is_leader s.mode ≡ true
 WhyNotProposed s c cause = raft_steps.proposes cluster_meaning s c ≡ Err cause
+
+-- ---- a turn of a node's drain
+
+-- that of a leader with this desk
+abbrev pub drain_at : Server Command → Option Desk → ℕ → Result Act Refusal
+drain_at s d node = at_desk (open_or d) (λ o. drain_turn s o node)
+
+-- the command, if there is one, is proposed
+abbrev pub proposes_if_any : Option Desk → Option Command → Act
+proposes_if_any d None = rests d
+proposes_if_any d (Some c) = asks (AskPropose c) d

@@ -24,10 +24,11 @@ impl Server {
     /// the last index is 2^40 - 1. A request needs a leader, and a turn of the desk an open desk:
     /// `NotLeader` with the leader that it knows, then `NotOpen`. A Lapse is refused with
     /// `NotOutstanding`; an Expire with `UnknownNode` where the desk counts no heartbeats of the
-    /// node, and with `StaleExpiry` where it was heard of another number of times. What is proposed
-    /// may be refused as `Raft::propose` refuses it. A refusal changes nothing and sends nothing.
-    /// With `NoMemory` the server is down, with its stored part as it was and nothing sent; a
-    /// Restart changes nothing then.
+    /// node, and with `StaleExpiry` where it was heard of another number of times; a DrainTurn, by
+    /// the state after the whole log, with `UnknownNode` where there is no such node, and with
+    /// `NotDraining` where it is not drained. What is proposed may be refused as `Raft::propose`
+    /// refuses it. A refusal changes nothing and sends nothing. With `NoMemory` the server is down,
+    /// with its stored part as it was and nothing sent; a Restart changes nothing then.
     pub fn step(&mut self, input: ServerInput, outbox: &mut Outbox) -> Result<(), Refusal>
         ensures same { (self.new.raft.me ≡ self.old.raft.me)
             × (self.new.raft.size ≡ self.old.raft.size) }
@@ -106,6 +107,7 @@ impl Server {
             ServerInput::PlanTurn => self.plan_turn(outbox),
             ServerInput::Lapse(eval) => self.lapse(eval),
             ServerInput::Expire(node, beats) => self.expire(node, beats),
+            ServerInput::DrainTurn(node) => self.drain_turn(node),
             ServerInput::FreeTurn => self.free_turn(),
             ServerInput::Reap => self.reap(),
             ServerInput::Crash => self.step_log(Input::Crash, outbox),

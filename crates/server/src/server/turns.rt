@@ -1,15 +1,17 @@
 //! Turns of the desk.
-ghost use Rattle.std.specs.Prelude.{◌≡◌, true, is_some, option_map, None, Ok, OnOk, OnErr, IfOk, IfErr, IfSome};
+ghost use Rattle.std.specs.Prelude.{◌≡◌, ◌⊎◌, true, is_some, option_map, None, Ok, Err, OnOk, OnErr, IfOk, IfErr, IfSome};
 ghost use Rattle.raft_model.specs.Servers.{is_up, is_leader};
 ghost use Rattle.raft_core.specs.RaftView.{SameServer};
 ghost use Rattle.rows.specs.Keys.{eval_id};
+ghost use Rattle.rows.specs.declared.refusal.Refusal.TheVariants as refusals;
 ghost use Rattle.group_model.specs.Blocked.{first_due};
 ghost use Rattle.group_model.specs.Desks.{applied_state, whole_state};
 ghost use Rattle.leader.specs.OpenDesks.{IsOverBlocked, if_open, at_open, on_reap};
 ghost use Rattle.leader.specs.Verdicts.{judged_by, IsProposal, on_plan_turn};
-ghost use Rattle.group_model.specs.Inputs.{PlanTurn, Lapse, Expire, FreeTurn, Reap};
+ghost use Rattle.group_model.specs.Inputs.{PlanTurn, Lapse, Expire, DrainTurn, FreeTurn, Reap};
 ghost use Rattle.server.specs.declared.server.Outbox.{Outbox as AnyOutbox};
-ghost use Rattle.server.specs.Inner.Acts.{DoesAct, DeclinesOwn, act_of};
+ghost use Rattle.server.specs.ServerViews.{group_desk};
+ghost use Rattle.server.specs.Inner.Acts.{DoesAct, DeclinesOwn, act_of, drain_at, proposes_if_any};
 
 use super::{Outbox, Server};
 use fsm_state::Cluster;
@@ -40,6 +42,26 @@ fn judge_first(raft: &mut Raft<Cluster>, desk: &mut Desk) -> Result<Option<Judge
             desk.clear();
             Err(NoMemory)
         }
+    }
+}
+
+/// What is proposed of a node's drain, if anything is, by the state after the leader's whole log.
+fn drain_step(
+    raft: &mut Raft<Cluster>,
+    desk: &Desk,
+    node: NodeId,
+) -> Result<Option<Command>, Refusal>
+    requires leads { is_leader raft.old.server.mode ≡ true }
+    requires is_open { is_some desk.now ≡ true }
+    ensures same { SameServer raft.old raft.new }
+    ensures value { let d = group_desk desk.now in
+        IfOk result (λ c. drain_at raft.old.server d node ≡ Ok (proposes_if_any d c)) }
+    ensures err { let turn = drain_at raft.old.server (group_desk desk.now) node in
+        IfErr result (λ e. (e ≡ refusals.NoMemory) ⊎ (turn ≡ Err e)) }
+{
+    match raft.projected() {
+        Ok(whole) => desk.drain_turn(node, whole),
+        Err(_) => Err(Refusal::NoMemory),
     }
 }
 
@@ -125,6 +147,23 @@ impl Server {
         self.open_desk()?;
         self.desk.desk.expire(node, beats)?;
         self.propose(Command::NodeDown(node))
+    }
+
+    /// A node's drain is proposed as done, or its next moves are, if there are any.
+    pub(super) fn drain_turn(&mut self, node: NodeId) -> Result<(), Refusal>
+        requires { is_up self.old.raft.server.mode ≡ true }
+        ensures same { (self.new.raft.me ≡ self.old.raft.me)
+            × (self.new.raft.size ≡ self.old.raft.size) }
+        ensures taken { OnOk result ((out : AnyOutbox) →
+            DoesAct self.old (act_of self.old (DrainTurn node)) self.new out out) }
+        ensures stopped { IfErr result (λ cause. (out : AnyOutbox) →
+            DeclinesOwn self.old (DrainTurn node) cause self.new out out) }
+    {
+        self.open_desk()?;
+        match drain_step(&mut self.raft, &self.desk.desk, node)? {
+            Some(command) => self.propose(command),
+            None => Ok(()),
+        }
     }
 
     /// The first evaluation that is due, if there is one, is proposed as pending.

@@ -1,11 +1,11 @@
 //! What can happen to a group of servers and clients.
-ghost use Rattle.std.specs.Prelude.{◌≡◌, IfOk};
+ghost use Rattle.std.specs.Prelude.{◌≡◌, IfOk, OnErr};
 ghost use Rattle.rows.specs.Fits.{CommandFits};
 ghost use Rattle.rows.specs.Requests.{command_of};
 ghost use Rattle.group_model.specs.Worlds.{AtServer, AtClient};
 ghost use Rattle.group_safety.specs.Limits.{InputFits};
 ghost use Rattle.server.specs.Handings.{handing};
-ghost use Rattle.world.specs.GroupEvents.{server_input, client_input, group_event};
+ghost use Rattle.world.specs.GroupEvents.{server_input, client_input, group_event, HasInput};
 ghost use Rattle.world.specs.Inner.GroupInputs.{is_frame, is_restart_input, is_client_frame, is_client_restart};
 
 use client_agent::ClientInput;
@@ -42,9 +42,11 @@ impl Event {
         Ok(Event::Client(client, Box::new(alloc, input)?))
     }
 
-    /// The same event once more.
+    /// The same event once more. Memory may be wanting for an event with an input, never for a
+    /// delivery.
     pub fn try_clone(&self, alloc: Global) -> Result<Event, NoMemory>
-        ensures { IfOk result (λ again. group_event again ≡ group_event self.now) }
+        ensures same { IfOk result (λ again. group_event again ≡ group_event self.now) }
+        ensures memory { OnErr result (HasInput (group_event self.now)) }
     {
         match self {
             Event::Deliver(k) => Ok(Event::Deliver(*k)),

@@ -1,20 +1,21 @@
 //! A group of servers and clients in one value.
 ghost use Rattle.std.specs.Prelude.{◌≡◌, ◌≢◌, ℕ, ◌<◌, ◌≤◌, suc, false, Some, None, Err, length, replicate, slice_get, [], IfOk, OnErr, IfErr, IfSome, IfNone, MatchBool, List};
 ghost use Rattle.std.specs.Option.{option_copied};
-ghost use Rattle.std.specs.List.{AllZip};
+ghost use Rattle.std.specs.List.{AllZip, AllByRecursion};
 ghost use Rattle.rows.specs.declared.refusal.Refusal.TheVariants as refusals;
 ghost use Rattle.rows.specs.declared.actor.Actor.TheVariants as actors;
 ghost use Rattle.group_model.specs.Members.{newcomer};
 ghost use Rattle.group_model.specs.Clients.{agent_of};
 ghost use Rattle.group_model.specs.Worlds.{Deliver, AtServer, AtClient};
+ghost use Rattle.group_safety.specs.Limits.{NodesFit};
 ghost use Rattle.server.specs.Handings.{handing};
 ghost use Rattle.server.specs.ServerViews.{ServerView, IsMember};
 ghost use Rattle.world.specs.WorldView.{IsGroup};
 ghost use Rattle.world.specs.Events.{place_of};
 ghost use Rattle.world.specs.GroupEvents.{server_input, client_input, group_event, group_events};
-ghost use Rattle.world.specs.GroupView.{client_view};
+ghost use Rattle.world.specs.GroupView.{client_view, nodes_of, ClientsKnowPlaces};
 ghost use Rattle.world.specs.GroupSteps.{IsGroupDone, SameGroup, RefusesGroupEvent, IsGroupAwake, IsNewGroup, WhyNoGroup, GroupPlayed, GroupReplays};
-ghost use Rattle.world.specs.GroupClaims.{OneGroupList, SafeGroupStates, BackedPlans, PlacedStarts, GroupHeadline, IsGreatestEver};
+ghost use Rattle.world.specs.GroupClaims.{OneGroupList, SafeGroupStates, BackedPlans, PlacedStarts, GroupHeadline, IsGreatestEver, IsTraced};
 ghost use Rattle.world.specs.Inner.GroupInputs.{new_agents, is_frame, is_client_frame, IsSentTo};
 ghost use Rattle.world.specs.Inner.GroupParts.{GroupStepped};
 
@@ -466,7 +467,9 @@ impl World {
     /// The events that happened, in order, with a crash in place of each in which an actor found no
     /// memory.
     pub fn trace(&self) -> &[Event]
-        ensures { group_events result.now ≡ self.now.trace }
+        ensures value { group_events result.now ≡ self.now.trace }
+        // Each is a delivery of a message that was sent, or an input of its actor's own.
+        ensures own { AllByRecursion (IsTraced (length self.now.outbox.frames)) self.now.trace }
     {
         self.history.trace()
     }
@@ -495,6 +498,15 @@ impl World {
         self.history.take_work()
     }
 
+    /// How many servers there are: 3 or 5.
+    pub fn size(&self) -> usize
+        ensures value { result ≡ length self.now.servers }
+        ensures group { IsGroup result }
+    {
+        self.group_size();
+        self.servers.len()
+    }
+
     /// A server; none where the group has fewer.
     pub fn server(&self, server: ServerId) -> Option<&Server>
         ensures { option_copied result ≡ slice_get self.now.servers server }
@@ -507,5 +519,14 @@ impl World {
         ensures { option_copied result ≡ client_view self.now.clients client }
     {
         self.clients.get(place_of_client(client))
+    }
+
+    /// The clients in the order of their nodes: the k-th, from 1, is that of node k. At most 64.
+    pub fn clients(&self) -> &[Agent]
+        ensures clients { result.now ≡ self.now.clients }
+        ensures places { ClientsKnowPlaces self.now }
+        ensures nodes { NodesFit (nodes_of self.now) }
+    {
+        &self.clients
     }
 }

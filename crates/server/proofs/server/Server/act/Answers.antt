@@ -1,5 +1,5 @@
 use Rattle.std.proofs.Common.{ap}
-use Rattle.group_model.specs.Inputs.{Lapse, Expire, FreeTurn, Reap}
+use Rattle.group_model.specs.Inputs.{Lapse, Expire, DrainTurn, FreeTurn, Reap}
 use Rattle.server.specs.Handings.{handing}
 use Rattle.server.proofs.Handings.{silent_taken, silent_admitted, silent_declined}
 use Rattle.server.proofs.server.Server.act.Goals as goal
@@ -27,6 +27,18 @@ returns-in-Expire-clause-admitted c =
 pub returns-in-Expire-clause-stopped : goal.returns-in-Expire-clause-stopped
 returns-in-Expire-clause-stopped c =
     silent_declined c.args.self.now c.expire.new.self (handing c.args.input) (Expire c.in-Expire.node c.in-Expire.beats) (ap handing c.in-Expire.is) c.requires c.args.outbox.now c.expire.result c.expire.ensures.stopped
+
+pub returns-in-DrainTurn-clause-taken : goal.returns-in-DrainTurn-clause-taken
+returns-in-DrainTurn-clause-taken c =
+    silent_taken c.args.self.now c.drain_turn.new.self (handing c.args.input) (DrainTurn c.in-DrainTurn.node) (ap handing c.in-DrainTurn.is) c.requires c.args.outbox.now c.drain_turn.result c.drain_turn.ensures.taken
+
+pub returns-in-DrainTurn-clause-admitted : goal.returns-in-DrainTurn-clause-admitted
+returns-in-DrainTurn-clause-admitted c =
+    silent_admitted c.args.self.now c.drain_turn.new.self (handing c.args.input) (DrainTurn c.in-DrainTurn.node) (ap handing c.in-DrainTurn.is) c.requires c.args.outbox.now c.drain_turn.result c.drain_turn.ensures.taken
+
+pub returns-in-DrainTurn-clause-stopped : goal.returns-in-DrainTurn-clause-stopped
+returns-in-DrainTurn-clause-stopped c =
+    silent_declined c.args.self.now c.drain_turn.new.self (handing c.args.input) (DrainTurn c.in-DrainTurn.node) (ap handing c.in-DrainTurn.is) c.requires c.args.outbox.now c.drain_turn.result c.drain_turn.ensures.stopped
 
 pub returns-in-FreeTurn-clause-taken : goal.returns-in-FreeTurn-clause-taken
 returns-in-FreeTurn-clause-taken c =

@@ -1,0 +1,78 @@
+//! What stands beside an actor that takes an input of its own, in the words of a transcript.
+use crate::label::{eval_label, finish_label, plain, plan_label};
+use client_agent::ClientInput;
+use rows::{AllocId, NoMemory, OperatorRequest, ServerId};
+use server::ServerInput;
+use std::alloc::Global;
+use world::Event;
+
+/// The label of an event that is no delivery; a delivery has none here.
+pub(crate) fn event_label(alloc: Global, event: &Event) -> Result<String, NoMemory> {
+    match event {
+        Event::Deliver(_) => plain(alloc, ""),
+        Event::Server(_, input) => server_label(alloc, input.as_ref()),
+        Event::Client(_, input) => client_label(alloc, input.as_ref()),
+    }
+}
+
+fn server_label(alloc: Global, input: &ServerInput) -> Result<String, NoMemory> {
+    match input {
+        ServerInput::Frame(_) => plain(alloc, "frame"),
+        ServerInput::Timeout => plain(alloc, "timeout"),
+        ServerInput::Beat => plain(alloc, "beat"),
+        ServerInput::Request(request) => operator_label(alloc, request),
+        ServerInput::Take(to) => to_label(alloc, "take", *to),
+        ServerInput::Submit(_, plan) => plan_label(alloc, "submit", plan),
+        ServerInput::Finish(_, eval, _, outcome) => finish_label(alloc, "finish", eval, outcome),
+        ServerInput::Nack(_, eval, _) => eval_label(alloc, "nack", eval),
+        ServerInput::PlanTurn => plain(alloc, "plan"),
+        ServerInput::Lapse(eval) => eval_label(alloc, "lapse", eval),
+        ServerInput::Expire(node, beats) => {
+            let node = node.number();
+            Ok(format!(in alloc; "expire {node} {beats}")?)
+        }
+        ServerInput::DrainTurn(node) => {
+            let node = node.number();
+            Ok(format!(in alloc; "drain {node}")?)
+        }
+        ServerInput::FreeTurn => plain(alloc, "free"),
+        ServerInput::Reap => plain(alloc, "reap"),
+        ServerInput::Crash => plain(alloc, "crash"),
+        ServerInput::Restart => plain(alloc, "restart"),
+    }
+}
+
+fn client_label(alloc: Global, input: &ClientInput) -> Result<String, NoMemory> {
+    match input {
+        ClientInput::Frame(_) => plain(alloc, "frame"),
+        ClientInput::Register(to) => to_label(alloc, "register", *to),
+        ClientInput::Ping(to) => to_label(alloc, "ping", *to),
+        ClientInput::Pull(to) => to_label(alloc, "pull", *to),
+        ClientInput::End(id, ok) => end_label(alloc, id, *ok),
+        ClientInput::Crash => plain(alloc, "crash"),
+        ClientInput::Restart => plain(alloc, "restart"),
+    }
+}
+
+fn to_label(alloc: Global, word: &str, to: ServerId) -> Result<String, NoMemory> {
+    Ok(format!(in alloc; "{word} S{to}")?)
+}
+
+fn end_label(alloc: Global, id: &AllocId, ok: bool) -> Result<String, NoMemory> {
+    let (entry, slot) = (id.index.get(), id.slot.get());
+    let word = if ok { "complete" } else { "failed" };
+    Ok(format!(in alloc; "end {entry}.{slot} {word}")?)
+}
+
+fn operator_label(alloc: Global, request: &OperatorRequest) -> Result<String, NoMemory> {
+    match request {
+        OperatorRequest::PutJob(job) => Ok(format!(in alloc; "put {}", job.name)?),
+        OperatorRequest::StopJob(name) => Ok(format!(in alloc; "stop {name}")?),
+        OperatorRequest::PutEval(name) => Ok(format!(in alloc; "eval {name}")?),
+        OperatorRequest::DrainNode(node, force) => {
+            let number = node.number();
+            let end = if *force { "force" } else { "slow" };
+            Ok(format!(in alloc; "drain {number} {end}")?)
+        }
+    }
+}

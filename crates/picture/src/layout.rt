@@ -1,0 +1,262 @@
+//! Where everything stands, in pixels from the upper left corner.
+ghost use Rattle.std.specs.Prelude.{◌≡◌, ◌<◌, ◌+◌, ◌*◌};
+
+use crate::record::{Record, Sending};
+use rows::NoMemory;
+use std::alloc::Global;
+
+// Where the first lifeline stands, and how far each is from the one before it.
+const FIRST: u64 = 260;
+
+const COLUMN: u64 = 150;
+
+// How much stands right of the last lifeline.
+const RIGHT: u64 = 200;
+
+// Where the names of the lifelines stand, and where the first event does.
+const HEAD: u64 = 64;
+
+const FIRST_ROW: u64 = 94;
+
+/// How far an event is from the one before it.
+pub(crate) const ROW: u64 = 22;
+
+/// How far two lost messages of one event stand from each other.
+pub(crate) const SLOT: u64 = 10;
+
+// How many events stand between two lines of names, and how much room such a line takes.
+const BAND_EVERY: usize = 40;
+
+const BAND: u64 = 26;
+
+/// A point of the picture.
+#[derive(Clone, Copy, Debug, PartialEq, Eq)]
+pub(crate) struct Point {
+    /// From the left edge.
+    pub x: u64,
+    /// From the upper edge.
+    pub y: u64,
+}
+
+impl Point {
+    /// The point that lies so much farther down.
+    pub(crate) fn down(self, by: u64) -> Point {
+        Point {
+            x: self.x,
+            y: self.y.saturating_add(by),
+        }
+    }
+
+    /// The point that lies so much farther up.
+    pub(crate) fn up(self, by: u64) -> Point {
+        Point {
+            x: self.x,
+            y: self.y.saturating_sub(by),
+        }
+    }
+
+    /// The point that lies so much farther to a side.
+    pub(crate) fn aside(self, side: Side, by: u64) -> Point {
+        let x = match side {
+            Side::Left => self.x.saturating_sub(by),
+            Side::Right => self.x.saturating_add(by),
+        };
+        Point { x, y: self.y }
+    }
+}
+
+/// A side of a lifeline.
+#[derive(Clone, Copy, Debug, PartialEq, Eq)]
+pub(crate) enum Side {
+    /// Towards the first lifeline.
+    Left,
+    /// Towards the last one.
+    Right,
+}
+
+impl Side {
+    /// The side of one lifeline on which another stands; of its own, the right one.
+    pub(crate) fn towards(from: usize, to: usize) -> Side {
+        if to < from { Side::Left } else { Side::Right }
+    }
+
+    /// The other side.
+    pub(crate) fn other(self) -> Side {
+        match self {
+            Side::Left => Side::Right,
+            Side::Right => Side::Left,
+        }
+    }
+}
+
+/// Where a lifeline stands, from the left edge; of the 69 that there may be, each right of the one
+/// before it.
+pub(crate) fn x_of(column: usize) -> u64
+    ensures { column < 69 → result ≡ 150 * column + 260 }
+{
+    COLUMN.saturating_mul(column as u64).saturating_add(FIRST)
+}
+
+/// Whether the names of the lifelines stand once more above an event.
+pub(crate) fn has_band(row: usize) -> bool {
+    row > 0 && row % BAND_EVERY == 0
+}
+
+// The lost messages of one event, on each side of its actor.
+#[derive(Clone, Copy, Debug)]
+struct Fan {
+    row: usize,
+    left: u64,
+    right: u64,
+}
+
+impl Fan {
+    fn at(row: usize) -> Fan {
+        Fan {
+            row,
+            left: 0,
+            right: 0,
+        }
+    }
+
+    // Which of those on its side a message is, from 0.
+    fn place(&mut self, sending: &Sending) -> u64 {
+        if self.row != sending.row {
+            *self = Fan::at(sending.row);
+        }
+        if sending.came {
+            return 0;
+        }
+        let count = match Side::towards(sending.from, sending.to) {
+            Side::Left => &mut self.left,
+            Side::Right => &mut self.right,
+        };
+        let place = *count;
+        *count = place.saturating_add(1);
+        place
+    }
+}
+
+/// Where the events and the lost messages of a run stand. It takes memory in proportion to them.
+#[derive(Drop)]
+pub(crate) struct Layout {
+    // How far down each event stands.
+    tops: Vec<u64>,
+    // Which of its event's lost messages on its side each message is.
+    slots: Vec<u64>,
+    // Where the lifelines end.
+    bottom: u64,
+    columns: usize,
+}
+
+impl Layout {
+    /// The layout of what is noted.
+    pub(crate) fn new(alloc: Global, record: &Record) -> Result<Layout, NoMemory> {
+        let slots = slots_of(alloc, &record.sendings)?;
+        let depths = depths_of(alloc, record, &slots)?;
+        let tops = tops_of(alloc, &depths)?;
+        let last = match tops.last() {
+            Some(top) => *top,
+            None => FIRST_ROW,
+        };
+        let deepest = depths.last().copied().unwrap_or(0);
+        Ok(Layout {
+            tops,
+            slots,
+            bottom: last.saturating_add(height_of(deepest)),
+            columns: record.columns(),
+        })
+    }
+
+    /// How far down an event stands.
+    pub(crate) fn y_of(&self, row: usize) -> u64 {
+        self.tops.get(row).copied().unwrap_or(self.bottom)
+    }
+
+    /// The place of an event on a lifeline.
+    pub(crate) fn at(&self, column: usize, row: usize) -> Point {
+        Point {
+            x: x_of(column),
+            y: self.y_of(row),
+        }
+    }
+
+    /// Which of its event's lost messages on its side a message is, from 0.
+    pub(crate) fn slot_of(&self, message: usize) -> u64 {
+        self.slots.get(message).copied().unwrap_or(0)
+    }
+
+    /// Where the lifelines begin and where they end.
+    pub(crate) fn ends(&self, column: usize) -> (Point, Point) {
+        let x = x_of(column);
+        let top = Point { x, y: HEAD };
+        (top.down(6), Point { x, y: self.bottom })
+    }
+
+    /// The place of the name of a lifeline.
+    pub(crate) fn name_at(&self, column: usize) -> Point {
+        Point {
+            x: x_of(column),
+            y: HEAD,
+        }
+    }
+
+    /// The place of the name of a lifeline above an event.
+    pub(crate) fn band_at(&self, column: usize, row: usize) -> Point {
+        self.at(column, row).up(ROW)
+    }
+
+    /// The width and the height of the picture.
+    pub(crate) fn size(&self) -> (u64, u64) {
+        let last = x_of(self.columns.saturating_sub(1));
+        (last.saturating_add(RIGHT), self.bottom.saturating_add(ROW))
+    }
+}
+
+// Which of its event's lost messages on its side each message is.
+fn slots_of(alloc: Global, sendings: &[Sending]) -> Result<Vec<u64>, NoMemory> {
+    let mut fan = Fan::at(0);
+    let mut slots = Vec::new(alloc);
+    for sending in sendings {
+        slots.push(fan.place(sending))?;
+    }
+    Ok(slots)
+}
+
+// How many lost messages stand below each other at each event, less one.
+fn depths_of(alloc: Global, record: &Record, slots: &[u64]) -> Result<Vec<u64>, NoMemory> {
+    let mut depths = nothing_at(alloc, record.steps.len())?;
+    for (sending, slot) in record.sendings.iter().zip(slots) {
+        if let Some(depth) = depths.get_mut(sending.row) {
+            *depth = (*depth).max(*slot);
+        }
+    }
+    Ok(depths)
+}
+
+fn nothing_at(alloc: Global, rows: usize) -> Result<Vec<u64>, NoMemory> {
+    let mut depths = Vec::new(alloc);
+    for _ in 0..rows {
+        depths.push(0)?;
+    }
+    Ok(depths)
+}
+
+// How far down each event stands.
+fn tops_of(alloc: Global, depths: &[u64]) -> Result<Vec<u64>, NoMemory> {
+    let mut tops = Vec::new(alloc);
+    let mut y = FIRST_ROW;
+    for (row, depth) in depths.iter().enumerate() {
+        if has_band(row) {
+            y = y.saturating_add(BAND);
+        }
+        tops.push(y)?;
+        y = y.saturating_add(height_of(*depth));
+    }
+    Ok(tops)
+}
+
+// How far the next event is from one with so many lost messages below each other, less one.
+fn height_of(depth: u64) -> u64 {
+    depth.saturating_mul(SLOT).saturating_add(ROW)
+}

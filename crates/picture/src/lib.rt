@@ -1,0 +1,19 @@
+//! A picture of a run, as SVG: who sent what to whom and when it came, who led in which term, what
+//! was committed, and who crashed and came back.
+#![tactic(auto)]
+
+mod drawing;
+mod escape;
+mod fault;
+mod ink;
+mod input_label;
+mod label;
+mod layout;
+mod lifeline;
+mod note;
+mod record;
+mod row;
+mod svg;
+
+pub use drawing::draw;
+pub use fault::DrawError;

@@ -1,0 +1,138 @@
+//! What stands in the row of one event: its number, its mark on the lifeline, and its label.
+use crate::fault::DrawError;
+use crate::ink::{Ink, Spot, Stroke};
+use crate::input_label::event_label;
+use crate::label::message_label;
+use crate::layout::{Layout, Point, Side};
+use crate::note::{commits, note_of};
+use crate::record::{Record, Step};
+use crate::svg::{circle, cross, label, line, width_of};
+use rows::NoMemory;
+use std::alloc::Global;
+use std::io::Write;
+use wire::Frames;
+use world::Event;
+
+// Where the numbers of events and of messages end.
+const EVENT: u64 = 34;
+
+const MESSAGE: u64 = 70;
+
+/// The label of a message that was sent, by its place among all; empty where there is none.
+pub(crate) fn sent_label(alloc: Global, sent: &Frames, place: usize) -> Result<String, NoMemory> {
+    match sent.get(place) {
+        Some(frame) => message_label(alloc, frame.bytes()),
+        None => Ok(String::new(alloc)),
+    }
+}
+
+/// Draws the row of an event.
+pub(crate) fn draw_row<W: Write>(
+    alloc: Global,
+    out: &mut W,
+    record: &Record,
+    layout: &Layout,
+    sent: &Frames,
+    row: usize,
+    step: &Step,
+    event: &Event,
+) -> Result<(), DrawError> {
+    let y = layout.y_of(row);
+    draw_numbers(alloc, out, y, row, step)?;
+    let side = side_of(record, step);
+    let at = match step.column {
+        Some(column) => layout.at(column, row),
+        None => Point { x: MESSAGE, y },
+    };
+    if step.column.is_some() {
+        draw_mark(out, at, step)?;
+    }
+    let at = at.aside(side, 9).up(3);
+    let note = note_of(alloc, step.before, step.after)?;
+    label(alloc, out, at, side, Ink::Note, &note)?;
+    let shift = shift_of(&note);
+    let (ink, text) = said_of(alloc, sent, step, event)?;
+    label(alloc, out, at.aside(side, shift), side, ink, &text)
+}
+
+// How much room a note takes.
+fn shift_of(note: &str) -> u64 {
+    if note.is_empty() {
+        0
+    } else {
+        width_of(Ink::Note, note).saturating_add(6)
+    }
+}
+
+// The number of the event, and that of the message that came.
+fn draw_numbers<W: Write>(
+    alloc: Global,
+    out: &mut W,
+    y: u64,
+    row: usize,
+    step: &Step,
+) -> Result<(), DrawError> {
+    let number = format!(in alloc; "{}", row.saturating_add(1))?;
+    let at = Point { x: EVENT, y };
+    label(alloc, out, at.down(3), Side::Left, Ink::Number, &number)?;
+    let Some(place) = step.message else {
+        return Ok(());
+    };
+    let number = format!(in alloc; "#{}", place.saturating_add(1))?;
+    let at = Point { x: MESSAGE, y };
+    label(alloc, out, at.down(3), Side::Left, Ink::Number, &number)
+}
+
+// The side of a label: the one that the message does not come from, where no arrow of the event
+// stands above its row; else the right one.
+fn side_of(record: &Record, step: &Step) -> Side {
+    let (Some(place), Some(column)) = (step.message, step.column) else {
+        return Side::Right;
+    };
+    match record.sendings.get(place) {
+        Some(sending) => Side::towards(column, sending.from).other(),
+        None => Side::Right,
+    }
+}
+
+// The label of an event.
+fn said_of(
+    alloc: Global,
+    sent: &Frames,
+    step: &Step,
+    event: &Event,
+) -> Result<(Ink, String), NoMemory> {
+    if let Some(number) = step.refusal {
+        return Ok((Ink::Refused, refused_label(alloc, number, event)?));
+    }
+    match step.message {
+        Some(place) => Ok((Ink::Message, sent_label(alloc, sent, place)?)),
+        None => Ok((Ink::Input, event_label(alloc, event)?)),
+    }
+}
+
+// That an event was refused, why, and which input it was; a delivery has none.
+fn refused_label(alloc: Global, number: u8, event: &Event) -> Result<String, NoMemory> {
+    let input = event_label(alloc, event)?;
+    if input.is_empty() {
+        return Ok(format!(in alloc; "refused {number}")?);
+    }
+    Ok(format!(in alloc; "refused {number} {input}")?)
+}
+
+// The mark on the lifeline: a cross where the actor stops, a circle where it begins again, a tick
+// where it applies entries, else a dot.
+fn draw_mark<W: Write>(out: &mut W, at: Point, step: &Step) -> Result<(), DrawError> {
+    if step.refusal.is_some() {
+        return circle(out, at, Spot::Refused);
+    }
+    if commits(step.before, step.after) {
+        let left = at.aside(Side::Left, 8);
+        line(out, left, at.aside(Side::Right, 8), Stroke::Commit)?;
+    }
+    match (step.before.up, step.after.up) {
+        (true, false) => cross(out, at, 6, Stroke::Crash),
+        (false, true) => circle(out, at, Spot::Begins),
+        _ => circle(out, at, Spot::Event),
+    }
+}

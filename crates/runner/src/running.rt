@@ -1,0 +1,135 @@
+//! A scenario's file, played.
+ghost use Rattle.std.specs.Prelude.{◌≤◌, IfOk};
+ghost use Rattle.world.specs.WorldView.{IsGroup};
+
+use crate::ending::print_end;
+use crate::fault::{Fault, said};
+use crate::play::Play;
+use crate::reading::scenario;
+use crate::scenario::Scenario;
+use crate::shelf::{Shelf, ShelfFault};
+use crate::step::{Step, read_step};
+use rows::Refusal;
+use std::alloc::Global;
+use std::io::Write;
+use transcript::write;
+use world::World;
+
+/// Plays a scenario: says each refused step at once, writes the transcript where one is asked for,
+/// and then says how the group stands.
+pub(crate) fn run_file<'a, F: Shelf, W: Write>(
+    alloc: Global,
+    shelf: &mut F,
+    out: &mut W,
+    file: &'a str,
+    transcript: Option<&'a str>,
+) -> Result<u8, Fault<'a>>
+    ensures { IfOk result (λ status. status ≤ 1) }
+{
+    let scenario = load(alloc, shelf, file)?;
+    check_steps(alloc, &scenario)?;
+    let mut play = begin(alloc, &scenario)?;
+    let status = play_steps(alloc, out, &mut play, &scenario)?;
+    if let Some(name) = transcript {
+        save(alloc, shelf, play.world(), name)?;
+    }
+    print_end(alloc, out, play.world())?;
+    Ok(status)
+}
+
+// Takes each step, and says which are refused: 1 where one is.
+fn play_steps<'a, W: Write>(
+    alloc: Global,
+    out: &mut W,
+    play: &mut Play,
+    scenario: &Scenario,
+) -> Result<u8, Fault<'a>>
+    ensures { IfOk result (λ status. status ≤ 1) }
+{
+    let mut status = 0;
+    for line in &scenario.steps {
+        let step = step_of(alloc, line.as_str())?;
+        if let Err(refusal) = play.take(step) {
+            print_refusal(out, refusal, line.as_str())?;
+            status = 1;
+        }
+    }
+    Ok(status)
+}
+
+// Writes a group's transcript.
+fn save<'a, F: Shelf>(
+    alloc: Global,
+    shelf: &mut F,
+    world: &World,
+    name: &'a str,
+) -> Result<(), Fault<'a>> {
+    let text = write(alloc, world)?;
+    match shelf.write(name, text.as_slice()) {
+        Ok(()) => Ok(()),
+        Err(ShelfFault::NoMemory) => Err(Fault::NoMemory),
+        Err(ShelfFault::Failed) => Err(Fault::CannotWrite(name)),
+    }
+}
+
+/// All bytes of a file.
+pub(crate) fn load_bytes<'a, F: Shelf>(shelf: &mut F, file: &'a str) -> Result<Vec<u8>, Fault<'a>> {
+    match shelf.read(file) {
+        Ok(bytes) => Ok(bytes),
+        Err(ShelfFault::NoMemory) => Err(Fault::NoMemory),
+        Err(ShelfFault::Failed) => Err(Fault::CannotRead(file)),
+    }
+}
+
+fn load<'a, F: Shelf>(alloc: Global, shelf: &mut F, file: &'a str) -> Result<Scenario, Fault<'a>>
+    ensures { IfOk result (λ scenario. IsGroup scenario.settings.servers) }
+{
+    let bytes = load_bytes(shelf, file)?;
+    let Ok(text) = std::str::from_utf8(bytes.as_slice()) else {
+        return Err(Fault::BadScenario);
+    };
+    match scenario(alloc, text) {
+        Ok(scenario) => Ok(scenario),
+        Err(Refusal::NoMemory) => Err(Fault::NoMemory),
+        Err(_) => Err(Fault::BadScenario),
+    }
+}
+
+fn step_of<'a>(alloc: Global, line: &str) -> Result<Step, Fault<'a>> {
+    match read_step(alloc, line)? {
+        Some(step) => Ok(step),
+        None => Err(Fault::BadScenario),
+    }
+}
+
+// Each line is read before the first step is taken, and once more when its step is: a step may hold
+// a plan, so a list of them all would cost more than the lines do.
+fn check_steps<'a>(alloc: Global, scenario: &Scenario) -> Result<(), Fault<'a>> {
+    for line in &scenario.steps {
+        let _step = step_of(alloc, line.as_str())?;
+    }
+    Ok(())
+}
+
+fn begin<'a>(alloc: Global, scenario: &Scenario) -> Result<Play, Fault<'a>> {
+    match Play::new(alloc, scenario) {
+        Ok(play) => Ok(play),
+        Err(Refusal::NoMemory) => Err(Fault::NoMemory),
+        // A group of a scenario's size is made.
+        Err(_) => Err(Fault::BadScenario),
+    }
+}
+
+/// Says that a step or an event is refused. Want of memory is no refusal of it: it ends the run.
+pub(crate) fn print_refusal<'a, W: Write>(
+    out: &mut W,
+    refusal: Refusal,
+    line: &str,
+) -> Result<(), Fault<'a>> {
+    if refusal == Refusal::NoMemory {
+        return Err(Fault::NoMemory);
+    }
+    let number = refusal.number();
+    said(writeln!(out, "refused {number} {line}"))?;
+    said(out.flush())
+}

@@ -1,0 +1,7 @@
+pub mod CommaLists
+pub mod LineParts
+pub mod Words
+pub mod Written
+pub mod Printable
+pub mod Lines
+pub mod Records

@@ -1,0 +1,98 @@
+-- The lines of events.
+use Rattle.std.specs.Prelude.{◌≡◌, ◌+◌, ◌<◌, ◌^◌, ℕ, suc, Bool, true, false, List, [], ◌∷◌, codes, decimal}
+use Rattle.std.specs.List.{join_with_byte}
+use Rattle.rows.specs.Fits.{AllocIdFits, EvalIdFits, IndexFits, NodeIdFits, PlanFits, TokenFits}
+use Rattle.group_model.specs.Worlds.{Event, Deliver, AtServer, AtClient}
+use Rattle.group_model.specs.Inputs as servers
+use Rattle.group_model.specs.Clients as clients
+use Rattle.transcript.specs.Requests.{RequestFits, request_text}
+use Rattle.transcript.specs.WorkerLines.{EndFits, alloc_text, eval_text, token_text, plan_words, outcome_words}
+
+-- servers are numbered from 1 in text, and from 0 here
+abbrev pub server_text : ℕ → List ℕ
+server_text server = decimal (server + 1)
+
+-- what crashes or begins again: a client has a `c` before its number
+abbrev pub client_text : ℕ → List ℕ
+client_text client = 99 ∷ decimal client
+
+abbrev pub ServerFits : ℕ → Type 0
+ServerFits server = server < 5
+
+-- how an allocation ends
+abbrev pub end_text : Bool → List ℕ
+end_text true = codes "complete"
+end_text false = codes "failed"
+
+-- the words of an input of server s; no line says that a message arrives, or that a log is cut
+abbrev pub server_words : ℕ → servers.Input → List (List ℕ)
+server_words s (servers.Arrives message) = []
+server_words s servers.Timeout = codes "timeout" ∷ server_text s ∷ []
+server_words s servers.Beat = codes "beat" ∷ server_text s ∷ []
+server_words s (servers.Request request) = codes "request" ∷ server_text s ∷ request_text request ∷ []
+server_words s (servers.TakeFrom to) = codes "take" ∷ server_text s ∷ server_text to ∷ []
+server_words s (servers.SubmitTo to plan) = codes "submit" ∷ server_text s ∷ server_text to ∷ plan_words plan
+server_words s (servers.FinishAt to eval token outcome) =
+    codes "finish" ∷ server_text s ∷ server_text to ∷ eval_text eval ∷ token_text token ∷ outcome_words outcome
+server_words s (servers.NackAt to eval token) =
+    codes "nack" ∷ server_text s ∷ server_text to ∷ eval_text eval ∷ token_text token ∷ []
+server_words s servers.PlanTurn = codes "plan" ∷ server_text s ∷ []
+server_words s (servers.Lapse eval) = codes "lapse" ∷ server_text s ∷ eval_text eval ∷ []
+server_words s (servers.Expire node beats) = codes "expire" ∷ server_text s ∷ decimal node ∷ decimal beats ∷ []
+server_words s (servers.DrainTurn node) = codes "drain" ∷ server_text s ∷ decimal node ∷ []
+server_words s servers.FreeTurn = codes "free" ∷ server_text s ∷ []
+server_words s servers.Reap = codes "reap" ∷ server_text s ∷ []
+server_words s servers.Compact = []
+server_words s servers.Crash = codes "crash" ∷ server_text s ∷ []
+server_words s servers.Restart = codes "restart" ∷ server_text s ∷ []
+
+-- the words of an input of client c
+abbrev pub client_words : ℕ → clients.Input → List (List ℕ)
+client_words c (clients.Arrives from response) = []
+client_words c (clients.RegisterAt server) = codes "register" ∷ decimal c ∷ server_text server ∷ []
+client_words c (clients.Ping server) = codes "ping" ∷ decimal c ∷ server_text server ∷ []
+client_words c (clients.PullFrom server) = codes "pull" ∷ decimal c ∷ server_text server ∷ []
+client_words c (clients.End id ok) = codes "end" ∷ decimal c ∷ alloc_text id ∷ end_text ok ∷ []
+client_words c clients.Crash = codes "crash" ∷ client_text c ∷ []
+client_words c clients.Restart = codes "restart" ∷ client_text c ∷ []
+
+-- the words of an event's line; messages are numbered from 1 in text, and from 0 here
+abbrev pub event_words : Event → List (List ℕ)
+event_words (Deliver place) = codes "deliver" ∷ decimal (suc place) ∷ []
+event_words (AtServer server input) = server_words server input
+event_words (AtClient client input) = client_words client input
+
+-- a line says such an input: its values are within their limits, and it is no arrival and no cut
+abbrev pub ServerInputHasLine : servers.Input → Type 0
+ServerInputHasLine (servers.Arrives message) = ⊥
+ServerInputHasLine (servers.Request request) = RequestFits request
+ServerInputHasLine (servers.TakeFrom to) = ServerFits to
+ServerInputHasLine (servers.SubmitTo to plan) = ServerFits to × PlanFits plan
+ServerInputHasLine (servers.FinishAt to eval token outcome) = ServerFits to × EvalIdFits eval × TokenFits token × EndFits outcome
+ServerInputHasLine (servers.NackAt to eval token) = ServerFits to × EvalIdFits eval × TokenFits token
+ServerInputHasLine (servers.Lapse eval) = EvalIdFits eval
+ServerInputHasLine (servers.Expire node beats) = NodeIdFits node × IndexFits beats
+ServerInputHasLine (servers.DrainTurn node) = NodeIdFits node
+ServerInputHasLine servers.Compact = ⊥
+ServerInputHasLine _ = Unit {0}
+
+abbrev pub ClientInputHasLine : clients.Input → Type 0
+ClientInputHasLine (clients.Arrives from response) = ⊥
+ClientInputHasLine (clients.RegisterAt server) = ServerFits server
+ClientInputHasLine (clients.Ping server) = ServerFits server
+ClientInputHasLine (clients.PullFrom server) = ServerFits server
+ClientInputHasLine (clients.End id ok) = AllocIdFits id
+ClientInputHasLine _ = Unit {0}
+
+-- a line says such an event
+abbrev pub HasLine : Event → Type 0
+HasLine (Deliver place) = suc place < 2 ^ 64
+HasLine (AtServer server input) = ServerFits server × ServerInputHasLine input
+HasLine (AtClient client input) = NodeIdFits client × ClientInputHasLine input
+
+-- the one line of an event: its words with one space between
+abbrev pub event_line : Event → List ℕ
+event_line event = join_with_byte 32 (event_words event)
+
+abbrev pub IsEventLine : Event → List ℕ → Type 0
+IsEventLine event line = HasLine event × (line ≡ event_line event)

@@ -1,0 +1,93 @@
+-- Lines of events in the words of private contracts.
+use Rattle.std.specs.Prelude.{◌≡◌, ◌<◌, ◌^◌, ℕ, suc, List, [], drop, get_or}
+use Rattle.std.specs.List.{join_with_byte}
+use Rattle.server.specs.Handings.{handing}
+use Rattle.group_model.specs.Inputs as servers
+use Rattle.group_model.specs.Clients as clients
+use Rattle.group_model.specs.Worlds.{Event, Deliver, AtServer, AtClient}
+use Rattle.world.specs.Events.{place_of}
+use Rattle.world.specs.GroupEvents.{client_input, server_input}
+use Rattle.transcript.specs.declared.line.Line.{Line}
+use Rattle.transcript.specs.declared.line.Line.TheVariants as lines
+use Rattle.transcript.specs.EventLines.{HasLine, event_words}
+
+-- the event that a line says
+abbrev pub line_event : Line → Event
+line_event (lines.Deliver message) = Deliver (place_of message)
+line_event (lines.Server server input) = AtServer server (server_input (handing input))
+line_event (lines.Client client input) = AtClient client (client_input input)
+
+-- ---- the first word of an event's line, and what stands behind it
+
+abbrev pub verb_of : Event → List ℕ
+verb_of event = get_or (event_words event) 0 []
+
+abbrev pub operands_of : Event → List ℕ
+operands_of event = join_with_byte 32 (drop 1 (event_words event))
+
+pub record HasParts (event : Event) (verb operands : List ℕ) : Type 0 where
+  pub fits : HasLine event
+  pub first : verb ≡ verb_of event
+  pub behind : operands ≡ operands_of event
+
+-- ---- kinds of events
+
+-- one that names a server and nothing else, other than those that a client has too
+abbrev pub IsTurnInput : servers.Input → Type 0
+IsTurnInput servers.Timeout = Unit {0}
+IsTurnInput servers.Beat = Unit {0}
+IsTurnInput servers.PlanTurn = Unit {0}
+IsTurnInput servers.FreeTurn = Unit {0}
+IsTurnInput servers.Reap = Unit {0}
+IsTurnInput _ = ⊥
+
+abbrev pub IsTurn : Event → Type 0
+IsTurn (AtServer server input) = IsTurnInput input
+IsTurn _ = ⊥
+
+abbrev pub IsRequest : Event → Type 0
+IsRequest (AtServer server (servers.Request request)) = Unit {0}
+IsRequest _ = ⊥
+
+abbrev pub IsSubmit : Event → Type 0
+IsSubmit (AtServer server (servers.SubmitTo to plan)) = Unit {0}
+IsSubmit _ = ⊥
+
+-- one whose line takes no memory to read
+abbrev pub IsSmallInput : servers.Input → Type 0
+IsSmallInput (servers.Request request) = ⊥
+IsSmallInput (servers.SubmitTo to plan) = ⊥
+IsSmallInput _ = Unit {0}
+
+abbrev pub IsSmall : Event → Type 0
+IsSmall (AtServer server input) = IsSmallInput input
+IsSmall _ = Unit {0}
+
+abbrev pub IsFinish : Event → Type 0
+IsFinish (AtServer server (servers.FinishAt to eval token outcome)) = Unit {0}
+IsFinish _ = ⊥
+
+abbrev pub IsExpire : Event → Type 0
+IsExpire (AtServer server (servers.Expire node beats)) = Unit {0}
+IsExpire _ = ⊥
+
+abbrev pub IsEnd : Event → Type 0
+IsEnd (AtClient client (clients.End id ok)) = Unit {0}
+IsEnd _ = ⊥
+
+abbrev pub IsCrash : Event → Type 0
+IsCrash (AtServer server servers.Crash) = Unit {0}
+IsCrash (AtClient client clients.Crash) = Unit {0}
+IsCrash _ = ⊥
+
+abbrev pub IsRestart : Event → Type 0
+IsRestart (AtServer server servers.Restart) = Unit {0}
+IsRestart (AtClient client clients.Restart) = Unit {0}
+IsRestart _ = ⊥
+
+-- it is no arrival, and no message past the last number; the types see to all other limits
+abbrev pub IsSayable : Event → Type 0
+IsSayable (Deliver place) = suc place < 2 ^ 64
+IsSayable (AtServer server (servers.Arrives message)) = ⊥
+IsSayable (AtClient client (clients.Arrives from response)) = ⊥
+IsSayable _ = Unit {0}
