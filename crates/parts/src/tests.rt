@@ -10,6 +10,7 @@ mod fates;
 mod follows;
 mod full_tables;
 mod lines;
+mod nets;
 mod plan_checks;
 mod services;
 mod state_texts;
