@@ -2,6 +2,7 @@
 //! from the program's own output.
 
 mod admission;
+mod books;
 mod clusters;
 mod commands;
 mod desks;
