@@ -1,3 +1,4 @@
 pub mod Fates
+pub mod Queues
 pub mod Words
 pub mod Worked

@@ -2,6 +2,7 @@
 //! from the program's own output.
 
 mod admission;
+mod books;
 mod clusters;
 mod commands;
 mod desks;
@@ -10,6 +11,7 @@ mod fates;
 mod follows;
 mod full_tables;
 mod lines;
+mod nets;
 mod plan_checks;
 mod services;
 mod state_texts;

@@ -2,6 +2,7 @@
 //! from the program's own output.
 
 mod agents;
+mod cells;
 mod frames;
 mod messages;
 mod servers;

@@ -1,0 +1,110 @@
+-- Which actors a group has, and its cells before their first event.
+use Rattle.std.proofs.Common.{◌≡◌, ◌⊎◌, ℕ, zero, suc, ◌+◌, ◌<◌, ◌≤◌, Bool, true, false, true≢false, List, [], ◌∷◌, ◌++◌, refl, sym, ap, ◌∙◌, subst, inl, inr, arith}
+use Rattle.std.specs.Prelude.{MatchBool, ◌||◌, length}
+use Rattle.std.specs.List.{AllByRecursion}
+use Rattle.rows.specs.declared.actor.Actor.{Actor}
+use Rattle.rows.specs.declared.actor.Actor.TheVariants.{Server, Client}
+use Rattle.event_book.specs.declared.view.SeatView.{SeatView}
+use Rattle.event_book.specs.Actors.{same_actor}
+use Rattle.event_book.specs.Seats.{is_named}
+use Rattle.cluster.specs.declared.own_input.OwnInput.{OwnInput}
+use Rattle.cluster.specs.Actors.{IsNewActor, group_size}
+use Rattle.std.proofs.lemmas.Bool.{eqb-true}
+use Rattle.cluster.specs.Cells.{CellView}
+use Rattle.cluster.specs.Closing.{AreOfGroup}
+use Rattle.cluster.specs.Opening.{IsOfGroup, MayOpen, AreNew}
+use Rattle.cluster.proofs.Merge.{same_actor-refl, same_actor-true}
+
+either : (a b : Bool) → (a || b) ≡ true → (a ≡ true) ⊎ (b ≡ true)
+either true b h = inl refl
+either false b h = inr h
+
+or_later : (a b : Bool) → b ≡ true → (a || b) ≡ true
+or_later true b h = refl
+or_later false b h = h
+
+-- who is named is one of those that are within
+named_within : (n m : ℕ) (all : List Actor) (a : Actor) → AllByRecursion (IsOfGroup n m) all → is_named all a ≡ true → IsOfGroup n m a
+named_within n m [] a within h = absurd (true≢false (sym h))
+named_within n m (x ∷ xs) a within h = elim (either (same_actor x a) (is_named xs a) h) [
+  | inl e ↦ subst (λ y. IsOfGroup n m y) (same_actor-true x a e) within.0
+  | inr e ↦ named_within n m xs a within.1 e
+]
+
+all_within : (n m : ℕ) (all : List Actor) → ((a : Actor) → is_named all a ≡ true → IsOfGroup n m a) → AllByRecursion (IsOfGroup n m) all
+all_within n m [] h = tt
+all_within n m (x ∷ xs) h = (h x (ap (λ (b : Bool). b || is_named xs x) (same_actor-refl x)), all_within n m xs (λ a named. h a (or_later (same_actor x a) (is_named xs a) named)))
+
+of_group : (n m : ℕ) (all : List Actor) → AreOfGroup n m all → (a : Actor) → is_named all a ≡ true → IsOfGroup n m a
+of_group n m all g (Server i) h = g.no_more_servers i h
+of_group n m all g (Client c) h = let k = g.no_more_clients c h in (omega (arith, k.1, k.2), omega (arith, k.1, k.2))
+
+client_number : (m c : ℕ) → 1 ≤ c → c ≤ m → (k : ℕ) × (c ≡ suc k) × (k < m)
+client_number m zero low high = absurd (omega (arith, low))
+client_number m (suc k) low high = (k, refl, omega (arith, high))
+
+-- those that are within, and all of them, are the group's
+pub are_of_group : (n m : ℕ) (all : List Actor) → AllByRecursion (IsOfGroup n m) all → ((i : ℕ) → i < n → is_named all (Server i) ≡ true) → ((k : ℕ) → k < m → is_named all (Client (suc k)) ≡ true) → AreOfGroup n m all
+are_of_group n m all within servers clients = record {
+  servers = servers;
+  no_more_servers = λ i h. named_within n m all (Server i) within h;
+  clients = clients;
+  no_more_clients = λ c h. let w = named_within n m all (Client c) within h in client_number m c w.0 w.1;
+}
+
+pub group_within : (n m : ℕ) (all : List Actor) → AreOfGroup n m all → AllByRecursion (IsOfGroup n m) all
+group_within n m all g = all_within n m all (of_group n m all g)
+
+-- one cell more
+pub one_cell_more : (n : ℕ) (cells : List CellView) (seats : List (SeatView OwnInput)) (cell : CellView) (seat : SeatView OwnInput) → AreNew n cells seats → cell.seat ≡ seat → seat.notes ≡ [] → IsNewActor n seat.actor cell.actor → AreNew n (cells ++ cell ∷ []) (seats ++ seat ∷ [])
+one_cell_more n [] [] cell seat h is none new = (is, none, new, tt)
+one_cell_more n [] (s ∷ ss) cell seat h is none new = absurd h
+one_cell_more n (x ∷ xs) [] cell seat h is none new = absurd h
+one_cell_more n (x ∷ xs) (s ∷ ss) cell seat h is none new = (h.0, h.1, h.2, one_cell_more n xs ss cell seat h.3 is none new)
+
+-- where all are within, and each server is there, it is told by the clients
+pub of_group_either : (b : Bool) (n m : ℕ) (all : List Actor) → AllByRecursion (IsOfGroup n m) all → ((i : ℕ) → i < n → is_named all (Server i) ≡ true)
+    → (b ≡ true → (k : ℕ) → k < m → is_named all (Client (suc k)) ≡ true) → (b ≡ false → (k : ℕ) × (k < m) × (is_named all (Client (suc k)) ≡ false))
+    → MatchBool b (AreOfGroup n m all) (AreOfGroup n m all → ⊥)
+of_group_either true n m all within servers has lacks = are_of_group n m all within servers (has refl)
+of_group_either false n m all within servers has lacks = λ g. let k = lacks refl in true≢false (sym (g.clients k.0 k.1) ∙ k.2)
+
+-- a server that lacks is of the group
+pub lacks_server : (n m : ℕ) (all : List Actor) → (i : ℕ) × (i < n) × (is_named all (Server i) ≡ false) → AreOfGroup n m all → ⊥
+lacks_server n m all k g = true≢false (sym (g.servers k.0 k.1) ∙ k.2)
+
+pub one_less : (a b k : ℕ) → a + 1 ≡ b → b ≡ suc k → a ≡ k
+one_less a b k e f = omega (arith, e, f)
+
+-- ---- how many servers there are
+
+size_over : (all : List Actor) (i : ℕ) → is_named all (Server i) ≡ true → i < group_size all
+size_over [] i h = absurd (true≢false (sym h))
+size_over (Server k ∷ all) i h = elim (either (same_actor (Server k) (Server i)) (is_named all (Server i)) h) [
+  | inl e ↦ let is : k ≡ i = eqb-true k i e in omega (arith, is)
+  | inr e ↦ let more = size_over all i e in omega (arith, more)
+]
+size_over (Client k ∷ all) i h = size_over all i h
+
+size_within : (n m : ℕ) (all : List Actor) → AllByRecursion (IsOfGroup n m) all → group_size all ≤ n
+size_within n m [] h = omega arith
+size_within n m (Server k ∷ all) h = let more = size_within n m all h.1 in omega (arith, more, h.0)
+size_within n m (Client k ∷ all) h = size_within n m all h.1
+
+at_least : (n m : ℕ) (all : List Actor) → AreOfGroup n m all → n ≤ group_size all
+at_least zero m all g = omega arith
+at_least (suc n) m all g = let more = size_over all n (g.servers n (omega arith)) in omega (arith, more)
+
+pub size_is : (n m : ℕ) (all : List Actor) → AreOfGroup n m all → group_size all ≡ n
+size_is n m all g = let low = at_least n m all g in let high = size_within n m all (group_within n m all g) in omega (arith, low, high)
+
+-- one seat more
+pub one_seat_more : (n m : ℕ) (seats : List (SeatView OwnInput)) (seat : SeatView OwnInput) → AllByRecursion (MayOpen n m) seats → MayOpen n m seat → AllByRecursion (MayOpen n m) (seats ++ seat ∷ [])
+one_seat_more n m [] seat h may = (may, tt)
+one_seat_more n m (x ∷ xs) seat h may = (h.0, one_seat_more n m xs seat h.1 may)
+
+pub as_many : (n : ℕ) (cells : List CellView) (seats : List (SeatView OwnInput)) → AreNew n cells seats → length cells ≡ length seats
+as_many n [] [] h = refl
+as_many n [] (s ∷ ss) h = absurd h
+as_many n (x ∷ xs) [] h = absurd h
+as_many n (x ∷ xs) (s ∷ ss) h = ap suc (as_many n xs ss h.3)

@@ -1,0 +1,158 @@
+-- A cell's turn: the actor stays where its notes lead it.
+use Rattle.std.proofs.Common.{◌≡◌, ℕ, List, [], ◌∷◌, ◌++◌, take, refl, sym, ap, ◌∙◌, subst, inl, inr}
+use Rattle.std.specs.Prelude.{reverse, map, Result, Ok, Err, IfOk, IfErr}
+use Rattle.rows.specs.declared.refusal.Refusal.{Refusal}
+use Rattle.std.proofs.lemmas.List.{reverse-append}
+use Rattle.rows.specs.declared.actor.Actor.{Actor}
+use Rattle.rows.specs.declared.actor.Actor.TheVariants as actors
+use Rattle.rows.specs.declared.worker.Work.{Work}
+use Rattle.group_model.specs.Members.{Member, Turn, newcomer, step}
+use Rattle.client_agent.specs.AgentView.{AgentView}
+use Rattle.server.specs.declared.server.Outbox.{Outbox}
+use Rattle.server.specs.ServerViews.{ServerView, IsMember, SameMember, crashed_member, group_desk}
+use Rattle.server.specs.Handings.{Handing, FrameBytes, OwnInput as TakesOwn, handing}
+use Rattle.server.specs.Turns.{TakesHanding, TakesTurn, takes_in}
+use Rattle.event_book.specs.declared.view.EventView.{EventView}
+use Rattle.event_book.specs.declared.view.EventView.TheVariants.{Own, Delivery, Crash}
+use Rattle.event_book.specs.declared.view.Output.{Output}
+use Rattle.event_book.specs.declared.view.NotedView.{NotedView}
+use Rattle.event_book.specs.declared.view.Note.{Note}
+use Rattle.event_book.specs.declared.view.TokenView.{TokenView}
+use Rattle.event_book.specs.declared.view.SeatView.{SeatView}
+use Rattle.event_book.specs.Seats.{with_note, with_taken}
+use Rattle.cluster.specs.declared.own_input.OwnInput.{OwnInput}
+use Rattle.cluster.specs.declared.actor.GroupActor.{GroupActor}
+use Rattle.cluster.specs.declared.actor.GroupActor.TheVariants.{Server, Client}
+use Rattle.cluster.specs.declared.actor.Stepped.{Stepped}
+use Rattle.cluster.specs.declared.actor.Stepped.TheVariants.{Taken, Crashed}
+use Rattle.cluster.specs.declared.own_input.OwnInput.TheVariants as own
+use Rattle.cluster.specs.Actors.{frame_of, output_of, nothing_sent, ServerTurned, TakesInput, ServerTurns, ClientTurns, ActorTurns, IsNewActor, SameActor}
+use Rattle.cluster.specs.Cells.{EnvelopeView, CellView, IsLed, IsLedCell, Turned, crash_noted, envelopes_from, kept_of, kept_in}
+use Rattle.cluster.specs.declared.cell.StampedEvent.{StampedEvent}
+use Rattle.cluster.specs.Inner.Steps.{Did}
+use Rattle.cluster.specs.Inner.Sending.{IsRecorded, IsStill, IsTurn, last_envelopes}
+use Rattle.cluster.proofs.Sending.{envelopes_end}
+
+-- ---- one value in place of another that is the same actor
+
+same_is : (v w : ServerView) (s : Member) → SameMember v w → IsMember v s → IsMember w s
+same_is v w s same is = let raft = same.raft in record { raft = raft.server ∙ is.raft; desk = ap group_desk same.desk ∙ is.desk }
+
+same_places : (v w x : ServerView) → SameMember v w → (v.raft.me ≡ x.raft.me) × (v.raft.size ≡ x.raft.size) → (w.raft.me ≡ x.raft.me) × (w.raft.size ≡ x.raft.size)
+same_places v w x same at = let raft = same.raft in (raft.me ∙ at.0, raft.size ∙ at.1)
+
+module _ (x v w : ServerView) (same : SameMember v w) where
+  same_turn : (q : Result Turn Refusal) (before after : Outbox) → TakesTurn q v before after → TakesTurn q w before after
+  same_turn q before after t = let turn = t.turn in record { turn = turn; is = t.is; member = same_is v w turn.member same t.member; sent = t.sent; work = t.work }
+
+  same_takes : (s : Member) (h : Handing) (before after : Outbox) → TakesHanding x s h v before after → TakesHanding x s h w before after
+  same_takes s (FrameBytes bytes) before after t = λ message frame. same_turn (takes_in x.raft.size x.raft.me s message) before after (t message frame)
+  same_takes s (TakesOwn input) before after t = same_turn (step x.raft.size x.raft.me s input) before after t
+
+  same_turned : (h : Handing) (outs : List Output) (work : List Work) → ServerTurned x h outs work v → ServerTurned x h outs work w
+  same_turned h outs work t = record { same = same_places v w x same t.same; taken = λ s is. same_takes s h nothing_sent (record { frames = map frame_of outs; work = work }) (t.taken s is) }
+
+  same_input : (h : Handing) (outs : List Output) (work : List Work) → TakesInput x h outs work v → TakesInput x h outs work w
+  same_input (FrameBytes bytes) outs work t = t
+  same_input (TakesOwn input) outs work t = same_turned (TakesOwn input) outs work t
+
+  same_server_turns : (event : EventView OwnInput) (outs : List Output) (work : List Work) → ServerTurns x event outs work v → ServerTurns x event outs work w
+  same_server_turns (Own (own.Server input)) outs work t = same_input (handing input.value) outs work t
+  same_server_turns (Own (own.Client input)) outs work t = t
+  same_server_turns (Delivery stamp place frame) outs work t = same_turned (FrameBytes frame) outs work t
+  same_server_turns Crash outs work t =
+      let c = t.2 in
+      (t.0, t.1, record { same = same_places v w x same c.same; fell = λ s is. let f = c.fell s is in (f.0, same_is v w (crashed_member s) same f.1) })
+
+same_turns : (old a b : GroupActor) (event : EventView OwnInput) (outs : List Output) (work : List Work) → SameActor a b → ActorTurns old event outs work a → ActorTurns old event outs work b
+same_turns (Server x) (Server v) (Server w) event outs work same t = same_server_turns x v w same event outs work t
+same_turns (Server x) (Server v) (Client w) event outs work same t = absurd same
+same_turns (Server x) (Client v) b event outs work same t = absurd t
+same_turns (Client x) (Server v) b event outs work same t = absurd t
+same_turns (Client x) (Client v) (Server w) event outs work same t = absurd same
+same_turns (Client x) (Client v) (Client w) event outs work same t = (t.0, subst (λ (y : AgentView). ClientTurns x event outs y) (sym same) t.1)
+
+same_new : (n : ℕ) (me : Actor) (a b : GroupActor) → SameActor a b → IsNewActor n me a → IsNewActor n me b
+same_new n (actors.Server i) (Server v) (Server w) same new = let raft = same.raft in (raft.me ∙ new.0, raft.size ∙ new.1, same_is v w newcomer same new.2)
+same_new n (actors.Server i) (Server v) (Client w) same new = absurd same
+same_new n (actors.Server i) (Client v) b same new = absurd new
+same_new n (actors.Client c) (Server v) b same new = absurd new
+same_new n (actors.Client c) (Client v) (Server w) same new = absurd same
+same_new n (actors.Client c) (Client v) (Client w) same new = subst (λ (y : AgentView). IsNewActor n (actors.Client c) (Client y)) (sym same) new
+
+same_led : (n : ℕ) (me : Actor) (notes : List (Note OwnInput)) (a b : GroupActor) → SameActor a b → IsLed n me notes a → IsLed n me notes b
+same_led n me [] a b same led = same_new n me a b same led
+same_led n me (e ∷ es) a b same led = let t = led.2 in (led.0, led.1, (t.0, same_turns led.0 a b e.noted.event e.noted.outputs t.0 same t.1))
+
+-- a refusal leaves the actor where its notes lead it
+pub led_still : (n : ℕ) (seat : SeatView OwnInput) (a b : GroupActor) → SameActor a b → IsLedCell n (record { actor = a; seat = seat }) → IsLedCell n (record { actor = b; seat = seat })
+led_still n seat a b same led = same_led n seat.actor (reverse seat.notes) a b same led
+
+pub same_actor : (a : GroupActor) → SameActor a a
+same_actor (Server v) = record { raft = record { me = refl; size = refl; server = refl }; desk = refl }
+same_actor (Client a) = refl
+
+-- ---- a turn
+
+-- the last note's outputs are those of what was noted
+last_sent : (old after : SeatView OwnInput) (noted : NotedView OwnInput) (stamp : ℕ) (tokens : List (TokenView OwnInput)) → after ≡ with_note noted stamp (with_taken tokens old)
+    → last_envelopes after.notes ≡ envelopes_from (record { stamp = stamp; actor = old.actor; noted = noted }) 0 noted.outputs
+last_sent old after noted stamp tokens is =
+    let note : Note OwnInput = record { stamp = stamp; actor = old.actor; noted = noted } in
+    ap (λ (s : SeatView OwnInput). last_envelopes s.notes) is ∙ envelopes_end old.notes note
+
+pub turned : (old : CellView) (envelope : EnvelopeView) (stepped : Stepped) (new : GroupActor) (after : SeatView OwnInput) (work : List Work) (sent : List EnvelopeView) → envelope.receiver ≡ old.seat.actor
+    → Did old.actor envelope.event stepped new → IsRecorded old.seat envelope.event envelope.tokens stepped after work sent → Turned old envelope (record { actor = new; seat = after }) work sent
+turned old envelope (Taken outbox) new after work sent mine did r =
+    let outs = map output_of outbox.frames in
+    record {
+      noted = record { event = envelope.event; outputs = outs };
+      taken = envelope.tokens;
+      stamp = r.stamp;
+      receiver = mine;
+      is_of = inl (refl, refl);
+      step = subst (λ (w : List Work). ActorTurns old.actor envelope.event outs w new) (sym r.work_is) did;
+      seat = r.seat;
+      count = r.count;
+      are = r.are ∙ ap (take r.count) (last_sent old.seat after (record { event = envelope.event; outputs = outs }) r.stamp envelope.tokens r.seat);
+    }
+turned old envelope Crashed new after work sent mine did r = record {
+  noted = crash_noted;
+  taken = [];
+  stamp = r.stamp;
+  receiver = mine;
+  is_of = inr (refl, refl, did.1);
+  step = subst (λ (w : List Work). ActorTurns old.actor Crash [] w new) (sym r.work_is) did.0;
+  seat = r.seat;
+  count = r.count;
+  are = r.are ∙ ap (take r.count) (last_sent old.seat after crash_noted r.stamp [] r.seat);
+}
+
+-- a turn leads the actor on by its note
+pub led_on : (n : ℕ) (old : CellView) (envelope : EnvelopeView) (new : CellView) (work : List Work) (sent : List EnvelopeView) → IsLedCell n old → Turned old envelope new work sent → IsLedCell n new
+led_on n old envelope new work sent led t =
+    let note : Note OwnInput = record { stamp = t.stamp; actor = old.seat.actor; noted = t.noted } in
+    let newest : reverse (old.seat.notes ++ note ∷ []) ≡ note ∷ reverse old.seat.notes = reverse-append old.seat.notes (note ∷ []) in
+    subst (λ (s : SeatView OwnInput). IsLed n s.actor (reverse s.notes) new.actor) (sym t.seat) (subst (λ l. IsLed n old.seat.actor l new.actor) (sym newest) (old.actor, led, (work, t.step)))
+
+-- ---- a cell's turn, both ways
+
+abbrev pub Kept : ℕ → Actor → GroupActor → List StampedEvent → SeatView OwnInput → Type 0
+Kept n me actor taken seat = (me ≡ seat.actor) × (map kept_of taken ≡ map kept_in seat.notes) × IsLedCell n (record { actor = actor; seat = seat })
+
+-- what became of an envelope keeps what a cell keeps
+pub cell_kept : {X : Type 0} (n : ℕ) (me : Actor) (old : CellView) (envelope : EnvelopeView) (q : Result X Refusal) (work : X → List Work) (sent : X → List EnvelopeView) (after : GroupActor) (now : SeatView OwnInput) (before taken : List StampedEvent)
+    → Kept n me old.actor before old.seat → envelope.receiver ≡ me
+    → IfOk q (λ x. IsTurn old.actor old.seat envelope.event envelope.tokens (work x) (sent x) after now) → IfErr q (λ cause. IsStill old.actor old.seat envelope.event cause after now)
+    → map kept_of taken ≡ map kept_in now.notes → Kept n me after taken now
+cell_kept n me old envelope (Ok x) work sent after now before taken was to turn still kept =
+    let t = turned old envelope turn.stepped after now (work x) (sent x) (to ∙ was.0) turn.did turn.recorded in
+    (was.0 ∙ sym (ap (λ (s : SeatView OwnInput). s.actor) t.seat), kept, led_on n old envelope (record { actor = after; seat = now }) (work x) (sent x) was.2 t)
+cell_kept n me old envelope (Err cause) work sent after now before taken was to turn still kept =
+    (was.0 ∙ sym (ap (λ (s : SeatView OwnInput). s.actor) still.seat_is), kept, subst (λ s. IsLedCell n (record { actor = after; seat = s })) (sym still.seat_is) (led_still n old.seat old.actor after still.same was.2))
+
+pub cell_turned : {X : Type 0} (me : Actor) (old : CellView) (envelope : EnvelopeView) (q : Result X Refusal) (work : X → List Work) (sent : X → List EnvelopeView) (after : GroupActor) (now : SeatView OwnInput)
+    → me ≡ old.seat.actor → envelope.receiver ≡ me → IfOk q (λ x. IsTurn old.actor old.seat envelope.event envelope.tokens (work x) (sent x) after now)
+    → IfOk q (λ x. Turned old envelope (record { actor = after; seat = now }) (work x) (sent x))
+cell_turned me old envelope (Ok x) work sent after now mine to turn = turned old envelope turn.stepped after now (work x) (sent x) (to ∙ mine) turn.did turn.recorded
+cell_turned me old envelope (Err cause) work sent after now mine to turn = turn

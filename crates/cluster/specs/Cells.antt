@@ -1,0 +1,132 @@
+-- What a contract sees of envelopes and cells, and what a cell's turn does.
+use Rattle.std.specs.Prelude.{◌≡◌, ◌≢◌, ◌⊎◌, ℕ, suc, ◌+◌, ◌^◌, ◌≤◌, Option, Some, None, List, [], ◌∷◌, length, take, reverse}
+use Rattle.rows.specs.declared.actor.Actor.{Actor}
+use Rattle.rows.specs.declared.refusal.Refusal.{Refusal}
+use Rattle.rows.specs.declared.refusal.Refusal.TheVariants as refusals
+use Rattle.rows.specs.declared.worker.Work.{Work}
+use Rattle.event_book.specs.declared.view.EventView.{EventView}
+use Rattle.event_book.specs.declared.view.EventView.TheVariants.{Own, Delivery, Crash}
+use Rattle.event_book.specs.declared.view.Output.{Output}
+use Rattle.event_book.specs.declared.view.NotedView.{NotedView}
+use Rattle.event_book.specs.declared.view.Note.{Note}
+use Rattle.event_book.specs.declared.view.TokenView.{TokenView}
+use Rattle.event_book.specs.declared.view.SeatView.{SeatView}
+use Rattle.event_book.specs.Seats.{Names, with_note, with_taken}
+use Rattle.event_book.specs.Noted.{event_view}
+use Rattle.cluster.specs.declared.own_input.OwnInput.{OwnInput}
+use Rattle.cluster.specs.declared.actor.GroupActor.{GroupActor}
+use Rattle.cluster.specs.declared.cell.StampedEvent.{StampedEvent}
+use Rattle.cluster.specs.Actors.{ActorTurns, ActorSteps, IsNewActor, SameActor}
+use Rattle.cluster.specs.Refusals.{Hears, IsDeafTo, ActorRefuses, ActorMayLack}
+
+-- ---- envelopes
+
+-- the actor that it is for, what it is to that actor, and what its token names
+pub record EnvelopeView : Type 0 where
+  pub receiver : Actor
+  pub event : EventView OwnInput
+  pub tokens : List (TokenView OwnInput)
+
+abbrev pub tokens_of : Option (TokenView OwnInput) → List (TokenView OwnInput)
+tokens_of None = []
+tokens_of (Some token) = token ∷ []
+
+-- an input of the actor's own has no token, and a delivery that of the output that it is, which is
+-- for its receiver
+abbrev pub IsAddressed : EnvelopeView → EventView OwnInput → Type 0
+IsAddressed e (Own input) = e.tokens ≡ []
+IsAddressed e (Delivery stamp place frame) =
+    (token : TokenView OwnInput) × (e.tokens ≡ token ∷ []) × Names token stamp place e.receiver frame
+IsAddressed e Crash = ⊥
+
+-- the output at a place of a note, with its token
+abbrev pub envelope_of : Note OwnInput → ℕ → Output → EnvelopeView
+envelope_of note place o = record {
+  receiver = o.to;
+  event = Delivery note.stamp place o.frame;
+  tokens = record { note = note; place = place } ∷ [];
+}
+
+-- the outputs of a note from this place on, each with its token
+abbrev pub envelopes_from : Note OwnInput → ℕ → List Output → List EnvelopeView
+envelopes_from note place [] = []
+envelopes_from note place (o ∷ os) = envelope_of note place o ∷ envelopes_from note (suc place) os
+
+-- first outputs of one event that this actor noted, each with its token
+pub record AreSent (actor : Actor) (envelopes : List EnvelopeView) : Type 0 where
+  pub note : Note OwnInput
+  pub of : note.actor ≡ actor
+  pub count : ℕ
+  pub are : envelopes ≡ take count (envelopes_from note 0 note.noted.outputs)
+
+-- ---- cells
+
+-- the actor, and what its seat knows
+pub record CellView : Type 0 where
+  pub actor : GroupActor
+  pub seat : SeatView OwnInput
+
+-- a stamp, an event, and how many outputs it had
+pub record Kept : Type 0 where
+  pub stamp : ℕ
+  pub event : EventView OwnInput
+  pub sent : ℕ
+
+abbrev pub kept_of : StampedEvent → Kept
+kept_of e = record { stamp = e.stamp; event = event_view e.event; sent = e.sent }
+
+abbrev pub kept_in : Note OwnInput → Kept
+kept_in e = record { stamp = e.stamp; event = e.noted.event; sent = length e.noted.outputs }
+
+-- the actor is where these notes, the newest first, leave it
+abbrev pub IsLed : ℕ → Actor → List (Note OwnInput) → GroupActor → Type 0
+IsLed n me [] a = IsNewActor n me a
+IsLed n me (e ∷ es) a = (b : GroupActor) × IsLed n me es b × ActorSteps b e.noted.event e.noted.outputs a
+
+-- In a group of n servers: the actor is where just the events lead it that its seat noted.
+abbrev pub IsLedCell : ℕ → CellView → Type 0
+IsLedCell n c = IsLed n c.seat.actor (reverse c.seat.notes) c.actor
+
+-- nothing changed, but that a leader may have made its machine after its whole log
+pub record SameCell (old new : CellView) : Type 0 where
+  pub actor : SameActor old.actor new.actor
+  pub seat : new.seat ≡ old.seat
+
+-- ---- turns
+
+abbrev pub crash_noted : NotedView OwnInput
+crash_noted = record { event = Crash; outputs = [] }
+
+-- what was noted: the event that the envelope is, with its token taken in; or a crash in its place,
+-- where it may want memory
+abbrev pub IsNoteOf : CellView → EnvelopeView → NotedView OwnInput → List (TokenView OwnInput) → Type 0
+IsNoteOf old envelope noted taken =
+    (noted.event ≡ envelope.event) × (taken ≡ envelope.tokens)
+    ⊎ (noted ≡ crash_noted) × (taken ≡ []) × ActorMayLack old.actor envelope.event
+
+-- The actor took one step, or crashed in its place; that was noted once; its first outputs come
+-- with their tokens, all of them but for want of memory.
+pub record Turned (old : CellView) (envelope : EnvelopeView) (new : CellView) (work : List Work) (sent : List EnvelopeView) : Type 0 where
+  pub noted : NotedView OwnInput
+  pub taken : List (TokenView OwnInput)
+  pub stamp : ℕ
+  pub receiver : envelope.receiver ≡ old.seat.actor
+  pub is_of : IsNoteOf old envelope noted taken
+  pub step : ActorTurns old.actor noted.event noted.outputs work new.actor
+  pub seat : new.seat ≡ with_note noted stamp (with_taken taken old.seat)
+  pub count : ℕ
+  pub are : sent ≡ take count (envelopes_from (record { stamp = stamp; actor = old.seat.actor; noted = noted }) 0 noted.outputs)
+
+-- why an envelope is refused at an actor that hears it
+abbrev pub WhyRefused : CellView → EnvelopeView → Refusal → Type 0
+WhyRefused old envelope r =
+    (r ≡ refusals.OutOfRange) × (envelope.receiver ≢ old.seat.actor)
+    ⊎ (r ≡ refusals.Exhausted) × (2 ^ 40 ≤ length old.seat.notes + 1)
+    ⊎ (r ≡ refusals.NoMemory)
+    ⊎ ActorRefuses old.actor envelope.event r
+
+-- one that does not hear it refuses with `Down`
+abbrev pub IsRefused : CellView → EnvelopeView → Refusal → Type 0
+IsRefused old envelope r =
+    (r ≡ refusals.Down) × IsDeafTo old.actor envelope.event
+    ⊎ Hears old.actor envelope.event × WhyRefused old envelope r

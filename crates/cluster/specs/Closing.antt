@@ -1,0 +1,87 @@
+-- What is known of a group of cells that is closed.
+use Rattle.std.specs.Prelude.{◌≡◌, ℕ, suc, ◌+◌, ◌<◌, zero, true, List, [], ◌∷◌, map, length, Some, slice_get}
+use Rattle.std.specs.List.{AllByRecursion}
+use Rattle.rows.specs.declared.actor.Actor.{Actor}
+use Rattle.rows.specs.declared.actor.Actor.TheVariants as actors
+use Rattle.group_model.specs.Inputs as servers
+use Rattle.group_model.specs.Clients as clients
+use Rattle.group_model.specs.Members.{Member}
+use Rattle.group_model.specs.Worlds.{Event, Deliver, AtServer, AtClient}
+use Rattle.server.specs.ServerViews.{ServerView, IsMember}
+use Rattle.server.specs.Handings.{handing}
+use Rattle.world.specs.GroupEvents.{server_input, client_input}
+use Rattle.world.specs.GroupView.{GroupView, client_view}
+use Rattle.event_book.specs.declared.view.EventView.{EventView}
+use Rattle.event_book.specs.declared.view.EventView.TheVariants.{Own, Delivery, Crash}
+use Rattle.event_book.specs.declared.view.Note.{Note}
+use Rattle.event_book.specs.declared.view.SeatView.{SeatView}
+use Rattle.event_book.specs.Seats.{IsWhole, is_named}
+use Rattle.cluster.specs.declared.own_input.OwnInput.{OwnInput}
+use Rattle.cluster.specs.declared.own_input.OwnInput.TheVariants as own
+use Rattle.cluster.specs.declared.actor.GroupActor.{GroupActor}
+use Rattle.cluster.specs.declared.actor.GroupActor.TheVariants.{Server, Client}
+use Rattle.cluster.specs.Cells.{CellView}
+
+-- ---- the group
+
+-- these are the actors of a group of n servers and m clients
+pub record AreOfGroup (n m : ℕ) (all : List Actor) : Type 0 where
+  pub servers : (i : ℕ) → i < n → is_named all (actors.Server i) ≡ true
+  pub no_more_servers : (i : ℕ) → is_named all (actors.Server i) ≡ true → i < n
+  pub clients : (k : ℕ) → k < m → is_named all (actors.Client (suc k)) ≡ true
+  pub no_more_clients : (c : ℕ) → is_named all (actors.Client c) ≡ true → (k : ℕ) × (c ≡ suc k) × (k < m)
+
+-- ---- a history as a list of the group's events
+
+-- how many outputs stand before those of the k-th note
+abbrev pub sent_before : List (Note OwnInput) → ℕ → ℕ
+sent_before [] k = 0
+sent_before (e ∷ es) zero = 0
+sent_before (e ∷ es) (suc k) = length e.noted.outputs + sent_before es k
+
+abbrev pub own_event : Actor → OwnInput → Event
+own_event (actors.Server i) (own.Server input) = AtServer i (server_input (handing input.value))
+own_event (actors.Server i) (own.Client input) = AtServer i servers.Crash
+own_event (actors.Client c) (own.Server input) = AtClient c clients.Crash
+own_event (actors.Client c) (own.Client input) = AtClient c (client_input input.value)
+
+abbrev pub crash_event : Actor → Event
+crash_event (actors.Server i) = AtServer i servers.Crash
+crash_event (actors.Client c) = AtClient c clients.Crash
+
+-- the event that an actor's noted event is; a delivery is that of the message at its place among all
+-- that were ever sent, by stamp and then by place
+abbrev pub event_of : List (Note OwnInput) → Actor → EventView OwnInput → Event
+event_of log a (Own input) = own_event a input
+event_of log a (Delivery stamp place frame) = Deliver (sent_before log stamp + place)
+event_of log a Crash = crash_event a
+
+-- the events of some notes of a history
+abbrev pub events_of : List (Note OwnInput) → List (Note OwnInput) → List Event
+events_of log [] = []
+events_of log (e ∷ es) = event_of log e.actor e.noted.event ∷ events_of log es
+
+-- ---- the world that a group of cells closes to
+
+abbrev pub seat_in : CellView → SeatView OwnInput
+seat_in c = c.seat
+
+-- the world has this actor: the same client, or a server that is the same one of the definitions
+abbrev pub HasActor : GroupView → Actor → GroupActor → Type 0
+HasActor view (actors.Server i) (Server v) =
+    (x : ServerView) × (s : Member) × (slice_get view.servers i ≡ Some x) × IsMember v s × IsMember x s
+HasActor view (actors.Server i) (Client a) = ⊥
+HasActor view (actors.Client c) (Server v) = ⊥
+HasActor view (actors.Client c) (Client a) = client_view view.clients c ≡ Some a
+
+abbrev pub HasCell : GroupView → CellView → Type 0
+HasCell view c = HasActor view c.seat.actor c.actor
+
+-- The world's trace is all that the cells noted, each event once and in the order of its stamp, and
+-- its actors are the cells'.
+pub record ClosesTo (all : List Actor) (cells : List CellView) (view : GroupView) : Type 0 where
+  pub log : List (Note OwnInput)
+  pub whole : IsWhole all log (map seat_in cells)
+  pub trace : view.trace ≡ events_of log log
+  pub actors : AllByRecursion (HasCell view) cells
+  pub group : AreOfGroup (length view.servers) (length view.clients) all

@@ -1,0 +1,49 @@
+-- What is left of cells whose seats are taken out, and what is known of all cells of a closed book.
+use Rattle.std.specs.Prelude.{◌≡◌, true, List, map}
+use Rattle.std.specs.List.{AllByRecursion}
+use Rattle.rows.specs.declared.actor.Actor.{Actor}
+use Rattle.group_model.specs.Worlds.{Event}
+use Rattle.event_book.specs.declared.view.Note.{Note}
+use Rattle.event_book.specs.Seats.{IsWhole, actor_in, are_distinct, is_named}
+use Rattle.cluster.specs.declared.own_input.OwnInput.{OwnInput}
+use Rattle.cluster.specs.declared.actor.GroupActor.{GroupActor}
+use Rattle.cluster.specs.declared.closing.NamedActor.{NamedActor}
+use Rattle.cluster.specs.declared.closing.Rest.{Rest}
+use Rattle.cluster.specs.Actors.{group_size}
+use Rattle.cluster.specs.Cells.{CellView, Kept, kept_in, kept_of, IsLedCell}
+use Rattle.cluster.specs.Closing.{events_of, seat_in}
+
+-- who an actor is, the actor, and the events that it took
+pub record RestView : Type 0 where
+  pub me : Actor
+  pub actor : GroupActor
+  pub kept : List Kept
+
+abbrev pub rest_of : Rest → RestView
+rest_of r = record { me = r.me; actor = r.actor; kept = map kept_of r.taken.items }
+
+abbrev pub rest_in : CellView → RestView
+rest_in c = record { me = c.seat.actor; actor = c.actor; kept = map kept_in c.seat.notes }
+
+abbrev pub named_of : Rest → NamedActor
+named_of r = record { me = r.me; actor = r.actor }
+
+abbrev pub named_in : CellView → NamedActor
+named_in c = record { me = c.seat.actor; actor = c.actor }
+
+abbrev pub cell_actors : List CellView → List Actor
+cell_actors cells = map actor_in (map seat_in cells)
+
+-- The history is legal, and each cell noted just what its actor noted in it; each actor is where
+-- that leads it. Each of the book's actors has one cell, and no other actor has one.
+pub record IsClosed (actors : List Actor) (log : List (Note OwnInput)) (cells : List CellView) : Type 0 where
+  pub whole : IsWhole actors log (map seat_in cells)
+  pub led : AllByRecursion (IsLedCell (group_size actors)) cells
+  pub apart : are_distinct (cell_actors cells) ≡ true
+  pub all : (a : Actor) → is_named actors a ≡ true → is_named (cell_actors cells) a ≡ true
+  pub within : (a : Actor) → is_named (cell_actors cells) a ≡ true → is_named actors a ≡ true
+
+-- the events are all that the cells of a closed book noted, in the order of their stamps
+abbrev pub AreAllNoted : List Actor → List CellView → List Event → Type 0
+AreAllNoted actors cells events =
+    (log : List (Note OwnInput)) × IsClosed actors log cells × (events ≡ events_of log log)

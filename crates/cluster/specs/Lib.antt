@@ -1,0 +1,6 @@
+pub mod Actors
+pub mod Refusals
+pub mod Cells
+pub mod Closing
+pub mod Opening
+pub mod Inner

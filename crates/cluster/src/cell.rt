@@ -1,0 +1,349 @@
+//! An actor, what it took, and the seat that noted it.
+ghost use Rattle.std.specs.Prelude.{◌≡◌, ◌≢◌, MatchBool, ◌+◌, ◌<◌, ◌^◌, [], ℕ, Some, length, map, slice_get, take, vec_len, vec_capacity, IfOk, OnErr, IfErr};
+ghost use Rattle.event_book.specs.Noted.{event_view};
+ghost use Rattle.event_book.specs.Seats.{with_taken};
+ghost use Rattle.cluster.specs.Actors.{output_of, group_size, IsNewActor};
+ghost use Rattle.cluster.specs.Cells.{IsAddressed, tokens_of, kept_of, kept_in, SameCell, Turned, IsRefused};
+ghost use Rattle.cluster.specs.Inner.Sending.{CanBeNoted, EndsWith, last_envelopes, IsNoted, IsRecorded, IsStill, IsTurn};
+ghost use Rattle.cluster.specs.Inner.Steps.{IsAnEvent};
+
+use crate::actor::{GroupActor, Stepped};
+use crate::envelope::Envelope;
+use crate::own_input::OwnInput;
+use event_book::{ActorEvent, ActorSeat, Book, BookId, MessageToken, Noted, Outputs};
+use rows::{Actor, NoMemory, Refusal, Sequence, Work};
+use server::Outbox;
+use std::alloc::Global;
+use std::marker::Model;
+use wire::Frames;
+
+/// An event that an actor took: the stamp of its note, what it was, and how many outputs it gave.
+#[derive(Drop)]
+pub struct StampedEvent {
+    /// The number of its note, from 0, among those of all actors.
+    pub stamp: u64,
+    /// What it was to the actor.
+    pub event: ActorEvent<OwnInput>,
+    /// How many messages the actor sent then.
+    pub sent: usize,
+}
+
+/// An actor, the events that it took, and the seat that noted them. Contracts see the actor and
+/// what the seat knows: the actor is where just these events lead it.
+#[derive(Drop)]
+pub struct Cell<B: BookId> {
+    pub(crate) me: Actor,
+    pub(crate) actor: GroupActor,
+    pub(crate) taken: Vec<StampedEvent>,
+    pub(crate) seat: ActorSeat<OwnInput, B>,
+}
+
+impl<B: BookId> Model for Cell<B> {
+    ghost use Rattle.std.specs.Prelude.{◌≡◌, map};
+    ghost use Rattle.cluster.specs.Actors.{group_size};
+    ghost use Rattle.cluster.specs.Cells.{CellView, IsLedCell, kept_of, kept_in};
+
+    ghost Value = { CellView };
+
+    ghost view = { λ c. record { actor = c.actor; seat = c.seat } };
+
+    ghost invariant = { λ c. (c.me ≡ c.seat.actor)
+        × (map kept_of c.taken.items ≡ map kept_in c.seat.notes)
+        × IsLedCell (group_size B.actors) (record { actor = c.actor; seat = c.seat }) };
+}
+
+/// What a turn of an actor gives.
+#[derive(Drop)]
+pub struct Turn<B: BookId> {
+    /// What came for the workers of the server; none at a client.
+    pub work: Sequence<Work>,
+    /// What the actor sent, each with its token.
+    pub sent: Vec<Envelope<B>>,
+}
+
+/// What a step sent, as the book notes it.
+#[derive(Drop)]
+struct SentFrames {
+    frames: Frames,
+}
+
+impl Outputs for SentFrames {
+    ghost use Rattle.std.specs.Prelude.{map};
+    ghost use Rattle.cluster.specs.Actors.{output_of};
+
+    ghost listed = { λ s. map output_of s.frames };
+}
+
+/// What is noted of an envelope: what it was, its token, and what was sent.
+#[derive(Drop)]
+struct Done<B: BookId> {
+    event: ActorEvent<OwnInput>,
+    token: Option<MessageToken<OwnInput, B>>,
+    frames: Frames,
+}
+
+/// Uses the token up, if there is one.
+fn take_in<B: BookId>(
+    book: &Book<OwnInput, B>,
+    seat: &mut ActorSeat<OwnInput, B>,
+    token: Option<MessageToken<OwnInput, B>>,
+)
+    ensures { seat.new ≡ with_taken (tokens_of token) seat.old }
+{
+    if let Some(token) = token {
+        seat.take_in(book, token);
+    }
+}
+
+/// One output of the last note, with its token.
+fn envelope<B: BookId>(
+    alloc: Global,
+    book: &Book<OwnInput, B>,
+    seat: &mut ActorSeat<OwnInput, B>,
+    stamp: u64,
+    place: usize,
+    frames: &Frames,
+) -> Result<Envelope<B>, NoMemory>
+    requires last { EndsWith seat.old.notes stamp (map output_of frames.now) }
+    requires there { place < length frames.now }
+    ensures same { seat.new ≡ seat.old }
+    ensures envelope { IfOk result (λ e.
+        slice_get (last_envelopes seat.old.notes) place ≡ Some e) }
+{
+    let Some(found) = frames.get(place) else {
+        unreachable!()
+    };
+    let mut frame = Vec::new(alloc);
+    frame.extend_from_slice(found.bytes())?;
+    let place = place as u64;
+    let token = seat.token(book, place);
+    Ok(Envelope {
+        receiver: found.to(),
+        event: ActorEvent::Delivery {
+            stamp,
+            place,
+            frame,
+        },
+        token: Some(token),
+    })
+}
+
+/// The outputs of the last note, each with its token; where memory is wanting, the first of them.
+fn envelopes<B: BookId>(
+    alloc: Global,
+    book: &Book<OwnInput, B>,
+    seat: &mut ActorSeat<OwnInput, B>,
+    stamp: u64,
+    frames: &Frames,
+) -> Vec<Envelope<B>>
+    requires { EndsWith seat.old.notes stamp (map output_of frames.now) }
+    ensures same { seat.new ≡ seat.old }
+    ensures first { (k : ℕ) × (result.items ≡ take k (last_envelopes seat.old.notes)) }
+{
+    let mut sent = Vec::new(alloc);
+    for place in 0..frames.len() {
+        if sent.reserve(1).is_err() {
+            return sent;
+        }
+        let Ok(next) = envelope(alloc, book, seat, stamp, place, frames) else {
+            return sent;
+        };
+        sent.push_reserved(next);
+    }
+    sent
+}
+
+/// Notes what was done and keeps it; then what was sent, each with its token.
+fn keep<B: BookId>(
+    alloc: Global,
+    book: &Book<OwnInput, B>,
+    seat: &mut ActorSeat<OwnInput, B>,
+    taken: &mut Vec<StampedEvent>,
+    done: Done<B>,
+) -> Vec<Envelope<B>>
+    requires addressed { CanBeNoted seat.old (event_view done.event) (tokens_of done.token) }
+    requires can_note { length seat.old.notes + 1 < 2 ^ 40 }
+    requires room { vec_len taken.old < vec_capacity taken.old }
+    ensures noted { IsNoted seat.old (event_view done.event) (tokens_of done.token)
+        (map output_of done.frames) seat.new }
+    ensures kept { map kept_of taken.old.items ≡ map kept_in seat.old.notes →
+        map kept_of taken.new.items ≡ map kept_in seat.new.notes }
+    ensures first { (k : ℕ) × (result.items ≡ take k (last_envelopes seat.new.notes)) }
+{
+    let Done {
+        event,
+        token,
+        frames,
+    } = done;
+    take_in(book, seat, token);
+    let noted = Noted {
+        event,
+        outputs: SentFrames { frames },
+    };
+    let Ok(stamp) = seat.note(book, &noted) else {
+        unreachable!()
+    };
+    let Noted { event, outputs } = noted;
+    let SentFrames { frames } = outputs;
+    let sent = frames.len();
+    taken.push_reserved(StampedEvent { stamp, event, sent });
+    envelopes(alloc, book, seat, stamp, &frames)
+}
+
+/// What an envelope brought is dropped where its actor did not take it.
+fn use_up<B: BookId>(_event: ActorEvent<OwnInput>, _token: Option<MessageToken<OwnInput, B>>) {}
+
+/// Notes what became of an envelope and keeps it.
+fn record<B: BookId>(
+    alloc: Global,
+    book: &Book<OwnInput, B>,
+    seat: &mut ActorSeat<OwnInput, B>,
+    taken: &mut Vec<StampedEvent>,
+    event: ActorEvent<OwnInput>,
+    token: Option<MessageToken<OwnInput, B>>,
+    stepped: Stepped,
+) -> Turn<B>
+    requires addressed { CanBeNoted seat.old (event_view event) (tokens_of token) }
+    requires can_note { length seat.old.notes + 1 < 2 ^ 40 }
+    requires room { vec_len taken.old < vec_capacity taken.old }
+    ensures recorded { IsRecorded seat.old (event_view event) (tokens_of token) stepped seat.new
+        result.work result.sent.items }
+    ensures kept { map kept_of taken.old.items ≡ map kept_in seat.old.notes →
+        map kept_of taken.new.items ≡ map kept_in seat.new.notes }
+{
+    match stepped {
+        Stepped::Taken(outbox) => {
+            let Outbox { frames, work } = outbox;
+            let done = Done {
+                event,
+                token,
+                frames,
+            };
+            let sent = keep(alloc, book, seat, taken, done);
+            Turn { work, sent }
+        }
+        Stepped::Crashed => {
+            use_up(event, token);
+            let done = Done {
+                event: ActorEvent::Crash,
+                token: None,
+                frames: Frames::new(alloc),
+            };
+            let sent = keep(alloc, book, seat, taken, done);
+            let work = Sequence::new(alloc);
+            Turn { work, sent }
+        }
+    }
+}
+
+/// Whether an envelope is for this actor.
+fn is_for(receiver: Actor, me: Actor) -> bool
+    ensures { MatchBool result (receiver ≡ me) (receiver ≢ me) }
+{
+    receiver == me
+}
+
+/// An actor takes what comes, and its seat notes it.
+fn step<B: BookId>(
+    alloc: Global,
+    book: &Book<OwnInput, B>,
+    actor: &mut GroupActor,
+    seat: &mut ActorSeat<OwnInput, B>,
+    taken: &mut Vec<StampedEvent>,
+    event: ActorEvent<OwnInput>,
+    token: Option<MessageToken<OwnInput, B>>,
+) -> Result<Turn<B>, Refusal>
+    requires addressed { CanBeNoted seat.old (event_view event) (tokens_of token) }
+    requires event { IsAnEvent (event_view event) }
+    requires can_note { length seat.old.notes + 1 < 2 ^ 40 }
+    requires room { vec_len taken.old < vec_capacity taken.old }
+    ensures ok { IfOk result (λ turn. IsTurn actor.old seat.old (event_view event)
+        (tokens_of token) turn.work turn.sent.items actor.new seat.new) }
+    ensures err { IfErr result (λ cause. IsStill actor.old seat.old (event_view event) cause
+        actor.new seat.new) }
+    ensures kept { map kept_of taken.old.items ≡ map kept_in seat.old.notes →
+        map kept_of taken.new.items ≡ map kept_in seat.new.notes }
+{
+    match actor.step(alloc, &event) {
+        Ok(stepped) => Ok(record(alloc, book, seat, taken, event, token, stepped)),
+        Err(cause) => {
+            use_up(event, token);
+            Err(cause)
+        }
+    }
+}
+
+impl<B: BookId> Cell<B> {
+    /// An actor before its first event.
+    pub(crate) fn new(alloc: Global, actor: GroupActor, seat: ActorSeat<OwnInput, B>) -> Cell<B>
+        requires new { seat.notes ≡ [] }
+        requires begins { IsNewActor (group_size B.actors) seat.actor actor }
+        ensures { result ≡ record { actor = actor; seat = seat } }
+    {
+        Cell {
+            me: seat.actor(),
+            actor,
+            taken: Vec::new(alloc),
+            seat,
+        }
+    }
+
+    /// The actor, where the events that it took lead it.
+    pub fn actor(&self) -> &GroupActor
+        ensures { result.now ≡ self.now.actor }
+    {
+        &self.actor
+    }
+
+    /// The events that it took, oldest first, each with its stamp: just those that its seat noted.
+    pub fn inputs(&self) -> &[StampedEvent]
+        ensures { map kept_of result.now ≡ map kept_in self.now.seat.notes }
+    {
+        self.taken.as_slice()
+    }
+
+    /// The actor takes an envelope: one step, or a crash in its place where it finds no memory;
+    /// that is noted once, and kept.
+    ///
+    /// An actor that is down refuses every envelope but a restart with `Down`. `OutOfRange` is
+    /// answered where the envelope is for another actor, where an input is one of the other kind of
+    /// actor, or a frame that no token came with, and where the definitions refuse it so. `Frame`
+    /// names the offset of a frame's first fault, `Exhausted` says that the actor has taken
+    /// 2^40 - 1 events, and `NoMemory` that there is no room to keep one more or, in a restart, to
+    /// start. Any other refusal is that of `Server::step` or `Agent::step`. A refusal uses the
+    /// envelope up and changes nothing.
+    pub fn take(
+        &mut self,
+        alloc: Global,
+        book: &Book<OwnInput, B>,
+        envelope: Envelope<B>,
+    ) -> Result<Turn<B>, Refusal>
+        ensures ok { IfOk result (λ turn.
+            Turned self.old envelope self.new turn.work turn.sent.items) }
+        ensures err { OnErr result (SameCell self.old self.new) }
+        ensures refused { IfErr result (λ cause. IsRefused self.old envelope cause) }
+    {
+        let Cell {
+            me,
+            actor,
+            taken,
+            seat,
+        } = self;
+        let Envelope {
+            receiver,
+            event,
+            token,
+        } = envelope;
+        if !actor.hears(&event) {
+            return Err(Refusal::Down);
+        }
+        if !is_for(receiver, *me) {
+            return Err(Refusal::OutOfRange);
+        }
+        if !seat.can_note() {
+            return Err(Refusal::Exhausted);
+        }
+        taken.reserve(1)?;
+        step(alloc, book, actor, seat, taken, event, token)
+    }
+}

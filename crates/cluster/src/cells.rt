@@ -1,0 +1,162 @@
+//! All actors of a group, each in a cell under a lock of its own.
+ghost use Rattle.std.specs.Prelude.{◌≡◌, List, length, vec_len, IfOk, IfErr, OnOk};
+ghost use Rattle.cluster.specs.Cells.{AreSent, CellView};
+ghost use Rattle.cluster.specs.Closing.{ClosesTo};
+ghost use Rattle.cluster.specs.Opening.{MayOpenCells, WhyNotOpen};
+
+use crate::cell::{Cell, Turn};
+use crate::envelope::Envelope;
+use crate::joining::join_cells;
+use crate::opening::{cells_of, is_group, is_size};
+use crate::own_input::OwnInput;
+use event_book::{ActorSeat, Book, BookId};
+use rows::{Actor, NoMemory, NodeSpec, Refusal};
+use std::alloc::Global;
+use std::marker::Model;
+use std::sync::{Mutex, MutexGuard, Wait};
+use world::World;
+
+/// All actors of a group, each in a cell under a lock of its own, and the book in which they note
+/// what they do. Contracts see how many servers and clients there are.
+#[derive(Drop)]
+pub struct Cells<B: BookId> {
+    pub(crate) alloc: Global,
+    pub(crate) size: usize,
+    pub(crate) clients: usize,
+    pub(crate) book: Book<OwnInput, B>,
+    // The actor of the cell at each place.
+    pub(crate) actors: Vec<Actor>,
+    pub(crate) cells: Vec<Mutex<Cell<B>>>,
+}
+
+impl<B: BookId> Model for Cells<B> {
+    ghost use Rattle.std.specs.Prelude.{◌≡◌, ◌≤◌, length, vec_len};
+    ghost use Rattle.world.specs.WorldView.{IsGroup};
+    ghost use Rattle.cluster.specs.Closing.{AreOfGroup};
+    ghost use Rattle.cluster.specs.Opening.{GroupSize};
+
+    ghost Value = { GroupSize };
+
+    ghost view = { λ c. record { servers = c.size; clients = c.clients } };
+
+    ghost invariant = { λ c. IsGroup c.size × (c.clients ≤ 64)
+        × AreOfGroup c.size c.clients B.actors × (vec_len c.cells ≡ length B.actors) };
+}
+
+/// Each cell under a lock of its own.
+fn locked<B: BookId>(alloc: Global, cells: Vec<Cell<B>>) -> Result<Vec<Mutex<Cell<B>>>, NoMemory>
+    ensures { IfOk result (λ locks. vec_len locks ≡ vec_len cells) }
+{
+    let mut locks = Vec::new(alloc);
+    for cell in cells {
+        locks.push(Mutex::new(cell))?;
+    }
+    Ok(locks)
+}
+
+/// The cells, once nobody holds their locks.
+fn unlocked<B: BookId>(alloc: Global, locks: Vec<Mutex<Cell<B>>>) -> Result<Vec<Cell<B>>, NoMemory>
+    ensures { IfOk result (λ cells. vec_len cells ≡ vec_len locks) }
+{
+    let mut cells = Vec::new(alloc);
+    for lock in locks {
+        cells.push(lock.into_inner())?;
+    }
+    Ok(cells)
+}
+
+/// The actor of each seat, in their order.
+fn actors_of<B: BookId>(
+    alloc: Global,
+    seats: &[ActorSeat<OwnInput, B>],
+) -> Result<Vec<Actor>, NoMemory> {
+    let mut actors = Vec::new(alloc);
+    for seat in seats {
+        actors.push(seat.actor())?;
+    }
+    Ok(actors)
+}
+
+impl<B: BookId> Cells<B> {
+    /// The cells of a group of `n` servers and a client for each of these nodes, the k-th client,
+    /// from 1, being that of the k-th node, before their first event.
+    ///
+    /// It is refused with `OutOfRange` where `n` is not 3 or 5 or there are more than 64 nodes,
+    /// where the seats are not one for each actor of the group and for no other, or one of them has
+    /// noted something; and with `NoMemory`.
+    pub fn open(
+        alloc: Global,
+        n: usize,
+        nodes: &[NodeSpec],
+        book: Book<OwnInput, B>,
+        seats: Vec<ActorSeat<OwnInput, B>>,
+    ) -> Result<Cells<B>, Refusal>
+        ensures ok { OnOk result (MayOpenCells n (length nodes.now) B.actors seats.items) }
+        ensures size { IfOk result (λ c.
+            c ≡ record { servers = n; clients = length nodes.now }) }
+        ensures refused { IfErr result
+            (WhyNotOpen (MayOpenCells n (length nodes.now) B.actors seats.items)) }
+    {
+        if !is_size(n) || nodes.len() > 64 {
+            return Err(Refusal::OutOfRange);
+        }
+        if seats.len() != book.actors().len() {
+            return Err(Refusal::OutOfRange);
+        }
+        if !is_group(n, nodes.len(), book.actors()) {
+            return Err(Refusal::OutOfRange);
+        }
+        let actors = actors_of(alloc, seats.as_slice())?;
+        let cells = locked(alloc, cells_of(alloc, n, nodes, seats)?)?;
+        Ok(Cells {
+            alloc,
+            size: n,
+            clients: nodes.len(),
+            book,
+            actors,
+            cells,
+        })
+    }
+
+    /// The cell of an actor alone, once it is free; none where the group has no such actor. While
+    /// the guard is held that actor takes nothing.
+    pub fn lock<R: Wait>(&self, rt: &R, actor: Actor) -> Option<MutexGuard<'_, Cell<B>>> {
+        let place = self.actors.iter().position(|a| *a == actor)?;
+        Some(self.cells.get(place)?.lock(rt))
+    }
+}
+
+/// An actor takes an envelope: its cell is locked, and no other.
+///
+/// It is refused with `OutOfRange` where the group has no such actor, and else as `Cell::take`
+/// refuses. What the actor sent comes with its tokens.
+pub fn turn<B: BookId, R: Wait>(
+    rt: &R,
+    cells: &Cells<B>,
+    actor: Actor,
+    envelope: Envelope<B>,
+) -> Result<Turn<B>, Refusal>
+    ensures { IfOk result (λ turn. AreSent envelope.receiver turn.sent.items) }
+{
+    let Some(mut cell) = cells.lock(rt, actor) else {
+        return Err(Refusal::OutOfRange);
+    };
+    cell.take(cells.alloc, &cells.book, envelope)
+}
+
+/// Closes a group of cells once nobody else has them: the world to which all that they noted leads,
+/// each event once and in the order of its stamp. Its actors are those of the cells. The world is made
+/// by playing these events again, and memory may be wanting for it.
+pub fn close<B: BookId>(cells: Cells<B>) -> Result<World, NoMemory>
+    ensures { IfOk result (λ w. (views : List CellView) × ClosesTo B.actors views w) }
+{
+    let Cells {
+        alloc,
+        size,
+        clients,
+        book,
+        actors: _,
+        cells,
+    } = cells;
+    join_cells(alloc, size, clients, book, unlocked(alloc, cells)?)
+}

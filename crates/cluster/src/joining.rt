@@ -1,0 +1,91 @@
+//! The world that a closed group of cells comes to.
+ghost use Rattle.std.specs.Prelude.{◌≡◌, ◌≢◌, ◌≤◌, length, IfOk, IfSome, IfNone};
+ghost use Rattle.client_agent.specs.AgentView.{AgentView};
+ghost use Rattle.world.specs.WorldView.{IsGroup};
+ghost use Rattle.cluster.specs.Actors.{group_size};
+ghost use Rattle.cluster.specs.Closing.{AreOfGroup, ClosesTo};
+ghost use Rattle.cluster.specs.Inner.Joined.{agent_named, HasClient, HasClients, IsNodeOf, AreNodesOf};
+
+use crate::actor::GroupActor;
+use crate::cell::Cell;
+use crate::closing::{JoinedCells, NamedActor, history};
+use crate::own_input::OwnInput;
+use crate::replaying::replay;
+use event_book::{Book, BookId};
+use fsm_state::Cluster;
+use rows::{Actor, ClientId, NoMemory, NodeSpec};
+use std::alloc::Global;
+use wire::frames_are_whole;
+use world::World;
+
+/// The node of a client, if this is its agent.
+fn node_in(named: &NamedActor, client: ClientId) -> Option<NodeSpec>
+    ensures some { IfSome result (λ node.
+        (a : AgentView) × (named.now ≡ agent_named client a) × (node ≡ a.client.node)) }
+    ensures none { IfNone result ((a : AgentView) → named.now ≢ agent_named client a) }
+{
+    if named.me != Actor::Client(client) {
+        return None;
+    }
+    match &named.actor {
+        GroupActor::Client(agent) => Some(agent.node()),
+        GroupActor::Server(_) => None,
+    }
+}
+
+/// The node of a client whose agent is among these.
+fn node_among(actors: &[NamedActor], client: ClientId) -> NodeSpec
+    requires { HasClient actors.now client }
+    ensures { IsNodeOf actors.now client result }
+{
+    for named in actors {
+        if let Some(node) = node_in(named, client) {
+            return node;
+        }
+    }
+    unreachable!()
+}
+
+/// The nodes of the first `m` clients, whose agents are among these.
+fn nodes_among(alloc: Global, m: usize, actors: &[NamedActor]) -> Result<Vec<NodeSpec>, NoMemory>
+    requires few { m ≤ 64 }
+    requires there { HasClients m actors.now }
+    ensures { IfOk result (λ nodes. AreNodesOf m actors.now nodes.items) }
+{
+    let mut nodes = Vec::new(alloc);
+    for place in 0..m {
+        let Some(client) = ClientId::from_number(place as u8 + 1) else {
+            unreachable!()
+        };
+        nodes.push(node_among(actors, client))?;
+    }
+    Ok(nodes)
+}
+
+/// Closes a book with all of its cells: the world of `n` servers, 3 or 5, and at most 64 clients
+/// to which what the cells noted leads. It asks for as many cells as the book has actors, in any
+/// order, and for a book of the actors of such a group.
+///
+/// The world's trace is all that the cells noted, each event once and in the order of its stamp, and
+/// its actors are those of the cells. The world is made by playing these events again, and memory
+/// may be wanting for it.
+pub fn join_cells<B: BookId>(
+    alloc: Global,
+    n: usize,
+    m: usize,
+    book: Book<OwnInput, B>,
+    cells: Vec<Cell<B>>,
+) -> Result<World, NoMemory>
+    requires count { length cells.items ≡ length B.actors }
+    requires size { IsGroup n }
+    requires few { m ≤ 64 }
+    requires group { AreOfGroup n m B.actors }
+    requires is { group_size B.actors ≡ n }
+    ensures { IfOk result (λ w. ClosesTo B.actors cells.items w) }
+{
+    // A frame that was sent is read as the message that it is.
+    frames_are_whole::<Cluster>();
+    let JoinedCells { events, actors } = history(alloc, book, cells)?;
+    let nodes = nodes_among(alloc, m, &actors)?;
+    replay(alloc, n, &nodes, events)
+}

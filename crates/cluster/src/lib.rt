@@ -1,0 +1,22 @@
+//! Servers and clients of a group as threads: each in a cell under a lock of its own, each of its
+//! steps noted in the book that all share, and the world that the notes of all of them make.
+#![tactic(auto)]
+
+mod actor;
+mod cell;
+mod cells;
+mod closing;
+mod envelope;
+mod joining;
+mod merging;
+mod numbering;
+mod opening;
+mod own_input;
+mod replaying;
+
+pub use actor::{GroupActor, Stepped};
+pub use cell::{Cell, StampedEvent, Turn};
+pub use cells::{Cells, close, turn};
+pub use envelope::Envelope;
+pub use joining::join_cells;
+pub use own_input::OwnInput;

@@ -1,0 +1,101 @@
+//! Noted events as the group's events.
+ghost use Rattle.std.specs.Prelude.{◌≡◌, ◌+◌, ◌^◌, ◌≤◌, ◌⊎◌, length, slice_index, IfOk, OnErr};
+ghost use Rattle.event_book.specs.Noted.{event_view};
+ghost use Rattle.world.specs.GroupEvents.{group_event};
+ghost use Rattle.cluster.specs.Closing.{crash_event, own_event};
+ghost use Rattle.cluster.specs.Inner.Numbers.{AreEventsOf, FitsOffsets, delivery_of, entry_event};
+
+use crate::merging::Placed;
+use crate::own_input::OwnInput;
+use client_agent::ClientInput;
+use event_book::ActorEvent;
+use rows::{Actor, NoMemory};
+use server::ServerInput;
+use std::alloc::Global;
+use world::Event;
+
+/// The crash of an actor.
+fn crash(alloc: Global, actor: Actor) -> Result<Event, NoMemory>
+    ensures { IfOk result (λ event. group_event event ≡ crash_event actor) }
+{
+    match actor {
+        Actor::Server(server) => Event::server(alloc, server, ServerInput::Crash),
+        Actor::Client(client) => Event::client(alloc, client, ClientInput::Crash),
+    }
+}
+
+/// An actor's own input. No actor takes an input of the other kind; a crash stands for it.
+fn own(alloc: Global, actor: Actor, input: OwnInput) -> Result<Event, NoMemory>
+    ensures { IfOk result (λ event. group_event event ≡ own_event actor input) }
+{
+    match actor {
+        Actor::Server(server) => match input {
+            OwnInput::Server(input) => Ok(Event::Server(server, input)),
+            OwnInput::Client(_) => crash(alloc, actor),
+        },
+        Actor::Client(client) => match input {
+            OwnInput::Server(_) => crash(alloc, actor),
+            OwnInput::Client(input) => Ok(Event::Client(client, input)),
+        },
+    }
+}
+
+/// The sum of two numbers. `NoMemory` is the answer just where it is 2^64 or more.
+fn sum(m: u64, n: u64) -> Result<u64, NoMemory>
+    ensures ok { IfOk result (λ sum. sum ≡ m + n) }
+    ensures err { OnErr result (2 ^ 64 ≤ m + n) }
+{
+    match m.checked_add(n) {
+        Some(sum) => Ok(sum),
+        None => Err(NoMemory),
+    }
+}
+
+/// The delivery of the output at a place of an event, where the offsets say how many outputs come
+/// before those of each event so far. `NoMemory` is the answer just where that event is not among
+/// them, or the output's number is 2^64 or more.
+fn delivery(offsets: &[u64], stamp: u64, place: u64) -> Result<Event, NoMemory>
+    ensures ok { IfOk result (FitsOffsets offsets.now (delivery_of stamp place)) }
+    ensures err { OnErr result ((length offsets.now ≤ stamp)
+        ⊎ (2 ^ 64 ≤ slice_index offsets.now stamp + place + 1)) }
+{
+    let Some(before) = offsets.get(stamp as usize) else {
+        return Err(NoMemory);
+    };
+    Ok(Event::Deliver(sum(sum(*before, place)?, 1)?))
+}
+
+/// The event that an actor's event is.
+fn event_at(
+    alloc: Global,
+    offsets: &[u64],
+    actor: Actor,
+    event: ActorEvent<OwnInput>,
+) -> Result<Event, NoMemory>
+    ensures { IfOk result (FitsOffsets offsets.now (entry_event actor (event_view event))) }
+{
+    match event {
+        ActorEvent::Own(input) => own(alloc, actor, input),
+        ActorEvent::Delivery { stamp, place, .. } => delivery(offsets, stamp, place),
+        ActorEvent::Crash => crash(alloc, actor),
+    }
+}
+
+/// The events of a history, in its order. A delivery counts the outputs of all events from 1, in the
+/// order of the events and then of their places. `NoMemory` is the answer also where that count
+/// passes 2^64, which it can't in memory that exists, and where a delivery is of an event that does
+/// not come before it, which no legal history has.
+pub(crate) fn number(alloc: Global, merged: Vec<Placed>) -> Result<Vec<Event>, NoMemory>
+    ensures { IfOk result (λ r. AreEventsOf merged.items r.items) }
+{
+    let mut offsets = Vec::new(alloc);
+    let mut events = Vec::new(alloc);
+    let mut total = 0u64;
+    for placed in merged {
+        let Placed { actor, event, sent } = placed;
+        events.push(event_at(alloc, &offsets, actor, event)?)?;
+        offsets.push(total)?;
+        total = sum(total, sent as u64)?;
+    }
+    Ok(events)
+}

@@ -1,0 +1,161 @@
+//! How the cells of a group are opened.
+ghost use Rattle.std.specs.Prelude.{◌≡◌, ◌<◌, ◌≤◌, ℕ, suc, true, false, length, IfOk, IfErr, MatchBool, OnOk};
+ghost use Rattle.std.specs.List.{AllByRecursion};
+ghost use Rattle.rows.specs.declared.actor.Actor.TheVariants as actors;
+ghost use Rattle.world.specs.WorldView.{IsGroup};
+ghost use Rattle.event_book.specs.Seats.{is_named};
+ghost use Rattle.cluster.specs.Actors.{group_size, IsNewActor};
+ghost use Rattle.cluster.specs.Closing.{AreOfGroup};
+ghost use Rattle.cluster.specs.Opening.{AreNew, IsOfGroup, MayOpen, WhyNotOpen};
+
+use crate::actor::GroupActor;
+use crate::cell::Cell;
+use crate::own_input::OwnInput;
+use client_agent::Agent;
+use event_book::{ActorSeat, BookId};
+use rows::{Actor, ClientId, NodeId, NodeSpec, Refusal, ServerId};
+use server::Server;
+use std::alloc::Global;
+
+/// Whether a group may have so many servers.
+pub(crate) fn is_size(n: usize) -> bool
+    ensures { MatchBool result (IsGroup n) (IsGroup n → ⊥) }
+{
+    n == 3 || n == 5
+}
+
+/// Whether each of the `n` servers is among these.
+fn has_servers(n: usize, all: &[Actor]) -> bool
+    requires { n ≤ 5 }
+    ensures yes { result ≡ true →
+        (i : ℕ) → i < n → is_named all.now (actors.Server i) ≡ true }
+    ensures no { result ≡ false →
+        (i : ℕ) × (i < n) × (is_named all.now (actors.Server i) ≡ false) }
+{
+    for place in 0..n {
+        let Some(server) = ServerId::from_place(place) else {
+            unreachable!()
+        };
+        if !all.contains(&Actor::Server(server)) {
+            return false;
+        }
+    }
+    true
+}
+
+/// Whether each of the `m` clients is among these.
+fn has_clients(m: usize, all: &[Actor]) -> bool
+    requires { m ≤ 64 }
+    ensures yes { result ≡ true →
+        (k : ℕ) → k < m → is_named all.now (actors.Client (suc k)) ≡ true }
+    ensures no { result ≡ false →
+        (k : ℕ) × (k < m) × (is_named all.now (actors.Client (suc k)) ≡ false) }
+{
+    for place in 0..m {
+        let Some(client) = ClientId::from_number(place as u8 + 1) else {
+            unreachable!()
+        };
+        if !all.contains(&Actor::Client(client)) {
+            return false;
+        }
+    }
+    true
+}
+
+/// Whether the group has this actor.
+fn is_of_group(n: usize, m: usize, actor: Actor) -> bool
+    ensures { MatchBool result (IsOfGroup n m actor) (IsOfGroup n m actor → ⊥) }
+{
+    match actor {
+        Actor::Server(server) => server.place() < n,
+        Actor::Client(client) => usize::from(client.number()) <= m,
+    }
+}
+
+/// Whether all of these are actors of the group.
+fn are_within(n: usize, m: usize, all: &[Actor]) -> bool
+    ensures { MatchBool result (AllByRecursion (IsOfGroup n m) all.now)
+        (AllByRecursion (IsOfGroup n m) all.now → ⊥) }
+{
+    match all.split_first() {
+        None => true,
+        Some((actor, rest)) => is_of_group(n, m, *actor) && are_within(n, m, rest),
+    }
+}
+
+/// Whether these are the actors of a group of `n` servers and `m` clients.
+pub(crate) fn is_group(n: usize, m: usize, all: &[Actor]) -> bool
+    requires servers { n ≤ 5 }
+    requires clients { m ≤ 64 }
+    ensures { MatchBool result (AreOfGroup n m all.now) (AreOfGroup n m all.now → ⊥) }
+{
+    if !are_within(n, m, all) {
+        return false;
+    }
+    if !has_servers(n, all) {
+        return false;
+    }
+    has_clients(m, all)
+}
+
+/// The actor of a group before its first event.
+fn begin(alloc: Global, n: usize, nodes: &[NodeSpec], actor: Actor) -> Result<GroupActor, Refusal>
+    requires size { IsGroup n }
+    requires few { length nodes.now ≤ 64 }
+    ensures ok { IfOk result (λ a. IsNewActor n actor a) }
+    ensures there { OnOk result (IsOfGroup n (length nodes.now) actor) }
+    ensures refused { IfErr result (WhyNotOpen (IsOfGroup n (length nodes.now) actor)) }
+{
+    match actor {
+        Actor::Server(server) => {
+            if server.place() >= n {
+                return Err(Refusal::OutOfRange);
+            }
+            Ok(GroupActor::Server(Server::new(alloc, server, n)?))
+        }
+        Actor::Client(client) => {
+            let number = client.number();
+            let Some(spec) = nodes.get(usize::from(number - 1)) else {
+                return Err(Refusal::OutOfRange);
+            };
+            let Some(number) = NodeId::from_number(number) else {
+                unreachable!()
+            };
+            let node = NodeSpec {
+                number,
+                class: spec.class,
+                size: spec.size,
+            };
+            Ok(GroupActor::Client(Agent::new(alloc, node, n)?))
+        }
+    }
+}
+
+/// A cell for each seat, before its actor's first event: in a group of `n` servers and a client for
+/// each of these nodes, the k-th client, from 1, being that of the k-th node. It is refused with
+/// `OutOfRange` where a seat is of no actor of the group, or has noted something, and with
+/// `NoMemory`.
+pub fn cells_of<B: BookId>(
+    alloc: Global,
+    n: usize,
+    nodes: &[NodeSpec],
+    seats: Vec<ActorSeat<OwnInput, B>>,
+) -> Result<Vec<Cell<B>>, Refusal>
+    requires size { IsGroup n }
+    requires few { length nodes.now ≤ 64 }
+    requires named { group_size B.actors ≡ n }
+    ensures new { IfOk result (λ cells. AreNew n cells.items seats.items) }
+    ensures each { OnOk result (AllByRecursion (MayOpen n (length nodes.now)) seats.items) }
+    ensures refused { IfErr result
+        (WhyNotOpen (AllByRecursion (MayOpen n (length nodes.now)) seats.items)) }
+{
+    let mut cells = Vec::new(alloc);
+    for seat in seats {
+        if seat.has_noted() {
+            return Err(Refusal::OutOfRange);
+        }
+        let actor = begin(alloc, n, nodes, seat.actor())?;
+        cells.push(Cell::new(alloc, actor, seat))?;
+    }
+    Ok(cells)
+}

@@ -1,0 +1,4 @@
+pub mod Actors
+pub mod Logs
+pub mod Moves
+pub mod Tokens

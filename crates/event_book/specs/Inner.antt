@@ -1,0 +1,3 @@
+pub mod Actors
+pub mod Views
+pub mod Rule

@@ -1,0 +1,5 @@
+pub mod Actors
+pub mod Histories
+pub mod Seats
+pub mod Noted
+pub mod Inner

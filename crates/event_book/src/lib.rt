@@ -1,0 +1,17 @@
+//! A book in which threads note what actors do, in one order for all.
+#![tactic(auto)]
+
+mod book;
+mod noted;
+mod opened;
+mod rule;
+mod seat;
+mod token;
+mod view;
+
+pub use book::{Book, BookId};
+pub use noted::{ActorEvent, Noted, OutputList, Outputs};
+pub use opened::OpenedBook;
+pub use seat::ActorSeat;
+pub use token::MessageToken;
+pub use view::{EventView, Note, NotedView, Output, SeatView, TokenView};

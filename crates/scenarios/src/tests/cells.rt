@@ -1,0 +1,345 @@
+//! Cells of a group: turns of servers one after another, what each refuses and keeps, and groups
+//! for which no cells open. What is sent, and where, is worked out by hand from Raft, extended
+//! version 2014, section 5.2; the stamps and places are counted by hand.
+ghost use Rattle.std.specs.Prelude.{◌≡◌};
+
+use client_agent::ClientInput;
+use cluster::{Cells, Envelope, OwnInput, StampedEvent, Turn, turn};
+use event_book::{ActorEvent, ActorSeat, Book, BookId, Noted, OpenedBook, OutputList};
+use rows::{Actor, ClientId, Name, NodeId, NodeSpec, Refusal, Sequence, ServerId, Size};
+use server::ServerInput;
+use std::alloc::Global;
+use std::marker::Brand;
+use std::sync::Wait;
+use std::test::*;
+
+/// Servers have numbers from 1, and clients from 129.
+type Number = u8;
+
+/// What comes to an actor.
+#[derive(Clone, Copy)]
+enum Come {
+    // Inputs of a server's own.
+    Timeout,
+    Crash,
+    Restart,
+    // An input of a server's own that is a frame.
+    Frame,
+    // An input of a client's own.
+    Ping,
+    // The first of the messages that were sent and not handed over yet.
+    Message,
+}
+
+use Come::{Crash, Frame, Message, Ping, Restart, Timeout};
+
+/// What a cell keeps: the stamp, for a delivery the stamp and the place of its message, and how
+/// many messages were sent.
+type Kept = (u64, Option<(u64, u64)>, usize);
+
+/// Whose turn it is; what comes, and for whom, where it is an input; the number of the refusal, 0
+/// where there is none; for whom the messages are that are sent; and what that actor's cell keeps
+/// then, which is nothing where there is no such cell.
+type Row = (
+    Number,
+    (Come, Number),
+    u8,
+    &'static [Number],
+    &'static [Kept],
+);
+
+// Server 1 asks both others for their votes. Server 2 gives its vote.
+const ASKED: Kept = (0, None, 2);
+
+const VOTED: Kept = (1, Some((0, 0)), 1);
+
+const TURNS: &[Row] = &[
+    (1, (Timeout, 1), 0, &[2, 3], &[ASKED]),
+    (2, (Message, 0), 0, &[1], &[VOTED]),
+    // What is for server 3 comes to server 2, and what is for server 1 to server 3.
+    (2, (Message, 0), 12, &[], &[VOTED]),
+    (3, (Message, 0), 12, &[], &[]),
+    (2, (Timeout, 1), 12, &[], &[VOTED]),
+    // The group has no such actors.
+    (4, (Timeout, 4), 12, &[], &[]),
+    (129, (Ping, 129), 12, &[], &[]),
+    // A server takes no input of a client, no frame as an input, and no restart while it is up.
+    (3, (Ping, 3), 12, &[], &[]),
+    (3, (Frame, 3), 12, &[], &[]),
+    (3, (Restart, 3), 12, &[], &[]),
+    // A server is down: it refuses what it would take, and what is not for it.
+    (1, (Crash, 1), 0, &[], &[ASKED, (2, None, 0)]),
+    (1, (Timeout, 1), 16, &[], &[ASKED, (2, None, 0)]),
+    (1, (Timeout, 2), 16, &[], &[ASKED, (2, None, 0)]),
+    // Server 3 asks for votes; one of those asked is down, the other votes.
+    (3, (Timeout, 3), 0, &[1, 2], &[(3, None, 2)]),
+    (1, (Message, 0), 16, &[], &[ASKED, (2, None, 0)]),
+    (
+        1,
+        (Restart, 1),
+        0,
+        &[],
+        &[ASKED, (2, None, 0), (4, None, 0)],
+    ),
+    (2, (Message, 0), 0, &[3], &[VOTED, (5, Some((3, 1)), 1)]),
+    (
+        3,
+        (Message, 0),
+        0,
+        &[],
+        &[(3, None, 2), (6, Some((5, 0)), 0)],
+    ),
+];
+
+/// What is done with the seats of a book before its cells open.
+#[derive(Clone, Copy)]
+enum Seats {
+    AsTheyAre,
+    // The last of them notes something.
+    LastNotes,
+    // The last of them is not handed over.
+    LastKept,
+}
+
+use Seats::{AsTheyAre, LastKept, LastNotes};
+
+/// How many servers the group is to have, and how many nodes; the servers of the book, and how many
+/// clients it has; what is done with the seats; and the number of the refusal, if there is one.
+type Opening = ((usize, usize), (&'static [Number], u8), Seats, Option<u8>);
+
+const OPENINGS: &[Opening] = &[
+    ((3, 0), (&[1, 2, 3], 0), AsTheyAre, None),
+    ((5, 2), (&[4, 1, 3, 5, 2], 2), AsTheyAre, None),
+    ((3, 64), (&[1, 2, 3], 64), AsTheyAre, None),
+    ((4, 0), (&[1, 2, 3, 4], 0), AsTheyAre, Some(12)),
+    ((3, 65), (&[1, 2, 3], 64), AsTheyAre, Some(12)),
+    // The book has an actor that the group has not.
+    ((3, 0), (&[1, 2, 3, 4], 0), AsTheyAre, Some(12)),
+    ((3, 0), (&[1, 2, 3], 1), AsTheyAre, Some(12)),
+    // The group has an actor that the book has not.
+    ((3, 0), (&[1, 2], 0), AsTheyAre, Some(12)),
+    ((5, 0), (&[1, 2, 3, 5], 0), AsTheyAre, Some(12)),
+    ((3, 2), (&[1, 2, 3], 1), AsTheyAre, Some(12)),
+    ((3, 0), (&[1, 2, 3], 0), LastNotes, Some(12)),
+    ((3, 1), (&[1, 2, 3], 1), LastNotes, Some(12)),
+    ((3, 0), (&[1, 2, 3], 0), LastKept, Some(12)),
+];
+
+fn actor(number: Number) -> Result<Actor, Refusal> {
+    if number <= 128 {
+        let id = ServerId::from_number(number).ok_or(Refusal::OutOfRange)?;
+        Ok(Actor::Server(id))
+    } else {
+        let id = ClientId::from_number(number - 128).ok_or(Refusal::OutOfRange)?;
+        Ok(Actor::Client(id))
+    }
+}
+
+fn number_of(actor: Actor) -> Number {
+    match actor {
+        Actor::Server(id) => id.number(),
+        Actor::Client(id) => 128 + id.number(),
+    }
+}
+
+fn own(alloc: Global, come: Come) -> Result<OwnInput, Refusal> {
+    let input = match come {
+        Timeout => ServerInput::Timeout,
+        Crash => ServerInput::Crash,
+        Restart => ServerInput::Restart,
+        Frame | Message => ServerInput::Frame(Sequence::new(alloc)),
+        Ping => {
+            let Actor::Server(first) = actor(1)? else {
+                return Err(Refusal::OutOfRange);
+            };
+            return Ok(OwnInput::client(alloc, ClientInput::Ping(first))?);
+        }
+    };
+    Ok(OwnInput::server(alloc, input)?)
+}
+
+// What comes, and which messages wait then.
+fn next<B: BookId>(
+    alloc: Global,
+    come: (Come, Number),
+    waiting: &mut Vec<Envelope<B>>,
+) -> Result<Envelope<B>, Refusal> {
+    if let Message = come.0
+        && !waiting.is_empty()
+    {
+        return Ok(waiting.remove(0));
+    }
+    Ok(Envelope::own(actor(come.1)?, own(alloc, come.0)?))
+}
+
+fn is_kept(event: &StampedEvent, wanted: &Kept) -> bool {
+    let from = match &event.event {
+        ActorEvent::Own(_) => None,
+        ActorEvent::Delivery { stamp, place, .. } => Some((*stamp, *place)),
+        ActorEvent::Crash => return false,
+    };
+    event.stamp == wanted.0 && from == wanted.1 && event.sent == wanted.2
+}
+
+fn are_kept(events: &[StampedEvent], wanted: &[Kept]) -> bool {
+    events.len() == wanted.len() && events.iter().zip(wanted).all(|(e, w)| is_kept(e, w))
+}
+
+// Whether the cell of an actor keeps this.
+fn keeps<B: BookId, R: Wait>(rt: &R, cells: &Cells<B>, actor: Actor, wanted: &[Kept]) -> bool {
+    match cells.lock(rt, actor) {
+        Some(cell) => are_kept(cell.inputs(), wanted),
+        None => wanted.is_empty(),
+    }
+}
+
+// Whether the messages are for these actors, in order.
+fn are_for<B: BookId>(sent: &[Envelope<B>], wanted: &[Number]) -> bool {
+    sent.len() == wanted.len()
+        && sent
+            .iter()
+            .zip(wanted)
+            .all(|(e, n)| number_of(e.receiver()) == *n)
+}
+
+// The number of the refusal; what is sent waits behind the other messages.
+fn answer<B: BookId>(
+    taken: Result<Turn<B>, Refusal>,
+    to: &[Number],
+    waiting: &mut Vec<Envelope<B>>,
+) -> Result<Option<u8>, Refusal> {
+    let sent = match taken {
+        Ok(turn) => turn.sent,
+        Err(cause) => return Ok(to.is_empty().then_some(cause.number())),
+    };
+    let are_wanted = are_for(sent.as_slice(), to);
+    for envelope in sent {
+        waiting.push(envelope)?;
+    }
+    Ok(are_wanted.then_some(0))
+}
+
+// A turn, and whether it does what is wanted.
+fn is_played<B: BookId, R: Wait>(
+    rt: &R,
+    alloc: Global,
+    cells: &Cells<B>,
+    row: &Row,
+    waiting: &mut Vec<Envelope<B>>,
+) -> Result<bool, Refusal> {
+    let me = actor(row.0)?;
+    let envelope = next(alloc, row.1, waiting)?;
+    let answered = answer(turn(rt, cells, me, envelope), row.3, waiting)?;
+    Ok(answered == Some(row.2) && keeps(rt, cells, me, row.4))
+}
+
+// How many of the turns go as is wanted, up to the first that does not.
+fn play<B: BookId, R: Wait>(
+    rt: &R,
+    alloc: Global,
+    opened: OpenedBook<OwnInput>,
+) -> Result<usize, Refusal>
+    requires { opened ≡ (B.table, B.actors) }
+{
+    let (book, seats) = opened.seats::<B>(alloc)?;
+    let cells = Cells::open(alloc, 3, &[], book, seats)?;
+    let mut waiting = Vec::new(alloc);
+    for (place, row) in TURNS.iter().enumerate() {
+        if !is_played(rt, alloc, &cells, row, &mut waiting)? {
+            return Ok(place);
+        }
+    }
+    Ok(TURNS.len())
+}
+
+fn actors(alloc: Global, servers: &[Number], clients: u8) -> Result<Vec<Actor>, Refusal> {
+    let mut all = Vec::new(alloc);
+    for number in servers {
+        all.push(actor(*number)?)?;
+    }
+    for number in 0..clients.min(64) {
+        all.push(actor(129 + number)?)?;
+    }
+    Ok(all)
+}
+
+// A client's node; which client it is of, its place says.
+fn node() -> Result<NodeSpec, Refusal> {
+    Ok(NodeSpec {
+        number: NodeId::from_number(1).ok_or(Refusal::OutOfRange)?,
+        class: Name::read("linux")?,
+        size: Size::check(1000, 2000)?,
+    })
+}
+
+fn nodes(alloc: Global, count: usize) -> Result<Vec<NodeSpec>, Refusal> {
+    let mut all = Vec::new(alloc);
+    for _ in 0..count {
+        all.push(node()?)?;
+    }
+    Ok(all)
+}
+
+fn prepared<B: BookId>(
+    alloc: Global,
+    book: &Book<OwnInput, B>,
+    seats: Vec<ActorSeat<OwnInput, B>>,
+    how: Seats,
+) -> Result<Vec<ActorSeat<OwnInput, B>>, Refusal> {
+    let mut seats = seats;
+    let Some(mut last) = seats.pop() else {
+        return Ok(seats);
+    };
+    match how {
+        AsTheyAre => seats.push(last)?,
+        LastNotes => {
+            let noted = Noted {
+                event: ActorEvent::Own(own(alloc, Timeout)?),
+                outputs: OutputList(Vec::new(alloc)),
+            };
+            last.note(book, &noted)?;
+            seats.push(last)?;
+        }
+        LastKept => (),
+    }
+    Ok(seats)
+}
+
+// The cells of a group open.
+fn open<B: BookId>(
+    alloc: Global,
+    opened: OpenedBook<OwnInput>,
+    group: (usize, usize),
+    how: Seats,
+) -> Result<(), Refusal>
+    requires { opened ≡ (B.table, B.actors) }
+{
+    let (book, seats) = opened.seats::<B>(alloc)?;
+    let seats = prepared(alloc, &book, seats, how)?;
+    let nodes = nodes(alloc, group.1)?;
+    let _cells = Cells::open(alloc, group.0, nodes.as_slice(), book, seats)?;
+    Ok(())
+}
+
+fn opened(alloc: Global, servers: &[Number], clients: u8) -> Result<OpenedBook<OwnInput>, Refusal> {
+    OpenedBook::new(alloc, actors(alloc, servers, clients)?)
+}
+
+#[test]
+fn cells_take_turns(rt: HostRuntime) -> Result<(), Fail> {
+    let book = opened(rt.alloc(), &[1, 2, 3], 0)?;
+    let played = play::<Brand, _>(&rt, rt.alloc(), book)?;
+    assert!(rt; played == TURNS.len(), "turn {played}");
+    Ok(())
+}
+
+#[test]
+fn cells_open_for_the_actors_of_a_group(rt: HostRuntime) -> Result<(), Fail> {
+    for (number, row) in OPENINGS.iter().enumerate() {
+        let (group, (servers, clients), how, wanted) = *row;
+        let book = opened(rt.alloc(), servers, clients)?;
+        let refused = open::<Brand>(rt.alloc(), book, group, how).err();
+        assert!(rt; refused.map(|e| e.number()) == wanted, "opening {number}");
+    }
+    Ok(())
+}
