@@ -1,0 +1,91 @@
+-- What the banks of a world's servers have to do with its one list.
+use Rattle.std.proofs.Common.{◌≡◌, ℕ, zero, suc, Bool, true, false, Bor, Option, Some, None, if◌then◌else◌, IfSome, List, [], ◌∷◌, ◌++◌, length, take, drop, take-append-drop, refl, sym, ap, ◌∙◌, subst, slice_get, arith}
+use Rattle.std.proofs.lemmas.Option.{same_Some}
+use Rattle.std.proofs.lemmas.List.{length-take-le}
+use Rattle.std.specs.Option.{option_copied}
+use Rattle.machine.specs.After.{after, Admitted}
+use Rattle.machine.specs.declared.entry.Entry.{Entry}
+use Rattle.machine.proofs.Afters.{after-count, after_good, Admitted-front}
+use Rattle.raft_model.specs.Logs.{commands, state_after}
+use Rattle.raft_model.specs.Servers.{Server, is_up}
+use Rattle.raft_model.specs.Worlds.{World, moment}
+use Rattle.raft_model.specs.Chains.{Agree, At, Chain}
+use Rattle.raft_safety.proofs.Places.{get-last}
+use Rattle.raft_safety.proofs.Sound.{commands_length}
+use Rattle.world.specs.WorldView.{WorldView, RunsTo}
+use Rattle.world.specs.Claims.{OneListEver, running, machine_of}
+use Rattle.bank.specs.BankState.{BankState}
+use Rattle.bank.specs.Bank.{bank_meaning}
+use Rattle.bank.specs.Laws.BankLaws.{bank_lawful}
+use Rattle.bank.specs.Books.{Balanced}
+use Rattle.bank.specs.Histories.{IsBankOf, OneBook}
+use Rattle.bank.specs.declared.command.BankCommand.{BankCommand}
+use Rattle.bank.proofs.Books.{books}
+
+-- the commands of the first entries are the first commands
+commands_take : (k : ℕ) (log : List (Entry BankCommand)) → commands (take k log) ≡ take k (commands log)
+unfolding commands
+commands_take zero log = refl
+commands_take (suc k) [] = refl
+commands_take (suc k) (e ∷ log) = ap (λ cs. e.command ∷ cs) (commands_take k log)
+
+-- the first entries of a log whose commands were admitted were admitted too
+first_admitted : (k : ℕ) (log : List (Entry BankCommand)) → Admitted bank_meaning (commands log) → Admitted bank_meaning (commands (take k log))
+first_admitted k log admitted =
+    let cs = commands log in
+    let whole : Admitted bank_meaning (take k cs ++ drop k cs) = subst (Admitted bank_meaning) (sym (take-append-drop k cs)) admitted in
+    subst (Admitted bank_meaning) (sym (commands_take k log)) (Admitted-front bank_meaning bank_lawful (take k cs) (drop k cs) whole)
+
+-- the bank after the first k entries of the list, which some log has too
+part_is : (list log : List (Entry BankCommand)) (k : ℕ) (bank : BankState) → Agree k log list → Admitted bank_meaning (commands log) →
+    bank ≡ state_after bank_meaning (take k log) → IsBankOf (commands list) bank
+part_is list log k bank agree admitted is =
+    let these = first_admitted k log admitted in
+    let counted : bank.count ≡ k = ap (λ s. s.count) is ∙ (after-count bank_meaning bank_lawful (commands (take k log)) ∙ (commands_length (take k log) ∙ length-take-le k log agree.left)) in
+    let same : commands (take k log) ≡ take bank.count (commands list) = ap commands agree.same ∙ (commands_take k list ∙ ap (λ n. take n (commands list)) (sym counted)) in
+    let state : bank ≡ after bank_meaning (take bank.count (commands list)) = is ∙ ap (after bank_meaning) same in
+    let balanced : Balanced bank (commands (take k log)) = subst (λ s. Balanced s (commands (take k log))) (sym is) (books (commands (take k log)) these) in
+    let good = after_good bank_meaning bank_lawful (commands (take k log)) these in
+    record {
+      count = omega (arith, counted, agree.right, commands_length list);
+      applied = state;
+      balanced = subst (Balanced bank) same balanced;
+      limit = subst (λ s. bank_meaning.safe s) (sym is) good.safe;
+    }
+
+-- each running server's bank, at each moment
+module _ (list : List (Entry BankCommand)) (past : List (World BankCommand)) (w : World BankCommand) (chain : Chain past w list)
+    (admitted : (k i : ℕ) (s : Server BankCommand) → At past w k i s → Admitted bank_meaning (commands s.log))
+    (k : ℕ) (x : World BankCommand) (here : moment past w k ≡ Some x) (i : ℕ) (bank : BankState) where
+  up_part : (s : Server BankCommand) (up : Bool) → is_up s.mode ≡ up → slice_get x.servers i ≡ Some s →
+      (if up then Some (state_after bank_meaning (take s.commit s.log)) else None) ≡ Some bank → IsBankOf (commands list) bank
+  up_part s false down there is = absurd (cc)
+  up_part s true up there is =
+      let at : At past w k i s = record { world = x; world_is = here; here = there } in
+      part_is list s.log s.commit bank (chain.agrees k i s at) (admitted k i s at) (sym (same_Some (state_after bank_meaning (take s.commit s.log)) bank is))
+
+  server_part : (o : Option (Server BankCommand)) → slice_get x.servers i ≡ o → running bank_meaning o ≡ Some bank → IsBankOf (commands list) bank
+  server_part None there is = absurd (cc)
+  server_part (Some s) there is = up_part s (is_up s.mode) refl there is
+
+  bank_part : machine_of bank_meaning x i ≡ Some bank → IsBankOf (commands list) bank
+  bank_part is = server_part (slice_get x.servers i) refl is
+
+pub one_book : (view : WorldView BankCommand) → OneListEver bank_meaning view →
+    ((past : List (World BankCommand)) (w : World BankCommand) → RunsTo bank_meaning view past w → (k i : ℕ) (s : Server BankCommand) → At past w k i s → Admitted bank_meaning (commands s.log)) → OneBook view
+one_book view l admitted = record {
+  past = l.past;
+  world = l.world;
+  runs = l.runs;
+  list = commands l.list;
+  long = commands_length l.list ∙ l.long;
+  ever = λ past w runs k x server bank here is. bank_part l.list past w (l.ever past w runs) (admitted past w runs) k x here server bank is;
+}
+
+-- and so now
+pub bank_now : (view : WorldView BankCommand) → OneBook view → (i : ℕ) (o : Option (Bor BankState)) →
+    ((past : List (World BankCommand)) (w : World BankCommand) → RunsTo bank_meaning view past w → option_copied o ≡ machine_of bank_meaning w i) →
+    IfSome o (λ bank. (list : List BankCommand) × IsBankOf list bank.now)
+bank_now view book i None says = tt
+bank_now view book i (Some b) says =
+    (book.list, book.ever book.past book.world book.runs (length book.past) book.world i b.now (get-last book.past book.world) (sym (says book.past book.world book.runs)))

@@ -1,0 +1,5 @@
+use Rattle.bank.proofs.Histories.{bank_now}
+use Rattle.bank.proofs.history.bank_of.Goals as goal
+
+pub returns-clause-history : goal.returns-clause-history
+returns-clause-history c = bank_now c.args.world.now c.one_book.ensures c.args.server c.machine.result c.machine.ensures.value
