@@ -15,3 +15,4 @@ pub mod FirstWorlds
 pub mod Replays
 pub mod Nodes
 pub mod Joins
+pub mod Sent

@@ -3,4 +3,5 @@ pub mod Refusals
 pub mod Cells
 pub mod Closing
 pub mod Opening
+pub mod Working
 pub mod Inner

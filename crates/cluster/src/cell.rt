@@ -1,4 +1,5 @@
 //! An actor, what it took, and the seat that noted it.
+ghost use Rattle.std.specs.Arc.{arc_value};
 ghost use Rattle.std.specs.Prelude.{◌≡◌, ◌≢◌, MatchBool, ◌+◌, ◌<◌, ◌^◌, [], ℕ, Some, length, map, slice_get, take, vec_len, vec_capacity, IfOk, OnErr, IfErr};
 ghost use Rattle.event_book.specs.Noted.{event_view};
 ghost use Rattle.event_book.specs.Seats.{with_taken};
@@ -6,15 +7,18 @@ ghost use Rattle.cluster.specs.Actors.{output_of, group_size, IsNewActor};
 ghost use Rattle.cluster.specs.Cells.{IsAddressed, tokens_of, kept_of, kept_in, SameCell, Turned, IsRefused};
 ghost use Rattle.cluster.specs.Inner.Sending.{CanBeNoted, EndsWith, last_envelopes, IsNoted, IsRecorded, IsStill, IsTurn};
 ghost use Rattle.cluster.specs.Inner.Steps.{IsAnEvent};
+ghost use Rattle.cluster.specs.Working.{HasApplied, WhyNotApplied};
 
 use crate::actor::{GroupActor, Stepped};
 use crate::envelope::Envelope;
 use crate::own_input::OwnInput;
 use event_book::{ActorEvent, ActorSeat, Book, BookId, MessageToken, Noted, Outputs};
-use rows::{Actor, NoMemory, Refusal, Sequence, Work};
+use fsm_state::Cluster;
+use rows::{Actor, Index, NoMemory, Refusal, Sequence, Work};
 use server::Outbox;
 use std::alloc::Global;
 use std::marker::Model;
+use std::sync::Arc;
 use wire::Frames;
 
 /// An event that an actor took: the stamp of its note, what it was, and how many outputs it gave.
@@ -300,6 +304,20 @@ impl<B: BookId> Cell<B> {
         ensures { map kept_of result.now ≡ map kept_in self.now.seat.notes }
     {
         self.taken.as_slice()
+    }
+
+    /// A copy of a server's replicated state after the committed entries, and how many those are.
+    ///
+    /// It is refused with `OutOfRange` where the actor is a client, with `Down` while the server is
+    /// down, and with `NoMemory`.
+    pub fn snapshot(&self) -> Result<(Arc<Cluster>, Index), Refusal>
+        ensures state { IfOk result (λ p. HasApplied self.now.actor (arc_value p.0) p.1) }
+        ensures refused { IfErr result (λ e. WhyNotApplied self.now.actor e) }
+    {
+        match &self.actor {
+            GroupActor::Server(server) => server.snapshot(),
+            GroupActor::Client(_) => Err(Refusal::OutOfRange),
+        }
     }
 
     /// The actor takes an envelope: one step, or a crash in its place where it finds no memory;

@@ -118,6 +118,26 @@ impl<B: BookId> Cells<B> {
         })
     }
 
+    /// The actors of the group, in the order of their seats.
+    pub fn actors(&self) -> &[Actor] {
+        self.actors.as_slice()
+    }
+
+    /// How many of them are servers.
+    pub(crate) fn servers(&self) -> usize
+        ensures { result ≡ self.now.servers }
+    {
+        self.size
+    }
+
+    /// Two envelopes of one, for a message that is delivered twice: `Envelope::again`.
+    pub fn again(&self, envelope: Envelope<B>) -> Result<(Envelope<B>, Envelope<B>), Envelope<B>>
+        ensures both { IfOk result (λ both. (both.0 ≡ envelope) × (both.1 ≡ envelope)) }
+        ensures back { IfErr result (λ back. back ≡ envelope) }
+    {
+        envelope.again(self.alloc, &self.book)
+    }
+
     /// The cell of an actor alone, once it is free; none where the group has no such actor. While
     /// the guard is held that actor takes nothing.
     pub fn lock<R: Wait>(&self, rt: &R, actor: Actor) -> Option<MutexGuard<'_, Cell<B>>> {

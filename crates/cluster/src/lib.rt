@@ -3,6 +3,7 @@
 #![tactic(auto)]
 
 mod actor;
+mod bell;
 mod cell;
 mod cells;
 mod closing;
@@ -13,6 +14,10 @@ mod numbering;
 mod opening;
 mod own_input;
 mod replaying;
+mod running;
+mod server_workers;
+mod work_queue;
+mod worker;
 
 pub use actor::{GroupActor, Stepped};
 pub use cell::{Cell, StampedEvent, Turn};
@@ -20,3 +25,6 @@ pub use cells::{Cells, close, turn};
 pub use envelope::Envelope;
 pub use joining::join_cells;
 pub use own_input::OwnInput;
+pub use running::{GroupThreads, NetSettings, RunningGroup, start, stop};
+pub use server_workers::{Handled, ServerWorkers, TakenWork};
+pub use worker::{Gate, OpenGate, WorkerTurn, worker_turn};

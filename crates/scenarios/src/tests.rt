@@ -2,8 +2,10 @@
 //! from the program's own output.
 
 mod agents;
+mod banks;
 mod cells;
 mod frames;
 mod messages;
+mod running;
 mod servers;
 mod watching;

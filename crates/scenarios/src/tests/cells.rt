@@ -4,14 +4,16 @@
 ghost use Rattle.std.specs.Prelude.{◌≡◌};
 
 use client_agent::ClientInput;
-use cluster::{Cells, Envelope, OwnInput, StampedEvent, Turn, turn};
+use cluster::{Cells, Envelope, OwnInput, StampedEvent, Turn, close, turn};
 use event_book::{ActorEvent, ActorSeat, Book, BookId, Noted, OpenedBook, OutputList};
+use raft_core::Role;
 use rows::{Actor, ClientId, Name, NodeId, NodeSpec, Refusal, Sequence, ServerId, Size};
 use server::ServerInput;
 use std::alloc::Global;
 use std::marker::Brand;
 use std::sync::Wait;
 use std::test::*;
+use world::World;
 
 /// Servers have numbers from 1, and clients from 129.
 type Number = u8;
@@ -71,7 +73,7 @@ const TURNS: &[Row] = &[
     (1, (Crash, 1), 0, &[], &[ASKED, (2, None, 0)]),
     (1, (Timeout, 1), 16, &[], &[ASKED, (2, None, 0)]),
     (1, (Timeout, 2), 16, &[], &[ASKED, (2, None, 0)]),
-    // Server 3 asks for votes; one of those asked is down, the other votes.
+    // Server 3 asks for votes; one of those asked is down, the other voted in that term.
     (3, (Timeout, 3), 0, &[1, 2], &[(3, None, 2)]),
     (1, (Message, 0), 16, &[], &[ASKED, (2, None, 0)]),
     (
@@ -125,7 +127,7 @@ const OPENINGS: &[Opening] = &[
     ((3, 0), (&[1, 2, 3], 0), LastKept, Some(12)),
 ];
 
-fn actor(number: Number) -> Result<Actor, Refusal> {
+pub(super) fn actor(number: Number) -> Result<Actor, Refusal> {
     if number <= 128 {
         let id = ServerId::from_number(number).ok_or(Refusal::OutOfRange)?;
         Ok(Actor::Server(id))
@@ -233,23 +235,45 @@ fn is_played<B: BookId, R: Wait>(
     Ok(answered == Some(row.2) && keeps(rt, cells, me, row.4))
 }
 
-// How many of the turns go as is wanted, up to the first that does not.
+// How the group stands in the end: how many events were noted and how many messages sent, and
+// whether server 3 still stands for election.
+type End = (usize, usize, bool);
+
+// After the last turn: each of its stamps stands for one event, and the messages are those of the
+// rows. Server 2 had voted for server 1 in that term, so server 3 has its own vote alone.
+const END: End = (7, 6, true);
+
+fn end_of(world: &World) -> Result<End, Refusal> {
+    let Actor::Server(third) = actor(3)? else {
+        return Err(Refusal::OutOfRange);
+    };
+    let stands = world
+        .server(third)
+        .is_some_and(|server| server.role() == Some(Role::Candidate));
+    Ok((world.trace().len(), world.sent().len(), stands))
+}
+
+// How many of the turns go as is wanted, up to the first that does not; and how the world stands to
+// which the group closes then.
 fn play<B: BookId, R: Wait>(
     rt: &R,
     alloc: Global,
     opened: OpenedBook<OwnInput>,
-) -> Result<usize, Refusal>
+) -> Result<(usize, End), Refusal>
     requires { opened ≡ (B.table, B.actors) }
 {
     let (book, seats) = opened.seats::<B>(alloc)?;
     let cells = Cells::open(alloc, 3, &[], book, seats)?;
     let mut waiting = Vec::new(alloc);
+    let mut played = TURNS.len();
     for (place, row) in TURNS.iter().enumerate() {
         if !is_played(rt, alloc, &cells, row, &mut waiting)? {
-            return Ok(place);
+            played = place;
+            break;
         }
     }
-    Ok(TURNS.len())
+    drop(waiting);
+    Ok((played, end_of(&close(cells)?)?))
 }
 
 fn actors(alloc: Global, servers: &[Number], clients: u8) -> Result<Vec<Actor>, Refusal> {
@@ -272,7 +296,7 @@ fn node() -> Result<NodeSpec, Refusal> {
     })
 }
 
-fn nodes(alloc: Global, count: usize) -> Result<Vec<NodeSpec>, Refusal> {
+pub(super) fn nodes(alloc: Global, count: usize) -> Result<Vec<NodeSpec>, Refusal> {
     let mut all = Vec::new(alloc);
     for _ in 0..count {
         all.push(node()?)?;
@@ -321,15 +345,20 @@ fn open<B: BookId>(
     Ok(())
 }
 
-fn opened(alloc: Global, servers: &[Number], clients: u8) -> Result<OpenedBook<OwnInput>, Refusal> {
+pub(super) fn opened(
+    alloc: Global,
+    servers: &[Number],
+    clients: u8,
+) -> Result<OpenedBook<OwnInput>, Refusal> {
     OpenedBook::new(alloc, actors(alloc, servers, clients)?)
 }
 
 #[test]
 fn cells_take_turns(rt: HostRuntime) -> Result<(), Fail> {
     let book = opened(rt.alloc(), &[1, 2, 3], 0)?;
-    let played = play::<Brand, _>(&rt, rt.alloc(), book)?;
+    let (played, end) = play::<Brand, _>(&rt, rt.alloc(), book)?;
     assert!(rt; played == TURNS.len(), "turn {played}");
+    assert!(rt; end == END, "events {}, messages {}", end.0, end.1);
     Ok(())
 }
 

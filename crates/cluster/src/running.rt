@@ -1,0 +1,390 @@
+//! A group on threads: one for each actor, and one for each worker of each server.
+use crate::bell::Bell;
+use crate::cell::Turn;
+use crate::cells::{Cells, turn};
+use crate::envelope::Envelope;
+use crate::own_input::OwnInput;
+use crate::server_workers::ServerWorkers;
+use crate::worker::{Gate, WorkerTurn, worker_turn};
+use event_book::BookId;
+use lossy_net::{Fates, MessageFate, Net, fate};
+use rows::{Actor, NoMemory, Refusal, Sequence, ServerId, Work};
+use std::alloc::{AllocError, Global};
+use std::sync::atomic::{AtomicBool, AtomicU64, Ordering};
+use std::sync::{Arc, Mutex, Wait};
+use std::thread;
+use std::thread::{JoinHandle, Threads};
+
+/// What a group's messages meet on their way.
+#[derive(Clone, Copy, Debug, PartialEq, Eq)]
+pub struct NetSettings {
+    /// How many messages may wait for an actor at a time, from 1 to 65,536.
+    pub room: usize,
+    /// The key of the words that decide what becomes of messages.
+    pub key: u64,
+    /// How many of a hundred messages are lost.
+    pub drop: u8,
+    /// How many of a hundred messages come twice.
+    pub repeat: u8,
+}
+
+/// What the threads of a group share: its cells, the messages on their way, and what waits for the
+/// workers of each server. Each message that an actor sends draws one word, whose fate it has: it
+/// is lost, put once, or put twice; one for which there is no room is lost.
+#[derive(Drop)]
+pub struct RunningGroup<B: BookId, G: Gate + Drop> {
+    cells: Cells<B>,
+    net: Net<Envelope<B>>,
+    fates: Mutex<Fates>,
+    drop: u8,
+    repeat: u8,
+    // How many messages were put and are not done with: each counts until the receiver's turn is
+    // over and what it sent was put or lost.
+    flying: AtomicU64,
+    // Of each actor, by its place: rung when a message was put for it.
+    calls: Vec<Bell>,
+    servers: [WorkersOfServer; 5],
+    gate: G,
+    stopped: AtomicBool,
+}
+
+// What waits for the workers of a server; and a bell that rings when the server took a turn.
+#[derive(Drop)]
+struct WorkersOfServer {
+    work: Mutex<ServerWorkers>,
+    turned: Bell,
+}
+
+fn workers_of_server(alloc: Global) -> WorkersOfServer {
+    WorkersOfServer {
+        work: Mutex::new(ServerWorkers::new(alloc)),
+        turned: Bell::new(),
+    }
+}
+
+// A bell for each actor.
+fn bells(alloc: Global, count: usize) -> Result<Vec<Bell>, NoMemory> {
+    let mut bells = Vec::new(alloc);
+    for _ in 0..count {
+        bells.push(Bell::new())?;
+    }
+    Ok(bells)
+}
+
+// A message is lost.
+fn lose<B: BookId>(_envelope: Envelope<B>) {}
+
+impl<B: BookId, G: Gate + Drop> RunningGroup<B, G> {
+    /// A group of these cells, before its threads start. No message is on its way, and no work
+    /// waits.
+    ///
+    /// It is refused with `OutOfRange` where `net.room` is not from 1 to 65,536, and with
+    /// `NoMemory`.
+    pub fn new(
+        alloc: Global,
+        cells: Cells<B>,
+        net: NetSettings,
+        gate: G,
+    ) -> Result<RunningGroup<B, G>, Refusal> {
+        let queues = Net::new(alloc, cells.actors(), net.room)?;
+        let calls = bells(alloc, cells.actors().len())?;
+        Ok(RunningGroup {
+            cells,
+            net: queues,
+            fates: Mutex::new(Fates::new(net.key)),
+            drop: net.drop,
+            repeat: net.repeat,
+            flying: AtomicU64::new(0),
+            calls,
+            servers: [
+                workers_of_server(alloc),
+                workers_of_server(alloc),
+                workers_of_server(alloc),
+                workers_of_server(alloc),
+                workers_of_server(alloc),
+            ],
+            gate,
+            stopped: AtomicBool::new(false),
+        })
+    }
+
+    /// The cells.
+    pub fn cells(&self) -> &Cells<B> {
+        &self.cells
+    }
+
+    /// The gate.
+    pub fn gate(&self) -> &G {
+        &self.gate
+    }
+
+    /// The cells, once nobody else has the group. What is on its way is lost, and what waits is
+    /// dropped.
+    pub fn into_cells(self) -> Cells<B> {
+        self.cells
+    }
+
+    /// An actor takes an input of its own, in the caller's thread: its cell is locked, and no
+    /// other. What it sends is put on its way, and what came for workers waits for them.
+    ///
+    /// It is refused with `OutOfRange` where the group has no such actor, and else as `Cell::take`
+    /// refuses. What came for workers and has no memory to wait in is lost, as if a message were.
+    pub fn hand<R: Wait>(&self, rt: &R, actor: Actor, input: OwnInput) -> Result<(), Refusal> {
+        let envelope = Envelope::own(actor, input);
+        let receiver = envelope.receiver();
+        let turned = turn(rt, &self.cells, envelope.receiver(), envelope)?;
+        self.settle(rt, receiver, turned);
+        Ok(())
+    }
+
+    /// Waits until each message that was put is done with: its receiver took it or refused it, and
+    /// what that sent was put or lost. It looks so often at most, and then goes on.
+    pub fn flow(&self, looks: u64) {
+        for _ in 0..looks {
+            if self.flying.load(Ordering::SeqCst) == 0 {
+                return;
+            }
+            thread::yield_now();
+        }
+    }
+
+    // What comes of a turn goes where it belongs. The workers of a server look again.
+    fn settle<R: Wait>(&self, rt: &R, actor: Actor, turned: Turn<B>) {
+        let Turn { work, sent } = turned;
+        for envelope in sent {
+            self.post(rt, envelope);
+        }
+        if let Actor::Server(server) = actor {
+            self.admit(rt, server, work);
+        }
+    }
+
+    // What came for a server's workers waits for them; what there is no memory for is lost. Where
+    // the server is down, also for want of memory, they have nothing any more.
+    fn admit<R: Wait>(&self, rt: &R, server: ServerId, work: Sequence<Work>) {
+        let workers = &self.servers[server.place()];
+        if self.is_up(rt, server) {
+            let _ = workers.work.lock(rt).admit(work);
+        } else {
+            workers.work.lock(rt).forget();
+        }
+        workers.turned.ring(rt);
+    }
+
+    fn is_up<R: Wait>(&self, rt: &R, server: ServerId) -> bool {
+        match self.cells.lock(rt, Actor::Server(server)) {
+            Some(cell) => cell.actor().is_up(),
+            None => false,
+        }
+    }
+
+    // What becomes of a message that is sent.
+    fn post<R: Wait>(&self, rt: &R, envelope: Envelope<B>) {
+        let word = self.fates.lock(rt).next();
+        match fate(word, self.drop, self.repeat) {
+            MessageFate::Lose => lose(envelope),
+            MessageFate::Once => self.put(rt, envelope),
+            MessageFate::Repeat => match self.cells.again(envelope) {
+                Ok((one, other)) => {
+                    self.put(rt, one);
+                    self.put(rt, other);
+                }
+                Err(one) => self.put(rt, one),
+            },
+        }
+    }
+
+    // A message is put on its way, or lost where there is no room.
+    fn put<R: Wait>(&self, rt: &R, envelope: Envelope<B>) {
+        let receiver = envelope.receiver();
+        self.flying.fetch_add(1, Ordering::SeqCst);
+        if self.net.put(rt, envelope.receiver(), envelope).is_err() {
+            self.flying.fetch_sub(1, Ordering::SeqCst);
+            return;
+        }
+        self.call(rt, receiver);
+    }
+
+    // Wakes the thread of an actor.
+    fn call<R: Wait>(&self, rt: &R, receiver: Actor) {
+        let mut bells = self.calls.iter();
+        for actor in self.cells.actors() {
+            let Some(bell) = bells.next() else {
+                return;
+            };
+            if *actor == receiver {
+                bell.ring(rt);
+                return;
+            }
+        }
+    }
+
+    // An actor takes the message that waits longest for it; whether there was one.
+    fn serve<R: Wait>(&self, rt: &R, actor: Actor) -> bool {
+        let Ok(Some(envelope)) = self.net.take(rt, actor) else {
+            return false;
+        };
+        let receiver = envelope.receiver();
+        let turned = turn(rt, &self.cells, envelope.receiver(), envelope);
+        // A refused message is used up.
+        if let Ok(turned) = turned {
+            self.settle(rt, receiver, turned);
+        }
+        self.flying.fetch_sub(1, Ordering::SeqCst);
+        true
+    }
+
+    // The thread of the actor at this place.
+    fn run_actor<R: Wait>(&self, rt: &R, place: usize) {
+        let (Some(bell), Some(actor)) = (self.calls.get(place), self.cells.actors().get(place))
+        else {
+            return;
+        };
+        for _ in rt.forever() {
+            let heard = bell.rings(rt);
+            if self.stopped.load(Ordering::SeqCst) {
+                return;
+            }
+            if !self.serve(rt, *actor) {
+                bell.wait(rt, heard);
+            }
+        }
+    }
+
+    // A worker of a server does what it can; whether it went on with something.
+    fn work<R: Wait>(&self, rt: &R, server: ServerId) -> bool {
+        let workers = &self.servers[server.place()];
+        match worker_turn(rt, &self.cells, &workers.work, server, &self.gate) {
+            Ok(WorkerTurn { went_on, turn }) => {
+                if let Some(turned) = turn {
+                    self.settle(rt, Actor::Server(server), turned);
+                }
+                went_on
+            }
+            // What its server refuses to ask for is used up.
+            Err(_) => true,
+        }
+    }
+
+    // The thread of a worker of the server at this place.
+    fn run_worker<R: Wait>(&self, rt: &R, place: usize) {
+        let Some(server) = ServerId::from_place(place) else {
+            return;
+        };
+        let bell = &self.servers[server.place()].turned;
+        for _ in rt.forever() {
+            let heard = bell.rings(rt);
+            if self.stopped.load(Ordering::SeqCst) {
+                return;
+            }
+            if !self.work(rt, server) {
+                bell.wait(rt, heard);
+            }
+        }
+    }
+
+    // The thread of this number: the actors' come first, then the workers', server by server.
+    fn run<R: Wait>(&self, rt: &R, number: usize, workers: u8) {
+        let actors = self.cells.actors().len();
+        if number < actors {
+            self.run_actor(rt, number);
+        } else if workers > 0 {
+            self.run_worker(rt, (number - actors) / usize::from(workers));
+        }
+    }
+
+    // Every thread ends once it is done with what it is at.
+    fn stop<R: Wait>(&self, rt: &R) {
+        self.stopped.store(true, Ordering::SeqCst);
+        for bell in &self.calls {
+            bell.ring(rt);
+        }
+        for server in &self.servers {
+            server.turned.ring(rt);
+        }
+    }
+}
+
+/// The threads of a group.
+#[derive(Drop)]
+pub struct GroupThreads {
+    handles: Vec<JoinHandle<()>>,
+}
+
+// Starts a thread for each number.
+fn start_all<B, G, R>(
+    rt: R,
+    group: &Arc<RunningGroup<B, G>, Global>,
+    workers: u8,
+    handles: &mut Vec<JoinHandle<()>>,
+) -> Result<(), AllocError>
+where
+    B: BookId + Send + Sync + 'static,
+    G: Gate + Drop + Send + Sync + 'static,
+    R: Threads + Wait + Copy + Send + 'static,
+{
+    let all_workers = group.cells.servers().saturating_mul(usize::from(workers));
+    for number in 0..group.cells.actors().len().saturating_add(all_workers) {
+        handles.reserve(1)?;
+        let theirs = Arc::try_clone(group)?;
+        match thread::spawn(&rt, move || theirs.run(&rt, number, workers)) {
+            Ok(handle) => handles.push_reserved(handle),
+            Err(_) => return Err(AllocError),
+        }
+    }
+    Ok(())
+}
+
+/// Starts a group: a thread for each actor, which takes the messages that come for it, and for each
+/// server as many threads as it is to have workers. Where memory or a thread is wanting, those that
+/// were started end before this is answered.
+pub fn start<B, G, R>(
+    rt: R,
+    alloc: Global,
+    group: &Arc<RunningGroup<B, G>, Global>,
+    workers: u8,
+) -> Result<GroupThreads, NoMemory>
+where
+    B: BookId + Send + Sync + 'static,
+    G: Gate + Drop + Send + Sync + 'static,
+    R: Threads + Wait + Copy + Send + 'static,
+{
+    let mut handles = Vec::new(alloc);
+    match start_all(rt, group, workers, &mut handles) {
+        Ok(()) => Ok(GroupThreads { handles }),
+        Err(_) => {
+            end(&rt, group, GroupThreads { handles });
+            Err(NoMemory)
+        }
+    }
+}
+
+// Ends the threads.
+fn end<B, G, R>(rt: &R, group: &RunningGroup<B, G>, threads: GroupThreads)
+where
+    B: BookId,
+    G: Gate + Drop,
+    R: Threads + Wait,
+{
+    group.stop(rt);
+    for handle in threads.handles {
+        handle.join(rt);
+    }
+}
+
+/// Stops the threads of a group, each once it is done with what it is at, and gives the cells back
+/// once all have ended; none where somebody else still has the group. What is on its way is lost,
+/// and what waits for workers is dropped.
+pub fn stop<B, G, R>(
+    rt: &R,
+    group: Arc<RunningGroup<B, G>, Global>,
+    threads: GroupThreads,
+) -> Option<Cells<B>>
+where
+    B: BookId,
+    G: Gate + Drop,
+    R: Threads + Wait,
+{
+    end(rt, &group, threads);
+    Some(Arc::into_inner(group)?.into_cells())
+}

@@ -1,0 +1,72 @@
+//! What waits for one server's workers.
+ghost use Rattle.std.specs.Prelude.{◌≡◌, ◌≢◌, ◌++◌, ◌∷◌, [], OnOk, MatchBool, MatchOption};
+
+use rows::{NoMemory, Work};
+use std::alloc::Global;
+use std::collections::VecDeque;
+use std::marker::Model;
+
+/// What came for the workers of one server and is not taken up, the oldest first. Contracts see the
+/// list.
+#[derive(Drop)]
+pub(crate) struct WorkQueue {
+    items: VecDeque<Work>,
+}
+
+impl Model for WorkQueue {
+    ghost use Rattle.std.specs.Prelude.{List};
+    ghost use Rattle.rows.specs.declared.worker.Work.{Work};
+
+    ghost Value = { List Work };
+
+    ghost view = { λ q. q.items.items };
+}
+
+impl WorkQueue {
+    /// Nothing waits.
+    pub(crate) fn new(alloc: Global) -> WorkQueue
+        ensures { result ≡ [] }
+    {
+        WorkQueue {
+            items: VecDeque::new(alloc),
+        }
+    }
+
+    /// What comes is put behind the others.
+    pub(crate) fn put(&mut self, work: Work) -> Result<(), NoMemory>
+        ensures { OnOk result (self.new ≡ self.old ++ work ∷ []) }
+    {
+        self.items.push_back(work)?;
+        Ok(())
+    }
+
+    /// What was taken is put in front again.
+    pub(crate) fn put_back(&mut self, work: Work) -> Result<(), NoMemory>
+        ensures { OnOk result (self.new ≡ work ∷ self.old) }
+    {
+        self.items.push_front(work)?;
+        Ok(())
+    }
+
+    /// Whether nothing waits.
+    pub(crate) fn is_empty(&self) -> bool
+        ensures { MatchBool result (self.now ≡ []) (self.now ≢ []) }
+    {
+        self.items.is_empty()
+    }
+
+    /// Takes the oldest; none where nothing waits.
+    pub(crate) fn take(&mut self) -> Option<Work>
+        ensures { MatchOption result ((self.old ≡ []) × (self.new ≡ []))
+            (λ work. self.old ≡ work ∷ self.new) }
+    {
+        self.items.pop_front()
+    }
+
+    /// Nothing waits any more.
+    pub(crate) fn clear(&mut self)
+        ensures { self.new ≡ [] }
+    {
+        self.items.clear();
+    }
+}

@@ -1,0 +1,126 @@
+//! A worker of one server.
+ghost use Rattle.std.specs.Prelude.{◌≡◌, IfOk, IfSome, None};
+ghost use Rattle.rows.specs.declared.actor.Actor.TheVariants as actors;
+ghost use Rattle.cluster.specs.Cells.{AreSent};
+
+use crate::cell::Turn;
+use crate::cells::{Cells, turn};
+use crate::envelope::Envelope;
+use crate::own_input::OwnInput;
+use crate::server_workers::{Handled, ServerWorkers, TakenWork};
+use event_book::BookId;
+use fsm_state::Cluster;
+use rows::{Actor, Delivery, Index, NoMemory, Refusal, ServerId, WorkerResponse};
+use std::alloc::Global;
+use std::sync::{Arc, Mutex, Wait};
+
+/// What a worker passes before it plans for an evaluation that was delivered to it. It is passed
+/// while no lock is held, so it may wait for what other actors and workers do.
+pub trait Gate {
+    /// Passes the gate with this delivery.
+    fn pass(&self, of: &Delivery);
+}
+
+/// A gate that is open.
+#[derive(Clone, Copy, Drop)]
+pub struct OpenGate;
+
+impl Gate for OpenGate {
+    fn pass(&self, _of: &Delivery) {}
+}
+
+/// What a worker did.
+#[derive(Drop)]
+pub struct WorkerTurn<B: BookId> {
+    /// Whether it took work up and went on with it: not where no work waits, or where what waits
+    /// needs a later state of its server.
+    pub went_on: bool,
+    /// What its server gave, where the worker asked for something.
+    pub turn: Option<Turn<B>>,
+}
+
+// The gate stands before each evaluation that was delivered.
+fn pass<G: Gate>(gate: &G, response: &WorkerResponse) {
+    if let WorkerResponse::Delivered(Some(delivery)) = response {
+        gate.pass(delivery);
+    }
+}
+
+// A copy of a server's replicated state, and how many entries it comes after. The server's cell is
+// locked while the copy is made.
+fn snapshot<B: BookId, R: Wait>(
+    rt: &R,
+    cells: &Cells<B>,
+    server: ServerId,
+) -> Result<(Arc<Cluster>, Index), Refusal> {
+    match cells.lock(rt, Actor::Server(server)) {
+        Some(cell) => cell.snapshot(),
+        None => Err(Refusal::OutOfRange),
+    }
+}
+
+// The worker asked for nothing.
+fn resting<B: BookId>(went_on: bool) -> WorkerTurn<B>
+    ensures { result.turn ≡ None }
+{
+    WorkerTurn {
+        went_on,
+        turn: None,
+    }
+}
+
+// What becomes of what a worker took up, at this state. Where there is no memory for a plan, the work
+// waits in front again.
+fn handled<R: Wait>(
+    rt: &R,
+    alloc: Global,
+    workers: &Mutex<ServerWorkers>,
+    taken: TakenWork,
+    state: &Cluster,
+    index: Index,
+) -> Result<Handled, NoMemory> {
+    match taken.next(alloc, state, index) {
+        Ok(step) => workers.lock(rt).go_on(taken, step),
+        Err(cause) => {
+            workers.lock(rt).put_back(taken)?;
+            Err(cause)
+        }
+    }
+}
+
+/// A worker of a server takes up the oldest work that waits: it copies its server's state under the
+/// lock of the server's cell, passes the gate where an evaluation was delivered, plans, and lets its
+/// server take in what it asks. It holds no lock while it passes the gate and plans.
+///
+/// It is refused with `OutOfRange` where the group has no such server, with `Down` where it is down,
+/// with `NoMemory`, and as `Cell::take` refuses; what it took up is lost then, unless there was no
+/// memory for a plan.
+/// - what its server sent then comes with its tokens, as from `turn`.
+pub fn worker_turn<B: BookId, G: Gate, R: Wait>(
+    rt: &R,
+    cells: &Cells<B>,
+    workers: &Mutex<ServerWorkers>,
+    server: ServerId,
+    gate: &G,
+) -> Result<WorkerTurn<B>, Refusal>
+    ensures { IfOk result (λ w. IfSome w.turn (λ turn.
+        AreSent (actors.Server server) turn.sent.items)) }
+{
+    let Some(taken) = workers.lock(rt).take() else {
+        return Ok(resting(false));
+    };
+    let (state, index) = snapshot(rt, cells, server)?;
+    pass(gate, &taken.work.response);
+    match handled(rt, cells.alloc, workers, taken, &state, index)? {
+        Handled::Waits => Ok(resting(false)),
+        Handled::Dropped => Ok(resting(true)),
+        Handled::Asks(input) => {
+            let own = OwnInput::server(cells.alloc, input)?;
+            let envelope = Envelope::own(Actor::Server(server), own);
+            Ok(WorkerTurn {
+                went_on: true,
+                turn: Some(turn(rt, cells, Actor::Server(server), envelope)?),
+            })
+        }
+    }
+}

@@ -1,0 +1,221 @@
+//! Three servers with a bank. They elect a leader, take commands and refuse some; server 3 loses
+//! messages and restarts, and server 2 leads after server 1 has crashed. The messages and the
+//! balances are counted by hand, from Raft, extended version 2014, section 5 and Figure 2, and from
+//! the bank's rules.
+use bank::{AccountId, Bank, BankCommand, Money, bank_of};
+use machine::Machine;
+use rows::{Refusal, ServerId};
+use std::alloc::Global;
+use world::{Done, RaftEvent, RaftWorld};
+
+/// What happens. Messages and servers are numbered from 1.
+#[derive(Clone, Copy)]
+enum Step {
+    Deliver(u64),
+    Timeout(u8),
+    Beat(u8),
+    Crash(u8),
+    Restart(u8),
+    // What a server is asked for.
+    Open(u8),
+    Deposit(u8, u16, u64),
+    Withdraw(u8, u16, u64),
+    Transfer(u8, u16, u16, u64),
+}
+
+use Step::{Beat, Crash, Deliver, Deposit, Open, Restart, Timeout, Transfer, Withdraw};
+
+/// A bank: how many commands were applied, and the balances. None of a server that is down.
+type Known = Option<(u64, &'static [u64])>;
+
+/// A step; the number of the refusal, 0 where there is none; and the banks of the three servers
+/// then.
+type Row = (Step, u8, &'static [Known]);
+
+const DOWN: Known = None;
+
+const NEW: Known = Some((0, &[]));
+
+// After the first leader's entries: its no-op, two accounts, 100 paid into the first, 30 moved to
+// the second, and 10 paid out of that.
+const SIX: Known = Some((6, &[70, 20]));
+
+// And after the second leader's: its no-op, and 5 paid into the second account.
+const EIGHT: Known = Some((8, &[70, 25]));
+
+const ROWS: &[Row] = &[
+    // Server 1 asks for votes by messages 1 and 2. Server 2 votes by message 3; server 3 loses its.
+    (Timeout(1), 0, &[NEW, NEW, NEW]),
+    (Deliver(1), 0, &[NEW, NEW, NEW]),
+    (Open(1), 2, &[NEW, NEW, NEW]),
+    (Deliver(3), 0, &[NEW, NEW, NEW]),
+    // It leads. What it refuses would break a rule after all that it has taken so far.
+    (Deposit(1, 0, 100), 12, &[NEW, NEW, NEW]),
+    (Open(1), 0, &[NEW, NEW, NEW]),
+    (Open(1), 0, &[NEW, NEW, NEW]),
+    (Deposit(1, 0, 100), 0, &[NEW, NEW, NEW]),
+    (Deposit(1, 0, 1_000_000_000_000), 12, &[NEW, NEW, NEW]),
+    (Deposit(1, 2, 1), 12, &[NEW, NEW, NEW]),
+    (Transfer(1, 0, 1, 101), 12, &[NEW, NEW, NEW]),
+    (Transfer(1, 0, 2, 1), 12, &[NEW, NEW, NEW]),
+    (Transfer(1, 0, 0, 1), 12, &[NEW, NEW, NEW]),
+    (Transfer(1, 0, 1, 30), 0, &[NEW, NEW, NEW]),
+    (Withdraw(1, 1, 31), 12, &[NEW, NEW, NEW]),
+    (Withdraw(1, 1, 10), 0, &[NEW, NEW, NEW]),
+    // Messages 4 and 5 bring the six entries; server 3 loses its. Message 6 says that server 2 has
+    // them, so two of three have.
+    (Beat(1), 0, &[NEW, NEW, NEW]),
+    (Deliver(4), 0, &[NEW, NEW, NEW]),
+    (Deliver(6), 0, &[SIX, NEW, NEW]),
+    (Crash(3), 0, &[SIX, NEW, DOWN]),
+    // Messages 7 and 8 say what is committed, and 8 has the six entries once more.
+    (Beat(1), 0, &[SIX, NEW, DOWN]),
+    (Deliver(8), 16, &[SIX, NEW, DOWN]),
+    (Restart(3), 0, &[SIX, NEW, NEW]),
+    (Deliver(7), 0, &[SIX, SIX, NEW]),
+    (Deliver(8), 0, &[SIX, SIX, SIX]),
+    (Deliver(8), 0, &[SIX, SIX, SIX]),
+    (Deliver(4), 0, &[SIX, SIX, SIX]),
+    // Those are answered by messages 9 to 12. Server 2 asks for votes by messages 13 and 14, and
+    // has server 3's by message 15.
+    (Crash(1), 0, &[DOWN, SIX, SIX]),
+    (Timeout(2), 0, &[DOWN, SIX, SIX]),
+    (Deliver(14), 0, &[DOWN, SIX, SIX]),
+    (Deliver(15), 0, &[DOWN, SIX, SIX]),
+    (Deposit(2, 1, 5), 0, &[DOWN, SIX, SIX]),
+    // Messages 16 and 17 bring its two entries; server 3 says by message 18 that it has them.
+    (Beat(2), 0, &[DOWN, SIX, SIX]),
+    (Deliver(17), 0, &[DOWN, SIX, SIX]),
+    (Deliver(18), 0, &[DOWN, EIGHT, SIX]),
+    // Server 1 begins from nothing, and is told by message 16 what was committed when it was sent.
+    (Restart(1), 0, &[NEW, EIGHT, SIX]),
+    (Deliver(16), 0, &[SIX, EIGHT, SIX]),
+    // Its answer, message 19, is lost. Messages 20 and 21 say what is committed now.
+    (Beat(2), 0, &[SIX, EIGHT, SIX]),
+    (Deliver(21), 0, &[SIX, EIGHT, EIGHT]),
+    (Deliver(20), 0, &[EIGHT, EIGHT, EIGHT]),
+];
+
+// The text of the last bank: 8 commands, and two accounts with 70 and 25.
+const TEXT: &[u8] = &[
+    0, 0, 0, 0, 0, 0, 0, 8, 0, 0, 0, 2, //
+    0, 0, 0, 0, 0, 0, 0, 70, 0, 0, 0, 0, 0, 0, 0, 25,
+];
+
+fn command_of(step: Step) -> Option<BankCommand> {
+    Some(match step {
+        Open(_) => BankCommand::Open,
+        Deposit(_, account, amount) => {
+            BankCommand::Deposit(AccountId::new(account), Money::new(amount)?)
+        }
+        Withdraw(_, account, amount) => {
+            BankCommand::Withdraw(AccountId::new(account), Money::new(amount)?)
+        }
+        Transfer(_, from, to, amount) => BankCommand::Transfer(
+            AccountId::new(from),
+            AccountId::new(to),
+            Money::new(amount)?,
+        ),
+        _ => return None,
+    })
+}
+
+fn event_of(alloc: Global, step: Step) -> Option<RaftEvent<Bank>> {
+    Some(match step {
+        Deliver(message) => RaftEvent::Deliver(message),
+        Timeout(server) => RaftEvent::Timeout(ServerId::from_number(server)?),
+        Beat(server) => RaftEvent::Beat(ServerId::from_number(server)?),
+        Crash(server) => RaftEvent::Crash(ServerId::from_number(server)?),
+        Restart(server) => RaftEvent::Restart(ServerId::from_number(server)?),
+        Open(server) | Deposit(server, _, _) | Withdraw(server, _, _) | Transfer(server, _, _, _) =>
+            {
+                let command = Box::new(alloc, command_of(step)?).ok()?;
+                RaftEvent::Propose(ServerId::from_number(server)?, command)
+            }
+    })
+}
+
+fn number_of(done: Result<Done, Refusal>) -> u8 {
+    match done {
+        Ok(Done::Taken) => 0,
+        Ok(Done::Crashed) => 99,
+        Err(refusal) => refusal.number(),
+    }
+}
+
+fn holds(bank: &Bank, account: usize, amount: u64) -> bool {
+    match u16::try_from(account) {
+        Ok(account) => match bank.balance(AccountId::new(account)) {
+            Some(money) => money.get() == amount,
+            None => false,
+        },
+        Err(_) => false,
+    }
+}
+
+fn has_balances(bank: &Bank, balances: &[u64]) -> bool {
+    for (account, amount) in balances.iter().enumerate() {
+        if !holds(bank, account, *amount) {
+            return false;
+        }
+    }
+    bank.accounts() == balances.len()
+}
+
+fn is_known(bank: Option<&Bank>, known: Known) -> bool {
+    match (bank, known) {
+        (None, None) => true,
+        (Some(bank), Some((count, balances))) => {
+            bank.count() == count && has_balances(bank, balances)
+        }
+        _ => false,
+    }
+}
+
+fn are_known(world: &RaftWorld<Bank>, banks: &[Known]) -> bool {
+    for (place, known) in banks.iter().enumerate() {
+        let Some(server) = ServerId::from_place(place) else {
+            return false;
+        };
+        if !is_known(bank_of(world, server), *known) {
+            return false;
+        }
+    }
+    true
+}
+
+/// How many rows go as they say.
+fn played(alloc: Global, world: &mut RaftWorld<Bank>) -> Option<usize> {
+    for (number, row) in ROWS.iter().enumerate() {
+        let (step, refused, banks) = *row;
+        let done = world.step(event_of(alloc, step)?);
+        if number_of(done) != refused || !are_known(world, banks) {
+            return Some(number);
+        }
+    }
+    Some(ROWS.len())
+}
+
+/// Whether the bank has this text, and is what is loaded from it.
+fn has_text(alloc: Global, bank: Option<&Bank>) -> bool {
+    let mut text = Vec::new(alloc);
+    match bank {
+        Some(bank) if bank.save(&mut text).is_ok() => {
+            text.as_slice() == TEXT
+                && Bank::load(alloc, &text).is_ok_and(|other| is_known(Some(&other), EIGHT))
+        }
+        _ => false,
+    }
+}
+
+#[test]
+fn banks(rt: HostRuntime) {
+    let alloc = rt.alloc();
+    let Ok(mut world) = RaftWorld::new(alloc, 3) else {
+        panic!(rt; "there is no group");
+    };
+    let rows = played(alloc, &mut world);
+    assert!(rt; rows == Some(ROWS.len()), "row {rows:?}");
+    let server = ServerId::from_number(1);
+    assert!(rt; server.is_some_and(|server| has_text(alloc, bank_of(&world, server))));
+}

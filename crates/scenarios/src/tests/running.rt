@@ -1,0 +1,308 @@
+//! Groups on threads: while one worker is held at the gate, others plan and their plans are applied;
+//! and while one server's cell is held, others take their turns. Each gives up after so many turns
+//! of waiting. What has to come of it is worked out by hand from Raft and from Nomad's scheduling.
+ghost use Rattle.std.specs.Prelude.{◌≡◌};
+
+use crate::tests::cells::{actor, nodes, opened};
+use cluster::{
+    Cells, Gate, GroupActor, NetSettings, OpenGate, OwnInput, RunningGroup, close, start, stop,
+};
+use event_book::{BookId, OpenedBook};
+use raft_core::Role;
+use rows::{Actor, Delivery, Name, Refusal};
+use server::Server;
+use std::alloc::Global;
+use std::marker::Brand;
+use std::sync::atomic::{AtomicBool, Ordering};
+use std::sync::{Arc, Wait};
+use std::test::*;
+use std::thread;
+use std::thread::Threads;
+use transcript::read_event;
+use world::{Event, World};
+
+/// How many turns are waited for anything.
+const LIMIT: u32 = 100_000;
+
+/// How often a turn of waiting gives way to the threads, and how often a flow looks.
+const LOOKS: u64 = 100;
+
+const FLOW: u64 = 10_000_000;
+
+/// A group of three servers and two clients: server 1 leads, and has applied what registers the
+/// clients' nodes and puts two jobs, whose evaluations are 4.0 and 5.0.
+const TWO_JOBS: &[&str] = &[
+    "timeout 1",
+    "beat 1",
+    "register 1 1",
+    "register 2 1",
+    "beat 1",
+    "request 1 put web 50 main:1:linux:600:300",
+    "request 1 put api 50 main:1:linux:600:300",
+    "beat 1",
+    "beat 1",
+];
+
+/// One more round: entries come to all servers, and a plan is judged.
+const ROUND: &[&str] = &["beat 1", "plan 1"];
+
+/// A gate that holds the first evaluation that comes to it, until it is opened.
+#[derive(Drop)]
+struct HoldingGate {
+    holds: AtomicBool,
+    open: AtomicBool,
+}
+
+impl Gate for HoldingGate {
+    fn pass(&self, _of: &Delivery) {
+        if self.holds.swap(true, Ordering::SeqCst) {
+            return;
+        }
+        for _ in 0..u64::MAX {
+            if self.open.load(Ordering::SeqCst) {
+                return;
+            }
+            thread::yield_now();
+        }
+    }
+}
+
+// Gives way to the threads.
+fn wait() {
+    for _ in 0..LOOKS {
+        thread::yield_now();
+    }
+}
+
+// An actor takes the event of a line; then all messages come.
+fn hand<B: BookId, G: Gate + Drop, R: Wait>(
+    rt: &R,
+    alloc: Global,
+    group: &RunningGroup<B, G>,
+    line: &str,
+) -> Result<(), Refusal> {
+    match read_event(alloc, line)? {
+        Event::Server(server, input) => {
+            group.hand(rt, Actor::Server(server), OwnInput::Server(input))?;
+        }
+        Event::Client(client, input) => {
+            group.hand(rt, Actor::Client(client), OwnInput::Client(input))?;
+        }
+        Event::Deliver(_) => return Err(Refusal::OutOfRange),
+    }
+    group.flow(FLOW);
+    Ok(())
+}
+
+fn hand_all<B: BookId, G: Gate + Drop, R: Wait>(
+    rt: &R,
+    alloc: Global,
+    group: &RunningGroup<B, G>,
+    lines: &[&str],
+) -> Result<(), Refusal> {
+    for line in lines {
+        hand(rt, alloc, group, line)?;
+    }
+    Ok(())
+}
+
+fn has_placed(alloc: Global, server: &Server, job: &str) -> Result<bool, Refusal> {
+    let Some(state) = server.state() else {
+        return Ok(false);
+    };
+    let job = Name::read(job)?;
+    Ok(!state.live_of_job(&job)?.as_slice().is_empty())
+}
+
+// Whether something of a job lives in the state of server 1, which leads.
+fn is_placed<B: BookId, G: Gate + Drop, R: Wait>(
+    rt: &R,
+    alloc: Global,
+    group: &RunningGroup<B, G>,
+    job: &str,
+) -> Result<bool, Refusal> {
+    let Some(cell) = group.cells().lock(rt, actor(1)?) else {
+        return Ok(false);
+    };
+    match cell.actor() {
+        GroupActor::Server(server) => has_placed(alloc, server, job),
+        GroupActor::Client(_) => Ok(false),
+    }
+}
+
+// Rounds until a job is placed; whether it is.
+fn place<B: BookId, G: Gate + Drop, R: Wait>(
+    rt: &R,
+    alloc: Global,
+    group: &RunningGroup<B, G>,
+    job: &str,
+) -> Result<bool, Refusal> {
+    for _ in 0..LIMIT {
+        hand_all(rt, alloc, group, ROUND)?;
+        if is_placed(rt, alloc, group, job)? {
+            return Ok(true);
+        }
+        wait();
+    }
+    Ok(false)
+}
+
+fn is_held(gate: &HoldingGate) -> bool {
+    for _ in 0..LIMIT {
+        if gate.holds.load(Ordering::SeqCst) {
+            return true;
+        }
+        wait();
+    }
+    false
+}
+
+// The worker of server 2 gets the evaluation of the first job and is held; that of server 3 gets
+// the other. How far it came: 0 where nobody was held, 1 where the other job was not placed
+// meanwhile, 2 where the first was placed before the gate was opened, 3 where it was not placed
+// afterwards.
+fn hold_one<B: BookId, R: Wait>(
+    rt: &R,
+    alloc: Global,
+    group: &RunningGroup<B, HoldingGate>,
+) -> Result<u8, Refusal> {
+    hand_all(rt, alloc, group, TWO_JOBS)?;
+    hand(rt, alloc, group, "take 2 1")?;
+    if !is_held(group.gate()) {
+        return Ok(0);
+    }
+    hand(rt, alloc, group, "take 3 1")?;
+    if !place(rt, alloc, group, "api")? {
+        return Ok(1);
+    }
+    if is_placed(rt, alloc, group, "web")? {
+        return Ok(2);
+    }
+    group.gate().open.store(true, Ordering::SeqCst);
+    Ok(if place(rt, alloc, group, "web")? {
+        4
+    } else {
+        3
+    })
+}
+
+const NET: NetSettings = NetSettings {
+    room: 1_024,
+    key: 0,
+    drop: 0,
+    repeat: 0,
+};
+
+fn group<B: BookId, G: Gate + Drop>(
+    alloc: Global,
+    opened: OpenedBook<OwnInput>,
+    clients: usize,
+    gate: G,
+) -> Result<RunningGroup<B, G>, Refusal>
+    requires { opened ≡ (B.table, B.actors) }
+{
+    let (book, seats) = opened.seats::<B>(alloc)?;
+    let nodes = nodes(alloc, clients)?;
+    let cells = Cells::open(alloc, 3, nodes.as_slice(), book, seats)?;
+    RunningGroup::new(alloc, cells, NET, gate)
+}
+
+// The world to which a group on threads closes.
+fn closed<B: BookId>(cells: Option<Cells<B>>) -> Result<World, Refusal> {
+    match cells {
+        Some(cells) => Ok(close(cells)?),
+        None => Err(Refusal::OutOfRange),
+    }
+}
+
+fn hold_a_worker<B, R>(rt: R, alloc: Global, opened: OpenedBook<OwnInput>) -> Result<u8, Refusal>
+where
+    B: BookId + Send + Sync + 'static,
+    R: Threads + Wait + Copy + Send + 'static,
+    requires { opened ≡ (B.table, B.actors) }
+{
+    let gate = HoldingGate {
+        holds: AtomicBool::new(false),
+        open: AtomicBool::new(false),
+    };
+    let group = Arc::new(alloc, group::<B, _>(alloc, opened, 2, gate)?)?;
+    let threads = start(rt, alloc, &group, 1)?;
+    let came = hold_one(&rt, alloc, &group);
+    group.gate().open.store(true, Ordering::SeqCst);
+    let _world = closed(stop(&rt, group, threads))?;
+    came
+}
+
+// While server 1's cell is held, server 3 is elected by server 2; whether it is.
+fn elect<B: BookId, G: Gate + Drop, R: Wait>(
+    rt: &R,
+    alloc: Global,
+    group: &RunningGroup<B, G>,
+) -> Result<bool, Refusal> {
+    let Some(_held) = group.cells().lock(rt, actor(1)?) else {
+        return Ok(false);
+    };
+    let Event::Server(server, input) = read_event(alloc, "timeout 3")? else {
+        return Ok(false);
+    };
+    group.hand(rt, Actor::Server(server), OwnInput::Server(input))?;
+    for _ in 0..LIMIT {
+        if leads(rt, group)? {
+            return Ok(true);
+        }
+        wait();
+    }
+    Ok(false)
+}
+
+// Whether server 3 leads.
+fn leads<B: BookId, G: Gate + Drop, R: Wait>(
+    rt: &R,
+    group: &RunningGroup<B, G>,
+) -> Result<bool, Refusal> {
+    let Some(cell) = group.cells().lock(rt, actor(3)?) else {
+        return Ok(false);
+    };
+    match cell.actor() {
+        GroupActor::Server(server) => Ok(server.role() == Some(Role::Leader)),
+        GroupActor::Client(_) => Ok(false),
+    }
+}
+
+// Whether server 3 is elected while the cell of server 1 is held, and how many events the group
+// has noted once that cell is free and all messages have come.
+fn hold_a_cell<B, R>(
+    rt: R,
+    alloc: Global,
+    opened: OpenedBook<OwnInput>,
+) -> Result<(bool, usize), Refusal>
+where
+    B: BookId + Send + Sync + 'static,
+    R: Threads + Wait + Copy + Send + 'static,
+    requires { opened ≡ (B.table, B.actors) }
+{
+    let group = Arc::new(alloc, group::<B, _>(alloc, opened, 0, OpenGate)?)?;
+    let threads = start(rt, alloc, &group, 1)?;
+    let elected = elect(&rt, alloc, &group);
+    group.flow(FLOW);
+    let world = closed(stop(&rt, group, threads))?;
+    Ok((elected?, world.trace().len()))
+}
+
+#[test]
+fn a_held_worker_holds_no_other(rt: HostRuntime) -> Result<(), Fail> {
+    let book = opened(rt.alloc(), &[1, 2, 3], 2)?;
+    let came = hold_a_worker::<Brand, _>(rt, rt.alloc(), book)?;
+    assert!(rt; came == 4, "came to {came}");
+    Ok(())
+}
+
+#[test]
+fn a_held_cell_holds_no_other(rt: HostRuntime) -> Result<(), Fail> {
+    let book = opened(rt.alloc(), &[1, 2, 3], 0)?;
+    let (elected, events) = hold_a_cell::<Brand, _>(rt, rt.alloc(), book)?;
+    assert!(rt; elected, "no leader");
+    // Server 3 stands, both others vote, and it counts both votes.
+    assert!(rt; events == 5, "events {events}");
+    Ok(())
+}
