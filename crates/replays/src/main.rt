@@ -8,20 +8,24 @@ mod lines;
 mod requests;
 mod said;
 mod snapshots;
+mod threads;
 
 use std::{env, io};
 
 fn main(rt: HostRuntime) -> io::Result<()> {
     let names: Vec<String> = env::args(&rt)?.skip(1).collect(rt.alloc())?;
     for name in &names {
-        said::replay(&rt, name)?;
+        said::replay(&rt, rt, name)?;
     }
-    said::transcripts(&rt)?;
-    said::pictures(&rt)?;
-    said::no_transcripts(&rt)?;
-    said::command_lines(&rt)?;
-    said::texts(&rt)?;
-    said::outputs(&rt)?;
+    said::transcripts(&rt, rt)?;
+    said::pictures(&rt, rt)?;
+    threads::elections(&rt, rt)?;
+    threads::placements(&rt, rt)?;
+    threads::replayed(&rt, rt)?;
+    said::no_transcripts(&rt, rt)?;
+    said::command_lines(&rt, rt)?;
+    said::texts(&rt, rt)?;
+    said::outputs(&rt, rt)?;
     requests::commands(&rt)?;
     lines::lines(&rt)?;
     lines::nodes(&rt)?;

@@ -2,23 +2,30 @@
 //! where its standard output fails.
 use crate::folder::{Folder, Output};
 use runner::nomadsim;
-use std::alloc::Global;
 use std::io::Write;
 use std::rt::Files;
+use std::sync::Wait;
+use std::thread::Threads;
 use std::{fs, io};
 
-// What a command line said on both outputs, and its exit status.
+/// What a command line said on both outputs, and its exit status.
 #[derive(Drop)]
-struct Printed {
-    out: Vec<u8>,
-    err: Vec<u8>,
-    status: u8,
+pub(crate) struct Printed {
+    pub(crate) out: Vec<u8>,
+    pub(crate) err: Vec<u8>,
+    pub(crate) status: u8,
 }
 
-fn run_words(alloc: Global, folder: &mut Folder<'_>, words: &[&str]) -> Printed {
+pub(crate) fn run_words<R: Threads + Wait + Copy + Send + 'static>(
+    rt: &HostRuntime,
+    on: R,
+    folder: &mut Folder<'_>,
+    words: &[&str],
+) -> Printed {
+    let alloc = rt.alloc();
     let mut out = Vec::new(alloc);
     let mut err = Vec::new(alloc);
-    let status = nomadsim(alloc, words, folder, &mut out, &mut err);
+    let status = nomadsim(on, alloc, words, folder, &mut out, &mut err);
     Printed { out, err, status }
 }
 
@@ -31,8 +38,8 @@ fn foreseen(printed: &Printed, wanted: &[u8]) -> &'static str {
     }
 }
 
-// What stands behind the lines of refused steps, which come first.
-fn behind_refusals(text: &[u8]) -> &[u8] {
+/// What stands behind the lines of refused steps, which come first.
+pub(crate) fn behind_refusals(text: &[u8]) -> &[u8] {
     let mut rest = text;
     for line in text.split(|byte| *byte == b'\n') {
         if !line.starts_with(b"refused ") {
@@ -46,14 +53,18 @@ fn behind_refusals(text: &[u8]) -> &[u8] {
 /// Plays the scenario `NAME.json`, which has to print `NAME.stdout`, and nothing on the standard
 /// error; and tells its exit status. Its transcript, played again, has to print the same but for
 /// the refused steps.
-pub(crate) fn replay(rt: &HostRuntime, name: &str) -> io::Result<()> {
+pub(crate) fn replay<R: Threads + Wait + Copy + Send + 'static>(
+    rt: &HostRuntime,
+    on: R,
+    name: &str,
+) -> io::Result<()> {
     let alloc = rt.alloc();
     let file = format!(in alloc; "{name}.json")?;
     let wanted = fs::read(rt, &format!(in alloc; "{name}.stdout")?)?;
     let mut folder = Folder::new(rt, b"");
     let words = ["nomadsim", "run", file.as_str(), "--out", "transcript"];
-    let played = run_words(alloc, &mut folder, &words);
-    let again = run_words(alloc, &mut folder, &["nomadsim", "replay", "transcript"]);
+    let played = run_words(rt, on, &mut folder, &words);
+    let again = run_words(rt, on, &mut folder, &["nomadsim", "replay", "transcript"]);
     print!(rt;
         "{name}: {}, status {}",
         foreseen(&played, &wanted),
@@ -69,7 +80,10 @@ pub(crate) fn replay(rt: &HostRuntime, name: &str) -> io::Result<()> {
 
 /// Plays the scenario `NAME.json` of each line of `lessons`; its transcript has to be
 /// `NAME.transcript`.
-pub(crate) fn transcripts(rt: &HostRuntime) -> io::Result<()> {
+pub(crate) fn transcripts<R: Threads + Wait + Copy + Send + 'static>(
+    rt: &HostRuntime,
+    on: R,
+) -> io::Result<()> {
     let alloc = rt.alloc();
     let names = fs::read_to_string(rt, "lessons")?;
     for name in names.lines() {
@@ -77,7 +91,7 @@ pub(crate) fn transcripts(rt: &HostRuntime) -> io::Result<()> {
         let wanted = fs::read(rt, &format!(in alloc; "{name}.transcript")?)?;
         let mut folder = Folder::new(rt, b"");
         let words = ["nomadsim", "run", file.as_str(), "--out", "transcript"];
-        let _played = run_words(alloc, &mut folder, &words);
+        let _played = run_words(rt, on, &mut folder, &words);
         let is_wanted = folder.transcript() == Some(wanted.as_slice());
         println!(rt; "transcript of {name}: {is_wanted}")?;
     }
@@ -85,14 +99,17 @@ pub(crate) fn transcripts(rt: &HostRuntime) -> io::Result<()> {
 }
 
 /// Draws the transcript of each line of `pictures`; what comes has to be `NAME.svg`.
-pub(crate) fn pictures(rt: &HostRuntime) -> io::Result<()> {
+pub(crate) fn pictures<R: Threads + Wait + Copy + Send + 'static>(
+    rt: &HostRuntime,
+    on: R,
+) -> io::Result<()> {
     let alloc = rt.alloc();
     let names = fs::read_to_string(rt, "pictures")?;
     for name in names.lines() {
         let file = format!(in alloc; "{name}.transcript")?;
         let wanted = fs::read(rt, &format!(in alloc; "{name}.svg")?)?;
         let mut folder = Folder::new(rt, b"");
-        let drawn = run_words(alloc, &mut folder, &["nomadsim", "draw", file.as_str()]);
+        let drawn = run_words(rt, on, &mut folder, &["nomadsim", "draw", file.as_str()]);
         println!(rt;
             "picture of {name}: {}, status {}",
             foreseen(&drawn, &wanted),
@@ -103,7 +120,10 @@ pub(crate) fn pictures(rt: &HostRuntime) -> io::Result<()> {
 }
 
 /// Plays each line of `no-transcripts`, a `/` in it being a line's end, as a transcript.
-pub(crate) fn no_transcripts(rt: &HostRuntime) -> io::Result<()> {
+pub(crate) fn no_transcripts<R: Threads + Wait + Copy + Send + 'static>(
+    rt: &HostRuntime,
+    on: R,
+) -> io::Result<()> {
     let lines = fs::read(rt, "no-transcripts")?;
     for (number, line) in lines.split(|byte| *byte == b'\n').enumerate() {
         let text: Vec<u8> = line
@@ -111,49 +131,66 @@ pub(crate) fn no_transcripts(rt: &HostRuntime) -> io::Result<()> {
             .map(|byte| if *byte == b'/' { b'\n' } else { *byte })
             .collect(rt.alloc())?;
         print!(rt; "{}: ", number + 1)?;
-        say(rt, "nomadsim replay text.json", &text)?;
+        say(rt, on, "nomadsim replay text.json", &text)?;
     }
     Ok(())
 }
 
 // What a command line says on the standard output, then on the standard error; and its exit status.
-fn say(rt: &HostRuntime, line: &str, text: &[u8]) -> io::Result<()> {
+fn say<R: Threads + Wait + Copy + Send + 'static>(
+    rt: &HostRuntime,
+    on: R,
+    line: &str,
+    text: &[u8],
+) -> io::Result<()> {
     let alloc = rt.alloc();
     let words: Vec<&str> = line.split_whitespace().collect(alloc)?;
-    let printed = run_words(alloc, &mut Folder::new(rt, text), &words);
+    let printed = run_words(rt, on, &mut Folder::new(rt, text), &words);
     io::writer(rt).write_all(&printed.out)?;
     io::writer(rt).write_all(&printed.err)?;
     println!(rt; "status {}", printed.status)
 }
 
 /// Plays each line of `command-lines` as a command line.
-pub(crate) fn command_lines(rt: &HostRuntime) -> io::Result<()> {
+pub(crate) fn command_lines<R: Threads + Wait + Copy + Send + 'static>(
+    rt: &HostRuntime,
+    on: R,
+) -> io::Result<()> {
     let lines = fs::read_to_string(rt, "command-lines")?;
     for line in lines.lines() {
         println!(rt; "$ {line}")?;
-        say(rt, line, b"{}")?;
+        say(rt, on, line, b"{}")?;
     }
     Ok(())
 }
 
 /// Plays each line of `no-scenarios` as a scenario's text, the first being line 1. What is behind
 /// the last line break is one too, and is empty.
-pub(crate) fn texts(rt: &HostRuntime) -> io::Result<()> {
+pub(crate) fn texts<R: Threads + Wait + Copy + Send + 'static>(
+    rt: &HostRuntime,
+    on: R,
+) -> io::Result<()> {
     let lines = fs::read(rt, "no-scenarios")?;
     for (number, text) in lines.split(|byte| *byte == b'\n').enumerate() {
         print!(rt; "{}: ", number + 1)?;
-        say(rt, "nomadsim run text.json", text)?;
-        say(rt, "nomadsim check text.json", text)?;
+        say(rt, on, "nomadsim run text.json", text)?;
+        say(rt, on, "nomadsim check text.json", text)?;
     }
     Ok(())
 }
 
 // The exit status of a command line with a standard output that takes so many bytes; and what it
 // says on the standard error.
-fn fail(rt: &HostRuntime, words: &[&str], left: usize) -> io::Result<()> {
+fn fail<R: Threads + Wait + Copy + Send + 'static>(
+    rt: &HostRuntime,
+    on: R,
+    words: &[&str],
+    left: usize,
+) -> io::Result<()> {
     let mut err = Vec::new(rt.alloc());
     let mut folder = Folder::new(rt, b"");
     let status = nomadsim(
+        on,
         rt.alloc(),
         words,
         &mut folder,
@@ -166,13 +203,16 @@ fn fail(rt: &HostRuntime, words: &[&str], left: usize) -> io::Result<()> {
 
 /// Plays the scenario `one-refused`, and asks for help, with a standard output that fails after
 /// each number of bytes.
-pub(crate) fn outputs(rt: &HostRuntime) -> io::Result<()> {
+pub(crate) fn outputs<R: Threads + Wait + Copy + Send + 'static>(
+    rt: &HostRuntime,
+    on: R,
+) -> io::Result<()> {
     for left in 0..=167 {
-        fail(rt, &["nomadsim", "run", "one-refused.json"], left)?;
+        fail(rt, on, &["nomadsim", "run", "one-refused.json"], left)?;
     }
     println!(rt;)?;
     for left in 0..100 {
-        fail(rt, &["nomadsim", "--help"], left)?;
+        fail(rt, on, &["nomadsim", "--help"], left)?;
     }
     println!(rt;)
 }

@@ -10,7 +10,7 @@ use Rattle.clap.specs.Simple.{Shape, argument_words, built_leaf, entered, filled
 use Rattle.clap.specs.Kinds.{Kinds, check_kinds}
 use Rattle.clap.specs.Faults.{built_fault, check_fault, defaults_fault, entered_fault, level_fault, settle_fault, walk_fault}
 use Rattle.clap.specs.Takes.{is_given}
-use Rattle.runner.specs.Words.{app_with, is_line, nomadsim_app, out_option, required_word}
+use Rattle.runner.specs.Words.{app_with, is_line, nomadsim_app, out_option, required_word, workers_option}
 use Rattle.runner.proofs.GivenValues.{given_has_value, rows_are_valued}
 use Rattle.runner.proofs.Turns.{IsNoHelp, no_first, no_second, stops_at_no_help}
 
@@ -26,6 +26,9 @@ level name id others = record (built_leaf (app_with name id).top) { rules = with
 abbrev run_level : Shape
 run_level = level (codes "run") (codes "FILE") (filled out_option ∷ help_flag ∷ [])
 
+abbrev threads_level : Shape
+threads_level = level (codes "threads") (codes "FILE") (filled workers_option ∷ filled out_option ∷ help_flag ∷ [])
+
 abbrev replay_level : Shape
 replay_level = level (codes "replay") (codes "T") (help_flag ∷ [])
 
@@ -39,7 +42,7 @@ check_level = level (codes "check") (codes "FILE") (help_flag ∷ [])
 abbrev levels : App
 levels = record {
   top = record nomadsim_app.top { rules = help_flag ∷ filled version_rule ∷ []; is_built = true };
-  subs = run_level ∷ replay_level ∷ draw_level ∷ check_level ∷ built_leaf help_shape ∷ [];
+  subs = run_level ∷ threads_level ∷ replay_level ∷ draw_level ∷ check_level ∷ built_leaf help_shape ∷ [];
 }
 
 -- where a level has no fault, its walk, the subcommand that it enters and its last check have none
@@ -72,36 +75,39 @@ module _ (name id : Text) (others : List Rule) (apart : AreOther id others) wher
       let rows = rows_after (level name id others).rules [] words in
       given_has_value id rows (rows_are_valued id (level name id others).rules apart [] words) (is_wanted rows (level_parts (level name id others) [] words false [] none).2)
 
-help_apart : (id : Text) → bytes_eq (codes "help") id ≡ false → AreOther id (help_flag ∷ [])
-help_apart id is p = go (p help_flag)
+other_more : (id : Text) (a : Rule) (others : List Rule) → bytes_eq a.id id ≡ false → AreOther id others → AreOther id (a ∷ others)
+other_more id a others is apart p = go (not (is_some a.index) && p a)
   where
-    go : (b : Bool) → IfSome (cond b (Some help_flag) None) (λ (a : Rule). bytes_eq a.id id ≡ false)
+    go : (b : Bool) → IfSome (cond b (Some a) (find (λ (r : Rule). not (is_some r.index) && p r) others)) (λ r. bytes_eq r.id id ≡ false)
     go true = is
-    go false = tt
+    go false = apart p
 
-options_apart : AreOther (codes "FILE") (filled out_option ∷ help_flag ∷ [])
-options_apart p = go (p (filled out_option))
-  where
-    go : (b : Bool) → IfSome (cond b (Some (filled out_option)) (find (λ (a : Rule). not (is_some a.index) && p a) (help_flag ∷ []))) (λ (a : Rule). bytes_eq a.id (codes "FILE") ≡ false)
-    go true = refl
-    go false = help_apart (codes "FILE") refl p
+help_apart : (id : Text) → bytes_eq (codes "help") id ≡ false → AreOther id (help_flag ∷ [])
+help_apart id is = other_more id help_flag [] is (λ p. tt)
+
+out_apart : AreOther (codes "FILE") (filled out_option ∷ help_flag ∷ [])
+out_apart = other_more (codes "FILE") (filled out_option) (help_flag ∷ []) refl (help_apart (codes "FILE") refl)
+
+workers_apart : AreOther (codes "FILE") (filled workers_option ∷ filled out_option ∷ help_flag ∷ [])
+workers_apart = other_more (codes "FILE") (filled workers_option) (filled out_option ∷ help_flag ∷ []) refl out_apart
 
 -- ---- which subcommand is met
 
-abbrev met : Bool → Bool → Bool → Bool → Bool → Option Shape
-met run replay draw check help =
-    cond run (Some run_level) (cond replay (Some replay_level) (cond draw (Some draw_level) (cond check (Some check_level) (cond help (Some (built_leaf help_shape)) None))))
+abbrev met : Bool → Bool → Bool → Bool → Bool → Bool → Option Shape
+met run threads replay draw check help =
+    cond run (Some run_level) (cond threads (Some threads_level) (cond replay (Some replay_level) (cond draw (Some draw_level) (cond check (Some check_level) (cond help (Some (built_leaf help_shape)) None)))))
 
-met_line : (words : List Text) (run replay draw check help : Bool) → help ≡ false
-    → option_map_or (λ s. level_fault s [] nothing_held words false []) (met run replay draw check help) [] ≡ []
-    → is_some (option_map (λ s. rows_at s words) (met run replay draw check help)) ≡ true
-    → is_line (option_map (λ s. rows_at s words) (met run replay draw check help)) ≡ true
-met_line words true replay draw check help no_help none some = rw (has_value (codes "run") (codes "FILE") _ options_apart words none) refl
-met_line words false true draw check help no_help none some = rw (has_value (codes "replay") (codes "T") _ (help_apart (codes "T") refl) words none) refl
-met_line words false false true check help no_help none some = rw (has_value (codes "draw") (codes "T") _ (help_apart (codes "T") refl) words none) refl
-met_line words false false false true help no_help none some = rw (has_value (codes "check") (codes "FILE") _ (help_apart (codes "FILE") refl) words none) refl
-met_line words false false false false true no_help none some = absurd (true≢false no_help)
-met_line words false false false false false no_help none some = some
+met_line : (words : List Text) (run threads replay draw check help : Bool) → help ≡ false
+    → option_map_or (λ s. level_fault s [] nothing_held words false []) (met run threads replay draw check help) [] ≡ []
+    → is_some (option_map (λ s. rows_at s words) (met run threads replay draw check help)) ≡ true
+    → is_line (option_map (λ s. rows_at s words) (met run threads replay draw check help)) ≡ true
+met_line words true threads replay draw check help no_help none some = rw (has_value (codes "run") (codes "FILE") _ out_apart words none) refl
+met_line words false true replay draw check help no_help none some = rw (has_value (codes "threads") (codes "FILE") _ workers_apart words none) refl
+met_line words false false true draw check help no_help none some = rw (has_value (codes "replay") (codes "T") _ (help_apart (codes "T") refl) words none) refl
+met_line words false false false true check help no_help none some = rw (has_value (codes "draw") (codes "T") _ (help_apart (codes "T") refl) words none) refl
+met_line words false false false false true help no_help none some = rw (has_value (codes "check") (codes "FILE") _ (help_apart (codes "FILE") refl) words none) refl
+met_line words false false false false false true no_help none some = absurd (true≢false no_help)
+met_line words false false false false false false no_help none some = some
 
 help_not_met : (name : Text) → bytes_eq name (codes "help") ≡ false → answers_to name (codes "help", []) ≡ false
 help_not_met name no_help = go (bytes_eq (codes "help") name) refl
@@ -113,8 +119,8 @@ help_not_met name no_help = go (bytes_eq (codes "help") name) refl
 line_at : (stop : Option (Text × List Text)) → IsNoHelp stop → entered_fault levels stop ≡ [] → is_some (entered levels stop) ≡ true → is_line (entered levels stop) ≡ true
 line_at None no_help none some = some
 line_at (Some (name, rest)) no_help none some =
-    met_line rest (answers_to name (codes "run", [])) (answers_to name (codes "replay", [])) (answers_to name (codes "draw", [])) (answers_to name (codes "check", []))
-    (answers_to name (codes "help", [])) (help_not_met name no_help) none some
+    met_line rest (answers_to name (codes "run", [])) (answers_to name (codes "threads", [])) (answers_to name (codes "replay", [])) (answers_to name (codes "draw", []))
+    (answers_to name (codes "check", [])) (answers_to name (codes "help", [])) (help_not_met name no_help) none some
 
 -- a subcommand is wanted
 is_entered : (rows : List Row) (b : Bool) → check_fault levels.top rows b ≡ [] → b ≡ true

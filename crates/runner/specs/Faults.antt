@@ -19,12 +19,12 @@ IsStatus (BadTranscript place) status = status ≡ 2
 IsStatus NoMemory status = status ≡ 3
 IsStatus Output status = status ≡ 2
 
--- a fault of the words is one that `clap` finds in them
+-- a fault of the words is one of those found in them
 abbrev pub IsFound : Kinds → Fault → Type 0
 IsFound found (CommandLine error) = IsAmong (kind_of error) found
 IsFound found _ = ⊤
 
--- a run ends by a fault of its words, or `clap` takes them
+-- a run ends by a fault of its words, or they have none
 abbrev pub MayEndBy : Kinds → Fault → Type 0
 MayEndBy found fault = (found ≡ []) ⊎ IsFound found fault
 
@@ -32,6 +32,6 @@ MayEndBy found fault = (found ≡ []) ⊎ IsFound found fault
 abbrev pub AskForHelp : Kinds → Type 0
 AskForHelp found = IsAmong kinds.DisplayHelp found ⊎ IsAmong kinds.DisplayVersion found
 
--- 0 comes only where `clap` takes the words, or they ask for help; 1 only where it takes them
+-- 0 comes only where the words have no fault, or ask for help; 1 only where they have none
 abbrev pub IsExit : Kinds → ℕ → Type 0
 IsExit found status = (status ≡ 0 → (found ≡ []) ⊎ AskForHelp found) × (status ≡ 1 → found ≡ [])

@@ -4,4 +4,3 @@ pub mod Objects
 pub mod Steps
 pub mod Faults
 pub mod Complaints
-pub mod Inner

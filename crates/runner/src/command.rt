@@ -1,10 +1,12 @@
 //! The command line.
 ghost use Rattle.std.specs.Prelude.{◌≡◌, true, false, IfOk, IfErr, IfSome, IfNone, Some, map, codes, option_map};
-ghost use Rattle.clap.specs.Words.{FailsBy, app_of, fault_of, first_of, found_of, kind_of, rows_of, rule_of, subcommand_rows_of};
+ghost use Rattle.clap.specs.Words.{FailsBy, app_of, first_of, found_of, kind_of, rows_of, rule_of, subcommand_rows_of};
 ghost use Rattle.clap.specs.declared.builder.command.Command.TheViews.{out-Command};
 ghost use Rattle.clap.specs.declared.error.kind.ErrorKind.TheVariants.{OutOfMemory};
-ghost use Rattle.runner.specs.Words.{IsAsked, IsNamed, Names, check_app, draw_app, is_line, nomadsim_app, out_option, replay_app, required_word, run_app};
+ghost use Rattle.runner.specs.Words.{AreWorkers, IsAsked, IsNamed, Names, are_workers, check_app, draw_app, is_line, is_taken, nomadsim_app, out_option, replay_app, required_word, run_app, threads_app, words_fault, workers_option};
 
+use clap::builder::ValueParser;
+use clap::error::ErrorKind;
 use clap::{Arg, ArgMatches, Command, Error};
 use std::alloc::Global;
 
@@ -19,6 +21,7 @@ const ENDS: &str = "\
 Examples:
   nomadsim run data/first-election.json
   nomadsim run data/first-election.json --out election.txt
+  nomadsim threads data/first-election.json --workers 4
   nomadsim replay election.txt
   nomadsim draw election.txt > election.svg
   nomadsim check data/first-election.json
@@ -122,6 +125,22 @@ one with the number of events and of messages.
 With --out T the file T gets a transcript of what happened, before the last
 lines are printed; 'nomadsim replay T' and 'nomadsim draw T' take it.";
 
+const THREADS: &str = "\
+The file is one of 'nomadsim run --help'. Each server and each client has a
+thread of its own, which takes the messages that come for it, and each server
+has N workers, each on its own thread, which take up what comes for them. Steps
+'work' and 'deliver' are passed over, and a 'flow' waits until nothing is in
+flight.
+
+What is printed, the exit status and the transcript are those of 'nomadsim run',
+but the order in which messages come is that of the threads, and so may differ
+from run to run.
+
+Example:
+  nomadsim threads data/first-election.json --workers 4";
+
+const NO_COUNT: &str = "the number of workers is one digit, from 1 to 8";
+
 const REPLAYS: &str = "\
 T is a transcript, as 'nomadsim run FILE --out T' writes it: a line 'servers N',
 a line 'node C CLASS CPU MEM' for each client C, and a line for each event: one
@@ -163,6 +182,15 @@ pub enum CommandLine<'a> {
         /// The file that gets the transcript, where one is to be written.
         out: Option<&'a str>,
     },
+    /// `threads FILE [--workers N] [--out T]`: the scenario in that file is played on threads.
+    Threads {
+        /// The scenario's file, `-` for the standard input.
+        file: &'a str,
+        /// How many workers each server has, from 1 to 8; 2 where the words don't say.
+        workers: u8,
+        /// The file that gets the transcript, where one is to be written.
+        out: Option<&'a str>,
+    },
     /// `replay T`: the events of a transcript are taken once more.
     Replay {
         /// The transcript's file.
@@ -198,6 +226,19 @@ fn out_arg<'a>(alloc: Global) -> Arg<'a>
         .help("The file that gets a transcript of what happened")
 }
 
+// A number that `clap` reads may have a sign or zeros in front; `workers_of` takes none of these.
+fn workers_arg<'a>(alloc: Global) -> Arg<'a>
+    ensures rule { rule_of result ≡ workers_option }
+    ensures local { result.global ≡ false }
+{
+    Arg::new(alloc, "workers")
+        .long("workers")
+        .value_name("N")
+        .help("How many workers each server has, from 1 to 8")
+        .value_parser(ValueParser::unsigned(1, 8))
+        .default_value("2")
+}
+
 fn run_command<'a>(alloc: Global) -> Result<Command<'a>, Error>
     ensures ok { IfOk result (λ c. (app_of c ≡ run_app) × ((out-Command c).has_globals ≡ false)) }
     ensures err { IfErr result (λ e. kind_of e ≡ OutOfMemory) }
@@ -208,6 +249,23 @@ fn run_command<'a>(alloc: Global) -> Result<Command<'a>, Error>
         .about("Plays a scenario, and says how it ends")
         .after_help(STEPS)
         .arg(file)?
+        .arg(out)?;
+    Ok(command)
+}
+
+fn threads_command<'a>(alloc: Global) -> Result<Command<'a>, Error>
+    ensures ok { IfOk result (λ c. (app_of c ≡ threads_app)
+        × ((out-Command c).has_globals ≡ false)) }
+    ensures err { IfErr result (λ e. kind_of e ≡ OutOfMemory) }
+{
+    let file = needed(alloc, "FILE", SCENARIO);
+    let workers = workers_arg(alloc);
+    let out = out_arg(alloc);
+    let command = Command::new(alloc, "threads")
+        .about("Plays a scenario on threads, and says how it ends")
+        .after_help(THREADS)
+        .arg(file)?
+        .arg(workers)?
         .arg(out)?;
     Ok(command)
 }
@@ -254,6 +312,7 @@ fn program<'a>(alloc: Global) -> Result<Command<'a>, Error>
     ensures err { IfErr result (λ e. kind_of e ≡ OutOfMemory) }
 {
     let run = run_command(alloc)?;
+    let threads = threads_command(alloc)?;
     let replay = replay_command(alloc)?;
     let draw = draw_command(alloc)?;
     let check = check_command(alloc)?;
@@ -264,6 +323,7 @@ fn program<'a>(alloc: Global) -> Result<Command<'a>, Error>
         .subcommand_required(true);
     let whole = bare
         .subcommand(run)?
+        .subcommand(threads)?
         .subcommand(replay)?
         .subcommand(draw)?
         .subcommand(check)?;
@@ -285,6 +345,28 @@ fn run_line<'a>(given: &ArgMatches<'a>) -> Option<CommandLine<'a>>
     let file = value_of(given, "FILE")?;
     let out = value_of(given, "out");
     Some(CommandLine::Run { file, out })
+}
+
+// The number of workers that a word says: one digit, from 1 to 8.
+fn workers_of(word: &str) -> Option<u8>
+    ensures some { IfSome result (AreWorkers word.now) }
+    ensures none { IfNone result (are_workers word.now ≡ false) }
+{
+    match word.as_bytes() {
+        [digit @ b'1'..=b'8'] => Some(*digit - b'0'),
+        _ => None,
+    }
+}
+
+fn threads_line<'a>(given: &ArgMatches<'a>) -> Option<CommandLine<'a>>
+    ensures some { IfSome result (IsNamed (codes "threads") (rows_of (found_of given.now))) }
+    ensures none { IfNone result
+        (is_taken (Some (codes "threads", rows_of (found_of given.now))) ≡ false) }
+{
+    let file = value_of(given, "FILE")?;
+    let workers = workers_of(value_of(given, "workers")?)?;
+    let out = value_of(given, "out");
+    Some(CommandLine::Threads { file, workers, out })
 }
 
 fn replay_line<'a>(given: &ArgMatches<'a>) -> Option<CommandLine<'a>>
@@ -316,11 +398,12 @@ fn check_line<'a>(given: &ArgMatches<'a>) -> Option<CommandLine<'a>>
 
 fn line_of<'a>(matches: &ArgMatches<'a>) -> Option<CommandLine<'a>>
     ensures some { IfSome result (IsAsked (subcommand_rows_of matches.now)) }
-    ensures none { IfNone result (is_line (subcommand_rows_of matches.now) ≡ false) }
+    ensures none { IfNone result (is_taken (subcommand_rows_of matches.now) ≡ false) }
 {
     let (name, given) = matches.subcommand()?;
     match name {
         "run" => run_line(given),
+        "threads" => threads_line(given),
         "replay" => replay_line(given),
         "draw" => draw_line(given),
         "check" => check_line(given),
@@ -329,15 +412,16 @@ fn line_of<'a>(matches: &ArgMatches<'a>) -> Option<CommandLine<'a>>
 }
 
 /// Reads the words of a command line, of which the first names the program. Words that ask for help
-/// or for the version are an error too, of a kind of its own, whose text is the answer.
+/// or for the version are an error too, of a kind of its own, whose text is the answer. A number of
+/// workers with a sign or a zero in front is an error, as one is that is not from 1 to 8.
 pub fn command<'a>(alloc: Global, words: &'a [&'a str]) -> Result<CommandLine<'a>, Error>
     ensures named { IfOk result (Names (map (λ w. w.now) words.entry.now)) }
-    ensures faults { FailsBy (fault_of nomadsim_app (map (λ w. w.now) words.entry.now)) result }
+    ensures faults { FailsBy (words_fault (map (λ w. w.now) words.entry.now)) result }
 {
     let mut program = program(alloc)?;
     let matches = program.try_get_matches_from_mut(words)?;
     match line_of(&matches) {
         Some(line) => Ok(line),
-        None => unreachable!(),
+        None => Err(program.error(ErrorKind::ValueValidation, NO_COUNT)?),
     }
 }

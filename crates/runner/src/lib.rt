@@ -15,8 +15,7 @@ mod running;
 pub mod scenario;
 pub mod shelf;
 pub mod step;
-mod work_queue;
-mod workers;
+mod threads;
 pub mod wrong;
 
 pub use program::nomadsim;

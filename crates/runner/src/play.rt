@@ -1,11 +1,11 @@
 //! A scenario's group, with its messages in flight and its workers; and its steps, one at a time.
 use crate::flight::Flight;
+use crate::running::Stage;
 use crate::scenario::{Order, Scenario};
 use crate::step::Step;
-use crate::workers::Workers;
+use cluster::{Handled, ServerWorkers};
 use lossy_net::{Fates, MessageFate, fate};
 use rows::{Actor, NoMemory, Refusal, Sequence, ServerId, Work};
-use server::ServerInput;
 use std::alloc::Global;
 use world::{Event, World};
 
@@ -18,7 +18,8 @@ pub(crate) struct Play {
     alloc: Global,
     world: World,
     flight: Flight,
-    workers: Workers,
+    // By the places of their servers.
+    workers: [ServerWorkers; 5],
     fates: Fates,
     order: Order,
     // How many of a hundred messages are lost, and how many come again.
@@ -34,7 +35,13 @@ impl Play {
             alloc,
             world: World::new(alloc, servers, &scenario.nodes)?,
             flight: Flight::new(alloc),
-            workers: Workers::new(alloc),
+            workers: [
+                ServerWorkers::new(alloc),
+                ServerWorkers::new(alloc),
+                ServerWorkers::new(alloc),
+                ServerWorkers::new(alloc),
+                ServerWorkers::new(alloc),
+            ],
             fates: Fates::new(scenario.settings.key),
             order: scenario.settings.order,
             drop: scenario.settings.drop,
@@ -45,15 +52,6 @@ impl Play {
     /// The group.
     pub(crate) fn world(&self) -> &World {
         &self.world
-    }
-
-    /// Takes a step, or says why it is refused.
-    pub(crate) fn take(&mut self, step: Step) -> Result<(), Refusal> {
-        match step {
-            Step::Event(event) => self.event(event),
-            Step::Work(server) => self.work(server),
-            Step::Flow(count) => Ok(self.flow(count.unwrap_or(FLOW))?),
-        }
     }
 
     fn event(&mut self, event: Event) -> Result<(), Refusal> {
@@ -83,9 +81,9 @@ impl Play {
     // memory, they have nothing any more.
     fn hand(&mut self, server: ServerId, work: Sequence<Work>) -> Result<(), NoMemory> {
         if self.is_up(server) {
-            return self.workers.admit(server, work);
+            return self.workers[server.place()].admit(work);
         }
-        self.workers.forget(server);
+        self.workers[server.place()].forget();
         Ok(())
     }
 
@@ -99,22 +97,27 @@ impl Play {
     // A worker of a server takes up the oldest answer that came for it. A server that is down has
     // no worker. The server's state is copied only where there is something to take up.
     fn work(&mut self, server: ServerId) -> Result<(), Refusal> {
-        if !self.is_up(server) || self.workers.is_idle(server) {
+        if !self.is_up(server) || self.workers[server.place()].is_idle() {
             return Ok(());
         }
         match self.asked(server)? {
-            Some(input) => self.event(Event::server(self.alloc, server, input)?),
-            None => Ok(()),
+            Handled::Asks(input) => self.event(Event::server(self.alloc, server, input)?),
+            Handled::Waits | Handled::Dropped => Ok(()),
         }
     }
 
     // What a worker of a server asks next, at the server's snapshot.
-    fn asked(&mut self, server: ServerId) -> Result<Option<ServerInput>, Refusal> {
+    fn asked(&mut self, server: ServerId) -> Result<Handled, Refusal> {
         let Some(member) = self.world.server(server) else {
-            return Ok(None);
+            return Ok(Handled::Dropped);
         };
         let (state, index) = member.snapshot()?;
-        Ok(self.workers.turn(server, &state, index)?)
+        let workers = &mut self.workers[server.place()];
+        let Some(taken) = workers.take() else {
+            return Ok(Handled::Dropped);
+        };
+        let step = taken.next(self.alloc, &state, index)?;
+        Ok(workers.go_on(taken, step)?)
     }
 
     fn flow(&mut self, count: u64) -> Result<(), NoMemory> {
@@ -154,6 +157,16 @@ impl Play {
             Ok(()) if fate == MessageFate::Repeat => self.flight.put_again(message),
             Err(Refusal::NoMemory) => Err(NoMemory),
             Ok(()) | Err(_) => Ok(()),
+        }
+    }
+}
+
+impl Stage for Play {
+    fn take(&mut self, step: Step) -> Result<(), Refusal> {
+        match step {
+            Step::Event(event) => self.event(event),
+            Step::Work(server) => self.work(server),
+            Step::Flow(count) => Ok(self.flow(count.unwrap_or(FLOW))?),
         }
     }
 }

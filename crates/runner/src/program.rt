@@ -1,8 +1,7 @@
 //! The whole program, over files and streams that are handed in.
 ghost use Rattle.std.specs.Prelude.{◌≡◌, ◌≤◌, ◌⊎◌, [], IfErr, IfOk, map};
-ghost use Rattle.clap.specs.Words.{fault_of};
 ghost use Rattle.runner.specs.Faults.{IsExit, IsStatus, MayEndBy};
-ghost use Rattle.runner.specs.Words.{nomadsim_app};
+ghost use Rattle.runner.specs.Words.{words_fault};
 
 use crate::checking::check_file;
 use crate::command::{CommandLine, command};
@@ -10,25 +9,33 @@ use crate::fault::Fault;
 use crate::replaying::{draw_file, replay_file};
 use crate::running::run_file;
 use crate::shelf::Shelf;
+use crate::threads::threads_file;
 use clap::error::ErrorKind;
 use std::alloc::Global;
 use std::io::Write;
+use std::sync::Wait;
+use std::thread::Threads;
 
 /// Runs the program on the words of its command line, of which the first is its own name, and
 /// answers its exit status: 0 where every step was taken, 1 where one was refused, 2 for a bad
 /// command line, a bad file, or an output that failed, 3 where there was no memory. What is said is
 /// flushed before the status is answered.
-pub fn nomadsim<'a, F: Shelf, W: Write, E: Write>(
+///
+/// Under `threads` it starts threads and waits for them, so that its return is not claimed.
+pub fn nomadsim<'a, R, F: Shelf, W: Write, E: Write>(
+    rt: R,
     alloc: Global,
     words: &'a [&'a str],
     shelf: &mut F,
     out: &mut W,
     err: &mut E,
 ) -> u8
+where
+    R: Threads + Wait + Copy + Send + 'static,
     ensures most { result ≤ 3 }
-    ensures exit { IsExit (fault_of nomadsim_app (map (λ w. w.now) words.entry.now)) result }
+    ensures exit { IsExit (words_fault (map (λ w. w.now) words.entry.now)) result }
 {
-    match run(alloc, words, shelf, out) {
+    match run(rt, alloc, words, shelf, out) {
         Ok(status) => status,
         Err(fault) => report(&fault, out, err),
     }
@@ -55,34 +62,45 @@ fn report<W: Write, E: Write>(fault: &Fault<'_>, out: &mut W, err: &mut E) -> u8
     status
 }
 
-fn run<'a, F: Shelf, W: Write>(
+fn run<'a, R, F: Shelf, W: Write>(
+    rt: R,
     alloc: Global,
     words: &'a [&'a str],
     shelf: &mut F,
     out: &mut W,
 ) -> Result<u8, Fault<'a>>
+where
+    R: Threads + Wait + Copy + Send + 'static,
     ensures ok { IfOk result (λ status. (status ≤ 1)
-        × (fault_of nomadsim_app (map (λ w. w.now) words.entry.now) ≡ [])) }
-    ensures err { IfErr result (MayEndBy (fault_of nomadsim_app (map (λ w. w.now) words.entry.now))) }
+        × (words_fault (map (λ w. w.now) words.entry.now) ≡ [])) }
+    ensures err { IfErr result (MayEndBy (words_fault (map (λ w. w.now) words.entry.now))) }
 {
     match command(alloc, words) {
-        Ok(line) => obey(alloc, line, shelf, out),
+        Ok(line) => obey(rt, alloc, line, shelf, out),
         Err(error) if error.kind() == ErrorKind::OutOfMemory => Err(Fault::NoMemory),
         Err(error) => Err(Fault::CommandLine(error)),
     }
 }
 
 // Does what the command line asks for.
-fn obey<'a, F: Shelf, W: Write>(
+fn obey<'a, R, F: Shelf, W: Write>(
+    rt: R,
     alloc: Global,
     line: CommandLine<'a>,
     shelf: &mut F,
     out: &mut W,
 ) -> Result<u8, Fault<'a>>
+where
+    R: Threads + Wait + Copy + Send + 'static,
     ensures ok { IfOk result (λ status. status ≤ 1) }
 {
     match line {
         CommandLine::Run { file, out: to } => run_file(alloc, shelf, out, file, to),
+        CommandLine::Threads {
+            file,
+            workers,
+            out: to,
+        } => threads_file(rt, alloc, shelf, out, file, workers, to),
         CommandLine::Replay { file } => replay_file(alloc, shelf, out, file),
         CommandLine::Draw { file } => draw_file(alloc, shelf, out, file),
         CommandLine::Check { file } => check_file(alloc, shelf, out, file),

@@ -15,6 +15,12 @@ use std::io::Write;
 use transcript::write;
 use world::World;
 
+/// Where the steps of a scenario are taken.
+pub(crate) trait Stage {
+    /// Takes a step, or says why it is refused.
+    fn take(&mut self, step: Step) -> Result<(), Refusal>;
+}
+
 /// Plays a scenario: says each refused step at once, writes the transcript where one is asked for,
 /// and then says how the group stands.
 pub(crate) fn run_file<'a, F: Shelf, W: Write>(
@@ -37,11 +43,11 @@ pub(crate) fn run_file<'a, F: Shelf, W: Write>(
     Ok(status)
 }
 
-// Takes each step, and says which are refused: 1 where one is.
-fn play_steps<'a, W: Write>(
+/// Takes each step of a scenario, and says which are refused: 1 where one is.
+pub(crate) fn play_steps<'a, W: Write, S: Stage>(
     alloc: Global,
     out: &mut W,
-    play: &mut Play,
+    stage: &mut S,
     scenario: &Scenario,
 ) -> Result<u8, Fault<'a>>
     ensures { IfOk result (λ status. status ≤ 1) }
@@ -49,7 +55,7 @@ fn play_steps<'a, W: Write>(
     let mut status = 0;
     for line in &scenario.steps {
         let step = step_of(alloc, line.as_str())?;
-        if let Err(refusal) = play.take(step) {
+        if let Err(refusal) = stage.take(step) {
             print_refusal(out, refusal, line.as_str())?;
             status = 1;
         }
@@ -57,8 +63,8 @@ fn play_steps<'a, W: Write>(
     Ok(status)
 }
 
-// Writes a group's transcript.
-fn save<'a, F: Shelf>(
+/// Writes a group's transcript.
+pub(crate) fn save<'a, F: Shelf>(
     alloc: Global,
     shelf: &mut F,
     world: &World,
@@ -81,7 +87,12 @@ pub(crate) fn load_bytes<'a, F: Shelf>(shelf: &mut F, file: &'a str) -> Result<V
     }
 }
 
-fn load<'a, F: Shelf>(alloc: Global, shelf: &mut F, file: &'a str) -> Result<Scenario, Fault<'a>>
+/// The scenario of a file.
+pub(crate) fn load<'a, F: Shelf>(
+    alloc: Global,
+    shelf: &mut F,
+    file: &'a str,
+) -> Result<Scenario, Fault<'a>>
     ensures { IfOk result (λ scenario. IsGroup scenario.settings.servers) }
 {
     let bytes = load_bytes(shelf, file)?;
@@ -102,9 +113,9 @@ fn step_of<'a>(alloc: Global, line: &str) -> Result<Step, Fault<'a>> {
     }
 }
 
-// Each line is read before the first step is taken, and once more when its step is: a step may hold
-// a plan, so a list of them all would cost more than the lines do.
-fn check_steps<'a>(alloc: Global, scenario: &Scenario) -> Result<(), Fault<'a>> {
+/// Each line is read before the first step is taken, and once more when its step is: a step may hold
+/// a plan, so a list of them all would cost more than the lines do.
+pub(crate) fn check_steps<'a>(alloc: Global, scenario: &Scenario) -> Result<(), Fault<'a>> {
     for line in &scenario.steps {
         let _step = step_of(alloc, line.as_str())?;
     }

@@ -1,0 +1,141 @@
+//! What the program says of scenarios that it plays on threads.
+use crate::folder::Folder;
+use crate::said::{behind_refusals, run_words};
+use std::alloc::AllocError;
+use std::rt::Files;
+use std::sync::Wait;
+use std::thread::Threads;
+use std::{fs, io};
+
+// Raft's first election: each of three servers answers, and nothing else is sent.
+const ELECTION: &[u8] = b"{ \"servers\": 3, \"nodes\": [], \"key\": 0, \"drop\": 0, \"repeat\": 0,
+  \"order\": \"sent\", \"steps\": [\"timeout 1\", \"flow\"] }";
+
+const ELECTED: &[u8] = b"server 1 leader term 1 last 1 applied 0
+server 2 follower term 1 last 0 applied 0
+server 3 follower term 1 last 0 applied 0
+events 5 messages 4
+";
+
+// A job of two, on two nodes; server 2 takes its evaluation, and its workers go on by themselves.
+const PLACED: &[u8] = b"{ \"servers\": 3, \"nodes\": [
+    {\"class\": \"linux\", \"cpu\": 1000, \"mem\": 1000},
+    {\"class\": \"linux\", \"cpu\": 1000, \"mem\": 1000}],
+  \"key\": 0, \"drop\": 0, \"repeat\": 0, \"order\": \"sent\", \"steps\": [
+    \"timeout 1\", \"flow\", \"beat 1\", \"flow\", \"register 1 1\", \"register 2 1\", \"flow\",
+    \"request 1 put web 50 main:2:linux:600:300\", \"beat 1\", \"flow\", \"take 2 1\", \"flow\"";
+
+const ROUND: &[u8] = b",
+    \"beat 1\", \"flow\", \"plan 1\", \"flow\", \"pull 1 1\", \"flow\", \"pull 2 1\", \"flow\"";
+
+const ROUNDS: u32 = 1_000;
+
+const LEADER: &[u8] = b"server 1 leader term 1 last 8 applied 8";
+
+const FIRST: &[u8] = b"alloc web.main[0] id 5.0 node 1 running";
+
+const SECOND: &[u8] = b"alloc web.main[1] id 5.1 node 2 running";
+
+// How many times each is played; each time the threads may meet in another order.
+const TIMES: u32 = 20;
+
+fn is_elected<R: Threads + Wait + Copy + Send + 'static>(
+    rt: &HostRuntime,
+    on: R,
+    words: &[&str],
+) -> bool {
+    let printed = run_words(rt, on, &mut Folder::new(rt, ELECTION), words);
+    printed.status == 0 && printed.err.is_empty() && printed.out.as_slice() == ELECTED
+}
+
+/// Plays the first election, and says how often it came to the lines that it has to come to.
+pub(crate) fn elections<R: Threads + Wait + Copy + Send + 'static>(
+    rt: &HostRuntime,
+    on: R,
+) -> io::Result<()> {
+    let two = &["nomadsim", "threads", "text.json"];
+    let eight = &["nomadsim", "threads", "text.json", "--workers", "8"];
+    let mut of_two: u32 = 0;
+    let mut of_eight: u32 = 0;
+    for _ in 0..TIMES {
+        if is_elected(rt, on, two) {
+            of_two = of_two.saturating_add(1);
+        }
+        if is_elected(rt, on, eight) {
+            of_eight = of_eight.saturating_add(1);
+        }
+    }
+    println!(rt; "threads of an election: as foreseen {of_two} and {of_eight} times")
+}
+
+fn placing(rt: &HostRuntime) -> Result<Vec<u8>, AllocError> {
+    let mut text = PLACED.to_vec(rt.alloc())?;
+    for _ in 0..ROUNDS {
+        text.extend_from_slice(ROUND)?;
+    }
+    text.extend_from_slice(b"] }")?;
+    Ok(text)
+}
+
+fn says(out: &[u8], line: &[u8]) -> bool {
+    out.split(|byte| *byte == b'\n').any(|l| l == line)
+}
+
+/// Plays a job's way to its nodes, of which the workers go theirs by themselves, and says how often
+/// the leader and the allocations stood as they have to.
+pub(crate) fn placements<R: Threads + Wait + Copy + Send + 'static>(
+    rt: &HostRuntime,
+    on: R,
+) -> io::Result<()> {
+    let text = placing(rt)?;
+    let mut count: u32 = 0;
+    for _ in 0..TIMES {
+        let mut folder = Folder::new(rt, &text);
+        let printed = run_words(rt, on, &mut folder, &["nomadsim", "threads", "text.json"]);
+        let out = printed.out.as_slice();
+        if printed.status == 0 && out.starts_with(LEADER) && says(out, FIRST) && says(out, SECOND) {
+            count = count.saturating_add(1);
+        }
+    }
+    println!(rt; "threads of a placement: as foreseen {count} times")
+}
+
+// The scenario of a file, on a net that loses 20 of a hundred messages and repeats 20.
+fn on_a_bad_net(rt: &HostRuntime, name: &str) -> io::Result<Vec<u8>> {
+    let alloc = rt.alloc();
+    let text = fs::read(rt, &format!(in alloc; "{name}.json")?)?;
+    let mut bad = Vec::new(alloc);
+    for line in text.split(|byte| *byte == b'\n') {
+        let line = if line.starts_with(b"  \"drop\"") {
+            b"  \"drop\": 20,"
+        } else if line.starts_with(b"  \"repeat\"") {
+            b"  \"repeat\": 20,"
+        } else {
+            line
+        };
+        bad.extend_from_slice(line)?;
+        bad.push(b'\n')?;
+    }
+    Ok(bad)
+}
+
+/// Plays the scenario of each line of `lessons` on a bad net; its transcript, played again, has to
+/// print the same but for the refused steps.
+pub(crate) fn replayed<R: Threads + Wait + Copy + Send + 'static>(
+    rt: &HostRuntime,
+    on: R,
+) -> io::Result<()> {
+    let names = fs::read_to_string(rt, "lessons")?;
+    for name in names.lines() {
+        let text = on_a_bad_net(rt, name)?;
+        let mut folder = Folder::new(rt, &text);
+        let words = ["nomadsim", "threads", "text.json", "--out", "transcript"];
+        let played = run_words(rt, on, &mut folder, &words);
+        let again = run_words(rt, on, &mut folder, &["nomadsim", "replay", "transcript"]);
+        let is_same = again.status == 0
+            && !again.out.is_empty()
+            && again.out.as_slice() == behind_refusals(&played.out);
+        println!(rt; "threads of {name}, again: {is_same}")?;
+    }
+    Ok(())
+}
