@@ -23,12 +23,15 @@ impl Bell {
         *self.rings.lock(rt)
     }
 
+    /// Counts a ring that wakes nobody: who is awake and asked for the count before does not sleep.
+    pub(crate) fn count<R: Wait>(&self, rt: &R) {
+        let mut rings = self.rings.lock(rt);
+        *rings = rings.wrapping_add(1);
+    }
+
     /// Wakes all that sleep by it.
     pub(crate) fn ring<R: Wait>(&self, rt: &R) {
-        {
-            let mut rings = self.rings.lock(rt);
-            *rings = rings.wrapping_add(1);
-        }
+        self.count(rt);
         self.rung.notify_all();
     }
 

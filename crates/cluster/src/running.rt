@@ -48,7 +48,8 @@ pub struct RunningGroup<B: BookId, G: Gate + Drop> {
     stopped: AtomicBool,
 }
 
-// What waits for the workers of a server; and a bell that rings when the server took a turn.
+// What waits for the workers of a server; and a bell that counts the server's turns, and rings where
+// something waits after one.
 #[derive(Drop)]
 struct WorkersOfServer {
     work: Mutex<ServerWorkers>,
@@ -70,9 +71,6 @@ fn bells(alloc: Global, count: usize) -> Result<Vec<Bell>, NoMemory> {
     }
     Ok(bells)
 }
-
-// A message is lost.
-fn lose<B: BookId>(_envelope: Envelope<B>) {}
 
 impl<B: BookId, G: Gate + Drop> RunningGroup<B, G> {
     /// A group of these cells, before its threads start. No message is on its way, and no work
@@ -161,14 +159,20 @@ impl<B: BookId, G: Gate + Drop> RunningGroup<B, G> {
 
     // What came for a server's workers waits for them; what there is no memory for is lost. Where
     // the server is down, also for want of memory, they have nothing any more.
+    //
+    // The turn is counted first: a worker that took work up before it, and puts it back for a later
+    // state, looks again. Those that sleep are woken only where something waits.
     fn admit<R: Wait>(&self, rt: &R, server: ServerId, work: Sequence<Work>) {
         let workers = &self.servers[server.place()];
+        workers.turned.count(rt);
         if self.is_up(rt, server) {
             let _ = workers.work.lock(rt).admit(work);
         } else {
             workers.work.lock(rt).forget();
         }
-        workers.turned.ring(rt);
+        if !workers.work.lock(rt).is_idle() {
+            workers.turned.ring(rt);
+        }
     }
 
     fn is_up<R: Wait>(&self, rt: &R, server: ServerId) -> bool {
@@ -182,7 +186,7 @@ impl<B: BookId, G: Gate + Drop> RunningGroup<B, G> {
     fn post<R: Wait>(&self, rt: &R, envelope: Envelope<B>) {
         let word = self.fates.lock(rt).next();
         match fate(word, self.drop, self.repeat) {
-            MessageFate::Lose => lose(envelope),
+            MessageFate::Lose => drop(envelope),
             MessageFate::Once => self.put(rt, envelope),
             MessageFate::Repeat => match self.cells.again(envelope) {
                 Ok((one, other)) => {

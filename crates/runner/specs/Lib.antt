@@ -4,3 +4,4 @@ pub mod Objects
 pub mod Steps
 pub mod Faults
 pub mod Complaints
+pub mod Rooms

@@ -5,6 +5,7 @@ ghost use Rattle.runner.specs.Objects.{IsScenarioText};
 ghost use Rattle.runner.specs.Complaints.{AreGood, IsGood, IsGoodText, IsStepLine};
 
 use crate::fault::{Fault, said};
+use crate::noting::too_large;
 use crate::reading::scenario;
 use crate::running::load_bytes;
 use crate::scenario::Scenario;
@@ -26,7 +27,8 @@ pub enum Complaint {
     Step(usize, String, &'static str),
 }
 
-/// Says what is wrong with a scenario's file: 0 where nothing is.
+/// Says what is wrong with a scenario's file: 0 where nothing is. Then it notes the groups that no
+/// node has room for, which is nothing wrong.
 pub(crate) fn check_file<'a, F: Shelf, W: Write>(
     alloc: Global,
     shelf: &mut F,
@@ -42,12 +44,26 @@ pub(crate) fn check_file<'a, F: Shelf, W: Write>(
     };
     let found = complaints(alloc, text)?;
     if found.is_empty() {
+        note_groups(alloc, out, text)?;
         return Ok(0);
     }
     for complaint in &found {
         print_complaint(out, complaint)?;
     }
     Err(Fault::BadScenario)
+}
+
+// Notes the groups that no node has room for.
+fn note_groups<'a, W: Write>(alloc: Global, out: &mut W, text: &str) -> Result<(), Fault<'a>> {
+    let scenario = match scenario(alloc, text) {
+        Ok(scenario) => scenario,
+        // It is a scenario, so there was no memory.
+        Err(_) => return Err(Fault::NoMemory),
+    };
+    for note in &too_large(alloc, &scenario)? {
+        said(writeln!(out, "{note}"))?;
+    }
+    Ok(())
 }
 
 /// What is wrong with a scenario's text: nothing exactly where it is a scenario and each of its
