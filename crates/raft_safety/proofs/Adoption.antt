@@ -6,12 +6,12 @@ use Rattle.machine.specs.declared.entry.Entry.{Entry}
 use Rattle.raft_model.specs.Logs.{term_at, has, install}
 use Rattle.raft_model.specs.Messages.{Message, AppendReply, InstallReply}
 use Rattle.raft_model.specs.Servers.{Server, Follower, is_held, appended, installed}
-use Rattle.raft_safety.specs.Functions.{with_both}
+use Rattle.raft_safety.specs.Inner.Functions.{with_both}
 use Rattle.raft_model.specs.Chains.{Agree}
-use Rattle.raft_safety.specs.Agreement.{Rooted, Adopted}
-use Rattle.raft_safety.specs.Ballots.{Ballots, BallotsGrow}
-use Rattle.raft_safety.specs.History.{History, HasOrDead, Fixed, Ledgers, Extends}
-use Rattle.raft_safety.specs.Invariants.{ModeOk, ServerOk, AppendOk, InstallOk, BodyOk, Keeps}
+use Rattle.raft_safety.specs.Inner.Agreement.{Rooted, Adopted}
+use Rattle.raft_safety.specs.Inner.Ballots.{Ballots, BallotsGrow}
+use Rattle.raft_safety.specs.Inner.History.{History, HasOrDead, Fixed, Ledgers, Extends}
+use Rattle.raft_safety.specs.Inner.Invariants.{ModeOk, ServerOk, AppendOk, InstallOk, BodyOk, Keeps}
 use Rattle.raft_safety.proofs.Functions.{both_cases, both_same, both_other, both_else}
 use Rattle.raft_safety.proofs.Logs.{agree_none, agree_sym, agree_trans, agree_less, agree_term, agree_take, rooted_two, merge_adopts, install_adopts}
 use Rattle.raft_safety.proofs.Completeness.{fixed_in}

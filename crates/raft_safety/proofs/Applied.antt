@@ -7,7 +7,7 @@ use Rattle.raft_model.specs.Messages.{Message}
 use Rattle.raft_model.specs.Servers.{Server, is_up}
 use Rattle.raft_model.specs.Worlds.{World, Event, Run, moment}
 use Rattle.raft_model.specs.Chains.{Agree, At}
-use Rattle.raft_safety.specs.SmallSteps.{Turns}
+use Rattle.raft_safety.specs.Inner.SmallSteps.{Turns}
 use Rattle.raft_safety.specs.Claims.{UpFromTo, SameStored}
 use Rattle.raft_safety.proofs.Places.{get_set-cases}
 use Rattle.raft_safety.proofs.Runs.{run_step, moment_before}

@@ -5,10 +5,10 @@ use Rattle.machine.specs.declared.entry.Entry.{Entry}
 use Rattle.raft_model.specs.Logs.{MAX}
 use Rattle.raft_model.specs.Messages.{Message, VoteReply, to_others}
 use Rattle.raft_model.specs.Servers.{Server, stood, vote_request, is_up_to_date}
-use Rattle.raft_safety.specs.Functions.{with_both}
-use Rattle.raft_safety.specs.Agreement.{Rooted}
-use Rattle.raft_safety.specs.History.{History, Backed, Ledgers, Extends}
-use Rattle.raft_safety.specs.Invariants.{ModeOk, ServerOk, RequestOk, BodyOk, Keeps}
+use Rattle.raft_safety.specs.Inner.Functions.{with_both}
+use Rattle.raft_safety.specs.Inner.Agreement.{Rooted}
+use Rattle.raft_safety.specs.Inner.History.{History, CarriesHeld, Ledgers, Extends}
+use Rattle.raft_safety.specs.Inner.Invariants.{ModeOk, ServerOk, RequestOk, BodyOk, Keeps}
 use Rattle.raft_safety.proofs.Functions.{both_cases, both_same, both_other, both_else}
 use Rattle.raft_safety.proofs.Places.{only_marked, to_others_is, get-one}
 use Rattle.raft_safety.proofs.VoterSteps.{VotesKept}
@@ -57,7 +57,7 @@ module _ {C : Type 0} (P : List (Entry C) → Type 0) (n : ℕ) (G : History C) 
             stood = both_same G.stood t i (Some s.log);
             unled = λ q. omega (arith, I.late t i q, ok.voter.now);
             room = room;
-            backed = λ j less mark. subst (λ k. Backed n H t k s.log) (sym (only_marked n i j mark)) (record {
+            carried = λ j less mark. subst (λ k. CarriesHeld n H t k s.log) (sym (only_marked n i j mark)) (record {
               late = omega (arith, now);
               carries = λ u k less2 one le. carries_on n G H u k s.log e one (ok.log.holds u k one le);
             });

@@ -8,8 +8,8 @@ use Rattle.raft_model.specs.Logs.{term_at, commands, state_after}
 use Rattle.raft_model.specs.Servers.{Server}
 use Rattle.raft_model.specs.Worlds.{World, Event, Run, moment}
 use Rattle.raft_model.specs.Chains.{Agree, At, Chain}
-use Rattle.raft_safety.specs.History.{Fixed}
-use Rattle.raft_safety.specs.Invariants.{ServerOk}
+use Rattle.raft_safety.specs.Inner.History.{Fixed}
+use Rattle.raft_safety.specs.Inner.Invariants.{ServerOk}
 use Rattle.raft_safety.specs.Claims.{LogMatching, IsGreatestCommit, Origin}
 use Rattle.raft_safety.proofs.Logs.{agree_none, agree_sym, agree_trans, agree_less, agree_term, rooted_two, rooted_at}
 use Rattle.raft_safety.proofs.Election.{one_leader}

@@ -5,10 +5,10 @@ use Rattle.raft_model.specs.Logs.{term_at}
 use Rattle.raft_model.specs.Messages.{Message, Body, VoteRequest, VoteReply, Append, AppendReply, Install, InstallReply}
 use Rattle.raft_model.specs.Servers.{Server, Mode, Down, Follower, Candidate, Leader, is_leader}
 use Rattle.raft_model.specs.Chains.{Agree}
-use Rattle.raft_safety.specs.SmallSteps.{Passes}
-use Rattle.raft_safety.specs.Agreement.{Rooted}
-use Rattle.raft_safety.specs.History.{History, Fixed, Backed, Ledgers, Extends, DiffersAt}
-use Rattle.raft_safety.specs.Invariants.{LogOk, CandidateOk, LeaderOk, ModeOk, ServerOk, AppendOk, InstallOk, BodyOk, MessageOk, Keeps}
+use Rattle.raft_safety.specs.Inner.SmallSteps.{Passes}
+use Rattle.raft_safety.specs.Inner.Agreement.{Rooted}
+use Rattle.raft_safety.specs.Inner.History.{History, Fixed, CarriesHeld, Ledgers, Extends, DiffersAt}
+use Rattle.raft_safety.specs.Inner.Invariants.{LogOk, CandidateOk, LeaderOk, ModeOk, ServerOk, AppendOk, InstallOk, BodyOk, MessageOk, Keeps}
 use Rattle.raft_safety.proofs.Logs.{agree_sym, agree_trans, agree_less, agree_term}
 use Rattle.std.proofs.lemmas.List.{drop-take}
 use Rattle.raft_safety.proofs.Growth.{agree_on, carries_on, fixed_on}
@@ -81,9 +81,9 @@ module _ {C : Type 0} where
   fixed_grow n G v k X Y a (inl z) = inl z
   fixed_grow n G v k X Y a (inr f) = inr (record { term = f.term; place = f.place; early = f.early; reach = f.reach; chosen = f.chosen; agree = agree_trans (agree_sym a) f.agree })
 
-  -- a vote stays backed
-  pub backed_on : (n : ℕ) (G H : History C) (t i : ℕ) (L : List (Entry C)) → Extends G H → Backed n G t i L → Backed n H t i L
-  backed_on n G H t i L e b = record {
+  -- what a voter held stays carried
+  pub carried_on : (n : ℕ) (G H : History C) (t i : ℕ) (L : List (Entry C)) → Extends G H → CarriesHeld n G t i L → CarriesHeld n H t i L
+  carried_on n G H t i L e b = record {
     late = omega (arith, b.late, e.ballots.terms i);
     carries = λ u k less one le. carries_on n G H u k L e one (b.carries u k less one (omega (arith, le, e.left u i (omega (arith, less, b.late)))));
   }
@@ -107,7 +107,7 @@ module _ {C : Type 0} where
     stood = e.stood t j log h.stood;
     unled = λ q. h.unled (back q);
     room = h.room;
-    backed = λ i less mark. backed_on n G H t i log e (h.backed i less mark);
+    carried = λ i less mark. carried_on n G H t i log e (h.carried i less mark);
   }
 
   -- a leader whose ledger stays
@@ -193,7 +193,7 @@ module _ {C : Type 0} where
   pub bodies_on : (n : ℕ) (G H : History C) (from to term : ℕ) (body : Body C) → Extends G H → BodyOk n G from to term body → BodyOk n H from to term body
   unfolding BodyOk
   bodies_on n G H from to term (VoteRequest index its_last) e h = record { log = h.log; stood = e.stood term from h.log h.stood; index_is = h.index_is; last_is = h.last_is }
-  bodies_on n G H from to term (VoteReply asked true) e h = record { log = h.log; stood = e.stood asked to h.log h.stood; backed = backed_on n G H asked from h.log e h.backed }
+  bodies_on n G H from to term (VoteReply asked true) e h = record { log = h.log; stood = e.stood asked to h.log h.stood; carried = carried_on n G H asked from h.log e h.carried }
   bodies_on n G H from to term (VoteReply asked false) e h = tt
   bodies_on n G H from to term (Append prev prev_term commit entries) e h = append_on n G H term prev prev_term commit entries e h
   bodies_on n G H from to term (AppendReply asked true at) e h = omega (arith, h, e.held asked from)

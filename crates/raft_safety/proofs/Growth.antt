@@ -5,8 +5,8 @@ use Rattle.std.proofs.lemmas.Bool.Decides.{leb_tells}
 use Rattle.machine.specs.declared.entry.Entry.{Entry}
 use Rattle.raft_model.specs.Quorums.{Quorum}
 use Rattle.raft_model.specs.Chains.{Agree}
-use Rattle.raft_safety.specs.Agreement.{Adopted}
-use Rattle.raft_safety.specs.History.{History, Own, Dead, Chosen, HasOrDead, Fixed, Ledgers, Extends}
+use Rattle.raft_safety.specs.Inner.Agreement.{Adopted}
+use Rattle.raft_safety.specs.Inner.History.{History, Own, Dead, Chosen, HasOrDead, Fixed, Ledgers, Extends}
 use Rattle.raft_safety.proofs.Quorums.{quorum_more, find}
 use Rattle.raft_safety.proofs.Logs.{agree_sym, agree_trans, agree_less, agree_term}
 

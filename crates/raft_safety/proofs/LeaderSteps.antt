@@ -8,8 +8,8 @@ use Rattle.raft_model.specs.Quorums.{index_at, is_quorum}
 use Rattle.raft_model.specs.Messages.{Message, to_others}
 use Rattle.raft_model.specs.Servers.{Server, Leader, is_chosen, greatest, beat_message, beat_body}
 use Rattle.raft_model.specs.Chains.{Agree}
-use Rattle.raft_safety.specs.History.{History, Chosen, Fixed, Ledgers}
-use Rattle.raft_safety.specs.Invariants.{LogOk, LeaderOk, ServerOk, AppendOk, InstallOk, BodyOk, Keeps}
+use Rattle.raft_safety.specs.Inner.History.{History, Chosen, Fixed, Ledgers}
+use Rattle.raft_safety.specs.Inner.Invariants.{LogOk, LeaderOk, ServerOk, AppendOk, InstallOk, BodyOk, Keeps}
 use Rattle.raft_safety.proofs.Logs.{agree_sym, agree_trans, agree_less, agree_take}
 use Rattle.raft_safety.proofs.Quorums.{quorum_more, quorum_told}
 use Rattle.raft_safety.proofs.Places.{to_others_is}

@@ -7,8 +7,8 @@ use Rattle.raft_model.specs.Quorums.{is_quorum, marked}
 use Rattle.raft_model.specs.Messages.{Body, VoteRequest, VoteReply, Append, AppendReply, Install, InstallReply}
 use Rattle.raft_model.specs.Servers.{Server, Turn, Mode, Down, Follower, Candidate, Leader, is_up, is_leader, silent, met, grants, counted, is_held, advanced_in, hears_ok, hears_refusal, extended}
 use Rattle.raft_model.specs.Steps.{Input, Arrives, Timeout, Beat, Propose, Compact, Crash, Restart, receives, times_out, proposes, acts, wakes, step, admitted, unless}
-use Rattle.raft_safety.specs.Leading.{Leading, goes_on, hears, wins}
-use Rattle.raft_safety.specs.Leading as leading
+use Rattle.raft_safety.specs.Inner.Leading.{Leading, goes_on, hears, wins}
+use Rattle.raft_safety.specs.Inner.Leading as leading
 use Rattle.raft_safety.proofs.Paths.{bool_cases, same_ok}
 
 module _ {S C : Type 0} (m : Meaning S C) (n i : ℕ) (s : Server C) (input : Input C) where

@@ -5,7 +5,7 @@ use Rattle.std.proofs.lemmas.Bool.Decides.{leb_tells}
 use Rattle.machine.specs.declared.entry.Entry.{Entry}
 use Rattle.raft_model.specs.Logs.{term_at, merge, install}
 use Rattle.raft_model.specs.Chains.{Agree}
-use Rattle.raft_safety.specs.Agreement.{Rooted, Adopted}
+use Rattle.raft_safety.specs.Inner.Agreement.{Rooted, Adopted}
 
 module _ {C : Type 0} where
   -- the first 0 entries

@@ -8,9 +8,9 @@ use Rattle.raft_model.specs.Logs.{term_at}
 use Rattle.raft_model.specs.Servers.{Server, Candidate, is_leader}
 use Rattle.raft_model.specs.Worlds.{World, Event}
 use Rattle.raft_model.specs.Chains.{Agree, At}
-use Rattle.raft_safety.specs.Leading.{Leading, goes_on, hears, proposes, wins}
-use Rattle.raft_safety.specs.History.{History}
-use Rattle.raft_safety.specs.Invariants.{CandidateOk, ServerOk}
+use Rattle.raft_safety.specs.Inner.Leading.{Leading, goes_on, hears, proposes, wins}
+use Rattle.raft_safety.specs.Inner.History.{History}
+use Rattle.raft_safety.specs.Inner.Invariants.{CandidateOk, ServerOk}
 use Rattle.raft_safety.specs.Claims.{Origin, Grew, proposed, elected}
 use Rattle.raft_safety.proofs.Places.{get-more, get-last, get_set-same, get-within, take_append, push_length}
 use Rattle.raft_safety.proofs.Leading.{step_leads}

@@ -7,11 +7,11 @@ use Rattle.raft_model.specs.Logs.{last_term}
 use Rattle.raft_model.specs.Quorums.{index_at}
 use Rattle.raft_model.specs.Messages.{Message, Body, VoteRequest, VoteReply, Append, AppendReply, Install, InstallReply}
 use Rattle.raft_model.specs.Servers.{Server, Mode, Down, Follower, Candidate, Leader, is_up_to_date, following, acked, backed, compacted}
-use Rattle.raft_safety.specs.SmallSteps.{IsAck, OwesNothing, IsIdle}
-use Rattle.raft_safety.specs.Agreement.{Rooted}
-use Rattle.raft_safety.specs.Ballots.{Ballots, BallotsGrow, BallotsApart}
-use Rattle.raft_safety.specs.History.{History, Backed, Ledgers, UpToDate, Extends, DiffersAt}
-use Rattle.raft_safety.specs.Invariants.{LogOk, CandidateOk, LeaderOk, ModeOk, ServerOk, RequestOk, GrantOk, BodyOk, Keeps}
+use Rattle.raft_safety.specs.Inner.SmallSteps.{IsAck, OwesNothing, IsIdle}
+use Rattle.raft_safety.specs.Inner.Agreement.{Rooted}
+use Rattle.raft_safety.specs.Inner.Ballots.{Ballots, BallotsGrow, BallotsApart}
+use Rattle.raft_safety.specs.Inner.History.{History, CarriesHeld, Ledgers, UpToDate, Extends, DiffersAt}
+use Rattle.raft_safety.specs.Inner.Invariants.{LogOk, CandidateOk, LeaderOk, ModeOk, ServerOk, RequestOk, GrantOk, BodyOk, Keeps}
 use Rattle.raft_safety.proofs.Places.{marked_set, index_at_set, get-one}
 use Rattle.raft_safety.proofs.Paths.{bool_cases}
 use Rattle.raft_safety.proofs.Voters.{elected_on}
@@ -164,14 +164,14 @@ module _ {C : Type 0} (P : List (Entry C) → Type 0) (n : ℕ) (G : History C) 
         inr (eqb-true (last_term log) (last_term L) c.0, leb-true (length log) (length L) c.1)
   ]
 
-  -- a granted vote is backed
+  -- who grants a vote held nothing that the candidate lacks
   pub grant_ok : (from index its_last : ℕ) → RequestOk n G from s.term index its_last → is_up_to_date s.log index its_last ≡ true → GrantOk n G i from s.term
   grant_ok from index its_last r newer =
       let up : UpToDate r.log s.log = up_to_date_told r.log s.log (subst (λ x. is_up_to_date s.log x (last_term r.log) ≡ true) r.index_is (subst (λ x. is_up_to_date s.log index x ≡ true) r.last_is newer)) in
       record {
         log = r.log;
         stood = r.stood;
-        backed = record {
+        carried = record {
           late = omega (arith, ok.voter.now);
           carries = λ u k less one le. grant_carries n G s.log r.log I ok.log.rooted (I.stands s.term from r.log r.stood) up u k one (ok.log.holds u k one le);
         };
@@ -185,9 +185,9 @@ module _ {C : Type 0} (P : List (Entry C) → Type 0) (n : ℕ) (G : History C) 
         stood = c.stood;
         unled = c.unled;
         room = c.room;
-        backed = λ j less mark. elim (marked_set votes from j mark) [
-          | inl e ↦ subst (λ k. Backed n G s.term k s.log) (sym e) (subst (λ L. Backed n G s.term from L) (same_Some g.log s.log (sym g.stood ∙ c.stood)) g.backed)
-          | inr e ↦ c.backed j less e
+        carried = λ j less mark. elim (marked_set votes from j mark) [
+          | inl e ↦ subst (λ k. CarriesHeld n G s.term k s.log) (sym e) (subst (λ L. CarriesHeld n G s.term from L) (same_Some g.log s.log (sym g.stood ∙ c.stood)) g.carried)
+          | inr e ↦ c.carried j less e
         ];
       }
 

@@ -9,8 +9,8 @@ use Rattle.raft_model.specs.Logs.{term_at}
 use Rattle.raft_model.specs.Quorums.{count, Quorum, is_quorum, index_at}
 use Rattle.raft_model.specs.Servers.{Server, Leader, is_leader, is_chosen, greatest}
 use Rattle.raft_model.specs.Worlds.{World, Event, Run, start, more}
-use Rattle.raft_safety.specs.Leading.{Leading, goes_on, hears, proposes, wins}
-use Rattle.raft_safety.specs.Invariants.{ServerOk}
+use Rattle.raft_safety.specs.Inner.Leading.{Leading, goes_on, hears, proposes, wins}
+use Rattle.raft_safety.specs.Inner.Invariants.{ServerOk}
 use Rattle.raft_safety.specs.Claims.{HasRisen}
 use Rattle.raft_safety.proofs.Places.{get_set-cases, index_at_replicate, replicate-get}
 use Rattle.raft_safety.proofs.Leading.{step_leads}

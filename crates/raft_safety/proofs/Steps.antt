@@ -5,9 +5,9 @@ use Rattle.machine.specs.declared.entry.Entry.{Entry}
 use Rattle.raft_model.specs.Messages.{Message}
 use Rattle.raft_model.specs.Servers.{Server, is_leader}
 use Rattle.raft_model.specs.Worlds.{World, Event}
-use Rattle.raft_safety.specs.SmallSteps.{Small, raises, stands, grants_vote, refuses, counts, wins, extends, follows, takes_append, takes_install, acks, backs, advances, covers, beats_all, Path, still, only, after_one, Turns, walks, resets}
-use Rattle.raft_safety.specs.History.{History, Ledgers, Extends}
-use Rattle.raft_safety.specs.Invariants.{ServerOk, BodyOk, SentOk, Keeps}
+use Rattle.raft_safety.specs.Inner.SmallSteps.{Small, raises, stands, grants_vote, refuses, counts, wins, extends, follows, takes_append, takes_install, acks, backs, advances, covers, beats_all, Path, still, only, after_one, Turns, walks, resets}
+use Rattle.raft_safety.specs.Inner.History.{History, Ledgers, Extends}
+use Rattle.raft_safety.specs.Inner.Invariants.{ServerOk, BodyOk, SentOk, Keeps}
 use Rattle.raft_safety.proofs.Places.{get_set-cases, set-length, get-split}
 use Rattle.raft_safety.proofs.VoterSteps.{VotesKept, small_votes, reset_votes}
 use Rattle.raft_safety.proofs.Frame.{server_on, message_on, keeps_more, keeps_same}

@@ -7,10 +7,10 @@ use Rattle.machine.specs.declared.entry.Entry.{Entry}
 use Rattle.raft_model.specs.Servers.{Server, Leader, is_up, newcomer}
 use Rattle.raft_model.specs.Worlds.{World, first, Event, Run, start, more, moment, Leads}
 use Rattle.raft_model.specs.Chains.{Agree, At, WasCommitted}
-use Rattle.raft_safety.specs.Agreement.{Rooted}
-use Rattle.raft_safety.specs.Ballots.{Voter}
-use Rattle.raft_safety.specs.History.{History, Fixed, Ledgers}
-use Rattle.raft_safety.specs.Invariants.{ModeOk, ServerOk}
+use Rattle.raft_safety.specs.Inner.Agreement.{Rooted}
+use Rattle.raft_safety.specs.Inner.Ballots.{Voter}
+use Rattle.raft_safety.specs.Inner.History.{History, Fixed, Ledgers}
+use Rattle.raft_safety.specs.Inner.Invariants.{ModeOk, ServerOk}
 use Rattle.raft_safety.proofs.Logs.{agree_none, agree_sym, agree_trans, agree_less, agree_take}
 use Rattle.raft_safety.proofs.Completeness.{fixed_in, fixed_two}
 use Rattle.raft_safety.proofs.Growth.{fixed_on}

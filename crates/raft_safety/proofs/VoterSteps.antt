@@ -6,8 +6,8 @@ use Rattle.machine.specs.declared.entry.Entry.{Entry}
 use Rattle.raft_model.specs.Quorums.{marked, is_quorum}
 use Rattle.raft_model.specs.Messages.{Message, Body, VoteRequest, VoteReply, Append, AppendReply, Install, InstallReply}
 use Rattle.raft_model.specs.Servers.{Server, Mode, Follower, Candidate, Leader, stood, vote_request, is_free_for, installed, acked, beat_message, beat_body}
-use Rattle.raft_safety.specs.SmallSteps.{OwesNothing, IsIdle, WasSent, Small, raises, stands, grants_vote, refuses, counts, wins, extends, follows, takes_append, takes_install, acks, backs, advances, covers, beats_all, Path, still, only, after_one, Turns, walks, resets}
-use Rattle.raft_safety.specs.Ballots.{Ballots, cast, is_for, Elected, VoterMode, Voter, VoteBody, BallotsGrow}
+use Rattle.raft_safety.specs.Inner.SmallSteps.{OwesNothing, IsIdle, WasSent, Small, raises, stands, grants_vote, refuses, counts, wins, extends, follows, takes_append, takes_install, acks, backs, advances, covers, beats_all, Path, still, only, after_one, Turns, walks, resets}
+use Rattle.raft_safety.specs.Inner.Ballots.{Ballots, cast, is_for, Elected, VoterMode, Voter, VoteBody, BallotsGrow}
 use Rattle.raft_safety.proofs.Quorums.{quorum_more, quorum_told}
 use Rattle.raft_safety.proofs.Places.{marked_set, only_marked, to_others_is, get-one}
 use Rattle.raft_safety.proofs.Paths.{bool_cases}

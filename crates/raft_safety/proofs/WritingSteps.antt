@@ -7,12 +7,12 @@ use Rattle.raft_model.specs.Logs.{MAX, term_at}
 use Rattle.raft_model.specs.Quorums.{marked, index_at, is_quorum}
 use Rattle.raft_model.specs.Messages.{Message}
 use Rattle.raft_model.specs.Servers.{Server, Mode, Candidate, Leader, is_leader, won}
-use Rattle.raft_safety.specs.Functions.{with_at, with_both}
+use Rattle.raft_safety.specs.Inner.Functions.{with_at, with_both}
 use Rattle.raft_model.specs.Chains.{Agree}
-use Rattle.raft_safety.specs.Agreement.{Rooted}
-use Rattle.raft_safety.specs.Ballots.{Ballots, Elected, VoterMode}
-use Rattle.raft_safety.specs.History.{History, HasOrDead, Ledgers, Extends, DiffersAt}
-use Rattle.raft_safety.specs.Invariants.{LogOk, CandidateOk, LeaderOk, ModeOk, ServerOk, Keeps}
+use Rattle.raft_safety.specs.Inner.Agreement.{Rooted}
+use Rattle.raft_safety.specs.Inner.Ballots.{Ballots, Elected, VoterMode}
+use Rattle.raft_safety.specs.Inner.History.{History, HasOrDead, Ledgers, Extends, DiffersAt}
+use Rattle.raft_safety.specs.Inner.Invariants.{LogOk, CandidateOk, LeaderOk, ModeOk, ServerOk, Keeps}
 use Rattle.raft_safety.proofs.Functions.{at_same, at_cases, at_other, both_cases, both_same, both_other, both_else}
 use Rattle.raft_safety.proofs.Logs.{agree_none, agree_sym, agree_trans, agree_less, agree_term, rooted_at}
 use Rattle.raft_safety.proofs.Quorums.{quorum_told}
@@ -317,8 +317,8 @@ module _ {C : Type 0} (P : List (Entry C) → Type 0) (n : ℕ) (G : History C) 
       (subst (λ k. Agree k (G.ledger s.term) (s.log ++ e ∷ [])) (sym empty) (agree_none (G.ledger s.term) (s.log ++ e ∷ [])))
       (omega (arith, I.reaches s.term i, empty))
       (win_carries n G s.term (marked votes) s.log (quorum_told n (marked votes) many)
-      (λ j less mark. let b = c.backed j less mark in b.late)
-      (λ j u k less mark lower one le. let b = c.backed j less mark in b.carries u k lower one le))
+      (λ j less mark. let b = c.carried j less mark in b.late)
+      (λ j u k less mark lower one le. let b = c.carried j less mark in b.carries u k lower one le))
       (λ all. push c.room (log_sound none_sound first_sound all))
       (replicate n (suc (length s.log))) (replicate n 0) (Leader (replicate n (suc (length s.log))) (replicate n 0)) refl out o
       (λ j less other. omega (arith, index_at_replicate n 0 j less))

@@ -4,8 +4,8 @@ use Rattle.machine.specs.declared.entry.Entry.{Entry}
 use Rattle.raft_model.specs.Logs.{term_at}
 use Rattle.raft_model.specs.Quorums.{Quorum}
 use Rattle.raft_model.specs.Chains.{Agree}
-use Rattle.raft_safety.specs.Agreement.{Rooted}
-use Rattle.raft_safety.specs.Ballots.{Ballots, Elected, BallotsGrow, BallotsApart}
+use Rattle.raft_safety.specs.Inner.Agreement.{Rooted}
+use Rattle.raft_safety.specs.Inner.Ballots.{Ballots, Elected, BallotsGrow, BallotsApart}
 
 -- ballots: terms and votes. stood: the log with which a server stood in a term. leader: who won a
 -- term. ledger: the log of a term's leader, as far as it got while it led. held: the greatest index
@@ -51,7 +51,7 @@ module _ {C : Type 0} where
   Fixed n G v k X = (k ≡ 0) ⊎ FixedBy n G v k X
 
   -- what i had acknowledged before it voted in t is in L
-  pub record Backed (n : ℕ) (G : History C) (t i : ℕ) (L : List (Entry C)) : Type 0 where
+  pub record CarriesHeld (n : ℕ) (G : History C) (t i : ℕ) (L : List (Entry C)) : Type 0 where
     pub late : t ≤ G.ballots.term i
     pub carries : (u k : ℕ) → u < t → 1 ≤ k → k ≤ G.held u i → HasOrDead n G u k L
 

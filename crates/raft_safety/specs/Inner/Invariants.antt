@@ -5,11 +5,11 @@ use Rattle.raft_model.specs.Logs.{MAX, term_at, last_term}
 use Rattle.raft_model.specs.Quorums.{marked, index_at}
 use Rattle.raft_model.specs.Messages.{Message, Body, VoteRequest, VoteReply, Append, AppendReply, Install, InstallReply}
 use Rattle.raft_model.specs.Servers.{Server, Mode, Down, Follower, Candidate, Leader, is_leader}
-use Rattle.raft_safety.specs.SmallSteps.{WasSent}
+use Rattle.raft_safety.specs.Inner.SmallSteps.{WasSent}
 use Rattle.raft_model.specs.Chains.{Agree}
-use Rattle.raft_safety.specs.Agreement.{Rooted}
-use Rattle.raft_safety.specs.Ballots.{Voter, VoteBody}
-use Rattle.raft_safety.specs.History.{History, HasOrDead, Fixed, Backed, Ledgers, Extends, DiffersAt}
+use Rattle.raft_safety.specs.Inner.Agreement.{Rooted}
+use Rattle.raft_safety.specs.Inner.Ballots.{Voter, VoteBody}
+use Rattle.raft_safety.specs.Inner.History.{History, HasOrDead, Fixed, CarriesHeld, Ledgers, Extends, DiffersAt}
 
 module _ {C : Type 0} (n : ℕ) (G : History C) where
   -- the log of server j in this term
@@ -27,7 +27,7 @@ module _ {C : Type 0} (n : ℕ) (G : History C) where
     pub stood : G.stood term j ≡ Some log
     pub unled : G.leader term ≢ Some j
     pub room : length log < MAX
-    pub backed : (i : ℕ) → i < n → marked votes i ≡ true → Backed n G term i log
+    pub carried : (i : ℕ) → i < n → marked votes i ≡ true → CarriesHeld n G term i log
 
   -- the leader of this term, with what it knows of the others
   pub record LeaderOk (j term : ℕ) (log : List (Entry C)) (next match : List ℕ) : Type 0 where
@@ -65,7 +65,7 @@ module _ {C : Type 0} (n : ℕ) (G : History C) where
   pub record GrantOk (from to asked : ℕ) : Type 0 where
     pub log : List (Entry C)
     pub stood : G.stood asked to ≡ Some log
-    pub backed : Backed n G asked from log
+    pub carried : CarriesHeld n G asked from log
 
   -- an Append is a part of its term's ledger, and its commit index is fixed
   pub record AppendOk (term prev prev_term commit : ℕ) (entries : List (Entry C)) : Type 0 where
