@@ -33,7 +33,7 @@ use Rattle.server.specs.Turns.{TakesTurn, takes_in}
 use Rattle.server.specs.Refusals.{is_of_group, read_refusal, bytes_refusal}
 use Rattle.world.specs.GroupEvents.{message_work, log_work, input_work, turn_work}
 use Rattle.world.specs.Inner.Inputs.{bytes_of}
-use Rattle.world.specs.Inner.GroupInputs.{IsSentTo}
+use Rattle.world.specs.GroupView.{IsSentTo}
 use Rattle.world.proofs.Zips.{zip_at}
 use Rattle.world.proofs.GroupScenes.{ServerTakes, ClientTakes}
 use Rattle.world.proofs.GroupOwn.{turned}

@@ -56,41 +56,43 @@ module _ (view : ServerView) (w : World) (i : ℕ) (s : Member) (me : view.raft.
   same_member input may t there = subst (λ x. MayTakeMemory (length w.servers) x input) (same_Some s t (sym here ∙ there)) may
 
   -- an input that is no arrival
-  own : (input : Input) → own_input w i input ≡ takes_input w i input → (is_restart_input (OwnInput input) ≡ true → IsRestart (AtServer i input)) →
+  own : (input : Input) → own_input w i input ≡ takes_input w i input → (((t : Member) → slice_get w.servers i ≡ Some t → MayTakeMemory (length w.servers) t input) → MayWantAt w (AtServer i input)) →
+      (is_restart_input (OwnInput input) ≡ true → IsRestart (AtServer i input)) →
       (is_restart_input (OwnInput input) ≡ true → is_up s.raft.mode ≡ false → (turn : Turn) × (step (length w.servers) i s input ≡ Ok turn)) → ServerTakes view (OwnInput input) w (AtServer i input) i s
-  own input is starts rises = record {
+  own input is wants starts rises = record {
     turns = step (length w.servers) i s input;
     happens = is ∙ ap (λ o. input_to w i input o) here;
     taken = same_turn input;
     work = ap (λ o. input_work w i input o) here;
     crash = refl;
-    wants = same_member input;
+    wants = λ may. wants (same_member input may);
     refuses = λ senders r h. refusal_is (step (length w.servers) i s input) r h;
     restart = starts;
     wakes = rises;
   }
 
   -- and no restart
-  plain : (input : Input) → own_input w i input ≡ takes_input w i input → is_restart_input (OwnInput input) ≡ false → ServerTakes view (OwnInput input) w (AtServer i input) i s
-  plain input is other = own input is (λ so. absurd (cc)) (λ so. absurd (cc))
+  plain : (input : Input) → own_input w i input ≡ takes_input w i input → (((t : Member) → slice_get w.servers i ≡ Some t → MayTakeMemory (length w.servers) t input) → MayWantAt w (AtServer i input)) →
+      is_restart_input (OwnInput input) ≡ false → ServerTakes view (OwnInput input) w (AtServer i input) i s
+  plain input is wants other = own input is wants (λ so. absurd (cc)) (λ so. absurd (cc))
 
   by_input : (given : ServerInput) → is_frame (handing given) ≡ false → ServerTakes view (handing given) w (AtServer i (server_input (handing given))) i s
   by_input (inputs.Frame bytes) other = absurd (cc)
-  by_input inputs.Timeout other = plain Timeout refl refl
-  by_input inputs.Beat other = plain Beat refl refl
-  by_input (inputs.Request request) other = plain (Request request) refl refl
-  by_input (inputs.Take to) other = plain (TakeFrom to) refl refl
-  by_input (inputs.Submit to plan) other = plain (SubmitTo to plan) refl refl
-  by_input (inputs.Finish to eval token outcome) other = plain (FinishAt to eval token outcome) refl refl
-  by_input (inputs.Nack to eval token) other = plain (NackAt to eval token) refl refl
-  by_input inputs.PlanTurn other = plain PlanTurn refl refl
-  by_input (inputs.Lapse eval) other = plain (Lapse eval) refl refl
-  by_input (inputs.Expire node beats) other = plain (Expire node beats) refl refl
-  by_input (inputs.DrainTurn node) other = plain (DrainTurn node) refl refl
-  by_input inputs.FreeTurn other = plain FreeTurn refl refl
-  by_input inputs.Reap other = plain Reap refl refl
-  by_input inputs.Crash other = plain Crash refl refl
-  by_input inputs.Restart other = own Restart refl (λ so. tt) (λ so down. woken (length w.servers) i s down)
+  by_input inputs.Timeout other = plain Timeout refl (λ may. may) refl
+  by_input inputs.Beat other = plain Beat refl (λ may. may) refl
+  by_input (inputs.Request request) other = plain (Request request) refl (λ may. may) refl
+  by_input (inputs.Take to) other = plain (TakeFrom to) refl (λ may. may) refl
+  by_input (inputs.Submit to plan) other = plain (SubmitTo to plan) refl (λ may. may) refl
+  by_input (inputs.Finish to eval token outcome) other = plain (FinishAt to eval token outcome) refl (λ may. may) refl
+  by_input (inputs.Nack to eval token) other = plain (NackAt to eval token) refl (λ may. may) refl
+  by_input inputs.PlanTurn other = plain PlanTurn refl (λ may. may) refl
+  by_input (inputs.Lapse eval) other = plain (Lapse eval) refl (λ may. may) refl
+  by_input (inputs.Expire node beats) other = plain (Expire node beats) refl (λ may. may) refl
+  by_input (inputs.DrainTurn node) other = plain (DrainTurn node) refl (λ may. may) refl
+  by_input inputs.FreeTurn other = plain FreeTurn refl (λ may. may) refl
+  by_input inputs.Reap other = plain Reap refl (λ may. may) refl
+  by_input inputs.Crash other = plain Crash refl (λ may. may) refl
+  by_input inputs.Restart other = own Restart refl (λ may. may) (λ so. tt) (λ so down. woken (length w.servers) i s down)
 
 pub own_server : (view : ServerView) (given : ServerInput) (w : World) (i : ℕ) (s : Member) → view.raft.me ≡ i → view.raft.size ≡ length w.servers → slice_get w.servers i ≡ Some s → is_frame (handing given) ≡ false →
     ServerTakes view (handing given) w (AtServer i (server_input (handing given))) i s

@@ -1,6 +1,7 @@
 -- What becomes of a list of events that is handed in.
-use Rattle.std.proofs.Common.{◌≡◌, ◌≢◌, ℕ, ◌⊎◌, inl, inr, Some, Result, Ok, Err, IfOk, IfErr, OnErr, List, [], ◌∷◌, ◌++◌, length, refl, sym, ap, ◌∙◌, subst, slice_get}
-use Rattle.std.proofs.lemmas.List.{map-append}
+use Rattle.std.proofs.Common.{◌≡◌, ◌≢◌, ℕ, ◌⊎◌, inl, inr, Some, Result, Ok, Err, IfOk, IfErr, OnErr, List, [], ◌∷◌, ◌++◌, length, length-append, append-nil, refl, sym, ap, ◌∙◌, subst, slice_get, arith}
+use Rattle.std.proofs.lemmas.List.{map-append, append_assoc}
+use Rattle.std.specs.List.{AllZip}
 use Rattle.rows.specs.declared.node.NodeSpec.{NodeSpec}
 use Rattle.rows.specs.declared.refusal.Refusal.{Refusal}
 use Rattle.rows.specs.declared.refusal.Refusal.TheVariants as refusals
@@ -8,16 +9,18 @@ use Rattle.raft_model.specs.Worlds.{Outcome, Kept, LeftOut}
 use Rattle.raft_model.specs.Worlds.{Crashed as OutcomeCrashed}
 use Rattle.raft_safety.proofs.Places.{get-more, get-last}
 use Rattle.raft_safety.proofs.Chains.{greatest_one}
-use Rattle.group_model.specs.Worlds.{World, Event, IsEvent, IsLeftOut, first, happens, raft_of, Trace, nothing, kept, crashed, left_out}
+use Rattle.group_model.specs.Worlds.{World, Event, IsEvent, IsLeftOut, first, happens, raft_of, crash_of, Trace, nothing, kept, crashed, left_out}
 use Rattle.group_safety.specs.Claims.{logs}
 use Rattle.group_safety.specs.Limits.{NodesFit, LimitedRun, LimitsAreKept, start, more}
+use Rattle.server.specs.declared.server.Outbox.{Outbox}
 use Rattle.world.specs.declared.done.Done.{Done}
 use Rattle.world.specs.declared.done.Done.TheVariants.{Taken, Crashed}
 use Rattle.world.specs.declared.group.event.Event.{Event as GroupEvent}
 use Rattle.world.specs.Steps.{Lacked}
-use Rattle.world.specs.GroupEvents.{group_event, group_events}
+use Rattle.world.specs.GroupEvents.{group_event, group_events, work_of, works}
 use Rattle.world.specs.GroupView.{GroupView, GroupRunsTo, nodes_of, renumbered}
-use Rattle.world.specs.GroupSteps.{IsGroupDone, GroupStaysDown, SameGroup, RefusesGroupEvent, IsNewGroup, GroupPlayed, GroupReplays}
+use Rattle.world.specs.GroupSteps.{MayWantAt, GroupStarved, GroupMayBecome, GroupEventHappened, IsGroupDone, GroupStaysDown, SameGroup, RefusesGroupEvent, IsNewGroup, GroupPlayed, GroupReplays}
+use Rattle.world.proofs.Zips.{zip_append, zip_map}
 use Rattle.world.proofs.Runs.{ends_alike, no_end}
 use Rattle.world.proofs.GroupBegins.{new_group_runs}
 use Rattle.world.proofs.GroupServers.{same_group_count, same_group_nodes, same_group_runs}
@@ -25,6 +28,55 @@ use Rattle.world.proofs.GroupRuns.{last_event, group_runs_are_one}
 
 pub group_event_more : (before after : List GroupEvent) (e : GroupEvent) → after ≡ before ++ e ∷ [] → group_events after ≡ group_events before ++ group_event e ∷ []
 group_event_more before after e is = ap group_events is ∙ map-append group_event before (e ∷ [])
+
+-- ---- what workers get
+
+works_more : (past : List World) (events : List Event) (w : World) (e : Event) → length past ≡ length events → works (past ++ w ∷ []) (events ++ e ∷ []) ≡ works past events ++ work_of w e
+works_more [] [] w e same = append-nil (work_of w e)
+works_more [] (f ∷ fs) w e same = absurd (omega arith)
+works_more (x ∷ xs) [] w e same = absurd (omega arith)
+works_more (x ∷ xs) (f ∷ fs) w e same = ap (λ l. work_of x f ++ l) (works_more xs fs w e (omega arith)) ∙ sym (append_assoc (work_of x f) (works xs fs) (work_of w e))
+
+-- a run has as many worlds before the last one as events
+run_length : (n : ℕ) (nodes : List NodeSpec) (events : List Event) (past : List World) (w : World) → LimitedRun n nodes events past w → length past ≡ length events
+run_length n nodes events past w start = refl
+run_length n nodes events past w (more {events = es} {past = before} {w = last} e next run fits so) =
+    omega (arith, run_length n nodes es before last run, length-append before (last ∷ []), length-append es (e ∷ []))
+
+-- ---- what became of each event
+
+one_more : (trace : List Event) (past : List World) (w : World) (handed : List Event) (outcomes : List Outcome) (e : Event) (o : Outcome) → AllZip (GroupMayBecome trace past w) handed outcomes → GroupMayBecome trace past w e o →
+    AllZip (GroupMayBecome trace past w) (handed ++ e ∷ []) (outcomes ++ o ∷ [])
+one_more trace past w handed outcomes e o z m = zip_append (GroupMayBecome trace past w) handed outcomes (e ∷ []) (o ∷ []) z (m, tt)
+
+stands_on : (trace : List Event) (past : List World) (w next : World) (c e : Event) (o : Outcome) → GroupMayBecome trace past w e o → GroupMayBecome (trace ++ c ∷ []) (past ++ w ∷ []) next e o
+stands_on trace past w next c e Kept s = tt
+stands_on trace past w next c e (LeftOut r) s = tt
+stands_on trace past w next c e OutcomeCrashed s = record {
+  when = s.when;
+  before = s.before;
+  crash = s.crash;
+  before_is = get-more (past ++ w ∷ []) (next ∷ []) s.when s.before s.before_is;
+  crash_is = get-more trace (c ∷ []) s.when s.crash s.crash_is;
+  of = s.of;
+  lacking = s.lacking;
+}
+
+became_on : (trace : List Event) (past : List World) (w next : World) (c : Event) (handed : List Event) (outcomes : List Outcome) → AllZip (GroupMayBecome trace past w) handed outcomes →
+    AllZip (GroupMayBecome (trace ++ c ∷ []) (past ++ w ∷ []) next) handed outcomes
+became_on trace past w next c handed outcomes z =
+    zip_map (GroupMayBecome trace past w) (GroupMayBecome (trace ++ c ∷ []) (past ++ w ∷ []) next) (λ e o m. stands_on trace past w next c e o m) handed outcomes z
+
+starved_now : (trace : List Event) (past : List World) (w next : World) (e crash : Event) → length past ≡ length trace → crash_of w e ≡ Some crash → MayWantAt w e → GroupStarved (trace ++ crash ∷ []) (past ++ w ∷ []) next e
+starved_now trace past w next e crash same is lacking = record {
+  when = length past;
+  before = w;
+  crash = crash;
+  before_is = get-more (past ++ w ∷ []) (next ∷ []) (length past) w (get-last past w);
+  crash_is = subst (λ k. slice_get (trace ++ crash ∷ []) k ≡ Some crash) (sym same) (get-last trace crash);
+  of = is;
+  lacking = lacking;
+}
 
 -- ---- one event after the other
 
@@ -38,6 +90,8 @@ module _ (n : ℕ) (nodes : List NodeSpec) where
     world = first n (renumbered 1 nodes);
     trace = subst (λ es. Trace n (renumbered 1 nodes) [] [] es [] (first n (renumbered 1 nodes))) (sym begun.trace) nothing;
     runs = subst (λ ns. GroupRunsTo view [] (first n ns)) begun.nodes_are (new_group_runs n nodes view begun);
+    became = tt;
+    work = begun.work;
   }
 
   -- an event that left the same group
@@ -50,6 +104,8 @@ module _ (n : ℕ) (nodes : List NodeSpec) where
     world = p.world;
     trace = subst (λ es. Trace n (renumbered 1 nodes) (handed ++ e ∷ []) (p.outcomes ++ LeftOut r ∷ []) es p.past p.world) (sym same.trace) (left_out e r p.trace left);
     runs = same_group_runs old new same p.past p.world p.runs;
+    became = subst (λ ts. AllZip (GroupMayBecome ts p.past p.world) (handed ++ e ∷ []) (p.outcomes ++ LeftOut r ∷ [])) (sym same.trace) (one_more old.trace p.past p.world handed p.outcomes e (LeftOut r) p.became tt);
+    work = ap (λ (o : Outbox). o.work) same.outbox ∙ (p.work ∙ ap (works p.past) (sym same.trace));
   }
 
   -- a restart for which there was no memory
@@ -64,7 +120,17 @@ module _ (n : ℕ) (nodes : List NodeSpec) where
         world = p.world;
         trace = left_out e refusals.NoMemory p.trace (inr (s.restart, s.could p.world runs.represents, refl));
         runs = p.runs;
+        became = one_more old.trace p.past p.world handed p.outcomes e (LeftOut refusals.NoMemory) p.became tt;
+        work = p.work;
       })
+
+  -- what workers got by an event that happened is put behind what they got before
+  worked : (handed : List Event) (old new : GroupView) (e : Event) (p : GroupPlayed n nodes handed old) → GroupEventHappened old e new → new.outbox.work ≡ works (p.past ++ p.world ∷ []) new.trace
+  worked handed old new e p h =
+      let runs = p.runs in
+      h.work p.world runs.represents
+      ∙ (ap (λ l. l ++ work_of p.world e) p.work
+      ∙ (sym (works_more p.past old.trace p.world e (run_length (length old.servers) (nodes_of old) old.trace p.past p.world runs.run)) ∙ ap (works (p.past ++ p.world ∷ [])) (sym h.trace)))
 
   -- an event that happened is one of the definitions
   module _ (limits : LimitsAreKept) (fit : NodesFit (renumbered 1 nodes)) where
@@ -87,6 +153,9 @@ module _ (n : ℕ) (nodes : List NodeSpec) where
           trace = subst (λ es. Trace n (renumbered 1 nodes) (handed ++ e ∷ []) (p.outcomes ++ Kept ∷ []) es (p.past ++ p.world ∷ []) q.0) (sym went.trace)
               (kept e q.0 p.trace (was_event old new e p.past p.world q.0 are went.trace q.2) q.1);
           runs = q.2;
+          became = subst (λ ts. AllZip (GroupMayBecome ts (p.past ++ p.world ∷ []) q.0) (handed ++ e ∷ []) (p.outcomes ++ Kept ∷ [])) (sym went.trace)
+              (one_more (old.trace ++ e ∷ []) (p.past ++ p.world ∷ []) q.0 handed p.outcomes e Kept (became_on old.trace p.past p.world q.0 e handed p.outcomes p.became) tt);
+          work = worked handed old new e p went;
         }
     group_play_next handed old new e (Ok Crashed) p went err cause memory = elim went [
       | inl f ↦
@@ -102,6 +171,10 @@ module _ (n : ℕ) (nodes : List NodeSpec) where
             trace = subst (λ es. Trace n (renumbered 1 nodes) (handed ++ e ∷ []) (p.outcomes ++ OutcomeCrashed ∷ []) es (p.past ++ p.world ∷ []) q.0) (sym happened.trace)
                 (crashed e f.crash q.0 p.trace (f.actor p.world runs.represents) q.1);
             runs = q.2;
+            became = subst (λ ts. AllZip (GroupMayBecome ts (p.past ++ p.world ∷ []) q.0) (handed ++ e ∷ []) (p.outcomes ++ OutcomeCrashed ∷ [])) (sym happened.trace)
+                (one_more (old.trace ++ f.crash ∷ []) (p.past ++ p.world ∷ []) q.0 handed p.outcomes e OutcomeCrashed (became_on old.trace p.past p.world q.0 f.crash handed p.outcomes p.became)
+                (starved_now old.trace p.past p.world q.0 e f.crash (run_length (length old.servers) (nodes_of old) old.trace p.past p.world runs.run) (f.actor p.world runs.represents) (f.lacking p.world runs.represents)));
+            work = worked handed old new f.crash p happened;
           }
       | inr s ↦ stayed_down handed old new e p s
     ]

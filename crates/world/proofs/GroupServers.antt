@@ -14,7 +14,7 @@ use Rattle.raft_safety.specs.Claims.{IsGreatestCommit}
 use Rattle.raft_safety.proofs.Places.{get_set-cases, set-length}
 use Rattle.cluster_model.specs.Words.{State}
 use Rattle.cluster_model.specs.ClusterMachine.{cluster_meaning}
-use Rattle.group_model.specs.Inputs.{Crash, AskCrash, asks}
+use Rattle.group_model.specs.Inputs.{Crash, Restart, AskCrash, asks}
 use Rattle.group_model.specs.Members.{Member, Turn, acts, wakes, done as turn_of, logged, step}
 use Rattle.group_model.specs.Worlds.{World, Event, Deliver, AtServer, Run, happens, after_turn, input_to, raft_of}
 use Rattle.group_safety.specs.Claims.{SendersAreMembers, logs}
@@ -24,16 +24,16 @@ use Rattle.group_frames.specs.GroupFrames.{CarriesGroup, SendsGroup}
 use Rattle.server.specs.declared.server.Outbox.{Outbox}
 use Rattle.server.specs.ServerViews.{ServerView, IsMember, SameMember, group_desk, crashed_member}
 use Rattle.server.specs.declared.server_input.ServerInput.{ServerInput}
-use Rattle.server.specs.Handings.{Handing, FrameBytes, handing}
+use Rattle.server.specs.Handings.{Handing, FrameBytes, OwnInput, handing}
 use Rattle.server.specs.Refusals.{MayLackMemory, handing_refusal}
 use Rattle.world.specs.declared.done.Done.{Done}
 use Rattle.world.specs.declared.done.Done.TheVariants as done
 use Rattle.world.specs.WorldView.{IsGroup}
 use Rattle.world.specs.GroupEvents.{server_input, work_of, input_work, turn_work}
-use Rattle.world.specs.GroupView.{GroupView, RepresentsGroup, GroupRunsTo, IsGroupWorld, ServersKnowPlaces, ClientsKnowPlaces, nodes_of, node_in, client_in}
+use Rattle.world.specs.GroupView.{GroupView, RepresentsGroup, GroupRunsTo, IsGroupWorld, IsSentTo, ServersKnowPlaces, ClientsKnowPlaces, nodes_of, node_in, client_in}
 use Rattle.world.specs.GroupSteps.{GroupEventHappened, SameGroup, RefusesGroupEvent, IsGroupAwake, MayWantAt}
 use Rattle.world.specs.Inner.Inputs.{committed, bytes_of}
-use Rattle.world.specs.Inner.GroupInputs.{is_frame, IsSentTo}
+use Rattle.world.specs.Inner.GroupInputs.{is_frame, is_restart_input}
 use Rattle.world.specs.Inner.GroupParts.{GroupHistoryView, ServerTook, ServerFell, ServerStays, IsServerRefused, ServerDone, GroupStepped}
 use Rattle.world.proofs.Zips.{zip_at, zip_from, zip_length, zip_set, zip_append}
 use Rattle.world.proofs.GroupScenes.{SendersIn, ServerTakes}
@@ -48,6 +48,12 @@ history_of v = record { outbox = v.outbox; trace = v.trace; chain = v.chain }
 pub record GroupActed (old : GroupView) (e : Event) (result : Result Done Refusal) (new : GroupView) : Type 0 where
   pub stepped : GroupStepped old e result new
   pub world : IsGroupWorld new
+
+-- a server that is down may want memory to start again
+restart_lacks : (n : ℕ) (s : Member) (h : Handing) → is_restart_input h ≡ true → is_up s.raft.mode ≡ false → MayLackMemory n s h
+restart_lacks n s (FrameBytes bytes) so down = absurd (cc)
+restart_lacks n s (OwnInput Restart) so down = down
+restart_lacks n s (OwnInput x) so down = absurd (cc)
 
 -- ---- a group in which nothing happened
 
@@ -336,6 +342,7 @@ module _ (old : GroupView) (e : Event) (i : ℕ) (view : ServerView) (h : Handin
             stepped = record {
               ok = inr (record {
                 restart = restart;
+                lacking = λ w st. let f = found w st in let takes = f.takes in takes.wants (restart_lacks (length w.servers) f.server h p.restart (p.down f.server f.is));
                 could = λ w st.
                     let f = found w st in
                     let takes = f.takes in

@@ -26,18 +26,20 @@ use Rattle.group_model.specs.Turns.{expire_of, drains_by, drain_turn_of}
 use Rattle.group_model.specs.Members.{Member, Turn, open_or, open_desk, at_desk, takes_message, acts, logged, asks_log, done, step}
 use Rattle.group_model.specs.Clients as clients
 use Rattle.group_model.specs.Clients.{Client, Life}
-use Rattle.group_model.specs.Worlds.{World, Event, Deliver, AtServer, AtClient, happens, delivers, delivers_message, message_to, input_to, takes_input, own_input, own_client_input, client_input_to, client_takes, client_at, after_turn, after_client, refuses_message_at, refuses_response_at}
+use Rattle.group_model.specs.Worlds.{World, Event, Deliver, AtServer, AtClient, happens, delivers, delivers_message, message_to, input_to, takes_input, own_input, own_client_input, client_input_to, client_takes, client_at, after_turn, after_client, refuses_message_at, refuses_response_at, crash_of_message}
 use Rattle.group_frames.specs.GroupFrames.{CarriesGroup, receiver_of}
 use Rattle.client_agent.specs.declared.input.ClientInput.{ClientInput}
 use Rattle.client_agent.specs.declared.input.ClientInput.TheVariants as client_inputs
 use Rattle.client_agent.specs.AgentView.{AgentView}
 use Rattle.server.specs.ServerViews.{ServerView, IsMember}
-use Rattle.server.specs.Handings.{Handing, FrameBytes, OwnInput}
+use Rattle.server.specs.declared.server_input.ServerInput.{ServerInput}
+use Rattle.server.specs.declared.server_input.ServerInput.TheVariants as inputs
+use Rattle.server.specs.Handings.{Handing, FrameBytes, OwnInput, handing}
 use Rattle.server.specs.Turns.{takes_in}
 use Rattle.world.specs.GroupEvents.{server_input, client_input}
-use Rattle.world.specs.GroupView.{GroupView, RepresentsGroup, client_in, client_view}
-use Rattle.world.specs.GroupSteps.{RefusesGroupEvent, IsGroupAwake}
-use Rattle.world.specs.Inner.GroupInputs.{IsSentTo, is_frame, is_restart_input, is_client_frame, is_client_restart}
+use Rattle.world.specs.GroupView.{GroupView, RepresentsGroup, IsSentTo, client_in, client_view}
+use Rattle.world.specs.GroupSteps.{RefusesGroupEvent, IsNoArrival, IsGroupAwake}
+use Rattle.world.specs.Inner.GroupInputs.{is_frame, is_restart_input, is_client_frame, is_client_restart}
 use Rattle.world.specs.Inner.GroupParts.{GroupStepped}
 use Rattle.world.proofs.Zips.{zip_at, zip_none}
 use Rattle.world.proofs.Sleeping.{Awake, awake_is, awake_if, asleep, awake_role, up_awake}
@@ -168,6 +170,11 @@ module _ (w : World) (i : ℕ) (s : Member) (here : slice_get w.servers i ≡ So
   own_awake (OwnInput x) other (inl up) = taken_awake x (up_steps (length w.servers) i s up x)
   own_awake (OwnInput x) other (inr so) = absurd (cc)
 
+-- an input that is no frame is no arrival
+no_arrival : (i : ℕ) (given : ServerInput) → is_frame (handing given) ≡ false → IsNoArrival (AtServer i (server_input (handing given)))
+no_arrival i (inputs.Frame bytes) other = absurd (cc)
+no_arrival i given other = tt
+
 module _ (view : GroupView) (i : ℕ) where
   pub server_absent : (h : Handing) → slice_get view.servers i ≡ None → RefusesGroupEvent view (AtServer i (server_input h)) refusals.OutOfRange
   server_absent h gone past w r = let st = r.represents in absent_takes w i (server_input h) (zip_none IsMember view.servers w.servers i st.servers gone)
@@ -196,11 +203,18 @@ module _ (view : GroupView) (i : ℕ) where
         is_no_frame w s.0 s.1 h frame (up_or h s.0 s.2 up)
 
     -- a server that is up does not refuse for being down, nor does one that is to restart
-    pub server_awake : (h : Handing) → is_frame h ≡ false → (is_some role ≡ true) ⊎ (is_restart_input h ≡ true) → IsGroupAwake view (AtServer i (server_input h))
-    server_awake h other up past w r =
+    pub server_awake : (given : ServerInput) → is_frame (handing given) ≡ false → (is_some role ≡ true) ⊎ (is_restart_input (handing given) ≡ true) → IsGroupAwake view (AtServer i (server_input (handing given)))
+    server_awake given other up past w r =
+        let h = handing given in
         let st = r.represents in
         let s = zip_at IsMember view.servers w.servers i here st.servers at in
-        awake_is (own_input w i (server_input h)) (own_awake w i s.0 s.1 h other (up_or h s.0 s.2 up))
+        record {
+          crash = AtServer i Crash;
+          actor = refl;
+          there = get-within w.servers i s.0 s.1;
+          own = no_arrival i given other;
+          awake = awake_is (own_input w i (server_input h)) (own_awake w i s.0 s.1 h other (up_or h s.0 s.2 up));
+        }
 
 -- ---- an input of a client's own
 
@@ -252,6 +266,15 @@ module _ (w : World) (c : ℕ) (x : Client) (here : client_at w.clients c ≡ So
   own_client_awake given other up =
       subst (λ o. Awake (client_input_to w c (client_input given) o)) (sym here) (after_client_awake w c _ (lives_awake (length w.servers) x x.life given other up))
 
+no_response : (c : ℕ) (given : ClientInput) → is_client_frame given ≡ false → IsNoArrival (AtClient c (client_input given))
+no_response c (client_inputs.Frame bytes) other = absurd (cc other)
+no_response c given other = tt
+
+-- where one stands its number is within the list
+client_has : (cs : List Client) (c : ℕ) (x : Client) → client_at cs c ≡ Some x → (1 ≤ c) × (c ≤ length cs)
+client_has cs zero x at = absurd (cc)
+client_has cs (suc k) x at = let inside : k < length cs = get-within cs k x at in (omega arith, omega arith)
+
 module _ (view : GroupView) (c : ℕ) where
   pub client_absent : (given : ClientInput) → client_view view.clients c ≡ None → RefusesGroupEvent view (AtClient c (client_input given)) refusals.OutOfRange
   client_absent given gone past w r = absent_client_takes w c (client_input given) (client_of_view view w c r.represents ∙ ap (λ o. option_map client_in o) gone)
@@ -267,7 +290,13 @@ module _ (view : GroupView) (c : ℕ) where
     response_is_none given frame up past w r = no_own_response w c here.client (client_there w r.represents) given frame up
 
     pub client_awake : (given : ClientInput) → is_client_frame given ≡ false → (is_some here.client.life ≡ true) ⊎ (is_client_restart given ≡ true) → IsGroupAwake view (AtClient c (client_input given))
-    client_awake given other up past w r = awake_is (own_client_input w c (client_input given)) (own_client_awake w c here.client (client_there w r.represents) given other up)
+    client_awake given other up past w r = record {
+      crash = AtClient c clients.Crash;
+      actor = refl;
+      there = client_has w.clients c here.client (client_there w r.represents);
+      own = no_response c given other;
+      awake = awake_is (own_client_input w c (client_input given)) (own_client_awake w c here.client (client_there w r.represents) given other up);
+    }
 
 -- ---- what comes
 
@@ -313,8 +342,14 @@ module _ (view : GroupView) (place i : ℕ) (sent : IsSentTo view.outbox.frames 
         let s = zip_at IsMember view.servers w.servers i here st.servers at in
         let f = is_for w i s.0 s.1 m.message m.is_to in
         let up : is_up s.0.raft.mode ≡ true = awake_role s.0.raft.mode (ap is_some (sym (says s.0 s.2)) ∙ some) in
-        awake_is (delivers w (slice_get w.sent place))
-        (subst (λ q. Awake q) (sym (ap (λ o. delivers w o) m.at ∙ f.happens)) (after_awake w i _ (up_takes (length w.servers) i s.0 up m.message)))
+        record {
+          crash = AtServer i Crash;
+          actor = ap (λ o. crash_of_message o) m.at ∙ f.crash;
+          there = get-within w.servers i s.0 s.1;
+          own = tt;
+          awake = awake_is (delivers w (slice_get w.sent place))
+              (subst (λ q. Awake q) (sym (ap (λ o. delivers w o) m.at ∙ f.happens)) (after_awake w i _ (up_takes (length w.servers) i s.0 up m.message)));
+        }
 
 module _ (view : GroupView) (place c : ℕ) (sent : IsSentTo view.outbox.frames place (actors.Client c)) where
   -- a response comes
@@ -322,12 +357,14 @@ module _ (view : GroupView) (place c : ℕ) (sent : IsSentTo view.outbox.frames 
     from : ℕ
     response : ClientResponse
     is : happens w (Deliver place) ≡ client_takes w c (clients.Arrives from response)
+    crash : crash_of_message (slice_get w.sent place) ≡ Some (AtClient c clients.Crash)
 
   responds : (w : World) → RepresentsGroup view w → Responds w
   responds w st =
       let m = comes view.outbox.frames place w (actors.Client c) st.sent sent in
       let q = for_client m.message c m.is_to in
-      record { from = q.0; response = q.1; is = ap (λ o. delivers w o) (m.at ∙ ap (λ x. Some x) q.2) }
+      let at : slice_get w.sent place ≡ Some (Service (ToClient q.0 c q.1)) = m.at ∙ ap (λ x. Some x) q.2 in
+      record { from = q.0; response = q.1; is = ap (λ o. delivers w o) at; crash = ap (λ o. crash_of_message o) at }
 
   pub client_receiver_absent : client_view view.clients c ≡ None → RefusesGroupEvent view (Deliver place) refusals.OutOfRange
   client_receiver_absent gone past w r =
@@ -354,4 +391,10 @@ module _ (view : GroupView) (place c : ℕ) (sent : IsSentTo view.outbox.frames 
     pub client_receiver_awake : is_some here.client.life ≡ true → IsGroupAwake view (Deliver place)
     client_receiver_awake up past w r =
         let m = responds w r.represents in
-        awake_is (happens w (Deliver place)) (subst (λ q. Awake q) (sym (comes_there w r.represents)) (after_client_awake w c _ (hears_awake (length w.servers) here.client.life m.from m.response up)))
+        record {
+          crash = AtClient c clients.Crash;
+          actor = m.crash;
+          there = client_has w.clients c here.client (client_there view c here at w r.represents);
+          own = tt;
+          awake = awake_is (happens w (Deliver place)) (subst (λ q. Awake q) (sym (comes_there w r.represents)) (after_client_awake w c _ (hears_awake (length w.servers) here.client.life m.from m.response up)));
+        }

@@ -1,16 +1,65 @@
 -- What becomes of a list of events, one after the other.
-use Rattle.std.proofs.Common.{◌≢◌, ℕ, inl, inr, Result, Ok, Err, IfOk, IfErr, OnErr, List, [], ◌∷◌, ◌++◌, refl, sym, ap, ◌∙◌, subst}
+use Rattle.std.proofs.Common.{◌≡◌, ◌≢◌, ℕ, inl, inr, Some, Result, Ok, Err, IfOk, IfErr, OnErr, List, [], ◌∷◌, ◌++◌, length, length-append, refl, sym, ap, ◌∙◌, subst, slice_get, arith}
+use Rattle.std.specs.List.{AllZip}
 use Rattle.rows.specs.declared.refusal.Refusal.{Refusal}
 use Rattle.rows.specs.declared.refusal.Refusal.TheVariants as refusals
 use Rattle.machine.specs.Meaning.{Meaning}
-use Rattle.raft_model.specs.Worlds.{Event, first, Kept, LeftOut, IsEvent, Trace, nothing, kept, crashed, left_out}
+use Rattle.raft_model.specs.Servers.{Server}
+use Rattle.raft_model.specs.Worlds.{World, Event, Crashes, Outcome, first, Kept, LeftOut, IsEvent, Run, start, more, actor, Trace, nothing, kept, crashed, left_out}
 use Rattle.raft_model.specs.Worlds as model
 use Rattle.world.specs.declared.done.Done.{Done}
 use Rattle.world.specs.declared.done.Done.TheVariants.{Taken, Crashed}
 use Rattle.world.specs.WorldView.{WorldView}
-use Rattle.world.specs.Steps.{IsDone, SameWorld, RefusesEvent, IsNew, Played}
+use Rattle.raft_safety.proofs.Places.{get-more, get-last}
+use Rattle.world.specs.Steps.{IsDone, SameWorld, RefusesEvent, IsNew, MayWantFor, Starved, MayBecome, Played}
+use Rattle.world.proofs.Zips.{zip_append, zip_map}
 use Rattle.world.proofs.Begins.{new_runs}
 use Rattle.world.proofs.Same.{same_world, same_count, same_runs}
+
+-- ---- what became of each event
+
+module _ {S C : Type 0} (m : Meaning S C) where
+  -- a run has as many worlds before the last one as events
+  run_length : (n : ℕ) (events : List (Event C)) (past : List (World C)) (w : World C) → Run m n events past w → length past ≡ length events
+  run_length n events past w start = refl
+  run_length n events past w (more {events = es} {past = before} {w = last} e next run is so) =
+      omega (arith, run_length n es before last run, length-append before (last ∷ []), length-append es (e ∷ []))
+
+  one_more : (trace : List (Event C)) (past : List (World C)) (w : World C) (handed : List (Event C)) (outcomes : List Outcome) (e : Event C) (o : Outcome) → AllZip (MayBecome m trace past w) handed outcomes →
+      MayBecome m trace past w e o → AllZip (MayBecome m trace past w) (handed ++ e ∷ []) (outcomes ++ o ∷ [])
+  one_more trace past w handed outcomes e o z became = zip_append (MayBecome m trace past w) handed outcomes (e ∷ []) (o ∷ []) z (became, tt)
+
+  stands_on : (trace : List (Event C)) (past : List (World C)) (w next : World C) (c e : Event C) (o : Outcome) → MayBecome m trace past w e o → MayBecome m (trace ++ c ∷ []) (past ++ w ∷ []) next e o
+  stands_on trace past w next c e Kept s = tt
+  stands_on trace past w next c e (LeftOut r) s = tt
+  stands_on trace past w next c e model.Crashed s = record {
+    when = s.when;
+    before = s.before;
+    who = s.who;
+    before_is = get-more (past ++ w ∷ []) (next ∷ []) s.when s.before s.before_is;
+    crash_is = get-more trace (c ∷ []) s.when (Crashes s.who) s.crash_is;
+    of = s.of;
+    lacking = s.lacking;
+  }
+
+  became_on : (trace : List (Event C)) (past : List (World C)) (w next : World C) (c : Event C) (handed : List (Event C)) (outcomes : List Outcome) → AllZip (MayBecome m trace past w) handed outcomes →
+      AllZip (MayBecome m (trace ++ c ∷ []) (past ++ w ∷ []) next) handed outcomes
+  became_on trace past w next c handed outcomes z =
+      zip_map (MayBecome m trace past w) (MayBecome m (trace ++ c ∷ []) (past ++ w ∷ []) next) (λ e o became. stands_on trace past w next c e o became) handed outcomes z
+
+  starved_now : (trace : List (Event C)) (past : List (World C)) (w next : World C) (e : Event C) (i : ℕ) → length past ≡ length trace → actor m w e ≡ Some i → ((s : Server C) → slice_get w.servers i ≡ Some s → MayWantFor w e s) →
+      Starved m (trace ++ Crashes i ∷ []) (past ++ w ∷ []) next e
+  starved_now trace past w next e i same is lacking = record {
+    when = length past;
+    before = w;
+    who = i;
+    before_is = get-more (past ++ w ∷ []) (next ∷ []) (length past) w (get-last past w);
+    crash_is = subst (λ k. slice_get (trace ++ Crashes i ∷ []) k ≡ Some (Crashes i)) (sym same) (get-last trace (Crashes i));
+    of = is;
+    lacking = lacking;
+  }
+
+-- ---- one event after the other
 
 module _ {S C : Type 0} (m : Meaning S C) (n : ℕ) where
   pub play_begins : (seen : WorldView C) → IsNew m n seen → Played m n [] seen
@@ -21,6 +70,7 @@ module _ {S C : Type 0} (m : Meaning S C) (n : ℕ) where
     world = first n;
     trace = subst (λ es. Trace m n [] [] es [] (first n)) (sym begun.trace) nothing;
     runs = new_runs m n seen begun.count begun.trace begun.chain begun.represents;
+    became = tt;
   }
 
   -- an event that left the same world
@@ -32,6 +82,7 @@ module _ {S C : Type 0} (m : Meaning S C) (n : ℕ) where
     world = p.world;
     trace = subst (λ es. Trace m n (handed ++ e ∷ []) (p.outcomes ++ LeftOut r ∷ []) es p.past p.world) (sym same.trace) (left_out e r p.trace left);
     runs = same_runs m old new same p.past p.world p.runs;
+    became = subst (λ ts. AllZip (MayBecome m ts p.past p.world) (handed ++ e ∷ []) (p.outcomes ++ LeftOut r ∷ [])) (sym same.trace) (one_more m old.trace p.past p.world handed p.outcomes e (LeftOut r) p.became tt);
   }
 
   pub play_next : (handed : List (Event C)) (old new : WorldView C) (e : Event C) (result : Result Done Refusal) → IsEvent m e → Played m n handed old →
@@ -46,6 +97,8 @@ module _ {S C : Type 0} (m : Meaning S C) (n : ℕ) where
         world = q.0;
         trace = subst (λ es. Trace m n (handed ++ e ∷ []) (p.outcomes ++ Kept ∷ []) es (p.past ++ p.world ∷ []) q.0) (sym went.trace) (kept e q.0 p.trace is q.1);
         runs = q.2;
+        became = subst (λ ts. AllZip (MayBecome m ts (p.past ++ p.world ∷ []) q.0) (handed ++ e ∷ []) (p.outcomes ++ Kept ∷ [])) (sym went.trace)
+            (one_more m (old.trace ++ e ∷ []) (p.past ++ p.world ∷ []) q.0 handed p.outcomes e Kept (became_on m old.trace p.past p.world q.0 e handed p.outcomes p.became) tt);
       }
   play_next handed old new e (Ok Crashed) is p went err cause memory = elim went [
     | inl f ↦
@@ -59,6 +112,9 @@ module _ {S C : Type 0} (m : Meaning S C) (n : ℕ) where
           world = q.0;
           trace = subst (λ es. Trace m n (handed ++ e ∷ []) (p.outcomes ++ model.Crashed ∷ []) es (p.past ++ p.world ∷ []) q.0) (sym happened.trace) (crashed e f.who q.0 p.trace (f.actor p.world run.represents) q.1);
           runs = q.2;
+          became = subst (λ ts. AllZip (MayBecome m ts (p.past ++ p.world ∷ []) q.0) (handed ++ e ∷ []) (p.outcomes ++ model.Crashed ∷ [])) (sym happened.trace)
+              (one_more m (old.trace ++ Crashes f.who ∷ []) (p.past ++ p.world ∷ []) q.0 handed p.outcomes e model.Crashed (became_on m old.trace p.past p.world q.0 (Crashes f.who) handed p.outcomes p.became)
+              (starved_now m old.trace p.past p.world q.0 e f.who (run_length m (length old.servers) old.trace p.past p.world run.run) (f.actor p.world run.represents) (λ s at. f.lacking p.world s run.represents at)));
         }
     | inr s ↦ let run = p.runs in passed_over handed old new e refusals.NoMemory p (inr (s.restart, s.could p.world run.represents, refl)) (subst (λ x. SameWorld old x) (sym s.same) (same_world old))
   ]

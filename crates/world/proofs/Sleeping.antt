@@ -9,6 +9,7 @@ use Rattle.raft_model.specs.Logs.{MAX, state_after}
 use Rattle.raft_model.specs.Servers.{Server, Mode, Down, Follower, Candidate, Leader, Turn, is_up, is_leader}
 use Rattle.raft_model.specs.Steps.{Input, Arrives, Timeout, Beat, Propose, Compact, Crash, Restart, acts, unless, step}
 use Rattle.raft_model.specs.Worlds.{World, Event, happens, after_turn, actor}
+use Rattle.raft_safety.proofs.Places.{get-within}
 use Rattle.raft_core.specs.RaftView.{RaftView}
 use Rattle.raft_core.specs.Frames.{FrameCarries}
 use Rattle.raft_core.specs.Steps.{Represents, role_of}
@@ -111,4 +112,9 @@ module _ {S C : Type 0} (m : Meaning S C) (now : WorldView C) (e : Event C) (i :
           | inr so ↦ subst (λ x. Awake (step m n i s.0 x)) (sym (b.wakes so)) (restart_awake m law n i s.0)
         ] in
         let taken = b.takes ∙ took m w i b.input s.0 (step m n i s.0 b.input) s.1 refl in
-        awake_is (happens m w e) (subst (λ q. Awake q) (sym taken) (after_awake m law n i s.0 w i (step m n i s.0 b.input) stepped))
+        record {
+          who = i;
+          actor = acts w st.sent;
+          there = get-within w.servers i s.0 s.1;
+          awake = awake_is (happens m w e) (subst (λ q. Awake q) (sym taken) (after_awake m law n i s.0 w i (step m n i s.0 b.input) stepped));
+        }

@@ -1,5 +1,5 @@
 -- The events of the program's group as those of the definitions, and what workers get by one.
-use Rattle.std.specs.Prelude.{ℕ, Option, Some, None, Result, Ok, Err, List, [], length, map, slice_get}
+use Rattle.std.specs.Prelude.{ℕ, Option, Some, None, Result, Ok, Err, List, [], ◌∷◌, ◌++◌, length, map, slice_get}
 use Rattle.rows.specs.declared.command.Command.{Command}
 use Rattle.rows.specs.declared.refusal.Refusal.{Refusal}
 use Rattle.rows.specs.declared.worker.Work.{Work}
@@ -76,3 +76,9 @@ abbrev pub work_of : World → Event → List Work
 work_of w (Deliver k) = message_work w (slice_get w.sent k)
 work_of w (AtServer i input) = input_work w i input (slice_get w.servers i)
 work_of w (AtClient c input) = []
+
+-- what they get by the events of a run, in order, each in the world before it
+abbrev pub works : List World → List Event → List Work
+works [] events = []
+works (w ∷ past) [] = []
+works (w ∷ past) (e ∷ events) = work_of w e ++ works past events

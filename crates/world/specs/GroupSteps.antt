@@ -5,18 +5,20 @@ use Rattle.rows.specs.declared.allocation.AllocId.{AllocId}
 use Rattle.rows.specs.declared.node.NodeSpec.{NodeSpec}
 use Rattle.rows.specs.declared.refusal.Refusal.{Refusal}
 use Rattle.rows.specs.declared.refusal.Refusal.TheVariants as refusals
-use Rattle.raft_model.specs.Worlds.{Outcome}
+use Rattle.raft_model.specs.Worlds.{Outcome, Kept, LeftOut}
+use Rattle.raft_model.specs.Worlds.{Crashed as OutcomeCrashed}
+use Rattle.group_model.specs.Inputs as servers
 use Rattle.group_model.specs.Clients as clients
 use Rattle.group_model.specs.Clients.{Client}
 use Rattle.group_model.specs.Members.{Member}
-use Rattle.group_model.specs.Worlds.{World, Event, Deliver, AtServer, AtClient, first, happens, crash_of, client_at, IsRestart, Trace}
+use Rattle.group_model.specs.Worlds.{World, Event, Deliver, AtServer, AtClient, first, happens, crash_of, client_at, IsRestart, Trace, moment}
 use Rattle.client_agent.specs.Refusals.{RunsIn}
 use Rattle.server.specs.ServerViews.{SameMember}
 use Rattle.server.specs.Refusals.{MayTakeMemory}
 use Rattle.world.specs.declared.done.Done.{Done}
 use Rattle.world.specs.declared.done.Done.TheVariants.{Taken, Crashed}
 use Rattle.world.specs.WorldView.{IsGroup}
-use Rattle.world.specs.GroupEvents.{work_of}
+use Rattle.world.specs.GroupEvents.{work_of, works}
 use Rattle.world.specs.GroupView.{GroupView, RepresentsGroup, GroupRunsTo, IsGroupWorld, nodes_of, renumbered}
 use Rattle.world.specs.Steps.{Lacked}
 
@@ -38,11 +40,12 @@ abbrev pub RunsThere : Option Client → AllocId → Type 0
 RunsThere None id = ⊥
 RunsThere (Some x) id = RunsIn x.life id
 
--- In this world the event may want memory: what comes may, and a server's input as that says; of a
--- client's inputs one that goes to a server of the group, and the end of an allocation that runs
--- there.
+-- In this world the event may want memory: what comes may, but not as an input of an actor's own; a
+-- server's own input as that says; of a client's own one that goes to a server of the group, and the
+-- end of an allocation that runs there.
 abbrev pub MayWantAt : World → Event → Type 0
 MayWantAt w (Deliver k) = Unit {0}
+MayWantAt w (AtServer i (servers.Arrives message)) = ⊥
 MayWantAt w (AtServer i input) =
     (s : Member) → slice_get w.servers i ≡ Some s → MayTakeMemory (length w.servers) s input
 MayWantAt w (AtClient c (clients.RegisterAt server)) = server < length w.servers
@@ -61,6 +64,7 @@ pub record GroupActorCrashed (old : GroupView) (e : Event) (new : GroupView) : T
 -- a restart that could be, of an actor that finds no memory: it stays down
 pub record GroupStaysDown (old : GroupView) (e : Event) (new : GroupView) : Type 0 where
   pub restart : IsRestart e
+  pub lacking : (w : World) → RepresentsGroup old w → MayWantAt w e
   pub could : (w : World) → RepresentsGroup old w → (next : World) × (happens w e ≡ Ok next)
   pub same : new ≡ old
 
@@ -82,10 +86,30 @@ pub record SameGroup (old new : GroupView) : Type 0 where
 abbrev pub RefusesGroupEvent : GroupView → Event → Refusal → Type 0
 RefusesGroupEvent view e r = (past : List World) (w : World) → GroupRunsTo view past w → happens w e ≡ Err r
 
--- the event's actor is there, and is up or is to restart: the definitions do not refuse the event
--- for its being down
+-- the actor of this event is there
+abbrev pub HasActor : World → Event → Type 0
+HasActor w (Deliver place) = ⊥
+HasActor w (AtServer i input) = i < length w.servers
+HasActor w (AtClient c input) = (1 ≤ c) × (c ≤ length w.clients)
+
+-- no message that comes as an input of an actor's own
+abbrev pub IsNoArrival : Event → Type 0
+IsNoArrival (AtServer i (servers.Arrives message)) = ⊥
+IsNoArrival (AtClient c (clients.Arrives from response)) = ⊥
+IsNoArrival e = Unit {0}
+
+-- In this world the event comes to its actor: that is there, and is up or is to restart, so that the
+-- definitions do not refuse the event for its being down; and no message comes as an input of the
+-- actor's own.
+pub record ComesToActor (w : World) (e : Event) : Type 0 where
+  pub crash : Event
+  pub actor : crash_of w e ≡ Some crash
+  pub there : HasActor w crash
+  pub own : IsNoArrival e
+  pub awake : happens w e ≢ Err refusals.Down
+
 abbrev pub IsGroupAwake : GroupView → Event → Type 0
-IsGroupAwake view e = (past : List World) (w : World) → GroupRunsTo view past w → happens w e ≢ Err refusals.Down
+IsGroupAwake view e = (past : List World) (w : World) → GroupRunsTo view past w → ComesToActor w e
 
 -- the group before its first event: n servers and these nodes' clients that never did anything
 pub record IsNewGroup (n : ℕ) (nodes : List NodeSpec) (view : GroupView) : Type 0 where
@@ -102,8 +126,26 @@ pub record IsNewGroup (n : ℕ) (nodes : List NodeSpec) (view : GroupView) : Typ
 abbrev pub WhyNoGroup : ℕ → List NodeSpec → Refusal → Type 0
 WhyNoGroup n nodes r = (r ≡ refusals.NoMemory) ⊎ ((r ≡ refusals.OutOfRange) × (IsGroup n → length nodes ≤ 64 → ⊥))
 
--- the value's trace is that of the events handed in: each was kept, was replaced by its actor's
--- crash, or was left out
+-- In place of this event its actor's crash stands in the trace, and at that moment the event might
+-- want memory.
+pub record GroupStarved (trace : List Event) (past : List World) (w : World) (e : Event) : Type 0 where
+  pub when : ℕ
+  pub before : World
+  pub crash : Event
+  pub before_is : moment past w when ≡ Some before
+  pub crash_is : slice_get trace when ≡ Some crash
+  pub of : crash_of before e ≡ Some crash
+  pub lacking : MayWantAt before e
+
+-- what may have become of an event: its actor crashed only where it might want memory
+abbrev pub GroupMayBecome : List Event → List World → World → Event → Outcome → Type 0
+GroupMayBecome trace past w e Kept = Unit {0}
+GroupMayBecome trace past w e OutcomeCrashed = GroupStarved trace past w e
+GroupMayBecome trace past w e (LeftOut r) = Unit {0}
+
+-- The value's trace is that of the events handed in: each was kept, was replaced by its actor's
+-- crash, for want of memory, or was left out. What workers got by all of them is there to be
+-- fetched.
 pub record GroupPlayed (n : ℕ) (nodes : List NodeSpec) (handed : List Event) (view : GroupView) : Type 0 where
   pub count : length view.servers ≡ n
   pub nodes_are : nodes_of view ≡ renumbered 1 nodes
@@ -112,6 +154,8 @@ pub record GroupPlayed (n : ℕ) (nodes : List NodeSpec) (handed : List Event) (
   pub world : World
   pub trace : Trace n (renumbered 1 nodes) handed outcomes view.trace past world
   pub runs : GroupRunsTo view past world
+  pub became : AllZip (GroupMayBecome view.trace past world) handed outcomes
+  pub work : view.outbox.work ≡ works past view.trace
 
 -- memory was wanting for one of the events handed in
 pub record GroupPlayedShort (n : ℕ) (nodes : List NodeSpec) (handed : List Event) (view : GroupView) : Type 0 where

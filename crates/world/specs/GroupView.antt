@@ -2,7 +2,9 @@
 -- leads there.
 use Rattle.std.specs.Prelude.{◌≡◌, ℕ, zero, suc, Option, Some, None, List, [], ◌∷◌, length, map, slice_get}
 use Rattle.std.specs.List.{AllZip}
+use Rattle.rows.specs.declared.actor.Actor.{Actor}
 use Rattle.rows.specs.declared.node.NodeSpec.{NodeSpec}
+use Rattle.wire.specs.Frames.{Frame}
 use Rattle.raft_safety.specs.Claims.{IsGreatestCommit}
 use Rattle.cluster_model.specs.ClusterMachine.{cluster_meaning}
 use Rattle.group_model.specs.Clients.{Client}
@@ -71,6 +73,12 @@ pub record IsGroupWorld (view : GroupView) : Type 0 where
   pub clients : ClientsKnowPlaces view
   pub nodes : NodesFit (nodes_of view)
   pub size : IsGroup (length view.servers)
+
+-- the frame at this place of those that were sent is for this actor
+pub record IsSentTo (frames : List Frame) (place : ℕ) (to : Actor) : Type 0 where
+  pub frame : Frame
+  pub at : slice_get frames place ≡ Some frame
+  pub is_to : frame.to ≡ to
 
 -- client c of the value; none where there is no such
 abbrev pub client_view : List AgentView → ℕ → Option AgentView

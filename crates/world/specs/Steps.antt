@@ -1,12 +1,12 @@
 -- What a step of a world does, and what becomes of a list of events.
-use Rattle.std.specs.Prelude.{◌≡◌, ◌≢◌, ℕ, ◌⊎◌, Some, Ok, Err, List, [], ◌∷◌, ◌++◌, length, slice_get}
+use Rattle.std.specs.Prelude.{◌≡◌, ◌≢◌, ℕ, ◌<◌, ◌⊎◌, Some, Ok, Err, List, [], ◌∷◌, ◌++◌, length, slice_get}
 use Rattle.rows.specs.declared.refusal.Refusal.{Refusal}
 use Rattle.rows.specs.declared.refusal.Refusal.TheVariants as refusals
 use Rattle.std.specs.List.{AllZip}
 use Rattle.machine.specs.Meaning.{Meaning}
 use Rattle.raft_model.specs.Servers.{Server}
 use Rattle.raft_model.specs.Steps.{Input}
-use Rattle.raft_model.specs.Worlds.{World, Event, first, Crashes, Outcome, Kept, LeftOut, Trace, happens, actor, IsRestart}
+use Rattle.raft_model.specs.Worlds.{World, Event, first, Crashes, Outcome, Kept, LeftOut, Trace, moment, happens, actor, IsRestart}
 use Rattle.raft_model.specs.Worlds.{Crashed as OutcomeCrashed}
 use Rattle.raft_core.specs.RaftView.{SameServer}
 use Rattle.raft_core.specs.Refusals.{MayWant}
@@ -61,11 +61,17 @@ abbrev pub RefusesEvent : {S C : Type 0} → Meaning S C → WorldView C → Eve
 RefusesEvent {S} {C} m view e r =
     (past : List (World C)) (w : World C) → RunsTo m view past w → happens m w e ≡ Err r
 
--- the event's actor is up, or is to restart: the definitions do not refuse the event for its being
--- down
+-- In this world the event comes to its actor: that is there, and is up or is to restart, so that the
+-- definitions do not refuse the event for its being down.
+pub record ComesToServer {S C : Type 0} (m : Meaning S C) (w : World C) (e : Event C) : Type 0 where
+  pub who : ℕ
+  pub actor : actor m w e ≡ Some who
+  pub there : who < length w.servers
+  pub awake : happens m w e ≢ Err refusals.Down
+
 abbrev pub IsAwake : {S C : Type 0} → Meaning S C → WorldView C → Event C → Type 0
 IsAwake {S} {C} m view e =
-    (past : List (World C)) (w : World C) → RunsTo m view past w → happens m w e ≢ Err refusals.Down
+    (past : List (World C)) (w : World C) → RunsTo m view past w → ComesToServer m w e
 
 -- the group before its first event: n servers that never did anything
 pub record IsNew {S C : Type 0} (m : Meaning S C) (n : ℕ) (view : WorldView C) : Type 0 where
@@ -79,8 +85,25 @@ pub record IsNew {S C : Type 0} (m : Meaning S C) (n : ℕ) (view : WorldView C)
 abbrev pub IsNoGroup : ℕ → Refusal → Type 0
 IsNoGroup n r = (r ≡ refusals.NoMemory) ⊎ ((r ≡ refusals.OutOfRange) × (n ≢ 3) × (n ≢ 5))
 
--- the value's trace is that of the events handed in: each was kept, was replaced by its actor's
--- crash, or was left out
+-- In place of this event its server's crash stands in the trace, and at that moment the event might
+-- want memory.
+pub record Starved {S C : Type 0} (m : Meaning S C) (trace : List (Event C)) (past : List (World C)) (w : World C) (e : Event C) : Type 0 where
+  pub when : ℕ
+  pub before : World C
+  pub who : ℕ
+  pub before_is : moment past w when ≡ Some before
+  pub crash_is : slice_get trace when ≡ Some (Crashes who)
+  pub of : actor m before e ≡ Some who
+  pub lacking : (s : Server C) → slice_get before.servers who ≡ Some s → MayWantFor before e s
+
+-- what may have become of an event: its server crashed only where it might want memory
+abbrev pub MayBecome : {S C : Type 0} → Meaning S C → List (Event C) → List (World C) → World C → Event C → Outcome → Type 0
+MayBecome m trace past w e Kept = Unit {0}
+MayBecome m trace past w e OutcomeCrashed = Starved m trace past w e
+MayBecome m trace past w e (LeftOut r) = Unit {0}
+
+-- The value's trace is that of the events handed in: each was kept, was replaced by its actor's
+-- crash, for want of memory, or was left out.
 pub record Played {S C : Type 0} (m : Meaning S C) (n : ℕ) (handed : List (Event C)) (view : WorldView C) : Type 0 where
   pub count : length view.servers ≡ n
   pub outcomes : List Outcome
@@ -88,6 +111,7 @@ pub record Played {S C : Type 0} (m : Meaning S C) (n : ℕ) (handed : List (Eve
   pub world : World C
   pub trace : Trace m n handed outcomes view.trace past world
   pub runs : RunsTo m view past world
+  pub became : AllZip (MayBecome m view.trace past world) handed outcomes
 
 -- memory was wanting for the event of this outcome
 abbrev pub Lacked : Outcome → Type 0

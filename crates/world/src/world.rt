@@ -133,7 +133,7 @@ impl<M: Machine> RaftWorld<M> {
         // The definitions refuse it too, for the same reason.
         ensures cause { IfErr result (λ refusal. refusal ≢ refusals.NoMemory →
             RefusesEvent M.meaning self.old (event_of event) refusal) }
-        // Want of memory is not answered for an actor that is down.
+        // Want of memory is not answered where no server takes the event.
         ensures memory { IfErr result (λ refusal. refusal ≡ refusals.NoMemory →
             IsAwake M.meaning self.old (event_of event)) }
         // And these hold whatever happened so far, whether or not this event was refused.
@@ -157,6 +157,8 @@ impl<M: Machine> RaftWorld<M> {
     pub fn new(alloc: Global, n: usize) -> Result<RaftWorld<M>, Refusal>
         ensures ok { IfOk result (λ w. IsNew M.meaning n w) }
         ensures refused { IfErr result (λ refusal. IsNoGroup n refusal) }
+        // Want of memory is not answered where there is no such group.
+        ensures memory { IfErr result (λ refusal. refusal ≡ refusals.NoMemory → IsGroup n) }
     {
         if n != 3 && n != 5 {
             return Err(Refusal::OutOfRange);
@@ -179,6 +181,7 @@ impl<M: Machine> RaftWorld<M> {
         // The trace of a group leads to that group again.
         ensures replays { IfOk result (λ w. Replays M.meaning n (events_of events.now) w) }
         ensures refused { IfErr result (λ refusal. IsNoGroup n refusal) }
+        ensures memory { IfErr result (λ refusal. refusal ≡ refusals.NoMemory → IsGroup n) }
         ensures one_leader { IfOk result (λ w. OneLeaderEver M.meaning w) }
         ensures log_matching { IfOk result (λ w. LogsMatchEver M.meaning w) }
         ensures one_list { IfOk result (λ w. OneListEver M.meaning w) }

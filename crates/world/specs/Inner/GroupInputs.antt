@@ -1,14 +1,13 @@
 -- What is handed to the actor of an event.
-use Rattle.std.specs.Prelude.{◌≡◌, ℕ, Bool, true, false, suc, Some, List, [], ◌∷◌, slice_get}
-use Rattle.rows.specs.declared.actor.Actor.{Actor}
+use Rattle.std.specs.Prelude.{ℕ, Bool, true, false, suc, List, [], ◌∷◌}
 use Rattle.rows.specs.declared.node.NodeSpec.{NodeSpec}
-use Rattle.wire.specs.Frames.{Frame}
 use Rattle.group_model.specs.Clients.{agent_of}
 use Rattle.group_model.specs.Inputs.{Restart}
 use Rattle.client_agent.specs.AgentView.{AgentView}
 use Rattle.client_agent.specs.declared.input.ClientInput.{ClientInput}
 use Rattle.client_agent.specs.declared.input.ClientInput.TheVariants as client_inputs
 use Rattle.server.specs.Handings.{Handing, FrameBytes, OwnInput}
+pub use Rattle.world.specs.GroupView.{IsSentTo}
 
 abbrev pub is_frame : Handing → Bool
 is_frame (FrameBytes bytes) = true
@@ -25,12 +24,6 @@ is_client_frame _ = false
 abbrev pub is_client_restart : ClientInput → Bool
 is_client_restart client_inputs.Restart = true
 is_client_restart _ = false
-
--- the frame at this place of those that were sent is for this actor
-pub record IsSentTo (frames : List Frame) (place : ℕ) (to : Actor) : Type 0 where
-  pub frame : Frame
-  pub at : slice_get frames place ≡ Some frame
-  pub is_to : frame.to ≡ to
 
 -- the clients of these nodes in a group of n servers, numbered from k on, before their first input
 abbrev pub new_agents : ℕ → ℕ → List NodeSpec → List AgentView

@@ -13,10 +13,10 @@ ghost use Rattle.server.specs.ServerViews.{ServerView, IsMember};
 ghost use Rattle.world.specs.WorldView.{IsGroup};
 ghost use Rattle.world.specs.Events.{place_of};
 ghost use Rattle.world.specs.GroupEvents.{server_input, client_input, group_event, group_events};
-ghost use Rattle.world.specs.GroupView.{client_view, nodes_of, ClientsKnowPlaces};
+ghost use Rattle.world.specs.GroupView.{client_view, nodes_of, ServersKnowPlaces, ClientsKnowPlaces, IsSentTo};
 ghost use Rattle.world.specs.GroupSteps.{IsGroupDone, SameGroup, RefusesGroupEvent, IsGroupAwake, IsNewGroup, WhyNoGroup, GroupPlayed, GroupReplays};
 ghost use Rattle.world.specs.GroupClaims.{OneGroupList, SafeGroupStates, BackedPlans, PlacedStarts, GroupHeadline, IsGreatestEver, IsTraced};
-ghost use Rattle.world.specs.Inner.GroupInputs.{new_agents, is_frame, is_client_frame, IsSentTo};
+ghost use Rattle.world.specs.Inner.GroupInputs.{new_agents, is_frame, is_client_frame};
 ghost use Rattle.world.specs.Inner.GroupParts.{GroupStepped};
 
 use crate::done::Done;
@@ -292,8 +292,8 @@ impl World {
     /// server or client; then with `Down` where that is down and is not to restart; then with
     /// `OutOfRange` where the input is a frame (frames come by a Deliver alone). Then as the server
     /// or the client refuses it (`Server::step`, `Agent::step`). With `NoMemory` the world itself
-    /// lacks memory. A refusal changes nothing, but that a leader that refuses a command may hold
-    /// its machine after its whole log from then on.
+    /// lacks memory, never in place of the first three. A refusal changes nothing, but that a leader
+    /// that refuses a command may hold its machine after its whole log from then on.
     pub fn step(&mut self, event: Event) -> Result<Done, Refusal>
         // It is a step of the definitions; or the event's actor crashed for want of memory, in a
         // restart with nothing changed.
@@ -302,7 +302,7 @@ impl World {
         // The definitions refuse it too, for the same reason.
         ensures cause { IfErr result (λ refusal. refusal ≢ refusals.NoMemory →
             RefusesGroupEvent self.old (group_event event) refusal) }
-        // Want of memory is not answered for an actor that is down.
+        // Want of memory is not answered where no actor takes the event.
         ensures memory { IfErr result (λ refusal. refusal ≡ refusals.NoMemory →
             IsGroupAwake self.old (group_event event)) }
         // And these hold whatever happened so far, whether or not this event was refused.
@@ -333,6 +333,9 @@ impl World {
     pub fn new(alloc: Global, n: usize, nodes: &[NodeSpec]) -> Result<World, Refusal>
         ensures ok { IfOk result (λ w. IsNewGroup n nodes.now w) }
         ensures refused { IfErr result (λ refusal. WhyNoGroup n nodes.now refusal) }
+        // Want of memory is not answered where there is no such group.
+        ensures memory { IfErr result (λ refusal. refusal ≡ refusals.NoMemory →
+            IsGroup n × (length nodes.now ≤ 64)) }
     {
         if n != 3 && n != 5 {
             return Err(Refusal::OutOfRange);
@@ -361,6 +364,8 @@ impl World {
         // The trace of a group leads to that group again.
         ensures replays { IfOk result (λ w. GroupReplays n nodes.now (group_events events.now) w) }
         ensures refused { IfErr result (λ refusal. WhyNoGroup n nodes.now refusal) }
+        ensures memory { IfErr result (λ refusal. refusal ≡ refusals.NoMemory →
+            IsGroup n × (length nodes.now ≤ 64)) }
         ensures one_list { IfOk result (λ w. OneGroupList w) }
         ensures safe_states { IfOk result (λ w. SafeGroupStates w) }
         ensures plans_backed { IfOk result (λ w. BackedPlans w) }
@@ -498,10 +503,11 @@ impl World {
         self.history.take_work()
     }
 
-    /// How many servers there are: 3 or 5.
+    /// How many servers there are: 3 or 5. Each knows that number, and its own place.
     pub fn size(&self) -> usize
         ensures value { result ≡ length self.now.servers }
         ensures group { IsGroup result }
+        ensures places { ServersKnowPlaces self.now }
     {
         self.group_size();
         self.servers.len()

@@ -37,4 +37,4 @@ hand_server-requires-clause-awake c =
       | else-is_none-via-then-is_none+else-not-is_restart w ↦ inr (rw c.as_ref-given.ensures at (sym w.is_restart.ensures ∙ w.if-not-is_restart.false))
       | else-is_none-via-else-is_none w ↦ inl (c.is_none.ensures ∙ ap not w.if-is_none.false)
     ] in
-    server_awake c.args.self.now c.args.me c.in-Some.server.now c.role.result (sym c.in-Some.ensures) c.role.ensures (handing c.args.input.value) (rw c.as_ref-given.ensures at (sym c.is_frame.ensures ∙ c.if-is_frame.false)) up
+    server_awake c.args.self.now c.args.me c.in-Some.server.now c.role.result (sym c.in-Some.ensures) c.role.ensures c.args.input.value (rw c.as_ref-given.ensures at (sym c.is_frame.ensures ∙ c.if-is_frame.false)) up

@@ -4,8 +4,7 @@ use Rattle.group_model.specs.Worlds.{Deliver}
 use Rattle.client_agent.specs.declared.input.ClientInput.TheVariants as client_inputs
 use Rattle.world.specs.Events.{place_of}
 use Rattle.world.specs.Inner.Inputs.{bytes_of}
-use Rattle.world.specs.Inner.GroupInputs.{IsSentTo}
-use Rattle.world.specs.GroupView.{GroupView}
+use Rattle.world.specs.GroupView.{GroupView, IsSentTo}
 use Rattle.world.specs.Inner.GroupParts.{GroupStepped}
 use Rattle.world.proofs.GroupDeliveries.{sent_to_client}
 use Rattle.world.proofs.GroupClients.{client_moved}
