@@ -83,9 +83,20 @@ one_book view l admitted = record {
 }
 
 -- and so now
+in_book : (view : WorldView BankCommand) (i : ℕ) (bank : BankState) → ((past : List (World BankCommand)) (w : World BankCommand) → RunsTo bank_meaning view past w → Some bank ≡ machine_of bank_meaning w i) →
+    (book : OneBook view) → IsBankOf book.list bank
+in_book view i bank says book =
+    book.ever book.past book.world book.runs (length book.past) book.world i bank (get-last book.past book.world) (sym (says book.past book.world book.runs))
+
 pub bank_now : (view : WorldView BankCommand) → OneBook view → (i : ℕ) (o : Option (Bor BankState)) →
     ((past : List (World BankCommand)) (w : World BankCommand) → RunsTo bank_meaning view past w → option_copied o ≡ machine_of bank_meaning w i) →
     IfSome o (λ bank. (list : List BankCommand) × IsBankOf list bank.now)
 bank_now view book i None says = tt
-bank_now view book i (Some b) says =
-    (book.list, book.ever book.past book.world book.runs (length book.past) book.world i b.now (get-last book.past book.world) (sym (says book.past book.world book.runs)))
+bank_now view book i (Some b) says = (book.list, in_book view i b.now says book)
+
+-- of each list that is the world's
+pub bank_of_each : (view : WorldView BankCommand) (i : ℕ) (o : Option (Bor BankState)) →
+    ((past : List (World BankCommand)) (w : World BankCommand) → RunsTo bank_meaning view past w → option_copied o ≡ machine_of bank_meaning w i) →
+    IfSome o (λ bank. (book : OneBook view) → IsBankOf book.list bank.now)
+bank_of_each view i None says = tt
+bank_of_each view i (Some b) says = in_book view i b.now says

@@ -25,13 +25,15 @@ pub fn one_book(world: &RaftWorld<Bank>)
     states_are_safe::<Bank>();
 }
 
-/// The bank of a server, which is one of that list; none where the group has no such server, or it
-/// is down.
+/// The bank of a server, which is one of the list that `one_book` speaks of; none where the group
+/// has no such server, or it is down.
 pub fn bank_of(world: &RaftWorld<Bank>, server: ServerId) -> Option<&Bank>
     ensures value { (past : List (World BankCommand)) (w : World BankCommand) →
         RunsTo bank_meaning world.now past w →
         option_copied result ≡ machine_of bank_meaning w server }
     ensures history { IfSome result (λ bank. (list : List BankCommand) × IsBankOf list bank.now) }
+    // That list is the world's: two banks of one world are of one list.
+    ensures book { IfSome result (λ bank. (book : OneBook world.now) → IsBankOf book.list bank.now) }
 {
     one_book(world);
     world.machine(server)
