@@ -4,7 +4,9 @@ ghost use Rattle.runner.specs.Rooms.{can_hold, is_too_large};
 
 use crate::scenario::Scenario;
 use crate::step::{Step, read_step};
-use rows::{ClassName, Group, GroupName, JobName, JobSpec, NoMemory, NodeSpec, OperatorRequest, Size};
+use rows::{
+    ClassName, Group, GroupName, JobName, JobSpec, NoMemory, NodeSpec, OperatorRequest, Size,
+};
 use server::ServerInput;
 use std::alloc::Global;
 use std::fmt;
@@ -29,7 +31,11 @@ pub struct TooLarge {
 impl fmt::Display for TooLarge {
     fn fmt<W: fmt::Write>(&self, f: &mut fmt::Formatter<W>) -> fmt::Result {
         let (step, job, group) = (self.step, self.job.as_str(), self.group.as_str());
-        let (class, cpu, mem) = (self.class.as_str(), self.size.cpu.get(), self.size.mem.get());
+        let (class, cpu, mem) = (
+            self.class.as_str(),
+            self.size.cpu.get(),
+            self.size.mem.get(),
+        );
         write!(
             f,
             "note: step {step}: group {group} of job {job} takes {cpu} MHz and {mem} MB of class \
