@@ -1,5 +1,6 @@
 //! Groups that a scenario puts, and that none of its nodes has room for.
 ghost use Rattle.std.specs.Prelude.{◌≡◌};
+ghost use Rattle.std.specs.List.{list_any};
 ghost use Rattle.runner.specs.Rooms.{can_hold, is_too_large};
 
 use crate::scenario::Scenario;
@@ -51,11 +52,18 @@ fn can_hold(group: &Group, node: &NodeSpec) -> bool
     node.class == group.class && group.size.cpu <= node.size.cpu && group.size.mem <= node.size.mem
 }
 
+// Whether some node has room for one of the group.
+fn fits_somewhere(nodes: &[NodeSpec], group: &Group) -> bool
+    ensures { result ≡ list_any (λ n. can_hold group.now n) nodes.now }
+{
+    nodes.iter().any(|node| can_hold(group, node))
+}
+
 /// Whether no node has room for one of the group.
 pub fn is_too_large(nodes: &[NodeSpec], group: &Group) -> bool
     ensures { result ≡ is_too_large nodes.now group.now }
 {
-    !nodes.iter().any(|node| can_hold(group, node))
+    !fits_somewhere(nodes, group)
 }
 
 /// The groups that the steps of a scenario put, at least one of each, and that no node has room
