@@ -20,11 +20,11 @@ pub data Call : Type 0 where
   JobChanged : (row : Job) → Call
 
 -- the state by then
-abbrev pub state_after : Call → State → State
-state_after (Rebuild s rising) old = s
-state_after (EvalChanged row) s = record s { evals = put eval_cmp eval_id row s.evals }
-state_after (NodeChanged row) s = record s { nodes = put nat_cmp node_number row s.nodes }
-state_after (JobChanged row) s = record s { jobs = put name_cmp job_name row s.jobs }
+abbrev pub state_after_call : Call → State → State
+state_after_call (Rebuild s rising) old = s
+state_after_call (EvalChanged row) s = record s { evals = put eval_cmp eval_id row s.evals }
+state_after_call (NodeChanged row) s = record s { nodes = put nat_cmp node_number row s.nodes }
+state_after_call (JobChanged row) s = record s { jobs = put name_cmp job_name row s.jobs }
 
 -- the value by then: `put` where the evaluation is blocked, with the classes of its job, else
 -- `take`; `room` of the node's class; `put_job`
@@ -42,4 +42,4 @@ MayCome _ s = Unit {0}
 -- after these calls the value is that of the state
 abbrev pub IsOfState : State → BlockedEvals → List Call → Type 0
 IsOfState s b [] = b ≡ blocked_over s
-IsOfState s b (c ∷ calls) = MayCome c s → IsOfState (state_after c s) (value_after c s b) calls
+IsOfState s b (c ∷ calls) = MayCome c s → IsOfState (state_after_call c s) (value_after c s b) calls

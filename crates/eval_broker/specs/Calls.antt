@@ -6,7 +6,7 @@ use Rattle.rows.specs.Keys.{eval_cmp, eval_id}
 use Rattle.rows.specs.Rising.{is_rising}
 use Rattle.fsm_tables.specs.Rows.{put}
 use Rattle.group_model.specs.Brokers.{Broker, no_tasks, task_key, broker_over, broker_with, deliver, with_ack, with_nack, HoldsPending}
-use Rattle.group_model.specs.Worked.Brokers.{after_gift}
+use Rattle.group_model.specs.Brokers.{after_gift}
 
 -- a call, and what it is of; a row is told once it was made or replaced in the applied state
 pub data Call : Type 0 where

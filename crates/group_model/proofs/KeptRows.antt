@@ -9,7 +9,7 @@ use Rattle.rows.specs.Rising.{is_below, is_rising}
 use Rattle.fsm_tables.specs.Rows.{by_order, row_of, put}
 use Rattle.fsm_tables.proofs.RowLaws.{both, first, second, less, below_less, below_tied}
 use Rattle.fsm_tables.proofs.SetLaws.{found_first}
-use Rattle.group_model.specs.Rows.{without}
+use Rattle.fsm_tables.specs.ReservedTables.{without}
 
 module _ {K B : Type 0} (R : K → K → Ordering) (key : B → K) where
   -- a row below all others goes to the front, and none of them goes with its key

@@ -5,4 +5,5 @@ pub mod Reasoned
 pub mod FullLogs
 pub mod WorkedPlans
 pub mod Subs
+pub mod NextMoves
 pub mod PlanLimits

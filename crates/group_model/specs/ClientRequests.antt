@@ -94,12 +94,12 @@ takes_heartbeat me c (Ok o) d = beats_at me c o (beat_count_of c o.beat_counts)
 -- ---- Pull: any server answers, from its applied state
 
 -- what is known of a live one
-abbrev pub live_state : ClientState → LiveState
-live_state clients.Running = live_states.Running
-live_state _ = live_states.Pending
+abbrev pub listed_state : ClientState → LiveState
+listed_state clients.Running = live_states.Running
+listed_state _ = live_states.Pending
 
 abbrev pub shown : Allocation → ListedAllocation
-shown a = record { id = a.id; size = a.size; state = live_state a.client }
+shown a = record { id = a.id; size = a.size; state = listed_state a.client }
 
 -- the live allocations of a node
 abbrev pub listed : ℕ → State → List ListedAllocation

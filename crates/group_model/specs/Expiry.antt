@@ -8,7 +8,7 @@ use Rattle.rows.specs.Keys.{node_number}
 use Rattle.raft_model.specs.Logs.{MAX}
 use Rattle.fsm_tables.specs.Rows.{row_of, put}
 use Rattle.cluster_model.specs.Words.{is_ready}
-use Rattle.group_model.specs.Rows.{without}
+use Rattle.fsm_tables.specs.ReservedTables.{without}
 
 -- a ready node with its number of heartbeats
 pub record BeatCount : Type 0 where

@@ -17,7 +17,7 @@ use Rattle.group_model.specs.Desks.{Desk, follow_state, opened, after_entry, aft
 use Rattle.group_model.specs.Inputs.{Act, Ask, AskTimeout, AskBeat, AskPropose, AskCompact, AskCrash, AskRestart, input_of, rests}
 use Rattle.group_model.specs.Members as members
 use Rattle.group_model.specs.Members.{Member, logged, asks_log, done}
-use Rattle.group_model.specs.Worlds.{Fits, log_request, event_at}
+use Rattle.group_model.specs.Worlds.{LogEventFits, log_request, event_at}
 use Rattle.group_safety.specs.Limits.{ServiceFits}
 use Rattle.group_safety.proofs.Honesty.{all_get, sent_from, service_from}
 use Rattle.group_safety.proofs.ActRanges.{AskFits, DeskFits, Ranged, RangedResult}
@@ -70,7 +70,7 @@ module _ (n i : ℕ) (s : Member) where
   heard_fits message turn h is = logged_fits (rests s.desk) (raft_steps.step cluster_meaning n i s.raft (raft_steps.Arrives message)) turn (record { ask = tt; sent = tt; desk = h }) is
 
 -- what is asked of the log is an event of its world
-pub asks_event : (i : ℕ) (o : Option Ask) → AskFits o → Fits (event_at i o)
+pub asks_event : (i : ℕ) (o : Option Ask) → AskFits o → LogEventFits (event_at i o)
 asks_event i None h = tt
 asks_event i (Some AskTimeout) h = tt
 asks_event i (Some AskBeat) h = tt
@@ -79,6 +79,6 @@ asks_event i (Some AskCompact) h = tt
 asks_event i (Some AskCrash) h = tt
 asks_event i (Some AskRestart) h = tt
 
-pub result_event : (i : ℕ) (r : Result Act Refusal) → RangedResult r → Fits (event_at i (log_request r))
+pub result_event : (i : ℕ) (r : Result Act Refusal) → RangedResult r → LogEventFits (event_at i (log_request r))
 result_event i (Err e) h = tt
 result_event i (Ok act) h = asks_event i act.ask h.ask

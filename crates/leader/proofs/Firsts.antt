@@ -1,7 +1,7 @@
 -- The first of those that pass, by priority, is the first that passes of all in order.
 use Rattle.std.proofs.Common.{◌≡◌, ℕ, ◌≤◌, Bool, true, false, cond, nat_lt, List, [], ◌∷◌, map, filter, Option, Some, None, refl, sym, ap, ◌∙◌, arith}
 use Rattle.std.specs.Prelude.{find, option_map}
-use Rattle.group_model.specs.Order.{Picked, or_head, pick, picked_one, first, put_in_order, in_order}
+use Rattle.group_model.specs.Order.{Picked, or_head, pick, picked_one, first_by, put_in_order, in_order}
 
 module _ {X : Type 0} (priority : X → ℕ) where
   -- the head goes, unless one of higher priority follows
@@ -9,7 +9,7 @@ module _ {X : Type 0} (priority : X → ℕ) where
   or_first x None = Some x
   or_first x (Some y) = cond (nat_lt (priority x) (priority y)) (Some y) (Some x)
 
-  pub first_of_more : (x : X) (xs : List X) → first priority (x ∷ xs) ≡ or_first x (first priority xs)
+  pub first_of_more : (x : X) (xs : List X) → first_by priority (x ∷ xs) ≡ or_first x (first_by priority xs)
   first_of_more x xs = by (pick priority xs) where
     at : (p : Picked X) (b : Bool) → picked_one priority (Some (cond b (record { one = p.one; others = x ∷ p.others }) (record { one = x; others = xs }))) ≡ cond b (Some p.one) (Some x)
     at p true = refl
@@ -85,10 +85,10 @@ module _ {X : Type 0} (priority : X → ℕ) where
       by rest true = ap (λ o. cond (passes y) (Some y) o) rest
       by rest false = ap (λ b. cond b (Some x) (find passes (y ∷ ys))) fails
 
-    pub first_passing : (xs : List X) → find passes (in_order priority xs) ≡ first priority (filter passes xs)
+    pub first_passing : (xs : List X) → find passes (in_order priority xs) ≡ first_by priority (filter passes xs)
     first_passing [] = refl
     first_passing (x ∷ xs) = by (first_passing xs) (passes x) refl where
-      by : find passes (in_order priority xs) ≡ first priority (filter passes xs) → (b : Bool) → passes x ≡ b → find passes (put_in_order priority x (in_order priority xs)) ≡ first priority (cond b (x ∷ filter passes xs) (filter passes xs))
+      by : find passes (in_order priority xs) ≡ first_by priority (filter passes xs) → (b : Bool) → passes x ≡ b → find passes (put_in_order priority x (in_order priority xs)) ≡ first_by priority (cond b (x ∷ filter passes xs) (filter passes xs))
       by rest true is =
           put_passing x (in_order priority xs) is (falls xs)
           ∙ ap (or_first x) rest ∙ sym (first_of_more x (filter passes xs))
@@ -103,11 +103,11 @@ find_mapped passes f (x ∷ xs) = by (find_mapped passes f xs) (passes (f x)) wh
   by rest false = rest
 
 -- and so is the first
-pub first_mapped : {X Y : Type 0} (priority : Y → ℕ) (f : X → Y) (xs : List X) → first priority (map f xs) ≡ option_map f (first (λ x. priority (f x)) xs)
+pub first_mapped : {X Y : Type 0} (priority : Y → ℕ) (f : X → Y) (xs : List X) → first_by priority (map f xs) ≡ option_map f (first_by (λ x. priority (f x)) xs)
 first_mapped priority f [] = refl
 first_mapped priority f (x ∷ xs) =
     first_of_more priority (f x) (map f xs) ∙ ap (or_first priority (f x)) (first_mapped priority f xs)
-    ∙ by (first (λ z. priority (f z)) xs) ∙ ap (option_map f) (sym (first_of_more (λ z. priority (f z)) x xs)) where
+    ∙ by (first_by (λ z. priority (f z)) xs) ∙ ap (option_map f) (sym (first_of_more (λ z. priority (f z)) x xs)) where
       at : (y : _) (b : Bool) → cond b (Some (f y)) (Some (f x)) ≡ option_map f (cond b (Some y) (Some x))
       at y true = refl
       at y false = refl

@@ -7,7 +7,7 @@ use Rattle.rows.specs.declared.refusal.Refusal.{Refusal}
 use Rattle.rows.specs.declared.refusal.Refusal.TheVariants as refusals
 use Rattle.cluster_model.specs.Words.{State, eval_of}
 use Rattle.group_model.specs.Order.{Picked}
-use Rattle.group_model.specs.Worked.Brokers.{after_gift}
+use Rattle.group_model.specs.Brokers.{after_gift}
 use Rattle.group_model.specs.Brokers.{Broker, Given, Nothing, UsedUp, Gives, Acked, Free, no_tasks, deliver, set_mark, outstanding, is_outstanding, with_ack, with_nack, HoldsPending, task_key}
 use Rattle.group_model.specs.Expiry.{BeatCount, HoldsReady, beat_count_of}
 use Rattle.group_model.specs.BeatCounts.{beat_heard_of}

@@ -6,7 +6,7 @@ use Rattle.rows.specs.declared.evaluation.Evaluation.{Evaluation}
 use Rattle.rows.specs.Keys.{eval_id}
 use Rattle.fsm_tables.specs.declared.urgency.Urgency.{Urgency}
 use Rattle.cluster_model.specs.Words.{State, is_blocked, is_some_and, job_of}
-use Rattle.group_model.specs.Order.{first, in_order}
+use Rattle.group_model.specs.Order.{first_by, in_order}
 use Rattle.group_model.specs.Brokers.{Broker, Task, task_id, failed}
 use Rattle.group_model.specs.Blocked.{BlockedEval, BlockedEvals, blocked_id, blocked_eval, blocked_over, room_over, due, is_due, is_due_by, has_new_room, is_still_blocked, first_due}
 use Rattle.group_model.specs.Turns.{is_still_pending}
@@ -26,7 +26,7 @@ freed_is whole b =
 
 -- the first of the failed ones in order that is still pending
 pub reaped_is : (whole : State) (b : Broker) →
-    option_map (λ (u : Urgency). u.id) (find (stands_pending whole) (failed_in_order b)) ≡ option_map task_id (first (λ (t : Task). t.priority) (filter (is_still_pending whole) (failed b)))
+    option_map (λ (u : Urgency). u.id) (find (stands_pending whole) (failed_in_order b)) ≡ option_map task_id (first_by (λ (t : Task). t.priority) (filter (is_still_pending whole) (failed b)))
 reaped_is whole b =
     let all = in_order (λ (t : Task). t.priority) (failed b) in
     ap (option_map (λ (u : Urgency). u.id)) (find_mapped (stands_pending whole) urgency_of all)
@@ -68,7 +68,7 @@ due_over s whole =
     let rank = λ (e : BlockedEval). e.row.priority in
     let room = room_over s.nodes in
     let those = filter (λ (e : Evaluation). is_due s e && is_still_blocked whole e) s.evals in
-    ap (λ (bs : List BlockedEval). option_map blocked_id (first rank bs)) (both_tests (blocked_eval s) (λ (e : Evaluation). is_blocked e.status) (is_due s) (is_due_by room) (λ (b : BlockedEval). is_still_blocked whole b.row)
+    ap (λ (bs : List BlockedEval). option_map blocked_id (first_by rank bs)) (both_tests (blocked_eval s) (λ (e : Evaluation). is_blocked e.status) (is_due s) (is_due_by room) (λ (b : BlockedEval). is_still_blocked whole b.row)
     (λ e is. due_by_room s e is) (λ e not. ap (λ b. b && is_some_and (λ j. list_any (has_new_room j e.snapshot) s.nodes) (job_of e.job s)) not) s.evals)
     ∙ ap (option_map blocked_id) (first_mapped rank (blocked_eval s) those)
     ∙ twice_mapped blocked_id (blocked_eval s) (first_due s whole)

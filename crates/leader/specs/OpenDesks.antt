@@ -11,7 +11,7 @@ use Rattle.rows.specs.declared.command.Command.TheVariants as commands
 use Rattle.rows.specs.declared.refusal.Refusal.{Refusal}
 use Rattle.rows.specs.declared.refusal.Refusal.TheVariants as refusals
 use Rattle.cluster_model.specs.Words.{State}
-use Rattle.group_model.specs.Order.{first}
+use Rattle.group_model.specs.Order.{first_by}
 use Rattle.group_model.specs.Brokers.{Broker, Given, Nothing, UsedUp, Gives, task_id, deliver}
 use Rattle.group_model.specs.Brokers.{outstanding, is_outstanding, with_ack, with_nack, failed}
 use Rattle.group_model.specs.Blocked.{BlockedEval, BlockedEvals, blocked_id, blocked_over, due}
@@ -126,7 +126,7 @@ on_submit from applied p o = once_submitted o (submitted from applied o.desk p)
 -- Free: the first that is due, and is still blocked after the whole log.
 abbrev pub first_freed : State → BlockedEvals → Option BlockedEval
 first_freed whole b =
-    first (λ (e : BlockedEval). e.row.priority)
+    first_by (λ (e : BlockedEval). e.row.priority)
     (filter (λ (e : BlockedEval). is_still_blocked whole e.row) (due b))
 
 abbrev pub on_free_turn : State → OpenDesk → Result (Option EvalId) Refusal
@@ -136,7 +136,7 @@ on_free_turn whole o = Ok (option_map blocked_id (first_freed whole (blocked_of 
 abbrev pub on_reap : State → OpenDesk → Result (Option EvalId) Refusal
 on_reap whole o =
     Ok (option_map task_id
-    (first (λ t. t.priority) (filter (is_still_pending whole) (failed o.desk.broker))))
+    (first_by (λ t. t.priority) (filter (is_still_pending whole) (failed o.desk.broker))))
 
 -- Beat: a node was heard of once more, unless its heartbeats are not counted.
 abbrev pub once_heard : OpenDesk → Result (List BeatCount) Refusal → Answered (Unit {0})

@@ -7,7 +7,8 @@ use Rattle.cluster_model.specs.Worked.Words.{eval_id}
 use Rattle.fsm_tables.specs.declared.urgency.Urgency.{Urgency}
 use Rattle.group_model.specs.Brokers.{Broker, UsedUp, deliver, outstanding, with_nack}
 use Rattle.group_model.specs.Worked.Words.{token}
-use Rattle.group_model.specs.Worked.Brokers.{broker, changed, after_gift}
+use Rattle.group_model.specs.Brokers.{after_gift}
+use Rattle.group_model.specs.Worked.Brokers.{broker, changed}
 use Rattle.eval_broker.specs.Answers.{failed_in_order}
 
 -- the first pair, once the second has taken its place

@@ -5,7 +5,7 @@ use Rattle.rows.specs.declared.evaluation.EvalId.{EvalId}
 use Rattle.rows.specs.declared.evaluation.Evaluation.{Evaluation}
 use Rattle.rows.specs.declared.evaluation.EvalStatus.TheVariants as eval_statuses
 use Rattle.cluster_model.specs.Worked.Words.{eval_id}
-use Rattle.group_model.specs.Brokers.{Broker, no_tasks, broker_over, broker_with, Given, Nothing, UsedUp, Gives, deliver, outstanding, with_ack, with_nack}
+use Rattle.group_model.specs.Brokers.{Broker, no_tasks, broker_over, broker_with, Given, Nothing, UsedUp, Gives, deliver, after_gift, outstanding, with_ack, with_nack}
 use Rattle.group_model.specs.Worked.Words.{token, a, b}
 
 abbrev pub eval_row : ℕ → List ℕ → ℕ → Evaluation
@@ -13,11 +13,6 @@ eval_row index job priority = record { id = eval_id index 0; job = job; priority
 
 abbrev pub broker : Broker
 broker = broker_over (eval_row 2 a 50 ∷ eval_row 3 b 70 ∷ eval_row 4 b 70 ∷ eval_row 5 a 50 ∷ []) no_tasks
-
-abbrev pub after_gift : Broker → Given → Broker
-after_gift old Nothing = old
-after_gift old UsedUp = old
-after_gift old (Gives what new) = new
 
 abbrev pub gift : Given → Option (EvalId × ℕ)
 gift Nothing = None

@@ -1,7 +1,7 @@
 //! The live allocations of a node, as its agent is shown them.
 ghost use Rattle.std.specs.Prelude.{◌≡◌, map, IfOk};
 ghost use Rattle.cluster_model.specs.Words.{State};
-ghost use Rattle.group_model.specs.ClientRequests.{live_state, shown, listed};
+ghost use Rattle.group_model.specs.ClientRequests.{listed_state, shown, listed};
 
 use fsm_state::Cluster;
 use machine::Machine;
@@ -11,8 +11,8 @@ use rows::{
 use std::alloc::Global;
 
 /// What its agent is told of a live allocation's work.
-fn live_state(state: ClientState) -> LiveState
-    ensures { result ≡ live_state state }
+fn listed_state(state: ClientState) -> LiveState
+    ensures { result ≡ listed_state state }
 {
     match state {
         ClientState::Running => LiveState::Running,
@@ -27,7 +27,7 @@ fn shown(row: &Allocation) -> ListedAllocation
     ListedAllocation {
         id: row.id,
         size: row.size,
-        state: live_state(row.client),
+        state: listed_state(row.client),
     }
 }
 

@@ -1,2 +1,0 @@
--- Rows that go.
-pub use Rattle.fsm_tables.specs.ReservedTables.{without}
