@@ -3,10 +3,10 @@ use Rattle.std.proofs.Common.{◌≡◌, ◌∙◌, ap, sym, ℕ, Result, Ok, Er
 use Rattle.std.proofs.lemmas.List.{map-append}
 use Rattle.fields_model.specs.Format.{Format}
 use Rattle.world.specs.declared.event.RaftEvent.{RaftEvent}
-use Rattle.world.specs.Events.{event_of, events_of}
+use Rattle.world.specs.Events.{world_event, world_events}
 
-pub one_event_more : {S C : Type 0} (before after was : List (RaftEvent S C)) (e : RaftEvent S C) → before ≡ was → after ≡ before ++ e ∷ [] → events_of after ≡ events_of was ++ event_of e ∷ []
-one_event_more before after was e same is = ap events_of is ∙ (map-append event_of before (e ∷ []) ∙ ap (λ l. events_of l ++ event_of e ∷ []) same)
+pub one_event_more : {S C : Type 0} (before after was : List (RaftEvent S C)) (e : RaftEvent S C) → before ≡ was → after ≡ before ++ e ∷ [] → world_events after ≡ world_events was ++ world_event e ∷ []
+one_event_more before after was e same is = ap world_events is ∙ (map-append world_event before (e ∷ []) ∙ ap (λ l. world_events l ++ world_event e ∷ []) same)
 
 first_or : {A : Type 0} → A → Result (A × ℕ) ℕ → A
 first_or d (Ok p) = p.0

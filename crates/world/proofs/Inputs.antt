@@ -14,7 +14,7 @@ use Rattle.raft_core.specs.Frames.{IsFrameOf, FrameCarries}
 use Rattle.raft_core.specs.Inputs.{Reads}
 use Rattle.raft_core.specs.Refusals.{MayLack, MayWant}
 use Rattle.raft_safety.proofs.Places.{get-within}
-use Rattle.world.specs.Events.{arrival, input_of}
+use Rattle.world.specs.Events.{arrival, event_input}
 use Rattle.world.specs.Inner.Inputs.{ActsIn, NobodyActsIn, is_restart, handed_by, bytes_of}
 use Rattle.world.proofs.Zips.{zip_at, zip_from, zip_none}
 
@@ -51,7 +51,7 @@ module _ {S C : Type 0} (m : Meaning S C) (sent : List Frame) (w : World C) wher
   -- in this world the event is that server i takes this input
   pub record Brings (e : Event C) (i : ℕ) : Type 0 where
     pub input : Input C
-    pub is : input_of w e ≡ Some input
+    pub is : event_input w e ≡ Some input
     pub reads : Reads m (handed_by sent e) input
     pub came : WasSent w i input
     pub takes : happens m w e ≡ takes m w i input

@@ -13,16 +13,16 @@ abbrev pub place_of : ℕ → ℕ
 place_of zero = 2 ^ 64
 place_of (suc k) = k
 
-abbrev pub event_of : {S C : Type 0} → RaftEvent S C → Event C
-event_of (events.Deliver k) = Deliver (place_of k)
-event_of (events.Timeout i) = TimesOut i
-event_of (events.Beat i) = Beats i
-event_of (events.Propose i command) = Proposes i command.value
-event_of (events.Crash i) = Crashes i
-event_of (events.Restart i) = Restarts i
+abbrev pub world_event : {S C : Type 0} → RaftEvent S C → Event C
+world_event (events.Deliver k) = Deliver (place_of k)
+world_event (events.Timeout i) = TimesOut i
+world_event (events.Beat i) = Beats i
+world_event (events.Propose i command) = Proposes i command.value
+world_event (events.Crash i) = Crashes i
+world_event (events.Restart i) = Restarts i
 
-abbrev pub events_of : {S C : Type 0} → List (RaftEvent S C) → List (Event C)
-events_of = map event_of
+abbrev pub world_events : {S C : Type 0} → List (RaftEvent S C) → List (Event C)
+world_events = map world_event
 
 -- a message comes, if it was sent
 abbrev pub arrival : {C : Type 0} → Option (Message C) → Option (Input C)
@@ -30,11 +30,11 @@ arrival None = None
 arrival (Some message) = Some (Arrives message)
 
 -- the input that an event is for the server that takes it; none where there is no such message
-abbrev pub input_of : {C : Type 0} → World C → Event C → Option (Input C)
-input_of w (Deliver k) = arrival (slice_get w.sent k)
-input_of w (TimesOut i) = Some Timeout
-input_of w (Beats i) = Some Beat
-input_of w (Proposes i command) = Some (Propose command)
-input_of w (Compacts i) = Some Compact
-input_of w (Crashes i) = Some Crash
-input_of w (Restarts i) = Some Restart
+abbrev pub event_input : {C : Type 0} → World C → Event C → Option (Input C)
+event_input w (Deliver k) = arrival (slice_get w.sent k)
+event_input w (TimesOut i) = Some Timeout
+event_input w (Beats i) = Some Beat
+event_input w (Proposes i command) = Some (Propose command)
+event_input w (Compacts i) = Some Compact
+event_input w (Crashes i) = Some Crash
+event_input w (Restarts i) = Some Restart

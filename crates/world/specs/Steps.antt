@@ -12,7 +12,7 @@ use Rattle.raft_core.specs.RaftView.{SameServer}
 use Rattle.raft_core.specs.Refusals.{MayWant}
 use Rattle.world.specs.declared.done.Done.{Done}
 use Rattle.world.specs.declared.done.Done.TheVariants.{Taken, Crashed}
-use Rattle.world.specs.Events.{input_of}
+use Rattle.world.specs.Events.{event_input}
 use Rattle.world.specs.WorldView.{WorldView, RepresentsWorld, RunsTo, IsRaftWorld, IsGroup}
 
 -- The event happens in each world that `old` represents, and makes it one that `new` represents.
@@ -27,7 +27,7 @@ pub record EventHappened {S C : Type 0} (m : Meaning S C) (old : WorldView C) (e
 
 -- in this world the event is an input for which its actor, which is s, may want memory
 abbrev pub MayWantFor : {C : Type 0} → World C → Event C → Server C → Type 0
-MayWantFor {C} w e s = (input : Input C) × (input_of w e ≡ Some input) × MayWant s.mode input
+MayWantFor {C} w e s = (input : Input C) × (event_input w e ≡ Some input) × MayWant s.mode input
 
 -- the event's actor found no memory, and crashes in its place
 pub record ActorCrashed {S C : Type 0} (m : Meaning S C) (old : WorldView C) (e : Event C) (new : WorldView C) : Type 0 where

@@ -1,6 +1,6 @@
 ghost use Rattle.std.specs.Prelude.{◌≡◌, IfOk};
 ghost use Rattle.raft_model.specs.Worlds.{IsEvent};
-ghost use Rattle.world.specs.Events.{event_of};
+ghost use Rattle.world.specs.Events.{world_event};
 ghost use Rattle.world.specs.Inner.Inputs.{is_restart};
 
 use machine::{Machine, commands_are_whole};
@@ -50,8 +50,8 @@ pub(crate) fn command_again<M: Machine>(
 impl<M: Machine> RaftEvent<M> {
     /// The same event.
     pub(crate) fn again(&self, alloc: Global) -> Result<RaftEvent<M>, NoMemory>
-        ensures { IfOk result (λ again. (event_of again ≡ event_of self.now)
-            × IsEvent M.meaning (event_of again)) }
+        ensures { IfOk result (λ again. (world_event again ≡ world_event self.now)
+            × IsEvent M.meaning (world_event again)) }
     {
         match self {
             RaftEvent::Deliver(k) => Ok(RaftEvent::Deliver(*k)),
@@ -68,7 +68,7 @@ impl<M: Machine> RaftEvent<M> {
 
     /// Whether a server starts again.
     pub(crate) fn is_restart(&self) -> bool
-        ensures { result ≡ is_restart (event_of self.now) }
+        ensures { result ≡ is_restart (world_event self.now) }
     {
         match self {
             RaftEvent::Restart(_) => true,

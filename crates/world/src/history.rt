@@ -2,7 +2,7 @@
 ghost use Rattle.std.specs.Prelude.{◌≡◌, max, []};
 ghost use Rattle.raft_model.specs.Servers.{Server};
 ghost use Rattle.raft_core.specs.Steps.{Represents};
-ghost use Rattle.world.specs.Events.{event_of, events_of};
+ghost use Rattle.world.specs.Events.{world_event, world_events};
 ghost use Rattle.world.specs.Inner.Inputs.{committed};
 ghost use Rattle.world.specs.Inner.Parts.{IsFor, PartDone};
 
@@ -30,11 +30,11 @@ pub(crate) struct History<M: Machine> {
 
 impl<M: Machine> Model for History<M> {
     ghost use Rattle.world.specs.Inner.HistoryView.{HistoryView};
-    ghost use Rattle.world.specs.Events.{events_of};
+    ghost use Rattle.world.specs.Events.{world_events};
 
     ghost Value = { HistoryView M.Command };
 
-    ghost view = { λ a. record { sent = a.sent; trace = events_of a.trace.items; chain = a.chain } };
+    ghost view = { λ a. record { sent = a.sent; trace = world_events a.trace.items; chain = a.chain } };
 }
 
 /// The greater of the chain so far and what a server has applied.
@@ -69,7 +69,7 @@ impl<M: Machine> History<M> {
     }
 
     pub(crate) fn trace(&self) -> &[RaftEvent<M>]
-        ensures { events_of result.now ≡ self.now.trace }
+        ensures { world_events result.now ≡ self.now.trace }
     {
         &self.trace
     }
@@ -88,10 +88,10 @@ impl<M: Machine> History<M> {
         server: ServerId,
         event: RaftEvent<M>,
     ) -> Result<Done, Refusal>
-        requires { IsFor M.meaning raft.old self.old.sent (event_of event) }
+        requires { IsFor M.meaning raft.old self.old.sent (world_event event) }
         ensures same { (raft.new.me ≡ raft.old.me) × (raft.new.size ≡ raft.old.size) }
-        ensures done { PartDone M.meaning raft.old self.old (event_of event) server result raft.new
-            self.new }
+        ensures done { PartDone M.meaning raft.old self.old (world_event event) server result
+            raft.new self.new }
     {
         self.trace.reserve(1)?;
         copy_frame(&self.sent, &event, &mut self.delivered)?;

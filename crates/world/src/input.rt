@@ -7,7 +7,7 @@ ghost use Rattle.raft_model.specs.Worlds.{Deliver};
 ghost use Rattle.raft_core.specs.Inputs.{Own};
 ghost use Rattle.raft_core.specs.Steps.{Represents, Takes};
 ghost use Rattle.raft_core.specs.Refusals.{IsRefused};
-ghost use Rattle.world.specs.Events.{place_of, event_of};
+ghost use Rattle.world.specs.Events.{place_of, world_event};
 ghost use Rattle.world.specs.Inner.Inputs.{ActsIn, NobodyActsIn, IsSent, HasFrame, Leaves, handed_by};
 
 use crate::event::RaftEvent;
@@ -42,10 +42,10 @@ fn receiver<M: Machine>(sent: &Frames, k: u64) -> Option<ServerId>
 
 /// The server that takes the event; none where there is no such message.
 pub(crate) fn actor<M: Machine>(sent: &Frames, event: &RaftEvent<M>) -> Option<ServerId>
-    ensures some { IfSome result (λ i. ActsIn M.meaning sent.now (event_of event.now) i) }
-    ensures sent { OnSome result (IsSent sent.now (event_of event.now)) }
+    ensures some { IfSome result (λ i. ActsIn M.meaning sent.now (world_event event.now) i) }
+    ensures sent { OnSome result (IsSent sent.now (world_event event.now)) }
     ensures none { IfNone result
-        (NobodyActsIn M.meaning sent.now (event_of event.now) refusals.OutOfRange) }
+        (NobodyActsIn M.meaning sent.now (world_event event.now) refusals.OutOfRange) }
 {
     match event {
         RaftEvent::Deliver(k) => receiver::<M>(sent, *k),
@@ -87,7 +87,7 @@ pub(crate) fn copy_frame<M: Machine>(
     event: &RaftEvent<M>,
     frame: &mut Vec<u8>,
 ) -> Result<(), NoMemory>
-    ensures { OnOk result (HasFrame sent.now (event_of event.now) frame.new.items) }
+    ensures { OnOk result (HasFrame sent.now (world_event event.now) frame.new.items) }
 {
     match event {
         RaftEvent::Deliver(k) => {
@@ -113,16 +113,18 @@ pub(crate) fn hand<M: Machine>(
     event: RaftEvent<M>,
     sent: &mut Frames,
 ) -> Result<(), Refusal>
-    requires { HasFrame sent.old (event_of event) frame.now }
+    requires { HasFrame sent.old (world_event event) frame.now }
     ensures same { (raft.new.me ≡ raft.old.me) × (raft.new.size ≡ raft.old.size) }
     ensures taken { OnOk result ((s : Server M.Command) → Represents M.meaning raft.old s →
-        Takes M.meaning raft.old s (handed_by sent.old (event_of event)) raft.new sent.old sent.new) }
+        Takes M.meaning raft.old s (handed_by sent.old (world_event event)) raft.new sent.old
+        sent.new) }
     ensures unsent { OnErr result (sent.new ≡ sent.old) }
     ensures refused { IfErr result (λ cause. (s : Server M.Command) →
         Represents M.meaning raft.old s →
-        IsRefused M.meaning raft.old.size raft.old.me s (handed_by sent.old (event_of event)) cause) }
+        IsRefused M.meaning raft.old.size raft.old.me s (handed_by sent.old (world_event event))
+        cause) }
     ensures left { IfErr result (λ cause. (s : Server M.Command) → Represents M.meaning raft.old s →
-        Leaves M.meaning raft.old s (handed_by sent.old (event_of event)) cause raft.new) }
+        Leaves M.meaning raft.old s (handed_by sent.old (world_event event)) cause raft.new) }
 {
     match event {
         RaftEvent::Deliver(_) => raft.step(Input::Frame(frame), sent),

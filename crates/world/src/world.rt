@@ -5,7 +5,7 @@ ghost use Rattle.raft_model.specs.Servers.{newcomer};
 ghost use Rattle.raft_model.specs.Worlds.{World};
 ghost use Rattle.raft_core.specs.Steps.{Represents, is_member};
 ghost use Rattle.raft_safety.specs.Claims.{IsGreatestCommit};
-ghost use Rattle.world.specs.Events.{event_of, events_of};
+ghost use Rattle.world.specs.Events.{world_event, world_events};
 ghost use Rattle.world.specs.WorldView.{RunsTo, IsGroup};
 ghost use Rattle.world.specs.Steps.{IsDone, SameWorld, RefusesEvent, IsAwake, IsNew, IsNoGroup, Played, Replays};
 ghost use Rattle.world.specs.Claims.{OneLeaderEver, LogsMatchEver, OneListEver, StatesSafeEver};
@@ -73,17 +73,17 @@ fn lacks_memory(done: &Result<Done, Refusal>) -> bool
 impl<M: Machine> RaftWorld<M> {
     /// A server takes an event.
     fn act(&mut self, server: ServerId, event: RaftEvent<M>) -> Result<Done, Refusal>
-        requires actor { ActsIn M.meaning self.old.sent (event_of event) server }
-        requires sent { IsSent self.old.sent (event_of event) }
+        requires actor { ActsIn M.meaning self.old.sent (world_event event) server }
+        requires sent { IsSent self.old.sent (world_event event) }
         requires member { server < length self.old.servers }
-        requires awake { IsAwake M.meaning self.old (event_of event) }
+        requires awake { IsAwake M.meaning self.old (world_event event) }
         ensures ok { IfOk result (λ done.
-            IsDone M.meaning self.old (event_of event) done self.new) }
+            IsDone M.meaning self.old (world_event event) done self.new) }
         ensures err { OnErr result (SameWorld self.old self.new) }
         ensures cause { IfErr result (λ refusal. refusal ≢ refusals.NoMemory →
-            RefusesEvent M.meaning self.old (event_of event) refusal) }
+            RefusesEvent M.meaning self.old (world_event event) refusal) }
         ensures memory { IfErr result (λ refusal. refusal ≡ refusals.NoMemory →
-            IsAwake M.meaning self.old (event_of event)) }
+            IsAwake M.meaning self.old (world_event event)) }
     {
         // A frame that a server of the group sent is not refused for its bytes.
         frames_are_whole::<M>();
@@ -95,12 +95,12 @@ impl<M: Machine> RaftWorld<M> {
     /// An event happens, if its actor is there and up.
     fn take(&mut self, event: RaftEvent<M>) -> Result<Done, Refusal>
         ensures ok { IfOk result (λ done.
-            IsDone M.meaning self.old (event_of event) done self.new) }
+            IsDone M.meaning self.old (world_event event) done self.new) }
         ensures err { OnErr result (SameWorld self.old self.new) }
         ensures cause { IfErr result (λ refusal. refusal ≢ refusals.NoMemory →
-            RefusesEvent M.meaning self.old (event_of event) refusal) }
+            RefusesEvent M.meaning self.old (world_event event) refusal) }
         ensures memory { IfErr result (λ refusal. refusal ≡ refusals.NoMemory →
-            IsAwake M.meaning self.old (event_of event)) }
+            IsAwake M.meaning self.old (world_event event)) }
     {
         let Some(server) = actor(self.sent(), &event) else {
             return Err(Refusal::OutOfRange);
@@ -128,14 +128,14 @@ impl<M: Machine> RaftWorld<M> {
         // It is a step of the definitions; or the event's actor crashed for want of memory, in a
         // restart with nothing changed.
         ensures ok { IfOk result (λ done.
-            IsDone M.meaning self.old (event_of event) done self.new) }
+            IsDone M.meaning self.old (world_event event) done self.new) }
         ensures err { OnErr result (SameWorld self.old self.new) }
         // The definitions refuse it too, for the same reason.
         ensures cause { IfErr result (λ refusal. refusal ≢ refusals.NoMemory →
-            RefusesEvent M.meaning self.old (event_of event) refusal) }
+            RefusesEvent M.meaning self.old (world_event event) refusal) }
         // Want of memory is not answered where no server takes the event.
         ensures memory { IfErr result (λ refusal. refusal ≡ refusals.NoMemory →
-            IsAwake M.meaning self.old (event_of event)) }
+            IsAwake M.meaning self.old (world_event event)) }
         // And these hold whatever happened so far, whether or not this event was refused.
         ensures one_leader { OneLeaderEver M.meaning self.new }
         ensures log_matching { LogsMatchEver M.meaning self.new }
@@ -177,9 +177,9 @@ impl<M: Machine> RaftWorld<M> {
     /// is refused with `OutOfRange` where `n` is not 3 or 5, and with `NoMemory` where the world
     /// lacks memory.
     pub fn run(alloc: Global, n: usize, events: &[RaftEvent<M>]) -> Result<RaftWorld<M>, Refusal>
-        ensures played { IfOk result (λ w. Played M.meaning n (events_of events.now) w) }
+        ensures played { IfOk result (λ w. Played M.meaning n (world_events events.now) w) }
         // The trace of a group leads to that group again.
-        ensures replays { IfOk result (λ w. Replays M.meaning n (events_of events.now) w) }
+        ensures replays { IfOk result (λ w. Replays M.meaning n (world_events events.now) w) }
         ensures refused { IfErr result (λ refusal. IsNoGroup n refusal) }
         ensures memory { IfErr result (λ refusal. refusal ≡ refusals.NoMemory → IsGroup n) }
         ensures one_leader { IfOk result (λ w. OneLeaderEver M.meaning w) }
@@ -261,7 +261,7 @@ impl<M: Machine> RaftWorld<M> {
     /// The events that happened, in order, with a crash in place of each in which an actor found no
     /// memory.
     pub fn trace(&self) -> &[RaftEvent<M>]
-        ensures { events_of result.now ≡ self.now.trace }
+        ensures { world_events result.now ≡ self.now.trace }
     {
         self.history.trace()
     }

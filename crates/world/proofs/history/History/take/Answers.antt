@@ -1,5 +1,5 @@
 use Rattle.std.proofs.Common.{◌≡◌, true, false, inl, inr, refl, sym, ◌∙◌}
-use Rattle.world.specs.Events.{event_of, events_of}
+use Rattle.world.specs.Events.{world_event, world_events}
 use Rattle.world.specs.declared.event.RaftEvent.TheVariants as events
 use Rattle.world.specs.Inner.HistoryView.{HistoryView}
 use Rattle.world.specs.Inner.Inputs.{is_restart}
@@ -18,7 +18,7 @@ returns-in-Ok-clause-done g c =
 
 pub returns-then-is_restart-clause-done : goal.returns-then-is_restart-clause-done
 returns-then-is_restart-clause-done g c =
-    let e = event_of c.args.event in
+    let e = world_event c.args.event in
     let sent = c.self.inside.sent in
     let h = c.args.raft.now in
     let so : is_restart e ≡ true = sym c.is_restart.ensures ∙ c.if-is_restart.true in
@@ -33,7 +33,7 @@ returns-then-is_restart-clause-done g c =
 
 pub returns-in-NoMemory-clause-done : goal.returns-in-NoMemory-clause-done
 returns-in-NoMemory-clause-done g c =
-    let e = event_of c.args.event in
+    let e = world_event c.args.event in
     let sent = c.self.inside.sent in
     let h = c.args.raft.now in
     let other : is_restart e ≡ false = sym c.is_restart.ensures ∙ c.if-is_restart.false in
@@ -50,10 +50,10 @@ returns-in-NoMemory-clause-done g c =
 
 pub returns : goal.returns
 returns g c =
-    let past : HistoryView g.row.M-Command.Denot = record { sent = c.self.inside.sent; trace = events_of c.self.inside.trace.items; chain = c.self.inside.chain } in
+    let past : HistoryView g.row.M-Command.Denot = record { sent = c.self.inside.sent; trace = world_events c.self.inside.trace.items; chain = c.self.inside.chain } in
     let refused = rw c.in_ok-input.ensures.0 at c.in-Err.ensures.refused in
     let left = rw c.in_ok-input.ensures.0 at c.in-Err.ensures.left in
-    let p = part_refused g.M.Machine.meaning c.args.raft.now c.hand.new.raft past (event_of c.args.event) c.in-Err.refusal c.in_default.not-NoMemory refused left in
+    let p = part_refused g.M.Machine.meaning c.args.raft.now c.hand.new.raft past (world_event c.args.event) c.in-Err.refusal c.in_default.not-NoMemory refused left in
     rw (← c.self.view_is) (record {
       same = c.hand.ensures.same;
       done = (p.0, rw (c.in-Err.ensures.unsent, c.in_ok-reserve.ensures.items) refl, p.1);

@@ -1,5 +1,5 @@
 use Rattle.std.proofs.Common.{ap, subst, slice_set}
-use Rattle.world.specs.Events.{event_of}
+use Rattle.world.specs.Events.{world_event}
 use Rattle.world.specs.WorldView.{WorldView}
 use Rattle.world.proofs.Acts.{Acted, acted, at_actor, is_for, in_any_case}
 use Rattle.world.proofs.world.RaftWorld.act.Goals as goal
@@ -8,7 +8,7 @@ pub take-requires : goal.take-requires
 take-requires g c =
     let m = g.M.Machine.meaning in
     let i = c.self.inside in
-    let e = event_of c.args.event in
+    let e = world_event c.args.event in
     let h = c.index_mut-raft.result.now in
     let old : WorldView g.row.M-Command.Denot = record { servers = i.servers.items; sent = i.history.sent; trace = i.history.trace; chain = i.history.chain } in
     let a = at_actor m old c.args.self.now e c.args.server c.place.result h c.self.view_is c.self.invariant c.place.ensures.value c.requires.member c.index_mut-raft.ensures.value c.requires.actor in
@@ -18,7 +18,7 @@ pub invariant_of-self : goal.invariant_of-self
 invariant_of-self g c =
     let m = g.M.Machine.meaning in
     let i = c.self.inside in
-    let e = event_of c.args.event in
+    let e = world_event c.args.event in
     let h = c.index_mut-raft.result.now in
     let old : WorldView g.row.M-Command.Denot = record { servers = i.servers.items; sent = i.history.sent; trace = i.history.trace; chain = i.history.chain } in
     let a = at_actor m old c.args.self.now e c.args.server c.place.result h c.self.view_is c.self.invariant c.place.ensures.value c.requires.member c.index_mut-raft.ensures.value c.requires.actor in
@@ -31,7 +31,7 @@ pub returns : goal.returns
 returns g c =
     let m = g.M.Machine.meaning in
     let i = c.self.inside in
-    let e = event_of c.args.event in
+    let e = world_event c.args.event in
     let h = c.index_mut-raft.result.now in
     let old : WorldView g.row.M-Command.Denot = record { servers = i.servers.items; sent = i.history.sent; trace = i.history.trace; chain = i.history.chain } in
     let a = at_actor m old c.args.self.now e c.args.server c.place.result h c.self.view_is c.self.invariant c.place.ensures.value c.requires.member c.index_mut-raft.ensures.value c.requires.actor in

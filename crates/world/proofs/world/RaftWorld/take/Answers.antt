@@ -1,6 +1,6 @@
 use Rattle.std.proofs.Common.{◌≡◌, ◌⊎◌, inl, inr, true, not, is_some, sym, ap, ◌∙◌}
 use Rattle.raft_safety.proofs.Places.{get-within}
-use Rattle.world.specs.Events.{event_of}
+use Rattle.world.specs.Events.{world_event}
 use Rattle.world.specs.Inner.Inputs.{is_restart}
 use Rattle.world.proofs.Same.{same_world}
 use Rattle.world.proofs.Sleeping.{refuses_absent, refuses_sleeping, is_awake}
@@ -16,7 +16,7 @@ returns-in_default-raft-clause-err g c = same_world c.args.self.now
 pub returns-in_default-raft-clause-cause : goal.returns-in_default-raft-clause-cause
 returns-in_default-raft-clause-cause g c _ =
     let acts = rw c.sent.ensures at c.in-Some.ensures.some in
-    refuses_absent g.M.Machine.meaning c.args.self.now (event_of c.args.event) c.in-Some.server acts (sym c.in_default-raft.ensures)
+    refuses_absent g.M.Machine.meaning c.args.self.now (world_event c.args.event) c.in-Some.server acts (sym c.in_default-raft.ensures)
 
 pub returns-then-not-is_restart-clause-err : goal.returns-then-not-is_restart-clause-err
 returns-then-not-is_restart-clause-err g c = same_world c.args.self.now
@@ -24,7 +24,7 @@ returns-then-not-is_restart-clause-err g c = same_world c.args.self.now
 pub returns-then-not-is_restart-clause-cause : goal.returns-then-not-is_restart-clause-cause
 returns-then-not-is_restart-clause-cause g c _ =
     let acts = rw c.sent.ensures at c.in-Some.ensures.some in
-    refuses_sleeping g.M.Machine.meaning c.args.self.now (event_of c.args.event) c.in-Some.server acts c.in-Some-raft.raft.now c.role.result (sym c.in-Some-raft.ensures) c.role.ensures c.if-is_none.ensures (sym c.if-not-is_restart.ensures)
+    refuses_sleeping g.M.Machine.meaning c.args.self.now (world_event c.args.event) c.in-Some.server acts c.in-Some-raft.raft.now c.role.result (sym c.in-Some-raft.ensures) c.role.ensures c.if-is_none.ensures (sym c.if-not-is_restart.ensures)
 
 pub act-requires-clause-actor : goal.act-requires-clause-actor
 act-requires-clause-actor g c = rw c.sent.ensures at c.in-Some.ensures.some
@@ -35,8 +35,8 @@ act-requires-clause-member g c = get-within c.args.self.now.servers c.in-Some.se
 pub act-requires-clause-awake : goal.act-requires-clause-awake
 act-requires-clause-awake g c =
     let acts = rw c.sent.ensures at c.in-Some.ensures.some in
-    let up : (is_some c.role.result ≡ true) ⊎ (is_restart (event_of c.args.event) ≡ true) = elim c.else-is_none.branch [
+    let up : (is_some c.role.result ≡ true) ⊎ (is_restart (world_event c.args.event) ≡ true) = elim c.else-is_none.branch [
       | else-is_none-via-then-is_none+else-not-is_restart w ↦ inr (sym w.is_restart.ensures ∙ w.if-not-is_restart.false)
       | else-is_none-via-else-is_none w ↦ inl (c.is_none.ensures ∙ ap not w.if-is_none.false)
     ] in
-    is_awake g.M.Machine.meaning c.args.self.now (event_of c.args.event) c.in-Some.server acts c.in-Some-raft.raft.now c.role.result (sym c.in-Some-raft.ensures) c.role.ensures g.met.M.Machine.lawful up
+    is_awake g.M.Machine.meaning c.args.self.now (world_event c.args.event) c.in-Some.server acts c.in-Some-raft.raft.now c.role.result (sym c.in-Some-raft.ensures) c.role.ensures g.met.M.Machine.lawful up
