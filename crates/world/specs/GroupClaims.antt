@@ -30,8 +30,8 @@ pub record SafeGroupStates (view : GroupView) : Type 0 where
   pub runs : GroupRunsTo view past world
   pub ever : (past : List World) (w : World) → GroupRunsTo view past w → (list : List (Entry Command)) → OneList past w list → SafeStates list
 
--- The value has a run, and in each of its runs each plan of that list was appended by a plan turn of
--- its term's leader, while its evaluation was outstanding under its token at that leader's desk.
+-- The value has a run, and in each of its runs each plan of that list was appended by a plan turn
+-- of its term's leader, while its evaluation was outstanding under its token at that leader's desk.
 pub record BackedPlans (view : GroupView) : Type 0 where
   pub past : List World
   pub world : World
@@ -66,8 +66,8 @@ pub record GroupHeadline (view : GroupView) : Type 0 where
 abbrev pub IsGreatestEver : GroupView → ℕ → Type 0
 IsGreatestEver view n = (past : List World) (w : World) → GroupRunsTo view past w → IsGreatestCommit (logs past) (raft_of w) n
 
--- An event that a group of which so many messages were sent may have taken: one of them comes to its
--- receiver, or an actor takes an input of its own, which is never an arrival.
+-- An event that a group of which so many messages were sent may have taken: one of them comes to
+-- its receiver, or an actor takes an input of its own, which is never an arrival.
 abbrev pub IsTraced : ℕ → Event → Type 0
 IsTraced sent (Deliver place) = place < sent
 IsTraced sent (AtServer server (servers.Arrives message)) = ⊥

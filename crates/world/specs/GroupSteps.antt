@@ -41,8 +41,8 @@ RunsThere None id = ⊥
 RunsThere (Some x) id = RunsIn x.life id
 
 -- In this world the event may want memory: what comes may, but not as an input of an actor's own; a
--- server's own input as that says; of a client's own one that goes to a server of the group, and the
--- end of an allocation that runs there.
+-- server's own input as that says; of a client's own one that goes to a server of the group, and
+-- the end of an allocation that runs there.
 abbrev pub MayWantAt : World → Event → Type 0
 MayWantAt w (Deliver k) = Unit {0}
 MayWantAt w (AtServer i (servers.Arrives message)) = ⊥
@@ -98,9 +98,9 @@ IsNoArrival (AtServer i (servers.Arrives message)) = ⊥
 IsNoArrival (AtClient c (clients.Arrives from response)) = ⊥
 IsNoArrival e = Unit {0}
 
--- In this world the event comes to its actor: that is there, and is up or is to restart, so that the
--- definitions do not refuse the event for its being down; and no message comes as an input of the
--- actor's own.
+-- In this world the event comes to its actor: that is there, and is up or is to restart, so that
+-- the definitions do not refuse the event for its being down; and no message comes as an input of
+-- the actor's own.
 pub record ComesToActor (w : World) (e : Event) : Type 0 where
   pub crash : Event
   pub actor : crash_of w e ≡ Some crash

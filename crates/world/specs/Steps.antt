@@ -61,8 +61,8 @@ abbrev pub RefusesEvent : {S C : Type 0} → Meaning S C → WorldView C → Eve
 RefusesEvent {S} {C} m view e r =
     (past : List (World C)) (w : World C) → RunsTo m view past w → happens m w e ≡ Err r
 
--- In this world the event comes to its actor: that is there, and is up or is to restart, so that the
--- definitions do not refuse the event for its being down.
+-- In this world the event comes to its actor: that is there, and is up or is to restart, so that
+-- the definitions do not refuse the event for its being down.
 pub record ComesToServer {S C : Type 0} (m : Meaning S C) (w : World C) (e : Event C) : Type 0 where
   pub who : ℕ
   pub actor : actor m w e ≡ Some who

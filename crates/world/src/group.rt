@@ -1,4 +1,5 @@
-//! A group of servers and clients: its events, what is kept beside its actors, and the group itself.
+//! A group of servers and clients: its events, what is kept beside its actors, and the group
+//! itself.
 mod event;
 mod history;
 mod world;

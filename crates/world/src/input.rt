@@ -105,8 +105,8 @@ pub(crate) fn copy_frame<M: Machine>(
     }
 }
 
-/// A server takes what an event hands to it, of which `frame` is the frame, if it delivers one. What
-/// the server sends is put behind what was sent.
+/// A server takes what an event hands to it, of which `frame` is the frame, if it delivers one.
+/// What the server sends is put behind what was sent.
 pub(crate) fn hand<M: Machine>(
     raft: &mut Raft<M>,
     frame: &[u8],

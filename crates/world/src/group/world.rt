@@ -292,8 +292,8 @@ impl World {
     /// server or client; then with `Down` where that is down and is not to restart; then with
     /// `OutOfRange` where the input is a frame (frames come by a Deliver alone). Then as the server
     /// or the client refuses it (`Server::step`, `Agent::step`). With `NoMemory` the world itself
-    /// lacks memory, never in place of the first three. A refusal changes nothing, but that a leader
-    /// that refuses a command may hold its machine after its whole log from then on.
+    /// lacks memory, never in place of the first three. A refusal changes nothing, but that a
+    /// leader that refuses a command may hold its machine after its whole log from then on.
     pub fn step(&mut self, event: Event) -> Result<Done, Refusal>
         // It is a step of the definitions; or the event's actor crashed for want of memory, in a
         // restart with nothing changed.
@@ -444,10 +444,10 @@ impl World {
         starts_are_placed();
     }
 
-    /// Through every list of deliveries, losses, repeats, elections, expiries, crashes and restarts,
-    /// one list of entries exists of which every running server's state, at every moment, is some
-    /// first entries applied; in each such state no node is oversubscribed and no allocation name
-    /// live twice; each of its plans was appended under its leader's outstanding token; clients
+    /// Through every list of deliveries, losses, repeats, elections, expiries, crashes and
+    /// restarts, one list of entries exists of which every running server's state, at every moment,
+    /// is some first entries applied; in each such state no node is oversubscribed and no allocation
+    /// name live twice; each of its plans was appended under its leader's outstanding token; clients
     /// start only what it places on them.
     pub fn headline(&self)
         ensures { GroupHeadline self.now }
