@@ -1,5 +1,5 @@
 //! What is kept beside the servers and clients of a group, and what one event changes.
-ghost use Rattle.std.specs.Prelude.{◌≡◌, max, [], slice_get, IfSome, OnSome, IfNone, OnOk, IfOk};
+ghost use Rattle.std.specs.Prelude.{◌≡◌, true, max, [], is_some, slice_get, OnOk};
 ghost use Rattle.group_model.specs.Members.{Member};
 ghost use Rattle.group_model.specs.Worlds.{Deliver, AtServer, AtClient};
 ghost use Rattle.server.specs.Handings.{FrameBytes, handing};
@@ -75,21 +75,28 @@ fn copy_frame(sent: &Frames, k: u64, frame: &mut Vec<u8>) -> Result<(), NoMemory
     Ok(())
 }
 
-/// Room with this in it: what is there, or else new.
-fn take_room<T: Drop>(
-    alloc: Global,
-    room: &mut Option<Box<T>>,
-    value: T,
-) -> Result<Box<T>, NoMemory>
-    ensures { IfOk result (λ taken. taken.value ≡ value) }
+/// Room is made, with this in it, where there is none.
+fn make_room<T: Drop>(alloc: Global, room: &mut Option<Box<T>>, value: T) -> Result<(), NoMemory>
+    ensures { OnOk result (is_some room.new ≡ true) }
+{
+    if room.is_none() {
+        *room = Some(Box::new(alloc, value)?);
+    }
+    Ok(())
+}
+
+/// The room, with this in it.
+fn take_room<T: Drop>(room: &mut Option<Box<T>>, value: T) -> Box<T>
+    requires { is_some room.old ≡ true }
+    ensures { result.value ≡ value }
 {
     match std::mem::replace(room, None) {
         Some(found) => {
             let mut taken = found;
             Box::replace(&mut taken, value);
-            Ok(taken)
+            taken
         }
-        None => Ok(Box::new(alloc, value)?),
+        None => unreachable!(),
     }
 }
 
@@ -199,23 +206,20 @@ impl GroupHistory {
     {
         self.trace.reserve(1)?;
         copy_frame(&self.outbox.frames, k, &mut self.delivered)?;
-        let crash = take_room(self.alloc, &mut self.server_room, ServerInput::Crash)?;
+        make_room(self.alloc, &mut self.server_room, ServerInput::Crash)?;
         match server.receive(&self.delivered, &mut self.outbox) {
             Ok(()) => {
-                self.server_room = Some(crash);
                 self.chain = longer(self.chain, server);
                 self.trace.push_reserved(Event::Deliver(k));
                 Ok(Done::Taken)
             }
             Err(cause) => match cause {
                 Refusal::NoMemory => {
+                    let crash = take_room(&mut self.server_room, ServerInput::Crash);
                     self.trace.push_reserved(Event::Server(me, crash));
                     Ok(Done::Crashed)
                 }
-                other => {
-                    self.server_room = Some(crash);
-                    Err(other)
-                }
+                other => Err(other),
             },
         }
     }
@@ -267,22 +271,19 @@ impl GroupHistory {
     {
         self.trace.reserve(1)?;
         copy_frame(&self.outbox.frames, k, &mut self.delivered)?;
-        let crash = take_room(self.alloc, &mut self.client_room, ClientInput::Crash)?;
+        make_room(self.alloc, &mut self.client_room, ClientInput::Crash)?;
         match client.receive(&self.delivered, &mut self.outbox.frames) {
             Ok(()) => {
-                self.client_room = Some(crash);
                 self.trace.push_reserved(Event::Deliver(k));
                 Ok(Done::Taken)
             }
             Err(cause) => match cause {
                 Refusal::NoMemory => {
+                    let crash = take_room(&mut self.client_room, ClientInput::Crash);
                     self.trace.push_reserved(Event::Client(me, crash));
                     Ok(Done::Crashed)
                 }
-                other => {
-                    self.client_room = Some(crash);
-                    Err(other)
-                }
+                other => Err(other),
             },
         }
     }

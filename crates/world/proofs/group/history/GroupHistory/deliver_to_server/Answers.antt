@@ -21,8 +21,8 @@ returns-in-NoMemory-clause-done c =
       lacks = lacks;
       fell = λ s r. member_fell old new s (FrameBytes bytes) refl (lacks s r) (left s r);
       outbox = c.in-Err.ensures.unsent;
-      trace = one_group_event_more c.reserve.new.self.items c.push_reserved-in-NoMemory.new.self.items c.self.inside.trace.items (events.Server c.args.me c.in_ok-crash.crash) c.in_ok-reserve.ensures.items c.push_reserved-in-NoMemory.ensures.items
-          ∙ ap (λ (x : ServerInput). group_events c.self.inside.trace.items ++ AtServer c.args.me (server_input (handing x)) ∷ []) c.in_ok-crash.ensures;
+      trace = one_group_event_more c.reserve.new.self.items c.push_reserved-in-NoMemory.new.self.items c.self.inside.trace.items (events.Server c.args.me c.take_room-crash.result) c.in_ok-reserve.ensures.items c.push_reserved-in-NoMemory.ensures.items
+          ∙ ap (λ (x : ServerInput). group_events c.self.inside.trace.items ++ AtServer c.args.me (server_input (handing x)) ∷ []) c.take_room-crash.ensures;
       chain = refl;
     }))
 
