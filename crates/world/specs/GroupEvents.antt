@@ -1,5 +1,5 @@
 -- The events of the program's group as those of the definitions, and what workers get by one.
-use Rattle.std.specs.Prelude.{ℕ, Option, Some, None, Result, Ok, Err, List, [], ◌∷◌, ◌++◌, length, map, slice_get}
+use Rattle.std.specs.Prelude.{◌≡◌, ℕ, Option, Some, None, Result, Ok, Err, List, [], ◌∷◌, ◌++◌, length, map, slice_get}
 use Rattle.rows.specs.declared.command.Command.{Command}
 use Rattle.rows.specs.declared.refusal.Refusal.{Refusal}
 use Rattle.rows.specs.declared.worker.Work.{Work}
@@ -39,6 +39,13 @@ group_event (events.Client client input) = AtClient client (client_input input.v
 
 abbrev pub group_events : List GroupEvent → List Event
 group_events = map group_event
+
+-- The same event: one more with the same input, also where that is a frame, byte for byte.
+abbrev pub IsSameEvent : GroupEvent → GroupEvent → Type 0
+IsSameEvent (events.Deliver k) (events.Deliver again) = again ≡ k
+IsSameEvent (events.Server server input) (events.Server again copy) = (again ≡ server) × (copy.value ≡ input.value)
+IsSameEvent (events.Client client input) (events.Client again copy) = (again ≡ client) × (copy.value ≡ input.value)
+IsSameEvent event again = ⊥
 
 -- it is an input of its actor's own
 abbrev pub HasInput : Event → Type 0

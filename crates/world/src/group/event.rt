@@ -5,7 +5,7 @@ ghost use Rattle.rows.specs.Requests.{command_of};
 ghost use Rattle.group_model.specs.Worlds.{AtServer, AtClient};
 ghost use Rattle.group_safety.specs.Limits.{InputFits};
 ghost use Rattle.server.specs.Handings.{handing};
-ghost use Rattle.world.specs.GroupEvents.{server_input, client_input, group_event, HasInput};
+ghost use Rattle.world.specs.GroupEvents.{server_input, client_input, group_event, HasInput, IsSameEvent};
 ghost use Rattle.world.specs.Inner.GroupInputs.{is_frame, is_restart_input, is_client_frame, is_client_restart};
 
 use client_agent::ClientInput;
@@ -46,15 +46,19 @@ impl Event {
     /// delivery.
     pub fn try_clone(&self, alloc: Global) -> Result<Event, NoMemory>
         ensures same { IfOk result (λ again. group_event again ≡ group_event self.now) }
+        // A frame too, byte for byte.
+        ensures whole { IfOk result (λ again. IsSameEvent self.now again) }
         ensures memory { OnErr result (HasInput (group_event self.now)) }
     {
         match self {
             Event::Deliver(k) => Ok(Event::Deliver(*k)),
             Event::Server(server, input) => {
-                Event::server(alloc, *server, input.as_ref().try_clone(alloc)?)
+                let input = input.as_ref().try_clone(alloc)?;
+                Ok(Event::Server(*server, Box::new(alloc, input)?))
             }
             Event::Client(client, input) => {
-                Event::client(alloc, *client, input.as_ref().try_clone(alloc)?)
+                let input = input.as_ref().try_clone(alloc)?;
+                Ok(Event::Client(*client, Box::new(alloc, input)?))
             }
         }
     }
