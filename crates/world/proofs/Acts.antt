@@ -12,7 +12,7 @@ use Rattle.raft_model.specs.Messages.{Message}
 use Rattle.raft_model.specs.Servers.{Server, Turn, silent, is_up, crashed, restarted}
 use Rattle.raft_model.specs.Steps.{Input, Arrives, Timeout, Beat, Propose, Compact, Crash, Restart, step}
 use Rattle.raft_model.specs.Worlds.{World, Event, Deliver, TimesOut, Beats, Proposes, Compacts, Crashes, Restarts, Run, IsRestart}
-use Rattle.raft_core.specs.RaftView.{RaftView, SameServer}
+use Rattle.raft_core.specs.RaftView.{RaftView}
 use Rattle.raft_core.specs.Refusals.{refusal}
 use Rattle.raft_core.specs.Steps.{Represents, Steps}
 use Rattle.raft_safety.specs.Claims.{IsAmongMembers}
@@ -20,7 +20,7 @@ use Rattle.raft_safety.proofs.Places.{get-within}
 use Rattle.world.specs.declared.done.Done.{Done}
 use Rattle.world.specs.declared.done.Done.TheVariants as done
 use Rattle.world.specs.WorldView.{WorldView, RepresentsWorld, RunsTo, IsRaftWorld}
-use Rattle.world.specs.Steps.{IsDone, SameWorld, MayWantFor, RefusesEvent}
+use Rattle.world.specs.Steps.{IsDone, LeftServer, SameWorld, MayWantFor, RefusesEvent}
 use Rattle.world.specs.Inner.HistoryView.{HistoryView}
 use Rattle.world.specs.Inner.Inputs.{ActsIn, IsSent, handed_by, is_restart}
 use Rattle.world.specs.Inner.Parts.{IsFor, PartTaken, PartCrashed, PartStays, IsPartRefused, PartDone}
@@ -126,9 +126,9 @@ module _ {S C : Type 0} (m : Meaning S C) (old : WorldView C) (e : Event C) (i :
         λ t. record { servers = kept t; sent = ap (λ (x : HistoryView C). x.sent) past t; trace = ap (λ (x : HistoryView C). x.trace) past t; chain = ap (λ (x : HistoryView C). x.chain) past t }
 
     -- one that is the same server leaves the same world
-    same_but : SameServer h h2 → history_of new ≡ history_of old → SameWorld old new
+    same_but : LeftServer h h2 → history_of new ≡ history_of old → SameWorld old new
     same_but is past = record {
-      servers = subst (λ l. AllZip SameServer old.servers l) (sym servers) (same_set old.servers i h h2 (set_here old.servers i h a.here) is);
+      servers = subst (λ l. AllZip LeftServer old.servers l) (sym servers) (same_set old.servers i h h2 (set_here old.servers i h a.here) is);
       sent = ap (λ (x : HistoryView C). x.sent) past;
       trace = ap (λ (x : HistoryView C). x.trace) past;
       chain = ap (λ (x : HistoryView C). x.chain) past;

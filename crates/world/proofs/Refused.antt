@@ -12,11 +12,12 @@ use Rattle.raft_model.specs.Messages.{Message}
 use Rattle.raft_model.specs.Servers.{Server, Mode, Down, Follower, Candidate, Leader, Turn, is_up, is_leader, crashed}
 use Rattle.raft_model.specs.Steps.{Input, Arrives, Timeout, Beat, Propose, Compact, Crash, Restart, step}
 use Rattle.raft_model.specs.Worlds.{Event, Deliver, TimesOut, Beats, Proposes, Compacts, Crashes, Restarts}
-use Rattle.raft_core.specs.RaftView.{RaftView, SameServer}
+use Rattle.raft_core.specs.RaftView.{RaftView}
 use Rattle.raft_core.specs.Frames.{IsFrameOf, log_message}
 use Rattle.raft_core.specs.Inputs.{Handed, Bytes, Own, Reads}
 use Rattle.raft_core.specs.Steps.{Represents}
 use Rattle.raft_core.specs.Refusals.{refusal, refusal_by, frame_refusal, MayLack, IsRefused, LackLeaves, RefusalLeaves}
+use Rattle.world.specs.Steps.{LeftServer}
 use Rattle.world.specs.Inner.HistoryView.{HistoryView}
 use Rattle.world.specs.Inner.Inputs.{is_restart, Leaves, handed_by}
 use Rattle.world.specs.Inner.Parts.{IsPartRefused}
@@ -102,8 +103,8 @@ module _ {S C : Type 0} (m : Meaning S C) (h h2 : RaftView C) (sent : List Frame
   stayed (Crashes i) so may left = absurd (cc)
   stayed (Restarts i) so may left = (may, left)
 
-pub as_is : {C : Type 0} (old new : RaftView C) → new ≡ old → SameServer old new
-as_is old new e = record { me = ap (λ (x : RaftView _). x.me) e; size = ap (λ (x : RaftView _). x.size) e; server = ap (λ (x : RaftView _). x.server) e }
+pub as_is : {C : Type 0} (old new : RaftView C) → new ≡ old → LeftServer old new
+as_is old new e = (record { me = ap (λ (x : RaftView _). x.me) e; size = ap (λ (x : RaftView _). x.size) e; server = ap (λ (x : RaftView _). x.server) e }, λ h. ap (λ (x : RaftView _). x.projected) e ∙ h)
 
 module _ {S C : Type 0} (m : Meaning S C) (old : RaftView C) (h : Handed C) (new : RaftView C) where
   leaves : (s : Server C) (cause : Refusal) → RefusalLeaves m old s h cause new → Leaves m old s h cause new
@@ -118,6 +119,6 @@ module _ {S C : Type 0} (m : Meaning S C) (old : RaftView C) (h : Handed C) (new
 -- any other refusal leaves the same server, and is that of what is handed in
 pub part_refused : {S C : Type 0} (m : Meaning S C) (h h2 : RaftView C) (past : HistoryView C) (e : Event C) (cause : Refusal) → cause ≢ refusals.NoMemory →
     ((s : Server C) → Represents m h s → IsRefused m h.size h.me s (handed_by past.sent e) cause) →
-    ((s : Server C) → Represents m h s → Leaves m h s (handed_by past.sent e) cause h2) → SameServer h h2 × IsPartRefused m h past e cause
+    ((s : Server C) → Represents m h s → Leaves m h s (handed_by past.sent e) cause h2) → LeftServer h h2 × IsPartRefused m h past e cause
 part_refused m h h2 past e refusals.NoMemory other refused left = absurd (other refl)
 part_refused m h h2 past e _ other refused left = (left h.server refl, refused)

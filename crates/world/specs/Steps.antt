@@ -1,5 +1,5 @@
 -- What a step of a world does, and what becomes of a list of events.
-use Rattle.std.specs.Prelude.{◌≡◌, ◌≢◌, ℕ, ◌<◌, ◌⊎◌, Some, Ok, Err, List, [], ◌∷◌, ◌++◌, length, slice_get}
+use Rattle.std.specs.Prelude.{◌≡◌, ◌≢◌, ℕ, ◌<◌, ◌⊎◌, true, Some, Ok, Err, List, [], ◌∷◌, ◌++◌, length, slice_get}
 use Rattle.rows.specs.declared.refusal.Refusal.{Refusal}
 use Rattle.rows.specs.declared.refusal.Refusal.TheVariants as refusals
 use Rattle.std.specs.List.{AllZip}
@@ -8,7 +8,7 @@ use Rattle.raft_model.specs.Servers.{Server}
 use Rattle.raft_model.specs.Steps.{Input}
 use Rattle.raft_model.specs.Worlds.{World, Event, first, Crashes, Outcome, Kept, LeftOut, Trace, moment, happens, actor, IsRestart}
 use Rattle.raft_model.specs.Worlds.{Crashed as OutcomeCrashed}
-use Rattle.raft_core.specs.RaftView.{SameServer}
+use Rattle.raft_core.specs.RaftView.{RaftView, SameServer}
 use Rattle.raft_core.specs.Refusals.{MayWant}
 use Rattle.world.specs.declared.done.Done.{Done}
 use Rattle.world.specs.declared.done.Done.TheVariants.{Taken, Crashed}
@@ -48,10 +48,14 @@ abbrev pub IsDone : {S C : Type 0} → Meaning S C → WorldView C → Event C �
 IsDone m old e Taken new = EventHappened m old e new
 IsDone m old e Crashed new = ActorCrashed m old e new ⊎ StaysDown m old e new
 
--- Nothing happened: the same servers, messages, events and chain. A leader that refused a command
--- may have made its machine after its whole log.
+-- A server as a refusal leaves it: the same one. A leader that refused a command may have made its
+-- machine after its whole log; one that held it holds it still.
+abbrev pub LeftServer : {C : Type 0} → RaftView C → RaftView C → Type 0
+LeftServer old new = SameServer old new × (old.projected ≡ true → new.projected ≡ true)
+
+-- Nothing happened: the same servers, as a refusal leaves them, messages, events and chain.
 pub record SameWorld {C : Type 0} (old new : WorldView C) : Type 0 where
-  pub servers : AllZip SameServer old.servers new.servers
+  pub servers : AllZip LeftServer old.servers new.servers
   pub sent : new.sent ≡ old.sent
   pub trace : new.trace ≡ old.trace
   pub chain : new.chain ≡ old.chain

@@ -9,9 +9,10 @@ use Rattle.raft_model.specs.Servers.{Server, is_up}
 use Rattle.raft_model.specs.Steps.{Timeout, Beat, Propose, Compact, Crash, Restart}
 use Rattle.raft_model.specs.Worlds.{World, Event, Deliver, TimesOut, Beats, Proposes, Compacts, Crashes, Restarts, happens, actor}
 use Rattle.raft_core.specs.Frames.{FrameCarries}
-use Rattle.raft_core.specs.RaftView.{RaftView, SameServer}
+use Rattle.raft_core.specs.RaftView.{RaftView}
 use Rattle.raft_core.specs.Inputs.{Handed, Bytes, Own}
 use Rattle.raft_core.specs.Refusals.{LackLeaves}
+use Rattle.world.specs.Steps.{LeftServer}
 
 abbrev pub is_restart : {C : Type 0} → Event C → Bool
 is_restart (Deliver k) = false
@@ -59,7 +60,7 @@ handed_by sent (Restarts i) = Own Restart
 abbrev pub Leaves : {S C : Type 0} → Meaning S C → RaftView C → Server C → Handed C → Refusal → RaftView C
     → Type 0
 Leaves m old s h refusals.NoMemory new = LackLeaves m old s h new
-Leaves m old s h cause new = SameServer old new
+Leaves m old s h cause new = LeftServer old new
 
 -- what a server has committed, while it is up
 abbrev pub committed : {C : Type 0} → Server C → ℕ

@@ -7,12 +7,13 @@ use Rattle.wire.specs.Frames.{Frame}
 use Rattle.raft_model.specs.Servers.{Server, is_up, crashed}
 use Rattle.raft_model.specs.Steps.{Input}
 use Rattle.raft_model.specs.Worlds.{Event, Crashes, IsEvent}
-use Rattle.raft_core.specs.RaftView.{RaftView, SameServer}
+use Rattle.raft_core.specs.RaftView.{RaftView}
 use Rattle.raft_core.specs.Inputs.{Reads}
 use Rattle.raft_core.specs.Steps.{Represents, Takes}
 use Rattle.raft_core.specs.Refusals.{MayLack, refusal}
 use Rattle.world.specs.declared.done.Done.{Done}
 use Rattle.world.specs.declared.done.Done.TheVariants.{Taken, Crashed}
+use Rattle.world.specs.Steps.{LeftServer}
 use Rattle.world.specs.Inner.HistoryView.{HistoryView}
 use Rattle.world.specs.Inner.Inputs.{IsSent, handed_by, is_restart, committed}
 
@@ -57,4 +58,4 @@ module _ {S C : Type 0} (m : Meaning S C) (raft : RaftView C) (past : HistoryVie
   abbrev pub PartDone : ℕ → Result Done Refusal → RaftView C → HistoryView C → Type 0
   PartDone i (Ok Taken) after now = PartTaken after now
   PartDone i (Ok Crashed) after now = PartCrashed i after now ⊎ PartStays after now
-  PartDone i (Err cause) after now = SameServer raft after × (now ≡ past) × IsPartRefused cause
+  PartDone i (Err cause) after now = LeftServer raft after × (now ≡ past) × IsPartRefused cause
