@@ -1,3 +1,4 @@
+pub mod OneFrame
 pub mod OneMessage
 pub mod Sending
 pub mod SomeMessage

@@ -76,3 +76,9 @@ abbrev pub FramesAreOfSome : {S : Type 0} → Meaning S Command → Type 0
 FramesAreOfSome {S} m =
     (bytes : List ℕ) (read : WireMessage S Command) → IsFrame m.commands read bytes
     → (message : GroupMessage) × IsGroupFrame m bytes message
+
+-- a message has one frame at most
+abbrev pub MessagesHaveOneFrame : {S : Type 0} → Meaning S Command → Type 0
+MessagesHaveOneFrame m =
+    (message : GroupMessage) (a b : List ℕ)
+    → IsGroupFrame m a message → IsGroupFrame m b message → a ≡ b
