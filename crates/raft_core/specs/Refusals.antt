@@ -92,9 +92,9 @@ abbrev pub IsRefused : {S C : Type 0} → Meaning S C → ℕ → ℕ → Server
 IsRefused m n me s h refusals.NoMemory = MayLack s.mode h
 IsRefused m n me s h cause = refusal m n me s h ≡ Some cause
 
--- the same of a message that was read
+-- The same of a message that was read. Want of memory never stands in for another refusal.
 abbrev pub IsMessageRefused : {S C : Type 0} → ℕ → ℕ → Server C → WireMessage S C → Refusal → Type 0
-IsMessageRefused n me s read refusals.NoMemory = is_up s.mode ≡ true
+IsMessageRefused n me s read refusals.NoMemory = message_refusal n me s read ≡ None
 IsMessageRefused n me s read cause = message_refusal n me s read ≡ Some cause
 
 -- want of memory in a step is a crash, but that a restart changes nothing

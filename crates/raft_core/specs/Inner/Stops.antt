@@ -1,5 +1,5 @@
 -- A step that is broken off, before what it left is put away.
-use Rattle.std.specs.Prelude.{◌≡◌, ℕ, List, Some}
+use Rattle.std.specs.Prelude.{◌≡◌, ℕ, List, Some, None}
 use Rattle.rows.specs.declared.refusal.Refusal.{Refusal}
 use Rattle.rows.specs.declared.refusal.Refusal.TheVariants as refusals
 use Rattle.machine.specs.Meaning.{Meaning}
@@ -44,9 +44,10 @@ abbrev pub TakesFrame : {S C : Type 0} → Meaning S C → RaftView C → Server
 TakesFrame {C = C} m old s bytes new before after =
     (message : Message C) → IsFrameOf m bytes message → Steps m old s (Arrives message) new before after
 
--- the same of a message that was read
+-- the same of a message that was read; memory is wanting only of one that nothing is wrong with
 abbrev pub MessageStops : {S C : Type 0} → RaftView C → WireMessage S C → Refusal → RaftView C
     → List Frame → List Frame → Type 0
-MessageStops old read refusals.NoMemory new before after = Lost old new before after
+MessageStops old read refusals.NoMemory new before after =
+    (message_fault old.size old.me read ≡ None) × Lost old new before after
 MessageStops old read cause new before after =
     (message_fault old.size old.me read ≡ Some cause) × Unchanged old new before after
