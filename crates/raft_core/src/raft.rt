@@ -379,10 +379,11 @@ impl<M: Machine> Raft<M> {
     ///
     /// One that is down refuses every input but Restart with `Down`. Then of a frame `Frame` names
     /// the offset of its first fault, or 1 where its kind is none by which servers keep one log, 2
-    /// where its sender is not of the group, or 3 where it is for another server; a Timeout is refused with `Exhausted` where the term or the last index
-    /// is 2^40 - 1; a Restart of one that is up with `OutOfRange`. A refusal changes nothing and
-    /// sends nothing. With `NoMemory` the server is down, with its stored part as it was and
-    /// nothing sent. A leader that leads on keeps its machine after its whole log.
+    /// where its sender is not of the group, or 3 where it is for another server; a Timeout is
+    /// refused with `Exhausted` where the term or the last index is 2^40 - 1; a Restart of one that
+    /// is up with `OutOfRange`. A refusal changes nothing and sends nothing. With `NoMemory` the
+    /// server is down, with its stored part as it was and nothing sent. A leader that leads on
+    /// keeps its machine after its whole log.
     pub fn step(&mut self, input: Input, outbox: &mut Frames) -> Result<(), Refusal>
         ensures same { (self.new.me ≡ self.old.me) × (self.new.size ≡ self.old.size) }
         ensures taken { OnOk result ((s : Server M.Command) → Represents M.meaning self.old s →

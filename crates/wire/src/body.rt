@@ -36,8 +36,8 @@ pub enum Body<M: Machine> {
     /// A node's agent registers the node, of this class and size. (Nomad documentation,
     /// "Architecture".)
     Register(ClassName, Size),
-    /// A node's agent says that the node is still there. (Nomad documentation, "server" block of the
-    /// agent configuration: heartbeats.)
+    /// A node's agent says that the node is still there. (Nomad documentation, "server" block of
+    /// the agent configuration: heartbeats.)
     Heartbeat,
     /// A node's agent asks which allocations the node is to run. (Nomad documentation,
     /// "Allocations".)

@@ -19,7 +19,8 @@ use machine::{Coded, Entry, Machine};
 use rows::{Index, NoMemory, ServerId, Term};
 use wire::{Append, AppendHead, AppendReply, Body, Frames};
 
-/// Lets go of a machine, if there is one. A machine is large: where there is none, nothing is moved.
+/// Lets go of a machine, if there is one. A machine is large: where there is none, nothing is
+/// moved.
 fn forget<M: Drop>(machine: &mut Option<M>)
     ensures { machine.new ≡ None }
 {
