@@ -1,5 +1,5 @@
 -- Why a call is refused, and what a refusal leaves.
-use Rattle.std.specs.Prelude.{◌≡◌, ℕ, ◌==◌, Bool, true, false, nat_lt, if◌then◌else◌, Option, Some, None, Result, Ok, Err, List}
+use Rattle.std.specs.Prelude.{◌≡◌, ℕ, ◌==◌, Bool, true, false, nat_lt, ◌&&◌, if◌then◌else◌, Option, Some, None, Result, Ok, Err, List, length}
 use Rattle.rows.specs.declared.actor.Actor.{Actor}
 use Rattle.rows.specs.declared.actor.Actor.TheVariants.{Server as ServerActor, Client}
 use Rattle.rows.specs.declared.refusal.Refusal.{Refusal}
@@ -7,6 +7,7 @@ use Rattle.rows.specs.declared.refusal.Refusal.TheVariants as refusals
 use Rattle.machine.specs.Meaning.{Meaning}
 use Rattle.wire.specs.Messages.{Message as WireMessage, kind_of, is_of_log}
 use Rattle.wire.specs.Frames.{message_at}
+use Rattle.raft_model.specs.Logs.{MAX}
 use Rattle.raft_model.specs.Servers.{Server, Turn, Mode, is_up, is_leader, crashed}
 use Rattle.raft_model.specs.Steps.{Input, Arrives, Timeout, Beat, Propose, Compact, Crash, Restart, step}
 use Rattle.raft_core.specs.declared.no_projection.NoProjection.{NoProjection}
@@ -83,6 +84,22 @@ MayWant mode Restart = is_up mode ≡ false
 abbrev pub MayLack : {C : Type 0} → Mode → Handed C → Type 0
 MayLack mode (Bytes bytes) = is_up mode ≡ true
 MayLack mode (Own input) = MayWant mode input
+
+-- Why what is handed in is refused before memory is taken, if it is. A leader with room in its log
+-- has to ask its machine about a proposal, and that may want memory; and bytes that come to a
+-- server that is up may want some before their fault is found.
+abbrev pub early_refusal : {S C : Type 0} → Meaning S C → ℕ → ℕ → Server C → Handed C → Option Refusal
+early_refusal m n me s (Bytes bytes) = if is_up s.mode then None else Some refusals.Down
+early_refusal m n me s (Own (Propose command)) =
+    if is_leader s.mode && nat_lt (length s.log) MAX
+    then None
+    else refusal_by (step m n me s (Propose command))
+early_refusal m n me s (Own input) = refusal_by (step m n me s input)
+
+-- want of memory never stands in for such a refusal
+abbrev pub HidesNothing : {S C : Type 0} → Meaning S C → ℕ → ℕ → Server C → Handed C → Refusal → Type 0
+HidesNothing m n me s h refusals.NoMemory = early_refusal m n me s h ≡ None
+HidesNothing m n me s h cause = Unit {0}
 
 -- ---- both
 

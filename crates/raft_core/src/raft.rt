@@ -10,7 +10,7 @@ ghost use Rattle.raft_model.specs.Logs.{state_after};
 ghost use Rattle.raft_model.specs.Servers.{Server, is_up, is_leader, met, crashed, restarted};
 ghost use Rattle.raft_core.specs.Inputs.{handed};
 ghost use Rattle.raft_core.specs.Steps.{Represents, Stores, Takes, role_of, is_member};
-ghost use Rattle.raft_core.specs.Refusals.{refusal, IsRefused, RefusalLeaves, RefusalShows, WhyNot};
+ghost use Rattle.raft_core.specs.Refusals.{refusal, HidesNothing, IsRefused, RefusalLeaves, RefusalShows, WhyNot};
 ghost use Rattle.raft_core.specs.Inner.Stops.{Stops};
 ghost use Rattle.raft_core.specs.Inner.Views.{with_server};
 ghost use Rattle.raft_core.specs.RaftView.{KeepsAhead};
@@ -332,6 +332,8 @@ impl<M: Machine> Raft<M> {
         ensures kept { OnOk result (KeepsAhead self.old self.new) }
         ensures stopped { IfErr result (λ cause.
             Stops M.meaning self.old (handed input.entry) cause self.new outbox.old outbox.new) }
+        ensures unhidden { IfErr result (λ cause. HidesNothing M.meaning self.old.size self.old.me
+            self.old.server (handed input.entry) cause) }
         ensures seen { OnOk result
             (SeesStep M.meaning W.sees self.old.server self.new.server watch.old watch.new) }
         ensures unseen { IfErr result (λ cause. RefusalShows cause watch.old watch.new) }
@@ -382,8 +384,9 @@ impl<M: Machine> Raft<M> {
     /// where its sender is not of the group, or 3 where it is for another server; a Timeout is
     /// refused with `Exhausted` where the term or the last index is 2^40 - 1; a Restart of one that
     /// is up with `OutOfRange`. A refusal changes nothing and sends nothing. With `NoMemory` the
-    /// server is down, with its stored part as it was and nothing sent. A leader that leads on
-    /// keeps its machine after its whole log.
+    /// server is down, with its stored part as it was and nothing sent; it never comes in place of
+    /// another refusal, but of a frame's. A leader that leads on keeps its machine after its whole
+    /// log.
     pub fn step(&mut self, input: Input, outbox: &mut Frames) -> Result<(), Refusal>
         ensures same { (self.new.me ≡ self.old.me) × (self.new.size ≡ self.old.size) }
         ensures taken { OnOk result ((s : Server M.Command) → Represents M.meaning self.old s →
@@ -394,6 +397,9 @@ impl<M: Machine> Raft<M> {
         ensures refused { IfErr result (λ cause. (s : Server M.Command) →
             Represents M.meaning self.old s →
             IsRefused M.meaning self.old.size self.old.me s (handed input.entry) cause) }
+        ensures unhidden { IfErr result (λ cause. (s : Server M.Command) →
+            Represents M.meaning self.old s →
+            HidesNothing M.meaning self.old.size self.old.me s (handed input.entry) cause) }
         ensures left { IfErr result (λ cause. (s : Server M.Command) →
             Represents M.meaning self.old s →
             RefusalLeaves M.meaning self.old s (handed input.entry) cause self.new) }
@@ -421,6 +427,9 @@ impl<M: Machine> Raft<M> {
         ensures refused { IfErr result (λ cause. (s : Server M.Command) →
             Represents M.meaning self.old s →
             IsRefused M.meaning self.old.size self.old.me s (handed input.entry) cause) }
+        ensures unhidden { IfErr result (λ cause. (s : Server M.Command) →
+            Represents M.meaning self.old s →
+            HidesNothing M.meaning self.old.size self.old.me s (handed input.entry) cause) }
         ensures left { IfErr result (λ cause. (s : Server M.Command) →
             Represents M.meaning self.old s →
             RefusalLeaves M.meaning self.old s (handed input.entry) cause self.new) }

@@ -8,7 +8,7 @@ ghost use Rattle.raft_model.specs.Steps.{step, Propose};
 ghost use Rattle.raft_core.specs.RaftView.{SameServer};
 ghost use Rattle.raft_core.specs.Inputs.{Own};
 ghost use Rattle.raft_core.specs.Steps.{Represents, Takes};
-ghost use Rattle.raft_core.specs.Refusals.{IsRefused, LacksProjection};
+ghost use Rattle.raft_core.specs.Refusals.{HidesNothing, IsRefused, LacksProjection};
 
 use super::Raft;
 use crate::no_projection::NoProjection;
@@ -72,6 +72,9 @@ impl<M: Machine> Raft<M> {
         ensures refused { IfErr result (λ cause.
             IsRefused M.meaning self.old.size self.old.me self.old.server
             (Own (Propose command.now)) cause) }
+        ensures unhidden { IfErr result (λ cause.
+            HidesNothing M.meaning self.old.size self.old.me self.old.server
+            (Own (Propose command.now)) cause) }
     {
         if !self.is_up() {
             return Err(Refusal::Down);
@@ -109,6 +112,9 @@ impl<M: Machine> Raft<M> {
         ensures refused { IfErr result (λ cause. (s : Server M.Command) →
             Represents M.meaning self.old s →
             IsRefused M.meaning self.old.size self.old.me s (Own (Propose command)) cause) }
+        ensures unhidden { IfErr result (λ cause. (s : Server M.Command) →
+            Represents M.meaning self.old s →
+            HidesNothing M.meaning self.old.size self.old.me s (Own (Propose command)) cause) }
         ensures unchanged { OnErr result (SameServer self.old self.new) }
         ensures kept { OnErr result (self.old.projected ≡ true → self.new.projected ≡ true) }
     {

@@ -8,7 +8,7 @@ ghost use Rattle.raft_model.specs.Quorums.{count, is_quorum, marked};
 ghost use Rattle.raft_core.specs.Frames.{Sends};
 ghost use Rattle.raft_core.specs.Inputs.{Own};
 ghost use Rattle.raft_core.specs.Steps.{Steps};
-ghost use Rattle.raft_core.specs.Refusals.{refusal};
+ghost use Rattle.raft_core.specs.Refusals.{refusal, HidesNothing};
 ghost use Rattle.raft_core.specs.Inner.Stops.{Stops};
 ghost use Rattle.raft_core.specs.Inner.Turns.{Turned, Lost, Sent};
 ghost use Rattle.raft_core.specs.RaftView.{KeepsAhead};
@@ -257,6 +257,8 @@ impl<M: Machine> Raft<M> {
         ensures kept { OnOk result (KeepsAhead self.old self.new) }
         ensures stopped { IfErr result (λ cause.
             Stops M.meaning self.old (Own Timeout) cause self.new outbox.old outbox.new) }
+        ensures unhidden { IfErr result (λ cause. HidesNothing M.meaning self.old.size self.old.me
+            self.old.server (Own Timeout) cause) }
     {
         if self.is_leader() {
             return Ok(());
