@@ -1,8 +1,6 @@
 -- Steps of the definitions, by what the rules leave.
-use Rattle.std.proofs.Common.{◌≡◌, ℕ, ◌+◌, ◌^◌, ◌<◌, true, false, nat_lt, Ok, None, List, length, refl, sym, subst, arith}
+use Rattle.std.proofs.Common.{◌≡◌, ℕ, ◌+◌, ◌^◌, ◌<◌, true, false, nat_lt, Ok, List, length, refl, sym, subst, arith}
 use Rattle.std.proofs.lemmas.Bool.{lt-ltb}
-use Rattle.rows.specs.declared.refusal.Refusal.{Refusal}
-use Rattle.rows.specs.declared.refusal.Refusal.TheVariants as refusals
 use Rattle.machine.specs.Meaning.{Meaning}
 use Rattle.wire.specs.Frames.{Frame}
 use Rattle.raft_model.specs.Logs.{MAX}
@@ -10,9 +8,8 @@ use Rattle.raft_model.specs.Messages.{to_others}
 use Rattle.raft_model.specs.Servers.{Server, Turn, is_up, is_leader, silent, stood, vote_request, beats, crashed, restarted, extended}
 use Rattle.raft_model.specs.Steps.{step, Input, Timeout, Beat, Propose, Crash, Restart}
 use Rattle.raft_core.specs.RaftView.{RaftView}
-use Rattle.raft_core.specs.Inputs.{Handed, Bytes, Own}
+use Rattle.raft_core.specs.Inputs.{Bytes, Own}
 use Rattle.raft_core.specs.Steps.{Represents, Steps, Takes}
-use Rattle.raft_core.specs.Refusals.{early_refusal, HidesNothing}
 use Rattle.raft_core.specs.Inner.Turns.{Turned}
 use Rattle.raft_core.specs.Inner.Stops.{TakesFrame}
 use Rattle.raft_core.proofs.Sends.{sends-none}
@@ -54,8 +51,3 @@ module _ {S C : Type 0} (m : Meaning S C) where
 
   pub restart_taken : (n me : ℕ) (s : Server C) → is_up s.mode ≡ false → step m n me s Restart ≡ Ok (silent (restarted s))
   restart_taken n me s down = rw down refl
-
--- nothing is hidden where nothing refuses before memory is taken
-pub hides_nothing : {S C : Type 0} (m : Meaning S C) (n me : ℕ) (s : Server C) (h : Handed C) → early_refusal m n me s h ≡ None → (cause : Refusal) → HidesNothing m n me s h cause
-hides_nothing m n me s h none refusals.NoMemory = none
-hides_nothing m n me s h none cause = tt
