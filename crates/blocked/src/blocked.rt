@@ -92,7 +92,8 @@ impl Blocked {
     }
 
     /// A job's row was made or replaced: its blocked evaluations are put anew, with the classes
-    /// that its groups ask for. Without memory some may be, so that the value is only to be dropped.
+    /// that its groups ask for. Without memory some may be, so that the value is only to be
+    /// dropped.
     pub fn put_job(&mut self, alloc: Global, job: &Job) -> Result<(), NoMemory>
         ensures { OnOk result
             (blocked_of self.new ≡ blocked_with_job job.now (blocked_of self.old)) }

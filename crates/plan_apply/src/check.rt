@@ -1,5 +1,5 @@
 //! Why a plan is refused as a whole, and what is kept of it where it is not.
-ghost use Rattle.std.specs.Prelude.{◌≡◌, ◌⊎◌, ◌≤◌, Ok, Err, IfOk, IfErr, length};
+ghost use Rattle.std.specs.Prelude.{◌≡◌, ◌⊎◌, ◌≤◌, true, Ok, Err, IfOk, IfErr, is_ok, length};
 ghost use Rattle.rows.specs.declared.refusal.Refusal.TheVariants as refusals;
 ghost use Rattle.group_model.specs.Acceptance.{accept, keep, is_eval_of, plan_of_accepted};
 ghost use Rattle.plan_apply.specs.Answers.{kept_by};
@@ -66,7 +66,7 @@ fn keep(alloc: Global, state: &Cluster, job: &Job, plan: &Plan) -> Result<Accept
 /// `SnapshotTooOld` where the plan was made from an older state than the delivery allows;
 /// `UnknownJob` where its job has no row, or no row of its evaluation names the job; `JobChanged`
 /// where it is of another version of the job; `JobStopped` where the job is stopped and the plan
-/// has places; in this order.
+/// has places; in this order, and `NoMemory` only where none of these applies.
 pub fn accept(
     alloc: Global,
     state: &Cluster,
@@ -78,6 +78,9 @@ pub fn accept(
     ensures plan { IfOk result (λ a. a.plan ≡ plan_of_accepted plan.now (kept_by a)) }
     ensures err { let wait = delivery.now.wait in
         IfErr result (λ e. (e ≡ refusals.NoMemory) ⊎ (accept state.now plan.now wait ≡ Err e)) }
+    ensures memory { let wait = delivery.now.wait in
+        IfErr result (λ e. e ≡ refusals.NoMemory
+        → is_ok (accept state.now plan.now wait) ≡ true) }
 {
     if plan.snapshot < delivery.wait {
         return Err(Refusal::SnapshotTooOld);

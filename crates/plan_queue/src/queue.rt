@@ -1,4 +1,4 @@
-ghost use Rattle.std.specs.Prelude.{◌≡◌, ◌<◌, ◌≤◌, [], ◌⊎◌, Some, Ok, Err, OnOk, IfErr, IfSome, IfNone, length};
+ghost use Rattle.std.specs.Prelude.{◌≡◌, ◌<◌, ◌≤◌, [], ◌⊎◌, true, Some, Ok, Err, is_ok, OnOk, IfErr, IfSome, IfNone, length};
 ghost use Rattle.rows.specs.declared.refusal.Refusal.TheVariants as refusals;
 ghost use Rattle.group_model.specs.Queues.{queued_plan, plans_with, first_plan};
 ghost use Rattle.plan_queue.specs.First.{IsFirstAt, IsFirstTaken};
@@ -48,13 +48,15 @@ impl PlanQueue {
     }
 
     /// A plan joins those that wait, with its evaluation's priority and the server that is told
-    /// what becomes of it. `QueueFull` where 256 wait. Refused, it leaves the queue as it was, and
-    /// the plan is let go.
+    /// what becomes of it. `QueueFull` where 256 wait, and `NoMemory` only where fewer do. Refused,
+    /// it leaves the queue as it was, and the plan is let go.
     pub fn push(&mut self, plan: Plan, priority: Priority, from: ServerId) -> Result<(), Refusal>
         ensures ok { OnOk result
             (plans_with (queued_plan plan priority from) self.old ≡ Ok self.new) }
         ensures err { let joins = plans_with (queued_plan plan priority from) self.old in
             IfErr result (λ e. (e ≡ refusals.NoMemory) ⊎ (joins ≡ Err e)) }
+        ensures memory { let joins = plans_with (queued_plan plan priority from) self.old in
+            IfErr result (λ e. e ≡ refusals.NoMemory → is_ok joins ≡ true) }
         ensures left { IfErr result (λ e. self.new ≡ self.old) }
     {
         if self.plans.len() >= PlanQueue::MOST {
