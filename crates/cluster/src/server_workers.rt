@@ -11,7 +11,7 @@ use rows::{
     EvalId, Index, LeaderTerm, NoMemory, Sequence, Serial, ServerId, Token, Work, WorkerRequest,
     WorkerResponse,
 };
-use scheduler::{Step, next_step};
+use scheduler::{WorkerStep, next_step};
 use server::ServerInput;
 use std::alloc::Global;
 use std::collections::BTreeMap;
@@ -68,7 +68,7 @@ pub struct TakenWork {
 impl TakenWork {
     /// What a worker does next with it, at its server's state of this index: `next_step`.
     /// `NoMemory` where there is no memory for a plan.
-    pub fn next(&self, alloc: Global, state: &Cluster, index: Index) -> Result<Step, NoMemory>
+    pub fn next(&self, alloc: Global, state: &Cluster, index: Index) -> Result<WorkerStep, NoMemory>
         ensures { IfOk result (λ step.
             IsNextStep state.now index self.now.work.response self.now.plans (step_as step)) }
     {
@@ -152,17 +152,17 @@ impl ServerWorkers {
     /// A worker goes on with what it took up. A plan that it submits is counted under its delivery.
     /// - `handled`: what needs a later state waits, and what a worker asks of a server is the input
     ///   by which that is asked of the one that sent the work.
-    pub fn go_on(&mut self, taken: TakenWork, step: Step) -> Result<Handled, NoMemory>
+    pub fn go_on(&mut self, taken: TakenWork, step: WorkerStep) -> Result<Handled, NoMemory>
         ensures handled { IfOk result (HandledAs taken.work.from (step_as step)) }
     {
         let TakenWork { work, plans: _ } = taken;
         match step {
-            Step::Later => {
+            WorkerStep::Later => {
                 self.waiting.put_back(work)?;
                 Ok(Handled::Waits)
             }
-            Step::Drop => Ok(Handled::Dropped),
-            Step::Ask(request) => {
+            WorkerStep::Drop => Ok(Handled::Dropped),
+            WorkerStep::Ask(request) => {
                 self.count(&request)?;
                 Ok(Handled::Asks(asking(work.from, request)))
             }

@@ -7,13 +7,13 @@ mod laws;
 mod load;
 mod missing;
 mod planning;
-mod step;
 mod stepping;
 mod wanted;
 mod worker_plan;
+mod worker_step;
 
 pub use laws::plans_are_determined;
 pub use planning::plan;
-pub use step::Step;
 pub use stepping::next_step;
 pub use worker_plan::WorkerPlan;
+pub use worker_step::WorkerStep;

@@ -1,13 +1,13 @@
 //! What a worker does next.
-ghost use Rattle.std.specs.Prelude.{◌≡◌, IfOk};
+ghost use Rattle.std.specs.Prelude.{◌≡◌, true, nat_lt, IfOk, OnErr};
 ghost use Rattle.group_model.specs.NextStep.{gives_back, after_refusal, has_changes};
 ghost use Rattle.group_model.specs.NextStep.{outcome_of, after_plan};
 ghost use Rattle.group_model.specs.NextStep.{IsStepWith, IsStepOn, IsNextStep};
-ghost use Rattle.scheduler.specs.Steps.{step_as};
+ghost use Rattle.scheduler.specs.Steps.{step_as, plans_on, makes_plan};
 
 use crate::planning::plan;
-use crate::step::Step;
 use crate::worker_plan::WorkerPlan;
+use crate::worker_step::WorkerStep;
 use fsm_state::Cluster;
 use rows::{
     AskedRequest, Delivery, EvalOutcome, Evaluation, Index, NoMemory, Plan, Reason, WorkerRequest,
@@ -33,14 +33,14 @@ fn gives_back(reason: &Reason) -> bool
 }
 
 /// What a worker does after a refusal.
-fn after_refusal(asked: &AskedRequest, reason: &Reason) -> Step
+fn after_refusal(asked: &AskedRequest, reason: &Reason) -> WorkerStep
     ensures { step_as result ≡ after_refusal asked.now reason.now }
 {
     match asked {
         AskedRequest::Submit(eval, token) if gives_back(reason) => {
-            Step::Ask(WorkerRequest::Nack(*eval, *token))
+            WorkerStep::Ask(WorkerRequest::Nack(*eval, *token))
         }
-        _ => Step::Drop,
+        _ => WorkerStep::Drop,
     }
 }
 
@@ -65,14 +65,14 @@ fn outcome_of(plan: &WorkerPlan) -> EvalOutcome
 }
 
 /// What a plan comes to: it is submitted where something stops or is placed; else the work is over.
-fn after_plan(delivery: &Delivery, eval: &Evaluation, plan: WorkerPlan) -> Step
+fn after_plan(delivery: &Delivery, eval: &Evaluation, plan: WorkerPlan) -> WorkerStep
     ensures { step_as result ≡ after_plan delivery.now eval.now plan }
 {
     if !has_changes(&plan) {
         let outcome = outcome_of(&plan);
-        return Step::Ask(WorkerRequest::Finish(delivery.eval, delivery.token, outcome));
+        return WorkerStep::Ask(WorkerRequest::Finish(delivery.eval, delivery.token, outcome));
     }
-    Step::Ask(WorkerRequest::Submit(Plan {
+    WorkerStep::Ask(WorkerRequest::Submit(Plan {
         eval: delivery.eval,
         token: delivery.token,
         job: eval.job,
@@ -91,12 +91,13 @@ fn step_with(
     plans: u64,
     delivery: &Delivery,
     eval: &Evaluation,
-) -> Result<Step, NoMemory>
-    ensures { let d = delivery.now in
+) -> Result<WorkerStep, NoMemory>
+    ensures ok { let d = delivery.now in
         IfOk result (λ step. IsStepWith state.now index plans d eval.now (step_as step)) }
+    ensures memory { OnErr result (nat_lt plans MOST_PLANS ≡ true) }
 {
     if plans >= MOST_PLANS {
-        return Ok(Step::Ask(WorkerRequest::Nack(delivery.eval, delivery.token)));
+        return Ok(WorkerStep::Ask(WorkerRequest::Nack(delivery.eval, delivery.token)));
     }
     let plan = plan(alloc, state, eval, index)?;
     Ok(after_plan(delivery, eval, plan))
@@ -109,15 +110,16 @@ fn step_on(
     index: Index,
     plans: u64,
     delivery: &Delivery,
-) -> Result<Step, NoMemory>
-    ensures { IfOk result (λ step. IsStepOn state.now index plans delivery.now (step_as step)) }
+) -> Result<WorkerStep, NoMemory>
+    ensures ok { IfOk result (λ step. IsStepOn state.now index plans delivery.now (step_as step)) }
+    ensures memory { OnErr result (plans_on state.now index plans delivery.now ≡ true) }
 {
     if index < delivery.wait {
-        return Ok(Step::Later);
+        return Ok(WorkerStep::Later);
     }
     match state.eval(delivery.eval) {
         Some(eval) => step_with(alloc, state, index, plans, delivery, eval),
-        None => Ok(Step::Drop),
+        None => Ok(WorkerStep::Drop),
     }
 }
 
@@ -131,19 +133,21 @@ fn step_on(
 ///
 /// A submit that was refused for too old a snapshot, for its job that is changed, unknown or
 /// stopped, or for a full queue gives a `Nack`, and any other refusal `Drop`; neither the index nor
-/// the evaluation's row is asked for then. `NoMemory` where there is no memory for a plan. (Nomad
-/// documentation, "Scheduling in Nomad".)
+/// the evaluation's row is asked for then. `NoMemory` where there is no memory for a plan, and never
+/// where none is made. (Nomad documentation, "Scheduling in Nomad".)
 pub fn next_step(
     alloc: Global,
     state: &Cluster,
     index: Index,
     response: &WorkerResponse,
     plans: u64,
-) -> Result<Step, NoMemory>
-    ensures { IfOk result (λ step. IsNextStep state.now index response.now plans (step_as step)) }
+) -> Result<WorkerStep, NoMemory>
+    ensures ok { IfOk result
+        (λ step. IsNextStep state.now index response.now plans (step_as step)) }
+    ensures memory { OnErr result (makes_plan state.now index response.now plans ≡ true) }
 {
     match response {
-        WorkerResponse::Delivered(None) => Ok(Step::Drop),
+        WorkerResponse::Delivered(None) => Ok(WorkerStep::Drop),
         WorkerResponse::Delivered(Some(delivery)) => step_on(alloc, state, index, plans, delivery),
         WorkerResponse::PlanResult(result) => {
             let delivery = Delivery {

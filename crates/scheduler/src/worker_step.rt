@@ -2,7 +2,7 @@ use rows::WorkerRequest;
 
 /// What a worker does next.
 #[derive(Drop)]
-pub enum Step {
+pub enum WorkerStep {
     /// It waits for a newer state.
     Later,
     /// Nothing.

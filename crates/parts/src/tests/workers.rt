@@ -8,7 +8,7 @@ use rows::{
     PlanResult, Reason, Refusal, RisingNodes, Sequence, Serial, Token, WorkerRequest,
     WorkerResponse,
 };
-use scheduler::{Step, next_step, plan};
+use scheduler::{WorkerStep, next_step, plan};
 use std::alloc::Global;
 
 // `plans EVAL INDEX : planned STOPS PLACES VERSION SNAPSHOT ALL`: the plan for an evaluation from
@@ -269,11 +269,11 @@ fn put_asked(out: &mut Vec<u8>, request: &WorkerRequest) -> Result<(), NoMemory>
 }
 
 // A step as a line of its kind.
-fn put_step(out: &mut Vec<u8>, step: &Step) -> Result<(), NoMemory> {
+fn put_step(out: &mut Vec<u8>, step: &WorkerStep) -> Result<(), NoMemory> {
     match step {
-        Step::Later => write(&90u8, out),
-        Step::Drop => write(&91u8, out),
-        Step::Ask(request) => put_asked(out, request),
+        WorkerStep::Later => write(&90u8, out),
+        WorkerStep::Drop => write(&91u8, out),
+        WorkerStep::Ask(request) => put_asked(out, request),
     }
 }
 
