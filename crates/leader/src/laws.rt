@@ -4,8 +4,8 @@ ghost use Rattle.leader.specs.GroupActs.{LapsesByLapse, PlanTurnsByVerdict, Free
 ghost use Rattle.leader.specs.GroupActs.{HeartbeatsByBeat, ExpiresByExpire, DrainsByDrainTurn};
 ghost use Rattle.leader.specs.Staying.{OpensOver, DeliverStays, AckStays, NackStays, LapseStays, SubmitStays, PlanTurnStays, BeatStays};
 
-/// What a server of the group makes of a request of a worker, of a client's heartbeat, or of a turn,
-/// at an open desk is told by the answer of the desk's call.
+/// What a server of the group makes of a request of a worker, of a client's heartbeat, or of a
+/// turn, at an open desk is told by the answer of the desk's call.
 /// - `take`: by `deliver`, in the leader's term and for its last index.
 /// - `submit`, `finish`, `nack`: by `submit` on the applied state, `ack` and `nack`.
 /// - `heartbeat`: by `beat`.
