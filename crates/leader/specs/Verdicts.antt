@@ -1,8 +1,8 @@
 -- What becomes of the plan whose turn it is.
-use Rattle.std.specs.Prelude.{◌≡◌, ℕ, Option, Some, None, Result, Ok, Err, IfOk}
+use Rattle.std.specs.Prelude.{◌≡◌, ℕ, Bool, Option, Some, None, Result, Ok, Err, is_ok, IfOk}
 use Rattle.rows.specs.declared.plan.Plan.{Plan}
 use Rattle.rows.specs.declared.refusal.Refusal.{Refusal}
-use Rattle.cluster_model.specs.Words.{State}
+use Rattle.cluster_model.specs.Words.{State, is_some_and}
 use Rattle.group_model.specs.Order.{Picked}
 use Rattle.group_model.specs.Brokers.{Broker, outstanding}
 use Rattle.group_model.specs.Acceptance.{Accepted, accept, plan_of_accepted}
@@ -47,3 +47,10 @@ once_picked whole o (Some p) = (
 
 abbrev pub on_plan_turn : State → OpenDesk → Answered (Option Judged)
 on_plan_turn whole o = Ok (once_picked whole o (first_plan o.desk.plans))
+
+-- A plan waits, and the one that goes first passes: its pair is outstanding, and the check refuses
+-- it for nothing.
+abbrev pub first_passes : State → OpenDesk → Bool
+first_passes whole o =
+    is_some_and (λ (p : Picked QueuedPlan). is_ok (verdict whole o.desk.broker p.one.plan))
+    (first_plan o.desk.plans)

@@ -1,10 +1,11 @@
-ghost use Rattle.std.specs.Prelude.{◌≡◌, ◌⊎◌, true, None, is_some, option_map, OnOk, OnErr, IfOk, IfErr, IfSome, Ok, Err};
+ghost use Rattle.std.specs.Prelude.{◌≡◌, ◌⊎◌, true, None, is_some, is_ok, option_map, OnOk, OnErr, IfOk, IfErr, IfSome, Ok, Err};
 ghost use Rattle.rows.specs.Keys.{eval_id};
-ghost use Rattle.cluster_model.specs.Words.{State};
+ghost use Rattle.rows.specs.declared.refusal.Refusal.TheVariants as refusals;
+ghost use Rattle.cluster_model.specs.Words.{State, is_some_and};
 ghost use Rattle.group_model.specs.Blocked.{first_due};
 ghost use Rattle.leader.specs.Staying.{FollowsIfOpen};
 ghost use Rattle.leader.specs.Errors.{desk_refusal};
-ghost use Rattle.leader.specs.Verdicts.{judged_by, IsProposal, on_plan_turn};
+ghost use Rattle.leader.specs.Verdicts.{judged_by, IsProposal, on_plan_turn, first_passes};
 ghost use Rattle.leader.specs.OpenDesks.{IsOpenedBy, IsOverBlocked, LacksMemory, if_open, at_open, on_deliver, on_outstanding, on_ack, on_nack, on_lapse, on_submit, on_free_turn, on_reap, on_beat, on_expire, on_drain_turn};
 
 use crate::desk_error::DeskError;
@@ -158,12 +159,15 @@ impl Desk {
 
     /// A worker of the server `from` submits a plan, which waits for a turn; its priority is that
     /// of its evaluation in the applied state. `NotOutstanding` where the evaluation has no row
-    /// there, `QueueFull` where 256 plans wait. Refused it changes nothing, and the plan is let go.
+    /// there, `QueueFull` where 256 plans wait, and `NoMemory` only where neither applies. Refused
+    /// it changes nothing, and the plan is let go.
     pub fn submit(&mut self, from: ServerId, plan: Plan, applied: &Cluster) -> Result<(), Refusal>
         ensures ok { let call = on_submit from applied.now plan in
             IfOk result (λ u. at_open call self.old ≡ Ok (u, self.new)) }
         ensures err { let call = on_submit from applied.now plan in
             IfErr result (λ e. LacksMemory self.old e ⊎ (at_open call self.old ≡ Err e)) }
+        ensures memory { let call = on_submit from applied.now plan in
+            IfErr result (λ e. e ≡ refusals.NoMemory → is_ok (at_open call self.old) ≡ true) }
         ensures left { OnErr result (self.new ≡ self.old) }
     {
         match &mut self.opened {
@@ -175,13 +179,16 @@ impl Desk {
     /// The plan of the highest priority, of equals the one that came earlier, leaves the queue,
     /// whatever becomes of it; none where none waits. It is held against `whole`, the state after
     /// the whole log: its pair must be outstanding, and then what is kept of it, or the reason why
-    /// none is, is told. Without memory the desk is only to be dropped or cleared.
+    /// none is, is told. `NoMemory` only where that plan passes; then the desk is only to be
+    /// dropped or cleared.
     pub fn plan_turn(&mut self, whole: &Cluster) -> Result<Option<JudgedPlan>, Refusal>
         ensures turn { let turn = at_open (on_plan_turn whole.now) self.old in
             IfOk result (λ j. turn ≡ Ok (option_map judged_by j, self.new)) }
         ensures proposal { IfOk result (λ j. IfSome j IsProposal) }
         ensures err { let turn = at_open (on_plan_turn whole.now) self.old in
             IfErr result (λ e. LacksMemory self.old e ⊎ ((turn ≡ Err e) × (self.new ≡ self.old))) }
+        ensures memory { IfErr result (λ e. e ≡ refusals.NoMemory →
+            is_some_and (first_passes whole.now) self.old ≡ true) }
     {
         match &mut self.opened {
             Some(desk) => Ok(desk.plan_turn(self.alloc, whole)?),

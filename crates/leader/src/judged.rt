@@ -1,5 +1,5 @@
 //! What becomes of a plan whose turn it is.
-ghost use Rattle.std.specs.Prelude.{◌≡◌, ◌⊎◌, IfOk, IfErr, Ok, Err};
+ghost use Rattle.std.specs.Prelude.{◌≡◌, ◌⊎◌, true, IfOk, IfErr, Ok, Err, is_ok};
 ghost use Rattle.rows.specs.declared.refusal.Refusal.TheVariants as refusals;
 ghost use Rattle.group_model.specs.Acceptance.{plan_of_accepted};
 ghost use Rattle.plan_apply.specs.Answers.{kept_by};
@@ -37,6 +37,8 @@ pub(crate) fn judge(
     ensures plan { IfOk result (λ a. a.plan ≡ plan_of_accepted plan.now (kept_by a)) }
     ensures err { let judged = verdict whole.now broker.now plan.now in
         IfErr result (λ e. (e ≡ refusals.NoMemory) ⊎ (judged ≡ Err e)) }
+    ensures memory { let judged = verdict whole.now broker.now plan.now in
+        IfErr result (λ e. e ≡ refusals.NoMemory → is_ok judged ≡ true) }
 {
     let wait = broker.check(plan.eval, plan.token)?;
     let delivery = Delivery {

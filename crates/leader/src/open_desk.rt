@@ -1,9 +1,9 @@
 //! An open desk.
-ghost use Rattle.std.specs.Prelude.{◌≡◌, ◌⊎◌, option_map, OnOk, OnErr, IfOk, IfErr, IfSome, Ok, Err};
+ghost use Rattle.std.specs.Prelude.{◌≡◌, ◌⊎◌, true, option_map, is_ok, OnOk, OnErr, IfOk, IfErr, IfSome, Ok, Err};
 ghost use Rattle.rows.specs.declared.refusal.Refusal.TheVariants as refusals;
 ghost use Rattle.leader.specs.Staying.{Follows};
 ghost use Rattle.leader.specs.Errors.{desk_refusal};
-ghost use Rattle.leader.specs.Verdicts.{judged_by, IsProposal, on_plan_turn};
+ghost use Rattle.leader.specs.Verdicts.{judged_by, IsProposal, on_plan_turn, first_passes};
 ghost use Rattle.leader.specs.OpenDesks.{IsOpened, on_deliver, on_outstanding, on_ack, on_nack, on_lapse, on_submit, on_free_turn, on_reap, on_beat, on_expire};
 
 use crate::desk_error::DeskError;
@@ -131,6 +131,8 @@ impl OpenDesk {
             IfOk result (λ u. call self.old ≡ Ok (u, self.new)) }
         ensures err { let call = on_submit from applied.now plan in
             IfErr result (λ e. (e ≡ refusals.NoMemory) ⊎ (call self.old ≡ Err e)) }
+        ensures memory { let call = on_submit from applied.now plan in
+            IfErr result (λ e. e ≡ refusals.NoMemory → is_ok (call self.old) ≡ true) }
         ensures left { OnErr result (self.new ≡ self.old) }
     {
         let Some(row) = applied.eval(plan.eval) else {
@@ -182,6 +184,7 @@ impl OpenDesk {
         ensures turn { let turn = on_plan_turn whole.now self.old in
             IfOk result (λ j. turn ≡ Ok (option_map judged_by j, self.new)) }
         ensures proposal { IfOk result (λ j. IfSome j IsProposal) }
+        ensures memory { OnErr result (first_passes whole.now self.old ≡ true) }
     {
         let Some(queued) = self.plans.pop() else {
             return Ok(None);
