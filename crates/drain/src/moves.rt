@@ -1,4 +1,4 @@
-ghost use Rattle.std.specs.Prelude.{◌≡◌, ◌⊎◌, [], Ok, Err, IfOk, IfErr, filter, map, not, take};
+ghost use Rattle.std.specs.Prelude.{◌≡◌, ◌⊎◌, [], true, Ok, Err, is_ok, IfOk, IfErr, filter, map, not, take};
 ghost use Rattle.rows.specs.declared.refusal.Refusal.TheVariants as refusals;
 ghost use Rattle.rows.specs.declared.node.DrainMode.TheVariants as drains;
 ghost use Rattle.group_model.specs.Drains.{is_done, next_moves, moves_of};
@@ -92,8 +92,9 @@ fn one_by_one(alloc: Global, state: &Cluster, node: NodeId) -> Result<Sequence<A
 /// The next moves off a node that is drained, at most 64, in rising id: with force its live
 /// allocations that are not on the move; without force, of each job and group of which no live
 /// allocation is on the move on any node, the one of the least id. `UnknownNode` where there is no
-/// such node, `NotDraining` where it is not drained. It takes time of the node's live allocations
-/// and of those of their jobs. (Nomad documentation, "node drain" command.)
+/// such node, `NotDraining` where it is not drained, and `NoMemory` only where neither applies. It
+/// takes time of the node's live allocations and of those of their jobs. (Nomad documentation,
+/// "node drain" command.)
 pub fn next_moves(
     alloc: Global,
     state: &Cluster,
@@ -102,6 +103,8 @@ pub fn next_moves(
     ensures ok { IfOk result (λ ids. next_moves state.now node ≡ Ok ids) }
     ensures err { let moves = next_moves state.now node in
         IfErr result (λ e. (e ≡ refusals.NoMemory) ⊎ (moves ≡ Err e)) }
+    ensures memory { let moves = next_moves state.now node in
+        IfErr result (λ e. e ≡ refusals.NoMemory → is_ok moves ≡ true) }
 {
     let Some(row) = state.node(node) else {
         return Err(Refusal::UnknownNode);

@@ -256,12 +256,14 @@ impl Desk {
     /// What is proposed at a turn of a node's drain by `whole`, the state after the whole log:
     /// `DrainDone` where nothing lives on the node, else `Migrate` of the allocations that move
     /// next; none where there is nothing to do. `UnknownNode` where there is no such node,
-    /// `NotDraining` where it is not drained. It changes nothing. (Nomad documentation, "node
-    /// drain" command.)
+    /// `NotDraining` where it is not drained, and `NoMemory` only where neither applies. It changes
+    /// nothing. (Nomad documentation, "node drain" command.)
     pub fn drain_turn(&self, node: NodeId, whole: &Cluster) -> Result<Option<Command>, Refusal>
         ensures ok { IfOk result (λ c. if_open (on_drain_turn node whole.now) self.now ≡ Ok c) }
         ensures err { let call = on_drain_turn node whole.now in
             IfErr result (λ e. LacksMemory self.now e ⊎ (if_open call self.now ≡ Err e)) }
+        ensures memory { let call = on_drain_turn node whole.now in
+            IfErr result (λ e. e ≡ refusals.NoMemory → is_ok (if_open call self.now) ≡ true) }
     {
         match &self.opened {
             Some(_) => drain_command(self.alloc, whole, node),

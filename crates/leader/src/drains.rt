@@ -1,5 +1,5 @@
 //! What is proposed of a node's drain.
-ghost use Rattle.std.specs.Prelude.{◌≡◌, ◌≤◌, ◌⊎◌, [], true, length, IfOk, IfErr, Ok, Err};
+ghost use Rattle.std.specs.Prelude.{◌≡◌, ◌≤◌, ◌⊎◌, [], true, length, is_ok, IfOk, IfErr, Ok, Err};
 ghost use Rattle.rows.specs.declared.refusal.Refusal.TheVariants as refusals;
 ghost use Rattle.rows.specs.Ids.{id_rises};
 ghost use Rattle.rows.specs.Rising.{keeps};
@@ -33,6 +33,8 @@ pub(crate) fn drain_command(
     ensures ok { IfOk result (λ c. drain_command whole.now node ≡ Ok c) }
     ensures err { let command = drain_command whole.now node in
         IfErr result (λ e. (e ≡ refusals.NoMemory) ⊎ (command ≡ Err e)) }
+    ensures memory { let command = drain_command whole.now node in
+        IfErr result (λ e. e ≡ refusals.NoMemory → is_ok command ≡ true) }
 {
     whole.alloc_table().ranges();
     let ids = next_moves(alloc, whole, node)?;
