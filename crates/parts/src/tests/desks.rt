@@ -58,8 +58,8 @@ queue";
 pub(crate) const PLAYS: &[&[&str]] = &[&[TWO_JOBS], &[NO_ROOM], &[DRAINED]];
 
 /// Whether what the words say of a desk's part over the state holds, behind the word of this
-/// letter. `broker`, `blocked`, `heartbeats`, `queue`: the worked rows. `moves NODE IDS`: these move
-/// next, or the refusal has this number.
+/// letter. `broker`, `blocked`, `heartbeats`, `queue`: the worked rows. `moves NODE IDS`: these
+/// move next, or the refusal has this number.
 pub(crate) fn holds(state: &Cluster, alloc: Global, verb: char, words: &str) -> bool {
     match verb {
         'B' => gives_out(state, alloc),
@@ -279,8 +279,8 @@ fn goes(queue: &mut PlanQueue, from: u8) -> bool {
     }
 }
 
-// Plans of priority 50, 70 and 70: the second goes, then the third, then the first. And the look-ups
-// that a plan's check will want.
+// Plans of priority 50, 70 and 70: the second goes, then the third, then the first. And the
+// look-ups that a plan's check will want.
 fn queues(state: &Cluster, alloc: Global) -> bool {
     let mut queue = PlanQueue::new(alloc);
     let (Some(node), Ok(job)) = (NodeId::from_number(1), JobName::read("web")) else {

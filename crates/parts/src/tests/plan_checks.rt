@@ -34,7 +34,8 @@ take plan 6.0 1.2 api 6 - main:0:2:401:100
 accept 7 offer 4.0 1.1 web 4 7 5.0 main:0:2 = kept 4.0 1.1 web 7 5.0 - 2";
 
 // Jobs web and api, whose evaluations are 5.0 and 6.0; 7.0 lives on node 1 as main[0] of web, 8.0
-// on node 2 as main[0] of api. Of node 1 400 and 700 are left, of node 2 600 and 900, of node 4 all.
+// on node 2 as main[0] of api. Of node 1 400 and 700 are left, of node 2 600 and 900, of node 4
+// all.
 const BASE: &str = "\
 take noop
 take join 1 linux 1000 1000

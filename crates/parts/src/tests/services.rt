@@ -1,5 +1,5 @@
-//! Messages of workers, the leader's desk and agents: the bytes of a value of each kind, put together
-//! by hand from the format, and where other bytes are at fault.
+//! Messages of workers, the leader's desk and agents: the bytes of a value of each kind, put
+//! together by hand from the format, and where other bytes are at fault.
 use crate::tests::lines::put_many;
 use crate::tests::texts::NONE;
 use machine::Tally;
@@ -724,7 +724,8 @@ fn fault_of_end(alloc: Global, frame: &[u8], end: usize) -> usize {
     }
 }
 
-/// Whether each cut of the body is at fault at the field that it cuts, and one byte more at the end.
+/// Whether each cut of the body is at fault at the field that it cuts, and one byte more at the
+/// end.
 fn are_ends_at_fault(alloc: Global, row: &Row) -> bool {
     let (_, _, frame, starts) = *row;
     for end in 8..frame.len() {

@@ -1,6 +1,7 @@
-//! Groups on threads: while one worker is held at the gate, others plan and their plans are applied;
-//! and while one server's cell is held, others take their turns. Each gives up after so many turns
-//! of waiting. What has to come of it is worked out by hand from Raft and from Nomad's scheduling.
+//! Groups on threads: while one worker is held at the gate, others plan and their plans are
+//! applied; and while one server's cell is held, others take their turns. Each gives up after so
+//! many turns of waiting. What has to come of it is worked out by hand from Raft and from Nomad's
+//! scheduling.
 ghost use Rattle.std.specs.Prelude.{◌≡◌};
 
 use crate::tests::cells::{actor, nodes, opened};
