@@ -4,7 +4,7 @@ use Rattle.std.specs.List.{list_any}
 use Rattle.std.proofs.lemmas.List.Folds.{list_any-append}
 use Rattle.rows.specs.declared.allocation.AllocId.{AllocId}
 use Rattle.cluster_model.specs.Words.{same_alloc}
-use Rattle.client_agent.specs.Capacity.{are_distinct, AreDistinct}
+use Rattle.client_agent.specs.Capacity.{have_distinct_ids, AreDistinct}
 
 pub turned : (a b : AllocId) → same_alloc a b ≡ same_alloc b a
 turned a b = grind arith
@@ -43,9 +43,9 @@ pub distinct_push : (ids : List AllocId) (id : AllocId) → AreDistinct ids → 
 distinct_push [] id d new = refl
 distinct_push (x ∷ xs) id d new =
     let apart : same_alloc x id ≡ false = turned x id ∙ none_of (same_alloc id x) (list_any (same_alloc id) xs) new in
-    let others : list_any (same_alloc x) xs ≡ false = off (list_any (same_alloc x) xs) (first_of (not (list_any (same_alloc x) xs)) (are_distinct xs) d) in
-    let rest = distinct_push xs id (second_of (not (list_any (same_alloc x) xs)) (are_distinct xs) d) (nor_of (same_alloc id x) (list_any (same_alloc id) xs) new) in
-    ap (λ b. not b && are_distinct (xs ++ id ∷ [])) (list_any-append (same_alloc x) xs (id ∷ []) ∙ (λ i. others i || (apart i || false)))
+    let others : list_any (same_alloc x) xs ≡ false = off (list_any (same_alloc x) xs) (first_of (not (list_any (same_alloc x) xs)) (have_distinct_ids xs) d) in
+    let rest = distinct_push xs id (second_of (not (list_any (same_alloc x) xs)) (have_distinct_ids xs) d) (nor_of (same_alloc id x) (list_any (same_alloc id) xs) new) in
+    ap (λ b. not b && have_distinct_ids (xs ++ id ∷ [])) (list_any-append (same_alloc x) xs (id ∷ []) ∙ (λ i. others i || (apart i || false)))
     ∙ rest
 
 -- the last one stands nowhere else
@@ -53,15 +53,15 @@ pub last_alone : (ids : List AllocId) (id : AllocId) → AreDistinct (ids ++ id 
 last_alone [] id d = refl
 last_alone (x ∷ xs) id d =
     let all = list_any (same_alloc x) (xs ++ id ∷ []) in
-    let none = off all (first_of (not all) (are_distinct (xs ++ id ∷ [])) d) in
+    let none = off all (first_of (not all) (have_distinct_ids (xs ++ id ∷ [])) d) in
     let ends = nor_of (list_any (same_alloc x) xs) (same_alloc x id || false) (sym (list_any-append (same_alloc x) xs (id ∷ [])) ∙ none) in
     let apart : same_alloc id x ≡ false = turned id x ∙ none_of (same_alloc x id) false ends in
-    (λ i. apart i || last_alone xs id (second_of (not all) (are_distinct (xs ++ id ∷ [])) d) i)
+    (λ i. apart i || last_alone xs id (second_of (not all) (have_distinct_ids (xs ++ id ∷ [])) d) i)
 
 pub all_but_last : (ids : List AllocId) (id : AllocId) → AreDistinct (ids ++ id ∷ []) → AreDistinct ids
 all_but_last [] id d = refl
 all_but_last (x ∷ xs) id d =
     let all = list_any (same_alloc x) (xs ++ id ∷ []) in
-    let none = off all (first_of (not all) (are_distinct (xs ++ id ∷ [])) d) in
+    let none = off all (first_of (not all) (have_distinct_ids (xs ++ id ∷ [])) d) in
     let front = none_of (list_any (same_alloc x) xs) (same_alloc x id || false) (sym (list_any-append (same_alloc x) xs (id ∷ [])) ∙ none) in
-    (λ i. not (front i) && all_but_last xs id (second_of (not all) (are_distinct (xs ++ id ∷ [])) d) i)
+    (λ i. not (front i) && all_but_last xs id (second_of (not all) (have_distinct_ids (xs ++ id ∷ [])) d) i)

@@ -11,10 +11,10 @@ pub record FitTogether (whole : Size) (running : List Running) : Type 0 where
   pub cpu : sum_by (λ (r : Running). r.size.cpu) running ≤ whole.cpu
   pub mem : sum_by (λ (r : Running). r.size.mem) running ≤ whole.mem
 
-abbrev pub are_distinct : List AllocId → Bool
-are_distinct [] = true
-are_distinct (id ∷ ids) = not (list_any (same_alloc id) ids) && are_distinct ids
+abbrev pub have_distinct_ids : List AllocId → Bool
+have_distinct_ids [] = true
+have_distinct_ids (id ∷ ids) = not (list_any (same_alloc id) ids) && have_distinct_ids ids
 
 -- no id stands there twice
 abbrev pub AreDistinct : List AllocId → Type 0
-AreDistinct ids = are_distinct ids ≡ true
+AreDistinct ids = have_distinct_ids ids ≡ true

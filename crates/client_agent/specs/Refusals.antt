@@ -22,12 +22,18 @@ abbrev pub is_client_at : ℕ → Actor → Bool
 is_client_at me (Server place) = false
 is_client_at me (ClientActor client) = client == me
 
+-- where a message is at fault that no server of the group sent: at its sender, if that is a server
+-- of another group; at its receiver, if a client sent it, since a client sends only to servers
+abbrev pub stranger_fault : Actor → ℕ
+stranger_fault (Server place) = 2
+stranger_fault (ClientActor client) = 3
+
 -- a message must come from a server of the group of n, and be for this client
 abbrev pub misdirected_to_client : ℕ → ℕ → Actor → Actor → Option Refusal
 misdirected_to_client n me from to =
     if is_server_of n from
     then (if is_client_at me to then None else Some (refusals.Frame 3))
-    else Some (refusals.Frame 2)
+    else Some (refusals.Frame (stranger_fault from))
 
 -- a message that was read, or the place of a frame's first fault
 abbrev pub unreadable_to_client : {S C : Type 0} → ℕ → ℕ → Result (WireMessage S C) ℕ → Option Refusal

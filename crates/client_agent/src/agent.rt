@@ -125,7 +125,7 @@ impl Agent {
     }
 
     /// Whether a message comes from a server of the group, which is answered, and is for this
-    /// client; else the refusal names the address at fault.
+    /// client; else the refusal names the address at fault: a client's message is for a server.
     fn sender(&self, from: Actor, to: Actor) -> Result<ServerId, Refusal>
         ensures sender { IfOk result (λ server. from ≡ actors.Server server) }
         ensures receiver { OnOk result (to ≡ actors.Client self.now.client.node.number) }
@@ -135,7 +135,7 @@ impl Agent {
             misdirected_to_client self.now.size self.now.client.node.number from to ≡ Some cause) }
     {
         let Actor::Server(from) = from else {
-            return Err(Refusal::Frame(2));
+            return Err(Refusal::Frame(3));
         };
         if from.place() >= self.size {
             return Err(Refusal::Frame(2));
@@ -227,8 +227,9 @@ impl Agent {
     /// A frame comes, all of its bytes: what a step with it is.
     ///
     /// One that is down refuses it with `Down`. Then `Frame` names the offset of its first fault,
-    /// or 2 where its sender is no server of the group, or 3 where it is not for this client. A
-    /// refusal changes nothing and sends nothing. With `NoMemory` the client is down.
+    /// or 2 where its sender is a server outside the group, or 3 where it is for another, as each
+    /// is that a client sends. A refusal changes nothing and sends nothing. With `NoMemory` the
+    /// client is down.
     pub fn receive(&mut self, frame: &[u8], outbox: &mut Frames) -> Result<(), Refusal>
         ensures same { self.new.size ≡ self.old.size }
         ensures taken { OnOk result
@@ -315,12 +316,12 @@ impl Agent {
     /// behind those in the outbox.
     ///
     /// One that is down refuses every input but Restart with `Down`. Then of a frame `Frame` names
-    /// the offset of its first fault, or 2 where its sender is no server of the group, or 3 where
-    /// it is not for this client; a Register, a Ping or a Pull is refused with `OutOfRange` where
-    /// the group has no such server, and so is a Restart of one that is up; an End is refused with
-    /// `UnknownAlloc` where no such allocation runs. A refusal changes nothing and sends nothing.
-    /// With `NoMemory` the client is down, with what it ever started as it was; a Crash and a
-    /// Restart take none.
+    /// the offset of its first fault, or 2 where its sender is a server outside the group, or 3
+    /// where it is for another, as each is that a client sends; a Register, a Ping or a Pull is
+    /// refused with `OutOfRange` where the group has no such server, and so is a Restart of one
+    /// that is up; an End is refused with `UnknownAlloc` where no such allocation runs. A refusal
+    /// changes nothing and sends nothing. With `NoMemory` the client is down, with what it ever
+    /// started as it was; a Crash and a Restart take none.
     #[tactic(auto, using(crate::proofs::Taking::crashed_by, crate::proofs::Taking::restarted_by))]
     pub fn step(&mut self, input: ClientInput, outbox: &mut Frames) -> Result<(), Refusal>
         ensures same { self.new.size ≡ self.old.size }
