@@ -1,61 +1,137 @@
 //! A run as a picture: it is played again and noted, and then drawn from below to above, the
 //! lifelines first and the labels last.
+ghost use Rattle.std.specs.Prelude.{◌≡◌, ◌≢◌, OnOk, IfOk, IfErr, string_bytes};
+ghost use Rattle.std.specs.Io.KnownBytes.{Appends};
+ghost use Rattle.picture.specs.declared.fault.DrawError.TheVariants as errors;
+ghost use Rattle.picture.specs.Pictures.{MayBe, MayNotBe, IsPicture, GrowsByPicture};
+
 use crate::fault::DrawError;
 use crate::ink::{Ink, Stroke};
 use crate::layout::{Layout, Point, SLOT, Side, has_band};
 use crate::lifeline::draw_lifelines;
 use crate::record::{Record, Sending};
 use crate::row::{draw_row, sent_label};
-use crate::svg::{bow, close, cross, heading, label, line, name, open};
+use crate::shape::{Shape, cross, heading, label, name};
+use crate::svg::svg_of;
 use rows::{NoMemory, NodeSpec, Refusal};
 use std::alloc::Global;
 use std::io::Write;
 use wire::Frames;
 use world::{Event, World};
 
-// What the signs mean.
-const LEGEND: &str = "\
-    Thick: leads. Tick: commits. Dashed: came again. Cross: crashed, or never came. \
-    Circle: begins again. #7: message 7.";
+// What the signs mean: of a message, of an actor, and in a label.
+const ARROWS: &str = "\
+    Arrow: a message that came. Dashed: it came again. Bow: to itself. \
+    With a cross: it never came. #7: message 7.";
 
-// What a reader is told who does not see the picture, behind the counts.
-const ABOUT: &str = "\
-    A sequence diagram: a vertical lifeline for each server and client, time downward, \
-    one row an event, and an arrow for each message from where it was sent to where it came.";
+const MARKS: &str = "\
+    Dot: an event. Bold: its input, or what it changed. Thick: leads. Tick: commits. \
+    Cross: crashed. Circle: begins again; small: refused.";
+
+const LETTERS: &str = "\
+    t1: a term. @3: a place in the log. +2: entries, places, or reports more. -1: stops. \
+    4.0: an evaluation, or an allocation. Told 0: taken.";
 
 /// Draws a run as SVG: the group of so many servers and of these nodes' clients takes these events
 /// from its beginning, and what is drawn is what it did. A refused event is drawn as refused.
 ///
 /// There is a lifeline for each server and client, an arrow for each delivery, and a short one with
 /// a cross for each message that never came. It is refused with `Group` where there is no such
-/// group, with `NoMemory`, and with `Output` where the output failed; then the front of the picture
-/// may have been written.
+/// group and with `NoMemory`, and then nothing is written; and with `Output` where the output
+/// failed, and then the front of the picture may have been written.
 pub fn draw<W: Write>(
     alloc: Global,
     servers: usize,
     nodes: &[NodeSpec],
     events: &[Event],
     out: &mut W,
-) -> Result<(), DrawError> {
-    let mut world = group(alloc, servers, nodes)?;
-    let mut record = Record::new(alloc, servers, nodes.len());
-    record.take_all(alloc, &mut world, events)?;
-    let layout = Layout::new(alloc, &record)?;
-    draw_head(alloc, out, &record, &layout)?;
-    draw_lifelines(out, &record, &layout)?;
-    draw_arrows(out, &record, &layout)?;
-    draw_names(alloc, out, &record, &layout)?;
-    draw_lost(alloc, out, &record, &layout, world.sent())?;
-    draw_rows(alloc, out, &record, &layout, world.sent(), events)?;
-    close(out)
+) -> Result<(), DrawError>
+    // What is written is one picture, and nothing else.
+    ensures picture { OnOk result (GrowsByPicture (W.contents out.old) (W.contents out.new)) }
+    // An answer, and want of memory or of an output, only of a group that may be.
+    ensures group { OnOk result (MayBe servers nodes.now) }
+    ensures fault { IfErr result (λ error. error ≢ errors.Group → MayBe servers nodes.now) }
+    ensures no_group { IfErr result (λ error. error ≡ errors.Group → MayNotBe servers nodes.now) }
+    // Nothing is written but where the output failed.
+    ensures left { IfErr result (λ error. error ≢ errors.Output → out.new ≡ out.old) }
+{
+    let world = group(alloc, servers, nodes)?;
+    let picture = picture_of(alloc, world, servers, nodes.len(), events)?;
+    write_out(out, picture.as_str())?;
+    Ok(())
 }
 
-fn group(alloc: Global, servers: usize, nodes: &[NodeSpec]) -> Result<World, DrawError> {
+fn group(alloc: Global, servers: usize, nodes: &[NodeSpec]) -> Result<World, DrawError>
+    ensures group { OnOk result (MayBe servers nodes.now) }
+    ensures memory { IfErr result (λ error. error ≢ errors.Group
+        → (error ≡ errors.NoMemory) × MayBe servers nodes.now) }
+    ensures no_group { IfErr result (λ error. error ≡ errors.Group → MayNotBe servers nodes.now) }
+{
     match World::new(alloc, servers, nodes) {
         Ok(world) => Ok(world),
-        Err(Refusal::NoMemory) => Err(DrawError::NoMemory),
-        Err(_) => Err(DrawError::Group),
+        Err(refusal) => match refusal {
+            Refusal::NoMemory => Err(DrawError::NoMemory),
+            _ => Err(DrawError::Group),
+        },
     }
+}
+
+fn write_out<W: Write>(out: &mut W, picture: &str) -> Result<(), DrawError>
+    ensures ok { OnOk result (Appends (W.contents out.old) (W.contents out.new) picture.now) }
+    ensures err { IfErr result (λ error. error ≡ errors.Output) }
+{
+    match out.write_all(picture.as_bytes()) {
+        Ok(()) => match out.flush() {
+            Ok(()) => Ok(()),
+            Err(_) => Err(DrawError::Output),
+        },
+        Err(_) => Err(DrawError::Output),
+    }
+}
+
+// The picture of what a group does from its beginning.
+fn picture_of(
+    alloc: Global,
+    world: World,
+    servers: usize,
+    clients: usize,
+    events: &[Event],
+) -> Result<String, NoMemory>
+    ensures { IfOk result (λ picture. IsPicture (string_bytes picture)) }
+{
+    let mut world = world;
+    let mut record = Record::new(alloc, servers, clients);
+    record.take_all(alloc, &mut world, events)?;
+    let layout = Layout::new(alloc, &record)?;
+    let title = counts(alloc, &record)?;
+    let shapes = shapes_of(alloc, &record, &layout, world.sent(), events, &title)?;
+    whole(alloc, layout.size(), &title, &shapes)
+}
+
+fn whole(alloc: Global, size: (u64, u64), title: &str, shapes: &[Shape]) -> Result<String, NoMemory>
+    ensures { IfOk result (λ picture. IsPicture (string_bytes picture)) }
+{
+    let svg = svg_of(alloc, size, title, shapes)?;
+    Ok(svg)
+}
+
+// All that is drawn, from below to above.
+fn shapes_of(
+    alloc: Global,
+    record: &Record,
+    layout: &Layout,
+    sent: &Frames,
+    events: &[Event],
+    title: &str,
+) -> Result<Vec<Shape>, NoMemory> {
+    let mut shapes = Vec::new(alloc);
+    draw_head(alloc, &mut shapes, title)?;
+    draw_lifelines(&mut shapes, record, layout)?;
+    draw_arrows(&mut shapes, record, layout)?;
+    draw_names(alloc, &mut shapes, record, layout)?;
+    draw_lost(alloc, &mut shapes, record, layout, sent)?;
+    draw_rows(alloc, &mut shapes, record, layout, sent, events)?;
+    Ok(shapes)
 }
 
 fn counts(alloc: Global, record: &Record) -> Result<String, NoMemory> {
@@ -66,17 +142,15 @@ fn counts(alloc: Global, record: &Record) -> Result<String, NoMemory> {
     Ok(format!(in alloc; "{actors}, events {events}, messages {messages}, lost {lost}")?)
 }
 
-fn draw_head<W: Write>(
-    alloc: Global,
-    out: &mut W,
-    record: &Record,
-    layout: &Layout,
-) -> Result<(), DrawError> {
-    let title = counts(alloc, record)?;
-    open(out, layout.size(), &title, ABOUT)?;
+fn draw_head(alloc: Global, shapes: &mut Vec<Shape>, title: &str) -> Result<(), NoMemory> {
     let at = Point { x: 12, y: 22 };
-    heading(alloc, out, at, Ink::Title, &title)?;
-    heading(alloc, out, at.down(16), Ink::Legend, LEGEND)
+    heading(shapes, at, Ink::Title, String::from_str(alloc, title)?)?;
+    let mut at = at.down(4);
+    for signs in [ARROWS, MARKS, LETTERS] {
+        at = at.down(12);
+        heading(shapes, at, Ink::Legend, String::from_str(alloc, signs)?)?;
+    }
+    Ok(())
 }
 
 // The names of the lifelines: S1 for the first server, c1 for the first client.
@@ -87,120 +161,116 @@ fn name_of(alloc: Global, record: &Record, column: usize) -> Result<String, NoMe
     }
 }
 
-fn draw_names<W: Write>(
+fn draw_names(
     alloc: Global,
-    out: &mut W,
+    shapes: &mut Vec<Shape>,
     record: &Record,
     layout: &Layout,
-) -> Result<(), DrawError> {
+) -> Result<(), NoMemory> {
     for column in 0..record.columns() {
         let text = name_of(alloc, record, column)?;
-        name(alloc, out, layout.name_at(column), &text)?;
-        draw_bands(alloc, out, record, layout, column, &text)?;
+        name(alloc, shapes, layout.name_at(column), &text)?;
+        draw_bands(alloc, shapes, record, layout, column, &text)?;
     }
     Ok(())
 }
 
 // The name of a lifeline once more above some events.
-fn draw_bands<W: Write>(
+fn draw_bands(
     alloc: Global,
-    out: &mut W,
+    shapes: &mut Vec<Shape>,
     record: &Record,
     layout: &Layout,
     column: usize,
     text: &str,
-) -> Result<(), DrawError> {
+) -> Result<(), NoMemory> {
     for row in 0..record.steps.len() {
         if has_band(row) {
-            name(alloc, out, layout.band_at(column, row), text)?;
+            name(alloc, shapes, layout.band_at(column, row), text)?;
         }
     }
     Ok(())
 }
 
 // An arrow for each delivery.
-fn draw_arrows<W: Write>(out: &mut W, record: &Record, layout: &Layout) -> Result<(), DrawError> {
+fn draw_arrows(shapes: &mut Vec<Shape>, record: &Record, layout: &Layout) -> Result<(), NoMemory> {
     for (row, step) in record.steps.iter().enumerate() {
         let (Some(place), None) = (step.message, step.refusal) else {
             continue;
         };
         if let Some(sending) = record.sendings.get(place) {
-            draw_arrow(out, layout, sending, row, step.again)?;
+            draw_arrow(shapes, layout, sending, row, step.again)?;
         }
     }
     Ok(())
 }
 
-fn draw_arrow<W: Write>(
-    out: &mut W,
+fn draw_arrow(
+    shapes: &mut Vec<Shape>,
     layout: &Layout,
     sending: &Sending,
     row: usize,
     again: bool,
-) -> Result<(), DrawError> {
+) -> Result<(), NoMemory> {
     let stroke = if again { Stroke::Again } else { Stroke::Came };
     let from = layout.at(sending.from, sending.row);
     let to = layout.at(sending.to, row);
     if sending.from == sending.to {
-        return bow(out, from, to.aside(Side::Right, 4), stroke);
+        let to = to.aside(Side::Right, 4);
+        let far = from.aside(Side::Right, 44).x;
+        shapes.push(Shape::Bow(from, to, far, stroke))?;
+        return Ok(());
     }
     let side = Side::towards(sending.to, sending.from);
-    line(out, from, to.aside(side, 4), stroke)
+    shapes.push(Shape::Line(from, to.aside(side, 4), stroke))?;
+    Ok(())
 }
 
 // A short arrow with a cross for each message that never came.
-fn draw_lost<W: Write>(
+fn draw_lost(
     alloc: Global,
-    out: &mut W,
+    shapes: &mut Vec<Shape>,
     record: &Record,
     layout: &Layout,
     sent: &Frames,
-) -> Result<(), DrawError> {
+) -> Result<(), NoMemory> {
     for (place, sending) in record.sendings.iter().enumerate() {
         if !sending.came {
             let what = sent_label(alloc, sent, place)?;
             let to = name_of(alloc, record, sending.to)?;
             let text = format!(in alloc; "{to} {what}")?;
-            draw_stub(alloc, out, layout, place, sending, &text)?;
+            draw_stub(shapes, layout, place, sending, text)?;
         }
     }
     Ok(())
 }
 
-fn draw_stub<W: Write>(
-    alloc: Global,
-    out: &mut W,
+fn draw_stub(
+    shapes: &mut Vec<Shape>,
     layout: &Layout,
     place: usize,
     sending: &Sending,
-    text: &str,
-) -> Result<(), DrawError> {
+    text: String,
+) -> Result<(), NoMemory> {
     let side = Side::towards(sending.from, sending.to);
     let from = layout.at(sending.from, sending.row);
     let down = layout.slot_of(place).saturating_mul(SLOT).saturating_add(6);
     let end = from.aside(side, 26).down(down);
-    line(out, from, end, Stroke::Lost)?;
-    cross(out, end, 3, Stroke::Lost)?;
-    label(
-        alloc,
-        out,
-        end.aside(side, 7).down(3),
-        side,
-        Ink::Lost,
-        text,
-    )
+    shapes.push(Shape::Line(from, end, Stroke::Lost))?;
+    cross(shapes, end, 3, Stroke::Lost)?;
+    label(shapes, end.aside(side, 7).down(3), side, Ink::Lost, text)
 }
 
-fn draw_rows<W: Write>(
+fn draw_rows(
     alloc: Global,
-    out: &mut W,
+    shapes: &mut Vec<Shape>,
     record: &Record,
     layout: &Layout,
     sent: &Frames,
     events: &[Event],
-) -> Result<(), DrawError> {
+) -> Result<(), NoMemory> {
     for (row, (step, event)) in record.steps.iter().zip(events).enumerate() {
-        draw_row(alloc, out, record, layout, sent, row, step, event)?;
+        draw_row(alloc, shapes, record, layout, sent, row, step, event)?;
     }
     Ok(())
 }

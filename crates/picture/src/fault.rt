@@ -1,7 +1,8 @@
 //! Why there is no picture, or only the front of one.
+ghost use Rattle.std.specs.Prelude.{◌≡◌};
+ghost use Rattle.picture.specs.declared.fault.DrawError.TheVariants as errors;
+
 use rows::NoMemory;
-use std::alloc::{AllocError, AllocFailed};
-use std::io;
 
 /// Why there is no picture, or only the front of one.
 #[derive(Clone, Copy, Debug, PartialEq, Eq)]
@@ -15,27 +16,9 @@ pub enum DrawError {
 }
 
 impl From<NoMemory> for DrawError {
+    ghost from_gives = { λ _ e. e ≡ errors.NoMemory };
+
     fn from(_e: NoMemory) -> DrawError {
         DrawError::NoMemory
-    }
-}
-
-impl From<AllocError> for DrawError {
-    fn from(_e: AllocError) -> DrawError {
-        DrawError::NoMemory
-    }
-}
-
-impl<T: Drop> From<AllocFailed<T>> for DrawError {
-    fn from(_e: AllocFailed<T>) -> DrawError {
-        DrawError::NoMemory
-    }
-}
-
-/// What was written, or that the output failed.
-pub(crate) fn said(written: io::Result<()>) -> Result<(), DrawError> {
-    match written {
-        Ok(()) => Ok(()),
-        Err(_) => Err(DrawError::Output),
     }
 }

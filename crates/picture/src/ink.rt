@@ -1,5 +1,10 @@
 //! How texts and lines look. Each differs from the others by more than its colour, so that a print
 //! in black and white can be read.
+ghost use Rattle.std.specs.Prelude.{◌≡◌};
+ghost use Rattle.picture.specs.Inner.Shapes.{ink_look, most_of, stroke_look, spot_look, anchor_look, cover_look};
+
+/// The most characters of a label that are drawn.
+pub(crate) const MOST: usize = 24;
 
 /// What a text is.
 #[derive(Clone, Copy, Debug, PartialEq, Eq)]
@@ -26,7 +31,9 @@ pub(crate) enum Ink {
 
 impl Ink {
     /// The attributes of the text.
-    pub(crate) fn attributes(self) -> &'static str {
+    pub(crate) fn attributes(self) -> &'static str
+        ensures { result.now ≡ ink_look self }
+    {
         match self {
             Ink::Title => "font-size=\"15\" font-weight=\"bold\" fill=\"#000000\"",
             Ink::Legend => "font-size=\"10\" fill=\"#444444\"",
@@ -40,6 +47,16 @@ impl Ink {
         }
     }
 
+    /// The most characters of the text that are drawn.
+    pub(crate) fn most(self) -> usize
+        ensures { result ≡ most_of self }
+    {
+        match self {
+            Ink::Title | Ink::Legend => usize::MAX,
+            _ => MOST,
+        }
+    }
+
     /// About the width of a character, in tenths of a pixel.
     pub(crate) fn width(self) -> u64 {
         match self {
@@ -47,7 +64,8 @@ impl Ink {
             Ink::Name => 80,
             Ink::Legend | Ink::Number | Ink::Lost => 50,
             Ink::Message | Ink::Refused => 58,
-            Ink::Input | Ink::Note => 64,
+            Ink::Input => 64,
+            Ink::Note => 72,
         }
     }
 
@@ -83,7 +101,9 @@ pub(crate) enum Stroke {
 
 impl Stroke {
     /// The attributes of the line.
-    pub(crate) fn attributes(self) -> &'static str {
+    pub(crate) fn attributes(self) -> &'static str
+        ensures { result.now ≡ stroke_look self }
+    {
         match self {
             Stroke::Life => "stroke=\"#777777\" stroke-width=\"1\"",
             Stroke::Leads => "stroke=\"#d08a1d\" stroke-width=\"7\"",
@@ -112,11 +132,58 @@ pub(crate) enum Spot {
 
 impl Spot {
     /// The radius and the attributes of the circle.
-    pub(crate) fn attributes(self) -> &'static str {
+    pub(crate) fn attributes(self) -> &'static str
+        ensures { result.now ≡ spot_look self }
+    {
         match self {
             Spot::Event => "r=\"3\" fill=\"#000000\"",
             Spot::Refused => "r=\"2\" fill=\"#ffffff\" stroke=\"#777777\"",
             Spot::Begins => "r=\"5\" fill=\"#ffffff\" stroke=\"#000000\" stroke-width=\"2\"",
+        }
+    }
+}
+
+/// Which part of a text stands at its point.
+#[derive(Clone, Copy, Debug, PartialEq, Eq)]
+pub(crate) enum Anchor {
+    /// Its left end.
+    Start,
+    /// Its middle.
+    Middle,
+    /// Its right end.
+    End,
+}
+
+impl Anchor {
+    /// The attribute of the text.
+    pub(crate) fn attributes(self) -> &'static str
+        ensures { result.now ≡ anchor_look self }
+    {
+        match self {
+            Anchor::Start => "text-anchor=\"start\"",
+            Anchor::Middle => "text-anchor=\"middle\"",
+            Anchor::End => "text-anchor=\"end\"",
+        }
+    }
+}
+
+/// What a white rectangle below a text is.
+#[derive(Clone, Copy, Debug, PartialEq, Eq)]
+pub(crate) enum Cover {
+    /// Nothing is seen through it.
+    Whole,
+    /// A line can still be seen through it.
+    Thin,
+}
+
+impl Cover {
+    /// The attributes of the rectangle.
+    pub(crate) fn attributes(self) -> &'static str
+        ensures { result.now ≡ cover_look self }
+    {
+        match self {
+            Cover::Whole => "fill=\"#ffffff\"",
+            Cover::Thin => "fill=\"#ffffff\" fill-opacity=\"0.8\"",
         }
     }
 }

@@ -14,9 +14,9 @@ const COLUMN: u64 = 150;
 const RIGHT: u64 = 200;
 
 // Where the names of the lifelines stand, and where the first event does.
-const HEAD: u64 = 64;
+const HEAD: u64 = 88;
 
-const FIRST_ROW: u64 = 94;
+const FIRST_ROW: u64 = 118;
 
 /// How far an event is from the one before it.
 pub(crate) const ROW: u64 = 22;

@@ -13,6 +13,7 @@ mod lifeline;
 mod note;
 mod record;
 mod row;
+mod shape;
 mod svg;
 
 pub use drawing::draw;

@@ -1,15 +1,13 @@
 //! What stands in the row of one event: its number, its mark on the lifeline, and its label.
-use crate::fault::DrawError;
 use crate::ink::{Ink, Spot, Stroke};
 use crate::input_label::event_label;
 use crate::label::message_label;
 use crate::layout::{Layout, Point, Side};
 use crate::note::{commits, note_of};
 use crate::record::{Record, Step};
-use crate::svg::{circle, cross, label, line, width_of};
+use crate::shape::{Shape, cross, label, width_of};
 use rows::NoMemory;
 use std::alloc::Global;
-use std::io::Write;
 use wire::Frames;
 use world::Event;
 
@@ -27,32 +25,32 @@ pub(crate) fn sent_label(alloc: Global, sent: &Frames, place: usize) -> Result<S
 }
 
 /// Draws the row of an event.
-pub(crate) fn draw_row<W: Write>(
+pub(crate) fn draw_row(
     alloc: Global,
-    out: &mut W,
+    shapes: &mut Vec<Shape>,
     record: &Record,
     layout: &Layout,
     sent: &Frames,
     row: usize,
     step: &Step,
     event: &Event,
-) -> Result<(), DrawError> {
+) -> Result<(), NoMemory> {
     let y = layout.y_of(row);
-    draw_numbers(alloc, out, y, row, step)?;
+    draw_numbers(alloc, shapes, y, row, step)?;
     let side = side_of(record, step);
     let at = match step.column {
         Some(column) => layout.at(column, row),
         None => Point { x: MESSAGE, y },
     };
     if step.column.is_some() {
-        draw_mark(out, at, step)?;
+        draw_mark(shapes, at, step)?;
     }
     let at = at.aside(side, 9).up(3);
     let note = note_of(alloc, step.before, step.after)?;
-    label(alloc, out, at, side, Ink::Note, &note)?;
     let shift = shift_of(&note);
+    label(shapes, at, side, Ink::Note, note)?;
     let (ink, text) = said_of(alloc, sent, step, event)?;
-    label(alloc, out, at.aside(side, shift), side, ink, &text)
+    label(shapes, at.aside(side, shift), side, ink, text)
 }
 
 // How much room a note takes.
@@ -60,27 +58,27 @@ fn shift_of(note: &str) -> u64 {
     if note.is_empty() {
         0
     } else {
-        width_of(Ink::Note, note).saturating_add(6)
+        width_of(Ink::Note, note).saturating_add(8)
     }
 }
 
 // The number of the event, and that of the message that came.
-fn draw_numbers<W: Write>(
+fn draw_numbers(
     alloc: Global,
-    out: &mut W,
+    shapes: &mut Vec<Shape>,
     y: u64,
     row: usize,
     step: &Step,
-) -> Result<(), DrawError> {
+) -> Result<(), NoMemory> {
     let number = format!(in alloc; "{}", row.saturating_add(1))?;
     let at = Point { x: EVENT, y };
-    label(alloc, out, at.down(3), Side::Left, Ink::Number, &number)?;
+    label(shapes, at.down(3), Side::Left, Ink::Number, number)?;
     let Some(place) = step.message else {
         return Ok(());
     };
     let number = format!(in alloc; "#{}", place.saturating_add(1))?;
     let at = Point { x: MESSAGE, y };
-    label(alloc, out, at.down(3), Side::Left, Ink::Number, &number)
+    label(shapes, at.down(3), Side::Left, Ink::Number, number)
 }
 
 // The side of a label: the one that the message does not come from, where no arrow of the event
@@ -122,17 +120,21 @@ fn refused_label(alloc: Global, number: u8, event: &Event) -> Result<String, NoM
 
 // The mark on the lifeline: a cross where the actor stops, a circle where it begins again, a tick
 // where it applies entries, else a dot.
-fn draw_mark<W: Write>(out: &mut W, at: Point, step: &Step) -> Result<(), DrawError> {
+fn draw_mark(shapes: &mut Vec<Shape>, at: Point, step: &Step) -> Result<(), NoMemory> {
     if step.refusal.is_some() {
-        return circle(out, at, Spot::Refused);
+        shapes.push(Shape::Circle(at, Spot::Refused))?;
+        return Ok(());
     }
     if commits(step.before, step.after) {
         let left = at.aside(Side::Left, 8);
-        line(out, left, at.aside(Side::Right, 8), Stroke::Commit)?;
+        let right = at.aside(Side::Right, 8);
+        shapes.push(Shape::Line(left, right, Stroke::Commit))?;
     }
-    match (step.before.up, step.after.up) {
-        (true, false) => cross(out, at, 6, Stroke::Crash),
-        (false, true) => circle(out, at, Spot::Begins),
-        _ => circle(out, at, Spot::Event),
-    }
+    let spot = match (step.before.up, step.after.up) {
+        (true, false) => return cross(shapes, at, 6, Stroke::Crash),
+        (false, true) => Spot::Begins,
+        _ => Spot::Event,
+    };
+    shapes.push(Shape::Circle(at, spot))?;
+    Ok(())
 }

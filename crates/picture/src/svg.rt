@@ -1,10 +1,19 @@
-//! The elements of the picture, each a line of SVG 1.1.
-use crate::escape::{MOST, escaped};
-use crate::fault::{DrawError, said};
-use crate::ink::{Ink, Spot, Stroke};
-use crate::layout::{Point, Side};
+//! The picture, written: each element a line of SVG 1.1.
+ghost use Rattle.std.specs.Prelude.{◌≡◌, ◌++◌, OnOk, IfOk, string_bytes};
+ghost use Rattle.std.specs.List.{flat_map};
+ghost use Rattle.picture.specs.Inner.Shapes.{text_of, head_text, open_text, title_text, about_text, sheet_text, svg_text, line_text, bow_text, circle_text, white_text, words_text};
+
+use crate::escape::escaped;
+use crate::ink::{Anchor, Cover, Ink, Spot, Stroke};
+use crate::layout::Point;
+use crate::shape::Shape;
+use rows::NoMemory;
 use std::alloc::Global;
-use std::io::Write;
+
+// What a reader is told who does not see the picture, behind the counts.
+const ABOUT: &str = "\
+    A sequence diagram: a vertical lifeline for each server and client, time downward, \
+    one row an event, and an arrow for each message from where it was sent to where it came.";
 
 // The head of an arrow.
 const HEAD: &str = "\
@@ -12,162 +21,153 @@ const HEAD: &str = "\
     markerWidth=\"9\" markerHeight=\"8\" markerUnits=\"userSpaceOnUse\" orient=\"auto\">\
     <path d=\"M0,0.5 L9,4 L0,7.5 z\" fill=\"#1f4e79\"/></marker></defs>";
 
-/// Begins a picture of a size, with what readers are told who do not see it.
-pub(crate) fn open<W: Write>(
-    out: &mut W,
+/// A picture of a size, with what readers are told who do not see it.
+pub(crate) fn svg_of(
+    alloc: Global,
     size: (u64, u64),
     title: &str,
-    about: &str,
-) -> Result<(), DrawError> {
-    let (width, height) = size;
-    said(writeln!(out, "<?xml version=\"1.0\" encoding=\"UTF-8\"?>"))?;
-    said(write!(
-        out,
-        "<svg xmlns=\"http://www.w3.org/2000/svg\" version=\"1.1\" "
-    ))?;
-    said(writeln!(
-        out,
-        "width=\"{width}\" height=\"{height}\" viewBox=\"0 0 {width} {height}\">"
-    ))?;
-    said(writeln!(out, "<title>{title}</title>"))?;
-    said(writeln!(out, "<desc>{about}</desc>"))?;
-    said(writeln!(out, "{HEAD}"))?;
-    said(writeln!(
-        out,
-        "<rect x=\"0\" y=\"0\" width=\"{width}\" height=\"{height}\" fill=\"#ffffff\"/>"
-    ))?;
-    said(writeln!(out, "<g font-family=\"sans-serif\" fill=\"none\">"))
-}
-
-/// Ends the picture.
-pub(crate) fn close<W: Write>(out: &mut W) -> Result<(), DrawError> {
-    said(writeln!(out, "</g>"))?;
-    said(writeln!(out, "</svg>"))?;
-    said(out.flush())
-}
-
-/// A straight line.
-pub(crate) fn line<W: Write>(
-    out: &mut W,
-    from: Point,
-    to: Point,
-    stroke: Stroke,
-) -> Result<(), DrawError> {
-    let attributes = stroke.attributes();
-    said(write!(out, "<line x1=\"{}\" y1=\"{}\" ", from.x, from.y))?;
-    said(writeln!(out, "x2=\"{}\" y2=\"{}\" {attributes}/>", to.x, to.y))
-}
-
-/// A line that leaves a lifeline to the right and comes back to it.
-pub(crate) fn bow<W: Write>(
-    out: &mut W,
-    from: Point,
-    to: Point,
-    stroke: Stroke,
-) -> Result<(), DrawError> {
-    let attributes = stroke.attributes();
-    let x = from.x.saturating_add(44);
-    said(write!(out, "<path d=\"M{},{} C{x},{} ", from.x, from.y, from.y))?;
-    said(writeln!(out, "{x},{} {},{}\" {attributes}/>", to.y, to.x, to.y))
-}
-
-/// A cross with its middle there, from corner to corner so far from the middle.
-pub(crate) fn cross<W: Write>(
-    out: &mut W,
-    at: Point,
-    reach: u64,
-    stroke: Stroke,
-) -> Result<(), DrawError> {
-    let left = at.aside(Side::Left, reach);
-    let right = at.aside(Side::Right, reach);
-    line(out, left.up(reach), right.down(reach), stroke)?;
-    line(out, left.down(reach), right.up(reach), stroke)
-}
-
-/// A circle.
-pub(crate) fn circle<W: Write>(out: &mut W, at: Point, spot: Spot) -> Result<(), DrawError> {
-    let attributes = spot.attributes();
-    said(writeln!(
-        out,
-        "<circle cx=\"{}\" cy=\"{}\" {attributes}/>",
-        at.x, at.y
-    ))
-}
-
-/// How wide the front of a text is that is drawn.
-pub(crate) fn width_of(ink: Ink, text: &str) -> u64 {
-    let count = text.len().min(MOST) as u64;
-    count.saturating_mul(ink.width()) / 10
-}
-
-// A white ground for a text, through which a line can still be seen.
-fn ground<W: Write>(out: &mut W, corner: Point, width: u64, height: u64) -> Result<(), DrawError> {
-    said(write!(out, "<rect x=\"{}\" y=\"{}\" ", corner.x, corner.y))?;
-    said(writeln!(
-        out,
-        "width=\"{width}\" height=\"{height}\" fill=\"#ffffff\" fill-opacity=\"0.8\"/>"
-    ))
-}
-
-/// A label of at most 24 characters that begins or ends at a point, on white, so that it can be
-/// read over a line. An empty one draws nothing.
-pub(crate) fn label<W: Write>(
-    alloc: Global,
-    out: &mut W,
-    at: Point,
-    side: Side,
-    ink: Ink,
-    text: &str,
-) -> Result<(), DrawError> {
-    if text.is_empty() {
-        return Ok(());
+    shapes: &[Shape],
+) -> Result<String, NoMemory>
+    ensures { IfOk result (λ svg. string_bytes svg ≡ svg_text size.0 size.1 title.now shapes.now) }
+{
+    let mut svg = head(alloc, size, title)?;
+    for shape in shapes {
+        push_shape(alloc, &mut svg, shape)?;
     }
-    let width = width_of(ink, text);
-    let height = ink.height();
-    let (left, anchor) = match side {
-        Side::Left => (at.aside(Side::Left, width), "end"),
-        Side::Right => (at, "start"),
-    };
-    ground(out, left.up(height), width, height.saturating_add(2))?;
-    text_at(alloc, out, at, anchor, ink, text, MOST)
+    svg.push_str("</g>\n</svg>\n")?;
+    Ok(svg)
 }
 
-/// A text whose middle is at a point, on white.
-pub(crate) fn name<W: Write>(
-    alloc: Global,
-    out: &mut W,
-    at: Point,
-    text: &str,
-) -> Result<(), DrawError> {
-    let width = width_of(Ink::Name, text);
-    let corner = at.aside(Side::Left, width / 2).up(Ink::Name.height());
-    said(write!(out, "<rect x=\"{}\" y=\"{}\" ", corner.x, corner.y))?;
-    said(writeln!(out, "width=\"{width}\" height=\"15\" fill=\"#ffffff\"/>"))?;
-    text_at(alloc, out, at, "middle", Ink::Name, text, MOST)
+fn head(alloc: Global, size: (u64, u64), title: &str) -> Result<String, NoMemory>
+    ensures { IfOk result (λ svg. string_bytes svg ≡ head_text size.0 size.1 title.now) }
+{
+    let (width, height) = size;
+    let mut svg = opened(alloc, width, height)?;
+    push_title(alloc, &mut svg, title)?;
+    push_about(&mut svg)?;
+    push_sheet(&mut svg, width, height)?;
+    Ok(svg)
 }
 
-/// A line of text that begins at a point, however long.
-pub(crate) fn heading<W: Write>(
+fn opened(alloc: Global, width: u64, height: u64) -> Result<String, NoMemory>
+    ensures { IfOk result (λ svg. string_bytes svg ≡ open_text width height) }
+{
+    Ok(format!(in alloc;
+        "<?xml version=\"1.0\" encoding=\"UTF-8\"?>\n\
+        <svg xmlns=\"http://www.w3.org/2000/svg\" version=\"1.1\" \
+        width=\"{width}\" height=\"{height}\" viewBox=\"0 0 {width} {height}\">\n"
+    )?)
+}
+
+fn push_title(alloc: Global, svg: &mut String, title: &str) -> Result<(), NoMemory>
+    ensures { OnOk result (string_bytes svg.new ≡ string_bytes svg.old ++ title_text title.now) }
+{
+    let title = escaped(alloc, title, usize::MAX)?;
+    Ok(write!(svg, "<title>{title}</title>\n")?)
+}
+
+fn push_about(svg: &mut String) -> Result<(), NoMemory>
+    ensures { OnOk result (string_bytes svg.new ≡ string_bytes svg.old ++ about_text) }
+{
+    Ok(write!(svg, "<desc>{ABOUT}</desc>\n{HEAD}\n")?)
+}
+
+// The white sheet below all, and the beginning of what is drawn on it.
+fn push_sheet(svg: &mut String, width: u64, height: u64) -> Result<(), NoMemory>
+    ensures { OnOk result (string_bytes svg.new ≡ string_bytes svg.old ++ sheet_text width height) }
+{
+    Ok(write!(
+        svg,
+        "<rect x=\"0\" y=\"0\" width=\"{width}\" height=\"{height}\" fill=\"#ffffff\"/>\n\
+        <g font-family=\"sans-serif\" fill=\"none\">\n"
+    )?)
+}
+
+fn push_shape(alloc: Global, svg: &mut String, shape: &Shape) -> Result<(), NoMemory>
+    ensures { OnOk result (string_bytes svg.new ≡ string_bytes svg.old ++ text_of shape.now) }
+{
+    match shape {
+        Shape::Line(from, to, stroke) => push_line(svg, *from, *to, *stroke),
+        Shape::Bow(from, to, far, stroke) => push_bow(svg, *from, *to, *far, *stroke),
+        Shape::Circle(at, spot) => push_circle(svg, *at, *spot),
+        Shape::White(corner, width, height, cover) => {
+            push_white(svg, *corner, *width, *height, *cover)
+        }
+        Shape::Text(at, anchor, ink, text) => push_text(alloc, svg, *at, *anchor, *ink, text),
+    }
+}
+
+fn push_line(svg: &mut String, from: Point, to: Point, stroke: Stroke) -> Result<(), NoMemory>
+    ensures { OnOk result (string_bytes svg.new ≡ string_bytes svg.old ++ line_text from to stroke) }
+{
+    let look = stroke.attributes();
+    let (x1, y1, x2, y2) = (from.x, from.y, to.x, to.y);
+    Ok(write!(
+        svg,
+        "<line x1=\"{x1}\" y1=\"{y1}\" x2=\"{x2}\" y2=\"{y2}\" {look}/>\n"
+    )?)
+}
+
+fn push_bow(
+    svg: &mut String,
+    from: Point,
+    to: Point,
+    far: u64,
+    stroke: Stroke,
+) -> Result<(), NoMemory>
+    ensures { OnOk result (string_bytes svg.new ≡ string_bytes svg.old ++ bow_text from to far stroke) }
+{
+    let look = stroke.attributes();
+    let (x1, y1, x2, y2) = (from.x, from.y, to.x, to.y);
+    Ok(write!(
+        svg,
+        "<path d=\"M{x1},{y1} C{far},{y1} {far},{y2} {x2},{y2}\" {look}/>\n"
+    )?)
+}
+
+fn push_circle(svg: &mut String, at: Point, spot: Spot) -> Result<(), NoMemory>
+    ensures { OnOk result (string_bytes svg.new ≡ string_bytes svg.old ++ circle_text at spot) }
+{
+    let look = spot.attributes();
+    let (x, y) = (at.x, at.y);
+    Ok(write!(svg, "<circle cx=\"{x}\" cy=\"{y}\" {look}/>\n")?)
+}
+
+fn push_white(
+    svg: &mut String,
+    corner: Point,
+    width: u64,
+    height: u64,
+    cover: Cover,
+) -> Result<(), NoMemory>
+    ensures { OnOk result (string_bytes svg.new
+        ≡ string_bytes svg.old ++ white_text corner width height cover) }
+{
+    let look = cover.attributes();
+    let (x, y) = (corner.x, corner.y);
+    Ok(write!(
+        svg,
+        "<rect x=\"{x}\" y=\"{y}\" width=\"{width}\" height=\"{height}\" {look}/>\n"
+    )?)
+}
+
+fn push_text(
     alloc: Global,
-    out: &mut W,
+    svg: &mut String,
     at: Point,
+    anchor: Anchor,
     ink: Ink,
     text: &str,
-) -> Result<(), DrawError> {
-    text_at(alloc, out, at, "start", ink, text, text.len())
-}
-
-fn text_at<W: Write>(
-    alloc: Global,
-    out: &mut W,
-    at: Point,
-    anchor: &str,
-    ink: Ink,
-    text: &str,
-    most: usize,
-) -> Result<(), DrawError> {
-    let attributes = ink.attributes();
-    let text = escaped(alloc, text, most)?;
-    said(write!(out, "<text x=\"{}\" y=\"{}\" ", at.x, at.y))?;
-    said(writeln!(out, "text-anchor=\"{anchor}\" {attributes}>{text}</text>"))
+) -> Result<(), NoMemory>
+    ensures { OnOk result (string_bytes svg.new
+        ≡ string_bytes svg.old ++ words_text at anchor ink text.now) }
+{
+    let end = anchor.attributes();
+    let look = ink.attributes();
+    let (x, y) = (at.x, at.y);
+    let said = escaped(alloc, text, ink.most())?;
+    Ok(write!(
+        svg,
+        "<text x=\"{x}\" y=\"{y}\" {end} {look}>{said}</text>\n"
+    )?)
 }

@@ -1,7 +1,7 @@
-use Rattle.std.proofs.Common.{◌≡◌, true, string_bytes}
-use Rattle.std.specs.List.{list_all}
-use Rattle.picture.specs.Inner.Escapes.{is_plain}
+use Rattle.std.proofs.Common.{◌≡◌, string_bytes, take}
+use Rattle.std.specs.List.{flat_map}
+use Rattle.picture.specs.Pictures.{shown}
 use Rattle.picture.proofs.escape.escaped.Given as goal
 
 abbrev pub invariant-loop-byte : goal.invariant-loop-byte
-invariant-loop-byte l = list_all is_plain (string_bytes l.out) ≡ true
+invariant-loop-byte l = string_bytes l.out ≡ flat_map shown (take l.byte-index l.front)

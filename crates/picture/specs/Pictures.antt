@@ -1,0 +1,67 @@
+-- What a picture is: one element of XML, with a text or an element wherever its tags say so.
+use Rattle.std.specs.Prelude.{◌≡◌, ℕ, ◌≤◌, ◌<◌, Bool, true, not, ◌==◌, ◌&&◌, nat_le, if◌then◌else◌, Option, List, [], ◌∷◌, ◌++◌, length, codes}
+use Rattle.std.specs.List.{flat_map, list_all}
+use Rattle.std.specs.Io.KnownBytes.{Appends}
+use Rattle.rows.specs.declared.node.NodeSpec.{NodeSpec}
+use Rattle.world.specs.WorldView.{IsGroup}
+
+-- a group of so many servers and of these nodes' clients may be
+abbrev pub MayBe : ℕ → List NodeSpec → Type 0
+MayBe servers nodes = IsGroup servers × (length nodes ≤ 64)
+
+-- there is no such group
+abbrev pub MayNotBe : ℕ → List NodeSpec → Type 0
+MayNotBe servers nodes = IsGroup servers → length nodes ≤ 64 → ⊥
+
+-- a byte that begins and ends no tag and no entity
+abbrev pub is_plain : ℕ → Bool
+is_plain byte = not (byte == 60) && (not (byte == 62) && not (byte == 38))
+
+-- a small letter
+abbrev pub is_letter : ℕ → Bool
+is_letter byte = nat_le 97 byte && nat_le byte 122
+
+-- it is empty, or a space stands before it
+abbrev pub stands_apart : List ℕ → Bool
+stands_apart [] = true
+stands_apart (byte ∷ _) = byte == 32
+
+-- a byte of a text, as it stands between tags; what cannot be seen, and what is no character of
+-- ASCII, is a question mark
+abbrev pub shown : ℕ → List ℕ
+shown byte = if byte == 60 then codes "&lt;" else
+    (if byte == 62 then codes "&gt;" else
+    (if byte == 38 then codes "&amp;" else
+    (if nat_le 32 byte && nat_le byte 126 then byte ∷ [] else codes "?")))
+
+-- the name and the attributes of an element
+pub record IsTag (name attributes : List ℕ) : Type 0 where
+  pub letters : list_all is_letter name ≡ true
+  pub named : 0 < length name
+  pub apart : stands_apart attributes ≡ true
+  pub plain : list_all is_plain attributes ≡ true
+
+-- What stands between a tag and its end: lines, texts in which no sign of markup stands, and
+-- elements, which are empty or end with their own name.
+pub data IsContent : List ℕ → Type 0 where
+  line_end : IsContent (codes "\n")
+  text : (said : List ℕ) → IsContent (flat_map shown said)
+  sign : (name attributes : List ℕ) → IsTag name attributes →
+      IsContent (codes "<" ++ (name ++ (attributes ++ codes "/>")))
+  element : (name attributes inside : List ℕ) → IsTag name attributes → IsContent inside →
+      IsContent (codes "<" ++ (name ++ (attributes ++ (codes ">" ++ (inside ++ (codes "</" ++ (name ++ codes ">")))))))
+  both : (front back : List ℕ) → IsContent front → IsContent back → IsContent (front ++ back)
+
+-- a picture: one element `svg`, behind the line that begins a file of XML
+pub record IsPicture (text : List ℕ) : Type 0 where
+  pub attributes : List ℕ
+  pub inside : List ℕ
+  pub tag : IsTag (codes "svg") attributes
+  pub content : IsContent inside
+  pub whole : text ≡ codes "<?xml version=\"1.0\" encoding=\"UTF-8\"?>\n<svg" ++ (attributes ++ (codes ">" ++ (inside ++ codes "</svg>\n")))
+
+-- known bytes stay at the front and grow by one picture
+pub record GrowsByPicture (old new : Option (List ℕ)) : Type 0 where
+  pub text : List ℕ
+  pub picture : IsPicture text
+  pub appended : Appends old new text
