@@ -5,7 +5,7 @@ use Rattle.std.specs.List.{AllByRecursion}
 use Rattle.std.proofs.lemmas.Bool.{false_from_ne_true, and_parts, or_parts, or_right, not-true}
 use Rattle.std.proofs.lemmas.List.{reverse-reverse, reverse-append}
 use Rattle.rows.specs.declared.actor.Actor.{Actor}
-use Rattle.event_book.specs.Actors.{same_actor, is_named, are_distinct}
+use Rattle.event_book.specs.Actors.{same_actor, lists_actor, are_apart}
 use Rattle.event_book.specs.Histories.{notes_of}
 use Rattle.event_book.specs.Seats.{actor_in, IsWhole}
 use Rattle.event_book.specs.declared.view.Note.{Note}
@@ -24,7 +24,7 @@ use Rattle.cluster.proofs.Merge.{Group, Leads, AllLead, History, sent_by, legal_
 abbrev pub Opens : ℕ → List Actor → CellWorld → Type 0
 Opens n all w =
     (w.sent ≡ [])
-    × ((a : Actor) → is_named all a ≡ true →
+    × ((a : Actor) → lists_actor all a ≡ true →
     (s : GroupActor) × (w.at a ≡ Some s) × IsNewActor n a s)
 
 -- In the order of the stamps the history is a run of new actors, and no others, to those of the
@@ -34,7 +34,7 @@ pub record ClosedRun (n : ℕ) (all : List Actor) (log : History) (cells : List 
   pub first : CellWorld
   pub last : CellWorld
   pub opens : Opens n all first
-  pub outside : (a : Actor) → is_named all a ≡ false → first.at a ≡ None
+  pub outside : (a : Actor) → lists_actor all a ≡ false → first.at a ≡ None
   pub runs : Runs Happened first (events_of log log) last
   pub sent : last.sent ≡ sent_by log
   pub ends : AllByRecursion (λ (c : CellView). last.at c.seat.actor ≡ Some c.actor) cells
@@ -147,19 +147,19 @@ module _ (n : ℕ) where
   found : (log : History) (cells : List CellView) (led : AllByRecursion (IsLedCell n) cells) →
       AllByRecursion (λ (p : SeatView OwnInput). p.notes ≡ notes_of p.actor log)
       (map seat_in cells) →
-      (a : Actor) → is_named (names cells) a ≡ true → Found log cells led a
+      (a : Actor) → lists_actor (names cells) a ≡ true → Found log cells led a
   found log [] led mine a inn = absurd (true≢false (sym inn))
   found log (c ∷ cs) led mine a inn =
       let b = same_actor c.seat.actor a in
-      let rest = or_else b (is_named (names cs) a) inn in
+      let rest = or_else b (lists_actor (names cs) a) inn in
       found_one log c cs led mine.0 a (λ e. found log cs led.1 mine.1 a (rest e)) b refl
 
   -- an actor of no cell is nowhere
   not_found : (cells : List CellView) (led : AllByRecursion (IsLedCell n) cells) (a : Actor) →
-      is_named (names cells) a ≡ false → first_at cells led a ≡ None
+      lists_actor (names cells) a ≡ false → first_at cells led a ≡ None
   not_found [] led a out = refl
   not_found (c ∷ cs) led a out =
-      let o = or_parts (same_actor c.seat.actor a) (is_named (names cs) a) out in
+      let o = or_parts (same_actor c.seat.actor a) (lists_actor (names cs) a) out in
       ap (λ (b : Bool). if b then Some (led_from n c led.0).0 else first_at cs led.1 a) o.0
       ∙ not_found cs led.1 a o.1
 
@@ -167,54 +167,54 @@ module _ (n : ℕ) where
   abbrev At : (Actor → Option GroupActor) → CellView → Type 0
   At at c = at c.seat.actor ≡ Some c.actor
 
-  skip : (c : CellView) (cs ds : List CellView) → is_named (names ds) c.seat.actor ≡ false →
+  skip : (c : CellView) (cs ds : List CellView) → lists_actor (names ds) c.seat.actor ≡ false →
       AllByRecursion (At (last_at cs)) ds → AllByRecursion (At (last_at (c ∷ cs))) ds
   skip c cs [] out h = tt
   skip c cs (d ∷ ds) out h =
       let a = c.seat.actor in
       let b = d.seat.actor in
-      let o = or_parts (same_actor b a) (is_named (names ds) a) out in (
+      let o = or_parts (same_actor b a) (lists_actor (names ds) a) out in (
         ap (λ (x : Bool). if x then Some c.actor else last_at cs b) (other b a o.0) ∙ h.0,
         skip c cs ds o.1 h.1,
       )
 
-  all_last : (cells : List CellView) → are_distinct (names cells) ≡ true →
+  all_last : (cells : List CellView) → are_apart (names cells) ≡ true →
       AllByRecursion (At (last_at cells)) cells
   all_last [] apart = tt
   all_last (c ∷ cs) apart =
       let a = c.seat.actor in
-      let p = and_parts (not (is_named (names cs) a)) (are_distinct (names cs)) apart in (
+      let p = and_parts (not (lists_actor (names cs) a)) (are_apart (names cs)) apart in (
         ap (λ (b : Bool). if b then Some c.actor else last_at cs a) (same_actor-refl a),
-        skip c cs cs (not-true (is_named (names cs) a) p.0) (all_last cs p.1),
+        skip c cs cs (not-true (lists_actor (names cs) a) p.0) (all_last cs p.1),
       )
 
   all_there : (cells : List CellView) (at to : Actor → Option GroupActor) →
-      ((a : Actor) → is_named (names cells) a ≡ true → to a ≡ at a) →
+      ((a : Actor) → lists_actor (names cells) a ≡ true → to a ≡ at a) →
       AllByRecursion (At at) cells → AllByRecursion (At to) cells
   all_there [] at to same h = tt
   all_there (c ∷ cs) at to same h =
       let a = c.seat.actor in (
-        same a (ap (λ (b : Bool). b || is_named (names cs) a) (same_actor-refl a)) ∙ h.0,
+        same a (ap (λ (b : Bool). b || lists_actor (names cs) a) (same_actor-refl a)) ∙ h.0,
         all_there cs at to
-            (λ b inn. same b (or_right (same_actor a b) (is_named (names cs) b) inn)) h.1,
+            (λ b inn. same b (or_right (same_actor a b) (lists_actor (names cs) b) inn)) h.1,
       )
 
 -- All cells of a book, each of which keeps to its own notes, make a run together.
 pub closes : (n : ℕ) (all : List Actor) (log : History) (cells : List CellView) →
     AllByRecursion (IsLedCell n) cells →
     IsWhole all log (map seat_in cells) →
-    are_distinct (map actor_in (map seat_in cells)) ≡ true →
-    ((a : Actor) → is_named all a ≡ true → is_named (map actor_in (map seat_in cells)) a ≡ true) →
-    ((a : Actor) → is_named (map actor_in (map seat_in cells)) a ≡ true → is_named all a ≡ true) →
+    are_apart (map actor_in (map seat_in cells)) ≡ true →
+    ((a : Actor) → lists_actor all a ≡ true → lists_actor (map actor_in (map seat_in cells)) a ≡ true) →
+    ((a : Actor) → lists_actor (map actor_in (map seat_in cells)) a ≡ true → lists_actor all a ≡ true) →
     ClosedRun n all log cells
 closes n all log cells led whole apart each within =
     let w : CellWorld = record { at = first_at n cells led; sent = [] } in
-    let there : (a : Actor) → is_named all a ≡ true → Found n log cells led a =
+    let there : (a : Actor) → lists_actor all a ≡ true → Found n log cells led a =
     λ a inn. found n log cells led whole.1 a (each a inn) in
     let lead : AllLead group all log w (last_at n cells) =
     λ a inn. let f = there a inn in (f.0, f.1, f.2, f.3, f.4) in
-    let out : (a : Actor) → is_named all a ≡ false → is_named (names cells) a ≡ false =
-    λ a no. false_from_ne_true (is_named (names cells) a)
+    let out : (a : Actor) → lists_actor all a ≡ false → lists_actor (names cells) a ≡ false =
+    λ a no. false_from_ne_true (lists_actor (names cells) a)
     (λ inn. true≢false (sym (within a inn) ∙ no)) in
     let ends = legal_runs group all log w (last_at n cells) whole.0 refl lead in
     record {

@@ -14,7 +14,7 @@ use Rattle.server.specs.ServerViews.{ServerView, IsMember}
 use Rattle.world.specs.GroupView.{GroupView, RepresentsGroup, ClientsKnowPlaces, nodes_of, node_in, client_in, client_view, renumbered}
 use Rattle.world.proofs.GroupClients.{node_of, nodes_stay}
 use Rattle.world.proofs.Zips.{zip_length, zip_from}
-use Rattle.event_book.specs.Actors.{same_actor, is_named}
+use Rattle.event_book.specs.Actors.{same_actor, lists_actor}
 use Rattle.event_book.specs.declared.view.Note.{Note}
 use Rattle.event_book.proofs.Logs.{all_map}
 use Rattle.cluster.specs.declared.own_input.OwnInput.{OwnInput}
@@ -133,7 +133,7 @@ module _ (n m : ℕ) (all : List Actor) (log : List (Note OwnInput)) (cells : Li
 
   -- whatever is there is one of the book's actors
   is_there : (a : Actor) (s : GroupActor) → r.first.at a ≡ Some s → (b : Bool) →
-      is_named all a ≡ b → is_named all a ≡ true
+      lists_actor all a ≡ b → lists_actor all a ≡ true
   is_there a s here true e = e
   is_there a s here false e = absurd (none-some s (sym (r.outside a e) ∙ here))
 
@@ -154,10 +154,10 @@ module _ (n m : ℕ) (all : List Actor) (log : List (Note OwnInput)) (cells : Li
         let a : NewClient n k r.first q.0 = q.2 in
         (a.agent, a.here, a.new, q.1 ∙ ap Some a.its);
     no_more_servers = λ i a at.
-        g.no_more_servers i (is_there (actors.Server i) a at (is_named all (actors.Server i)) refl);
+        g.no_more_servers i (is_there (actors.Server i) a at (lists_actor all (actors.Server i)) refl);
     no_more_clients = λ k a at.
         let p = g.no_more_clients k
-        (is_there (actors.Client k) a at (is_named all (actors.Client k)) refl) in
+        (is_there (actors.Client k) a at (lists_actor all (actors.Client k)) refl) in
         (p.0, p.1, omega (arith, p.2, c.count));
   }
 
@@ -206,8 +206,8 @@ module _ (at : Actor → Option GroupActor) (a : Actor) where
   Ends c = at c.seat.actor ≡ Some c.actor
 
   one_of : (c : CellView) (cs : List CellView) → Ends c →
-      (is_named (cell_actors cs) a ≡ true → HasCellOf cs at a) → (b : Bool) →
-      same_actor c.seat.actor a ≡ b → (b || is_named (cell_actors cs) a) ≡ true →
+      (lists_actor (cell_actors cs) a ≡ true → HasCellOf cs at a) → (b : Bool) →
+      same_actor c.seat.actor a ≡ b → (b || lists_actor (cell_actors cs) a) ≡ true →
       HasCellOf (c ∷ cs) at a
   one_of c cs end rest true same inn =
       let is = same_actor-true c.seat.actor a same in
@@ -222,7 +222,7 @@ module _ (at : Actor → Option GroupActor) (a : Actor) where
       record { place = suc r.place; actor = r.actor; named = r.named; here = r.here }
 
   cell_of : (cells : List CellView) → AllByRecursion Ends cells →
-      is_named (cell_actors cells) a ≡ true → HasCellOf cells at a
+      lists_actor (cell_actors cells) a ≡ true → HasCellOf cells at a
   cell_of [] ends inn = absurd (true≢false (sym inn))
   cell_of (c ∷ cs) ends inn =
       one_of c cs ends.0 (cell_of cs ends.1) (same_actor c.seat.actor a) refl inn

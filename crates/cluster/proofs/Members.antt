@@ -6,7 +6,7 @@ use Rattle.rows.specs.declared.actor.Actor.{Actor}
 use Rattle.rows.specs.declared.actor.Actor.TheVariants.{Server, Client}
 use Rattle.event_book.specs.declared.view.SeatView.{SeatView}
 use Rattle.event_book.specs.Actors.{same_actor}
-use Rattle.event_book.specs.Seats.{is_named}
+use Rattle.event_book.specs.Seats.{lists_actor}
 use Rattle.cluster.specs.declared.own_input.OwnInput.{OwnInput}
 use Rattle.cluster.specs.Actors.{IsNewActor, group_size}
 use Rattle.std.proofs.lemmas.Bool.{eqb-true}
@@ -24,18 +24,18 @@ or_later true b h = refl
 or_later false b h = h
 
 -- who is named is one of those that are within
-named_within : (n m : ℕ) (all : List Actor) (a : Actor) → AllByRecursion (IsOfGroup n m) all → is_named all a ≡ true → IsOfGroup n m a
+named_within : (n m : ℕ) (all : List Actor) (a : Actor) → AllByRecursion (IsOfGroup n m) all → lists_actor all a ≡ true → IsOfGroup n m a
 named_within n m [] a within h = absurd (true≢false (sym h))
-named_within n m (x ∷ xs) a within h = elim (either (same_actor x a) (is_named xs a) h) [
+named_within n m (x ∷ xs) a within h = elim (either (same_actor x a) (lists_actor xs a) h) [
   | inl e ↦ subst (λ y. IsOfGroup n m y) (same_actor-true x a e) within.0
   | inr e ↦ named_within n m xs a within.1 e
 ]
 
-all_within : (n m : ℕ) (all : List Actor) → ((a : Actor) → is_named all a ≡ true → IsOfGroup n m a) → AllByRecursion (IsOfGroup n m) all
+all_within : (n m : ℕ) (all : List Actor) → ((a : Actor) → lists_actor all a ≡ true → IsOfGroup n m a) → AllByRecursion (IsOfGroup n m) all
 all_within n m [] h = tt
-all_within n m (x ∷ xs) h = (h x (ap (λ (b : Bool). b || is_named xs x) (same_actor-refl x)), all_within n m xs (λ a named. h a (or_later (same_actor x a) (is_named xs a) named)))
+all_within n m (x ∷ xs) h = (h x (ap (λ (b : Bool). b || lists_actor xs x) (same_actor-refl x)), all_within n m xs (λ a named. h a (or_later (same_actor x a) (lists_actor xs a) named)))
 
-of_group : (n m : ℕ) (all : List Actor) → AreOfGroup n m all → (a : Actor) → is_named all a ≡ true → IsOfGroup n m a
+of_group : (n m : ℕ) (all : List Actor) → AreOfGroup n m all → (a : Actor) → lists_actor all a ≡ true → IsOfGroup n m a
 of_group n m all g (Server i) h = g.no_more_servers i h
 of_group n m all g (Client c) h = let k = g.no_more_clients c h in (omega (arith, k.1, k.2), omega (arith, k.1, k.2))
 
@@ -44,7 +44,7 @@ client_number m zero low high = absurd (omega (arith, low))
 client_number m (suc k) low high = (k, refl, omega (arith, high))
 
 -- those that are within, and all of them, are the group's
-pub are_of_group : (n m : ℕ) (all : List Actor) → AllByRecursion (IsOfGroup n m) all → ((i : ℕ) → i < n → is_named all (Server i) ≡ true) → ((k : ℕ) → k < m → is_named all (Client (suc k)) ≡ true) → AreOfGroup n m all
+pub are_of_group : (n m : ℕ) (all : List Actor) → AllByRecursion (IsOfGroup n m) all → ((i : ℕ) → i < n → lists_actor all (Server i) ≡ true) → ((k : ℕ) → k < m → lists_actor all (Client (suc k)) ≡ true) → AreOfGroup n m all
 are_of_group n m all within servers clients = record {
   servers = servers;
   no_more_servers = λ i h. named_within n m all (Server i) within h;
@@ -63,14 +63,14 @@ one_cell_more n (x ∷ xs) [] cell seat h is none new = absurd h
 one_cell_more n (x ∷ xs) (s ∷ ss) cell seat h is none new = (h.0, h.1, h.2, one_cell_more n xs ss cell seat h.3 is none new)
 
 -- where all are within, and each server is there, it is told by the clients
-pub of_group_either : (b : Bool) (n m : ℕ) (all : List Actor) → AllByRecursion (IsOfGroup n m) all → ((i : ℕ) → i < n → is_named all (Server i) ≡ true)
-    → (b ≡ true → (k : ℕ) → k < m → is_named all (Client (suc k)) ≡ true) → (b ≡ false → (k : ℕ) × (k < m) × (is_named all (Client (suc k)) ≡ false))
+pub of_group_either : (b : Bool) (n m : ℕ) (all : List Actor) → AllByRecursion (IsOfGroup n m) all → ((i : ℕ) → i < n → lists_actor all (Server i) ≡ true)
+    → (b ≡ true → (k : ℕ) → k < m → lists_actor all (Client (suc k)) ≡ true) → (b ≡ false → (k : ℕ) × (k < m) × (lists_actor all (Client (suc k)) ≡ false))
     → MatchBool b (AreOfGroup n m all) (AreOfGroup n m all → ⊥)
 of_group_either true n m all within servers has lacks = are_of_group n m all within servers (has refl)
 of_group_either false n m all within servers has lacks = λ g. let k = lacks refl in true≢false (sym (g.clients k.0 k.1) ∙ k.2)
 
 -- a server that lacks is of the group
-pub lacks_server : (n m : ℕ) (all : List Actor) → (i : ℕ) × (i < n) × (is_named all (Server i) ≡ false) → AreOfGroup n m all → ⊥
+pub lacks_server : (n m : ℕ) (all : List Actor) → (i : ℕ) × (i < n) × (lists_actor all (Server i) ≡ false) → AreOfGroup n m all → ⊥
 lacks_server n m all k g = true≢false (sym (g.servers k.0 k.1) ∙ k.2)
 
 pub one_less : (a b k : ℕ) → a + 1 ≡ b → b ≡ suc k → a ≡ k
@@ -78,9 +78,9 @@ one_less a b k e f = omega (arith, e, f)
 
 -- ---- how many servers there are
 
-size_over : (all : List Actor) (i : ℕ) → is_named all (Server i) ≡ true → i < group_size all
+size_over : (all : List Actor) (i : ℕ) → lists_actor all (Server i) ≡ true → i < group_size all
 size_over [] i h = absurd (true≢false (sym h))
-size_over (Server k ∷ all) i h = elim (either (same_actor (Server k) (Server i)) (is_named all (Server i)) h) [
+size_over (Server k ∷ all) i h = elim (either (same_actor (Server k) (Server i)) (lists_actor all (Server i)) h) [
   | inl e ↦ let is : k ≡ i = eqb-true k i e in omega (arith, is)
   | inr e ↦ let more = size_over all i e in omega (arith, more)
 ]

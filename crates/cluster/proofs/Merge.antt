@@ -8,7 +8,7 @@ use Rattle.std.proofs.lemmas.Option.{none-some}
 use Rattle.rows.specs.declared.actor.Actor.{Actor}
 use Rattle.rows.specs.declared.actor.Actor.TheVariants.{Server, Client}
 use Rattle.group_model.specs.Worlds.{Event}
-use Rattle.event_book.specs.Actors.{same_actor, is_named}
+use Rattle.event_book.specs.Actors.{same_actor, lists_actor}
 use Rattle.event_book.specs.Histories.{notes_of, NumberedFrom, IsDueEvent, IsDue, IsLegal}
 use Rattle.event_book.specs.declared.view.EventView.{EventView}
 use Rattle.event_book.specs.declared.view.EventView.TheVariants.{Own, Delivery, Crash}
@@ -57,13 +57,13 @@ module _ {A W : Type 0} where
       × Leads g.steps s (notes_of a log) t
 
   abbrev pub AllLead : Group A W → List Actor → History → W → (Actor → Option A) → Type 0
-  AllLead g all log w last = (a : Actor) → is_named all a ≡ true → Lead g last w log a
+  AllLead g all log w last = (a : Actor) → lists_actor all a ≡ true → Lead g last w log a
 
   -- the events of the history are a run from w, whose last world has these actors and these outputs
   abbrev pub EndsIn : Group A W → List Actor → History → W → (Actor → Option A) → Type 0
   EndsIn g all log w last =
       (v : W) × Runs g.happens w (events_of log log) v × (g.sent v ≡ sent_by log)
-      × ((a : Actor) → is_named all a ≡ true → g.here v a ≡ last a)
+      × ((a : Actor) → lists_actor all a ≡ true → g.here v a ≡ last a)
 
 -- ---- actors
 
@@ -172,11 +172,11 @@ module _ {A W : Type 0} (g : Group A W) (all : List Actor) (last : Actor → Opt
   -- what is left of the history runs on from a world in which what came before it was sent
   replays : (log pre post : History) (w : W) → log ≡ pre ++ post → NumberedFrom (length pre) post →
       AllByRecursion (IsDue log) post →
-      AllByRecursion (λ (e : Note OwnInput). is_named all e.actor ≡ true) post →
+      AllByRecursion (λ (e : Note OwnInput). lists_actor all e.actor ≡ true) post →
       g.sent w ≡ sent_by pre →
-      ((a : Actor) → is_named all a ≡ true → Lead g last w post a) →
+      ((a : Actor) → lists_actor all a ≡ true → Lead g last w post a) →
       (v : W) × Runs g.happens w (events_of log post) v × (g.sent v ≡ sent_by log)
-      × ((a : Actor) → is_named all a ≡ true → g.here v a ≡ last a)
+      × ((a : Actor) → lists_actor all a ≡ true → g.here v a ≡ last a)
   replays log pre [] w is numbered due there sent lead = (
     w,
     refl,

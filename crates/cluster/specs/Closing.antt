@@ -15,7 +15,7 @@ use Rattle.event_book.specs.declared.view.EventView.{EventView}
 use Rattle.event_book.specs.declared.view.EventView.TheVariants.{Own, Delivery, Crash}
 use Rattle.event_book.specs.declared.view.Note.{Note}
 use Rattle.event_book.specs.declared.view.SeatView.{SeatView}
-use Rattle.event_book.specs.Seats.{IsWhole, is_named}
+use Rattle.event_book.specs.Seats.{IsWhole, lists_actor}
 use Rattle.cluster.specs.declared.own_input.OwnInput.{OwnInput}
 use Rattle.cluster.specs.declared.own_input.OwnInput.TheVariants as own
 use Rattle.cluster.specs.declared.actor.GroupActor.{GroupActor}
@@ -26,10 +26,10 @@ use Rattle.cluster.specs.Cells.{CellView}
 
 -- these are the actors of a group of n servers and m clients
 pub record AreOfGroup (n m : ℕ) (all : List Actor) : Type 0 where
-  pub servers : (i : ℕ) → i < n → is_named all (actors.Server i) ≡ true
-  pub no_more_servers : (i : ℕ) → is_named all (actors.Server i) ≡ true → i < n
-  pub clients : (k : ℕ) → k < m → is_named all (actors.Client (suc k)) ≡ true
-  pub no_more_clients : (c : ℕ) → is_named all (actors.Client c) ≡ true → (k : ℕ) × (c ≡ suc k) × (k < m)
+  pub servers : (i : ℕ) → i < n → lists_actor all (actors.Server i) ≡ true
+  pub no_more_servers : (i : ℕ) → lists_actor all (actors.Server i) ≡ true → i < n
+  pub clients : (k : ℕ) → k < m → lists_actor all (actors.Client (suc k)) ≡ true
+  pub no_more_clients : (c : ℕ) → lists_actor all (actors.Client c) ≡ true → (k : ℕ) × (c ≡ suc k) × (k < m)
 
 -- ---- a history as a list of the group's events
 

@@ -3,7 +3,7 @@ ghost use Rattle.std.specs.Prelude.{◌≡◌, ◌<◌, ◌≤◌, ℕ, suc, tru
 ghost use Rattle.std.specs.List.{AllByRecursion};
 ghost use Rattle.rows.specs.declared.actor.Actor.TheVariants as actors;
 ghost use Rattle.world.specs.WorldView.{IsGroup};
-ghost use Rattle.event_book.specs.Seats.{is_named};
+ghost use Rattle.event_book.specs.Seats.{lists_actor};
 ghost use Rattle.cluster.specs.Actors.{group_size, IsNewActor};
 ghost use Rattle.cluster.specs.Closing.{AreOfGroup};
 ghost use Rattle.cluster.specs.Opening.{AreNew, IsOfGroup, MayOpen, WhyNotOpen};
@@ -28,9 +28,9 @@ pub(crate) fn is_size(n: usize) -> bool
 fn has_servers(n: usize, all: &[Actor]) -> bool
     requires { n ≤ 5 }
     ensures yes { result ≡ true →
-        (i : ℕ) → i < n → is_named all.now (actors.Server i) ≡ true }
+        (i : ℕ) → i < n → lists_actor all.now (actors.Server i) ≡ true }
     ensures no { result ≡ false →
-        (i : ℕ) × (i < n) × (is_named all.now (actors.Server i) ≡ false) }
+        (i : ℕ) × (i < n) × (lists_actor all.now (actors.Server i) ≡ false) }
 {
     for place in 0..n {
         let Some(server) = ServerId::from_place(place) else {
@@ -47,9 +47,9 @@ fn has_servers(n: usize, all: &[Actor]) -> bool
 fn has_clients(m: usize, all: &[Actor]) -> bool
     requires { m ≤ 64 }
     ensures yes { result ≡ true →
-        (k : ℕ) → k < m → is_named all.now (actors.Client (suc k)) ≡ true }
+        (k : ℕ) → k < m → lists_actor all.now (actors.Client (suc k)) ≡ true }
     ensures no { result ≡ false →
-        (k : ℕ) × (k < m) × (is_named all.now (actors.Client (suc k)) ≡ false) }
+        (k : ℕ) × (k < m) × (lists_actor all.now (actors.Client (suc k)) ≡ false) }
 {
     for place in 0..m {
         let Some(client) = ClientId::from_number(place as u8 + 1) else {

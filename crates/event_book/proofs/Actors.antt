@@ -6,7 +6,7 @@ use Rattle.std.proofs.lemmas.Bool.{eqb-true}
 use Rattle.std.proofs.lemmas.Bool.Decides.{eqb_tells}
 use Rattle.rows.specs.declared.actor.Actor.{Actor}
 use Rattle.rows.specs.declared.actor.Actor.TheVariants.{Server, Client}
-use Rattle.event_book.specs.Actors.{same_actor, is_named, are_distinct}
+use Rattle.event_book.specs.Actors.{same_actor, lists_actor, are_apart}
 use Rattle.event_book.specs.Inner.Actors.{IsActor}
 
 pub same_is : (a b : Actor) → same_actor a b ≡ true → a ≡ b
@@ -65,12 +65,12 @@ pub and_true : (b c : Bool) → (not b && c) ≡ true → c ≡ true
 and_true true c e = absurd (true≢false (sym e))
 and_true false c e = e
 
-named_first : (a : Actor) (rest : List Actor) → is_named (a ∷ rest) a ≡ true
-named_first a rest = ap (λ (c : Bool). c || is_named rest a) (same_self a)
+named_first : (a : Actor) (rest : List Actor) → lists_actor (a ∷ rest) a ≡ true
+named_first a rest = ap (λ (c : Bool). c || lists_actor rest a) (same_self a)
 
-pub named_at : (pre rest : List Actor) (a : Actor) → is_named (pre ++ a ∷ rest) a ≡ true
+pub named_at : (pre rest : List Actor) (a : Actor) → lists_actor (pre ++ a ∷ rest) a ≡ true
 named_at [] rest a = named_first a rest
-named_at (x ∷ xs) rest a = or_later (same_actor x a) (is_named (xs ++ a ∷ rest) a) (named_at xs rest a)
+named_at (x ∷ xs) rest a = or_later (same_actor x a) (lists_actor (xs ++ a ∷ rest) a) (named_at xs rest a)
 
 -- the list without the first place of a
 less : Actor → List Actor → List Actor
@@ -81,41 +81,41 @@ less_one : (b : Bool) (x : Actor) (xs ys : List Actor) → (b ≡ false → suc 
 less_one true x xs ys f = refl
 less_one false x xs ys f = let h = f refl in omega arith
 
-less_length : (a : Actor) (ys : List Actor) → is_named ys a ≡ true → suc (length (less a ys)) ≡ length ys
+less_length : (a : Actor) (ys : List Actor) → lists_actor ys a ≡ true → suc (length (less a ys)) ≡ length ys
 unfolding less
 less_length a [] h = absurd (true≢false (sym h))
-less_length a (x ∷ xs) h = less_one (same_actor x a) x xs (less a xs) (λ n. less_length a xs (or_else (same_actor x a) (is_named xs a) h n))
+less_length a (x ∷ xs) h = less_one (same_actor x a) x xs (less a xs) (λ n. less_length a xs (or_else (same_actor x a) (lists_actor xs a) h n))
 
-less_has_one : (k b : Bool) (a x z : Actor) (xs ys : List Actor) → same_actor x a ≡ k → same_actor x z ≡ b → z ≢ a → (b || is_named xs z) ≡ true → (is_named xs z ≡ true → is_named ys z ≡ true)
-    → is_named (if k then xs else x ∷ ys) z ≡ true
+less_has_one : (k b : Bool) (a x z : Actor) (xs ys : List Actor) → same_actor x a ≡ k → same_actor x z ≡ b → z ≢ a → (b || lists_actor xs z) ≡ true → (lists_actor xs z ≡ true → lists_actor ys z ≡ true)
+    → lists_actor (if k then xs else x ∷ ys) z ≡ true
 less_has_one true true a x z xs ys ka kb apart h f = absurd (apart (sym (same_is x z kb) ∙ same_is x a ka))
 less_has_one true false a x z xs ys ka kb apart h f = h
-less_has_one false true a x z xs ys ka kb apart h f = ap (λ (y : Bool). y || is_named ys z) kb
-less_has_one false false a x z xs ys ka kb apart h f = ap (λ (y : Bool). y || is_named ys z) kb ∙ f h
+less_has_one false true a x z xs ys ka kb apart h f = ap (λ (y : Bool). y || lists_actor ys z) kb
+less_has_one false false a x z xs ys ka kb apart h f = ap (λ (y : Bool). y || lists_actor ys z) kb ∙ f h
 
-less_has : (a z : Actor) (ys : List Actor) → z ≢ a → is_named ys z ≡ true → is_named (less a ys) z ≡ true
+less_has : (a z : Actor) (ys : List Actor) → z ≢ a → lists_actor ys z ≡ true → lists_actor (less a ys) z ≡ true
 unfolding less
 less_has a z [] apart h = h
 less_has a z (x ∷ xs) apart h = less_has_one (same_actor x a) (same_actor x z) a x z xs (less a xs) refl refl apart h (less_has a z xs apart)
 
-not_here : (x z : Actor) (xs : List Actor) → is_named xs x ≡ false → is_named xs z ≡ true → z ≢ x
-not_here x z xs out inn e = true≢false (sym inn ∙ ap (is_named xs) e ∙ out)
+not_here : (x z : Actor) (xs : List Actor) → lists_actor xs x ≡ false → lists_actor xs z ≡ true → z ≢ x
+not_here x z xs out inn e = true≢false (sym inn ∙ ap (lists_actor xs) e ∙ out)
 
 -- distinct actors that all stand in ys are no more than ys has
-no_more : (xs ys : List Actor) → are_distinct xs ≡ true → ((z : Actor) → is_named xs z ≡ true → is_named ys z ≡ true) → length xs ≤ length ys
+no_more : (xs ys : List Actor) → are_apart xs ≡ true → ((z : Actor) → lists_actor xs z ≡ true → lists_actor ys z ≡ true) → length xs ≤ length ys
 no_more [] ys d sub = omega arith
 no_more (x ∷ xs) ys d sub =
-    let here : is_named ys x ≡ true = sub x (named_first x xs) in
-    let out = not_true (is_named xs x) (are_distinct xs) d in
+    let here : lists_actor ys x ≡ true = sub x (named_first x xs) in
+    let out = not_true (lists_actor xs x) (are_apart xs) d in
     let l = less_length x ys here in
-    let ih = no_more xs (less x ys) (and_true (is_named xs x) (are_distinct xs) d) (λ z h. less_has x z ys (not_here x z xs out h) (sub z (or_later (same_actor x z) (is_named xs z) h))) in
+    let ih = no_more xs (less x ys) (and_true (lists_actor xs x) (are_apart xs) d) (λ z h. less_has x z ys (not_here x z xs out h) (sub z (or_later (same_actor x z) (lists_actor xs z) h))) in
     omega arith
 
 -- as many distinct actors as ys has, which all stand in ys, are all of ys
-pub covers : (xs ys : List Actor) (a : Actor) → are_distinct xs ≡ true → ((z : Actor) → is_named xs z ≡ true → is_named ys z ≡ true) → length ys ≤ length xs → is_named ys a ≡ true → is_named xs a ≡ true
-covers xs ys a d sub long inn = case (is_named xs a) refl
+pub covers : (xs ys : List Actor) (a : Actor) → are_apart xs ≡ true → ((z : Actor) → lists_actor xs z ≡ true → lists_actor ys z ≡ true) → length ys ≤ length xs → lists_actor ys a ≡ true → lists_actor xs a ≡ true
+covers xs ys a d sub long inn = case (lists_actor xs a) refl
   where
-    case : (b : Bool) → is_named xs a ≡ b → is_named xs a ≡ true
+    case : (b : Bool) → lists_actor xs a ≡ b → lists_actor xs a ≡ true
     case true e = e
     case false e =
         let l = less_length a ys inn in
@@ -127,9 +127,9 @@ named_one P true c x z e h k f = subst P (same_is x z e) h
 named_one P false c x z e h k f = f k
 
 -- what is so of each is so of each that stands there
-all_named : (P : Actor → Type 0) (xs : List Actor) (z : Actor) → AllByRecursion P xs → is_named xs z ≡ true → P z
+all_named : (P : Actor → Type 0) (xs : List Actor) (z : Actor) → AllByRecursion P xs → lists_actor xs z ≡ true → P z
 all_named P [] z h k = absurd (true≢false (sym k))
-all_named P (x ∷ xs) z h k = named_one P (same_actor x z) (is_named xs z) x z refl h.0 k (all_named P xs z h.1)
+all_named P (x ∷ xs) z h k = named_one P (same_actor x z) (lists_actor xs z) x z refl h.0 k (all_named P xs z h.1)
 
 -- the servers at places below n, and the clients of numbers up to n
 abbrev servers : ℕ → List Actor
@@ -140,35 +140,35 @@ abbrev clients : ℕ → List Actor
 clients zero = []
 clients (suc n) = Client (suc n) ∷ clients n
 
-in_servers : (n k : ℕ) (rest : List Actor) → k < n → is_named (servers n ++ rest) (Server k) ≡ true
+in_servers : (n k : ℕ) (rest : List Actor) → k < n → lists_actor (servers n ++ rest) (Server k) ≡ true
 in_servers zero k rest h = absurd (omega arith)
 in_servers (suc n) k rest h = ⊎_elim
-    (λ (e : (eqb n k ≡ true) × (n ≡ k)). ap (λ (b : Bool). b || is_named (servers n ++ rest) (Server k)) e.0)
-    (λ (e : (eqb n k ≡ false) × (n ≢ k)). or_later (eqb n k) (is_named (servers n ++ rest) (Server k)) (in_servers n k rest (below n k h e.1)))
+    (λ (e : (eqb n k ≡ true) × (n ≡ k)). ap (λ (b : Bool). b || lists_actor (servers n ++ rest) (Server k)) e.0)
+    (λ (e : (eqb n k ≡ false) × (n ≢ k)). or_later (eqb n k) (lists_actor (servers n ++ rest) (Server k)) (in_servers n k rest (below n k h e.1)))
     (eqb_tells n k)
   where
     below : (n k : ℕ) → k < suc n → n ≢ k → k < n
     below n k h apart = omega arith
 
-in_clients : (n k : ℕ) → 1 ≤ k → k ≤ n → is_named (clients n) (Client k) ≡ true
+in_clients : (n k : ℕ) → 1 ≤ k → k ≤ n → lists_actor (clients n) (Client k) ≡ true
 in_clients zero k l h = absurd (omega arith)
 in_clients (suc n) k l h = ⊎_elim
-    (λ (e : (eqb (suc n) k ≡ true) × (suc n ≡ k)). ap (λ (b : Bool). b || is_named (clients n) (Client k)) e.0)
-    (λ (e : (eqb (suc n) k ≡ false) × (suc n ≢ k)). or_later (eqb (suc n) k) (is_named (clients n) (Client k)) (in_clients n k l (below n k h e.1)))
+    (λ (e : (eqb (suc n) k ≡ true) × (suc n ≡ k)). ap (λ (b : Bool). b || lists_actor (clients n) (Client k)) e.0)
+    (λ (e : (eqb (suc n) k ≡ false) × (suc n ≢ k)). or_later (eqb (suc n) k) (lists_actor (clients n) (Client k)) (in_clients n k l (below n k h e.1)))
     (eqb_tells (suc n) k)
   where
     below : (n k : ℕ) → k ≤ suc n → suc n ≢ k → k ≤ n
     below n k h apart = omega arith
 
-in_all : (z : Actor) → IsActor z → is_named (servers 5 ++ clients 64) z ≡ true
+in_all : (z : Actor) → IsActor z → lists_actor (servers 5 ++ clients 64) z ≡ true
 in_all (Server k) h = in_servers 5 k (clients 64) h
 in_all (Client k) h = in_clients 64 k h.0 h.1
 
 -- distinct actors are no more than there are
-few : (actors : List Actor) → AllByRecursion IsActor actors → are_distinct actors ≡ true → length actors ≤ 69
+few : (actors : List Actor) → AllByRecursion IsActor actors → are_apart actors ≡ true → length actors ≤ 69
 few actors known apart = no_more actors (servers 5 ++ clients 64) apart (λ z h. in_all z (all_named IsActor actors z known h))
 
 -- the same, known of the actors once nothing is left of them
-pub few_at_end : (actors rest : List Actor) → (AllByRecursion IsActor rest → AllByRecursion IsActor actors) → are_distinct actors ≡ are_distinct rest → length rest ≡ 0 → length actors ≤ 69
+pub few_at_end : (actors rest : List Actor) → (AllByRecursion IsActor rest → AllByRecursion IsActor actors) → are_apart actors ≡ are_apart rest → length rest ≡ 0 → length actors ≤ 69
 few_at_end actors [] known apart e = few actors (known tt) apart
 few_at_end actors (x ∷ xs) known apart e = absurd (omega arith)

@@ -11,7 +11,7 @@ use Rattle.event_book.specs.declared.view.Note.{Note}
 use Rattle.event_book.specs.declared.view.TokenView.{TokenView}
 use Rattle.event_book.specs.declared.view.SeatView.{SeatView}
 use Rattle.event_book.specs.declared.view.BookView.{BookView}
-use Rattle.event_book.specs.Actors.{same_actor, is_named, are_distinct}
+use Rattle.event_book.specs.Actors.{same_actor, lists_actor, are_apart}
 use Rattle.event_book.specs.Histories.{notes_of, NumberedFrom, IsDueEvent, IsDue}
 use Rattle.event_book.specs.Seats.{actor_in, IsSent, HasOutput, last_token}
 use Rattle.event_book.specs.Inner.Rule.{FitsSeat, Fits}
@@ -112,18 +112,18 @@ module _ {I : Type 0} where
   fewer a y [] = omega arith
   fewer a y (x ∷ xs) = fewer_one (not (same_actor y x.actor)) (same_actor a x.actor) x a (without y xs) (notes_of a xs) refl (fewer a y xs)
 
-  named_one : (b : Bool) (xs : List Actor) (e : Note I) (l : List (Note I)) → (b || is_named xs e.actor) ≡ true → AllByRecursion (λ (f : Note I). is_named xs f.actor ≡ true) l
-      → AllByRecursion (λ (f : Note I). is_named xs f.actor ≡ true) (cond (not b) (e ∷ l) l)
+  named_one : (b : Bool) (xs : List Actor) (e : Note I) (l : List (Note I)) → (b || lists_actor xs e.actor) ≡ true → AllByRecursion (λ (f : Note I). lists_actor xs f.actor ≡ true) l
+      → AllByRecursion (λ (f : Note I). lists_actor xs f.actor ≡ true) (cond (not b) (e ∷ l) l)
   named_one true xs e l h k = k
   named_one false xs e l h k = (h, k)
 
-  named_without : (y : Actor) (xs : List Actor) (log : List (Note I)) → AllByRecursion (λ (e : Note I). is_named (y ∷ xs) e.actor ≡ true) log → AllByRecursion (λ (e : Note I). is_named xs e.actor ≡ true) (without y log)
+  named_without : (y : Actor) (xs : List Actor) (log : List (Note I)) → AllByRecursion (λ (e : Note I). lists_actor (y ∷ xs) e.actor ≡ true) log → AllByRecursion (λ (e : Note I). lists_actor xs e.actor ≡ true) (without y log)
   unfolding without
   named_without y xs [] h = tt
   named_without y xs (e ∷ es) h = named_one (same_actor y e.actor) xs e (without y es) h.0 (named_without y xs es h.1)
 
   -- actors who note m events each at most note so many together
-  pub bounded : (actors : List Actor) (m : ℕ) (log : List (Note I)) → AllByRecursion (λ (e : Note I). is_named actors e.actor ≡ true) log → ((a : Actor) → length (notes_of a log) ≤ m) → length log ≤ length actors * m
+  pub bounded : (actors : List Actor) (m : ℕ) (log : List (Note I)) → AllByRecursion (λ (e : Note I). lists_actor actors e.actor ≡ true) log → ((a : Actor) → length (notes_of a log) ≤ m) → length log ≤ length actors * m
   bounded [] m [] h s = omega arith
   bounded [] m (e ∷ es) h s = absurd (true≢false (sym h.0))
   bounded (y ∷ ys) m log h s =
@@ -132,24 +132,24 @@ module _ {I : Type 0} where
       let parts = split_length y log in
       omega (arith, suc-mul (length ys) m)
 
-  not_among : (holder : Actor → ℕ) (i j : ℕ) (a : Actor) (qs : List (SeatView I)) → holder a ≡ i → i ≢ j → AllByRecursion (λ (q : SeatView I). holder q.actor ≡ j) qs → is_named (map actor_in qs) a ≡ false
+  not_among : (holder : Actor → ℕ) (i j : ℕ) (a : Actor) (qs : List (SeatView I)) → holder a ≡ i → i ≢ j → AllByRecursion (λ (q : SeatView I). holder q.actor ≡ j) qs → lists_actor (map actor_in qs) a ≡ false
   not_among holder i j a [] at apart h = refl
   not_among holder i j a (q ∷ qs) at apart h =
-      or_false (same_actor q.actor a) (is_named (map actor_in qs) a) (apart_is q.actor a (λ e. apart (sym at ∙ ap holder (sym e) ∙ h.0))) (not_among holder i j a qs at apart h.1)
+      or_false (same_actor q.actor a) (lists_actor (map actor_in qs) a) (apart_is q.actor a (λ e. apart (sym at ∙ ap holder (sym e) ∙ h.0))) (not_among holder i j a qs at apart h.1)
 
-  named_append : (a : Actor) (ps qs : List (SeatView I)) → is_named (map actor_in ps) a ≡ false → is_named (map actor_in qs) a ≡ false → is_named (map actor_in (ps ++ qs)) a ≡ false
+  named_append : (a : Actor) (ps qs : List (SeatView I)) → lists_actor (map actor_in ps) a ≡ false → lists_actor (map actor_in qs) a ≡ false → lists_actor (map actor_in (ps ++ qs)) a ≡ false
   named_append a [] qs h k = k
   named_append a (p ∷ ps) qs h k =
-      or_false (same_actor p.actor a) (is_named (map actor_in (ps ++ qs)) a) (or_left (same_actor p.actor a) (is_named (map actor_in ps) a) h) (named_append a ps qs (or_right (same_actor p.actor a) (is_named (map actor_in ps) a) h) k)
+      or_false (same_actor p.actor a) (lists_actor (map actor_in (ps ++ qs)) a) (or_left (same_actor p.actor a) (lists_actor (map actor_in ps) a) h) (named_append a ps qs (or_right (same_actor p.actor a) (lists_actor (map actor_in ps) a) h) k)
 
   -- the seats of two views
   pub apart_join : (holder : Actor → ℕ) (i j : ℕ) (ps qs : List (SeatView I)) → i ≢ j → AllByRecursion (λ (p : SeatView I). holder p.actor ≡ i) ps → AllByRecursion (λ (q : SeatView I). holder q.actor ≡ j) qs
-      → are_distinct (map actor_in ps) ≡ true → are_distinct (map actor_in qs) ≡ true → are_distinct (map actor_in (ps ++ qs)) ≡ true
+      → are_apart (map actor_in ps) ≡ true → are_apart (map actor_in qs) ≡ true → are_apart (map actor_in (ps ++ qs)) ≡ true
   apart_join holder i j [] qs apart h k d e = e
   apart_join holder i j (p ∷ ps) qs apart h k d e =
-      both_true (is_named (map actor_in (ps ++ qs)) p.actor) (are_distinct (map actor_in (ps ++ qs)))
-      (named_append p.actor ps qs (not_true (is_named (map actor_in ps) p.actor) (are_distinct (map actor_in ps)) d) (not_among holder i j p.actor qs h.0 apart k))
-      (apart_join holder i j ps qs apart h.1 k (and_true (is_named (map actor_in ps) p.actor) (are_distinct (map actor_in ps)) d) e)
+      both_true (lists_actor (map actor_in (ps ++ qs)) p.actor) (are_apart (map actor_in (ps ++ qs)))
+      (named_append p.actor ps qs (not_true (lists_actor (map actor_in ps) p.actor) (are_apart (map actor_in ps)) d) (not_among holder i j p.actor qs h.0 apart k))
+      (apart_join holder i j ps qs apart h.1 k (and_true (lists_actor (map actor_in ps) p.actor) (are_apart (map actor_in ps)) d) e)
 
   sits : (pre log : List (Note I)) → NumberedFrom (length pre) log → AllByRecursion (λ (e : Note I). slice_get (pre ++ log) e.stamp ≡ Some e) log
   sits pre [] h = tt

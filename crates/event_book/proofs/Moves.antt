@@ -19,7 +19,7 @@ use Rattle.event_book.specs.declared.view.Note.{Note}
 use Rattle.event_book.specs.declared.view.TokenView.{TokenView}
 use Rattle.event_book.specs.declared.view.SeatView.{SeatView}
 use Rattle.event_book.specs.declared.view.BookView.{BookView}
-use Rattle.event_book.specs.Actors.{same_actor, is_named, are_distinct}
+use Rattle.event_book.specs.Actors.{same_actor, lists_actor, are_apart}
 use Rattle.event_book.specs.Histories.{notes_of, NumberedFrom, IsDueEvent, IsDue}
 use Rattle.event_book.specs.Seats.{actor_in, IsSent, MayNote, HasOutput, last_token, new_seat, with_note}
 use Rattle.event_book.specs.Inner.Views.{HolderView, IsSeat, IsToken, opening_view, spent_view, seat_view, token_view, seat_in, token_in, first_token, last_token_view, taken_in, joined, handed_view, rest_view}
@@ -74,15 +74,15 @@ new_actors : (I : Type 0) (actors : List Actor) → map (actor_in {I = I}) (map 
 new_actors I [] = refl
 new_actors I (x ∷ xs) = ap (λ (l : List Actor). x ∷ l) (new_actors I xs)
 
-others_apart : (I : Type 0) (a : Actor) (rest : List Actor) → is_named rest a ≡ false → AllByRecursion (λ (q : SeatView I). q.actor ≢ a) (map new_seat rest)
+others_apart : (I : Type 0) (a : Actor) (rest : List Actor) → lists_actor rest a ≡ false → AllByRecursion (λ (q : SeatView I). q.actor ≢ a) (map new_seat rest)
 others_apart I a [] h = tt
 others_apart I a (x ∷ xs) h = (
-  (λ e. true≢false (sym (is_same x a e) ∙ or_left (same_actor x a) (is_named xs a) h)),
-  others_apart I a xs (or_right (same_actor x a) (is_named xs a) h),
+  (λ e. true≢false (sym (is_same x a e) ∙ or_left (same_actor x a) (lists_actor xs a) h)),
+  others_apart I a xs (or_right (same_actor x a) (lists_actor xs a) h),
 )
 
-within_one : (b c : Bool) (actors : List Actor) (a z : Actor) → same_actor a z ≡ b → is_named actors a ≡ true → (b || c) ≡ true → (c ≡ true → is_named actors z ≡ true) → is_named actors z ≡ true
-within_one true c actors a z is at h f = sym (ap (is_named actors) (same_is a z is)) ∙ at
+within_one : (b c : Bool) (actors : List Actor) (a z : Actor) → same_actor a z ≡ b → lists_actor actors a ≡ true → (b || c) ≡ true → (c ≡ true → lists_actor actors z ≡ true) → lists_actor actors z ≡ true
+within_one true c actors a z is at h f = sym (ap (lists_actor actors) (same_is a z is)) ∙ at
 within_one false c actors a z is at h f = f h
 
 module _ {I : Type 0} where
@@ -142,7 +142,7 @@ module _ {I : Type 0} where
             numbered_more 0 log e kept.legal.0 (is ∙ omega arith),
             all_append (IsDue (log ++ e ∷ [])) log (e ∷ []) (all_map (IsDue log) (IsDue (log ++ e ∷ [])) log (λ f. due_longer log (e ∷ []) f) kept.legal.1)
                 (due_longer log (e ∷ []) e (subst (λ (k : ℕ). IsDueEvent log k p.actor t.event) (sym is) (due_from log p t.event mine.3 may)), tt),
-            all_append (λ (f : Note I). is_named actors f.actor ≡ true) log (e ∷ []) kept.legal.2 (mine.1, tt),
+            all_append (λ (f : Note I). lists_actor actors f.actor ≡ true) log (e ∷ []) kept.legal.2 (mine.1, tt),
           );
           few = kept.few;
           short = λ a. shorter a log e p refl mine.2 room (kept.short a) (same_tells p.actor a);
@@ -224,9 +224,9 @@ module _ {I : Type 0} where
         apart_join kept.holder id other v.seats w.seats (λ e. apart (sym e)) (held actors kept.holder kept.log id v mine) (held actors kept.holder kept.log other w theirs) first.2 second.2,
       )
 
-  within : (actors : List Actor) (holder : Actor → ℕ) (log : List (Note I)) (i : ℕ) (z : Actor) (ps : List (SeatView I)) → AllByRecursion (FitsSeat actors holder log i) ps → is_named (map actor_in ps) z ≡ true → is_named actors z ≡ true
+  within : (actors : List Actor) (holder : Actor → ℕ) (log : List (Note I)) (i : ℕ) (z : Actor) (ps : List (SeatView I)) → AllByRecursion (FitsSeat actors holder log i) ps → lists_actor (map actor_in ps) z ≡ true → lists_actor actors z ≡ true
   within actors holder log i z [] h k = absurd (true≢false (sym k))
-  within actors holder log i z (p ∷ ps) h k = within_one (same_actor p.actor z) (is_named (map actor_in ps) z) actors p.actor z refl h.0.1 k (within actors holder log i z ps h.1)
+  within actors holder log i z (p ∷ ps) h k = within_one (same_actor p.actor z) (lists_actor (map actor_in ps) z) actors p.actor z refl h.0.1 k (within actors holder log i z ps h.1)
 
   looks : (actors : List Actor) (slots id : ℕ) (v : BookView I) → Allows (Kept actors) slots id (v, []) 0 (λ n. n) (LooksAt actors (v, []))
   looks actors slots id v s kept wide at range =
@@ -252,7 +252,7 @@ module _ {I : Type 0} where
       )
 
   -- the book at the start
-  pub begins : (actors : List Actor) → length actors ≤ 69 → are_distinct actors ≡ true → Kept {I = I} actors (opening (0 ∷ []) [] (opening_view actors))
+  pub begins : (actors : List Actor) → length actors ≤ 69 → are_apart actors ≡ true → Kept {I = I} actors (opening (0 ∷ []) [] (opening_view actors))
   begins actors few apart = record {
     log = [];
     holder = λ _. 0;
@@ -264,7 +264,7 @@ module _ {I : Type 0} where
   }
     where
       one : (i : ℕ) (v : BookView I) → get_elem? (opening_view actors ∷ []) i ≡ some v → Fits actors (λ _. 0) [] i v
-      one zero v e = subst (Fits actors (λ _. 0) [] 0) (some-injective (opening_view actors) v e) (new_fit I [] actors, tt, ap are_distinct (new_actors I actors) ∙ apart)
+      one zero v e = subst (Fits actors (λ _. 0) [] 0) (some-injective (opening_view actors) v e) (new_fit I [] actors, tt, ap are_apart (new_actors I actors) ∙ apart)
       one (suc i) v e = absurd (some-ne-none v (sym e))
 
   apart_seats : (actors : List Actor) (holder : Actor → ℕ) (log : List (Note I)) (i : ℕ) (a : Actor) (n : ℕ) (ps : List (SeatView I)) → AllByRecursion (λ (q : SeatView I). q.actor ≢ a) ps → AllByRecursion (FitsSeat actors holder log i) ps
@@ -286,7 +286,7 @@ module _ {I : Type 0} where
       (λ i v there. ⊎_elim
       (λ (x : get_elem? (slice_set s.views id left) i ≡ some v). ⊎_elim
       (λ (y : (i ≡ id) × (left ≡ v)). subst (λ (z : ℕ × BookView I). Fits actors to kept.log z.0 z.1) (λ k. (sym y.0 k, y.1 k))
-      (apart_seats actors kept.holder kept.log id p.actor n ps apart mine.0.1, tt, and_true (is_named (map actor_in ps) p.actor) (are_distinct (map actor_in ps)) mine.2))
+      (apart_seats actors kept.holder kept.log id p.actor n ps apart mine.0.1, tt, and_true (lists_actor (map actor_in ps) p.actor) (are_apart (map actor_in ps)) mine.2))
       (λ (y : (i ≢ id) × (get_elem? s.views i ≡ some v)).
       let old = kept.fits i v y.1 in
       (apart_seats actors kept.holder kept.log i p.actor n v.seats (far_seats actors kept.holder kept.log i p.actor v.seats (λ e. y.0 (sym e ∙ mine.0.0.0)) old.0) old.0, old.1, old.2))
@@ -327,23 +327,23 @@ module _ {I : Type 0} where
   token_stands place me them is seat has =
       is ∙ ap (λ (x : HolderView I). (last_token_view place x.0, [])) seat ∙ ap (λ (l : List (TokenView I)). (record { seats = []; tokens = l }, [])) (new_token place me them is seat has)
 
-  deals_as : (actors rest : List Actor) (a : Actor) (id : ℕ) (v : BookView I) → v ≡ opening_view (a ∷ rest) → are_distinct (a ∷ rest) ≡ true → Splits (Kept actors) id v (rest_view v) (handed_view v)
+  deals_as : (actors rest : List Actor) (a : Actor) (id : ℕ) (v : BookView I) → v ≡ opening_view (a ∷ rest) → are_apart (a ∷ rest) ≡ true → Splits (Kept actors) id v (rest_view v) (handed_view v)
   deals_as actors rest a id v is apart =
-      subst (λ (u : BookView I). Splits (Kept actors) id u (rest_view u) (handed_view u)) (sym is) (deals actors id (new_seat a) (map new_seat rest) (others_apart I a rest (not_true (is_named rest a) (are_distinct rest) apart)))
+      subst (λ (u : BookView I). Splits (Kept actors) id u (rest_view u) (handed_view u)) (sym is) (deals actors id (new_seat a) (map new_seat rest) (others_apart I a rest (not_true (lists_actor rest a) (are_apart rest) apart)))
 
   pub looks_as : (actors key : List Actor) (slots id : ℕ) (me : HolderView I) → me ≡ (record { seats = me.0.seats; tokens = [] }, []) → key ≡ actors → Allows (Kept key) slots id me 0 (λ n. n) (LooksAt actors me)
   looks_as actors key slots id me is same =
       subst (λ (x : HolderView I × List Actor). Allows (Kept key) slots id x.0 0 (λ n. n) (LooksAt x.1 x.0)) (λ k. (sym is k, same k)) (looks key slots id record { seats = me.0.seats; tokens = [] })
 
   -- as many seats as the book has actors are all its seats
-  pub all_seats : (actors : List Actor) (seats : List (SeatView I)) (me after : HolderView I) (n : ℕ) (a : Actor) → LooksAt actors me n after → me.0.seats ≡ seats → length seats ≡ length actors → is_named actors a ≡ true
-      → is_named (map actor_in seats) a ≡ true
+  pub all_seats : (actors : List Actor) (seats : List (SeatView I)) (me after : HolderView I) (n : ℕ) (a : Actor) → LooksAt actors me n after → me.0.seats ≡ seats → length seats ≡ length actors → lists_actor actors a ≡ true
+      → lists_actor (map actor_in seats) a ≡ true
   all_seats actors seats me after n a look is long inn =
       let size : length (map actor_in seats) ≡ length seats = length-map seats actor_in in
-      covers (map actor_in seats) actors a (sym (ap (λ l. are_distinct (map actor_in l)) is) ∙ look.1) (λ z h. look.2 z (ap (λ l. is_named (map actor_in l) z) is ∙ h)) (omega arith) inn
+      covers (map actor_in seats) actors a (sym (ap (λ l. are_apart (map actor_in l)) is) ∙ look.1) (λ z h. look.2 z (ap (λ l. lists_actor (map actor_in l) z) is ∙ h)) (omega arith) inn
 
   -- the seat of the i-th actor is handed out
-  pub hands_out : (actors items : List Actor) (i id : ℕ) (v : BookView I) → v ≡ opening_view (drop i items) → are_distinct (drop i items) ≡ true → i < length items → Splits (Kept actors) id v (rest_view v) (handed_view v)
+  pub hands_out : (actors items : List Actor) (i id : ℕ) (v : BookView I) → v ≡ opening_view (drop i items) → are_apart (drop i items) ≡ true → i < length items → Splits (Kept actors) id v (rest_view v) (handed_view v)
   hands_out actors items i id v is apart h =
       let off : drop i items ≡ get_or items i (Server 0) ∷ drop (suc i) items = drop-cons items i (Server 0) h in
-      deals_as actors (drop (suc i) items) (get_or items i (Server 0)) id v (is ∙ ap opening_view off) (sym (ap are_distinct off) ∙ apart)
+      deals_as actors (drop (suc i) items) (get_or items i (Server 0)) id v (is ∙ ap opening_view off) (sym (ap are_apart off) ∙ apart)

@@ -11,10 +11,10 @@ same_actor (Client m) (Server n) = false
 same_actor (Client m) (Client n) = m == n
 
 -- whether the actor is one of these
-abbrev pub is_named : List Actor → Actor → Bool
-is_named actors actor = list_any (λ named. same_actor named actor) actors
+abbrev pub lists_actor : List Actor → Actor → Bool
+lists_actor actors actor = list_any (λ named. same_actor named actor) actors
 
 -- no actor stands twice
-abbrev pub are_distinct : List Actor → Bool
-are_distinct [] = true
-are_distinct (actor ∷ actors) = not (is_named actors actor) && are_distinct actors
+abbrev pub are_apart : List Actor → Bool
+are_apart [] = true
+are_apart (actor ∷ actors) = not (lists_actor actors actor) && are_apart actors

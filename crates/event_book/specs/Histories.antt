@@ -5,7 +5,7 @@ use Rattle.rows.specs.declared.actor.Actor.{Actor}
 use Rattle.event_book.specs.declared.view.EventView.{EventView}
 use Rattle.event_book.specs.declared.view.EventView.TheVariants.{Own, Delivery, Crash}
 use Rattle.event_book.specs.declared.view.Note.{Note}
-use Rattle.event_book.specs.Actors.{same_actor, is_named}
+use Rattle.event_book.specs.Actors.{same_actor, lists_actor}
 
 module _ {I : Type 0} where
   -- what one actor noted, in order
@@ -34,4 +34,4 @@ module _ {I : Type 0} where
   abbrev pub IsLegal : List Actor → List (Note I) → Type 0
   IsLegal actors log =
       NumberedFrom 0 log × AllByRecursion (IsDue log) log
-      × AllByRecursion (λ (note : Note I). is_named actors note.actor ≡ true) log
+      × AllByRecursion (λ (note : Note I). lists_actor actors note.actor ≡ true) log

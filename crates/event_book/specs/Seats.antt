@@ -9,7 +9,7 @@ use Rattle.event_book.specs.declared.view.Note.{Note}
 use Rattle.event_book.specs.declared.view.TokenView.{TokenView}
 use Rattle.event_book.specs.declared.view.SeatView.{SeatView}
 use Rattle.event_book.specs.Histories.{notes_of, IsLegal}
-pub use Rattle.event_book.specs.Actors.{is_named, are_distinct}
+pub use Rattle.event_book.specs.Actors.{lists_actor, are_apart}
 
 module _ {I : Type 0} where
   abbrev pub actor_in : SeatView I → Actor

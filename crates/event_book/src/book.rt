@@ -2,7 +2,7 @@
 ghost use Rattle.std.specs.Prelude.{◌≡◌, ◌<◌, true, List, length, map};
 ghost use Rattle.rows.specs.declared.actor.Actor.{Actor};
 ghost use Rattle.event_book.specs.declared.view.Note.{Note};
-ghost use Rattle.event_book.specs.Seats.{actor_in, are_distinct, is_named, IsWhole};
+ghost use Rattle.event_book.specs.Seats.{actor_in, are_apart, lists_actor, IsWhole};
 
 use crate::rule::{BookRule, JoinsSeats, Looks};
 use crate::seat::ActorSeat;
@@ -68,11 +68,11 @@ impl<I, B: BookId> Book<I, B> {
     #[tactic(auto, using(crate::proofs::Moves::joins))]
     pub fn close(self, seats: Vec<ActorSeat<I, B>>) -> u64
         requires { length seats.items ≡ length B.actors }
-        ensures all { (actor : Actor) → is_named B.actors actor ≡ true
-            → is_named (map actor_in seats.items) actor ≡ true }
-        ensures apart { are_distinct (map actor_in seats.items) ≡ true }
-        ensures within { (actor : Actor) → is_named (map actor_in seats.items) actor ≡ true
-            → is_named B.actors actor ≡ true }
+        ensures all { (actor : Actor) → lists_actor B.actors actor ≡ true
+            → lists_actor (map actor_in seats.items) actor ≡ true }
+        ensures apart { are_apart (map actor_in seats.items) ≡ true }
+        ensures within { (actor : Actor) → lists_actor (map actor_in seats.items) actor ≡ true
+            → lists_actor B.actors actor ≡ true }
         ensures whole { (log : List (Note I)) × (result ≡ length log)
             × IsWhole B.actors log seats.items }
     {

@@ -2,7 +2,7 @@
 ghost use Rattle.std.specs.Prelude.{◌≡◌, ◌⊎◌, ◌↔◌, ◌<◌, ◌≤◌, true, false, [], length, map};
 ghost use Rattle.std.specs.Prelude.{IfErr, IfOk, OnOk};
 ghost use Rattle.rows.specs.declared.refusal.Refusal.TheVariants as refusals;
-ghost use Rattle.event_book.specs.Seats.{are_distinct, new_seat};
+ghost use Rattle.event_book.specs.Seats.{are_apart, new_seat};
 ghost use Rattle.event_book.specs.Inner.Actors.{IsActor};
 
 use crate::book::{Book, BookId};
@@ -27,7 +27,7 @@ impl<I> Model for OpenedBook<I> {
     ghost use Rattle.std.specs.Prelude.{◌≡◌, ◌<◌, List, [], true, length};
     ghost use Rattle.atomic_table.specs.Seated.{TableId};
     ghost use Rattle.rows.specs.declared.actor.Actor.{Actor};
-    ghost use Rattle.event_book.specs.Seats.{are_distinct};
+    ghost use Rattle.event_book.specs.Seats.{are_apart};
     ghost use Rattle.event_book.specs.Inner.Views.{opening_view};
 
     ghost Value = { TableId × List Actor };
@@ -36,7 +36,7 @@ impl<I> Model for OpenedBook<I> {
 
     ghost invariant = { λ o. (o.first.table_id ≡ o.table.shared.table_id)
         × (o.table.shared.table_id.words ≡ 1) × (o.table.shared.key.items ≡ o.actors.items)
-        × (are_distinct o.actors.items ≡ true) × (0 < length o.actors.items)
+        × (are_apart o.actors.items ≡ true) × (0 < length o.actors.items)
         × (o.first.me ≡ (opening_view o.actors.items, [])) };
 }
 
@@ -57,7 +57,7 @@ fn known(actor: Actor)
 // Whether no actor stands twice. There are 69, so a list that is longer names one twice.
 #[tactic(auto, using(crate::proofs::Actors::few_at_end))]
 fn differ(actors: &[Actor]) -> bool
-    ensures value { result ≡ are_distinct actors.now }
+    ensures value { result ≡ are_apart actors.now }
     ensures few { result ≡ true → length actors.now ≤ 69 }
 {
     let mut rest = actors;
@@ -81,9 +81,9 @@ impl<I> OpenedBook<I> {
     pub fn new(alloc: Global, actors: Vec<Actor>) -> Result<OpenedBook<I>, Refusal>
         ensures ok { IfOk result (λ o. o.1 ≡ actors.items) }
         ensures some { OnOk result (0 < length actors.items) }
-        ensures differ { OnOk result (are_distinct actors.items ≡ true) }
+        ensures differ { OnOk result (are_apart actors.items ≡ true) }
         ensures out_of_range { IfErr result (λ e. (e ≡ refusals.OutOfRange)
-            ↔ ((actors.items ≡ []) ⊎ (are_distinct actors.items ≡ false))) }
+            ↔ ((actors.items ≡ []) ⊎ (are_apart actors.items ≡ false))) }
         ensures refusals { IfErr result (λ e.
             (e ≡ refusals.OutOfRange) ⊎ (e ≡ refusals.NoMemory)) }
     {

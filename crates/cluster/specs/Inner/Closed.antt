@@ -4,7 +4,7 @@ use Rattle.std.specs.List.{AllByRecursion}
 use Rattle.rows.specs.declared.actor.Actor.{Actor}
 use Rattle.group_model.specs.Worlds.{Event}
 use Rattle.event_book.specs.declared.view.Note.{Note}
-use Rattle.event_book.specs.Seats.{IsWhole, actor_in, are_distinct, is_named}
+use Rattle.event_book.specs.Seats.{IsWhole, actor_in, are_apart, lists_actor}
 use Rattle.cluster.specs.declared.own_input.OwnInput.{OwnInput}
 use Rattle.cluster.specs.declared.actor.GroupActor.{GroupActor}
 use Rattle.cluster.specs.declared.closing.NamedActor.{NamedActor}
@@ -39,9 +39,9 @@ cell_actors cells = map actor_in (map seat_in cells)
 pub record IsClosed (actors : List Actor) (log : List (Note OwnInput)) (cells : List CellView) : Type 0 where
   pub whole : IsWhole actors log (map seat_in cells)
   pub led : AllByRecursion (IsLedCell (group_size actors)) cells
-  pub apart : are_distinct (cell_actors cells) ≡ true
-  pub all : (a : Actor) → is_named actors a ≡ true → is_named (cell_actors cells) a ≡ true
-  pub within : (a : Actor) → is_named (cell_actors cells) a ≡ true → is_named actors a ≡ true
+  pub apart : are_apart (cell_actors cells) ≡ true
+  pub all : (a : Actor) → lists_actor actors a ≡ true → lists_actor (cell_actors cells) a ≡ true
+  pub within : (a : Actor) → lists_actor (cell_actors cells) a ≡ true → lists_actor actors a ≡ true
 
 -- the events are all that the cells of a closed book noted, in the order of their stamps
 abbrev pub AreAllNoted : List Actor → List CellView → List Event → Type 0

@@ -10,7 +10,7 @@ use Rattle.event_book.specs.declared.view.Note.{Note}
 use Rattle.event_book.specs.declared.view.SeatView.{SeatView}
 use Rattle.event_book.specs.declared.view.BookView.{BookView}
 use Rattle.event_book.specs.Histories.{notes_of, IsLegal}
-use Rattle.event_book.specs.Seats.{is_named, are_distinct, actor_in, IsSent, IsWhole, with_note}
+use Rattle.event_book.specs.Seats.{lists_actor, are_apart, actor_in, IsSent, IsWhole, with_note}
 use Rattle.event_book.specs.Inner.Views.{HolderView}
 
 module _ {I : Type 0} where
@@ -18,14 +18,14 @@ module _ {I : Type 0} where
   -- of each actor stands
   abbrev pub FitsSeat : List Actor → (Actor → ℕ) → List (Note I) → ℕ → SeatView I → Type 0
   FitsSeat actors holder log i seat =
-      (holder seat.actor ≡ i) × (is_named actors seat.actor ≡ true)
+      (holder seat.actor ≡ i) × (lists_actor actors seat.actor ≡ true)
       × (seat.notes ≡ notes_of seat.actor log) × AllByRecursion (IsSent log) seat.taken
 
   -- and of the view at i
   abbrev pub Fits : List Actor → (Actor → ℕ) → List (Note I) → ℕ → BookView I → Type 0
   Fits actors holder log i view =
       AllByRecursion (FitsSeat actors holder log i) view.seats
-      × AllByRecursion (IsSent log) view.tokens × (are_distinct (map actor_in view.seats) ≡ true)
+      × AllByRecursion (IsSent log) view.tokens × (are_apart (map actor_in view.seats) ≡ true)
 
   -- Between any two moves there is one legal history, which proofs alone see. The word is its
   -- length, no actor noted more than 2^40 - 1 events, and each view fits it
@@ -52,8 +52,8 @@ module _ {I : Type 0} where
   -- the whole history of some seats, n notes long
   abbrev pub LooksAt : List Actor → HolderView I → ℕ → HolderView I → Type 0
   LooksAt actors me n after =
-      (after ≡ me) × (are_distinct (map actor_in me.0.seats) ≡ true)
-      × ((z : Actor) → is_named (map actor_in me.0.seats) z ≡ true → is_named actors z ≡ true)
+      (after ≡ me) × (are_apart (map actor_in me.0.seats) ≡ true)
+      × ((z : Actor) → lists_actor (map actor_in me.0.seats) z ≡ true → lists_actor actors z ≡ true)
       × ((log : List (Note I)) × (n ≡ length log) × IsWhole actors log me.0.seats)
 
   abbrev pub Looks : List Actor → Step (Unit {0}) → HolderView I → ℕ → HolderView I → Type 0
