@@ -1,6 +1,7 @@
 pub mod Actors
 pub mod Refusals
 pub mod Cells
+pub mod Turns
 pub mod Closing
 pub mod Opening
 pub mod Working
