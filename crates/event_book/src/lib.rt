@@ -11,7 +11,7 @@ mod view;
 
 pub use book::{Book, BookId};
 pub use noted::{ActorEvent, Noted, OutputList, Outputs};
-pub use opened::OpenedBook;
+pub use opened::{OpenedBook, are_apart};
 pub use seat::ActorSeat;
 pub use token::MessageToken;
 pub use view::{EventView, Note, NotedView, Output, SeatView, TokenView};

@@ -54,9 +54,11 @@ fn known(actor: Actor)
     }
 }
 
-// Whether no actor stands twice. There are 69, so a list that is longer names one twice.
+/// Whether no actor stands twice. There are 69, so a list that is longer names one twice.
+/// - `value`: it is that.
+/// - `few`: so many there are at most where none does.
 #[tactic(auto, using(crate::proofs::Actors::few_at_end))]
-fn differ(actors: &[Actor]) -> bool
+pub fn are_apart(actors: &[Actor]) -> bool
     ensures value { result ≡ are_apart actors.now }
     ensures few { result ≡ true → length actors.now ≤ 69 }
 {
@@ -87,7 +89,7 @@ impl<I> OpenedBook<I> {
         ensures refusals { IfErr result (λ e.
             (e ≡ refusals.OutOfRange) ⊎ (e ≡ refusals.NoMemory)) }
     {
-        if actors.is_empty() || !differ(actors.as_slice()) {
+        if actors.is_empty() || !are_apart(actors.as_slice()) {
             return Err(Refusal::OutOfRange);
         }
         let (table, first) = Table::of_words(alloc, &[0], &actors)?;

@@ -2,7 +2,7 @@ use Rattle.std.proofs.Common.{◌≡◌, length}
 use Rattle.std.specs.List.{AllByRecursion}
 use Rattle.event_book.specs.Seats.{are_apart}
 use Rattle.event_book.specs.Inner.Actors.{IsActor}
-use Rattle.event_book.proofs.opened.differ.Given as goal
+use Rattle.event_book.proofs.opened.are_apart.Given as goal
 
 -- the actors before the rest differ from each other and from it
 abbrev pub invariant-loop-actor : goal.invariant-loop-actor
