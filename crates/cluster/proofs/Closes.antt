@@ -14,7 +14,7 @@ use Rattle.cluster.specs.declared.own_input.OwnInput.{OwnInput}
 use Rattle.cluster.specs.declared.actor.GroupActor.{GroupActor}
 use Rattle.cluster.specs.Actors.{ActorSteps, IsNewActor}
 use Rattle.cluster.specs.Cells.{CellView, IsLed, IsLedCell}
-use Rattle.cluster.specs.Closing.{events_of, seat_in}
+use Rattle.cluster.specs.Closing.{noted_events, seat_in}
 use Rattle.cluster.proofs.CellWorlds.{CellWorld, put, Happened, Runs}
 use Rattle.cluster.proofs.Merge.{Group, Leads, AllLead, History, sent_by, legal_runs, same_actor-refl, same_actor-true, same_actor-false, same_actor-apart}
 
@@ -35,7 +35,7 @@ pub record ClosedRun (n : ℕ) (all : List Actor) (log : History) (cells : List 
   pub last : CellWorld
   pub opens : Opens n all first
   pub outside : (a : Actor) → lists_actor all a ≡ false → first.at a ≡ None
-  pub runs : Runs Happened first (events_of log log) last
+  pub runs : Runs Happened first (noted_events log log) last
   pub sent : last.sent ≡ sent_by log
   pub ends : AllByRecursion (λ (c : CellView). last.at c.seat.actor ≡ Some c.actor) cells
 

@@ -23,8 +23,8 @@ use Rattle.cluster.specs.declared.actor.GroupActor.TheVariants.{Server, Client a
 use Rattle.cluster.specs.declared.closing.NamedActor.{NamedActor}
 use Rattle.cluster.specs.Actors.{IsNewActor, group_size}
 use Rattle.cluster.specs.Cells.{CellView, IsLedCell}
-use Rattle.cluster.specs.Closing.{AreOfGroup, HasActor, HasCell, ClosesTo, events_of}
-use Rattle.cluster.specs.Inner.Closed.{IsClosed, cell_actors, named_in}
+use Rattle.cluster.specs.Closing.{AreOfGroup, HasActor, HasCell, ClosesTo, cell_actors, noted_events}
+use Rattle.cluster.specs.Inner.Closed.{IsClosed, named_in}
 use Rattle.cluster.specs.Inner.Joined.{agent_named, IsAmong, HasClients, AreNodesOf}
 use Rattle.cluster.specs.Inner.Runs.{EventsLead, GroupLeads, RepresentsLast}
 use Rattle.cluster.proofs.CellWorlds.{CellWorld}
@@ -169,7 +169,7 @@ pub record StandsAtLast (n m : ℕ) (log : List (Note OwnInput)) (cells : List C
   pub count : length nodes ≡ m
   pub last : CellWorld
   pub world : World
-  pub leads : EventsLead (first n nodes) (events_of log log) world
+  pub leads : EventsLead (first n nodes) (noted_events log log) world
   pub stands : Stands last world
   pub ends : AllByRecursion (λ (c : CellView). last.at c.seat.actor ≡ Some c.actor) cells
 
@@ -181,7 +181,7 @@ stands_at_last again n m all log cells closed g size =
     let r = closes n all log cells led closed.whole closed.apart closed.all closed.within in
     let c = first_nodes n m all log cells r g in
     let start = stands_first n c.list r.first (is_first n m all log cells r g c) in
-    let q = runs_on again (events_of log log) r.first r.last (first n c.list) r.runs start in
+    let q = runs_on again (noted_events log log) r.first r.last (first n c.list) r.runs start in
     record {
       nodes = c.list;
       count = c.count;
@@ -305,7 +305,7 @@ module _ (n m : ℕ) (all : List Actor) (log : List (Note OwnInput)) (cells : Li
 
   world_nodes : map node_of at.world.clients ≡ renumbered 1 at.nodes
   world_nodes =
-      lead_nodes (first n at.nodes) at.world (events_of log log) at.leads ∙ agents_nodes 1 at.nodes
+      lead_nodes (first n at.nodes) at.world (noted_events log log) at.leads ∙ agents_nodes 1 at.nodes
 
   module _ (nodes : List NodeSpec) (are : AreNodesOf m (map named_in cells) nodes) where
     -- the node of a client's cell is that of the client in the world
@@ -330,16 +330,16 @@ module _ (n m : ℕ) (all : List Actor) (log : List (Note OwnInput)) (cells : Li
         same_by_places nodes (map node_of at.world.clients) (are.count ∙ sym length_is) node_is
         ∙ world_nodes
 
-    pub group_leads : GroupLeads n nodes (events_of log log) at.world
+    pub group_leads : GroupLeads n nodes (noted_events log log) at.world
     group_leads =
         let same : first n (renumbered 1 nodes) ≡ first n at.nodes =
         first_again n nodes ∙ ap (first n) nodes_are ∙ first_again n at.nodes in
-        subst (λ w. EventsLead w (events_of log log) at.world) (sym same) at.leads
+        subst (λ w. EventsLead w (noted_events log log) at.world) (sym same) at.leads
 
     -- a value that played what the cells noted is the world that they close to
-    pub closes_to : (view : GroupView) → view.trace ≡ events_of log log → length view.servers ≡ n →
+    pub closes_to : (view : GroupView) → view.trace ≡ noted_events log log → length view.servers ≡ n →
         nodes_of view ≡ renumbered 1 nodes → ClientsKnowPlaces view →
-        RepresentsLast n nodes (events_of log log) view → ClosesTo all cells view
+        RepresentsLast n nodes (noted_events log log) view → ClosesTo all cells view
     closes_to view trace count nodes_is places last =
         let rep = last at.world group_leads in
         let clients : length view.clients ≡ m =
@@ -355,4 +355,7 @@ module _ (n m : ℕ) (all : List Actor) (log : List (Note OwnInput)) (cells : Li
               end) at.ends;
           group = subst (λ k. AreOfGroup k (length view.clients) all) (sym count)
               (subst (λ k. AreOfGroup n k all) (sym clients) g);
+          each = closed.all;
+          apart = closed.apart;
+          within = closed.within;
         }

@@ -9,10 +9,11 @@ use Rattle.event_book.specs.Actors.{same_actor}
 use Rattle.event_book.specs.Seats.{lists_actor}
 use Rattle.cluster.specs.declared.own_input.OwnInput.{OwnInput}
 use Rattle.cluster.specs.Actors.{IsNewActor, group_size}
-use Rattle.std.proofs.lemmas.Bool.{eqb-true}
+use Rattle.std.proofs.lemmas.Bool.{eqb-true, false_from_ne_true}
 use Rattle.cluster.specs.Cells.{CellView}
 use Rattle.cluster.specs.Closing.{AreOfGroup}
-use Rattle.cluster.specs.Opening.{IsOfGroup, MayOpen, AreNew}
+use Rattle.cluster.specs.Opening.{IsOfGroup, MayOpen}
+use Rattle.cluster.specs.Inner.Begun.{AreNew}
 use Rattle.cluster.proofs.Merge.{same_actor-refl, same_actor-true}
 
 either : (a b : Bool) → (a || b) ≡ true → (a ≡ true) ⊎ (b ≡ true)
@@ -54,6 +55,17 @@ are_of_group n m all within servers clients = record {
 
 pub group_within : (n m : ℕ) (all : List Actor) → AreOfGroup n m all → AllByRecursion (IsOfGroup n m) all
 group_within n m all g = all_within n m all (of_group n m all g)
+
+group_lists : (n m : ℕ) (all : List Actor) → AreOfGroup n m all → (a : Actor) → IsOfGroup n m a → lists_actor all a ≡ true
+group_lists n m all g (Server i) h = g.servers i h
+group_lists n m all g (Client c) h = let k = client_number m c h.0 h.1 in subst (λ (x : ℕ). lists_actor all (Client x) ≡ true) (sym k.1) (g.clients k.0 k.2)
+
+-- two lists of one group's actors have the same of them
+pub listed_too : (n m : ℕ) (xs ys : List Actor) (a : Actor) → AreOfGroup n m xs → AreOfGroup n m ys → lists_actor xs a ≡ true → lists_actor ys a ≡ true
+listed_too n m xs ys a g h is = group_lists n m ys h a (of_group n m xs g a is)
+
+pub lacked_too : (n m : ℕ) (xs ys : List Actor) (a : Actor) → AreOfGroup n m xs → AreOfGroup n m ys → lists_actor xs a ≡ false → lists_actor ys a ≡ false
+lacked_too n m xs ys a g h out = false_from_ne_true (lists_actor ys a) (λ inn. true≢false (sym (listed_too n m ys xs a h g inn) ∙ out))
 
 -- one cell more
 pub one_cell_more : (n : ℕ) (cells : List CellView) (seats : List (SeatView OwnInput)) (cell : CellView) (seat : SeatView OwnInput) → AreNew n cells seats → cell.seat ≡ seat → seat.notes ≡ [] → IsNewActor n seat.actor cell.actor → AreNew n (cells ++ cell ∷ []) (seats ++ seat ∷ [])

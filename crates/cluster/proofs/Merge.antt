@@ -16,7 +16,7 @@ use Rattle.event_book.specs.declared.view.Note.{Note}
 use Rattle.event_book.specs.declared.view.Output.{Output}
 use Rattle.cluster.specs.declared.own_input.OwnInput.{OwnInput}
 use Rattle.cluster.proofs.CellWorlds.{Brings, Runs}
-use Rattle.cluster.specs.Closing.{sent_before, event_of, events_of}
+use Rattle.cluster.specs.Closing.{sent_before, noted_event, noted_events}
 
 -- the notes of all actors, in the order of their stamps
 abbrev pub History : Type 0
@@ -62,7 +62,7 @@ module _ {A W : Type 0} where
   -- the events of the history are a run from w, whose last world has these actors and these outputs
   abbrev pub EndsIn : Group A W → List Actor → History → W → (Actor → Option A) → Type 0
   EndsIn g all log w last =
-      (v : W) × Runs g.happens w (events_of log log) v × (g.sent v ≡ sent_by log)
+      (v : W) × Runs g.happens w (noted_events log log) v × (g.sent v ≡ sent_by log)
       × ((a : Actor) → lists_actor all a ≡ true → g.here v a ≡ last a)
 
 -- ---- actors
@@ -130,7 +130,7 @@ sent_at (x ∷ xs) post (suc k) place f m at less here =
 brings : (pre post : History) (sent : List Output) (n : ℕ) (a : Actor) →
     (noted : EventView OwnInput) → IsDueEvent (pre ++ post) n a noted → n ≡ length pre →
     sent ≡ sent_by pre →
-    Brings sent a noted (event_of (pre ++ post) a noted)
+    Brings sent a noted (noted_event (pre ++ post) a noted)
 brings pre post sent n a (Own input) due is so = refl
 brings pre post sent n a (Delivery stamp place frame) due is so =
     let k = sent_before (pre ++ post) stamp + place in
@@ -175,7 +175,7 @@ module _ {A W : Type 0} (g : Group A W) (all : List Actor) (last : Actor → Opt
       AllByRecursion (λ (e : Note OwnInput). lists_actor all e.actor ≡ true) post →
       g.sent w ≡ sent_by pre →
       ((a : Actor) → lists_actor all a ≡ true → Lead g last w post a) →
-      (v : W) × Runs g.happens w (events_of log post) v × (g.sent v ≡ sent_by log)
+      (v : W) × Runs g.happens w (noted_events log post) v × (g.sent v ≡ sent_by log)
       × ((a : Actor) → lists_actor all a ≡ true → g.here v a ≡ last a)
   replays log pre [] w is numbered due there sent lead = (
     w,
@@ -192,10 +192,10 @@ module _ {A W : Type 0} (g : Group A W) (all : List Actor) (last : Actor → Opt
       subst (λ x. Leads g.steps l.0 x l.1) mine l.4 in
       let due' : IsDueEvent (pre ++ e ∷ es) e.stamp a d =
       subst (λ x. IsDueEvent x e.stamp a d) is due.0 in
-      let b : Brings (g.sent w) a d (event_of log a d) =
-      subst (λ x. Brings (g.sent w) a d (event_of x a d)) (sym is)
+      let b : Brings (g.sent w) a d (noted_event log a d) =
+      subst (λ x. Brings (g.sent w) a d (noted_event x a d)) (sym is)
       (brings pre (e ∷ es) (g.sent w) e.stamp a d due' numbered.0 sent) in
-      let t = g.takes w a l.0 steps.0 d e.noted.outputs (event_of log a d) l.2 b steps.1 in
+      let t = g.takes w a l.0 steps.0 d e.noted.outputs (noted_event log a d) l.2 b steps.1 in
       let v = t.0 in
       let size : suc (length pre) ≡ length (pre ++ e ∷ []) =
       sym (length-append pre (e ∷ []) ∙ omega arith) in

@@ -12,7 +12,7 @@ use Rattle.event_book.specs.declared.view.Note.{Note}
 use Rattle.event_book.specs.Noted.{event_view}
 use Rattle.cluster.specs.declared.own_input.OwnInput.{OwnInput}
 use Rattle.cluster.specs.declared.merging.Placed.{Placed}
-use Rattle.cluster.specs.Closing.{event_of, events_of, sent_before}
+use Rattle.cluster.specs.Closing.{noted_event, noted_events, sent_before}
 use Rattle.cluster.specs.Inner.Merged.{Entry, entry_in, entry_of}
 use Rattle.cluster.specs.Inner.Numbers.{AreOffsets, entry_event, outputs_before, Numbered, entry_events}
 
@@ -65,15 +65,15 @@ before_is [] (suc k) = refl
 before_is (e ∷ es) zero = refl
 before_is (e ∷ es) (suc k) = ap (λ n. length e.noted.outputs + n) (before_is es k)
 
-event_is : (log : List (Note OwnInput)) (a : Actor) (event : EventView OwnInput) → entry_event a event (map entry_of log) ≡ event_of log a event
+event_is : (log : List (Note OwnInput)) (a : Actor) (event : EventView OwnInput) → entry_event a event (map entry_of log) ≡ noted_event log a event
 event_is log a (Own input) = refl
 event_is log a (Delivery stamp place frame) = ap (λ n. Deliver (n + place)) (before_is log stamp)
 event_is log a Crash = refl
 
-events_are : (log es : List (Note OwnInput)) → entry_events (map entry_of log) (map entry_of es) ≡ events_of log es
+events_are : (log es : List (Note OwnInput)) → entry_events (map entry_of log) (map entry_of es) ≡ noted_events log es
 events_are log [] = refl
 events_are log (e ∷ es) = λ k. event_is log e.actor e.noted.event k ∷ events_are log es k
 
 -- all events of a history
-pub numbered_all : (log : List (Note OwnInput)) (all : List Entry) (events : List GroupEvent) (offsets : List ℕ) (total : ℕ) → Numbered all all events offsets total → all ≡ map entry_of log → group_events events ≡ events_of log log
+pub numbered_all : (log : List (Note OwnInput)) (all : List Entry) (events : List GroupEvent) (offsets : List ℕ) (total : ℕ) → Numbered all all events offsets total → all ≡ map entry_of log → group_events events ≡ noted_events log log
 numbered_all log all events offsets total so is = so.events ∙ ap (λ l. entry_events l l) is ∙ events_are log log

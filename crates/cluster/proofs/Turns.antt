@@ -26,8 +26,9 @@ use Rattle.cluster.specs.declared.actor.GroupActor.TheVariants.{Server, Client}
 use Rattle.cluster.specs.declared.actor.Stepped.{Stepped}
 use Rattle.cluster.specs.declared.actor.Stepped.TheVariants.{Taken, Crashed}
 use Rattle.cluster.specs.declared.own_input.OwnInput.TheVariants as own
-use Rattle.cluster.specs.Actors.{frame_of, output_of, nothing_sent, ServerTurned, TakesInput, ServerTurns, ClientTurns, ActorTurns, IsNewActor, SameActor}
-use Rattle.cluster.specs.Cells.{EnvelopeView, CellView, IsLed, IsLedCell, Turned, crash_noted, envelopes_from, kept_of, kept_in}
+use Rattle.cluster.specs.Actors.{frame_of, output_of, group_size, nothing_sent, ServerTurned, TakesInput, ServerTurns, ClientTurns, ActorTurns, IsNewActor, SameActor}
+use Rattle.cluster.specs.Turns.{IsCellOf, TookTurn, WhyNoTurn}
+use Rattle.cluster.specs.Cells.{EnvelopeView, CellView, IsLed, IsLedCell, IsRefused, Turned, crash_noted, envelopes_from, kept_of, kept_in}
 use Rattle.cluster.specs.declared.cell.StampedEvent.{StampedEvent}
 use Rattle.cluster.specs.Inner.Steps.{Did}
 use Rattle.cluster.specs.Inner.Sending.{IsRecorded, IsStill, IsTurn, last_envelopes}
@@ -134,6 +135,28 @@ led_on n old envelope new work sent led t =
     let note : Note OwnInput = record { stamp = t.stamp; actor = old.seat.actor; noted = t.noted } in
     let newest : reverse (old.seat.notes ++ note ∷ []) ≡ note ∷ reverse old.seat.notes = reverse-append old.seat.notes (note ∷ []) in
     subst (λ (s : SeatView OwnInput). IsLed n s.actor (reverse s.notes) new.actor) (sym t.seat) (subst (λ l. IsLed n old.seat.actor l new.actor) (sym newest) (old.actor, led, (work, t.step)))
+
+-- ---- a turn of a cell behind a lock
+
+pub turn_took : {X : Type 0} (all : List Actor) (actor : Actor) (old new : CellView) (envelope : EnvelopeView) (q : Result X Refusal) (work : X → List Work) (sent : X → List EnvelopeView) → IsCellOf all actor old
+    → IfOk q (λ x. Turned old envelope new (work x) (sent x)) → IfOk q (λ x. TookTurn all actor envelope (work x) (sent x))
+turn_took all actor old new envelope (Ok x) work sent cell t = record {
+  old = old;
+  new = new;
+  before = cell;
+  after = record {
+    listed = cell.listed;
+    mine = ap (λ (s : SeatView OwnInput). s.actor) t.seat ∙ cell.mine;
+    led = led_on (group_size all) old envelope new (work x) (sent x) cell.led t;
+  };
+  turned = t;
+}
+turn_took all actor old new envelope (Err cause) work sent cell t = t
+
+pub turn_refused : {X : Type 0} (all : List Actor) (actor : Actor) (old : CellView) (envelope : EnvelopeView) (q : Result X Refusal) → IsCellOf all actor old
+    → IfErr q (λ cause. IsRefused old envelope cause) → IfErr q (λ cause. WhyNoTurn all actor envelope cause)
+turn_refused all actor old envelope (Ok x) cell h = h
+turn_refused all actor old envelope (Err cause) cell h = inr (old, cell, h)
 
 -- ---- a cell's turn, both ways
 

@@ -15,7 +15,7 @@ use Rattle.event_book.specs.declared.view.EventView.{EventView}
 use Rattle.event_book.specs.declared.view.EventView.TheVariants.{Own, Delivery, Crash}
 use Rattle.event_book.specs.declared.view.Note.{Note}
 use Rattle.event_book.specs.declared.view.SeatView.{SeatView}
-use Rattle.event_book.specs.Seats.{IsWhole, lists_actor}
+use Rattle.event_book.specs.Seats.{IsWhole, actor_in, are_apart, lists_actor}
 use Rattle.cluster.specs.declared.own_input.OwnInput.{OwnInput}
 use Rattle.cluster.specs.declared.own_input.OwnInput.TheVariants as own
 use Rattle.cluster.specs.declared.actor.GroupActor.{GroupActor}
@@ -30,6 +30,10 @@ pub record AreOfGroup (n m : ℕ) (all : List Actor) : Type 0 where
   pub no_more_servers : (i : ℕ) → lists_actor all (actors.Server i) ≡ true → i < n
   pub clients : (k : ℕ) → k < m → lists_actor all (actors.Client (suc k)) ≡ true
   pub no_more_clients : (c : ℕ) → lists_actor all (actors.Client c) ≡ true → (k : ℕ) × (c ≡ suc k) × (k < m)
+
+-- these are the actors of such a group, each once
+abbrev pub AreSeated : ℕ → ℕ → List Actor → Type 0
+AreSeated n m all = AreOfGroup n m all × (are_apart all ≡ true)
 
 -- ---- a history as a list of the group's events
 
@@ -51,20 +55,23 @@ crash_event (actors.Client c) = AtClient c clients.Crash
 
 -- the event that an actor's noted event is; a delivery is that of the message at its place among all
 -- that were ever sent, by stamp and then by place
-abbrev pub event_of : List (Note OwnInput) → Actor → EventView OwnInput → Event
-event_of log a (Own input) = own_event a input
-event_of log a (Delivery stamp place frame) = Deliver (sent_before log stamp + place)
-event_of log a Crash = crash_event a
+abbrev pub noted_event : List (Note OwnInput) → Actor → EventView OwnInput → Event
+noted_event log a (Own input) = own_event a input
+noted_event log a (Delivery stamp place frame) = Deliver (sent_before log stamp + place)
+noted_event log a Crash = crash_event a
 
 -- the events of some notes of a history
-abbrev pub events_of : List (Note OwnInput) → List (Note OwnInput) → List Event
-events_of log [] = []
-events_of log (e ∷ es) = event_of log e.actor e.noted.event ∷ events_of log es
+abbrev pub noted_events : List (Note OwnInput) → List (Note OwnInput) → List Event
+noted_events log [] = []
+noted_events log (e ∷ es) = noted_event log e.actor e.noted.event ∷ noted_events log es
 
 -- ---- the world that a group of cells closes to
 
 abbrev pub seat_in : CellView → SeatView OwnInput
 seat_in c = c.seat
+
+abbrev pub cell_actors : List CellView → List Actor
+cell_actors cells = map actor_in (map seat_in cells)
 
 -- the world has this actor: the same client, or a server that is the same one of the definitions
 abbrev pub HasActor : GroupView → Actor → GroupActor → Type 0
@@ -78,10 +85,13 @@ abbrev pub HasCell : GroupView → CellView → Type 0
 HasCell view c = HasActor view c.seat.actor c.actor
 
 -- The world's trace is all that the cells noted, each event once and in the order of its stamp, and
--- its actors are the cells'.
+-- its actors are the cells': each of the book's actors has one cell, and no other actor has one.
 pub record ClosesTo (all : List Actor) (cells : List CellView) (view : GroupView) : Type 0 where
   pub log : List (Note OwnInput)
   pub whole : IsWhole all log (map seat_in cells)
-  pub trace : view.trace ≡ events_of log log
+  pub trace : view.trace ≡ noted_events log log
   pub actors : AllByRecursion (HasCell view) cells
   pub group : AreOfGroup (length view.servers) (length view.clients) all
+  pub each : (a : Actor) → lists_actor all a ≡ true → lists_actor (cell_actors cells) a ≡ true
+  pub apart : are_apart (cell_actors cells) ≡ true
+  pub within : (a : Actor) → lists_actor (cell_actors cells) a ≡ true → lists_actor all a ≡ true

@@ -1,3 +1,4 @@
+pub mod Begun
 pub mod Steps
 pub mod Sending
 pub mod Closed

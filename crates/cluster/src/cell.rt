@@ -4,7 +4,8 @@ ghost use Rattle.std.specs.Prelude.{◌≡◌, ◌≢◌, MatchBool, ◌+◌, �
 ghost use Rattle.event_book.specs.Noted.{event_view};
 ghost use Rattle.event_book.specs.Seats.{with_taken};
 ghost use Rattle.cluster.specs.Actors.{output_of, group_size, IsNewActor};
-ghost use Rattle.cluster.specs.Cells.{IsAddressed, tokens_of, kept_of, kept_in, SameCell, Turned, IsRefused};
+ghost use Rattle.cluster.specs.Cells.{IsAddressed, IsLedCell, IsRefused, kept_in, kept_of, SameCell};
+ghost use Rattle.cluster.specs.Cells.{tokens_of, Turned};
 ghost use Rattle.cluster.specs.Inner.Sending.{CanBeNoted, EndsWith, last_envelopes, IsNoted, IsRecorded, IsStill, IsTurn};
 ghost use Rattle.cluster.specs.Inner.Steps.{IsAnEvent};
 ghost use Rattle.cluster.specs.Working.{HasApplied, WhyNotApplied};
@@ -292,9 +293,19 @@ impl<B: BookId> Cell<B> {
         }
     }
 
-    /// The actor, where the events that it took lead it.
+    /// Whether it is the cell of this actor.
+    pub(crate) fn is_of(&self, actor: Actor) -> bool
+        ensures mine { MatchBool result (self.now.seat.actor ≡ actor) (self.now.seat.actor ≢ actor) }
+        ensures led { IsLedCell (group_size B.actors) self.now }
+    {
+        self.me == actor
+    }
+
+    /// The actor, where just the events lead it that its seat noted.
+    /// - `led`: that is where it is, in the group of the book's actors.
     pub fn actor(&self) -> &GroupActor
-        ensures { result.now ≡ self.now.actor }
+        ensures actor { result.now ≡ self.now.actor }
+        ensures led { IsLedCell (group_size B.actors) self.now }
     {
         &self.actor
     }

@@ -1,13 +1,17 @@
 //! All actors of a group, each in a cell under a lock of its own.
-ghost use Rattle.std.specs.Prelude.{◌≡◌, List, length, vec_len, IfOk, IfErr, OnOk};
+ghost use Rattle.std.specs.Prelude.{◌≡◌, ◌<◌, true, false, List, length, map, vec_len};
+ghost use Rattle.std.specs.Prelude.{IfErr, IfNone, IfOk, IfSome, OnOk};
+ghost use Rattle.std.specs.Sync.Mutex.{mutex_guard_value};
+ghost use Rattle.event_book.specs.Seats.{actor_in, are_apart, lists_actor};
 ghost use Rattle.cluster.specs.Cells.{AreSent, CellView};
-ghost use Rattle.cluster.specs.Closing.{ClosesTo};
+ghost use Rattle.cluster.specs.Closing.{AreOfGroup, ClosesTo};
 ghost use Rattle.cluster.specs.Opening.{MayOpenCells, WhyNotOpen};
+ghost use Rattle.cluster.specs.Turns.{IsCellOf, TookTurn, WhyNoTurn};
 
 use crate::cell::{Cell, Turn};
 use crate::envelope::Envelope;
 use crate::joining::join_cells;
-use crate::opening::{cells_of, is_group, is_size};
+use crate::opening::{are_seated, cells_of, is_group, is_size};
 use crate::own_input::OwnInput;
 use event_book::{ActorSeat, Book, BookId};
 use rows::{Actor, NoMemory, NodeSpec, Refusal};
@@ -17,7 +21,7 @@ use std::sync::{Mutex, MutexGuard, Wait};
 use world::World;
 
 /// All actors of a group, each in a cell under a lock of its own, and the book in which they note
-/// what they do. Contracts see how many servers and clients there are.
+/// what they do. Contracts see how many servers and clients there are, and who they are.
 #[derive(Drop)]
 pub struct Cells<B: BookId> {
     pub(crate) alloc: Global,
@@ -32,15 +36,20 @@ pub struct Cells<B: BookId> {
 impl<B: BookId> Model for Cells<B> {
     ghost use Rattle.std.specs.Prelude.{◌≡◌, ◌≤◌, length, vec_len};
     ghost use Rattle.world.specs.WorldView.{IsGroup};
-    ghost use Rattle.cluster.specs.Closing.{AreOfGroup};
-    ghost use Rattle.cluster.specs.Opening.{GroupSize};
+    ghost use Rattle.cluster.specs.Closing.{AreOfGroup, AreSeated};
+    ghost use Rattle.cluster.specs.Opening.{CellGroup};
 
-    ghost Value = { GroupSize };
+    ghost Value = { CellGroup };
 
-    ghost view = { λ c. record { servers = c.size; clients = c.clients } };
+    ghost view = { λ c. record {
+      servers = c.size;
+      clients = c.clients;
+      actors = c.actors.items;
+    } };
 
     ghost invariant = { λ c. IsGroup c.size × (c.clients ≤ 64)
-        × AreOfGroup c.size c.clients B.actors × (vec_len c.cells ≡ length B.actors) };
+        × AreOfGroup c.size c.clients B.actors × (vec_len c.cells ≡ length B.actors)
+        × AreSeated c.size c.clients c.actors.items × (vec_len c.actors ≡ vec_len c.cells) };
 }
 
 /// Each cell under a lock of its own.
@@ -69,7 +78,9 @@ fn unlocked<B: BookId>(alloc: Global, locks: Vec<Mutex<Cell<B>>>) -> Result<Vec<
 fn actors_of<B: BookId>(
     alloc: Global,
     seats: &[ActorSeat<OwnInput, B>],
-) -> Result<Vec<Actor>, NoMemory> {
+) -> Result<Vec<Actor>, NoMemory>
+    ensures { IfOk result (λ actors. actors.items ≡ map actor_in seats.now) }
+{
     let mut actors = Vec::new(alloc);
     for seat in seats {
         actors.push(seat.actor())?;
@@ -77,13 +88,26 @@ fn actors_of<B: BookId>(
     Ok(actors)
 }
 
+/// The place of an actor among these; none where it is none of them.
+fn place_of(actors: &[Actor], actor: Actor) -> Option<usize>
+    ensures some { IfSome result (λ place.
+        (place < length actors.now) × (lists_actor actors.now actor ≡ true)) }
+    ensures none { IfNone result (lists_actor actors.now actor ≡ false) }
+{
+    let (first, rest) = actors.split_first()?;
+    if *first == actor {
+        return Some(0);
+    }
+    Some(place_of(rest, actor)? + 1)
+}
+
 impl<B: BookId> Cells<B> {
     /// The cells of a group of `n` servers and a client for each of these nodes, the k-th client,
     /// from 1, being that of the k-th node, before their first event.
     ///
     /// It is refused with `OutOfRange` where `n` is not 3 or 5 or there are more than 64 nodes,
-    /// where the seats are not one for each actor of the group and for no other, or one of them has
-    /// noted something; and with `NoMemory`.
+    /// where the book's actors are not those of the group, where the seats are not one for each of
+    /// them and for no other, or one of them has noted something; and with `NoMemory`.
     pub fn open(
         alloc: Global,
         n: usize,
@@ -93,7 +117,8 @@ impl<B: BookId> Cells<B> {
     ) -> Result<Cells<B>, Refusal>
         ensures ok { OnOk result (MayOpenCells n (length nodes.now) B.actors seats.items) }
         ensures size { IfOk result (λ c.
-            c ≡ record { servers = n; clients = length nodes.now }) }
+            (c.servers ≡ n) × (c.clients ≡ length nodes.now)) }
+        ensures actors { IfOk result (λ c. c.actors ≡ map actor_in seats.items) }
         ensures refused { IfErr result
             (WhyNotOpen (MayOpenCells n (length nodes.now) B.actors seats.items)) }
     {
@@ -107,6 +132,9 @@ impl<B: BookId> Cells<B> {
             return Err(Refusal::OutOfRange);
         }
         let actors = actors_of(alloc, seats.as_slice())?;
+        if !are_seated(n, nodes.len(), actors.as_slice()) {
+            return Err(Refusal::OutOfRange);
+        }
         let cells = locked(alloc, cells_of(alloc, n, nodes, seats)?)?;
         Ok(Cells {
             alloc,
@@ -118,8 +146,12 @@ impl<B: BookId> Cells<B> {
         })
     }
 
-    /// The actors of the group, in the order of their seats.
-    pub fn actors(&self) -> &[Actor] {
+    /// The actors of the group, each once, in the order of their seats.
+    pub fn actors(&self) -> &[Actor]
+        ensures actors { result.now ≡ self.now.actors }
+        ensures are { AreOfGroup self.now.servers self.now.clients result.now }
+        ensures once { are_apart result.now ≡ true }
+    {
         self.actors.as_slice()
     }
 
@@ -140,9 +172,26 @@ impl<B: BookId> Cells<B> {
 
     /// The cell of an actor alone, once it is free; none where the group has no such actor. While
     /// the guard is held that actor takes nothing.
-    pub fn lock<R: Wait>(&self, rt: &R, actor: Actor) -> Option<MutexGuard<'_, Cell<B>>> {
-        let place = self.actors.iter().position(|a| *a == actor)?;
-        Some(self.cells.get(place)?.lock(rt))
+    ///
+    /// What lies behind a lock is known by its type alone, so it looks whose cell it found. Who
+    /// exchanges what lies behind two guards makes those wait who ask for these actors.
+    /// - `some`: it is the actor's, who is where just the events lead it that its seat noted.
+    /// - `none`: there is none just where the group lacks the actor.
+    pub fn lock<R: Wait>(&self, rt: &R, actor: Actor) -> Option<MutexGuard<'_, Cell<B>>>
+        ensures some { IfSome result (λ cell. IsCellOf B.actors actor (mutex_guard_value cell)) }
+        ensures none { IfNone result (lists_actor B.actors actor ≡ false) }
+    {
+        let place = place_of(self.actors.as_slice(), actor)?;
+        let Some(lock) = self.cells.get(place) else {
+            unreachable!()
+        };
+        for _ in rt.forever() {
+            let cell = lock.lock(rt);
+            if cell.is_of(actor) {
+                return Some(cell);
+            }
+        }
+        unreachable!()
     }
 }
 
@@ -150,13 +199,20 @@ impl<B: BookId> Cells<B> {
 ///
 /// It is refused with `OutOfRange` where the group has no such actor, and else as `Cell::take`
 /// refuses. What the actor sent comes with its tokens.
+/// - `ok`: a cell of this actor took one step by the envelope, as `Cell::take` says; this came for
+///   its workers, and this was sent.
+/// - `sent`: what was sent are first outputs of one event that the receiver noted.
+/// - `refused`: the group lacks the actor, or a cell of this actor refuses the envelope so.
 pub fn turn<B: BookId, R: Wait>(
     rt: &R,
     cells: &Cells<B>,
     actor: Actor,
     envelope: Envelope<B>,
 ) -> Result<Turn<B>, Refusal>
-    ensures { IfOk result (λ turn. AreSent envelope.receiver turn.sent.items) }
+    ensures ok { IfOk result (λ turn.
+        TookTurn B.actors actor envelope turn.work turn.sent.items) }
+    ensures sent { IfOk result (λ turn. AreSent envelope.receiver turn.sent.items) }
+    ensures refused { IfErr result (λ cause. WhyNoTurn B.actors actor envelope cause) }
 {
     let Some(mut cell) = cells.lock(rt, actor) else {
         return Err(Refusal::OutOfRange);
@@ -165,8 +221,8 @@ pub fn turn<B: BookId, R: Wait>(
 }
 
 /// Closes a group of cells once nobody else has them: the world to which all that they noted leads,
-/// each event once and in the order of its stamp. Its actors are those of the cells. The world is made
-/// by playing these events again, and memory may be wanting for it.
+/// each event once and in the order of its stamp. Its actors are those of the cells. The world is
+/// made by playing these events again, and memory may be wanting for it.
 pub fn close<B: BookId>(cells: Cells<B>) -> Result<World, NoMemory>
     ensures { IfOk result (λ w. (views : List CellView) × ClosesTo B.actors views w) }
 {

@@ -5,14 +5,15 @@ ghost use Rattle.rows.specs.declared.actor.Actor.TheVariants as actors;
 ghost use Rattle.world.specs.WorldView.{IsGroup};
 ghost use Rattle.event_book.specs.Seats.{lists_actor};
 ghost use Rattle.cluster.specs.Actors.{group_size, IsNewActor};
-ghost use Rattle.cluster.specs.Closing.{AreOfGroup};
-ghost use Rattle.cluster.specs.Opening.{AreNew, IsOfGroup, MayOpen, WhyNotOpen};
+ghost use Rattle.cluster.specs.Closing.{AreOfGroup, AreSeated};
+ghost use Rattle.cluster.specs.Inner.Begun.{AreNew};
+ghost use Rattle.cluster.specs.Opening.{IsOfGroup, MayOpen, WhyNotOpen};
 
 use crate::actor::GroupActor;
 use crate::cell::Cell;
 use crate::own_input::OwnInput;
 use client_agent::Agent;
-use event_book::{ActorSeat, BookId};
+use event_book::{ActorSeat, BookId, are_apart};
 use rows::{Actor, ClientId, NodeId, NodeSpec, Refusal, ServerId};
 use server::Server;
 use std::alloc::Global;
@@ -96,6 +97,15 @@ pub(crate) fn is_group(n: usize, m: usize, all: &[Actor]) -> bool
         return false;
     }
     has_clients(m, all)
+}
+
+/// Whether these are the actors of a group of `n` servers and `m` clients, each once.
+pub(crate) fn are_seated(n: usize, m: usize, all: &[Actor]) -> bool
+    requires servers { n ≤ 5 }
+    requires clients { m ≤ 64 }
+    ensures { MatchBool result (AreSeated n m all.now) (AreSeated n m all.now → ⊥) }
+{
+    is_group(n, m, all) && are_apart(all)
 }
 
 /// The actor of a group before its first event.

@@ -4,14 +4,14 @@ use Rattle.std.specs.List.{AllByRecursion}
 use Rattle.rows.specs.declared.actor.Actor.{Actor}
 use Rattle.group_model.specs.Worlds.{Event}
 use Rattle.event_book.specs.declared.view.Note.{Note}
-use Rattle.event_book.specs.Seats.{IsWhole, actor_in, are_apart, lists_actor}
+use Rattle.event_book.specs.Seats.{IsWhole, are_apart, lists_actor}
 use Rattle.cluster.specs.declared.own_input.OwnInput.{OwnInput}
 use Rattle.cluster.specs.declared.actor.GroupActor.{GroupActor}
 use Rattle.cluster.specs.declared.closing.NamedActor.{NamedActor}
 use Rattle.cluster.specs.declared.closing.Rest.{Rest}
 use Rattle.cluster.specs.Actors.{group_size}
 use Rattle.cluster.specs.Cells.{CellView, Kept, kept_in, kept_of, IsLedCell}
-use Rattle.cluster.specs.Closing.{events_of, seat_in}
+use Rattle.cluster.specs.Closing.{cell_actors, noted_events, seat_in}
 
 -- who an actor is, the actor, and the events that it took
 pub record RestView : Type 0 where
@@ -31,9 +31,6 @@ named_of r = record { me = r.me; actor = r.actor }
 abbrev pub named_in : CellView → NamedActor
 named_in c = record { me = c.seat.actor; actor = c.actor }
 
-abbrev pub cell_actors : List CellView → List Actor
-cell_actors cells = map actor_in (map seat_in cells)
-
 -- The history is legal, and each cell noted just what its actor noted in it; each actor is where
 -- that leads it. Each of the book's actors has one cell, and no other actor has one.
 pub record IsClosed (actors : List Actor) (log : List (Note OwnInput)) (cells : List CellView) : Type 0 where
@@ -46,4 +43,4 @@ pub record IsClosed (actors : List Actor) (log : List (Note OwnInput)) (cells : 
 -- the events are all that the cells of a closed book noted, in the order of their stamps
 abbrev pub AreAllNoted : List Actor → List CellView → List Event → Type 0
 AreAllNoted actors cells events =
-    (log : List (Note OwnInput)) × IsClosed actors log cells × (events ≡ events_of log log)
+    (log : List (Note OwnInput)) × IsClosed actors log cells × (events ≡ noted_events log log)

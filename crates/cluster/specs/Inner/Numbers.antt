@@ -9,7 +9,7 @@ use Rattle.event_book.specs.declared.view.EventView.TheVariants.{Own, Delivery, 
 use Rattle.event_book.specs.declared.view.Note.{Note}
 use Rattle.cluster.specs.declared.own_input.OwnInput.{OwnInput}
 use Rattle.cluster.specs.declared.merging.Placed.{Placed}
-use Rattle.cluster.specs.Closing.{crash_event, events_of, own_event}
+use Rattle.cluster.specs.Closing.{crash_event, noted_events, own_event}
 use Rattle.cluster.specs.Inner.Merged.{Entry, entry_in, entry_of}
 
 -- how many outputs stand before those of the k-th event
@@ -41,7 +41,7 @@ entry_events log xs = map (λ x. entry_event x.actor x.event log) xs
 abbrev pub AreEventsOf : List Placed → List GroupEvent → Type 0
 AreEventsOf merged events =
     (log : List (Note OwnInput)) → map entry_in merged ≡ map entry_of log
-    → group_events events ≡ events_of log log
+    → group_events events ≡ noted_events log log
 
 -- the first events of a history are made into these; so many outputs come before those of each of
 -- them, and so many before the next event's

@@ -2,7 +2,8 @@ use Rattle.std.proofs.Common.{◌≡◌, ◌++◌, ◌∷◌, [], length, ap, sy
 use Rattle.std.specs.Vec.Iter.{into_iter_items}
 use Rattle.rows.specs.declared.actor.Actor.{Actor}
 use Rattle.cluster.specs.Actors.{IsNewActor}
-use Rattle.cluster.specs.Opening.{AreNew, IsOfGroup}
+use Rattle.cluster.specs.Inner.Begun.{AreNew}
+use Rattle.cluster.specs.Opening.{IsOfGroup}
 use Rattle.cluster.proofs.Members.{one_cell_more, one_seat_more, one_less}
 use Rattle.cluster.proofs.opening.cells_of.Goals as goal
 
