@@ -22,14 +22,14 @@ use Rattle.server.specs.Turns.{TakesHanding}
 use Rattle.server.specs.Refusals.{IsHandingRefused, HandingRefusalLeaves}
 use Rattle.world.specs.Inner.GroupInputs.{is_restart_input}
 use Rattle.world.proofs.GroupHistories.{member_of, is_member_of, member_fell, member_stayed}
-use Rattle.cluster.specs.Actors.{frame_of, output_of, nothing_sent, TakesInput}
+use Rattle.cluster.specs.Actors.{frame_of, nothing_sent, TakesInput}
 use Rattle.cluster.specs.Refusals.{restarts_server, InputRefused, ServerRefuses, ServerMayLack, ClientRefuses}
 use Rattle.server.specs.declared.server_input.ServerInput.{ServerInput}
 use Rattle.event_book.specs.declared.view.EventView.TheVariants.{Own}
 use Rattle.cluster.specs.declared.own_input.OwnInput.TheVariants as own
 use Rattle.cluster.specs.declared.actor.GroupActor.TheVariants as actors
 use Rattle.cluster.specs.declared.actor.Stepped.{Stepped}
-use Rattle.cluster.specs.Inner.Steps.{RefusedAsSaid, ServerDid, ServerAnswered, ClientDid, Answered, is_frame}
+use Rattle.cluster.specs.Inner.Steps.{output_of, RefusedAsSaid, ServerDid, ServerAnswered, ClientDid, Answered, is_frame}
 use Rattle.cluster.specs.declared.actor.Stepped.TheVariants.{Taken, Crashed}
 
 frames_again : (fs : List Frame) → map frame_of (map output_of fs) ≡ fs

@@ -12,7 +12,7 @@ use Rattle.event_book.specs.declared.view.TokenView.{TokenView}
 use Rattle.event_book.specs.declared.view.SeatView.{SeatView}
 use Rattle.event_book.specs.Seats.{HasOutput, last_token, Names, MayNote, with_note, with_taken}
 use Rattle.cluster.specs.declared.own_input.OwnInput.{OwnInput}
-use Rattle.cluster.specs.Actors.{output_of}
+use Rattle.cluster.specs.Inner.Steps.{output_of}
 use Rattle.cluster.specs.declared.cell.StampedEvent.{StampedEvent}
 use Rattle.cluster.specs.Cells.{EnvelopeView, envelope_of, envelopes_from, IsAddressed, kept_of, kept_in}
 use Rattle.cluster.specs.Inner.Sending.{CanBeNoted, last_envelopes, EndsWith}

@@ -26,11 +26,11 @@ use Rattle.cluster.specs.declared.actor.GroupActor.TheVariants.{Server, Client}
 use Rattle.cluster.specs.declared.actor.Stepped.{Stepped}
 use Rattle.cluster.specs.declared.actor.Stepped.TheVariants.{Taken, Crashed}
 use Rattle.cluster.specs.declared.own_input.OwnInput.TheVariants as own
-use Rattle.cluster.specs.Actors.{frame_of, output_of, group_size, nothing_sent, ServerTurned, TakesInput, ServerTurns, ClientTurns, ActorTurns, IsNewActor, SameActor}
+use Rattle.cluster.specs.Actors.{frame_of, group_size, nothing_sent, ServerTurned, TakesInput, ServerTurns, ClientTurns, ActorTurns, IsNewActor, SameActor}
 use Rattle.cluster.specs.Turns.{IsCellOf, TookTurn, WhyNoTurn}
 use Rattle.cluster.specs.Cells.{EnvelopeView, CellView, IsLed, IsLedCell, IsRefused, Turned, crash_noted, envelopes_from, kept_of, kept_in}
 use Rattle.cluster.specs.declared.cell.StampedEvent.{StampedEvent}
-use Rattle.cluster.specs.Inner.Steps.{Did}
+use Rattle.cluster.specs.Inner.Steps.{Did, output_of}
 use Rattle.cluster.specs.Inner.Sending.{IsRecorded, IsStill, IsTurn, last_envelopes}
 use Rattle.cluster.proofs.Sending.{envelopes_end}
 

@@ -28,9 +28,6 @@ use Rattle.cluster.specs.declared.actor.GroupActor.TheVariants.{Server, Client}
 abbrev pub frame_of : Output → Frame
 frame_of o = record { to = o.to; bytes = o.frame }
 
-abbrev pub output_of : Frame → Output
-output_of f = record { to = f.to; frame = f.bytes }
-
 abbrev pub nothing_sent : Outbox
 nothing_sent = record { frames = []; work = [] }
 

@@ -3,11 +3,11 @@ ghost use Rattle.std.specs.Arc.{arc_value};
 ghost use Rattle.std.specs.Prelude.{◌≡◌, ◌≢◌, MatchBool, ◌+◌, ◌<◌, ◌^◌, [], ℕ, Some, length, map, slice_get, take, vec_len, vec_capacity, IfOk, OnErr, IfErr};
 ghost use Rattle.event_book.specs.Noted.{event_view};
 ghost use Rattle.event_book.specs.Seats.{with_taken};
-ghost use Rattle.cluster.specs.Actors.{output_of, group_size, IsNewActor};
+ghost use Rattle.cluster.specs.Actors.{group_size, IsNewActor};
 ghost use Rattle.cluster.specs.Cells.{IsAddressed, IsLedCell, IsRefused, kept_in, kept_of, SameCell};
 ghost use Rattle.cluster.specs.Cells.{tokens_of, Turned};
 ghost use Rattle.cluster.specs.Inner.Sending.{CanBeNoted, EndsWith, last_envelopes, IsNoted, IsRecorded, IsStill, IsTurn};
-ghost use Rattle.cluster.specs.Inner.Steps.{IsAnEvent};
+ghost use Rattle.cluster.specs.Inner.Steps.{IsAnEvent, output_of};
 ghost use Rattle.cluster.specs.Working.{HasApplied, WhyNotApplied};
 
 use crate::actor::{GroupActor, Stepped};
@@ -74,7 +74,7 @@ struct SentFrames {
 
 impl Outputs for SentFrames {
     ghost use Rattle.std.specs.Prelude.{map};
-    ghost use Rattle.cluster.specs.Actors.{output_of};
+    ghost use Rattle.cluster.specs.Inner.Steps.{output_of};
 
     ghost listed = { λ s. map output_of s.frames };
 }

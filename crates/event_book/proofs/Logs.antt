@@ -13,8 +13,8 @@ use Rattle.event_book.specs.declared.view.SeatView.{SeatView}
 use Rattle.event_book.specs.declared.view.BookView.{BookView}
 use Rattle.event_book.specs.Actors.{same_actor, lists_actor, are_apart}
 use Rattle.event_book.specs.Histories.{notes_of, NumberedFrom, IsDueEvent, IsDue}
-use Rattle.event_book.specs.Seats.{actor_in, IsSent, HasOutput, last_token}
-use Rattle.event_book.specs.Inner.Rule.{FitsSeat, Fits}
+use Rattle.event_book.specs.Seats.{actor_in, HasOutput, last_token}
+use Rattle.event_book.specs.Inner.Rule.{NamesOutput, FitsSeat, Fits}
 use Rattle.event_book.proofs.Actors.{is_same, apart_is, or_false, or_left, or_right, not_true, and_true, both_true}
 
 module _ {A : Type 0} where
@@ -70,7 +70,7 @@ module _ {I : Type 0} where
   pub due_longer : (log more : List (Note I)) (e : Note I) → IsDue log e → IsDue (log ++ more) e
   due_longer log more e h = due_of log more e.stamp e.actor e.noted.event h
 
-  pub sent_longer : (log more : List (Note I)) (t : TokenView I) → IsSent log t → IsSent (log ++ more) t
+  pub sent_longer : (log more : List (Note I)) (t : TokenView I) → NamesOutput log t → NamesOutput (log ++ more) t
   sent_longer log more t h = (got_longer log more t.note.stamp t.note h.0, h.1)
 
   -- a view whose actors aren't the noting one fits the longer history
@@ -81,10 +81,10 @@ module _ {I : Type 0} where
           f.0,
           f.1,
           f.2 ∙ sym (notes_other p.actor log e (λ same. apart (ap holder same ∙ f.0))),
-          all_map (IsSent log) (IsSent (log ++ e ∷ [])) p.taken (λ t. sent_longer log (e ∷ []) t) f.3,
+          all_map (NamesOutput log) (NamesOutput (log ++ e ∷ [])) p.taken (λ t. sent_longer log (e ∷ []) t) f.3,
         ))
         h.0,
-    all_map (IsSent log) (IsSent (log ++ e ∷ [])) v.tokens (λ t. sent_longer log (e ∷ []) t) h.1,
+    all_map (NamesOutput log) (NamesOutput (log ++ e ∷ [])) v.tokens (λ t. sent_longer log (e ∷ []) t) h.1,
     h.2,
   )
 
@@ -163,7 +163,7 @@ module _ {I : Type 0} where
   pub notes_sit : (a : Actor) (log : List (Note I)) → NumberedFrom 0 log → AllByRecursion (λ (e : Note I). slice_get log e.stamp ≡ Some e) (notes_of a log)
   notes_sit a log h = all_filter (λ (e : Note I). slice_get log e.stamp ≡ Some e) (λ (e : Note I). same_actor a e.actor) log (sits [] log h)
 
-  pub token_sent : (log : List (Note I)) (place : ℕ) (notes : List (Note I)) → AllByRecursion (λ (e : Note I). slice_get log e.stamp ≡ Some e) notes → HasOutput place notes → AllByRecursion (IsSent log) (last_token place notes)
+  pub token_sent : (log : List (Note I)) (place : ℕ) (notes : List (Note I)) → AllByRecursion (λ (e : Note I). slice_get log e.stamp ≡ Some e) notes → HasOutput place notes → AllByRecursion (NamesOutput log) (last_token place notes)
   token_sent log place [] h k = absurd k
   token_sent log place (e ∷ []) h k = ((h.0, k), tt)
   token_sent log place (e ∷ f ∷ es) h k = token_sent log place (f ∷ es) h.1 k

@@ -21,9 +21,9 @@ use Rattle.event_book.specs.declared.view.SeatView.{SeatView}
 use Rattle.event_book.specs.declared.view.BookView.{BookView}
 use Rattle.event_book.specs.Actors.{same_actor, lists_actor, are_apart}
 use Rattle.event_book.specs.Histories.{notes_of, NumberedFrom, IsDueEvent, IsDue}
-use Rattle.event_book.specs.Seats.{actor_in, IsSent, MayNote, HasOutput, last_token, new_seat, with_note}
+use Rattle.event_book.specs.Seats.{actor_in, MayNote, HasOutput, last_token, new_seat, with_note}
 use Rattle.event_book.specs.Inner.Views.{HolderView, IsSeat, IsToken, opening_view, spent_view, seat_view, token_view, seat_in, token_in, first_token, last_token_view, taken_in, joined, handed_view, rest_view}
-use Rattle.event_book.specs.Inner.Rule.{FitsSeat, Fits, Kept, AddsTo, LooksAt}
+use Rattle.event_book.specs.Inner.Rule.{NamesOutput, FitsSeat, Fits, Kept, AddsTo, LooksAt}
 use Rattle.event_book.proofs.Actors.{same_is, is_same, apart_is, same_tells, or_left, or_right, not_true, and_true, named_at, covers}
 use Rattle.event_book.proofs.Logs.{all_at, all_map, all_append, notes_mine, notes_other, numbered_more, due_longer, sent_longer, fits_longer, bounded, notes_sit, token_sent, apart_join}
 
@@ -87,11 +87,11 @@ within_one false c actors a z is at h f = f h
 
 module _ {I : Type 0} where
   -- what is due is known from a token that was taken in
-  due_from : (log : List (Note I)) (p : SeatView I) (d : EventView I) → AllByRecursion (IsSent log) p.taken → MayNote p d → IsDueEvent log (length log) p.actor d
+  due_from : (log : List (Note I)) (p : SeatView I) (d : EventView I) → AllByRecursion (NamesOutput log) p.taken → MayNote p d → IsDueEvent log (length log) p.actor d
   due_from log p (Own x) sent may = tt
   due_from log p (Delivery stamp place frame) sent may =
       let k = may.0 in let t = may.1 in
-      let known = all_at (IsSent log) p.taken k t sent may.2 in
+      let known = all_at (NamesOutput log) p.taken k t sent may.2 in
       let there : slice_get log stamp ≡ Some t.note = subst (λ (n : ℕ). slice_get log n ≡ Some t.note) may.3.0 known.0 in
       (t.note, there, slice_get_within log stamp t.note there, subst (λ (n : ℕ). slice_get t.note.noted.outputs n ≡ Some (record { to = p.actor; frame = frame })) may.3.1 may.3.2)
   due_from log p Crash sent may = tt
@@ -110,7 +110,7 @@ module _ {I : Type 0} where
       → Fits actors holder (log ++ record { stamp = n; actor = p.actor; noted = t } ∷ []) id (seat_view (with_note t n p))
   fits_mine actors holder id log n p t mine =
       let e : Note I = record { stamp = n; actor = p.actor; noted = t } in
-      (((mine.0, mine.1, ap (λ (l : List (Note I)). l ++ e ∷ []) mine.2 ∙ sym (notes_mine p.actor log e refl), all_map (IsSent log) (IsSent (log ++ e ∷ [])) p.taken (λ x. sent_longer log (e ∷ []) x) mine.3), tt), tt, refl)
+      (((mine.0, mine.1, ap (λ (l : List (Note I)). l ++ e ∷ []) mine.2 ∙ sym (notes_mine p.actor log e refl), all_map (NamesOutput log) (NamesOutput (log ++ e ∷ [])) p.taken (λ x. sent_longer log (e ∷ []) x) mine.3), tt), tt, refl)
 
   earlier : (log : List (Note I)) (n : ℕ) (p : SeatView I) → n ≡ length log → NumberedFrom 0 log → p.notes ≡ notes_of p.actor log → AllByRecursion (λ (e : Note I). e.stamp < n) p.notes
   earlier log n p is num same =
@@ -160,7 +160,7 @@ module _ {I : Type 0} where
   with_views actors s kept holder views fits = record { log = kept.log; holder = holder; words = kept.words; legal = kept.legal; few = kept.few; short = kept.short; fits = fits }
 
   -- a new view, which has no seat
-  comes : (actors : List Actor) (s : State (Unit {0}) (BookView I)) (kept : Kept actors s) (id : ℕ) (v : BookView I) (ts : List (TokenView I)) → get_elem? s.views id ≡ some v → AllByRecursion (IsSent kept.log) ts
+  comes : (actors : List Actor) (s : State (Unit {0}) (BookView I)) (kept : Kept actors s) (id : ℕ) (v : BookView I) (ts : List (TokenView I)) → get_elem? s.views id ≡ some v → AllByRecursion (NamesOutput kept.log) ts
       → Kept actors record { words = s.words; homes = s.homes; views = slice_set s.views id v ++ record { seats = []; tokens = ts } ∷ [] }
   comes actors s kept id v ts at sent = with_views actors s kept kept.holder (slice_set s.views id v ++ record { seats = []; tokens = ts } ∷ [])
       (λ i w there. ⊎_elim
@@ -201,7 +201,7 @@ module _ {I : Type 0} where
       let mine = (kept.fits id (seat_view p) at).0.0 in
       let sent = (kept.fits other (token_view t) (stood s.views id other (taken_in (seat_view p) (token_view t)) (token_view t) apart there)).1 in
       merges actors s kept kept.holder id other (taken_in (seat_view p) (token_view t)) (λ i v _ _ h. kept.fits i v h)
-      (((mine.0, mine.1, mine.2, all_append (IsSent kept.log) p.taken (t ∷ []) mine.3 sent), tt), tt, refl)
+      (((mine.0, mine.1, mine.2, all_append (NamesOutput kept.log) p.taken (t ∷ []) mine.3 sent), tt), tt, refl)
 
   fits_moved : (actors : List Actor) (holder to : Actor → ℕ) (log : List (Note I)) (i j : ℕ) (v : BookView I) → ((a : Actor) → holder a ≡ i → to a ≡ j) → Fits actors holder log i v → Fits actors to log j v
   fits_moved actors holder to log i j v f h = (all_map (FitsSeat actors holder log i) (FitsSeat actors to log j) v.seats (λ p x. (f p.actor x.0, x.1, x.2, x.3)) h.0, h.1, h.2)
@@ -220,7 +220,7 @@ module _ {I : Type 0} where
       merges actors s kept to id other (joined v w)
       (λ i u _ far h. fits_moved actors kept.holder to kept.log i i u (λ a e. moved_else kept.holder other id a i e far) (kept.fits i u h)) (
         all_append (FitsSeat actors to kept.log id) v.seats w.seats first.0 second.0,
-        all_append (IsSent kept.log) v.tokens w.tokens first.1 second.1,
+        all_append (NamesOutput kept.log) v.tokens w.tokens first.1 second.1,
         apart_join kept.holder id other v.seats w.seats (λ e. apart (sym e)) (held actors kept.holder kept.log id v mine) (held actors kept.holder kept.log other w theirs) first.2 second.2,
       )
 

@@ -15,12 +15,6 @@ module _ {I : Type 0} where
   abbrev pub actor_in : SeatView I → Actor
   actor_in seat = seat.actor
 
-  -- the token names an output of an event of the history
-  abbrev pub IsSent : List (Note I) → TokenView I → Type 0
-  IsSent log token =
-      (slice_get log token.note.stamp ≡ Some token.note)
-      × (token.place < length token.note.noted.outputs)
-
   -- the token names this output: its event's stamp, its place there, its receiver and its frame
   abbrev pub Names : TokenView I → ℕ → ℕ → Actor → List ℕ → Type 0
   Names token stamp place to frame =

@@ -14,9 +14,9 @@ use Rattle.cluster.specs.declared.actor.Stepped.{Stepped}
 use Rattle.cluster.specs.declared.actor.Stepped.TheVariants.{Taken, Crashed}
 use Rattle.rows.specs.declared.refusal.Refusal.{Refusal}
 use Rattle.cluster.specs.declared.actor.GroupActor.{GroupActor}
-use Rattle.cluster.specs.Actors.{SameActor, output_of}
+use Rattle.cluster.specs.Actors.{SameActor}
 use Rattle.cluster.specs.Refusals.{ActorRefuses}
-use Rattle.cluster.specs.Inner.Steps.{Did, RefusedAsSaid}
+use Rattle.cluster.specs.Inner.Steps.{Did, RefusedAsSaid, output_of}
 use Rattle.cluster.specs.Cells.{EnvelopeView, envelopes_from, crash_noted}
 
 -- the outputs of the last note, each with its token

@@ -9,14 +9,19 @@ use Rattle.client_agent.specs.AgentView.{crashed_agent}
 use Rattle.std.specs.Prelude.{is_some}
 use Rattle.server.specs.ServerViews.{ServerView, SameMember}
 use Rattle.server.specs.Handings.{Handing, FrameBytes, OwnInput as TakesOwn}
+use Rattle.wire.specs.Frames.{Frame}
+use Rattle.event_book.specs.declared.view.Output.{Output}
 use Rattle.event_book.specs.declared.view.EventView.{EventView}
 use Rattle.event_book.specs.declared.view.EventView.TheVariants.{Crash}
 use Rattle.cluster.specs.declared.own_input.OwnInput.{OwnInput}
 use Rattle.cluster.specs.declared.actor.GroupActor.{GroupActor}
 use Rattle.cluster.specs.declared.actor.Stepped.{Stepped}
 use Rattle.cluster.specs.declared.actor.Stepped.TheVariants.{Taken, Crashed}
-use Rattle.cluster.specs.Actors.{output_of, ServerTurned, ServerCrashed, ClientTurned, ActorTurns, SameActor}
+use Rattle.cluster.specs.Actors.{ServerTurned, ServerCrashed, ClientTurned, ActorTurns, SameActor}
 use Rattle.cluster.specs.Refusals.{ServerRefuses, ServerMayLack, ClientRefuses, ActorRefuses, ActorMayLack}
+
+abbrev pub output_of : Frame → Output
+output_of f = record { to = f.to; frame = f.bytes }
 
 -- ---- a server
 

@@ -1,5 +1,5 @@
 -- The rule of the book's table, and what steps tell.
-use Rattle.std.specs.Prelude.{◌≡◌, ℕ, ◌^◌, ◌<◌, ◌≤◌, true, List, [], ◌∷◌, map, length}
+use Rattle.std.specs.Prelude.{◌≡◌, ℕ, ◌^◌, ◌<◌, ◌≤◌, true, List, [], ◌∷◌, map, length, Some, slice_get}
 use Rattle.std.specs.List.{AllByRecursion}
 use mathlib.Core.Option.{some}
 use lib.ListN.{get_elem?}
@@ -7,25 +7,32 @@ use Rattle.atomic_table.specs.Table.{State, Step}
 use Rattle.rows.specs.declared.actor.Actor.{Actor}
 use Rattle.event_book.specs.declared.view.NotedView.{NotedView}
 use Rattle.event_book.specs.declared.view.Note.{Note}
+use Rattle.event_book.specs.declared.view.TokenView.{TokenView}
 use Rattle.event_book.specs.declared.view.SeatView.{SeatView}
 use Rattle.event_book.specs.declared.view.BookView.{BookView}
 use Rattle.event_book.specs.Histories.{notes_of, IsLegal}
-use Rattle.event_book.specs.Seats.{lists_actor, are_apart, actor_in, IsSent, IsWhole, with_note}
+use Rattle.event_book.specs.Seats.{lists_actor, are_apart, actor_in, IsWhole, with_note}
 use Rattle.event_book.specs.Inner.Views.{HolderView}
 
 module _ {I : Type 0} where
+  -- the token names an output of an event of the history
+  abbrev pub NamesOutput : List (Note I) → TokenView I → Type 0
+  NamesOutput log token =
+      (slice_get log token.note.stamp ≡ Some token.note)
+      × (token.place < length token.note.noted.outputs)
+
   -- what is so of a seat that stands in the view at i, where `holder` says in which view the seat
   -- of each actor stands
   abbrev pub FitsSeat : List Actor → (Actor → ℕ) → List (Note I) → ℕ → SeatView I → Type 0
   FitsSeat actors holder log i seat =
       (holder seat.actor ≡ i) × (lists_actor actors seat.actor ≡ true)
-      × (seat.notes ≡ notes_of seat.actor log) × AllByRecursion (IsSent log) seat.taken
+      × (seat.notes ≡ notes_of seat.actor log) × AllByRecursion (NamesOutput log) seat.taken
 
   -- and of the view at i
   abbrev pub Fits : List Actor → (Actor → ℕ) → List (Note I) → ℕ → BookView I → Type 0
   Fits actors holder log i view =
       AllByRecursion (FitsSeat actors holder log i) view.seats
-      × AllByRecursion (IsSent log) view.tokens × (are_apart (map actor_in view.seats) ≡ true)
+      × AllByRecursion (NamesOutput log) view.tokens × (are_apart (map actor_in view.seats) ≡ true)
 
   -- Between any two moves there is one legal history, which proofs alone see. The word is its
   -- length, no actor noted more than 2^40 - 1 events, and each view fits it
