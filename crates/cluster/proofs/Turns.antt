@@ -1,7 +1,8 @@
 -- A cell's turn: the actor stays where its notes lead it.
-use Rattle.std.proofs.Common.{◌≡◌, ℕ, List, [], ◌∷◌, ◌++◌, take, refl, sym, ap, ◌∙◌, subst, inl, inr}
+use Rattle.std.proofs.Common.{◌≡◌, ◌⊎◌, ℕ, List, [], ◌∷◌, ◌++◌, take, refl, sym, ap, ◌∙◌, subst, inl, inr}
 use Rattle.std.specs.Prelude.{reverse, map, Result, Ok, Err, IfOk, IfErr}
 use Rattle.rows.specs.declared.refusal.Refusal.{Refusal}
+use Rattle.rows.specs.declared.refusal.Refusal.TheVariants as refusals
 use Rattle.std.proofs.lemmas.List.{reverse-append}
 use Rattle.rows.specs.declared.actor.Actor.{Actor}
 use Rattle.rows.specs.declared.actor.Actor.TheVariants as actors
@@ -27,10 +28,11 @@ use Rattle.cluster.specs.declared.actor.Stepped.{Stepped}
 use Rattle.cluster.specs.declared.actor.Stepped.TheVariants.{Taken, Crashed}
 use Rattle.cluster.specs.declared.own_input.OwnInput.TheVariants as own
 use Rattle.cluster.specs.Actors.{frame_of, group_size, nothing_sent, ServerTurned, TakesInput, ServerTurns, ClientTurns, ActorTurns, IsNewActor, SameActor}
+use Rattle.cluster.specs.Refusals.{ActorRefuses, Hears}
 use Rattle.cluster.specs.Turns.{IsCellOf, TookTurn, WhyNoTurn}
-use Rattle.cluster.specs.Cells.{EnvelopeView, CellView, IsLed, IsLedCell, IsRefused, Turned, crash_noted, envelopes_from, kept_of, kept_in}
+use Rattle.cluster.specs.Cells.{EnvelopeView, CellView, HasRoom, IsLed, IsLedCell, IsRefused, Turned, crash_noted, envelopes_from, kept_of, kept_in}
 use Rattle.cluster.specs.declared.cell.StampedEvent.{StampedEvent}
-use Rattle.cluster.specs.Inner.Steps.{Did, output_of}
+use Rattle.cluster.specs.Inner.Steps.{Did, RefusedAsSaid, output_of}
 use Rattle.cluster.specs.Inner.Sending.{IsRecorded, IsStill, IsTurn, last_envelopes}
 use Rattle.cluster.proofs.Sending.{envelopes_end}
 
@@ -102,26 +104,28 @@ last_sent old after noted stamp tokens is =
     let note : Note OwnInput = record { stamp = stamp; actor = old.actor; noted = noted } in
     ap (λ (s : SeatView OwnInput). last_envelopes s.notes) is ∙ envelopes_end old.notes note
 
-pub turned : (old : CellView) (envelope : EnvelopeView) (stepped : Stepped) (new : GroupActor) (after : SeatView OwnInput) (work : List Work) (sent : List EnvelopeView) → envelope.receiver ≡ old.seat.actor
+pub turned : (old : CellView) (envelope : EnvelopeView) (stepped : Stepped) (new : GroupActor) (after : SeatView OwnInput) (work : List Work) (sent : List EnvelopeView) → envelope.receiver ≡ old.seat.actor → HasRoom old
     → Did old.actor envelope.event stepped new → IsRecorded old.seat envelope.event envelope.tokens stepped after work sent → Turned old envelope (record { actor = new; seat = after }) work sent
-turned old envelope (Taken outbox) new after work sent mine did r =
+turned old envelope (Taken outbox) new after work sent mine room did r =
     let outs = map output_of outbox.frames in
     record {
       noted = record { event = envelope.event; outputs = outs };
       taken = envelope.tokens;
       stamp = r.stamp;
       receiver = mine;
+      room = room;
       is_of = inl (refl, refl);
       step = subst (λ (w : List Work). ActorTurns old.actor envelope.event outs w new) (sym r.work_is) did;
       seat = r.seat;
       count = r.count;
       are = r.are ∙ ap (take r.count) (last_sent old.seat after (record { event = envelope.event; outputs = outs }) r.stamp envelope.tokens r.seat);
     }
-turned old envelope Crashed new after work sent mine did r = record {
+turned old envelope Crashed new after work sent mine room did r = record {
   noted = crash_noted;
   taken = [];
   stamp = r.stamp;
   receiver = mine;
+  room = room;
   is_of = inr (refl, refl, did.1);
   step = subst (λ (w : List Work). ActorTurns old.actor Crash [] w new) (sym r.work_is) did.0;
   seat = r.seat;
@@ -165,17 +169,27 @@ Kept n me actor taken seat = (me ≡ seat.actor) × (map kept_of taken ≡ map k
 
 -- what became of an envelope keeps what a cell keeps
 pub cell_kept : {X : Type 0} (n : ℕ) (me : Actor) (old : CellView) (envelope : EnvelopeView) (q : Result X Refusal) (work : X → List Work) (sent : X → List EnvelopeView) (after : GroupActor) (now : SeatView OwnInput) (before taken : List StampedEvent)
-    → Kept n me old.actor before old.seat → envelope.receiver ≡ me
+    → Kept n me old.actor before old.seat → envelope.receiver ≡ me → HasRoom old
     → IfOk q (λ x. IsTurn old.actor old.seat envelope.event envelope.tokens (work x) (sent x) after now) → IfErr q (λ cause. IsStill old.actor old.seat envelope.event cause after now)
     → map kept_of taken ≡ map kept_in now.notes → Kept n me after taken now
-cell_kept n me old envelope (Ok x) work sent after now before taken was to turn still kept =
-    let t = turned old envelope turn.stepped after now (work x) (sent x) (to ∙ was.0) turn.did turn.recorded in
+cell_kept n me old envelope (Ok x) work sent after now before taken was to room turn still kept =
+    let t = turned old envelope turn.stepped after now (work x) (sent x) (to ∙ was.0) room turn.did turn.recorded in
     (was.0 ∙ sym (ap (λ (s : SeatView OwnInput). s.actor) t.seat), kept, led_on n old envelope (record { actor = after; seat = now }) (work x) (sent x) was.2 t)
-cell_kept n me old envelope (Err cause) work sent after now before taken was to turn still kept =
+cell_kept n me old envelope (Err cause) work sent after now before taken was to room turn still kept =
     (was.0 ∙ sym (ap (λ (s : SeatView OwnInput). s.actor) still.seat_is), kept, subst (λ s. IsLedCell n (record { actor = after; seat = s })) (sym still.seat_is) (led_still n old.seat old.actor after still.same was.2))
 
 pub cell_turned : {X : Type 0} (me : Actor) (old : CellView) (envelope : EnvelopeView) (q : Result X Refusal) (work : X → List Work) (sent : X → List EnvelopeView) (after : GroupActor) (now : SeatView OwnInput)
-    → me ≡ old.seat.actor → envelope.receiver ≡ me → IfOk q (λ x. IsTurn old.actor old.seat envelope.event envelope.tokens (work x) (sent x) after now)
+    → me ≡ old.seat.actor → envelope.receiver ≡ me → HasRoom old → IfOk q (λ x. IsTurn old.actor old.seat envelope.event envelope.tokens (work x) (sent x) after now)
     → IfOk q (λ x. Turned old envelope (record { actor = after; seat = now }) (work x) (sent x))
-cell_turned me old envelope (Ok x) work sent after now mine to turn = turned old envelope turn.stepped after now (work x) (sent x) (to ∙ mine) turn.did turn.recorded
-cell_turned me old envelope (Err cause) work sent after now mine to turn = turn
+cell_turned me old envelope (Ok x) work sent after now mine to room turn = turned old envelope turn.stepped after now (work x) (sent x) (to ∙ mine) room turn.did turn.recorded
+cell_turned me old envelope (Err cause) work sent after now mine to room turn = turn
+
+as_said : (says : Refusal → Type 0) (cause : Refusal) → RefusedAsSaid says cause → (cause ≡ refusals.NoMemory) ⊎ says cause
+as_said says refusals.NoMemory said = inl refl
+as_said says _ said = inr said
+
+pub cell_refused : {X : Type 0} (me : Actor) (old : CellView) (envelope : EnvelopeView) (q : Result X Refusal) (after : GroupActor) (now : SeatView OwnInput)
+    → me ≡ old.seat.actor → Hears old.actor envelope.event → envelope.receiver ≡ me → HasRoom old → IfErr q (λ cause. IsStill old.actor old.seat envelope.event cause after now)
+    → IfErr q (λ cause. IsRefused old envelope cause)
+cell_refused me old envelope (Ok x) after now mine hears to room still = still
+cell_refused me old envelope (Err cause) after now mine hears to room still = inr (hears, inr (to ∙ mine, inr (room, as_said (ActorRefuses old.actor envelope.event) cause still.refused)))

@@ -33,8 +33,8 @@ nothing_sent = record { frames = []; work = [] }
 
 -- ---- servers
 
--- A server takes what is handed in: whichever server of the definitions it is, and whichever message
--- a frame may be, the definitions give that turn.
+-- A server takes what is handed in: whichever server of the definitions it is, and whichever
+-- message a frame may be, the definitions give that turn.
 pub record ServerTurned (old : ServerView) (h : Handing) (outputs : List Output) (work : List Work) (new : ServerView) : Type 0 where
   pub same : (new.raft.me ≡ old.raft.me) × (new.raft.size ≡ old.raft.size)
   pub taken : (s : Member) → IsMember old s → TakesHanding old s h new nothing_sent (record { frames = map frame_of outputs; work = work })

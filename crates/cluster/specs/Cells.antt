@@ -1,5 +1,5 @@
 -- What a contract sees of envelopes and cells, and what a cell's turn does.
-use Rattle.std.specs.Prelude.{◌≡◌, ◌≢◌, ◌⊎◌, ℕ, suc, ◌+◌, ◌^◌, ◌≤◌, Option, Some, None, List, [], ◌∷◌, length, take, reverse}
+use Rattle.std.specs.Prelude.{◌≡◌, ◌≢◌, ◌⊎◌, ℕ, suc, ◌+◌, ◌^◌, ◌<◌, ◌≤◌, Option, Some, None, List, [], ◌∷◌, length, take, reverse}
 use Rattle.rows.specs.declared.actor.Actor.{Actor}
 use Rattle.rows.specs.declared.refusal.Refusal.{Refusal}
 use Rattle.rows.specs.declared.refusal.Refusal.TheVariants as refusals
@@ -104,6 +104,10 @@ IsNoteOf old envelope noted taken =
     (noted.event ≡ envelope.event) × (taken ≡ envelope.tokens)
     ⊎ (noted ≡ crash_noted) × (taken ≡ []) × ActorMayLack old.actor envelope.event
 
+-- the seat may note one event more
+abbrev pub HasRoom : CellView → Type 0
+HasRoom c = length c.seat.notes + 1 < 2 ^ 40
+
 -- The actor took one step, or crashed in its place; that was noted once; its first outputs come
 -- with their tokens, all of them but for want of memory.
 pub record Turned (old : CellView) (envelope : EnvelopeView) (new : CellView) (work : List Work) (sent : List EnvelopeView) : Type 0 where
@@ -111,19 +115,25 @@ pub record Turned (old : CellView) (envelope : EnvelopeView) (new : CellView) (w
   pub taken : List (TokenView OwnInput)
   pub stamp : ℕ
   pub receiver : envelope.receiver ≡ old.seat.actor
+  pub room : HasRoom old
   pub is_of : IsNoteOf old envelope noted taken
   pub step : ActorTurns old.actor noted.event noted.outputs work new.actor
   pub seat : new.seat ≡ with_note noted stamp (with_taken taken old.seat)
   pub count : ℕ
   pub are : sent ≡ take count (envelopes_from (record { stamp = stamp; actor = old.seat.actor; noted = noted }) 0 noted.outputs)
 
--- why an envelope is refused at an actor that hears it
+-- why an actor's own envelope is refused, where it hears it: the seat is full, or else there is no
+-- memory, or the actor refuses it
+abbrev pub WhyNotTaken : CellView → EnvelopeView → Refusal → Type 0
+WhyNotTaken old envelope r =
+    (r ≡ refusals.Exhausted) × (2 ^ 40 ≤ length old.seat.notes + 1)
+    ⊎ HasRoom old × ((r ≡ refusals.NoMemory) ⊎ ActorRefuses old.actor envelope.event r)
+
+-- why an envelope is refused at an actor that hears it: it is for another actor, or else as above
 abbrev pub WhyRefused : CellView → EnvelopeView → Refusal → Type 0
 WhyRefused old envelope r =
     (r ≡ refusals.OutOfRange) × (envelope.receiver ≢ old.seat.actor)
-    ⊎ (r ≡ refusals.Exhausted) × (2 ^ 40 ≤ length old.seat.notes + 1)
-    ⊎ (r ≡ refusals.NoMemory)
-    ⊎ ActorRefuses old.actor envelope.event r
+    ⊎ (envelope.receiver ≡ old.seat.actor) × WhyNotTaken old envelope r
 
 -- one that does not hear it refuses with `Down`
 abbrev pub IsRefused : CellView → EnvelopeView → Refusal → Type 0

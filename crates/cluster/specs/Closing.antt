@@ -53,8 +53,8 @@ abbrev pub crash_event : Actor → Event
 crash_event (actors.Server i) = AtServer i servers.Crash
 crash_event (actors.Client c) = AtClient c clients.Crash
 
--- the event that an actor's noted event is; a delivery is that of the message at its place among all
--- that were ever sent, by stamp and then by place
+-- the event that an actor's noted event is; a delivery is that of the message at its place among
+-- all that were ever sent, by stamp and then by place
 abbrev pub noted_event : List (Note OwnInput) → Actor → EventView OwnInput → Event
 noted_event log a (Own input) = own_event a input
 noted_event log a (Delivery stamp place frame) = Deliver (sent_before log stamp + place)

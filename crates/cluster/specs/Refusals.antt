@@ -63,8 +63,8 @@ abbrev pub ClientInputRefused : AgentView → ClientInput → Refusal → Type 0
 ClientInputRefused a (client_inputs.Frame bytes) r = r ≡ refusals.OutOfRange
 ClientInputRefused a given r = ClientRefuses a given r
 
--- An event of an actor that is up, or a restart: it is refused so. An input of the other kind, and a
--- frame that is handed in as an input, are out of range.
+-- An event of an actor that is up, or a restart: it is refused so. An input of the other kind, and
+-- a frame that is handed in as an input, are out of range.
 abbrev pub ActorRefuses : GroupActor → EventView OwnInput → Refusal → Type 0
 ActorRefuses (Server v) (Own (own.Server input)) r = InputRefused v (handing input.value) r
 ActorRefuses (Server v) (Own (own.Client input)) r = r ≡ refusals.OutOfRange

@@ -295,7 +295,8 @@ impl<B: BookId> Cell<B> {
 
     /// Whether it is the cell of this actor.
     pub(crate) fn is_of(&self, actor: Actor) -> bool
-        ensures mine { MatchBool result (self.now.seat.actor ≡ actor) (self.now.seat.actor ≢ actor) }
+        ensures mine { MatchBool result (self.now.seat.actor ≡ actor)
+            (self.now.seat.actor ≢ actor) }
         ensures led { IsLedCell (group_size B.actors) self.now }
     {
         self.me == actor

@@ -78,8 +78,8 @@ impl<B: BookId> Envelope<B> {
         self.receiver
     }
 
-    /// Two envelopes of one, for a message that is delivered twice. An input of an actor's own comes
-    /// once: it is handed back, as is a message for whose copy there is no memory.
+    /// Two envelopes of one, for a message that is delivered twice. An input of an actor's own
+    /// comes once: it is handed back, as is a message for whose copy there is no memory.
     /// - `both`: each is what it was.
     /// - `back`: what is handed back is what it was.
     pub fn again(

@@ -66,9 +66,9 @@ fn nodes_among(alloc: Global, m: usize, actors: &[NamedActor]) -> Result<Vec<Nod
 /// to which what the cells noted leads. It asks for as many cells as the book has actors, in any
 /// order, and for a book of the actors of such a group.
 ///
-/// The world's trace is all that the cells noted, each event once and in the order of its stamp, and
-/// its actors are those of the cells: each of the book's actors has one of them. The world is made
-/// by playing these events again, and memory may be wanting for it.
+/// The world's trace is all that the cells noted, each event once and in the order of its stamp,
+/// and its actors are those of the cells: each of the book's actors has one of them. The world is
+/// made by playing these events again, and memory may be wanting for it.
 pub fn join_cells<B: BookId>(
     alloc: Global,
     n: usize,

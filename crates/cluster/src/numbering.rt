@@ -81,8 +81,8 @@ fn event_at(
     }
 }
 
-/// The events of a history, in its order. A delivery counts the outputs of all events from 1, in the
-/// order of the events and then of their places. `NoMemory` is the answer also where that count
+/// The events of a history, in its order. A delivery counts the outputs of all events from 1, in
+/// the order of the events and then of their places. `NoMemory` is the answer also where that count
 /// passes 2^64, which it can't in memory that exists, and where a delivery is of an event that does
 /// not come before it, which no legal history has.
 pub(crate) fn number(alloc: Global, merged: Vec<Placed>) -> Result<Vec<Event>, NoMemory>
