@@ -6,12 +6,12 @@ use Rattle.rows.specs.declared.actor.Actor.{Actor}
 use Rattle.rows.specs.declared.actor.Actor.TheVariants.{Server, Client}
 use Rattle.event_book.specs.declared.view.SeatView.{SeatView}
 use Rattle.event_book.specs.Actors.{same_actor}
-use Rattle.event_book.specs.Seats.{lists_actor}
+use Rattle.event_book.specs.Seats.{are_apart, lists_actor}
 use Rattle.cluster.specs.declared.own_input.OwnInput.{OwnInput}
 use Rattle.cluster.specs.Actors.{IsNewActor, group_size}
 use Rattle.std.proofs.lemmas.Bool.{eqb-true, false_from_ne_true}
 use Rattle.cluster.specs.Cells.{CellView}
-use Rattle.cluster.specs.Closing.{AreOfGroup}
+use Rattle.cluster.specs.Closing.{AreOfGroup, AreSeated}
 use Rattle.cluster.specs.Opening.{IsOfGroup, MayOpen}
 use Rattle.cluster.specs.Inner.Begun.{AreNew}
 use Rattle.cluster.proofs.Merge.{same_actor-refl, same_actor-true}
@@ -80,6 +80,10 @@ pub of_group_either : (b : Bool) (n m : ℕ) (all : List Actor) → AllByRecursi
     → MatchBool b (AreOfGroup n m all) (AreOfGroup n m all → ⊥)
 of_group_either true n m all within servers has lacks = are_of_group n m all within servers (has refl)
 of_group_either false n m all within servers has lacks = λ g. let k = lacks refl in true≢false (sym (g.clients k.0 k.1) ∙ k.2)
+
+pub seated_either : (b : Bool) (n m : ℕ) (all : List Actor) → AreOfGroup n m all → b ≡ are_apart all → MatchBool b (AreSeated n m all) (AreSeated n m all → ⊥)
+seated_either true n m all g is = (g, sym is)
+seated_either false n m all g is = λ s. true≢false (sym s.1 ∙ sym is)
 
 -- a server that lacks is of the group
 pub lacks_server : (n m : ℕ) (all : List Actor) → (i : ℕ) × (i < n) × (lists_actor all (Server i) ≡ false) → AreOfGroup n m all → ⊥
