@@ -6,7 +6,7 @@ ghost use Rattle.world.specs.WorldView.{IsGroup};
 ghost use Rattle.event_book.specs.Seats.{lists_actor};
 ghost use Rattle.cluster.specs.Actors.{group_size, IsNewActor};
 ghost use Rattle.cluster.specs.Closing.{AreOfGroup, AreSeated};
-ghost use Rattle.cluster.specs.Inner.Begun.{AreNew};
+ghost use Rattle.cluster.specs.Inner.Begun.{AreNew, HasNode};
 ghost use Rattle.cluster.specs.Opening.{IsOfGroup, MayOpen, WhyNotOpen};
 
 use crate::actor::GroupActor;
@@ -113,6 +113,7 @@ fn begin(alloc: Global, n: usize, nodes: &[NodeSpec], actor: Actor) -> Result<Gr
     requires size { IsGroup n }
     requires few { length nodes.now ≤ 64 }
     ensures ok { IfOk result (λ a. IsNewActor n actor a) }
+    ensures node { IfOk result (λ a. HasNode nodes.now a) }
     ensures there { OnOk result (IsOfGroup n (length nodes.now) actor) }
     ensures refused { IfErr result (WhyNotOpen (IsOfGroup n (length nodes.now) actor)) }
 {
