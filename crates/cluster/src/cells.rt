@@ -1,9 +1,10 @@
 //! All actors of a group, each in a cell under a lock of its own.
-ghost use Rattle.std.specs.Prelude.{◌≡◌, ◌<◌, true, false, List, length, map, vec_len};
+ghost use Rattle.std.specs.Prelude.{◌≡◌, ◌≢◌, ◌<◌, true, false, List, length, map, vec_len, MatchBool};
 ghost use Rattle.std.specs.Prelude.{IfErr, IfNone, IfOk, IfSome, OnOk};
 ghost use Rattle.std.specs.Sync.Mutex.{mutex_guard_value};
 ghost use Rattle.event_book.specs.Seats.{actor_in, are_apart, lists_actor};
-ghost use Rattle.cluster.specs.Cells.{AreSent, CellView};
+ghost use Rattle.cluster.specs.Actors.{group_size};
+ghost use Rattle.cluster.specs.Cells.{AreSent, CellView, IsLedCell};
 ghost use Rattle.cluster.specs.Closing.{AreOfGroup, ClosesTo};
 ghost use Rattle.cluster.specs.Opening.{MayOpenCells, WhyNotOpen};
 ghost use Rattle.cluster.specs.Turns.{IsCellOf, TookTurn, WhyNoTurn};
@@ -101,6 +102,15 @@ fn place_of(actors: &[Actor], actor: Actor) -> Option<usize>
     Some(place_of(rest, actor)? + 1)
 }
 
+/// Whether what lies behind a lock is the cell of this actor.
+fn is_of<B: BookId>(cell: &MutexGuard<'_, Cell<B>>, actor: Actor) -> bool
+    ensures mine { MatchBool result ((mutex_guard_value cell.now).seat.actor ≡ actor)
+        ((mutex_guard_value cell.now).seat.actor ≢ actor) }
+    ensures led { IsLedCell (group_size B.actors) (mutex_guard_value cell.now) }
+{
+    cell.is_of(actor)
+}
+
 impl<B: BookId> Cells<B> {
     /// The cells of a group of `n` servers and a client for each of these nodes, the k-th client,
     /// from 1, being that of the k-th node, before their first event.
@@ -187,7 +197,7 @@ impl<B: BookId> Cells<B> {
         };
         for _ in rt.forever() {
             let cell = lock.lock(rt);
-            if cell.is_of(actor) {
+            if is_of(&cell, actor) {
                 return Some(cell);
             }
         }
