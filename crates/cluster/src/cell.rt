@@ -294,12 +294,12 @@ impl<B: BookId> Cell<B> {
     }
 
     /// Whether it is the cell of this actor.
-    pub(crate) fn is_of(&self, actor: Actor) -> bool
-        ensures mine { MatchBool result (self.now.seat.actor ≡ actor)
-            (self.now.seat.actor ≢ actor) }
+    pub(crate) fn is_of(&self, actor: &Actor) -> bool
+        ensures mine { MatchBool result (self.now.seat.actor ≡ actor.now)
+            (self.now.seat.actor ≢ actor.now) }
         ensures led { IsLedCell (group_size B.actors) self.now }
     {
-        self.me == actor
+        self.me == *actor
     }
 
     /// The actor, where just the events lead it that its seat noted.

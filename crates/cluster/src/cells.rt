@@ -1,10 +1,9 @@
 //! All actors of a group, each in a cell under a lock of its own.
-ghost use Rattle.std.specs.Prelude.{◌≡◌, ◌≢◌, ◌<◌, true, false, List, length, map, vec_len, MatchBool};
+ghost use Rattle.std.specs.Prelude.{◌≡◌, ◌<◌, true, false, List, length, map, vec_len};
 ghost use Rattle.std.specs.Prelude.{IfErr, IfNone, IfOk, IfSome, OnOk};
 ghost use Rattle.std.specs.Sync.Mutex.{mutex_guard_value};
 ghost use Rattle.event_book.specs.Seats.{actor_in, are_apart, lists_actor};
-ghost use Rattle.cluster.specs.Actors.{group_size};
-ghost use Rattle.cluster.specs.Cells.{AreSent, CellView, IsLedCell};
+ghost use Rattle.cluster.specs.Cells.{AreSent, CellView};
 ghost use Rattle.cluster.specs.Closing.{AreOfGroup, ClosesTo};
 ghost use Rattle.cluster.specs.Opening.{MayOpenCells, WhyNotOpen};
 ghost use Rattle.cluster.specs.Turns.{IsCellOf, TookTurn, WhyNoTurn};
@@ -90,25 +89,16 @@ fn actors_of<B: BookId>(
 }
 
 /// The place of an actor among these; none where it is none of them.
-fn place_of(actors: &[Actor], actor: Actor) -> Option<usize>
+fn place_of(actors: &[Actor], actor: &Actor) -> Option<usize>
     ensures some { IfSome result (λ place.
-        (place < length actors.now) × (lists_actor actors.now actor ≡ true)) }
-    ensures none { IfNone result (lists_actor actors.now actor ≡ false) }
+        (place < length actors.now) × (lists_actor actors.now actor.now ≡ true)) }
+    ensures none { IfNone result (lists_actor actors.now actor.now ≡ false) }
 {
     let (first, rest) = actors.split_first()?;
-    if *first == actor {
+    if *first == *actor {
         return Some(0);
     }
     Some(place_of(rest, actor)? + 1)
-}
-
-/// Whether what lies behind a lock is the cell of this actor.
-fn is_of<B: BookId>(cell: &MutexGuard<'_, Cell<B>>, actor: Actor) -> bool
-    ensures mine { MatchBool result ((mutex_guard_value cell.now).seat.actor ≡ actor)
-        ((mutex_guard_value cell.now).seat.actor ≢ actor) }
-    ensures led { IsLedCell (group_size B.actors) (mutex_guard_value cell.now) }
-{
-    cell.is_of(actor)
 }
 
 impl<B: BookId> Cells<B> {
@@ -191,13 +181,13 @@ impl<B: BookId> Cells<B> {
         ensures some { IfSome result (λ cell. IsCellOf B.actors actor (mutex_guard_value cell)) }
         ensures none { IfNone result (lists_actor B.actors actor ≡ false) }
     {
-        let place = place_of(self.actors.as_slice(), actor)?;
+        let place = place_of(self.actors.as_slice(), &actor)?;
         let Some(lock) = self.cells.get(place) else {
             unreachable!()
         };
         for _ in rt.forever() {
             let cell = lock.lock(rt);
-            if is_of(&cell, actor) {
+            if cell.is_of(&actor) {
                 return Some(cell);
             }
         }
