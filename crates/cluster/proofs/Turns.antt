@@ -29,7 +29,7 @@ use Rattle.cluster.specs.declared.actor.Stepped.TheVariants.{Taken, Crashed}
 use Rattle.cluster.specs.declared.own_input.OwnInput.TheVariants as own
 use Rattle.cluster.specs.Actors.{frame_of, group_size, nothing_sent, ServerTurned, TakesInput, ServerTurns, ClientTurns, ActorTurns, IsNewActor, SameActor}
 use Rattle.cluster.specs.Refusals.{ActorRefuses, Hears}
-use Rattle.cluster.specs.Turns.{IsCellOf, TookTurn, WhyNoTurn}
+use Rattle.cluster.specs.Turns.{TookTurn, WhyNoTurn}
 use Rattle.cluster.specs.Cells.{EnvelopeView, CellView, HasRoom, IsLed, IsLedCell, IsRefused, Turned, crash_noted, envelopes_from, kept_of, kept_in}
 use Rattle.cluster.specs.declared.cell.StampedEvent.{StampedEvent}
 use Rattle.cluster.specs.Inner.Steps.{Did, RefusedAsSaid, output_of}
@@ -142,25 +142,21 @@ led_on n old envelope new work sent led t =
 
 -- ---- a turn of a cell behind a lock
 
-pub turn_took : {X : Type 0} (all : List Actor) (actor : Actor) (old new : CellView) (envelope : EnvelopeView) (q : Result X Refusal) (work : X → List Work) (sent : X → List EnvelopeView) → IsCellOf all actor old
-    → IfOk q (λ x. Turned old envelope new (work x) (sent x)) → IfOk q (λ x. TookTurn all actor envelope (work x) (sent x))
-turn_took all actor old new envelope (Ok x) work sent cell t = record {
+pub turn_took : {X : Type 0} (n : ℕ) (old new : CellView) (envelope : EnvelopeView) (q : Result X Refusal) (work : X → List Work) (sent : X → List EnvelopeView) → IsLedCell n old
+    → IfOk q (λ x. Turned old envelope new (work x) (sent x)) → IfOk q (λ x. TookTurn n envelope (work x) (sent x))
+turn_took n old new envelope (Ok x) work sent led t = record {
   old = old;
   new = new;
-  before = cell;
-  after = record {
-    listed = cell.listed;
-    mine = ap (λ (s : SeatView OwnInput). s.actor) t.seat ∙ cell.mine;
-    led = led_on (group_size all) old envelope new (work x) (sent x) cell.led t;
-  };
+  before = led;
+  after = led_on n old envelope new (work x) (sent x) led t;
   turned = t;
 }
-turn_took all actor old new envelope (Err cause) work sent cell t = t
+turn_took n old new envelope (Err cause) work sent led t = t
 
-pub turn_refused : {X : Type 0} (all : List Actor) (actor : Actor) (old : CellView) (envelope : EnvelopeView) (q : Result X Refusal) → IsCellOf all actor old
-    → IfErr q (λ cause. IsRefused old envelope cause) → IfErr q (λ cause. WhyNoTurn all actor envelope cause)
-turn_refused all actor old envelope (Ok x) cell h = h
-turn_refused all actor old envelope (Err cause) cell h = inr (old, cell, h)
+pub turn_refused : {X : Type 0} (n : ℕ) (all : List Actor) (actor : Actor) (old : CellView) (envelope : EnvelopeView) (q : Result X Refusal) → IsLedCell n old
+    → IfErr q (λ cause. IsRefused old envelope cause) → IfErr q (λ cause. WhyNoTurn n all actor envelope cause)
+turn_refused n all actor old envelope (Ok x) led h = h
+turn_refused n all actor old envelope (Err cause) led h = inr (old, led, h)
 
 -- ---- a cell's turn, both ways
 

@@ -293,15 +293,6 @@ impl<B: BookId> Cell<B> {
         }
     }
 
-    /// Whether it is the cell of this actor.
-    pub(crate) fn is_of(&self, actor: &Actor) -> bool
-        ensures mine { MatchBool result (self.now.seat.actor ≡ actor.now)
-            (self.now.seat.actor ≢ actor.now) }
-        ensures led { IsLedCell (group_size B.actors) self.now }
-    {
-        self.me == *actor
-    }
-
     /// The actor, where just the events lead it that its seat noted.
     /// - `led`: that is where it is, in the group of the book's actors.
     pub fn actor(&self) -> &GroupActor
@@ -350,6 +341,7 @@ impl<B: BookId> Cell<B> {
     ) -> Result<Turn<B>, Refusal>
         ensures ok { IfOk result (λ turn.
             Turned self.old envelope self.new turn.work turn.sent.items) }
+        ensures led { IsLedCell (group_size B.actors) self.old }
         ensures err { OnErr result (SameCell self.old self.new) }
         ensures refused { IfErr result (λ cause. IsRefused self.old envelope cause) }
     {

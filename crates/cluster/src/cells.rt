@@ -1,12 +1,12 @@
 //! All actors of a group, each in a cell under a lock of its own.
 ghost use Rattle.std.specs.Prelude.{◌≡◌, ◌<◌, true, false, List, length, map, vec_len};
-ghost use Rattle.std.specs.Prelude.{IfErr, IfNone, IfOk, IfSome, OnOk};
-ghost use Rattle.std.specs.Sync.Mutex.{mutex_guard_value};
+ghost use Rattle.std.specs.Prelude.{IfErr, IfNone, IfOk, IfSome, OnOk, OnSome};
 ghost use Rattle.event_book.specs.Seats.{actor_in, are_apart, lists_actor};
 ghost use Rattle.cluster.specs.Cells.{AreSent, CellView};
 ghost use Rattle.cluster.specs.Closing.{AreOfGroup, ClosesTo};
 ghost use Rattle.cluster.specs.Opening.{MayOpenCells, WhyNotOpen};
-ghost use Rattle.cluster.specs.Turns.{IsCellOf, TookTurn, WhyNoTurn};
+ghost use Rattle.cluster.specs.Actors.{group_size};
+ghost use Rattle.cluster.specs.Turns.{TookTurn, WhyNoTurn};
 
 use crate::cell::{Cell, Turn};
 use crate::envelope::Envelope;
@@ -170,28 +170,16 @@ impl<B: BookId> Cells<B> {
         envelope.again(self.alloc, &self.book)
     }
 
-    /// The cell of an actor alone, once it is free; none where the group has no such actor. While
-    /// the guard is held that actor takes nothing.
-    ///
-    /// What lies behind a lock is known by its type alone, so it looks whose cell it found. Who
-    /// exchanges what lies behind two guards makes those wait who ask for these actors.
-    /// - `some`: it is the actor's, who is where just the events lead it that its seat noted.
-    /// - `none`: there is none just where the group lacks the actor.
+    /// The cell at an actor's place, alone, once it is free; none where the group has no such actor.
+    /// While the guard is held that actor takes nothing.
+    /// - `some`: there is one only where the group has the actor.
+    /// - `none`: there is none only where the group lacks the actor.
     pub fn lock<R: Wait>(&self, rt: &R, actor: Actor) -> Option<MutexGuard<'_, Cell<B>>>
-        ensures some { IfSome result (λ cell. IsCellOf B.actors actor (mutex_guard_value cell)) }
-        ensures none { IfNone result (lists_actor B.actors actor ≡ false) }
+        ensures some { OnSome result (lists_actor self.now.actors actor ≡ true) }
+        ensures none { IfNone result (lists_actor self.now.actors actor ≡ false) }
     {
         let place = place_of(self.actors.as_slice(), &actor)?;
-        let Some(lock) = self.cells.get(place) else {
-            unreachable!()
-        };
-        for _ in rt.forever() {
-            let cell = lock.lock(rt);
-            if cell.is_of(&actor) {
-                return Some(cell);
-            }
-        }
-        unreachable!()
+        Some(self.cells[place].lock(rt))
     }
 }
 
@@ -199,10 +187,10 @@ impl<B: BookId> Cells<B> {
 ///
 /// It is refused with `OutOfRange` where the group has no such actor, and else as `Cell::take`
 /// refuses. What the actor sent comes with its tokens.
-/// - `ok`: a cell of this actor took one step by the envelope, as `Cell::take` says; this came for
-///   its workers, and this was sent.
+/// - `ok`: a cell of the envelope's receiver took one step by it, as `Cell::take` says; this came
+///   for its workers, and this was sent.
 /// - `sent`: what was sent are first outputs of one event that the receiver noted.
-/// - `refused`: the group lacks the actor, or a cell of this actor refuses the envelope so.
+/// - `refused`: the group lacks the actor, or a cell refuses the envelope so.
 pub fn turn<B: BookId, R: Wait>(
     rt: &R,
     cells: &Cells<B>,
@@ -210,9 +198,10 @@ pub fn turn<B: BookId, R: Wait>(
     envelope: Envelope<B>,
 ) -> Result<Turn<B>, Refusal>
     ensures ok { IfOk result (λ turn.
-        TookTurn B.actors actor envelope turn.work turn.sent.items) }
+        TookTurn (group_size B.actors) envelope turn.work turn.sent.items) }
     ensures sent { IfOk result (λ turn. AreSent envelope.receiver turn.sent.items) }
-    ensures refused { IfErr result (λ cause. WhyNoTurn B.actors actor envelope cause) }
+    ensures refused { IfErr result (λ cause.
+        WhyNoTurn (group_size B.actors) cells.now.actors actor envelope cause) }
 {
     let Some(mut cell) = cells.lock(rt, actor) else {
         return Err(Refusal::OutOfRange);
