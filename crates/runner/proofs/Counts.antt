@@ -7,7 +7,8 @@ use Rattle.clap.specs.Kinds.{or_else}
 use Rattle.clap.specs.declared.error.Error.{Error}
 use Rattle.clap.specs.declared.error.kind.ErrorKind.{ErrorKind}
 use Rattle.clap.specs.declared.error.kind.ErrorKind.TheVariants.{OutOfMemory, ValueValidation}
-use Rattle.runner.specs.Words.{AreWorkers, IsAsked, are_workers, is_line, is_taken, miscounts}
+use Rattle.runner.specs.Words.{AreWorkers, IsAsked, are_workers, miscounts}
+use Rattle.runner.specs.Inner.Lines.{is_line, is_taken}
 use Rattle.runner.specs.declared.command.CommandLine.{CommandLine}
 use Rattle.runner.specs.declared.command.CommandLine.TheVariants.{Run, Threads, Replay, Draw, Check}
 

@@ -10,7 +10,8 @@ use Rattle.clap.specs.Simple.{Shape, argument_words, built_leaf, entered, filled
 use Rattle.clap.specs.Kinds.{Kinds, check_kinds}
 use Rattle.clap.specs.Faults.{built_fault, check_fault, defaults_fault, entered_fault, level_fault, settle_fault, walk_fault}
 use Rattle.clap.specs.Takes.{is_given}
-use Rattle.runner.specs.Words.{app_with, is_line, nomadsim_app, out_option, required_word, workers_option}
+use Rattle.runner.specs.Words.{app_with, nomadsim_app, out_option, required_word, workers_option}
+use Rattle.runner.specs.Inner.Lines.{is_line}
 use Rattle.runner.proofs.GivenValues.{given_has_value, rows_are_valued}
 use Rattle.runner.proofs.Turns.{IsNoHelp, no_first, no_second, stops_at_no_help}
 

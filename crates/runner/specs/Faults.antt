@@ -19,15 +19,6 @@ IsStatus (BadTranscript place) status = status ≡ 2
 IsStatus NoMemory status = status ≡ 3
 IsStatus Output status = status ≡ 2
 
--- a fault of the words is one of those found in them
-abbrev pub IsFound : Kinds → Fault → Type 0
-IsFound found (CommandLine error) = IsAmong (kind_of error) found
-IsFound found _ = ⊤
-
--- a run ends by a fault of its words, or they have none
-abbrev pub MayEndBy : Kinds → Fault → Type 0
-MayEndBy found fault = (found ≡ []) ⊎ IsFound found fault
-
 -- the words ask for help, or for the version
 abbrev pub AskForHelp : Kinds → Type 0
 AskForHelp found = IsAmong kinds.DisplayHelp found ⊎ IsAmong kinds.DisplayVersion found

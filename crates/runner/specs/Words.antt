@@ -1,5 +1,5 @@
 -- What the words of a command line ask for, by the reading of words that `clap` defines.
-use Rattle.std.specs.Prelude.{◌≡◌, ◌+◌, ◌≤◌, ℕ, Bool, true, false, not, nat_le, ◌&&◌, ◌||◌, if◌then◌else◌, List, [], ◌∷◌, Option, Some, None, IsSomeAnd, is_some, codes, option_map}
+use Rattle.std.specs.Prelude.{◌≡◌, ◌+◌, ◌≤◌, ℕ, Bool, true, false, not, nat_le, ◌&&◌, if◌then◌else◌, List, [], ◌∷◌, Option, Some, None, IsSomeAnd, codes, option_map}
 use Rattle.std.specs.Option.{option_map_or}
 use Rattle.std.specs.Str.{bytes_eq}
 use Rattle.clap.specs.Words.{App, Kinds, Row, Rule, Text, fault_of, first_of, new_app, new_rule, subcommand_of, with_rule, with_subcommand}
@@ -72,36 +72,24 @@ are_workers (digit ∷ []) = nat_le 49 digit && nat_le digit 56
 are_workers word = false
 
 -- the line that a subcommand's name with its values asks for
-abbrev pub IsNamed : Text → List Row → CommandLine → Type 0
-IsNamed name rows (Run file out) =
+abbrev pub IsSubcommandLine : Text → List Row → CommandLine → Type 0
+IsSubcommandLine name rows (Run file out) =
     (name ≡ codes "run") × (first_of (codes "FILE") rows ≡ Some file.now)
     × (first_of (codes "out") rows ≡ option_map (λ t. t.now) out)
-IsNamed name rows (Threads file workers out) =
+IsSubcommandLine name rows (Threads file workers out) =
     (name ≡ codes "threads") × (first_of (codes "FILE") rows ≡ Some file.now)
     × IsSomeAnd (first_of (codes "workers") rows) (λ word. AreWorkers word workers)
     × (first_of (codes "out") rows ≡ option_map (λ t. t.now) out)
-IsNamed name rows (Replay file) =
+IsSubcommandLine name rows (Replay file) =
     (name ≡ codes "replay") × (first_of (codes "T") rows ≡ Some file.now)
-IsNamed name rows (Draw file) =
+IsSubcommandLine name rows (Draw file) =
     (name ≡ codes "draw") × (first_of (codes "T") rows ≡ Some file.now)
-IsNamed name rows (Check file) =
+IsSubcommandLine name rows (Check file) =
     (name ≡ codes "check") × (first_of (codes "FILE") rows ≡ Some file.now)
 
 abbrev pub IsAsked : Option (Text × List Row) → CommandLine → Type 0
 IsAsked None line = ⊥
-IsAsked (Some named) line = IsNamed named.0 named.1 line
-
--- whether a subcommand is the one of this name, and has a value for this word
-abbrev pub has_word : Text → Text → Text × List Row → Bool
-has_word name id named = bytes_eq named.0 name && is_some (first_of id named.1)
-
--- whether there is a subcommand with a value for the word that it needs
-abbrev pub is_line : Option (Text × List Row) → Bool
-is_line None = false
-is_line (Some named) =
-    has_word (codes "run") (codes "FILE") named || (has_word (codes "threads") (codes "FILE") named
-    || (has_word (codes "replay") (codes "T") named || (has_word (codes "draw") (codes "T") named
-    || has_word (codes "check") (codes "FILE") named)))
+IsAsked (Some named) line = IsSubcommandLine named.0 named.1 line
 
 -- whether the subcommand is `threads`, with a number of workers that is none: one that `clap`
 -- reads, with a sign or a zero in front
@@ -111,13 +99,9 @@ miscounts (Some named) =
     bytes_eq named.0 (codes "threads")
     && not (option_map_or are_workers (first_of (codes "workers") named.1) false)
 
--- whether a subcommand's name with its values asks for a line
-abbrev pub is_taken : Option (Text × List Row) → Bool
-is_taken named = is_line named && not (miscounts named)
-
--- what the words name, the program's own name first
-abbrev pub Names : List Text → CommandLine → Type 0
-Names words line = IsAsked (subcommand_of nomadsim_app words) line
+-- what the words ask for, the program's own name first
+abbrev pub AskFor : List Text → CommandLine → Type 0
+AskFor words line = IsAsked (subcommand_of nomadsim_app words) line
 
 -- the kinds of error that the first fault of the words may have, none where there is no fault:
 -- those that `clap` finds, and where it finds none that of a number of workers that is none

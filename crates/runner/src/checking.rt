@@ -1,10 +1,13 @@
 //! What is wrong with a scenario's file.
-ghost use Rattle.std.specs.Prelude.{◌≡◌, ◌≢◌, ◌≤◌, ◌↔◌, [], IfOk, IsTrue};
+ghost use Rattle.std.specs.Prelude.{◌≡◌, ◌≤◌, ◌∷◌, [], IfOk, MatchOption};
 ghost use Rattle.runner.specs.declared.scenario.Scenario.{Scenario};
 ghost use Rattle.runner.specs.Objects.{IsScenarioText};
-ghost use Rattle.runner.specs.Complaints.{AreGood, IsGood, IsGoodText, IsStepLine};
+ghost use Rattle.runner.specs.Complaints.{AreComplaints, AreGood, AreOfSteps, IsGoodText, IsOfStep, IsStepLine};
+ghost use Rattle.runner.specs.declared.checking.Complaint.TheVariants.{Text};
+ghost use Rattle.runner.specs.declared.wrong.Wrong.{Wrong};
 
 use crate::fault::{Fault, said};
+use crate::forms::form_of;
 use crate::noting::too_large;
 use crate::reading::scenario;
 use crate::running::load_bytes;
@@ -72,6 +75,7 @@ pub fn complaints(alloc: Global, text: &str) -> Result<Vec<Complaint>, NoMemory>
     ensures none { IfOk result (λ found. found.items ≡ [] → IsGoodText text.now) }
     ensures good { (s : Scenario) → IsScenarioText text.now s → AreGood text.now
         → IfOk result (λ found. found.items ≡ []) }
+    ensures said { IfOk result (λ found. AreComplaints text.now found.items) }
 {
     match scenario(alloc, text) {
         Ok(scenario) => bad_steps(alloc, &scenario),
@@ -84,101 +88,69 @@ pub fn complaints(alloc: Global, text: &str) -> Result<Vec<Complaint>, NoMemory>
 
 // The one complaint of a text that is no scenario.
 fn bad_text(alloc: Global, text: &str) -> Result<Vec<Complaint>, NoMemory>
-    ensures { IfOk result (λ found. found.items ≢ []) }
+    ensures { IfOk result (λ found. (wrong : Wrong) × (found.items ≡ Text wrong ∷ [])) }
 {
     let mut found = Vec::new(alloc);
     found.push(Complaint::Text(wrong_text(alloc, text)?))?;
     Ok(found)
 }
 
-// The steps that are none.
+// The complaints of the steps that are none.
 fn bad_steps(alloc: Global, scenario: &Scenario) -> Result<Vec<Complaint>, NoMemory>
-    ensures { IfOk result (λ found. (found.items ≡ []) ↔ IsGood scenario.now) }
+    ensures { IfOk result (λ found. AreOfSteps 1 scenario.now.steps.items found.items) }
 {
+    let steps = scenario.steps.as_slice();
     let mut found = Vec::new(alloc);
-    let mut number = 0usize;
-    for line in &scenario.steps {
-        number = number.saturating_add(1);
-        if is_step(alloc, line.as_str())? {
-            continue;
+    for place in 0..steps.len() {
+        if let Some(complaint) = bad_step(alloc, place + 1, steps[place].as_str())? {
+            found.push(complaint)?;
         }
-        let text = String::from_str(alloc, line.as_str())?;
-        found.push(Complaint::Step(number, text, form_of(line.as_str())))?;
     }
     Ok(found)
 }
 
-fn is_step(alloc: Global, line: &str) -> Result<bool, NoMemory>
-    ensures { IfOk result (λ is_step. IsTrue is_step ↔ IsStepLine line.now) }
+// The complaint of the step of this number, unless it is one.
+fn bad_step(alloc: Global, number: usize, line: &str) -> Result<Option<Complaint>, NoMemory>
+    ensures { IfOk result (λ said. MatchOption said (IsStepLine line.now)
+        (λ complaint. (¬ IsStepLine line.now) × IsOfStep number line.now complaint)) }
 {
-    Ok(read_step(alloc, line)?.is_some())
+    if read_step(alloc, line)?.is_some() {
+        return Ok(None);
+    }
+    let text = String::from_str(alloc, line)?;
+    Ok(Some(Complaint::Step(number, text, form_of(line))))
 }
 
 // What is wrong with a text that is no scenario.
 fn wrong_text(alloc: Global, text: &str) -> Result<Wrong, NoMemory> {
+    if text.trim_ascii().is_empty() {
+        return Ok(Wrong::Empty);
+    }
+    let value = match Value::from_str(alloc, text) {
+        Ok(value) => value,
+        Err(error) if error.is_memory() => return Err(NoMemory),
+        Err(error) => return Ok(Wrong::NoJson(error.line(), error.column())),
+    };
+    if has_key_twice(alloc, text)? {
+        return Ok(Wrong::KeyTwice);
+    }
+    wrong_in(alloc, &value)
+}
+
+fn has_key_twice(alloc: Global, text: &str) -> Result<bool, NoMemory> {
     let mut scratch = Scratch::new(alloc);
     match json::Value::parse_strict(alloc, text, &mut scratch) {
-        Ok(_) => {}
-        Err(json::Error::OutOfMemory) => return Err(NoMemory),
-        Err(json::Error::DuplicateKey) => return Ok(Wrong::KeyTwice),
-        Err(_) => return Ok(Wrong::NoJson),
-    }
-    match Value::from_str(alloc, text) {
-        Ok(value) => Ok(wrong_in(&value)),
-        Err(error) if error.is_memory() => Err(NoMemory),
-        Err(_) => Ok(Wrong::NoJson),
+        Err(json::Error::OutOfMemory) => Err(NoMemory),
+        Err(json::Error::DuplicateKey) => Ok(true),
+        _ => Ok(false),
     }
 }
 
 fn print_complaint<'a, W: Write>(out: &mut W, complaint: &Complaint) -> Result<(), Fault<'a>> {
     match complaint {
         Complaint::Text(wrong) => said(writeln!(out, "{wrong}")),
-        Complaint::Step(number, line, form) => said(writeln!(
-            out,
-            "step {number} \"{line}\": {form}"
-        )),
-    }
-}
-
-// What is expected of a step with this first word.
-fn form_of(line: &str) -> &'static str {
-    let verb = match line.split_once(' ') {
-        Some((verb, _)) => verb,
-        None => line,
-    };
-    match verb {
-        "timeout" => "it has to be: timeout S",
-        "beat" => "it has to be: beat S",
-        "plan" => "it has to be: plan S",
-        "free" => "it has to be: free S",
-        "reap" => "it has to be: reap S",
-        "work" => "it has to be: work S",
-        "deliver" => "it has to be: deliver K, K from 1 on",
-        "crash" => "it has to be: crash S, or crash cC",
-        "restart" => "it has to be: restart S, or restart cC",
-        "flow" => "it has to be: flow, or flow N",
-        "take" => "it has to be: take S T",
-        "register" => "it has to be: register C S",
-        "ping" => "it has to be: ping C S",
-        "pull" => "it has to be: pull C S",
-        _ => form_of_more(verb),
-    }
-}
-
-// The same, of steps with more words.
-fn form_of_more(verb: &str) -> &'static str {
-    match verb {
-        "end" => "it has to be: end C ID complete, or end C ID failed",
-        "lapse" => "it has to be: lapse S E",
-        "expire" => "it has to be: expire S NODE BEAT",
-        "drain" => "it has to be: drain S NODE",
-        "request" => {
-            "it has to be: request S put NAME PRIORITY GROUPS, request S stop NAME, request S eval \
-             NAME, request S drain NODE slow, or request S drain NODE force"
+        Complaint::Step(number, line, form) => {
+            said(writeln!(out, "step {number} {line:?}: {form}"))
         }
-        "submit" => "it has to be: submit S T E TOKEN NAME VERSION SNAPSHOT STOPS PLACES",
-        "finish" => "it has to be: finish S T E TOKEN STATUS SNAPSHOT",
-        "nack" => "it has to be: nack S T E TOKEN",
-        _ => "there is no such step",
     }
 }

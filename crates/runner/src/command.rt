@@ -3,7 +3,8 @@ ghost use Rattle.std.specs.Prelude.{◌≡◌, true, false, IfOk, IfErr, IfSome,
 ghost use Rattle.clap.specs.Words.{FailsBy, app_of, first_of, found_of, kind_of, rows_of, rule_of, subcommand_rows_of};
 ghost use Rattle.clap.specs.declared.builder.command.Command.TheViews.{out-Command};
 ghost use Rattle.clap.specs.declared.error.kind.ErrorKind.TheVariants.{OutOfMemory};
-ghost use Rattle.runner.specs.Words.{AreWorkers, IsAsked, IsNamed, Names, are_workers, check_app, draw_app, is_line, is_taken, nomadsim_app, out_option, replay_app, required_word, run_app, threads_app, words_fault, workers_option};
+ghost use Rattle.runner.specs.Inner.Lines.{is_line, is_taken};
+ghost use Rattle.runner.specs.Words.{AreWorkers, AskFor, IsAsked, IsSubcommandLine, are_workers, check_app, draw_app, nomadsim_app, out_option, replay_app, required_word, run_app, threads_app, words_fault, workers_option};
 
 use clap::builder::ValueParser;
 use clap::error::ErrorKind;
@@ -13,6 +14,8 @@ use std::alloc::Global;
 const VERSION: &str = "0.1.0";
 
 const SCENARIO: &str = "The scenario's file, '-' for the standard input";
+
+const TRANSCRIPT: &str = "The transcript's file, '-' for the standard input";
 
 const ABOUT: &str =
     "Plays scenarios on a group of replicated servers, every step of which is proved";
@@ -26,8 +29,9 @@ Examples:
   nomadsim draw election.txt > election.svg
   nomadsim check data/first-election.json
 
-'-' for FILE reads the scenario from the standard input. 'nomadsim run --help'
-says what a scenario's file holds.
+'-' for FILE, and for the transcript that 'replay' and 'draw' take, is the
+standard input. 'nomadsim run --help' says what a scenario's file holds, and
+'nomadsim check FILE' what is wrong with one.
 
 Exit status:
   0  every step was taken, or whatever else was asked for was done
@@ -58,7 +62,9 @@ The file is a JSON object with exactly these keys:
              flight again; \"drop\" and \"repeat\" together are at most 100
   \"order\"    which message in flight comes next: \"sent\" for the one sent first,
              \"any\" for one drawn by the key
-  \"steps\"    a list of texts, each one of these steps:
+  \"steps\"    a list of texts, each one of these steps, with one space between
+             words, and numbers with no sign and no zero in front; S and T are
+             servers, 1 to 5, C is a client, 1 to 64:
     timeout S   server S has heard of no leader for too long
     beat S      server S, if it leads, sends the others what they may lack
     deliver K   the K-th message ever sent comes, the first being 1
@@ -69,17 +75,20 @@ The file is a JSON object with exactly these keys:
     flow        messages in flight come, in the order that \"order\" says, until
                 none is left or 10000 were taken; \"drop\" and \"repeat\" say
                 how many are lost or come again
-    flow N      the same, for up to N of them
+    flow N      the same, for up to N of them, N from 0 to 18446744073709551615
     register C S
                 client C tells server S of its node
     ping C S    client C sends server S a heartbeat
     pull C S    client C asks server S for its list
     end C ID complete, end C ID failed
-                allocation ID, INDEX.SLOT, which runs at client C, ends
+                allocation ID, INDEX.SLOT, which runs at client C, ends; INDEX
+                is from 1 to 1099511627775, SLOT from 0 to 63
     request S put NAME PRIORITY GROUPS
                 a job is put to server S; its priority is from 1 to 100; GROUPS
                 are 1 to 8 of GROUP:COUNT:CLASS:CPU:MEMORY, joined by commas,
-                with a COUNT from 0 to 64, CPU in MHz and MEMORY in MB
+                each GROUP once, with a COUNT from 0 to 64, CPU in MHz and
+                MEMORY in MB, both from 1 to 1000000; names of jobs, groups and
+                classes are 1 to 32 of a-z0-9-
     request S stop NAME
                 nothing of the job is to run any more
     request S eval NAME
@@ -90,10 +99,13 @@ The file is a JSON object with exactly these keys:
     take S T    server S asks server T for an evaluation for its workers
     work S      a worker of server S takes up the oldest answer that came
     submit S T E TOKEN NAME VERSION SNAPSHOT STOPS PLACES
-                server S hands server T a plan for evaluation E, INDEX.SLOT,
-                under TOKEN, TERM.SERIAL; STOPS are ids of allocations,
-                INDEX.SLOT, and PLACES are GROUP:INDEX:NODE, joined by commas,
-                with '-' for none
+                server S hands server T a plan for evaluation E, INDEX.SLOT
+                with SLOT from 0 to 255, under TOKEN, TERM.SERIAL; STOPS are at
+                most 64 ids of allocations, INDEX.SLOT with SLOT from 0 to 63,
+                and PLACES at most 64 of GROUP:PLACE:NODE, PLACE from 0 to 63
+                and NODE from 1 to 64; both are joined by commas, with '-' for
+                none; INDEX, TERM and SERIAL are from 1 to 1099511627775,
+                VERSION and SNAPSHOT from 0 to that
     finish S T E TOKEN STATUS SNAPSHOT
                 the work on E is over; STATUS is 'blocked', 'complete' or
                 'failed', with SNAPSHOT 0 unless blocked
@@ -103,7 +115,7 @@ The file is a JSON object with exactly these keys:
     lapse S E   at server S, if it leads, the work on E has lasted too long
     expire S NODE BEAT
                 at server S, if it leads, node NODE, 1 to 64, was heard of BEAT
-                times, and not heard of since for too long
+                times, 0 to 1099511627775, and not heard of since for too long
     drain S NODE
                 at server S, if it leads, a turn of the drain of node NODE, 1 to
                 64: its next allocations are marked to move, or its drain ends
@@ -123,14 +135,19 @@ for each server, for each allocation that is to run, and for each client, and
 one with the number of events and of messages.
 
 With --out T the file T gets a transcript of what happened, before the last
-lines are printed; 'nomadsim replay T' and 'nomadsim draw T' take it.";
+lines are printed; 'nomadsim replay T' and 'nomadsim draw T' take it.
+
+'nomadsim check FILE' says what is wrong with a file, and of each step that is
+none what it has to be.";
 
 const THREADS: &str = "\
 The file is one of 'nomadsim run --help'. Each server and each client has a
 thread of its own, which takes the messages that come for it, and each server
 has N workers, each on its own thread, which take up what comes for them. Steps
 'work' and 'deliver' are passed over, and a 'flow' waits until nothing is in
-flight.
+flight. It does not wait for workers, so a 'plan' behind it may come before what
+they plan: a file that is to place something repeats 'plan S', 'beat S' and
+'flow'.
 
 What is printed, the exit status and the transcript are those of 'nomadsim run',
 but the order in which messages come is that of the threads, and so may differ
@@ -142,9 +159,10 @@ Example:
 const NO_COUNT: &str = "the number of workers is one digit, from 1 to 8";
 
 const REPLAYS: &str = "\
-T is a transcript, as 'nomadsim run FILE --out T' writes it: a line 'servers N',
-a line 'node C CLASS CPU MEM' for each client C, and a line for each event: one
-of the steps of 'nomadsim run --help' other than 'flow' and 'work'.
+T, '-' for the standard input, is a transcript, as 'nomadsim run FILE --out T'
+writes it: a line 'servers N', a line 'node C CLASS CPU MEM' for each client C,
+and a line for each event: one of the steps of 'nomadsim run --help' other than
+'flow' and 'work'.
 
 The events are taken once more, and the lines are printed with which a run ends.
 For each event that is refused a line says so, and the exit status is 1. Where T
@@ -155,9 +173,9 @@ Example:
   nomadsim replay election.txt";
 
 const DRAWS: &str = "\
-T is a transcript, as 'nomadsim run FILE --out T' writes it; 'nomadsim replay
---help' says what it holds. The picture is an SVG, and goes to the standard
-output.
+T, '-' for the standard input, is a transcript, as 'nomadsim run FILE --out T'
+writes it; 'nomadsim replay --help' says what it holds. The picture is an SVG,
+and goes to the standard output.
 
 Example:
   nomadsim draw election.txt > election.svg";
@@ -193,12 +211,12 @@ pub enum CommandLine<'a> {
     },
     /// `replay T`: the events of a transcript are taken once more.
     Replay {
-        /// The transcript's file.
+        /// The transcript's file, `-` for the standard input.
         file: &'a str,
     },
     /// `draw T`: a transcript is drawn.
     Draw {
-        /// The transcript's file.
+        /// The transcript's file, `-` for the standard input.
         file: &'a str,
     },
     /// `check FILE`: what is wrong with the scenario in that file is said, and it is not played.
@@ -275,7 +293,7 @@ fn replay_command<'a>(alloc: Global) -> Result<Command<'a>, Error>
         × ((out-Command c).has_globals ≡ false)) }
     ensures err { IfErr result (λ e. kind_of e ≡ OutOfMemory) }
 {
-    let file = needed(alloc, "T", "The transcript's file");
+    let file = needed(alloc, "T", TRANSCRIPT);
     let command = Command::new(alloc, "replay")
         .about("Plays a transcript once more, and says how it ends")
         .after_help(REPLAYS)
@@ -287,7 +305,7 @@ fn draw_command<'a>(alloc: Global) -> Result<Command<'a>, Error>
     ensures ok { IfOk result (λ c. (app_of c ≡ draw_app) × ((out-Command c).has_globals ≡ false)) }
     ensures err { IfErr result (λ e. kind_of e ≡ OutOfMemory) }
 {
-    let file = needed(alloc, "T", "The transcript's file");
+    let file = needed(alloc, "T", TRANSCRIPT);
     let command = Command::new(alloc, "draw")
         .about("Draws a transcript, as an SVG")
         .after_help(DRAWS)
@@ -338,7 +356,7 @@ fn value_of<'a>(given: &ArgMatches<'a>, id: &str) -> Option<&'a str>
 }
 
 fn run_line<'a>(given: &ArgMatches<'a>) -> Option<CommandLine<'a>>
-    ensures some { IfSome result (IsNamed (codes "run") (rows_of (found_of given.now))) }
+    ensures some { IfSome result (IsSubcommandLine (codes "run") (rows_of (found_of given.now))) }
     ensures none { IfNone result (is_line (Some (codes "run", rows_of (found_of given.now)))
         ≡ false) }
 {
@@ -359,7 +377,7 @@ fn workers_of(word: &str) -> Option<u8>
 }
 
 fn threads_line<'a>(given: &ArgMatches<'a>) -> Option<CommandLine<'a>>
-    ensures some { IfSome result (IsNamed (codes "threads") (rows_of (found_of given.now))) }
+    ensures some { IfSome result (IsSubcommandLine (codes "threads") (rows_of (found_of given.now))) }
     ensures none { IfNone result
         (is_taken (Some (codes "threads", rows_of (found_of given.now))) ≡ false) }
 {
@@ -370,7 +388,7 @@ fn threads_line<'a>(given: &ArgMatches<'a>) -> Option<CommandLine<'a>>
 }
 
 fn replay_line<'a>(given: &ArgMatches<'a>) -> Option<CommandLine<'a>>
-    ensures some { IfSome result (IsNamed (codes "replay") (rows_of (found_of given.now))) }
+    ensures some { IfSome result (IsSubcommandLine (codes "replay") (rows_of (found_of given.now))) }
     ensures none { IfNone result (is_line (Some (codes "replay", rows_of (found_of given.now)))
         ≡ false) }
 {
@@ -379,7 +397,7 @@ fn replay_line<'a>(given: &ArgMatches<'a>) -> Option<CommandLine<'a>>
 }
 
 fn draw_line<'a>(given: &ArgMatches<'a>) -> Option<CommandLine<'a>>
-    ensures some { IfSome result (IsNamed (codes "draw") (rows_of (found_of given.now))) }
+    ensures some { IfSome result (IsSubcommandLine (codes "draw") (rows_of (found_of given.now))) }
     ensures none { IfNone result (is_line (Some (codes "draw", rows_of (found_of given.now)))
         ≡ false) }
 {
@@ -388,7 +406,7 @@ fn draw_line<'a>(given: &ArgMatches<'a>) -> Option<CommandLine<'a>>
 }
 
 fn check_line<'a>(given: &ArgMatches<'a>) -> Option<CommandLine<'a>>
-    ensures some { IfSome result (IsNamed (codes "check") (rows_of (found_of given.now))) }
+    ensures some { IfSome result (IsSubcommandLine (codes "check") (rows_of (found_of given.now))) }
     ensures none { IfNone result (is_line (Some (codes "check", rows_of (found_of given.now)))
         ≡ false) }
 {
@@ -415,7 +433,7 @@ fn line_of<'a>(matches: &ArgMatches<'a>) -> Option<CommandLine<'a>>
 /// or for the version are an error too, of a kind of its own, whose text is the answer. A number of
 /// workers with a sign or a zero in front is an error, as one is that is not from 1 to 8.
 pub fn command<'a>(alloc: Global, words: &'a [&'a str]) -> Result<CommandLine<'a>, Error>
-    ensures named { IfOk result (Names (map (λ w. w.now) words.entry.now)) }
+    ensures named { IfOk result (AskFor (map (λ w. w.now) words.entry.now)) }
     ensures faults { FailsBy (words_fault (map (λ w. w.now) words.entry.now)) result }
 {
     let mut program = program(alloc)?;

@@ -1,5 +1,5 @@
 //! Why a run ends before its last line.
-ghost use Rattle.std.specs.Prelude.{◌≤◌};
+ghost use Rattle.std.specs.Prelude.{◌≢◌, ◌≤◌};
 ghost use Rattle.runner.specs.Faults.{IsStatus};
 
 use rows::NoMemory;
@@ -46,6 +46,7 @@ impl Fault<'_> {
     pub fn status(&self) -> u8
         ensures status { IsStatus self.now result }
         ensures most { result ≤ 3 }
+        ensures faulty { result ≢ 1 }
     {
         match self {
             Fault::CommandLine(error) => { if error.use_stderr() { 2 } else { 0 } }

@@ -1,7 +1,7 @@
 //! Messages in flight.
 ghost use Rattle.std.specs.Prelude.{◌≡◌, ◌++◌, ◌∷◌, ◌+◌, ◌<◌, [], OnOk, OnErr, IfSome, IfNone, max, length, MatchOption, slice_get, Some};
 ghost use Rattle.std.specs.List.{remove};
-ghost use Rattle.runner.specs.Flight.{newly_sent};
+ghost use Rattle.runner.specs.Inner.Flight.{newly_sent};
 
 use rows::NoMemory;
 use std::alloc::Global;
@@ -18,7 +18,7 @@ pub(crate) struct Flight {
 }
 
 impl Model for Flight {
-    ghost use Rattle.runner.specs.Flight.{InFlight};
+    ghost use Rattle.runner.specs.Inner.Flight.{InFlight};
 
     ghost Value = { InFlight };
 

@@ -7,6 +7,7 @@ pub mod command;
 mod ending;
 pub mod fault;
 mod flight;
+mod forms;
 pub mod noting;
 mod play;
 pub mod program;

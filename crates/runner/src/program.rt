@@ -1,7 +1,9 @@
 //! The whole program, over files and streams that are handed in.
-ghost use Rattle.std.specs.Prelude.{◌≡◌, ◌≤◌, ◌⊎◌, [], IfErr, IfOk, map};
-ghost use Rattle.runner.specs.Faults.{IsExit, IsStatus, MayEndBy};
+ghost use Rattle.std.specs.Prelude.{◌≡◌, ◌≢◌, ◌≤◌, ◌⊎◌, [], IfErr, IfOk, map};
+ghost use Rattle.runner.specs.Faults.{IsExit, IsStatus};
+ghost use Rattle.runner.specs.Inner.Faults.{MayEndBy};
 ghost use Rattle.runner.specs.Words.{words_fault};
+ghost use Rattle.runner.specs.declared.fault.Fault.TheVariants.{Output};
 
 use crate::checking::check_file;
 use crate::command::{CommandLine, command};
@@ -34,6 +36,8 @@ where
     R: Threads + Wait + Copy + Send + 'static,
     ensures most { result ≤ 3 }
     ensures exit { IsExit (words_fault (map (λ w. w.now) words.entry.now)) result }
+    ensures quiet { result ≤ 1 → err.new ≡ err.old }
+    ensures unread { words_fault (map (λ w. w.now) words.entry.now) ≢ [] → shelf.new ≡ shelf.old }
 {
     match run(rt, alloc, words, shelf, out) {
         Ok(status) => status,
@@ -42,16 +46,18 @@ where
 }
 
 // Help goes to the standard output, and a fault to the standard error, after what was said before
-// it.
+// it; a failed output is not told.
 fn report<W: Write, E: Write>(fault: &Fault<'_>, out: &mut W, err: &mut E) -> u8
     ensures most { result ≤ 3 }
     ensures status { (result ≡ 2) ⊎ IsStatus fault.now result }
+    ensures quiet { result ≤ 1 → err.new ≡ err.old }
+    ensures unsaid { fault.now ≡ Output → err.new ≡ err.old }
 {
     let status = fault.status();
     if status == 0 && write!(out, "{fault}").is_err() {
         return 2;
     }
-    if out.flush().is_err() {
+    if out.flush().is_err() || matches!(fault, Fault::Output) {
         return 2;
     }
     if status != 0 {
@@ -74,6 +80,7 @@ where
     ensures ok { IfOk result (λ status. (status ≤ 1)
         × (words_fault (map (λ w. w.now) words.entry.now) ≡ [])) }
     ensures err { IfErr result (MayEndBy (words_fault (map (λ w. w.now) words.entry.now))) }
+    ensures unread { words_fault (map (λ w. w.now) words.entry.now) ≢ [] → shelf.new ≡ shelf.old }
 {
     match command(alloc, words) {
         Ok(line) => obey(rt, alloc, line, shelf, out),

@@ -113,8 +113,8 @@ fn step_of<'a>(alloc: Global, line: &str) -> Result<Step, Fault<'a>> {
     }
 }
 
-/// Each line is read before the first step is taken, and once more when its step is: a step may hold
-/// a plan, so a list of them all would cost more than the lines do.
+/// Each line is read before the first step is taken, and once more when its step is: a step may
+/// hold a plan, so a list of them all would cost more than the lines do.
 pub(crate) fn check_steps<'a>(alloc: Global, scenario: &Scenario) -> Result<(), Fault<'a>> {
     for line in &scenario.steps {
         let _step = step_of(alloc, line.as_str())?;

@@ -76,7 +76,7 @@ pub(crate) fn list_of<'v>(value: &'v Value, key: &str) -> Option<&'v Vec<Value>>
     }
 }
 
-pub(crate) fn keys_of(value: &Value) -> Option<usize>
+fn keys_of(value: &Value) -> Option<usize>
     ensures { result ≡ option_map members_count (as_object (view value.now)) }
 {
     match value.as_object() {

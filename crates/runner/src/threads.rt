@@ -75,7 +75,7 @@ impl<B: BookId, R: Wait> OnThreads<B, R> {
         let Some(actor) = actor_of(&event) else {
             return Ok(());
         };
-        match input_of(event) {
+        match input_handed(event) {
             Some(input) => self.group.hand(&self.rt, actor, input),
             None => Ok(()),
         }
@@ -92,7 +92,7 @@ fn actor_of(event: &Event) -> Option<Actor> {
 }
 
 // The input that an event hands to its actor; none of a delivery.
-fn input_of(event: Event) -> Option<OwnInput> {
+fn input_handed(event: Event) -> Option<OwnInput> {
     match event {
         Event::Server(_, input) => Some(OwnInput::Server(input)),
         Event::Client(_, input) => Some(OwnInput::Client(input)),

@@ -1,6 +1,8 @@
 //! What is wrong with a text that is no scenario.
-use crate::scenario::{keys_of, list_of, node_of, number_of, order_of, percent_of, servers_of};
+use crate::scenario::{list_of, node_of, number_of, order_of, percent_of, servers_of};
+use rows::NoMemory;
 use serde_json::Value;
+use std::alloc::Global;
 use std::fmt;
 
 // The keys of a scenario.
@@ -9,20 +11,22 @@ const KEYS: [&str; 7] = [
 ];
 
 /// What is wrong with a text that is no scenario: the first of these that is found.
-#[derive(Clone, Copy, Debug, PartialEq, Eq)]
+#[derive(Debug, Drop, PartialEq, Eq)]
 pub enum Wrong {
     /// Its bytes are no UTF-8.
     NoText,
-    /// It is no JSON.
-    NoJson,
+    /// There is nothing in it but white space.
+    Empty,
+    /// It is no JSON: with the line and the column, in bytes, where it is no longer, both from 1.
+    NoJson(usize, usize),
     /// An object in it has a key twice.
     KeyTwice,
     /// It is no object.
     NoObject,
     /// This key is missing.
     Missing(&'static str),
-    /// It has a key that no scenario has.
-    OtherKey,
+    /// It has this key, which no scenario has.
+    OtherKey(String),
     /// At this key something else is wanted, namely this.
     Wanted(&'static str, &'static str),
     /// This node, counted from 1, is at fault.
@@ -33,11 +37,14 @@ impl fmt::Display for Wrong {
     fn fmt<W: fmt::Write>(&self, f: &mut fmt::Formatter<W>) -> fmt::Result {
         match self {
             Wrong::NoText => write!(f, "it is no UTF-8"),
-            Wrong::NoJson => write!(f, "it is no JSON"),
+            Wrong::Empty => write!(f, "it is empty"),
+            Wrong::NoJson(line, column) => {
+                write!(f, "it is no JSON, at line {line}, column {column}")
+            }
             Wrong::KeyTwice => write!(f, "an object in it has a key twice"),
             Wrong::NoObject => write!(f, "it is no JSON object"),
             Wrong::Missing(key) => write!(f, "the key \"{key}\" is missing"),
-            Wrong::OtherKey => write!(f, "it has a key that no scenario has"),
+            Wrong::OtherKey(key) => write!(f, "it has a key that no scenario has: {key:?}"),
             Wrong::Wanted(key, what) => write!(f, "\"{key}\" has to be {what}"),
             Wrong::BadNode(number) => write!(
                 f,
@@ -49,22 +56,32 @@ impl fmt::Display for Wrong {
 }
 
 /// What is wrong with a JSON value that is no scenario.
-pub(crate) fn wrong_in(value: &Value) -> Wrong {
+pub(crate) fn wrong_in(alloc: Global, value: &Value) -> Result<Wrong, NoMemory> {
     if value.as_object().is_none() {
-        return Wrong::NoObject;
+        return Ok(Wrong::NoObject);
     }
     for key in KEYS {
         if value.get(key).is_none() {
-            return Wrong::Missing(key);
+            return Ok(Wrong::Missing(key));
         }
     }
-    if keys_of(value) != Some(KEYS.len()) {
-        return Wrong::OtherKey;
+    if let Some(key) = other_key(value) {
+        return Ok(Wrong::OtherKey(String::from_str(alloc, key)?));
     }
     match wrong_setting(value) {
-        Some(wrong) => wrong,
-        None => wrong_list(value),
+        Some(wrong) => Ok(wrong),
+        None => Ok(wrong_list(value)),
     }
+}
+
+// The first of its keys, in the order of their bytes, that no scenario has.
+fn other_key(value: &Value) -> Option<&str> {
+    for key in value.as_object()?.keys() {
+        if !KEYS.contains(&key.as_str()) {
+            return Some(key.as_str());
+        }
+    }
+    None
 }
 
 // What is wrong beside the nodes and the steps.

@@ -1,0 +1,4 @@
+-- Words of private contracts.
+pub mod Flight
+pub mod Lines
+pub mod Faults
