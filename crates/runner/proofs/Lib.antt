@@ -4,4 +4,5 @@ pub mod Counts
 pub mod GivenValues
 pub mod Numbers
 pub mod Objects
-pub mod Grown
+pub mod Complaints
+pub mod Notes
