@@ -103,6 +103,18 @@ miscounts (Some named) =
 abbrev pub AskFor : List Text → CommandLine → Type 0
 AskFor words line = IsAsked (subcommand_of nomadsim_app words) line
 
+-- the line asks that steps or events be taken
+abbrev pub IsPlay : CommandLine → Type 0
+IsPlay (Run file out) = Unit {0}
+IsPlay (Threads file workers out) = Unit {0}
+IsPlay (Replay file) = Unit {0}
+IsPlay (Draw file) = ⊥
+IsPlay (Check file) = ⊥
+
+-- the words ask for such a line
+abbrev pub AskForPlay : List Text → Type 0
+AskForPlay words = (line : CommandLine) × AskFor words line × IsPlay line
+
 -- the kinds of error that the first fault of the words may have, none where there is no fault:
 -- those that `clap` finds, and where it finds none that of a number of workers that is none
 abbrev pub words_fault : List Text → Kinds

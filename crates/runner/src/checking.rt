@@ -1,5 +1,5 @@
 //! What is wrong with a scenario's file.
-ghost use Rattle.std.specs.Prelude.{◌≡◌, ◌≤◌, ◌∷◌, [], IfOk, MatchOption};
+ghost use Rattle.std.specs.Prelude.{◌≡◌, ◌∷◌, [], IfOk, MatchOption};
 ghost use Rattle.runner.specs.declared.scenario.Scenario.{Scenario};
 ghost use Rattle.runner.specs.Objects.{IsScenarioText};
 ghost use Rattle.runner.specs.Complaints.{AreComplaints, AreGood, AreOfSteps, IsGoodText, IsOfStep, IsStepLine};
@@ -38,7 +38,7 @@ pub(crate) fn check_file<'a, F: Shelf, W: Write>(
     out: &mut W,
     file: &'a str,
 ) -> Result<u8, Fault<'a>>
-    ensures { IfOk result (λ status. status ≤ 1) }
+    ensures { IfOk result (λ status. status ≡ 0) }
 {
     let bytes = load_bytes(shelf, file)?;
     let Ok(text) = std::str::from_utf8(bytes.as_slice()) else {

@@ -2,7 +2,7 @@
 ghost use Rattle.std.specs.Prelude.{◌≡◌, ◌≢◌, ◌≤◌, ◌⊎◌, [], IfErr, IfOk, map};
 ghost use Rattle.runner.specs.Faults.{IsExit, IsStatus};
 ghost use Rattle.runner.specs.Inner.Faults.{MayEndBy};
-ghost use Rattle.runner.specs.Words.{words_fault};
+ghost use Rattle.runner.specs.Words.{AskForPlay, IsPlay, words_fault};
 ghost use Rattle.runner.specs.declared.fault.Fault.TheVariants.{Output};
 
 use crate::checking::check_file;
@@ -37,6 +37,7 @@ where
     ensures most { result ≤ 3 }
     ensures exit { IsExit (words_fault (map (λ w. w.now) words.entry.now)) result }
     ensures quiet { result ≤ 1 → err.new ≡ err.old }
+    ensures played { result ≡ 1 → AskForPlay (map (λ w. w.now) words.entry.now) }
     ensures unread { words_fault (map (λ w. w.now) words.entry.now) ≢ [] → shelf.new ≡ shelf.old }
 {
     match run(rt, alloc, words, shelf, out) {
@@ -50,6 +51,7 @@ where
 fn report<W: Write, E: Write>(fault: &Fault<'_>, out: &mut W, err: &mut E) -> u8
     ensures most { result ≤ 3 }
     ensures status { (result ≡ 2) ⊎ IsStatus fault.now result }
+    ensures faulty { result ≢ 1 }
     ensures quiet { result ≤ 1 → err.new ≡ err.old }
     ensures unsaid { fault.now ≡ Output → err.new ≡ err.old }
 {
@@ -80,6 +82,8 @@ where
     ensures ok { IfOk result (λ status. (status ≤ 1)
         × (words_fault (map (λ w. w.now) words.entry.now) ≡ [])) }
     ensures err { IfErr result (MayEndBy (words_fault (map (λ w. w.now) words.entry.now))) }
+    ensures played { IfOk result (λ status. status ≡ 1
+        → AskForPlay (map (λ w. w.now) words.entry.now)) }
     ensures unread { words_fault (map (λ w. w.now) words.entry.now) ≢ [] → shelf.new ≡ shelf.old }
 {
     match command(alloc, words) {
@@ -100,6 +104,7 @@ fn obey<'a, R, F: Shelf, W: Write>(
 where
     R: Threads + Wait + Copy + Send + 'static,
     ensures ok { IfOk result (λ status. status ≤ 1) }
+    ensures played { IfOk result (λ status. status ≡ 1 → IsPlay line) }
 {
     match line {
         CommandLine::Run { file, out: to } => run_file(alloc, shelf, out, file, to),

@@ -1,5 +1,5 @@
 //! A transcript's file, played again or drawn.
-ghost use Rattle.std.specs.Prelude.{◌≤◌, IfOk};
+ghost use Rattle.std.specs.Prelude.{◌≡◌, ◌≤◌, IfOk};
 
 use crate::ending::print_end;
 use crate::fault::{Fault, said};
@@ -39,7 +39,7 @@ pub(crate) fn draw_file<'a, F: Shelf, W: Write>(
     out: &mut W,
     file: &'a str,
 ) -> Result<u8, Fault<'a>>
-    ensures { IfOk result (λ status. status ≤ 1) }
+    ensures { IfOk result (λ status. status ≡ 0) }
 {
     let bytes = load_bytes(shelf, file)?;
     let transcript = transcript_of(alloc, bytes.as_slice())?;
