@@ -1,12 +1,12 @@
 -- Which groups of a job no node of a scenario has room for.
-use Rattle.std.specs.Prelude.{◌≡◌, ◌⊎◌, ◌++◌, ℕ, suc, Bool, not, ◌&&◌, nat_le, bytes_eq, List, [], ◌∷◌, String, filter, map, string_bytes}
+use Rattle.std.specs.Prelude.{◌≡◌, ◌⊎◌, ◌++◌, ℕ, suc, Bool, not, ◌&&◌, nat_le, bytes_eq, List, [], ◌∷◌, Option, Some, None, String, filter, map, string_bytes}
 use Rattle.std.specs.List.{list_any}
 use Rattle.std.specs.declared.alloc.Global.{Global}
 use Rattle.rows.specs.declared.job.Group.{Group}
 use Rattle.rows.specs.declared.job.JobSpec.{JobSpec}
 use Rattle.rows.specs.declared.node.NodeSpec.{NodeSpec}
 use Rattle.rows.specs.declared.request.OperatorRequest.TheVariants.{PutJob}
-use Rattle.group_model.specs.Inputs.{Request}
+use Rattle.group_model.specs.Inputs.{Input, Request}
 use Rattle.group_model.specs.Worlds.{AtServer}
 use Rattle.runner.specs.Steps.{AnEvent, IsLine, Step}
 use Rattle.runner.specs.declared.noting.TooLarge.{TooLarge}
@@ -37,15 +37,24 @@ note_of step job g = record {
 abbrev pub job_notes : List NodeSpec → ℕ → JobSpec → List TooLarge
 job_notes nodes step job = map (note_of step job) (filter (is_noted nodes) job.groups)
 
--- the step asks a server to put this job
-abbrev pub PutsJob : Step → JobSpec → Type 0
-PutsJob step job = (server : ℕ) × (step ≡ AnEvent (AtServer server (Request (PutJob job))))
+-- the job that an input puts, and that a step puts
+abbrev pub job_in : Input → Option JobSpec
+job_in (Request (PutJob job)) = Some job
+job_in input = None
+
+abbrev pub put_job : Step → Option JobSpec
+put_job (AnEvent (AtServer server input)) = job_in input
+put_job step = None
+
+abbrev pub notes_if : List NodeSpec → ℕ → Option JobSpec → List TooLarge
+notes_if nodes step None = []
+notes_if nodes step (Some job) = job_notes nodes step job
 
 -- the notes of the step of this number and this line: those of the job that it puts, if it does
 abbrev pub AreOfStep : List NodeSpec → ℕ → List ℕ → List TooLarge → Type 0
 AreOfStep nodes number line notes =
-    ((step : Step) × (job : JobSpec) × IsLine step line × PutsJob step job × (notes ≡ job_notes nodes number job))
-    ⊎ (((step : Step) → (job : JobSpec) → IsLine step line → ¬ PutsJob step job) × (notes ≡ []))
+    ((step : Step) × IsLine step line × (notes ≡ notes_if nodes number (put_job step)))
+    ⊎ (((step : Step) → ¬ IsLine step line) × (notes ≡ []))
 
 -- the notes of these steps, the first being number k, in their order
 abbrev pub AreNotes : List NodeSpec → ℕ → List (String Global) → List TooLarge → Type 0

@@ -72,24 +72,24 @@ are_workers (digit ∷ []) = nat_le 49 digit && nat_le digit 56
 are_workers word = false
 
 -- the line that a subcommand's name with its values asks for
-abbrev pub IsSubcommandLine : Text → List Row → CommandLine → Type 0
-IsSubcommandLine name rows (Run file out) =
+abbrev pub IsLineFor : Text → List Row → CommandLine → Type 0
+IsLineFor name rows (Run file out) =
     (name ≡ codes "run") × (first_of (codes "FILE") rows ≡ Some file.now)
     × (first_of (codes "out") rows ≡ option_map (λ t. t.now) out)
-IsSubcommandLine name rows (Threads file workers out) =
+IsLineFor name rows (Threads file workers out) =
     (name ≡ codes "threads") × (first_of (codes "FILE") rows ≡ Some file.now)
     × IsSomeAnd (first_of (codes "workers") rows) (λ word. AreWorkers word workers)
     × (first_of (codes "out") rows ≡ option_map (λ t. t.now) out)
-IsSubcommandLine name rows (Replay file) =
+IsLineFor name rows (Replay file) =
     (name ≡ codes "replay") × (first_of (codes "T") rows ≡ Some file.now)
-IsSubcommandLine name rows (Draw file) =
+IsLineFor name rows (Draw file) =
     (name ≡ codes "draw") × (first_of (codes "T") rows ≡ Some file.now)
-IsSubcommandLine name rows (Check file) =
+IsLineFor name rows (Check file) =
     (name ≡ codes "check") × (first_of (codes "FILE") rows ≡ Some file.now)
 
 abbrev pub IsAsked : Option (Text × List Row) → CommandLine → Type 0
 IsAsked None line = ⊥
-IsAsked (Some named) line = IsSubcommandLine named.0 named.1 line
+IsAsked (Some named) line = IsLineFor named.0 named.1 line
 
 -- whether the subcommand is `threads`, with a number of workers that is none: one that `clap`
 -- reads, with a sign or a zero in front

@@ -4,7 +4,7 @@ ghost use Rattle.clap.specs.Words.{FailsBy, app_of, first_of, found_of, kind_of,
 ghost use Rattle.clap.specs.declared.builder.command.Command.TheViews.{out-Command};
 ghost use Rattle.clap.specs.declared.error.kind.ErrorKind.TheVariants.{OutOfMemory};
 ghost use Rattle.runner.specs.Inner.Lines.{is_line, is_taken};
-ghost use Rattle.runner.specs.Words.{AreWorkers, AskFor, IsAsked, IsSubcommandLine, are_workers, check_app, draw_app, nomadsim_app, out_option, replay_app, required_word, run_app, threads_app, words_fault, workers_option};
+ghost use Rattle.runner.specs.Words.{AreWorkers, AskFor, IsAsked, IsLineFor, are_workers, check_app, draw_app, nomadsim_app, out_option, replay_app, required_word, run_app, threads_app, words_fault, workers_option};
 
 use clap::builder::ValueParser;
 use clap::error::ErrorKind;
@@ -356,7 +356,7 @@ fn value_of<'a>(given: &ArgMatches<'a>, id: &str) -> Option<&'a str>
 }
 
 fn run_line<'a>(given: &ArgMatches<'a>) -> Option<CommandLine<'a>>
-    ensures some { IfSome result (IsSubcommandLine (codes "run") (rows_of (found_of given.now))) }
+    ensures some { IfSome result (IsLineFor (codes "run") (rows_of (found_of given.now))) }
     ensures none { IfNone result (is_line (Some (codes "run", rows_of (found_of given.now)))
         ≡ false) }
 {
@@ -377,7 +377,7 @@ fn workers_of(word: &str) -> Option<u8>
 }
 
 fn threads_line<'a>(given: &ArgMatches<'a>) -> Option<CommandLine<'a>>
-    ensures some { IfSome result (IsSubcommandLine (codes "threads") (rows_of (found_of given.now))) }
+    ensures some { IfSome result (IsLineFor (codes "threads") (rows_of (found_of given.now))) }
     ensures none { IfNone result
         (is_taken (Some (codes "threads", rows_of (found_of given.now))) ≡ false) }
 {
@@ -388,7 +388,7 @@ fn threads_line<'a>(given: &ArgMatches<'a>) -> Option<CommandLine<'a>>
 }
 
 fn replay_line<'a>(given: &ArgMatches<'a>) -> Option<CommandLine<'a>>
-    ensures some { IfSome result (IsSubcommandLine (codes "replay") (rows_of (found_of given.now))) }
+    ensures some { IfSome result (IsLineFor (codes "replay") (rows_of (found_of given.now))) }
     ensures none { IfNone result (is_line (Some (codes "replay", rows_of (found_of given.now)))
         ≡ false) }
 {
@@ -397,7 +397,7 @@ fn replay_line<'a>(given: &ArgMatches<'a>) -> Option<CommandLine<'a>>
 }
 
 fn draw_line<'a>(given: &ArgMatches<'a>) -> Option<CommandLine<'a>>
-    ensures some { IfSome result (IsSubcommandLine (codes "draw") (rows_of (found_of given.now))) }
+    ensures some { IfSome result (IsLineFor (codes "draw") (rows_of (found_of given.now))) }
     ensures none { IfNone result (is_line (Some (codes "draw", rows_of (found_of given.now)))
         ≡ false) }
 {
@@ -406,7 +406,7 @@ fn draw_line<'a>(given: &ArgMatches<'a>) -> Option<CommandLine<'a>>
 }
 
 fn check_line<'a>(given: &ArgMatches<'a>) -> Option<CommandLine<'a>>
-    ensures some { IfSome result (IsSubcommandLine (codes "check") (rows_of (found_of given.now))) }
+    ensures some { IfSome result (IsLineFor (codes "check") (rows_of (found_of given.now))) }
     ensures none { IfNone result (is_line (Some (codes "check", rows_of (found_of given.now)))
         ≡ false) }
 {

@@ -1,8 +1,9 @@
 //! Groups that a scenario puts, and that none of its nodes has room for.
-ghost use Rattle.std.specs.Prelude.{◌≡◌, ◌++◌, List, IfOk, MatchOption, OnOk};
+ghost use Rattle.std.specs.Prelude.{◌≡◌, ◌++◌, List, IfOk, OnOk, option_map};
 ghost use Rattle.std.specs.List.{list_any};
-ghost use Rattle.rows.specs.declared.job.JobSpec.{JobSpec as AnyJob};
-ghost use Rattle.runner.specs.Rooms.{AreNotes, AreOfStep, PutsJob, can_hold, is_noted, is_too_large, job_notes, note_of};
+ghost use Rattle.server.specs.Handings.{handing};
+ghost use Rattle.world.specs.GroupEvents.{server_input};
+ghost use Rattle.runner.specs.Rooms.{AreNotes, AreOfStep, can_hold, is_noted, is_too_large, job_in, job_notes, note_of, put_job};
 ghost use Rattle.runner.specs.Steps.{step_of};
 ghost use Rattle.runner.specs.declared.noting.TooLarge.{TooLarge};
 
@@ -72,7 +73,8 @@ pub fn is_too_large(nodes: &[NodeSpec], group: &Group) -> bool
 /// The groups that the steps of a scenario put, at least one of each, and that no node has room
 /// for, in the order of the steps.
 pub fn too_large(alloc: Global, scenario: &Scenario) -> Result<Vec<TooLarge>, NoMemory>
-    ensures { IfOk result (λ found. AreNotes scenario.now.nodes.items 1 scenario.now.steps.items found.items) }
+    ensures { IfOk result (λ found.
+        AreNotes scenario.now.nodes.items 1 scenario.now.steps.items found.items) }
 {
     let nodes = scenario.nodes.as_slice();
     let steps = scenario.steps.as_slice();
@@ -97,22 +99,28 @@ fn note_step(
     let Some(step) = read_step(alloc, line)? else {
         return Ok(());
     };
-    match job_put(&step) {
+    match put_job(&step) {
         Some(job) => note_groups(number, job, nodes, found),
         None => Ok(()),
     }
 }
 
 // The job that a step puts.
-fn job_put(step: &Step) -> Option<&JobSpec>
-    ensures { MatchOption result ((job : AnyJob) → ¬ PutsJob (step_of step.now) job)
-        (λ job. PutsJob (step_of step.now) job.now) }
+fn put_job(step: &Step) -> Option<&JobSpec>
+    ensures { option_map (λ job. job.now) result ≡ put_job (step_of step.now) }
 {
     match step {
-        Step::Event(Event::Server(_, input)) => match input.as_ref() {
-            ServerInput::Request(OperatorRequest::PutJob(job)) => Some(job),
-            _ => None,
-        },
+        Step::Event(Event::Server(_, input)) => job_in(input.as_ref()),
+        _ => None,
+    }
+}
+
+// The job that a server's input puts.
+fn job_in(input: &ServerInput) -> Option<&JobSpec>
+    ensures { option_map (λ job. job.now) result ≡ job_in (server_input (handing input.now)) }
+{
+    match input {
+        ServerInput::Request(OperatorRequest::PutJob(job)) => Some(job),
         _ => None,
     }
 }

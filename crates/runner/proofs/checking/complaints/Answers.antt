@@ -27,7 +27,7 @@ returns-in_default c =
     let text = c.args.text.now in
     let r = c.bad_text.result in
     let said : IfOk r (λ found. AreComplaints text found.items) =
-        mapped _ _ r (λ found one. either _ c.in-Err.ensures.refused (λ e. absurd (c.in_default.not-NoMemory e)) (λ h. inr (h.1, one))) c.bad_text.ensures in
+    mapped _ _ r (λ found one. either _ c.in-Err.ensures.refused (λ e. absurd (c.in_default.not-NoMemory e)) (λ h. inr (h.1, one))) c.bad_text.ensures in
     record {
       none = mapped _ _ r (λ found are. none_is_good text found.items are) said;
       good = λ s is all. mapped _ _ r (λ found are. good_has_none text found.items s are is all) said;
