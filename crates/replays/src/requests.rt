@@ -24,7 +24,7 @@ pub(crate) fn commands(rt: &HostRuntime) -> io::Result<()> {
 }
 
 // The input of the event that a line says, if a server takes it.
-fn read_input(alloc: Global, line: &str) -> Option<(ServerId, ServerInput)> {
+fn input_of(alloc: Global, line: &str) -> Option<(ServerId, ServerInput)> {
     match read_event(alloc, line).ok()? {
         Event::Server(server, input) => Some((server, input.as_ref().try_clone(alloc).ok()?)),
         Event::Deliver(_) | Event::Client(_, _) => None,
@@ -35,7 +35,7 @@ fn put_request(alloc: Global, line: &str, out: &mut Vec<u8>) -> bool {
     let Ok(line) = format!(in alloc; "request 1 {line}") else {
         return false;
     };
-    match read_input(alloc, line.as_str()) {
+    match input_of(alloc, line.as_str()) {
         Some((_, ServerInput::Request(request))) => {
             Cluster::write_command(&request.into_command(), out).is_ok()
         }
@@ -48,7 +48,7 @@ fn event_of(alloc: Global, line: &str) -> Option<RaftEvent<Cluster>> {
     if let Ok(Event::Deliver(number)) = read_event(alloc, line) {
         return Some(RaftEvent::Deliver(number));
     }
-    match read_input(alloc, line)? {
+    match input_of(alloc, line)? {
         (server, ServerInput::Timeout) => Some(RaftEvent::Timeout(server)),
         (server, ServerInput::Beat) => Some(RaftEvent::Beat(server)),
         (server, ServerInput::Crash) => Some(RaftEvent::Crash(server)),
