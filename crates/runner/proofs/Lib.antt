@@ -4,5 +4,4 @@ pub mod Counts
 pub mod GivenValues
 pub mod Numbers
 pub mod Objects
-pub mod Complaints
-pub mod Notes
+pub mod Grown

@@ -1,10 +1,8 @@
 //! What is wrong with a scenario's file.
-ghost use Rattle.std.specs.Prelude.{◌≡◌, ◌∷◌, [], IfOk, MatchOption};
+ghost use Rattle.std.specs.Prelude.{◌≡◌, ◌≢◌, ◌↔◌, [], IfOk, IsTrue};
 ghost use Rattle.runner.specs.declared.scenario.Scenario.{Scenario};
 ghost use Rattle.runner.specs.Objects.{IsScenarioText};
-ghost use Rattle.runner.specs.Complaints.{AreComplaints, AreGood, AreOfSteps, IsGoodText, IsOfStep, IsStepLine};
-ghost use Rattle.runner.specs.declared.checking.Complaint.TheVariants.{Text};
-ghost use Rattle.runner.specs.declared.wrong.Wrong.{Wrong};
+ghost use Rattle.runner.specs.Complaints.{AreGood, IsGood, IsGoodText, IsStepLine};
 
 use crate::fault::{Fault, said};
 use crate::forms::form_of;
@@ -75,7 +73,6 @@ pub fn complaints(alloc: Global, text: &str) -> Result<Vec<Complaint>, NoMemory>
     ensures none { IfOk result (λ found. found.items ≡ [] → IsGoodText text.now) }
     ensures good { (s : Scenario) → IsScenarioText text.now s → AreGood text.now
         → IfOk result (λ found. found.items ≡ []) }
-    ensures said { IfOk result (λ found. AreComplaints text.now found.items) }
 {
     match scenario(alloc, text) {
         Ok(scenario) => bad_steps(alloc, &scenario),
@@ -88,37 +85,34 @@ pub fn complaints(alloc: Global, text: &str) -> Result<Vec<Complaint>, NoMemory>
 
 // The one complaint of a text that is no scenario.
 fn bad_text(alloc: Global, text: &str) -> Result<Vec<Complaint>, NoMemory>
-    ensures { IfOk result (λ found. (wrong : Wrong) × (found.items ≡ Text wrong ∷ [])) }
+    ensures { IfOk result (λ found. found.items ≢ []) }
 {
     let mut found = Vec::new(alloc);
     found.push(Complaint::Text(wrong_text(alloc, text)?))?;
     Ok(found)
 }
 
-// The complaints of the steps that are none.
+// The steps that are none.
 fn bad_steps(alloc: Global, scenario: &Scenario) -> Result<Vec<Complaint>, NoMemory>
-    ensures { IfOk result (λ found. AreOfSteps 1 scenario.now.steps.items found.items) }
+    ensures { IfOk result (λ found. (found.items ≡ []) ↔ IsGood scenario.now) }
 {
-    let steps = scenario.steps.as_slice();
     let mut found = Vec::new(alloc);
-    for place in 0..steps.len() {
-        if let Some(complaint) = bad_step(alloc, place + 1, steps[place].as_str())? {
-            found.push(complaint)?;
+    let mut number = 0usize;
+    for line in &scenario.steps {
+        number = number.saturating_add(1);
+        if is_step(alloc, line.as_str())? {
+            continue;
         }
+        let text = String::from_str(alloc, line.as_str())?;
+        found.push(Complaint::Step(number, text, form_of(line.as_str())))?;
     }
     Ok(found)
 }
 
-// The complaint of the step of this number, unless it is one.
-fn bad_step(alloc: Global, number: usize, line: &str) -> Result<Option<Complaint>, NoMemory>
-    ensures { IfOk result (λ said. MatchOption said (IsStepLine line.now)
-        (λ complaint. (¬ IsStepLine line.now) × IsOfStep number line.now complaint)) }
+fn is_step(alloc: Global, line: &str) -> Result<bool, NoMemory>
+    ensures { IfOk result (λ is_step. IsTrue is_step ↔ IsStepLine line.now) }
 {
-    if read_step(alloc, line)?.is_some() {
-        return Ok(None);
-    }
-    let text = String::from_str(alloc, line)?;
-    Ok(Some(Complaint::Step(number, text, form_of(line))))
+    Ok(read_step(alloc, line)?.is_some())
 }
 
 // What is wrong with a text that is no scenario.
