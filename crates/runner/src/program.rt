@@ -104,7 +104,7 @@ fn obey<'a, R, F: Shelf, W: Write>(
 where
     R: Threads + Wait + Copy + Send + 'static,
     ensures ok { IfOk result (λ status. status ≤ 1) }
-    ensures played { IfOk result (λ status. status ≡ 1 → IsPlay line) }
+    ensures played { IfOk result (λ status. status ≡ 1 → IsPlay line.entry) }
 {
     match line {
         CommandLine::Run { file, out: to } => run_file(alloc, shelf, out, file, to),
