@@ -42,6 +42,7 @@ use Rattle.cluster.specs.contracts.envelope.Envelope as envelope
 use Rattle.cluster.specs.contracts.cells.Cells as cells
 use Rattle.cluster.specs.contracts.cells.Cells.TheInside as cells_inside
 use Rattle.cluster.specs.contracts.running.RunningGroup as running
+use Rattle.cluster.specs.contracts.running.RunningGroup.TheInside as running_inside
 use Rattle.cluster.specs.contracts.running.WorkersOfServer as workers
 use Rattle.cluster.specs.contracts.own_input.OwnInput as own_input
 use Rattle.cluster.specs.contracts.cell.StampedEvent as stamped
@@ -145,7 +146,7 @@ Bell-sync : IsSync bell.the_row
 Bell-sync = search (crosses, sendable) depth 60 fits 200000
 
 Group-send : (B G : RattleType) (g : book_id.Ghosts B.Denot) → IsSend B → IsSend G → IsSend (running.the_row B G g)
-Group-send B G g b s = recorded_send (running.the_field B G g).row _ _ (running.the_type B G g).to_one (struct_send (shape (running.the_type B G g)) (
+Group-send B G g b s = view_send (running_inside.the_row B G g) _ _ _ _ (recorded_send (running_inside.the_field B G g).row _ _ (running_inside.the_type B G g).to_one (struct_send (shape (running_inside.the_type B G g)) (
   Cells-send B g b,
   (
     net_sent.the_send (envelope.the_row B g) (envelope_sent.the_send B g),
@@ -172,10 +173,10 @@ Group-send B G g b s = recorded_send (running.the_field B G g).row _ _ (running.
       ),
     ),
   ),
-))
+)))
 
 Group-sync : (B G : RattleType) (g : book_id.Ghosts B.Denot) → IsSend B → IsSync G → IsSync (running.the_row B G g)
-Group-sync B G g b s = recorded_sync (running.the_field B G g).row _ _ (running.the_type B G g).to_one (struct_sync (shape (running.the_type B G g)) (
+Group-sync B G g b s = view_sync (running_inside.the_row B G g) _ _ _ _ (recorded_sync (running_inside.the_field B G g).row _ _ (running_inside.the_type B G g).to_one (struct_sync (shape (running_inside.the_type B G g)) (
   Cells-sync B g b,
   (
     net_sent.the_sync (envelope.the_row B g) (envelope_sent.the_send B g),
@@ -202,7 +203,7 @@ Group-sync B G g b s = recorded_sync (running.the_field B G g).row _ _ (running.
       ),
     ),
   ),
-))
+)))
 
 pub Shared-send : (B G : RattleType) (g : book_id.Ghosts B.Denot) → IsSend B → IsSend G → IsSync G → IsSend (arc.the_row (running.the_row B G g) global.the_row ghosts)
 Shared-send B G g b s y = arc_sent.the_send (running.the_row B G g) global.the_row ghosts (Group-send B G g b s) global_sent.the_send (Group-sync B G g b y) global_sent.the_sync frees.the_frees

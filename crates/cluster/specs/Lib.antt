@@ -5,4 +5,5 @@ pub mod Turns
 pub mod Closing
 pub mod Opening
 pub mod Working
+pub mod Running
 pub mod Inner

@@ -1,4 +1,9 @@
 //! A group on threads: one for each actor, and one for each worker of each server.
+ghost use Rattle.std.specs.Prelude.{◌≡◌, ◌<◌, ◌≤◌, IfErr, IfOk, IfSome, OnOk};
+ghost use Rattle.std.specs.Arc.{arc_value};
+ghost use Rattle.lossy_net.specs.Queues.{IsRoom};
+ghost use Rattle.cluster.specs.Running.{WhyNotRunning};
+
 use crate::bell::Bell;
 use crate::cell::Turn;
 use crate::cells::{Cells, turn};
@@ -10,6 +15,7 @@ use event_book::BookId;
 use lossy_net::{Fates, MessageFate, Net, fate};
 use rows::{Actor, NoMemory, Refusal, Sequence, ServerId, Work};
 use std::alloc::{AllocError, Global};
+use std::marker::Model;
 use std::sync::atomic::{AtomicBool, AtomicU64, Ordering};
 use std::sync::{Arc, Mutex, Wait};
 use std::thread;
@@ -31,6 +37,9 @@ pub struct NetSettings {
 /// What the threads of a group share: its cells, the messages on their way, and what waits for the
 /// workers of each server. Each message that an actor sends draws one word, whose fate it has: it
 /// is lost, put once, or put twice; one for which there is no room is lost.
+///
+/// Contracts see the cells as they see `Cells`, the settings of the net, and the gate. What is on
+/// its way, what waits for workers, and what lies in the cells, threads may change at any moment.
 #[derive(Drop)]
 pub struct RunningGroup<B: BookId, G: Gate + Drop> {
     cells: Cells<B>,
@@ -46,6 +55,19 @@ pub struct RunningGroup<B: BookId, G: Gate + Drop> {
     servers: [WorkersOfServer; 5],
     gate: G,
     stopped: AtomicBool,
+}
+
+impl<B: BookId, G: Gate + Drop> Model for RunningGroup<B, G> {
+    ghost use Rattle.cluster.specs.Running.{RunningView};
+
+    ghost Value = { RunningView G };
+
+    ghost view = { λ g. record {
+      cells = g.cells;
+      drop = g.drop;
+      repeat = g.repeat;
+      gate = g.gate;
+    } };
 }
 
 // What waits for the workers of a server; and a bell that counts the server's turns, and rings where
@@ -76,14 +98,27 @@ impl<B: BookId, G: Gate + Drop> RunningGroup<B, G> {
     /// A group of these cells, before its threads start. No message is on its way, and no work
     /// waits.
     ///
-    /// It is refused with `OutOfRange` where `net.room` is not from 1 to 65,536, and with
-    /// `NoMemory`.
+    /// It is refused with `OutOfRange` where `net.room` is not from 1 to 65,536, and else with
+    /// `NoMemory` where memory is wanting.
+    /// - `group`: it has these cells, this gate, and these parts of lost and of repeated messages.
+    ///   Of the key, which lies behind a lock, nothing is said.
+    /// - `room`: there is one only of such a room.
+    /// - `refused`: with nothing else, and with `NoMemory` only where there may be such a room.
     pub fn new(
         alloc: Global,
         cells: Cells<B>,
         net: NetSettings,
         gate: G,
-    ) -> Result<RunningGroup<B, G>, Refusal> {
+    ) -> Result<RunningGroup<B, G>, Refusal>
+        ensures group { IfOk result (λ g. g ≡ record {
+          cells = cells;
+          drop = net.drop;
+          repeat = net.repeat;
+          gate = gate;
+        }) }
+        ensures room { OnOk result (IsRoom net.room) }
+        ensures refused { IfErr result (WhyNotRunning net.room) }
+    {
         let queues = Net::new(alloc, cells.actors(), net.room)?;
         let calls = bells(alloc, cells.actors().len())?;
         Ok(RunningGroup {
@@ -107,18 +142,24 @@ impl<B: BookId, G: Gate + Drop> RunningGroup<B, G> {
     }
 
     /// The cells.
-    pub fn cells(&self) -> &Cells<B> {
+    pub fn cells(&self) -> &Cells<B>
+        ensures { result.now ≡ self.now.cells }
+    {
         &self.cells
     }
 
     /// The gate.
-    pub fn gate(&self) -> &G {
+    pub fn gate(&self) -> &G
+        ensures { result.now ≡ self.now.gate }
+    {
         &self.gate
     }
 
     /// The cells, once nobody else has the group. What is on its way is lost, and what waits is
     /// dropped.
-    pub fn into_cells(self) -> Cells<B> {
+    pub fn into_cells(self) -> Cells<B>
+        ensures { result ≡ self.cells }
+    {
         self.cells
     }
 
@@ -136,14 +177,23 @@ impl<B: BookId, G: Gate + Drop> RunningGroup<B, G> {
     }
 
     /// Waits until each message that was put is done with: its receiver took it or refused it, and
-    /// what that sent was put or lost. It looks so often at most, and then goes on.
-    pub fn flow(&self, looks: u64) {
+    /// what that sent was put or lost. It looks so often at most, and then goes on; it answers how
+    /// often it looked. Other threads change what it sees, so no clause says what that was.
+    /// - `most`: it does not look more often.
+    /// - `least`: it looks where it may.
+    pub fn flow(&self, looks: u64) -> u64
+        ensures most { result ≤ looks }
+        ensures least { 0 < looks → 0 < result }
+    {
+        let mut looked = 0;
         for _ in 0..looks {
+            looked += 1;
             if self.flying.load(Ordering::SeqCst) == 0 {
-                return;
+                break;
             }
             thread::yield_now();
         }
+        looked
     }
 
     // What comes of a turn goes where it belongs. The workers of a server look again.
@@ -379,6 +429,7 @@ where
 /// Stops the threads of a group, each once it is done with what it is at, and gives the cells back
 /// once all have ended; none where somebody else still has the group. What is on its way is lost,
 /// and what waits for workers is dropped.
+/// - `cells`: what is given back are the group's cells.
 pub fn stop<B, G, R>(
     rt: &R,
     group: Arc<RunningGroup<B, G>, Global>,
@@ -388,6 +439,7 @@ where
     B: BookId,
     G: Gate + Drop,
     R: Threads + Wait,
+    ensures cells { IfSome result (λ cells. cells ≡ (arc_value group).cells) }
 {
     end(rt, &group, threads);
     Some(Arc::into_inner(group)?.into_cells())
