@@ -16,3 +16,4 @@ pub mod Replays
 pub mod Nodes
 pub mod Joins
 pub mod Sent
+pub mod Started

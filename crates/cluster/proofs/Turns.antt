@@ -27,7 +27,7 @@ use Rattle.cluster.specs.declared.actor.GroupActor.TheVariants.{Server, Client}
 use Rattle.cluster.specs.declared.actor.Stepped.{Stepped}
 use Rattle.cluster.specs.declared.actor.Stepped.TheVariants.{Taken, Crashed}
 use Rattle.cluster.specs.declared.own_input.OwnInput.TheVariants as own
-use Rattle.cluster.specs.Actors.{frame_of, group_size, nothing_sent, ServerTurned, TakesInput, ServerTurns, ClientTurns, ActorTurns, IsNewActor, SameActor}
+use Rattle.cluster.specs.Actors.{frame_of, nothing_sent, ServerTurned, TakesInput, ServerTurns, ClientTurns, ActorTurns, IsNewActor, SameActor}
 use Rattle.cluster.specs.Refusals.{ActorRefuses, Hears}
 use Rattle.cluster.specs.Turns.{TookTurn, WhyNoTurn}
 use Rattle.cluster.specs.Cells.{EnvelopeView, CellView, HasRoom, IsLed, IsLedCell, IsRefused, Turned, crash_noted, envelopes_from, kept_of, kept_in}

@@ -6,3 +6,4 @@ pub mod Merged
 pub mod Numbers
 pub mod Runs
 pub mod Joined
+pub mod Asked

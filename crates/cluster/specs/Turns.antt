@@ -1,12 +1,19 @@
 -- Turns of cells behind locks. Which cell it was has no name once its lock is let go: what is known
 -- is that there was such a cell.
-use Rattle.std.specs.Prelude.{◌≡◌, ◌⊎◌, ℕ, false, List}
+use Rattle.std.specs.Prelude.{◌≡◌, ◌⊎◌, ℕ, false, List, []}
 use Rattle.rows.specs.declared.actor.Actor.{Actor}
+use Rattle.rows.specs.declared.actor.Actor.TheVariants as actors
 use Rattle.rows.specs.declared.refusal.Refusal.{Refusal}
 use Rattle.rows.specs.declared.refusal.Refusal.TheVariants as refusals
 use Rattle.rows.specs.declared.worker.Work.{Work}
+use Rattle.rows.specs.declared.worker.WorkerRequest.{WorkerRequest}
+use Rattle.group_model.specs.Worlds.{AtServer}
+use Rattle.event_book.specs.declared.view.EventView.TheVariants.{Own}
 use Rattle.event_book.specs.Actors.{lists_actor}
+use Rattle.cluster.specs.declared.own_input.OwnInput.{OwnInput}
 use Rattle.cluster.specs.Cells.{CellView, EnvelopeView, IsLedCell, IsRefused, Turned}
+use Rattle.cluster.specs.Closing.{own_event}
+use Rattle.cluster.specs.Working.{WhyNotApplied, asking}
 
 -- In a group of n servers: a cell took a turn by this envelope, of which it is the receiver's; that
 -- came for workers, and this was sent. Before and after, its actor is where just the events lead it
@@ -27,3 +34,41 @@ abbrev pub WhyNoTurn : ℕ → List Actor → Actor → EnvelopeView → Refusal
 WhyNoTurn n all actor envelope r =
     (r ≡ refusals.OutOfRange) × (lists_actor all actor ≡ false)
     ⊎ CellRefuses n envelope r
+
+-- ---- turns of a server's workers
+
+-- an own input by which a server asks another, or itself, for its workers
+abbrev pub IsAsking : OwnInput → Type 0
+IsAsking own =
+    (to : ℕ) × (request : WorkerRequest)
+    × ((i : ℕ) → own_event (actors.Server i) own ≡ AtServer i (asking to request))
+
+-- an input of an actor's own, as it comes to that actor
+abbrev pub own_envelope : Actor → OwnInput → EnvelopeView
+own_envelope actor input = record { receiver = actor; event = Own input; tokens = [] }
+
+-- in a group of n servers, a cell of this server took a turn by what its workers ask
+abbrev pub TookAsking : ℕ → ℕ → List Work → List EnvelopeView → Type 0
+TookAsking n server work sent =
+    (own : OwnInput) × IsAsking own × TookTurn n (own_envelope (actors.Server server) own) work sent
+
+-- a cell, led by its notes, refuses its state so
+abbrev pub CellHasNoState : ℕ → Refusal → Type 0
+CellHasNoState n r = (c : CellView) × IsLedCell n c × WhyNotApplied c.actor r
+
+-- why a server's state is not copied: there is no such server among these, or a cell has no state
+abbrev pub WhyNoState : ℕ → List Actor → Actor → Refusal → Type 0
+WhyNoState n all actor r =
+    (r ≡ refusals.OutOfRange) × (lists_actor all actor ≡ false) ⊎ CellHasNoState n r
+
+-- a cell refuses what the workers of this server ask
+abbrev pub RefusesAsking : ℕ → ℕ → Refusal → Type 0
+RefusesAsking n server r =
+    (own : OwnInput) × IsAsking own × CellRefuses n (own_envelope (actors.Server server) own) r
+
+-- why a worker took no turn: its server has no state, memory is wanting, or its server refuses
+-- what it asks
+abbrev pub WhyNoWorkerTurn : ℕ → List Actor → ℕ → Refusal → Type 0
+WhyNoWorkerTurn n all server r =
+    WhyNoState n all (actors.Server server) r
+    ⊎ (r ≡ refusals.NoMemory) ⊎ RefusesAsking n server r

@@ -1,7 +1,8 @@
 -- What a server's workers ask, and what a cell's state is.
-use Rattle.std.specs.Prelude.{◌≡◌, ℕ, true}
+use Rattle.std.specs.Prelude.{◌≡◌, ℕ, ◌<◌, true, List, ◌∷◌, ◌++◌, length, take}
 use Rattle.rows.specs.declared.refusal.Refusal.{Refusal}
 use Rattle.rows.specs.declared.refusal.Refusal.TheVariants as refusals
+use Rattle.rows.specs.declared.worker.Work.{Work}
 use Rattle.rows.specs.declared.worker.WorkerRequest.{WorkerRequest}
 use Rattle.rows.specs.declared.worker.WorkerRequest.TheVariants as requests
 use Rattle.group_model.specs.Inputs.{Input, TakeFrom, SubmitTo, FinishAt, NackAt}
@@ -32,6 +33,17 @@ HandledAs from steps.Drop h = h ≡ handled.Dropped
 HandledAs from (steps.Ask request) handled.Waits = ⊥
 HandledAs from (steps.Ask request) handled.Dropped = ⊥
 HandledAs from (steps.Ask request) (handled.Asks input) = handing input ≡ OwnInput (asking from request)
+
+-- what waits after a worker's step with what it took up
+abbrev pub waiting_after : List Work → Work → steps.WorkerStep → List Work
+waiting_after waiting work steps.Later = work ∷ waiting
+waiting_after waiting work steps.Drop = waiting
+waiting_after waiting work (steps.Ask request) = waiting
+
+-- the first of what came, not all of it, wait behind what waited
+abbrev pub KeptFirst : List Work → List Work → List Work → Type 0
+KeptFirst old came new =
+    (count : ℕ) × (count < length came) × (new ≡ old ++ take count came)
 
 -- this is the replicated state of a server that is up, after so many entries
 abbrev pub HasApplied : GroupActor → State → ℕ → Type 0

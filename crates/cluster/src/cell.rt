@@ -8,6 +8,7 @@ ghost use Rattle.cluster.specs.Cells.{IsAddressed, IsLedCell, IsRefused, kept_in
 ghost use Rattle.cluster.specs.Cells.{tokens_of, Turned};
 ghost use Rattle.cluster.specs.Inner.Sending.{CanBeNoted, EndsWith, last_envelopes, IsNoted, IsRecorded, IsStill, IsTurn};
 ghost use Rattle.cluster.specs.Inner.Steps.{IsAnEvent, output_of};
+ghost use Rattle.cluster.specs.Turns.{CellHasNoState};
 ghost use Rattle.cluster.specs.Working.{HasApplied, WhyNotApplied};
 
 use crate::actor::{GroupActor, Stepped};
@@ -321,6 +322,16 @@ impl<B: BookId> Cell<B> {
             GroupActor::Server(server) => server.snapshot(),
             GroupActor::Client(_) => Err(Refusal::OutOfRange),
         }
+    }
+
+    /// `snapshot`, of a cell of which it is known that its notes lead its actor where that is.
+    #[tactic(auto, using(crate::proofs::Started::no_state))]
+    pub(crate) fn snapshot_of_led(&self) -> Result<(Arc<Cluster>, Index), Refusal>
+        ensures { IfErr result (CellHasNoState (group_size B.actors)) }
+    {
+        // (what `actor` says of where its actor is)
+        let _ = self.actor();
+        self.snapshot()
     }
 
     /// The actor takes an envelope: one step, or a crash in its place where it finds no memory;

@@ -1,8 +1,10 @@
 //! A group on threads: one for each actor, and one for each worker of each server.
-ghost use Rattle.std.specs.Prelude.{◌≡◌, ◌<◌, ◌≤◌, IfErr, IfOk, IfSome, OnOk};
+ghost use Rattle.std.specs.Prelude.{◌≡◌, ◌+◌, ◌<◌, ◌≤◌, vec_len, IfErr, IfOk, IfSome, OnOk};
 ghost use Rattle.std.specs.Arc.{arc_value};
 ghost use Rattle.lossy_net.specs.Queues.{IsRoom};
-ghost use Rattle.cluster.specs.Running.{WhyNotRunning};
+ghost use Rattle.cluster.specs.Actors.{group_size};
+ghost use Rattle.cluster.specs.Running.{TookInput, WhyNotRunning, thread_count};
+ghost use Rattle.cluster.specs.Turns.{WhyNoTurn, own_envelope};
 
 use crate::bell::Bell;
 use crate::cell::Turn;
@@ -103,7 +105,7 @@ impl<B: BookId, G: Gate + Drop> RunningGroup<B, G> {
     /// - `group`: it has these cells, this gate, and these parts of lost and of repeated messages.
     ///   Of the key, which lies behind a lock, nothing is said.
     /// - `room`: there is one only of such a room.
-    /// - `refused`: with nothing else, and with `NoMemory` only where there may be such a room.
+    /// - `refused`: with nothing else, and with each just there.
     pub fn new(
         alloc: Global,
         cells: Cells<B>,
@@ -168,7 +170,14 @@ impl<B: BookId, G: Gate + Drop> RunningGroup<B, G> {
     ///
     /// It is refused with `OutOfRange` where the group has no such actor, and else as `Cell::take`
     /// refuses. What came for workers and has no memory to wait in is lost, as if a message were.
-    pub fn hand<R: Wait>(&self, rt: &R, actor: Actor, input: OwnInput) -> Result<(), Refusal> {
+    /// - `ok`: a cell of the actor took one step by the input, as `Cell::take` says.
+    /// - `refused`: the group lacks the actor, or a cell refuses the input so.
+    #[tactic(auto, using(crate::proofs::Started::took_input))]
+    pub fn hand<R: Wait>(&self, rt: &R, actor: Actor, input: OwnInput) -> Result<(), Refusal>
+        ensures ok { OnOk result (TookInput (group_size B.actors) actor input) }
+        ensures refused { IfErr result (WhyNoTurn (group_size B.actors) self.now.cells.actors
+            actor (own_envelope actor input)) }
+    {
         let envelope = Envelope::own(actor, input);
         let receiver = envelope.receiver();
         let turned = turn(rt, &self.cells, envelope.receiver(), envelope)?;
@@ -359,10 +368,18 @@ impl<B: BookId, G: Gate + Drop> RunningGroup<B, G> {
     }
 }
 
-/// The threads of a group.
+/// The threads of a group. Contracts see how many there are.
 #[derive(Drop)]
 pub struct GroupThreads {
     handles: Vec<JoinHandle<()>>,
+}
+
+impl Model for GroupThreads {
+    ghost use Rattle.std.specs.Prelude.{ℕ, vec_len};
+
+    ghost Value = { ℕ };
+
+    ghost view = { λ t. vec_len t.handles };
 }
 
 // Starts a thread for each number.
@@ -376,6 +393,8 @@ where
     B: BookId + Send + Sync + 'static,
     G: Gate + Drop + Send + Sync + 'static,
     R: Threads + Wait + Copy + Send + 'static,
+    ensures { OnOk result (vec_len handles.new
+        ≡ vec_len handles.old + thread_count (arc_value group.now).cells workers) }
 {
     let all_workers = group.cells.servers().saturating_mul(usize::from(workers));
     for number in 0..group.cells.actors().len().saturating_add(all_workers) {
@@ -392,6 +411,7 @@ where
 /// Starts a group: a thread for each actor, which takes the messages that come for it, and for each
 /// server as many threads as it is to have workers. Where memory or a thread is wanting, those that
 /// were started end before this is answered.
+/// - `threads`: all of them were started.
 pub fn start<B, G, R>(
     rt: R,
     alloc: Global,
@@ -402,6 +422,8 @@ where
     B: BookId + Send + Sync + 'static,
     G: Gate + Drop + Send + Sync + 'static,
     R: Threads + Wait + Copy + Send + 'static,
+    ensures threads { IfOk result (λ threads.
+        threads ≡ thread_count (arc_value group.now).cells workers) }
 {
     let mut handles = Vec::new(alloc);
     match start_all(rt, group, workers, &mut handles) {

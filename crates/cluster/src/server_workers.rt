@@ -1,9 +1,10 @@
 //! What waits for the workers of one server.
-ghost use Rattle.std.specs.Prelude.{◌≡◌, ◌≢◌, ◌++◌, ◌∷◌, [], IfOk, MatchBool, MatchOption, OnOk};
+ghost use Rattle.std.specs.Prelude.{◌≡◌, ◌≢◌, ◌++◌, ◌∷◌, [], true};
+ghost use Rattle.std.specs.Prelude.{IfOk, MatchBool, MatchOption, OnErr, OnOk};
 ghost use Rattle.server.specs.Handings.{OwnInput, handing};
 ghost use Rattle.group_model.specs.NextStep.{IsNextStep};
-ghost use Rattle.scheduler.specs.Steps.{step_as};
-ghost use Rattle.cluster.specs.Working.{asking, HandledAs};
+ghost use Rattle.scheduler.specs.Steps.{makes_plan, step_as};
+ghost use Rattle.cluster.specs.Working.{asking, HandledAs, KeptFirst, waiting_after};
 
 use crate::work_queue::WorkQueue;
 use fsm_state::Cluster;
@@ -67,10 +68,12 @@ pub struct TakenWork {
 
 impl TakenWork {
     /// What a worker does next with it, at its server's state of this index: `next_step`.
-    /// `NoMemory` where there is no memory for a plan.
+    /// `NoMemory` where there is no memory for a plan, and only where the step makes one.
     pub fn next(&self, alloc: Global, state: &Cluster, index: Index) -> Result<WorkerStep, NoMemory>
-        ensures { IfOk result (λ step.
+        ensures step { IfOk result (λ step.
             IsNextStep state.now index self.now.work.response self.now.plans (step_as step)) }
+        ensures memory { OnErr result
+            (makes_plan state.now index self.now.work.response self.now.plans ≡ true) }
     {
         next_step(alloc, state, index, &self.work.response, self.plans)
     }
@@ -116,8 +119,10 @@ impl ServerWorkers {
     }
 
     /// Puts what came behind what waits. Where memory is wanting, the last of it are lost.
+    /// - `err`: the first of it wait then, and what waited still does.
     pub fn admit(&mut self, work: Sequence<Work>) -> Result<(), NoMemory>
-        ensures { OnOk result (self.new ≡ self.old ++ work) }
+        ensures ok { OnOk result (self.new ≡ self.old ++ work) }
+        ensures err { OnErr result (KeptFirst self.old work self.new) }
     {
         for response in work.into_vec() {
             self.waiting.put(response)?;
@@ -152,8 +157,13 @@ impl ServerWorkers {
     /// A worker goes on with what it took up. A plan that it submits is counted under its delivery.
     /// - `handled`: what needs a later state waits, and what a worker asks of a server is the input
     ///   by which that is asked of the one that sent the work.
+    /// - `waiting`: what needs a later state waits in front of what waited, and nothing else changes.
+    /// - `err`: what waited is left; what was taken up is lost.
     pub fn go_on(&mut self, taken: TakenWork, step: WorkerStep) -> Result<Handled, NoMemory>
         ensures handled { IfOk result (HandledAs taken.work.from (step_as step)) }
+        ensures waiting { OnOk result
+            (self.new ≡ waiting_after self.old taken.work (step_as step)) }
+        ensures err { OnErr result (self.new ≡ self.old) }
     {
         let TakenWork { work, plans: _ } = taken;
         match step {
@@ -169,9 +179,10 @@ impl ServerWorkers {
         }
     }
 
-    /// Puts what was taken up in front again.
+    /// Puts what was taken up in front again. Where memory is wanting it is lost.
     pub fn put_back(&mut self, taken: TakenWork) -> Result<(), NoMemory>
-        ensures { OnOk result (self.new ≡ taken.work ∷ self.old) }
+        ensures ok { OnOk result (self.new ≡ taken.work ∷ self.old) }
+        ensures err { OnErr result (self.new ≡ self.old) }
     {
         self.waiting.put_back(taken.work)
     }

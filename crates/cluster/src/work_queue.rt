@@ -1,5 +1,6 @@
 //! What waits for one server's workers.
-ghost use Rattle.std.specs.Prelude.{◌≡◌, ◌≢◌, ◌++◌, ◌∷◌, [], OnOk, MatchBool, MatchOption};
+ghost use Rattle.std.specs.Prelude.{◌≡◌, ◌≢◌, ◌++◌, ◌∷◌, []};
+ghost use Rattle.std.specs.Prelude.{MatchBool, MatchOption, OnErr, OnOk};
 
 use rows::{NoMemory, Work};
 use std::alloc::Global;
@@ -34,7 +35,8 @@ impl WorkQueue {
 
     /// What comes is put behind the others.
     pub(crate) fn put(&mut self, work: Work) -> Result<(), NoMemory>
-        ensures { OnOk result (self.new ≡ self.old ++ work ∷ []) }
+        ensures ok { OnOk result (self.new ≡ self.old ++ work ∷ []) }
+        ensures err { OnErr result (self.new ≡ self.old) }
     {
         self.items.push_back(work)?;
         Ok(())
@@ -42,7 +44,8 @@ impl WorkQueue {
 
     /// What was taken is put in front again.
     pub(crate) fn put_back(&mut self, work: Work) -> Result<(), NoMemory>
-        ensures { OnOk result (self.new ≡ work ∷ self.old) }
+        ensures ok { OnOk result (self.new ≡ work ∷ self.old) }
+        ensures err { OnErr result (self.new ≡ self.old) }
     {
         self.items.push_front(work)?;
         Ok(())

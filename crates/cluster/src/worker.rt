@@ -1,7 +1,10 @@
 //! A worker of one server.
-ghost use Rattle.std.specs.Prelude.{◌≡◌, IfOk, IfSome, None};
+ghost use Rattle.std.specs.Prelude.{◌≡◌, false, None, IfErr, IfOk, IfSome};
 ghost use Rattle.rows.specs.declared.actor.Actor.TheVariants as actors;
+ghost use Rattle.cluster.specs.Actors.{group_size};
 ghost use Rattle.cluster.specs.Cells.{AreSent};
+ghost use Rattle.cluster.specs.Turns.{TookAsking, WhyNoState, WhyNoWorkerTurn};
+ghost use Rattle.cluster.specs.Inner.Asked.{AsksSome};
 
 use crate::cell::Turn;
 use crate::cells::{Cells, turn};
@@ -52,16 +55,20 @@ fn snapshot<B: BookId, R: Wait>(
     rt: &R,
     cells: &Cells<B>,
     server: ServerId,
-) -> Result<(Arc<Cluster>, Index), Refusal> {
+) -> Result<(Arc<Cluster>, Index), Refusal>
+    ensures refused { IfErr result (WhyNoState (group_size B.actors) cells.now.actors
+        (actors.Server server)) }
+{
     match cells.lock(rt, Actor::Server(server)) {
-        Some(cell) => cell.snapshot(),
+        Some(cell) => cell.snapshot_of_led(),
         None => Err(Refusal::OutOfRange),
     }
 }
 
 // The worker asked for nothing.
 fn resting<B: BookId>(went_on: bool) -> WorkerTurn<B>
-    ensures { result.turn ≡ None }
+    ensures went_on { result.went_on ≡ went_on }
+    ensures turn { result.turn ≡ None }
 {
     WorkerTurn {
         went_on,
@@ -69,8 +76,9 @@ fn resting<B: BookId>(went_on: bool) -> WorkerTurn<B>
     }
 }
 
-// What becomes of what a worker took up, at this state. Where there is no memory for a plan, the work
-// waits in front again.
+// What becomes of what a worker took up, at this state. Where there is no memory for a plan, the
+// work waits in front again.
+#[tactic(auto, using(crate::proofs::Started::each_asks_some))]
 fn handled<R: Wait>(
     rt: &R,
     alloc: Global,
@@ -78,7 +86,9 @@ fn handled<R: Wait>(
     taken: TakenWork,
     state: &Cluster,
     index: Index,
-) -> Result<Handled, NoMemory> {
+) -> Result<Handled, NoMemory>
+    ensures { IfOk result AsksSome }
+{
     match taken.next(alloc, state, index) {
         Ok(step) => workers.lock(rt).go_on(taken, step),
         Err(cause) => {
@@ -92,10 +102,14 @@ fn handled<R: Wait>(
 /// lock of the server's cell, passes the gate where an evaluation was delivered, plans, and lets its
 /// server take in what it asks. It holds no lock while it passes the gate and plans.
 ///
-/// It is refused with `OutOfRange` where the group has no such server, with `Down` where it is down,
-/// with `NoMemory`, and as `Cell::take` refuses; what it took up is lost then, unless there was no
-/// memory for a plan.
-/// - what its server sent then comes with its tokens, as from `turn`.
+/// It is refused with `OutOfRange` where the group has no such server, with `Down` where it is
+/// down, with `NoMemory`, and as `Cell::take` refuses; what it took up is lost then, unless there
+/// was no memory for a plan.
+/// - `turn`: a cell of the server took one step by what its workers ask, as `Cell::take` says.
+/// - `sent`: what was sent are first outputs of one event that the server noted, with their tokens.
+/// - `resting`: where it did not go on with anything, its server took no turn.
+/// - `refused`: with nothing else.
+#[tactic(auto, using(crate::proofs::Started::no_state_taken, crate::proofs::Started::no_memory_taken))]
 pub fn worker_turn<B: BookId, G: Gate, R: Wait>(
     rt: &R,
     cells: &Cells<B>,
@@ -103,8 +117,12 @@ pub fn worker_turn<B: BookId, G: Gate, R: Wait>(
     server: ServerId,
     gate: &G,
 ) -> Result<WorkerTurn<B>, Refusal>
-    ensures { IfOk result (λ w. IfSome w.turn (λ turn.
+    ensures turn { IfOk result (λ w. IfSome w.turn (λ turn.
+        TookAsking (group_size B.actors) server turn.work turn.sent.items)) }
+    ensures sent { IfOk result (λ w. IfSome w.turn (λ turn.
         AreSent (actors.Server server) turn.sent.items)) }
+    ensures resting { IfOk result (λ w. w.went_on ≡ false → w.turn ≡ None) }
+    ensures refused { IfErr result (WhyNoWorkerTurn (group_size B.actors) cells.now.actors server) }
 {
     let Some(taken) = workers.lock(rt).take() else {
         return Ok(resting(false));
