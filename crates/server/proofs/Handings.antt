@@ -1,7 +1,7 @@
 -- What is handed in, by the parts of a step.
 use Rattle.std.proofs.Common.{◌≡◌, ◌≢◌, ℕ, Bool, true, false, Option, Some, None, Result, Ok, Err, List, length, take, refl, sym, ap, subst, ◌∙◌, if◌then◌else◌}
 use Rattle.std.proofs.Math.Seq.{take-length}
-use Rattle.std.specs.Prelude.{OnOk, OnErr, IfErr}
+use Rattle.std.specs.Prelude.{OnOk, OnErr, IfErr, ◌&&◌, nat_lt}
 use Rattle.rows.specs.declared.actor.Actor.{Actor}
 use Rattle.rows.specs.declared.actor.Actor.TheVariants as actors
 use Rattle.rows.specs.declared.command.Command.{Command}
@@ -11,23 +11,26 @@ use Rattle.wire.specs.Messages.{Message as WireMessage, kind_of, is_of_log, may_
 use Rattle.wire.specs.Frames.{MessageFits, message_text}
 use Rattle.wire.specs.declared.kind.Kind.{Kind}
 use Rattle.wire.specs.declared.kind.Kind.TheVariants as kinds
-use Rattle.raft_model.specs.Messages.{Message}
-use Rattle.raft_model.specs.Servers.{Server, is_up, crashed}
+use Rattle.raft_model.specs.Messages.{Message, to_others}
+use Rattle.raft_model.specs.Logs.{MAX}
+use Rattle.raft_model.specs.Servers.{Server, Turn as RaftTurn, is_up, is_leader, crashed, silent, stood, vote_request}
+use Rattle.raft_model.specs.Steps as raft_steps
 use Rattle.raft_core.specs.Frames.{Means}
-use Rattle.raft_core.specs.Refusals.{misdirected, message_fault, message_refusal, IsMessageRefused, MessageRefusalLeaves}
+use Rattle.raft_core.specs.Inputs.{Own}
+use Rattle.raft_core.specs.Refusals.{misdirected, message_fault, message_refusal, refusal_by, IsRefused, HidesNothing, IsMessageRefused, RefusalLeaves, MessageRefusalLeaves}
 use Rattle.cluster_model.specs.Words.{State}
 use Rattle.cluster_model.specs.ClusterMachine.{cluster_meaning}
 use Rattle.cluster_model.proofs.ClusterMachine.{cluster_lawful}
 use Rattle.group_model.specs.Messages.{GroupMessage, Raft, Service}
-use Rattle.group_model.specs.Inputs.{Input}
-use Rattle.group_model.specs.Members.{Member, wakes, done, step}
+use Rattle.group_model.specs.Inputs.{Input, Timeout, AskTimeout, Act, asks}
+use Rattle.group_model.specs.Members.{Member, wakes, logged, done, step}
 use Rattle.group_frames.specs.GroupFrames.{service_of, IsGroupFrame}
 use Rattle.group_frames.proofs.OneMessage.{one_text, log_is_no_service}
 use Rattle.server.specs.declared.server.Outbox.{Outbox}
 use Rattle.server.specs.ServerViews.{ServerView, IsMember, SameMember}
 use Rattle.server.specs.Handings.{Handing, FrameBytes, OwnInput}
 use Rattle.server.specs.Turns.{TakesTurn, TakesHanding}
-use Rattle.server.specs.Refusals.{refusal_in, wrong_address, handing_refusal, IsHandingRefused, HandingRefusalLeaves}
+use Rattle.server.specs.Refusals.{refusal_in, wrong_address, handing_refusal, CanStand, IsHandingRefused, HandingRefusalLeaves}
 use Rattle.server.specs.Inner.Acts.{member_of, act_of, DoesAct, DoesNothing, DeclinesOwn}
 use Rattle.server.proofs.LogSteps.{said_of}
 use Rattle.server.specs.Inner.LogSteps.{DeskAfterRefusal, HearsLog, MeansGroup, TakesRead, DeclinesRead, DeclinesHanding}
@@ -88,6 +91,64 @@ module _ (old new : ServerView) (before after : Outbox) (read : WireMessage Stat
     sym (log_refusal old.raft.size old.raft.me old.raft.server read up log goes) ∙ is,
     record { same = record { raft = record { me = me; size = size; server = ap (λ v. v.server) left }; desk = desk }; nothing = unsent },
   )
+
+-- ---- a timeout
+
+-- what the log refuses, the server does
+by_log : (s : Member) (act : Act) (r : Result (RaftTurn Command) Refusal) (cause : Refusal) → refusal_by r ≡ Some cause → refusal_in (logged s act r) ≡ Some cause
+by_log s act (Ok turn) cause h = absurd (cc)
+by_log s act (Err e) cause h = h
+
+-- one that is not refused had room
+room_by : (up leads room : Bool) (a b c : Result (RaftTurn Command) Refusal) (e : Refusal) → up ≡ true → leads ≡ false → refusal_by (if up then (if leads then a else if room then b else Err e) else c) ≡ None → room ≡ true
+room_by true false true a b c e is_up follows h = refl
+room_by true false false a b c e is_up follows h = absurd (cc)
+room_by true true room a b c e is_up follows h = absurd (cc)
+room_by false leads room a b c e is_up follows h = absurd (cc)
+
+module _ (old new : ServerView) (before after : Outbox) (up : is_up old.raft.server.mode ≡ true) where
+  abbrev by : Result (RaftTurn Command) Refusal
+  by = raft_steps.step cluster_meaning old.raft.size old.raft.me old.raft.server raft_steps.Timeout
+
+  can_stand : is_leader old.raft.server.mode ≡ false → refusal_by by ≡ None → CanStand (member_of old)
+  can_stand follows none = record {
+    up = up;
+    follows = follows;
+    room = room_by (is_up old.raft.server.mode) (is_leader old.raft.server.mode) (nat_lt old.raft.server.term MAX && nat_lt (length old.raft.server.log) MAX)
+        (Ok (silent old.raft.server)) (Ok (record { server = stood old.raft.size old.raft.me old.raft.server; sent = to_others old.raft.me (vote_request old.raft.me (stood old.raft.size old.raft.me old.raft.server)) old.raft.size }))
+        (raft_steps.wakes old.raft.server raft_steps.Timeout) refusals.Exhausted up follows none;
+  }
+
+  timeout_declined : (new.raft.me ≡ old.raft.me) → (new.raft.size ≡ old.raft.size) → (cause : Refusal)
+      → IsRefused cluster_meaning old.raft.size old.raft.me old.raft.server (Own raft_steps.Timeout) cause
+      → HidesNothing cluster_meaning old.raft.size old.raft.me old.raft.server (Own raft_steps.Timeout) cause
+      → RefusalLeaves cluster_meaning old.raft old.raft.server (Own raft_steps.Timeout) cause new.raft
+      → DeskAfterRefusal cause old.desk new.desk → after ≡ before
+      → DeclinesHanding old (OwnInput Timeout) cause new before after
+  timeout_declined me size refusals.NoMemory may hides left desk unsent = (
+    can_stand may.1 hides,
+    record {
+      me = me;
+      size = size;
+      stored = ap crashed left;
+      front = ap (λ (o : Outbox). take (length before.frames) o.frames) unsent ∙ take-length before.frames;
+      work = ap (λ (o : Outbox). o.work) unsent;
+    },
+  )
+  timeout_declined me size cause is hides left desk unsent = (
+    ap refusal_in (own_step old new before after Timeout up) ∙ by_log (member_of old) (asks AskTimeout (member_of old).desk) by cause is,
+    record { same = record { raft = record { me = me; size = size; server = ap (λ v. v.server) left }; desk = desk }; nothing = unsent },
+  )
+
+  pub timeout_stopped : (new.raft.me ≡ old.raft.me) → (new.raft.size ≡ old.raft.size) → (r : Result (Unit {0}) Refusal)
+      → IfErr r (λ cause. IsRefused cluster_meaning old.raft.size old.raft.me old.raft.server (Own raft_steps.Timeout) cause)
+      → IfErr r (λ cause. HidesNothing cluster_meaning old.raft.size old.raft.me old.raft.server (Own raft_steps.Timeout) cause)
+      → IfErr r (λ cause. RefusalLeaves cluster_meaning old.raft old.raft.server (Own raft_steps.Timeout) cause new.raft)
+      → IfErr r (λ cause. DeskAfterRefusal cause old.desk new.desk)
+      → OnErr r (after ≡ before)
+      → IfErr r (λ cause. DeclinesHanding old (OwnInput Timeout) cause new before after)
+  timeout_stopped me size (Ok u) is hides left desk unsent = tt
+  timeout_stopped me size (Err cause) is hides left desk unsent = timeout_declined me size cause is hides left desk unsent
 
 -- ---- every server that a value is
 

@@ -1,5 +1,5 @@
 -- Why a server of the group refuses what is handed in, and what a refusal leaves.
-use Rattle.std.specs.Prelude.{◌≡◌, ℕ, Bool, true, false, nat_lt, is_some, if◌then◌else◌, Option, Some, None, Result, Ok, Err, List}
+use Rattle.std.specs.Prelude.{◌≡◌, ℕ, Bool, true, false, nat_lt, ◌&&◌, is_some, if◌then◌else◌, Option, Some, None, Result, Ok, Err, List, length}
 use Rattle.rows.specs.declared.actor.Actor.{Actor}
 use Rattle.rows.specs.declared.actor.Actor.TheVariants.{Server as ServerActor, Client}
 use Rattle.rows.specs.declared.command.Command.{Command}
@@ -7,10 +7,13 @@ use Rattle.rows.specs.declared.refusal.Refusal.{Refusal}
 use Rattle.rows.specs.declared.refusal.Refusal.TheVariants as refusals
 use Rattle.wire.specs.Messages.{Message as WireMessage}
 use Rattle.wire.specs.Frames.{message_at}
+use Rattle.raft_model.specs.Logs.{MAX}
 use Rattle.raft_model.specs.Servers.{is_up, is_leader}
 use Rattle.raft_core.specs.Refusals.{is_server_at}
 use Rattle.cluster_model.specs.Words.{State}
 use Rattle.cluster_model.specs.ClusterMachine.{cluster_meaning}
+use Rattle.group_model.specs.BeatCounts.{expiry_refusal}
+use Rattle.group_model.specs.Desks.{Desk}
 use Rattle.group_model.specs.Inputs.{Input, Arrives, Timeout, Beat, Request, TakeFrom, SubmitTo, FinishAt, NackAt, PlanTurn, Lapse, Expire, DrainTurn, FreeTurn, Reap, Compact, Crash, Restart}
 use Rattle.group_model.specs.Members.{Member, Turn, step}
 use Rattle.server.specs.ServerViews.{ServerView, IsMember, SameMember, crashed_member}
@@ -54,10 +57,22 @@ handing_refusal n me s (OwnInput input) = refusal_in (step n me s input)
 
 -- ---- want of memory
 
+-- A server that may stand for election: it is up, does not lead, and there is a further term and a
+-- further index.
+pub record CanStand (s : Member) : Type 0 where
+  pub up : is_up s.raft.mode ≡ true
+  pub follows : is_leader s.raft.mode ≡ false
+  pub room : (nat_lt s.raft.term MAX && nat_lt (length s.raft.log) MAX) ≡ true
+
 -- a leader at whose desk something is to be done
 pub record HasOpenDesk (s : Member) : Type 0 where
   pub leads : is_leader s.raft.mode ≡ true
   pub is_open : is_some s.desk ≡ true
+
+-- an open desk heard of the node so often, and not since
+abbrev pub HeardSoOften : ℕ → ℕ → Option Desk → Type 0
+HeardSoOften node beats None = ⊥
+HeardSoOften node beats (Some d) = expiry_refusal node beats d.beat_counts ≡ None
 
 -- its workers ask a server of the group
 pub record AsksMember (n : ℕ) (s : Member) (to : ℕ) : Type 0 where
@@ -65,10 +80,11 @@ pub record AsksMember (n : ℕ) (s : Member) (to : ℕ) : Type 0 where
   pub of_group : nat_lt to n ≡ true
 
 -- Which inputs may want memory, and when. A crash takes none, nor does what is outstanding and is
--- free again, a leader at a timeout, or another at a beat.
+-- free again, a timeout of one that leads or cannot stand, a beat of one that does not lead, or an
+-- expiry that the desk refuses.
 abbrev pub MayTakeMemory : ℕ → Member → Input → Type 0
 MayTakeMemory n s (Arrives message) = is_up s.raft.mode ≡ true
-MayTakeMemory n s Timeout = (is_up s.raft.mode ≡ true) × (is_leader s.raft.mode ≡ false)
+MayTakeMemory n s Timeout = CanStand s
 MayTakeMemory n s Beat = is_leader s.raft.mode ≡ true
 MayTakeMemory n s (Request request) = is_leader s.raft.mode ≡ true
 MayTakeMemory n s (TakeFrom to) = AsksMember n s to
@@ -77,7 +93,7 @@ MayTakeMemory n s (FinishAt to eval token outcome) = AsksMember n s to
 MayTakeMemory n s (NackAt to eval token) = AsksMember n s to
 MayTakeMemory n s PlanTurn = HasOpenDesk s
 MayTakeMemory n s (Lapse eval) = ⊥
-MayTakeMemory n s (Expire node beats) = HasOpenDesk s
+MayTakeMemory n s (Expire node beats) = HasOpenDesk s × HeardSoOften node beats s.desk
 MayTakeMemory n s (DrainTurn node) = HasOpenDesk s
 MayTakeMemory n s FreeTurn = HasOpenDesk s
 MayTakeMemory n s Reap = HasOpenDesk s

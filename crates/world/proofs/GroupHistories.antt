@@ -40,7 +40,7 @@ module _ (old new : ServerView) (s : Member) where
   pub member_fell : (h : Handing) → is_restart_input h ≡ false → MayLackMemory old.raft.size s h → NoMemoryLeaves old s h new → (is_up s.raft.mode ≡ true) × IsMember new (crashed_member s)
   member_fell (FrameBytes bytes) other may left = (may, left)
   member_fell (OwnInput (Arrives message)) other may left = (may, left)
-  member_fell (OwnInput Timeout) other may left = (may.0, left)
+  member_fell (OwnInput Timeout) other may left = (may.up, left)
   member_fell (OwnInput Beat) other may left = (leads_up s.raft.mode may, left)
   member_fell (OwnInput (Request request)) other may left = (leads_up s.raft.mode may, left)
   member_fell (OwnInput (TakeFrom to)) other may left = (may.up, left)
@@ -49,7 +49,7 @@ module _ (old new : ServerView) (s : Member) where
   member_fell (OwnInput (NackAt to eval token)) other may left = (may.up, left)
   member_fell (OwnInput PlanTurn) other may left = (leads_up s.raft.mode may.leads, left)
   member_fell (OwnInput (Lapse eval)) other may left = absurd may
-  member_fell (OwnInput (Expire node beats)) other may left = (leads_up s.raft.mode may.leads, left)
+  member_fell (OwnInput (Expire node beats)) other may left = (leads_up s.raft.mode may.0.leads, left)
   member_fell (OwnInput (DrainTurn node)) other may left = (leads_up s.raft.mode may.leads, left)
   member_fell (OwnInput FreeTurn) other may left = (leads_up s.raft.mode may.leads, left)
   member_fell (OwnInput Reap) other may left = (leads_up s.raft.mode may.leads, left)

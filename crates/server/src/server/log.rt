@@ -5,7 +5,7 @@ ghost use Rattle.raft_model.specs.Messages.{Message as MessageOf};
 ghost use Rattle.raft_model.specs.Servers.{is_leader};
 ghost use Rattle.raft_core.specs.Frames.{Means};
 ghost use Rattle.raft_core.specs.Inputs.{handed};
-ghost use Rattle.raft_core.specs.Refusals.{message_refusal, refusal, IsRefused, IsMessageRefused, RefusalLeaves, MessageRefusalLeaves};
+ghost use Rattle.raft_core.specs.Refusals.{message_refusal, refusal, HidesNothing, IsRefused, IsMessageRefused, RefusalLeaves, MessageRefusalLeaves};
 ghost use Rattle.cluster_model.specs.ClusterMachine.{cluster_meaning};
 ghost use Rattle.server.specs.Inner.LogSteps.{where_leads, DeskAfterRefusal, HearsLog, TakesAsk, log_ask};
 
@@ -61,6 +61,8 @@ impl Server {
         ensures taken { OnOk result (TakesAsk self.old (log_ask input.entry) self.new outbox.old
             outbox.new) }
         ensures refused { IfErr result (λ cause. IsRefused cluster_meaning self.old.raft.size
+            self.old.raft.me self.old.raft.server (handed input.entry) cause) }
+        ensures unhidden { IfErr result (λ cause. HidesNothing cluster_meaning self.old.raft.size
             self.old.raft.me self.old.raft.server (handed input.entry) cause) }
         ensures left { IfErr result (λ cause. RefusalLeaves cluster_meaning self.old.raft
             self.old.raft.server (handed input.entry) cause self.new.raft) }

@@ -1,8 +1,17 @@
-use Rattle.std.proofs.Common.{ap}
+use Rattle.std.proofs.Common.{ap, sym, subst}
+use Rattle.std.specs.Prelude.{IfErr}
 use Rattle.group_model.specs.Inputs.{Lapse, Expire, DrainTurn, FreeTurn, Reap}
 use Rattle.server.specs.Handings.{handing}
-use Rattle.server.proofs.Handings.{silent_taken, silent_admitted, silent_declined}
+use Rattle.server.specs.Inner.LogSteps.{DeclinesHanding}
+use Rattle.server.proofs.Handings.{silent_taken, silent_admitted, silent_declined, timeout_stopped}
 use Rattle.server.proofs.server.Server.act.Goals as goal
+
+pub returns-in-Timeout-clause-stopped : goal.returns-in-Timeout-clause-stopped
+returns-in-Timeout-clause-stopped c =
+    let old = c.args.self.now in
+    let got = c.step_log.ensures in
+    subst (λ h. IfErr c.step_log.result (λ cause. DeclinesHanding old h cause c.step_log.new.self c.args.outbox.now c.step_log.new.outbox)) (sym (ap handing c.in-Timeout.is))
+    (timeout_stopped old c.step_log.new.self c.args.outbox.now c.step_log.new.outbox c.requires got.same.0 got.same.1 c.step_log.result got.refused got.unhidden got.left got.desk got.unsent)
 
 pub returns-in-Lapse-clause-taken : goal.returns-in-Lapse-clause-taken
 returns-in-Lapse-clause-taken c =
