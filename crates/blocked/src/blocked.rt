@@ -1,4 +1,5 @@
-ghost use Rattle.std.specs.Prelude.{◌≡◌, [], OnOk, OnErr, IfOk, filter, map};
+ghost use Rattle.std.specs.Prelude.{◌≡◌, [], true, OnOk, OnErr, IfOk, filter, map};
+ghost use Rattle.cluster_model.specs.Words.{is_blocked};
 ghost use Rattle.group_model.specs.Order.{in_order};
 ghost use Rattle.group_model.specs.Blocked.{BlockedEval as AnyBlockedEval, blocked_id, due, made_due};
 ghost use Rattle.group_model.specs.Blocked.{with_blocked, without_blocked, with_class_room};
@@ -71,7 +72,8 @@ impl Blocked {
     }
 
     /// Follows a row that was made or replaced in this state: one that is blocked is put, with the
-    /// classes that its job asks for; any other is taken. Without memory nothing changes.
+    /// classes that its job asks for; any other is taken, which takes no memory. Without memory
+    /// nothing changes.
     pub fn changed(
         &mut self,
         alloc: Global,
@@ -81,6 +83,7 @@ impl Blocked {
         ensures ok { OnOk result (
             blocked_of self.new ≡ blocked_with_eval state.now row.now (blocked_of self.old)) }
         ensures err { OnErr result (self.new ≡ self.old) }
+        ensures memory { OnErr result (is_blocked row.now.status ≡ true) }
     {
         if is_blocked(row) {
             let held = held_of(alloc, state, row)?;

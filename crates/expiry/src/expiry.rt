@@ -1,4 +1,5 @@
-ghost use Rattle.std.specs.Prelude.{◌≡◌, [], Some, None, Ok, Err, OnOk, OnErr, IfOk, IfErr, option_map};
+ghost use Rattle.std.specs.Prelude.{◌≡◌, [], true, Some, None, Ok, Err, option_map};
+ghost use Rattle.std.specs.Prelude.{OnOk, OnErr, IfOk, IfErr};
 ghost use Rattle.rows.specs.declared.refusal.Refusal.TheVariants as refusals;
 ghost use Rattle.cluster_model.specs.Words.{is_ready};
 ghost use Rattle.group_model.specs.Expiry.{beat_count_of, beat_counts_over, beat_counts_with};
@@ -93,10 +94,12 @@ impl Expiry {
     }
 
     /// A node's row was made or replaced: a ready node that is not held comes in with 0, one that
-    /// is held keeps its number, and one that is down goes. Without memory nothing changes.
+    /// is held keeps its number, and one that is down goes. Without memory nothing changes; a node
+    /// that goes takes none.
     pub fn changed(&mut self, row: &Node) -> Result<(), NoMemory>
         ensures ok { OnOk result (self.new ≡ beat_counts_with row.now self.old) }
         ensures err { OnErr result (self.new ≡ self.old) }
+        ensures memory { OnErr result (is_ready row.now.status ≡ true) }
     {
         if !is_ready(row) {
             self.counts.cut(&row.number);
