@@ -9,14 +9,13 @@ use Rattle.rows.specs.declared.refusal.Refusal.TheVariants as refusals
 use Rattle.cluster_model.specs.Words.{State}
 use Rattle.group_model.specs.Brokers.{Given, Nothing, UsedUp, Gives, deliver, outstanding, is_outstanding, with_ack, with_nack}
 use Rattle.group_model.specs.Expiry.{BeatCount, beat_count_of}
-use Rattle.group_model.specs.BeatCounts.{beat_heard_of, expiry_refusal}
+use Rattle.group_model.specs.BeatCounts.{beat_heard_of}
 use Rattle.group_model.specs.Desks.{applied_state}
 use Rattle.raft_core.specs.RaftView.{RaftView}
-use Rattle.leader.specs.OpenDesks.{OpenDesk, IsOverBlocked, LacksMemory, Answered, leaves_open, at_open, with_broker, once_given, once_outstanding, once_heard, if_open, unless_refused, on_deliver, on_ack, on_nack, on_lapse, on_beat, on_expire}
+use Rattle.leader.specs.OpenDesks.{OpenDesk, IsOverBlocked, LacksMemory, Answered, leaves_open, at_open, with_broker, once_given, once_outstanding, once_heard, on_deliver, on_ack, on_nack, on_lapse, on_beat}
 use Rattle.leader.specs.Staying.{IsOver}
 use Rattle.leader.proofs.Staying.{deliver_stays, ack_stays, nack_stays, lapse_stays, beat_stays}
 use Rattle.server.specs.ServerViews.{IsOfLeader, group_desk}
-use Rattle.server.specs.Refusals.{HeardSoOften}
 
 -- an open desk, by the group's
 pub open_of : (d : Option OpenDesk) → is_some (group_desk d) ≡ true → (o : OpenDesk) × (d ≡ Some o)
@@ -128,12 +127,3 @@ beat_keeps node s o a new over h = (beat_stays s node o a new over h, term_kept 
 pub over_blocked : (raft : RaftView Command) (d : Option OpenDesk) → is_some (group_desk d) ≡ true → IfSome d (IsOfLeader raft) → IsOverBlocked (applied_state raft.server) d
 over_blocked raft None h inv = absurd cc
 over_blocked raft (Some o) h inv = inv.over.blocked
-
-not_refused : (r : Option Refusal) → unless_refused r ≡ Ok tt → r ≡ None
-not_refused None h = refl
-not_refused (Some e) h = absurd cc
-
--- an expiry that an open desk admits
-pub heard_so_often : (node beats : ℕ) (d : Option OpenDesk) → if_open (on_expire node beats) d ≡ Ok tt → HeardSoOften node beats (group_desk d)
-heard_so_often node beats None h = absurd cc
-heard_so_often node beats (Some o) h = not_refused (expiry_refusal node beats o.desk.beat_counts) h
