@@ -1,6 +1,7 @@
 //! The broker.
 ghost use Rattle.std.specs.Prelude.{◌≡◌, ◌+◌, ◌<◌, ◌^◌, true, false, nat_lt, IfOk, IfErr, IfSome, IfNone, OnOk, OnErr, Ok};
 ghost use Rattle.raft_model.specs.Logs.{MAX};
+ghost use Rattle.cluster_model.specs.Words.{is_pending};
 ghost use Rattle.group_model.specs.Brokers.{Nothing, UsedUp, Gives, no_tasks, task_of, broker_over, broker_with, deliver};
 ghost use Rattle.group_model.specs.Brokers.{outstanding, with_ack, with_nack};
 ghost use Rattle.eval_broker.specs.Answers.{pair_of, IsPair, RefusesPair, failed_in_order};
@@ -58,10 +59,12 @@ impl Broker {
     }
 
     /// Follows a row of the applied state that was made or replaced: one that is pending comes in,
-    /// or stays with its deliveries and its mark; any other goes. Without memory nothing changes.
+    /// or stays with its deliveries and its mark; any other goes, which takes no memory. Without
+    /// memory nothing changes.
     pub fn changed(&mut self, row: &Evaluation) -> Result<(), NoMemory>
         ensures ok { OnOk result (self.new ≡ broker_with row.now self.old) }
         ensures err { OnErr result (self.new ≡ self.old) }
+        ensures memory { OnErr result (is_pending row.now.status ≡ true) }
     {
         match row.status {
             EvalStatus::Pending => {
