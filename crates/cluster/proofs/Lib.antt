@@ -17,3 +17,4 @@ pub mod Nodes
 pub mod Joins
 pub mod Sent
 pub mod Started
+pub mod Leases

@@ -1,5 +1,5 @@
 -- A group that runs: why none was made, what an actor took, what a worker's server took.
-use Rattle.std.proofs.Common.{◌≡◌, ℕ, zero, suc, List, [], ◌∷◌, Bool, true, false, true≢false, sym, refl, ap, ◌∙◌, subst, inl, inr, arith}
+use Rattle.std.proofs.Common.{◌≡◌, ◌≢◌, ℕ, zero, suc, List, [], ◌∷◌, Bool, true, false, true≢false, sym, refl, ap, ◌∙◌, subst, inl, inr, arith}
 use Rattle.std.specs.Prelude.{◌||◌, Result, Ok, Err, IfOk, IfErr}
 use Rattle.std.specs.List.{Contains}
 use Rattle.rows.specs.declared.actor.Actor.{Actor}
@@ -7,13 +7,13 @@ use Rattle.rows.specs.declared.actor.Actor.TheVariants as actors
 use Rattle.rows.specs.declared.refusal.Refusal.{Refusal}
 use Rattle.rows.specs.declared.refusal.Refusal.TheVariants as refusals
 use Rattle.rows.specs.declared.worker.Work.{Work}
-use Rattle.rows.specs.declared.worker.WorkerRequest.{WorkerRequest}
 use Rattle.lossy_net.specs.Queues.{AreNamedOnce, NoNet}
-use Rattle.group_model.specs.NextStep.{WorkerStep}
+use Rattle.cluster_model.specs.Words.{State}
+use Rattle.group_model.specs.NextStep.{IsNextStep, WorkerStep}
 use Rattle.group_model.specs.NextStep as steps
 use Rattle.group_model.specs.Worlds.{AtServer}
 use Rattle.server.specs.declared.server_input.ServerInput.{ServerInput}
-use Rattle.server.specs.Handings.{Handing, OwnInput as TakesOwn, handing}
+use Rattle.server.specs.Handings.{handing}
 use Rattle.world.specs.GroupEvents.{server_input}
 use Rattle.event_book.specs.Seats.{are_apart, lists_actor}
 use Rattle.event_book.specs.Actors.{same_actor}
@@ -21,12 +21,14 @@ use Rattle.event_book.proofs.Actors.{and_true, is_same, not_true, or_later}
 use Rattle.cluster.specs.declared.own_input.OwnInput.{OwnInput}
 use Rattle.cluster.specs.declared.server_workers.Handled.{Handled}
 use Rattle.cluster.specs.declared.server_workers.Handled.TheVariants as handled
+use Rattle.cluster.specs.declared.server_workers.TakenWork.{TakenWork}
 use Rattle.cluster.specs.Cells.{CellView, EnvelopeView, IsLedCell}
 use Rattle.cluster.specs.Closing.{own_event}
 use Rattle.cluster.specs.Running.{TookInput, WhyNotRunning}
-use Rattle.cluster.specs.Turns.{CellHasNoState, CellRefuses, IsAsking, TookAsking, TookTurn, WhyNoState, WhyNoTurn, WhyNoWorkerTurn, own_envelope}
-use Rattle.cluster.specs.Working.{HandledAs, WhyNotApplied, asking}
-use Rattle.cluster.specs.Inner.Asked.{AsksSome}
+use Rattle.cluster.specs.PlanCounts.{WorkersView, plans_under}
+use Rattle.cluster.specs.Turns.{CellHasNoState, CellHasState, CellRefuses, IsAsking, TookAsking, TookTurn, WhyNoState, WhyNoTurn, WhyNoWorkerTurn, own_envelope}
+use Rattle.cluster.specs.Working.{HandledAs, HasApplied, WhyNotApplied}
+use Rattle.cluster.specs.Inner.Asked.{IsHandled}
 
 or_here : (b c : Bool) → b ≡ true → (b || c) ≡ true
 or_here true c h = refl
@@ -50,31 +52,53 @@ why_not_running actors room r apart (inr (is, has)) = inr (is, has.0)
 pub took_input : (n : ℕ) (actor : Actor) (input : OwnInput) (work : List Work) (sent : List EnvelopeView) → TookTurn n (own_envelope actor input) work sent → TookInput n actor input
 took_input n actor input work sent took = (work, sent, took)
 
--- a cell that its notes lead, and that refuses its state
-pub no_state : {X : Type 0} (n : ℕ) (c : CellView) (q : Result X Refusal) → IsLedCell n c → IfErr q (λ r. WhyNotApplied c.actor r) → IfErr q (CellHasNoState n)
-no_state n c (Ok x) led why = why
-no_state n c (Err r) led why = (c, led, why)
+-- ---- the state of a cell that its notes lead
 
--- what a worker asks is asked of some server
-asks_some : (from : ℕ) (step : WorkerStep) (h : Handled) → HandledAs from step h → AsksSome h
-asks_some from steps.Later h is = subst AsksSome (sym is) tt
-asks_some from steps.Drop h is = subst AsksSome (sym is) tt
-asks_some from (steps.Ask request) handled.Waits is = tt
-asks_some from (steps.Ask request) handled.Dropped is = tt
-asks_some from (steps.Ask request) (handled.Asks input) is = (from, request, is)
+pub has_state : {X E : Type 0} (n : ℕ) (actor : Actor) (c : CellView) (state : X → State) (count : X → ℕ) (q : Result X E) → IsLedCell n c → c.seat.actor ≡ actor
+    → IfOk q (λ x. HasApplied c.actor (state x) (count x)) → IfOk q (λ x. CellHasState n actor (state x) (count x))
+has_state n actor c state count (Ok x) led mine has = (c, led, mine, has)
+has_state n actor c state count (Err e) led mine has = has
 
-pub each_asks_some : {E : Type 0} (from : ℕ) (step : WorkerStep) (q : Result Handled E) → IfOk q (HandledAs from step) → IfOk q AsksSome
-each_asks_some from step (Ok h) is = asks_some from step h is
-each_asks_some from step (Err e) is = is
+pub no_state : {X : Type 0} (n : ℕ) (actor : Actor) (c : CellView) (q : Result X Refusal) → IsLedCell n c → c.seat.actor ≡ actor → IfErr q (λ r. WhyNotApplied c.actor r) → IfErr q (CellHasNoState n actor)
+no_state n actor c (Ok x) led mine why = why
+no_state n actor c (Err r) led mine why = (c, led, inr (mine, why))
 
--- an own input that carries what is asked
-asking_is : (to : ℕ) (request : WorkerRequest) (h : Handing) (own : OwnInput) → h ≡ TakesOwn (asking to request) → ((i : ℕ) → own_event (actors.Server i) own ≡ AtServer i (server_input h)) → IsAsking own
-asking_is to request h own is each = (to, request, λ i. each i ∙ ap (λ k. AtServer i (server_input k)) is)
+pub state_of_another : {X : Type 0} (n : ℕ) (actor : Actor) (c : CellView) (q : Result X Refusal) → IsLedCell n c → c.seat.actor ≢ actor → q ≡ Err refusals.OutOfRange → IfErr q (CellHasNoState n actor)
+state_of_another n actor c q led other is = subst (λ p. IfErr p (CellHasNoState n actor)) (sym is) (c, led, inl (refl, other))
 
-pub is_asking : (input : ServerInput) (own : OwnInput) → AsksSome (handled.Asks input) → ((i : ℕ) → own_event (actors.Server i) own ≡ AtServer i (server_input (handing input))) → IsAsking own
-is_asking input own (to, request, is) each = asking_is to request (handing input) own is each
+-- ---- what a worker asks
 
-pub took_asking : (n server : ℕ) (own : OwnInput) (e : EnvelopeView) (work : List Work) (sent : List EnvelopeView) → IsAsking own → e ≡ own_envelope (actors.Server server) own → TookTurn n e work sent → TookAsking n server work sent
+pub each_is_handled : {E : Type 0} (state : State) (index : ℕ) (taken : TakenWork) (step : WorkerStep) (q : Result Handled E) → IsNextStep state index taken.work.response taken.plans step → IfOk q (HandledAs taken.work.from step)
+    → IfOk q (IsHandled state index taken)
+each_is_handled state index taken step (Ok h) next is = record { step = step; next = next; handled = is }
+each_is_handled state index taken step (Err e) next is = is
+
+module _ (n server : ℕ) (before : WorkersView) (rest : List Work) (taken : TakenWork) (state : State) (index : ℕ) (input : ServerInput) (own : OwnInput)
+    (oldest : before.waiting ≡ taken.work ∷ rest) (counted : taken.plans ≡ plans_under taken.work.response before.plans) (applied : CellHasState n (actors.Server server) state index)
+    (each : (i : ℕ) → own_event (actors.Server i) own ≡ AtServer i (server_input (handing input))) where
+  asked : (step : WorkerStep) → IsNextStep state index taken.work.response taken.plans step → HandledAs taken.work.from step (handled.Asks input) → IsAsking n server own
+  asked steps.Later next is = absurd cc
+  asked steps.Drop next is = absurd cc
+  asked (steps.Ask request) next is = record {
+    before = before;
+    work = taken.work;
+    rest = rest;
+    oldest = oldest;
+    state = state;
+    index = index;
+    applied = applied;
+    request = request;
+    next = subst (λ k. IsNextStep state index taken.work.response k (steps.Ask request)) counted next;
+    asks = λ i. each i ∙ ap (λ k. AtServer i (server_input k)) is;
+  }
+
+  -- an own input that carries what is asked
+  pub is_asking : (found : State) (h : Handled) → found ≡ state → h ≡ handled.Asks input → IsHandled found index taken h → IsAsking n server own
+  is_asking found h same is done =
+      let d = subst (λ s. IsHandled s index taken (handled.Asks input)) same (subst (IsHandled found index taken) is done) in
+      asked d.step d.next d.handled
+
+pub took_asking : (n server : ℕ) (own : OwnInput) (e : EnvelopeView) (work : List Work) (sent : List EnvelopeView) → IsAsking n server own → e ≡ own_envelope (actors.Server server) own → TookTurn n e work sent → TookAsking n server work sent
 took_asking n server own e work sent asks is took = (own, asks, subst (λ k. TookTurn n k work sent) is took)
 
 -- why it took no turn
@@ -84,6 +108,6 @@ no_state_taken n all server r why = inl why
 pub no_memory_taken : (n : ℕ) (all : List Actor) (server : ℕ) (r : Refusal) → r ≡ refusals.NoMemory → WhyNoWorkerTurn n all server r
 no_memory_taken n all server r is = inr (inl is)
 
-pub asking_refused : (n : ℕ) (all : List Actor) (server : ℕ) (own : OwnInput) (e : EnvelopeView) (r : Refusal) → IsAsking own → e ≡ own_envelope (actors.Server server) own → WhyNoTurn n all (actors.Server server) e r → WhyNoWorkerTurn n all server r
+pub asking_refused : (n : ℕ) (all : List Actor) (server : ℕ) (own : OwnInput) (e : EnvelopeView) (r : Refusal) → IsAsking n server own → e ≡ own_envelope (actors.Server server) own → WhyNoTurn n all (actors.Server server) e r → WhyNoWorkerTurn n all server r
 asking_refused n all server own e r asks is (inl none) = inl (inl none)
 asking_refused n all server own e r asks is (inr refuses) = inr (inr (own, asks, subst (λ k. CellRefuses n k r) is refuses))

@@ -4,6 +4,7 @@ pub mod Cells
 pub mod Turns
 pub mod Closing
 pub mod Opening
+pub mod PlanCounts
 pub mod Working
 pub mod Running
 pub mod Inner

@@ -1,19 +1,22 @@
 -- Turns of cells behind locks. Which cell it was has no name once its lock is let go: what is known
 -- is that there was such a cell.
-use Rattle.std.specs.Prelude.{◌≡◌, ◌⊎◌, ℕ, false, List, []}
+use Rattle.std.specs.Prelude.{◌≡◌, ◌≢◌, ◌⊎◌, ℕ, false, List, [], ◌∷◌}
 use Rattle.rows.specs.declared.actor.Actor.{Actor}
 use Rattle.rows.specs.declared.actor.Actor.TheVariants as actors
 use Rattle.rows.specs.declared.refusal.Refusal.{Refusal}
 use Rattle.rows.specs.declared.refusal.Refusal.TheVariants as refusals
 use Rattle.rows.specs.declared.worker.Work.{Work}
 use Rattle.rows.specs.declared.worker.WorkerRequest.{WorkerRequest}
+use Rattle.group_model.specs.NextStep.{Ask, IsNextStep}
 use Rattle.group_model.specs.Worlds.{AtServer}
+use Rattle.cluster_model.specs.Words.{State}
 use Rattle.event_book.specs.declared.view.EventView.TheVariants.{Own}
 use Rattle.event_book.specs.Actors.{lists_actor}
 use Rattle.cluster.specs.declared.own_input.OwnInput.{OwnInput}
 use Rattle.cluster.specs.Cells.{CellView, EnvelopeView, IsLedCell, IsRefused, Turned}
 use Rattle.cluster.specs.Closing.{own_event}
-use Rattle.cluster.specs.Working.{WhyNotApplied, asking}
+use Rattle.cluster.specs.PlanCounts.{WorkersView, plans_under}
+use Rattle.cluster.specs.Working.{HasApplied, WhyNotApplied, asking}
 
 -- In a group of n servers: a cell took a turn by this envelope, of which it is the receiver's; that
 -- came for workers, and this was sent. Before and after, its actor is where just the events lead it
@@ -37,11 +40,26 @@ WhyNoTurn n all actor envelope r =
 
 -- ---- turns of a server's workers
 
--- an own input by which a server asks another, or itself, for its workers
-abbrev pub IsAsking : OwnInput → Type 0
-IsAsking own =
-    (to : ℕ) × (request : WorkerRequest)
-    × ((i : ℕ) → own_event (actors.Server i) own ≡ AtServer i (asking to request))
+-- in a group of n servers, a cell of this actor, led by its notes, has applied this state, after so
+-- many entries
+abbrev pub CellHasState : ℕ → Actor → State → ℕ → Type 0
+CellHasState n actor state count =
+    (c : CellView) × IsLedCell n c × (c.seat.actor ≡ actor) × HasApplied c.actor state count
+
+-- An own input by which a server asks another, or itself, for its workers: the next step of a worker
+-- with the oldest of what waited for them, at a state that a cell of the server has applied, after
+-- as many plans as were counted.
+pub record IsAsking (n server : ℕ) (own : OwnInput) : Type 0 where
+  pub before : WorkersView
+  pub work : Work
+  pub rest : List Work
+  pub oldest : before.waiting ≡ work ∷ rest
+  pub state : State
+  pub index : ℕ
+  pub applied : CellHasState n (actors.Server server) state index
+  pub request : WorkerRequest
+  pub next : IsNextStep state index work.response (plans_under work.response before.plans) (Ask request)
+  pub asks : (i : ℕ) → own_event (actors.Server i) own ≡ AtServer i (asking work.from request)
 
 -- an input of an actor's own, as it comes to that actor
 abbrev pub own_envelope : Actor → OwnInput → EnvelopeView
@@ -50,21 +68,28 @@ own_envelope actor input = record { receiver = actor; event = Own input; tokens 
 -- in a group of n servers, a cell of this server took a turn by what its workers ask
 abbrev pub TookAsking : ℕ → ℕ → List Work → List EnvelopeView → Type 0
 TookAsking n server work sent =
-    (own : OwnInput) × IsAsking own × TookTurn n (own_envelope (actors.Server server) own) work sent
+    (own : OwnInput) × IsAsking n server own × TookTurn n (own_envelope (actors.Server server) own) work sent
 
--- a cell, led by its notes, refuses its state so
-abbrev pub CellHasNoState : ℕ → Refusal → Type 0
-CellHasNoState n r = (c : CellView) × IsLedCell n c × WhyNotApplied c.actor r
+-- why a cell has no state for this actor's workers: it is another actor's, or else it has none
+abbrev pub WhyNoStateAt : CellView → Actor → Refusal → Type 0
+WhyNoStateAt c actor r =
+    (r ≡ refusals.OutOfRange) × (c.seat.actor ≢ actor)
+    ⊎ (c.seat.actor ≡ actor) × WhyNotApplied c.actor r
+
+-- a cell, led by its notes, has no state for this actor's workers
+abbrev pub CellHasNoState : ℕ → Actor → Refusal → Type 0
+CellHasNoState n actor r = (c : CellView) × IsLedCell n c × WhyNoStateAt c actor r
 
 -- why a server's state is not copied: there is no such server among these, or a cell has no state
 abbrev pub WhyNoState : ℕ → List Actor → Actor → Refusal → Type 0
 WhyNoState n all actor r =
-    (r ≡ refusals.OutOfRange) × (lists_actor all actor ≡ false) ⊎ CellHasNoState n r
+    (r ≡ refusals.OutOfRange) × (lists_actor all actor ≡ false) ⊎ CellHasNoState n actor r
 
 -- a cell refuses what the workers of this server ask
 abbrev pub RefusesAsking : ℕ → ℕ → Refusal → Type 0
 RefusesAsking n server r =
-    (own : OwnInput) × IsAsking own × CellRefuses n (own_envelope (actors.Server server) own) r
+    (own : OwnInput) × IsAsking n server own
+    × CellRefuses n (own_envelope (actors.Server server) own) r
 
 -- why a worker took no turn: its server has no state, memory is wanting, or its server refuses
 -- what it asks

@@ -8,7 +8,7 @@ ghost use Rattle.cluster.specs.Cells.{IsAddressed, IsLedCell, IsRefused, kept_in
 ghost use Rattle.cluster.specs.Cells.{tokens_of, Turned};
 ghost use Rattle.cluster.specs.Inner.Sending.{CanBeNoted, EndsWith, last_envelopes, IsNoted, IsRecorded, IsStill, IsTurn};
 ghost use Rattle.cluster.specs.Inner.Steps.{IsAnEvent, output_of};
-ghost use Rattle.cluster.specs.Turns.{CellHasNoState};
+ghost use Rattle.cluster.specs.Turns.{CellHasNoState, CellHasState};
 ghost use Rattle.cluster.specs.Working.{HasApplied, WhyNotApplied};
 
 use crate::actor::{GroupActor, Stepped};
@@ -324,13 +324,20 @@ impl<B: BookId> Cell<B> {
         }
     }
 
-    /// `snapshot`, of a cell of which it is known that its notes lead its actor where that is.
-    #[tactic(auto, using(crate::proofs::Started::no_state))]
-    pub(crate) fn snapshot_of_led(&self) -> Result<(Arc<Cluster>, Index), Refusal>
-        ensures { IfErr result (CellHasNoState (group_size B.actors)) }
+    /// `snapshot`, for the workers of an actor. It is refused with `OutOfRange` where the cell is
+    /// another actor's.
+    /// - `state`, `refused`: of a cell of which it is known that its notes lead its actor to where
+    ///   that is.
+    pub(crate) fn snapshot_of(&self, actor: Actor) -> Result<(Arc<Cluster>, Index), Refusal>
+        ensures state { IfOk result (λ p.
+            CellHasState (group_size B.actors) actor (arc_value p.0) p.1) }
+        ensures refused { IfErr result (CellHasNoState (group_size B.actors) actor) }
     {
         // (what `actor` says of where its actor is)
         let _ = self.actor();
+        if !is_for(actor, self.me) {
+            return Err(Refusal::OutOfRange);
+        }
         self.snapshot()
     }
 

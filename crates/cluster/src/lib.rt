@@ -13,6 +13,7 @@ mod merging;
 mod numbering;
 mod opening;
 mod own_input;
+mod plan_counts;
 mod replaying;
 mod running;
 mod server_workers;

@@ -1,21 +1,20 @@
 //! What waits for the workers of one server.
 ghost use Rattle.std.specs.Prelude.{◌≡◌, ◌≢◌, ◌++◌, ◌∷◌, [], true};
-ghost use Rattle.std.specs.Prelude.{IfOk, MatchBool, MatchOption, OnErr, OnOk};
+ghost use Rattle.std.specs.Prelude.{IfOk, IfSome, MatchBool, MatchOption, OnErr, OnOk};
 ghost use Rattle.server.specs.Handings.{OwnInput, handing};
 ghost use Rattle.group_model.specs.NextStep.{IsNextStep};
 ghost use Rattle.scheduler.specs.Steps.{makes_plan, step_as};
+ghost use Rattle.cluster.specs.PlanCounts.{plans_under, CountsRequest, CountsStep};
+ghost use Rattle.cluster.specs.PlanCounts.{RequestMayLack, StepMayLack};
 ghost use Rattle.cluster.specs.Working.{asking, HandledAs, KeptFirst, waiting_after};
 
+use crate::plan_counts::{PlanCounts, lease_of};
 use crate::work_queue::WorkQueue;
 use fsm_state::Cluster;
-use rows::{
-    EvalId, Index, LeaderTerm, NoMemory, Sequence, Serial, ServerId, Token, Work, WorkerRequest,
-    WorkerResponse,
-};
+use rows::{Index, NoMemory, Sequence, ServerId, Work, WorkerRequest, WorkerResponse};
 use scheduler::{WorkerStep, next_step};
 use server::ServerInput;
 use std::alloc::Global;
-use std::collections::BTreeMap;
 use std::marker::Model;
 
 // What a server's workers ask of another server, or of their own, as the input of their server.
@@ -29,31 +28,6 @@ fn asking(to: ServerId, request: WorkerRequest) -> ServerInput
             ServerInput::Finish(to, eval, token, outcome)
         }
         WorkerRequest::Nack(eval, token) => ServerInput::Nack(to, eval, token),
-    }
-}
-
-// A delivery of an evaluation to the workers of a server.
-#[derive(Clone, Copy, PartialEq, Eq, PartialOrd, Ord)]
-struct Leased {
-    eval: EvalId,
-    term: LeaderTerm,
-    serial: Serial,
-}
-
-fn lease(eval: EvalId, token: Token) -> Leased {
-    Leased {
-        eval,
-        term: token.term,
-        serial: token.serial,
-    }
-}
-
-// The delivery that a worker goes on with, if it goes on with one.
-fn lease_of(response: &WorkerResponse) -> Option<Leased> {
-    match response {
-        WorkerResponse::Delivered(Some(delivery)) => Some(lease(delivery.eval, delivery.token)),
-        WorkerResponse::PlanResult(result) => Some(lease(result.eval, result.token)),
-        WorkerResponse::Delivered(None) | WorkerResponse::Refused(_, _) => None,
     }
 }
 
@@ -91,38 +65,39 @@ pub enum Handled {
 }
 
 /// What came for the workers of one server and was not taken up, the oldest first; and how many
-/// plans they submitted under each delivery. Contracts see what waits.
+/// plans they submitted under each delivery. Contracts see both.
 #[derive(Drop)]
 pub struct ServerWorkers {
     waiting: WorkQueue,
-    plans: BTreeMap<Leased, u64>,
+    plans: PlanCounts,
 }
 
 impl Model for ServerWorkers {
-    ghost use Rattle.std.specs.Prelude.{List};
-    ghost use Rattle.rows.specs.declared.worker.Work.{Work};
+    ghost use Rattle.cluster.specs.PlanCounts.{WorkersView};
 
-    ghost Value = { List Work };
+    ghost Value = { WorkersView };
 
-    ghost view = { λ w. w.waiting };
+    ghost view = { λ w. record { waiting = w.waiting; plans = w.plans } };
 }
 
 impl ServerWorkers {
     /// Nothing waits, and no plan was submitted.
     pub fn new(alloc: Global) -> ServerWorkers
-        ensures { result ≡ [] }
+        ensures { result ≡ record { waiting = []; plans = [] } }
     {
         ServerWorkers {
             waiting: WorkQueue::new(alloc),
-            plans: BTreeMap::new(alloc),
+            plans: PlanCounts::new(alloc),
         }
     }
 
     /// Puts what came behind what waits. Where memory is wanting, the last of it are lost.
     /// - `err`: the first of it wait then, and what waited still does.
+    /// - `plans`: no count changes.
     pub fn admit(&mut self, work: Sequence<Work>) -> Result<(), NoMemory>
-        ensures ok { OnOk result (self.new ≡ self.old ++ work) }
-        ensures err { OnErr result (KeptFirst self.old work self.new) }
+        ensures ok { OnOk result (self.new.waiting ≡ self.old.waiting ++ work) }
+        ensures err { OnErr result (KeptFirst self.old.waiting work self.new.waiting) }
+        ensures plans { self.new.plans ≡ self.old.plans }
     {
         for response in work.into_vec() {
             self.waiting.put(response)?;
@@ -132,22 +107,27 @@ impl ServerWorkers {
 
     /// Forgets what waits. How many plans were submitted stays known.
     pub fn forget(&mut self)
-        ensures { self.new ≡ [] }
+        ensures { self.new ≡ record { waiting = []; plans = self.old.plans } }
     {
         self.waiting.clear();
     }
 
     /// Whether nothing waits.
     pub fn is_idle(&self) -> bool
-        ensures { MatchBool result (self.now ≡ []) (self.now ≢ []) }
+        ensures { MatchBool result (self.now.waiting ≡ []) (self.now.waiting ≢ []) }
     {
         self.waiting.is_empty()
     }
 
-    /// Takes up the oldest that waits; none where nothing waits.
+    /// Takes up the oldest that waits; none where nothing waits. It comes with the number of plans
+    /// that are counted under the delivery with which a worker goes on.
     pub fn take(&mut self) -> Option<TakenWork>
-        ensures { MatchOption result ((self.old ≡ []) × (self.new ≡ []))
-            (λ taken. self.old ≡ taken.work ∷ self.new) }
+        ensures oldest { MatchOption result
+            ((self.old.waiting ≡ []) × (self.new.waiting ≡ []))
+            (λ taken. self.old.waiting ≡ taken.work ∷ self.new.waiting) }
+        ensures counted { IfSome result (λ taken.
+            taken.plans ≡ plans_under taken.work.response self.old.plans) }
+        ensures plans { self.new.plans ≡ self.old.plans }
     {
         let work = self.waiting.take()?;
         let plans = self.plans_under(&work.response);
@@ -157,13 +137,20 @@ impl ServerWorkers {
     /// A worker goes on with what it took up. A plan that it submits is counted under its delivery.
     /// - `handled`: what needs a later state waits, and what a worker asks of a server is the input
     ///   by which that is asked of the one that sent the work.
-    /// - `waiting`: what needs a later state waits in front of what waited, and nothing else changes.
-    /// - `err`: what waited is left; what was taken up is lost.
+    /// - `waiting`: what needs a later state waits in front of what waited, and nothing else
+    ///   changes.
+    /// - `plans`: one plan more is counted under the delivery of a plan that is submitted, and no
+    ///   other count changes; without a plan none does.
+    /// - `err`: what waited and the counts are left; what was taken up is lost.
+    /// - `memory`: memory is wanting only for what is to wait again, or for the first plan of a
+    ///   delivery.
     pub fn go_on(&mut self, taken: TakenWork, step: WorkerStep) -> Result<Handled, NoMemory>
         ensures handled { IfOk result (HandledAs taken.work.from (step_as step)) }
         ensures waiting { OnOk result
-            (self.new ≡ waiting_after self.old taken.work (step_as step)) }
+            (self.new.waiting ≡ waiting_after self.old.waiting taken.work (step_as step)) }
+        ensures plans { OnOk result (CountsStep (step_as step) self.old.plans self.new.plans) }
         ensures err { OnErr result (self.new ≡ self.old) }
+        ensures memory { OnErr result (StepMayLack (step_as step) self.old.plans) }
     {
         let TakenWork { work, plans: _ } = taken;
         match step {
@@ -180,36 +167,43 @@ impl ServerWorkers {
     }
 
     /// Puts what was taken up in front again. Where memory is wanting it is lost.
+    /// - `plans`: no count changes.
     pub fn put_back(&mut self, taken: TakenWork) -> Result<(), NoMemory>
-        ensures ok { OnOk result (self.new ≡ taken.work ∷ self.old) }
-        ensures err { OnErr result (self.new ≡ self.old) }
+        ensures ok { OnOk result (self.new.waiting ≡ taken.work ∷ self.old.waiting) }
+        ensures err { OnErr result (self.new.waiting ≡ self.old.waiting) }
+        ensures plans { self.new.plans ≡ self.old.plans }
     {
         self.waiting.put_back(taken.work)
     }
 
-    fn plans_under(&self, response: &WorkerResponse) -> u64 {
-        let Some(lease) = lease_of(response) else {
-            return 0;
-        };
-        match self.plans.get(&lease) {
-            Some(plans) => *plans,
-            None => 0,
+    // How many plans are counted under the delivery with which a worker goes on.
+    fn plans_under(&self, response: &WorkerResponse) -> u64
+        ensures { result ≡ plans_under response.now self.now.plans }
+    {
+        match response {
+            WorkerResponse::Delivered(Some(delivery)) => {
+                self.plans
+                    .count_of(&lease_of(delivery.eval, delivery.token))
+            }
+            WorkerResponse::PlanResult(result) => {
+                self.plans.count_of(&lease_of(result.eval, result.token))
+            }
+            WorkerResponse::Delivered(None) | WorkerResponse::Refused(_, _) => 0,
         }
     }
 
     // A plan is counted under its delivery.
     fn count(&mut self, request: &WorkerRequest) -> Result<(), NoMemory>
-        ensures { self.new ≡ self.old }
+        ensures waiting { self.new.waiting ≡ self.old.waiting }
+        ensures ok { OnOk result (CountsRequest request.now self.old.plans self.new.plans) }
+        ensures err { OnErr result (self.new.plans ≡ self.old.plans) }
+        ensures memory { OnErr result (RequestMayLack request.now self.old.plans) }
     {
-        let WorkerRequest::Submit(plan) = request else {
-            return Ok(());
-        };
-        let lease = lease(plan.eval, plan.token);
-        let plans = match self.plans.get(&lease) {
-            Some(plans) => *plans,
-            None => 0,
-        };
-        self.plans.insert(lease, plans.saturating_add(1))?;
-        Ok(())
+        match request {
+            WorkerRequest::Submit(plan) => self.plans.add(lease_of(plan.eval, plan.token)),
+            WorkerRequest::Take | WorkerRequest::Finish(_, _, _) | WorkerRequest::Nack(_, _) => {
+                Ok(())
+            }
+        }
     }
 }

@@ -1,10 +1,11 @@
 //! A worker of one server.
+ghost use Rattle.std.specs.Arc.{arc_value};
 ghost use Rattle.std.specs.Prelude.{◌≡◌, false, None, IfErr, IfOk, IfSome};
 ghost use Rattle.rows.specs.declared.actor.Actor.TheVariants as actors;
 ghost use Rattle.cluster.specs.Actors.{group_size};
 ghost use Rattle.cluster.specs.Cells.{AreSent};
-ghost use Rattle.cluster.specs.Turns.{TookAsking, WhyNoState, WhyNoWorkerTurn};
-ghost use Rattle.cluster.specs.Inner.Asked.{AsksSome};
+ghost use Rattle.cluster.specs.Turns.{CellHasState, TookAsking, WhyNoState, WhyNoWorkerTurn};
+ghost use Rattle.cluster.specs.Inner.Asked.{IsHandled};
 
 use crate::cell::Turn;
 use crate::cells::{Cells, turn};
@@ -56,11 +57,13 @@ fn snapshot<B: BookId, R: Wait>(
     cells: &Cells<B>,
     server: ServerId,
 ) -> Result<(Arc<Cluster>, Index), Refusal>
+    ensures state { IfOk result (λ p.
+        CellHasState (group_size B.actors) (actors.Server server) (arc_value p.0) p.1) }
     ensures refused { IfErr result (WhyNoState (group_size B.actors) cells.now.actors
         (actors.Server server)) }
 {
     match cells.lock(rt, Actor::Server(server)) {
-        Some(cell) => cell.snapshot_of_led(),
+        Some(cell) => cell.snapshot_of(Actor::Server(server)),
         None => Err(Refusal::OutOfRange),
     }
 }
@@ -78,7 +81,7 @@ fn resting<B: BookId>(went_on: bool) -> WorkerTurn<B>
 
 // What becomes of what a worker took up, at this state. Where there is no memory for a plan, the
 // work waits in front again.
-#[tactic(auto, using(crate::proofs::Started::each_asks_some))]
+#[tactic(auto, using(crate::proofs::Started::each_is_handled))]
 fn handled<R: Wait>(
     rt: &R,
     alloc: Global,
@@ -87,7 +90,7 @@ fn handled<R: Wait>(
     state: &Cluster,
     index: Index,
 ) -> Result<Handled, NoMemory>
-    ensures { IfOk result AsksSome }
+    ensures { IfOk result (IsHandled state.now index taken) }
 {
     match taken.next(alloc, state, index) {
         Ok(step) => workers.lock(rt).go_on(taken, step),
@@ -105,7 +108,9 @@ fn handled<R: Wait>(
 /// It is refused with `OutOfRange` where the group has no such server, with `Down` where it is
 /// down, with `NoMemory`, and as `Cell::take` refuses; what it took up is lost then, unless there
 /// was no memory for a plan.
-/// - `turn`: a cell of the server took one step by what its workers ask, as `Cell::take` says.
+/// - `turn`: a cell of the server took one step by what its workers ask, as `Cell::take` says: the
+///   definitions' next step with the oldest of what waited, at the state that a cell of the server
+///   has applied, after as many plans as were counted under the delivery.
 /// - `sent`: what was sent are first outputs of one event that the server noted, with their tokens.
 /// - `resting`: where it did not go on with anything, its server took no turn.
 /// - `refused`: with nothing else.

@@ -1,14 +1,13 @@
 -- What becomes of what a server's workers took up.
-use Rattle.std.specs.Prelude.{◌≡◌, ℕ}
-use Rattle.rows.specs.declared.worker.WorkerRequest.{WorkerRequest}
-use Rattle.server.specs.Handings.{OwnInput, handing}
+use Rattle.std.specs.Prelude.{ℕ}
+use Rattle.cluster_model.specs.Words.{State}
+use Rattle.group_model.specs.NextStep.{IsNextStep, WorkerStep}
 use Rattle.cluster.specs.declared.server_workers.Handled.{Handled}
-use Rattle.cluster.specs.declared.server_workers.Handled.TheVariants as handled
-use Rattle.cluster.specs.Working.{asking}
+use Rattle.cluster.specs.declared.server_workers.TakenWork.{TakenWork}
+use Rattle.cluster.specs.Working.{HandledAs}
 
--- where something is asked, it is asked of some server
-abbrev pub AsksSome : Handled → Type 0
-AsksSome handled.Waits = Unit {0}
-AsksSome handled.Dropped = Unit {0}
-AsksSome (handled.Asks input) =
-    (to : ℕ) × (request : WorkerRequest) × (handing input ≡ OwnInput (asking to request))
+-- what becomes of it by the worker's next step, at the state of this index
+pub record IsHandled (state : State) (index : ℕ) (taken : TakenWork) (h : Handled) : Type 0 where
+  pub step : WorkerStep
+  pub next : IsNextStep state index taken.work.response taken.plans step
+  pub handled : HandledAs taken.work.from step h
