@@ -4,4 +4,7 @@ pub mod Counts
 pub mod GivenValues
 pub mod Numbers
 pub mod Objects
-pub mod Grown
+pub mod EachLine
+pub mod Complaints
+pub mod GoodSteps
+pub mod Reasons

@@ -2,3 +2,7 @@
 pub mod Flight
 pub mod Lines
 pub mod Faults
+pub mod Grown
+pub mod Files
+pub mod Printed
+pub mod Plays

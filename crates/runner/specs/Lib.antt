@@ -2,6 +2,9 @@ pub mod Words
 pub mod Objects
 pub mod Steps
 pub mod Faults
+pub mod EachLine
 pub mod Complaints
 pub mod Rooms
+pub mod Notes
+pub mod WrongTexts
 pub mod Inner

@@ -72,6 +72,10 @@ AreNodes k [] [] = Unit {0}
 AreNodes k (d ∷ ds) (node ∷ nodes) = (node.number ≡ k) × IsNode d node × AreNodes (suc k) ds nodes
 AreNodes k _ _ = ⊥
 
+-- the lines of its steps
+abbrev pub step_lines : Scenario → List (List ℕ)
+step_lines s = map string_bytes s.steps.items
+
 -- the list of these texts
 abbrev pub strings : List (List ℕ) → List Data
 strings texts = map string texts
@@ -80,7 +84,7 @@ strings texts = map string texts
 pub record IsScenario (d : Data) (s : Scenario) : Type 0 where
   pub settings : HasSettings d s.settings
   pub nodes : (ds : List Data) × (list_at (codes "nodes") d ≡ Some (items_of ds)) × AreNodes 1 ds s.nodes.items
-  pub steps : list_at (codes "steps") d ≡ Some (items_of (strings (map string_bytes s.steps.items)))
+  pub steps : list_at (codes "steps") d ≡ Some (items_of (strings (step_lines s)))
 
 -- a JSON text of such an object, with no key written twice
 abbrev pub IsScenarioText : List ℕ → Scenario → Type 0

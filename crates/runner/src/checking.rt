@@ -1,12 +1,19 @@
 //! What is wrong with a scenario's file.
-ghost use Rattle.std.specs.Prelude.{◌≡◌, ◌≢◌, ◌↔◌, [], IfOk, IsTrue};
-ghost use Rattle.runner.specs.declared.scenario.Scenario.{Scenario};
-ghost use Rattle.runner.specs.Objects.{IsScenarioText};
-ghost use Rattle.runner.specs.Complaints.{AreGood, IsGood, IsGoodText, IsStepLine};
+ghost use Rattle.std.specs.Prelude.{◌≡◌, ◌↔◌, [], IfErr, IfOk, IfSome, OnOk, IsTrue};
+ghost use Rattle.std.specs.Io.KnownBytes.{Appends};
+ghost use Rattle.std.specs.List.{flat_map};
+ghost use Rattle.runner.specs.declared.fault.Fault.TheVariants as faults;
+ghost use Rattle.runner.specs.Complaints.{AreComplaints, AreLineComplaints, AreTextComplaints, IsGoodText, IsStepLine};
+ghost use Rattle.runner.specs.EachLine.{OfEachLine};
+ghost use Rattle.runner.specs.Inner.Faults.{MayStopChecking, MayStopPrinting};
+ghost use Rattle.runner.specs.Inner.Files.{IsGoodFile};
+ghost use Rattle.runner.specs.Inner.Grown.{GrowsByOwed};
+ghost use Rattle.runner.specs.Inner.Printed.{ShowsComplaints, ShowsEach, ShowsNotes, complaint_line, note_line};
+ghost use Rattle.runner.specs.Objects.{step_lines};
 
 use crate::fault::{Fault, said};
 use crate::forms::form_of;
-use crate::noting::too_large;
+use crate::noting::{TooLarge, too_large};
 use crate::reading::scenario;
 use crate::running::load_bytes;
 use crate::scenario::Scenario;
@@ -39,40 +46,72 @@ pub(crate) fn check_file<'a, F: Shelf, W: Write>(
     ensures { IfOk result (λ status. status ≡ 0) }
 {
     let bytes = load_bytes(shelf, file)?;
-    let Ok(text) = std::str::from_utf8(bytes.as_slice()) else {
-        print_complaint(out, &Complaint::Text(Wrong::NoText))?;
-        return Err(Fault::BadScenario);
-    };
+    check_bytes(alloc, out, bytes.as_slice())
+}
+
+// Says what is wrong with the bytes of a scenario's file: 0 where nothing is.
+fn check_bytes<'a, W: Write>(alloc: Global, out: &mut W, bytes: &[u8]) -> Result<u8, Fault<'a>>
+    ensures ok { IfOk result (λ status. (status ≡ 0) × IsGoodFile bytes.now) }
+    ensures notes { OnOk result (ShowsNotes bytes.now (W.contents out.old) (W.contents out.new)) }
+    ensures fault { IfErr result (MayStopChecking (IsGoodFile bytes.now)) }
+{
+    match std::str::from_utf8(bytes) {
+        Ok(text) => check_text(alloc, out, text),
+        Err(_) => {
+            print_complaint(out, &Complaint::Text(Wrong::NoText))?;
+            Err(Fault::BadScenario)
+        }
+    }
+}
+
+// Says what is wrong with the text of a scenario's file: 0 where nothing is.
+fn check_text<'a, W: Write>(alloc: Global, out: &mut W, text: &str) -> Result<u8, Fault<'a>>
+    ensures ok { IfOk result (λ status. (status ≡ 0) × IsGoodText text.now) }
+    ensures notes { OnOk result (ShowsNotes text.now (W.contents out.old) (W.contents out.new)) }
+    ensures fault { IfErr result (MayStopChecking (IsGoodText text.now)) }
+    ensures bad { IfErr result (λ fault. fault ≡ faults.BadScenario
+        → ShowsComplaints text.now (W.contents out.old) (W.contents out.new)) }
+{
     let found = complaints(alloc, text)?;
     if found.is_empty() {
-        note_groups(alloc, out, text)?;
+        show_notes(alloc, out, text)?;
         return Ok(0);
     }
-    for complaint in &found {
-        print_complaint(out, complaint)?;
-    }
+    print_complaints(out, &found)?;
     Err(Fault::BadScenario)
 }
 
 // Notes the groups that no node has room for.
-fn note_groups<'a, W: Write>(alloc: Global, out: &mut W, text: &str) -> Result<(), Fault<'a>> {
+fn show_notes<'a, W: Write>(alloc: Global, out: &mut W, text: &str) -> Result<(), Fault<'a>>
+    ensures notes { OnOk result (ShowsNotes text.now (W.contents out.old) (W.contents out.new)) }
+    ensures fault { IfErr result MayStopPrinting }
+{
     let scenario = match scenario(alloc, text) {
         Ok(scenario) => scenario,
         // It is a scenario, so there was no memory.
         Err(_) => return Err(Fault::NoMemory),
     };
-    for note in &too_large(alloc, &scenario)? {
+    let notes = too_large(alloc, &scenario)?;
+    print_notes(out, &notes)
+}
+
+fn print_notes<'a, W: Write>(out: &mut W, notes: &[TooLarge]) -> Result<(), Fault<'a>>
+    ensures lines { OnOk result (Appends (W.contents out.old) (W.contents out.new)
+        (flat_map note_line notes.now)) }
+    ensures fault { IfErr result (λ fault. fault ≡ faults.Output) }
+{
+    for note in notes {
         said(writeln!(out, "{note}"))?;
     }
     Ok(())
 }
 
 /// What is wrong with a scenario's text: nothing exactly where it is a scenario and each of its
-/// steps is one; one complaint where it is no scenario, else one for each step that is none.
+/// steps is one; one complaint where it is no scenario, else one for each step that is none, in
+/// order.
 pub fn complaints(alloc: Global, text: &str) -> Result<Vec<Complaint>, NoMemory>
-    ensures none { IfOk result (λ found. found.items ≡ [] → IsGoodText text.now) }
-    ensures good { (s : Scenario) → IsScenarioText text.now s → AreGood text.now
-        → IfOk result (λ found. found.items ≡ []) }
+    ensures each { IfOk result (λ found. AreComplaints text.now found.items) }
+    ensures none { IfOk result (λ found. (found.items ≡ []) ↔ IsGoodText text.now) }
 {
     match scenario(alloc, text) {
         Ok(scenario) => bad_steps(alloc, &scenario),
@@ -85,7 +124,7 @@ pub fn complaints(alloc: Global, text: &str) -> Result<Vec<Complaint>, NoMemory>
 
 // The one complaint of a text that is no scenario.
 fn bad_text(alloc: Global, text: &str) -> Result<Vec<Complaint>, NoMemory>
-    ensures { IfOk result (λ found. found.items ≢ []) }
+    ensures { IfOk result (λ found. AreTextComplaints found.items) }
 {
     let mut found = Vec::new(alloc);
     found.push(Complaint::Text(wrong_text(alloc, text)?))?;
@@ -94,19 +133,36 @@ fn bad_text(alloc: Global, text: &str) -> Result<Vec<Complaint>, NoMemory>
 
 // The steps that are none.
 fn bad_steps(alloc: Global, scenario: &Scenario) -> Result<Vec<Complaint>, NoMemory>
-    ensures { IfOk result (λ found. (found.items ≡ []) ↔ IsGood scenario.now) }
+    ensures { IfOk result (λ found.
+        OfEachLine AreLineComplaints 1 (step_lines scenario.now) found.items) }
 {
     let mut found = Vec::new(alloc);
+    // A step's number is at most that of all steps.
+    let _steps = scenario.steps.len();
     let mut number = 0usize;
     for line in &scenario.steps {
-        number = number.saturating_add(1);
-        if is_step(alloc, line.as_str())? {
-            continue;
-        }
-        let text = String::from_str(alloc, line.as_str())?;
-        found.push(Complaint::Step(number, text, form_of(line.as_str())))?;
+        number += 1;
+        judge_line(alloc, number, line.as_str(), &mut found)?;
     }
     Ok(found)
+}
+
+// Complains of the line of the step of this number, if it is none.
+fn judge_line(
+    alloc: Global,
+    number: usize,
+    line: &str,
+    found: &mut Vec<Complaint>,
+) -> Result<(), NoMemory>
+    ensures { OnOk result (GrowsByOwed (AreLineComplaints number line.now)
+        found.old.items found.new.items) }
+{
+    if is_step(alloc, line)? {
+        return Ok(());
+    }
+    let text = String::from_str(alloc, line)?;
+    found.push(Complaint::Step(number, text, form_of(line)))?;
+    Ok(())
 }
 
 fn is_step(alloc: Global, line: &str) -> Result<bool, NoMemory>
@@ -140,7 +196,21 @@ fn has_key_twice(alloc: Global, text: &str) -> Result<bool, NoMemory> {
     }
 }
 
-fn print_complaint<'a, W: Write>(out: &mut W, complaint: &Complaint) -> Result<(), Fault<'a>> {
+fn print_complaints<'a, W: Write>(out: &mut W, found: &[Complaint]) -> Result<(), Fault<'a>>
+    ensures each { OnOk result (ShowsEach found.now (W.contents out.old) (W.contents out.new)) }
+    ensures fault { IfErr result (λ fault. fault ≡ faults.Output) }
+{
+    for complaint in found {
+        print_complaint(out, complaint)?;
+    }
+    Ok(())
+}
+
+fn print_complaint<'a, W: Write>(out: &mut W, complaint: &Complaint) -> Result<(), Fault<'a>>
+    ensures line { OnOk result (IfSome (complaint_line complaint.now)
+        (Appends (W.contents out.old) (W.contents out.new))) }
+    ensures fault { IfErr result (λ fault. fault ≡ faults.Output) }
+{
     match complaint {
         Complaint::Text(wrong) => said(writeln!(out, "{wrong}")),
         Complaint::Step(number, line, form) => {

@@ -1,6 +1,7 @@
 //! Why a run ends before its last line.
-ghost use Rattle.std.specs.Prelude.{◌≢◌, ◌≤◌};
+ghost use Rattle.std.specs.Prelude.{◌≡◌, ◌≢◌, ◌≤◌, ◌↔◌, IfErr, IsOk};
 ghost use Rattle.runner.specs.Faults.{IsStatus};
+ghost use Rattle.runner.specs.declared.fault.Fault.TheVariants as faults;
 
 use rows::NoMemory;
 use std::io;
@@ -35,6 +36,8 @@ pub enum Fault<'a> {
 }
 
 impl<'a> From<NoMemory> for Fault<'a> {
+    ghost from_gives = { λ _ e. e ≡ faults.NoMemory };
+
     fn from(_e: NoMemory) -> Fault<'a> {
         Fault::NoMemory
     }
@@ -61,7 +64,10 @@ impl Fault<'_> {
 }
 
 /// What was written, or that the output failed.
-pub(crate) fn said<'a>(written: io::Result<()>) -> Result<(), Fault<'a>> {
+pub(crate) fn said<'a>(written: io::Result<()>) -> Result<(), Fault<'a>>
+    ensures ok { IsOk result ↔ IsOk written }
+    ensures failed { IfErr result (λ fault. fault ≡ faults.Output) }
+{
     match written {
         Ok(()) => Ok(()),
         Err(_) => Err(Fault::Output),

@@ -1,7 +1,12 @@
 //! Groups that a scenario puts, and that none of its nodes has room for.
-ghost use Rattle.std.specs.Prelude.{◌≡◌};
+ghost use Rattle.std.specs.Prelude.{◌≡◌, ◌++◌, ◌∷◌, [], IfOk, OnOk, if◌then◌else◌, option_map};
 ghost use Rattle.std.specs.List.{list_any};
+ghost use Rattle.server.specs.Handings.{handing};
+ghost use Rattle.world.specs.GroupEvents.{server_input};
+ghost use Rattle.runner.specs.Inner.Grown.{GrowsByOwed};
+ghost use Rattle.runner.specs.Notes.{AreLineNotes, AreNotes, input_job, is_noted, job_notes, note_of, step_job, step_notes};
 ghost use Rattle.runner.specs.Rooms.{can_hold, is_too_large};
+ghost use Rattle.runner.specs.Steps.{step_of};
 
 use crate::scenario::Scenario;
 use crate::step::{Step, read_step};
@@ -30,6 +35,11 @@ pub struct TooLarge {
 }
 
 impl fmt::Display for TooLarge {
+    ghost use Rattle.std.specs.Prelude.{Some};
+    ghost use Rattle.runner.specs.Notes.{note_text};
+
+    ghost output = { λ n. Some (note_text n) };
+
     fn fmt<W: fmt::Write>(&self, f: &mut fmt::Formatter<W>) -> fmt::Result {
         let (step, job, group) = (self.step, self.job.as_str(), self.group.as_str());
         let (class, cpu, mem) = (
@@ -67,38 +77,117 @@ pub fn is_too_large(nodes: &[NodeSpec], group: &Group) -> bool
 }
 
 /// The groups that the steps of a scenario put, at least one of each, and that no node has room
-/// for, in the order of the steps.
-pub fn too_large(alloc: Global, scenario: &Scenario) -> Result<Vec<TooLarge>, NoMemory> {
+/// for: each of them, in the order of the steps and of the groups of each job.
+pub fn too_large(alloc: Global, scenario: &Scenario) -> Result<Vec<TooLarge>, NoMemory>
+    ensures { IfOk result (λ notes. AreNotes scenario.now notes.items) }
+{
     let mut found = Vec::new(alloc);
+    // A step's number is at most that of all steps.
+    let _steps = scenario.steps.len();
     let mut number = 0usize;
     for line in &scenario.steps {
-        number = number.saturating_add(1);
-        if let Some(Step::Event(Event::Server(_, input))) = read_step(alloc, line.as_str())? {
-            if let ServerInput::Request(OperatorRequest::PutJob(job)) = input.as_ref() {
-                note_groups(number, job, scenario.nodes.as_slice(), &mut found)?;
-            }
-        }
+        number += 1;
+        note_line(alloc, number, line.as_str(), &scenario.nodes, &mut found)?;
     }
     Ok(found)
 }
 
-// The groups of a job that no node has room for.
+// Notes the groups that the step of a line puts.
+fn note_line(
+    alloc: Global,
+    number: usize,
+    line: &str,
+    nodes: &[NodeSpec],
+    found: &mut Vec<TooLarge>,
+) -> Result<(), NoMemory>
+    ensures { OnOk result (GrowsByOwed (AreLineNotes nodes.now number line.now)
+        found.old.items found.new.items) }
+{
+    match read_step(alloc, line)? {
+        Some(step) => note_step(number, &step, nodes, found),
+        None => Ok(()),
+    }
+}
+
+// Notes the groups that a step puts.
+fn note_step(
+    number: usize,
+    step: &Step,
+    nodes: &[NodeSpec],
+    found: &mut Vec<TooLarge>,
+) -> Result<(), NoMemory>
+    ensures { OnOk result (found.new.items
+        ≡ found.old.items ++ step_notes nodes.now number (step_of step.now)) }
+{
+    match job_of_step(step) {
+        Some(job) => note_groups(number, job, nodes, found),
+        None => Ok(()),
+    }
+}
+
+// The job that a step puts, if it puts one.
+fn job_of_step(step: &Step) -> Option<&JobSpec>
+    ensures { option_map (λ job. job.now) result ≡ step_job (step_of step.now) }
+{
+    match step {
+        Step::Event(Event::Server(_, input)) => job_of_input(input.as_ref()),
+        _ => None,
+    }
+}
+
+// The job that an input puts, if it puts one.
+fn job_of_input(input: &ServerInput) -> Option<&JobSpec>
+    ensures { option_map (λ job. job.now) result ≡ input_job (server_input (handing input.now)) }
+{
+    match input {
+        ServerInput::Request(OperatorRequest::PutJob(job)) => Some(job),
+        _ => None,
+    }
+}
+
+// Notes the groups of a job that a step puts.
 fn note_groups(
     step: usize,
     job: &JobSpec,
     nodes: &[NodeSpec],
     found: &mut Vec<TooLarge>,
-) -> Result<(), NoMemory> {
-    for group in job.groups.as_slice() {
-        if group.count.get() > 0 && is_too_large(nodes, group) {
-            found.push(TooLarge {
-                step,
-                job: job.name,
-                group: group.name,
-                class: group.class,
-                size: group.size,
-            })?;
-        }
+) -> Result<(), NoMemory>
+    ensures { OnOk result (found.new.items
+        ≡ found.old.items ++ job_notes nodes.now step job.now) }
+{
+    let groups = job.groups.as_slice();
+    for group in groups {
+        note_group(step, job.name, group, nodes, found)?;
     }
     Ok(())
+}
+
+// Notes one group of a job that a step puts.
+fn note_group(
+    step: usize,
+    job: JobName,
+    group: &Group,
+    nodes: &[NodeSpec],
+    found: &mut Vec<TooLarge>,
+) -> Result<(), NoMemory>
+    ensures { OnOk result (found.new.items ≡ found.old.items
+        ++ (if is_noted nodes.now group.now then note_of step job group.now ∷ [] else [])) }
+{
+    if is_noted(nodes, group) {
+        found.push(TooLarge {
+            step,
+            job,
+            group: group.name,
+            class: group.class,
+            size: group.size,
+        })?;
+    }
+    Ok(())
+}
+
+// Whether a group that a step puts is noted.
+fn is_noted(nodes: &[NodeSpec], group: &Group) -> bool
+    ensures { result ≡ is_noted nodes.now group.now }
+{
+    group.count.get() > 0 && is_too_large(nodes, group)
 }

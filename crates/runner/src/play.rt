@@ -1,4 +1,8 @@
 //! A scenario's group, with its messages in flight and its workers; and its steps, one at a time.
+ghost use Rattle.std.specs.Prelude.{IfErr, IfOk};
+ghost use Rattle.world.specs.GroupSteps.{WhyNoGroup};
+ghost use Rattle.runner.specs.Inner.Plays.{IsNewPlay};
+
 use crate::flight::Flight;
 use crate::running::Stage;
 use crate::scenario::{Order, Scenario};
@@ -29,7 +33,11 @@ pub(crate) struct Play {
 
 impl Play {
     /// The group of a scenario, before its first step.
-    pub(crate) fn new(alloc: Global, scenario: &Scenario) -> Result<Play, Refusal> {
+    pub(crate) fn new(alloc: Global, scenario: &Scenario) -> Result<Play, Refusal>
+        ensures ok { IfOk result (IsNewPlay scenario.now) }
+        ensures refused { IfErr result
+            (WhyNoGroup scenario.now.settings.servers scenario.now.nodes.items) }
+    {
         let servers = usize::from(scenario.settings.servers);
         Ok(Play {
             alloc,

@@ -1,5 +1,9 @@
 //! A transcript's file, played again or drawn.
-ghost use Rattle.std.specs.Prelude.{◌≡◌, ◌≤◌, IfOk};
+ghost use Rattle.std.specs.Prelude.{◌≡◌, ◌≤◌, IfErr, IfOk};
+ghost use Rattle.transcript.specs.Transcripts.{IsTranscript, Recorded, recorded};
+ghost use Rattle.world.specs.GroupSteps.{IsNewGroup};
+ghost use Rattle.runner.specs.declared.fault.Fault.TheVariants as faults;
+ghost use Rattle.runner.specs.Inner.Faults.{MayStopTranscript};
 
 use crate::ending::print_end;
 use crate::fault::{Fault, said};
@@ -67,7 +71,13 @@ fn print_picture<'a, W: Write>(
     }
 }
 
-fn transcript_of<'a>(alloc: Global, bytes: &[u8]) -> Result<Transcript, Fault<'a>> {
+// The transcript of a file's bytes.
+fn transcript_of<'a>(alloc: Global, bytes: &[u8]) -> Result<Transcript, Fault<'a>>
+    ensures named { IfOk result (λ t. IsTranscript (recorded t) bytes.now) }
+    ensures read { (r : Recorded) → IsTranscript r bytes.now
+        → IfOk result (λ t. recorded t ≡ r) }
+    ensures fault { IfErr result (MayStopTranscript bytes.now) }
+{
     match read(alloc, bytes) {
         Ok(transcript) => Ok(transcript),
         Err(Refusal::Frame(place)) => Err(Fault::BadTranscript(place)),
@@ -75,7 +85,11 @@ fn transcript_of<'a>(alloc: Global, bytes: &[u8]) -> Result<Transcript, Fault<'a
     }
 }
 
-fn begin<'a>(alloc: Global, transcript: &Transcript) -> Result<World, Fault<'a>> {
+// The group of a transcript, before its first event.
+fn begin<'a>(alloc: Global, transcript: &Transcript) -> Result<World, Fault<'a>>
+    ensures ok { IfOk result (IsNewGroup transcript.now.servers transcript.now.nodes.items) }
+    ensures fault { IfErr result (λ fault. fault ≡ faults.NoMemory) }
+{
     match World::new(alloc, transcript.servers, transcript.nodes.as_slice()) {
         Ok(world) => Ok(world),
         // A group of a transcript's size is made, unless there is no memory.

@@ -1,6 +1,17 @@
 //! A scenario's file, played.
-ghost use Rattle.std.specs.Prelude.{◌≤◌, IfOk};
+ghost use Rattle.std.specs.Prelude.{◌≡◌, ◌≢◌, ◌≤◌, ◌⊎◌, IfErr, IfOk, OnOk};
+ghost use Rattle.std.specs.Io.KnownBytes.{Appends};
+ghost use Rattle.rows.specs.declared.refusal.Refusal.TheVariants as refusals;
 ghost use Rattle.world.specs.WorldView.{IsGroup};
+ghost use Rattle.runner.specs.declared.fault.Fault.TheVariants as faults;
+ghost use Rattle.runner.specs.declared.scenario.Scenario.{Scenario};
+ghost use Rattle.runner.specs.Complaints.{IsGood, IsStepLine};
+ghost use Rattle.runner.specs.Inner.Faults.{MayStopReading};
+ghost use Rattle.runner.specs.Inner.Files.{IsScenarioFile};
+ghost use Rattle.runner.specs.Inner.Plays.{IsNewPlay, MakesGroup};
+ghost use Rattle.runner.specs.Inner.Printed.{refusal_line};
+ghost use Rattle.runner.specs.Objects.{IsScenarioText};
+ghost use Rattle.runner.specs.Steps.{IsLine, Step as AnyStep, step_of};
 
 use crate::ending::print_end;
 use crate::fault::{Fault, said};
@@ -69,7 +80,10 @@ pub(crate) fn save<'a, F: Shelf>(
     shelf: &mut F,
     world: &World,
     name: &'a str,
-) -> Result<(), Fault<'a>> {
+) -> Result<(), Fault<'a>>
+    ensures { IfErr result (λ fault. (fault ≡ faults.NoMemory)
+        ⊎ (fault ≡ faults.CannotWrite name.entry)) }
+{
     let text = write(alloc, world)?;
     match shelf.write(name, text.as_slice()) {
         Ok(()) => Ok(()),
@@ -79,7 +93,10 @@ pub(crate) fn save<'a, F: Shelf>(
 }
 
 /// All bytes of a file.
-pub(crate) fn load_bytes<'a, F: Shelf>(shelf: &mut F, file: &'a str) -> Result<Vec<u8>, Fault<'a>> {
+pub(crate) fn load_bytes<'a, F: Shelf>(shelf: &mut F, file: &'a str) -> Result<Vec<u8>, Fault<'a>>
+    ensures { IfErr result (λ fault. (fault ≡ faults.NoMemory)
+        ⊎ (fault ≡ faults.CannotRead file.entry)) }
+{
     match shelf.read(file) {
         Ok(bytes) => Ok(bytes),
         Err(ShelfFault::NoMemory) => Err(Fault::NoMemory),
@@ -96,17 +113,41 @@ pub(crate) fn load<'a, F: Shelf>(
     ensures { IfOk result (λ scenario. IsGroup scenario.settings.servers) }
 {
     let bytes = load_bytes(shelf, file)?;
-    let Ok(text) = std::str::from_utf8(bytes.as_slice()) else {
-        return Err(Fault::BadScenario);
-    };
-    match scenario(alloc, text) {
-        Ok(scenario) => Ok(scenario),
-        Err(Refusal::NoMemory) => Err(Fault::NoMemory),
+    scenario_of_bytes(alloc, bytes.as_slice())
+}
+
+// The scenario of a file's bytes.
+fn scenario_of_bytes<'a>(alloc: Global, bytes: &[u8]) -> Result<Scenario, Fault<'a>>
+    ensures ok { IfOk result (IsScenarioText bytes.now) }
+    ensures fault { IfErr result (MayStopReading (IsScenarioFile bytes.now)) }
+{
+    match std::str::from_utf8(bytes) {
+        Ok(text) => scenario_of_text(alloc, text),
         Err(_) => Err(Fault::BadScenario),
     }
 }
 
-fn step_of<'a>(alloc: Global, line: &str) -> Result<Step, Fault<'a>> {
+// The scenario of a file's text.
+fn scenario_of_text<'a>(alloc: Global, text: &str) -> Result<Scenario, Fault<'a>>
+    ensures ok { IfOk result (IsScenarioText text.now) }
+    ensures fault { IfErr result (MayStopReading ((s : Scenario) × IsScenarioText text.now s)) }
+{
+    match scenario(alloc, text) {
+        Ok(scenario) => Ok(scenario),
+        Err(cause) => match cause {
+            Refusal::NoMemory => Err(Fault::NoMemory),
+            _ => Err(Fault::BadScenario),
+        },
+    }
+}
+
+// The step of a line.
+fn step_of<'a>(alloc: Global, line: &str) -> Result<Step, Fault<'a>>
+    ensures named { IfOk result (λ step. IsLine (step_of step) line.now) }
+    ensures read { (step : AnyStep) → IsLine step line.now
+        → IfOk result (λ read. step_of read ≡ step) }
+    ensures fault { IfErr result (MayStopReading (IsStepLine line.now)) }
+{
     match read_step(alloc, line)? {
         Some(step) => Ok(step),
         None => Err(Fault::BadScenario),
@@ -115,14 +156,22 @@ fn step_of<'a>(alloc: Global, line: &str) -> Result<Step, Fault<'a>> {
 
 /// Each line is read before the first step is taken, and once more when its step is: a step may
 /// hold a plan, so a list of them all would cost more than the lines do.
-pub(crate) fn check_steps<'a>(alloc: Global, scenario: &Scenario) -> Result<(), Fault<'a>> {
+pub(crate) fn check_steps<'a>(alloc: Global, scenario: &Scenario) -> Result<(), Fault<'a>>
+    ensures good { OnOk result (IsGood scenario.now) }
+    ensures fault { IfErr result (MayStopReading (IsGood scenario.now)) }
+{
     for line in &scenario.steps {
         let _step = step_of(alloc, line.as_str())?;
     }
     Ok(())
 }
 
-fn begin<'a>(alloc: Global, scenario: &Scenario) -> Result<Play, Fault<'a>> {
+// The group of a scenario, before its first step.
+fn begin<'a>(alloc: Global, scenario: &Scenario) -> Result<Play, Fault<'a>>
+    ensures ok { IfOk result (IsNewPlay scenario.now) }
+    ensures fault { IfErr result (λ fault. (fault ≡ faults.NoMemory)
+        ⊎ ((fault ≡ faults.BadScenario) × ¬ MakesGroup scenario.now)) }
+{
     match Play::new(alloc, scenario) {
         Ok(play) => Ok(play),
         Err(Refusal::NoMemory) => Err(Fault::NoMemory),
@@ -136,8 +185,16 @@ pub(crate) fn print_refusal<'a, W: Write>(
     out: &mut W,
     refusal: Refusal,
     line: &str,
-) -> Result<(), Fault<'a>> {
-    if refusal == Refusal::NoMemory {
+) -> Result<(), Fault<'a>>
+    ensures refused { OnOk result (refusal ≢ refusals.NoMemory) }
+    ensures line { OnOk result (Appends (W.contents out.old) (W.contents out.new)
+        (refusal_line refusal line.now)) }
+    ensures memory { IfErr result (λ fault. refusal ≡ refusals.NoMemory
+        → fault ≡ faults.NoMemory) }
+    ensures output { IfErr result (λ fault. refusal ≢ refusals.NoMemory
+        → fault ≡ faults.Output) }
+{
+    if matches!(refusal, Refusal::NoMemory) {
         return Err(Fault::NoMemory);
     }
     let number = refusal.number();

@@ -34,6 +34,10 @@ pub enum Wrong {
 }
 
 impl fmt::Display for Wrong {
+    ghost use Rattle.runner.specs.WrongTexts.{wrong_text};
+
+    ghost output = { wrong_text };
+
     fn fmt<W: fmt::Write>(&self, f: &mut fmt::Formatter<W>) -> fmt::Result {
         match self {
             Wrong::NoText => write!(f, "it is no UTF-8"),

@@ -1,30 +1,20 @@
-use Rattle.std.proofs.Common.{subst, sym, ◌∙◌, ◌≡◌, ◌≤◌, ◌<◌, ◌++◌, ◌∷◌, ◌+◌, [], List, arith, length, rules, string_bytes}
-use Rattle.std.specs.List.{AllWithin}
-use Rattle.std.proofs.lemmas.List.{get_or_default}
-use Rattle.std.proofs.lemmas.List.Elements.{AllWithin-more, AllWithin-upto}
-use Rattle.runner.specs.Complaints.{IsStepLine}
-use Rattle.runner.proofs.Grown.{not_empty}
+use Rattle.std.proofs.Common.{◌≡◌, ◌+◌, ◌<◌, arith, length, rules, string_bytes, subst}
+use Rattle.runner.specs.Complaints.{AreLineComplaints}
+use Rattle.runner.proofs.EachLine.{of_one_more_step}
 use Rattle.runner.proofs.checking.bad_steps.Goals as goal
-
-pub loop-line-preserved-then-branch : goal.loop-line-preserved-then-branch
-loop-line-preserved-then-branch c =
-    let i = c.loop-line.line-index in
-    let xs = c.args.scenario.now.steps.items in
-    let inside : i < length xs = search rules in
-    let is = rw c.deref-line-items.ensures.value at c.line-item.is in
-    let said : IsStepLine (string_bytes c.line-item.result) = search rules in (
-      λ none. AllWithin-more (λ t. IsStepLine (string_bytes t)) xs 0 i (c.loop-line.invariant.0 none) (λ d. subst (λ t. IsStepLine (string_bytes t)) (sym (get_or_default xs i d c.line-item.result inside ∙ sym is)) said),
-      λ all. c.loop-line.invariant.1 (AllWithin-upto (λ t. IsStepLine (string_bytes t)) xs 0 (i + 1) i (omega arith) all),
-    )
 
 pub loop-line-preserved : goal.loop-line-preserved
 loop-line-preserved c =
+    let steps = c.args.scenario.now.steps.items in
     let i = c.loop-line.line-index in
-    let xs = c.args.scenario.now.steps.items in
-    let inside : i < length xs = search rules in
-    let is = rw c.deref-line-items.ensures.value at c.line-item.is in (
-      λ none. absurd (not_empty _ _ _ c.in_ok-push.ensures.items none),
-      λ all.
-          let said : IsStepLine (string_bytes c.line-item.result) = subst (λ t. IsStepLine (string_bytes t)) (sym is) (all i c.line-item.result (omega arith) (omega arith)) in
-          absurd (search rules),
-    )
+    let inside : i < length steps = search rules in
+    let at = rw c.deref-line-items.ensures.value at c.line-item.is in
+    let own = c.in_ok-judge_line.ensures in
+    let counted : c.loop-line.number + 1 ≡ i + 1 = omega arith in
+    let judged = rw c.as_str.ensures.value at own.1 in
+    record {
+      number = counted;
+      found = rw own.2
+          (of_one_more_step AreLineComplaints steps i c.line-item.result _ own.0 c.loop-line.invariant.found inside at
+          (subst (λ n. AreLineComplaints n (string_bytes c.line-item.result) own.0) counted judged));
+    }

@@ -1,9 +1,11 @@
-use Rattle.std.proofs.Common.{◌≡◌, [], string_bytes}
-use Rattle.std.specs.List.{AllWithin}
-use Rattle.runner.specs.Complaints.{IsStepLine}
+use Rattle.std.proofs.Common.{◌≡◌, map, string_bytes, take}
+use Rattle.runner.specs.Complaints.{AreLineComplaints}
+use Rattle.runner.specs.EachLine.{OfEachLine}
 use Rattle.runner.proofs.checking.bad_steps.Given as goal
 
+-- what is wrong with the lines so far
 abbrev pub invariant-loop-line : goal.invariant-loop-line
-invariant-loop-line l =
-    (l.found.items ≡ [] → AllWithin (λ t. IsStepLine (string_bytes t)) l.scenario.steps.items 0 l.line-index)
-    × (AllWithin (λ t. IsStepLine (string_bytes t)) l.scenario.steps.items 0 l.line-index → l.found.items ≡ [])
+invariant-loop-line l = record {
+  number : l.number ≡ l.line-index;
+  found : OfEachLine AreLineComplaints 1 (map string_bytes (take l.line-index l.scenario.steps.items)) l.found.items;
+}

@@ -1,0 +1,14 @@
+-- The bytes of files.
+use Rattle.std.specs.Prelude.{ℕ, List}
+use Rattle.std.specs.Str.{IsUtf8}
+use Rattle.runner.specs.declared.scenario.Scenario.{Scenario}
+use Rattle.runner.specs.Complaints.{IsGoodText}
+use Rattle.runner.specs.Objects.{IsScenarioText}
+
+-- they are UTF-8, and a scenario
+abbrev pub IsScenarioFile : List ℕ → Type 0
+IsScenarioFile bytes = IsUtf8 bytes × ((s : Scenario) × IsScenarioText bytes s)
+
+-- and nothing is wrong with it
+abbrev pub IsGoodFile : List ℕ → Type 0
+IsGoodFile bytes = IsUtf8 bytes × IsGoodText bytes

@@ -1,0 +1,45 @@
+-- What is printed.
+use Rattle.std.specs.Prelude.{◌≡◌, ◌++◌, ◌∷◌, ℕ, List, [], Option, IfSome, codes, decimal, option_map, string_bytes}
+use Rattle.std.specs.Fmt.{debug_str}
+use Rattle.std.specs.Io.KnownBytes.{Appends}
+use Rattle.std.specs.List.{flat_map}
+use Rattle.rows.specs.Refusals.{number_of}
+use Rattle.rows.specs.declared.refusal.Refusal.{Refusal}
+use Rattle.runner.specs.declared.checking.Complaint.{Complaint}
+use Rattle.runner.specs.declared.checking.Complaint.TheVariants as complaints
+use Rattle.runner.specs.declared.noting.TooLarge.{TooLarge}
+use Rattle.runner.specs.declared.scenario.Scenario.{Scenario}
+use Rattle.runner.specs.Notes.{AreNotes, note_text}
+use Rattle.runner.specs.Complaints.{AreComplaints}
+use Rattle.runner.specs.Objects.{IsScenarioText}
+use Rattle.runner.specs.WrongTexts.{wrong_text}
+
+-- the line of a refusal, of the line of a step or an event
+abbrev pub refusal_line : Refusal → List ℕ → List ℕ
+refusal_line refusal line = codes "refused " ++ decimal (number_of refusal) ++ 32 ∷ line ++ 10 ∷ []
+
+abbrev pub note_line : TooLarge → List ℕ
+note_line note = note_text note ++ 10 ∷ []
+
+-- the output grows by a line for each note of the scenario that a text is
+abbrev pub ShowsNotes : List ℕ → Option (List ℕ) → Option (List ℕ) → Type 0
+ShowsNotes text old new =
+    (s : Scenario) × IsScenarioText text s
+    × ((notes : List TooLarge) × AreNotes s notes × Appends old new (flat_map note_line notes))
+
+-- the line of a complaint; nothing is said of one that shows a text past ASCII
+abbrev pub complaint_line : Complaint → Option (List ℕ)
+complaint_line (complaints.Text wrong) = option_map (λ text. text ++ 10 ∷ []) (wrong_text wrong)
+complaint_line (complaints.Step number line form) =
+    option_map (λ shown. codes "step " ++ (decimal number ++ (32 ∷ shown ++ (codes ": " ++ (form.now ++ 10 ∷ [])))))
+    (debug_str (string_bytes line))
+
+-- the output grows by the line of each complaint in turn
+abbrev pub ShowsEach : List Complaint → Option (List ℕ) → Option (List ℕ) → Type 0
+ShowsEach [] old new = new ≡ old
+ShowsEach (one ∷ others) old new =
+    (mid : Option (List ℕ)) × IfSome (complaint_line one) (Appends old mid) × ShowsEach others mid new
+
+-- by what is wrong with a text
+abbrev pub ShowsComplaints : List ℕ → Option (List ℕ) → Option (List ℕ) → Type 0
+ShowsComplaints text old new = (found : List Complaint) × AreComplaints text found × ShowsEach found old new
