@@ -1,6 +1,6 @@
 -- A group that runs: why none was made, what an actor took, what a worker's server took.
-use Rattle.std.proofs.Common.{◌≡◌, ◌≢◌, ℕ, zero, suc, List, [], ◌∷◌, Bool, true, false, true≢false, sym, refl, ap, ◌∙◌, subst, inl, inr, arith}
-use Rattle.std.specs.Prelude.{◌||◌, Result, Ok, Err, IfOk, IfErr}
+use Rattle.std.proofs.Common.{◌≡◌, ℕ, zero, suc, List, [], ◌∷◌, Bool, true, false, true≢false, sym, refl, ap, ◌∙◌, subst, inl, inr, arith}
+use Rattle.std.specs.Prelude.{◌||◌, Result, Ok, Err, IfOk}
 use Rattle.std.specs.List.{Contains}
 use Rattle.rows.specs.declared.actor.Actor.{Actor}
 use Rattle.rows.specs.declared.actor.Actor.TheVariants as actors
@@ -22,12 +22,12 @@ use Rattle.cluster.specs.declared.own_input.OwnInput.{OwnInput}
 use Rattle.cluster.specs.declared.server_workers.Handled.{Handled}
 use Rattle.cluster.specs.declared.server_workers.Handled.TheVariants as handled
 use Rattle.cluster.specs.declared.server_workers.TakenWork.{TakenWork}
-use Rattle.cluster.specs.Cells.{CellView, EnvelopeView, IsLedCell}
+use Rattle.cluster.specs.Cells.{EnvelopeView}
 use Rattle.cluster.specs.Closing.{own_event}
 use Rattle.cluster.specs.Running.{TookInput, WhyNotRunning}
 use Rattle.cluster.specs.PlanCounts.{WorkersView, plans_under}
-use Rattle.cluster.specs.Turns.{CellHasNoState, CellHasState, CellRefuses, IsAsking, TookAsking, TookTurn, WhyNoState, WhyNoTurn, WhyNoWorkerTurn, own_envelope}
-use Rattle.cluster.specs.Working.{HandledAs, HasApplied, WhyNotApplied}
+use Rattle.cluster.specs.Turns.{CellHasState, CellRefuses, IsAsking, TookAsking, TookTurn, WhyNoState, WhyNoTurn, WhyNoWorkerTurn, own_envelope}
+use Rattle.cluster.specs.Working.{HandledAs}
 use Rattle.cluster.specs.Inner.Asked.{IsHandled}
 
 or_here : (b c : Bool) → b ≡ true → (b || c) ≡ true
@@ -51,20 +51,6 @@ why_not_running actors room r apart (inr (is, has)) = inr (is, has.0)
 
 pub took_input : (n : ℕ) (actor : Actor) (input : OwnInput) (work : List Work) (sent : List EnvelopeView) → TookTurn n (own_envelope actor input) work sent → TookInput n actor input
 took_input n actor input work sent took = (work, sent, took)
-
--- ---- the state of a cell that its notes lead
-
-pub has_state : {X E : Type 0} (n : ℕ) (actor : Actor) (c : CellView) (state : X → State) (count : X → ℕ) (q : Result X E) → IsLedCell n c → c.seat.actor ≡ actor
-    → IfOk q (λ x. HasApplied c.actor (state x) (count x)) → IfOk q (λ x. CellHasState n actor (state x) (count x))
-has_state n actor c state count (Ok x) led mine has = (c, led, mine, has)
-has_state n actor c state count (Err e) led mine has = has
-
-pub no_state : {X : Type 0} (n : ℕ) (actor : Actor) (c : CellView) (q : Result X Refusal) → IsLedCell n c → c.seat.actor ≡ actor → IfErr q (λ r. WhyNotApplied c.actor r) → IfErr q (CellHasNoState n actor)
-no_state n actor c (Ok x) led mine why = why
-no_state n actor c (Err r) led mine why = (c, led, inr (mine, why))
-
-pub state_of_another : {X : Type 0} (n : ℕ) (actor : Actor) (c : CellView) (q : Result X Refusal) → IsLedCell n c → c.seat.actor ≢ actor → q ≡ Err refusals.OutOfRange → IfErr q (CellHasNoState n actor)
-state_of_another n actor c q led other is = subst (λ p. IfErr p (CellHasNoState n actor)) (sym is) (c, led, inl (refl, other))
 
 -- ---- what a worker asks
 
