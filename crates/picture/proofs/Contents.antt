@@ -1,5 +1,5 @@
 -- What is written for a picture's elements is content, and what is written for all of it is a picture.
-use Rattle.std.proofs.Common.{◌≡◌, ◌∙◌, ℕ, ◌<◌, zero, suc, Bool, true, false, List, [], ◌∷◌, ◌++◌, length, take, decimal, codes, string_bytes, refl, sym, subst, ap, append_assoc, arith, lit<, ◌==◌, ◌/◌, ◌%◌, ◌-◌, ◌^◌, if◌then◌else◌}
+use Rattle.std.proofs.Common.{◌≡◌, ℕ, ◌<◌, zero, suc, true, false, List, [], ◌∷◌, ◌++◌, length, take, decimal, codes, string_bytes, refl, subst, append_assoc, arith, lit<, ◌==◌, ◌/◌, ◌%◌, if◌then◌else◌}
 use Rattle.std.specs.List.{flat_map, list_all}
 use Rattle.std.specs.Fmt.{digits, digits_onto, digit_glyph}
 use Rattle.std.proofs.lemmas.Nat.{mod_below}
@@ -18,9 +18,9 @@ use Rattle.picture.specs.declared.ink.Anchor.{Anchor}
 use Rattle.picture.specs.declared.ink.Anchor.TheVariants as anchors
 use Rattle.picture.specs.declared.ink.Cover.{Cover}
 use Rattle.picture.specs.declared.ink.Cover.TheVariants as covers
-use Rattle.picture.specs.Pictures.{shown, is_plain, is_letter, stands_apart, IsTag, IsContent, IsPicture}
+use Rattle.picture.specs.Pictures.{shown, is_plain, is_letter, stands_apart, IsContent, IsPicture}
 use Rattle.picture.specs.Pictures.IsContent.{line_end, text, sign, element, both}
-use Rattle.picture.specs.Inner.Shapes.{text_of, line_text, bow_text, circle_text, white_text, words_text, stroke_look, spot_look, ink_look, anchor_look, cover_look, most_of, open_text, title_text, about_text, sheet_text, head_text, svg_text}
+use Rattle.picture.specs.Inner.Shapes.{text_of, line_text, bow_text, circle_text, white_text, words_text, stroke_look, spot_look, ink_look, anchor_look, cover_look, most_of, open_text, about_text, sheet_text, svg_text}
 
 -- ---- bytes that are plain
 
@@ -150,10 +150,6 @@ shapes_content (shape ∷ shapes) = both (text_of shape) (flat_map text_of shape
 
 -- ---- the whole
 
-title_content : (title : List ℕ) → IsContent (title_text title)
-title_content title =
-    element_line (codes "title") [] (flat_map shown (take (2 ^ 64 - 1) title)) _ refl (lit< tt) refl refl (text (take (2 ^ 64 - 1) title)) (simp append_assoc refl)
-
 desc_content : IsContent (codes "<desc>" ++ (ABOUT.now ++ codes "</desc>\n"))
 desc_content = element_line (codes "desc") [] ABOUT.now _ refl (lit< tt) refl refl (text ABOUT.now) refl
 
@@ -180,10 +176,10 @@ sheet_content width height =
     (codes " x=\"0\" y=\"0\" width=\"" ++ (decimal width ++ (codes "\" height=\"" ++ (decimal height ++ codes "\" fill=\"#ffffff\""))))
     _ refl (lit< tt) refl (simp (list_all-append, plain_decimal) refl) (simp append_assoc refl)
 
-abbrev drawn : List Shape → List ℕ
-drawn shapes = codes "<g font-family=\"sans-serif\" fill=\"none\">" ++ ((codes "\n" ++ flat_map text_of shapes) ++ codes "</g>\n")
+abbrev all_drawn : List Shape → List ℕ
+all_drawn shapes = codes "<g font-family=\"sans-serif\" fill=\"none\">" ++ ((codes "\n" ++ flat_map text_of shapes) ++ codes "</g>\n")
 
-drawn_content : (shapes : List Shape) → IsContent (drawn shapes)
+drawn_content : (shapes : List Shape) → IsContent (all_drawn shapes)
 drawn_content shapes =
     element_line (codes "g") (codes " font-family=\"sans-serif\" fill=\"none\"") (codes "\n" ++ flat_map text_of shapes)
     _ refl (lit< tt) refl refl (both _ _ line_end (shapes_content shapes)) (simp append_assoc refl)
@@ -191,9 +187,9 @@ drawn_content shapes =
 abbrev size_attributes : ℕ → ℕ → List ℕ
 size_attributes width height = codes " xmlns=\"http://www.w3.org/2000/svg\" version=\"1.1\" width=\"" ++ (decimal width ++ (codes "\" height=\"" ++ (decimal height ++ (codes "\" viewBox=\"0 0 " ++ (decimal width ++ (codes " " ++ (decimal height ++ codes "\"")))))))
 
-abbrev all_inside : ℕ → ℕ → List ℕ → List Shape → List ℕ
-all_inside width height title shapes =
-    codes "\n" ++ (title_text title ++ (about_text ++ (sheet width height ++ drawn shapes)))
+abbrev all_inside : ℕ → ℕ → List Shape → List ℕ
+all_inside width height shapes =
+    codes "\n" ++ (about_text ++ (sheet width height ++ all_drawn shapes))
 
 abbrev xml : List ℕ
 xml = codes "<?xml version=\"1.0\" encoding=\"UTF-8\"?>\n<svg"
@@ -207,25 +203,25 @@ open_parts width height = simp append_assoc refl
 sheet_parts : (width height : ℕ) → sheet_text width height ≡ sheet width height ++ (group ++ codes "\n")
 sheet_parts width height = simp append_assoc refl
 
-regroup : (front attributes ends line title about white begins shapes closes last : List ℕ) →
-    (((((front ++ (attributes ++ (ends ++ line))) ++ title) ++ about) ++ (white ++ (begins ++ line))) ++ shapes) ++ (closes ++ last)
-    ≡ front ++ (attributes ++ (ends ++ ((line ++ (title ++ (about ++ (white ++ (begins ++ ((line ++ shapes) ++ closes)))))) ++ last)))
-regroup front attributes ends line title about white begins shapes closes last = simp append_assoc refl
+regroup : (front attributes ends line titles said titled about white begins shapes closes last : List ℕ) →
+    (((((front ++ (attributes ++ (ends ++ line))) ++ (titles ++ (said ++ (titled ++ line)))) ++ about) ++ (white ++ (begins ++ line))) ++ shapes) ++ (closes ++ last)
+    ≡ front ++ (attributes ++ (ends ++ (((line ++ titles) ++ (said ++ titled)) ++ ((line ++ (about ++ (white ++ (begins ++ ((line ++ shapes) ++ closes))))) ++ last))))
+regroup front attributes ends line titles said titled about white begins shapes closes last = simp append_assoc refl
 
-all_parts : (opened front attributes ends line title about sheeted white begins shapes closes last : List ℕ) →
+all_parts : (opened front attributes ends line titles said titled about sheeted white begins shapes closes last : List ℕ) →
     opened ≡ front ++ (attributes ++ (ends ++ line)) → sheeted ≡ white ++ (begins ++ line) →
-    ((((opened ++ title) ++ about) ++ sheeted) ++ shapes) ++ (closes ++ last)
-    ≡ front ++ (attributes ++ (ends ++ ((line ++ (title ++ (about ++ (white ++ (begins ++ ((line ++ shapes) ++ closes)))))) ++ last)))
-all_parts opened front attributes ends line title about sheeted white begins shapes closes last first second =
-    rw (first, second) (regroup front attributes ends line title about white begins shapes closes last)
+    ((((opened ++ (titles ++ (said ++ (titled ++ line)))) ++ about) ++ sheeted) ++ shapes) ++ (closes ++ last)
+    ≡ front ++ (attributes ++ (ends ++ (((line ++ titles) ++ (said ++ titled)) ++ ((line ++ (about ++ (white ++ (begins ++ ((line ++ shapes) ++ closes))))) ++ last))))
+all_parts opened front attributes ends line titles said titled about sheeted white begins shapes closes last first second =
+    rw (first, second) (regroup front attributes ends line titles said titled about white begins shapes closes last)
 
-pub is_picture : (width height : ℕ) (title : List ℕ) (shapes : List Shape) → IsPicture (svg_text width height title shapes)
+pub is_picture : (width height : ℕ) (title : List ℕ) (shapes : List Shape) → IsPicture title (svg_text width height title shapes)
 is_picture width height title shapes = record {
   attributes = size_attributes width height;
-  inside = all_inside width height title shapes;
+  inside = all_inside width height shapes;
   tag = record { letters = refl; named = lit< tt; apart = refl; plain = simp (list_all-append, plain_decimal) refl };
-  content = both _ _ line_end (both _ _ (title_content title) (both _ _ about_content (both _ _ (sheet_content width height) (drawn_content shapes))));
-  whole = all_parts (open_text width height) xml (size_attributes width height) (codes ">") (codes "\n") (title_text title) about_text
+  content = both _ _ line_end (both _ _ about_content (both _ _ (sheet_content width height) (drawn_content shapes)));
+  whole = all_parts (open_text width height) xml (size_attributes width height) (codes ">") (codes "\n") (codes "<title>") (flat_map shown title) (codes "</title>") about_text
       (sheet_text width height) (sheet width height) group (flat_map text_of shapes) (codes "</g>\n") (codes "</svg>\n")
       (open_parts width height) (sheet_parts width height);
 }

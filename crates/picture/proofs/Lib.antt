@@ -1,2 +1,4 @@
 pub mod Contents
+pub mod Drawn
 pub mod Loops
+pub mod Noting

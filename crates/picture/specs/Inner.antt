@@ -1,1 +1,7 @@
 pub mod Shapes
+pub mod Places
+pub mod Notes
+pub mod Records
+pub mod Labels
+pub mod Drawn
+pub mod Rows

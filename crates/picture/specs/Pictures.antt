@@ -1,5 +1,5 @@
 -- What a picture is: one element of XML, with a text or an element wherever its tags say so.
-use Rattle.std.specs.Prelude.{◌≡◌, ℕ, ◌≤◌, ◌<◌, Bool, true, not, ◌==◌, ◌&&◌, nat_le, if◌then◌else◌, Option, List, [], ◌∷◌, ◌++◌, length, codes}
+use Rattle.std.specs.Prelude.{◌≡◌, ℕ, ◌≤◌, ◌<◌, Bool, true, not, ◌==◌, ◌&&◌, nat_le, if◌then◌else◌, Option, List, [], ◌∷◌, ◌++◌, length, codes, decimal}
 use Rattle.std.specs.List.{flat_map, list_all}
 use Rattle.std.specs.Io.KnownBytes.{Appends}
 use Rattle.rows.specs.declared.node.NodeSpec.{NodeSpec}
@@ -52,16 +52,36 @@ pub data IsContent : List ℕ → Type 0 where
       IsContent (codes "<" ++ (name ++ (attributes ++ (codes ">" ++ (inside ++ (codes "</" ++ (name ++ codes ">")))))))
   both : (front back : List ℕ) → IsContent front → IsContent back → IsContent (front ++ back)
 
--- a picture: one element `svg`, behind the line that begins a file of XML
-pub record IsPicture (text : List ℕ) : Type 0 where
+-- the element of a title
+abbrev pub title_element : List ℕ → List ℕ
+title_element title = codes "\n<title>" ++ (flat_map shown title ++ codes "</title>")
+
+-- a picture of this title: one element `svg`, which begins with its title, behind the line that
+-- begins a file of XML
+pub record IsPicture (title text : List ℕ) : Type 0 where
   pub attributes : List ℕ
   pub inside : List ℕ
   pub tag : IsTag (codes "svg") attributes
   pub content : IsContent inside
-  pub whole : text ≡ codes "<?xml version=\"1.0\" encoding=\"UTF-8\"?>\n<svg" ++ (attributes ++ (codes ">" ++ (inside ++ codes "</svg>\n")))
+  pub whole : text ≡ codes "<?xml version=\"1.0\" encoding=\"UTF-8\"?>\n<svg" ++ (attributes ++ (codes ">" ++ (title_element title ++ (inside ++ codes "</svg>\n"))))
 
--- known bytes stay at the front and grow by one picture
-pub record GrowsByPicture (old new : Option (List ℕ)) : Type 0 where
+-- The title of a run of so many servers, clients and events, in which so many messages were sent,
+-- and so many of them never came.
+abbrev pub run_title : ℕ → ℕ → ℕ → ℕ → ℕ → List ℕ
+run_title servers clients events messages lost =
+    (codes "servers " ++ (decimal servers ++ (codes ", clients " ++ decimal clients)))
+    ++ (codes ", events " ++ (decimal events ++ (codes ", messages " ++ (decimal messages ++ (codes ", lost " ++ decimal lost)))))
+
+-- A picture whose title counts these servers, clients and events, and of whose messages some may be
+-- lost.
+pub record IsRunPicture (servers clients events : ℕ) (text : List ℕ) : Type 0 where
+  pub messages : ℕ
+  pub lost : ℕ
+  pub some : lost ≤ messages
+  pub picture : IsPicture (run_title servers clients events messages lost) text
+
+-- known bytes stay at the front and grow by one such picture
+pub record GrowsByPicture (servers clients events : ℕ) (old new : Option (List ℕ)) : Type 0 where
   pub text : List ℕ
-  pub picture : IsPicture text
+  pub picture : IsRunPicture servers clients events text
   pub appended : Appends old new text

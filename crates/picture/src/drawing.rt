@@ -1,9 +1,12 @@
 //! A run as a picture: it is played again and noted, and then drawn from below to above, the
 //! lifelines first and the labels last.
-ghost use Rattle.std.specs.Prelude.{◌≡◌, ◌≢◌, OnOk, IfOk, IfErr, string_bytes};
+ghost use Rattle.std.specs.Prelude.{◌≡◌, ◌≢◌, length, OnOk, IfOk, IfErr, string_bytes};
+ghost use Rattle.std.specs.List.{count_by};
 ghost use Rattle.std.specs.Io.KnownBytes.{Appends};
 ghost use Rattle.picture.specs.declared.fault.DrawError.TheVariants as errors;
-ghost use Rattle.picture.specs.Pictures.{MayBe, MayNotBe, IsPicture, GrowsByPicture};
+ghost use Rattle.picture.specs.Pictures.{MayBe, MayNotBe, IsPicture, IsRunPicture, GrowsByPicture, run_title};
+ghost use Rattle.picture.specs.Inner.Records.{is_lost};
+ghost use Rattle.picture.specs.Inner.Drawn.{Draws, first_texts, lifeline_name, band_in, arrow_text, arrow_in, stub_end, lost_end_text, stub_text};
 
 use crate::fault::DrawError;
 use crate::ink::{Ink, Stroke};
@@ -11,7 +14,7 @@ use crate::layout::{Layout, Point, SLOT, Side, has_band};
 use crate::lifeline::draw_lifelines;
 use crate::record::{Record, Sending};
 use crate::row::{draw_row, sent_label};
-use crate::shape::{Shape, cross, heading, label, name};
+use crate::shape::{Shape, cross, heading, label, name, put};
 use crate::svg::svg_of;
 use rows::{NoMemory, NodeSpec, Refusal};
 use std::alloc::Global;
@@ -46,8 +49,9 @@ pub fn draw<W: Write>(
     events: &[Event],
     out: &mut W,
 ) -> Result<(), DrawError>
-    // What is written is one picture, and nothing else.
-    ensures picture { OnOk result (GrowsByPicture (W.contents out.old) (W.contents out.new)) }
+    // What is written is one picture, and nothing else; its title counts what is drawn.
+    ensures picture { OnOk result (GrowsByPicture servers (length nodes.now) (length events.now)
+        (W.contents out.old) (W.contents out.new)) }
     // An answer, and want of memory or of an output, only of a group that may be.
     ensures group { OnOk result (MayBe servers nodes.now) }
     ensures fault { IfErr result (λ error. error ≢ errors.Group → MayBe servers nodes.now) }
@@ -97,7 +101,8 @@ fn picture_of(
     clients: usize,
     events: &[Event],
 ) -> Result<String, NoMemory>
-    ensures { IfOk result (λ picture. IsPicture (string_bytes picture)) }
+    ensures { IfOk result (λ picture.
+        IsRunPicture servers clients (length events.now) (string_bytes picture)) }
 {
     let mut world = world;
     let mut record = Record::new(alloc, servers, clients);
@@ -109,7 +114,7 @@ fn picture_of(
 }
 
 fn whole(alloc: Global, size: (u64, u64), title: &str, shapes: &[Shape]) -> Result<String, NoMemory>
-    ensures { IfOk result (λ picture. IsPicture (string_bytes picture)) }
+    ensures { IfOk result (λ picture. IsPicture title.now (string_bytes picture)) }
 {
     let svg = svg_of(alloc, size, title, shapes)?;
     Ok(svg)
@@ -134,7 +139,11 @@ fn shapes_of(
     Ok(shapes)
 }
 
-fn counts(alloc: Global, record: &Record) -> Result<String, NoMemory> {
+fn counts(alloc: Global, record: &Record) -> Result<String, NoMemory>
+    ensures { IfOk result (λ title. string_bytes title ≡ run_title «record».now.servers
+        «record».now.clients (length «record».now.steps.items) (length «record».now.sendings.items)
+        (count_by is_lost «record».now.sendings.items)) }
+{
     let (servers, clients) = (record.servers, record.clients);
     let (events, messages) = (record.steps.len(), record.sendings.len());
     let lost = record.lost();
@@ -154,11 +163,14 @@ fn draw_head(alloc: Global, shapes: &mut Vec<Shape>, title: &str) -> Result<(), 
 }
 
 // The names of the lifelines: S1 for the first server, c1 for the first client.
-fn name_of(alloc: Global, record: &Record, column: usize) -> Result<String, NoMemory> {
-    match column.checked_sub(record.servers) {
-        None => Ok(format!(in alloc; "S{}", column.saturating_add(1))?),
-        Some(behind) => Ok(format!(in alloc; "c{}", behind.saturating_add(1))?),
+fn name_of(alloc: Global, record: &Record, column: usize) -> Result<String, NoMemory>
+    ensures { IfOk result (λ name. string_bytes name ≡ lifeline_name «record».now.servers column) }
+{
+    if column < record.servers {
+        return Ok(format!(in alloc; "S{}", column.saturating_add(1))?);
     }
+    let behind = column - record.servers;
+    Ok(format!(in alloc; "c{}", behind.saturating_add(1))?)
 }
 
 fn draw_names(
@@ -183,26 +195,65 @@ fn draw_bands(
     layout: &Layout,
     column: usize,
     text: &str,
-) -> Result<(), NoMemory> {
+) -> Result<(), NoMemory>
+    ensures { OnOk result (Draws shapes.old.items shapes.new.items
+        (first_texts (band_in layout.now column text.now) (length «record».now.steps.items))) }
+{
     for row in 0..record.steps.len() {
-        if has_band(row) {
-            name(alloc, shapes, layout.band_at(column, row), text)?;
-        }
+        draw_band_in(alloc, shapes, layout, column, row, text)?;
+    }
+    Ok(())
+}
+
+// The name of a lifeline once more above an event, if it stands there.
+fn draw_band_in(
+    alloc: Global,
+    shapes: &mut Vec<Shape>,
+    layout: &Layout,
+    column: usize,
+    row: usize,
+    text: &str,
+) -> Result<(), NoMemory>
+    ensures { OnOk result (Draws shapes.old.items shapes.new.items
+        (band_in layout.now column text.now row)) }
+{
+    if has_band(row) {
+        return name(alloc, shapes, layout.band_at(column, row), text);
     }
     Ok(())
 }
 
 // An arrow for each delivery.
-fn draw_arrows(shapes: &mut Vec<Shape>, record: &Record, layout: &Layout) -> Result<(), NoMemory> {
-    for (row, step) in record.steps.iter().enumerate() {
-        let (Some(place), None) = (step.message, step.refusal) else {
-            continue;
-        };
-        if let Some(sending) = record.sendings.get(place) {
-            draw_arrow(shapes, layout, sending, row, step.again)?;
-        }
+fn draw_arrows(shapes: &mut Vec<Shape>, record: &Record, layout: &Layout) -> Result<(), NoMemory>
+    ensures { OnOk result (Draws shapes.old.items shapes.new.items
+        (first_texts (arrow_in layout.now «record».now) (length «record».now.steps.items))) }
+{
+    for row in 0..record.steps.len() {
+        draw_arrow_in(shapes, record, layout, row)?;
     }
     Ok(())
+}
+
+// The arrow of the event in a row, if it has one.
+fn draw_arrow_in(
+    shapes: &mut Vec<Shape>,
+    record: &Record,
+    layout: &Layout,
+    row: usize,
+) -> Result<(), NoMemory>
+    ensures { OnOk result (Draws shapes.old.items shapes.new.items
+        (arrow_in layout.now «record».now row)) }
+{
+    let Some(step) = record.steps.get(row) else {
+        return Ok(());
+    };
+    let (Some(place), None) = (step.message, step.refusal) else {
+        return Ok(());
+    };
+    match record.sendings.get(place) {
+        Some(sending) => draw_arrow(shapes, layout, sending, row, step.again),
+        None => Ok(()),
+    }
 }
 
 fn draw_arrow(
@@ -211,19 +262,20 @@ fn draw_arrow(
     sending: &Sending,
     row: usize,
     again: bool,
-) -> Result<(), NoMemory> {
-    let stroke = if again { Stroke::Again } else { Stroke::Came };
+) -> Result<(), NoMemory>
+    ensures { OnOk result (Draws shapes.old.items shapes.new.items
+        (arrow_text layout.now sending.now row again)) }
+{
+    let stroke = Stroke::of_way(again);
     let from = layout.at(sending.from, sending.row);
     let to = layout.at(sending.to, row);
     if sending.from == sending.to {
         let to = to.aside(Side::Right, 4);
         let far = from.aside(Side::Right, 44).x;
-        shapes.push(Shape::Bow(from, to, far, stroke))?;
-        return Ok(());
+        return put(shapes, Shape::Bow(from, to, far, stroke));
     }
     let side = Side::towards(sending.to, sending.from);
-    shapes.push(Shape::Line(from, to.aside(side, 4), stroke))?;
-    Ok(())
+    put(shapes, Shape::Line(from, to.aside(side, 4), stroke))
 }
 
 // A short arrow with a cross for each message that never came.
@@ -251,12 +303,39 @@ fn draw_stub(
     place: usize,
     sending: &Sending,
     text: String,
-) -> Result<(), NoMemory> {
-    let side = Side::towards(sending.from, sending.to);
+) -> Result<(), NoMemory>
+    ensures { OnOk result (Draws shapes.old.items shapes.new.items
+        (stub_text layout.now place sending.now (string_bytes text))) }
+{
     let from = layout.at(sending.from, sending.row);
+    let end = stub_end(layout, place, sending);
+    put(shapes, Shape::Line(from, end, Stroke::Lost))?;
+    let side = Side::towards(sending.from, sending.to);
+    draw_lost_end(shapes, end, side, text)
+}
+
+// Where the short arrow of a message ends that never came.
+fn stub_end(layout: &Layout, place: usize, sending: &Sending) -> Point
+    ensures { result ≡ stub_end layout.now place sending.now }
+{
+    let side = Side::towards(sending.from, sending.to);
     let down = layout.slot_of(place).saturating_mul(SLOT).saturating_add(6);
-    let end = from.aside(side, 26).down(down);
-    shapes.push(Shape::Line(from, end, Stroke::Lost))?;
+    layout
+        .at(sending.from, sending.row)
+        .aside(side, 26)
+        .down(down)
+}
+
+// The cross where a message was lost, with its label.
+fn draw_lost_end(
+    shapes: &mut Vec<Shape>,
+    end: Point,
+    side: Side,
+    text: String,
+) -> Result<(), NoMemory>
+    ensures { OnOk result (Draws shapes.old.items shapes.new.items
+        (lost_end_text end side (string_bytes text))) }
+{
     cross(shapes, end, 3, Stroke::Lost)?;
     label(shapes, end.aside(side, 7).down(3), side, Ink::Lost, text)
 }

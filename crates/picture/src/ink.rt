@@ -2,6 +2,7 @@
 //! in black and white can be read.
 ghost use Rattle.std.specs.Prelude.{◌≡◌};
 ghost use Rattle.picture.specs.Inner.Shapes.{ink_look, most_of, stroke_look, spot_look, anchor_look, cover_look};
+ghost use Rattle.picture.specs.Inner.Drawn.{ink_width, ink_height, life, way};
 
 /// The most characters of a label that are drawn.
 pub(crate) const MOST: usize = 24;
@@ -58,7 +59,9 @@ impl Ink {
     }
 
     /// About the width of a character, in tenths of a pixel.
-    pub(crate) fn width(self) -> u64 {
+    pub(crate) fn width(self) -> u64
+        ensures { result ≡ ink_width self }
+    {
         match self {
             Ink::Title => 85,
             Ink::Name => 80,
@@ -70,7 +73,9 @@ impl Ink {
     }
 
     /// About the height of a text above its base line, in pixels.
-    pub(crate) fn height(self) -> u64 {
+    pub(crate) fn height(self) -> u64
+        ensures { result ≡ ink_height self }
+    {
         match self {
             Ink::Title => 13,
             Ink::Name => 11,
@@ -100,6 +105,20 @@ pub(crate) enum Stroke {
 }
 
 impl Stroke {
+    /// The life of an actor that is up: whether it leads.
+    pub(crate) fn of_life(leads: bool) -> Stroke
+        ensures { result ≡ life leads }
+    {
+        if leads { Stroke::Leads } else { Stroke::Life }
+    }
+
+    /// The way of a message that came: whether it had come before.
+    pub(crate) fn of_way(again: bool) -> Stroke
+        ensures { result ≡ way again }
+    {
+        if again { Stroke::Again } else { Stroke::Came }
+    }
+
     /// The attributes of the line.
     pub(crate) fn attributes(self) -> &'static str
         ensures { result.now ≡ stroke_look self }

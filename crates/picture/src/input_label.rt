@@ -1,4 +1,7 @@
 //! What stands beside an actor that takes an input of its own, in the words of a transcript.
+ghost use Rattle.std.specs.Prelude.{◌≡◌, IfOk, string_bytes};
+ghost use Rattle.picture.specs.Inner.Labels.{to_label, end_label, operator_label, server_input_label, client_input_label, event_label};
+
 use crate::label::{eval_label, finish_label, plain, plan_label};
 use client_agent::ClientInput;
 use rows::{AllocId, NoMemory, OperatorRequest, ServerId};
@@ -7,7 +10,9 @@ use std::alloc::Global;
 use world::Event;
 
 /// The label of an event that is no delivery; a delivery has none here.
-pub(crate) fn event_label(alloc: Global, event: &Event) -> Result<String, NoMemory> {
+pub(crate) fn event_label(alloc: Global, event: &Event) -> Result<String, NoMemory>
+    ensures { IfOk result (λ label. string_bytes label ≡ event_label event.now) }
+{
     match event {
         Event::Deliver(_) => plain(alloc, ""),
         Event::Server(_, input) => server_label(alloc, input.as_ref()),
@@ -15,7 +20,9 @@ pub(crate) fn event_label(alloc: Global, event: &Event) -> Result<String, NoMemo
     }
 }
 
-fn server_label(alloc: Global, input: &ServerInput) -> Result<String, NoMemory> {
+fn server_label(alloc: Global, input: &ServerInput) -> Result<String, NoMemory>
+    ensures { IfOk result (λ label. string_bytes label ≡ server_input_label input.now) }
+{
     match input {
         ServerInput::Frame(_) => plain(alloc, "frame"),
         ServerInput::Timeout => plain(alloc, "timeout"),
@@ -42,7 +49,9 @@ fn server_label(alloc: Global, input: &ServerInput) -> Result<String, NoMemory> 
     }
 }
 
-fn client_label(alloc: Global, input: &ClientInput) -> Result<String, NoMemory> {
+fn client_label(alloc: Global, input: &ClientInput) -> Result<String, NoMemory>
+    ensures { IfOk result (λ label. string_bytes label ≡ client_input_label input.now) }
+{
     match input {
         ClientInput::Frame(_) => plain(alloc, "frame"),
         ClientInput::Register(to) => to_label(alloc, "register", *to),
@@ -54,25 +63,35 @@ fn client_label(alloc: Global, input: &ClientInput) -> Result<String, NoMemory> 
     }
 }
 
-fn to_label(alloc: Global, word: &str, to: ServerId) -> Result<String, NoMemory> {
+fn to_label(alloc: Global, word: &str, to: ServerId) -> Result<String, NoMemory>
+    ensures { IfOk result (λ label. string_bytes label ≡ to_label word.now to) }
+{
     Ok(format!(in alloc; "{word} S{to}")?)
 }
 
-fn end_label(alloc: Global, id: &AllocId, ok: bool) -> Result<String, NoMemory> {
+fn end_label(alloc: Global, id: &AllocId, ok: bool) -> Result<String, NoMemory>
+    ensures { IfOk result (λ label. string_bytes label ≡ end_label id.now ok) }
+{
     let (entry, slot) = (id.index.get(), id.slot.get());
-    let word = if ok { "complete" } else { "failed" };
-    Ok(format!(in alloc; "end {entry}.{slot} {word}")?)
+    if ok {
+        return Ok(format!(in alloc; "end {entry}.{slot} complete")?);
+    }
+    Ok(format!(in alloc; "end {entry}.{slot} failed")?)
 }
 
-fn operator_label(alloc: Global, request: &OperatorRequest) -> Result<String, NoMemory> {
+fn operator_label(alloc: Global, request: &OperatorRequest) -> Result<String, NoMemory>
+    ensures { IfOk result (λ label. string_bytes label ≡ operator_label request.now) }
+{
     match request {
         OperatorRequest::PutJob(job) => Ok(format!(in alloc; "put {}", job.name)?),
         OperatorRequest::StopJob(name) => Ok(format!(in alloc; "stop {name}")?),
         OperatorRequest::PutEval(name) => Ok(format!(in alloc; "eval {name}")?),
         OperatorRequest::DrainNode(node, force) => {
             let number = node.number();
-            let end = if *force { "force" } else { "slow" };
-            Ok(format!(in alloc; "drain {number} {end}")?)
+            if *force {
+                return Ok(format!(in alloc; "drain {number} force")?);
+            }
+            Ok(format!(in alloc; "drain {number} slow")?)
         }
     }
 }

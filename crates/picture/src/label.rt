@@ -1,4 +1,7 @@
 //! What stands beside an arrow: the kind of the message, and what matters in it.
+ghost use Rattle.std.specs.Prelude.{◌≡◌, IfOk, string_bytes};
+ghost use Rattle.picture.specs.Inner.Labels.{eval_label, plan_label, finish_label, vote_label, append_label, reply_label, request_label, delivery_label, response_label, reports_label, told_number, body_label, outcome_label};
+
 use fsm_state::Cluster;
 use rows::{
     Delivery, EvalId, EvalOutcome, NoMemory, Plan, Reason, Refusal, Reports, WorkerRequest,
@@ -17,11 +20,15 @@ pub(crate) fn message_label(alloc: Global, frame: &[u8]) -> Result<String, NoMem
 }
 
 /// A text as a label.
-pub(crate) fn plain(alloc: Global, text: &str) -> Result<String, NoMemory> {
+pub(crate) fn plain(alloc: Global, text: &str) -> Result<String, NoMemory>
+    ensures { IfOk result (λ label. string_bytes label ≡ text.now) }
+{
     Ok(String::from_str(alloc, text)?)
 }
 
-fn body_label(alloc: Global, body: &Body<Cluster>) -> Result<String, NoMemory> {
+fn body_label(alloc: Global, body: &Body<Cluster>) -> Result<String, NoMemory>
+    ensures { IfOk result (λ label. string_bytes label ≡ body_label body.now) }
+{
     match body {
         Body::VoteRequest(request) => Ok(format!(in alloc; "VoteRequest t{}", request.term)?),
         Body::VoteReply(reply) => vote_label(alloc, reply),
@@ -44,24 +51,36 @@ fn body_label(alloc: Global, body: &Body<Cluster>) -> Result<String, NoMemory> {
     }
 }
 
-fn vote_label(alloc: Global, reply: &VoteReply) -> Result<String, NoMemory> {
-    let word = if reply.granted { "yes" } else { "no" };
-    Ok(format!(in alloc; "VoteReply {word} t{}", reply.term)?)
+fn vote_label(alloc: Global, reply: &VoteReply) -> Result<String, NoMemory>
+    ensures { IfOk result (λ label. string_bytes label ≡ vote_label reply.now) }
+{
+    if reply.granted {
+        return Ok(format!(in alloc; "VoteReply yes t{}", reply.term)?);
+    }
+    Ok(format!(in alloc; "VoteReply no t{}", reply.term)?)
 }
 
-fn append_label(alloc: Global, append: &Append<Cluster>) -> Result<String, NoMemory> {
+fn append_label(alloc: Global, append: &Append<Cluster>) -> Result<String, NoMemory>
+    ensures { IfOk result (λ label. string_bytes label ≡ append_label append.now) }
+{
     let head = append.head();
     let (term, place) = (head.term, head.prev_index);
     let count = append.entries().len();
     Ok(format!(in alloc; "Append t{term} @{place} +{count}")?)
 }
 
-fn reply_label(alloc: Global, reply: &AppendReply) -> Result<String, NoMemory> {
-    let word = if reply.ok { "ok" } else { "no" };
-    Ok(format!(in alloc; "AppendReply {word} @{}", reply.at)?)
+fn reply_label(alloc: Global, reply: &AppendReply) -> Result<String, NoMemory>
+    ensures { IfOk result (λ label. string_bytes label ≡ reply_label reply.now) }
+{
+    if reply.ok {
+        return Ok(format!(in alloc; "AppendReply ok @{}", reply.at)?);
+    }
+    Ok(format!(in alloc; "AppendReply no @{}", reply.at)?)
 }
 
-fn request_label(alloc: Global, request: &WorkerRequest) -> Result<String, NoMemory> {
+fn request_label(alloc: Global, request: &WorkerRequest) -> Result<String, NoMemory>
+    ensures { IfOk result (λ label. string_bytes label ≡ request_label request.now) }
+{
     match request {
         WorkerRequest::Take => plain(alloc, "Take"),
         WorkerRequest::Submit(plan) => plan_label(alloc, "Submit", plan),
@@ -70,7 +89,9 @@ fn request_label(alloc: Global, request: &WorkerRequest) -> Result<String, NoMem
     }
 }
 
-fn response_label(alloc: Global, response: &WorkerResponse) -> Result<String, NoMemory> {
+fn response_label(alloc: Global, response: &WorkerResponse) -> Result<String, NoMemory>
+    ensures { IfOk result (λ label. string_bytes label ≡ response_label response.now) }
+{
     match response {
         WorkerResponse::Delivered(delivery) => delivery_label(alloc, delivery),
         WorkerResponse::PlanResult(result) => {
@@ -84,7 +105,9 @@ fn response_label(alloc: Global, response: &WorkerResponse) -> Result<String, No
     }
 }
 
-fn delivery_label(alloc: Global, delivery: &Option<Delivery>) -> Result<String, NoMemory> {
+fn delivery_label(alloc: Global, delivery: &Option<Delivery>) -> Result<String, NoMemory>
+    ensures { IfOk result (λ label. string_bytes label ≡ delivery_label delivery.now) }
+{
     match delivery {
         Some(delivery) => eval_label(alloc, "Delivered", &delivery.eval),
         None => plain(alloc, "Delivered none"),
@@ -92,13 +115,17 @@ fn delivery_label(alloc: Global, delivery: &Option<Delivery>) -> Result<String, 
 }
 
 /// A word and an evaluation.
-pub(crate) fn eval_label(alloc: Global, word: &str, eval: &EvalId) -> Result<String, NoMemory> {
+pub(crate) fn eval_label(alloc: Global, word: &str, eval: &EvalId) -> Result<String, NoMemory>
+    ensures { IfOk result (λ label. string_bytes label ≡ eval_label word.now eval.now) }
+{
     let (entry, slot) = (eval.index.get(), eval.slot);
     Ok(format!(in alloc; "{word} {entry}.{slot}")?)
 }
 
 /// A word, a plan's evaluation, and how many allocations it is to make and to stop.
-pub(crate) fn plan_label(alloc: Global, word: &str, plan: &Plan) -> Result<String, NoMemory> {
+pub(crate) fn plan_label(alloc: Global, word: &str, plan: &Plan) -> Result<String, NoMemory>
+    ensures { IfOk result (λ label. string_bytes label ≡ plan_label word.now plan.now) }
+{
     let front = eval_label(alloc, word, &plan.eval)?;
     let places = plan.places.as_slice().len();
     let stops = plan.stops.as_slice().len();
@@ -114,18 +141,29 @@ pub(crate) fn finish_label(
     word: &str,
     eval: &EvalId,
     outcome: &EvalOutcome,
-) -> Result<String, NoMemory> {
+) -> Result<String, NoMemory>
+    ensures { IfOk result (λ label.
+        string_bytes label ≡ finish_label word.now eval.now outcome.now) }
+{
     let front = eval_label(alloc, word, eval)?;
-    let end = match outcome {
-        EvalOutcome::Blocked(_) => "blocked",
-        EvalOutcome::Complete => "complete",
-        EvalOutcome::Failed => "failed",
-    };
+    let end = outcome_label(outcome);
     Ok(format!(in alloc; "{front} {end}")?)
 }
 
+fn outcome_label(outcome: &EvalOutcome) -> &'static str
+    ensures { result.now ≡ outcome_label outcome.now }
+{
+    match outcome {
+        EvalOutcome::Blocked(_) => "blocked",
+        EvalOutcome::Complete => "complete",
+        EvalOutcome::Failed => "failed",
+    }
+}
+
 // The first allocation of a report, and how many more there are.
-fn reports_label(alloc: Global, reports: &Reports) -> Result<String, NoMemory> {
+fn reports_label(alloc: Global, reports: &Reports) -> Result<String, NoMemory>
+    ensures { IfOk result (λ label. string_bytes label ≡ reports_label reports.now) }
+{
     let items = reports.as_slice();
     let Some(first) = items.first() else {
         return plain(alloc, "Report");
@@ -139,7 +177,9 @@ fn reports_label(alloc: Global, reports: &Reports) -> Result<String, NoMemory> {
 }
 
 // The number of a refusal that an agent is told, or 0.
-fn told_number(reason: &Option<Reason>) -> u8 {
+fn told_number(reason: &Option<Reason>) -> u8
+    ensures { result ≡ told_number reason.now }
+{
     match reason {
         Some(reason) => reason.number(),
         None => 0,

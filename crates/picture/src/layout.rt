@@ -1,5 +1,6 @@
 //! Where everything stands, in pixels from the upper left corner.
 ghost use Rattle.std.specs.Prelude.{◌≡◌, ◌<◌, ◌+◌, ◌*◌};
+ghost use Rattle.picture.specs.Inner.Places.{down_by, up_by, aside_by, side_towards, opposite, lifeline_x, row_y, point_at, slot_at, names_again};
 
 use crate::record::{Record, Sending};
 use rows::NoMemory;
@@ -40,7 +41,9 @@ pub(crate) struct Point {
 
 impl Point {
     /// The point that lies so much farther down.
-    pub(crate) fn down(self, by: u64) -> Point {
+    pub(crate) fn down(self, by: u64) -> Point
+        ensures { result ≡ down_by self by }
+    {
         Point {
             x: self.x,
             y: self.y.saturating_add(by),
@@ -48,7 +51,9 @@ impl Point {
     }
 
     /// The point that lies so much farther up.
-    pub(crate) fn up(self, by: u64) -> Point {
+    pub(crate) fn up(self, by: u64) -> Point
+        ensures { result ≡ up_by self by }
+    {
         Point {
             x: self.x,
             y: self.y.saturating_sub(by),
@@ -56,7 +61,9 @@ impl Point {
     }
 
     /// The point that lies so much farther to a side.
-    pub(crate) fn aside(self, side: Side, by: u64) -> Point {
+    pub(crate) fn aside(self, side: Side, by: u64) -> Point
+        ensures { result ≡ aside_by self side by }
+    {
         let x = match side {
             Side::Left => self.x.saturating_sub(by),
             Side::Right => self.x.saturating_add(by),
@@ -76,12 +83,16 @@ pub(crate) enum Side {
 
 impl Side {
     /// The side of one lifeline on which another stands; of its own, the right one.
-    pub(crate) fn towards(from: usize, to: usize) -> Side {
+    pub(crate) fn towards(from: usize, to: usize) -> Side
+        ensures { result ≡ side_towards from to }
+    {
         if to < from { Side::Left } else { Side::Right }
     }
 
     /// The other side.
-    pub(crate) fn other(self) -> Side {
+    pub(crate) fn other(self) -> Side
+        ensures { result ≡ opposite self }
+    {
         match self {
             Side::Left => Side::Right,
             Side::Right => Side::Left,
@@ -92,13 +103,16 @@ impl Side {
 /// Where a lifeline stands, from the left edge; of the 69 that there may be, each right of the one
 /// before it.
 pub(crate) fn x_of(column: usize) -> u64
-    ensures { column < 69 → result ≡ 150 * column + 260 }
+    ensures value { result ≡ lifeline_x column }
+    ensures apart { column < 69 → result ≡ 150 * column + 260 }
 {
     COLUMN.saturating_mul(column as u64).saturating_add(FIRST)
 }
 
 /// Whether the names of the lifelines stand once more above an event.
-pub(crate) fn has_band(row: usize) -> bool {
+pub(crate) fn has_band(row: usize) -> bool
+    ensures { result ≡ names_again row }
+{
     row > 0 && row % BAND_EVERY == 0
 }
 
@@ -169,12 +183,16 @@ impl Layout {
     }
 
     /// How far down an event stands.
-    pub(crate) fn y_of(&self, row: usize) -> u64 {
+    pub(crate) fn y_of(&self, row: usize) -> u64
+        ensures { result ≡ row_y self.now row }
+    {
         self.tops.get(row).copied().unwrap_or(self.bottom)
     }
 
     /// The place of an event on a lifeline.
-    pub(crate) fn at(&self, column: usize, row: usize) -> Point {
+    pub(crate) fn at(&self, column: usize, row: usize) -> Point
+        ensures { result ≡ point_at self.now column row }
+    {
         Point {
             x: x_of(column),
             y: self.y_of(row),
@@ -182,7 +200,9 @@ impl Layout {
     }
 
     /// Which of its event's lost messages on its side a message is, from 0.
-    pub(crate) fn slot_of(&self, message: usize) -> u64 {
+    pub(crate) fn slot_of(&self, message: usize) -> u64
+        ensures { result ≡ slot_at self.now message }
+    {
         self.slots.get(message).copied().unwrap_or(0)
     }
 
@@ -194,7 +214,9 @@ impl Layout {
     }
 
     /// The place of the name of a lifeline.
-    pub(crate) fn name_at(&self, column: usize) -> Point {
+    pub(crate) fn name_at(&self, column: usize) -> Point
+        ensures { result ≡ record { x = lifeline_x column; y = 88 } }
+    {
         Point {
             x: x_of(column),
             y: HEAD,
@@ -202,7 +224,9 @@ impl Layout {
     }
 
     /// The place of the name of a lifeline above an event.
-    pub(crate) fn band_at(&self, column: usize, row: usize) -> Point {
+    pub(crate) fn band_at(&self, column: usize, row: usize) -> Point
+        ensures { result ≡ up_by (point_at self.now column row) 22 }
+    {
         self.at(column, row).up(ROW)
     }
 

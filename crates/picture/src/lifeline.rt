@@ -1,10 +1,13 @@
 //! The lifelines: a line while an actor is up, a thick one while a server leads, none while it is
 //! down.
+ghost use Rattle.std.specs.Prelude.{OnOk};
+ghost use Rattle.picture.specs.Inner.Drawn.{Draws, stretch_text};
+
 use crate::ink::Stroke;
 use crate::layout::{Layout, Point};
 use crate::note::turns;
 use crate::record::{Face, Record};
-use crate::shape::Shape;
+use crate::shape::{Shape, put};
 use rows::NoMemory;
 
 /// Draws all lifelines.
@@ -39,20 +42,11 @@ fn draw_lifeline(
 }
 
 // A part of a lifeline, along which the actor stays what it is.
-fn draw_stretch(
-    shapes: &mut Vec<Shape>,
-    from: Point,
-    to: Point,
-    face: Face,
-) -> Result<(), NoMemory> {
+fn draw_stretch(shapes: &mut Vec<Shape>, from: Point, to: Point, face: Face) -> Result<(), NoMemory>
+    ensures { OnOk result (Draws shapes.old.items shapes.new.items (stretch_text from to face)) }
+{
     if !face.up {
         return Ok(());
     }
-    let stroke = if face.leads {
-        Stroke::Leads
-    } else {
-        Stroke::Life
-    };
-    shapes.push(Shape::Line(from, to, stroke))?;
-    Ok(())
+    put(shapes, Shape::Line(from, to, Stroke::of_life(face.leads)))
 }

@@ -1,12 +1,17 @@
 //! What is noted of a run while it is played again: of each event its actor, before and after it,
 //! and of each message who sent it when, and how often it came.
-ghost use Rattle.std.specs.Prelude.{◌≡◌, ◌+◌, [], length, OnOk, IfOk};
+ghost use Rattle.std.specs.Prelude.{◌≡◌, ◌+◌, ◌++◌, [], is_none, ◌&&◌, length, map, drop, slice_get, OnOk, IfOk};
+ghost use Rattle.std.specs.List.{count_by};
+ghost use Rattle.std.specs.Option.{unwrap_or};
+ghost use Rattle.picture.specs.Inner.Records.{lifeline_of, column_within, delivered_place, message_in, arrived, had_come, taken_in, as_sent, receiver_line, is_lost, TakesRow, KeepsActors};
+ghost use Rattle.picture.specs.Inner.Places.{capped};
 
 use client_agent::Agent;
 use raft_core::Role;
 use rows::{Actor, NoMemory, Refusal};
 use server::Server;
 use std::alloc::Global;
+use wire::Frames;
 use world::{Done, Event, World};
 
 /// An actor, as far as it is drawn. A client is in term 0 and has nothing applied.
@@ -127,7 +132,10 @@ pub(crate) struct Record {
 impl Record {
     /// Before the first event.
     pub(crate) fn new(alloc: Global, servers: usize, clients: usize) -> Record
-        ensures { result.steps.items ≡ [] }
+        ensures steps { result.steps.items ≡ [] }
+        ensures sendings { result.sendings.items ≡ [] }
+        ensures servers { result.servers ≡ servers }
+        ensures clients { result.clients ≡ clients }
     {
         Record {
             servers,
@@ -145,7 +153,11 @@ impl Record {
         events: &[Event],
     ) -> Result<(), NoMemory>
         requires { self.old.steps.items ≡ [] }
-        ensures { OnOk result (length self.new.steps.items ≡ length events.now) }
+        ensures rows { OnOk result (length self.new.steps.items ≡ length events.now) }
+        // Of each event the message that it delivers.
+        ensures messages { OnOk result (map message_in self.new.steps.items
+            ≡ map delivered_place events.now) }
+        ensures actors { KeepsActors self.old self.new }
     {
         for event in events {
             self.take(world, event.try_clone(alloc)?)?;
@@ -154,51 +166,84 @@ impl Record {
     }
 
     /// How many lifelines there are: the servers' first, then the clients'.
-    pub(crate) fn columns(&self) -> usize {
+    pub(crate) fn columns(&self) -> usize
+        ensures { result ≡ capped (self.now.servers + self.now.clients) }
+    {
         self.servers.saturating_add(self.clients)
     }
 
     /// How many messages never came.
-    pub(crate) fn lost(&self) -> usize {
-        self.sendings.iter().filter(|sending| !sending.came).count()
+    pub(crate) fn lost(&self) -> usize
+        ensures { result ≡ count_by is_lost self.now.sendings.items }
+    {
+        let mut lost = 0;
+        for sending in &self.sendings {
+            if !sending.came {
+                lost += 1;
+            }
+        }
+        lost
     }
 
     /// Notes an event, which the group takes or refuses.
     fn take(&mut self, world: &mut World, event: Event) -> Result<(), NoMemory>
-        ensures { OnOk result (length self.new.steps.items ≡ length self.old.steps.items + 1) }
+        ensures noted { OnOk result (TakesRow self.old self.new world.new.outbox.frames event) }
+        ensures actors { KeepsActors self.old self.new }
     {
         let message = message_of(&event);
         let actor = actor_of(world, &event);
         let before = Face::of(world, actor);
         let refusal = refusal_of(world, event)?;
-        let step = Step {
-            column: self.column_of(actor),
+        let column = self.column_of(&actor);
+        let again = self.take_in(refusal, message);
+        let after = Face::of(world, actor);
+        let sent = world.sent();
+        self.note_sent(sent, column)?;
+        self.steps.push(Step {
+            column,
             message,
-            again: refusal.is_none() && self.arrive(message),
+            again,
             refusal,
             before,
-            after: Face::of(world, actor),
-        };
-        self.note_sent(world, step.column)?;
-        self.steps.push(step)?;
+            after,
+        })?;
         Ok(())
     }
 
     // The lifeline of an actor.
-    fn column_of(&self, actor: Option<Actor>) -> Option<usize> {
-        let (place, end) = match actor? {
-            Actor::Server(id) => (id.place(), self.servers),
-            Actor::Client(id) => {
+    fn column_of(&self, actor: &Option<Actor>) -> Option<usize>
+        ensures { result ≡ lifeline_of self.now.servers self.now.clients actor.now }
+    {
+        match actor {
+            None => None,
+            Some(Actor::Server(id)) => within(id.place(), self.servers),
+            Some(Actor::Client(id)) => {
                 let behind = usize::from(id.number()) - 1;
-                (self.servers.saturating_add(behind), self.columns())
+                within(self.servers.saturating_add(behind), self.columns())
             }
-        };
-        if place < end { Some(place) } else { None }
+        }
+    }
+
+    // A message came, if its event was not refused: whether it had come before.
+    fn take_in(&mut self, refusal: Option<u8>, message: Option<usize>) -> bool
+        ensures steps { self.new.steps.items ≡ self.old.steps.items }
+        ensures sendings { self.new.sendings.items
+            ≡ taken_in refusal message self.old.sendings.items }
+        ensures again { result ≡ (is_none refusal && had_come message self.old.sendings.items) }
+        ensures actors { KeepsActors self.old self.new }
+    {
+        if refusal.is_some() {
+            return false;
+        }
+        self.arrive(message)
     }
 
     // A message came: whether it had come before.
     fn arrive(&mut self, message: Option<usize>) -> bool
-        ensures { self.new.steps.items ≡ self.old.steps.items }
+        ensures steps { self.new.steps.items ≡ self.old.steps.items }
+        ensures sendings { self.new.sendings.items ≡ arrived message self.old.sendings.items }
+        ensures again { result ≡ had_come message self.old.sendings.items }
+        ensures actors { KeepsActors self.old self.new }
     {
         let Some(place) = message else {
             return false;
@@ -212,14 +257,18 @@ impl Record {
     }
 
     // Notes what the event that comes next in the list sent, by the actor of this lifeline.
-    fn note_sent(&mut self, world: &World, from: Option<usize>) -> Result<(), NoMemory>
-        ensures { self.new.steps.items ≡ self.old.steps.items }
+    fn note_sent(&mut self, sent: &Frames, from: Option<usize>) -> Result<(), NoMemory>
+        ensures steps { self.new.steps.items ≡ self.old.steps.items }
+        // Each at the row of the event, from its actor's lifeline to that of its receiver.
+        ensures sendings { OnOk result (self.new.sendings.items ≡ self.old.sendings.items
+            ++ map (as_sent self.old (unwrap_or from 0))
+            (drop (length self.old.sendings.items) sent.now)) }
+        ensures actors { KeepsActors self.old self.new }
     {
         let row = self.steps.len();
         let from = from.unwrap_or(0);
-        for place in self.sendings.len()..world.sent().len() {
-            let number = (place as u64).saturating_add(1);
-            let to = self.column_of(world.receiver(number)).unwrap_or(from);
+        for place in self.sendings.len()..sent.len() {
+            let to = self.receiver_of(sent, place).unwrap_or(from);
             let came = false;
             self.sendings.push(Sending {
                 row,
@@ -230,12 +279,30 @@ impl Record {
         }
         Ok(())
     }
+
+    // The lifeline of the receiver of the message at a place, from 0.
+    fn receiver_of(&self, sent: &Frames, place: usize) -> Option<usize>
+        ensures { result ≡ receiver_line self.now (slice_get sent.now place) }
+    {
+        let frame = sent.get(place)?;
+        let to = Some(frame.to());
+        self.column_of(&to)
+    }
+}
+
+// A lifeline, if it is one of so many.
+fn within(column: usize, end: usize) -> Option<usize>
+    ensures { result ≡ column_within column end }
+{
+    if column < end { Some(column) } else { None }
 }
 
 // The place of the message that an event delivers, from 0.
-fn message_of(event: &Event) -> Option<usize> {
+fn message_of(event: &Event) -> Option<usize>
+    ensures { result ≡ delivered_place event.now }
+{
     match event {
-        Event::Deliver(number) => Some(number.checked_sub(1)? as usize),
+        Event::Deliver(number) if *number > 0 => Some((*number - 1) as usize),
         _ => None,
     }
 }

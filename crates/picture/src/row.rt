@@ -1,11 +1,16 @@
 //! What stands in the row of one event: its number, its mark on the lifeline, and its label.
+ghost use Rattle.std.specs.Prelude.{◌≡◌, OnOk, IfOk, string_bytes};
+ghost use Rattle.picture.specs.Inner.Drawn.{Draws};
+ghost use Rattle.picture.specs.Inner.Labels.{event_label, refused_label};
+ghost use Rattle.picture.specs.Inner.Rows.{event_number, message_number, numbers_text, tick_text, mark_text, label_side, note_room};
+
 use crate::ink::{Ink, Spot, Stroke};
 use crate::input_label::event_label;
 use crate::label::message_label;
 use crate::layout::{Layout, Point, Side};
 use crate::note::{commits, note_of};
 use crate::record::{Record, Step};
-use crate::shape::{Shape, cross, label, width_of};
+use crate::shape::{Shape, cross, label, put, width_of};
 use rows::NoMemory;
 use std::alloc::Global;
 use wire::Frames;
@@ -54,7 +59,9 @@ pub(crate) fn draw_row(
 }
 
 // How much room a note takes.
-fn shift_of(note: &str) -> u64 {
+fn shift_of(note: &str) -> u64
+    ensures { result ≡ note_room note.now }
+{
     if note.is_empty() {
         0
     } else {
@@ -69,11 +76,36 @@ fn draw_numbers(
     y: u64,
     row: usize,
     step: &Step,
-) -> Result<(), NoMemory> {
+) -> Result<(), NoMemory>
+    ensures { OnOk result (Draws shapes.old.items shapes.new.items
+        (numbers_text y row step.now.message)) }
+{
+    draw_event_number(alloc, shapes, y, row)?;
+    draw_message_number(alloc, shapes, y, step.message)
+}
+
+fn draw_event_number(
+    alloc: Global,
+    shapes: &mut Vec<Shape>,
+    y: u64,
+    row: usize,
+) -> Result<(), NoMemory>
+    ensures { OnOk result (Draws shapes.old.items shapes.new.items (event_number y row)) }
+{
     let number = format!(in alloc; "{}", row.saturating_add(1))?;
     let at = Point { x: EVENT, y };
-    label(shapes, at.down(3), Side::Left, Ink::Number, number)?;
-    let Some(place) = step.message else {
+    label(shapes, at.down(3), Side::Left, Ink::Number, number)
+}
+
+fn draw_message_number(
+    alloc: Global,
+    shapes: &mut Vec<Shape>,
+    y: u64,
+    message: Option<usize>,
+) -> Result<(), NoMemory>
+    ensures { OnOk result (Draws shapes.old.items shapes.new.items (message_number y message)) }
+{
+    let Some(place) = message else {
         return Ok(());
     };
     let number = format!(in alloc; "#{}", place.saturating_add(1))?;
@@ -83,7 +115,9 @@ fn draw_numbers(
 
 // The side of a label: the one that the message does not come from, where no arrow of the event
 // stands above its row; else the right one.
-fn side_of(record: &Record, step: &Step) -> Side {
+fn side_of(record: &Record, step: &Step) -> Side
+    ensures { result ≡ label_side «record».now.sendings.items step.now.message step.now.column }
+{
     let (Some(place), Some(column)) = (step.message, step.column) else {
         return Side::Right;
     };
@@ -110,7 +144,10 @@ fn said_of(
 }
 
 // That an event was refused, why, and which input it was; a delivery has none.
-fn refused_label(alloc: Global, number: u8, event: &Event) -> Result<String, NoMemory> {
+fn refused_label(alloc: Global, number: u8, event: &Event) -> Result<String, NoMemory>
+    ensures { IfOk result (λ label.
+        string_bytes label ≡ refused_label number (event_label event.now)) }
+{
     let input = event_label(alloc, event)?;
     if input.is_empty() {
         return Ok(format!(in alloc; "refused {number}")?);
@@ -120,21 +157,28 @@ fn refused_label(alloc: Global, number: u8, event: &Event) -> Result<String, NoM
 
 // The mark on the lifeline: a cross where the actor stops, a circle where it begins again, a tick
 // where it applies entries, else a dot.
-fn draw_mark(shapes: &mut Vec<Shape>, at: Point, step: &Step) -> Result<(), NoMemory> {
+fn draw_mark(shapes: &mut Vec<Shape>, at: Point, step: &Step) -> Result<(), NoMemory>
+    ensures { OnOk result (Draws shapes.old.items shapes.new.items (mark_text at step.now)) }
+{
     if step.refusal.is_some() {
-        shapes.push(Shape::Circle(at, Spot::Refused))?;
+        return put(shapes, Shape::Circle(at, Spot::Refused));
+    }
+    draw_tick(shapes, at, step)?;
+    match (step.before.up, step.after.up) {
+        (true, false) => cross(shapes, at, 6, Stroke::Crash),
+        (false, true) => put(shapes, Shape::Circle(at, Spot::Begins)),
+        _ => put(shapes, Shape::Circle(at, Spot::Event)),
+    }
+}
+
+// The tick where an actor applies entries.
+fn draw_tick(shapes: &mut Vec<Shape>, at: Point, step: &Step) -> Result<(), NoMemory>
+    ensures { OnOk result (Draws shapes.old.items shapes.new.items (tick_text at step.now)) }
+{
+    if !commits(step.before, step.after) {
         return Ok(());
     }
-    if commits(step.before, step.after) {
-        let left = at.aside(Side::Left, 8);
-        let right = at.aside(Side::Right, 8);
-        shapes.push(Shape::Line(left, right, Stroke::Commit))?;
-    }
-    let spot = match (step.before.up, step.after.up) {
-        (true, false) => return cross(shapes, at, 6, Stroke::Crash),
-        (false, true) => Spot::Begins,
-        _ => Spot::Event,
-    };
-    shapes.push(Shape::Circle(at, spot))?;
-    Ok(())
+    let left = at.aside(Side::Left, 8);
+    let right = at.aside(Side::Right, 8);
+    put(shapes, Shape::Line(left, right, Stroke::Commit))
 }

@@ -1,4 +1,9 @@
 //! What a picture is made of: lines, circles, and texts on white.
+ghost use Rattle.std.specs.Prelude.{◌≡◌, OnOk, string_bytes};
+ghost use Rattle.picture.specs.Inner.Shapes.{text_of, words_text};
+ghost use Rattle.picture.specs.declared.ink.Anchor.TheVariants.{Start};
+ghost use Rattle.picture.specs.Inner.Drawn.{Draws, cross_text, width_in, label_left, label_anchor, label_text, name_text};
+
 use crate::ink::{Anchor, Cover, Ink, MOST, Spot, Stroke};
 use crate::layout::{Point, Side};
 use rows::NoMemory;
@@ -20,22 +25,39 @@ pub(crate) enum Shape {
     Text(Point, Anchor, Ink, String),
 }
 
+/// Puts an element above these.
+pub(crate) fn put(shapes: &mut Vec<Shape>, shape: Shape) -> Result<(), NoMemory>
+    ensures { OnOk result (Draws shapes.old.items shapes.new.items (text_of shape)) }
+{
+    shapes.push(shape)?;
+    Ok(())
+}
+
 /// A cross with its middle there, from corner to corner so far from the middle.
 pub(crate) fn cross(
     shapes: &mut Vec<Shape>,
     at: Point,
     reach: u64,
     stroke: Stroke,
-) -> Result<(), NoMemory> {
+) -> Result<(), NoMemory>
+    ensures { OnOk result (Draws shapes.old.items shapes.new.items (cross_text at reach stroke)) }
+{
     let left = at.aside(Side::Left, reach);
     let right = at.aside(Side::Right, reach);
-    shapes.push(Shape::Line(left.up(reach), right.down(reach), stroke))?;
-    shapes.push(Shape::Line(left.down(reach), right.up(reach), stroke))?;
-    Ok(())
+    put(
+        shapes,
+        Shape::Line(left.up(reach), right.down(reach), stroke),
+    )?;
+    put(
+        shapes,
+        Shape::Line(left.down(reach), right.up(reach), stroke),
+    )
 }
 
 /// How wide the front of a text is that is drawn.
-pub(crate) fn width_of(ink: Ink, text: &str) -> u64 {
+pub(crate) fn width_of(ink: Ink, text: &str) -> u64
+    ensures { result ≡ width_in ink text.now }
+{
     let count = text.len().min(MOST) as u64;
     count.saturating_mul(ink.width()) / 10
 }
@@ -48,20 +70,39 @@ pub(crate) fn label(
     side: Side,
     ink: Ink,
     text: String,
-) -> Result<(), NoMemory> {
+) -> Result<(), NoMemory>
+    ensures { OnOk result (Draws shapes.old.items shapes.new.items
+        (label_text at side ink (string_bytes text))) }
+{
     if text.is_empty() {
         return Ok(());
     }
     let width = width_of(ink, &text);
     let height = ink.height();
-    let (left, anchor) = match side {
-        Side::Left => (at.aside(Side::Left, width), Anchor::End),
-        Side::Right => (at, Anchor::Start),
-    };
+    let corner = left_of(at, side, width).up(height);
     let size = height.saturating_add(2);
-    shapes.push(Shape::White(left.up(height), width, size, Cover::Thin))?;
-    shapes.push(Shape::Text(at, anchor, ink, text))?;
-    Ok(())
+    put(shapes, Shape::White(corner, width, size, Cover::Thin))?;
+    put(shapes, Shape::Text(at, anchor_of(side), ink, text))
+}
+
+// The left end of a label that stands on this side of a point.
+fn left_of(at: Point, side: Side, width: u64) -> Point
+    ensures { result ≡ label_left at side width }
+{
+    match side {
+        Side::Left => at.aside(Side::Left, width),
+        Side::Right => at,
+    }
+}
+
+// Which part of a label stands at its point.
+fn anchor_of(side: Side) -> Anchor
+    ensures { result ≡ label_anchor side }
+{
+    match side {
+        Side::Left => Anchor::End,
+        Side::Right => Anchor::Start,
+    }
 }
 
 /// A text whose middle is at a point, on white.
@@ -70,13 +111,14 @@ pub(crate) fn name(
     shapes: &mut Vec<Shape>,
     at: Point,
     text: &str,
-) -> Result<(), NoMemory> {
+) -> Result<(), NoMemory>
+    ensures { OnOk result (Draws shapes.old.items shapes.new.items (name_text at text.now)) }
+{
     let width = width_of(Ink::Name, text);
     let corner = at.aside(Side::Left, width / 2).up(Ink::Name.height());
-    shapes.push(Shape::White(corner, width, 15, Cover::Whole))?;
+    put(shapes, Shape::White(corner, width, 15, Cover::Whole))?;
     let text = String::from_str(alloc, text)?;
-    shapes.push(Shape::Text(at, Anchor::Middle, Ink::Name, text))?;
-    Ok(())
+    put(shapes, Shape::Text(at, Anchor::Middle, Ink::Name, text))
 }
 
 /// A line of text that begins at a point, however long.
@@ -85,7 +127,9 @@ pub(crate) fn heading(
     at: Point,
     ink: Ink,
     text: String,
-) -> Result<(), NoMemory> {
-    shapes.push(Shape::Text(at, Anchor::Start, ink, text))?;
-    Ok(())
+) -> Result<(), NoMemory>
+    ensures { OnOk result (Draws shapes.old.items shapes.new.items
+        (words_text at Start ink (string_bytes text))) }
+{
+    put(shapes, Shape::Text(at, Anchor::Start, ink, text))
 }

@@ -62,7 +62,7 @@ fn opened(alloc: Global, width: u64, height: u64) -> Result<String, NoMemory>
 fn push_title(alloc: Global, svg: &mut String, title: &str) -> Result<(), NoMemory>
     ensures { OnOk result (string_bytes svg.new ≡ string_bytes svg.old ++ title_text title.now) }
 {
-    let title = escaped(alloc, title, usize::MAX)?;
+    let title = escaped(alloc, title, title.len())?;
     Ok(write!(svg, "<title>{title}</title>\n")?)
 }
 

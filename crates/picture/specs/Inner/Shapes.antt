@@ -86,7 +86,7 @@ text_of (White corner width height cover) = white_text corner width height cover
 text_of (Text at anchor ink text) = words_text at anchor ink (string_bytes text)
 
 abbrev pub title_text : List ℕ → List ℕ
-title_text title = codes "<title>" ++ (flat_map shown (take (2 ^ 64 - 1) title) ++ codes "</title>\n")
+title_text title = codes "<title>" ++ (flat_map shown title ++ codes "</title>\n")
 
 abbrev pub about_text : List ℕ
 about_text = codes "<desc>" ++ (ABOUT.now ++ (codes "</desc>\n" ++ (HEAD.now ++ codes "\n")))

@@ -5,5 +5,6 @@ use Rattle.picture.proofs.drawing.whole.Goals as goal
 
 pub returns : goal.returns
 returns c =
-    subst IsPicture (sym c.in_ok-svg.ensures)
-    (is_picture c.args.size.0 c.args.size.1 c.args.title.now c.args.shapes.now)
+    let title = c.args.title.now in
+    subst (IsPicture title) (sym c.in_ok-svg.ensures)
+    (is_picture c.args.size.0 c.args.size.1 title c.args.shapes.now)
