@@ -25,8 +25,7 @@ use Rattle.client_agent.specs.AgentView.{AgentView, crashed_agent}
 use Rattle.client_agent.specs.declared.input.ClientInput.{ClientInput}
 use Rattle.client_agent.specs.declared.input.ClientInput.TheVariants as client_inputs
 use Rattle.server.specs.ServerViews.{ServerView, IsMember, crashed_member}
-use Rattle.server.specs.Handings.{Handing, FrameBytes, OwnInput as TakesOwn, handing}
-use Rattle.world.specs.Inner.Inputs.{bytes_of}
+use Rattle.server.specs.Handings.{Handing, FrameBytes, OwnInput as TakesOwn, handing, bytes_of}
 use Rattle.world.specs.Inner.GroupInputs.{is_frame, is_client_frame, IsSentTo}
 use Rattle.world.proofs.GroupScenes.{ServerTakes, ClientTakes}
 use Rattle.world.proofs.GroupOwn.{own_server, own_client}

@@ -10,6 +10,7 @@ mod merge;
 mod no_projection;
 mod project;
 mod raft;
+mod release;
 mod role;
 mod sending;
 mod stable;

@@ -17,6 +17,7 @@ ghost use Rattle.raft_core.specs.RaftView.{KeepsAhead};
 ghost use Rattle.raft_core.specs.Watching.{SeesStep};
 
 use crate::input::Input;
+use crate::release::forget;
 use crate::role::Role;
 use crate::stable::Stable;
 use crate::watch::{Unwatched, Watch};
@@ -284,11 +285,12 @@ impl<M: Machine> Raft<M> {
     fn go_down(&mut self)
         ensures { self.new ≡ with_server self.old (crashed self.old.server) }
     {
-        self.machine = None;
-        self.ahead = None;
+        forget(&mut self.machine);
+        forget(&mut self.ahead);
     }
 
     /// It starts again: a follower that knows no leader, with nothing applied.
+    #[inline(never)]
     fn revive(&mut self)
         requires { is_up self.old.server.mode ≡ false }
         ensures { self.new ≡ with_server self.old (restarted self.old.server) }
@@ -311,7 +313,7 @@ impl<M: Machine> Raft<M> {
             self.vote = None;
             self.known = None;
             self.role = Role::Follower;
-            self.ahead = None;
+            forget(&mut self.ahead);
         }
     }
 

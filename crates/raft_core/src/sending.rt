@@ -1,11 +1,12 @@
 ghost use Rattle.std.specs.Prelude.{◌≡◌, ◌≢◌, ◌∷◌, [], true, OnOk, OnErr, IfSome};
+ghost use Rattle.wire.specs.declared.body.Body.TheVariants as bodies;
 ghost use Rattle.wire.specs.Messages.{kind_of, is_of_log};
 ghost use Rattle.raft_core.specs.Frames.{Sends, log_message};
 ghost use Rattle.raft_core.specs.Inner.Turns.{Sent};
 
 use machine::Machine;
 use rows::{NoMemory, ServerId};
-use wire::{Body, Frames, Message};
+use wire::{AppendReply, Body, Frames, Message};
 
 /// Sends the frame of a message from one server to another.
 #[tactic(auto, using(crate::proofs::Sends::may_go_between, crate::proofs::Sends::sends_one, crate::proofs::Sends::sent_front, crate::proofs::Sends::sent_all))]
@@ -23,4 +24,21 @@ pub fn send<M: Machine>(
     ensures err { OnErr result (outbox.new ≡ outbox.old) }
 {
     outbox.send(&Message::between(from, to, body))
+}
+
+/// Sends the frame of an answer to a leader.
+#[tactic(auto, using(crate::proofs::Sends::may_go_between, crate::proofs::Sends::sends_one, crate::proofs::Sends::sent_front, crate::proofs::Sends::sent_all))]
+pub fn answer<M: Machine>(
+    outbox: &mut Frames,
+    from: ServerId,
+    to: ServerId,
+    reply: &AppendReply,
+) -> Result<(), NoMemory>
+    requires other { from ≢ to }
+    ensures ok { OnOk result (IfSome (log_message {S = M} from to (bodies.AppendReply reply.now)) (λ message.
+        Sends M.meaning outbox.old outbox.new (message ∷ []))) }
+    ensures front { Sent outbox.old outbox.new }
+    ensures err { OnErr result (outbox.new ≡ outbox.old) }
+{
+    outbox.send_answer::<M>(from, to, reply)
 }

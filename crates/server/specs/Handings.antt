@@ -1,5 +1,6 @@
 -- What is handed to a server of the group.
-use Rattle.std.specs.Prelude.{ℕ, List}
+use Rattle.std.specs.Prelude.{ℕ, Option, Some, None, List, [], slice_get}
+use Rattle.wire.specs.Frames.{Frame}
 use Rattle.group_model.specs.Inputs.{Input, Timeout, Beat, Request, TakeFrom, SubmitTo, FinishAt, NackAt, PlanTurn, Lapse, Expire, DrainTurn, FreeTurn, Reap, Crash, Restart}
 use Rattle.server.specs.declared.server_input.ServerInput.{ServerInput}
 use Rattle.server.specs.declared.server_input.ServerInput.TheVariants as inputs
@@ -8,6 +9,15 @@ use Rattle.server.specs.declared.server_input.ServerInput.TheVariants as inputs
 pub data Handing : Type 0 where
   FrameBytes : (bytes : List ℕ) → Handing
   OwnInput : (input : Input) → Handing
+
+-- the bytes of a frame, if there is one
+abbrev pub bytes_of : Option Frame → List ℕ
+bytes_of None = []
+bytes_of (Some frame) = frame.bytes
+
+-- those of the frame at a place, if one stands there
+abbrev pub bytes_at : List Frame → ℕ → List ℕ
+bytes_at frames at = bytes_of (slice_get frames at)
 
 -- the argument of `step`
 abbrev pub handing : ServerInput → Handing

@@ -4,3 +4,4 @@ pub mod Idle
 pub mod Replies
 pub mod Plans
 pub mod LogSteps
+pub mod Sources

@@ -2,5 +2,6 @@ pub mod Buffers
 pub mod ServiceLaws
 pub mod GrammarLaws
 pub mod Framing
+pub mod LogFrames
 pub mod Rules
 pub mod Sizes

@@ -1,10 +1,11 @@
 -- Frames: the bytes of a message, and how they are read.
-use Rattle.std.specs.Prelude.{◌≡◌, ℕ, ◌+◌, ◌^◌, List, [], ◌∷◌, ◌++◌, length, Result, Ok, Err, ◌&&◌, nat_eq, nat_le, if◌then◌else◌}
+use Rattle.std.specs.Prelude.{◌≡◌, ℕ, ◌+◌, ◌^◌, Bool, false, List, [], ◌∷◌, ◌++◌, length, Result, Ok, Err, ◌&&◌, nat_eq, nat_le, if◌then◌else◌}
 use Rattle.fields_model.specs.Format.{Reading, ◌>>=◌, Format, spelled, number_at}
 use Rattle.rows.specs.declared.actor.Actor.{Actor}
+use Rattle.wire.specs.declared.kind.Kind.{Kind}
 use Rattle.wire.specs.declared.header.Header.{Header}
-use Rattle.wire.specs.Messages.{Message, kind_of}
-use Rattle.wire.specs.Grammar.{header, body}
+use Rattle.wire.specs.Messages.{Message, kind_of, is_of_log}
+use Rattle.wire.specs.Grammar.{kind, header, body}
 
 -- no frame is longer
 abbrev pub frame_limit : ℕ
@@ -55,6 +56,15 @@ AddsFrame commands m old new = MessageFits commands m × (new ≡ old ++ message
 -- the message of a frame, or the place of its first fault
 unfoldable pub message_at : {S C : Type 0} → Format C → List ℕ → Result (Message S C) ℕ
 message_at commands bytes = frame_at header (λ h. body commands h.kind) (λ h b. record { from = h.from; to = h.to; body = b }) bytes
+
+-- what was read is a kind by which servers keep one log
+abbrev pub reads_log : Reading Kind → Bool
+reads_log (Ok k) = is_of_log k.0
+reads_log (Err place) = false
+
+-- the second byte is such a kind's
+abbrev pub is_log_frame : List ℕ → Bool
+is_log_frame bytes = reads_log (kind.read bytes 1)
 
 -- a frame on its way: its receiver and its bytes
 pub record Frame : Type 0 where

@@ -10,8 +10,11 @@ use Rattle.machine.specs.declared.entry.Entry.{Entry}
 use Rattle.wire.specs.declared.kind.Kind.{Kind}
 use Rattle.wire.specs.declared.kind.Kind.TheVariants as kinds
 use Rattle.wire.specs.declared.append.AppendHead.{AppendHead}
+use Rattle.wire.specs.declared.append.AppendReply.{AppendReply}
 use Rattle.wire.specs.declared.body.Body.{Body}
 use Rattle.wire.specs.declared.body.Body.TheVariants as bodies
+use Rattle.wire.specs.declared.log_message.LogBody.{LogBody}
+use Rattle.wire.specs.declared.log_message.LogBody.TheVariants as logs
 
 -- a message of one actor to another, in a group that replicates a machine of states S and commands
 -- C
@@ -52,6 +55,13 @@ is_of_log kinds.VoteReply = true
 is_of_log kinds.Append = true
 is_of_log kinds.AppendReply = true
 is_of_log _ = false
+
+-- what a message by which servers keep one log says, as a body of any message
+abbrev pub log_body : {S C : Type 0} → LogBody S C → Body S C
+log_body (logs.VoteRequest v) = bodies.VoteRequest v
+log_body (logs.VoteReply v) = bodies.VoteReply v
+log_body (logs.Append v) = bodies.Append v
+log_body (logs.AppendReply v) = bodies.AppendReply v
 
 -- the kinds that workers and the leader's desk send each other
 abbrev pub is_of_desk : Kind → Bool
@@ -114,3 +124,7 @@ may_go _ from to = are_servers from to
 -- an Append of these parts, from one server to another
 abbrev pub append_message : {S C : Type 0} → ℕ → ℕ → AppendHead → List (Entry C) → Message S C
 append_message from to head entries = record { from = Server from; to = Server to; body = bodies.Append (record { head = head; entries = entries }) }
+
+-- an answer to a leader, from one server to another
+abbrev pub answer_message : {S C : Type 0} → ℕ → ℕ → AppendReply → Message S C
+answer_message from to reply = record { from = Server from; to = Server to; body = bodies.AppendReply reply }

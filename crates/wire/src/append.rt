@@ -125,6 +125,7 @@ impl Field for AppendHead {
 
     ghost lawful = { append_head_lawful };
 
+    #[inline(always)]
     fn read_at(_alloc: Global, bytes: &[u8], at: usize) -> Result<(AppendHead, usize), Refusal>
         ensures { GivesExactly result (append_head.read bytes.now at) }
     {
@@ -143,6 +144,7 @@ impl Field for AppendHead {
         ))
     }
 
+    #[inline(always)]
     fn append(&self, out: &mut Vec<u8>) -> Result<(), NoMemory> {
         write_term(&self.term, out)?;
         write_index(&self.prev_index, out)?;
@@ -156,6 +158,7 @@ impl Field for AppendReply {
 
     ghost lawful = { append_reply_lawful };
 
+    #[inline(always)]
     fn read_at(_alloc: Global, bytes: &[u8], at: usize) -> Result<(AppendReply, usize), Refusal>
         ensures { GivesExactly result (append_reply.read bytes.now at) }
     {
@@ -174,6 +177,7 @@ impl Field for AppendReply {
         ))
     }
 
+    #[inline(always)]
     fn append(&self, out: &mut Vec<u8>) -> Result<(), NoMemory> {
         write_term(&self.term, out)?;
         write_term(&self.asked, out)?;
@@ -184,6 +188,7 @@ impl Field for AppendReply {
 
 /// The `Append` at a place, and the place after it. A count of more entries than there may be is a
 /// fault at the count.
+#[inline(always)]
 pub fn read_append<M: Machine>(
     alloc: Global,
     bytes: &[u8],
@@ -198,6 +203,7 @@ pub fn read_append<M: Machine>(
 
 /// Puts an `Append` of these parts to the end.
 #[tactic(auto, using(crate::proofs::Rules::appends))]
+#[inline(always)]
 pub fn append_append<M: Machine>(
     head: &AppendHead,
     entries: &[Entry<Coded<M>>],

@@ -125,6 +125,7 @@ pub fn read_body<M: Machine>(
 }
 
 /// Puts the body to the end.
+#[inline(never)]
 pub fn append_body<M: Machine>(value: &Body<M>, out: &mut Vec<u8>) -> Result<(), NoMemory>
     ensures { Puts (body M.meaning.commands (kind_of value.now)) value.now result out.old.items out.new.items }
 {
@@ -152,11 +153,13 @@ pub fn append_body<M: Machine>(value: &Body<M>, out: &mut Vec<u8>) -> Result<(),
     }
 }
 
-/// What is to be sent: a body, or an `Append` whose entries stay in a log.
+/// What is to be sent: a body, or the parts of one that stay where they are, as entries in a log.
 #[derive(Drop)]
 pub enum Said<'a, M: Machine> {
     /// A body.
     Body(&'a Body<M>),
+    /// The answer to a leader.
+    Answer(&'a AppendReply),
     /// The parts of an `Append`.
     Entries(&'a AppendHead, &'a [Entry<Coded<M>>]),
 }
@@ -168,12 +171,14 @@ impl<'a, M: Machine> Said<'a, M> {
     {
         match self {
             Said::Body(body) => body.kind(),
+            Said::Answer(_) => Kind::AppendReply,
             Said::Entries(_, _) => Kind::Append,
         }
     }
 }
 
 /// Puts what is said to the end.
+#[inline(always)]
 pub fn append_said<M: Machine>(said: &Said<'_, M>, out: &mut Vec<u8>) -> Result<(), NoMemory>
     requires { HavePlaces said.now }
     ensures { Puts (body M.meaning.commands (kind_of (said_body said.now))) (said_body said.now)
@@ -181,6 +186,7 @@ pub fn append_said<M: Machine>(said: &Said<'_, M>, out: &mut Vec<u8>) -> Result<
 {
     match said {
         Said::Body(body) => append_body(body, out),
+        Said::Answer(reply) => reply.append(out),
         Said::Entries(head, entries) => append_append(head, entries, out),
     }
 }

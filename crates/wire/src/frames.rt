@@ -2,11 +2,11 @@
 ghost use Rattle.std.specs.Prelude.{◌≡◌, [], ◌+◌, ◌<◌, ◌≤◌, ◌^◌, true, length, take, slice_get, slice_range, ◌==◌, OnOk, OnErr};
 ghost use Rattle.rows.specs.declared.actor.Actor.TheVariants as actors;
 ghost use Rattle.wire.specs.declared.kind.Kind.TheVariants as kinds;
-ghost use Rattle.wire.specs.Messages.{append_message, may_go};
+ghost use Rattle.wire.specs.Messages.{append_message, answer_message, may_go};
 ghost use Rattle.wire.specs.Frames.{ListsFrame};
 ghost use Rattle.wire.specs.Inner.Ends.{start_of};
 
-use crate::append::AppendHead;
+use crate::append::{AppendHead, AppendReply};
 use crate::body::Said;
 use crate::message::Message;
 use crate::writing::{write_frame, write_message};
@@ -138,6 +138,29 @@ impl Frames {
         let (from, to) = (Actor::Server(from), Actor::Server(to));
         self.ends.reserve(1)?;
         write_frame(&from, &to, &Said::Entries(head, entries), &mut self.bytes)?;
+        self.ends.push_reserved(End {
+            to,
+            end: self.bytes.len(),
+        });
+        Ok(())
+    }
+
+    /// Puts the frame of an answer to a leader to the end, or changes nothing. It goes to another
+    /// server.
+    pub fn send_answer<M: Machine>(
+        &mut self,
+        from: ServerId,
+        to: ServerId,
+        reply: &AppendReply,
+    ) -> Result<(), NoMemory>
+        requires { may_go kinds.AppendReply (actors.Server from) (actors.Server to) ≡ true }
+        ensures ok { OnOk result (ListsFrame M.meaning.commands (answer_message {S = M} from to reply.now)
+            self.old self.new) }
+        ensures err { OnErr result (self.new ≡ self.old) }
+    {
+        let (from, to) = (Actor::Server(from), Actor::Server(to));
+        self.ends.reserve(1)?;
+        write_frame::<M>(&from, &to, &Said::Answer(reply), &mut self.bytes)?;
         self.ends.push_reserved(End {
             to,
             end: self.bytes.len(),

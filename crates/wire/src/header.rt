@@ -23,6 +23,7 @@ pub struct Header {
 const VERSION: u8 = 1;
 
 /// The header at a place, and the place after it.
+#[inline(always)]
 pub fn read_header(alloc: Global, bytes: &[u8], at: usize) -> Result<(Header, usize), Refusal>
     ensures value { Gives result (header.read bytes.now at) }
     ensures allowed { IfOk result (λ h. may_go h.0.kind h.0.from h.0.to ≡ true) }
@@ -44,6 +45,7 @@ pub fn read_header(alloc: Global, bytes: &[u8], at: usize) -> Result<(Header, us
 }
 
 /// Puts the header to the end.
+#[inline(always)]
 pub fn append_header(value: &Header, out: &mut Vec<u8>) -> Result<(), NoMemory>
     requires { may_go value.now.kind value.now.from value.now.to ≡ true }
     ensures { Puts header value.now result out.old.items out.new.items }

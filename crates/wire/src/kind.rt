@@ -1,7 +1,7 @@
 ghost use Rattle.std.specs.Prelude.{◌≡◌};
 ghost use Rattle.fields_model.specs.Format.{GivesExactly};
 ghost use Rattle.wire.specs.Messages.{is_of_log, is_of_desk, is_of_agent, may_come_from, may_go, is_server, is_another_server};
-ghost use Rattle.wire.specs.Grammar.{kind};
+ghost use Rattle.wire.specs.Grammar.{kind, number_of_kind};
 ghost use Rattle.wire.specs.Laws.GrammarLaws.{kind_lawful};
 
 use fields::{Field, read_u8, write_u8};
@@ -48,6 +48,31 @@ pub enum Kind {
 }
 
 impl Kind {
+    /// Its number, which is the second byte of a frame.
+    pub fn number(self) -> u8
+        ensures { result ≡ number_of_kind self }
+    {
+        match self {
+            Kind::VoteRequest => 1,
+            Kind::VoteReply => 2,
+            Kind::Append => 3,
+            Kind::AppendReply => 4,
+            Kind::Take => 7,
+            Kind::Delivered => 8,
+            Kind::Submit => 9,
+            Kind::PlanResult => 10,
+            Kind::Finish => 11,
+            Kind::Nack => 12,
+            Kind::Refused => 13,
+            Kind::Register => 14,
+            Kind::Heartbeat => 15,
+            Kind::Pull => 16,
+            Kind::List => 17,
+            Kind::Report => 18,
+            Kind::Told => 19,
+        }
+    }
+
     /// Whether the message is one of those by which servers keep one log.
     pub fn is_of_log(self) -> bool
         ensures { result ≡ is_of_log self }
@@ -151,25 +176,6 @@ impl Field for Kind {
     }
 
     fn append(&self, out: &mut Vec<u8>) -> Result<(), NoMemory> {
-        let number = match self {
-            Kind::VoteRequest => 1,
-            Kind::VoteReply => 2,
-            Kind::Append => 3,
-            Kind::AppendReply => 4,
-            Kind::Take => 7,
-            Kind::Delivered => 8,
-            Kind::Submit => 9,
-            Kind::PlanResult => 10,
-            Kind::Finish => 11,
-            Kind::Nack => 12,
-            Kind::Refused => 13,
-            Kind::Register => 14,
-            Kind::Heartbeat => 15,
-            Kind::Pull => 16,
-            Kind::List => 17,
-            Kind::Report => 18,
-            Kind::Told => 19,
-        };
-        write_u8(&number, out)
+        write_u8(&self.number(), out)
     }
 }

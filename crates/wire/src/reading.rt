@@ -1,7 +1,7 @@
 ghost use Rattle.std.specs.Prelude.{◌≡◌, IfOk, Ok};
 ghost use Rattle.fields_model.specs.Format.{Gives, GivesExactly};
-ghost use Rattle.wire.specs.Messages.{Message as MessageOf};
-ghost use Rattle.wire.specs.Frames.{size_at, message_at, message_text, IsFrame, MessageFits};
+ghost use Rattle.wire.specs.Messages.{Message as MessageOf, kind_of, is_of_log};
+ghost use Rattle.wire.specs.Frames.{size_at, message_at, message_text, is_log_frame, IsFrame, MessageFits};
 
 use crate::body::read_body;
 use crate::header::read_header;
@@ -18,7 +18,7 @@ const FRAME_LIMIT: usize = 16_777_216;
 const BODY_AT: usize = 8;
 
 /// The length of the body, which is that of the bytes behind it, and the place after it.
-fn read_size(bytes: &[u8], at: usize) -> Result<(u32, usize), Refusal>
+pub fn read_size(bytes: &[u8], at: usize) -> Result<(u32, usize), Refusal>
     ensures { GivesExactly result (size_at bytes.now at) }
 {
     if at > bytes.len() || bytes.len() - at < 4 {
@@ -59,6 +59,8 @@ pub fn read_message<M: Machine>(alloc: Global, bytes: &[u8]) -> Result<Message<M
         → bytes.now ≡ message_text M.meaning.commands m → Gives result (Ok m) }
     // Which field is at fault.
     ensures exact { Gives result (message_at M.meaning.commands bytes.now) }
+    // The second byte says whether the message is one by which servers keep one log.
+    ensures log { IfOk result (λ m. is_of_log (kind_of m.body) ≡ is_log_frame bytes.now) }
 {
     read_frame(alloc, bytes)
 }

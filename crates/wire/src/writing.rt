@@ -24,6 +24,7 @@ fn put_size(out: &mut Vec<u8>, at: usize)
 }
 
 /// Puts what is said to the end, behind its length.
+#[inline(always)]
 fn append_sized<M: Machine>(said: &Said<'_, M>, out: &mut Vec<u8>) -> Result<(), NoMemory>
     requires { HavePlaces said.now }
     ensures ok { OnOk result (AddsSized (body M.meaning.commands (kind_of (said_body said.now)))
@@ -39,6 +40,7 @@ fn append_sized<M: Machine>(said: &Said<'_, M>, out: &mut Vec<u8>) -> Result<(),
 
 /// Puts the frame to the end; after an error a part of it may stand there.
 #[tactic(auto, using(crate::proofs::Rules::appends))]
+#[inline(always)]
 fn append_frame<M: Machine>(
     from: &Actor,
     to: &Actor,
@@ -63,6 +65,7 @@ fn append_frame<M: Machine>(
 /// Puts the one frame of the message of these parts to the end, or changes nothing. Its kind goes
 /// from there to there; the entries of an `Append` are at most 32, each with a place in the log,
 /// below 2^40.
+#[inline(always)]
 pub fn write_frame<M: Machine>(
     from: &Actor,
     to: &Actor,

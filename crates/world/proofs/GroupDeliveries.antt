@@ -28,11 +28,10 @@ use Rattle.client_agent.specs.declared.input.ClientInput.TheVariants as client_i
 use Rattle.client_agent.specs.AgentView.{AgentView}
 use Rattle.client_agent.specs.Refusals.{is_client_at, unreadable_to_client, client_frame_refusal}
 use Rattle.server.specs.ServerViews.{ServerView}
-use Rattle.server.specs.Handings.{FrameBytes}
+use Rattle.server.specs.Handings.{FrameBytes, bytes_of}
 use Rattle.server.specs.Turns.{TakesTurn, takes_in}
 use Rattle.server.specs.Refusals.{is_of_group, read_refusal, bytes_refusal}
 use Rattle.world.specs.GroupEvents.{message_work, log_work, input_work, turn_work}
-use Rattle.world.specs.Inner.Inputs.{bytes_of}
 use Rattle.world.specs.GroupView.{IsSentTo}
 use Rattle.world.proofs.Zips.{zip_at}
 use Rattle.world.proofs.GroupScenes.{ServerTakes, ClientTakes}

@@ -24,7 +24,7 @@ use Rattle.group_frames.specs.GroupFrames.{CarriesGroup, SendsGroup}
 use Rattle.server.specs.declared.server.Outbox.{Outbox}
 use Rattle.server.specs.ServerViews.{ServerView, IsMember, SameMember, group_desk, crashed_member}
 use Rattle.server.specs.declared.server_input.ServerInput.{ServerInput}
-use Rattle.server.specs.Handings.{Handing, FrameBytes, OwnInput, handing}
+use Rattle.server.specs.Handings.{Handing, FrameBytes, OwnInput, handing, bytes_of}
 use Rattle.server.specs.Refusals.{MayLackMemory, handing_refusal}
 use Rattle.world.specs.declared.done.Done.{Done}
 use Rattle.world.specs.declared.done.Done.TheVariants as done
@@ -32,7 +32,7 @@ use Rattle.world.specs.WorldView.{IsGroup}
 use Rattle.world.specs.GroupEvents.{server_input, work_of, input_work, turn_work}
 use Rattle.world.specs.GroupView.{GroupView, RepresentsGroup, GroupRunsTo, IsGroupWorld, IsSentTo, ServersKnowPlaces, ClientsKnowPlaces, nodes_of, node_in, client_in}
 use Rattle.world.specs.GroupSteps.{GroupEventHappened, SameGroup, RefusesGroupEvent, IsGroupAwake, MayWantAt}
-use Rattle.world.specs.Inner.Inputs.{committed, bytes_of}
+use Rattle.world.specs.Inner.Inputs.{committed}
 use Rattle.world.specs.Inner.GroupInputs.{is_frame, is_restart_input}
 use Rattle.world.specs.Inner.GroupParts.{GroupHistoryView, ServerTook, ServerFell, ServerStays, IsServerRefused, ServerDone, GroupStepped}
 use Rattle.world.proofs.Zips.{zip_at, zip_from, zip_length, zip_set, zip_append}

@@ -14,8 +14,9 @@ use Rattle.raft_core.specs.Frames.{IsFrameOf, FrameCarries}
 use Rattle.raft_core.specs.Inputs.{Reads}
 use Rattle.raft_core.specs.Refusals.{MayLack, MayWant}
 use Rattle.raft_safety.proofs.Places.{get-within}
+use Rattle.server.specs.Handings.{bytes_of}
 use Rattle.world.specs.Events.{arrival, event_input}
-use Rattle.world.specs.Inner.Inputs.{ActsIn, NobodyActsIn, is_restart, handed_by, bytes_of}
+use Rattle.world.specs.Inner.Inputs.{ActsIn, NobodyActsIn, is_restart, handed_by}
 use Rattle.world.proofs.Zips.{zip_at, zip_from, zip_none}
 
 module _ {S C : Type 0} (m : Meaning S C) (sent : List Frame) (k : ℕ) where

@@ -13,21 +13,12 @@ ghost use Rattle.raft_core.specs.RaftView.{KeepsAhead};
 use super::Raft;
 use crate::log::stays;
 use crate::merge::adopt;
+use crate::release::forget;
 use crate::role::Role;
-use crate::sending::send;
+use crate::sending::answer;
 use machine::{Coded, Entry, Machine};
 use rows::{Index, NoMemory, ServerId, Term};
-use wire::{Append, AppendHead, AppendReply, Body, Frames};
-
-/// Lets go of a machine, if there is one. A machine is large: where there is none, nothing is
-/// moved.
-fn forget<M: Drop>(machine: &mut Option<M>)
-    ensures { machine.new ≡ None }
-{
-    if machine.is_some() {
-        *machine = None;
-    }
-}
+use wire::{Append, AppendHead, AppendReply, Frames};
 
 impl<M: Machine> Raft<M> {
     /// It follows the sender of an Append or of a snapshot, in the sender's term.
@@ -71,13 +62,14 @@ impl<M: Machine> Raft<M> {
             ok: false,
             at,
         };
-        send(outbox, self.me, from, Body::<M>::AppendReply(reply))?;
+        answer::<M>(outbox, self.me, from, &reply)?;
         self.follow(from, head.term);
         Ok(())
     }
 
     /// The entry before those that came is held: the log takes them up, and what the leader
     /// committed of them is applied.
+    #[inline(always)]
     fn accept_append(
         &mut self,
         from: ServerId,
@@ -108,7 +100,7 @@ impl<M: Machine> Raft<M> {
             ok: true,
             at: reached,
         };
-        send(outbox, self.me, from, Body::<M>::AppendReply(reply))?;
+        answer::<M>(outbox, self.me, from, &reply)?;
         let commit = self.commit.get();
         let Some(risen) = Index::new(commit.max(head.commit.get().min(reached.get()))) else {
             unreachable!()
@@ -127,13 +119,14 @@ impl<M: Machine> Raft<M> {
             }
             Err(lacking) => {
                 // The machine may have been brought on in part: the server is down.
-                self.machine = None;
+                forget(&mut self.machine);
                 Err(lacking)
             }
         }
     }
 
     /// Entries come, or none: a leader is heard of.
+    #[inline(always)]
     pub(super) fn append(
         &mut self,
         from: ServerId,
@@ -160,7 +153,7 @@ impl<M: Machine> Raft<M> {
                 ok: false,
                 at: Index::ZERO,
             };
-            return send(outbox, self.me, from, Body::<M>::AppendReply(reply));
+            return answer::<M>(outbox, self.me, from, &reply);
         }
         if its_term == term && self.is_leader() {
             return Ok(());

@@ -4,7 +4,7 @@ ghost use Rattle.std.specs.Prelude.{◌≡◌, ◌≢◌, ◌<◌, true, None, O
 ghost use Rattle.rows.specs.declared.actor.Actor.TheVariants as actors;
 ghost use Rattle.raft_model.specs.Servers.{Server, is_up, met};
 ghost use Rattle.raft_model.specs.Steps.{receives};
-ghost use Rattle.wire.specs.Messages.{kind_of, is_of_log};
+ghost use Rattle.wire.specs.Messages.{log_body};
 ghost use Rattle.raft_core.specs.Frames.{log_message};
 ghost use Rattle.raft_core.specs.Steps.{Represents, TakesMessage};
 ghost use Rattle.raft_core.specs.Inner.Turns.{Turned, Lost};
@@ -16,23 +16,23 @@ ghost use Rattle.raft_core.specs.Watching.{SeesStep};
 use super::Raft;
 use crate::watch::Watch;
 use machine::Machine;
-use rows::{Actor, NoMemory, Refusal, ServerId};
-use wire::{Body, Frames, Message, read_message};
+use rows::{NoMemory, Refusal, ServerId};
+use wire::{Frames, LogBody, LogMessage, is_log_frame, read_log_message, read_message};
 
 impl<M: Machine> Raft<M> {
     /// A message of another server of the group is taken.
+    #[inline(always)]
     fn receive<W: Watch<M>>(
         &mut self,
         from: ServerId,
-        body: Body<M>,
+        body: LogBody<M>,
         outbox: &mut Frames,
         watch: &mut W,
     ) -> Result<(), NoMemory>
         requires up { is_up self.old.server.mode ≡ true }
         requires member { from < self.old.size }
         requires other { from ≢ self.old.me }
-        requires log { is_of_log (kind_of body) ≡ true }
-        ensures taken { OnOk result (IfSome (log_message from self.old.me body) (λ x.
+        ensures taken { OnOk result (IfSome (log_message from self.old.me (log_body body)) (λ x.
             Turned M.meaning self.old self.new outbox.old outbox.new
             (receives M.meaning.noop self.old.size self.old.me (met x.term self.old.server)
             from x.term x.body))) }
@@ -42,19 +42,16 @@ impl<M: Machine> Raft<M> {
         ensures lost { OnErr result (Lost self.old self.new outbox.old outbox.new) }
     {
         match body {
-            Body::VoteRequest(request) => self.vote_request(from, &request, outbox),
-            Body::VoteReply(reply) => self.vote_reply(from, &reply),
-            Body::Append(append) => self.append(from, append, outbox),
-            Body::AppendReply(reply) => self.append_reply(from, &reply, watch),
-            Body::Request(_) | Body::Response(_) => unreachable!(),
-            Body::Register(_, _) | Body::Heartbeat | Body::Pull | Body::Report(_) => unreachable!(),
-            Body::List(_, _) | Body::Told(_, _) => unreachable!(),
+            LogBody::VoteRequest(request) => self.vote_request(from, &request, outbox),
+            LogBody::VoteReply(reply) => self.vote_reply(from, &reply),
+            LogBody::Append(append) => self.append(from, append, outbox),
+            LogBody::AppendReply(reply) => self.append_reply(from, &reply, watch),
         }
     }
 
     /// The sender of a message, if that is another server of the group and the message is for this
     /// one; else the refusal names the address at fault.
-    fn sender(&self, message: &Message<M>) -> Result<ServerId, Refusal>
+    fn sender(&self, message: &LogMessage<M>) -> Result<ServerId, Refusal>
         ensures ok { IfOk result (λ from. (message.now.from ≡ actors.Server from)
             × (message.now.to ≡ actors.Server self.now.me) × (from < self.now.size)) }
         ensures admitted { OnOk result
@@ -62,25 +59,21 @@ impl<M: Machine> Raft<M> {
         ensures refused { IfErr result (λ cause.
             misdirected self.now.size self.now.me message.now.from message.now.to ≡ Some cause) }
     {
-        let Actor::Server(from) = message.from() else {
-            return Err(Refusal::Frame(2));
-        };
+        let from = message.from();
         if from.place() >= self.size {
             return Err(Refusal::Frame(2));
         }
-        let Actor::Server(to) = message.to() else {
-            return Err(Refusal::Frame(3));
-        };
-        if to.place() != self.me.place() {
+        if message.to().place() != self.me.place() {
             return Err(Refusal::Frame(3));
         }
         Ok(from)
     }
 
     /// A message comes to a server that is up.
+    #[inline(always)]
     fn message<W: Watch<M>>(
         &mut self,
-        message: Message<M>,
+        message: LogMessage<M>,
         outbox: &mut Frames,
         watch: &mut W,
     ) -> Result<(), Refusal>
@@ -98,9 +91,6 @@ impl<M: Machine> Raft<M> {
             (SeesStep M.meaning W.sees self.old.server self.new.server watch.old watch.new) }
         ensures unseen { IfErr result (λ cause. RefusalShows cause watch.old watch.new) }
     {
-        if !message.kind().is_of_log() {
-            return Err(Refusal::Frame(1));
-        }
         let from = self.sender(&message)?;
         self.receive(from, message.into_body(), outbox, watch)?;
         Ok(())
@@ -109,14 +99,14 @@ impl<M: Machine> Raft<M> {
     /// One watched step with a message that was read: what a step with its frame is, and the frame
     /// is not read again.
     ///
-    /// One that is down refuses it with `Down`. Then `Frame` names offset 1 where its kind is none
-    /// by which servers keep one log, 2 where its sender is not of the group, or 3 where it is for
-    /// another server. A refusal changes nothing, sends nothing
+    /// One that is down refuses it with `Down`. Then `Frame` names offset 2 where its sender is not
+    /// of the group, or 3 where it is for another server. A refusal changes nothing, sends nothing
     /// and shows nothing. With `NoMemory` the server is down, with its stored part as it was and
     /// nothing sent, and the watcher is fit only to be dropped.
+    #[inline(always)]
     pub fn receive_message<W: Watch<M>>(
         &mut self,
-        message: Message<M>,
+        message: LogMessage<M>,
         outbox: &mut Frames,
         watch: &mut W,
     ) -> Result<(), Refusal>
@@ -176,7 +166,12 @@ impl<M: Machine> Raft<M> {
             (SeesStep M.meaning W.sees self.old.server self.new.server watch.old watch.new) }
         ensures unseen { IfErr result (λ cause. RefusalShows cause watch.old watch.new) }
     {
-        let message = read_message::<M>(self.alloc, bytes)?;
+        if !is_log_frame(bytes) {
+            let _message = read_message::<M>(self.alloc, bytes)?;
+            // A frame, but of a kind that the log knows nothing of.
+            return Err(Refusal::Frame(1));
+        }
+        let message = read_log_message::<M>(self.alloc, bytes)?;
         self.message(message, outbox, watch)
     }
 }

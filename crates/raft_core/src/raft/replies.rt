@@ -11,6 +11,7 @@ ghost use Rattle.raft_core.specs.Watching.{SeesStep};
 
 use super::Raft;
 use crate::commit::advance;
+use crate::release::forget;
 use crate::role::Role;
 use crate::watch::Watch;
 use machine::Machine;
@@ -68,6 +69,7 @@ fn learn(next: &mut [u64], matched: &mut [u64], last: u64, from: ServerId, ok: b
 
 impl<M: Machine> Raft<M> {
     /// A leader hears what another server holds, or that it refuses; then its commit index rises.
+    #[inline(always)]
     fn hear<W: Watch<M>>(
         &mut self,
         from: ServerId,
@@ -106,8 +108,8 @@ impl<M: Machine> Raft<M> {
                     }
                     Err(lacking) => {
                         // The machine may have been brought on in part: the server is down.
-                        self.machine = None;
-                        self.ahead = None;
+                        forget(&mut self.machine);
+                        forget(&mut self.ahead);
                         Err(lacking)
                     }
                 }
@@ -117,6 +119,7 @@ impl<M: Machine> Raft<M> {
 
     /// An answer to an Append counts where it answers one of this term, and the server leads.
     #[tactic(auto, using(crate::proofs::Keeps::kept_by_view))]
+    #[inline(always)]
     pub(super) fn append_reply<W: Watch<M>>(
         &mut self,
         from: ServerId,

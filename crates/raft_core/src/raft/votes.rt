@@ -146,6 +146,7 @@ impl<M: Machine> Raft<M> {
     }
 
     /// It leads, and appends a no-op of its term.
+    #[inline(never)]
     fn lead(&mut self) -> Result<(), NoMemory>
         requires up { is_up self.old.server.mode ≡ true }
         requires elected { 1 ≤ self.old.server.term }
@@ -214,6 +215,7 @@ impl<M: Machine> Raft<M> {
     }
 
     /// It stands in the next term, with its own vote, and asks all others for theirs.
+    #[inline(never)]
     pub(super) fn stand(&mut self, outbox: &mut Frames) -> Result<(), NoMemory>
         requires up { is_up self.old.server.mode ≡ true }
         requires term { self.old.server.term + 1 < 2 ^ 40 }

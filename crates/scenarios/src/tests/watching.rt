@@ -10,7 +10,7 @@ use raft_core::{Input, Raft, Stable, Watch};
 use rows::{LeaderTerm, NoMemory, Refusal, ServerId};
 use std::alloc::Global;
 use std::marker::Model;
-use wire::{Frames, read_message};
+use wire::{Frames, is_log_frame, read_log_message};
 
 /// A watcher that writes down four numbers an entry: the leader's term and the entry's, and the
 /// count and the sum of the state that it left.
@@ -110,7 +110,7 @@ const FOLLOWS: &[Turn] = &[
     ),
 ];
 
-/// Hears what is read from a frame.
+/// Hears what is read from a frame of the log; a frame of another kind comes as it is.
 fn hear(
     raft: &mut Raft<Tally>,
     alloc: Global,
@@ -118,7 +118,10 @@ fn hear(
     sent: &mut Frames,
     diary: &mut Diary,
 ) -> Result<(), Refusal> {
-    raft.receive_message(read_message(alloc, bytes)?, sent, diary)
+    if !is_log_frame(bytes) {
+        return raft.step_watched(Input::Frame(bytes), sent, diary);
+    }
+    raft.receive_message(read_log_message(alloc, bytes)?, sent, diary)
 }
 
 /// Acts on a server: what comes as a frame is read first, or not.

@@ -3,6 +3,7 @@ ghost use Rattle.std.specs.Prelude.{◌≡◌, true, false, None, Some, OnOk, On
 ghost use Rattle.rows.specs.declared.actor.Actor.TheVariants as actors;
 ghost use Rattle.rows.specs.declared.refusal.Refusal.TheVariants as refusals;
 ghost use Rattle.wire.specs.Messages.{kind_of, may_go, is_of_log};
+ghost use Rattle.wire.specs.Frames.{is_log_frame};
 ghost use Rattle.raft_model.specs.Servers.{is_up};
 ghost use Rattle.raft_core.specs.Refusals.{is_server_at};
 ghost use Rattle.group_model.specs.Messages.{ServiceMessage};
@@ -10,16 +11,39 @@ ghost use Rattle.group_model.specs.Inputs.{Arrives};
 ghost use Rattle.group_model.specs.Members.{Member, step};
 ghost use Rattle.group_frames.specs.GroupFrames.{service_between};
 ghost use Rattle.server.specs.ServerViews.{IsMember};
-ghost use Rattle.server.specs.Handings.{FrameBytes};
+ghost use Rattle.server.specs.Handings.{FrameBytes, bytes_at};
 ghost use Rattle.server.specs.Turns.{TakesHanding, TakesTurn};
 ghost use Rattle.server.specs.Refusals.{handing_refusal, wrong_address, is_of_group, IsHandingRefused, HandingRefusalLeaves};
 ghost use Rattle.server.specs.Inner.Acts.{DoesAct, Falters, request_act, member_of};
+ghost use Rattle.server.specs.Inner.Sources.{source_bytes};
 ghost use Rattle.server.specs.Inner.LogSteps.{DeclinesHanding, TakesRead, DeclinesRead};
 
 use super::{Outbox, Server};
 use fsm_state::Cluster;
 use rows::{Actor, NoMemory, Refusal, ServerId, WorkerRequest};
-use wire::{Body, Message, read_message};
+use wire::{Body, Frames, LogMessage, Message, is_log_frame, read_log_message, read_message};
+
+/// Where the bytes of a frame stand that comes.
+#[derive(Clone, Copy, Debug)]
+pub enum Source<'a> {
+    /// Apart from what was sent.
+    Apart(&'a [u8]),
+    /// At this place among the frames that were sent, from 0.
+    Sent(usize),
+}
+
+/// The bytes of a frame that comes; none at a place where none was sent.
+fn bytes_from<'a>(source: Source<'a>, sent: &'a Frames) -> &'a [u8]
+    ensures { result.now ≡ source_bytes source.entry sent.now }
+{
+    match source {
+        Source::Apart(bytes) => bytes,
+        Source::Sent(at) => match sent.get(at) {
+            Some(frame) => frame.bytes(),
+            None => &[],
+        },
+    }
+}
 
 impl Server {
     /// A frame comes: all of its bytes. It is what `step` does with an input Frame.
@@ -41,11 +65,56 @@ impl Server {
             HandingRefusalLeaves self.old s (FrameBytes frame.now) cause self.new) }
         ensures unsent { OnErr result (outbox.new ≡ outbox.old) }
     {
+        self.receive_from(Source::Apart(frame), outbox)
+    }
+
+    /// A frame comes that stands in the outbox, at this place from 0: what `receive` does with its
+    /// bytes, which are read where they stand. Where no frame stands there, no bytes come.
+    #[inline(always)]
+    pub fn receive_sent(&mut self, at: usize, outbox: &mut Outbox) -> Result<(), Refusal>
+        ensures same { (self.new.raft.me ≡ self.old.raft.me)
+            × (self.new.raft.size ≡ self.old.raft.size) }
+        ensures taken { OnOk result ((s : Member) → IsMember self.old s →
+            TakesHanding self.old s (FrameBytes (bytes_at outbox.old.frames at))
+            self.new outbox.old outbox.new) }
+        ensures admitted { OnOk result ((s : Member) → IsMember self.old s →
+            handing_refusal self.old.raft.size self.old.raft.me s
+            (FrameBytes (bytes_at outbox.old.frames at)) ≡ None) }
+        ensures refused { IfErr result (λ cause. (s : Member) → IsMember self.old s →
+            IsHandingRefused self.old.raft.size self.old.raft.me s
+            (FrameBytes (bytes_at outbox.old.frames at)) cause) }
+        ensures left { IfErr result (λ cause. (s : Member) → IsMember self.old s →
+            HandingRefusalLeaves self.old s (FrameBytes (bytes_at outbox.old.frames at)) cause
+            self.new) }
+        ensures unsent { OnErr result (outbox.new ≡ outbox.old) }
+    {
+        self.receive_from(Source::Sent(at), outbox)
+    }
+
+    /// A frame comes.
+    #[inline(always)]
+    fn receive_from(&mut self, source: Source<'_>, outbox: &mut Outbox) -> Result<(), Refusal>
+        ensures same { (self.new.raft.me ≡ self.old.raft.me)
+            × (self.new.raft.size ≡ self.old.raft.size) }
+        ensures taken { OnOk result ((s : Member) → IsMember self.old s →
+            TakesHanding self.old s (FrameBytes (source_bytes source.entry outbox.old.frames))
+            self.new outbox.old outbox.new) }
+        ensures admitted { OnOk result ((s : Member) → IsMember self.old s →
+            handing_refusal self.old.raft.size self.old.raft.me s
+            (FrameBytes (source_bytes source.entry outbox.old.frames)) ≡ None) }
+        ensures refused { IfErr result (λ cause. (s : Member) → IsMember self.old s →
+            IsHandingRefused self.old.raft.size self.old.raft.me s
+            (FrameBytes (source_bytes source.entry outbox.old.frames)) cause) }
+        ensures left { IfErr result (λ cause. (s : Member) → IsMember self.old s →
+            HandingRefusalLeaves self.old s
+            (FrameBytes (source_bytes source.entry outbox.old.frames)) cause self.new) }
+        ensures unsent { OnErr result (outbox.new ≡ outbox.old) }
+    {
         if !self.raft.is_up() {
             return Err(Refusal::Down);
         }
         let sent = outbox.frames.len();
-        match self.hear(frame, outbox) {
+        match self.hear(source, outbox) {
             Ok(()) => Ok(()),
             Err(cause) => match cause {
                 Refusal::NoMemory => {
@@ -58,24 +127,61 @@ impl Server {
     }
 
     /// A frame comes to a server that is up.
-    pub(super) fn hear(&mut self, frame: &[u8], outbox: &mut Outbox) -> Result<(), Refusal>
+    pub(super) fn hear(&mut self, source: Source<'_>, outbox: &mut Outbox) -> Result<(), Refusal>
         requires { is_up self.old.raft.server.mode ≡ true }
         ensures same { (self.new.raft.me ≡ self.old.raft.me)
             × (self.new.raft.size ≡ self.old.raft.size) }
         ensures taken { OnOk result (TakesHanding self.old (member_of self.old)
-            (FrameBytes frame.now) self.new outbox.old outbox.new) }
+            (FrameBytes (source_bytes source.entry outbox.old.frames)) self.new outbox.old
+            outbox.new) }
         ensures admitted { OnOk result (handing_refusal self.old.raft.size self.old.raft.me
-            (member_of self.old) (FrameBytes frame.now) ≡ None) }
-        ensures stopped { IfErr result (λ cause. DeclinesHanding self.old (FrameBytes frame.now)
-            cause self.new outbox.old outbox.new) }
+            (member_of self.old)
+            (FrameBytes (source_bytes source.entry outbox.old.frames)) ≡ None) }
+        ensures stopped { IfErr result (λ cause. DeclinesHanding self.old
+            (FrameBytes (source_bytes source.entry outbox.old.frames)) cause self.new outbox.old
+            outbox.new) }
     {
-        let message = read_message::<Cluster>(self.alloc, frame)?;
+        let bytes = bytes_from(source, &outbox.frames);
+        if is_log_frame(bytes) {
+            let message = read_log_message::<Cluster>(self.alloc, bytes)?;
+            return self.log_message(message, outbox);
+        }
+        self.hear_service(source, outbox)
+    }
+
+    /// A frame beside the log's comes to a server that is up. What it carries is large: so this
+    /// stands apart from what the frames of the log go through.
+    #[inline(never)]
+    fn hear_service(&mut self, source: Source<'_>, outbox: &mut Outbox) -> Result<(), Refusal>
+        requires up { is_up self.old.raft.server.mode ≡ true }
+        requires service { is_log_frame (source_bytes source outbox.old.frames) ≡ false }
+        ensures same { (self.new.raft.me ≡ self.old.raft.me)
+            × (self.new.raft.size ≡ self.old.raft.size) }
+        ensures taken { OnOk result (TakesHanding self.old (member_of self.old)
+            (FrameBytes (source_bytes source.entry outbox.old.frames)) self.new outbox.old
+            outbox.new) }
+        ensures admitted { OnOk result (handing_refusal self.old.raft.size self.old.raft.me
+            (member_of self.old)
+            (FrameBytes (source_bytes source.entry outbox.old.frames)) ≡ None) }
+        ensures stopped { IfErr result (λ cause. DeclinesHanding self.old
+            (FrameBytes (source_bytes source.entry outbox.old.frames)) cause self.new outbox.old
+            outbox.new) }
+    {
+        let bytes = bytes_from(source, &outbox.frames);
+        let message = read_message::<Cluster>(self.alloc, bytes)?;
         self.message(message, outbox)
     }
 
-    /// A message comes to a server that is up.
-    fn message(&mut self, message: Message<Cluster>, outbox: &mut Outbox) -> Result<(), Refusal>
-        requires { is_up self.old.raft.server.mode ≡ true }
+    /// A message of the log comes to a server that is up.
+    #[inline(always)]
+    fn log_message(
+        &mut self,
+        message: LogMessage<Cluster>,
+        outbox: &mut Outbox,
+    ) -> Result<(), Refusal>
+        requires up { is_up self.old.raft.server.mode ≡ true }
+        requires log { is_of_log (kind_of message.body) ≡ true }
+        requires goes { may_go (kind_of message.body) message.from message.to ≡ true }
         ensures same { (self.new.raft.me ≡ self.old.raft.me)
             × (self.new.raft.size ≡ self.old.raft.size) }
         ensures taken { OnOk result (TakesRead self.old message self.new outbox.old outbox.new) }
@@ -84,9 +190,21 @@ impl Server {
         ensures stopped { IfErr result (λ cause. DeclinesRead self.old message cause self.new
             outbox.old outbox.new) }
     {
-        if message.body().kind().is_of_log() {
-            return self.hear_log(message, outbox);
-        }
+        self.hear_log(message, outbox)
+    }
+
+    /// A message beside the log's comes to a server that is up.
+    fn message(&mut self, message: Message<Cluster>, outbox: &mut Outbox) -> Result<(), Refusal>
+        requires up { is_up self.old.raft.server.mode ≡ true }
+        requires service { is_of_log (kind_of message.body) ≡ false }
+        ensures same { (self.new.raft.me ≡ self.old.raft.me)
+            × (self.new.raft.size ≡ self.old.raft.size) }
+        ensures taken { OnOk result (TakesRead self.old message self.new outbox.old outbox.new) }
+        ensures admitted { OnOk result (wrong_address self.old.raft.size self.old.raft.me
+            message.from message.to ≡ None) }
+        ensures stopped { IfErr result (λ cause. DeclinesRead self.old message cause self.new
+            outbox.old outbox.new) }
+    {
         let from = message.from();
         self.check_sender(&from)?;
         self.check_receiver(&message.to())?;

@@ -14,7 +14,7 @@ use crate::server_desk::ServerDesk;
 use fsm_state::Cluster;
 use raft_core::{Input, Raft};
 use rows::Refusal;
-use wire::Message;
+use wire::LogMessage;
 
 /// The desk is closed where the server does not lead.
 fn close_unless_leading(raft: &Raft<Cluster>, desk: &mut ServerDesk)
@@ -27,9 +27,10 @@ fn close_unless_leading(raft: &Raft<Cluster>, desk: &mut ServerDesk)
 
 impl Server {
     /// A message of the log comes.
+    #[inline(always)]
     pub(super) fn hear_log(
         &mut self,
-        message: Message<Cluster>,
+        message: LogMessage<Cluster>,
         outbox: &mut Outbox,
     ) -> Result<(), Refusal>
         ensures same { (self.new.raft.me ≡ self.old.raft.me)

@@ -9,6 +9,7 @@ ghost use Rattle.server.specs.Refusals.{handing_refusal, IsHandingRefused, Handi
 ghost use Rattle.server.specs.Inner.Acts.{member_of};
 ghost use Rattle.server.specs.Inner.LogSteps.{DeclinesHanding};
 
+use super::frames::Source;
 use super::{Outbox, Server};
 use crate::server_input::ServerInput;
 use raft_core::Input;
@@ -92,7 +93,7 @@ impl Server {
             self.new outbox.old outbox.new) }
     {
         match input {
-            ServerInput::Frame(bytes) => self.hear(bytes.as_slice(), outbox),
+            ServerInput::Frame(bytes) => self.hear(Source::Apart(bytes.as_slice()), outbox),
             ServerInput::Timeout => self.step_log(Input::Timeout, outbox),
             ServerInput::Beat => self.step_log(Input::Beat, outbox),
             ServerInput::Request(request) => self.propose(request.into_command()),

@@ -12,6 +12,7 @@ use Rattle.raft_core.specs.Frames.{FrameCarries}
 use Rattle.raft_core.specs.RaftView.{RaftView}
 use Rattle.raft_core.specs.Inputs.{Handed, Bytes, Own}
 use Rattle.raft_core.specs.Refusals.{LackLeaves}
+use Rattle.server.specs.Handings.{bytes_of}
 use Rattle.world.specs.Steps.{LeftServer}
 
 abbrev pub is_restart : {C : Type 0} → Event C → Bool
@@ -35,10 +36,6 @@ NobodyActsIn {C = C} m sent e r = (w : World C) → AllZip (FrameCarries m) sent
 abbrev pub IsSent : {C : Type 0} → List Frame → Event C → Type 0
 IsSent sent (Deliver k) = k < length sent
 IsSent sent _ = Unit {0}
-
-abbrev pub bytes_of : Option Frame → List ℕ
-bytes_of None = []
-bytes_of (Some frame) = frame.bytes
 
 -- the bytes are those of the frame that the event delivers, if it delivers one
 abbrev pub HasFrame : {C : Type 0} → List Frame → Event C → List ℕ → Type 0

@@ -1,13 +1,13 @@
 //! What is kept beside the servers and clients of a group, and what one event changes.
-ghost use Rattle.std.specs.Prelude.{◌≡◌, true, max, [], is_some, slice_get, OnOk};
+ghost use Rattle.std.specs.Prelude.{◌≡◌, ◌≢◌, ◌<◌, true, max, [], is_some, length, slice_get, MatchBool, OnOk};
 ghost use Rattle.group_model.specs.Members.{Member};
 ghost use Rattle.group_model.specs.Worlds.{Deliver, AtServer, AtClient};
-ghost use Rattle.server.specs.Handings.{FrameBytes, handing};
+ghost use Rattle.server.specs.Handings.{FrameBytes, bytes_of, handing};
 ghost use Rattle.server.specs.ServerViews.{IsMember};
 ghost use Rattle.client_agent.specs.declared.input.ClientInput.TheVariants as client_inputs;
 ghost use Rattle.world.specs.Events.{place_of};
 ghost use Rattle.world.specs.GroupEvents.{server_input, client_input, group_events};
-ghost use Rattle.world.specs.Inner.Inputs.{committed, bytes_of};
+ghost use Rattle.world.specs.Inner.Inputs.{committed};
 ghost use Rattle.world.specs.Inner.GroupParts.{ServerDone, ClientDone};
 
 use crate::done::Done;
@@ -25,7 +25,7 @@ use wire::{Frame, Frames};
 pub(crate) struct GroupHistory {
     alloc: Global,
     outbox: Outbox,
-    // The frame that is delivered, apart from the others, to which its receiver adds.
+    // The frame that is delivered to a client, apart from the others, to which its receiver adds.
     delivered: Vec<u8>,
     trace: Vec<Event>,
     chain: Index,
@@ -64,6 +64,20 @@ fn frame_at(sent: &Frames, k: u64) -> Option<Frame<'_>>
     sent.get((k - 1) as usize)
 }
 
+/// The place of the k-th frame, from 1, which is there.
+fn place(sent: &Frames, k: u64) -> usize
+    requires { place_of k < length sent.now }
+    ensures { result ≡ place_of k }
+{
+    if k > sent.len() as u64 {
+        unreachable!()
+    }
+    match k.checked_sub(1) {
+        Some(at) => at as usize,
+        None => unreachable!(),
+    }
+}
+
 /// Copies the k-th frame, from 1.
 fn copy_frame(sent: &Frames, k: u64, frame: &mut Vec<u8>) -> Result<(), NoMemory>
     ensures { OnOk result (frame.new.items ≡ bytes_of (slice_get sent.now (place_of k))) }
@@ -81,6 +95,25 @@ fn make_room<T: Drop>(alloc: Global, room: &mut Option<Box<T>>, value: T) -> Res
 {
     if room.is_none() {
         *room = Some(Box::new(alloc, value)?);
+    }
+    Ok(())
+}
+
+/// Room is made for a server's crash. It stands apart from what each delivery goes through.
+#[cold]
+#[inline(never)]
+fn new_server_room(alloc: Global, room: &mut Option<Box<ServerInput>>) -> Result<(), NoMemory>
+    ensures { OnOk result (is_some room.new ≡ true) }
+{
+    make_room(alloc, room, ServerInput::Crash)
+}
+
+/// Room is made for a server's crash, where there is none.
+fn make_server_room(alloc: Global, room: &mut Option<Box<ServerInput>>) -> Result<(), NoMemory>
+    ensures { OnOk result (is_some room.new ≡ true) }
+{
+    if room.is_none() {
+        return new_server_room(alloc, room);
     }
     Ok(())
 }
@@ -137,6 +170,16 @@ impl GroupHistory {
         self.chain
     }
 
+    /// Whether something came for workers and was not fetched yet.
+    pub(crate) fn has_work(&self) -> bool
+        ensures { MatchBool result (self.now.outbox.work ≢ []) (self.now.outbox.work ≡ []) }
+    {
+        if self.outbox.work.is_empty() {
+            return false;
+        }
+        true
+    }
+
     /// What came for workers and was not fetched yet.
     pub(crate) fn take_work(&mut self) -> Sequence<Work>
         ensures work { result ≡ self.old.outbox.work }
@@ -191,13 +234,15 @@ impl GroupHistory {
     }
 
     /// A frame that was sent comes to a server. Where that finds no memory, its crash is kept
-    /// instead; where there is none for the frame or to keep the event, nothing happens.
+    /// instead; where there is none to keep the event, nothing happens.
+    #[inline(always)]
     pub(crate) fn deliver_to_server(
         &mut self,
         server: &mut Server,
         me: ServerId,
         k: u64,
     ) -> Result<Done, Refusal>
+        requires { place_of k < length self.old.outbox.frames }
         ensures same { (server.new.raft.me ≡ server.old.raft.me)
             × (server.new.raft.size ≡ server.old.raft.size) }
         ensures done { ServerDone server.old self.old
@@ -205,9 +250,9 @@ impl GroupHistory {
             (Deliver (place_of k)) me result server.new self.new }
     {
         self.trace.reserve(1)?;
-        copy_frame(&self.outbox.frames, k, &mut self.delivered)?;
-        make_room(self.alloc, &mut self.server_room, ServerInput::Crash)?;
-        match server.receive(&self.delivered, &mut self.outbox) {
+        make_server_room(self.alloc, &mut self.server_room)?;
+        let at = place(&self.outbox.frames, k);
+        match server.receive_sent(at, &mut self.outbox) {
             Ok(()) => {
                 self.chain = longer(self.chain, server);
                 self.trace.push_reserved(Event::Deliver(k));

@@ -158,6 +158,7 @@ impl World {
     }
 
     /// A frame that was sent comes to a server.
+    #[inline(always)]
     fn bring_to_server(&mut self, me: ServerId, k: u64) -> Result<Done, Refusal>
         requires member { me < length self.old.servers }
         requires sent { IsSentTo self.old.outbox.frames (place_of k) (actors.Server me) }
@@ -235,6 +236,7 @@ impl World {
     }
 
     /// A frame that was sent to a server comes.
+    #[inline(always)]
     fn to_server(&mut self, me: ServerId, k: u64) -> Result<Done, Refusal>
         requires { IsSentTo self.old.outbox.frames (place_of k) (actors.Server me) }
         ensures { GroupStepped self.old (Deliver (place_of k)) result self.new }
@@ -263,6 +265,7 @@ impl World {
     }
 
     /// A message that was sent comes to its receiver.
+    #[inline(always)]
     fn deliver(&mut self, k: u64) -> Result<Done, Refusal>
         ensures { GroupStepped self.old (Deliver (place_of k)) result self.new }
     {
@@ -276,6 +279,7 @@ impl World {
     }
 
     /// An event happens, if its actor is there and up.
+    #[inline(always)]
     fn take(&mut self, event: Event) -> Result<Done, Refusal>
         ensures { GroupStepped self.old (group_event event) result self.new }
     {
@@ -493,6 +497,13 @@ impl World {
         ensures none { IfNone result (slice_get self.now.outbox.frames (place_of k) ≡ None) }
     {
         Some(self.history.frame(k)?.to())
+    }
+
+    /// Whether something came for the servers' workers since that was last asked.
+    pub fn has_work(&self) -> bool
+        ensures { MatchBool result (self.now.outbox.work ≢ []) (self.now.outbox.work ≡ []) }
+    {
+        self.history.has_work()
     }
 
     /// What came for the servers' workers since this was last asked, in order.

@@ -26,7 +26,7 @@ invariant_of-self-in-Err g c =
     let next_whole = put_back i.next.items c.learn.new.next i.next.len (omega (arith, ap length next, next-length (length i.log.items) a.from a.at a.ok i.next.items i.matched.items, i.next.ok.0)) in
     let match_whole = put_back i.matched.items c.learn.new.matched i.matched.len (omega (arith, ap length match, match-length (length i.log.items) a.from a.at a.ok i.matched.items, i.matched.ok.0)) in
     let live = rw c.in-Some-machine.is at c.self.invariant.live in
-    rw (next_whole, match_whole, next, match) (keeps g.M.Machine.meaning i.me i.size i.term i.log.items i.role i.votes.items i.next.items i.matched.items a.from a.at a.ok i.commit i.commit i.machine _ i.ahead _ c.self.invariant live.levels (omega arith) tt tt)
+    rw (c.forget.ensures, c.forget-in-Err.ensures, next_whole, match_whole, next, match) (keeps g.M.Machine.meaning i.me i.size i.term i.log.items i.role i.votes.items i.next.items i.matched.items a.from a.at a.ok i.commit i.commit i.machine _ i.ahead _ c.self.invariant live.levels (omega arith) tt tt)
 
 pub returns-in-Ok-clause-heard : goal.returns-in-Ok-clause-heard
 returns-in-Ok-clause-heard g c =

@@ -1,11 +1,10 @@
 use Rattle.std.proofs.Common.{◌≡◌, slice_get, inl, [], ◌∷◌, ◌++◌, refl, ap, ◌∙◌}
 use Rattle.group_model.specs.Worlds.{Deliver, AtServer}
-use Rattle.server.specs.Handings.{FrameBytes, handing}
+use Rattle.server.specs.Handings.{FrameBytes, handing, bytes_of}
 use Rattle.server.specs.declared.server_input.ServerInput.{ServerInput}
 use Rattle.world.specs.declared.group.event.Event.TheVariants as events
 use Rattle.world.specs.Events.{place_of}
 use Rattle.world.specs.GroupEvents.{server_input, group_events}
-use Rattle.world.specs.Inner.Inputs.{bytes_of}
 use Rattle.world.specs.Inner.GroupParts.{GroupHistoryView}
 use Rattle.world.proofs.GroupHistories.{one_group_event_more, member_fell, server_refused}
 use Rattle.world.proofs.group.history.GroupHistory.deliver_to_server.Goals as goal
@@ -14,7 +13,7 @@ pub returns-in-NoMemory-clause-done : goal.returns-in-NoMemory-clause-done
 returns-in-NoMemory-clause-done c =
     let bytes = bytes_of (slice_get c.self.inside.outbox.frames (place_of c.args.k)) in
     let old = c.args.server.now in
-    let new = c.receive.new.self in
+    let new = c.receive_sent.new.self in
     let lacks = rw c.in-NoMemory.is at c.in-Err.ensures.refused in
     let left = rw c.in-NoMemory.is at c.in-Err.ensures.left in
     rw (← c.self.view_is) (inl (record {
@@ -31,11 +30,10 @@ returns-in_default c =
     let place = place_of c.args.k in
     let bytes = bytes_of (slice_get c.self.inside.outbox.frames place) in
     let past : GroupHistoryView = record { outbox = c.self.inside.outbox; trace = group_events c.self.inside.trace.items; chain = c.self.inside.chain } in
-    let copied : c.deref.result.now ≡ bytes = c.deref.ensures.value ∙ c.in_ok-copy_frame.ensures in
-    let refused = rw copied at c.in-Err.ensures.refused in
-    let left = rw copied at c.in-Err.ensures.left in
-    let p = server_refused c.args.server.now c.receive.new.self past (FrameBytes bytes) (Deliver place) c.in-Err.cause c.in_default.not-NoMemory refused left in
+    let refused = rw c.place-at.ensures at c.in-Err.ensures.refused in
+    let left = rw c.place-at.ensures at c.in-Err.ensures.left in
+    let p = server_refused c.args.server.now c.receive_sent.new.self past (FrameBytes bytes) (Deliver place) c.in-Err.cause c.in_default.not-NoMemory refused left in
     rw (← c.self.view_is) (record {
-      same = c.receive.ensures.same;
+      same = c.receive_sent.ensures.same;
       done = (p.0, rw (c.in-Err.ensures.unsent, c.in_ok-reserve.ensures.items) refl, p.1);
     })

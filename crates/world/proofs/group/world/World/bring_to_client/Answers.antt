@@ -2,8 +2,8 @@ use Rattle.std.proofs.Common.{refl, sym, subst, slice_get, slice_set}
 use Rattle.rows.specs.declared.actor.Actor.TheVariants as actors
 use Rattle.group_model.specs.Worlds.{Deliver}
 use Rattle.client_agent.specs.declared.input.ClientInput.TheVariants as client_inputs
+use Rattle.server.specs.Handings.{bytes_of}
 use Rattle.world.specs.Events.{place_of}
-use Rattle.world.specs.Inner.Inputs.{bytes_of}
 use Rattle.world.specs.GroupView.{GroupView, IsSentTo}
 use Rattle.world.specs.Inner.GroupParts.{GroupStepped}
 use Rattle.world.proofs.GroupDeliveries.{sent_to_client}

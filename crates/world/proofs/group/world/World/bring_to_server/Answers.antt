@@ -1,10 +1,9 @@
 use Rattle.std.proofs.Common.{refl, sym, ap, subst, slice_get, slice_set}
 use Rattle.group_model.specs.Worlds.{Deliver}
-use Rattle.server.specs.Handings.{FrameBytes}
+use Rattle.server.specs.Handings.{FrameBytes, bytes_of}
 use Rattle.world.specs.Events.{place_of}
 use Rattle.world.specs.GroupView.{GroupView}
 use Rattle.world.specs.GroupSteps.{IsGroupAwake}
-use Rattle.world.specs.Inner.Inputs.{bytes_of}
 use Rattle.world.proofs.GroupServers.{GroupActed, sent_scene, server_acted}
 use Rattle.world.proofs.group.world.World.bring_to_server.Goals as goal
 

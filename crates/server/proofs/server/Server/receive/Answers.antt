@@ -1,9 +1,0 @@
-use Rattle.server.specs.Handings.{FrameBytes}
-use Rattle.server.specs.Turns.{TakesHanding}
-use Rattle.server.proofs.Handings.{for_member}
-use Rattle.server.proofs.server.Server.receive.Goals as goal
-
-pub returns-in-Ok-clause-taken : goal.returns-in-Ok-clause-taken
-returns-in-Ok-clause-taken c =
-    let old = c.args.self.now in
-    for_member (λ s. TakesHanding old s (FrameBytes c.args.frame.now) c.hear.new.self c.args.outbox.now c.hear.new.outbox) old c.in-Ok.ensures.taken

@@ -1,0 +1,85 @@
+-- The second byte of a frame says whether its message is one by which servers keep one log.
+use Rattle.std.proofs.Common.{◌≡◌, ℕ, ◌+◌, true, List, ◌++◌, length, drop, Result, Ok, Err, refl, subst, ◌∙◌, append_assoc}
+use Rattle.std.specs.Prelude.{IfOk}
+use Rattle.rows.specs.declared.refusal.Refusal.{Refusal}
+use Rattle.rows.specs.declared.actor.Actor.{Actor}
+use Rattle.rows.specs.declared.actor.Actor.TheVariants.{Server, Client}
+use Rattle.fields_model.specs.Format.{Gives, Format, IsBytes, spelled}
+use Rattle.fields_model.specs.Fields.{actor}
+use Rattle.fields_model.proofs.FormatLaws.{past, length-spelled}
+use Rattle.wire.specs.declared.kind.Kind.{Kind}
+use Rattle.wire.specs.declared.kind.Kind.TheVariants as kinds
+use Rattle.wire.specs.declared.header.Header.{Header}
+use Rattle.wire.specs.declared.log_message.LogBody.{LogBody}
+use Rattle.wire.specs.declared.log_message.LogBody.TheVariants as logs
+use Rattle.wire.specs.Messages.{Message, kind_of, is_of_log, is_server, is_another_server, may_go, log_body}
+use Rattle.wire.specs.Grammar.{kind, header}
+use Rattle.wire.specs.Frames.{header_of, is_log_frame, message_at}
+use Rattle.wire.specs.Laws.GrammarLaws.{kind_lawful}
+use Rattle.wire.proofs.GrammarLaws.{header_lawful}
+use Rattle.wire.proofs.Framing.{ShortCommands, message_found}
+
+header_parts : (h : Header) (rest : List ℕ) → header.text h ++ rest ≡ spelled 1 1 ++ (kind.text h.kind ++ ((actor.text h.from ++ actor.text h.to) ++ rest))
+header_parts h rest = simp append_assoc
+
+log_named : (bytes : List ℕ) (h : Header) (rest : List ℕ) → header.Fits h → bytes ≡ header.text h ++ rest → is_of_log h.kind ≡ is_log_frame bytes
+log_named bytes h rest fits text =
+    let behind = (actor.text h.from ++ actor.text h.to) ++ rest in
+    let here = past 0 bytes (spelled 1 1) (kind.text h.kind ++ behind) (text ∙ header_parts h rest) in
+    let second : drop 1 bytes ≡ kind.text h.kind ++ behind = subst (λ (n : ℕ). drop (0 + n) bytes ≡ kind.text h.kind ++ behind) (length-spelled 1 1) here in
+    let read = kind_lawful.only bytes 1 h.kind behind fits.1.0 second in
+    rw read refl
+
+pub header_named : (bytes : List ℕ) (h : Header) (at : ℕ) → IsBytes bytes → header.read bytes 0 ≡ Ok (h, at) → is_of_log h.kind ≡ is_log_frame bytes
+header_named bytes h at fits read =
+    let stands = header_lawful.found bytes 0 h at fits read in
+    log_named bytes h (drop at bytes) stands.fits stands.here
+
+pub named_of : {S C : Type 0} (commands : Format C) → ShortCommands commands → (bytes : List ℕ) (r : Result (Message S C) Refusal) → IsBytes bytes → Gives r (message_at commands bytes) → IfOk r (λ m. is_of_log (kind_of m.body) ≡ is_log_frame bytes)
+named_of commands law bytes (Ok m) fits given =
+    let found = message_found commands law bytes m fits given in
+    log_named bytes (header_of m) _ found.0.header_fits found.1
+named_of commands law bytes (Err e) fits given = tt
+
+-- ---- between whom such messages go
+
+pub between_servers : (k : Kind) (from to : Actor) → is_of_log k ≡ true → may_go k from to ≡ true → is_another_server from to ≡ true
+between_servers kinds.VoteRequest from to log goes = goes
+between_servers kinds.VoteReply from to log goes = goes
+between_servers kinds.Append from to log goes = goes
+between_servers kinds.AppendReply from to log goes = goes
+between_servers kinds.Take from to log goes = absurd cc
+between_servers kinds.Delivered from to log goes = absurd cc
+between_servers kinds.Submit from to log goes = absurd cc
+between_servers kinds.PlanResult from to log goes = absurd cc
+between_servers kinds.Finish from to log goes = absurd cc
+between_servers kinds.Nack from to log goes = absurd cc
+between_servers kinds.Refused from to log goes = absurd cc
+between_servers kinds.Register from to log goes = absurd cc
+between_servers kinds.Heartbeat from to log goes = absurd cc
+between_servers kinds.Pull from to log goes = absurd cc
+between_servers kinds.List from to log goes = absurd cc
+between_servers kinds.Report from to log goes = absurd cc
+between_servers kinds.Told from to log goes = absurd cc
+
+pub log_kind : {S C : Type 0} (b : LogBody S C) → is_of_log (kind_of (log_body b)) ≡ true
+log_kind (logs.VoteRequest v) = refl
+log_kind (logs.VoteReply v) = refl
+log_kind (logs.Append a) = refl
+log_kind (logs.AppendReply r) = refl
+
+pub log_goes : {S C : Type 0} (b : LogBody S C) (from to : Actor) → may_go (kind_of (log_body b)) from to ≡ is_another_server from to
+log_goes (logs.VoteRequest v) from to = refl
+log_goes (logs.VoteReply v) from to = refl
+log_goes (logs.Append a) from to = refl
+log_goes (logs.AppendReply r) from to = refl
+
+pub server_sends : (from to : Actor) → is_another_server from to ≡ true → is_server from ≡ true
+server_sends (Server from) to goes = refl
+server_sends (Client from) (Server to) goes = absurd cc
+server_sends (Client from) (Client to) goes = absurd cc
+
+pub server_receives : (from to : Actor) → is_another_server from to ≡ true → is_server to ≡ true
+server_receives from (Server to) goes = refl
+server_receives (Server from) (Client to) goes = absurd cc
+server_receives (Client from) (Client to) goes = absurd cc
