@@ -1,11 +1,11 @@
 -- Objects and lists of JSON values.
-use Rattle.std.proofs.Common.{◌≡◌, ◌∙◌, ◌+◌, ◌<◌, ◌++◌, ◌∷◌, ℕ, List, [], None, String, ap, ap₂, arith, get_or, length, refl, suc, sym, zero}
-use Rattle.std.proofs.lemmas.List.{get_or-map}
+use Rattle.std.proofs.Common.{◌≡◌, ◌∙◌, ◌+◌, ◌<◌, ◌++◌, ◌∷◌, ℕ, List, [], None, String, ap, ap₂, arith, get_or, length, map, refl, string_bytes, suc, sym, zero}
+use Rattle.std.proofs.lemmas.List.{map-append}
 use Rattle.std.specs.declared.alloc.Global.{Global}
 use Rattle.rows.specs.declared.node.NodeSpec.{NodeSpec}
 use Rattle.serde_json.specs.Data.{Data, string}
 use Rattle.serde_json.specs.Find.{as_str}
-use Rattle.serde_json.specs.View.{items_of, members_view}
+use Rattle.serde_json.specs.View.{items_of, members_view, view}
 use Rattle.serde_json.specs.declared.value.Value.{Value}
 use Rattle.runner.specs.Objects.{AreNodes, IsNode, members_count, strings}
 
@@ -22,12 +22,27 @@ same_items (x ∷ ds) (y ∷ es) e =
     let rest : items_of ds ≡ items_of es = cc in
     ap₂ (λ a b. a ∷ b) head (same_items ds es rest)
 
--- a list of strings has nothing else in it
-pub is_string_at : (texts : List (List ℕ)) (i : ℕ) (d : Data) → i < length texts → get_or (strings texts) i d ≡ d → as_str d ≡ None → ⊥
-is_string_at texts i d lt at none =
-    let is : d ≡ string (get_or texts i []) = sym at ∙ get_or-map string texts i [] d lt in
-    let some = ap as_str is in
+-- ---- texts
+
+-- a list of texts has nothing else in it
+pub no_other : (texts : List (List ℕ)) (front back : List Data) (d : Data) → front ++ d ∷ back ≡ strings texts → as_str d ≡ None → ⊥
+no_other [] [] back d is none = cc
+no_other [] (x ∷ front) back d is none = cc
+no_other (text ∷ texts) [] back d is none =
+    let same : d ≡ string text = cc in
+    let some = ap as_str same in
     cc
+no_other (text ∷ texts) (x ∷ front) back d is none =
+    let others : front ++ d ∷ back ≡ strings texts = cc in
+    no_other texts front back d others none
+
+pub one_more_text : (front : List Value) (v : Value) (texts : List (String Global)) (text : String Global) → map view front ≡ strings (map string_bytes texts)
+    → view v ≡ string (string_bytes text) → map view (front ++ v ∷ []) ≡ strings (map string_bytes (texts ++ text ∷ []))
+one_more_text front v texts text same is =
+    map-append view front (v ∷ [])
+    ∙ ap₂ (λ ds d. ds ++ d ∷ []) same is
+    ∙ sym (map-append string (map string_bytes texts) (string_bytes text ∷ []))
+    ∙ ap strings (sym (map-append string_bytes texts (text ∷ [])))
 
 -- ---- nodes
 

@@ -1,9 +1,9 @@
 //! What is wrong with a scenario's file.
-ghost use Rattle.std.specs.Prelude.{◌≡◌, ◌↔◌, [], IfErr, IfOk, IfSome, OnOk, IsTrue};
+ghost use Rattle.std.specs.Prelude.{◌≡◌, ◌↔◌, [], IfErr, IfOk, IfSome, OnOk};
 ghost use Rattle.std.specs.Io.KnownBytes.{Appends};
 ghost use Rattle.std.specs.List.{flat_map};
 ghost use Rattle.runner.specs.declared.fault.Fault.TheVariants as faults;
-ghost use Rattle.runner.specs.Complaints.{AreComplaints, AreLineComplaints, AreTextComplaints, IsGoodText, IsStepLine};
+ghost use Rattle.runner.specs.Complaints.{AreComplaints, AreLineComplaints, AreTextComplaints, IsGoodText};
 ghost use Rattle.runner.specs.EachLine.{OfEachLine};
 ghost use Rattle.runner.specs.Inner.Faults.{MayStopChecking, MayStopPrinting};
 ghost use Rattle.runner.specs.Inner.Files.{IsGoodFile};
@@ -18,7 +18,7 @@ use crate::reading::scenario;
 use crate::running::load_bytes;
 use crate::scenario::Scenario;
 use crate::shelf::Shelf;
-use crate::step::read_step;
+use crate::step::is_step;
 use crate::wrong::{Wrong, wrong_in};
 use json::Scratch;
 use rows::{NoMemory, Refusal};
@@ -163,12 +163,6 @@ fn judge_line(
     let text = String::from_str(alloc, line)?;
     found.push(Complaint::Step(number, text, form_of(line)))?;
     Ok(())
-}
-
-fn is_step(alloc: Global, line: &str) -> Result<bool, NoMemory>
-    ensures { IfOk result (λ is_step. IsTrue is_step ↔ IsStepLine line.now) }
-{
-    Ok(read_step(alloc, line)?.is_some())
 }
 
 // What is wrong with a text that is no scenario.

@@ -9,7 +9,7 @@ use crate::scenario::{Order, Scenario};
 use crate::step::Step;
 use cluster::{Handled, ServerWorkers};
 use lossy_net::{Fates, MessageFate, fate};
-use rows::{Actor, NoMemory, Refusal, Sequence, ServerId, Work};
+use rows::{Actor, NoMemory, Refusal, ServerId};
 use std::alloc::Global;
 use world::{Event, World};
 
@@ -62,12 +62,12 @@ impl Play {
         &self.world
     }
 
+    #[inline(always)]
     fn event(&mut self, event: Event) -> Result<(), Refusal> {
         let server = self.server_of(&event);
         self.world.step(event)?;
-        let work = self.world.take_work();
         if let Some(server) = server {
-            self.hand(server, work)?;
+            self.hand(server)?;
         }
         self.flight.admit(self.world.sent().len() as u64)?;
         Ok(())
@@ -87,12 +87,18 @@ impl Play {
 
     // Hands a server's workers what came for them. Where the server is down, also for want of
     // memory, they have nothing any more.
-    fn hand(&mut self, server: ServerId, work: Sequence<Work>) -> Result<(), NoMemory> {
-        if self.is_up(server) {
-            return self.workers[server.place()].admit(work);
+    #[inline(always)]
+    fn hand(&mut self, server: ServerId) -> Result<(), NoMemory> {
+        if !self.is_up(server) {
+            self.workers[server.place()].forget();
+            let _lost = self.world.take_work();
+            return Ok(());
         }
-        self.workers[server.place()].forget();
-        Ok(())
+        if !self.world.has_work() {
+            return Ok(());
+        }
+        let work = self.world.take_work();
+        self.workers[server.place()].admit(work)
     }
 
     fn is_up(&self, server: ServerId) -> bool {

@@ -33,10 +33,10 @@ pub fn scenario(alloc: Global, text: &str) -> Result<Scenario, Refusal>
         ⊎ ((refusal ≡ OutOfRange) × ((s : Scenario) → ¬ IsScenarioText text.now s))) }
 {
     refuse_doubled_keys(alloc, text)?;
-    let value = match Value::from_str(alloc, text) {
+    let mut value = match Value::from_str(alloc, text) {
         Ok(value) => value,
         Err(error) if error.is_memory() => return Err(Refusal::NoMemory),
         Err(_) => return Err(Refusal::OutOfRange),
     };
-    scenario_of(alloc, &value)
+    scenario_of(alloc, &mut value)
 }

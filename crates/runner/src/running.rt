@@ -19,7 +19,7 @@ use crate::play::Play;
 use crate::reading::scenario;
 use crate::scenario::Scenario;
 use crate::shelf::{Shelf, ShelfFault};
-use crate::step::{Step, read_step};
+use crate::step::{Step, is_step, read_step};
 use rows::Refusal;
 use std::alloc::Global;
 use std::io::Write;
@@ -154,14 +154,16 @@ fn step_of<'a>(alloc: Global, line: &str) -> Result<Step, Fault<'a>>
     }
 }
 
-/// Each line is read before the first step is taken, and once more when its step is: a step may
+/// Each line is looked at before the first step is taken, and read when its step is: a step may
 /// hold a plan, so a list of them all would cost more than the lines do.
 pub(crate) fn check_steps<'a>(alloc: Global, scenario: &Scenario) -> Result<(), Fault<'a>>
     ensures good { OnOk result (IsGood scenario.now) }
     ensures fault { IfErr result (MayStopReading (IsGood scenario.now)) }
 {
     for line in &scenario.steps {
-        let _step = step_of(alloc, line.as_str())?;
+        if !is_step(alloc, line.as_str())? {
+            return Err(Fault::BadScenario);
+        }
     }
     Ok(())
 }

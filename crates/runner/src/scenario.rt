@@ -206,34 +206,39 @@ fn nodes_of(alloc: Global, list: &[Value]) -> Result<Vec<NodeSpec>, Refusal>
     Ok(nodes)
 }
 
-fn copied(alloc: Global, text: &str) -> Result<String, Refusal>
-    ensures ok { IfOk result (λ s. string_bytes s ≡ text.now) }
-    ensures refused { IfErr result (λ refusal. refusal ≡ NoMemory) }
+// The list at a key, taken out of the value.
+fn taken_list(value: &mut Value, key: &str) -> Option<Vec<Value>>
+    ensures { option_map (λ v. items_view v.items) result ≡ list_at key.now (view value.old) }
 {
-    Ok(String::from_str(alloc, text)?)
+    match value.get_mut(key)?.take() {
+        Value::Array(list) => Some(list),
+        _ => None,
+    }
 }
 
-fn texts_of(alloc: Global, list: &[Value]) -> Result<Vec<String>, Refusal>
-    ensures ok { IfOk result (λ texts. map view list.now ≡ strings (map string_bytes texts.items)) }
+// The texts that the values of a list are; no text is copied.
+fn texts_of(alloc: Global, list: Vec<Value>) -> Result<Vec<String>, Refusal>
+    ensures ok { IfOk result (λ texts.
+        map view list.items ≡ strings (map string_bytes texts.items)) }
     ensures refused { IfErr result (λ refusal. (refusal ≡ NoMemory)
-        ⊎ ((refusal ≡ OutOfRange) × ((texts : List (List ℕ)) → map view list.now ≢ strings texts))) }
+        ⊎ ((refusal ≡ OutOfRange)
+        × ((texts : List (List ℕ)) → map view list.items ≢ strings texts))) }
 {
-    let mut texts = Vec::new(alloc);
+    let mut texts = Vec::with_capacity(alloc, list.len())?;
     for value in list {
-        let Some(text) = value.as_str() else {
+        let Value::String(text) = value else {
             return Err(Refusal::OutOfRange);
         };
-        let text = copied(alloc, text)?;
         texts.push(text)?;
     }
     Ok(texts)
 }
 
-/// The scenario that a JSON value is.
-pub(crate) fn scenario_of(alloc: Global, value: &Value) -> Result<Scenario, Refusal>
-    ensures ok { IfOk result (IsScenario (view value.now)) }
+/// The scenario that a JSON value is. Its steps are taken out of the value.
+pub(crate) fn scenario_of(alloc: Global, value: &mut Value) -> Result<Scenario, Refusal>
+    ensures ok { IfOk result (IsScenario (view value.old)) }
     ensures refused { IfErr result (λ refusal. (refusal ≡ NoMemory)
-        ⊎ ((refusal ≡ OutOfRange) × ((s : Scenario) → ¬ IsScenario (view value.now) s))) }
+        ⊎ ((refusal ≡ OutOfRange) × ((s : Scenario) → ¬ IsScenario (view value.old) s))) }
 {
     let Some(settings) = settings_of(value) else {
         return Err(Refusal::OutOfRange);
@@ -242,7 +247,7 @@ pub(crate) fn scenario_of(alloc: Global, value: &Value) -> Result<Scenario, Refu
         return Err(Refusal::OutOfRange);
     };
     let nodes = nodes_of(alloc, nodes)?;
-    let Some(steps) = list_of(value, "steps") else {
+    let Some(steps) = taken_list(value, "steps") else {
         return Err(Refusal::OutOfRange);
     };
     let steps = texts_of(alloc, steps)?;

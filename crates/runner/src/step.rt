@@ -1,14 +1,16 @@
 //! The steps of a scenario.
-ghost use Rattle.std.specs.Prelude.{◌≡◌, ◌<◌, ◌^◌, ℕ, Some, IfOk, IfSome, codes, decimal, option_map};
+ghost use Rattle.std.specs.Prelude.{◌≡◌, ◌<◌, ◌^◌, ◌↔◌, ℕ, IsTrue, Some, IfOk, IfSome, codes, decimal, option_map};
 ghost use Rattle.transcript.specs.EventLines.{IsEventLine, ServerFits, server_text};
 ghost use Rattle.group_model.specs.Worlds.{Event as AnyEvent};
 ghost use Rattle.world.specs.GroupEvents.{group_event};
 ghost use Rattle.runner.specs.declared.step.Step.TheVariants as steps;
+ghost use Rattle.runner.specs.Complaints.{IsStepLine};
 ghost use Rattle.runner.specs.Steps.{AnEvent, IsLine, Step as AnyStep, step_of};
 
 use rows::{NoMemory, Refusal, ServerId};
+use server::ServerInput;
 use std::alloc::Global;
-use transcript::{read_event, read_number, read_server};
+use transcript::{read_beat, read_event, read_number, read_server};
 use world::Event;
 
 /// One step of a scenario: an event of the group, a turn of a server's worker, or a flow of
@@ -34,6 +36,10 @@ pub fn read_step(alloc: Global, line: &str) -> Result<Option<Step>, NoMemory>
     if line == "flow" {
         return Ok(Some(Step::Flow(None)));
     }
+    if let Some(server) = read_beat(line) {
+        let beat = Event::server(alloc, server, ServerInput::Beat)?;
+        return Ok(Some(Step::Event(beat)));
+    }
     if let Some(words) = line.strip_prefix("work ") {
         return Ok(read_work(words));
     }
@@ -41,6 +47,20 @@ pub fn read_step(alloc: Global, line: &str) -> Result<Option<Step>, NoMemory>
         return Ok(read_flow(words));
     }
     read_event_step(alloc, line)
+}
+
+/// Whether a line is that of a step. Of a flow and a beat, which most lines are, that is told
+/// without memory.
+pub(crate) fn is_step(alloc: Global, line: &str) -> Result<bool, NoMemory>
+    ensures { IfOk result (λ is_step. IsTrue is_step ↔ IsStepLine line.now) }
+{
+    if line == "flow" {
+        return Ok(true);
+    }
+    match read_beat(line) {
+        Some(_) => Ok(true),
+        None => Ok(read_step(alloc, line)?.is_some()),
+    }
 }
 
 // A step that is an event.

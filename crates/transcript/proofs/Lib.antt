@@ -1,6 +1,7 @@
 pub mod CommaLists
 pub mod LineParts
 pub mod Words
+pub mod Digits
 pub mod Written
 pub mod Printable
 pub mod Lines

@@ -1,13 +1,16 @@
 //! The events that lines say.
-ghost use Rattle.std.specs.Prelude.{◌≡◌, ◌⊎◌, IfOk, IfErr};
+ghost use Rattle.std.specs.Prelude.{◌≡◌, ◌⊎◌, ℕ, Some, IfOk, IfErr, IfSome};
 ghost use Rattle.rows.specs.declared.refusal.Refusal.TheVariants as refusals;
+ghost use Rattle.group_model.specs.Inputs.{Beat};
 ghost use Rattle.group_model.specs.Worlds as group;
+ghost use Rattle.group_model.specs.Worlds.{AtServer};
 ghost use Rattle.world.specs.GroupEvents.{group_event};
 ghost use Rattle.transcript.specs.EventLines.{IsEventLine};
 ghost use Rattle.transcript.specs.Inner.Lines.{line_event};
 
 use crate::line::{Line, read_line};
-use rows::{NoMemory, Refusal};
+use crate::word::read_digit;
+use rows::{NoMemory, Refusal, ServerId};
 use std::alloc::Global;
 use world::Event;
 
@@ -18,6 +21,19 @@ fn event_of(alloc: Global, line: Line) -> Result<Event, NoMemory>
         Line::Deliver(message) => Ok(Event::Deliver(message)),
         Line::Server(server, input) => Event::server(alloc, server, input),
         Line::Client(client, input) => Event::client(alloc, client, input),
+    }
+}
+
+/// The server of the line `beat S`; none of any other line. It takes no memory and looks at the
+/// bytes alone: most lines of a long run are beats.
+pub fn read_beat(line: &str) -> Option<ServerId>
+    ensures named { IfSome result (λ server. IsEventLine (AtServer server Beat) line.now) }
+    ensures read { (server : ℕ) → IsEventLine (AtServer server Beat) line.now
+        → result ≡ Some server }
+{
+    match line.as_bytes() {
+        [b'b', b'e', b'a', b't', b' ', digit] => read_digit(*digit),
+        _ => None,
     }
 }
 

@@ -13,7 +13,7 @@ mod word;
 mod worker;
 mod writing;
 
-pub use event::read_event;
+pub use event::{read_beat, read_event};
 pub use reading::read;
 pub use transcript::{Transcript, write};
 pub use word::{read_number, read_server};

@@ -1,5 +1,5 @@
 //! The words of a line: names, numbers, and where a line is cut.
-ghost use Rattle.std.specs.Prelude.{◌≡◌, ◌<◌, ◌+◌, ◌^◌, ◌++◌, ◌∷◌, ℕ, List, Some, IfSome, IsSomeAnd, OnOk, decimal};
+ghost use Rattle.std.specs.Prelude.{◌≡◌, ◌<◌, ◌+◌, ◌^◌, ◌++◌, ◌∷◌, [], ℕ, List, Some, IfSome, IsSomeAnd, OnOk, decimal};
 ghost use Rattle.rows.specs.Fits.{FromOneFits, GroupCountFits, IndexFits, NodeIdFits, OrdinalFits, PriorityFits, QuantityFits};
 ghost use Rattle.rows.specs.Names.{NameFits};
 ghost use Rattle.transcript.specs.Inner.Plain.{IsWithout};
@@ -59,7 +59,19 @@ pub fn read_server(text: &str) -> Option<ServerId>
     ensures read { (server : ℕ) → server < 5 → text.now ≡ decimal (server + 1)
         → result ≡ Some server }
 {
-    ServerId::from_number(read_small(text)?)
+    match text.as_bytes() {
+        [digit] => read_digit(*digit),
+        _ => None,
+    }
+}
+
+/// The server whose number this digit is.
+pub(crate) fn read_digit(digit: u8) -> Option<ServerId>
+    ensures named { IfSome result (λ server. (server < 5) × (digit ∷ [] ≡ decimal (server + 1))) }
+    ensures read { (server : ℕ) → server < 5 → digit ∷ [] ≡ decimal (server + 1)
+        → result ≡ Some server }
+{
+    ServerId::from_number(digit.checked_sub(b'0')?)
 }
 
 /// A node's number, from 1 to 64.

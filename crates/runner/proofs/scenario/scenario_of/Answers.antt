@@ -26,7 +26,7 @@ returns-in_err-steps-clause-refused c =
       | inr none ↦ inr (
         none.0,
         λ s is.
-            let items : items_view c.in-Some-list_of-2.steps.now.items ≡ items_of (strings (map string_bytes s.steps.items)) = search (rules, is.steps) in
+            let items : items_view c.in-Some-taken_list.steps.items ≡ items_of (strings (map string_bytes s.steps.items)) = search (rules, is.steps) in
             none.1 (map string_bytes s.steps.items) (search (rules, same_items _ _ items)),
       )
     ])
