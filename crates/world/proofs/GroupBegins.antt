@@ -44,9 +44,6 @@ one_more : {A : Type 0} (k : ℕ) (x : A) → replicate k x ++ x ∷ [] ≡ repl
 one_more zero x = refl
 one_more (suc k) x = ap (λ l. x ∷ l) (one_more k x)
 
-pub no_servers : (n : ℕ) → MadeServers n 0 []
-no_servers n = record { count = refl; places = λ i s h. absurd (cc); newcomers = tt }
-
 pub server_more : (n made : ℕ) (servers after : List ServerView) (s : ServerView) → MadeServers n made servers → after ≡ servers ++ s ∷ [] → (s.raft.me ≡ made) × (s.raft.size ≡ n) → IsMember s newcomer → MadeServers n (made + 1) after
 server_more n made servers after s b pushed is r =
     let next : made + 1 ≡ suc made = omega arith in

@@ -1,7 +1,6 @@
 -- What becomes of a list of events that is handed in.
 use Rattle.std.proofs.Common.{◌≡◌, ◌≢◌, ℕ, ◌⊎◌, inl, inr, Some, Result, Ok, Err, IfOk, IfErr, OnErr, List, [], ◌∷◌, ◌++◌, length, length-append, append-nil, refl, sym, ap, ◌∙◌, subst, slice_get, arith}
 use Rattle.std.proofs.lemmas.List.{map-append, append_assoc}
-use Rattle.std.specs.List.{AllZip}
 use Rattle.rows.specs.declared.node.NodeSpec.{NodeSpec}
 use Rattle.rows.specs.declared.refusal.Refusal.{Refusal}
 use Rattle.rows.specs.declared.refusal.Refusal.TheVariants as refusals
@@ -16,11 +15,11 @@ use Rattle.server.specs.declared.server.Outbox.{Outbox}
 use Rattle.world.specs.declared.done.Done.{Done}
 use Rattle.world.specs.declared.done.Done.TheVariants.{Taken, Crashed}
 use Rattle.world.specs.declared.group.event.Event.{Event as GroupEvent}
-use Rattle.world.specs.Steps.{Lacked}
+use Rattle.world.specs.Steps.{EachBecame, Lacked}
 use Rattle.world.specs.GroupEvents.{group_event, group_events, work_of, works}
 use Rattle.world.specs.GroupView.{GroupView, GroupRunsTo, nodes_of, renumbered}
-use Rattle.world.specs.GroupSteps.{MayWantAt, GroupStarved, GroupMayBecome, GroupEventHappened, IsGroupDone, GroupStaysDown, SameGroup, RefusesGroupEvent, IsNewGroup, GroupPlayed, GroupReplays}
-use Rattle.world.proofs.Zips.{zip_append, zip_map}
+use Rattle.world.specs.GroupSteps.{MayWantAt, MightWant, GroupStarved, GroupMayBecome, GroupEventHappened, IsGroupDone, GroupStaysDown, SameGroup, RefusesGroupEvent, IsNewGroup, GroupPlayed, GroupReplays}
+use Rattle.world.proofs.Outcomes.{place_after, place_more, became_more, became_map}
 use Rattle.world.proofs.Runs.{ends_alike, no_end}
 use Rattle.world.proofs.GroupBegins.{new_group_runs}
 use Rattle.world.proofs.GroupServers.{same_group_count, same_group_nodes, same_group_runs}
@@ -45,37 +44,43 @@ run_length n nodes events past w (more {events = es} {past = before} {w = last} 
 
 -- ---- what became of each event
 
-one_more : (trace : List Event) (past : List World) (w : World) (handed : List Event) (outcomes : List Outcome) (e : Event) (o : Outcome) → AllZip (GroupMayBecome trace past w) handed outcomes → GroupMayBecome trace past w e o →
-    AllZip (GroupMayBecome trace past w) (handed ++ e ∷ []) (outcomes ++ o ∷ [])
-one_more trace past w handed outcomes e o z m = zip_append (GroupMayBecome trace past w) handed outcomes (e ∷ []) (o ∷ []) z (m, tt)
+-- the next event is due at the last moment
+place_is : (n : ℕ) (nodes : List NodeSpec) (events trace : List Event) (outcomes : List Outcome) (past : List World) (w : World) → Trace n nodes events outcomes trace past w → place_after 0 outcomes ≡ length past
+place_is n nodes events trace outcomes past w nothing = refl
+place_is n nodes events trace outcomes past w (kept {events = es} {trace = ts} {outcomes = os} {past = before} {w = last} e next t is so) =
+    omega (arith, place_more 0 os Kept, place_is n nodes es ts os before last t, length-append before (last ∷ []))
+place_is n nodes events trace outcomes past w (crashed {events = es} {trace = ts} {outcomes = os} {past = before} {w = last} e c next t is so) =
+    omega (arith, place_more 0 os OutcomeCrashed, place_is n nodes es ts os before last t, length-append before (last ∷ []))
+place_is n nodes events trace outcomes past w (left_out {events = es} {trace = ts} {outcomes = os} {past = before} {w = last} e r t left) =
+    place_more 0 os (LeftOut r) ∙ place_is n nodes es ts os before last t
 
-stands_on : (trace : List Event) (past : List World) (w next : World) (c e : Event) (o : Outcome) → GroupMayBecome trace past w e o → GroupMayBecome (trace ++ c ∷ []) (past ++ w ∷ []) next e o
-stands_on trace past w next c e Kept s = tt
-stands_on trace past w next c e (LeftOut r) s = tt
-stands_on trace past w next c e OutcomeCrashed s = record {
-  when = s.when;
-  before = s.before;
+abbrev wants_on : (past : List World) (w next : World) (place : ℕ) (e : Event) → MightWant past w place e → MightWant (past ++ w ∷ []) next place e
+wants_on past w next place e x = record { before = x.before; before_is = get-more (past ++ w ∷ []) (next ∷ []) place x.before x.before_is; lacking = x.lacking }
+
+stands_on : (trace : List Event) (past : List World) (w next : World) (c : Event) (place : ℕ) (e : Event) (o : Outcome) → GroupMayBecome trace past w place e o → GroupMayBecome (trace ++ c ∷ []) (past ++ w ∷ []) next place e o
+stands_on trace past w next c place e Kept s = tt
+stands_on trace past w next c place e (LeftOut r) s = λ is. wants_on past w next place e (s is)
+stands_on trace past w next c place e OutcomeCrashed s = record {
+  due = wants_on past w next place e s.due;
   crash = s.crash;
-  before_is = get-more (past ++ w ∷ []) (next ∷ []) s.when s.before s.before_is;
-  crash_is = get-more trace (c ∷ []) s.when s.crash s.crash_is;
+  crash_is = get-more trace (c ∷ []) place s.crash s.crash_is;
   of = s.of;
-  lacking = s.lacking;
 }
 
-became_on : (trace : List Event) (past : List World) (w next : World) (c : Event) (handed : List Event) (outcomes : List Outcome) → AllZip (GroupMayBecome trace past w) handed outcomes →
-    AllZip (GroupMayBecome (trace ++ c ∷ []) (past ++ w ∷ []) next) handed outcomes
-became_on trace past w next c handed outcomes z =
-    zip_map (GroupMayBecome trace past w) (GroupMayBecome (trace ++ c ∷ []) (past ++ w ∷ []) next) (λ e o m. stands_on trace past w next c e o m) handed outcomes z
+became_on : (trace : List Event) (past : List World) (w next : World) (c : Event) (handed : List Event) (outcomes : List Outcome) → EachBecame (GroupMayBecome trace past w) 0 handed outcomes →
+    EachBecame (GroupMayBecome (trace ++ c ∷ []) (past ++ w ∷ []) next) 0 handed outcomes
+became_on trace past w next c handed outcomes all =
+    became_map (GroupMayBecome trace past w) (GroupMayBecome (trace ++ c ∷ []) (past ++ w ∷ []) next) (λ place e o became. stands_on trace past w next c place e o became) 0 handed outcomes all
 
-starved_now : (trace : List Event) (past : List World) (w next : World) (e crash : Event) → length past ≡ length trace → crash_of w e ≡ Some crash → MayWantAt w e → GroupStarved (trace ++ crash ∷ []) (past ++ w ∷ []) next e
-starved_now trace past w next e crash same is lacking = record {
-  when = length past;
-  before = w;
+abbrev wants_now : (past : List World) (w : World) (place : ℕ) (e : Event) → place ≡ length past → MayWantAt w e → MightWant past w place e
+wants_now past w place e due lacking = record { before = w; before_is = subst (λ k. slice_get (past ++ w ∷ []) k ≡ Some w) (sym due) (get-last past w); lacking = lacking }
+
+starved_now : (trace : List Event) (past : List World) (w next : World) (place : ℕ) (e crash : Event) → place ≡ length past → length past ≡ length trace → crash_of w e ≡ Some crash → MayWantAt w e → GroupStarved (trace ++ crash ∷ []) (past ++ w ∷ []) next place e
+starved_now trace past w next place e crash due same is lacking = record {
+  due = wants_on past w next place e (wants_now past w place e due lacking);
   crash = crash;
-  before_is = get-more (past ++ w ∷ []) (next ∷ []) (length past) w (get-last past w);
-  crash_is = subst (λ k. slice_get (trace ++ crash ∷ []) k ≡ Some crash) (sym same) (get-last trace crash);
+  crash_is = subst (λ k. slice_get (trace ++ crash ∷ []) k ≡ Some crash) (sym (due ∙ same)) (get-last trace crash);
   of = is;
-  lacking = lacking;
 }
 
 -- ---- one event after the other
@@ -95,8 +100,8 @@ module _ (n : ℕ) (nodes : List NodeSpec) where
   }
 
   -- an event that left the same group
-  passed_over : (handed : List Event) (old new : GroupView) (e : Event) (r : Refusal) (p : GroupPlayed n nodes handed old) → IsLeftOut p.world e r → SameGroup old new → GroupPlayed n nodes (handed ++ e ∷ []) new
-  passed_over handed old new e r p left same = record {
+  passed_over : (handed : List Event) (old new : GroupView) (e : Event) (r : Refusal) (p : GroupPlayed n nodes handed old) → IsLeftOut p.world e r → r ≢ refusals.NoMemory → SameGroup old new → GroupPlayed n nodes (handed ++ e ∷ []) new
+  passed_over handed old new e r p left other same = record {
     count = same_group_count old new same ∙ p.count;
     nodes_are = same_group_nodes old new same ∙ p.nodes_are;
     outcomes = p.outcomes ++ LeftOut r ∷ [];
@@ -104,7 +109,7 @@ module _ (n : ℕ) (nodes : List NodeSpec) where
     world = p.world;
     trace = subst (λ es. Trace n (renumbered 1 nodes) (handed ++ e ∷ []) (p.outcomes ++ LeftOut r ∷ []) es p.past p.world) (sym same.trace) (left_out e r p.trace left);
     runs = same_group_runs old new same p.past p.world p.runs;
-    became = subst (λ ts. AllZip (GroupMayBecome ts p.past p.world) (handed ++ e ∷ []) (p.outcomes ++ LeftOut r ∷ [])) (sym same.trace) (one_more old.trace p.past p.world handed p.outcomes e (LeftOut r) p.became tt);
+    became = subst (λ ts. EachBecame (GroupMayBecome ts p.past p.world) 0 (handed ++ e ∷ []) (p.outcomes ++ LeftOut r ∷ [])) (sym same.trace) (became_more (GroupMayBecome old.trace p.past p.world) 0 handed p.outcomes e (LeftOut r) p.became (λ is. absurd (other is)));
     work = ap (λ (o : Outbox). o.work) same.outbox ∙ (p.work ∙ ap (works p.past) (sym same.trace));
   }
 
@@ -120,7 +125,8 @@ module _ (n : ℕ) (nodes : List NodeSpec) where
         world = p.world;
         trace = left_out e refusals.NoMemory p.trace (inr (s.restart, s.could p.world runs.represents, refl));
         runs = p.runs;
-        became = one_more old.trace p.past p.world handed p.outcomes e (LeftOut refusals.NoMemory) p.became tt;
+        became = became_more (GroupMayBecome old.trace p.past p.world) 0 handed p.outcomes e (LeftOut refusals.NoMemory) p.became
+            (λ is. wants_now p.past p.world (place_after 0 p.outcomes) e (place_is n (renumbered 1 nodes) handed old.trace p.outcomes p.past p.world p.trace) (s.lacking p.world runs.represents));
         work = p.work;
       })
 
@@ -153,8 +159,8 @@ module _ (n : ℕ) (nodes : List NodeSpec) where
           trace = subst (λ es. Trace n (renumbered 1 nodes) (handed ++ e ∷ []) (p.outcomes ++ Kept ∷ []) es (p.past ++ p.world ∷ []) q.0) (sym went.trace)
               (kept e q.0 p.trace (was_event old new e p.past p.world q.0 are went.trace q.2) q.1);
           runs = q.2;
-          became = subst (λ ts. AllZip (GroupMayBecome ts (p.past ++ p.world ∷ []) q.0) (handed ++ e ∷ []) (p.outcomes ++ Kept ∷ [])) (sym went.trace)
-              (one_more (old.trace ++ e ∷ []) (p.past ++ p.world ∷ []) q.0 handed p.outcomes e Kept (became_on old.trace p.past p.world q.0 e handed p.outcomes p.became) tt);
+          became = subst (λ ts. EachBecame (GroupMayBecome ts (p.past ++ p.world ∷ []) q.0) 0 (handed ++ e ∷ []) (p.outcomes ++ Kept ∷ [])) (sym went.trace)
+              (became_more (GroupMayBecome (old.trace ++ e ∷ []) (p.past ++ p.world ∷ []) q.0) 0 handed p.outcomes e Kept (became_on old.trace p.past p.world q.0 e handed p.outcomes p.became) tt);
           work = worked handed old new e p went;
         }
     group_play_next handed old new e (Ok Crashed) p went err cause memory = elim went [
@@ -171,15 +177,16 @@ module _ (n : ℕ) (nodes : List NodeSpec) where
             trace = subst (λ es. Trace n (renumbered 1 nodes) (handed ++ e ∷ []) (p.outcomes ++ OutcomeCrashed ∷ []) es (p.past ++ p.world ∷ []) q.0) (sym happened.trace)
                 (crashed e f.crash q.0 p.trace (f.actor p.world runs.represents) q.1);
             runs = q.2;
-            became = subst (λ ts. AllZip (GroupMayBecome ts (p.past ++ p.world ∷ []) q.0) (handed ++ e ∷ []) (p.outcomes ++ OutcomeCrashed ∷ [])) (sym happened.trace)
-                (one_more (old.trace ++ f.crash ∷ []) (p.past ++ p.world ∷ []) q.0 handed p.outcomes e OutcomeCrashed (became_on old.trace p.past p.world q.0 f.crash handed p.outcomes p.became)
-                (starved_now old.trace p.past p.world q.0 e f.crash (run_length (length old.servers) (nodes_of old) old.trace p.past p.world runs.run) (f.actor p.world runs.represents) (f.lacking p.world runs.represents)));
+            became = subst (λ ts. EachBecame (GroupMayBecome ts (p.past ++ p.world ∷ []) q.0) 0 (handed ++ e ∷ []) (p.outcomes ++ OutcomeCrashed ∷ [])) (sym happened.trace)
+                (became_more (GroupMayBecome (old.trace ++ f.crash ∷ []) (p.past ++ p.world ∷ []) q.0) 0 handed p.outcomes e OutcomeCrashed (became_on old.trace p.past p.world q.0 f.crash handed p.outcomes p.became)
+                (starved_now old.trace p.past p.world q.0 (place_after 0 p.outcomes) e f.crash (place_is n (renumbered 1 nodes) handed old.trace p.outcomes p.past p.world p.trace) (run_length (length old.servers) (nodes_of old) old.trace p.past p.world runs.run) (f.actor p.world runs.represents) (f.lacking p.world runs.represents)));
             work = worked handed old new f.crash p happened;
           }
       | inr s ↦ stayed_down handed old new e p s
     ]
     group_play_next handed old new e (Err refusal) p went err cause memory =
-        passed_over handed old new e refusal p (inl (cause (λ r. memory (ap (λ x. Err x) r)) p.past p.world p.runs)) err
+        let other : refusal ≢ refusals.NoMemory = λ r. memory (ap (λ x. Err x) r) in
+        passed_over handed old new e refusal p (inl (cause other p.past p.world p.runs)) other err
 
 -- ---- a run comes again from its events, unless memory is wanting
 
@@ -250,5 +257,5 @@ module _ (n : ℕ) (nodes : List NodeSpec) where
               runs = λ past w r. let same = group_runs_are_one old reached.past past reached.world w runs r in
                   subst (λ x. GroupRunsTo view past x) same.1 (subst (λ x. GroupRunsTo view x reached.world) same.0 new);
             })
-        | inr l ↦ inr (record { outcomes = p.outcomes; past = p.past; world = p.world; trace = p.trace; place = l.place; outcome = l.outcome; at = l.at; lacked = l.lacked })
+        | inr l ↦ inr (record { played = p; place = l.place; outcome = l.outcome; at = l.at; lacked = l.lacked })
       ]

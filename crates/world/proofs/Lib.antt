@@ -1,4 +1,5 @@
 pub mod Zips
+pub mod Outcomes
 pub mod Heights
 pub mod Inputs
 pub mod Taken

@@ -73,5 +73,5 @@ module _ {S C : Type 0} (m : Meaning S C) (n : ℕ) where
               runs = λ past w r. let same = runs_are_one m old reached.past past reached.world w runs r in
                   subst (λ x. RunsTo m seen past x) same.1 (subst (λ x. RunsTo m seen x reached.world) same.0 new);
             })
-        | inr l ↦ inr (record { outcomes = p.outcomes; past = p.past; world = p.world; trace = p.trace; place = l.place; outcome = l.outcome; at = l.at; lacked = l.lacked })
+        | inr l ↦ inr (record { played = p; place = l.place; outcome = l.outcome; at = l.at; lacked = l.lacked })
       ]

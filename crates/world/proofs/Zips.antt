@@ -43,10 +43,3 @@ module _ {A B : Type 0} (R : A → B → Type 0) where
   zip_none (a ∷ xs) [] i z h = refl
   zip_none (a ∷ xs) (b ∷ ys) zero z h = absurd (cc)
   zip_none (a ∷ xs) (b ∷ ys) (suc i) z h = zip_none xs ys i z.1 h
-
--- what each pair has, and what follows from it
-pub zip_map : {A B : Type 0} (R S : A → B → Type 0) → ((x : A) (y : B) → R x y → S x y) → (xs : List A) (ys : List B) → AllZip R xs ys → AllZip S xs ys
-zip_map R S f [] [] z = tt
-zip_map R S f [] (y ∷ ys) z = absurd z
-zip_map R S f (x ∷ xs) [] z = absurd z
-zip_map R S f (x ∷ xs) (y ∷ ys) z = (f x y z.0, zip_map R S f xs ys z.1)

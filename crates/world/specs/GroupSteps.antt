@@ -20,7 +20,7 @@ use Rattle.world.specs.declared.done.Done.TheVariants.{Taken, Crashed}
 use Rattle.world.specs.WorldView.{IsGroup}
 use Rattle.world.specs.GroupEvents.{work_of, works}
 use Rattle.world.specs.GroupView.{GroupView, RepresentsGroup, GroupRunsTo, IsGroupWorld, nodes_of, renumbered}
-use Rattle.world.specs.Steps.{Lacked}
+use Rattle.world.specs.Steps.{EachBecame, Lacked}
 
 -- The event happens in each world that `old` represents, and makes it one that `new` represents;
 -- what its server's workers get is put behind what is not fetched yet. Each run of the old value
@@ -126,22 +126,26 @@ pub record IsNewGroup (n : ℕ) (nodes : List NodeSpec) (view : GroupView) : Typ
 abbrev pub WhyNoGroup : ℕ → List NodeSpec → Refusal → Type 0
 WhyNoGroup n nodes r = (r ≡ refusals.NoMemory) ⊎ ((r ≡ refusals.OutOfRange) × (IsGroup n → length nodes ≤ 64 → ⊥))
 
--- In place of this event its actor's crash stands in the trace, and at that moment the event might
--- want memory.
-pub record GroupStarved (trace : List Event) (past : List World) (w : World) (e : Event) : Type 0 where
-  pub when : ℕ
+-- At this moment of the run the event might want memory.
+pub record MightWant (past : List World) (w : World) (place : ℕ) (e : Event) : Type 0 where
   pub before : World
-  pub crash : Event
-  pub before_is : moment past w when ≡ Some before
-  pub crash_is : slice_get trace when ≡ Some crash
-  pub of : crash_of before e ≡ Some crash
+  pub before_is : moment past w place ≡ Some before
   pub lacking : MayWantAt before e
 
--- what may have become of an event: its actor crashed only where it might want memory
-abbrev pub GroupMayBecome : List Event → List World → World → Event → Outcome → Type 0
-GroupMayBecome trace past w e Kept = Unit {0}
-GroupMayBecome trace past w e OutcomeCrashed = GroupStarved trace past w e
-GroupMayBecome trace past w e (LeftOut r) = Unit {0}
+-- In place of this event its actor's crash stands at this place of the trace, and the event might
+-- want memory then.
+pub record GroupStarved (trace : List Event) (past : List World) (w : World) (place : ℕ) (e : Event) : Type 0 where
+  pub due : MightWant past w place e
+  pub crash : Event
+  pub crash_is : slice_get trace place ≡ Some crash
+  pub of : crash_of due.before e ≡ Some crash
+
+-- What may have become of an event: its actor crashed only where it might want memory, and only
+-- there it was left out for want of memory.
+abbrev pub GroupMayBecome : List Event → List World → World → ℕ → Event → Outcome → Type 0
+GroupMayBecome trace past w place e Kept = Unit {0}
+GroupMayBecome trace past w place e OutcomeCrashed = GroupStarved trace past w place e
+GroupMayBecome trace past w place e (LeftOut r) = r ≡ refusals.NoMemory → MightWant past w place e
 
 -- The value's trace is that of the events handed in: each was kept, was replaced by its actor's
 -- crash, for want of memory, or was left out. What workers got by all of them is there to be
@@ -154,18 +158,15 @@ pub record GroupPlayed (n : ℕ) (nodes : List NodeSpec) (handed : List Event) (
   pub world : World
   pub trace : Trace n (renumbered 1 nodes) handed outcomes view.trace past world
   pub runs : GroupRunsTo view past world
-  pub became : AllZip (GroupMayBecome view.trace past world) handed outcomes
+  pub became : EachBecame (GroupMayBecome view.trace past world) 0 handed outcomes
   pub work : view.outbox.work ≡ works past view.trace
 
--- memory was wanting for one of the events handed in
+-- the same, and memory was wanting for one of the events handed in
 pub record GroupPlayedShort (n : ℕ) (nodes : List NodeSpec) (handed : List Event) (view : GroupView) : Type 0 where
-  pub outcomes : List Outcome
-  pub past : List World
-  pub world : World
-  pub trace : Trace n (renumbered 1 nodes) handed outcomes view.trace past world
+  pub played : GroupPlayed n nodes handed view
   pub place : ℕ
   pub outcome : Outcome
-  pub at : slice_get outcomes place ≡ Some outcome
+  pub at : slice_get played.outcomes place ≡ Some outcome
   pub lacked : Lacked outcome
 
 -- two values of one run: it leads to the same servers, clients, messages and chain

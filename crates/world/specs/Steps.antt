@@ -1,5 +1,5 @@
 -- What a step of a world does, and what becomes of a list of events.
-use Rattle.std.specs.Prelude.{◌≡◌, ◌≢◌, ℕ, ◌<◌, ◌⊎◌, true, Some, Ok, Err, List, [], ◌∷◌, ◌++◌, length, slice_get}
+use Rattle.std.specs.Prelude.{◌≡◌, ◌≢◌, ℕ, suc, ◌<◌, ◌⊎◌, true, Some, Ok, Err, List, [], ◌∷◌, ◌++◌, length, slice_get}
 use Rattle.rows.specs.declared.refusal.Refusal.{Refusal}
 use Rattle.rows.specs.declared.refusal.Refusal.TheVariants as refusals
 use Rattle.std.specs.List.{AllZip}
@@ -89,22 +89,35 @@ pub record IsNew {S C : Type 0} (m : Meaning S C) (n : ℕ) (view : WorldView C)
 abbrev pub IsNoGroup : ℕ → Refusal → Type 0
 IsNoGroup n r = (r ≡ refusals.NoMemory) ⊎ ((r ≡ refusals.OutOfRange) × (n ≢ 3) × (n ≢ 5))
 
--- In place of this event its server's crash stands in the trace, and at that moment the event might
--- want memory.
-pub record Starved {S C : Type 0} (m : Meaning S C) (trace : List (Event C)) (past : List (World C)) (w : World C) (e : Event C) : Type 0 where
-  pub when : ℕ
+-- In place of this event its server's crash stands at this place of the trace, and at that moment
+-- the event might want memory.
+pub record Starved {S C : Type 0} (m : Meaning S C) (trace : List (Event C)) (past : List (World C)) (w : World C) (place : ℕ) (e : Event C) : Type 0 where
   pub before : World C
   pub who : ℕ
-  pub before_is : moment past w when ≡ Some before
-  pub crash_is : slice_get trace when ≡ Some (Crashes who)
+  pub before_is : moment past w place ≡ Some before
+  pub crash_is : slice_get trace place ≡ Some (Crashes who)
   pub of : actor m before e ≡ Some who
   pub lacking : (s : Server C) → slice_get before.servers who ≡ Some s → MayWantFor before e s
 
 -- what may have become of an event: its server crashed only where it might want memory
-abbrev pub MayBecome : {S C : Type 0} → Meaning S C → List (Event C) → List (World C) → World C → Event C → Outcome → Type 0
-MayBecome m trace past w e Kept = Unit {0}
-MayBecome m trace past w e OutcomeCrashed = Starved m trace past w e
-MayBecome m trace past w e (LeftOut r) = Unit {0}
+abbrev pub MayBecome : {S C : Type 0} → Meaning S C → List (Event C) → List (World C) → World C → ℕ → Event C → Outcome → Type 0
+MayBecome m trace past w place e Kept = Unit {0}
+MayBecome m trace past w place e OutcomeCrashed = Starved m trace past w place e
+MayBecome m trace past w place e (LeftOut r) = Unit {0}
+
+-- where the next event stands in the trace, behind one that stands here, or was left out
+abbrev pub next_place : ℕ → Outcome → ℕ
+next_place place Kept = suc place
+next_place place OutcomeCrashed = suc place
+next_place place (LeftOut r) = place
+
+-- Each event became what its outcome says, at its own place in the trace; the first is due at this
+-- place.
+abbrev pub EachBecame : {E : Type 0} → (ℕ → E → Outcome → Type 0) → ℕ → List E → List Outcome → Type 0
+EachBecame R place [] [] = Unit {0}
+EachBecame R place [] (o ∷ os) = ⊥
+EachBecame R place (e ∷ es) [] = ⊥
+EachBecame R place (e ∷ es) (o ∷ os) = R place e o × EachBecame R (next_place place o) es os
 
 -- The value's trace is that of the events handed in: each was kept, was replaced by its actor's
 -- crash, for want of memory, or was left out.
@@ -115,7 +128,7 @@ pub record Played {S C : Type 0} (m : Meaning S C) (n : ℕ) (handed : List (Eve
   pub world : World C
   pub trace : Trace m n handed outcomes view.trace past world
   pub runs : RunsTo m view past world
-  pub became : AllZip (MayBecome m view.trace past world) handed outcomes
+  pub became : EachBecame (MayBecome m view.trace past world) 0 handed outcomes
 
 -- memory was wanting for the event of this outcome
 abbrev pub Lacked : Outcome → Type 0
@@ -123,15 +136,12 @@ Lacked Kept = ⊥
 Lacked OutcomeCrashed = Unit {0}
 Lacked (LeftOut r) = r ≡ refusals.NoMemory
 
--- memory was wanting for one of the events handed in
+-- the same, and memory was wanting for one of the events handed in
 pub record PlayedShort {S C : Type 0} (m : Meaning S C) (n : ℕ) (handed : List (Event C)) (view : WorldView C) : Type 0 where
-  pub outcomes : List Outcome
-  pub past : List (World C)
-  pub world : World C
-  pub trace : Trace m n handed outcomes view.trace past world
+  pub played : Played m n handed view
   pub place : ℕ
   pub outcome : Outcome
-  pub at : slice_get outcomes place ≡ Some outcome
+  pub at : slice_get played.outcomes place ≡ Some outcome
   pub lacked : Lacked outcome
 
 -- two values of one run: it leads to the same servers, the same messages and the same chain

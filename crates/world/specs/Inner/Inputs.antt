@@ -1,5 +1,5 @@
 -- Who takes an event, and what it is handed.
-use Rattle.std.specs.Prelude.{◌≡◌, ℕ, ◌<◌, if◌then◌else◌, Bool, true, false, Option, Some, None, Err, List, [], length, slice_get}
+use Rattle.std.specs.Prelude.{◌≡◌, ℕ, ◌<◌, if◌then◌else◌, Bool, true, false, Some, Err, List, length, slice_get}
 use Rattle.std.specs.List.{AllZip}
 use Rattle.rows.specs.declared.refusal.Refusal.{Refusal}
 use Rattle.rows.specs.declared.refusal.Refusal.TheVariants as refusals

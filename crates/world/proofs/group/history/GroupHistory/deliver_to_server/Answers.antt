@@ -1,4 +1,4 @@
-use Rattle.std.proofs.Common.{◌≡◌, slice_get, inl, [], ◌∷◌, ◌++◌, refl, ap, ◌∙◌}
+use Rattle.std.proofs.Common.{slice_get, inl, [], ◌∷◌, ◌++◌, refl, ap, ◌∙◌}
 use Rattle.group_model.specs.Worlds.{Deliver, AtServer}
 use Rattle.server.specs.Handings.{FrameBytes, handing, bytes_of}
 use Rattle.server.specs.declared.server_input.ServerInput.{ServerInput}
