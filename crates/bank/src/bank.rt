@@ -1,9 +1,12 @@
-ghost use Rattle.std.specs.Prelude.{◌≡◌, ◌≤◌, ◌+◌, ◌<◌, ◌^◌, length, slice_get, slice_set, IfOk, OnOk};
+ghost use Rattle.std.specs.Prelude.{◌≡◌, ◌≤◌, ◌+◌, ◌<◌, ◌^◌, length, slice_get, slice_set, IfOk, IsOk, OnOk, OnErr};
 ghost use Rattle.std.specs.Option.{unwrap_or};
+ghost use Rattle.fields_model.specs.Format.{Answers};
+ghost use Rattle.fields_model.specs.Fields.{index};
 ghost use Rattle.bank.specs.Outcomes.{raised, lowered, moved, opened, outcome};
 ghost use Rattle.bank.specs.Texts.{bank};
 ghost use Rattle.bank.specs.Bank.{bank_meaning, refused};
 ghost use Rattle.bank.specs.Laws.TextLaws.{bank_text_lawful};
+ghost use Rattle.bank.specs.declared.command.BankCommand.TheVariants.{Open};
 
 use crate::account::AccountId;
 use crate::command::BankCommand;
@@ -118,6 +121,7 @@ impl Bank {
         ensures count { self.new.count ≡ self.old.count }
         ensures ok { OnOk result (self.new.balances
             ≡ unwrap_or (opened self.old.balances) self.old.balances) }
+        ensures room { OnErr result (length self.old.balances < 1000) }
     {
         if self.accounts() < Bank::MOST_ACCOUNTS {
             self.balances.push(Money::ZERO)?;
@@ -137,10 +141,12 @@ impl Bank {
         }
     }
 
-    /// Counts the command, and does to the balances what it says, where it is not refused.
+    /// Counts the command, and does to the balances what it says, where it is not refused. Only an
+    /// account that is opened takes memory.
     pub(crate) fn execute(&mut self, command: &BankCommand) -> Result<(), NoMemory>
         requires { self.old.count + 1 < 2 ^ 40 }
-        ensures { OnOk result (self.new ≡ bank_meaning.applied self.old command.now) }
+        ensures ok { OnOk result (self.new ≡ bank_meaning.applied self.old command.now) }
+        ensures memory { OnErr result ((command.now ≡ Open) × (length self.old.balances < 1000)) }
     {
         self.count = self.count.next();
         match command {
@@ -196,7 +202,10 @@ impl Field for Bank {
 
     ghost lawful = { bank_text_lawful };
 
-    fn read_at(alloc: Global, bytes: &[u8], at: usize) -> Result<(Bank, usize), Refusal> {
+    fn read_at(alloc: Global, bytes: &[u8], at: usize) -> Result<(Bank, usize), Refusal>
+        // Only the list behind the count takes memory.
+        ensures { Answers (IsOk (index.read bytes.now at)) result (bank.read bytes.now at) }
+    {
         let (count, at) = read_index(bytes, at)?;
         let (balances, at) = read_long_list::<Money>(alloc, bytes, at, 1000)?;
         let balances = balances.into_vec();
