@@ -6,3 +6,4 @@ pub mod Written
 pub mod Printable
 pub mod Lines
 pub mod Records
+pub mod Wanting

@@ -18,7 +18,7 @@ use Rattle.group_model.specs.Clients as clients
 use Rattle.world.specs.WorldView.{IsGroup}
 use Rattle.transcript.specs.EventLines.{ClientInputHasLine, HasLine, ServerInputHasLine, event_line}
 use Rattle.transcript.specs.Inner.Printable.{IsPrintable}
-use Rattle.transcript.specs.Transcripts.{AreNumberedFrom, Recorded, lines_text, node_line, servers_line, transcript_lines}
+use Rattle.transcript.specs.Transcripts.{AreNumberedFrom, BeginsKept, Recorded, lines_text, node_line, of_event, of_node, servers_line, transcript_lines}
 use Rattle.transcript.proofs.Printable.{word}
 use Rattle.transcript.proofs.Words.{apart}
 
@@ -187,3 +187,27 @@ whole r bytes lines more rest first middle last =
     first
     ∙ ap (λ text. servers_line r.servers ++ 10 ∷ text) behind
     ∙ sym (append_assoc (servers_line r.servers) (10 ∷ lines_text (nodes ++ events)) rest)
+
+-- ---- where reading takes memory
+
+-- a text of nodes, and then more, begins as the first of them
+pub nodes_kept : (nodes : List NodeSpec) (text rest : List ℕ) → AreNumberedFrom 1 nodes → text ≡ lines_text (map node_line nodes) ++ rest
+    → (length nodes ≡ 0 → BeginsKept rest) → BeginsKept text
+nodes_kept [] text rest are is first = subst BeginsKept (sym is) (first refl)
+nodes_kept (node ∷ nodes) text rest are is first = record {
+  line = node_line node;
+  behind = lines_text (map node_line nodes) ++ rest;
+  kept = of_node node are.0 are.1 refl;
+  is = is ∙ append_assoc (node_line node) (10 ∷ lines_text (map node_line nodes)) rest;
+}
+
+-- and so does one of events
+pub events_kept : (events : List Event) (text rest : List ℕ) → AllByRecursion HasLine events → text ≡ lines_text (map event_line events) ++ rest
+    → BeginsKept rest → BeginsKept text
+events_kept [] text rest have is first = subst BeginsKept (sym is) first
+events_kept (event ∷ events) text rest have is first = record {
+  line = event_line event;
+  behind = lines_text (map event_line events) ++ rest;
+  kept = of_event event (have.0, refl);
+  is = is ∙ append_assoc (event_line event) (10 ∷ lines_text (map event_line events)) rest;
+}

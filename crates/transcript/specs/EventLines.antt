@@ -1,10 +1,11 @@
 -- The lines of events.
-use Rattle.std.specs.Prelude.{◌≡◌, ◌+◌, ◌<◌, ◌^◌, ℕ, suc, Bool, true, false, List, [], ◌∷◌, codes, decimal}
+use Rattle.std.specs.Prelude.{◌≡◌, ◌+◌, ◌<◌, ◌^◌, ℕ, suc, Bool, true, false, List, [], ◌∷◌, ◌++◌, codes, decimal}
 use Rattle.std.specs.List.{join_with_byte}
 use Rattle.rows.specs.Fits.{AllocIdFits, EvalIdFits, IndexFits, NodeIdFits, PlanFits, TokenFits}
 use Rattle.group_model.specs.Worlds.{Event, Deliver, AtServer, AtClient}
 use Rattle.group_model.specs.Inputs as servers
 use Rattle.group_model.specs.Clients as clients
+use Rattle.world.specs.GroupEvents.{HasInput}
 use Rattle.transcript.specs.Requests.{RequestFits, request_text}
 use Rattle.transcript.specs.WorkerLines.{EndFits, alloc_text, eval_text, token_text, plan_words, outcome_words}
 
@@ -96,3 +97,10 @@ event_line event = join_with_byte 32 (event_words event)
 
 abbrev pub IsEventLine : Event → List ℕ → Type 0
 IsEventLine event line = HasLine event × (line ≡ event_line event)
+
+-- Reading the line takes memory: it is that of an event with an input, or it begins as a request or
+-- a submission does, whose lists are read before the line is known to be good.
+pub data TakesMemory (line : List ℕ) : Type 0 where
+  of_input : (event : Event) → IsEventLine event line → HasInput event → TakesMemory line
+  of_request : (words : List ℕ) → line ≡ codes "request " ++ words → TakesMemory line
+  of_plan : (words : List ℕ) → line ≡ codes "submit " ++ words → TakesMemory line

@@ -7,7 +7,7 @@ use Rattle.group_model.specs.Worlds.{Event}
 use Rattle.world.specs.GroupEvents.{group_events}
 use Rattle.world.specs.GroupView.{GroupView, nodes_of}
 use Rattle.world.specs.WorldView.{IsGroup}
-use Rattle.transcript.specs.EventLines.{HasLine, event_line, IsEventLine}
+use Rattle.transcript.specs.EventLines.{HasLine, event_line, IsEventLine, TakesMemory}
 use Rattle.transcript.specs.declared.transcript.Transcript.{Transcript}
 
 abbrev pub servers_line : ℕ → List ℕ
@@ -71,3 +71,27 @@ pub data IsFault (bytes : List ℕ) : ℕ → Type 0 where
   at_line : (r : Recorded) (front rest : List ℕ) →
       IsTranscript r front → bytes ≡ front ++ rest → 1 ≤ length rest →
       ((line behind : List ℕ) → MayFollow r line → rest ≡ line ++ 10 ∷ behind → ⊥) → IsFault bytes (length front)
+
+-- ---- where reading takes memory
+
+-- A line behind a group's takes memory: it is the first node's or an event's, which is kept, or
+-- reading it takes memory.
+pub data IsKept (line : List ℕ) : Type 0 where
+  of_node : (node : NodeSpec) → NodeSpecFits node → node.number ≡ 1 → line ≡ node_line node → IsKept line
+  of_event : (event : Event) → IsEventLine event line → IsKept line
+  of_reading : TakesMemory line → IsKept line
+
+-- the text begins with such a line
+pub record BeginsKept (text : List ℕ) : Type 0 where
+  pub line : List ℕ
+  pub behind : List ℕ
+  pub kept : IsKept line
+  pub is : text ≡ line ++ 10 ∷ behind
+
+-- the bytes begin with a group's line, and then with such a line
+pub record KeepsLines (bytes : List ℕ) : Type 0 where
+  pub servers : ℕ
+  pub lines : List ℕ
+  pub group : IsGroup servers
+  pub kept : BeginsKept lines
+  pub is : bytes ≡ servers_line servers ++ 10 ∷ lines

@@ -1,11 +1,11 @@
 //! The events that lines say.
-ghost use Rattle.std.specs.Prelude.{◌≡◌, ◌⊎◌, ℕ, Some, IfOk, IfErr, IfSome};
+ghost use Rattle.std.specs.Prelude.{◌≡◌, ◌⊎◌, ℕ, Some, Err, IfOk, IfErr, IfSome, OnErr};
 ghost use Rattle.rows.specs.declared.refusal.Refusal.TheVariants as refusals;
 ghost use Rattle.group_model.specs.Inputs.{Beat};
 ghost use Rattle.group_model.specs.Worlds as group;
 ghost use Rattle.group_model.specs.Worlds.{AtServer};
-ghost use Rattle.world.specs.GroupEvents.{group_event};
-ghost use Rattle.transcript.specs.EventLines.{IsEventLine};
+ghost use Rattle.world.specs.GroupEvents.{HasInput, group_event};
+ghost use Rattle.transcript.specs.EventLines.{IsEventLine, TakesMemory};
 ghost use Rattle.transcript.specs.Inner.Lines.{line_event};
 
 use crate::line::{Line, read_line};
@@ -15,7 +15,8 @@ use std::alloc::Global;
 use world::Event;
 
 fn event_of(alloc: Global, line: Line) -> Result<Event, NoMemory>
-    ensures { IfOk result (λ event. group_event event ≡ line_event line) }
+    ensures same { IfOk result (λ event. group_event event ≡ line_event line) }
+    ensures memory { OnErr result (HasInput (line_event line)) }
 {
     match line {
         Line::Deliver(message) => Ok(Event::Deliver(message)),
@@ -39,13 +40,15 @@ pub fn read_beat(line: &str) -> Option<ServerId>
 
 /// Reads the line of an event, which is a line without its newline: exactly the one text of each
 /// event, with one space between words and numbers in decimal without leading zeros. It is refused
-/// as bytes at fault, with offset 0, where it is no event's line, and for want of memory.
+/// as bytes at fault, with offset 0, where it is no event's line, and for want of memory, which a
+/// delivery and a line of no event do not take, unless it begins with `request` or `submit`.
 pub fn read_event(alloc: Global, line: &str) -> Result<Event, Refusal>
     ensures named { IfOk result (λ event. IsEventLine (group_event event) line.now) }
     ensures read { (event : group.Event) → IsEventLine event line.now
         → IfOk result (λ read. group_event read ≡ event) }
     ensures refused { IfErr result (λ cause. (cause ≡ refusals.NoMemory)
         ⊎ ((cause ≡ refusals.Frame 0) × ((event : group.Event) → ¬ IsEventLine event line.now))) }
+    ensures memory { result ≡ Err refusals.NoMemory → TakesMemory line.now }
 {
     match read_line(alloc, line)? {
         Some(line) => Ok(event_of(alloc, line)?),

@@ -1,8 +1,8 @@
 //! The lines of events, read.
-ghost use Rattle.std.specs.Prelude.{◌≡◌, ◌<◌, ◌≤◌, ◌^◌, ℕ, Some, IfOk, IfSome, IsSomeAnd, codes, decimal};
+ghost use Rattle.std.specs.Prelude.{◌≡◌, ◌<◌, ◌≤◌, ◌^◌, ℕ, Some, IfOk, IfSome, IsSomeAnd, OnErr, codes, decimal};
 ghost use Rattle.group_model.specs.Worlds as group;
 ghost use Rattle.transcript.specs.declared.line.Line.TheVariants as lines;
-ghost use Rattle.transcript.specs.EventLines.{IsEventLine};
+ghost use Rattle.transcript.specs.EventLines.{IsEventLine, TakesMemory};
 ghost use Rattle.transcript.specs.Inner.Lines.{HasParts, IsCrash, IsEnd, IsExpire, IsFinish, IsRequest, IsRestart, IsSmall, IsSubmit, IsTurn, line_event};
 
 use crate::request::read_request;
@@ -32,6 +32,7 @@ pub(crate) fn read_line(alloc: Global, line: &str) -> Result<Option<Line>, NoMem
         IsEventLine (line_event said) line.now)) }
     ensures read { (event : group.Event) → IsEventLine event line.now
         → IfOk result (λ read. IsSomeAnd read (λ said. line_event said ≡ event)) }
+    ensures memory { OnErr result (TakesMemory line.now) }
 {
     let Some((verb, words)) = cut(line, ' ') else {
         return Ok(None);

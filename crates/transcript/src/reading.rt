@@ -1,5 +1,5 @@
 //! Transcripts, read.
-ghost use Rattle.std.specs.Prelude.{◌≡◌, ◌++◌, ◌∷◌, ◌⊎◌, ◌==◌, ℕ, suc, Some, List, [], IfOk, IfErr, IfSome, IsSomeAnd, length, map};
+ghost use Rattle.std.specs.Prelude.{◌≡◌, ◌++◌, ◌∷◌, ◌⊎◌, ◌==◌, ℕ, suc, Some, List, [], Err, IfOk, IfErr, IfSome, IsSomeAnd, OnErr, length, map};
 ghost use Rattle.std.specs.List.{AllByRecursion, position};
 ghost use Rattle.rows.specs.Fits.{NodeSpecFits};
 ghost use Rattle.rows.specs.declared.node.NodeSpec.{NodeSpec};
@@ -8,7 +8,7 @@ ghost use Rattle.group_model.specs.Worlds as models;
 ghost use Rattle.world.specs.WorldView.{IsGroup};
 ghost use Rattle.world.specs.GroupEvents.{group_event, group_events};
 ghost use Rattle.transcript.specs.EventLines.{HasLine, event_line};
-ghost use Rattle.transcript.specs.Transcripts.{AreNumberedFrom, IsFault, IsTranscript, Recorded, lines_text, node_line, recorded, servers_line};
+ghost use Rattle.transcript.specs.Transcripts.{AreNumberedFrom, BeginsKept, IsFault, IsTranscript, KeepsLines, Recorded, lines_text, node_line, recorded, servers_line};
 ghost use Rattle.transcript.specs.Inner.Printable.{IsPrintable};
 
 use crate::event::read_event;
@@ -97,6 +97,7 @@ fn cut_event(alloc: Global, text: &[u8]) -> Result<Option<(Event, &[u8])>, NoMem
         → text.now ≡ event_line event ++ 10 ∷ behind
         → IfOk result (λ cut. IsSomeAnd cut (λ parts. (group_event parts.0 ≡ event)
         × (parts.1.now ≡ behind))) }
+    ensures memory { OnErr result (BeginsKept text.now) }
 {
     let Some((line, rest)) = cut_line(text) else {
         return Ok(None);
@@ -123,6 +124,7 @@ fn read_nodes(alloc: Global, text: &[u8]) -> Result<(Vec<NodeSpec>, &[u8]), NoMe
         → text.now ≡ lines_text (map node_line nodes ++ map event_line events)
         → IfOk result (λ parts. (parts.0.items ≡ nodes)
         × (parts.1.now ≡ lines_text (map event_line events))) }
+    ensures memory { OnErr result (BeginsKept text.now) }
 {
     let mut nodes = Vec::new(alloc);
     let mut rest = text;
@@ -143,6 +145,7 @@ fn read_events(alloc: Global, text: &[u8]) -> Result<(Vec<Event>, &[u8]), NoMemo
     ensures read { (events : List models.Event) → AllByRecursion HasLine events
         → text.now ≡ lines_text (map event_line events)
         → IfOk result (λ parts. (group_events parts.0.items ≡ events) × (parts.1.now ≡ [])) }
+    ensures memory { OnErr result (BeginsKept text.now) }
 {
     let mut events = Vec::new(alloc);
     let mut rest = text;
@@ -157,7 +160,8 @@ fn read_events(alloc: Global, text: &[u8]) -> Result<(Vec<Event>, &[u8]), NoMemo
 ///
 /// It is refused with `Frame` and the offset of the first byte of the first line at fault: the
 /// first that may not stand where it does, has no newline at its end, or is no text; where no group
-/// has the first line, that is 0. It is refused with `NoMemory`.
+/// has the first line, that is 0. It is refused with `NoMemory` too, but only where behind a group's
+/// line stands one that is kept or takes memory to read.
 pub fn read(alloc: Global, bytes: &[u8]) -> Result<Transcript, Refusal>
     ensures named { IfOk result (λ t. IsTranscript (recorded t) bytes.now) }
     ensures read { (r : Recorded) → IsTranscript r bytes.now
@@ -165,6 +169,7 @@ pub fn read(alloc: Global, bytes: &[u8]) -> Result<Transcript, Refusal>
     ensures refused { IfErr result (λ cause. (cause ≡ refusals.NoMemory)
         ⊎ ((at : ℕ) × (cause ≡ refusals.Frame at) × IsFault bytes.now at
         × ((r : Recorded) → ¬ IsTranscript r bytes.now))) }
+    ensures memory { result ≡ Err refusals.NoMemory → KeepsLines bytes.now }
 {
     let Some((servers, lines)) = cut_servers(bytes) else {
         return Err(Refusal::Frame(0));

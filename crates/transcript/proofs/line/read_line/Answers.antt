@@ -1,9 +1,10 @@
-use Rattle.std.proofs.Common.{◌∙◌, Option, None, Some, sym}
+use Rattle.std.proofs.Common.{◌∙◌, ◌++◌, ◌∷◌, Option, None, Some, ap, sym}
 use Rattle.std.specs.Option.{IfSome}
 use Rattle.transcript.specs.declared.line.Line.{Line}
-use Rattle.transcript.specs.EventLines.{IsEventLine}
+use Rattle.transcript.specs.EventLines.{IsEventLine, of_plan, of_request}
 use Rattle.transcript.specs.Inner.Lines.{HasParts, IsSmall, line_event}
 use Rattle.transcript.proofs.LineParts.{is_small, parted}
+use Rattle.transcript.proofs.Wanting.{if_wanting}
 use Rattle.transcript.proofs.line.read_line.Goals as goal
 
 pub returns-in_default-clause-read : goal.returns-in_default-clause-read
@@ -26,3 +27,13 @@ returns-in_default-verb-clause-read c event is =
     let first = c.in-Some.ensures.first _ _ parts.0 (is.1 ∙ parts.1) in
     let small = is_small event (λ e. c.in_default-verb.not-request (first.0 ∙ e)) (λ e. c.in_default-verb.not-submit (first.0 ∙ e)) in
     c.read_small.ensures.read event small (record { fits = is.0; first = first.0; behind = first.1 })
+
+pub returns-in-request-clause-memory : goal.returns-in-request-clause-memory
+returns-in-request-clause-memory c =
+    let words = c.in-Some.words.now in
+    if_wanting c.read_request_line.result (of_request words (c.in-Some.ensures.parts ∙ ap (λ verb. verb ++ 32 ∷ words) c.in-request.is))
+
+pub returns-in-submit-clause-memory : goal.returns-in-submit-clause-memory
+returns-in-submit-clause-memory c =
+    let words = c.in-Some.words.now in
+    if_wanting c.read_submit.result (of_plan words (c.in-Some.ensures.parts ∙ ap (λ verb. verb ++ 32 ∷ words) c.in-submit.is))

@@ -1,5 +1,6 @@
-use Rattle.std.proofs.Common.{inl, inr}
+use Rattle.std.proofs.Common.{Err, ap, inl, inr}
 use Rattle.transcript.specs.EventLines.{event_line}
+use Rattle.transcript.specs.Transcripts.{of_reading}
 use Rattle.transcript.proofs.Printable.{event_printable}
 use Rattle.transcript.proofs.reading.cut_event.Goals as goal
 
@@ -18,3 +19,11 @@ returns-in_default-cause-clause-read c event behind fits is =
       | inl memory ↦ c.in_default-cause.not-NoMemory memory
       | inr refused ↦ refused.1 event (fits, first.0)
     ]
+
+pub returns-in-NoMemory-clause-memory : goal.returns-in-NoMemory-clause-memory
+returns-in-NoMemory-clause-memory c = record {
+  line = c.in-Some.line.now;
+  behind = c.in-Some.rest.now;
+  kept = of_reading (c.in-Err.ensures.memory (ap Err c.in-NoMemory.is));
+  is = c.in-Some.ensures.parts;
+}

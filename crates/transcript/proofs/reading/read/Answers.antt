@@ -3,7 +3,7 @@ use Rattle.std.proofs.lemmas.List.{append-nil, length-append, nil_from_length}
 use Rattle.world.specs.GroupEvents.{group_events}
 use Rattle.transcript.specs.EventLines.{event_line}
 use Rattle.transcript.specs.Transcripts.{IsFault, IsTranscript, MayFollow, Recorded, at_first, at_line, lines_text, transcript_lines}
-use Rattle.transcript.proofs.Lines.{whole}
+use Rattle.transcript.proofs.Lines.{nodes_kept, whole}
 use Rattle.transcript.proofs.reading.read.Goals as goal
 
 pub returns-in_default-clause-refused : goal.returns-in_default-clause-refused
@@ -52,4 +52,15 @@ returns-clause-named c =
     record {
       can = record { servers = c.in-Some.ensures.named.0; nodes = c.in_ok-nodes.ensures.numbered; events = c.in_ok-events.ensures.lines };
       is = is ∙ ap (λ text. lines_text (transcript_lines r) ++ text) none ∙ append-nil (lines_text (transcript_lines r));
+    }
+
+pub returns-in_err-events-clause-memory : goal.returns-in_err-events-clause-memory
+returns-in_err-events-clause-memory c wanting =
+    let nodes = c.in_ok-nodes in
+    record {
+      servers = c.in-Some.servers;
+      lines = c.in-Some.lines.now;
+      group = c.in-Some.ensures.named.0;
+      kept = nodes_kept nodes.nodes.items c.in-Some.lines.now nodes.lines.now nodes.ensures.numbered nodes.ensures.front (λ _. c.in_err-events.ensures.memory);
+      is = c.in-Some.ensures.named.1;
     }

@@ -1,11 +1,12 @@
-use Rattle.std.proofs.Common.{◌≡◌, ◌∙◌, ◌++◌, ◌∷◌, ℕ, List, [], ap, map, rules, sym}
+use Rattle.std.proofs.Common.{◌≡◌, ◌∙◌, ◌++◌, ◌∷◌, ℕ, List, [], ap, map, refl, rules, sym}
 use Rattle.std.proofs.lemmas.List.{append-nil, append_assoc, map-append}
 use Rattle.group_model.specs.Worlds.{Event}
 use Rattle.world.specs.GroupEvents.{group_event, group_events}
 use Rattle.transcript.specs.EventLines.{HasLine, event_line}
-use Rattle.transcript.specs.Transcripts.{lines_text}
+use Rattle.transcript.specs.Transcripts.{BeginsKept, lines_text, of_event}
 use Rattle.transcript.proofs.CommaLists.{more_fit}
-use Rattle.transcript.proofs.Lines.{next_event, no_next_event, one_more_line}
+use Rattle.transcript.proofs.Lines.{events_kept, next_event, no_next_event, one_more_line}
+use Rattle.transcript.proofs.Wanting.{if_wanting}
 use Rattle.transcript.proofs.reading.read_events.Goals as goal
 
 pub loop-events-preserved : goal.loop-events-preserved
@@ -45,3 +46,20 @@ returns-clause-read c events have is =
       sym (here.1 ∙ ap (λ more. group_events items ++ more) empty ∙ append-nil (group_events items)),
       here.3 ∙ ap (λ more. lines_text (map event_line more)) empty,
     )
+
+pub returns-in_err-event-clause-memory : goal.returns-in_err-event-clause-memory
+returns-in_err-event-clause-memory c =
+    let before = c.loop-events.invariant in
+    if_wanting c.from_residual.result
+    (events_kept (group_events c.loop-events.events.items) c.args.text.now c.loop-events.rest.now before.lines before.front c.in_err-event.ensures.memory)
+
+pub returns-in_err-push-clause-memory : goal.returns-in_err-push-clause-memory
+returns-in_err-push-clause-memory c =
+    let before = c.loop-events.invariant in
+    let rest = c.loop-events.rest.now in
+    let behind = c.in-Some.behind.now in
+    let event = group_event c.in-Some.event in
+    let named : HasLine event × (rest ≡ event_line event ++ 10 ∷ behind) = rw c.in-Some.is at c.in_ok-event.ensures.named in
+    let first : BeginsKept rest = record { line = event_line event; behind = behind; kept = of_event event (named.0, refl); is = named.1 } in
+    if_wanting c.from_residual-in_err-push.result
+    (events_kept (group_events c.loop-events.events.items) c.args.text.now rest before.lines before.front first)

@@ -1,9 +1,10 @@
-use Rattle.std.proofs.Common.{◌≡◌, ◌∙◌, ◌++◌, ◌∷◌, ℕ, suc, List, [], ap, arith, length, map, rules, subst, sym}
+use Rattle.std.proofs.Common.{◌≡◌, ◌∙◌, ◌++◌, ◌∷◌, ℕ, suc, List, [], ap, arith, length, map, refl, rules, subst, sym}
 use Rattle.std.proofs.lemmas.List.{append-nil, append_assoc, length_push, map-append}
 use Rattle.rows.specs.Fits.{NodeSpecFits}
 use Rattle.rows.specs.declared.node.NodeSpec.{NodeSpec}
-use Rattle.transcript.specs.Transcripts.{AreNumberedFrom, node_line}
-use Rattle.transcript.proofs.Lines.{next_node, no_next_node, one_more_line, one_more_node, rest_of}
+use Rattle.transcript.specs.Transcripts.{AreNumberedFrom, BeginsKept, node_line, of_node}
+use Rattle.transcript.proofs.Lines.{next_node, no_next_node, nodes_kept, one_more_line, one_more_node, rest_of}
+use Rattle.transcript.proofs.Wanting.{if_wanting}
 use Rattle.transcript.proofs.reading.read_nodes.Goals as goal
 
 pub loop-node-preserved : goal.loop-node-preserved
@@ -45,3 +46,18 @@ returns-clause-read c nodes events are have is =
       sym (here.1 ∙ ap (λ more. items ++ more) empty ∙ append-nil items),
       here.3 ∙ ap (λ more. rest_of more events) empty,
     )
+
+pub returns-in_err-push-clause-memory : goal.returns-in_err-push-clause-memory
+returns-in_err-push-clause-memory c =
+    let before = c.loop-node.invariant in
+    let items = c.loop-node.nodes.items in
+    let node = c.in-Some.node in
+    let count : c.len.result ≡ length items = search rules in
+    let named = c.in-Some.ensures.named in
+    let first : length items ≡ 0 → BeginsKept c.loop-node.rest.now = λ none. record {
+      line = node_line node;
+      behind = c.in-Some.behind.now;
+      kept = of_node node named.0 (omega (arith, named.1, count)) refl;
+      is = named.2;
+    } in
+    if_wanting c.from_residual.result (nodes_kept items c.args.text.now c.loop-node.rest.now before.numbered before.front first)
