@@ -1,5 +1,5 @@
 -- The lines of events.
-use Rattle.std.specs.Prelude.{◌≡◌, ◌+◌, ◌<◌, ◌^◌, ℕ, suc, Bool, true, false, List, [], ◌∷◌, ◌++◌, codes, decimal}
+use Rattle.std.specs.Prelude.{◌≡◌, ◌+◌, ◌<◌, ◌^◌, ℕ, suc, Bool, true, false, List, [], ◌∷◌, codes, decimal}
 use Rattle.std.specs.List.{join_with_byte}
 use Rattle.rows.specs.Fits.{AllocIdFits, EvalIdFits, IndexFits, NodeIdFits, PlanFits, TokenFits}
 use Rattle.group_model.specs.Worlds.{Event, Deliver, AtServer, AtClient}
@@ -98,9 +98,12 @@ event_line event = join_with_byte 32 (event_words event)
 abbrev pub IsEventLine : Event → List ℕ → Type 0
 IsEventLine event line = HasLine event × (line ≡ event_line event)
 
--- Reading the line takes memory: it is that of an event with an input, or it begins as a request or
--- a submission does, whose lists are read before the line is known to be good.
+-- Reading the line takes memory: it is that of an event with an input, or it begins as a request
+-- with a job or a submission of a plan does, whose lists are read before the rest is known to be
+-- good.
 pub data TakesMemory (line : List ℕ) : Type 0 where
   of_input : (event : Event) → IsEventLine event line → HasInput event → TakesMemory line
-  of_request : (words : List ℕ) → line ≡ codes "request " ++ words → TakesMemory line
-  of_plan : (words : List ℕ) → line ≡ codes "submit " ++ words → TakesMemory line
+  of_job : (server : ℕ) (rest : List ℕ) → ServerFits server
+      → line ≡ join_with_byte 32 (codes "request" ∷ server_text server ∷ codes "put" ∷ rest ∷ []) → TakesMemory line
+  of_plan : (server to : ℕ) (rest : List ℕ) → ServerFits server → ServerFits to
+      → line ≡ join_with_byte 32 (codes "submit" ∷ server_text server ∷ server_text to ∷ rest ∷ []) → TakesMemory line

@@ -3,7 +3,7 @@ ghost use Rattle.std.specs.Prelude.{◌≡◌, ◌<◌, ◌≤◌, ◌^◌, ℕ,
 ghost use Rattle.group_model.specs.Worlds as group;
 ghost use Rattle.transcript.specs.declared.line.Line.TheVariants as lines;
 ghost use Rattle.transcript.specs.EventLines.{IsEventLine, TakesMemory};
-ghost use Rattle.transcript.specs.Inner.Lines.{HasParts, IsCrash, IsEnd, IsExpire, IsFinish, IsRequest, IsRestart, IsSmall, IsSubmit, IsTurn, line_event};
+ghost use Rattle.transcript.specs.Inner.Lines.{BeginsJobRequest, BeginsPlan, HasParts, IsCrash, IsEnd, IsExpire, IsFinish, IsRequest, IsRestart, IsSmall, IsSubmit, IsTurn, line_event};
 
 use crate::request::read_request;
 use crate::spelled::{Spelled, cut_pair, cut_word, read_pair};
@@ -51,6 +51,7 @@ fn read_request_line(alloc: Global, words: &str) -> Result<Option<Line>, NoMemor
     ensures read { (event : group.Event) → IsRequest event
         → HasParts event (codes "request") words.now
         → IfOk result (λ read. IsSomeAnd read (λ said. line_event said ≡ event)) }
+    ensures memory { OnErr result (BeginsJobRequest words.now) }
 {
     let Some((server, text)) = cut_word(words) else {
         return Ok(None);
@@ -68,6 +69,7 @@ fn read_submit(alloc: Global, words: &str) -> Result<Option<Line>, NoMemory>
     ensures read { (event : group.Event) → IsSubmit event
         → HasParts event (codes "submit") words.now
         → IfOk result (λ read. IsSomeAnd read (λ said. line_event said ≡ event)) }
+    ensures memory { OnErr result (BeginsPlan words.now) }
 {
     let Some((server, to, text)) = cut_pair(words) else {
         return Ok(None);

@@ -1,5 +1,5 @@
 //! Requests to the leader, as a line of a scenario says them.
-ghost use Rattle.std.specs.Prelude.{◌≡◌, ◌++◌, ◌∷◌, ℕ, Bool, List, Some, IfOk, IfSome, IsSomeAnd, OnOk, codes, decimal};
+ghost use Rattle.std.specs.Prelude.{◌≡◌, ◌++◌, ◌∷◌, ℕ, Bool, List, Some, IfOk, IfSome, IsSomeAnd, OnOk, OnErr, codes, decimal};
 ghost use Rattle.rows.specs.Fits.{GroupFits, GroupsFit, JobSpecFits, NodeIdFits, PriorityFits};
 ghost use Rattle.rows.specs.Names.{NameFits};
 ghost use Rattle.rows.specs.declared.job.Group.{Group};
@@ -7,6 +7,7 @@ ghost use Rattle.rows.specs.declared.job.JobSpec.{JobSpec};
 ghost use Rattle.rows.specs.declared.request.OperatorRequest.{OperatorRequest};
 ghost use Rattle.rows.specs.declared.request.OperatorRequest.TheVariants.{DrainNode, PutEval, StopJob};
 ghost use Rattle.transcript.specs.Requests.{RequestFits, drain_text, group_text, groups_text, job_text, request_text};
+ghost use Rattle.transcript.specs.Inner.Lines.{BeginsJob};
 ghost use Rattle.transcript.specs.Inner.Plain.{IsRequestText};
 
 use crate::list::{append_items, read_items};
@@ -25,6 +26,7 @@ pub(crate) fn read_request(alloc: Global, text: &str) -> Result<Option<OperatorR
     ensures named { IfOk result (λ read. IfSome read (λ request. IsRequestText request text.now)) }
     ensures read { (request : OperatorRequest) → RequestFits request
         → text.now ≡ request_text request → IfOk result (λ read. read ≡ Some request) }
+    ensures memory { OnErr result (BeginsJob text.now) }
 {
     let Some((verb, words)) = cut(text, ' ') else {
         return Ok(None);

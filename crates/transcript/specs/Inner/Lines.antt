@@ -1,5 +1,5 @@
 -- Lines of events in the words of private contracts.
-use Rattle.std.specs.Prelude.{◌≡◌, ◌<◌, ◌^◌, ℕ, suc, List, [], drop, get_or}
+use Rattle.std.specs.Prelude.{◌≡◌, ◌<◌, ◌^◌, ℕ, suc, List, [], ◌∷◌, codes, drop, get_or}
 use Rattle.std.specs.List.{join_with_byte}
 use Rattle.server.specs.Handings.{handing}
 use Rattle.group_model.specs.Inputs as servers
@@ -9,7 +9,7 @@ use Rattle.world.specs.Events.{place_of}
 use Rattle.world.specs.GroupEvents.{client_input, server_input}
 use Rattle.transcript.specs.declared.line.Line.{Line}
 use Rattle.transcript.specs.declared.line.Line.TheVariants as lines
-use Rattle.transcript.specs.EventLines.{HasLine, event_words}
+use Rattle.transcript.specs.EventLines.{HasLine, ServerFits, event_words, server_text}
 
 -- the event that a line says
 abbrev pub line_event : Line → Event
@@ -91,3 +91,16 @@ IsSayable (Deliver place) = suc place < 2 ^ 64
 IsSayable (AtServer server (servers.Arrives message)) = ⊥
 IsSayable (AtClient client (clients.Arrives from response)) = ⊥
 IsSayable _ = Unit {0}
+
+-- ---- what stands before a list that is read
+
+abbrev pub BeginsJob : List ℕ → Type 0
+BeginsJob text = (rest : List ℕ) × (text ≡ join_with_byte 32 (codes "put" ∷ rest ∷ []))
+
+abbrev pub BeginsJobRequest : List ℕ → Type 0
+BeginsJobRequest text = (server : ℕ) × (rest : List ℕ) × ServerFits server
+    × (text ≡ join_with_byte 32 (server_text server ∷ codes "put" ∷ rest ∷ []))
+
+abbrev pub BeginsPlan : List ℕ → Type 0
+BeginsPlan text = (server : ℕ) × (to : ℕ) × (rest : List ℕ) × ServerFits server × ServerFits to
+    × (text ≡ join_with_byte 32 (server_text server ∷ server_text to ∷ rest ∷ []))

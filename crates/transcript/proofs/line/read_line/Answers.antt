@@ -1,10 +1,10 @@
-use Rattle.std.proofs.Common.{◌∙◌, ◌++◌, ◌∷◌, Option, None, Some, ap, sym}
+use Rattle.std.proofs.Common.{◌∙◌, Option, None, Some, refl, sym}
+use Rattle.std.proofs.lemmas.Result.{on_err_weaker}
 use Rattle.std.specs.Option.{IfSome}
 use Rattle.transcript.specs.declared.line.Line.{Line}
-use Rattle.transcript.specs.EventLines.{IsEventLine, of_plan, of_request}
-use Rattle.transcript.specs.Inner.Lines.{HasParts, IsSmall, line_event}
+use Rattle.transcript.specs.EventLines.{IsEventLine, TakesMemory, of_job, of_plan}
+use Rattle.transcript.specs.Inner.Lines.{BeginsJobRequest, BeginsPlan, HasParts, IsSmall, line_event}
 use Rattle.transcript.proofs.LineParts.{is_small, parted}
-use Rattle.transcript.proofs.Wanting.{if_wanting}
 use Rattle.transcript.proofs.line.read_line.Goals as goal
 
 pub returns-in_default-clause-read : goal.returns-in_default-clause-read
@@ -29,11 +29,13 @@ returns-in_default-verb-clause-read c event is =
     c.read_small.ensures.read event small (record { fits = is.0; first = first.0; behind = first.1 })
 
 pub returns-in-request-clause-memory : goal.returns-in-request-clause-memory
-returns-in-request-clause-memory c =
-    let words = c.in-Some.words.now in
-    if_wanting c.read_request_line.result (of_request words (c.in-Some.ensures.parts ∙ ap (λ verb. verb ++ 32 ∷ words) c.in-request.is))
+returns-in-request-clause-memory c = on_err_weaker c.read_request_line.result takes c.read_request_line.ensures.memory
+  where
+    takes : BeginsJobRequest c.in-Some.words.now → TakesMemory c.args.line.now
+    takes (server, rest, fits, is) = of_job server rest fits (c.in-Some.ensures.parts ∙ rw (c.in-request.is, is) refl)
 
 pub returns-in-submit-clause-memory : goal.returns-in-submit-clause-memory
-returns-in-submit-clause-memory c =
-    let words = c.in-Some.words.now in
-    if_wanting c.read_submit.result (of_plan words (c.in-Some.ensures.parts ∙ ap (λ verb. verb ++ 32 ∷ words) c.in-submit.is))
+returns-in-submit-clause-memory c = on_err_weaker c.read_submit.result takes c.read_submit.ensures.memory
+  where
+    takes : BeginsPlan c.in-Some.words.now → TakesMemory c.args.line.now
+    takes (server, to, rest, fits, there, is) = of_plan server to rest fits there (c.in-Some.ensures.parts ∙ rw (c.in-submit.is, is) refl)
