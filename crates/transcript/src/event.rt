@@ -40,8 +40,9 @@ pub fn read_beat(line: &str) -> Option<ServerId>
 
 /// Reads the line of an event, which is a line without its newline: exactly the one text of each
 /// event, with one space between words and numbers in decimal without leading zeros. It is refused
-/// as bytes at fault, with offset 0, where it is no event's line, and for want of memory. A delivery
-/// takes none, nor does a line of no event, unless it begins as a job or a plan is handed in.
+/// as bytes at fault, with offset 0, where it is no event's line, and for want of memory. A
+/// delivery takes none, nor does a line of no event, unless it begins as a job or a plan is handed
+/// in.
 pub fn read_event(alloc: Global, line: &str) -> Result<Event, Refusal>
     ensures named { IfOk result (λ event. IsEventLine (group_event event) line.now) }
     ensures read { (event : group.Event) → IsEventLine event line.now

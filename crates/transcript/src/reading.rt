@@ -160,8 +160,8 @@ fn read_events(alloc: Global, text: &[u8]) -> Result<(Vec<Event>, &[u8]), NoMemo
 ///
 /// It is refused with `Frame` and the offset of the first byte of the first line at fault: the
 /// first that may not stand where it does, has no newline at its end, or is no text; where no group
-/// has the first line, that is 0. It is refused with `NoMemory` too, but only where behind a group's
-/// line stands one that is kept or takes memory to read.
+/// has the first line, that is 0. It is refused with `NoMemory` too, but only where behind a
+/// group's line stands one that is kept or takes memory to read.
 pub fn read(alloc: Global, bytes: &[u8]) -> Result<Transcript, Refusal>
     ensures named { IfOk result (λ t. IsTranscript (recorded t) bytes.now) }
     ensures read { (r : Recorded) → IsTranscript r bytes.now
