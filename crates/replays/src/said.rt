@@ -201,14 +201,18 @@ fn fail<R: Threads + Wait + Copy + Send + 'static>(
     print!(rt; "{status}")
 }
 
-/// Plays the scenario `one-refused`, and asks for help, with a standard output that fails after
-/// each number of bytes.
+/// Plays the scenario `one-refused`, checks `node-too-small`, which has notes, and asks for help,
+/// with a standard output that fails after each number of bytes.
 pub(crate) fn outputs<R: Threads + Wait + Copy + Send + 'static>(
     rt: &HostRuntime,
     on: R,
 ) -> io::Result<()> {
     for left in 0..=167 {
         fail(rt, on, &["nomadsim", "run", "one-refused.json"], left)?;
+    }
+    println!(rt;)?;
+    for left in 0..=366 {
+        fail(rt, on, &["nomadsim", "check", "node-too-small.json"], left)?;
     }
     println!(rt;)?;
     for left in 0..100 {

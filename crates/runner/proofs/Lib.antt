@@ -8,3 +8,4 @@ pub mod EachLine
 pub mod Complaints
 pub mod GoodSteps
 pub mod Reasons
+pub mod Refusals

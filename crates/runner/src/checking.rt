@@ -8,7 +8,7 @@ ghost use Rattle.runner.specs.EachLine.{OfEachLine};
 ghost use Rattle.runner.specs.Inner.Faults.{MayStopChecking, MayStopPrinting};
 ghost use Rattle.runner.specs.Inner.Files.{IsGoodFile};
 ghost use Rattle.runner.specs.Inner.Grown.{GrowsByOwed};
-ghost use Rattle.runner.specs.Inner.Printed.{ShowsComplaints, ShowsEach, ShowsNotes, complaint_line, note_line};
+ghost use Rattle.runner.specs.Inner.Printed.{ShowsComplaints, ShowsEach, ShowsFaults, ShowsNotes, complaint_line, note_line};
 ghost use Rattle.runner.specs.Objects.{step_lines};
 
 use crate::fault::{Fault, said};
@@ -54,6 +54,8 @@ fn check_bytes<'a, W: Write>(alloc: Global, out: &mut W, bytes: &[u8]) -> Result
     ensures ok { IfOk result (λ status. (status ≡ 0) × IsGoodFile bytes.now) }
     ensures notes { OnOk result (ShowsNotes bytes.now (W.contents out.old) (W.contents out.new)) }
     ensures fault { IfErr result (MayStopChecking (IsGoodFile bytes.now)) }
+    ensures bad { IfErr result (λ fault. fault ≡ faults.BadScenario
+        → ShowsFaults bytes.now (W.contents out.old) (W.contents out.new)) }
 {
     match std::str::from_utf8(bytes) {
         Ok(text) => check_text(alloc, out, text),
@@ -103,7 +105,7 @@ fn print_notes<'a, W: Write>(out: &mut W, notes: &[TooLarge]) -> Result<(), Faul
     for note in notes {
         said(writeln!(out, "{note}"))?;
     }
-    Ok(())
+    said(out.flush())
 }
 
 /// What is wrong with a scenario's text: nothing exactly where it is a scenario and each of its

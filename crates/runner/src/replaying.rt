@@ -1,9 +1,11 @@
 //! A transcript's file, played again or drawn.
-ghost use Rattle.std.specs.Prelude.{◌≡◌, ◌≤◌, IfErr, IfOk};
+ghost use Rattle.std.specs.Prelude.{◌≡◌, ◌≢◌, ◌≤◌, IfErr, IfOk, List, OnOk, length};
+ghost use Rattle.picture.specs.Pictures.{GrowsByPicture};
 ghost use Rattle.transcript.specs.Transcripts.{IsTranscript, Recorded, recorded};
 ghost use Rattle.world.specs.GroupSteps.{IsNewGroup};
 ghost use Rattle.runner.specs.declared.fault.Fault.TheVariants as faults;
-ghost use Rattle.runner.specs.Inner.Faults.{MayStopTranscript};
+ghost use Rattle.runner.specs.Inner.Faults.{MayStopPrinting, MayStopTranscript};
+ghost use Rattle.runner.specs.Inner.Printed.{Refused, TellsRefusals};
 
 use crate::ending::print_end;
 use crate::fault::{Fault, said};
@@ -55,7 +57,13 @@ fn print_picture<'a, W: Write>(
     alloc: Global,
     transcript: &Transcript,
     out: &mut W,
-) -> Result<(), Fault<'a>> {
+) -> Result<(), Fault<'a>>
+    ensures picture { OnOk result (GrowsByPicture transcript.now.servers
+        (length transcript.now.nodes.items) (length transcript.now.events.items)
+        (W.contents out.old) (W.contents out.new)) }
+    ensures fault { IfErr result MayStopPrinting }
+    ensures left { IfErr result (λ fault. fault ≢ faults.Output → out.new ≡ out.old) }
+{
     let nodes = transcript.nodes.as_slice();
     match draw(
         alloc,
@@ -105,7 +113,10 @@ fn play_events<'a, W: Write>(
     text: &[u8],
     first: usize,
 ) -> Result<u8, Fault<'a>>
-    ensures { IfOk result (λ status. status ≤ 1) }
+    ensures most { IfOk result (λ status. status ≤ 1) }
+    ensures quiet { IfOk result (λ status. status ≡ 0 → out.new ≡ out.old) }
+    ensures told { IfOk result (λ status. (refused : List Refused)
+        × TellsRefusals refused status (W.contents out.old) (W.contents out.new)) }
 {
     let mut lines = text.split(|byte| *byte == b'\n').skip(first);
     let mut status = 0;

@@ -9,8 +9,8 @@ ghost use Rattle.runner.specs.Complaints.{IsGood, IsStepLine};
 ghost use Rattle.runner.specs.Inner.Faults.{MayStopReading};
 ghost use Rattle.runner.specs.Inner.Files.{IsScenarioFile};
 ghost use Rattle.runner.specs.Inner.Plays.{IsNewPlay, MakesGroup};
-ghost use Rattle.runner.specs.Inner.Printed.{refusal_line};
-ghost use Rattle.runner.specs.Objects.{IsScenarioText};
+ghost use Rattle.runner.specs.Inner.Printed.{TellsSteps, refusal_line};
+ghost use Rattle.runner.specs.Objects.{IsScenarioText, step_lines};
 ghost use Rattle.runner.specs.Steps.{IsLine, Step as AnyStep, step_of};
 
 use crate::ending::print_end;
@@ -61,7 +61,10 @@ pub(crate) fn play_steps<'a, W: Write, S: Stage>(
     stage: &mut S,
     scenario: &Scenario,
 ) -> Result<u8, Fault<'a>>
-    ensures { IfOk result (λ status. status ≤ 1) }
+    ensures most { IfOk result (λ status. status ≤ 1) }
+    ensures quiet { IfOk result (λ status. status ≡ 0 → out.new ≡ out.old) }
+    ensures told { IfOk result (λ status. TellsSteps (step_lines scenario.now) status
+        (W.contents out.old) (W.contents out.new)) }
 {
     let mut status = 0;
     for line in &scenario.steps {

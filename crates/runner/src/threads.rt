@@ -1,5 +1,5 @@
 //! A scenario's file, played on threads.
-ghost use Rattle.std.specs.Prelude.{◌≡◌, ◌≤◌, IfOk};
+ghost use Rattle.std.specs.Prelude.{◌≡◌, ◌≤◌, IfOk, length};
 ghost use Rattle.world.specs.WorldView.{IsGroup};
 
 use crate::ending::print_end;
@@ -133,6 +133,11 @@ fn group<B: BookId>(
     opened: OpenedBook<OwnInput>,
 ) -> Result<Arc<RunningGroup<B, OpenGate>, Global>, Refusal>
     requires { opened ≡ (B.table, B.actors) }
+    ensures size { IfOk result (λ group.
+        (group.value.cells.servers ≡ scenario.now.settings.servers)
+        × (group.value.cells.clients ≡ length scenario.now.nodes.items)) }
+    ensures lost { IfOk result (λ group. group.value.drop ≡ scenario.now.settings.drop) }
+    ensures repeated { IfOk result (λ group. group.value.repeat ≡ scenario.now.settings.repeat) }
 {
     let (book, seats) = opened.seats::<B>(alloc)?;
     let size = usize::from(scenario.settings.servers);

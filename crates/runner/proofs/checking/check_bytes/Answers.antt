@@ -1,7 +1,7 @@
-use Rattle.std.proofs.Common.{subst, sym}
+use Rattle.std.proofs.Common.{inl, subst, sym}
 use Rattle.std.proofs.lemmas.Result.{IfErr-weaker, IfOk-weaker, on_ok_weaker}
 use Rattle.runner.specs.Complaints.{IsGoodText}
-use Rattle.runner.specs.Inner.Printed.{ShowsNotes}
+use Rattle.runner.specs.Inner.Printed.{ShowsComplaints, ShowsNotes}
 use Rattle.runner.proofs.Reasons.{stops_checking}
 use Rattle.runner.proofs.checking.check_bytes.Goals as goal
 
@@ -22,3 +22,12 @@ returns-in-Ok-clause-fault g c =
     IfErr-weaker c.check_text.result _ _
     (λ fault. stops_checking fault (λ file. subst IsGoodText (sym c.in-Ok.ensures.cases.0) file.1))
     c.check_text.ensures.fault
+
+pub returns-in-Ok-clause-bad : goal.returns-in-Ok-clause-bad
+returns-in-Ok-clause-bad g c =
+    let contents = g.W.Write.contents in
+    let read = c.in-Ok.ensures.cases in
+    IfErr-weaker c.check_text.result _ _
+    (λ fault shown bad.
+        inl (read.1, subst (λ text. ShowsComplaints text (contents c.args.out.now) (contents c.check_text.new.out)) read.0 (shown bad)))
+    c.check_text.ensures.bad

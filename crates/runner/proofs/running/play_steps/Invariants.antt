@@ -1,5 +1,11 @@
-use Rattle.std.proofs.Common.{◌≤◌}
+use Rattle.std.proofs.Common.{◌≡◌, ◌≤◌, map, string_bytes, take}
+use Rattle.runner.specs.Inner.Printed.{TellsSteps}
 use Rattle.runner.proofs.running.play_steps.Given as goal
 
+-- what is told of the lines so far
 abbrev pub invariant-loop-line : goal.invariant-loop-line
-invariant-loop-line g l = l.status ≤ 1
+invariant-loop-line g l = record {
+  most : l.status ≤ 1;
+  quiet : l.status ≡ 0 → l.out ≡ l.fn.out;
+  told : TellsSteps (map string_bytes (take l.line-index l.scenario.steps.items)) l.status (g.W.Write.contents l.fn.out) (g.W.Write.contents l.out);
+}
