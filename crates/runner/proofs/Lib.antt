@@ -9,3 +9,4 @@ pub mod Complaints
 pub mod GoodSteps
 pub mod Reasons
 pub mod Refusals
+pub mod Seats

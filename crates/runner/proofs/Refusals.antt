@@ -19,8 +19,7 @@ pub one_more_refused : (refused : List Refused) (status : ℕ) (refusal : Refusa
     → TellsRefusals refused status old mid → Appends mid new (refusal_line refusal line) → TellsRefusals (refused ++ (refusal, line) ∷ []) 1 old new
 one_more_refused refused status refusal line old mid new told more =
     let lines : flat_map refused_line (refused ++ (refusal, line) ∷ []) ≡ flat_map refused_line refused ++ refusal_line refusal line =
-    flat_map-append refused_line refused ((refusal, line) ∷ []) ∙ ap (λ x. flat_map refused_line refused ++ x) (append-nil (refusal_line refusal line)) in
-    (
+    flat_map-append refused_line refused ((refusal, line) ∷ []) ∙ ap (λ x. flat_map refused_line refused ++ x) (append-nil (refusal_line refusal line)) in (
       (λ none. cc, λ empty. absurd (not_empty refused (refusal, line) empty)),
       rw lines (Appends-trans old mid new _ _ told.1 more),
     )
@@ -33,9 +32,8 @@ module _ (steps : List (String Global)) (i : ℕ) (step : String Global) (inside
 
   pub step_refused : (status : ℕ) (refusal : Refusal) (old mid new : Option (List ℕ)) → TellsSteps (map string_bytes (take i steps)) status old mid
       → Appends mid new (refusal_line refusal (string_bytes step)) → TellsSteps (map string_bytes (take (i + 1) steps)) 1 old new
-  step_refused status refusal old mid new (refused, each, told) more =
-      (
-        refused ++ (refusal, string_bytes step) ∷ [],
-        of_one_more_step MayRefuse steps i step refused ((refusal, string_bytes step) ∷ []) each inside at (inr (refusal, refl)),
-        one_more_refused refused status refusal (string_bytes step) old mid new told more,
-      )
+  step_refused status refusal old mid new (refused, each, told) more = (
+    refused ++ (refusal, string_bytes step) ∷ [],
+    of_one_more_step MayRefuse steps i step refused ((refusal, string_bytes step) ∷ []) each inside at (inr (refusal, refl)),
+    one_more_refused refused status refusal (string_bytes step) old mid new told more,
+  )

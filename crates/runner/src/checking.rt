@@ -43,7 +43,11 @@ pub(crate) fn check_file<'a, F: Shelf, W: Write>(
     out: &mut W,
     file: &'a str,
 ) -> Result<u8, Fault<'a>>
-    ensures { IfOk result (λ status. status ≡ 0) }
+    ensures status { IfOk result (λ status. status ≡ 0) }
+    ensures good { IfSome (F.file shelf.old file.entry.now) (λ known.
+        OnOk result (IsGoodFile known)) }
+    ensures bad { IfSome (F.file shelf.old file.entry.now) (λ known.
+        IfErr result (λ fault. fault ≡ faults.BadScenario → ¬ IsGoodFile known)) }
 {
     let bytes = load_bytes(shelf, file)?;
     check_bytes(alloc, out, bytes.as_slice())

@@ -1,7 +1,8 @@
 //! A scenario's file, played.
-ghost use Rattle.std.specs.Prelude.{◌≡◌, ◌≢◌, ◌≤◌, ◌⊎◌, IfErr, IfOk, OnOk};
+ghost use Rattle.std.specs.Prelude.{◌≡◌, ◌≢◌, ◌≤◌, ◌⊎◌, IfErr, IfOk, IfSome, OnOk};
 ghost use Rattle.std.specs.Io.KnownBytes.{Appends};
 ghost use Rattle.rows.specs.declared.refusal.Refusal.TheVariants as refusals;
+ghost use Rattle.transcript.specs.Transcripts.{IsTranscript, record_of};
 ghost use Rattle.world.specs.WorldView.{IsGroup};
 ghost use Rattle.runner.specs.declared.fault.Fault.TheVariants as faults;
 ghost use Rattle.runner.specs.declared.scenario.Scenario.{Scenario};
@@ -84,8 +85,10 @@ pub(crate) fn save<'a, F: Shelf>(
     world: &World,
     name: &'a str,
 ) -> Result<(), Fault<'a>>
-    ensures { IfErr result (λ fault. (fault ≡ faults.NoMemory)
+    ensures fault { IfErr result (λ fault. (fault ≡ faults.NoMemory)
         ⊎ (fault ≡ faults.CannotWrite name.entry)) }
+    ensures written { IfSome (F.file shelf.new name.entry.now) (λ known.
+        OnOk result (IsTranscript (record_of world.now) known)) }
 {
     let text = write(alloc, world)?;
     match shelf.write(name, text.as_slice()) {
@@ -97,8 +100,10 @@ pub(crate) fn save<'a, F: Shelf>(
 
 /// All bytes of a file.
 pub(crate) fn load_bytes<'a, F: Shelf>(shelf: &mut F, file: &'a str) -> Result<Vec<u8>, Fault<'a>>
-    ensures { IfErr result (λ fault. (fault ≡ faults.NoMemory)
+    ensures fault { IfErr result (λ fault. (fault ≡ faults.NoMemory)
         ⊎ (fault ≡ faults.CannotRead file.entry)) }
+    ensures bytes { IfSome (F.file shelf.old file.entry.now) (λ known.
+        IfOk result (λ bytes. bytes.items ≡ known)) }
 {
     match shelf.read(file) {
         Ok(bytes) => Ok(bytes),
@@ -113,7 +118,9 @@ pub(crate) fn load<'a, F: Shelf>(
     shelf: &mut F,
     file: &'a str,
 ) -> Result<Scenario, Fault<'a>>
-    ensures { IfOk result (λ scenario. IsGroup scenario.settings.servers) }
+    ensures size { IfOk result (λ scenario. IsGroup scenario.settings.servers) }
+    ensures read { IfSome (F.file shelf.old file.entry.now) (λ known.
+        IfOk result (IsScenarioText known)) }
 {
     let bytes = load_bytes(shelf, file)?;
     scenario_of_bytes(alloc, bytes.as_slice())

@@ -127,6 +127,7 @@ fn open_book<'a>(alloc: Global, scenario: &Scenario) -> Result<OpenedBook<OwnInp
 }
 
 // The group of a scenario, before its threads start.
+#[tactic(auto, using(crate::proofs::Seats::actors_of_seats))]
 fn group<B: BookId>(
     alloc: Global,
     scenario: &Scenario,
@@ -136,6 +137,7 @@ fn group<B: BookId>(
     ensures size { IfOk result (λ group.
         (group.value.cells.servers ≡ scenario.now.settings.servers)
         × (group.value.cells.clients ≡ length scenario.now.nodes.items)) }
+    ensures actors { IfOk result (λ group. group.value.cells.actors ≡ B.actors) }
     ensures lost { IfOk result (λ group. group.value.drop ≡ scenario.now.settings.drop) }
     ensures repeated { IfOk result (λ group. group.value.repeat ≡ scenario.now.settings.repeat) }
 {

@@ -29,5 +29,5 @@ returns-in-Ok-clause-bad g c =
     let read = c.in-Ok.ensures.cases in
     IfErr-weaker c.check_text.result _ _
     (λ fault shown bad.
-        inl (read.1, subst (λ text. ShowsComplaints text (contents c.args.out.now) (contents c.check_text.new.out)) read.0 (shown bad)))
+    inl (read.1, subst (λ text. ShowsComplaints text (contents c.args.out.now) (contents c.check_text.new.out)) read.0 (shown bad)))
     c.check_text.ensures.bad

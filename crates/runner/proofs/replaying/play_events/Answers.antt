@@ -12,6 +12,6 @@ loop-event-preserved-in-Err g c =
       told = (
         _,
         one_more_refused told.0 c.loop-event.status c.in-Err.refusal c.unwrap_or.result.now (contents c.args.out.now) (contents c.loop-event.out)
-        (contents c.print_refusal.new.out) told.1 c.in_ok-print_refusal.ensures.line,
+            (contents c.print_refusal.new.out) told.1 c.in_ok-print_refusal.ensures.line,
       );
     }
