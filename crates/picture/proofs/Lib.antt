@@ -2,3 +2,4 @@ pub mod Contents
 pub mod Drawn
 pub mod Loops
 pub mod Noting
+pub mod Fetching

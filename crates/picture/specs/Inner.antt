@@ -1,6 +1,7 @@
 pub mod Shapes
 pub mod Places
 pub mod Notes
+pub mod Actors
 pub mod Records
 pub mod Labels
 pub mod Drawn

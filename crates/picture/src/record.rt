@@ -1,8 +1,9 @@
 //! What is noted of a run while it is played again: of each event its actor, before and after it,
 //! and of each message who sent it when, and how often it came.
-ghost use Rattle.std.specs.Prelude.{◌≡◌, ◌+◌, ◌++◌, [], is_none, ◌&&◌, length, map, drop, slice_get, OnOk, IfOk};
+ghost use Rattle.std.specs.Prelude.{◌≡◌, ◌+◌, ◌++◌, [], Some, is_none, ◌&&◌, length, map, drop, slice_get, OnOk, IfOk, IfNone, IfSome};
 ghost use Rattle.std.specs.List.{count_by};
 ghost use Rattle.std.specs.Option.{unwrap_or};
+ghost use Rattle.picture.specs.Inner.Actors.{actor_in, server_face, client_face, face_in, Happened, RefusedAs};
 ghost use Rattle.picture.specs.Inner.Records.{lifeline_of, column_within, delivered_place, message_in, arrived, had_come, taken_in, as_sent, receiver_line, is_lost, TakesRow, KeepsActors};
 ghost use Rattle.picture.specs.Inner.Places.{capped};
 
@@ -44,7 +45,9 @@ impl Face {
         applied: 0,
     };
 
-    fn of_server(server: &Server) -> Face {
+    fn of_server(server: &Server) -> Face
+        ensures { result ≡ server_face server.now }
+    {
         let term = server.term().get();
         let (Some(role), Some(applied)) = (server.role(), server.applied()) else {
             return Face { term, ..Face::NONE };
@@ -57,7 +60,9 @@ impl Face {
         }
     }
 
-    fn of_client(client: &Agent) -> Face {
+    fn of_client(client: &Agent) -> Face
+        ensures { result ≡ client_face client.now }
+    {
         if client.is_up() {
             Face::NEW
         } else {
@@ -65,14 +70,18 @@ impl Face {
         }
     }
 
-    fn of(world: &World, actor: Option<Actor>) -> Face {
+    fn of(world: &World, actor: Option<Actor>) -> Face
+        ensures { result ≡ face_in world.now actor }
+    {
         match actor {
             Some(actor) => Face::of_actor(world, actor),
             None => Face::NONE,
         }
     }
 
-    fn of_actor(world: &World, actor: Actor) -> Face {
+    fn of_actor(world: &World, actor: Actor) -> Face
+        ensures { result ≡ face_in world.now (Some actor) }
+    {
         match actor {
             Actor::Server(id) => match world.server(id) {
                 Some(server) => Face::of_server(server),
@@ -187,7 +196,7 @@ impl Record {
 
     /// Notes an event, which the group takes or refuses.
     fn take(&mut self, world: &mut World, event: Event) -> Result<(), NoMemory>
-        ensures noted { OnOk result (TakesRow self.old self.new world.new.outbox.frames event) }
+        ensures noted { OnOk result (TakesRow self.old self.new world.old event world.new) }
         ensures actors { KeepsActors self.old self.new }
     {
         let message = message_of(&event);
@@ -308,7 +317,9 @@ fn message_of(event: &Event) -> Option<usize>
 }
 
 // Who takes an event.
-fn actor_of(world: &World, event: &Event) -> Option<Actor> {
+fn actor_of(world: &World, event: &Event) -> Option<Actor>
+    ensures { result ≡ actor_in world.now.outbox.frames event.now }
+{
     match event {
         Event::Deliver(number) => world.receiver(*number),
         Event::Server(id, _) => Some(Actor::Server(*id)),
@@ -318,13 +329,18 @@ fn actor_of(world: &World, event: &Event) -> Option<Actor> {
 
 // The number of the refusal of an event. A crash for want of memory is none of the run that is to
 // be drawn.
-fn refusal_of(world: &mut World, event: Event) -> Result<Option<u8>, NoMemory> {
+fn refusal_of(world: &mut World, event: Event) -> Result<Option<u8>, NoMemory>
+    ensures taken { IfOk result (λ refusal. IfNone refusal
+        (Happened world.old event world.new)) }
+    ensures refused { IfOk result (λ refusal. IfSome refusal
+        (λ number. RefusedAs world.old event number world.new)) }
+{
     let done = world.step(event);
     let _work = world.take_work();
     match done {
         Ok(Done::Taken) => Ok(None),
         Ok(Done::Crashed) => Err(NoMemory),
-        Err(Refusal::NoMemory) => Err(NoMemory),
+        Err(refusal) if refusal == Refusal::NoMemory => Err(NoMemory),
         Err(refusal) => Ok(Some(refusal.number())),
     }
 }

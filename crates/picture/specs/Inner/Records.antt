@@ -1,15 +1,17 @@
 -- What is noted of the events and the messages of a run.
-use Rattle.std.specs.Prelude.{◌≡◌, ℕ, ◌+◌, ◌-◌, Bool, true, false, not, ◌&&◌, nat_lt, is_none, if◌then◌else◌, Option, Some, None, List, [], ◌∷◌, ◌++◌, length, map, drop, slice_get, slice_set}
+use Rattle.std.specs.Prelude.{◌≡◌, ℕ, ◌+◌, ◌-◌, Bool, true, false, not, ◌&&◌, nat_lt, is_none, IfNone, IfSome, if◌then◌else◌, Option, Some, None, List, [], ◌∷◌, ◌++◌, length, map, drop, slice_get, slice_set}
 use Rattle.std.specs.Option.{unwrap_or}
 use Rattle.rows.specs.declared.actor.Actor.{Actor}
 use Rattle.rows.specs.declared.actor.Actor.TheVariants as actors
 use Rattle.wire.specs.Frames.{Frame}
 use Rattle.world.specs.declared.group.event.Event.{Event}
 use Rattle.world.specs.declared.group.event.Event.TheVariants as events
+use Rattle.world.specs.GroupView.{GroupView}
 use Rattle.picture.specs.declared.record.Record.{Record}
 use Rattle.picture.specs.declared.record.Step.{Step}
 use Rattle.picture.specs.declared.record.Sending.{Sending}
 use Rattle.picture.specs.Inner.Places.{capped}
+use Rattle.picture.specs.Inner.Actors.{actor_in, face_in, Happened, RefusedAs}
 
 -- The place of the message that an event delivers, from 0; none of an input, and none of the number
 -- 0.
@@ -76,12 +78,19 @@ as_sent old from frame = record {
 abbrev pub KeepsActors : Record → Record → Type 0
 KeepsActors old new = (new.servers ≡ old.servers) × (new.clients ≡ old.clients)
 
--- The event has the next row. The message that it delivers came, if it is not refused; and each of
+-- The event has the next row: its column is the lifeline of the actor that it comes to, as that was
+-- before it and is after it. It is noted as not refused only where it happened, and as refused only
+-- as the definitions refuse it. The message that it delivers came, if it is not refused; and each of
 -- the frames beyond those noted before is noted as one that this row's actor sent.
-pub record TakesRow (old new : Record) (frames : List Frame) (event : Event) : Type 0 where
+pub record TakesRow (old new : Record) (was : GroupView) (event : Event) (is : GroupView) : Type 0 where
   pub step : Step
   pub steps : new.steps.items ≡ old.steps.items ++ step ∷ []
+  pub column : step.column ≡ lifeline_of old.servers old.clients (actor_in was.outbox.frames event)
   pub message : step.message ≡ delivered_place event
   pub again : step.again ≡ (is_none step.refusal && had_come step.message old.sendings.items)
+  pub taken : IfNone step.refusal (Happened was event is)
+  pub refused : IfSome step.refusal (λ number. RefusedAs was event number is)
+  pub before : step.before ≡ face_in was (actor_in was.outbox.frames event)
+  pub after : step.after ≡ face_in is (actor_in was.outbox.frames event)
   pub sendings : new.sendings.items ≡ taken_in step.refusal step.message old.sendings.items
-      ++ map (as_sent old (unwrap_or step.column 0)) (drop (length (taken_in step.refusal step.message old.sendings.items)) frames)
+      ++ map (as_sent old (unwrap_or step.column 0)) (drop (length (taken_in step.refusal step.message old.sendings.items)) is.outbox.frames)

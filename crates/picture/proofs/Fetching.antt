@@ -1,0 +1,16 @@
+-- What came for workers is fetched between the events of a group that is drawn.
+use Rattle.std.proofs.Common.{◌≡◌, [], sym, ap, subst}
+use Rattle.server.specs.declared.server.Outbox.{Outbox}
+use Rattle.world.specs.GroupView.{GroupView}
+use Rattle.world.specs.GroupSteps.{SameGroup}
+use Rattle.picture.specs.Inner.Actors.{fetched}
+
+-- a refusal that changed nothing, and then what came for workers is fetched
+pub fetched_same : (old now new : GroupView) → SameGroup old now → new ≡ fetched now → SameGroup (fetched old) new
+fetched_same old now new same is = subst (SameGroup (fetched old)) (sym is) record {
+  servers = same.servers;
+  clients = same.clients;
+  outbox = ap (λ (outbox : Outbox). record outbox { work = [] }) same.outbox;
+  trace = same.trace;
+  chain = same.chain;
+}
