@@ -1,10 +1,11 @@
 -- What stands beside an arrow and beside an event: the kind, and what matters in it.
-use Rattle.std.specs.Prelude.{ℕ, ◌+◌, ◌-◌, Bool, nat_eq, if◌then◌else◌, Option, Some, None, List, [], ◌++◌, length, slice_get, decimal, codes}
+use Rattle.std.specs.Prelude.{ℕ, ◌+◌, ◌-◌, Bool, nat_eq, if◌then◌else◌, Option, Some, None, Result, Ok, Err, List, [], ◌++◌, length, slice_get, decimal, codes}
 use Rattle.rows.specs.declared.allocation.AllocId.{AllocId}
 use Rattle.rows.specs.declared.command.Report.{Report}
 use Rattle.rows.specs.declared.evaluation.EvalId.{EvalId}
 use Rattle.rows.specs.declared.plan.Plan.{Plan}
 use Rattle.rows.specs.declared.reason.Reason.{Reason}
+use Rattle.rows.specs.declared.refusal.Refusal.{Refusal}
 use Rattle.rows.specs.declared.request.OperatorRequest.{OperatorRequest}
 use Rattle.rows.specs.declared.request.OperatorRequest.TheVariants as operators
 use Rattle.rows.specs.declared.token.Delivery.{Delivery}
@@ -20,12 +21,15 @@ use Rattle.wire.specs.declared.body.Body.{Body}
 use Rattle.wire.specs.declared.body.Body.TheVariants as bodies
 use Rattle.wire.specs.declared.vote.VoteReply.{VoteReply}
 use Rattle.wire.specs.Appends.{Append}
+use Rattle.wire.specs.Messages.{Message}
 use Rattle.client_agent.specs.declared.input.ClientInput.{ClientInput}
 use Rattle.client_agent.specs.declared.input.ClientInput.TheVariants as client_inputs
 use Rattle.server.specs.declared.server_input.ServerInput.{ServerInput}
 use Rattle.server.specs.declared.server_input.ServerInput.TheVariants as inputs
 use Rattle.world.specs.declared.group.event.Event.{Event}
 use Rattle.world.specs.declared.group.event.Event.TheVariants as events
+use Rattle.picture.specs.declared.ink.Ink.{Ink}
+use Rattle.picture.specs.declared.ink.Ink.TheVariants as inks
 
 -- an evaluation, and an allocation: the entry that made it, and its place among those of the entry
 abbrev pub eval_label : List ℕ → EvalId → List ℕ
@@ -101,6 +105,11 @@ body_label (bodies.List index rows) = codes "List @" ++ (decimal index ++ (codes
 body_label (bodies.Report reports) = reports_label reports
 body_label (bodies.Told kind reason) = codes "Told " ++ decimal (told_number reason)
 
+-- of what was read of a frame
+abbrev pub read_label : {S C : Type 0} → Result (Message S C) Refusal → List ℕ
+read_label (Ok message) = body_label message.body
+read_label (Err refusal) = codes "no message"
+
 -- ---- an actor's own input, in the words of a transcript
 
 abbrev pub to_label : List ℕ → ℕ → List ℕ
@@ -141,6 +150,13 @@ client_input_label (client_inputs.Pull to) = to_label (codes "pull") to
 client_input_label (client_inputs.End id ok) = end_label id ok
 client_input_label client_inputs.Crash = codes "crash"
 client_input_label client_inputs.Restart = codes "restart"
+
+-- How what stands beside an event looks, by the number of its refusal and by the place of the message
+-- that came.
+abbrev pub said_ink : Option ℕ → Option ℕ → Ink
+said_ink (Some number) message = inks.Refused
+said_ink None (Some place) = inks.Message
+said_ink None None = inks.Input
 
 -- a delivery has none
 abbrev pub event_label : Event → List ℕ
