@@ -1,6 +1,6 @@
 //! What stands beside an arrow: the kind of the message, and what matters in it.
 ghost use Rattle.std.specs.Prelude.{◌≡◌, IfOk, string_bytes};
-ghost use Rattle.picture.specs.Inner.Labels.{eval_label, plan_label, finish_label, vote_label, append_label, reply_label, request_label, delivery_label, response_label, reports_label, told_number, body_label, read_label, outcome_label};
+ghost use Rattle.picture.specs.Inner.Labels.{eval_label, plan_label, finish_label, vote_label, append_label, reply_label, request_label, delivery_label, response_label, reports_label, told_number, body_label, frame_label, outcome_label};
 
 use fsm_state::Cluster;
 use rows::{
@@ -8,20 +8,15 @@ use rows::{
     WorkerResponse,
 };
 use std::alloc::Global;
-use wire::{Append, AppendReply, Body, Message, VoteReply, read_message};
+use wire::{Append, AppendReply, Body, VoteReply, read_message};
 
 /// The label of a frame.
-pub(crate) fn message_label(alloc: Global, frame: &[u8]) -> Result<String, NoMemory> {
-    read_label(alloc, read_message::<Cluster>(alloc, frame))
-}
-
-// The label of the message that was read of a frame.
-fn read_label(alloc: Global, read: Result<Message<Cluster>, Refusal>) -> Result<String, NoMemory>
-    ensures { IfOk result (λ label. string_bytes label ≡ read_label read) }
+pub(crate) fn message_label(alloc: Global, frame: &[u8]) -> Result<String, NoMemory>
+    ensures { IfOk result (λ label. string_bytes label ≡ frame_label frame.now) }
 {
-    match read {
+    match read_message::<Cluster>(alloc, frame) {
         Ok(message) => body_label(alloc, message.body()),
-        Err(Refusal::NoMemory) => Err(NoMemory),
+        Err(refusal) if refusal == Refusal::NoMemory => Err(NoMemory),
         Err(_) => plain(alloc, "no message"),
     }
 }

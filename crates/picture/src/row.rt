@@ -1,8 +1,7 @@
 //! What stands in the row of one event: its number, its mark on the lifeline, and its label.
-ghost use Rattle.std.specs.Prelude.{◌≡◌, [], slice_get, OnOk, IfOk, IfNone, IfSome, string_bytes};
-ghost use Rattle.picture.specs.declared.ink.Ink.TheVariants as inks;
+ghost use Rattle.std.specs.Prelude.{◌≡◌, slice_get, OnOk, IfOk, string_bytes};
 ghost use Rattle.picture.specs.Inner.Drawn.{Draws};
-ghost use Rattle.picture.specs.Inner.Labels.{event_label, refused_label, said_ink};
+ghost use Rattle.picture.specs.Inner.Labels.{event_label, refused_label, sent_label, said_ink, said_text};
 ghost use Rattle.picture.specs.Inner.Rows.{event_number, message_number, numbers_text, tick_text, mark_text, label_side, note_room};
 
 use crate::ink::{Ink, Spot, Stroke};
@@ -24,8 +23,7 @@ const MESSAGE: u64 = 70;
 
 /// The label of a message that was sent, by its place among all; empty where there is none.
 pub(crate) fn sent_label(alloc: Global, sent: &Frames, place: usize) -> Result<String, NoMemory>
-    ensures none { IfOk result (λ label. IfNone (slice_get sent.now place)
-        (string_bytes label ≡ [])) }
+    ensures { IfOk result (λ label. string_bytes label ≡ sent_label (slice_get sent.now place)) }
 {
     match sent.get(place) {
         Some(frame) => message_label(alloc, frame.bytes()),
@@ -139,10 +137,8 @@ fn said_of(
     event: &Event,
 ) -> Result<(Ink, String), NoMemory>
     ensures ink { IfOk result (λ said. said.0 ≡ said_ink step.now.refusal step.now.message) }
-    ensures refused { IfOk result (λ said. IfSome step.now.refusal (λ number.
-        string_bytes said.1 ≡ refused_label number (event_label event.now))) }
-    ensures input { IfOk result (λ said. said.0 ≡ inks.Input
-        → string_bytes said.1 ≡ event_label event.now) }
+    ensures text { IfOk result (λ said. string_bytes said.1
+        ≡ said_text sent.now event.now step.now.refusal step.now.message) }
 {
     if let Some(number) = step.refusal {
         return Ok((Ink::Refused, refused_label(alloc, number, event)?));

@@ -5,7 +5,6 @@ use Rattle.rows.specs.declared.command.Report.{Report}
 use Rattle.rows.specs.declared.evaluation.EvalId.{EvalId}
 use Rattle.rows.specs.declared.plan.Plan.{Plan}
 use Rattle.rows.specs.declared.reason.Reason.{Reason}
-use Rattle.rows.specs.declared.refusal.Refusal.{Refusal}
 use Rattle.rows.specs.declared.request.OperatorRequest.{OperatorRequest}
 use Rattle.rows.specs.declared.request.OperatorRequest.TheVariants as operators
 use Rattle.rows.specs.declared.token.Delivery.{Delivery}
@@ -22,6 +21,9 @@ use Rattle.wire.specs.declared.body.Body.TheVariants as bodies
 use Rattle.wire.specs.declared.vote.VoteReply.{VoteReply}
 use Rattle.wire.specs.Appends.{Append}
 use Rattle.wire.specs.Messages.{Message}
+use Rattle.wire.specs.Frames.{Frame, message_at}
+use Rattle.cluster_model.specs.Words.{State}
+use Rattle.cluster_model.specs.ClusterMachine.{cluster_meaning}
 use Rattle.client_agent.specs.declared.input.ClientInput.{ClientInput}
 use Rattle.client_agent.specs.declared.input.ClientInput.TheVariants as client_inputs
 use Rattle.server.specs.declared.server_input.ServerInput.{ServerInput}
@@ -105,10 +107,19 @@ body_label (bodies.List index rows) = codes "List @" ++ (decimal index ++ (codes
 body_label (bodies.Report reports) = reports_label reports
 body_label (bodies.Told kind reason) = codes "Told " ++ decimal (told_number reason)
 
--- of what was read of a frame
-abbrev pub read_label : {S C : Type 0} → Result (Message S C) Refusal → List ℕ
+-- of what bytes are as a frame
+abbrev pub read_label : {S C : Type 0} → Result (Message S C) ℕ → List ℕ
 read_label (Ok message) = body_label message.body
-read_label (Err refusal) = codes "no message"
+read_label (Err place) = codes "no message"
+
+-- the message of a frame
+abbrev pub frame_label : List ℕ → List ℕ
+frame_label bytes = read_label (message_at {S = State} cluster_meaning.commands bytes)
+
+-- what was sent at a place, if anything
+abbrev pub sent_label : Option Frame → List ℕ
+sent_label None = []
+sent_label (Some frame) = frame_label frame.bytes
 
 -- ---- an actor's own input, in the words of a transcript
 
@@ -169,3 +180,10 @@ abbrev pub refused_label : ℕ → List ℕ → List ℕ
 refused_label number input =
     if nat_eq (length input) 0 then codes "refused " ++ decimal number
     else codes "refused " ++ (decimal number ++ (codes " " ++ input))
+
+-- What stands beside an event, by the number of its refusal and by the place of the message that
+-- came.
+abbrev pub said_text : List Frame → Event → Option ℕ → Option ℕ → List ℕ
+said_text sent event (Some number) message = refused_label number (event_label event)
+said_text sent event None (Some place) = sent_label (slice_get sent place)
+said_text sent event None None = event_label event
