@@ -7,7 +7,7 @@ use rows::NoMemory;
 use std::alloc::Global;
 
 // Where the first lifeline stands, and how far each is from the one before it.
-const FIRST: u64 = 260;
+const FIRST: u64 = 290;
 
 const COLUMN: u64 = 150;
 
@@ -104,7 +104,7 @@ impl Side {
 /// before it.
 pub(crate) fn x_of(column: usize) -> u64
     ensures value { result ≡ lifeline_x column }
-    ensures apart { column < 69 → result ≡ 150 * column + 260 }
+    ensures apart { column < 69 → result ≡ 150 * column + 290 }
 {
     COLUMN.saturating_mul(column as u64).saturating_add(FIRST)
 }

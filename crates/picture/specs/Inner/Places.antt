@@ -32,7 +32,7 @@ opposite Right = Left
 
 -- lifelines stand 150 pixels from each other
 abbrev pub lifeline_x : ℕ → ℕ
-lifeline_x column = capped (capped (150 * column) + 260)
+lifeline_x column = capped (capped (150 * column) + 290)
 
 -- how far down an event stands
 abbrev pub row_y : Layout → ℕ → ℕ
