@@ -20,16 +20,16 @@ use Rattle.server.specs.ServerViews.{ServerView, IsMember, SameMember}
 use Rattle.server.specs.Handings.{Handing, FrameBytes, OwnInput, handing}
 use Rattle.server.specs.Turns.{TakesHanding}
 use Rattle.server.specs.Refusals.{IsHandingRefused, HandingRefusalLeaves}
-use Rattle.world.specs.Inner.GroupInputs.{is_restart_input}
+use Rattle.world.specs.Inner.GroupInputs.{is_frame, is_restart_input}
 use Rattle.world.proofs.GroupHistories.{member_of, is_member_of, member_fell, member_stayed}
 use Rattle.cluster.specs.Actors.{frame_of, nothing_sent, TakesInput}
-use Rattle.cluster.specs.Refusals.{restarts_server, InputRefused, ServerRefuses, ServerMayLack, ClientRefuses}
+use Rattle.cluster.specs.Refusals.{restarts_server, InputRefused, ServerAdmits, ServerRefuses, ServerMayLack, ClientAdmits, ClientRefuses}
 use Rattle.server.specs.declared.server_input.ServerInput.{ServerInput}
 use Rattle.event_book.specs.declared.view.EventView.TheVariants.{Own}
 use Rattle.cluster.specs.declared.own_input.OwnInput.TheVariants as own
 use Rattle.cluster.specs.declared.actor.GroupActor.TheVariants as actors
 use Rattle.cluster.specs.declared.actor.Stepped.{Stepped}
-use Rattle.cluster.specs.Inner.Steps.{output_of, RefusedAsSaid, ServerDid, ServerAnswered, ClientDid, Answered, is_frame}
+use Rattle.cluster.specs.Inner.Steps.{output_of, RefusedAsSaid, ServerDid, ServerAnswered, ClientDid, Answered}
 use Rattle.cluster.specs.declared.actor.Stepped.TheVariants.{Taken, Crashed}
 
 frames_again : (fs : List Frame) → map frame_of (map output_of fs) ≡ fs
@@ -59,9 +59,10 @@ same_restart (OwnInput Crash) = refl
 same_restart (OwnInput Restart) = refl
 
 module _ (old new : ServerView) (h : Handing) where
-  pub server_turned : (outbox : Outbox) → (new.raft.me ≡ old.raft.me) × (new.raft.size ≡ old.raft.size) → ((s : Member) → IsMember old s → TakesHanding old s h new nothing_sent outbox) → ServerDid old h (Taken outbox) new
-  server_turned outbox same taken = record {
+  pub server_turned : (outbox : Outbox) → (new.raft.me ≡ old.raft.me) × (new.raft.size ≡ old.raft.size) → ServerAdmits old h → ((s : Member) → IsMember old s → TakesHanding old s h new nothing_sent outbox) → ServerDid old h (Taken outbox) new
+  server_turned outbox same admitted taken = record {
     same = same;
+    admitted = admitted;
     taken = λ s is. subst (λ (l : List Frame). TakesHanding old s h new nothing_sent (record { frames = l; work = outbox.work })) (sym (frames_again outbox.frames)) (taken s is);
   }
 
@@ -105,8 +106,8 @@ lacks_up n c client_inputs.Crash h = absurd h
 lacks_up n c client_inputs.Restart h = absurd h
 
 module _ (old new : AgentView) (given : ClientInput) where
-  pub client_turned : (outbox : Outbox) → outbox.work ≡ [] → new.size ≡ old.size → AgentTakes old given new [] outbox.frames → ClientDid old given (Taken outbox) new
-  client_turned outbox none same taken = (none, record { same = same; taken = subst (λ (l : List Frame). AgentTakes old given new [] l) (sym (frames_again outbox.frames)) taken })
+  pub client_turned : (outbox : Outbox) → outbox.work ≡ [] → new.size ≡ old.size → ClientAdmits old given → AgentTakes old given new [] outbox.frames → ClientDid old given (Taken outbox) new
+  client_turned outbox none same admitted taken = (none, record { same = same; admitted = admitted; taken = subst (λ (l : List Frame). AgentTakes old given new [] l) (sym (frames_again outbox.frames)) taken })
 
   pub client_fell : AgentMayLack old.size old.client given → new ≡ crashed_agent old → ClientDid old given Crashed new
   client_fell lacks left = (lacks_up old.size old.client given lacks, left, lacks)

@@ -1,19 +1,20 @@
 -- Which actors a group has, and its cells before their first event.
 use Rattle.std.proofs.Common.{◌≡◌, ◌⊎◌, ℕ, zero, suc, ◌+◌, ◌<◌, ◌≤◌, Bool, true, false, true≢false, List, [], ◌∷◌, ◌++◌, refl, sym, ap, ◌∙◌, subst, inl, inr, arith}
-use Rattle.std.specs.Prelude.{MatchBool, ◌||◌, length}
+use Rattle.std.specs.Prelude.{MatchBool, ◌||◌, length, map}
 use Rattle.std.specs.List.{AllByRecursion}
 use Rattle.rows.specs.declared.actor.Actor.{Actor}
+use Rattle.rows.specs.declared.node.NodeSpec.{NodeSpec}
 use Rattle.rows.specs.declared.actor.Actor.TheVariants.{Server, Client}
 use Rattle.event_book.specs.declared.view.SeatView.{SeatView}
 use Rattle.event_book.specs.Actors.{same_actor}
-use Rattle.event_book.specs.Seats.{are_apart, lists_actor}
+use Rattle.event_book.specs.Seats.{actor_in, lists_actor}
 use Rattle.cluster.specs.declared.own_input.OwnInput.{OwnInput}
-use Rattle.cluster.specs.Actors.{IsNewActor, group_size}
-use Rattle.std.proofs.lemmas.Bool.{eqb-true, false_from_ne_true}
+use Rattle.cluster.specs.Actors.{group_size}
+use Rattle.std.proofs.lemmas.Bool.{eqb-true}
 use Rattle.cluster.specs.Cells.{CellView}
-use Rattle.cluster.specs.Closing.{AreOfGroup, AreSeated}
+use Rattle.cluster.specs.Closing.{AreOfGroup}
 use Rattle.cluster.specs.Opening.{IsOfGroup, MayOpen}
-use Rattle.cluster.specs.Inner.Begun.{AreNew}
+use Rattle.cluster.specs.Inner.Begun.{HasSeat, IsNewCell, AreNew}
 use Rattle.cluster.proofs.Merge.{same_actor-refl, same_actor-true}
 
 either : (a b : Bool) → (a || b) ≡ true → (a ≡ true) ⊎ (b ≡ true)
@@ -25,16 +26,16 @@ or_later true b h = refl
 or_later false b h = h
 
 -- who is named is one of those that are within
-named_within : (n m : ℕ) (all : List Actor) (a : Actor) → AllByRecursion (IsOfGroup n m) all → lists_actor all a ≡ true → IsOfGroup n m a
-named_within n m [] a within h = absurd (true≢false (sym h))
-named_within n m (x ∷ xs) a within h = elim (either (same_actor x a) (lists_actor xs a) h) [
-  | inl e ↦ subst (λ y. IsOfGroup n m y) (same_actor-true x a e) within.0
-  | inr e ↦ named_within n m xs a within.1 e
+named_within : (P : Actor → Type 0) (all : List Actor) (a : Actor) → AllByRecursion P all → lists_actor all a ≡ true → P a
+named_within P [] a within h = absurd (true≢false (sym h))
+named_within P (x ∷ xs) a within h = elim (either (same_actor x a) (lists_actor xs a) h) [
+  | inl e ↦ subst P (same_actor-true x a e) within.0
+  | inr e ↦ named_within P xs a within.1 e
 ]
 
-all_within : (n m : ℕ) (all : List Actor) → ((a : Actor) → lists_actor all a ≡ true → IsOfGroup n m a) → AllByRecursion (IsOfGroup n m) all
-all_within n m [] h = tt
-all_within n m (x ∷ xs) h = (h x (ap (λ (b : Bool). b || lists_actor xs x) (same_actor-refl x)), all_within n m xs (λ a named. h a (or_later (same_actor x a) (lists_actor xs a) named)))
+all_within : (P : Actor → Type 0) (all : List Actor) → ((a : Actor) → lists_actor all a ≡ true → P a) → AllByRecursion P all
+all_within P [] h = tt
+all_within P (x ∷ xs) h = (h x (ap (λ (b : Bool). b || lists_actor xs x) (same_actor-refl x)), all_within P xs (λ a named. h a (or_later (same_actor x a) (lists_actor xs a) named)))
 
 of_group : (n m : ℕ) (all : List Actor) → AreOfGroup n m all → (a : Actor) → lists_actor all a ≡ true → IsOfGroup n m a
 of_group n m all g (Server i) h = g.no_more_servers i h
@@ -48,13 +49,13 @@ client_number m (suc k) low high = (k, refl, omega (arith, high))
 pub are_of_group : (n m : ℕ) (all : List Actor) → AllByRecursion (IsOfGroup n m) all → ((i : ℕ) → i < n → lists_actor all (Server i) ≡ true) → ((k : ℕ) → k < m → lists_actor all (Client (suc k)) ≡ true) → AreOfGroup n m all
 are_of_group n m all within servers clients = record {
   servers = servers;
-  no_more_servers = λ i h. named_within n m all (Server i) within h;
+  no_more_servers = λ i h. named_within (IsOfGroup n m) all (Server i) within h;
   clients = clients;
-  no_more_clients = λ c h. let w = named_within n m all (Client c) within h in client_number m c w.0 w.1;
+  no_more_clients = λ c h. let w = named_within (IsOfGroup n m) all (Client c) within h in client_number m c w.0 w.1;
 }
 
 pub group_within : (n m : ℕ) (all : List Actor) → AreOfGroup n m all → AllByRecursion (IsOfGroup n m) all
-group_within n m all g = all_within n m all (of_group n m all g)
+group_within n m all g = all_within (IsOfGroup n m) all (of_group n m all g)
 
 group_lists : (n m : ℕ) (all : List Actor) → AreOfGroup n m all → (a : Actor) → IsOfGroup n m a → lists_actor all a ≡ true
 group_lists n m all g (Server i) h = g.servers i h
@@ -64,15 +65,27 @@ group_lists n m all g (Client c) h = let k = client_number m c h.0 h.1 in subst 
 pub listed_too : (n m : ℕ) (xs ys : List Actor) (a : Actor) → AreOfGroup n m xs → AreOfGroup n m ys → lists_actor xs a ≡ true → lists_actor ys a ≡ true
 listed_too n m xs ys a g h is = group_lists n m ys h a (of_group n m xs g a is)
 
-pub lacked_too : (n m : ℕ) (xs ys : List Actor) (a : Actor) → AreOfGroup n m xs → AreOfGroup n m ys → lists_actor xs a ≡ false → lists_actor ys a ≡ false
-lacked_too n m xs ys a g h out = false_from_ne_true (lists_actor ys a) (λ inn. true≢false (sym (listed_too n m ys xs a h g inn) ∙ out))
+-- ---- seats
+
+seats_within : (n m : ℕ) (seats : List (SeatView OwnInput)) → AllByRecursion (MayOpen n m) seats → AllByRecursion (IsOfGroup n m) (map actor_in seats)
+seats_within n m [] may = tt
+seats_within n m (s ∷ ss) may = (may.0.1, seats_within n m ss may.1)
+
+-- seats of actors of the group are of all of them where each of the group's actors has one, and only there
+pub seats_of_group : (n m : ℕ) (all : List Actor) (seats : List (SeatView OwnInput)) → AreOfGroup n m all → AllByRecursion (MayOpen n m) seats → AllByRecursion (HasSeat seats) all → AreOfGroup n m (map actor_in seats)
+seats_of_group n m all seats g may have =
+    let has : (a : Actor) → lists_actor all a ≡ true → HasSeat seats a = λ a named. named_within (HasSeat seats) all a have named in
+    are_of_group n m (map actor_in seats) (seats_within n m seats may) (λ i h. has (Server i) (g.servers i h)) (λ k h. has (Client (suc k)) (g.clients k h))
+
+pub group_has_seats : (n m : ℕ) (all : List Actor) (seats : List (SeatView OwnInput)) → AreOfGroup n m all → AreOfGroup n m (map actor_in seats) → AllByRecursion (HasSeat seats) all
+group_has_seats n m all seats g seated = all_within (HasSeat seats) all (λ a named. listed_too n m all (map actor_in seats) a g seated named)
 
 -- one cell more
-pub one_cell_more : (n : ℕ) (cells : List CellView) (seats : List (SeatView OwnInput)) (cell : CellView) (seat : SeatView OwnInput) → AreNew n cells seats → cell.seat ≡ seat → seat.notes ≡ [] → IsNewActor n seat.actor cell.actor → AreNew n (cells ++ cell ∷ []) (seats ++ seat ∷ [])
-one_cell_more n [] [] cell seat h is none new = (is, none, new, tt)
-one_cell_more n [] (s ∷ ss) cell seat h is none new = absurd h
-one_cell_more n (x ∷ xs) [] cell seat h is none new = absurd h
-one_cell_more n (x ∷ xs) (s ∷ ss) cell seat h is none new = (h.0, h.1, h.2, one_cell_more n xs ss cell seat h.3 is none new)
+pub one_cell_more : (n : ℕ) (nodes : List NodeSpec) (cells : List CellView) (seats : List (SeatView OwnInput)) (cell : CellView) (seat : SeatView OwnInput) → AreNew n nodes cells seats → IsNewCell n nodes cell seat → AreNew n nodes (cells ++ cell ∷ []) (seats ++ seat ∷ [])
+one_cell_more n nodes [] [] cell seat h new = (new, tt)
+one_cell_more n nodes [] (s ∷ ss) cell seat h new = absurd h
+one_cell_more n nodes (x ∷ xs) [] cell seat h new = absurd h
+one_cell_more n nodes (x ∷ xs) (s ∷ ss) cell seat h new = (h.0, one_cell_more n nodes xs ss cell seat h.1 new)
 
 -- where all are within, and each server is there, it is told by the clients
 pub of_group_either : (b : Bool) (n m : ℕ) (all : List Actor) → AllByRecursion (IsOfGroup n m) all → ((i : ℕ) → i < n → lists_actor all (Server i) ≡ true)
@@ -80,10 +93,6 @@ pub of_group_either : (b : Bool) (n m : ℕ) (all : List Actor) → AllByRecursi
     → MatchBool b (AreOfGroup n m all) (AreOfGroup n m all → ⊥)
 of_group_either true n m all within servers has lacks = are_of_group n m all within servers (has refl)
 of_group_either false n m all within servers has lacks = λ g. let k = lacks refl in true≢false (sym (g.clients k.0 k.1) ∙ k.2)
-
-pub seated_either : (b : Bool) (n m : ℕ) (all : List Actor) → AreOfGroup n m all → b ≡ are_apart all → MatchBool b (AreSeated n m all) (AreSeated n m all → ⊥)
-seated_either true n m all g is = (g, sym is)
-seated_either false n m all g is = λ s. true≢false (sym s.1 ∙ sym is)
 
 -- a server that lacks is of the group
 pub lacks_server : (n m : ℕ) (all : List Actor) → (i : ℕ) × (i < n) × (lists_actor all (Server i) ≡ false) → AreOfGroup n m all → ⊥
@@ -119,8 +128,8 @@ pub one_seat_more : (n m : ℕ) (seats : List (SeatView OwnInput)) (seat : SeatV
 one_seat_more n m [] seat h may = (may, tt)
 one_seat_more n m (x ∷ xs) seat h may = (h.0, one_seat_more n m xs seat h.1 may)
 
-pub as_many : (n : ℕ) (cells : List CellView) (seats : List (SeatView OwnInput)) → AreNew n cells seats → length cells ≡ length seats
-as_many n [] [] h = refl
-as_many n [] (s ∷ ss) h = absurd h
-as_many n (x ∷ xs) [] h = absurd h
-as_many n (x ∷ xs) (s ∷ ss) h = ap suc (as_many n xs ss h.3)
+pub as_many : (n : ℕ) (nodes : List NodeSpec) (cells : List CellView) (seats : List (SeatView OwnInput)) → AreNew n nodes cells seats → length cells ≡ length seats
+as_many n nodes [] [] h = refl
+as_many n nodes [] (s ∷ ss) h = absurd h
+as_many n nodes (x ∷ xs) [] h = absurd h
+as_many n nodes (x ∷ xs) (s ∷ ss) h = ap suc (as_many n nodes xs ss h.1)

@@ -14,7 +14,7 @@ use Rattle.event_book.specs.Seats.{HasOutput, last_token, Names, MayNote, with_n
 use Rattle.cluster.specs.declared.own_input.OwnInput.{OwnInput}
 use Rattle.cluster.specs.Inner.Steps.{output_of}
 use Rattle.cluster.specs.declared.cell.StampedEvent.{StampedEvent}
-use Rattle.cluster.specs.Cells.{EnvelopeView, envelope_of, envelopes_from, IsAddressed, kept_of, kept_in}
+use Rattle.cluster.specs.Cells.{envelope_of, envelopes_from, kept_of, kept_in}
 use Rattle.cluster.specs.Inner.Sending.{CanBeNoted, last_envelopes, EndsWith}
 
 token_end : (place : ℕ) (before : List (Note OwnInput)) (e : Note OwnInput) → last_token place (before ++ e ∷ []) ≡ record { note = e; place = place } ∷ []
@@ -94,12 +94,6 @@ may_note old new (Delivery stamp place frame) tokens is can =
     let mine : old.actor ≡ new.actor = sym (ap (λ (s : SeatView OwnInput). s.actor) is) in
     (length old.taken, t, at, subst (λ a. Names t stamp place a frame) mine can.2)
 may_note old new Crash tokens is can = tt
-
--- what is addressed to the seat's actor can be noted
-pub can_be_noted : (seat : SeatView OwnInput) (e : EnvelopeView) (event : EventView OwnInput) → e.receiver ≡ seat.actor → IsAddressed e event → CanBeNoted seat event e.tokens
-can_be_noted seat e (Own input) to addressed = tt
-can_be_noted seat e (Delivery stamp place frame) to addressed = (addressed.0, addressed.1, subst (λ a. Names addressed.0 stamp place a frame) to addressed.2)
-can_be_noted seat e Crash to addressed = absurd addressed
 
 -- what is kept is what was noted
 pub kept_more : (old mid new last : SeatView OwnInput) (taken now : List StampedEvent) (e : StampedEvent) (tokens : List (TokenView OwnInput)) (event : EventView OwnInput) (fs : List Frame) (stamp : ℕ)

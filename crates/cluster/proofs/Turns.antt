@@ -29,7 +29,6 @@ use Rattle.cluster.specs.declared.actor.Stepped.TheVariants.{Taken, Crashed}
 use Rattle.cluster.specs.declared.own_input.OwnInput.TheVariants as own
 use Rattle.cluster.specs.Actors.{frame_of, nothing_sent, ServerTurned, TakesInput, ServerTurns, ClientTurns, ActorTurns, IsNewActor, SameActor}
 use Rattle.cluster.specs.Refusals.{ActorRefuses, Hears}
-use Rattle.cluster.specs.Turns.{TookTurn, WhyNoTurn}
 use Rattle.cluster.specs.Cells.{EnvelopeView, CellView, HasRoom, IsLed, IsLedCell, IsRefused, Turned, crash_noted, envelopes_from, kept_of, kept_in}
 use Rattle.cluster.specs.declared.cell.StampedEvent.{StampedEvent}
 use Rattle.cluster.specs.Inner.Steps.{Did, RefusedAsSaid, output_of}
@@ -53,7 +52,7 @@ module _ (x v w : ServerView) (same : SameMember v w) where
   same_takes s (TakesOwn input) before after t = same_turn (step x.raft.size x.raft.me s input) before after t
 
   same_turned : (h : Handing) (outs : List Output) (work : List Work) → ServerTurned x h outs work v → ServerTurned x h outs work w
-  same_turned h outs work t = record { same = same_places v w x same t.same; taken = λ s is. same_takes s h nothing_sent (record { frames = map frame_of outs; work = work }) (t.taken s is) }
+  same_turned h outs work t = record { same = same_places v w x same t.same; admitted = t.admitted; taken = λ s is. same_takes s h nothing_sent (record { frames = map frame_of outs; work = work }) (t.taken s is) }
 
   same_input : (h : Handing) (outs : List Output) (work : List Work) → TakesInput x h outs work v → TakesInput x h outs work w
   same_input (FrameBytes bytes) outs work t = t
@@ -139,24 +138,6 @@ led_on n old envelope new work sent led t =
     let note : Note OwnInput = record { stamp = t.stamp; actor = old.seat.actor; noted = t.noted } in
     let newest : reverse (old.seat.notes ++ note ∷ []) ≡ note ∷ reverse old.seat.notes = reverse-append old.seat.notes (note ∷ []) in
     subst (λ (s : SeatView OwnInput). IsLed n s.actor (reverse s.notes) new.actor) (sym t.seat) (subst (λ l. IsLed n old.seat.actor l new.actor) (sym newest) (old.actor, led, (work, t.step)))
-
--- ---- a turn of a cell behind a lock
-
-pub turn_took : {X : Type 0} (n : ℕ) (old new : CellView) (envelope : EnvelopeView) (q : Result X Refusal) (work : X → List Work) (sent : X → List EnvelopeView) → IsLedCell n old
-    → IfOk q (λ x. Turned old envelope new (work x) (sent x)) → IfOk q (λ x. TookTurn n envelope (work x) (sent x))
-turn_took n old new envelope (Ok x) work sent led t = record {
-  old = old;
-  new = new;
-  before = led;
-  after = led_on n old envelope new (work x) (sent x) led t;
-  turned = t;
-}
-turn_took n old new envelope (Err cause) work sent led t = t
-
-pub turn_refused : {X : Type 0} (n : ℕ) (all : List Actor) (actor : Actor) (old : CellView) (envelope : EnvelopeView) (q : Result X Refusal) → IsLedCell n old
-    → IfErr q (λ cause. IsRefused old envelope cause) → IfErr q (λ cause. WhyNoTurn n all actor envelope cause)
-turn_refused n all actor old envelope (Ok x) led h = h
-turn_refused n all actor old envelope (Err cause) led h = inr (old, led, h)
 
 -- ---- a cell's turn, both ways
 

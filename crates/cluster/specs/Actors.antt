@@ -22,6 +22,19 @@ use Rattle.cluster.specs.declared.own_input.OwnInput.{OwnInput}
 use Rattle.cluster.specs.declared.own_input.OwnInput.TheVariants as own
 use Rattle.cluster.specs.declared.actor.GroupActor.{GroupActor}
 use Rattle.cluster.specs.declared.actor.GroupActor.TheVariants.{Server, Client}
+use Rattle.cluster.specs.Refusals.{ServerAdmits, ClientAdmits}
+
+-- ---- an actor's own inputs
+
+-- it is an input of a server: this one
+abbrev pub IsServerInput : OwnInput → Handing → Type 0
+IsServerInput (own.Server input) h = handing input.value ≡ h
+IsServerInput (own.Client input) h = ⊥
+
+-- it is an input of a client: this one
+abbrev pub IsClientInput : OwnInput → ClientInput → Type 0
+IsClientInput (own.Server input) given = ⊥
+IsClientInput (own.Client input) given = input.value ≡ given
 
 -- ---- what is sent
 
@@ -33,10 +46,12 @@ nothing_sent = record { frames = []; work = [] }
 
 -- ---- servers
 
--- A server takes what is handed in: whichever server of the definitions it is, and whichever
--- message a frame may be, the definitions give that turn.
+-- A server takes what is handed in: whichever server of the definitions it is, the definitions do
+-- not refuse it, so that a frame is a message for this server; and whichever message that is, they
+-- give that turn.
 pub record ServerTurned (old : ServerView) (h : Handing) (outputs : List Output) (work : List Work) (new : ServerView) : Type 0 where
   pub same : (new.raft.me ≡ old.raft.me) × (new.raft.size ≡ old.raft.size)
+  pub admitted : ServerAdmits old h
   pub taken : (s : Member) → IsMember old s → TakesHanding old s h new nothing_sent (record { frames = map frame_of outputs; work = work })
 
 -- it was up, and lost what it does not store
@@ -57,8 +72,10 @@ ServerTurns old Crash outputs work new = (outputs ≡ []) × (work ≡ []) × Se
 
 -- ---- clients
 
+-- A client takes what is handed in, which the definitions do not refuse.
 pub record ClientTurned (old : AgentView) (given : ClientInput) (outputs : List Output) (new : AgentView) : Type 0 where
   pub same : new.size ≡ old.size
+  pub admitted : ClientAdmits old given
   pub taken : AgentTakes old given new [] (map frame_of outputs)
 
 abbrev pub TakesClientInput : AgentView → ClientInput → List Output → AgentView → Type 0

@@ -108,8 +108,8 @@ IsNoteOf old envelope noted taken =
 abbrev pub HasRoom : CellView → Type 0
 HasRoom c = length c.seat.notes + 1 < 2 ^ 40
 
--- The actor took one step, or crashed in its place; that was noted once; its first outputs come
--- with their tokens, all of them but for want of memory.
+-- The actor took one step, or crashed in its place; that was noted once; so many of its first
+-- outputs come with their tokens (no field says that these are all).
 pub record Turned (old : CellView) (envelope : EnvelopeView) (new : CellView) (work : List Work) (sent : List EnvelopeView) : Type 0 where
   pub noted : NotedView OwnInput
   pub taken : List (TokenView OwnInput)

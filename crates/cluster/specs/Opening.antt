@@ -37,6 +37,6 @@ pub record CellGroup : Type 0 where
   pub clients : ℕ
   pub actors : List Actor
 
--- why what may be opened so alone is not: for want of memory, or it may not
+-- why none is opened: it may be, and memory was wanting; or it may not
 abbrev pub WhyNotOpen : Type 0 → Refusal → Type 0
-WhyNotOpen May r = (r ≡ refusals.NoMemory) ⊎ (r ≡ refusals.OutOfRange) × (May → ⊥)
+WhyNotOpen May r = (r ≡ refusals.NoMemory) × May ⊎ (r ≡ refusals.OutOfRange) × (May → ⊥)

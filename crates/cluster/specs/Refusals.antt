@@ -1,5 +1,5 @@
 -- Why an actor refuses an event.
-use Rattle.std.specs.Prelude.{◌≡◌, ◌⊎◌, true, false, Bool, Some, is_some}
+use Rattle.std.specs.Prelude.{◌≡◌, ◌⊎◌, true, false, Bool, Some, None, is_some}
 use Rattle.rows.specs.declared.refusal.Refusal.{Refusal}
 use Rattle.rows.specs.declared.refusal.Refusal.TheVariants as refusals
 use Rattle.raft_model.specs.Servers.{is_up}
@@ -51,6 +51,10 @@ IsDeafTo actor event = IsUpActor actor false × (restarts event ≡ false)
 abbrev pub ServerRefuses : ServerView → Handing → Refusal → Type 0
 ServerRefuses v h r = (s : Member) → IsMember v s → handing_refusal v.raft.size v.raft.me s h ≡ Some r
 
+-- of none of the servers that it may be is this refused
+abbrev pub ServerAdmits : ServerView → Handing → Type 0
+ServerAdmits v h = (s : Member) → IsMember v s → handing_refusal v.raft.size v.raft.me s h ≡ None
+
 -- a frame is no input of an actor's own
 abbrev pub InputRefused : ServerView → Handing → Refusal → Type 0
 InputRefused v (FrameBytes bytes) r = r ≡ refusals.OutOfRange
@@ -58,6 +62,9 @@ InputRefused v (TakesOwn input) r = ServerRefuses v (TakesOwn input) r
 
 abbrev pub ClientRefuses : AgentView → ClientInput → Refusal → Type 0
 ClientRefuses a given r = agent_refusal a.size a.client given ≡ Some r
+
+abbrev pub ClientAdmits : AgentView → ClientInput → Type 0
+ClientAdmits a given = agent_refusal a.size a.client given ≡ None
 
 abbrev pub ClientInputRefused : AgentView → ClientInput → Refusal → Type 0
 ClientInputRefused a (client_inputs.Frame bytes) r = r ≡ refusals.OutOfRange

@@ -4,10 +4,11 @@ ghost use Rattle.server.specs.Handings.{FrameBytes, handing};
 ghost use Rattle.client_agent.specs.declared.input.ClientInput.TheVariants as client_inputs;
 ghost use Rattle.event_book.specs.declared.view.EventView.TheVariants.{Own};
 ghost use Rattle.event_book.specs.Noted.{event_view};
+ghost use Rattle.world.specs.Inner.GroupInputs.{is_frame};
 ghost use Rattle.cluster.specs.declared.actor.GroupActor.TheVariants as actors;
 ghost use Rattle.cluster.specs.Actors.{nothing_sent};
 ghost use Rattle.cluster.specs.Refusals.{IsUpActor, Hears, IsDeafTo, restarts, restarts_server};
-ghost use Rattle.cluster.specs.Inner.Steps.{ServerAnswered, ClientAnswered, Answered, IsAnEvent, is_frame};
+ghost use Rattle.cluster.specs.Inner.Steps.{ServerAnswered, ClientAnswered, Answered, IsAnEvent};
 
 use crate::own_input::OwnInput;
 use client_agent::{Agent, ClientInput};

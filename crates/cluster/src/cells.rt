@@ -11,7 +11,7 @@ ghost use Rattle.cluster.specs.Turns.{TookTurn, WhyNoTurn};
 use crate::cell::{Cell, Turn};
 use crate::envelope::Envelope;
 use crate::joining::join_cells;
-use crate::opening::{are_seated, cells_of, is_group, is_size};
+use crate::opening::{cells_of, may_open};
 use crate::own_input::OwnInput;
 use event_book::{ActorSeat, Book, BookId};
 use rows::{Actor, NoMemory, NodeSpec, Refusal};
@@ -107,7 +107,8 @@ impl<B: BookId> Cells<B> {
     ///
     /// It is refused with `OutOfRange` where `n` is not 3 or 5 or there are more than 64 nodes,
     /// where the book's actors are not those of the group, where the seats are not one for each of
-    /// them and for no other, or one of them has noted something; and with `NoMemory`.
+    /// them and for no other, or one of them has noted something; and where none of this is so,
+    /// with `NoMemory`.
     pub fn open(
         alloc: Global,
         n: usize,
@@ -122,19 +123,10 @@ impl<B: BookId> Cells<B> {
         ensures refused { IfErr result
             (WhyNotOpen (MayOpenCells n (length nodes.now) B.actors seats.items)) }
     {
-        if !is_size(n) || nodes.len() > 64 {
-            return Err(Refusal::OutOfRange);
-        }
-        if seats.len() != book.actors().len() {
-            return Err(Refusal::OutOfRange);
-        }
-        if !is_group(n, nodes.len(), book.actors()) {
+        if !may_open(n, nodes.len(), book.actors(), seats.as_slice()) {
             return Err(Refusal::OutOfRange);
         }
         let actors = actors_of(alloc, seats.as_slice())?;
-        if !are_seated(n, nodes.len(), actors.as_slice()) {
-            return Err(Refusal::OutOfRange);
-        }
         let cells = locked(alloc, cells_of(alloc, n, nodes, seats)?)?;
         Ok(Cells {
             alloc,

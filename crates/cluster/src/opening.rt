@@ -1,25 +1,25 @@
 //! How the cells of a group are opened.
-ghost use Rattle.std.specs.Prelude.{◌≡◌, ◌<◌, ◌≤◌, ℕ, suc, true, false, length, IfOk, IfErr, MatchBool, OnOk};
+ghost use Rattle.std.specs.Prelude.{◌≡◌, ◌<◌, ◌≤◌, ℕ, suc, true, false, length, map, IfOk, IfErr, MatchBool, OnOk};
 ghost use Rattle.std.specs.List.{AllByRecursion};
 ghost use Rattle.rows.specs.declared.actor.Actor.TheVariants as actors;
 ghost use Rattle.world.specs.WorldView.{IsGroup};
-ghost use Rattle.event_book.specs.Seats.{lists_actor};
+ghost use Rattle.event_book.specs.Seats.{actor_in, are_apart, lists_actor};
 ghost use Rattle.cluster.specs.Actors.{group_size, IsNewActor};
 ghost use Rattle.cluster.specs.Closing.{AreOfGroup, AreSeated};
-ghost use Rattle.cluster.specs.Inner.Begun.{AreNew, HasNode};
-ghost use Rattle.cluster.specs.Opening.{IsOfGroup, MayOpen, WhyNotOpen};
+ghost use Rattle.cluster.specs.Inner.Begun.{AreNew, HasNode, HasSeat, WhyNotBegun};
+ghost use Rattle.cluster.specs.Opening.{IsOfGroup, MayOpen, MayOpenCells};
 
 use crate::actor::GroupActor;
 use crate::cell::Cell;
 use crate::own_input::OwnInput;
 use client_agent::Agent;
-use event_book::{ActorSeat, BookId, are_apart};
+use event_book::{ActorSeat, BookId};
 use rows::{Actor, ClientId, NodeId, NodeSpec, Refusal, ServerId};
 use server::Server;
 use std::alloc::Global;
 
 /// Whether a group may have so many servers.
-pub(crate) fn is_size(n: usize) -> bool
+fn is_size(n: usize) -> bool
     ensures { MatchBool result (IsGroup n) (IsGroup n → ⊥) }
 {
     n == 3 || n == 5
@@ -85,7 +85,7 @@ fn are_within(n: usize, m: usize, all: &[Actor]) -> bool
 }
 
 /// Whether these are the actors of a group of `n` servers and `m` clients.
-pub(crate) fn is_group(n: usize, m: usize, all: &[Actor]) -> bool
+fn is_group(n: usize, m: usize, all: &[Actor]) -> bool
     requires servers { n ≤ 5 }
     requires clients { m ≤ 64 }
     ensures { MatchBool result (AreOfGroup n m all.now) (AreOfGroup n m all.now → ⊥) }
@@ -99,13 +99,87 @@ pub(crate) fn is_group(n: usize, m: usize, all: &[Actor]) -> bool
     has_clients(m, all)
 }
 
-/// Whether these are the actors of a group of `n` servers and `m` clients, each once.
-pub(crate) fn are_seated(n: usize, m: usize, all: &[Actor]) -> bool
-    requires servers { n ≤ 5 }
-    requires clients { m ≤ 64 }
-    ensures { MatchBool result (AreSeated n m all.now) (AreSeated n m all.now → ⊥) }
+/// Whether each of these seats is of an actor of the group, and noted nothing.
+fn are_unused<B: BookId>(n: usize, m: usize, seats: &[ActorSeat<OwnInput, B>]) -> bool
+    ensures { MatchBool result (AllByRecursion (MayOpen n m) seats.now)
+        (AllByRecursion (MayOpen n m) seats.now → ⊥) }
 {
-    is_group(n, m, all) && are_apart(all)
+    match seats.split_first() {
+        None => true,
+        Some((seat, rest)) => {
+            !seat.has_noted() && is_of_group(n, m, seat.actor()) && are_unused(n, m, rest)
+        }
+    }
+}
+
+/// Whether one of these seats is this actor's.
+fn has_seat<B: BookId>(seats: &[ActorSeat<OwnInput, B>], actor: Actor) -> bool
+    ensures { result ≡ lists_actor (map actor_in seats.now) actor }
+{
+    match seats.split_first() {
+        None => false,
+        Some((seat, rest)) => seat.actor() == actor || has_seat(rest, actor),
+    }
+}
+
+/// Whether each of these actors has one of these seats.
+fn have_seats<B: BookId>(seats: &[ActorSeat<OwnInput, B>], all: &[Actor]) -> bool
+    ensures { MatchBool result (AllByRecursion (HasSeat seats.now) all.now)
+        (AllByRecursion (HasSeat seats.now) all.now → ⊥) }
+{
+    match all.split_first() {
+        None => true,
+        Some((actor, rest)) => has_seat(seats, *actor) && have_seats(seats, rest),
+    }
+}
+
+/// Whether no two of these seats are of one actor.
+fn are_single<B: BookId>(seats: &[ActorSeat<OwnInput, B>]) -> bool
+    ensures { result ≡ are_apart (map actor_in seats.now) }
+{
+    match seats.split_first() {
+        None => true,
+        Some((seat, rest)) => !has_seat(rest, seat.actor()) && are_single(rest),
+    }
+}
+
+/// Whether a group's actors have one each of these seats, which are of actors of the group.
+#[tactic(auto, using(crate::proofs::Members::seats_of_group, crate::proofs::Members::group_has_seats))]
+fn are_seated<B: BookId>(
+    n: usize,
+    m: usize,
+    all: &[Actor],
+    seats: &[ActorSeat<OwnInput, B>],
+) -> bool
+    requires group { AreOfGroup n m all.now }
+    requires unused { AllByRecursion (MayOpen n m) seats.now }
+    ensures { MatchBool result (AreSeated n m (map actor_in seats.now))
+        (AreSeated n m (map actor_in seats.now) → ⊥) }
+{
+    have_seats(seats, all) && are_single(seats)
+}
+
+/// Whether there may be cells of `n` servers and `m` clients, which are these actors, at these
+/// seats. It takes no memory.
+pub(crate) fn may_open<B: BookId>(
+    n: usize,
+    m: usize,
+    all: &[Actor],
+    seats: &[ActorSeat<OwnInput, B>],
+) -> bool
+    ensures { MatchBool result (MayOpenCells n m all.now seats.now)
+        (MayOpenCells n m all.now seats.now → ⊥) }
+{
+    if !is_size(n) || m > 64 {
+        return false;
+    }
+    if seats.len() != all.len() {
+        return false;
+    }
+    if !is_group(n, m, all) || !are_unused(n, m, seats) {
+        return false;
+    }
+    are_seated(n, m, all, seats)
 }
 
 /// The actor of a group before its first event.
@@ -115,7 +189,7 @@ fn begin(alloc: Global, n: usize, nodes: &[NodeSpec], actor: Actor) -> Result<Gr
     ensures ok { IfOk result (λ a. IsNewActor n actor a) }
     ensures node { IfOk result (λ a. HasNode nodes.now a) }
     ensures there { OnOk result (IsOfGroup n (length nodes.now) actor) }
-    ensures refused { IfErr result (WhyNotOpen (IsOfGroup n (length nodes.now) actor)) }
+    ensures refused { IfErr result (WhyNotBegun (IsOfGroup n (length nodes.now) actor)) }
 {
     match actor {
         Actor::Server(server) => {
@@ -155,10 +229,10 @@ pub fn cells_of<B: BookId>(
     requires size { IsGroup n }
     requires few { length nodes.now ≤ 64 }
     requires named { group_size B.actors ≡ n }
-    ensures new { IfOk result (λ cells. AreNew n cells.items seats.items) }
+    ensures new { IfOk result (λ cells. AreNew n nodes.now cells.items seats.items) }
     ensures each { OnOk result (AllByRecursion (MayOpen n (length nodes.now)) seats.items) }
     ensures refused { IfErr result
-        (WhyNotOpen (AllByRecursion (MayOpen n (length nodes.now)) seats.items)) }
+        (WhyNotBegun (AllByRecursion (MayOpen n (length nodes.now)) seats.items)) }
 {
     let mut cells = Vec::new(alloc);
     for seat in seats {

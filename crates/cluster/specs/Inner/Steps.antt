@@ -1,5 +1,5 @@
 -- What one actor does with what comes.
-use Rattle.std.specs.Prelude.{◌≡◌, Bool, true, false, Result, Ok, Err, [], map}
+use Rattle.std.specs.Prelude.{◌≡◌, true, Result, Ok, Err, [], map}
 use Rattle.rows.specs.declared.refusal.Refusal.{Refusal}
 use Rattle.rows.specs.declared.refusal.Refusal.TheVariants as refusals
 use Rattle.client_agent.specs.AgentView.{AgentView}
@@ -8,7 +8,7 @@ use Rattle.client_agent.specs.Refusals.{AgentMayLack}
 use Rattle.client_agent.specs.AgentView.{crashed_agent}
 use Rattle.std.specs.Prelude.{is_some}
 use Rattle.server.specs.ServerViews.{ServerView, SameMember}
-use Rattle.server.specs.Handings.{Handing, FrameBytes, OwnInput as TakesOwn}
+use Rattle.server.specs.Handings.{Handing}
 use Rattle.wire.specs.Frames.{Frame}
 use Rattle.event_book.specs.declared.view.Output.{Output}
 use Rattle.event_book.specs.declared.view.EventView.{EventView}
@@ -24,10 +24,6 @@ abbrev pub output_of : Frame → Output
 output_of f = record { to = f.to; frame = f.bytes }
 
 -- ---- a server
-
-abbrev pub is_frame : Handing → Bool
-is_frame (FrameBytes bytes) = true
-is_frame (TakesOwn input) = false
 
 abbrev pub ServerDid : ServerView → Handing → Stepped → ServerView → Type 0
 ServerDid old h (Taken outbox) new = ServerTurned old h (map output_of outbox.frames) outbox.work new

@@ -6,7 +6,8 @@ use Rattle.cluster.proofs.actor.hand_server.Goals as goal
 pub returns-in-Ok : goal.returns-in-Ok
 returns-in-Ok c =
     let taken = rw (c.in_ok-again.ensures, c.no_output-outbox.ensures) at c.in-Ok.ensures.taken in
-    server_turned c.args.server.now c.step.new.self (handing c.args.input.now) c.step.new.outbox c.step.ensures.same taken
+    let admitted = rw c.in_ok-again.ensures at c.in-Ok.ensures.admitted in
+    server_turned c.args.server.now c.step.new.self (handing c.args.input.now) c.step.new.outbox c.step.ensures.same admitted taken
 
 pub returns-then-is_restart : goal.returns-then-is_restart
 returns-then-is_restart c =

@@ -2,7 +2,7 @@ use Rattle.std.proofs.Common.{◌≡◌, ◌++◌, ◌∷◌, [], length, ap, sy
 use Rattle.std.specs.Vec.Iter.{into_iter_items}
 use Rattle.rows.specs.declared.actor.Actor.{Actor}
 use Rattle.cluster.specs.Actors.{IsNewActor}
-use Rattle.cluster.specs.Inner.Begun.{AreNew}
+use Rattle.cluster.specs.Inner.Begun.{AreNew, HasNode}
 use Rattle.cluster.specs.Opening.{IsOfGroup}
 use Rattle.cluster.proofs.Members.{one_cell_more, one_seat_more, one_less}
 use Rattle.cluster.proofs.opening.cells_of.Goals as goal
@@ -18,8 +18,9 @@ loop-seat-preserved g c =
     let is = ap (λ x. x.seat) c.new.ensures in
     let named : c.actor.result ≡ seat.actor = c.actor.ensures in
     let begun : IsNewActor n seat.actor cell.actor = subst (λ (a : Actor). IsNewActor n a cell.actor) named (subst (λ x. IsNewActor n c.actor.result x) (sym (ap (λ x. x.actor) c.new.ensures)) c.in_ok-actor.ensures.ok) in
+    let node : HasNode c.args.nodes.now cell.actor = subst (λ x. HasNode c.args.nodes.now x) (sym (ap (λ x. x.actor) c.new.ensures)) c.in_ok-actor.ensures.node in
     let there = subst (λ (a : Actor). IsOfGroup n (length c.args.nodes.now) a) named c.in_ok-actor.ensures.there in (
-      subst (λ l. AreNew n l (at.yielded ++ seat ∷ [])) (sym c.in_ok-push.ensures.items) (one_cell_more n at.cells.items at.yielded cell seat was.0 is c.if-has_noted.ensures begun),
+      subst (λ l. AreNew n c.args.nodes.now l (at.yielded ++ seat ∷ [])) (sym c.in_ok-push.ensures.items) (one_cell_more n c.args.nodes.now at.cells.items at.yielded cell seat was.0 (record { seat_is = is; unused = c.if-has_noted.ensures; begins = begun; node = node })),
       one_seat_more n (length c.args.nodes.now) at.yielded seat was.1 (c.if-has_noted.ensures, there),
       append_assoc at.yielded (seat ∷ []) (into_iter_items c.next.new.self) ∙ ap (λ l. at.yielded ++ l) (sym steps.0) ∙ was.2,
       one_less _ _ _ steps.1 (was.3 ∙ ap length steps.0),

@@ -7,7 +7,7 @@ use Rattle.cluster.proofs.opening.cells_of.Given as goal
 
 abbrev pub invariant-loop-seat : goal.invariant-loop-seat
 invariant-loop-seat g l =
-    AreNew l.fn.n l.cells.items l.yielded
+    AreNew l.fn.n l.fn.nodes l.cells.items l.yielded
     × AllByRecursion (MayOpen l.fn.n (length l.fn.nodes)) l.yielded
     × (l.yielded ++ into_iter_items l.seat-iterator ≡ l.fn.seats.items)
     × (into_iter_len l.seat-iterator ≡ length (into_iter_items l.seat-iterator))

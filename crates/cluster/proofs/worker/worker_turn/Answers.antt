@@ -11,7 +11,7 @@ returns-in_err-turn-in-Asks-clause-refused g c =
     let own = c.in_ok-own-in-Asks.own in
     let at = c.in_ok-state in
     let asks : IsAsking (group_size g.B.BookId.actors) c.args.server own =
-    is_asking (group_size g.B.BookId.actors) c.args.server c.deref_mut.result.now c.take.new.self.waiting c.in-Some.taken (arc_value at.state) at.index c.in-Asks.input own c.in-Some.ensures.oldest c.in-Some.ensures.counted at.ensures.state c.in_ok-own-in-Asks.ensures
+    is_asking (group_size g.B.BookId.actors) c.args.server c.deref_mut.result.now c.take.new.self.waiting c.in-Some.taken (arc_value at.state) at.index c.in-Asks.input own c.in-Some.ensures.oldest c.in-Some.ensures.counted at.ensures.state c.in_ok-own-in-Asks.ensures.event
     c.deref.result.now c.in_ok-handled.field-0 c.deref.ensures c.in-Asks.is c.in_ok-handled.ensures in
     let same : c.from_residual-in_err-turn-in-Asks.result ≡ Err c.in_err-turn-in-Asks.field-0.0 = search rules in
     let why = asking_refused (group_size g.B.BookId.actors) c.args.cells.now.actors c.args.server own _ _ asks c.own-envelope.ensures c.in_err-turn-in-Asks.ensures.refused in
@@ -22,6 +22,6 @@ returns-clause-turn g c =
     let own = c.in_ok-own-in-Asks.own in
     let at = c.in_ok-state in
     let asks : IsAsking (group_size g.B.BookId.actors) c.args.server own =
-    is_asking (group_size g.B.BookId.actors) c.args.server c.deref_mut.result.now c.take.new.self.waiting c.in-Some.taken (arc_value at.state) at.index c.in-Asks.input own c.in-Some.ensures.oldest c.in-Some.ensures.counted at.ensures.state c.in_ok-own-in-Asks.ensures
+    is_asking (group_size g.B.BookId.actors) c.args.server c.deref_mut.result.now c.take.new.self.waiting c.in-Some.taken (arc_value at.state) at.index c.in-Asks.input own c.in-Some.ensures.oldest c.in-Some.ensures.counted at.ensures.state c.in_ok-own-in-Asks.ensures.event
     c.deref.result.now c.in_ok-handled.field-0 c.deref.ensures c.in-Asks.is c.in_ok-handled.ensures in
     took_asking (group_size g.B.BookId.actors) c.args.server own _ _ _ asks c.own-envelope.ensures c.in_ok-turn-in-Asks.ensures.ok
