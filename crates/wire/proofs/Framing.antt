@@ -9,11 +9,9 @@ use Rattle.fields_model.proofs.FormatLaws.{bind_ok, guard_in, past, length-spell
 use Rattle.fields_model.proofs.WholeTexts.{no_text_begins_another}
 use Rattle.rows.specs.declared.actor.Actor.{Actor}
 use Rattle.wire.specs.declared.header.Header.{Header}
-use Rattle.wire.specs.Appends.{Append}
 use Rattle.wire.specs.declared.body.Body.{Body}
-use Rattle.wire.specs.declared.body.Body.TheVariants as bodies
 use Rattle.wire.specs.Messages.{Message, kind_of}
-use Rattle.wire.specs.Grammar.{header, append, body}
+use Rattle.wire.specs.Grammar.{header, body}
 use Rattle.wire.proofs.GrammarLaws.{header_lawful, body_lawful, body_has_kind, body_is_short}
 use Rattle.wire.specs.Frames.{frame_limit, sized, frame_text, size_at, frame_at, header_of, message_text, MessageFits, message_at}
 
@@ -88,9 +86,6 @@ pub record ShortCommands {C : Type 0} (commands : Format C) : Type 0 where
 
 pub body_within : {S C : Type 0} (commands : Format C) → ShortCommands commands → (b : Body S C) → (body commands (kind_of b)).Fits b → length ((body commands (kind_of b)).text b) ≤ 16777208
 body_within {S} commands law b fits = omega (arith, (body_lawful commands law.lawful (kind_of b)).short b fits, body_is_short S commands law.short (kind_of b))
-
-pub append_within : {C : Type 0} (commands : Format C) → ShortCommands commands → (a : Append C) → (append commands).Fits a → length ((append commands).text a) ≤ 16777208
-append_within commands law a fits = body_within {S = ℕ} commands law (bodies.Append a) fits
 
 pub message_is_short : {S C : Type 0} (commands : Format C) → ShortCommands commands → (m : Message S C) → MessageFits commands m → length (message_text commands m) ≤ frame_limit
 message_is_short commands law m fits =

@@ -1,10 +1,12 @@
--- The second byte of a frame says whether its message is one by which servers keep one log.
-use Rattle.std.proofs.Common.{◌≡◌, ℕ, ◌+◌, true, List, ◌++◌, length, drop, Result, Ok, Err, refl, subst, ◌∙◌, append_assoc}
-use Rattle.std.specs.Prelude.{IfOk}
+-- The second byte of a frame says of what kind its message is: whether it is one by which servers
+-- keep one log, and whether it holds a list.
+use Rattle.std.proofs.Common.{◌≡◌, ℕ, ◌+◌, Bool, true, List, ◌++◌, drop, Result, Ok, Err, refl, subst, ◌∙◌, append_assoc}
+use Rattle.std.specs.Prelude.{IfErr, IfOk}
 use Rattle.rows.specs.declared.refusal.Refusal.{Refusal}
+use Rattle.rows.specs.declared.refusal.Refusal.TheVariants as refusals
 use Rattle.rows.specs.declared.actor.Actor.{Actor}
 use Rattle.rows.specs.declared.actor.Actor.TheVariants.{Server, Client}
-use Rattle.fields_model.specs.Format.{Gives, Format, IsBytes, spelled}
+use Rattle.fields_model.specs.Format.{Answers, Gives, Refuses, Format, IsBytes, spelled}
 use Rattle.fields_model.specs.Fields.{actor}
 use Rattle.fields_model.proofs.FormatLaws.{past, length-spelled}
 use Rattle.wire.specs.declared.kind.Kind.{Kind}
@@ -14,7 +16,7 @@ use Rattle.wire.specs.declared.log_message.LogBody.{LogBody}
 use Rattle.wire.specs.declared.log_message.LogBody.TheVariants as logs
 use Rattle.wire.specs.Messages.{Message, kind_of, is_of_log, is_server, is_another_server, may_go, log_body}
 use Rattle.wire.specs.Grammar.{kind, header}
-use Rattle.wire.specs.Frames.{header_of, is_log_frame, message_at}
+use Rattle.wire.specs.Frames.{header_of, is_log_frame, message_at, reads_one_of}
 use Rattle.wire.specs.Laws.GrammarLaws.{kind_lawful}
 use Rattle.wire.proofs.GrammarLaws.{header_lawful}
 use Rattle.wire.proofs.Framing.{ShortCommands, message_found}
@@ -22,24 +24,38 @@ use Rattle.wire.proofs.Framing.{ShortCommands, message_found}
 header_parts : (h : Header) (rest : List ℕ) → header.text h ++ rest ≡ spelled 1 1 ++ (kind.text h.kind ++ ((actor.text h.from ++ actor.text h.to) ++ rest))
 header_parts h rest = simp append_assoc
 
-log_named : (bytes : List ℕ) (h : Header) (rest : List ℕ) → header.Fits h → bytes ≡ header.text h ++ rest → is_of_log h.kind ≡ is_log_frame bytes
-log_named bytes h rest fits text =
+kind_named : (kinds : Kind → Bool) (bytes : List ℕ) (h : Header) (rest : List ℕ) → header.Fits h → bytes ≡ header.text h ++ rest → kinds h.kind ≡ reads_one_of kinds (kind.read bytes 1)
+kind_named kinds bytes h rest fits text =
     let behind = (actor.text h.from ++ actor.text h.to) ++ rest in
     let here = past 0 bytes (spelled 1 1) (kind.text h.kind ++ behind) (text ∙ header_parts h rest) in
     let second : drop 1 bytes ≡ kind.text h.kind ++ behind = subst (λ (n : ℕ). drop (0 + n) bytes ≡ kind.text h.kind ++ behind) (length-spelled 1 1) here in
     let read = kind_lawful.only bytes 1 h.kind behind fits.1.0 second in
     rw read refl
 
-pub header_named : (bytes : List ℕ) (h : Header) (at : ℕ) → IsBytes bytes → header.read bytes 0 ≡ Ok (h, at) → is_of_log h.kind ≡ is_log_frame bytes
-header_named bytes h at fits read =
+pub header_named : (kinds : Kind → Bool) (bytes : List ℕ) (h : Header) (at : ℕ) → IsBytes bytes → header.read bytes 0 ≡ Ok (h, at) → kinds h.kind ≡ reads_one_of kinds (kind.read bytes 1)
+header_named kinds bytes h at fits read =
     let stands = header_lawful.found bytes 0 h at fits read in
-    log_named bytes h (drop at bytes) stands.fits stands.here
+    kind_named kinds bytes h (drop at bytes) stands.fits stands.here
 
 pub named_of : {S C : Type 0} (commands : Format C) → ShortCommands commands → (bytes : List ℕ) (r : Result (Message S C) Refusal) → IsBytes bytes → Gives r (message_at commands bytes) → IfOk r (λ m. is_of_log (kind_of m.body) ≡ is_log_frame bytes)
 named_of commands law bytes (Ok m) fits given =
     let found = message_found commands law bytes m fits given in
-    log_named bytes (header_of m) _ found.0.header_fits found.1
+    kind_named is_of_log bytes (header_of m) _ found.0.header_fits found.1
 named_of commands law bytes (Err e) fits given = tt
+
+-- ---- when memory may be lacking
+
+-- what lacks memory for a reason, if at all, gives
+pub gives_of : {A : Type 0} (MayLack : Type 0) (r : Result A Refusal) (reading : Result A ℕ) → Answers MayLack r reading → Gives r reading
+gives_of MayLack (Ok x) reading given = given
+gives_of MayLack (Err refusals.NoMemory) reading given = tt
+gives_of MayLack (Err (refusals.Frame place)) reading given = given
+gives_of MayLack (Err _) reading given = absurd given
+
+-- and where it lacks memory, it has the reason
+pub reason_of : {A : Type 0} (MayLack : Type 0) (r : Result A Refusal) (reading : Result A ℕ) → Answers MayLack r reading → IfErr r (λ e. e ≡ refusals.NoMemory → MayLack)
+reason_of MayLack (Ok x) reading given = tt
+reason_of MayLack (Err e) reading given = λ is. subst (λ cause. Refuses MayLack cause reading) is given
 
 -- ---- between whom such messages go
 

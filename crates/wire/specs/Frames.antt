@@ -4,7 +4,7 @@ use Rattle.fields_model.specs.Format.{Reading, ◌>>=◌, Format, spelled, numbe
 use Rattle.rows.specs.declared.actor.Actor.{Actor}
 use Rattle.wire.specs.declared.kind.Kind.{Kind}
 use Rattle.wire.specs.declared.header.Header.{Header}
-use Rattle.wire.specs.Messages.{Message, kind_of, is_of_log}
+use Rattle.wire.specs.Messages.{Message, kind_of, is_of_log, holds_list}
 use Rattle.wire.specs.Grammar.{kind, header, body}
 
 -- no frame is longer
@@ -57,14 +57,18 @@ AddsFrame commands m old new = MessageFits commands m × (new ≡ old ++ message
 unfoldable pub message_at : {S C : Type 0} → Format C → List ℕ → Result (Message S C) ℕ
 message_at commands bytes = frame_at header (λ h. body commands h.kind) (λ h b. record { from = h.from; to = h.to; body = b }) bytes
 
--- what was read is a kind by which servers keep one log
-abbrev pub reads_log : Reading Kind → Bool
-reads_log (Ok k) = is_of_log k.0
-reads_log (Err place) = false
+-- what was read is one of these kinds
+abbrev pub reads_one_of : (Kind → Bool) → Reading Kind → Bool
+reads_one_of kinds (Ok k) = kinds k.0
+reads_one_of kinds (Err place) = false
 
--- the second byte is such a kind's
+-- the second byte is that of a kind by which servers keep one log
 abbrev pub is_log_frame : List ℕ → Bool
-is_log_frame bytes = reads_log (kind.read bytes 1)
+is_log_frame bytes = reads_one_of is_of_log (kind.read bytes 1)
+
+-- the second byte is that of a kind whose body holds a list
+abbrev pub frame_holds_list : List ℕ → Bool
+frame_holds_list bytes = reads_one_of holds_list (kind.read bytes 1)
 
 -- a frame on its way: its receiver and its bytes
 pub record Frame : Type 0 where

@@ -74,6 +74,16 @@ is_of_desk kinds.Nack = true
 is_of_desk kinds.Refused = true
 is_of_desk _ = false
 
+-- the kinds whose bodies hold a list: reading one of them takes memory, and reading any other takes
+-- none
+abbrev pub holds_list : Kind → Bool
+holds_list kinds.Append = true
+holds_list kinds.Submit = true
+holds_list kinds.PlanResult = true
+holds_list kinds.List = true
+holds_list kinds.Report = true
+holds_list _ = false
+
 -- the kinds that a node's agent sends
 abbrev pub is_of_agent : Kind → Bool
 is_of_agent kinds.Register = true

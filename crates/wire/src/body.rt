@@ -1,6 +1,6 @@
-ghost use Rattle.std.specs.Prelude.{◌≡◌, IfOk};
-ghost use Rattle.fields_model.specs.Format.{Gives, Puts};
-ghost use Rattle.wire.specs.Messages.{kind_of};
+ghost use Rattle.std.specs.Prelude.{◌≡◌, true, IfOk};
+ghost use Rattle.fields_model.specs.Format.{Answers, Puts};
+ghost use Rattle.wire.specs.Messages.{holds_list, kind_of};
 ghost use Rattle.wire.specs.Grammar.{body};
 ghost use Rattle.wire.specs.Inner.Said.{said_body, HavePlaces};
 
@@ -79,7 +79,9 @@ pub fn read_body<M: Machine>(
     bytes: &[u8],
     at: usize,
 ) -> Result<(Body<M>, usize), Refusal>
-    ensures value { Gives result ((body M.meaning.commands kind).read bytes.now at) }
+    // Memory is wanted for a kind that holds a list alone.
+    ensures value { Answers (holds_list kind ≡ true) result
+        ((body M.meaning.commands kind).read bytes.now at) }
     ensures same_kind { IfOk result (λ b. kind_of b.0 ≡ kind) }
 {
     match kind {

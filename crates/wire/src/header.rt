@@ -1,5 +1,5 @@
 ghost use Rattle.std.specs.Prelude.{◌≡◌, true, IfOk};
-ghost use Rattle.fields_model.specs.Format.{Gives, Puts};
+ghost use Rattle.fields_model.specs.Format.{GivesExactly, Puts};
 ghost use Rattle.wire.specs.Messages.{may_go};
 ghost use Rattle.wire.specs.Grammar.{header};
 
@@ -25,7 +25,7 @@ const VERSION: u8 = 1;
 /// The header at a place, and the place after it.
 #[inline(always)]
 pub fn read_header(alloc: Global, bytes: &[u8], at: usize) -> Result<(Header, usize), Refusal>
-    ensures value { Gives result (header.read bytes.now at) }
+    ensures value { GivesExactly result (header.read bytes.now at) }
     ensures allowed { IfOk result (λ h. may_go h.0.kind h.0.from h.0.to ≡ true) }
 {
     let (version, kind_at) = read_u8(bytes, at)?;

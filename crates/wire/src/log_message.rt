@@ -1,12 +1,13 @@
 //! Messages by which servers keep one log. They are most of what is sent, and small: a value of
 //! them has no room for a plan or a list, which a `Message` has.
-ghost use Rattle.std.specs.Prelude.{◌≡◌, true, IfOk, Ok};
+ghost use Rattle.std.specs.Prelude.{◌≡◌, true, IfErr, IfOk, Ok};
 ghost use Rattle.rows.specs.declared.actor.Actor.TheVariants as actors;
-ghost use Rattle.fields_model.specs.Format.{Gives};
-ghost use Rattle.wire.specs.Messages.{Message as MessageOf, is_another_server, is_of_log, is_server, kind_of, log_body, may_go};
-ghost use Rattle.wire.specs.Frames.{IsFrame, MessageFits, is_log_frame, message_at, message_text};
+ghost use Rattle.rows.specs.declared.refusal.Refusal.TheVariants as refusals;
+ghost use Rattle.fields_model.specs.Format.{Answers, Gives};
+ghost use Rattle.wire.specs.Messages.{Message as MessageOf, holds_list, is_another_server, is_of_log, is_server, kind_of, log_body, may_go};
+ghost use Rattle.wire.specs.Frames.{IsFrame, MessageFits, frame_holds_list, is_log_frame, message_at, message_text};
 ghost use Rattle.wire.specs.Grammar.{body};
-ghost use Rattle.wire.specs.Inner.Said.{GivesLogBody};
+ghost use Rattle.wire.specs.Inner.Said.{AnswersLogBody};
 
 use crate::append::{Append, AppendReply, read_append};
 use crate::header::read_header;
@@ -98,7 +99,8 @@ fn read_log_body<M: Machine>(
     at: usize,
 ) -> Result<(LogBody<M>, usize), Refusal>
     requires { is_of_log kind ≡ true }
-    ensures { GivesLogBody result ((body M.meaning.commands kind).read bytes.now at) }
+    ensures { AnswersLogBody (holds_list kind ≡ true) result
+        ((body M.meaning.commands kind).read bytes.now at) }
 {
     match kind {
         Kind::VoteRequest => {
@@ -137,7 +139,8 @@ fn server_of(actor: &Actor) -> ServerId
 #[inline(always)]
 fn read_log_frame<M: Machine>(alloc: Global, bytes: &[u8]) -> Result<LogMessage<M>, Refusal>
     requires { is_log_frame bytes.now ≡ true }
-    ensures exact { Gives result (message_at M.meaning.commands bytes.now) }
+    ensures exact { Answers (frame_holds_list bytes.now ≡ true) result
+        (message_at M.meaning.commands bytes.now) }
     ensures log { IfOk result (λ m. is_of_log (kind_of m.body) ≡ true) }
     ensures allowed { IfOk result (λ m. may_go (kind_of m.body) m.from m.to ≡ true) }
 {
@@ -166,6 +169,8 @@ pub fn read_log_message<M: Machine>(alloc: Global, bytes: &[u8]) -> Result<LogMe
         → bytes.now ≡ message_text M.meaning.commands m → Gives result (Ok m) }
     // Which field is at fault.
     ensures exact { Gives result (message_at M.meaning.commands bytes.now) }
+    // Memory can run out only where the second byte says that there is a list.
+    ensures memory { IfErr result (λ e. e ≡ refusals.NoMemory → frame_holds_list bytes.now ≡ true) }
     // It is one by which servers keep one log, and goes where such go.
     ensures log { IfOk result (λ m. is_of_log (kind_of m.body) ≡ true) }
     ensures allowed { IfOk result (λ m. may_go (kind_of m.body) m.from m.to ≡ true) }

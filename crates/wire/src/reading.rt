@@ -1,7 +1,8 @@
-ghost use Rattle.std.specs.Prelude.{◌≡◌, IfOk, Ok};
-ghost use Rattle.fields_model.specs.Format.{Gives, GivesExactly};
+ghost use Rattle.std.specs.Prelude.{◌≡◌, true, IfErr, IfOk, Ok};
+ghost use Rattle.rows.specs.declared.refusal.Refusal.TheVariants as refusals;
+ghost use Rattle.fields_model.specs.Format.{Answers, Gives, GivesExactly};
 ghost use Rattle.wire.specs.Messages.{Message as MessageOf, kind_of, is_of_log};
-ghost use Rattle.wire.specs.Frames.{size_at, message_at, message_text, is_log_frame, IsFrame, MessageFits};
+ghost use Rattle.wire.specs.Frames.{frame_holds_list, size_at, message_at, message_text, is_log_frame, IsFrame, MessageFits};
 
 use crate::body::read_body;
 use crate::header::read_header;
@@ -34,7 +35,8 @@ pub fn read_size(bytes: &[u8], at: usize) -> Result<(u32, usize), Refusal>
 /// The message of a frame, or its first fault.
 #[tactic(auto, unfolding(crate::specs::Frames::message_at))]
 fn read_frame<M: Machine>(alloc: Global, bytes: &[u8]) -> Result<Message<M>, Refusal>
-    ensures { Gives result (message_at M.meaning.commands bytes.now) }
+    ensures { Answers (frame_holds_list bytes.now ≡ true) result
+        (message_at M.meaning.commands bytes.now) }
 {
     let (header, at) = read_header(alloc, bytes, 0)?;
     let (_, at) = read_size(bytes, at)?;
@@ -59,6 +61,8 @@ pub fn read_message<M: Machine>(alloc: Global, bytes: &[u8]) -> Result<Message<M
         → bytes.now ≡ message_text M.meaning.commands m → Gives result (Ok m) }
     // Which field is at fault.
     ensures exact { Gives result (message_at M.meaning.commands bytes.now) }
+    // Memory can run out only where the second byte says that there is a list.
+    ensures memory { IfErr result (λ e. e ≡ refusals.NoMemory → frame_holds_list bytes.now ≡ true) }
     // The second byte says whether the message is one by which servers keep one log.
     ensures log { IfOk result (λ m. is_of_log (kind_of m.body) ≡ is_log_frame bytes.now) }
 {

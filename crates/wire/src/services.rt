@@ -1,17 +1,18 @@
 //! What workers and the leader's desk send each other, as bodies.
 ghost use Rattle.std.specs.Prelude.{◌≡◌, true, IfOk};
-ghost use Rattle.fields_model.specs.Format.{Gives, Puts};
+ghost use Rattle.fields_model.specs.Format.{Answers, GivesExactly, Puts, option};
+ghost use Rattle.fields_model.specs.Ids.{delivery};
 ghost use Rattle.wire.specs.declared.body.Body.TheVariants as bodies;
-ghost use Rattle.wire.specs.Messages.{kind_of, request_kind, response_kind, is_of_desk};
+ghost use Rattle.wire.specs.Messages.{holds_list, kind_of, request_kind, response_kind, is_of_desk};
 ghost use Rattle.wire.specs.Grammar.{body};
 
 use crate::body::Body;
 use crate::kind::Kind;
-use fields::{Field, read_option, write_option};
+use fields::{Field, read_bool, write_option};
 use machine::Machine;
 use rows::{
-    AskedRequest, EvalId, EvalOutcome, NoMemory, Plan, PlanResult, Reason, Refusal, Token,
-    WorkerRequest, WorkerResponse,
+    AskedRequest, Delivery, EvalId, EvalOutcome, NoMemory, Plan, PlanResult, Reason, Refusal,
+    Token, WorkerRequest, WorkerResponse,
 };
 use std::alloc::Global;
 
@@ -38,6 +39,24 @@ pub fn response_kind(response: &WorkerResponse) -> Kind
     }
 }
 
+// What a worker is delivered, if anything. `read_option` would do, but it says of any field that it
+// may take memory, and a delivery takes none.
+fn read_delivered(
+    alloc: Global,
+    bytes: &[u8],
+    at: usize,
+) -> Result<(Option<Delivery>, usize), Refusal>
+    ensures { GivesExactly result ((option delivery).read bytes.now at) }
+{
+    let (there, at) = read_bool(bytes, at)?;
+    if there {
+        let (value, end) = Delivery::read_at(alloc, bytes, at)?;
+        Ok((Some(value), end))
+    } else {
+        Ok((None, at))
+    }
+}
+
 /// The body of a message of this kind, which workers and the leader's desk send each other, and the
 /// place after it.
 pub fn read_desk_body<M: Machine>(
@@ -47,12 +66,14 @@ pub fn read_desk_body<M: Machine>(
     at: usize,
 ) -> Result<(Body<M>, usize), Refusal>
     requires { is_of_desk kind ≡ true }
-    ensures value { Gives result ((body M.meaning.commands kind).read bytes.now at) }
+    // Memory is wanted for a kind that holds a list alone.
+    ensures value { Answers (holds_list kind ≡ true) result
+        ((body M.meaning.commands kind).read bytes.now at) }
     ensures same_kind { IfOk result (λ b. kind_of b.0 ≡ kind) }
 {
     match kind {
         Kind::Delivered => {
-            let (delivery, end) = read_option(alloc, bytes, at)?;
+            let (delivery, end) = read_delivered(alloc, bytes, at)?;
             Ok((Body::Response(WorkerResponse::Delivered(delivery)), end))
         }
         Kind::PlanResult => {

@@ -22,7 +22,9 @@ HavePlaces (said.Answer reply) = Unit {0}
 HavePlaces (said.Entries head entries) =
     (length entries.now ≤ 32) × (head.now.prev_index + length entries.now < 2 ^ 40)
 
--- what a reader of the bodies of the log answers is what reading any body gives; it may want memory
-abbrev pub GivesLogBody : {S C : Type 0} → Result (LogBody S C × ℕ) Refusal → Reading (Body S C) → Type 0
-GivesLogBody (Ok read) reading = reading ≡ Ok (log_body read.0, read.1)
-GivesLogBody (Err cause) reading = Refuses (Unit {0}) cause reading
+-- what a reader of the bodies of the log answers is what reading any body gives; the first argument
+-- says whether it may lack memory
+abbrev pub AnswersLogBody : Type 0 → {S C : Type 0} → Result (LogBody S C × ℕ) Refusal
+    → Reading (Body S C) → Type 0
+AnswersLogBody MayLackMemory (Ok read) reading = reading ≡ Ok (log_body read.0, read.1)
+AnswersLogBody MayLackMemory (Err cause) reading = Refuses MayLackMemory cause reading

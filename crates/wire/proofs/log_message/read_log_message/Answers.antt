@@ -2,16 +2,23 @@ use Rattle.std.proofs.Common.{ap, subst, ◌∙◌, arith}
 use Rattle.fields_model.specs.Format.{Gives}
 use Rattle.wire.specs.Frames.{message_at}
 use Rattle.wire.proofs.Framing.{ShortCommands, message_only, found_of}
+use Rattle.wire.proofs.LogFrames.{gives_of, reason_of}
 use Rattle.wire.proofs.log_message.read_log_message.Goals as goal
 
 pub returns-clause-found : goal.returns-clause-found
 returns-clause-found g c =
     let commands = g.M.Machine.meaning.commands in
     let law : ShortCommands commands = record { lawful = g.met.M.Machine.lawful.commands_lawful; short = g.met.M.Machine.lawful.commands_short } in
-    found_of commands law c.args.bytes.now c.read_log_frame.result (λ i. omega (arith, c.type_inv.bytes i)) c.read_log_frame.ensures.exact
+    found_of commands law c.args.bytes.now c.read_log_frame.result (λ i. omega (arith, c.type_inv.bytes i)) (gives_of _ c.read_log_frame.result _ c.read_log_frame.ensures.exact)
 
 pub returns-clause-only : goal.returns-clause-only
 returns-clause-only g c =
     let commands = g.M.Machine.meaning.commands in
     let law : ShortCommands commands = record { lawful = g.met.M.Machine.lawful.commands_lawful; short = g.met.M.Machine.lawful.commands_short } in
-    λ m fits e. subst (λ f. Gives c.read_log_frame.result f) (ap (message_at commands) e ∙ message_only commands law m fits) c.read_log_frame.ensures.exact
+    λ m fits e. subst (λ f. Gives c.read_log_frame.result f) (ap (message_at commands) e ∙ message_only commands law m fits) (gives_of _ c.read_log_frame.result _ c.read_log_frame.ensures.exact)
+
+pub returns-clause-exact : goal.returns-clause-exact
+returns-clause-exact g c = gives_of _ c.read_log_frame.result _ c.read_log_frame.ensures.exact
+
+pub returns-clause-memory : goal.returns-clause-memory
+returns-clause-memory g c = reason_of _ c.read_log_frame.result _ c.read_log_frame.ensures.exact
