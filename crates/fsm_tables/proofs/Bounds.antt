@@ -46,7 +46,7 @@ then_assoc Less s t = refl
 then_assoc Equal s t = refl
 then_assoc Greater s t = refl
 
-eq_then : (r s : Ordering) → is_eq (ordering_then r s) ≡ (is_eq r && is_eq s)
+pub eq_then : (r s : Ordering) → is_eq (ordering_then r s) ≡ (is_eq r && is_eq s)
 eq_then Less s = refl
 eq_then Equal s = refl
 eq_then Greater s = refl

@@ -1,6 +1,6 @@
 -- The entries of an index: what a put makes of them, and which rows those between two entries are
 -- of.
-use Rattle.std.proofs.Common.{◌≡◌, Bool, true, false, not, cond, ◌&&◌, ◌⊎◌, inl, inr, T, List, [], ◌∷◌, Option, Some, None, refl, sym, ap, subst, ◌∙◌}
+use Rattle.std.proofs.Common.{◌≡◌, ◌≢◌, Bool, true, false, not, cond, ◌&&◌, ◌⊎◌, inl, inr, T, List, [], ◌∷◌, Option, Some, None, refl, sym, ap, subst, ◌∙◌}
 use Rattle.std.specs.Prelude.{filter, map, ◌||◌, option_map}
 use Rattle.std.specs.Option.{option_and_then}
 use Rattle.std.specs.List.{list_any, filter_map, cons_option, slice_get, AllByRecursion}
@@ -22,7 +22,7 @@ use Rattle.fsm_tables.specs.Inner.Index.{entry_cmp, entry_under, entry_of, is_en
 use Rattle.fsm_tables.specs.Rows.{row_of, put}
 use Rattle.rows.specs.Rising.{is_rising}
 use Rattle.fsm_tables.proofs.RowLaws.{first, second, equal, none_below, below_tied, row_of-put}
-use Rattle.fsm_tables.proofs.Filters.{exact_ids, row_found, rows_are_filtered, first_row}
+use Rattle.fsm_tables.proofs.Filters.{exact_ids, row_found, rows_are_filtered, first_row, some_row}
 
 -- the entry of a row has its id
 pub entry_id : {K : Type 0} (a : Allocation) (z : Option K) (e : Entry K) → entry_under a.id z ≡ Some e → e.id ≡ a.id
@@ -31,7 +31,7 @@ entry_id {K} a (Some k) e h =
     let here : record { key = k; id = a.id } ≡ e = cc in
     sym (ap (λ (x : Entry K). x.id) here)
 
-tie_reversed : (r : Ordering) → is_eq (ordering_reverse r) ≡ is_eq r
+pub tie_reversed : (r : Ordering) → is_eq (ordering_reverse r) ≡ is_eq r
 tie_reversed Less = refl
 tie_reversed Equal = refl
 tie_reversed Greater = refl
@@ -223,6 +223,11 @@ module _ {K : Type 0} (R : K → K → Ordering) (o : IsTotalOrder R) where
       ap (λ r. is_le r && not (is_lt (entry_cmp R hi e))) (alike_right entries_total e k lo tie)
       ∙ ap (λ r. is_le (entry_cmp R lo k) && not (is_lt r)) (alike_right entries_total e k hi tie)
 
+  -- some entries have an id
+  some_id : (es : List (Entry K)) → es ≢ [] → (i : AllocId) × (list_any (λ e. is_eq (alloc_cmp e.id i)) es ≡ true)
+  some_id [] some = absurd (some refl)
+  some_id (e ∷ es) some = (e.id, ap (λ r. is_eq r || list_any (λ d. is_eq (alloc_cmp d.id e.id)) es) (tied_itself alloc_cmp_total e.id))
+
   module _ (key_of : Allocation → Option K) (rows : List Allocation) (entries : BTreeSet (Entry K)) (was : AreIndexed R key_of rows entries) (lo hi : Entry K) where
     -- an entry of the set is the entry of the row of its id
     owned : (i : AllocId) (e : Entry K) (r : Option Allocation) → row_of alloc_cmp alloc_id e.id rows ≡ r → is_entry R (entry_of key_of r) e ≡ true → range_contains (entry_cmp R) (Included lo) (Included hi) e ≡ true
@@ -260,6 +265,10 @@ module _ {K : Type 0} (R : K → K → Ordering) (o : IsTotalOrder R) where
     -- they are those of the rows that are listed between them
     pub ids_of_rows : (i : AllocId) → has_id R lo hi entries i ≡ passes (is_between R key_of lo hi) (row_of alloc_cmp alloc_id i rows)
     ids_of_rows i = both_ways _ _ (given i) (taken i (row_of alloc_cmp alloc_id i rows) refl)
+
+    -- where there are some, a row passes
+    pub some_listed : entries_between R lo hi entries ≢ [] → filter (is_between R key_of lo hi) rows ≢ []
+    some_listed some = let one = some_id (entries_between R lo hi entries) some in some_row rows (is_between R key_of lo hi) one.0 (sym (ids_of_rows one.0) ∙ one.1)
 
     -- ---- the first of them, under one key
 

@@ -1,6 +1,6 @@
 -- The rows of keys in rising order are the rows that pass a test, where the keys are those of the
 -- rows that pass.
-use Rattle.std.proofs.Common.{◌≡◌, Bool, true, false, cond, T, List, [], ◌∷◌, Option, Some, None, refl, sym, ap, subst, ◌∙◌}
+use Rattle.std.proofs.Common.{◌≡◌, ◌≢◌, true≢false, Bool, true, false, cond, T, List, [], ◌∷◌, Option, Some, None, refl, sym, ap, subst, ◌∙◌}
 use Rattle.std.specs.Prelude.{filter, ◌||◌}
 use Rattle.std.specs.Option.{option_and_then}
 use Rattle.std.specs.List.{list_any, filter_map, slice_get, cons_option, AllByRecursion}
@@ -155,3 +155,18 @@ module _ (rows : List Allocation) where
             absurd cc
         | Some a ↦ λ e. refl
       ] refl
+
+  -- where the row of an id passes, some row does
+  pub some_row : (test : Allocation → Bool) (i : AllocId) → passes test (row_of alloc_cmp alloc_id i rows) ≡ true → filter test rows ≢ []
+  some_row test i h = some_under rows h
+    where
+      some_under : (ys : List Allocation) → passes test (row_of alloc_cmp alloc_id i ys) ≡ true → filter test ys ≢ []
+      some_under [] h = absurd (true≢false (sym h))
+      some_under (y ∷ ys) h =
+          elim (test y) as (λ b. test y ≡ b → cond b (y ∷ filter test ys) (filter test ys) ≢ []) [
+            | true ↦ λ t none. absurd cc
+            | false ↦ λ t. elim (is_eq (alloc_cmp i y.id)) as (λ b. passes test (cond b (Some y) (row_of alloc_cmp alloc_id i ys)) ≡ true → filter test ys ≢ []) [
+              | true ↦ λ own. absurd (true≢false (sym own ∙ t))
+              | false ↦ some_under ys
+            ] h
+          ] refl

@@ -1,9 +1,9 @@
-ghost use Rattle.std.specs.Prelude.{◌≡◌, List, [], ◌≤◌, OnOk, OnErr, IfOk, filter, option_map, length, nat_lt, ◌||◌, T as Holds};
-ghost use Rattle.fsm_tables.specs.Rows.{row_of, has_row, put, put_within};
+ghost use Rattle.std.specs.Prelude.{◌≡◌, List, [], ◌≤◌, OnOk, OnErr, IfOk, filter, option_map, length, nat_lt, ◌||◌, not, T as Holds};
+ghost use Rattle.fsm_tables.specs.Rows.{row_of, has_row, put, put_within, makes_row};
 ghost use Rattle.rows.specs.Keys.{alloc_cmp, alloc_id};
 ghost use Rattle.fsm_tables.specs.Claims.{claims, used, are_distinct};
 ghost use Rattle.fsm_tables.specs.LiveNames.{live_named};
-ghost use Rattle.fsm_tables.specs.Lookups.{lives_as, lives_for, lives_on, is_active_on};
+ghost use Rattle.fsm_tables.specs.Lookups.{lives_as, lives_for, lives_on, is_active_on, GivesRows, is_listed_anew};
 
 use crate::index_keys::{OnNode, first, last};
 use crate::indexes::{Indexes, put_indexed};
@@ -114,7 +114,7 @@ impl Allocations {
 
     /// The live allocations of a name.
     pub fn all_live_named(&self, name: &AllocName) -> Result<Sequence<Allocation>, NoMemory>
-        ensures { IfOk result (λ listed. listed ≡ filter (lives_as name.now) self.now) }
+        ensures { GivesRows result (filter (lives_as name.now) self.now) }
     {
         self.rows.ranges();
         let least = first(*name);
@@ -124,7 +124,7 @@ impl Allocations {
 
     /// The live allocations of a job.
     pub fn live_of_job(&self, job: &JobName) -> Result<Sequence<Allocation>, NoMemory>
-        ensures { IfOk result (λ listed. listed ≡ filter (lives_for job.now) self.now) }
+        ensures { GivesRows result (filter (lives_for job.now) self.now) }
     {
         self.rows.ranges();
         let least = first(AllocName::least_of(*job));
@@ -134,7 +134,7 @@ impl Allocations {
 
     /// The live allocations on a node.
     pub fn live_on(&self, node: NodeId) -> Result<Sequence<Allocation>, NoMemory>
-        ensures { IfOk result (λ listed. listed ≡ filter (lives_on node) self.now) }
+        ensures { GivesRows result (filter (lives_on node) self.now) }
     {
         self.rows.ranges();
         let least = first(OnNode::live(node));
@@ -144,7 +144,7 @@ impl Allocations {
 
     /// The allocations on a node that are pending or running.
     pub fn active_on(&self, node: NodeId) -> Result<Sequence<Allocation>, NoMemory>
-        ensures { IfOk result (λ listed. listed ≡ filter (is_active_on node) self.now) }
+        ensures { GivesRows result (filter (is_active_on node) self.now) }
     {
         self.rows.ranges();
         let least = first(OnNode::stopping(node));
@@ -184,6 +184,8 @@ impl Allocations {
     pub fn put(&mut self, row: Allocation) -> Result<(), NoMemory>
         ensures ok { OnOk result (self.new ≡ put_within alloc_cmp alloc_id 65536 row self.old) }
         ensures err { OnErr result (self.new ≡ self.old) }
+        ensures memory { OnErr result (Holds (makes_row alloc_cmp alloc_id 65536 row self.old
+            || is_listed_anew (row_of alloc_cmp alloc_id row.id self.old) row)) }
     {
         let has_row = self.get(&row.id).is_some();
         if has_row || self.rows.len() < Allocations::MOST {
@@ -197,6 +199,8 @@ impl Allocations {
         requires { Holds (has_row alloc_cmp alloc_id row.id self.old || nat_lt (length self.old) 65536) }
         ensures ok { OnOk result (self.new ≡ put alloc_cmp alloc_id row self.old) }
         ensures err { OnErr result (self.new ≡ self.old) }
+        ensures memory { OnErr result (Holds (not (has_row alloc_cmp alloc_id row.id self.old)
+            || is_listed_anew (row_of alloc_cmp alloc_id row.id self.old) row)) }
     {
         let _rows = self.rows.rows();
         let to = held_by(Some(&row));

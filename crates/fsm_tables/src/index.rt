@@ -1,13 +1,13 @@
 //! An index of allocations: an entry for each row that is listed, in the order of what it is listed
 //! by, and then of its id.
-ghost use Rattle.std.specs.Prelude.{◌≡◌, OnOk, OnErr, IfOk, option_map, [], Some, T as Holds};
+ghost use Rattle.std.specs.Prelude.{◌≡◌, ◌≢◌, OnOk, OnErr, IfOk, option_map, [], Some, T as Holds};
 ghost use Rattle.std.specs.List.{filter_map};
 ghost use Rattle.std.specs.BTreeSet.{IsOrdered};
 ghost use Rattle.std.specs.BTreeMap.Range.{IsLeBy};
 ghost use Rattle.rows.specs.Keys.{alloc_cmp, alloc_id};
 ghost use Rattle.rows.specs.Rising.{is_above, is_rising};
 ghost use Rattle.fsm_tables.specs.declared.index.Entry.{Entry as AnyEntry};
-ghost use Rattle.fsm_tables.specs.Inner.Index.{entry_cmp, entry_of, is_entry, AreIndexed, IsSame, Gains, Loses, HasIdsBetween, first_id};
+ghost use Rattle.fsm_tables.specs.Inner.Index.{entry_cmp, entry_of, is_entry, AreIndexed, IsSame, Gains, Loses, HasIdsBetween, entries_between, first_id, lacks};
 
 use rows::{AllocId, Allocation, NoMemory};
 use std::alloc::{AllocError, Global};
@@ -139,6 +139,7 @@ impl<K: IndexKey> AllocIndex<K> {
     pub fn add(&mut self, entry: Option<Entry<K>>) -> Result<(), NoMemory>
         ensures ok { OnOk result (Gains K.cmp entry self.old self.new) }
         ensures err { OnErr result (IsSame K.cmp self.old self.new) }
+        ensures memory { OnErr result (Holds (lacks K.cmp entry self.old)) }
     {
         if let Some(entry) = entry {
             self.entries.insert(entry)?;
@@ -181,7 +182,8 @@ impl<K: IndexKey> AllocIndex<K> {
         last: Entry<K>,
     ) -> Result<BTreeSet<AllocId>, NoMemory>
         requires { IsLeBy (entry_cmp K.cmp) first last }
-        ensures { IfOk result (HasIdsBetween K.cmp first last self.now) }
+        ensures ids { IfOk result (HasIdsBetween K.cmp first last self.now) }
+        ensures memory { OnErr result (entries_between K.cmp first last self.now ≢ []) }
     {
         let mut ids = BTreeSet::new(alloc);
         for entry in self.entries.range(first..=last) {

@@ -1,10 +1,11 @@
 //! The two indexes of the allocations' rows, and a put that keeps them.
-ghost use Rattle.std.specs.Prelude.{◌≡◌, ◌⊎◌, [], OnOk, OnErr, IfOk, option_map, T as Holds};
+ghost use Rattle.std.specs.Prelude.{◌≡◌, ◌⊎◌, ◌||◌, not, [], OnOk, OnErr, IfOk, option_map, T as Holds};
 ghost use Rattle.rows.specs.Keys.{alloc_cmp, alloc_id};
 ghost use Rattle.rows.specs.Rising.{is_rising};
-ghost use Rattle.fsm_tables.specs.Inner.Index.{entry_of, IsSame, Gains, Loses};
+ghost use Rattle.fsm_tables.specs.Inner.Index.{entry_of, IsSame, Gains, Loses, lacks};
 ghost use Rattle.fsm_tables.specs.Inner.Keys.{alloc_name_cmp, live_name, on_node_cmp, active_on, AreListed};
-ghost use Rattle.fsm_tables.specs.Rows.{put};
+ghost use Rattle.fsm_tables.specs.Rows.{row_of, has_row, put};
+ghost use Rattle.fsm_tables.specs.Lookups.{is_listed_anew};
 
 use crate::index::{AllocIndex, Entry, entry_of};
 use crate::index_keys::OnNode;
@@ -82,6 +83,8 @@ impl Indexes {
         ensures some { OnErr result (IsSame alloc_name_cmp self.old.names self.new.names
             ⊎ Gains alloc_name_cmp entries.now.name self.old.names self.new.names) }
         ensures rest { OnErr result (IsSame on_node_cmp self.old.nodes self.new.nodes) }
+        ensures memory { OnErr result (Holds (lacks alloc_name_cmp entries.now.name self.old.names
+            || lacks on_node_cmp entries.now.node self.old.nodes)) }
     {
         self.names.add(entries.name)?;
         self.nodes.add(entries.node)
@@ -108,6 +111,8 @@ pub(crate) fn put_indexed(
     ensures listed { AreListed rows.new indexes.new }
     ensures ok { OnOk result (rows.new ≡ put alloc_cmp alloc_id row rows.old) }
     ensures err { OnErr result (rows.new ≡ rows.old) }
+    ensures memory { OnErr result (Holds (not (has_row alloc_cmp alloc_id row.id rows.old)
+        || is_listed_anew (row_of alloc_cmp alloc_id row.id rows.old) row)) }
 {
     let new = RowEntries::of(Some(&row));
     let old = RowEntries::of(rows.get(&row.id));

@@ -1,4 +1,4 @@
-ghost use Rattle.std.specs.Prelude.{◌≡◌, IfOk};
+ghost use Rattle.fsm_tables.specs.Lookups.{GivesRows};
 
 use crate::table::{CopiedRow, Row};
 use rows::{
@@ -8,7 +8,7 @@ use std::alloc::Global;
 
 /// The same items once more, by one copy of their bytes.
 fn copied_at_once<T: Copy>(items: &[T], alloc: Global) -> Result<Sequence<T>, NoMemory>
-    ensures { IfOk result (λ copies. copies ≡ items.now) }
+    ensures { GivesRows result items.now }
 {
     let mut copies = Vec::new(alloc);
     copies.extend_from_slice(items)?;

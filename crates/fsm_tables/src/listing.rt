@@ -1,11 +1,12 @@
 //! Rows by their ids, and the rows that an index lists.
-ghost use Rattle.std.specs.Prelude.{◌≡◌, IfOk, filter, option_map};
+ghost use Rattle.std.specs.Prelude.{◌≡◌, filter, option_map};
 ghost use Rattle.std.specs.List.{slice_get};
 ghost use Rattle.std.specs.BTreeSet.{IsOrdered};
 ghost use Rattle.std.specs.BTreeMap.Range.{IsLeBy};
 ghost use Rattle.rows.specs.Keys.{alloc_cmp};
 ghost use Rattle.fsm_tables.specs.Inner.Index.{entry_cmp, is_between, rows_at, AreIndexed};
 ghost use Rattle.fsm_tables.specs.Inner.Keys.{first_entry, last_entry};
+ghost use Rattle.fsm_tables.specs.Lookups.{GivesRows};
 
 use crate::index::{AllocIndex, Entry, IndexKey};
 use crate::index_keys::{first, last};
@@ -18,7 +19,7 @@ fn rows_of(
     rows: &Table<Allocation>,
     ids: &BTreeSet<AllocId>,
 ) -> Result<Sequence<Allocation>, NoMemory>
-    ensures rows { IfOk result (λ found. found ≡ rows_at rows.now ids.now.keys) }
+    ensures rows { GivesRows result (rows_at rows.now ids.now.keys) }
     ensures rising { IsOrdered alloc_cmp ids.now }
 {
     let _count = ids.len();
@@ -41,7 +42,7 @@ pub(crate) fn rows_between<K: IndexKey>(
 ) -> Result<Sequence<Allocation>, NoMemory>
     requires indexed { AreIndexed K.cmp K.key_of rows.now index.now }
     requires forward { IsLeBy (entry_cmp K.cmp) first last }
-    ensures { IfOk result (λ listed. listed ≡ filter (is_between K.cmp K.key_of first last) rows.now) }
+    ensures { GivesRows result (filter (is_between K.cmp K.key_of first last) rows.now) }
 {
     rows.ranges();
     let ids = index.ids_between(rows.memory(), first, last)?;

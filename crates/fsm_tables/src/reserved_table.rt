@@ -1,5 +1,5 @@
 //! Rows by key with room made beforehand, so that a later put takes no memory.
-ghost use Rattle.std.specs.Prelude.{◌≡◌, ◌≤◌, [], OnOk, option_map, T as Holds};
+ghost use Rattle.std.specs.Prelude.{◌≡◌, ◌≤◌, ◌<◌, [], OnOk, OnErr, option_map, T as Holds};
 ghost use Rattle.rows.specs.Rising.{is_rising};
 ghost use Rattle.fsm_tables.specs.Rows.{row_of, put};
 ghost use Rattle.fsm_tables.specs.ReservedTables.{without, has_space};
@@ -71,10 +71,12 @@ impl<T: Row> ReservedTable<T> {
         }
     }
 
-    /// Makes room for so many rows in all. Without memory no row changes, and no room goes.
+    /// Makes room for so many rows in all. Where there is room for them already it takes no memory;
+    /// without memory no row changes, and no room goes.
     pub fn make_room(&mut self, count: usize) -> Result<(), NoMemory>
         ensures rows { self.new.rows ≡ self.old.rows }
         ensures ok { OnOk result (count ≤ self.new.room) }
+        ensures memory { OnErr result (self.old.room < count) }
         ensures room { self.old.room ≤ self.new.room }
     {
         self.rows.reserve(count.saturating_sub(self.rows.len()))?;

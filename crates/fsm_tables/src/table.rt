@@ -1,7 +1,8 @@
-ghost use Rattle.std.specs.Prelude.{◌≡◌, ◌≤◌, ◌<◌, List, [], OnOk, OnErr, IfOk, option_map, length, T as Holds};
+ghost use Rattle.std.specs.Prelude.{◌≡◌, ◌≤◌, ◌<◌, List, [], OnOk, OnErr, IfOk, option_map, length, None, T as Holds};
 ghost use Rattle.std.specs.List.{AllByRecursion, slice_get};
 ghost use Rattle.rows.specs.Rising.{is_rising};
-ghost use Rattle.fsm_tables.specs.Rows.{row_of, put, put_within};
+ghost use Rattle.fsm_tables.specs.Rows.{row_of, put, put_within, makes_row};
+ghost use Rattle.fsm_tables.specs.Lookups.{GivesRows};
 ghost use Rattle.fsm_tables.specs.Inner.Places.{PlaceOf};
 
 use rows::{NoMemory, Ranged, Sequence, all_ranges};
@@ -29,7 +30,7 @@ pub trait CopiedRow: Row {
 
     /// The same rows once more, in time of the rows. `NoMemory` where there is no memory for them.
     fn all_copied(rows: &[Self], alloc: Global) -> Result<Sequence<Self>, NoMemory>
-        ensures { IfOk result (λ copies. copies ≡ rows.now) };
+        ensures { GivesRows result rows.now };
 }
 
 /// A table: at most one row of each key. Contracts see the list of its rows in strictly rising key.
@@ -70,7 +71,7 @@ impl<T: CopiedRow> Table<T> {
     /// The same table once more, made by a copy, in time of the rows. `NoMemory` where there is no
     /// memory for them.
     pub fn fork(&self) -> Result<Table<T>, NoMemory>
-        ensures { IfOk result (λ t. t ≡ self.now) }
+        ensures { GivesRows result self.now }
     {
         let rows = T::all_copied(&self.rows, self.memory())?;
         Ok(Table {
@@ -146,10 +147,12 @@ impl<T: Row> Table<T> {
         }
     }
 
-    /// Makes or replaces the row of the key, and changes no other. Without memory nothing changes.
+    /// Makes or replaces the row of the key, and changes no other. Only a new row takes memory;
+    /// without it nothing changes.
     pub fn put(&mut self, row: T) -> Result<(), NoMemory>
         ensures ok { OnOk result (self.new ≡ put T.Key.cmp T.key_of row self.old) }
         ensures err { OnErr result (self.new ≡ self.old) }
+        ensures memory { OnErr result (row_of T.Key.cmp T.key_of (T.key_of row) self.old ≡ None) }
     {
         row.ranges();
         match place(&self.rows, row.key()) {
@@ -164,10 +167,12 @@ impl<T: Row> Table<T> {
     }
 
     /// Makes or replaces the row of the key, and changes no other; a row under a new key is not
-    /// made where the table has `most` rows or more. Without memory nothing changes.
+    /// made where the table has `most` rows or more. Only a row that is made takes memory; without
+    /// it nothing changes.
     pub fn put_within(&mut self, most: usize, row: T) -> Result<(), NoMemory>
         ensures ok { OnOk result (self.new ≡ put_within T.Key.cmp T.key_of most row self.old) }
         ensures err { OnErr result (self.new ≡ self.old) }
+        ensures memory { OnErr result (Holds (makes_row T.Key.cmp T.key_of most row self.old)) }
         ensures few { length self.old ≤ most → length self.new ≤ most }
     {
         let has_row = self.get(row.key()).is_some();

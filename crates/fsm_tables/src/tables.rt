@@ -1,10 +1,10 @@
-ghost use Rattle.std.specs.Prelude.{◌≡◌, ◌≤◌, OnOk, OnErr, IfOk, filter, option_map, length};
+ghost use Rattle.std.specs.Prelude.{◌≡◌, ◌≤◌, OnOk, OnErr, IfOk, filter, option_map, length, ◌||◌, T as Holds};
 ghost use Rattle.std.specs.Ordering.{nat_cmp};
 ghost use Rattle.rows.specs.Keys.{name_cmp, eval_cmp, alloc_cmp, job_name, node_number, eval_id, alloc_id};
-ghost use Rattle.fsm_tables.specs.Rows.{row_of, put_within};
+ghost use Rattle.fsm_tables.specs.Rows.{row_of, put_within, makes_row};
 ghost use Rattle.fsm_tables.specs.Claims.{claims, used, are_distinct};
 ghost use Rattle.fsm_tables.specs.LiveNames.{live_named};
-ghost use Rattle.fsm_tables.specs.Lookups.{lives_as, lives_for, lives_on, is_active_on};
+ghost use Rattle.fsm_tables.specs.Lookups.{lives_as, lives_for, lives_on, is_active_on, GivesRows, is_listed_anew};
 ghost use Rattle.fsm_tables.specs.TableRows.{no_rows, TablesFit};
 
 use crate::allocations::Allocations;
@@ -138,7 +138,7 @@ impl Tables {
     /// safe. It takes time in the logarithm of the table, and so much again for each of them.
     /// `NoMemory` where there is no memory for them.
     pub fn all_live_named(&self, name: &AllocName) -> Result<Sequence<Allocation>, NoMemory>
-        ensures { IfOk result (λ rows. rows ≡ filter (lives_as name.now) self.now.allocs) }
+        ensures { GivesRows result (filter (lives_as name.now) self.now.allocs) }
     {
         self.allocs.all_live_named(name)
     }
@@ -146,7 +146,7 @@ impl Tables {
     /// The live allocations of a job, in rising id. It takes time in the logarithm of the table,
     /// and so much again for each of them. `NoMemory` where there is no memory for them.
     pub fn live_of_job(&self, job: &JobName) -> Result<Sequence<Allocation>, NoMemory>
-        ensures { IfOk result (λ rows. rows ≡ filter (lives_for job.now) self.now.allocs) }
+        ensures { GivesRows result (filter (lives_for job.now) self.now.allocs) }
     {
         self.allocs.live_of_job(job)
     }
@@ -154,7 +154,7 @@ impl Tables {
     /// The live allocations on a node, in rising id. It takes time in the logarithm of the table,
     /// and so much again for each of them. `NoMemory` where there is no memory for them.
     pub fn live_on(&self, node: NodeId) -> Result<Sequence<Allocation>, NoMemory>
-        ensures { IfOk result (λ rows. rows ≡ filter (lives_on node) self.now.allocs) }
+        ensures { GivesRows result (filter (lives_on node) self.now.allocs) }
     {
         self.allocs.live_on(node)
     }
@@ -163,7 +163,7 @@ impl Tables {
     /// stop, in rising id: what is lost with the node. It takes time in the logarithm of the table,
     /// and so much again for each of them. `NoMemory` where there is no memory for them.
     pub fn active_on(&self, node: NodeId) -> Result<Sequence<Allocation>, NoMemory>
-        ensures { IfOk result (λ rows. rows ≡ filter (is_active_on node) self.now.allocs) }
+        ensures { GivesRows result (filter (is_active_on node) self.now.allocs) }
     {
         self.allocs.active_on(node)
     }
@@ -228,6 +228,7 @@ impl Tables {
     pub fn put_job(&mut self, row: Job) -> Result<(), NoMemory>
         ensures ok { OnOk result (self.new ≡ record self.old { jobs = put_within name_cmp job_name 256 row self.old.jobs }) }
         ensures err { OnErr result (self.new ≡ self.old) }
+        ensures memory { OnErr result (Holds (makes_row name_cmp job_name 256 row self.old.jobs)) }
     {
         self.jobs.put_within(Tables::MOST_JOBS, row)
     }
@@ -237,6 +238,7 @@ impl Tables {
     pub fn put_node(&mut self, row: Node) -> Result<(), NoMemory>
         ensures ok { OnOk result (self.new ≡ record self.old { nodes = put_within nat_cmp node_number 64 row self.old.nodes }) }
         ensures err { OnErr result (self.new ≡ self.old) }
+        ensures memory { OnErr result (Holds (makes_row nat_cmp node_number 64 row self.old.nodes)) }
     {
         self.nodes.put_within(Tables::MOST_NODES, row)
     }
@@ -246,6 +248,7 @@ impl Tables {
     pub fn put_eval(&mut self, row: Evaluation) -> Result<(), NoMemory>
         ensures ok { OnOk result (self.new ≡ record self.old { evals = put_within eval_cmp eval_id 65536 row self.old.evals }) }
         ensures err { OnErr result (self.new ≡ self.old) }
+        ensures memory { OnErr result (Holds (makes_row eval_cmp eval_id 65536 row self.old.evals)) }
     {
         self.evals.put_within(Tables::MOST_EVALS, row)
     }
@@ -255,6 +258,8 @@ impl Tables {
     pub fn put_alloc(&mut self, row: Allocation) -> Result<(), NoMemory>
         ensures ok { OnOk result (self.new ≡ record self.old { allocs = put_within alloc_cmp alloc_id 65536 row self.old.allocs }) }
         ensures err { OnErr result (self.new ≡ self.old) }
+        ensures memory { OnErr result (Holds (makes_row alloc_cmp alloc_id 65536 row self.old.allocs
+            || is_listed_anew (row_of alloc_cmp alloc_id row.id self.old.allocs) row)) }
     {
         self.allocs.put(row)
     }

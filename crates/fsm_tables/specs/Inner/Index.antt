@@ -49,6 +49,11 @@ module _ {K : Type 0} where
   abbrev pub Loses : (K → K → Ordering) → Option (Entry K) → Option (Entry K) → BTreeSet (Entry K) → BTreeSet (Entry K) → Type 0
   Loses R less kept s n = (e : Entry K) → contains (entry_cmp R) n e ≡ (if is_entry R less e && not (is_entry R kept e) then false else contains (entry_cmp R) s e)
 
+  -- whether there is an entry and the set lacks it
+  abbrev pub lacks : (K → K → Ordering) → Option (Entry K) → BTreeSet (Entry K) → Bool
+  lacks R None s = false
+  lacks R (Some e) s = not (contains (entry_cmp R) s e)
+
   -- the entries of a set from one to another
   abbrev pub entries_between : (K → K → Ordering) → Entry K → Entry K → BTreeSet (Entry K) → List (Entry K)
   entries_between R first last entries = keys_between (entry_cmp R) (Included first) (Included last) entries

@@ -1,8 +1,12 @@
-use Rattle.std.proofs.Common.{◌≡◌, ◌∙◌, ap, sym, subst, inl, inr, Ok, Err, List}
+use Rattle.std.proofs.Common.{◌≡◌, ◌∙◌, ap, sym, subst, inl, inr, not, T, None, is_some, Ok, Err, Result, OnErr, List}
+use Rattle.std.specs.Prelude.{◌||◌}
+use Rattle.rows.specs.Keys.{alloc_cmp, alloc_id}
+use Rattle.fsm_tables.specs.Rows.{row_of, has_row}
+use Rattle.fsm_tables.specs.Lookups.{is_listed_anew}
 use Rattle.rows.specs.declared.allocation.Allocation.{Allocation}
 use Rattle.fsm_tables.specs.Inner.Index.{entry_of}
 use Rattle.fsm_tables.specs.Inner.Keys.{live_name, active_on, AreListed}
-use Rattle.fsm_tables.proofs.Listed.{listed_put, listed_kept}
+use Rattle.fsm_tables.proofs.Listed.{listed_put, listed_kept, lacks_of_row}
 use Rattle.fsm_tables.proofs.indexes.put_indexed.Goals as goal
 use Rattle.fsm_tables.proofs.indexes.put_indexed.Goals.{in-Ok, in-Err}
 
@@ -37,3 +41,16 @@ returns-in-Err-stored-clause-listed c =
           (record { name = c.of-old.ensures.name ∙ ap (entry_of live_name) c.get.ensures; node = c.of-old.ensures.node ∙ ap (entry_of active_on) c.get.ensures })
           c.requires w.in-Err.ensures.some (inl w.in-Err.ensures.rest) c.remove_unless-in-Err-stored.ensures.names c.remove_unless-in-Err-stored.ensures.nodes)
     ]
+
+pub returns-in-Err-stored-clause-memory : goal.returns-in-Err-stored-clause-memory
+returns-in-Err-stored-clause-memory c =
+    let row = c.args.row in
+    let rows = c.args.rows.now in
+    let wanting : T (not (has_row alloc_cmp alloc_id row.id rows) || is_listed_anew (row_of alloc_cmp alloc_id row.id rows) row) =
+    elim c.match-add.branch [
+      | in-Ok w ↦
+          let none : row_of alloc_cmp alloc_id row.id rows ≡ None = rw (sym w.stored-is ∙ c.in-Err-stored.is) at w.put-stored.ensures.memory in
+          subst (λ r. T (not (is_some r) || is_listed_anew r row)) (sym none) tt
+      | in-Err w ↦ lacks_of_row row rows c.args.indexes.now c.requires (rw (c.of-new.ensures.name, c.of-new.ensures.node) at w.in-Err.ensures.memory)
+    ] in
+    subst (λ (r : Result _ _). OnErr r (T (not (has_row alloc_cmp alloc_id row.id rows) || is_listed_anew (row_of alloc_cmp alloc_id row.id rows) row))) (sym c.in-Err-stored.is) wanting

@@ -1,8 +1,8 @@
-use Rattle.std.proofs.Common.{◌≡◌, ◌∙◌, subst, List}
-use Rattle.std.specs.Prelude.{IfOk}
+use Rattle.std.proofs.Common.{◌≡◌, ◌∙◌, sym, subst, List, Result, Err, filter, rules}
 use Rattle.rows.specs.declared.allocation.Allocation.{Allocation}
+use Rattle.fsm_tables.specs.Lookups.{GivesRows}
 use Rattle.fsm_tables.specs.Inner.Index.{is_between}
-use Rattle.fsm_tables.proofs.Entries.{ids_of_rows}
+use Rattle.fsm_tables.proofs.Entries.{ids_of_rows, some_listed}
 use Rattle.fsm_tables.proofs.Filters.{rows_are_filtered}
 use Rattle.fsm_tables.proofs.listing.rows_between.Goals as goal
 
@@ -12,5 +12,11 @@ returns g c =
     let key_of = g.K.IndexKey.key_of in
     let rows = c.args.rows.now in
     let same = rows_are_filtered rows (is_between R key_of c.args.first c.args.last) c.in_ok-ids.ids.keys c.ranges-2.ensures.rising c.rows_of.ensures.rising
-    (λ i. c.in_ok-ids.ensures i ∙ ids_of_rows R g.met.K.Ord.total key_of rows c.args.index.now c.requires.indexed c.args.first c.args.last i) in
-    subst (λ (xs : List Allocation). IfOk c.rows_of.result (λ listed. listed ≡ xs)) same c.rows_of.ensures.rows
+    (λ i. c.in_ok-ids.ensures.ids i ∙ ids_of_rows R g.met.K.Ord.total key_of rows c.args.index.now c.requires.indexed c.args.first c.args.last i) in
+    subst (λ (xs : List Allocation). GivesRows c.rows_of.result xs) same c.rows_of.ensures.rows
+
+pub returns-in_err-ids : goal.returns-in_err-ids
+returns-in_err-ids g c =
+    let some = some_listed g.K.Ord.cmp g.met.K.Ord.total g.K.IndexKey.key_of c.args.rows.now c.args.index.now c.requires.indexed c.args.first c.args.last c.in_err-ids.ensures.memory in
+    let same : c.from_residual.result ≡ Err c.in_err-ids.field-0.0 = search rules in
+    subst (λ (answer : Result (List Allocation) _). GivesRows answer (filter (is_between g.K.Ord.cmp g.K.IndexKey.key_of c.args.first c.args.last) c.args.rows.now)) (sym same) some

@@ -1,7 +1,7 @@
-use Rattle.std.proofs.Common.{◌≡◌, ◌∙◌, ap, subst, List}
-use Rattle.std.specs.Prelude.{filter, IfOk}
+use Rattle.std.proofs.Common.{◌∙◌, ap, subst, List}
+use Rattle.std.specs.Prelude.{filter}
 use Rattle.rows.specs.declared.allocation.Allocation.{Allocation}
-use Rattle.fsm_tables.specs.Lookups.{lives_as}
+use Rattle.fsm_tables.specs.Lookups.{lives_as, GivesRows}
 use Rattle.fsm_tables.specs.Inner.Keys.{alloc_name_cmp}
 use Rattle.fsm_tables.proofs.Bounds.{between_name, forward_under, listed_alike, names_total}
 use Rattle.fsm_tables.proofs.allocations.Allocations.all_live_named.Goals as goal
@@ -12,4 +12,4 @@ rows_between-requires-clause-forward c = rw (c.first-least.ensures, c.last-great
 pub returns : goal.returns
 returns c =
     let listed = rw (c.first-least.ensures, c.last-greatest.ensures) at c.rows_between.ensures in
-    subst (λ (xs : List Allocation). IfOk c.rows_between.result (λ listed. listed ≡ xs)) (listed_alike _ _ c.self.inside.rows (between_name c.args.name.now) c.ranges-2.ensures.fit ∙ ap (filter (lives_as c.args.name.now)) c.self.view_is) listed
+    subst (λ (xs : List Allocation). GivesRows c.rows_between.result xs) (listed_alike _ _ c.self.inside.rows (between_name c.args.name.now) c.ranges-2.ensures.fit ∙ ap (filter (lives_as c.args.name.now)) c.self.view_is) listed
