@@ -8,3 +8,4 @@ pub mod StepLaws
 pub mod StopLaws
 pub mod Reports
 pub mod Claimed
+pub mod InPlace

@@ -1,11 +1,12 @@
 //! Why a state refuses a command.
-ghost use Rattle.std.specs.Prelude.{◌≡◌, ◌≤◌, ◌&&◌, Option, Some, None, IfOk, is_none};
+ghost use Rattle.std.specs.Prelude.{◌≡◌, ◌≤◌, ◌&&◌, Option, Some, None, IfOk, OnErr, is_none};
 ghost use Rattle.std.specs.List.{list_any};
 ghost use Rattle.rows.specs.declared.command.Command.TheVariants as commands;
 ghost use Rattle.cluster_model.specs.Words.{is_draining};
 ghost use Rattle.cluster_model.specs.Admission.{admission, jobs_pass, evals_pass, differs, allows, touch_passes};
 ghost use Rattle.cluster_model.specs.Effect.{is_named};
 ghost use Rattle.fsm_tables.specs.Lookups.{lives_on};
+ghost use Rattle.fsm_state.specs.Memory.{AdmissionMayLack};
 
 mod alone;
 mod claims;
@@ -166,7 +167,8 @@ impl Cluster {
 
     /// Why the state refuses a command, if it does.
     pub(crate) fn admission(&self, command: &Command) -> Result<Option<Refusal>, NoMemory>
-        ensures { IfOk result (λ r. r ≡ admission self.now command.now) }
+        ensures ok { IfOk result (λ r. r ≡ admission self.now command.now) }
+        ensures memory { OnErr result (AdmissionMayLack self.now command.now) }
     {
         match command {
             Command::Noop => Ok(None),

@@ -1,6 +1,8 @@
 //! The effect of each command.
-ghost use Rattle.std.specs.Prelude.{◌≡◌, ◌+◌, ◌<◌, ◌^◌, OnOk};
+ghost use Rattle.std.specs.Prelude.{◌≡◌, ◌≢◌, ◌+◌, ◌<◌, ◌^◌, None, IsOk, OnOk, OnErr};
+ghost use Rattle.cluster_model.specs.Words.{job_of, node_of};
 ghost use Rattle.cluster_model.specs.Effect.{applied, touched, is_named, with_job, without_job, without_node, downed, with_drain, without_drain, migrated, with_status, planned, reported};
+ghost use Rattle.fsm_state.specs.Memory.{EffectMayLack};
 
 mod allocs;
 mod evals;
@@ -31,8 +33,9 @@ impl Cluster {
     /// Stops a job, and touches it.
     fn job_stop(&mut self, entry: EntryIndex, name: &JobName) -> Result<(), NoMemory>
         requires { entry ≡ self.old.count }
-        ensures { OnOk result (
+        ensures ok { OnOk result (
             self.new ≡ touched (is_named name.now) (without_job name.now self.old)) }
+        ensures memory { OnErr result (job_of name.now self.old ≢ None) }
     {
         self.ranges();
         self.end_job(name)?;
@@ -55,7 +58,8 @@ impl Cluster {
     /// A node's loss. Without a row of the node nothing changes.
     fn node_down(&mut self, entry: EntryIndex, number: NodeId) -> Result<(), NoMemory>
         requires { entry ≡ self.old.count }
-        ensures { OnOk result (self.new ≡ without_node number self.old) }
+        ensures ok { OnOk result (self.new ≡ without_node number self.old) }
+        ensures memory { OnErr result (node_of number self.old ≢ None) }
     {
         if self.node(number).is_none() {
             return Ok(());
@@ -65,7 +69,8 @@ impl Cluster {
 
     /// Begins to empty a node.
     fn begin_drain(&mut self, number: NodeId, force: bool) -> Result<(), NoMemory>
-        ensures { OnOk result (self.new ≡ with_drain number force self.old) }
+        ensures ok { OnOk result (self.new ≡ with_drain number force self.old) }
+        ensures memory { IsOk result }
     {
         self.ranges();
         self.set_draining(number, force)
@@ -73,7 +78,8 @@ impl Cluster {
 
     /// Ends the emptying of a node.
     fn end_drain(&mut self, number: NodeId) -> Result<(), NoMemory>
-        ensures { OnOk result (self.new ≡ without_drain number self.old) }
+        ensures ok { OnOk result (self.new ≡ without_drain number self.old) }
+        ensures memory { IsOk result }
     {
         self.ranges();
         self.set_drained(number)
@@ -93,14 +99,16 @@ impl Cluster {
     /// Touches a job.
     fn eval_put(&mut self, entry: EntryIndex, name: &JobName) -> Result<(), NoMemory>
         requires { entry ≡ self.old.count }
-        ensures { OnOk result (self.new ≡ touched (is_named name.now) self.old) }
+        ensures ok { OnOk result (self.new ≡ touched (is_named name.now) self.old) }
+        ensures memory { OnErr result (job_of name.now self.old ≢ None) }
     {
         self.touch(entry, name)
     }
 
     /// Sets the status of an evaluation.
     fn eval_status(&mut self, id: EvalId, change: &StatusChange) -> Result<(), NoMemory>
-        ensures { OnOk result (self.new ≡ with_status id change.now self.old) }
+        ensures ok { OnOk result (self.new ≡ with_status id change.now self.old) }
+        ensures memory { IsOk result }
     {
         self.ranges();
         self.settle(id, change)
@@ -135,7 +143,8 @@ impl Cluster {
     /// to be dropped.
     pub(crate) fn execute(&mut self, command: &Command) -> Result<(), NoMemory>
         requires { self.old.count + 1 < 2 ^ 40 }
-        ensures { OnOk result (self.new ≡ applied self.old command.now) }
+        ensures ok { OnOk result (self.new ≡ applied self.old command.now) }
+        ensures memory { OnErr result (EffectMayLack self.old command.now) }
     {
         let entry = self.advance();
         match command {

@@ -1,9 +1,13 @@
 //! The replicated state as a value: its rows, and one row put.
-ghost use Rattle.std.specs.Prelude.{◌≡◌, ◌∷◌, [], ◌+◌, ◌<◌, ◌^◌, ◌||◌, not, OnOk, IfOk, filter, option_map, T as Holds};
+ghost use Rattle.std.specs.Prelude.{◌≡◌, ◌∷◌, [], ◌+◌, ◌<◌, ◌^◌, ◌||◌, not, OnOk, OnErr, IfOk, filter, option_map, T as Holds};
 ghost use Rattle.std.specs.List.{list_any};
 ghost use Rattle.fsm_tables.specs.Claims.{claim_of, claims, used, is_live};
 ghost use Rattle.fsm_tables.specs.LiveNames.{live_named};
-ghost use Rattle.fsm_tables.specs.Lookups.{lives_for, lives_on, is_active_on};
+ghost use Rattle.fsm_tables.specs.Lookups.{lives_for, lives_on, is_active_on, GivesRows};
+ghost use Rattle.fsm_tables.specs.Rows.{makes_row};
+ghost use Rattle.std.specs.Ordering.{nat_cmp};
+ghost use Rattle.rows.specs.Keys.{eval_cmp, node_number, eval_id};
+ghost use Rattle.rows.specs.Limits.{most_nodes, most_evals};
 ghost use Rattle.fsm_tables.specs.TableRows.{TablesFit};
 ghost use Rattle.cluster_model.specs.Words.{no_rows, same_alloc, job_of, node_of, eval_of, alloc_of};
 ghost use Rattle.cluster_model.specs.Effect.{with_next_count};
@@ -154,7 +158,7 @@ impl Cluster {
     /// The live allocations of a job, in rising id. It takes time in the logarithm of the table,
     /// and so much again for each of them. `NoMemory` where there is no memory for them.
     pub fn live_of_job(&self, job: &JobName) -> Result<Sequence<Allocation>, NoMemory>
-        ensures { IfOk result (λ rows. rows ≡ filter (lives_for job.now) self.now.allocs) }
+        ensures { GivesRows result (filter (lives_for job.now) self.now.allocs) }
     {
         self.tables.live_of_job(job)
     }
@@ -162,7 +166,7 @@ impl Cluster {
     /// The live allocations on a node, in rising id. It takes time in the logarithm of the table,
     /// and so much again for each of them. `NoMemory` where there is no memory for them.
     pub fn live_on(&self, node: NodeId) -> Result<Sequence<Allocation>, NoMemory>
-        ensures { IfOk result (λ rows. rows ≡ filter (lives_on node) self.now.allocs) }
+        ensures { GivesRows result (filter (lives_on node) self.now.allocs) }
     {
         self.tables.live_on(node)
     }
@@ -171,7 +175,7 @@ impl Cluster {
     /// logarithm of the table, and so much again for each of them. `NoMemory` where there is no
     /// memory for them.
     pub fn active_on(&self, node: NodeId) -> Result<Sequence<Allocation>, NoMemory>
-        ensures { IfOk result (λ rows. rows ≡ filter (is_active_on node) self.now.allocs) }
+        ensures { GivesRows result (filter (is_active_on node) self.now.allocs) }
     {
         self.tables.active_on(node)
     }
@@ -247,14 +251,18 @@ impl Cluster {
 
     /// Makes or replaces the row of the node.
     pub(crate) fn put_node(&mut self, row: Node) -> Result<(), NoMemory>
-        ensures { OnOk result (self.new ≡ put_node row self.old) }
+        ensures ok { OnOk result (self.new ≡ put_node row self.old) }
+        ensures memory { OnErr result (
+            Holds (makes_row nat_cmp node_number most_nodes row self.old.nodes)) }
     {
         self.tables.put_node(row)
     }
 
     /// Makes or replaces the row of the evaluation.
     pub(crate) fn put_eval(&mut self, row: Evaluation) -> Result<(), NoMemory>
-        ensures { OnOk result (self.new ≡ put_eval row self.old) }
+        ensures ok { OnOk result (self.new ≡ put_eval row self.old) }
+        ensures memory { OnErr result (
+            Holds (makes_row eval_cmp eval_id most_evals row self.old.evals)) }
     {
         self.tables.put_eval(row)
     }

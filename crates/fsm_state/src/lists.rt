@@ -4,6 +4,7 @@ ghost use Rattle.std.specs.Prelude.{◌≡◌, IfOk, T as Holds};
 ghost use Rattle.std.specs.Ordering.{nat_cmp};
 ghost use Rattle.rows.specs.Keys.{name_cmp, eval_cmp, alloc_cmp, job_name, node_number, eval_id, alloc_id};
 ghost use Rattle.rows.specs.Rising.{is_rising};
+ghost use Rattle.fsm_tables.specs.Lookups.{GivesRows};
 ghost use Rattle.rows.specs.States.{InOrder};
 
 use crate::cluster::Cluster;
@@ -45,7 +46,7 @@ impl Cluster {
 
     /// All jobs, by name.
     pub fn jobs(&self, alloc: Global) -> Result<Sequence<Job>, NoMemory>
-        ensures rows { IfOk result (λ rows. rows ≡ self.now.jobs) }
+        ensures rows { GivesRows result self.now.jobs }
         ensures rising { IfOk result (λ rows. Holds (is_rising name_cmp job_name rows)) }
     {
         Job::all_copied(self.job_table().rows(), alloc)
@@ -53,7 +54,7 @@ impl Cluster {
 
     /// All nodes, by number.
     pub fn nodes(&self, alloc: Global) -> Result<Sequence<Node>, NoMemory>
-        ensures rows { IfOk result (λ rows. rows ≡ self.now.nodes) }
+        ensures rows { GivesRows result self.now.nodes }
         ensures rising { IfOk result (λ rows. Holds (is_rising nat_cmp node_number rows)) }
     {
         Node::all_copied(self.node_table().rows(), alloc)
@@ -61,7 +62,7 @@ impl Cluster {
 
     /// All evaluations, by id.
     pub fn evals(&self, alloc: Global) -> Result<Sequence<Evaluation>, NoMemory>
-        ensures rows { IfOk result (λ rows. rows ≡ self.now.evals) }
+        ensures rows { GivesRows result self.now.evals }
         ensures rising { IfOk result (λ rows. Holds (is_rising eval_cmp eval_id rows)) }
     {
         Evaluation::all_copied(self.eval_table().rows(), alloc)
@@ -69,7 +70,7 @@ impl Cluster {
 
     /// All allocations, by id.
     pub fn allocs(&self, alloc: Global) -> Result<Sequence<Allocation>, NoMemory>
-        ensures rows { IfOk result (λ rows. rows ≡ self.now.allocs) }
+        ensures rows { GivesRows result self.now.allocs }
         ensures rising { IfOk result (λ rows. Holds (is_rising alloc_cmp alloc_id rows)) }
     {
         Allocation::all_copied(self.alloc_table().rows(), alloc)

@@ -1,4 +1,6 @@
 //! The replicated state as a machine.
+ghost use Rattle.std.specs.Prelude.{◌≡◌, ◌+◌, ◌<◌, ◌^◌, IfOk, OnOk, OnErr};
+ghost use Rattle.fsm_state.specs.Memory.{AdmissionMayLack, EffectMayLack};
 ghost use Rattle.cluster_model.specs.ClusterMachine.{cluster_meaning};
 ghost use Rattle.cluster_model.proofs.ClusterMachine.{cluster_lawful};
 
@@ -33,11 +35,20 @@ impl Machine for Cluster {
         self.applied().get()
     }
 
-    fn apply(&mut self, command: &Command) -> Result<(), NoMemory> {
+    fn apply(&mut self, command: &Command) -> Result<(), NoMemory>
+        requires { self.old.count + 1 < 2 ^ 40 }
+        ensures ok { OnOk result (self.new ≡ cluster_meaning.applied self.old command.now) }
+        ensures memory { OnErr result (EffectMayLack self.old command.now) }
+    {
         self.execute(command)
     }
 
-    fn admits(&self, command: &Command) -> Result<Option<Refusal>, NoMemory> {
+    fn admits(&self, command: &Command) -> Result<Option<Refusal>, NoMemory>
+        ensures ok { IfOk result (λ why. why ≡ cluster_meaning.admission self.now command.now) }
+        ensures memory { OnErr result (AdmissionMayLack self.now command.now) }
+        ensures fits { cluster_meaning.states.Fits self.now }
+        ensures command_fits { cluster_meaning.commands.Fits command.now }
+    {
         self.fits();
         has_text(command);
         self.admission(command)

@@ -1,5 +1,6 @@
 //! Evaluations that are made to touch jobs.
-ghost use Rattle.std.specs.Prelude.{◌≡◌, ◌≤◌, ◌∷◌, OnOk, length, filter};
+ghost use Rattle.std.specs.Prelude.{◌≡◌, ◌≢◌, ◌≤◌, ◌∷◌, None, OnOk, OnErr, length, filter};
+ghost use Rattle.cluster_model.specs.Words.{job_of};
 ghost use Rattle.cluster_model.specs.Effect.{new_eval, touched, is_named};
 ghost use Rattle.fsm_state.specs.Inner.Steps.{touched_at, jobs_at, is_in, AddsNames};
 
@@ -33,7 +34,8 @@ impl Cluster {
     /// job.
     pub(crate) fn touch(&mut self, entry: EntryIndex, name: &JobName) -> Result<(), NoMemory>
         requires { entry ≡ self.old.count }
-        ensures { OnOk result (self.new ≡ touched (is_named name.now) self.old) }
+        ensures ok { OnOk result (self.new ≡ touched (is_named name.now) self.old) }
+        ensures memory { OnErr result (job_of name.now self.old ≢ None) }
     {
         self.ranges();
         match self.job(name) {

@@ -1,5 +1,5 @@
 //! Why a state refuses the commands that touch several jobs.
-ghost use Rattle.std.specs.Prelude.{◌≡◌, Option, Some, None, IfOk, OnOk, option_map};
+ghost use Rattle.std.specs.Prelude.{◌≡◌, ◌≢◌, [], Option, Some, None, IfOk, OnOk, OnErr, filter, option_map};
 ghost use Rattle.std.specs.List.{list_any, list_all};
 ghost use Rattle.rows.specs.declared.command.Command.TheVariants as commands;
 ghost use Rattle.cluster_model.specs.Words.{no_alloc, is_ready};
@@ -90,8 +90,9 @@ impl Cluster {
 
     /// Whether the jobs that the loss of a node touches would pass the limit.
     fn loss_passes(&self, node: NodeId) -> Result<bool, NoMemory>
-        ensures { let those = owns (lives_on node) self.now.allocs in
+        ensures ok { let those = owns (lives_on node) self.now.allocs in
             IfOk result (λ b. b ≡ touch_passes those self.now) }
+        ensures memory { OnErr result (filter (lives_on node) self.now.allocs ≢ []) }
     {
         let names = self.jobs_on(node)?;
         Ok(self.names_pass(&names))
@@ -99,7 +100,8 @@ impl Cluster {
 
     /// Why a node may not be taken for down.
     pub(super) fn node_down_refusal(&self, node: NodeId) -> Result<Option<Refusal>, NoMemory>
-        ensures { IfOk result (λ r. r ≡ admission self.now (commands.NodeDown node)) }
+        ensures ok { IfOk result (λ r. r ≡ admission self.now (commands.NodeDown node)) }
+        ensures memory { OnErr result (filter (lives_on node) self.now.allocs ≢ []) }
     {
         match self.node(node) {
             None => Ok(Some(Refusal::UnknownNode)),

@@ -1,5 +1,6 @@
 //! Rows of jobs that are made and stopped.
-ghost use Rattle.std.specs.Prelude.{◌≡◌, OnOk, IfOk, None, false, true};
+ghost use Rattle.std.specs.Prelude.{◌≡◌, ◌≢◌, OnOk, OnErr, IfOk, None, false, true};
+ghost use Rattle.cluster_model.specs.Words.{job_of};
 ghost use Rattle.cluster_model.specs.Effect.{with_job, job_row, stopped_row};
 ghost use Rattle.fsm_state.specs.Inner.Steps.{job_changed};
 
@@ -44,8 +45,9 @@ impl Cluster {
 
     /// Stops a job.
     pub(super) fn end_job(&mut self, name: &JobName) -> Result<(), NoMemory>
-        ensures { let stops = stopped_row self.old.count in
+        ensures ok { let stops = stopped_row self.old.count in
             OnOk result (self.new ≡ job_changed stops name.now self.old) }
+        ensures memory { OnErr result (job_of name.now self.old ≢ None) }
     {
         match self.job(name) {
             Some(job) => {

@@ -1,5 +1,5 @@
 //! Allocations that are lost with their node, and their jobs.
-ghost use Rattle.std.specs.Prelude.{◌≡◌, OnOk, IfOk, filter};
+ghost use Rattle.std.specs.Prelude.{◌≡◌, ◌≢◌, [], OnOk, MatchResult, filter};
 ghost use Rattle.fsm_tables.specs.Lookups.{lives_on};
 ghost use Rattle.cluster_model.specs.Effect.{lost_row};
 ghost use Rattle.fsm_state.specs.Inner.Steps.{all_lost, owners, HasNames};
@@ -23,7 +23,7 @@ impl Cluster {
     /// so much again for each of them.
     pub(crate) fn jobs_on(&self, node: NodeId) -> Result<BTreeSet<JobName>, NoMemory>
         ensures { let rows = filter (lives_on node) self.now.allocs in
-            IfOk result (HasNames (owners rows)) }
+            MatchResult result (HasNames (owners rows)) (λ _. rows ≢ []) }
     {
         let rows = self.live_on(node)?;
         let mut names = BTreeSet::new(self.memory());

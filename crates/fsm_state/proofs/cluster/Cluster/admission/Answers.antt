@@ -4,5 +4,5 @@ use Rattle.rows.specs.declared.refusal.Refusal.{Refusal}
 use Rattle.cluster_model.specs.Admission.{admission}
 use Rattle.fsm_state.proofs.cluster.Cluster.admission.Goals as goal
 
-pub returns-in-Report : goal.returns-in-Report
-returns-in-Report c = subst (λ (w : Option Refusal). IfOk c.report_refusal.result (λ r. r ≡ w)) (ap (admission c.args.self.now) (sym c.in-Report.is)) c.report_refusal.ensures
+pub returns-in-Report-clause-ok : goal.returns-in-Report-clause-ok
+returns-in-Report-clause-ok c = subst (λ (w : Option Refusal). IfOk c.report_refusal.result (λ r. r ≡ w)) (ap (admission c.args.self.now) (sym c.in-Report.is)) c.report_refusal.ensures

@@ -5,8 +5,8 @@ use Rattle.fsm_state.proofs.Touching.{touched_found}
 use Rattle.fsm_state.proofs.Turns.{turned}
 use Rattle.fsm_state.proofs.cluster.Cluster.touch.Goals as goal
 
-pub returns-in-Some : goal.returns-in-Some
-returns-in-Some c =
+pub returns-in-Some-clause-ok : goal.returns-in-Some-clause-ok
+returns-in-Some-clause-ok c =
     let s = c.args.self.now in
     let name = c.args.name.now in
     let job = c.in-Some.job.now in
@@ -14,7 +14,7 @@ returns-in-Some c =
     (λ i. put_eval (c.evaluation-eval.ensures i) s)
     ∙ (λ i. put_eval (new_eval (c.requires i) 0 job) s)
     ∙ touched_found name (Some job) s c.ranges-2.ensures.tables.jobs.rising (sym c.in-Some.ensures) in
-    turned c.put_eval.result c.put_eval.new.self _ _ e c.put_eval.ensures
+    turned c.put_eval.result c.put_eval.new.self _ _ e c.put_eval.ensures.ok
 
-pub returns-in-None : goal.returns-in-None
-returns-in-None c = touched_found c.args.name.now None c.args.self.now c.ranges-2.ensures.tables.jobs.rising (sym c.in-None.ensures)
+pub returns-in-None-clause-ok : goal.returns-in-None-clause-ok
+returns-in-None-clause-ok c = touched_found c.args.name.now None c.args.self.now c.ranges-2.ensures.tables.jobs.rising (sym c.in-None.ensures)
