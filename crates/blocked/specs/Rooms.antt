@@ -1,10 +1,11 @@
 -- What is kept: blocked evaluations in rising id, and the room of classes in rising class; and what
 -- that is.
-use Rattle.std.specs.Prelude.{ℕ, Option, Some, None, List}
+use Rattle.std.specs.Prelude.{ℕ, Bool, bytes_eq, Option, Some, None, List}
+use Rattle.std.specs.List.{list_any}
 use Rattle.rows.specs.declared.node.Node.{Node}
 use Rattle.rows.specs.Keys.{name_cmp}
 use Rattle.fsm_tables.specs.Rows.{row_of}
-use Rattle.group_model.specs.Blocked.{BlockedEval, BlockedEvals, room_over}
+use Rattle.group_model.specs.Blocked.{BlockedEval, BlockedEvals, is_due_by, room_over}
 use Rattle.blocked.specs.declared.rooms.ClassRoom.{ClassRoom}
 
 abbrev pub room_class : ClassRoom → List ℕ
@@ -28,3 +29,11 @@ blocked_of b = record { evals = b.evals; room = room_in b.rooms }
 -- the same evaluations, with the room of these nodes
 abbrev pub with_room_of : List Node → BlockedEvals → BlockedEvals
 with_room_of nodes b = record b { room = room_over nodes }
+
+-- an evaluation of the job
+abbrev pub is_of_job : List ℕ → BlockedEval → Bool
+is_of_job job b = bytes_eq b.row.job job
+
+-- some evaluation is due
+abbrev pub some_due : BlockedEvals → Bool
+some_due b = list_any (is_due_by b.room) b.evals

@@ -1,11 +1,14 @@
-ghost use Rattle.std.specs.Prelude.{◌≡◌, [], true, OnOk, OnErr, IfOk, filter, map};
+ghost use Rattle.std.specs.Prelude.{◌≡◌, ◌≤◌, ◌⊎◌, [], true, false, OnOk, OnErr, IfOk, filter, length, map, T as Holds};
+ghost use Rattle.std.specs.List.{list_any};
+ghost use Rattle.rows.specs.Keys.{eval_cmp};
+ghost use Rattle.fsm_tables.specs.Rows.{has_row};
+ghost use Rattle.fsm_tables.specs.ReservedTables.{has_space};
 ghost use Rattle.cluster_model.specs.Words.{is_blocked};
 ghost use Rattle.group_model.specs.Order.{in_order};
 ghost use Rattle.group_model.specs.Blocked.{BlockedEval as AnyBlockedEval, blocked_id, due, made_due};
 ghost use Rattle.group_model.specs.Blocked.{with_blocked, without_blocked, with_class_room};
 ghost use Rattle.group_model.specs.Blocked.{blocked_over, blocked_with_eval, blocked_with_job};
-ghost use Rattle.blocked.specs.Rooms.{blocked_of, with_room_of};
-ghost use Rattle.blocked.specs.Inner.Anew.{is_of};
+ghost use Rattle.blocked.specs.Rooms.{blocked_of, is_of_job, some_due, with_room_of};
 
 use crate::due::{due_now, due_then};
 use crate::held::BlockedEval;
@@ -50,7 +53,10 @@ impl Blocked {
 
     /// The blocked evaluations of a state, and the room of its nodes.
     pub fn rebuild(alloc: Global, state: &Cluster) -> Result<Blocked, NoMemory>
-        ensures { IfOk result (λ b. blocked_of b ≡ blocked_over state.now) }
+        ensures ok { IfOk result (λ b. blocked_of b ≡ blocked_over state.now) }
+        ensures memory { let blocked = λ (e : Evaluation). is_blocked e.status in
+            OnErr result (
+            (list_any blocked state.now.evals ≡ true) ⊎ (1 ≤ length state.now.nodes)) }
     {
         let evals = evals_of(alloc, state)?;
         let rooms = rooms_of(alloc, state.node_table())?;
@@ -58,16 +64,17 @@ impl Blocked {
     }
 
     /// An evaluation is blocked, at a job that asks for these classes; it takes the place of one of
-    /// its id. It is due at once where a node of one of them got room past its snapshot. Without
-    /// memory nothing changes.
+    /// its id, which takes no memory. It is due at once where a node of one of them got room past
+    /// its snapshot. Without memory nothing changes.
     pub fn put(&mut self, row: Evaluation, classes: Sequence<ClassName>) -> Result<(), NoMemory>
         ensures ok { OnOk result
             (blocked_of self.new ≡ with_blocked row classes (blocked_of self.old)) }
         ensures err { OnErr result (self.new ≡ self.old) }
+        ensures memory { OnErr result (has_row eval_cmp blocked_id row.id self.old.evals ≡ false) }
     {
-        let count = self.evals.rows().len() + 1;
-        self.evals.make_room(count)?;
-        self.evals.put(BlockedEval { row, classes });
+        let held = BlockedEval { row, classes };
+        make_space(&mut self.evals, &held)?;
+        self.evals.put(held);
         Ok(())
     }
 
@@ -95,11 +102,12 @@ impl Blocked {
     }
 
     /// A job's row was made or replaced: its blocked evaluations are put anew, with the classes
-    /// that its groups ask for. Without memory some may be, so that the value is only to be
-    /// dropped.
+    /// that its groups ask for; where there are none it takes no memory. Without memory some may
+    /// be, so that the value is only to be dropped.
     pub fn put_job(&mut self, alloc: Global, job: &Job) -> Result<(), NoMemory>
-        ensures { OnOk result
+        ensures ok { OnOk result
             (blocked_of self.new ≡ blocked_with_job job.now (blocked_of self.old)) }
+        ensures memory { OnErr result (list_any (is_of_job job.now.name) self.old.evals ≡ true) }
     {
         let rows = rows_of_job(alloc, self.evals.rows(), &job.name)?;
         for row in rows.as_slice() {
@@ -137,26 +145,43 @@ impl Blocked {
     }
 
     /// The room of these nodes takes the place of what was noted before; it takes time of the
-    /// nodes alone. Without memory nothing changes.
+    /// nodes alone, and no memory without nodes. Without memory nothing changes.
     pub fn renew_rooms(&mut self, alloc: Global, nodes: &Table<Node>) -> Result<(), NoMemory>
         ensures ok { OnOk result
             (blocked_of self.new ≡ with_room_of nodes.now (blocked_of self.old)) }
         ensures err { OnErr result (self.new ≡ self.old) }
+        ensures memory { OnErr result (1 ≤ length nodes.now) }
     {
         self.rooms = rooms_of(alloc, nodes)?;
         Ok(())
     }
 
-    /// The ids of the evaluations that are due, higher priority first and then lower id.
+    /// The ids of the evaluations that are due, higher priority first and then lower id; none take
+    /// no memory.
     pub fn due(&self, alloc: Global) -> Result<Sequence<EvalId>, NoMemory>
-        ensures { let priority = λ (b : AnyBlockedEval). b.row.priority in
+        ensures ok { let priority = λ (b : AnyBlockedEval). b.row.priority in
             let all = in_order priority (due (blocked_of self.now)) in
             IfOk result (λ ids. ids ≡ map blocked_id all) }
+        ensures memory { OnErr result (some_due (blocked_of self.now) ≡ true) }
     {
         let urgencies = due_now(alloc, &self.rooms, self.evals.rows())?;
         let ids = in_order(alloc, urgencies.as_slice())?;
         Ok(ids)
     }
+}
+
+/// Makes room for a blocked evaluation, unless one of its id is held. Without memory no row changes.
+fn make_space(evals: &mut ReservedTable<BlockedEval>, held: &BlockedEval) -> Result<(), NoMemory>
+    ensures rows { evals.new.rows ≡ evals.old.rows }
+    ensures ok { OnOk result (Holds (has_space eval_cmp blocked_id held.now evals.new)) }
+    ensures memory { OnErr result
+        (has_row eval_cmp blocked_id held.now.row.id evals.old.rows ≡ false) }
+{
+    if evals.get(&held.row.id).is_some() {
+        return Ok(());
+    }
+    let count = evals.rows().len() + 1;
+    evals.make_room(count)
 }
 
 /// The rows of those that are of a job, in rising id.
@@ -165,7 +190,8 @@ fn rows_of_job(
     evals: &[BlockedEval],
     job: &JobName,
 ) -> Result<Sequence<Evaluation>, NoMemory>
-    ensures { IfOk result (λ rows. rows ≡ map (λ b. b.row) (filter (is_of job.now) evals.now)) }
+    ensures ok { IfOk result (λ rows. rows ≡ map (λ b. b.row) (filter (is_of_job job.now) evals.now)) }
+    ensures memory { OnErr result (list_any (is_of_job job.now) evals.now ≡ true) }
 {
     let mut rows = Sequence::new(alloc);
     for held in evals {

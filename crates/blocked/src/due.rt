@@ -1,5 +1,5 @@
 //! Which blocked evaluations are due.
-ghost use Rattle.std.specs.Prelude.{◌≡◌, nat_lt, IfOk, filter, map};
+ghost use Rattle.std.specs.Prelude.{◌≡◌, true, nat_lt, IfOk, OnErr, filter, map};
 ghost use Rattle.std.specs.List.{list_any};
 ghost use Rattle.group_model.specs.Blocked.{is_due_by, room_with};
 ghost use Rattle.blocked.specs.Rooms.{room_in};
@@ -70,8 +70,9 @@ pub(crate) fn due_now(
     rooms: &Rooms,
     evals: &[BlockedEval],
 ) -> Result<Sequence<Urgency>, NoMemory>
-    ensures { let those = filter (is_due_by (room_in rooms.now)) evals.now in
+    ensures ok { let those = filter (is_due_by (room_in rooms.now)) evals.now in
         IfOk result (λ us. us ≡ map urgency_of those) }
+    ensures memory { OnErr result (list_any (is_due_by (room_in rooms.now)) evals.now ≡ true) }
 {
     let mut urgencies = Sequence::new(alloc);
     for held in evals {

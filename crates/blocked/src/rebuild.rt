@@ -1,5 +1,6 @@
 //! The blocked evaluations of a whole state.
-ghost use Rattle.std.specs.Prelude.{◌≡◌, IfOk, filter, map};
+ghost use Rattle.std.specs.Prelude.{◌≡◌, ◌≤◌, true, IfOk, OnErr, filter, length, map};
+ghost use Rattle.std.specs.List.{list_any};
 ghost use Rattle.cluster_model.specs.Words.{is_blocked};
 ghost use Rattle.group_model.specs.Blocked.{blocked_eval, room_over};
 ghost use Rattle.blocked.specs.Rooms.{room_in};
@@ -52,8 +53,9 @@ pub(crate) fn evals_of(
     alloc: Global,
     state: &Cluster,
 ) -> Result<ReservedTable<BlockedEval>, NoMemory>
-    ensures { let blocked = filter (λ e. is_blocked e.status) state.now.evals in
+    ensures ok { let blocked = filter (λ e. is_blocked e.status) state.now.evals in
         IfOk result (λ evals. evals.rows ≡ map (blocked_eval state.now) blocked) }
+    ensures memory { OnErr result (list_any (λ e. is_blocked e.status) state.now.evals ≡ true) }
 {
     let table = state.eval_table();
     table.ranges();
@@ -72,7 +74,8 @@ pub(crate) fn evals_of(
 
 /// The room that nodes of a class got last.
 pub(crate) fn rooms_of(alloc: Global, nodes: &Table<Node>) -> Result<Rooms, NoMemory>
-    ensures { IfOk result (λ rooms. room_in rooms ≡ room_over nodes.now) }
+    ensures ok { IfOk result (λ rooms. room_in rooms ≡ room_over nodes.now) }
+    ensures memory { OnErr result (1 ≤ length nodes.now) }
 {
     let mut rooms = Rooms::none(alloc);
     let mut at = nodes.len();

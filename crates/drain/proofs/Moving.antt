@@ -1,21 +1,26 @@
 -- The moves without force, one after the other.
-use Rattle.std.proofs.Common.{◌≡◌, ℕ, zero, suc, ◌-◌, ◌+◌, ◌<◌, Bool, true, false, not, cond, ◌&&◌, ◌||◌, List, [], ◌∷◌, ◌++◌, length, get_or, map, filter, take, drop, bytes_eq, T, refl, sym, ap, subst, ◌∙◌, arith}
+use Rattle.std.proofs.Common.{◌≡◌, ℕ, zero, suc, ◌-◌, ◌+◌, ◌<◌, Bool, true, false, not, cond, ◌&&◌, ◌||◌, List, [], ◌∷◌, ◌++◌, length, get_or, map, filter, take, drop, bytes_eq, Some, Ok, Err, T, refl, sym, ap, subst, ◌∙◌, arith}
 use Rattle.std.proofs.lemmas.List.{append_assoc, append-nil, length_push, at_drop_more}
 use Rattle.std.proofs.lemmas.Map.Text.{is_eq-slice_cmp}
 use Rattle.std.specs.Cmp.Lexicographic.{nat_list_cmp_total}
 use Rattle.std.specs.declared.cmp.Ordering.TheVariants.{Equal}
-use Rattle.std.specs.Ordering.{is_eq}
-use Rattle.rows.specs.Keys.{name_cmp}
+use Rattle.std.specs.Ordering.{nat_cmp, is_eq}
+use Rattle.std.specs.Cmp.{nat_cmp_total}
+use Rattle.std.specs.List.{list_any}
+use Rattle.std.specs.Prelude.{Result, IfErr}
+use Rattle.rows.specs.declared.node.Node.{Node}
+use Rattle.rows.specs.Keys.{name_cmp, node_number}
 use Rattle.fsm_tables.proofs.RowLaws.{equal}
+use Rattle.fsm_tables.proofs.ReservedTables.{found_tied}
 use Rattle.rows.specs.declared.allocation.AllocId.{AllocId}
 use Rattle.rows.specs.declared.allocation.Allocation.{Allocation}
 use Rattle.rows.specs.declared.node.DrainMode.TheVariants as drains
 use Rattle.fsm_tables.specs.Rows.{put}
 use Rattle.fsm_tables.specs.Claims.{is_live}
 use Rattle.fsm_tables.specs.Lookups.{lives_on}
-use Rattle.cluster_model.specs.Words.{State}
+use Rattle.cluster_model.specs.Words.{State, node_of}
 use Rattle.cluster_model.proofs.Lists.{anys_same, filter_both}
-use Rattle.group_model.specs.Drains.{same_group, group_moves, firsts, movers}
+use Rattle.group_model.specs.Drains.{is_done, same_group, group_moves, firsts, movers, moves_of}
 use Rattle.drain.specs.declared.group.JobGroup.{JobGroup}
 use Rattle.drain.specs.Inner.Groups.{group_of, job_group_cmp, itself, is_met, firsts_but, stays}
 use Rattle.drain.proofs.Groups.{met_more, firsts_are, firsts_kept}
@@ -52,6 +57,31 @@ one_by_one_is n s = sym (firsts_kept (stays s) (alike_moves s) (filter (lives_on
 
 pub forced_is : (n : ℕ) (s : State) → filter (λ (a : Allocation). not a.migrate) (filter (lives_on n) s.allocs) ≡ movers drains.Force n s.allocs
 forced_is n s = filter_both (lives_on n) (λ (a : Allocation). not a.migrate) s.allocs
+
+-- a node on which nothing lives has none
+none_live : (p q : Allocation → Bool) (rows : List Allocation) → not (list_any p rows) ≡ true → filter (λ a. p a && q a) rows ≡ []
+none_live p q [] e = refl
+none_live p q (a ∷ rows) e = by (p a) (q a) e (none_live p q rows) where
+  by : (b c : Bool) → not (b || list_any p rows) ≡ true → (not (list_any p rows) ≡ true → filter (λ x. p x && q x) rows ≡ []) → cond (b && c) (a ∷ filter (λ x. p x && q x) rows) (filter (λ x. p x && q x) rows) ≡ []
+  by true c e rest = absurd cc
+  by false c e rest = rest e
+
+pub none_forced : (n : ℕ) (s : State) → is_done n s ≡ true → moves_of drains.Force n s ≡ []
+none_forced n s e = ap (λ rows. take 64 (map (λ (a : Allocation). a.id) rows)) (none_live (lives_on n) (λ (a : Allocation). not a.migrate) s.allocs e)
+
+pub none_by_one : (n : ℕ) (s : State) → is_done n s ≡ true → moves_of drains.Slow n s ≡ []
+none_by_one n s e = ap (λ rows. take 64 (map (λ (a : Allocation). a.id) (firsts [] rows))) (none_live (lives_on n) (stays s) s.allocs e)
+
+-- a node that is found has the number
+pub own_number : (n : ℕ) (r : Node) (s : State) → node_of n s ≡ Some r → r.number ≡ n
+own_number n r s e = by n r.number (found_tied nat_cmp node_number nat_cmp_total n s.nodes r e) where
+  by : (x y : ℕ) → nat_cmp x y ≡ Equal → y ≡ x
+  by x y e = grind arith
+
+-- what is so of each error is so of the one that there may be
+pub any_err : {T E : Type 0} (r : Result T E) (P : E → Type 0) → ((e : E) → P e) → IfErr r P
+any_err (Ok x) P all = tt
+any_err (Err e) P all = all e
 
 -- ---- one row after the other
 

@@ -1,4 +1,4 @@
-ghost use Rattle.std.specs.Prelude.{◌≡◌, ◌⊎◌, [], true, Ok, Err, is_ok, IfOk, IfErr, filter, map, not, take};
+ghost use Rattle.std.specs.Prelude.{◌≡◌, ◌⊎◌, [], true, false, Ok, Err, is_ok, IfOk, IfErr, OnErr, filter, map, not, take};
 ghost use Rattle.rows.specs.declared.refusal.Refusal.TheVariants as refusals;
 ghost use Rattle.rows.specs.declared.node.DrainMode.TheVariants as drains;
 ghost use Rattle.group_model.specs.Drains.{is_done, next_moves, moves_of};
@@ -43,10 +43,15 @@ fn resting(alloc: Global, rows: &[Allocation]) -> Result<Sequence<AllocId>, NoMe
     Ok(ids)
 }
 
-/// The moves by force: all that is not on the move.
+/// The moves by force: all that is not on the move. A node without live allocations takes no
+/// memory.
 fn forced(alloc: Global, state: &Cluster, node: NodeId) -> Result<Sequence<AllocId>, NoMemory>
-    ensures { IfOk result (λ ids. ids ≡ moves_of drains.Force node state.now) }
+    ensures ok { IfOk result (λ ids. ids ≡ moves_of drains.Force node state.now) }
+    ensures memory { OnErr result (is_done node state.now ≡ false) }
 {
+    if is_done(state, node) {
+        return Ok(Sequence::new(alloc));
+    }
     let rows = state.live_on(node)?;
     let ids = resting(alloc, rows.as_slice())?;
     Ok(ids)
@@ -80,10 +85,15 @@ fn first_of_groups(
     Ok(ids)
 }
 
-/// The moves without force: one of each job and group of which none is on the move.
+/// The moves without force: one of each job and group of which none is on the move. A node without
+/// live allocations takes no memory.
 fn one_by_one(alloc: Global, state: &Cluster, node: NodeId) -> Result<Sequence<AllocId>, NoMemory>
-    ensures { IfOk result (λ ids. ids ≡ moves_of drains.Slow node state.now) }
+    ensures ok { IfOk result (λ ids. ids ≡ moves_of drains.Slow node state.now) }
+    ensures memory { OnErr result (is_done node state.now ≡ false) }
 {
+    if is_done(state, node) {
+        return Ok(Sequence::new(alloc));
+    }
     let rows = state.live_on(node)?;
     let ids = first_of_groups(alloc, state, rows.as_slice())?;
     Ok(ids)
@@ -92,9 +102,9 @@ fn one_by_one(alloc: Global, state: &Cluster, node: NodeId) -> Result<Sequence<A
 /// The next moves off a node that is drained, at most 64, in rising id: with force its live
 /// allocations that are not on the move; without force, of each job and group of which no live
 /// allocation is on the move on any node, the one of the least id. `UnknownNode` where there is no
-/// such node, `NotDraining` where it is not drained, and `NoMemory` only where neither applies. It
-/// takes time of the node's live allocations and of those of their jobs. (Nomad documentation,
-/// "node drain" command.)
+/// such node, `NotDraining` where it is not drained, and `NoMemory` only where neither applies and
+/// an allocation lives on the node. It takes time of the node's live allocations and of those of
+/// their jobs. (Nomad documentation, "node drain" command.)
 pub fn next_moves(
     alloc: Global,
     state: &Cluster,
@@ -105,6 +115,7 @@ pub fn next_moves(
         IfErr result (λ e. (e ≡ refusals.NoMemory) ⊎ (moves ≡ Err e)) }
     ensures memory { let moves = next_moves state.now node in
         IfErr result (λ e. e ≡ refusals.NoMemory → is_ok moves ≡ true) }
+    ensures lives { IfErr result (λ e. e ≡ refusals.NoMemory → is_done node state.now ≡ false) }
 {
     let Some(row) = state.node(node) else {
         return Err(Refusal::UnknownNode);

@@ -1,8 +1,10 @@
-ghost use Rattle.std.specs.Prelude.{◌≡◌, [], true, Some, None, Ok, Err, option_map};
+ghost use Rattle.std.specs.Prelude.{◌≡◌, ◌≤◌, [], true, Some, None, Ok, Err, length, option_map, T as Holds};
 ghost use Rattle.std.specs.Prelude.{OnOk, OnErr, IfOk, IfErr};
 ghost use Rattle.rows.specs.declared.refusal.Refusal.TheVariants as refusals;
+ghost use Rattle.std.specs.Ordering.{nat_cmp};
+ghost use Rattle.fsm_tables.specs.ReservedTables.{has_space};
 ghost use Rattle.cluster_model.specs.Words.{is_ready};
-ghost use Rattle.group_model.specs.Expiry.{beat_count_of, beat_counts_over, beat_counts_with};
+ghost use Rattle.group_model.specs.Expiry.{count_node, beat_count_of, beat_counts_over, beat_counts_with};
 ghost use Rattle.group_model.specs.BeatCounts.{beat_heard, expiry_refusal};
 ghost use Rattle.expiry.specs.Errors.{refusal_of};
 
@@ -44,10 +46,14 @@ fn is_ready(row: &Node) -> bool
 
 /// The ready ones of the nodes, none of which was heard of yet.
 fn counts_over(alloc: Global, nodes: &Table<Node>) -> Result<ReservedTable<BeatCount>, NoMemory>
-    ensures { IfOk result (λ counts. counts.rows ≡ beat_counts_over nodes.now []) }
+    ensures ok { IfOk result (λ counts. counts.rows ≡ beat_counts_over nodes.now []) }
+    ensures memory { OnErr result (1 ≤ length nodes.now) }
 {
     nodes.ranges();
     let mut counts = ReservedTable::empty(alloc);
+    if nodes.len() == 0 {
+        return Ok(counts);
+    }
     counts.make_room(nodes.len())?;
     let mut at = nodes.len();
     while at > 0 {
@@ -65,6 +71,19 @@ fn counts_over(alloc: Global, nodes: &Table<Node>) -> Result<ReservedTable<BeatC
     Ok(counts)
 }
 
+/// Makes room for a count, unless one of its node is held. Without memory no row changes.
+fn make_space(counts: &mut ReservedTable<BeatCount>, count: &BeatCount) -> Result<(), NoMemory>
+    ensures rows { counts.new.rows ≡ counts.old.rows }
+    ensures ok { OnOk result (Holds (has_space nat_cmp count_node count.now counts.new)) }
+    ensures memory { OnErr result (beat_count_of count.now.node counts.old.rows ≡ None) }
+{
+    if counts.get(&count.node).is_some() {
+        return Ok(());
+    }
+    let most = counts.rows().len() + 1;
+    counts.make_room(most)
+}
+
 impl Expiry {
     /// No nodes. It takes no memory.
     pub fn new(alloc: Global) -> Expiry
@@ -75,9 +94,11 @@ impl Expiry {
         }
     }
 
-    /// The ready nodes of a state, none of which was heard of yet.
+    /// The ready nodes of a state, none of which was heard of yet. A state without nodes takes no
+    /// memory.
     pub fn rebuild(alloc: Global, state: &Cluster) -> Result<Expiry, NoMemory>
-        ensures { IfOk result (λ e. e ≡ beat_counts_over state.now.nodes []) }
+        ensures ok { IfOk result (λ e. e ≡ beat_counts_over state.now.nodes []) }
+        ensures memory { OnErr result (1 ≤ length state.now.nodes) }
     {
         let counts = counts_over(alloc, state.node_table())?;
         Ok(Expiry { counts })
@@ -94,24 +115,25 @@ impl Expiry {
     }
 
     /// A node's row was made or replaced: a ready node that is not held comes in with 0, one that
-    /// is held keeps its number, and one that is down goes. Without memory nothing changes; a node
-    /// that goes takes none.
+    /// is held keeps its number, and one that is down goes. Only a node that comes in takes memory;
+    /// without it nothing changes.
     pub fn changed(&mut self, row: &Node) -> Result<(), NoMemory>
         ensures ok { OnOk result (self.new ≡ beat_counts_with row.now self.old) }
         ensures err { OnErr result (self.new ≡ self.old) }
-        ensures memory { OnErr result (is_ready row.now.status ≡ true) }
+        ensures memory { let old = beat_count_of row.now.number self.old in
+            OnErr result ((is_ready row.now.status ≡ true) × (old ≡ None)) }
     {
         if !is_ready(row) {
             self.counts.cut(&row.number);
             return Ok(());
         }
         let beats = self.beats(row.number).unwrap_or(Index::ZERO);
-        let count = self.counts.rows().len() + 1;
-        self.counts.make_room(count)?;
-        self.counts.put(BeatCount {
+        let count = BeatCount {
             node: row.number,
             beats,
-        });
+        };
+        make_space(&mut self.counts, &count)?;
+        self.counts.put(count);
         Ok(())
     }
 

@@ -1,10 +1,7 @@
 -- Evaluations of a job, put anew.
-use Rattle.std.specs.Prelude.{ℕ, Bool, bytes_eq, List, [], ◌∷◌}
+use Rattle.std.specs.Prelude.{ℕ, List, [], ◌∷◌}
 use Rattle.rows.specs.declared.evaluation.Evaluation.{Evaluation}
-use Rattle.group_model.specs.Blocked.{BlockedEval, BlockedEvals, with_blocked}
-
-abbrev pub is_of : List ℕ → BlockedEval → Bool
-is_of job b = bytes_eq b.row.job job
+use Rattle.group_model.specs.Blocked.{BlockedEvals, with_blocked}
 
 -- one after the other, all with these classes
 abbrev pub with_all : List (List ℕ) → List Evaluation → BlockedEvals → BlockedEvals

@@ -8,6 +8,7 @@ use Rattle.cluster_model.specs.Words.{is_blocked}
 use Rattle.group_model.specs.Blocked.{blocked_id, blocked_eval}
 use Rattle.group_model.proofs.KeptRows.{rising_kept}
 use Rattle.blocked.proofs.RowByRow.{held_of, eval_more}
+use Rattle.blocked.proofs.Wanting.{on_err, passes_at}
 use Rattle.blocked.proofs.rebuild.evals_of.Goals as goal
 
 pub loop-place-preserved-then-not-is_blocked : goal.loop-place-preserved-then-not-is_blocked
@@ -40,3 +41,15 @@ of_rising-requires c =
     let rising = subst (λ es. T (is_rising eval_cmp eval_id es)) c.eval_table-table.ensures.rows c.ranges-2.ensures.rising in
     subst (λ zs. T (is_rising eval_cmp blocked_id zs)) (sym items)
     (rising_kept eval_cmp eval_id blocked_id (blocked_eval s) (λ x. refl) (λ (e : Evaluation). is_blocked e.status) s.evals rising)
+
+pub returns-in_err-held_of-clause-memory : goal.returns-in_err-held_of-clause-memory
+returns-in_err-held_of-clause-memory c =
+    let at = c.loop-place.place in
+    let here = c.in-Some.ensures ∙ ap (λ es. slice_get es at) c.eval_table-table.ensures.rows in
+    on_err c.from_residual.result (passes_at (λ (e : Evaluation). is_blocked e.status) c.args.state.now.evals at c.in-Some.row.now here (sym c.if-not-is_blocked.ensures))
+
+pub returns-in_err-push-clause-memory : goal.returns-in_err-push-clause-memory
+returns-in_err-push-clause-memory c =
+    let at = c.loop-place.place in
+    let here = c.in-Some.ensures ∙ ap (λ es. slice_get es at) c.eval_table-table.ensures.rows in
+    on_err c.from_residual-in_err-push.result (passes_at (λ (e : Evaluation). is_blocked e.status) c.args.state.now.evals at c.in-Some.row.now here (sym c.if-not-is_blocked.ensures))

@@ -17,7 +17,7 @@ returns-clause-ids c =
     let in_turn = λ (us : List Urgency). map (λ (u : Urgency). u.id) (in_order (λ (u : Urgency). u.priority.0) us) in
     let all = λ (es : List BlockedEval). map blocked_id (in_order (λ (e : BlockedEval). e.row.priority) es) in
     let those = filter (becomes_due_by class index room) in
-    c.in_ok-ids.ensures
+    c.in_ok-ids.ensures.ok
     ∙ ap in_turn (c.as_slice.ensures ∙ c.in_ok-urgencies.ensures ∙ ap (λ (es : List BlockedEval). map urgency_of (those es)) c.rows.ensures.rows)
     ∙ ids_in_order (those evals)
     ∙ ap all (sym (filter_both (λ (e : BlockedEval). not (is_due_by room e)) (is_due_by (room_with class index room)) evals))

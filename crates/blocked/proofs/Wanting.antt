@@ -1,0 +1,25 @@
+-- Where memory is wanting, there is one that wants it.
+use Rattle.std.proofs.Common.{◌≡◌, ℕ, ◌≤◌, Bool, true, false, ◌||◌, cond, length, List, [], ◌∷◌, map, filter, Some, Ok, Err, refl, sym, ap, ◌∙◌, arith}
+use Rattle.std.specs.Prelude.{Result, OnErr}
+use Rattle.std.specs.List.{list_any, slice_get}
+use Rattle.std.proofs.lemmas.List.Folds.{list_any_at}
+use Rattle.std.proofs.lemmas.Option.{slice_get_within, get_or_from_slice_get}
+
+-- what is so in any case is so where there is an error
+pub on_err : {T E P : Type 0} (r : Result T E) → P → OnErr r P
+on_err (Ok x) p = tt
+on_err (Err e) p = p
+
+-- one that stands in a list and passes
+pub passes_at : {X : Type 0} (p : X → Bool) (xs : List X) (i : ℕ) (x : X) → Some x ≡ slice_get xs i → p x ≡ true → list_any p xs ≡ true
+passes_at p xs i x e pass =
+    let there = sym e in
+    list_any_at p xs i x (slice_get_within xs i x there) (ap p (get_or_from_slice_get xs i x x there) ∙ pass)
+
+-- one of those of which something was made
+pub some_pass : {X Y : Type 0} (p : X → Bool) (f : X → Y) (xs : List X) → 1 ≤ length (map f (filter p xs)) → list_any p xs ≡ true
+some_pass p f [] h = absurd (omega (arith, h))
+some_pass p f (x ∷ xs) h = by (p x) h (some_pass p f xs) where
+  by : (b : Bool) → 1 ≤ length (map f (cond b (x ∷ filter p xs) (filter p xs))) → (1 ≤ length (map f (filter p xs)) → list_any p xs ≡ true) → (b || list_any p xs) ≡ true
+  by true h rest = refl
+  by false h rest = rest h
