@@ -118,15 +118,6 @@ module _ (ts : List Task) (t new : Task) (rising : T (is_rising eval_cmp task_id
   has_room l room = subst (λ (n : ℕ). HaveRoom n l) (sym (as_many new ts t rising there)) room
 
 -- one that comes in
-pub new_space : (new : Task) (ts : List Task) (room : ℕ) → length ts + 1 ≤ room → T (has_row eval_cmp task_id new.id ts || nat_lt (length ts) room)
-new_space new ts room le = either (has_row eval_cmp task_id new.id ts) (nat_lt (length ts) room) (below (length ts) room le) where
-  either : (a b : Bool) → T b → T (a || b)
-  either true b h = tt
-  either false b h = h
-
-  below : (n m : ℕ) → n + 1 ≤ m → T (nat_lt n m)
-  below n m le = grind arith
-
 pub new_room : (new : Task) (ts : List Task) (l : Lists) → T (is_rising eval_cmp task_id ts) → HaveRoom (length ts + 1) l → HaveRoom (length (put eval_cmp task_id new ts)) l
 new_room new ts l rising room = room_kept (length ts + 1) (length (put eval_cmp task_id new ts)) l l l (one_more new ts rising) room (no_loss l) (no_loss l)
 

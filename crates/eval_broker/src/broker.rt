@@ -1,5 +1,5 @@
 //! The broker.
-ghost use Rattle.std.specs.Prelude.{◌≡◌, ◌+◌, ◌<◌, ◌^◌, true, false, nat_lt, IfOk, IfErr, IfSome, IfNone, OnOk, OnErr, Ok};
+ghost use Rattle.std.specs.Prelude.{◌≡◌, ◌+◌, ◌<◌, ◌^◌, None, true, false, nat_lt, IfOk, IfErr, IfSome, IfNone, OnOk, OnErr, Ok};
 ghost use Rattle.raft_model.specs.Logs.{MAX};
 ghost use Rattle.cluster_model.specs.Words.{is_pending};
 ghost use Rattle.group_model.specs.Brokers.{Nothing, UsedUp, Gives, no_tasks, task_of, broker_over, broker_with, deliver};
@@ -59,20 +59,28 @@ impl Broker {
     }
 
     /// Follows a row of the applied state that was made or replaced: one that is pending comes in,
-    /// or stays with its deliveries and its mark; any other goes, which takes no memory. Without
-    /// memory nothing changes.
+    /// or stays with its deliveries and its mark; any other goes. Only one that comes in takes
+    /// memory; without it nothing changes.
     pub fn changed(&mut self, row: &Evaluation) -> Result<(), NoMemory>
         ensures ok { OnOk result (self.new ≡ broker_with row.now self.old) }
         ensures err { OnErr result (self.new ≡ self.old) }
-        ensures memory { OnErr result (is_pending row.now.status ≡ true) }
+        ensures memory { let old = task_of row.now.id self.old.tasks in
+            OnErr result ((is_pending row.now.status ≡ true) × (old ≡ None)) }
     {
-        match row.status {
-            EvalStatus::Pending => {
-                let task = Task::carried(row, self.tasks.get(&row.id));
+        let EvalStatus::Pending = row.status else {
+            self.tasks.cut(&row.id);
+            return Ok(());
+        };
+        match self.tasks.get(&row.id) {
+            Some(old) => {
+                let task = Task::carried(row, old);
+                self.tasks.put(task);
+            }
+            None => {
+                let task = Task::of(row);
                 self.tasks.make_room(&task)?;
                 self.tasks.put(task);
             }
-            _ => self.tasks.cut(&row.id),
         }
         Ok(())
     }

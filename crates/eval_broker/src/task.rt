@@ -1,5 +1,5 @@
 //! A pending evaluation as the broker keeps it.
-ghost use Rattle.std.specs.Prelude.{◌≡◌, ◌<◌, option_map, None};
+ghost use Rattle.std.specs.Prelude.{◌≡◌, ◌<◌, Some, None};
 ghost use Rattle.group_model.specs.Brokers.{Free, Acked, MOST, is_free, carry, goes_out, set_mark};
 ghost use Rattle.eval_broker.specs.Answers.{pair_of_mark, urgency_of};
 ghost use Rattle.eval_broker.specs.Inner.Lists.{rank_of, head_for, is_spent, is_failed};
@@ -81,19 +81,16 @@ impl Task {
         }
     }
 
-    /// An evaluation that stays, or comes in where there is none.
-    pub fn carried(row: &Evaluation, old: Option<&Task>) -> Task
-        ensures { result ≡ carry row.now (option_map (λ t. t.now) old.entry) }
+    /// An evaluation that stays, with what is kept of it.
+    pub fn carried(row: &Evaluation, old: &Task) -> Task
+        ensures { result ≡ carry row.now (Some old.now) }
     {
-        match old {
-            None => Task::of(row),
-            Some(old) => Task {
-                id: row.id,
-                job: row.job,
-                priority: row.priority,
-                deliveries: old.deliveries,
-                mark: old.mark,
-            },
+        Task {
+            id: row.id,
+            job: row.job,
+            priority: row.priority,
+            deliveries: old.deliveries,
+            mark: old.mark,
         }
     }
 
