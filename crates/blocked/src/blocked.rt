@@ -170,7 +170,7 @@ impl Blocked {
     }
 }
 
-/// Makes room for a blocked evaluation, unless one of its id is held. Without memory no row changes.
+/// Makes room for an evaluation, unless one of its id is held. Without memory no row changes.
 fn make_space(evals: &mut ReservedTable<BlockedEval>, held: &BlockedEval) -> Result<(), NoMemory>
     ensures rows { evals.new.rows ≡ evals.old.rows }
     ensures ok { OnOk result (Holds (has_space eval_cmp blocked_id held.now evals.new)) }
@@ -190,7 +190,8 @@ fn rows_of_job(
     evals: &[BlockedEval],
     job: &JobName,
 ) -> Result<Sequence<Evaluation>, NoMemory>
-    ensures ok { IfOk result (λ rows. rows ≡ map (λ b. b.row) (filter (is_of_job job.now) evals.now)) }
+    ensures ok { let those = filter (is_of_job job.now) evals.now in
+        IfOk result (λ rows. rows ≡ map (λ b. b.row) those) }
     ensures memory { OnErr result (list_any (is_of_job job.now) evals.now ≡ true) }
 {
     let mut rows = Sequence::new(alloc);

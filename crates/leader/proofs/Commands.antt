@@ -35,7 +35,8 @@ use Rattle.group_model.specs.Blocked.{room_over, classes_of, blocked_eval, block
 use Rattle.group_model.proofs.Following.{counts_follow, counts_stay}
 use Rattle.group_model.proofs.BlockedRows.{blocked_follow_jobs}
 use Rattle.blocked.specs.Rooms.{with_room_of}
-use Rattle.leader.specs.Inner.Changes.{IsRowOf, AreChanges, TouchChanged, row_if_any, TellsEvals, at_job, tell_job, at_node, tell_node, has_just_room, tell_rooms}
+use Rattle.leader.specs.Inner.Changes.{IsRowOf, AreChanges, TouchChanged, row_if_any, TellsEvals, at_job, tell_job, at_node, tell_node, tell_rooms}
+use Rattle.leader.specs.Following.{has_just_room}
 use Rattle.leader.proofs.Tables.{found_again, put_or_none, made_of, row_of-map}
 
 -- ---- evaluations

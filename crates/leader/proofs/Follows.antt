@@ -1,10 +1,11 @@
 -- What a desk's parts are told of a command makes them those of the state that it left.
-use Rattle.std.proofs.Common.{◌≡◌, List, refl, sym, ap, subst, ◌∙◌}
+use Rattle.std.proofs.Common.{◌≡◌, ◌≤◌, true, List, [], length, refl, sym, ap, subst, ◌∙◌, arith}
 use Rattle.std.specs.Ordering.{nat_cmp}
 use Rattle.std.specs.Cmp.{nat_cmp_total}
 use Rattle.rows.specs.declared.node.Node.{Node}
 use Rattle.rows.specs.declared.evaluation.Evaluation.{Evaluation}
 use Rattle.rows.specs.declared.command.Command.{Command}
+use Rattle.rows.specs.declared.command.Command.TheVariants as commands
 use Rattle.rows.specs.Keys.{node_number}
 use Rattle.cluster_model.specs.Words.{State, is_ready}
 use Rattle.cluster_model.specs.Effect.{applied}
@@ -12,7 +13,7 @@ use Rattle.cluster_model.proofs.StateLaws.{applied_are_tables}
 use Rattle.group_model.specs.Brokers.{Broker, broker_over, HoldsPending}
 use Rattle.group_model.specs.Blocked.{BlockedEvals, blocked_over}
 use Rattle.group_model.specs.Expiry.{BeatCount, count_node, counted_node, beat_count_of, beat_counts_over, HoldsReady}
-use Rattle.leader.specs.Following.{AreOf, WereOf}
+use Rattle.leader.specs.Following.{AreOf, WereOf, tells_desk}
 use Rattle.leader.specs.Inner.Changes.{TellsEvals, broker_after, blocked_after, tell_job, tell_node, tell_rooms}
 use Rattle.leader.proofs.Holding.{of_rows}
 use Rattle.leader.proofs.ToldEvals.{over_holds, broker_told, blocked_told}
@@ -56,3 +57,23 @@ module _ (c : Command) (t : State) (rows : List Evaluation) (broker : Broker) (h
     ready = subst (λ (cs : List BeatCount). HoldsReady t.nodes cs) (sym (counts_follow w))
         (of_rows nat_cmp node_number count_node (λ k. k) node_number count_node (λ n. refl) (λ x. refl) (λ (n : Node). is_ready n.status) nat_cmp_total counted_node (λ n m. refl) (λ n. beat_count_of n.number counts) t.nodes);
   }
+
+-- where there are evaluations to tell of, a desk is to be told
+pub told_some : (c : Command) (s : State) (rows : List Evaluation) → TellsEvals c s rows → 1 ≤ length rows → tells_desk c s ≡ true
+told_some c s rows told some = by c told where
+  none : rows ≡ [] → ⊥
+  none e = let zero : length rows ≡ 0 = ap length e in absurd (omega (arith, zero, some))
+
+  by : (c : Command) → TellsEvals c s rows → tells_desk c s ≡ true
+  by commands.Noop told = absurd (none told)
+  by (commands.JobPut j) told = refl
+  by (commands.JobStop name) told = refl
+  by (commands.NodePut n) told = refl
+  by (commands.NodeDown n) told = refl
+  by (commands.Drain n force) told = absurd (none told)
+  by (commands.DrainDone n) told = absurd (none told)
+  by (commands.Migrate ids) told = refl
+  by (commands.EvalPut name) told = refl
+  by (commands.EvalStatus id to) told = refl
+  by (commands.Plan p) told = absurd (none told)
+  by (commands.Report n rs) told = refl

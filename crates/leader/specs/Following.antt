@@ -1,6 +1,9 @@
 -- What of a desk is kept beside the applied state, and goes on with it.
-use Rattle.std.specs.Prelude.{◌≡◌, List}
+use Rattle.std.specs.Prelude.{◌≡◌, Bool, true, false, nat_eq, List}
+use Rattle.std.specs.List.{list_any}
+use Rattle.rows.specs.declared.node.Node.{Node}
 use Rattle.rows.specs.declared.command.Command.{Command}
+use Rattle.rows.specs.declared.command.Command.TheVariants as commands
 use Rattle.rows.specs.States.{AreTables}
 use Rattle.cluster_model.specs.Words.{State}
 use Rattle.cluster_model.specs.Effect.{applied}
@@ -23,3 +26,16 @@ pub record WereOf (c : Command) (after : State) (broker : Broker) (held : Blocke
   pub tables : AreTables before
   pub left : after ≡ applied before c
   pub of : AreOf before broker held counts
+
+-- the last entry gave some node room
+abbrev pub has_just_room : State → Bool
+has_just_room s = list_any (λ (n : Node). nat_eq n.room s.count) s.nodes
+
+-- whether a desk is to be told anything of an entry with this command, which left this state: of a
+-- plan only that nodes got room
+abbrev pub tells_desk : Command → State → Bool
+tells_desk commands.Noop s = false
+tells_desk (commands.Drain n force) s = false
+tells_desk (commands.DrainDone n) s = false
+tells_desk (commands.Plan p) s = has_just_room s
+tells_desk _ s = true

@@ -1,5 +1,5 @@
 -- The leader's desk as one value, none where it is closed; and what its calls answer and leave.
-use Rattle.std.specs.Prelude.{◌≡◌, ℕ, if◌then◌else◌, option_map, filter}
+use Rattle.std.specs.Prelude.{◌≡◌, ℕ, Bool, if◌then◌else◌, option_map, filter}
 use Rattle.std.specs.Prelude.{Option, Some, None, Result, Ok, Err, List, [], ◌∷◌}
 use Rattle.rows.specs.declared.evaluation.EvalId.{EvalId}
 use Rattle.rows.specs.declared.token.Token.{Token}
@@ -22,7 +22,7 @@ use Rattle.group_model.specs.Drains.{is_done, next_moves}
 use Rattle.group_model.specs.Desks.{Desk, opened}
 use Rattle.group_model.specs.Plans.{submitted}
 use Rattle.group_model.specs.Turns.{is_still_pending}
-use Rattle.blocked.specs.Rooms.{BlockedRows, blocked_of}
+use Rattle.blocked.specs.Rooms.{BlockedRows, blocked_of, some_due}
 
 -- the group's desk, what is kept of the blocked evaluations, and the leader's term
 pub record OpenDesk : Type 0 where
@@ -53,6 +53,10 @@ IsOpenedBy s term (Some o) = IsOpened s term o
 abbrev pub IsOverBlocked : State → Option OpenDesk → Type 0
 IsOverBlocked s None = ⊥
 IsOverBlocked s (Some o) = blocked_of o.blocked ≡ blocked_over s
+
+-- some of its blocked evaluations is due
+abbrev pub has_due : OpenDesk → Bool
+has_due o = some_due (blocked_of o.blocked)
 
 -- ---- calls
 

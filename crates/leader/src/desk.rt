@@ -1,12 +1,14 @@
-ghost use Rattle.std.specs.Prelude.{◌≡◌, ◌⊎◌, true, None, is_some, is_ok, option_map, OnOk, OnErr, IfOk, IfErr, IfSome, Ok, Err};
+ghost use Rattle.std.specs.Prelude.{◌≡◌, ◌⊎◌, true, false, None, is_some, is_ok, option_map, OnOk, OnErr, IfOk, IfErr, IfSome, Ok, Err};
 ghost use Rattle.rows.specs.Keys.{eval_id};
 ghost use Rattle.rows.specs.declared.refusal.Refusal.TheVariants as refusals;
 ghost use Rattle.cluster_model.specs.Words.{State, is_some_and};
 ghost use Rattle.group_model.specs.Blocked.{first_due};
+ghost use Rattle.group_model.specs.Drains.{is_done};
+ghost use Rattle.leader.specs.Following.{tells_desk};
 ghost use Rattle.leader.specs.Staying.{FollowsIfOpen};
 ghost use Rattle.leader.specs.Errors.{desk_refusal};
 ghost use Rattle.leader.specs.Verdicts.{judged_by, IsProposal, on_plan_turn, first_passes};
-ghost use Rattle.leader.specs.OpenDesks.{IsOpenedBy, IsOverBlocked, LacksMemory, if_open, at_open, on_deliver, on_outstanding, on_ack, on_nack, on_lapse, on_submit, on_free_turn, on_reap, on_beat, on_expire, on_drain_turn};
+ghost use Rattle.leader.specs.OpenDesks.{IsOpenedBy, IsOverBlocked, LacksMemory, has_due, if_open, at_open, on_deliver, on_outstanding, on_ack, on_nack, on_lapse, on_submit, on_free_turn, on_reap, on_beat, on_expire, on_drain_turn};
 
 use crate::desk_error::DeskError;
 use crate::drains::drain_command;
@@ -76,10 +78,12 @@ impl Desk {
 
     /// Follows an entry that was applied, by its command and the state that it left; it is called
     /// after each of them. An open desk that was of the state before the entry is of this one then;
-    /// a closed one stays closed. Without memory the desk is only to be dropped or cleared.
+    /// a closed one stays closed. Without memory the desk is only to be dropped or cleared; a
+    /// closed desk takes none, nor does an open one that is to be told of nothing.
     pub fn changed(&mut self, command: &Command, state: &Cluster) -> Result<(), NoMemory>
         ensures follows { OnOk result (FollowsIfOpen command.now state.now self.old self.new) }
         ensures closed { OnErr result (is_some self.old ≡ true) }
+        ensures memory { OnErr result (tells_desk command.now state.now ≡ true) }
     {
         match &mut self.opened {
             Some(desk) => desk.changed(self.alloc, command, state),
@@ -197,13 +201,16 @@ impl Desk {
     }
 
     /// The first evaluation that is due, and is still blocked in `whole`, the state after the whole
-    /// log; none where there is none. It changes nothing.
+    /// log; none where there is none. `NoMemory` only where some evaluation is due. It changes
+    /// nothing.
     pub fn free_turn(&self, whole: &Cluster) -> Result<Option<EvalId>, Refusal>
         ensures ok { IfOk result (λ id. if_open (on_free_turn whole.now) self.now ≡ Ok id) }
         ensures of_state { IfOk result (λ id. (s : State) → IsOverBlocked s self.now →
             id ≡ option_map eval_id (first_due s whole.now)) }
         ensures err { let call = on_free_turn whole.now in
             IfErr result (λ e. LacksMemory self.now e ⊎ (if_open call self.now ≡ Err e)) }
+        ensures memory { IfErr result (λ e. e ≡ refusals.NoMemory →
+            is_some_and has_due self.now ≡ true) }
     {
         match &self.opened {
             Some(desk) => Ok(desk.free_turn(self.alloc, whole)?),
@@ -256,14 +263,16 @@ impl Desk {
     /// What is proposed at a turn of a node's drain by `whole`, the state after the whole log:
     /// `DrainDone` where nothing lives on the node, else `Migrate` of the allocations that move
     /// next; none where there is nothing to do. `UnknownNode` where there is no such node,
-    /// `NotDraining` where it is not drained, and `NoMemory` only where neither applies. It changes
-    /// nothing. (Nomad documentation, "node drain" command.)
+    /// `NotDraining` where it is not drained, and `NoMemory` only where neither applies and an
+    /// allocation lives on the node. It changes nothing. (Nomad documentation, "node drain"
+    /// command.)
     pub fn drain_turn(&self, node: NodeId, whole: &Cluster) -> Result<Option<Command>, Refusal>
         ensures ok { IfOk result (λ c. if_open (on_drain_turn node whole.now) self.now ≡ Ok c) }
         ensures err { let call = on_drain_turn node whole.now in
             IfErr result (λ e. LacksMemory self.now e ⊎ (if_open call self.now ≡ Err e)) }
         ensures memory { let call = on_drain_turn node whole.now in
             IfErr result (λ e. e ≡ refusals.NoMemory → is_ok (if_open call self.now) ≡ true) }
+        ensures lives { IfErr result (λ e. e ≡ refusals.NoMemory → is_done node whole.now ≡ false) }
     {
         match &self.opened {
             Some(_) => drain_command(self.alloc, whole, node),

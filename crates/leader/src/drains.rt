@@ -1,8 +1,9 @@
 //! What is proposed of a node's drain.
-ghost use Rattle.std.specs.Prelude.{◌≡◌, ◌≤◌, ◌⊎◌, [], true, length, is_ok, IfOk, IfErr, Ok, Err};
+ghost use Rattle.std.specs.Prelude.{◌≡◌, ◌≤◌, ◌⊎◌, [], true, false, length, is_ok, IfOk, IfErr, Ok, Err};
 ghost use Rattle.rows.specs.declared.refusal.Refusal.TheVariants as refusals;
 ghost use Rattle.rows.specs.Ids.{id_rises};
 ghost use Rattle.rows.specs.Rising.{keeps};
+ghost use Rattle.group_model.specs.Drains.{is_done};
 ghost use Rattle.leader.specs.OpenDesks.{migrate_if_any, drain_command};
 
 use drain::{is_done, next_moves};
@@ -35,6 +36,7 @@ pub(crate) fn drain_command(
         IfErr result (λ e. (e ≡ refusals.NoMemory) ⊎ (command ≡ Err e)) }
     ensures memory { let command = drain_command whole.now node in
         IfErr result (λ e. e ≡ refusals.NoMemory → is_ok command ≡ true) }
+    ensures lives { IfErr result (λ e. e ≡ refusals.NoMemory → is_done node whole.now ≡ false) }
 {
     whole.alloc_table().ranges();
     let ids = next_moves(alloc, whole, node)?;

@@ -1,13 +1,13 @@
 //! The parts of a desk that follow the applied state, entry by entry.
-ghost use Rattle.std.specs.Prelude.{◌≡◌, OnOk};
+ghost use Rattle.std.specs.Prelude.{◌≡◌, ◌≤◌, true, length, OnOk, OnErr};
 ghost use Rattle.cluster_model.specs.Words.{node_of};
 ghost use Rattle.group_model.specs.Brokers.{broker_over};
 ghost use Rattle.group_model.specs.Blocked.{blocked_over};
 ghost use Rattle.group_model.specs.Expiry.{beat_counts_over};
 ghost use Rattle.blocked.specs.Rooms.{blocked_of};
-ghost use Rattle.leader.specs.Following.{AreOf, WereOf};
+ghost use Rattle.leader.specs.Following.{AreOf, WereOf, has_just_room, tells_desk};
 ghost use Rattle.leader.specs.Inner.Changes.{broker_after, blocked_after};
-ghost use Rattle.leader.specs.Inner.Changes.{has_just_room, at_node, tell_job, tell_node, tell_rooms};
+ghost use Rattle.leader.specs.Inner.Changes.{at_node, tell_job, tell_node, tell_rooms};
 
 use crate::made::changed_evals;
 use blocked::Blocked;
@@ -28,6 +28,7 @@ fn tell_evals(
     ensures broker { OnOk result (broker.new ≡ broker_after rows.now broker.old) }
     ensures blocked { OnOk result (
         blocked_of blocked.new ≡ blocked_after state.now rows.now (blocked_of blocked.old)) }
+    ensures memory { OnErr result (1 ≤ length rows.now) }
 {
     for row in rows {
         broker.changed(row)?;
@@ -43,8 +44,9 @@ fn tell_job(
     command: &Command,
     state: &Cluster,
 ) -> Result<(), NoMemory>
-    ensures { OnOk result (
+    ensures ok { OnOk result (
         blocked_of blocked.new ≡ tell_job command.now state.now (blocked_of blocked.old)) }
+    ensures memory { OnErr result (tells_desk command.now state.now ≡ true) }
 {
     if let Command::JobPut(spec) = command {
         if let Some(row) = state.job(&spec.name) {
@@ -74,8 +76,9 @@ fn tell_rooms(
     command: &Command,
     state: &Cluster,
 ) -> Result<(), NoMemory>
-    ensures { OnOk result (
+    ensures ok { OnOk result (
         blocked_of blocked.new ≡ tell_rooms command.now state.now (blocked_of blocked.old)) }
+    ensures memory { OnErr result (tells_desk command.now state.now ≡ true) }
 {
     match command {
         Command::NodePut(_) => blocked.renew_rooms(alloc, state.node_table()),
@@ -98,7 +101,8 @@ fn tell_row(expiry: &mut Expiry, number: NodeId, state: &Cluster) -> Result<(), 
 
 /// Tells of a node that a command made ready, or took down.
 fn tell_node(expiry: &mut Expiry, command: &Command, state: &Cluster) -> Result<(), NoMemory>
-    ensures { OnOk result (expiry.new ≡ tell_node command.now state.now expiry.old) }
+    ensures ok { OnOk result (expiry.new ≡ tell_node command.now state.now expiry.old) }
+    ensures memory { OnErr result (tells_desk command.now state.now ≡ true) }
 {
     match command {
         Command::NodePut(spec) => tell_row(expiry, spec.number, state),
@@ -113,6 +117,7 @@ fn tell_node(expiry: &mut Expiry, command: &Command, state: &Cluster) -> Result<
 /// blocked evaluations. Without memory the three are only to be dropped.
 /// - `broker`, `blocked`, `expiry`: each is what following the whole state would give.
 /// - `again`: so they are of the state that the entry left.
+/// - `memory`: memory is wanting only where they are to be told of something.
 pub fn follow(
     alloc: Global,
     broker: &mut Broker,
@@ -133,6 +138,7 @@ pub fn follow(
     ensures again { let old = blocked_of blocked.old in OnOk result (
         WereOf command.now state.now broker.old old expiry.old
         → AreOf state.now broker.new (blocked_of blocked.new) expiry.new) }
+    ensures memory { OnErr result (tells_desk command.now state.now ≡ true) }
 {
     let rows = changed_evals(alloc, command, state)?;
     tell_job(alloc, blocked, command, state)?;

@@ -1,5 +1,6 @@
 //! The evaluations that the last entry made.
-ghost use Rattle.std.specs.Prelude.{◌≡◌, IfOk};
+ghost use Rattle.std.specs.Prelude.{◌≡◌, true, IfOk, OnErr};
+ghost use Rattle.leader.specs.Following.{tells_desk};
 ghost use Rattle.leader.specs.Inner.Changes.{TouchChanged, TellsEvals};
 
 use fsm_state::Cluster;
@@ -37,7 +38,8 @@ pub(crate) fn changed_evals(
     command: &Command,
     state: &Cluster,
 ) -> Result<Sequence<Evaluation>, NoMemory>
-    ensures { IfOk result (λ rows. TellsEvals command.now state.now rows) }
+    ensures ok { IfOk result (λ rows. TellsEvals command.now state.now rows) }
+    ensures memory { OnErr result (tells_desk command.now state.now ≡ true) }
 {
     match command {
         Command::JobPut(_)

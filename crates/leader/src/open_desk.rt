@@ -1,10 +1,11 @@
 //! An open desk.
 ghost use Rattle.std.specs.Prelude.{◌≡◌, ◌⊎◌, true, option_map, is_ok, OnOk, OnErr, IfOk, IfErr, IfSome, Ok, Err};
 ghost use Rattle.rows.specs.declared.refusal.Refusal.TheVariants as refusals;
+ghost use Rattle.leader.specs.Following.{tells_desk};
 ghost use Rattle.leader.specs.Staying.{Follows};
 ghost use Rattle.leader.specs.Errors.{desk_refusal};
 ghost use Rattle.leader.specs.Verdicts.{judged_by, IsProposal, on_plan_turn, first_passes};
-ghost use Rattle.leader.specs.OpenDesks.{IsOpened, on_deliver, on_outstanding, on_ack, on_nack, on_lapse, on_submit, on_free_turn, on_reap, on_beat, on_expire};
+ghost use Rattle.leader.specs.OpenDesks.{IsOpened, has_due, on_deliver, on_outstanding, on_ack, on_nack, on_lapse, on_submit, on_free_turn, on_reap, on_beat, on_expire};
 
 use crate::desk_error::DeskError;
 use crate::following::follow;
@@ -65,7 +66,8 @@ impl OpenDesk {
         command: &Command,
         state: &Cluster,
     ) -> Result<(), NoMemory>
-        ensures { OnOk result (Follows command.now state.now self.old self.new) }
+        ensures follows { OnOk result (Follows command.now state.now self.old self.new) }
+        ensures memory { OnErr result (tells_desk command.now state.now ≡ true) }
     {
         follow(
             alloc,
@@ -143,7 +145,8 @@ impl OpenDesk {
 
     /// The first evaluation that is due, and is still blocked after the whole log.
     pub fn free_turn(&self, alloc: Global, whole: &Cluster) -> Result<Option<EvalId>, NoMemory>
-        ensures { IfOk result (λ id. on_free_turn whole.now self.now ≡ Ok id) }
+        ensures ok { IfOk result (λ id. on_free_turn whole.now self.now ≡ Ok id) }
+        ensures memory { OnErr result (has_due self.now ≡ true) }
     {
         let due = self.blocked.due(alloc)?;
         Ok(first_blocked(due.as_slice(), whole))

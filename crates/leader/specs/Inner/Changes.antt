@@ -1,5 +1,5 @@
 -- Which rows a command makes or replaces, as they are told to the parts of a desk.
-use Rattle.std.specs.Prelude.{◌≡◌, ◌≤◌, Bool, T, false, nat_eq, if◌then◌else◌, Option, Some, None, List, [], ◌∷◌, length}
+use Rattle.std.specs.Prelude.{◌≡◌, ◌≤◌, Bool, T, false, if◌then◌else◌, Option, Some, None, List, [], ◌∷◌, length}
 use Rattle.std.specs.List.{AllByRecursion, list_any}
 use Rattle.std.specs.Ordering.{is_eq}
 use Rattle.rows.specs.declared.job.Job.{Job}
@@ -18,6 +18,7 @@ use Rattle.group_model.specs.Brokers.{Broker, broker_with}
 use Rattle.group_model.specs.Blocked.{BlockedEvals, blocked_with_eval, blocked_with_job}
 use Rattle.group_model.specs.Expiry.{BeatCount, beat_counts_with}
 use Rattle.blocked.specs.Rooms.{with_room_of}
+use Rattle.leader.specs.Following.{has_just_room}
 
 -- ---- evaluations
 
@@ -89,10 +90,6 @@ abbrev pub tell_node : Command → State → List BeatCount → List BeatCount
 tell_node (commands.NodePut n) s counts = at_node (node_of n.number s) counts
 tell_node (commands.NodeDown n) s counts = at_node (node_of n s) counts
 tell_node _ s counts = counts
-
--- the last entry gave some node room
-abbrev pub has_just_room : State → Bool
-has_just_room s = list_any (λ (n : Node). nat_eq n.room s.count) s.nodes
 
 -- nodes that have room from this command on: one that comes, and those on which allocations end
 abbrev pub tell_rooms : Command → State → BlockedEvals → BlockedEvals

@@ -5,8 +5,8 @@ use Rattle.leader.specs.Staying.{Follows}
 use Rattle.leader.proofs.Followed.{followed_if_ok}
 use Rattle.leader.proofs.open_desk.OpenDesk.changed.Goals as goal
 
-pub returns : goal.returns
-returns c =
+pub returns-clause-follows : goal.returns-clause-follows
+returns-clause-follows c =
     let r = c.follow.result in
     let e = c.follow.ensures in
     let i = c.self.inside in
