@@ -75,9 +75,6 @@ unwanted_ids groups rows = map (λ (a : Allocation). a.id) (filter (is_not_wante
 pub unwanted_row : (groups : List Group) (a : Allocation) (rows : List Allocation) → list_any (is_of_name a) (names_of_groups groups) ≡ false → unwanted_ids groups (a ∷ rows) ≡ a.id ∷ unwanted_ids groups rows
 unwanted_row groups a rows e = ap (λ b. map (λ (x : Allocation). x.id) (cond (not b) (a ∷ filter (is_not_wanted groups) rows) (filter (is_not_wanted groups) rows))) e
 
-pub wanted_row : (groups : List Group) (a : Allocation) (rows : List Allocation) → list_any (is_of_name a) (names_of_groups groups) ≡ true → unwanted_ids groups (a ∷ rows) ≡ unwanted_ids groups rows
-wanted_row groups a rows e = ap (λ b. map (λ (x : Allocation). x.id) (cond (not b) (a ∷ filter (is_not_wanted groups) rows) (filter (is_not_wanted groups) rows))) e
-
 -- at most 64 of them
 
 pub one_taken : (ids : List AllocId) (id : AllocId) (rest : List AllocId) → length ids < 64 → ids ++ take (64 - length ids) (id ∷ rest) ≡ (ids ++ id ∷ []) ++ take (64 - length (ids ++ id ∷ [])) rest
