@@ -8,23 +8,18 @@ use Rattle.raft_model.specs.Messages.{to_others}
 use Rattle.raft_model.specs.Servers.{Server, Turn, is_up, is_leader, silent, stood, vote_request, beats, crashed, restarted, extended}
 use Rattle.raft_model.specs.Steps.{step, Input, Timeout, Beat, Propose, Crash, Restart}
 use Rattle.raft_core.specs.RaftView.{RaftView}
-use Rattle.raft_core.specs.Inputs.{Bytes, Own}
+use Rattle.raft_core.specs.Inputs.{Own}
 use Rattle.raft_core.specs.Steps.{Represents, Steps, Takes}
 use Rattle.raft_core.specs.Inner.Turns.{Turned}
-use Rattle.raft_core.specs.Inner.Stops.{TakesFrame}
 use Rattle.raft_core.proofs.Sends.{sends-none}
 
 module _ {S C : Type 0} (m : Meaning S C) where
   pub steps_by : (old new : RaftView C) (before after : List Frame) (input : Input C) (turn : Turn C) → step m old.size old.me old.server input ≡ Ok turn → Turned m old new before after turn → Steps m old old.server input new before after
   steps_by old new before after input turn is t = record { turn = turn; step = is; represents = t.server; sent = t.sent }
 
-  -- a step with an input of the server's own, and the steps with each message of a frame, as what
-  -- is handed in
+  -- a step with an input of the server's own, as what is handed in
   pub takes_own : (old new : RaftView C) (s : Server C) (own : Input C) (before after : List Frame) → Steps m old s own new before after → Takes m old s (Own own) new before after
   takes_own old new s own before after t input reads = subst (λ x. Steps m old s x new before after) (sym reads) t
-
-  pub takes_bytes : (old new : RaftView C) (s : Server C) (bytes : List ℕ) (before after : List Frame) → TakesFrame m old s bytes new before after → Takes m old s (Bytes bytes) new before after
-  takes_bytes old new s bytes before after t input reads = subst (λ x. Steps m old s x new before after) (sym reads.2) (t reads.0 reads.1)
 
   -- a command is appended, whatever was sent
   pub takes_command : (old new : RaftView C) (command : C) → step m old.size old.me old.server (Propose command) ≡ Ok (silent (extended old.server command)) → new.server ≡ extended old.server command →

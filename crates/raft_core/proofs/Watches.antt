@@ -1,19 +1,15 @@
 -- What a watcher makes of entries, of one more, and of a server's step.
-use Rattle.std.proofs.Common.{◌≡◌, ℕ, ◌+◌, ◌-◌, ◌<◌, ◌≤◌, Bool, true, false, nat_lt, if◌then◌else◌, ◌==◌, ◌&&◌, slice_set, Ok, List, [], ◌∷◌, ◌++◌, length, take, drop, get_or, refl, sym, ap, ◌∙◌, arith}
+use Rattle.std.proofs.Common.{◌≡◌, ℕ, ◌+◌, ◌-◌, ◌<◌, ◌≤◌, Bool, true, false, nat_lt, List, [], ◌∷◌, ◌++◌, length, take, drop, get_or, refl, sym, ap, ◌∙◌, arith}
 use Rattle.std.proofs.lemmas.List.{take_more, drop-take}
 use Rattle.std.specs.List.{slice_range}
 use Rattle.machine.specs.Meaning.{Meaning}
 use Rattle.machine.specs.After.{after_from}
 use Rattle.machine.specs.declared.entry.Entry.{Entry}
-use Rattle.rows.specs.declared.refusal.Refusal.{Refusal}
-use Rattle.rows.specs.declared.refusal.Refusal.TheVariants as refusals
-use Rattle.raft_model.specs.Logs.{MAX, commands, state_after}
-use Rattle.raft_model.specs.Quorums.{is_quorum, marked}
-use Rattle.raft_model.specs.Messages.{VoteRequest, VoteReply, Append, to_others}
-use Rattle.raft_model.specs.Servers.{Server, Turn, Mode, Down, Follower, Candidate, Leader, is_up, is_leader, silent, met, stood, grants, granted, counted, with_votes, following, follows_append, is_held, vote_request}
-use Rattle.raft_model.specs.Steps.{receives, step, Timeout}
+use Rattle.raft_model.specs.Logs.{commands, state_after}
+use Rattle.raft_model.specs.Messages.{Append}
+use Rattle.raft_model.specs.Servers.{Server, is_leader, met, following, follows_append, is_held}
+use Rattle.raft_model.specs.Steps.{receives}
 use Rattle.raft_core.specs.Watching.{SeesAll, SeesStep}
-use Rattle.raft_core.specs.Refusals.{RefusalShows}
 
 module _ {S C W : Type 0} (m : Meaning S C) (Sees : W → ℕ → Entry C → S → W → Type 0) (term : ℕ) where
   -- nothing is seen yet
@@ -60,37 +56,6 @@ module _ {S C W : Type 0} (m : Meaning S C) (Sees : W → ℕ → Entry C → S 
   met_commit term s true is = rw is refl
   met_commit term s false is = rw is refl
 
-  pub after_met : (term : ℕ) (s : Server C) (w : W) → SeesStep m Sees s (met term s) w w
-  after_met term s w = still s (met term s) w (met_commit term s (nat_lt s.term term) refl)
-
-  granted_commit : (s : Server C) (from : ℕ) (b : Bool) → (granted s from b).commit ≡ s.commit
-  granted_commit s from true = refl
-  granted_commit s from false = refl
-
-  pub after_request : (n me : ℕ) (s : Server C) (from term index last : ℕ) (w : W) → SeesStep m Sees s (receives m.noop n me (met term s) from term (VoteRequest index last)).server w w
-  after_request n me s from term index last w =
-      let t = met term s in
-      still s (granted t from (grants t from term index last)) w (granted_commit t from (grants t from term index last) ∙ met_commit term s (nat_lt s.term term) refl)
-
-  votes_commit : (noop : C) (n : ℕ) (s : Server C) (votes : List Bool) (b : Bool) → is_quorum n (marked votes) ≡ b → (with_votes noop n s votes).commit ≡ s.commit
-  votes_commit noop n s votes true is = rw is refl
-  votes_commit noop n s votes false is = rw is refl
-
-  counted_commit : (noop : C) (n : ℕ) (s : Server C) (from : ℕ) (mode : Mode) → (counted noop n s from mode).commit ≡ s.commit
-  counted_commit noop n s from Down = refl
-  counted_commit noop n s from Follower = refl
-  counted_commit noop n s from (Candidate votes) = votes_commit noop n s (slice_set votes from true) (is_quorum n (marked (slice_set votes from true))) refl
-  counted_commit noop n s from (Leader next match) = refl
-
-  reply_commit : (noop : C) (n : ℕ) (s : Server C) (from : ℕ) (b : Bool) → (if b then counted noop n s from s.mode else s).commit ≡ s.commit
-  reply_commit noop n s from true = counted_commit noop n s from s.mode
-  reply_commit noop n s from false = refl
-
-  pub after_vote : (n me : ℕ) (s : Server C) (from term asked : ℕ) (granting : Bool) (w : W) → SeesStep m Sees s (receives m.noop n me (met term s) from term (VoteReply asked granting)).server w w
-  after_vote n me s from term asked granting w =
-      let t = met term s in
-      still s (receives m.noop n me t from term (VoteReply asked granting)).server w (reply_commit m.noop n t from ((asked == t.term) && granting) ∙ met_commit term s (nat_lt s.term term) refl)
-
   follows_idle : (me : ℕ) (s : Server C) (from prev prev_term commit : ℕ) (entries : List (Entry C)) (b : Bool) → is_held s prev prev_term ≡ b → is_leader s.mode ≡ false → is_leader (follows_append me s from prev prev_term commit entries).server.mode ≡ false
   follows_idle me s from prev prev_term commit entries true is other = rw is other
   follows_idle me s from prev prev_term commit entries false is other = rw is other
@@ -106,17 +71,3 @@ module _ {S C W : Type 0} (m : Meaning S C) (Sees : W → ℕ → Entry C → S 
   after_append n me s from term prev prev_term commit entries w =
       let t = met term s in
       append_at n me s t from term prev prev_term commit entries w (nat_lt term t.term) (is_leader t.mode) (met_commit term s (nat_lt s.term term) refl) refl refl
-
-  timeout_at : (n me : ℕ) (s : Server C) (turn : Turn C) (w : W) (a b c : Bool) → is_up s.mode ≡ a → is_leader s.mode ≡ b → (nat_lt s.term MAX && nat_lt (length s.log) MAX) ≡ c → step m n me s Timeout ≡ Ok turn → SeesStep m Sees s turn.server w w
-  timeout_at n me s turn w false b c up leads room is = absurd (let e = rw up at is in cc)
-  timeout_at n me s turn w true true c up leads room is = let e : silent s ≡ turn = let q = rw (up, leads) at is in cc in rw (← e) (still s s w refl)
-  timeout_at n me s turn w true false true up leads room is = let e = rw (up, leads, room) at is in let q : record { server = stood n me s; sent = to_others me (vote_request me (stood n me s)) n } ≡ turn = cc in rw (← q) (idle s (stood n me s) w refl)
-  timeout_at n me s turn w true false false up leads room is = absurd (let e = rw (up, leads, room) at is in cc)
-
-  pub after_timeout : (n me : ℕ) (s : Server C) (turn : Turn C) (w : W) → step m n me s Timeout ≡ Ok turn → SeesStep m Sees s turn.server w w
-  after_timeout n me s turn w is = timeout_at n me s turn w (is_up s.mode) (is_leader s.mode) (nat_lt s.term MAX && nat_lt (length s.log) MAX) refl refl refl is
-
-pub refusal_shows : {W : Type 0} (cause : Refusal) (w : W) → RefusalShows cause w w
-refusal_shows refusals.NoMemory w = tt
-refusal_shows (refusals.NotLeader leader) w = refl
-refusal_shows _ w = refl
