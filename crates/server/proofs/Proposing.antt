@@ -1,18 +1,18 @@
 -- A command that is proposed.
-use Rattle.std.proofs.Common.{◌≡◌, ℕ, ◌≤◌, Bool, true, false, Option, Some, None, Result, Ok, Err, List, [], ◌∷◌, length, refl, sym, ap, subst, ◌∙◌, if◌then◌else◌}
+use Rattle.std.proofs.Common.{◌≡◌, ℕ, ◌≤◌, Bool, true, false, nat_lt, Option, Some, None, Result, Ok, Err, List, [], ◌∷◌, length, refl, sym, ap, subst, ◌∙◌, if◌then◌else◌}
 use Rattle.std.proofs.lemmas.List.{take-append-le}
 use Rattle.std.specs.Prelude.{IfSome, IfErr, OnOk, OnErr, MatchOption}
 use Rattle.rows.specs.declared.command.Command.{Command}
 use Rattle.rows.specs.declared.refusal.Refusal.{Refusal}
 use Rattle.rows.specs.declared.refusal.Refusal.TheVariants as refusals
-use Rattle.raft_model.specs.Logs.{state_after}
+use Rattle.raft_model.specs.Logs.{MAX, state_after}
 use Rattle.raft_model.specs.Servers.{Server, Turn, is_up, is_leader, silent, extended}
 use Rattle.raft_model.specs.Steps as raft_steps
 use Rattle.raft_core.specs.RaftView.{RaftView, SameServer}
 use Rattle.raft_core.specs.Steps.{Represents, Takes}
 use Rattle.wire.specs.Frames.{Frame}
 use Rattle.raft_core.specs.Inputs.{Own}
-use Rattle.raft_core.specs.Refusals.{IsRefused, refusal_by}
+use Rattle.raft_core.specs.Refusals.{HidesNothing, IsRefused, refusal_by}
 use Rattle.cluster_model.specs.ClusterMachine.{cluster_meaning}
 use Rattle.group_model.specs.Desks.{applied_state}
 use Rattle.leader.specs.OpenDesks.{OpenDesk}
@@ -41,10 +41,17 @@ module _ (n me : ℕ) (s : Server Command) (c : Command) (up : is_up s.mode ≡ 
     same : {a b : Refusal} → (let x : Option Refusal = Some a in x ≡ Some b) → a ≡ b
     same h = cc
 
-  -- why it is not taken
-  pub refused : (cause : Refusal) → IsRefused cluster_meaning n me s (Own (raft_steps.Propose c)) cause → WhyNotProposed s c cause
-  refused refusals.NoMemory h = h
-  refused cause h = sym step_is ∙ why (raft_steps.step cluster_meaning n me s (raft_steps.Propose c)) _ h
+  room_at : (room : Bool) (a : Option Refusal) (turn : Turn Command) → (if room then None else refusal_by (raft_steps.unless (if room then a else Some refusals.Exhausted) turn)) ≡ None → room ≡ true
+  room_at true a turn h = refl
+  room_at false a turn h = absurd (cc)
+
+  -- why it is not taken; memory is wanted only where there is room
+  pub refused : (cause : Refusal) → IsRefused cluster_meaning n me s (Own (raft_steps.Propose c)) cause → HidesNothing cluster_meaning n me s (Own (raft_steps.Propose c)) cause → WhyNotProposed s c cause
+  refused refusals.NoMemory leads none = record {
+    leads = leads;
+    room = room_at (nat_lt (length s.log) MAX) (cluster_meaning.admission (state_after cluster_meaning s.log) c) (silent (extended s c)) (rw (up, leads) at none);
+  }
+  refused cause h hidden = sym step_is ∙ why (raft_steps.step cluster_meaning n me s (raft_steps.Propose c)) _ h
 
 -- ---- the desk
 
@@ -88,9 +95,10 @@ module _ (old new : RaftView Command) (c : Command) (up : is_up old.server.mode 
   propose_takes (Ok u) taken = taken_by taken
   propose_takes (Err cause) taken = tt
 
-pub propose_refused : (old : RaftView Command) (c : Command) → is_up old.server.mode ≡ true → (r : Answer) → IfErr r (λ cause. (s : Server Command) → Represents cluster_meaning old s → IsRefused cluster_meaning old.size old.me s (Own (raft_steps.Propose c)) cause) → IfErr r (λ cause. WhyNotProposed old.server c cause)
-propose_refused old c up (Ok u) h = tt
-propose_refused old c up (Err cause) h = refused old.size old.me old.server c up cause (h old.server refl)
+pub propose_refused : (old : RaftView Command) (c : Command) → is_up old.server.mode ≡ true → (r : Answer) → IfErr r (λ cause. (s : Server Command) → Represents cluster_meaning old s → IsRefused cluster_meaning old.size old.me s (Own (raft_steps.Propose c)) cause) →
+    IfErr r (λ cause. (s : Server Command) → Represents cluster_meaning old s → HidesNothing cluster_meaning old.size old.me s (Own (raft_steps.Propose c)) cause) → IfErr r (λ cause. WhyNotProposed old.server c cause)
+propose_refused old c up (Ok u) h hidden = tt
+propose_refused old c up (Err cause) h hidden = refused old.size old.me old.server c up cause (h old.server refl) (hidden old.server refl)
 
 pub propose_keeps : (old new : RaftView Command) (c : Command) (d : Option OpenDesk) → IfSome d (IsOfLeader old) → is_up old.server.mode ≡ true
     → (n : Option ℕ) → ((s : Server Command) → Represents cluster_meaning old s → MatchOption n (is_up s.mode ≡ false) (λ k. (is_up s.mode ≡ true) × (k ≡ s.commit))) → ((s : Server Command) → Represents cluster_meaning old s → IfSome n (λ k. k ≤ length s.log))

@@ -8,7 +8,7 @@ use Rattle.rows.specs.declared.refusal.Refusal.TheVariants as refusals
 use Rattle.wire.specs.Messages.{Message as WireMessage}
 use Rattle.wire.specs.Frames.{message_at}
 use Rattle.raft_model.specs.Logs.{MAX}
-use Rattle.raft_model.specs.Servers.{is_up, is_leader}
+use Rattle.raft_model.specs.Servers.{Server, is_up, is_leader}
 use Rattle.raft_core.specs.Refusals.{is_server_at}
 use Rattle.cluster_model.specs.Words.{State}
 use Rattle.cluster_model.specs.ClusterMachine.{cluster_meaning}
@@ -64,6 +64,11 @@ pub record CanStand (s : Member) : Type 0 where
   pub follows : is_leader s.raft.mode ≡ false
   pub room : (nat_lt s.raft.term MAX && nat_lt (length s.raft.log) MAX) ≡ true
 
+-- a leader in whose log there is room for a further entry
+pub record CanAppend (s : Server Command) : Type 0 where
+  pub leads : is_leader s.mode ≡ true
+  pub room : nat_lt (length s.log) MAX ≡ true
+
 -- a leader at whose desk something is to be done
 pub record HasOpenDesk (s : Member) : Type 0 where
   pub leads : is_leader s.raft.mode ≡ true
@@ -80,20 +85,21 @@ pub record AsksMember (n : ℕ) (s : Member) (to : ℕ) : Type 0 where
   pub of_group : nat_lt to n ≡ true
 
 -- Which inputs may want memory, and when. A crash takes none, nor does what is outstanding and is
--- free again, a timeout of one that leads or cannot stand, a beat of one that does not lead, or an
--- expiry that the desk refuses.
+-- free again, a timeout of one that leads or cannot stand, a beat of one that does not lead, a
+-- request or an expiry at a full log, or an expiry that the desk refuses.
 abbrev pub MayTakeMemory : ℕ → Member → Input → Type 0
 MayTakeMemory n s (Arrives message) = is_up s.raft.mode ≡ true
 MayTakeMemory n s Timeout = CanStand s
 MayTakeMemory n s Beat = is_leader s.raft.mode ≡ true
-MayTakeMemory n s (Request request) = is_leader s.raft.mode ≡ true
+MayTakeMemory n s (Request request) = CanAppend s.raft
 MayTakeMemory n s (TakeFrom to) = AsksMember n s to
 MayTakeMemory n s (SubmitTo to plan) = AsksMember n s to
 MayTakeMemory n s (FinishAt to eval token outcome) = AsksMember n s to
 MayTakeMemory n s (NackAt to eval token) = AsksMember n s to
 MayTakeMemory n s PlanTurn = HasOpenDesk s
 MayTakeMemory n s (Lapse eval) = ⊥
-MayTakeMemory n s (Expire node beats) = HasOpenDesk s × HeardSoOften node beats s.desk
+MayTakeMemory n s (Expire node beats) =
+    HasOpenDesk s × HeardSoOften node beats s.desk × CanAppend s.raft
 MayTakeMemory n s (DrainTurn node) = HasOpenDesk s
 MayTakeMemory n s FreeTurn = HasOpenDesk s
 MayTakeMemory n s Reap = HasOpenDesk s

@@ -21,7 +21,7 @@ use Rattle.group_model.specs.Members.{Member, open_or, open_desk, at_desk, acts,
 use Rattle.server.specs.declared.server.Outbox.{Outbox}
 use Rattle.server.specs.ServerViews.{ServerView, SameMember, group_desk}
 use Rattle.server.specs.Turns.{TakesTurn}
-use Rattle.server.specs.Refusals.{MayTakeMemory}
+use Rattle.server.specs.Refusals.{CanAppend, MayTakeMemory}
 
 -- the server of the definitions that a value is
 abbrev pub member_of : ServerView → Member
@@ -102,7 +102,7 @@ pub record IsProposed (s : Server Command) (c : Command) (new : Server Command) 
 
 -- why the log refuses a command
 abbrev pub WhyNotProposed : Server Command → Command → Refusal → Type 0
-WhyNotProposed s c refusals.NoMemory = is_leader s.mode ≡ true
+WhyNotProposed s c refusals.NoMemory = CanAppend s
 WhyNotProposed s c cause = raft_steps.proposes cluster_meaning s c ≡ Err cause
 
 -- ---- a turn of a node's drain

@@ -17,4 +17,4 @@ pub returns-clause-refused : goal.returns-clause-refused
 returns-clause-refused c =
     let i = c.self.inside in
     let up = rw (← c.self.view_is) at c.requires in
-    rw (← c.self.view_is) (propose_refused i.raft c.args.command up c.propose.result c.propose.ensures.refused)
+    rw (← c.self.view_is) (propose_refused i.raft c.args.command up c.propose.result c.propose.ensures.refused c.propose.ensures.unhidden)
