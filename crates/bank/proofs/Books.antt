@@ -8,7 +8,7 @@ use Rattle.std.proofs.lemmas.Option.{slice_get_within, get_or_from_slice_get}
 use Rattle.rows.specs.declared.refusal.Refusal.TheVariants.{OutOfRange}
 use Rattle.machine.specs.After.{after_from, after, AdmittedFrom, Admitted}
 use Rattle.bank.specs.BankState.{BankState}
-use Rattle.bank.specs.Outcomes.{MOST, raised, lowered, both, with_one, with_two, outcome}
+use Rattle.bank.specs.Outcomes.{MOST_MONEY, raised, lowered, both, with_one, with_two, outcome}
 use Rattle.bank.specs.Bank.{refused, bank_meaning}
 use Rattle.bank.specs.Books.{paid_in, paid_out, deposited, withdrawn, Balanced}
 use Rattle.bank.specs.declared.command.BankCommand.{BankCommand}
@@ -38,7 +38,7 @@ less_if false amount b new t e = absurd cc
 
 raised_is : (amount : ℕ) (o : Option ℕ) (new : ℕ) → raised amount o ≡ Some new → IsMore amount o new
 raised_is amount None new e = absurd cc
-raised_is amount (Some b) new e = more_if (nat_le (b + amount) MOST) amount b new e
+raised_is amount (Some b) new e = more_if (nat_le (b + amount) MOST_MONEY) amount b new e
 
 lowered_is : (amount : ℕ) (o : Option ℕ) (new : ℕ) → lowered amount o ≡ Some new → IsLess amount o new
 lowered_is amount None new e = absurd cc

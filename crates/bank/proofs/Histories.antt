@@ -13,7 +13,7 @@ use Rattle.raft_model.specs.Chains.{Agree, At, Chain}
 use Rattle.raft_safety.proofs.Places.{get-last}
 use Rattle.raft_safety.proofs.Sound.{commands_length}
 use Rattle.world.specs.WorldView.{WorldView, RunsTo}
-use Rattle.world.specs.Claims.{OneListEver, running, machine_of}
+use Rattle.world.specs.Claims.{OneListEver, running_state, machine_of}
 use Rattle.bank.specs.BankState.{BankState}
 use Rattle.bank.specs.Bank.{bank_meaning}
 use Rattle.bank.specs.Laws.BankLaws.{bank_lawful}
@@ -64,7 +64,7 @@ module _ (list : List (Entry BankCommand)) (past : List (World BankCommand)) (w 
       let at : At past w k i s = record { world = x; world_is = here; here = there } in
       part_is list s.log s.commit bank (chain.agrees k i s at) (admitted k i s at) (sym (same_Some (state_after bank_meaning (take s.commit s.log)) bank is))
 
-  server_part : (o : Option (Server BankCommand)) → slice_get x.servers i ≡ o → running bank_meaning o ≡ Some bank → IsBankOf (commands list) bank
+  server_part : (o : Option (Server BankCommand)) → slice_get x.servers i ≡ o → running_state bank_meaning o ≡ Some bank → IsBankOf (commands list) bank
   server_part None there is = absurd (cc)
   server_part (Some s) there is = up_part s (is_up s.mode) refl there is
 

@@ -4,14 +4,14 @@ use Rattle.std.specs.Option.{unwrap_or}
 use Rattle.rows.specs.declared.refusal.Refusal.{Refusal}
 use Rattle.machine.specs.Meaning.{Meaning}
 use Rattle.bank.specs.BankState.{BankState}
-use Rattle.bank.specs.Outcomes.{MOST, outcome, refusal_of}
+use Rattle.bank.specs.Outcomes.{MOST_MONEY, outcome, command_refusal}
 use Rattle.bank.specs.Texts.{bank, bank_command}
 use Rattle.bank.specs.declared.command.BankCommand.{BankCommand}
 use Rattle.bank.specs.declared.command.BankCommand.TheVariants.{Noop}
 
 -- why a command is refused, where it has no outcome
 abbrev pub refused : BankCommand → Option (List ℕ) → Option Refusal
-refused c None = Some (refusal_of c)
+refused c None = Some (command_refusal c)
 refused c (Some balances) = None
 
 -- A bank's promise of each state is that no account holds more than it may. That no balance is
@@ -20,7 +20,7 @@ abbrev pub bank_meaning : Meaning BankState BankCommand
 bank_meaning = record {
   states = bank;
   commands = bank_command;
-  safe = λ s. All (λ balance. balance ≤ MOST) s.balances;
+  safe = λ s. All (λ balance. balance ≤ MOST_MONEY) s.balances;
   empty = record { count = 0; balances = [] };
   noop = Noop;
   count = λ s. s.count;

@@ -5,7 +5,7 @@ use Rattle.raft_model.specs.Worlds.{World, moment}
 use Rattle.world.specs.WorldView.{WorldView, RunsTo}
 use Rattle.world.specs.Claims.{machine_of}
 use Rattle.bank.specs.BankState.{BankState}
-use Rattle.bank.specs.Outcomes.{MOST}
+use Rattle.bank.specs.Outcomes.{MOST_MONEY}
 use Rattle.bank.specs.Bank.{bank_meaning}
 use Rattle.bank.specs.Books.{Balanced}
 use Rattle.bank.specs.declared.command.BankCommand.{BankCommand}
@@ -16,7 +16,7 @@ pub record IsBankOf (list : List BankCommand) (bank : BankState) : Type 0 where
   pub count : bank.count ≤ length list
   pub applied : bank ≡ after bank_meaning (take bank.count list)
   pub balanced : Balanced bank (take bank.count list)
-  pub limit : All (λ balance. balance ≤ MOST) bank.balances
+  pub limit : All (λ balance. balance ≤ MOST_MONEY) bank.balances
 
 -- The value has a run; and there is one list of commands, such that in each run of the value, at
 -- each of its moments, the bank of each server that is up is one of that list.

@@ -3,13 +3,13 @@ use Rattle.std.specs.Prelude.{ℕ, ◌+◌, Option, Some, None, List}
 use Rattle.fields_model.specs.Format.{Format, number, nothing, ◌then◌, made, list, tagged, variant, never, choice}
 use Rattle.fields_model.specs.Fields.{index, u16}
 use Rattle.bank.specs.BankState.{BankState}
-use Rattle.bank.specs.Outcomes.{MOST}
+use Rattle.bank.specs.Outcomes.{MOST_MONEY}
 use Rattle.bank.specs.declared.command.BankCommand.{BankCommand}
 use Rattle.bank.specs.declared.command.BankCommand.TheVariants.{Noop, Open, Deposit, Withdraw, Transfer}
 
 -- eight bytes, at most MOST
 abbrev pub money : Format ℕ
-money = number 8 0 (MOST + 1)
+money = number 8 0 (MOST_MONEY + 1)
 
 -- at most 1,000 of them, behind their number in four bytes
 abbrev pub balances : Format (List ℕ)

@@ -2,7 +2,7 @@ ghost use Rattle.std.specs.Prelude.{◌≡◌, ◌≤◌, ◌+◌, ◌<◌, ◌^
 ghost use Rattle.std.specs.Option.{unwrap_or};
 ghost use Rattle.fields_model.specs.Format.{Answers};
 ghost use Rattle.fields_model.specs.Fields.{index};
-ghost use Rattle.bank.specs.Outcomes.{raised, lowered, moved, opened, outcome};
+ghost use Rattle.bank.specs.Outcomes.{raised, lowered, transferred, with_account, outcome};
 ghost use Rattle.bank.specs.Texts.{bank};
 ghost use Rattle.bank.specs.Bank.{bank_meaning, refused};
 ghost use Rattle.bank.specs.Laws.TextLaws.{bank_text_lawful};
@@ -107,8 +107,8 @@ impl Bank {
     }
 
     /// What both accounts hold once the amount has moved; none where it may not.
-    fn moved(&self, from: AccountId, to: AccountId, amount: Money) -> Option<(Money, Money)>
-        ensures { result ≡ moved self.now.balances from to amount }
+    fn transferred(&self, from: AccountId, to: AccountId, amount: Money) -> Option<(Money, Money)>
+        ensures { result ≡ transferred self.now.balances from to amount }
     {
         if from == to {
             return None;
@@ -120,7 +120,7 @@ impl Bank {
     fn open(&mut self) -> Result<(), NoMemory>
         ensures count { self.new.count ≡ self.old.count }
         ensures ok { OnOk result (self.new.balances
-            ≡ unwrap_or (opened self.old.balances) self.old.balances) }
+            ≡ unwrap_or (with_account self.old.balances) self.old.balances) }
         ensures room { OnErr result (length self.old.balances < 1000) }
     {
         if self.accounts() < Bank::MOST_ACCOUNTS {
@@ -163,7 +163,7 @@ impl Bank {
                 }
             }
             BankCommand::Transfer(from, to, amount) => {
-                if let Some((left, more)) = self.moved(*from, *to, *amount) {
+                if let Some((left, more)) = self.transferred(*from, *to, *amount) {
                     self.write_down(*from, left);
                     self.write_down(*to, more);
                 }
@@ -189,7 +189,7 @@ impl Bank {
                 balance.is_none().then_some(Refusal::OutOfRange)
             }
             BankCommand::Transfer(from, to, amount) => {
-                let balances = self.moved(*from, *to, *amount);
+                let balances = self.transferred(*from, *to, *amount);
                 balances.is_none().then_some(Refusal::OutOfRange)
             }
         }

@@ -1,6 +1,6 @@
 ghost use Rattle.std.specs.Prelude.{◌≡◌, ◌+◌, ◌<◌, ◌≤◌, IfSome, IfNone};
 ghost use Rattle.fields_model.specs.Format.{GivesExactly};
-ghost use Rattle.bank.specs.Outcomes.{MOST};
+ghost use Rattle.bank.specs.Outcomes.{MOST_MONEY};
 ghost use Rattle.bank.specs.Texts.{money};
 ghost use Rattle.bank.specs.Laws.TextLaws.{money_lawful};
 
@@ -35,8 +35,8 @@ impl Money {
 
     /// The sum of a number; none where the number is more than `MOST`.
     pub fn new(number: u64) -> Option<Money>
-        ensures some { IfSome result (λ m. (m ≡ number) × (number ≤ MOST)) }
-        ensures none { IfNone result (MOST < number) }
+        ensures some { IfSome result (λ m. (m ≡ number) × (number ≤ MOST_MONEY)) }
+        ensures none { IfNone result (MOST_MONEY < number) }
     {
         if number <= Money::MOST {
             Some(Money(number))
@@ -48,15 +48,15 @@ impl Money {
     /// Its number, at most `MOST`.
     pub fn get(self) -> u64
         ensures value { result ≡ self }
-        ensures limit { result ≤ MOST }
+        ensures limit { result ≤ MOST_MONEY }
     {
         self.0
     }
 
     /// The sum of both; none where it is more than `MOST`.
     pub fn plus(self, more: Money) -> Option<Money>
-        ensures some { IfSome result (λ m. (m ≡ self + more) × (self + more ≤ MOST)) }
-        ensures none { IfNone result (MOST < self + more) }
+        ensures some { IfSome result (λ m. (m ≡ self + more) × (self + more ≤ MOST_MONEY)) }
+        ensures none { IfNone result (MOST_MONEY < self + more) }
     {
         Money::new(self.0 + more.0)
     }

@@ -26,8 +26,8 @@ use Rattle.cluster_model.proofs.Keys.{at_number}
 use Rattle.group_model.specs.Clients.{Ended, is_shown, ended_how}
 use Rattle.client_agent.specs.declared.ids.IdRow.{IdRow}
 use Rattle.client_agent.specs.Capacity.{AreDistinct}
-use Rattle.client_agent.specs.Inner.Ends.{ended_as}
-use Rattle.client_agent.specs.Inner.Ids.{row_id, has_id, end_id, AreSet, AreEnds}
+use Rattle.client_agent.specs.Inner.Ends.{ended_row}
+use Rattle.client_agent.specs.Inner.Ids.{row_id, lists_id, end_id, AreSet, AreEnds}
 use Rattle.client_agent.proofs.Distinct.{turned, same_ids, last_alone}
 
 two_keys : (r q : Ordering) → is_eq (ordering_then r q) ≡ (is_eq r && is_eq q)
@@ -52,23 +52,23 @@ there_is_not false o = refl
 
 -- ---- sets
 
-pub one_more : (id : AllocId) (rows : List IdRow) (other : AllocId) → has_id (put alloc_cmp row_id (record { id = id }) rows) other ≡ (same_alloc other id || has_id rows other)
+pub one_more : (id : AllocId) (rows : List IdRow) (other : AllocId) → lists_id (put alloc_cmp row_id (record { id = id }) rows) other ≡ (same_alloc other id || lists_id rows other)
 one_more id rows other =
     let x : IdRow = record { id = id } in
     ap is_some (row_of-put alloc_cmp row_id alloc_cmp_total other x rows)
     ∙ there_is (is_eq (alloc_cmp other id)) x (row_of alloc_cmp row_id other rows)
-    ∙ ap (λ b. b || has_id rows other) (here other id)
+    ∙ ap (λ b. b || lists_id rows other) (here other id)
 
-pub one_less : (id : AllocId) (rows : List IdRow) (other : AllocId) → has_id (without alloc_cmp row_id id rows) other ≡ (not (same_alloc other id) && has_id rows other)
+pub one_less : (id : AllocId) (rows : List IdRow) (other : AllocId) → lists_id (without alloc_cmp row_id id rows) other ≡ (not (same_alloc other id) && lists_id rows other)
 one_less id rows other =
     ap is_some (row_of-without alloc_cmp row_id alloc_cmp_total other id rows)
     ∙ there_is_not (is_eq (alloc_cmp other id)) (row_of alloc_cmp row_id other rows)
-    ∙ ap (λ b. not b && has_id rows other) (here other id)
+    ∙ ap (λ b. not b && lists_id rows other) (here other id)
 
 -- ---- what was ever started
 
 -- one more is started
-pub set_more : (ids : List AllocId) (id : AllocId) (rows new : List IdRow) → AreSet ids rows → ((other : AllocId) → has_id new other ≡ (same_alloc other id || has_id rows other)) → AreSet (ids ++ id ∷ []) new
+pub set_more : (ids : List AllocId) (id : AllocId) (rows new : List IdRow) → AreSet ids rows → ((other : AllocId) → lists_id new other ≡ (same_alloc other id || lists_id rows other)) → AreSet (ids ++ id ∷ []) new
 set_more ids id rows new set more other =
     more other
     ∙ ap (λ b. same_alloc other id || b) (set other)
@@ -82,7 +82,7 @@ set_more ids id rows new set more other =
     behind false false = refl
 
 -- the last one is forgotten
-pub set_less : (ids : List AllocId) (id : AllocId) (rows new : List IdRow) → AreDistinct (ids ++ id ∷ []) → AreSet (ids ++ id ∷ []) rows → ((other : AllocId) → has_id new other ≡ (not (same_alloc other id) && has_id rows other)) → AreSet ids new
+pub set_less : (ids : List AllocId) (id : AllocId) (rows new : List IdRow) → AreDistinct (ids ++ id ∷ []) → AreSet (ids ++ id ∷ []) rows → ((other : AllocId) → lists_id new other ≡ (not (same_alloc other id) && lists_id rows other)) → AreSet ids new
 set_less ids id rows new distinct set less other =
     less other
     ∙ ap (λ b. not (same_alloc other id) && b) (set other ∙ list_any-append (same_alloc other) ids (id ∷ []))
@@ -120,10 +120,10 @@ abbrev first_end : Option Bool → Option Bool → Option Bool
 first_end None later = later
 first_end (Some ok) later = Some ok
 
-how_more : (ended : List Ended) (id : AllocId) (ok : Bool) (other : AllocId) → ended_how (ended ++ ended_as id ok ∷ []) other ≡ first_end (ended_how ended other) (if same_alloc id other then Some ok else None)
+how_more : (ended : List Ended) (id : AllocId) (ok : Bool) (other : AllocId) → ended_how (ended ++ ended_row id ok ∷ []) other ≡ first_end (ended_how ended other) (if same_alloc id other then Some ok else None)
 how_more [] id ok other = refl
 how_more (e ∷ es) id ok other =
-    elim (same_alloc e.id other) as (λ b. (if b then Some e.ok else ended_how (es ++ ended_as id ok ∷ []) other) ≡ first_end (if b then Some e.ok else ended_how es other) (if same_alloc id other then Some ok else None)) [
+    elim (same_alloc e.id other) as (λ b. (if b then Some e.ok else ended_how (es ++ ended_row id ok ∷ []) other) ≡ first_end (if b then Some e.ok else ended_how es other) (if same_alloc id other then Some ok else None)) [
       | true ↦ refl
       | false ↦ how_more es id ok other
     ]
@@ -151,7 +151,7 @@ mapped_cond true x o = refl
 mapped_cond false x o = refl
 
 -- one that ended before ends again
-pub ends_kept : (ended rows : List Ended) (id : AllocId) (ok : Bool) → AreEnds ended rows → is_none (row_of alloc_cmp end_id id rows) ≡ false → AreEnds (ended ++ ended_as id ok ∷ []) rows
+pub ends_kept : (ended rows : List Ended) (id : AllocId) (ok : Bool) → AreEnds ended rows → is_none (row_of alloc_cmp end_id id rows) ≡ false → AreEnds (ended ++ ended_row id ok ∷ []) rows
 ends_kept ended rows id ok ends there other =
     ends other
     ∙ how_kept (ended_how ended other) (same_alloc id other) ok
@@ -164,10 +164,10 @@ ends_kept ended rows id ok ends there other =
     both_ways e = cc
 
 -- one ends for the first time
-pub ends_more : (ended rows : List Ended) (id : AllocId) (ok : Bool) → AreEnds ended rows → is_none (row_of alloc_cmp end_id id rows) ≡ true → AreEnds (ended ++ ended_as id ok ∷ []) (put alloc_cmp end_id (ended_as id ok) rows)
+pub ends_more : (ended rows : List Ended) (id : AllocId) (ok : Bool) → AreEnds ended rows → is_none (row_of alloc_cmp end_id id rows) ≡ true → AreEnds (ended ++ ended_row id ok ∷ []) (put alloc_cmp end_id (ended_row id ok) rows)
 ends_more ended rows id ok ends there other =
-    ap (option_map (λ (e : Ended). e.ok)) (row_of-put alloc_cmp end_id alloc_cmp_total other (ended_as id ok) rows)
-    ∙ mapped_cond (is_eq (alloc_cmp other id)) (ended_as id ok) (row_of alloc_cmp end_id other rows)
+    ap (option_map (λ (e : Ended). e.ok)) (row_of-put alloc_cmp end_id alloc_cmp_total other (ended_row id ok) rows)
+    ∙ mapped_cond (is_eq (alloc_cmp other id)) (ended_row id ok) (row_of alloc_cmp end_id other rows)
     ∙ (λ i. cond (at_id other id i) (Some ok) (ends other i))
     ∙ how_made (ended_how ended other) (same_alloc id other) ok
     (λ same. subst (λ (x : AllocId). ended_how ended x ≡ None) (same_ids id other same) (sym (ends id) ∙ mapped_none (row_of alloc_cmp end_id id rows) there))

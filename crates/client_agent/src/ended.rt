@@ -1,7 +1,7 @@
 //! The allocations that ended on a node while its agent was up.
 ghost use Rattle.std.specs.Prelude.{◌≡◌, [], ◌∷◌, ◌++◌, OnOk};
 ghost use Rattle.group_model.specs.Clients.{Ended as AnyEnded, ended_how};
-ghost use Rattle.client_agent.specs.Inner.Ends.{ended_as};
+ghost use Rattle.client_agent.specs.Inner.Ends.{ended_row};
 
 use fsm_tables::{ReservedTable, Row};
 use rows::{AllocId, NoMemory, Ranged};
@@ -91,7 +91,7 @@ impl Ended {
 
     /// One more ends. Without memory nothing changes.
     pub fn push(&mut self, id: &AllocId, ok: bool) -> Result<(), NoMemory>
-        ensures { OnOk result (self.new ≡ self.old ++ ended_as id.now ok ∷ []) }
+        ensures { OnOk result (self.new ≡ self.old ++ ended_row id.now ok ∷ []) }
     {
         let count = self.firsts.rows().len() + 1;
         self.firsts.make_room(count)?;

@@ -2,7 +2,7 @@
 ghost use Rattle.std.specs.Prelude.{◌≡◌, [], not, ◌&&◌, ◌||◌, OnOk, OnErr};
 ghost use Rattle.rows.specs.declared.allocation.AllocId.{AllocId};
 ghost use Rattle.cluster_model.specs.Words.{same_alloc};
-ghost use Rattle.client_agent.specs.Inner.Ids.{has_id};
+ghost use Rattle.client_agent.specs.Inner.Ids.{lists_id};
 
 use fsm_tables::{ReservedTable, Row};
 use rows::{AllocId, NoMemory, Ranged};
@@ -64,7 +64,7 @@ impl Ids {
 
     /// Whether an id is there.
     pub fn has(&self, id: &AllocId) -> bool
-        ensures { result ≡ has_id self.now id.now }
+        ensures { result ≡ lists_id self.now id.now }
     {
         self.rows.get(id).is_some()
     }
@@ -72,7 +72,7 @@ impl Ids {
     /// One more is there. Without memory nothing changes.
     pub fn add(&mut self, id: AllocId) -> Result<(), NoMemory>
         ensures ok { OnOk result ((other : AllocId)
-            → has_id self.new other ≡ (same_alloc other id || has_id self.old other)) }
+            → lists_id self.new other ≡ (same_alloc other id || lists_id self.old other)) }
         ensures err { OnErr result (self.new ≡ self.old) }
     {
         let count = self.rows.rows().len() + 1;
@@ -84,7 +84,7 @@ impl Ids {
     /// One is not there any more. It takes no memory.
     pub fn cut(&mut self, id: &AllocId)
         ensures { (other : AllocId)
-            → has_id self.new other ≡ (not (same_alloc other id.now) && has_id self.old other) }
+            → lists_id self.new other ≡ (not (same_alloc other id.now) && lists_id self.old other) }
     {
         self.rows.cut(id);
     }

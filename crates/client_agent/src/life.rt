@@ -3,7 +3,7 @@ ghost use Rattle.std.specs.Prelude.{◌≡◌, OnOk, IfOk, filter};
 ghost use Rattle.rows.specs.Listings.{AreListed};
 ghost use Rattle.group_model.specs.Clients.{Running, new_life, runs, is_shown, with_end, news};
 ghost use Rattle.client_agent.specs.Capacity.{FitTogether};
-ghost use Rattle.client_agent.specs.Inner.Runs.{runs_of, followed, Grows};
+ghost use Rattle.client_agent.specs.Inner.Runs.{runs_of, followed, MoreIds};
 
 use crate::ended::Ended;
 use crate::reporting::news;
@@ -91,7 +91,7 @@ impl Life {
             OnOk result ((started.new ≡ next.ids)
             × (self.new ≡ record self.old { seen = index; running = next.running })) }
         ensures fit { OnOk result (FitTogether whole self.new.running) }
-        ensures grows { Grows started.old started.new }
+        ensures grows { MoreIds started.old started.new }
     {
         self.seen = index;
         keep_shown(&mut self.running, rows);

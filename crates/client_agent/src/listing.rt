@@ -6,7 +6,7 @@ ghost use Rattle.group_model.specs.Messages.{Service};
 ghost use Rattle.group_model.specs.Clients.{report_messages, news};
 ghost use Rattle.group_frames.specs.GroupFrames.{SendsGroup};
 ghost use Rattle.client_agent.specs.Capacity.{FitTogether};
-ghost use Rattle.client_agent.specs.Inner.Runs.{followed, Grows};
+ghost use Rattle.client_agent.specs.Inner.Runs.{followed, MoreIds};
 
 use crate::asking::send_reports;
 use crate::life::Life;
@@ -54,7 +54,7 @@ pub(crate) fn take_shown(
         × SendsGroup cluster_meaning outbox.old outbox.new (map Service (report_messages
         node.now.number list.now.from (news next life.old.ended list.now.rows.now)))) }
     ensures fit { OnOk result (FitTogether node.now.size life.new.running) }
-    ensures grows { Grows started.old started.new }
+    ensures grows { MoreIds started.old started.new }
     ensures err { OnErr result (outbox.new ≡ outbox.old) }
 {
     life.follow(node.size, list.index, list.rows, started)?;

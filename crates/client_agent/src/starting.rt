@@ -2,8 +2,8 @@
 ghost use Rattle.std.specs.Prelude.{◌≡◌, ◌≤◌, true, nat_le, ◌&&◌, OnOk, OnErr};
 ghost use Rattle.group_model.specs.Clients.{starts, starts_one};
 ghost use Rattle.client_agent.specs.Capacity.{FitTogether};
-ghost use Rattle.client_agent.specs.Inner.Rooms.{IsRoom};
-ghost use Rattle.client_agent.specs.Inner.Runs.{runs_of, Grows};
+ghost use Rattle.client_agent.specs.Inner.Rooms.{IsRoomBeside};
+ghost use Rattle.client_agent.specs.Inner.Runs.{runs_of, MoreIds};
 
 use crate::running::RunningAllocation;
 use crate::started::Started;
@@ -24,7 +24,7 @@ pub(crate) struct Room {
 fn room_beside(whole: Size, running: &[RunningAllocation]) -> Room
     requires { FitTogether whole running.now }
     ensures whole { result.whole ≡ whole }
-    ensures room { IsRoom running.now result }
+    ensures room { IsRoomBeside running.now result }
 {
     let (mut cpu, mut mem) = (whole.cpu.get(), whole.mem.get());
     for one in running {
@@ -48,12 +48,12 @@ fn start_one(
     running: &mut Vec<RunningAllocation>,
     room: &mut Room,
 ) -> Result<(), NoMemory>
-    requires { IsRoom running.old.items room.old }
+    requires { IsRoomBeside running.old.items room.old }
     ensures whole { room.new.whole ≡ room.old.whole }
     ensures ok { OnOk result (runs_of started.new running.new.items
         ≡ starts_one room.old.whole row.now (runs_of started.old running.old.items)) }
-    ensures room { OnOk result (IsRoom running.new.items room.new) }
-    ensures grows { Grows started.old started.new }
+    ensures room { OnOk result (IsRoomBeside running.new.items room.new) }
+    ensures grows { MoreIds started.old started.new }
 {
     if started.has(&row.id) || !has_room(room, row.size) {
         return Ok(());
@@ -80,7 +80,7 @@ pub(crate) fn start_listed(
     ensures ok { OnOk result (runs_of started.new running.new.items
         ≡ starts whole rows.now (runs_of started.old running.old.items)) }
     ensures fit { OnOk result (FitTogether whole running.new.items) }
-    ensures grows { Grows started.old started.new }
+    ensures grows { MoreIds started.old started.new }
 {
     let mut room = room_beside(whole, running);
     for row in rows {

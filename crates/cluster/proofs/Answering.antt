@@ -20,19 +20,19 @@ use Rattle.server.specs.ServerViews.{ServerView, IsMember, SameMember}
 use Rattle.server.specs.Handings.{Handing, FrameBytes, OwnInput, handing}
 use Rattle.server.specs.Turns.{TakesHanding}
 use Rattle.server.specs.Refusals.{IsHandingRefused, HandingRefusalLeaves}
-use Rattle.world.specs.Inner.GroupInputs.{is_frame, is_restart_input}
+use Rattle.world.specs.Inner.GroupInputs.{comes_as_frame, is_restart_input}
 use Rattle.world.proofs.GroupHistories.{member_of, is_member_of, member_fell, member_stayed}
-use Rattle.cluster.specs.Actors.{frame_of, nothing_sent, TakesInput}
+use Rattle.cluster.specs.Actors.{output_frame, nothing_sent, TakesInput}
 use Rattle.cluster.specs.Refusals.{restarts_server, InputRefused, ServerAdmits, ServerRefuses, ServerMayLack, ClientAdmits, ClientRefuses}
 use Rattle.server.specs.declared.server_input.ServerInput.{ServerInput}
 use Rattle.event_book.specs.declared.view.EventView.TheVariants.{Own}
 use Rattle.cluster.specs.declared.own_input.OwnInput.TheVariants as own
 use Rattle.cluster.specs.declared.actor.GroupActor.TheVariants as actors
 use Rattle.cluster.specs.declared.actor.Stepped.{Stepped}
-use Rattle.cluster.specs.Inner.Steps.{output_of, RefusedAsSaid, ServerDid, ServerAnswered, ClientDid, Answered}
+use Rattle.cluster.specs.Inner.Steps.{output_of, RefusedAsSaid, ServerDid, ServerAnswered, ClientDid, DidOrRefused}
 use Rattle.cluster.specs.declared.actor.Stepped.TheVariants.{Taken, Crashed}
 
-frames_again : (fs : List Frame) → map frame_of (map output_of fs) ≡ fs
+frames_again : (fs : List Frame) → map output_frame (map output_of fs) ≡ fs
 frames_again [] = refl
 frames_again (f ∷ fs) = ap (λ l. f ∷ l) (frames_again fs)
 
@@ -83,8 +83,8 @@ module _ (old new : ServerView) (h : Handing) where
   server_refuses _ other refused left = (left (member_of old) (is_member_of old), refused)
 
 -- what is handed to a server by an event that is an input of its own, and no frame
-pub input_answered : (old new : ServerView) (input : Box ServerInput Global) (h : Handing) (q : Result Stepped Refusal) → handing input.value ≡ h → is_frame h ≡ false →
-    ServerAnswered old h q new → Answered (actors.Server old) (Own (own.Server input)) q (actors.Server new)
+pub input_answered : (old new : ServerView) (input : Box ServerInput Global) (h : Handing) (q : Result Stepped Refusal) → handing input.value ≡ h → comes_as_frame h ≡ false →
+    ServerAnswered old h q new → DidOrRefused (actors.Server old) (Own (own.Server input)) q (actors.Server new)
 input_answered old new input (FrameBytes bytes) q is other a = absurd (cc)
 input_answered old new input (OwnInput x) (Ok (Taken outbox)) is other a = subst (λ k. TakesInput old k (map output_of outbox.frames) outbox.work new) (sym is) a
 input_answered old new input (OwnInput x) (Ok Crashed) is other a = ((refl, refl, a.0), subst (λ k. ServerMayLack old k) (sym is) a.1)

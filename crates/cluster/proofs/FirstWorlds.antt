@@ -15,7 +15,7 @@ use Rattle.client_agent.specs.AgentView.{AgentView}
 use Rattle.server.specs.ServerViews.{ServerView, IsMember}
 use Rattle.cluster.specs.declared.actor.GroupActor.{GroupActor}
 use Rattle.cluster.specs.declared.actor.GroupActor.TheVariants.{Server, Client as Agent}
-use Rattle.cluster.specs.Actors.{frame_of, IsNewActor}
+use Rattle.cluster.specs.Actors.{output_frame, IsNewActor}
 use Rattle.cluster.proofs.CellWorlds.{CellWorld}
 use Rattle.cluster.proofs.Standing.{Stands}
 
@@ -102,5 +102,5 @@ stands_first n nodes c f =
           λ i a at. get-some (replicate n newcomer) i
           (omega (arith, f.no_more_servers i a at, length-replicate n newcomer));
       client_there = λ k a at. first_client_there n nodes c f k a at;
-      sent = subst (λ l. AllZip (CarriesGroup cluster_meaning) (map frame_of l) []) (sym f.sent) tt;
+      sent = subst (λ l. AllZip (CarriesGroup cluster_meaning) (map output_frame l) []) (sym f.sent) tt;
     }

@@ -23,7 +23,7 @@ use Rattle.cluster.specs.declared.actor.GroupActor.TheVariants.{Server, Client a
 use Rattle.cluster.specs.declared.closing.NamedActor.{NamedActor}
 use Rattle.cluster.specs.Actors.{IsNewActor, group_size}
 use Rattle.cluster.specs.Cells.{CellView, IsLedCell}
-use Rattle.cluster.specs.Closing.{AreOfGroup, HasActor, HasCell, ClosesTo, cell_actors, noted_events}
+use Rattle.cluster.specs.Closing.{AreOfGroup, ShowsActor, HasCell, ClosesTo, cell_actors, noted_events}
 use Rattle.cluster.specs.Inner.Closed.{IsClosed, named_in}
 use Rattle.cluster.specs.Inner.Joined.{agent_named, IsAmong, HasClients, AreNodesOf}
 use Rattle.cluster.specs.Inner.Runs.{EventsLead, GroupLeads, RepresentsLast}
@@ -277,7 +277,7 @@ module _ (view : GroupView) (c : CellWorld) (w : World) (st : Stands c w)
       let size = (places k b.0 b.1).1 ∙ zip_length IsMember view.servers w.servers rep.servers in
       b.1 ∙ (λ i. Some (record { size = size i; client = b.2 i }))
 
-  has_actor : (a : Actor) (s : GroupActor) → c.at a ≡ Some s → HasActor view a s
+  has_actor : (a : Actor) (s : GroupActor) → c.at a ≡ Some s → ShowsActor view a s
   has_actor (actors.Server i) (Server v) at =
       let q = is_server c w st i (Server v) at in
       let x = zip_from IsMember view.servers w.servers i q.member rep.servers q.there in

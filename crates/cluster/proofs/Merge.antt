@@ -9,7 +9,7 @@ use Rattle.rows.specs.declared.actor.Actor.{Actor}
 use Rattle.rows.specs.declared.actor.Actor.TheVariants.{Server, Client}
 use Rattle.group_model.specs.Worlds.{Event}
 use Rattle.event_book.specs.Actors.{same_actor, lists_actor}
-use Rattle.event_book.specs.Histories.{notes_of, NumberedFrom, IsDueEvent, IsDue, IsLegal}
+use Rattle.event_book.specs.Histories.{notes_of, NumberedFrom, IsDueEvent, IsDueNote, IsLegal}
 use Rattle.event_book.specs.declared.view.EventView.{EventView}
 use Rattle.event_book.specs.declared.view.EventView.TheVariants.{Own, Delivery, Crash}
 use Rattle.event_book.specs.declared.view.Note.{Note}
@@ -171,7 +171,7 @@ module _ {A W : Type 0} (g : Group A W) (all : List Actor) (last : Actor → Opt
 
   -- what is left of the history runs on from a world in which what came before it was sent
   replays : (log pre post : History) (w : W) → log ≡ pre ++ post → NumberedFrom (length pre) post →
-      AllByRecursion (IsDue log) post →
+      AllByRecursion (IsDueNote log) post →
       AllByRecursion (λ (e : Note OwnInput). lists_actor all e.actor ≡ true) post →
       g.sent w ≡ sent_by pre →
       ((a : Actor) → lists_actor all a ≡ true → Lead g last w post a) →

@@ -26,7 +26,7 @@ use Rattle.client_agent.specs.declared.input.ClientInput.{ClientInput}
 use Rattle.client_agent.specs.declared.input.ClientInput.TheVariants as client_inputs
 use Rattle.server.specs.ServerViews.{ServerView, IsMember, crashed_member}
 use Rattle.server.specs.Handings.{Handing, FrameBytes, OwnInput as TakesOwn, handing, bytes_of}
-use Rattle.world.specs.Inner.GroupInputs.{is_frame, is_client_frame, IsSentTo}
+use Rattle.world.specs.Inner.GroupInputs.{comes_as_frame, is_client_frame, IsSentTo}
 use Rattle.world.proofs.GroupScenes.{ServerTakes, ClientTakes}
 use Rattle.world.proofs.GroupOwn.{own_server, own_client}
 use Rattle.world.proofs.GroupDeliveries.{sent_to_server, sent_to_client}
@@ -35,7 +35,7 @@ use Rattle.event_book.specs.declared.view.EventView.TheVariants.{Own, Delivery, 
 use Rattle.event_book.specs.declared.view.Output.{Output}
 use Rattle.cluster.specs.declared.own_input.OwnInput.{OwnInput}
 use Rattle.cluster.specs.declared.own_input.OwnInput.TheVariants as own
-use Rattle.cluster.specs.Actors.{frame_of, nothing_sent, ServerTurned, ServerCrashed, TakesInput, ServerTurns, ClientTurned, TakesClientInput, ClientTurns}
+use Rattle.cluster.specs.Actors.{output_frame, nothing_sent, ServerTurned, ServerCrashed, TakesInput, ServerTurns, ClientTurned, TakesClientInput, ClientTurns}
 use Rattle.cluster.proofs.CellWorlds.{Brings}
 
 -- a frame is read as the message whose frame it is
@@ -47,18 +47,18 @@ ReadsAgain = (y : WireMessage State Command) → MessageFits cluster_meaning.com
 
 -- an output that was sent is a frame for its receiver
 sent_to : (sent : List Output) (k : ℕ) (to : Actor) (frame : List ℕ) →
-    slice_get sent k ≡ Some (record { to = to; frame = frame }) → IsSentTo (map frame_of sent) k to
+    slice_get sent k ≡ Some (record { to = to; frame = frame }) → IsSentTo (map output_frame sent) k to
 sent_to sent k to frame at =
     record {
       frame = record { to = to; bytes = frame };
-      at = get_map frame_of sent k _ at;
+      at = get_map output_frame sent k _ at;
       is_to = refl;
     }
 
 bytes_are : (sent : List Output) (k : ℕ) (to : Actor) (frame : List ℕ) →
     slice_get sent k ≡ Some (record { to = to; frame = frame }) →
-    frame ≡ bytes_of (slice_get (map frame_of sent) k)
-bytes_are sent k to frame at = sym (ap bytes_of (get_map frame_of sent k _ at))
+    frame ≡ bytes_of (slice_get (map output_frame sent) k)
+bytes_are sent k to frame at = sym (ap bytes_of (get_map output_frame sent k _ at))
 
 -- ---- crashes
 
@@ -88,13 +88,13 @@ pub record ServerMoves (w : World) (e : Event) (i : ℕ) (new : ServerView) (out
   pub me : new.raft.me ≡ i
   pub size : new.raft.size ≡ length w.servers
   pub member : IsMember new turn.member
-  pub sends : SendsGroup cluster_meaning [] (map frame_of outputs) turn.sent
+  pub sends : SendsGroup cluster_meaning [] (map output_frame outputs) turn.sent
 
 -- an input of its own that is taken is no frame
 input_is
     : (old : ServerView) (h : Handing) (outputs : List Output) (work : List Work)
     (new : ServerView) → TakesInput old h outputs work new →
-    (is_frame h ≡ false) × ServerTurned old h outputs work new
+    (comes_as_frame h ≡ false) × ServerTurned old h outputs work new
 input_is old (FrameBytes bytes) outputs work new t = absurd t
 input_is old (TakesOwn input) outputs work new t = (refl, t)
 
@@ -105,7 +105,7 @@ pub record ClientMoves (w : World) (e : Event) (k : ℕ) (new : AgentView) (outp
   pub goes : happens w e ≡ after_client w k (Ok turn)
   pub size : new.size ≡ length w.servers
   pub client : new.client ≡ turn.client
-  pub sends : SendsGroup cluster_meaning [] (map frame_of outputs) (map Service turn.sent)
+  pub sends : SendsGroup cluster_meaning [] (map output_frame outputs) (map Service turn.sent)
 
 client_input_is
     : (old : AgentView) (given : ClientInput) (outputs : List Output) (new : AgentView) →
@@ -122,14 +122,14 @@ client_input_is old client_inputs.Restart outputs new t = (refl, t)
 -- ---- the steps
 
 module _ (again : ReadsAgain) (sent : List Output) (w : World)
-    (z : AllZip (CarriesGroup cluster_meaning) (map frame_of sent) w.sent) where
+    (z : AllZip (CarriesGroup cluster_meaning) (map output_frame sent) w.sent) where
   module _ (i : ℕ) (m : Member) (old : ServerView) (here : slice_get w.servers i ≡ Some m)
       (me : old.raft.me ≡ i) (size : old.raft.size ≡ length w.servers) (is : IsMember old m)
       (new : ServerView) (outputs : List Output) where
     takes_handing : (e : Event) (h : Handing) (work : List Work) → ServerTakes old h w e i m →
         ServerTurned old h outputs work new → ServerMoves w e i new outputs
     takes_handing e h work takes t =
-        let q = takes.taken new nothing_sent (record { frames = map frame_of outputs; work = work })
+        let q = takes.taken new nothing_sent (record { frames = map output_frame outputs; work = work })
         (t.taken m is) in
         record {
           turn = q.turn;
@@ -151,7 +151,7 @@ module _ (again : ReadsAgain) (sent : List Output) (w : World)
           me = t.same.0 ∙ me;
           size = t.same.1 ∙ size;
           member = f.1;
-          sends = record { frames = []; added = ap (map frame_of) none; carry = tt };
+          sends = record { frames = []; added = ap (map output_frame) none; carry = tt };
         }
 
     pub server_moves : (event : EventView OwnInput) (work : List Work) (e : Event) →
@@ -165,7 +165,7 @@ module _ (again : ReadsAgain) (sent : List Output) (w : World)
     server_moves (Own (own.Client input)) work e brings t = absurd t
     server_moves (Delivery stamp place frame) work e brings t =
         let k = brings.0 in
-        let frames = map frame_of sent in
+        let frames = map output_frame sent in
         let bytes = bytes_are sent k (actors.Server i) frame brings.2 in
         subst (λ f. ServerMoves w f i new outputs) (sym brings.1)
         (takes_handing (Deliver k) (FrameBytes (bytes_of (slice_get frames k))) work
@@ -183,7 +183,7 @@ module _ (again : ReadsAgain) (sent : List Output) (w : World)
     takes_given : (e : Event) (given : ClientInput) → ClientTakes agent given w e k →
         ClientTurned agent given outputs new → ClientMoves w e k new outputs
     takes_given e given takes t =
-        let q = takes.taken new [] (map frame_of outputs) t.taken in
+        let q = takes.taken new [] (map output_frame outputs) t.taken in
         record {
           turn = q.turn;
           goes = takes.happens ∙ ap (λ r. after_client w k r) q.is;
@@ -200,7 +200,7 @@ module _ (again : ReadsAgain) (sent : List Output) (w : World)
           ∙ ap (λ r. after_client w k r) (client_crash (length w.servers) x x.life up);
       size = ap (λ (a : AgentView). a.size) is;
       client = ap (λ (a : AgentView). a.client) is;
-      sends = record { frames = []; added = ap (map frame_of) none; carry = tt };
+      sends = record { frames = []; added = ap (map output_frame) none; carry = tt };
     }
 
     pub client_moves : (event : EventView OwnInput) (e : Event) →
@@ -213,7 +213,7 @@ module _ (again : ReadsAgain) (sent : List Output) (w : World)
         (takes_given _ input.value (own_client agent input.value w k here refl q.0) q.1)
     client_moves (Delivery stamp place frame) e brings t =
         let j = brings.0 in
-        let frames = map frame_of sent in
+        let frames = map output_frame sent in
         let bytes = bytes_are sent j (actors.Client k) frame brings.2 in
         subst (λ f. ClientMoves w f k new outputs) (sym brings.1)
         (takes_given (Deliver j) (client_inputs.Frame (bytes_of (slice_get frames j)))

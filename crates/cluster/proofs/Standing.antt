@@ -26,7 +26,7 @@ use Rattle.event_book.specs.declared.view.Output.{Output}
 use Rattle.cluster.specs.declared.own_input.OwnInput.{OwnInput}
 use Rattle.cluster.specs.declared.actor.GroupActor.{GroupActor}
 use Rattle.cluster.specs.declared.actor.GroupActor.TheVariants.{Server, Client as Agent}
-use Rattle.cluster.specs.Actors.{frame_of, ActorSteps}
+use Rattle.cluster.specs.Actors.{output_frame, ActorSteps}
 use Rattle.cluster.proofs.CellWorlds.{CellWorld, put, Brings, Happened, Runs}
 use Rattle.cluster.proofs.Moves.{ReadsAgain, server_moves, client_moves}
 
@@ -43,7 +43,7 @@ pub record Stands (c : CellWorld) (w : World) : Type 0 where
       (m : Member) × (slice_get w.servers i ≡ Some m)
   pub client_there : (k : ℕ) (a : GroupActor) → c.at (actors.Client k) ≡ Some a →
       (x : Client) × (client_at w.clients k ≡ Some x)
-  pub sent : AllZip (CarriesGroup cluster_meaning) (map frame_of c.sent) w.sent
+  pub sent : AllZip (CarriesGroup cluster_meaning) (map output_frame c.sent) w.sent
 
 -- the world after an event of the cells' actors
 abbrev pub GoesOn : CellWorld → World → Event → Type 0
@@ -52,14 +52,14 @@ GoesOn d w e = (next : World) × (happens w e ≡ Ok next) × Stands d next
 -- ---- what a step changes
 
 sent_more : (sent outputs : List Output) (messages more : List GroupMessage) →
-    AllZip (CarriesGroup cluster_meaning) (map frame_of sent) messages →
-    SendsGroup cluster_meaning [] (map frame_of outputs) more →
-    AllZip (CarriesGroup cluster_meaning) (map frame_of (sent ++ outputs)) (messages ++ more)
+    AllZip (CarriesGroup cluster_meaning) (map output_frame sent) messages →
+    SendsGroup cluster_meaning [] (map output_frame outputs) more →
+    AllZip (CarriesGroup cluster_meaning) (map output_frame (sent ++ outputs)) (messages ++ more)
 sent_more sent outputs messages more z s =
     subst (λ l. AllZip (CarriesGroup cluster_meaning) l (messages ++ more))
-    (sym (map_append frame_of sent outputs))
-    (zip_append (CarriesGroup cluster_meaning) (map frame_of sent) messages
-    (map frame_of outputs) more z
+    (sym (map_append output_frame sent outputs))
+    (zip_append (CarriesGroup cluster_meaning) (map output_frame sent) messages
+    (map output_frame outputs) more z
     (subst (λ l. AllZip (CarriesGroup cluster_meaning) l more) (sym s.added) s.carry))
 
 -- a list that one place changed has something wherever it had
@@ -96,7 +96,7 @@ module _ (c : CellWorld) (w : World) (st : Stands c w) where
       : (i : ℕ) (old : GroupActor) (new : ServerView) (outputs : List Output)
       (turn : members.Turn) → c.at (actors.Server i) ≡ Some old → new.raft.me ≡ i →
       new.raft.size ≡ length w.servers → IsMember new turn.member →
-      SendsGroup cluster_meaning [] (map frame_of outputs) turn.sent →
+      SendsGroup cluster_meaning [] (map output_frame outputs) turn.sent →
       Stands (put c (actors.Server i) (Server new) outputs)
       (record w { servers = slice_set w.servers i turn.member; sent = w.sent ++ turn.sent })
   server_stands i old new outputs turn here me size member sends =
@@ -174,7 +174,7 @@ module _ (c : CellWorld) (w : World) (st : Stands c w) where
       (turn : clients.Turn) → c.at (actors.Client k) ≡ Some old →
       happens w e ≡ after_client w k (Ok turn) → new.size ≡ length w.servers →
       new.client ≡ turn.client →
-      SendsGroup cluster_meaning [] (map frame_of outputs) (map Service turn.sent) →
+      SendsGroup cluster_meaning [] (map output_frame outputs) (map Service turn.sent) →
       Stands (put c (actors.Client k) (Agent new) outputs)
       (record w {
         clients = with_client w.clients k turn.client;

@@ -27,9 +27,9 @@ use Rattle.cluster.specs.declared.actor.GroupActor.TheVariants.{Server, Client}
 use Rattle.cluster.specs.declared.actor.Stepped.{Stepped}
 use Rattle.cluster.specs.declared.actor.Stepped.TheVariants.{Taken, Crashed}
 use Rattle.cluster.specs.declared.own_input.OwnInput.TheVariants as own
-use Rattle.cluster.specs.Actors.{frame_of, nothing_sent, ServerTurned, TakesInput, ServerTurns, ClientTurns, ActorTurns, IsNewActor, SameActor}
+use Rattle.cluster.specs.Actors.{output_frame, nothing_sent, ServerTurned, TakesInput, ServerTurns, ClientTurns, ActorTurns, IsNewActor, SameActor}
 use Rattle.cluster.specs.Refusals.{ActorRefuses, Hears}
-use Rattle.cluster.specs.Cells.{EnvelopeView, CellView, HasRoom, IsLed, IsLedCell, IsRefused, Turned, crash_noted, envelopes_from, kept_of, kept_in}
+use Rattle.cluster.specs.Cells.{EnvelopeView, CellView, HasNoteLeft, IsLed, IsLedCell, IsEnvelopeRefused, Turned, crash_noted, envelopes_from, kept_event, kept_in}
 use Rattle.cluster.specs.declared.cell.StampedEvent.{StampedEvent}
 use Rattle.cluster.specs.Inner.Steps.{Did, RefusedAsSaid, output_of}
 use Rattle.cluster.specs.Inner.Sending.{IsRecorded, IsStill, IsTurn, last_envelopes}
@@ -52,7 +52,7 @@ module _ (x v w : ServerView) (same : SameMember v w) where
   same_takes s (TakesOwn input) before after t = same_turn (step x.raft.size x.raft.me s input) before after t
 
   same_turned : (h : Handing) (outs : List Output) (work : List Work) → ServerTurned x h outs work v → ServerTurned x h outs work w
-  same_turned h outs work t = record { same = same_places v w x same t.same; admitted = t.admitted; taken = λ s is. same_takes s h nothing_sent (record { frames = map frame_of outs; work = work }) (t.taken s is) }
+  same_turned h outs work t = record { same = same_places v w x same t.same; admitted = t.admitted; taken = λ s is. same_takes s h nothing_sent (record { frames = map output_frame outs; work = work }) (t.taken s is) }
 
   same_input : (h : Handing) (outs : List Output) (work : List Work) → TakesInput x h outs work v → TakesInput x h outs work w
   same_input (FrameBytes bytes) outs work t = t
@@ -103,7 +103,7 @@ last_sent old after noted stamp tokens is =
     let note : Note OwnInput = record { stamp = stamp; actor = old.actor; noted = noted } in
     ap (λ (s : SeatView OwnInput). last_envelopes s.notes) is ∙ envelopes_end old.notes note
 
-pub turned : (old : CellView) (envelope : EnvelopeView) (stepped : Stepped) (new : GroupActor) (after : SeatView OwnInput) (work : List Work) (sent : List EnvelopeView) → envelope.receiver ≡ old.seat.actor → HasRoom old
+pub turned : (old : CellView) (envelope : EnvelopeView) (stepped : Stepped) (new : GroupActor) (after : SeatView OwnInput) (work : List Work) (sent : List EnvelopeView) → envelope.receiver ≡ old.seat.actor → HasNoteLeft old
     → Did old.actor envelope.event stepped new → IsRecorded old.seat envelope.event envelope.tokens stepped after work sent → Turned old envelope (record { actor = new; seat = after }) work sent
 turned old envelope (Taken outbox) new after work sent mine room did r =
     let outs = map output_of outbox.frames in
@@ -142,13 +142,13 @@ led_on n old envelope new work sent led t =
 -- ---- a cell's turn, both ways
 
 abbrev pub Kept : ℕ → Actor → GroupActor → List StampedEvent → SeatView OwnInput → Type 0
-Kept n me actor taken seat = (me ≡ seat.actor) × (map kept_of taken ≡ map kept_in seat.notes) × IsLedCell n (record { actor = actor; seat = seat })
+Kept n me actor taken seat = (me ≡ seat.actor) × (map kept_event taken ≡ map kept_in seat.notes) × IsLedCell n (record { actor = actor; seat = seat })
 
 -- what became of an envelope keeps what a cell keeps
 pub cell_kept : {X : Type 0} (n : ℕ) (me : Actor) (old : CellView) (envelope : EnvelopeView) (q : Result X Refusal) (work : X → List Work) (sent : X → List EnvelopeView) (after : GroupActor) (now : SeatView OwnInput) (before taken : List StampedEvent)
-    → Kept n me old.actor before old.seat → envelope.receiver ≡ me → HasRoom old
+    → Kept n me old.actor before old.seat → envelope.receiver ≡ me → HasNoteLeft old
     → IfOk q (λ x. IsTurn old.actor old.seat envelope.event envelope.tokens (work x) (sent x) after now) → IfErr q (λ cause. IsStill old.actor old.seat envelope.event cause after now)
-    → map kept_of taken ≡ map kept_in now.notes → Kept n me after taken now
+    → map kept_event taken ≡ map kept_in now.notes → Kept n me after taken now
 cell_kept n me old envelope (Ok x) work sent after now before taken was to room turn still kept =
     let t = turned old envelope turn.stepped after now (work x) (sent x) (to ∙ was.0) room turn.did turn.recorded in
     (was.0 ∙ sym (ap (λ (s : SeatView OwnInput). s.actor) t.seat), kept, led_on n old envelope (record { actor = after; seat = now }) (work x) (sent x) was.2 t)
@@ -156,7 +156,7 @@ cell_kept n me old envelope (Err cause) work sent after now before taken was to 
     (was.0 ∙ sym (ap (λ (s : SeatView OwnInput). s.actor) still.seat_is), kept, subst (λ s. IsLedCell n (record { actor = after; seat = s })) (sym still.seat_is) (led_still n old.seat old.actor after still.same was.2))
 
 pub cell_turned : {X : Type 0} (me : Actor) (old : CellView) (envelope : EnvelopeView) (q : Result X Refusal) (work : X → List Work) (sent : X → List EnvelopeView) (after : GroupActor) (now : SeatView OwnInput)
-    → me ≡ old.seat.actor → envelope.receiver ≡ me → HasRoom old → IfOk q (λ x. IsTurn old.actor old.seat envelope.event envelope.tokens (work x) (sent x) after now)
+    → me ≡ old.seat.actor → envelope.receiver ≡ me → HasNoteLeft old → IfOk q (λ x. IsTurn old.actor old.seat envelope.event envelope.tokens (work x) (sent x) after now)
     → IfOk q (λ x. Turned old envelope (record { actor = after; seat = now }) (work x) (sent x))
 cell_turned me old envelope (Ok x) work sent after now mine to room turn = turned old envelope turn.stepped after now (work x) (sent x) (to ∙ mine) room turn.did turn.recorded
 cell_turned me old envelope (Err cause) work sent after now mine to room turn = turn
@@ -166,7 +166,7 @@ as_said says refusals.NoMemory said = inl refl
 as_said says _ said = inr said
 
 pub cell_refused : {X : Type 0} (me : Actor) (old : CellView) (envelope : EnvelopeView) (q : Result X Refusal) (after : GroupActor) (now : SeatView OwnInput)
-    → me ≡ old.seat.actor → Hears old.actor envelope.event → envelope.receiver ≡ me → HasRoom old → IfErr q (λ cause. IsStill old.actor old.seat envelope.event cause after now)
-    → IfErr q (λ cause. IsRefused old envelope cause)
+    → me ≡ old.seat.actor → Hears old.actor envelope.event → envelope.receiver ≡ me → HasNoteLeft old → IfErr q (λ cause. IsStill old.actor old.seat envelope.event cause after now)
+    → IfErr q (λ cause. IsEnvelopeRefused old envelope cause)
 cell_refused me old envelope (Ok x) after now mine hears to room still = still
 cell_refused me old envelope (Err cause) after now mine hears to room still = inr (hears, inr (to ∙ mine, inr (room, as_said (ActorRefuses old.actor envelope.event) cause still.refused)))

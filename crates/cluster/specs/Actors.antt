@@ -38,8 +38,8 @@ IsClientInput (own.Client input) given = input.value ≡ given
 
 -- ---- what is sent
 
-abbrev pub frame_of : Output → Frame
-frame_of o = record { to = o.to; bytes = o.frame }
+abbrev pub output_frame : Output → Frame
+output_frame o = record { to = o.to; bytes = o.frame }
 
 abbrev pub nothing_sent : Outbox
 nothing_sent = record { frames = []; work = [] }
@@ -52,7 +52,7 @@ nothing_sent = record { frames = []; work = [] }
 pub record ServerTurned (old : ServerView) (h : Handing) (outputs : List Output) (work : List Work) (new : ServerView) : Type 0 where
   pub same : (new.raft.me ≡ old.raft.me) × (new.raft.size ≡ old.raft.size)
   pub admitted : ServerAdmits old h
-  pub taken : (s : Member) → IsMember old s → TakesHanding old s h new nothing_sent (record { frames = map frame_of outputs; work = work })
+  pub taken : (s : Member) → IsMember old s → TakesHanding old s h new nothing_sent (record { frames = map output_frame outputs; work = work })
 
 -- it was up, and lost what it does not store
 pub record ServerCrashed (old new : ServerView) : Type 0 where
@@ -76,7 +76,7 @@ ServerTurns old Crash outputs work new = (outputs ≡ []) × (work ≡ []) × Se
 pub record ClientTurned (old : AgentView) (given : ClientInput) (outputs : List Output) (new : AgentView) : Type 0 where
   pub same : new.size ≡ old.size
   pub admitted : ClientAdmits old given
-  pub taken : AgentTakes old given new [] (map frame_of outputs)
+  pub taken : AgentTakes old given new [] (map output_frame outputs)
 
 abbrev pub TakesClientInput : AgentView → ClientInput → List Output → AgentView → Type 0
 TakesClientInput old (client_inputs.Frame bytes) outputs new = ⊥

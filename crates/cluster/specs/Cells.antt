@@ -67,15 +67,15 @@ pub record CellView : Type 0 where
   pub seat : SeatView OwnInput
 
 -- a stamp, an event, and how many outputs it had
-pub record Kept : Type 0 where
+pub record KeptEvent : Type 0 where
   pub stamp : ℕ
   pub event : EventView OwnInput
   pub sent : ℕ
 
-abbrev pub kept_of : StampedEvent → Kept
-kept_of e = record { stamp = e.stamp; event = event_view e.event; sent = e.sent }
+abbrev pub kept_event : StampedEvent → KeptEvent
+kept_event e = record { stamp = e.stamp; event = event_view e.event; sent = e.sent }
 
-abbrev pub kept_in : Note OwnInput → Kept
+abbrev pub kept_in : Note OwnInput → KeptEvent
 kept_in e = record { stamp = e.stamp; event = e.noted.event; sent = length e.noted.outputs }
 
 -- the actor is where these notes, the newest first, leave it
@@ -105,8 +105,8 @@ IsNoteOf old envelope noted taken =
     ⊎ (noted ≡ crash_noted) × (taken ≡ []) × ActorMayLack old.actor envelope.event
 
 -- the seat may note one event more
-abbrev pub HasRoom : CellView → Type 0
-HasRoom c = length c.seat.notes + 1 < 2 ^ 40
+abbrev pub HasNoteLeft : CellView → Type 0
+HasNoteLeft c = length c.seat.notes + 1 < 2 ^ 40
 
 -- The actor took one step, or crashed in its place; that was noted once; so many of its first
 -- outputs come with their tokens (no field says that these are all).
@@ -115,7 +115,7 @@ pub record Turned (old : CellView) (envelope : EnvelopeView) (new : CellView) (w
   pub taken : List (TokenView OwnInput)
   pub stamp : ℕ
   pub receiver : envelope.receiver ≡ old.seat.actor
-  pub room : HasRoom old
+  pub room : HasNoteLeft old
   pub is_of : IsNoteOf old envelope noted taken
   pub step : ActorTurns old.actor noted.event noted.outputs work new.actor
   pub seat : new.seat ≡ with_note noted stamp (with_taken taken old.seat)
@@ -127,7 +127,7 @@ pub record Turned (old : CellView) (envelope : EnvelopeView) (new : CellView) (w
 abbrev pub WhyNotTaken : CellView → EnvelopeView → Refusal → Type 0
 WhyNotTaken old envelope r =
     (r ≡ refusals.Exhausted) × (2 ^ 40 ≤ length old.seat.notes + 1)
-    ⊎ HasRoom old × ((r ≡ refusals.NoMemory) ⊎ ActorRefuses old.actor envelope.event r)
+    ⊎ HasNoteLeft old × ((r ≡ refusals.NoMemory) ⊎ ActorRefuses old.actor envelope.event r)
 
 -- why an envelope is refused at an actor that hears it: it is for another actor, or else as above
 abbrev pub WhyRefused : CellView → EnvelopeView → Refusal → Type 0
@@ -136,7 +136,7 @@ WhyRefused old envelope r =
     ⊎ (envelope.receiver ≡ old.seat.actor) × WhyNotTaken old envelope r
 
 -- one that does not hear it refuses with `Down`
-abbrev pub IsRefused : CellView → EnvelopeView → Refusal → Type 0
-IsRefused old envelope r =
+abbrev pub IsEnvelopeRefused : CellView → EnvelopeView → Refusal → Type 0
+IsEnvelopeRefused old envelope r =
     (r ≡ refusals.Down) × IsDeafTo old.actor envelope.event
     ⊎ Hears old.actor envelope.event × WhyRefused old envelope r

@@ -74,15 +74,15 @@ abbrev pub cell_actors : List CellView → List Actor
 cell_actors cells = map actor_in (map seat_in cells)
 
 -- the world has this actor: the same client, or a server that is the same one of the definitions
-abbrev pub HasActor : GroupView → Actor → GroupActor → Type 0
-HasActor view (actors.Server i) (Server v) =
+abbrev pub ShowsActor : GroupView → Actor → GroupActor → Type 0
+ShowsActor view (actors.Server i) (Server v) =
     (x : ServerView) × (s : Member) × (slice_get view.servers i ≡ Some x) × IsMember v s × IsMember x s
-HasActor view (actors.Server i) (Client a) = ⊥
-HasActor view (actors.Client c) (Server v) = ⊥
-HasActor view (actors.Client c) (Client a) = client_view view.clients c ≡ Some a
+ShowsActor view (actors.Server i) (Client a) = ⊥
+ShowsActor view (actors.Client c) (Server v) = ⊥
+ShowsActor view (actors.Client c) (Client a) = client_view view.clients c ≡ Some a
 
 abbrev pub HasCell : GroupView → CellView → Type 0
-HasCell view c = HasActor view c.seat.actor c.actor
+HasCell view c = ShowsActor view c.seat.actor c.actor
 
 -- The world's trace is all that the cells noted, each event once and in the order of its stamp, and
 -- its actors are the cells': each of the book's actors has one cell, and no other actor has one.

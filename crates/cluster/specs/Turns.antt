@@ -13,7 +13,7 @@ use Rattle.cluster_model.specs.Words.{State}
 use Rattle.event_book.specs.declared.view.EventView.TheVariants.{Own}
 use Rattle.event_book.specs.Actors.{lists_actor}
 use Rattle.cluster.specs.declared.own_input.OwnInput.{OwnInput}
-use Rattle.cluster.specs.Cells.{CellView, EnvelopeView, IsLedCell, IsRefused, Turned}
+use Rattle.cluster.specs.Cells.{CellView, EnvelopeView, IsLedCell, IsEnvelopeRefused, Turned}
 use Rattle.cluster.specs.Closing.{own_event}
 use Rattle.cluster.specs.PlanCounts.{WorkersView, plans_under}
 use Rattle.cluster.specs.Working.{HasApplied, WhyNotApplied, asking}
@@ -30,7 +30,7 @@ pub record TookTurn (n : ℕ) (envelope : EnvelopeView) (work : List Work) (sent
 
 -- a cell, led by its notes, refuses this envelope so
 abbrev pub CellRefuses : ℕ → EnvelopeView → Refusal → Type 0
-CellRefuses n envelope r = (c : CellView) × IsLedCell n c × IsRefused c envelope r
+CellRefuses n envelope r = (c : CellView) × IsLedCell n c × IsEnvelopeRefused c envelope r
 
 -- why no turn was taken: there is no such actor among these, or a cell refuses the envelope
 abbrev pub WhyNoTurn : ℕ → List Actor → Actor → EnvelopeView → Refusal → Type 0

@@ -4,11 +4,11 @@ ghost use Rattle.server.specs.Handings.{FrameBytes, handing};
 ghost use Rattle.client_agent.specs.declared.input.ClientInput.TheVariants as client_inputs;
 ghost use Rattle.event_book.specs.declared.view.EventView.TheVariants.{Own};
 ghost use Rattle.event_book.specs.Noted.{event_view};
-ghost use Rattle.world.specs.Inner.GroupInputs.{is_frame};
+ghost use Rattle.world.specs.Inner.GroupInputs.{comes_as_frame};
 ghost use Rattle.cluster.specs.declared.actor.GroupActor.TheVariants as actors;
 ghost use Rattle.cluster.specs.Actors.{nothing_sent};
 ghost use Rattle.cluster.specs.Refusals.{IsUpActor, Hears, IsDeafTo, restarts, restarts_server};
-ghost use Rattle.cluster.specs.Inner.Steps.{ServerAnswered, ClientAnswered, Answered, IsAnEvent};
+ghost use Rattle.cluster.specs.Inner.Steps.{ServerAnswered, ClientAnswered, DidOrRefused, IsAnEvent};
 
 use crate::own_input::OwnInput;
 use client_agent::{Agent, ClientInput};
@@ -55,7 +55,7 @@ fn is_restart(input: &ServerInput) -> bool
 
 /// Whether it is a frame.
 fn is_frame(input: &ServerInput) -> bool
-    ensures { result ≡ is_frame (handing input.now) }
+    ensures { result ≡ comes_as_frame (handing input.now) }
 {
     matches!(input, ServerInput::Frame(_))
 }
@@ -159,7 +159,7 @@ impl GroupActor {
 
     /// A server takes an input of an actor's own.
     fn own_server(alloc: Global, server: &mut Server, own: &OwnInput) -> Result<Stepped, Refusal>
-        ensures { Answered (actors.Server server.old) (Own own.now) result
+        ensures { DidOrRefused (actors.Server server.old) (Own own.now) result
             (actors.Server server.new) }
     {
         match own {
@@ -181,7 +181,7 @@ impl GroupActor {
         event: &ActorEvent<OwnInput>,
     ) -> Result<Stepped, Refusal>
         requires { IsAnEvent (event_view event.now) }
-        ensures { Answered (actors.Server server.old) (event_view event.now) result
+        ensures { DidOrRefused (actors.Server server.old) (event_view event.now) result
             (actors.Server server.new) }
     {
         match event {
@@ -198,7 +198,7 @@ impl GroupActor {
         event: &ActorEvent<OwnInput>,
     ) -> Result<Stepped, Refusal>
         requires { IsAnEvent (event_view event.now) }
-        ensures { Answered (actors.Client client.old) (event_view event.now) result
+        ensures { DidOrRefused (actors.Client client.old) (event_view event.now) result
             (actors.Client client.new) }
     {
         match event {
@@ -219,7 +219,7 @@ impl GroupActor {
         event: &ActorEvent<OwnInput>,
     ) -> Result<Stepped, Refusal>
         requires { IsAnEvent (event_view event.now) }
-        ensures { Answered self.old (event_view event.now) result self.new }
+        ensures { DidOrRefused self.old (event_view event.now) result self.new }
     {
         match self {
             GroupActor::Server(server) => GroupActor::server_step(alloc, server, event),

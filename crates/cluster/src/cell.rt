@@ -4,7 +4,7 @@ ghost use Rattle.std.specs.Prelude.{◌≡◌, ◌≢◌, MatchBool, ◌+◌, �
 ghost use Rattle.event_book.specs.Noted.{event_view};
 ghost use Rattle.event_book.specs.Seats.{with_taken};
 ghost use Rattle.cluster.specs.Actors.{group_size, IsNewActor};
-ghost use Rattle.cluster.specs.Cells.{IsAddressed, IsLedCell, IsRefused, kept_in, kept_of, SameCell};
+ghost use Rattle.cluster.specs.Cells.{IsAddressed, IsLedCell, IsEnvelopeRefused, kept_in, kept_event, SameCell};
 ghost use Rattle.cluster.specs.Cells.{tokens_of, Turned};
 ghost use Rattle.cluster.specs.Inner.Sending.{CanBeNoted, EndsWith, last_envelopes, IsNoted, IsRecorded, IsStill, IsTurn};
 ghost use Rattle.cluster.specs.Inner.Steps.{IsAnEvent, output_of};
@@ -47,14 +47,14 @@ pub struct Cell<B: BookId> {
 impl<B: BookId> Model for Cell<B> {
     ghost use Rattle.std.specs.Prelude.{◌≡◌, map};
     ghost use Rattle.cluster.specs.Actors.{group_size};
-    ghost use Rattle.cluster.specs.Cells.{CellView, IsLedCell, kept_of, kept_in};
+    ghost use Rattle.cluster.specs.Cells.{CellView, IsLedCell, kept_event, kept_in};
 
     ghost Value = { CellView };
 
     ghost view = { λ c. record { actor = c.actor; seat = c.seat } };
 
     ghost invariant = { λ c. (c.me ≡ c.seat.actor)
-        × (map kept_of c.taken.items ≡ map kept_in c.seat.notes)
+        × (map kept_event c.taken.items ≡ map kept_in c.seat.notes)
         × IsLedCell (group_size B.actors) (record { actor = c.actor; seat = c.seat }) };
 }
 
@@ -172,8 +172,8 @@ fn keep<B: BookId>(
     requires room { vec_len taken.old < vec_capacity taken.old }
     ensures noted { IsNoted seat.old (event_view done.event) (tokens_of done.token)
         (map output_of done.frames) seat.new }
-    ensures kept { map kept_of taken.old.items ≡ map kept_in seat.old.notes →
-        map kept_of taken.new.items ≡ map kept_in seat.new.notes }
+    ensures kept { map kept_event taken.old.items ≡ map kept_in seat.old.notes →
+        map kept_event taken.new.items ≡ map kept_in seat.new.notes }
     ensures first { (k : ℕ) × (result.items ≡ take k (last_envelopes seat.new.notes)) }
 {
     let Done {
@@ -214,8 +214,8 @@ fn record<B: BookId>(
     requires room { vec_len taken.old < vec_capacity taken.old }
     ensures recorded { IsRecorded seat.old (event_view event) (tokens_of token) stepped seat.new
         result.work result.sent.items }
-    ensures kept { map kept_of taken.old.items ≡ map kept_in seat.old.notes →
-        map kept_of taken.new.items ≡ map kept_in seat.new.notes }
+    ensures kept { map kept_event taken.old.items ≡ map kept_in seat.old.notes →
+        map kept_event taken.new.items ≡ map kept_in seat.new.notes }
 {
     match stepped {
         Stepped::Taken(outbox) => {
@@ -267,8 +267,8 @@ fn step<B: BookId>(
         (tokens_of token) turn.work turn.sent.items actor.new seat.new) }
     ensures err { IfErr result (λ cause. IsStill actor.old seat.old (event_view event) cause
         actor.new seat.new) }
-    ensures kept { map kept_of taken.old.items ≡ map kept_in seat.old.notes →
-        map kept_of taken.new.items ≡ map kept_in seat.new.notes }
+    ensures kept { map kept_event taken.old.items ≡ map kept_in seat.old.notes →
+        map kept_event taken.new.items ≡ map kept_in seat.new.notes }
 {
     match actor.step(alloc, &event) {
         Ok(stepped) => Ok(record(alloc, book, seat, taken, event, token, stepped)),
@@ -305,7 +305,7 @@ impl<B: BookId> Cell<B> {
 
     /// The events that it took, oldest first, each with its stamp: just those that its seat noted.
     pub fn inputs(&self) -> &[StampedEvent]
-        ensures { map kept_of result.now ≡ map kept_in self.now.seat.notes }
+        ensures { map kept_event result.now ≡ map kept_in self.now.seat.notes }
     {
         self.taken.as_slice()
     }
@@ -361,7 +361,7 @@ impl<B: BookId> Cell<B> {
             Turned self.old envelope self.new turn.work turn.sent.items) }
         ensures led { IsLedCell (group_size B.actors) self.old }
         ensures err { OnErr result (SameCell self.old self.new) }
-        ensures refused { IfErr result (λ cause. IsRefused self.old envelope cause) }
+        ensures refused { IfErr result (λ cause. IsEnvelopeRefused self.old envelope cause) }
     {
         let Cell {
             me,

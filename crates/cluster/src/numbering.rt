@@ -3,7 +3,7 @@ ghost use Rattle.std.specs.Prelude.{◌≡◌, ◌+◌, ◌^◌, ◌≤◌, ◌�
 ghost use Rattle.event_book.specs.Noted.{event_view};
 ghost use Rattle.world.specs.GroupEvents.{group_event};
 ghost use Rattle.cluster.specs.Closing.{crash_event, own_event};
-ghost use Rattle.cluster.specs.Inner.Numbers.{AreEventsOf, FitsOffsets, delivery_of, entry_event};
+ghost use Rattle.cluster.specs.Inner.Numbers.{AreEventsOf, FitsOffsets, delivered_event, entry_event};
 
 use crate::merging::Placed;
 use crate::own_input::OwnInput;
@@ -55,7 +55,7 @@ fn sum(m: u64, n: u64) -> Result<u64, NoMemory>
 /// before those of each event so far. `NoMemory` is the answer just where that event is not among
 /// them, or the output's number is 2^64 or more.
 fn delivery(offsets: &[u64], stamp: u64, place: u64) -> Result<Event, NoMemory>
-    ensures ok { IfOk result (FitsOffsets offsets.now (delivery_of stamp place)) }
+    ensures ok { IfOk result (FitsOffsets offsets.now (delivered_event stamp place)) }
     ensures err { OnErr result ((length offsets.now ≤ stamp)
         ⊎ (2 ^ 64 ≤ slice_index offsets.now stamp + place + 1)) }
 {

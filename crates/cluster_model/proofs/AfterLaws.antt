@@ -26,7 +26,7 @@ use Rattle.cluster_model.specs.Safe.{fits, is_safe}
 use Rattle.cluster_model.specs.Effect.{with_next_count, stop, frees, with_room, alloc_row, with_places, planned}
 use Rattle.rows.proofs.KeyLaws.{alloc_cmp_total}
 use Rattle.cluster_model.proofs.SafeLaws.{stop_releases, kept_safe, with_room_keeps, distinct_of}
-use Rattle.cluster_model.specs.Plans.{room_of, place_claim, wanted, is_made, left, left_by, AfterIsSafe, IsKnown}
+use Rattle.cluster_model.specs.Plans.{room_of, place_claim, wanted, is_made, left, left_by, AfterIsSafe, FitsWhereAsked}
 use Rattle.cluster_model.proofs.UseLaws.{Counts, number_fits, safe_by_numbers, low_numbers, kept_numbers}
 use Rattle.cluster_model.proofs.NameLaws.{distinct_same}
 use Rattle.cluster_model.proofs.RangeLaws.{all_within, all_mapped}
@@ -210,7 +210,7 @@ places_count x slot p (k ∷ ks) rows g h =
 same_use : (cs ds : List Claim) → ((w : Claim → ℕ) → sum_by w cs ≡ sum_by w ds) → (n : ℕ) → used n cs ≡ used n ds
 same_use cs ds same n = λ i. record { cpu = same (on_node n (λ z. z.cpu)) i; mem = same (on_node n (λ z. z.mem)) i }
 
-pub planned_is_safe : (p : AcceptedPlan) (s : State) → IsKnown p s → AfterIsSafe p s → T (is_safe (planned p (with_next_count s)))
+pub planned_is_safe : (p : AcceptedPlan) (s : State) → FitsWhereAsked p s → AfterIsSafe p s → T (is_safe (planned p (with_next_count s)))
 planned_is_safe p s k h =
     let g = with_room (frees (stop p.stops) s.allocs) (s.count + 1) in
     let keeps = with_room_keeps (frees (stop p.stops) s.allocs) (s.count + 1) in
@@ -225,7 +225,7 @@ planned_is_safe p s k h =
     (λ n lt. subst (λ z. T (fits z (room_of (row_of nat_cmp node_number n s.nodes)))) (sym (same_use cs ds same n)) (h.fit n lt))
     (distinct_same ds cs (λ w. sym (same w)) h.distinct))
 
-pub safe_is_planned : (p : AcceptedPlan) (s : State) → IsKnown p s → T (is_safe (planned p (with_next_count s))) → AfterIsSafe p s
+pub safe_is_planned : (p : AcceptedPlan) (s : State) → FitsWhereAsked p s → T (is_safe (planned p (with_next_count s))) → AfterIsSafe p s
 safe_is_planned p s k h =
     let g = with_room (frees (stop p.stops) s.allocs) (s.count + 1) in
     let keeps = with_room_keeps (frees (stop p.stops) s.allocs) (s.count + 1) in

@@ -100,7 +100,7 @@ pub record AfterIsSafe (p : AcceptedPlan) (s : State) : Type 0 where
   pub distinct : T (are_distinct (left_by p s ++ wanted p))
 
 -- what is known where the code asks
-pub record IsKnown (p : AcceptedPlan) (s : State) : Type 0 where
+pub record FitsWhereAsked (p : AcceptedPlan) (s : State) : Type 0 where
   pub few : length s.allocs + length p.places ≤ most_allocs
   pub nodes_rising : T (is_rising nat_cmp node_number s.nodes)
   pub allocs_rising : T (is_rising alloc_cmp alloc_id s.allocs)

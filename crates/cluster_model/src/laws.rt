@@ -10,7 +10,7 @@ ghost use Rattle.fsm_tables.specs.Claims.{Claim, claims};
 ghost use Rattle.cluster_model.specs.Effect.{applied, with_next_count, planned, stop};
 ghost use Rattle.cluster_model.specs.Plans.{ended};
 ghost use Rattle.cluster_model.specs.Plans.{kept_claims, wanted, IsAskable, PlanIsSafe};
-ghost use Rattle.cluster_model.specs.Plans.{IsKnown, AfterIsSafe};
+ghost use Rattle.cluster_model.specs.Plans.{FitsWhereAsked, AfterIsSafe};
 ghost use Rattle.cluster_model.specs.Safe.{is_safe};
 ghost use Rattle.cluster_model.specs.Admission.{admission};
 ghost use Rattle.rows.specs.Fits.{CommandFits};
@@ -59,9 +59,9 @@ pub fn plans_are_decided()
     ensures needs { (p : AnyPlan) (s : State)
         → IsAskable p s → Holds (is_safe (planned p (with_next_count s))) → PlanIsSafe p s }
     ensures safe_always { (p : AnyPlan) (s : State)
-        → IsKnown p s → AfterIsSafe p s → Holds (is_safe (planned p (with_next_count s))) }
+        → FitsWhereAsked p s → AfterIsSafe p s → Holds (is_safe (planned p (with_next_count s))) }
     ensures needs_always { (p : AnyPlan) (s : State)
-        → IsKnown p s → Holds (is_safe (planned p (with_next_count s))) → AfterIsSafe p s }
+        → FitsWhereAsked p s → Holds (is_safe (planned p (with_next_count s))) → AfterIsSafe p s }
     ensures uses { (w : Claim → ℕ) (p : AnyPlan) (s : State)
         → sum_by w (kept_claims p s ++ wanted p) + sum_by w (ended (stop p.stops) s.allocs)
         ≡ sum_by w (claims s.allocs) + sum_by w (wanted p) }

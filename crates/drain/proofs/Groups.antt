@@ -14,7 +14,7 @@ use Rattle.fsm_tables.specs.Rows.{row_of, put}
 use Rattle.fsm_tables.proofs.RowLaws.{row_of-put}
 use Rattle.group_model.specs.Drains.{same_group, firsts}
 use Rattle.drain.specs.declared.group.JobGroup.{JobGroup}
-use Rattle.drain.specs.Inner.Groups.{group_of, job_group_cmp, itself, is_met, firsts_but}
+use Rattle.drain.specs.Inner.Groups.{job_group, job_group_cmp, itself, is_met, firsts_but}
 
 -- ---- lists
 
@@ -36,7 +36,7 @@ two_keys Greater q = refl
 pub groups_total : IsTotalOrder job_group_cmp
 groups_total = then_total (on_total (λ (g : JobGroup). g.job) nat_list_cmp_total) (on_total (λ (g : JobGroup). g.group) nat_list_cmp_total)
 
-at_group : (a b : Allocation) → is_eq (job_group_cmp (group_of a) (group_of b)) ≡ same_group a b
+at_group : (a b : Allocation) → is_eq (job_group_cmp (job_group a) (job_group b)) ≡ same_group a b
 at_group a b = two_keys (name_cmp a.job b.job) (name_cmp a.group b.group) ∙ (λ i. is_eq-slice_cmp a.job b.job i && is_eq-slice_cmp a.group b.group i)
 
 found_or : {X : Type 0} (b : Bool) (x : X) (o : Option X) → is_some (cond b (Some x) o) ≡ (b || is_some o)
@@ -44,10 +44,10 @@ found_or true x o = refl
 found_or false x o = refl
 
 -- one group more was met
-pub met_more : (a b : Allocation) (groups : List JobGroup) → is_met (put job_group_cmp itself (group_of a) groups) b ≡ (same_group b a || is_met groups b)
+pub met_more : (a b : Allocation) (groups : List JobGroup) → is_met (put job_group_cmp itself (job_group a) groups) b ≡ (same_group b a || is_met groups b)
 met_more a b groups =
-    ap is_some (row_of-put job_group_cmp itself groups_total (group_of b) (group_of a) groups)
-    ∙ found_or (is_eq (job_group_cmp (group_of b) (group_of a))) (group_of a) (row_of job_group_cmp itself (group_of b) groups)
+    ap is_some (row_of-put job_group_cmp itself groups_total (job_group b) (job_group a) groups)
+    ∙ found_or (is_eq (job_group_cmp (job_group b) (job_group a))) (job_group a) (row_of job_group_cmp itself (job_group b) groups)
     ∙ ap (λ c. c || is_met groups b) (at_group b a)
 
 pub firsts_are : (met rows : List Allocation) → firsts met rows ≡ firsts_but (λ a. list_any (same_group a) met) rows

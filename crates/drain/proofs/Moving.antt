@@ -22,7 +22,7 @@ use Rattle.cluster_model.specs.Words.{State, node_of}
 use Rattle.cluster_model.proofs.Lists.{anys_same, filter_both}
 use Rattle.group_model.specs.Drains.{is_done, same_group, group_moves, firsts, movers, moves_of}
 use Rattle.drain.specs.declared.group.JobGroup.{JobGroup}
-use Rattle.drain.specs.Inner.Groups.{group_of, job_group_cmp, itself, is_met, firsts_but, stays}
+use Rattle.drain.specs.Inner.Groups.{job_group, job_group_cmp, itself, is_met, firsts_but, stays}
 use Rattle.drain.proofs.Groups.{met_more, firsts_are, firsts_kept}
 
 -- ---- a group that is on the move
@@ -102,7 +102,7 @@ met_row s groups a rows e =
     ap (λ b. map (λ (x : Allocation). x.id) (filter (stays s) (cond b (firsts_but (is_met groups) rows) (a ∷ firsts_but (λ x. same_group x a || is_met groups x) rows)))) e
 
 abbrev and_met : List JobGroup → Allocation → List JobGroup
-and_met groups a = put job_group_cmp itself (group_of a) groups
+and_met groups a = put job_group_cmp itself (job_group a) groups
 
 new_row : (s : State) (groups : List JobGroup) (a : Allocation) (rows : List Allocation) → is_met groups a ≡ false →
     ids_left s groups (a ∷ rows) ≡ map (λ (x : Allocation). x.id) (filter (stays s) (a ∷ firsts_but (is_met (and_met groups a)) rows))

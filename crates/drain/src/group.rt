@@ -1,6 +1,6 @@
 //! Groups of jobs, as what they are found by.
 ghost use Rattle.std.specs.Prelude.{◌≡◌};
-ghost use Rattle.drain.specs.Inner.Groups.{group_of};
+ghost use Rattle.drain.specs.Inner.Groups.{job_group};
 
 use fsm_tables::Row;
 use rows::{Allocation, GroupName, JobName, Ranged};
@@ -17,7 +17,7 @@ pub(crate) struct JobGroup {
 impl JobGroup {
     /// The group of an allocation.
     pub fn of(row: &Allocation) -> JobGroup
-        ensures { result ≡ group_of row.now }
+        ensures { result ≡ job_group row.now }
     {
         JobGroup {
             job: row.job,

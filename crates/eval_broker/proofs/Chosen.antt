@@ -25,7 +25,7 @@ use Rattle.group_model.proofs.KeptRows.{all_found}
 use Rattle.eval_broker.specs.declared.ranks.Rank.{Rank}
 use Rattle.eval_broker.specs.declared.ranks.Head.{Head}
 use Rattle.eval_broker.specs.Answers.{urgency_of}
-use Rattle.eval_broker.specs.Inner.Lists.{rank_cmp, head_cmp, rank_job, rank_id, head_id, rank_of, is_any, is_in, is_listed, IsListing, first_head, head_of, is_head, AreHeads}
+use Rattle.eval_broker.specs.Inner.Lists.{rank_cmp, head_cmp, rank_job, rank_id, head_id, rank_of, is_any, holds_key, is_listed, IsListing, first_head, head_of, is_head, AreHeads}
 use Rattle.eval_broker.proofs.Orders.{rank_total, head_total, then_first, then_second, is_equal, same_urgency, no, true_false, and_left, and_right, has_first, first_least}
 use Rattle.eval_broker.proofs.Heads.{found_there, head_job}
 use Rattle.eval_broker.proofs.First.{NoLater, found_later, first_is, none_passes, first_passes}
@@ -74,16 +74,16 @@ any_with f (y ∷ ts) t found is = by (is_eq (eval_cmp t.id y.id)) found (λ lat
 -- ---- ranks
 
 -- a job's first rank is no later than another of its ranks
-least : (job : List ℕ) (ps : List Rank) → T (is_rising rank_cmp (λ p. p) ps) → (q : Rank) → is_in rank_cmp q ps ≡ true → job ≡ q.job
+least : (job : List ℕ) (ps : List Rank) → T (is_rising rank_cmp (λ p. p) ps) → (q : Rank) → holds_key rank_cmp q ps ≡ true → job ≡ q.job
     → (p : Rank) × (row_of name_cmp rank_job job ps ≡ Some p) × (is_gt (rank_cmp p q) ≡ false)
 least job [] rising q there is = absurd (cc)
 least job (y ∷ ps) rising q there is = by (is_eq (name_cmp job y.job)) refl (λ later. least job ps (second _ _ rising) q later is) where
-  apart : (b : Bool) → is_eq (rank_cmp q y) ≡ b → is_eq (name_cmp job y.job) ≡ false → is_some (cond b (Some y) (row_of rank_cmp (λ p. p) q ps)) ≡ true → is_in rank_cmp q ps ≡ true
+  apart : (b : Bool) → is_eq (rank_cmp q y) ≡ b → is_eq (name_cmp job y.job) ≡ false → is_some (cond b (Some y) (row_of rank_cmp (λ p. p) q ps)) ≡ true → holds_key rank_cmp q ps ≡ true
   apart true e off h =
       true_false _ (ap (λ k. is_eq (name_cmp k y.job)) is ∙ ap is_eq (then_first (name_cmp q.job y.job) _ (is_equal _ e))) off
   apart false e off h = h
 
-  by : (b : Bool) → is_eq (name_cmp job y.job) ≡ b → (is_in rank_cmp q ps ≡ true → (p : Rank) × (row_of name_cmp rank_job job ps ≡ Some p) × (is_gt (rank_cmp p q) ≡ false))
+  by : (b : Bool) → is_eq (name_cmp job y.job) ≡ b → (holds_key rank_cmp q ps ≡ true → (p : Rank) × (row_of name_cmp rank_job job ps ≡ Some p) × (is_gt (rank_cmp p q) ≡ false))
       → (p : Rank) × (cond b (Some y) (row_of name_cmp rank_job job ps) ≡ Some p) × (is_gt (rank_cmp p q) ≡ false)
   by true e rest = (y, refl, first_least rank_cmp rank_total y q ps rising there)
   by false e rest = rest (apart (is_eq (rank_cmp q y)) refl e there)
@@ -119,10 +119,10 @@ first_not_late Equal s h = refl
 first_not_late Greater s h = h
 
 module _ (ts : List Task) (ps : List Rank) (hs : List Head) (rising : T (is_rising eval_cmp task_id ts)) (placed : IsListing rank_cmp rank_id rank_of is_any ts ps) (heads : AreHeads ps hs) where
-  stands : (t : Task) → task_of t.id ts ≡ Some t → is_in rank_cmp (rank_of t) ps ≡ true
+  stands : (t : Task) → task_of t.id ts ≡ Some t → holds_key rank_cmp (rank_of t) ps ≡ true
   stands t found = placed.exact (rank_of t) ∙ ap (is_listed rank_cmp rank_of is_any (rank_of t)) found ∙ ap is_eq (tied_itself rank_total (rank_of t))
 
-  task_at : (p : Rank) → is_in rank_cmp p ps ≡ true → (t : Task) × (task_of (rank_id p) ts ≡ Some t) × (p ≡ rank_of t)
+  task_at : (p : Rank) → holds_key rank_cmp p ps ≡ true → (t : Task) × (task_of (rank_id p) ts ≡ Some t) × (p ≡ rank_of t)
   task_at p there = by (task_of (rank_id p) ts) refl (sym (placed.exact p) ∙ there) where
     by : (m : Option Task) → task_of (rank_id p) ts ≡ m → is_listed rank_cmp rank_of is_any p m ≡ true → (t : Task) × (task_of (rank_id p) ts ≡ Some t) × (p ≡ rank_of t)
     by None e h = absurd (cc)
@@ -196,7 +196,7 @@ module _ (ts : List Task) (ps : List Rank) (hs : List Head) (rising : T (is_risi
       at false w is = absurd (cc)
 
   -- the head of a job of which one may be given out is among the heads
-  among_heads : (t : Task) (h : Head) → head_of t.job ps ≡ Some h → is_in head_cmp h hs ≡ true
+  among_heads : (t : Task) (h : Head) → head_of t.job ps ≡ Some h → holds_key head_cmp h hs ≡ true
   among_heads t h e = heads.exact h ∙ ap (is_head h) (ap (λ k. head_of k ps) (sym (head_job t.job ps h e)) ∙ e) ∙ ap is_eq (tied_itself head_total h)
 
   all_tasks : (P : Task → Type 0) → ((t : Task) → task_of t.id ts ≡ Some t → P t) → AllByRecursion P ts
@@ -208,16 +208,16 @@ module _ (ts : List Task) (ps : List Rank) (hs : List Head) (rising : T (is_risi
   no_next : hs ≡ [] → next ts ≡ None
   no_next none = none_passes (may_be_given ts) ts (all_tasks (λ t. may_be_given ts t ≡ true → ⊥) (λ t found may.
       let h = head_before t found may in
-      true_false _ (among_heads t h.0 h.1) (ap (is_in head_cmp h.0) none)))
+      true_false _ (among_heads t h.0 h.1) (ap (holds_key head_cmp h.0) none)))
 
   first_next : (h : Head) (rest : List Head) → hs ≡ h ∷ rest → next ts ≡ task_of (head_id h) ts
   first_next h rest is =
-      let one = task_of_head h (sym (heads.exact h) ∙ ap (is_in head_cmp h) is ∙ has_first head_cmp head_total h rest) in
+      let one = task_of_head h (sym (heads.exact h) ∙ ap (holds_key head_cmp h) is ∙ has_first head_cmp head_total h rest) in
       let t = one.0 in
       let found : task_of t.id ts ≡ Some t = ap (λ (u : Urgency). task_of u.id ts) (sym one.3) ∙ one.1 in
       first_is (may_be_given ts) t ts rising found one.2 (all_tasks (λ y. may_be_given ts y ≡ true → NoLater t y) (λ y there may.
       let g = head_before y there may in
-      let no_later = first_least head_cmp head_total h g.0 rest (subst (λ l. T (is_rising head_cmp (λ x. x) l)) is heads.rising) (sym (ap (is_in head_cmp g.0) is) ∙ among_heads y g.0 g.1) in
+      let no_later = first_least head_cmp head_total h g.0 rest (subst (λ l. T (is_rising head_cmp (λ x. x) l)) is heads.rising) (sym (ap (holds_key head_cmp g.0) is) ∙ among_heads y g.0 g.1) in
       ap (λ u. is_gt (urgency_cmp u (urgency_of y))) (sym one.3)
       ∙ upto urgency_cmp_total h.urgency g.0.urgency (urgency_of y) (first_not_late (urgency_cmp h.urgency g.0.urgency) _ no_later) g.2))
       ∙ sym one.1

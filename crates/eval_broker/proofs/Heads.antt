@@ -17,7 +17,7 @@ use Rattle.fsm_tables.proofs.ReservedTables.{rising_without, found_tied, room_le
 use Rattle.group_model.specs.Brokers.{Task, task_of}
 use Rattle.eval_broker.specs.declared.ranks.Rank.{Rank}
 use Rattle.eval_broker.specs.declared.ranks.Head.{Head}
-use Rattle.eval_broker.specs.Inner.Lists.{rank_cmp, head_cmp, rank_job, rank_id, head_id, rank_of, head_for, is_any, is_in, is_listed, IsListing, head_at, first_head, head_of, is_head, AreHeads, AreHeadsBut}
+use Rattle.eval_broker.specs.Inner.Lists.{rank_cmp, head_cmp, rank_job, rank_id, head_id, rank_of, head_for, is_any, holds_key, is_listed, IsListing, head_at, first_head, head_of, is_head, AreHeads, AreHeadsBut}
 use Rattle.eval_broker.proofs.Orders.{rank_total, head_total, then_first, then_second, same_urgency, is_equal, no, true_false, has_put, has_without, has_later}
 use Rattle.eval_broker.proofs.Listings.{no_longer}
 
@@ -152,10 +152,10 @@ moved_without p ps hs = moved p.job ps (without rank_cmp (λ x. x) p ps) hs (λ 
 -- ---- of which tasks
 
 -- what is found is there
-pub found_there : (job : List ℕ) (ps : List Rank) (p : Rank) → row_of name_cmp rank_job job ps ≡ Some p → is_in rank_cmp p ps ≡ true
+pub found_there : (job : List ℕ) (ps : List Rank) (p : Rank) → row_of name_cmp rank_job job ps ≡ Some p → holds_key rank_cmp p ps ≡ true
 found_there job [] p e = absurd (cc)
 found_there job (y ∷ ys) p e = by (same_job job y.job) e (λ rest. has_later rank_cmp rank_total p y ys (found_there job ys p rest)) where
-  by : (b : Bool) → cond b (Some y) (row_of name_cmp rank_job job ys) ≡ Some p → (row_of name_cmp rank_job job ys ≡ Some p → is_in rank_cmp p (y ∷ ys) ≡ true) → is_in rank_cmp p (y ∷ ys) ≡ true
+  by : (b : Bool) → cond b (Some y) (row_of name_cmp rank_job job ys) ≡ Some p → (row_of name_cmp rank_job job ys ≡ Some p → holds_key rank_cmp p (y ∷ ys) ≡ true) → holds_key rank_cmp p (y ∷ ys) ≡ true
   by true e rest =
       let same : y ≡ p = cc in
       ap (λ r. is_some (cond (is_eq r) (Some y) (row_of rank_cmp (λ x. x) p ys))) (ap (rank_cmp p) same ∙ tied_itself rank_total p)

@@ -14,7 +14,7 @@ use Rattle.fsm_tables.proofs.RowLaws.{first, second, rising_put, row_of-put}
 use Rattle.fsm_tables.specs.ReservedTables.{without}
 use Rattle.fsm_tables.proofs.ReservedTables.{rising_without, row_of-without, length-without, found_tied}
 use Rattle.group_model.specs.Brokers.{Task, task_id, task_of}
-use Rattle.eval_broker.specs.Inner.Lists.{is_in, is_listed, IsListing}
+use Rattle.eval_broker.specs.Inner.Lists.{holds_key, is_listed, IsListing}
 use Rattle.eval_broker.proofs.Orders.{same_id, is_equal, no, true_false, and_right, has_put, has_without, has_first, has_later, has_tied, has_below}
 
 -- a task is found under its own id
@@ -96,7 +96,7 @@ module _ {X : Type 0} (R : X → X → Ordering) (o : IsTotalOrder R) (id_of : X
   -- ---- no more than the tasks
 
   abbrev AllListed : List X → List Task → Type 0
-  AllListed xs ts = (q : X) → is_in R q xs ≡ true → is_listed R make passes q (task_of (id_of q) ts) ≡ true
+  AllListed xs ts = (q : X) → holds_key R q xs ≡ true → is_listed R make passes q (task_of (id_of q) ts) ≡ true
 
   -- the others are of other tasks
   rest_listed : (x : X) (xs : List X) (ts : List Task) → T (is_rising R (λ y. y) (x ∷ xs)) → AllListed (x ∷ xs) ts → AllListed xs (without eval_cmp task_id (id_of x) ts)

@@ -20,7 +20,7 @@ use Rattle.fsm_tables.proofs.ReservedTables.{row_of-without}
 use Rattle.fsm_tables.proofs.Urgencies.{urgency_cmp_total}
 use Rattle.eval_broker.specs.declared.ranks.Rank.{Rank}
 use Rattle.eval_broker.specs.declared.ranks.Head.{Head}
-use Rattle.eval_broker.specs.Inner.Lists.{rank_cmp, head_cmp, is_in}
+use Rattle.eval_broker.specs.Inner.Lists.{rank_cmp, head_cmp, holds_key}
 
 pub rank_total : IsTotalOrder rank_cmp
 rank_total =
@@ -86,51 +86,51 @@ and_right false b h = absurd (cc)
 -- ---- what a list has
 
 module _ {X : Type 0} (R : X → X → Ordering) (o : IsTotalOrder R) where
-  pub has_put : (q x : X) (xs : List X) → is_in R q (put R (λ y. y) x xs) ≡ (is_eq (R q x) || is_in R q xs)
+  pub has_put : (q x : X) (xs : List X) → holds_key R q (put R (λ y. y) x xs) ≡ (is_eq (R q x) || holds_key R q xs)
   has_put q x xs = ap is_some (row_of-put R (λ y. y) o q x xs) ∙ by (is_eq (R q x)) (row_of R (λ y. y) q xs) where
     by : (b : Bool) (m : Option X) → is_some (cond b (Some x) m) ≡ (b || is_some m)
     by true m = refl
     by false m = refl
 
-  pub has_without : (q k : X) (xs : List X) → is_in R q (without R (λ y. y) k xs) ≡ (not (is_eq (R q k)) && is_in R q xs)
+  pub has_without : (q k : X) (xs : List X) → holds_key R q (without R (λ y. y) k xs) ≡ (not (is_eq (R q k)) && holds_key R q xs)
   has_without q k xs = ap is_some (row_of-without R (λ y. y) o q k xs) ∙ by (is_eq (R q k)) (row_of R (λ y. y) q xs) where
     by : (b : Bool) (m : Option X) → is_some (cond b None m) ≡ (not b && is_some m)
     by true m = refl
     by false m = refl
 
-  pub has_first : (x : X) (xs : List X) → is_in R x (x ∷ xs) ≡ true
+  pub has_first : (x : X) (xs : List X) → holds_key R x (x ∷ xs) ≡ true
   has_first x xs = ap (λ r. is_some (cond (is_eq r) (Some x) (row_of R (λ y. y) x xs))) (tied_itself o x)
 
-  pub has_later : (q x : X) (xs : List X) → is_in R q xs ≡ true → is_in R q (x ∷ xs) ≡ true
+  pub has_later : (q x : X) (xs : List X) → holds_key R q xs ≡ true → holds_key R q (x ∷ xs) ≡ true
   has_later q x xs h = by (is_eq (R q x)) where
     by : (b : Bool) → is_some (cond b (Some x) (row_of R (λ y. y) q xs)) ≡ true
     by true = refl
     by false = h
 
   -- what ties is had alike
-  pub has_tied : (a b : X) (xs : List X) → R a b ≡ Equal → is_in R a xs ≡ is_in R b xs
+  pub has_tied : (a b : X) (xs : List X) → R a b ≡ Equal → holds_key R a xs ≡ holds_key R b xs
   has_tied a b [] e = refl
   has_tied a b (x ∷ xs) e =
       (λ i. is_some (cond (is_eq (o.congr a b x e i)) (Some x) (row_of R (λ y. y) a xs)))
       ∙ by (is_eq (R b x)) (has_tied a b xs e)
     where
-      by : (c : Bool) → is_in R a xs ≡ is_in R b xs → is_some (cond c (Some x) (row_of R (λ y. y) a xs)) ≡ is_some (cond c (Some x) (row_of R (λ y. y) b xs))
+      by : (c : Bool) → holds_key R a xs ≡ holds_key R b xs → is_some (cond c (Some x) (row_of R (λ y. y) a xs)) ≡ is_some (cond c (Some x) (row_of R (λ y. y) b xs))
       by true rest = refl
       by false rest = rest
 
   -- nothing below all of them is there
-  pub has_below : (q : X) (xs : List X) → T (is_below R (λ y. y) q xs) → is_in R q xs ≡ false
+  pub has_below : (q : X) (xs : List X) → T (is_below R (λ y. y) q xs) → holds_key R q xs ≡ false
   has_below q xs h = ap is_some (none_below R (λ y. y) o q xs h)
 
   -- what is there is no earlier than the first
-  pub first_least : (x q : X) (xs : List X) → T (is_rising R (λ y. y) (x ∷ xs)) → is_in R q (x ∷ xs) ≡ true → is_gt (R x q) ≡ false
+  pub first_least : (x q : X) (xs : List X) → T (is_rising R (λ y. y) (x ∷ xs)) → holds_key R q (x ∷ xs) ≡ true → is_gt (R x q) ≡ false
   first_least x q xs rising h =
       elim (R x q) as (λ r. R x q ≡ r → is_gt r ≡ false) [
         | Less ↦ λ e. refl
         | Equal ↦ λ e. refl
         | Greater ↦ λ e. absurd (
             let under : R q x ≡ Less = o.antisymm q x ∙ ap ordering_reverse e in
-            let none : is_in R q (x ∷ xs) ≡ false = has_below q (x ∷ xs) (below q x xs under (first _ _ rising)) in
+            let none : holds_key R q (x ∷ xs) ≡ false = has_below q (x ∷ xs) (below q x xs under (first _ _ rising)) in
             true_false _ h none
             )
       ] refl
@@ -141,9 +141,9 @@ module _ {X : Type 0} (R : X → X → Ordering) (o : IsTotalOrder R) where
         both_below = both _ _
 
   -- where ties are one, lists in order that have the same are one
-  pub same_sets : ((a b : X) → R a b ≡ Equal → a ≡ b) → (xs ys : List X) → T (is_rising R (λ y. y) xs) → T (is_rising R (λ y. y) ys) → ((q : X) → is_in R q xs ≡ is_in R q ys) → xs ≡ ys
+  pub same_sets : ((a b : X) → R a b ≡ Equal → a ≡ b) → (xs ys : List X) → T (is_rising R (λ y. y) xs) → T (is_rising R (λ y. y) ys) → ((q : X) → holds_key R q xs ≡ holds_key R q ys) → xs ≡ ys
   same_sets exact xs ys g h same = same_rows R (λ y. y) o xs ys g h (λ q. itself q xs ∙ ap (λ b. cond b (Some q) None) (same q) ∙ sym (itself q ys)) where
-    itself : (q : X) (zs : List X) → row_of R (λ y. y) q zs ≡ cond (is_in R q zs) (Some q) None
+    itself : (q : X) (zs : List X) → row_of R (λ y. y) q zs ≡ cond (holds_key R q zs) (Some q) None
     itself q [] = refl
     itself q (z ∷ zs) =
         elim (is_eq (R q z)) as (λ b. is_eq (R q z) ≡ b → cond b (Some z) (row_of R (λ y. y) q zs) ≡ cond (is_some (cond b (Some z) (row_of R (λ y. y) q zs))) (Some q) None) [

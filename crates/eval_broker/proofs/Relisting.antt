@@ -22,7 +22,7 @@ use Rattle.eval_broker.specs.declared.ranks.Rank.{Rank}
 use Rattle.eval_broker.specs.declared.ranks.Head.{Head}
 use Rattle.eval_broker.specs.declared.lists.Lists.{Lists}
 use Rattle.eval_broker.specs.Answers.{urgency_of}
-use Rattle.eval_broker.specs.Inner.Lists.{rank_cmp, rank_id, urgency_id, rank_of, is_failed, is_any, IsListing, AreHeads, AreHeadsBut, AreListed}
+use Rattle.eval_broker.specs.Inner.Lists.{rank_cmp, rank_id, urgency_id, rank_of, is_failed, is_any, IsListing, AreHeads, AreHeadsBut, AreTaskLists}
 use Rattle.eval_broker.proofs.Orders.{rank_total, then_second, same_id, same_urgency, is_equal}
 use Rattle.eval_broker.proofs.Listings.{own_id, listing_without, listing_put, listing_past, no_longer}
 use Rattle.eval_broker.proofs.Heads.{moved_put, moved_without}
@@ -138,7 +138,7 @@ module _ (id : EvalId) (ts : List Task) (t : Task) (rising : T (is_rising eval_c
 -- ---- the three lists
 
 pub all_listed : (ts : List Task) (l : Lists) (ranks : Stock Rank) (failed : Stock Urgency) → l.ranks ≡ ranks → l.failed ≡ failed
-    → IsListing rank_cmp rank_id rank_of is_any ts ranks.rows → AreHeads ranks.rows l.heads.rows → IsListing urgency_cmp urgency_id urgency_of is_failed ts failed.rows → AreListed ts l
+    → IsListing rank_cmp rank_id rank_of is_any ts ranks.rows → AreHeads ranks.rows l.heads.rows → IsListing urgency_cmp urgency_id urgency_of is_failed ts failed.rows → AreTaskLists ts l
 all_listed ts l ranks failed is also a b c = record {
   ranks = subst (λ (s : Stock Rank). IsListing rank_cmp rank_id rank_of is_any ts s.rows) (sym is) a;
   heads = subst (λ (s : Stock Rank). AreHeads s.rows l.heads.rows) (sym is) b;
@@ -146,8 +146,8 @@ all_listed ts l ranks failed is also a b c = record {
 }
 
 -- where there is no task of the id, none goes
-pub none_goes : (id : EvalId) (ts : List Task) (l : Lists) → task_of id ts ≡ None → AreListed ts l → AreListed (without eval_cmp task_id id ts) l
-none_goes id ts l none listed = subst (λ us. AreListed us l) (sym (without_none eval_cmp task_id eval_cmp_total id ts none)) listed
+pub none_goes : (id : EvalId) (ts : List Task) (l : Lists) → task_of id ts ≡ None → AreTaskLists ts l → AreTaskLists (without eval_cmp task_id id ts) l
+none_goes id ts l none listed = subst (λ us. AreTaskLists us l) (sym (without_none eval_cmp task_id eval_cmp_total id ts none)) listed
 
-pub none_comes : (id : EvalId) (ts : List Task) (l : Lists) → task_of id ts ≡ None → AreListed (without eval_cmp task_id id ts) l → AreListed ts l
-none_comes id ts l none listed = subst (λ us. AreListed us l) (without_none eval_cmp task_id eval_cmp_total id ts none) listed
+pub none_comes : (id : EvalId) (ts : List Task) (l : Lists) → task_of id ts ≡ None → AreTaskLists (without eval_cmp task_id id ts) l → AreTaskLists ts l
+none_comes id ts l none listed = subst (λ us. AreTaskLists us l) (without_none eval_cmp task_id eval_cmp_total id ts none) listed

@@ -7,7 +7,7 @@ ghost use Rattle.fsm_tables.specs.ReservedTables.{without, has_space};
 ghost use Rattle.fsm_tables.specs.Urgencies.{urgency_cmp};
 ghost use Rattle.group_model.specs.Brokers.{task_id};
 ghost use Rattle.eval_broker.specs.Answers.{urgency_of};
-ghost use Rattle.eval_broker.specs.Inner.Lists.{head_cmp, is_failed, head_of, AreHeads, AreHeadsBut, AreListed, HaveRoom, KeepRoom};
+ghost use Rattle.eval_broker.specs.Inner.Lists.{head_cmp, is_failed, head_of, AreHeads, AreHeadsBut, AreTaskLists, HaveRoom, KeepRoom};
 
 use crate::ranks::{Head, Rank, head_of};
 use crate::reserved_tree::ReservedTree;
@@ -94,9 +94,9 @@ impl Lists {
     /// Takes out what the lists have of a task, if it is there.
     pub fn take_out(&mut self, tasks: &ReservedTree<Task>, id: &EvalId)
         requires rising { Holds (is_rising eval_cmp task_id tasks.now.rows) }
-        requires listed { AreListed tasks.now.rows self.old }
+        requires listed { AreTaskLists tasks.now.rows self.old }
         requires room { HaveRoom (length tasks.now.rows) self.old }
-        ensures listed { AreListed (without eval_cmp task_id id.now tasks.now.rows) self.new }
+        ensures listed { AreTaskLists (without eval_cmp task_id id.now tasks.now.rows) self.new }
         ensures kept { KeepRoom self.old self.new }
     {
         if let Some(task) = tasks.get(id) {
@@ -111,9 +111,9 @@ impl Lists {
     /// Brings in what the lists have of a task, if it is there.
     pub fn bring_in(&mut self, tasks: &ReservedTree<Task>, id: &EvalId)
         requires rising { Holds (is_rising eval_cmp task_id tasks.now.rows) }
-        requires listed { AreListed (without eval_cmp task_id id.now tasks.now.rows) self.old }
+        requires listed { AreTaskLists (without eval_cmp task_id id.now tasks.now.rows) self.old }
         requires room { HaveRoom (length tasks.now.rows) self.old }
-        ensures listed { AreListed tasks.now.rows self.new }
+        ensures listed { AreTaskLists tasks.now.rows self.new }
         ensures kept { KeepRoom self.old self.new }
     {
         if let Some(task) = tasks.get(id) {

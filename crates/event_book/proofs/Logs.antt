@@ -12,7 +12,7 @@ use Rattle.event_book.specs.declared.view.TokenView.{TokenView}
 use Rattle.event_book.specs.declared.view.SeatView.{SeatView}
 use Rattle.event_book.specs.declared.view.BookView.{BookView}
 use Rattle.event_book.specs.Actors.{same_actor, lists_actor, are_apart}
-use Rattle.event_book.specs.Histories.{notes_of, NumberedFrom, IsDueEvent, IsDue}
+use Rattle.event_book.specs.Histories.{notes_of, NumberedFrom, IsDueEvent, IsDueNote}
 use Rattle.event_book.specs.Seats.{actor_in, HasOutput, last_token}
 use Rattle.event_book.specs.Inner.Rule.{NamesOutput, FitsSeat, Fits}
 use Rattle.event_book.proofs.Actors.{is_same, apart_is, or_false, or_left, or_right, not_true, and_true, both_true}
@@ -67,7 +67,7 @@ module _ {I : Type 0} where
   due_of log more n a (Delivery stamp place frame) h = (h.0, got_longer log more stamp h.0 h.1, h.2, h.3)
   due_of log more n a Crash h = tt
 
-  pub due_longer : (log more : List (Note I)) (e : Note I) → IsDue log e → IsDue (log ++ more) e
+  pub due_longer : (log more : List (Note I)) (e : Note I) → IsDueNote log e → IsDueNote (log ++ more) e
   due_longer log more e h = due_of log more e.stamp e.actor e.noted.event h
 
   pub sent_longer : (log more : List (Note I)) (t : TokenView I) → NamesOutput log t → NamesOutput (log ++ more) t

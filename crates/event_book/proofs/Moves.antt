@@ -20,10 +20,10 @@ use Rattle.event_book.specs.declared.view.TokenView.{TokenView}
 use Rattle.event_book.specs.declared.view.SeatView.{SeatView}
 use Rattle.event_book.specs.declared.view.BookView.{BookView}
 use Rattle.event_book.specs.Actors.{same_actor, lists_actor, are_apart}
-use Rattle.event_book.specs.Histories.{notes_of, NumberedFrom, IsDueEvent, IsDue}
+use Rattle.event_book.specs.Histories.{notes_of, NumberedFrom, IsDueEvent, IsDueNote}
 use Rattle.event_book.specs.Seats.{actor_in, MayNote, HasOutput, last_token, new_seat, with_note}
-use Rattle.event_book.specs.Inner.Views.{HolderView, IsSeat, IsToken, opening_view, spent_view, seat_view, token_view, seat_in, token_in, first_token, last_token_view, taken_in, joined, handed_view, rest_view}
-use Rattle.event_book.specs.Inner.Rule.{NamesOutput, FitsSeat, Fits, Kept, AddsTo, LooksAt}
+use Rattle.event_book.specs.Inner.Views.{HolderView, IsSeat, IsToken, opening_view, spent_view, seat_view, token_view, only_seat, token_in, first_token, last_token_view, taken_in, joined, handed_view, rest_view}
+use Rattle.event_book.specs.Inner.Rule.{NamesOutput, FitsSeat, Fits, IsBookState, AddsTo, LooksAt}
 use Rattle.event_book.proofs.Actors.{same_is, is_same, apart_is, same_tells, or_left, or_right, not_true, and_true, named_at, covers}
 use Rattle.event_book.proofs.Logs.{all_at, all_map, all_append, notes_mine, notes_other, numbered_more, due_longer, sent_longer, fits_longer, bounded, notes_sit, token_sent, apart_join}
 
@@ -119,7 +119,7 @@ module _ {I : Type 0} where
       (subst (λ (l : List (Note I)). AllByRecursion (λ (e : Note I). slice_get log e.stamp ≡ Some e) l) (sym same) (notes_sit p.actor log num))
 
   notes : (actors : List Actor) (slots id : ℕ) (p : SeatView I) (t : NotedView I) → length p.notes + 1 < 2 ^ 40 → MayNote p t.event
-      → Allows (Kept actors) slots id (seat_view p, []) 0 (λ n. (n + 1) % 2 ^ 64) (AddsTo t (seat_view p, []))
+      → Allows (IsBookState actors) slots id (seat_view p, []) 0 (λ n. (n + 1) % 2 ^ 64) (AddsTo t (seat_view p, []))
   notes actors slots id p t room may s kept wide at range =
       let log = kept.log in
       let n = slice_index s.words 0 in
@@ -140,7 +140,7 @@ module _ {I : Type 0} where
           words = ap (λ (w : List ℕ). slice_set w 0 ((slice_index w 0 + 1) % 2 ^ 64)) kept.words ∙ ap (λ (k : ℕ). k ∷ []) (mod-eq_of_lt small ∙ sym long);
           legal = (
             numbered_more 0 log e kept.legal.0 (is ∙ omega arith),
-            all_append (IsDue (log ++ e ∷ [])) log (e ∷ []) (all_map (IsDue log) (IsDue (log ++ e ∷ [])) log (λ f. due_longer log (e ∷ []) f) kept.legal.1)
+            all_append (IsDueNote (log ++ e ∷ [])) log (e ∷ []) (all_map (IsDueNote log) (IsDueNote (log ++ e ∷ [])) log (λ f. due_longer log (e ∷ []) f) kept.legal.1)
                 (due_longer log (e ∷ []) e (subst (λ (k : ℕ). IsDueEvent log k p.actor t.event) (sym is) (due_from log p t.event mine.3 may)), tt),
             all_append (λ (f : Note I). lists_actor actors f.actor ≡ true) log (e ∷ []) kept.legal.2 (mine.1, tt),
           );
@@ -155,13 +155,13 @@ module _ {I : Type 0} where
       )
 
   -- the same history, with other views
-  with_views : (actors : List Actor) (s : State (Unit {0}) (BookView I)) (kept : Kept actors s) (holder : Actor → ℕ) (views : List (BookView I))
-      → ((i : ℕ) (v : BookView I) → get_elem? views i ≡ some v → Fits actors holder kept.log i v) → Kept actors record { words = s.words; homes = s.homes; views = views }
+  with_views : (actors : List Actor) (s : State (Unit {0}) (BookView I)) (kept : IsBookState actors s) (holder : Actor → ℕ) (views : List (BookView I))
+      → ((i : ℕ) (v : BookView I) → get_elem? views i ≡ some v → Fits actors holder kept.log i v) → IsBookState actors record { words = s.words; homes = s.homes; views = views }
   with_views actors s kept holder views fits = record { log = kept.log; holder = holder; words = kept.words; legal = kept.legal; few = kept.few; short = kept.short; fits = fits }
 
   -- a new view, which has no seat
-  comes : (actors : List Actor) (s : State (Unit {0}) (BookView I)) (kept : Kept actors s) (id : ℕ) (v : BookView I) (ts : List (TokenView I)) → get_elem? s.views id ≡ some v → AllByRecursion (NamesOutput kept.log) ts
-      → Kept actors record { words = s.words; homes = s.homes; views = slice_set s.views id v ++ record { seats = []; tokens = ts } ∷ [] }
+  comes : (actors : List Actor) (s : State (Unit {0}) (BookView I)) (kept : IsBookState actors s) (id : ℕ) (v : BookView I) (ts : List (TokenView I)) → get_elem? s.views id ≡ some v → AllByRecursion (NamesOutput kept.log) ts
+      → IsBookState actors record { words = s.words; homes = s.homes; views = slice_set s.views id v ++ record { seats = []; tokens = ts } ∷ [] }
   comes actors s kept id v ts at sent = with_views actors s kept kept.holder (slice_set s.views id v ++ record { seats = []; tokens = ts } ∷ [])
       (λ i w there. ⊎_elim
       (λ (x : get_elem? (slice_set s.views id v) i ≡ some w). kept.fits i w (subst (λ (l : List (BookView I)). get_elem? l i ≡ some w) (set_again s.views id v at) x))
@@ -169,14 +169,14 @@ module _ {I : Type 0} where
       (at_end (slice_set s.views id v) record { seats = []; tokens = ts } w i there))
 
   -- a token of an output of the last note
-  gives_token : (actors : List Actor) (id place : ℕ) (p : SeatView I) → HasOutput place p.notes → Splits (Kept actors) id (seat_view p) (seat_view p) (last_token_view place (seat_view p))
+  gives_token : (actors : List Actor) (id place : ℕ) (p : SeatView I) → HasOutput place p.notes → Splits (IsBookState actors) id (seat_view p) (seat_view p) (last_token_view place (seat_view p))
   gives_token actors id place p has s kept at =
       let mine = (kept.fits id (seat_view p) at).0.0 in
       comes actors s kept id (seat_view p) (last_token place p.notes) at
       (token_sent kept.log place p.notes (subst (λ (l : List (Note I)). AllByRecursion (λ (e : Note I). slice_get kept.log e.stamp ≡ Some e) l) (sym mine.2) (notes_sit p.actor kept.log kept.legal.0)) has)
 
   -- two tokens of one
-  repeats : (actors : List Actor) (id : ℕ) (t : TokenView I) → Splits (Kept actors) id (token_view t) (token_view t) (token_view t)
+  repeats : (actors : List Actor) (id : ℕ) (t : TokenView I) → Splits (IsBookState actors) id (token_view t) (token_view t) (token_view t)
   repeats actors id t s kept at = comes actors s kept id (token_view t) (t ∷ []) at (kept.fits id (token_view t) at).1
 
   -- what stood at another number stands there still
@@ -184,9 +184,9 @@ module _ {I : Type 0} where
   stood l i j a b apart e = ⊎_elim (λ x. absurd (apart x.0)) (λ x. x.1) (at_set l i j a b e)
 
   -- two views change, and the second is spent
-  merges : (actors : List Actor) (s : State (Unit {0}) (BookView I)) (kept : Kept actors s) (holder : Actor → ℕ) (id other : ℕ) (both : BookView I)
+  merges : (actors : List Actor) (s : State (Unit {0}) (BookView I)) (kept : IsBookState actors s) (holder : Actor → ℕ) (id other : ℕ) (both : BookView I)
       → ((i : ℕ) (v : BookView I) → i ≢ id → i ≢ other → get_elem? s.views i ≡ some v → Fits actors holder kept.log i v) → Fits actors holder kept.log id both
-      → Kept actors record { words = s.words; homes = s.homes; views = slice_set (slice_set s.views id both) other spent_view }
+      → IsBookState actors record { words = s.words; homes = s.homes; views = slice_set (slice_set s.views id both) other spent_view }
   merges actors s kept holder id other both rest mine = with_views actors s kept holder (slice_set (slice_set s.views id both) other spent_view)
       (λ i v there. ⊎_elim
       (λ (x : (i ≡ other) × (spent_view ≡ v)). subst (λ (y : BookView I). Fits actors holder kept.log i y) x.1 (tt, tt, refl))
@@ -196,7 +196,7 @@ module _ {I : Type 0} where
       (at_set s.views id i both v x.1))
       (at_set (slice_set s.views id both) other i spent_view v there))
 
-  takes_in : (actors : List Actor) (id other : ℕ) (p : SeatView I) (t : TokenView I) → Joins (Kept actors) id (seat_view p) other (token_view t) (taken_in (seat_view p) (token_view t)) spent_view
+  takes_in : (actors : List Actor) (id other : ℕ) (p : SeatView I) (t : TokenView I) → Joins (IsBookState actors) id (seat_view p) other (token_view t) (taken_in (seat_view p) (token_view t)) spent_view
   takes_in actors id other p t s kept at apart there =
       let mine = (kept.fits id (seat_view p) at).0.0 in
       let sent = (kept.fits other (token_view t) (stood s.views id other (taken_in (seat_view p) (token_view t)) (token_view t) apart there)).1 in
@@ -210,7 +210,7 @@ module _ {I : Type 0} where
   held actors holder log i v h = all_map (FitsSeat actors holder log i) (λ (p : SeatView I). holder p.actor ≡ i) v.seats (λ p x. x.0) h.0
 
   -- two seats become one
-  pub joins : (actors : List Actor) (id other : ℕ) (v w : BookView I) → Joins (Kept actors) id v other w (joined v w) spent_view
+  pub joins : (actors : List Actor) (id other : ℕ) (v w : BookView I) → Joins (IsBookState actors) id v other w (joined v w) spent_view
   joins actors id other v w s kept at apart there =
       let to = moved kept.holder other id in
       let mine = kept.fits id v at in
@@ -228,7 +228,7 @@ module _ {I : Type 0} where
   within actors holder log i z [] h k = absurd (true≢false (sym k))
   within actors holder log i z (p ∷ ps) h k = within_one (same_actor p.actor z) (lists_actor (map actor_in ps) z) actors p.actor z refl h.0.1 k (within actors holder log i z ps h.1)
 
-  looks : (actors : List Actor) (slots id : ℕ) (v : BookView I) → Allows (Kept actors) slots id (v, []) 0 (λ n. n) (LooksAt actors (v, []))
+  looks : (actors : List Actor) (slots id : ℕ) (v : BookView I) → Allows (IsBookState actors) slots id (v, []) 0 (λ n. n) (LooksAt actors (v, []))
   looks actors slots id v s kept wide at range =
       let fit = kept.fits id v at in (
         v,
@@ -252,7 +252,7 @@ module _ {I : Type 0} where
       )
 
   -- the book at the start
-  pub begins : (actors : List Actor) → length actors ≤ 69 → are_apart actors ≡ true → Kept {I = I} actors (opening (0 ∷ []) [] (opening_view actors))
+  pub begins : (actors : List Actor) → length actors ≤ 69 → are_apart actors ≡ true → IsBookState {I = I} actors (opening (0 ∷ []) [] (opening_view actors))
   begins actors few apart = record {
     log = [];
     holder = λ _. 0;
@@ -276,7 +276,7 @@ module _ {I : Type 0} where
   far_seats actors holder log i a ps apart h = all_map (FitsSeat actors holder log i) (λ (q : SeatView I). q.actor ≢ a) ps (λ q x e. apart (ap holder (sym e) ∙ x.0)) h
 
   deals : (actors : List Actor) (id : ℕ) (p : SeatView I) (ps : List (SeatView I)) → AllByRecursion (λ (q : SeatView I). q.actor ≢ p.actor) ps
-      → Splits (Kept actors) id record { seats = p ∷ ps; tokens = [] } record { seats = ps; tokens = [] } (seat_view p)
+      → Splits (IsBookState actors) id record { seats = p ∷ ps; tokens = [] } record { seats = ps; tokens = [] } (seat_view p)
   deals actors id p ps apart s kept at =
       let mine = kept.fits id record { seats = p ∷ ps; tokens = [] } at in
       let left : BookView I = record { seats = ps; tokens = [] } in
@@ -296,20 +296,20 @@ module _ {I : Type 0} where
       (at_end (slice_set s.views id left) (seat_view p) v i there))
 
   -- the moves, at what is known of a holder
-  pub notes_as : (actors : List Actor) (slots id : ℕ) (me : HolderView I) (t : NotedView I) → IsSeat me → length (seat_in me.0).notes + 1 < 2 ^ 40 → MayNote (seat_in me.0) t.event
-      → Allows (Kept actors) slots id me 0 (λ n. (n + 1) % 2 ^ 64) (AddsTo t me)
-  notes_as actors slots id me t is room may = subst (λ (m : HolderView I). Allows (Kept actors) slots id m 0 (λ n. (n + 1) % 2 ^ 64) (AddsTo t m)) (sym is) (notes actors slots id (seat_in me.0) t room may)
+  pub notes_as : (actors : List Actor) (slots id : ℕ) (me : HolderView I) (t : NotedView I) → IsSeat me → length (only_seat me.0).notes + 1 < 2 ^ 40 → MayNote (only_seat me.0) t.event
+      → Allows (IsBookState actors) slots id me 0 (λ n. (n + 1) % 2 ^ 64) (AddsTo t me)
+  notes_as actors slots id me t is room may = subst (λ (m : HolderView I). Allows (IsBookState actors) slots id m 0 (λ n. (n + 1) % 2 ^ 64) (AddsTo t m)) (sym is) (notes actors slots id (only_seat me.0) t room may)
 
-  pub gives_token_as : (actors : List Actor) (id place : ℕ) (me : HolderView I) → IsSeat me → HasOutput place (seat_in me.0).notes → Splits (Kept actors) id me.0 me.0 (last_token_view place me.0)
-  gives_token_as actors id place me is has = subst (λ (m : HolderView I). Splits (Kept actors) id m.0 m.0 (last_token_view place m.0)) (sym is) (gives_token actors id place (seat_in me.0) has)
+  pub gives_token_as : (actors : List Actor) (id place : ℕ) (me : HolderView I) → IsSeat me → HasOutput place (only_seat me.0).notes → Splits (IsBookState actors) id me.0 me.0 (last_token_view place me.0)
+  gives_token_as actors id place me is has = subst (λ (m : HolderView I). Splits (IsBookState actors) id m.0 m.0 (last_token_view place m.0)) (sym is) (gives_token actors id place (only_seat me.0) has)
 
-  pub repeats_as : (actors : List Actor) (id : ℕ) (me : HolderView I) → IsToken me → Splits (Kept actors) id me.0 me.0 me.0
-  repeats_as actors id me is = subst (λ (m : HolderView I). Splits (Kept actors) id m.0 m.0 m.0) (sym is) (repeats actors id (token_in me.0))
+  pub repeats_as : (actors : List Actor) (id : ℕ) (me : HolderView I) → IsToken me → Splits (IsBookState actors) id me.0 me.0 me.0
+  repeats_as actors id me is = subst (λ (m : HolderView I). Splits (IsBookState actors) id m.0 m.0 m.0) (sym is) (repeats actors id (token_in me.0))
 
   pub takes_in_as : (actors : List Actor) (id other : ℕ) (me them : HolderView I) → IsSeat me → IsToken them
-      → Joins (Kept actors) id me.0 other them.0 (taken_in me.0 them.0) spent_view
+      → Joins (IsBookState actors) id me.0 other them.0 (taken_in me.0 them.0) spent_view
   takes_in_as actors id other me them is theirs =
-      subst (λ (u : BookView I × BookView I). Joins (Kept actors) id u.0 other u.1 (taken_in u.0 u.1) spent_view) (λ k. ((sym is k).0, (sym theirs k).0)) (takes_in actors id other (seat_in me.0) (token_in them.0))
+      subst (λ (u : BookView I × BookView I). Joins (IsBookState actors) id u.0 other u.1 (taken_in u.0 u.1) spent_view) (λ k. ((sym is k).0, (sym theirs k).0)) (takes_in actors id other (only_seat me.0) (token_in them.0))
 
   one_token : (place : ℕ) (notes : List (Note I)) → HasOutput place notes → last_token place notes ≡ first_token (last_token place notes) ∷ []
   one_token place [] h = absurd h
@@ -317,23 +317,23 @@ module _ {I : Type 0} where
   one_token place (e ∷ f ∷ es) h = one_token place (f ∷ es) h
 
   -- what a new token knows
-  pub new_token : (place : ℕ) (me them : HolderView I) → them ≡ (last_token_view place me.0, []) → IsSeat me → HasOutput place (seat_in me.0).notes → last_token place (seat_in me.0).notes ≡ token_in them.0 ∷ []
+  pub new_token : (place : ℕ) (me them : HolderView I) → them ≡ (last_token_view place me.0, []) → IsSeat me → HasOutput place (only_seat me.0).notes → last_token place (only_seat me.0).notes ≡ token_in them.0 ∷ []
   new_token place me them is seat has =
-      let notes = (seat_in me.0).notes in
+      let notes = (only_seat me.0).notes in
       let same : token_in them.0 ≡ first_token (last_token place notes) = ap (λ (x : HolderView I). token_in x.0) is ∙ ap (λ (x : HolderView I). token_in (last_token_view place x.0)) seat in
       one_token place notes has ∙ ap (λ (t : TokenView I). t ∷ []) (sym same)
 
-  pub token_stands : (place : ℕ) (me them : HolderView I) → them ≡ (last_token_view place me.0, []) → IsSeat me → HasOutput place (seat_in me.0).notes → IsToken them
+  pub token_stands : (place : ℕ) (me them : HolderView I) → them ≡ (last_token_view place me.0, []) → IsSeat me → HasOutput place (only_seat me.0).notes → IsToken them
   token_stands place me them is seat has =
       is ∙ ap (λ (x : HolderView I). (last_token_view place x.0, [])) seat ∙ ap (λ (l : List (TokenView I)). (record { seats = []; tokens = l }, [])) (new_token place me them is seat has)
 
-  deals_as : (actors rest : List Actor) (a : Actor) (id : ℕ) (v : BookView I) → v ≡ opening_view (a ∷ rest) → are_apart (a ∷ rest) ≡ true → Splits (Kept actors) id v (rest_view v) (handed_view v)
+  deals_as : (actors rest : List Actor) (a : Actor) (id : ℕ) (v : BookView I) → v ≡ opening_view (a ∷ rest) → are_apart (a ∷ rest) ≡ true → Splits (IsBookState actors) id v (rest_view v) (handed_view v)
   deals_as actors rest a id v is apart =
-      subst (λ (u : BookView I). Splits (Kept actors) id u (rest_view u) (handed_view u)) (sym is) (deals actors id (new_seat a) (map new_seat rest) (others_apart I a rest (not_true (lists_actor rest a) (are_apart rest) apart)))
+      subst (λ (u : BookView I). Splits (IsBookState actors) id u (rest_view u) (handed_view u)) (sym is) (deals actors id (new_seat a) (map new_seat rest) (others_apart I a rest (not_true (lists_actor rest a) (are_apart rest) apart)))
 
-  pub looks_as : (actors key : List Actor) (slots id : ℕ) (me : HolderView I) → me ≡ (record { seats = me.0.seats; tokens = [] }, []) → key ≡ actors → Allows (Kept key) slots id me 0 (λ n. n) (LooksAt actors me)
+  pub looks_as : (actors key : List Actor) (slots id : ℕ) (me : HolderView I) → me ≡ (record { seats = me.0.seats; tokens = [] }, []) → key ≡ actors → Allows (IsBookState key) slots id me 0 (λ n. n) (LooksAt actors me)
   looks_as actors key slots id me is same =
-      subst (λ (x : HolderView I × List Actor). Allows (Kept key) slots id x.0 0 (λ n. n) (LooksAt x.1 x.0)) (λ k. (sym is k, same k)) (looks key slots id record { seats = me.0.seats; tokens = [] })
+      subst (λ (x : HolderView I × List Actor). Allows (IsBookState key) slots id x.0 0 (λ n. n) (LooksAt x.1 x.0)) (λ k. (sym is k, same k)) (looks key slots id record { seats = me.0.seats; tokens = [] })
 
   -- as many seats as the book has actors are all its seats
   pub all_seats : (actors : List Actor) (seats : List (SeatView I)) (me after : HolderView I) (n : ℕ) (a : Actor) → LooksAt actors me n after → me.0.seats ≡ seats → length seats ≡ length actors → lists_actor actors a ≡ true
@@ -343,7 +343,7 @@ module _ {I : Type 0} where
       covers (map actor_in seats) actors a (sym (ap (λ l. are_apart (map actor_in l)) is) ∙ look.1) (λ z h. look.2 z (ap (λ l. lists_actor (map actor_in l) z) is ∙ h)) (omega arith) inn
 
   -- the seat of the i-th actor is handed out
-  pub hands_out : (actors items : List Actor) (i id : ℕ) (v : BookView I) → v ≡ opening_view (drop i items) → are_apart (drop i items) ≡ true → i < length items → Splits (Kept actors) id v (rest_view v) (handed_view v)
+  pub hands_out : (actors items : List Actor) (i id : ℕ) (v : BookView I) → v ≡ opening_view (drop i items) → are_apart (drop i items) ≡ true → i < length items → Splits (IsBookState actors) id v (rest_view v) (handed_view v)
   hands_out actors items i id v is apart h =
       let off : drop i items ≡ get_or items i (Server 0) ∷ drop (suc i) items = drop-cons items i (Server 0) h in
       deals_as actors (drop (suc i) items) (get_or items i (Server 0)) id v (is ∙ ap opening_view off) (sym (ap are_apart off) ∙ apart)

@@ -26,12 +26,12 @@ module _ {I : Type 0} where
       × (slice_get sender.noted.outputs place ≡ Some (record { to = actor; frame = frame }))
   IsDueEvent log now actor Crash = Unit {0}
 
-  abbrev pub IsDue : List (Note I) → Note I → Type 0
-  IsDue log note = IsDueEvent log note.stamp note.actor note.noted.event
+  abbrev pub IsDueNote : List (Note I) → Note I → Type 0
+  IsDueNote log note = IsDueEvent log note.stamp note.actor note.noted.event
 
   -- the stamps are 0 to n - 1, each once; each delivery names an output of an event before it, and
   -- its receiver noted it; each event is of one of the actors
   abbrev pub IsLegal : List Actor → List (Note I) → Type 0
   IsLegal actors log =
-      NumberedFrom 0 log × AllByRecursion (IsDue log) log
+      NumberedFrom 0 log × AllByRecursion (IsDueNote log) log
       × AllByRecursion (λ (note : Note I). lists_actor actors note.actor ≡ true) log

@@ -14,10 +14,10 @@ pub type Holder<I> = Seat<(), BookView<I>>;
 pub struct BookRule;
 
 impl<I> TableRule<(), BookView<I>, Vec<Actor>> for BookRule {
-    ghost use Rattle.event_book.specs.Inner.Rule.{Kept};
+    ghost use Rattle.event_book.specs.Inner.Rule.{IsBookState};
     ghost use Rattle.event_book.specs.Inner.Views.{opening_view};
 
-    ghost holds = { λ actors. Kept actors.items };
+    ghost holds = { λ actors. IsBookState actors.items };
 
     ghost first = { λ actors. opening_view actors.items };
 }

@@ -8,7 +8,7 @@ ghost use Rattle.event_book.specs.Noted.{event_view, noted_view};
 ghost use Rattle.event_book.specs.Seats.{HasOutput, last_token, MayNote, new_seat};
 ghost use Rattle.event_book.specs.Seats.{with_note, with_taken};
 ghost use Rattle.event_book.specs.Inner.Rule.{AddsTo};
-ghost use Rattle.event_book.specs.Inner.Views.{seat_in, seat_view, token_in, IsSeat, IsToken};
+ghost use Rattle.event_book.specs.Inner.Views.{only_seat, seat_view, token_in, IsSeat, IsToken};
 
 use crate::book::{Book, BookId};
 use crate::noted::{Noted, Outputs};
@@ -33,15 +33,15 @@ pub struct ActorSeat<I, B: BookId> {
 impl<I, B: BookId> Model for ActorSeat<I, B> {
     ghost use Rattle.std.specs.Prelude.{◌≡◌, length};
     ghost use Rattle.event_book.specs.declared.view.SeatView.{SeatView};
-    ghost use Rattle.event_book.specs.Inner.Views.{seat_in, IsSeat};
+    ghost use Rattle.event_book.specs.Inner.Views.{only_seat, IsSeat};
 
     ghost Value = { SeatView I };
 
-    ghost view = { λ s. seat_in s.holder.me.0 };
+    ghost view = { λ s. only_seat s.holder.me.0 };
 
     ghost invariant = { λ s. (s.holder.table_id ≡ B.table) × IsSeat s.holder.me
-        × (s.count ≡ length (seat_in s.holder.me.0).notes)
-        × (s.actor ≡ (seat_in s.holder.me.0).actor) };
+        × (s.count ≡ length (only_seat s.holder.me.0).notes)
+        × (s.actor ≡ (only_seat s.holder.me.0).actor) };
 }
 
 // What is noted is picked at the call, since a kind of move has no parameter for it. The word
@@ -54,8 +54,8 @@ fn note_as<I: Drop, O: Outputs, B: BookId, J: NotedBy<I>>(
 ) -> u64
     requires table { holder.old.table_id ≡ B.table }
     requires seat { IsSeat holder.old.me }
-    requires room { length (seat_in holder.old.me.0).notes + 1 < 2 ^ 40 }
-    requires may { MayNote (seat_in holder.old.me.0) J.noted.event }
+    requires room { length (only_seat holder.old.me.0).notes + 1 < 2 ^ 40 }
+    requires may { MayNote (only_seat holder.old.me.0) J.noted.event }
     ensures same { holder.new.table_id ≡ holder.old.table_id }
     ensures adds { AddsTo J.noted holder.old.me result holder.new.me }
 {
@@ -71,10 +71,10 @@ fn token_as<I, B: BookId, J: OutputAt>(
 ) -> Holder<I>
     requires table { holder.old.table_id ≡ B.table }
     requires seat { IsSeat holder.old.me }
-    requires has { HasOutput J.place (seat_in holder.old.me.0).notes }
+    requires has { HasOutput J.place (only_seat holder.old.me.0).notes }
     ensures same { (holder.new.table_id ≡ B.table) × (holder.new.me ≡ holder.old.me) }
     ensures token { (result.table_id ≡ B.table) × (IsToken result.me) }
-    ensures names { last_token J.place (seat_in holder.old.me.0).notes ≡ token_in result.me.0 ∷ [] }
+    ensures names { last_token J.place (only_seat holder.old.me.0).notes ≡ token_in result.me.0 ∷ [] }
 {
     book.table.shared.split_seat::<GivesToken<J>>(holder)
 }

@@ -7,12 +7,12 @@ use Rattle.group_model.specs.Expiry.{BeatCount, beat_counts_over, beat_counts_wi
 use Rattle.group_model.specs.BeatCounts.{beat_heard, expiry_refusal}
 use Rattle.group_model.specs.Worked.Words.{node_row}
 
-abbrev pub down : ℕ → Node
-down n = record (node_row n) { status = statuses.Down }
+abbrev pub down_node : ℕ → Node
+down_node n = record (node_row n) { status = statuses.Down }
 
 -- node 3 is down
 abbrev pub begin : List BeatCount
-begin = beat_counts_over (node_row 1 ∷ node_row 2 ∷ down 3 ∷ []) []
+begin = beat_counts_over (node_row 1 ∷ node_row 2 ∷ down_node 3 ∷ []) []
 
 abbrev pub count : ℕ → ℕ → BeatCount
 count node beats = record { node = node; beats = beats }
@@ -42,7 +42,7 @@ abbrev pub StaysReady : Type 0
 StaysReady = beat_counts_with (record (node_row 1) { room = 9 }) once ≡ once
 
 abbrev pub gone : List BeatCount
-gone = beat_counts_with (down 1) once
+gone = beat_counts_with (down_node 1) once
 
 abbrev pub Gone : Type 0
 Gone = expiry_refusal 1 1 gone ≡ Some refusals.UnknownNode

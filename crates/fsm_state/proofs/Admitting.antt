@@ -11,7 +11,7 @@ use Rattle.fsm_tables.specs.Claims.{claim_of, claims, on_node, is_live}
 use Rattle.fsm_tables.specs.Lookups.{lives_on}
 use Rattle.cluster_model.specs.Words.{State}
 use Rattle.cluster_model.specs.Admission.{evals_pass, those_jobs}
-use Rattle.fsm_state.specs.Inner.Steps.{is_in}
+use Rattle.fsm_state.specs.Inner.Steps.{is_named_in}
 
 pub mapped_some : {A B : Type 0} (f : A → B) (o : Option A) → is_some (option_map f o) ≡ is_some o
 mapped_some f None = refl
@@ -38,5 +38,5 @@ used_where_live n [] h = refl
 used_where_live n (a ∷ rows) h = ap (nat_lt 0) (one_more n a rows) ∙ in_use (is_live a) (nat_eq a.node n) a.size.cpu (cpu_on n rows) (list_any (lives_on n) rows) h.0.5.0.0 (used_where_live n rows h.1)
 
 -- jobs told by names
-pub names_are : (those : Job → Bool) (names : BTreeSet (List ℕ)) (s : State) → ((j : Job) → those j ≡ is_in names j) → evals_pass (those_jobs (is_in names) s) s ≡ evals_pass (those_jobs those s) s
+pub names_are : (those : Job → Bool) (names : BTreeSet (List ℕ)) (s : State) → ((j : Job) → those j ≡ is_named_in names j) → evals_pass (those_jobs (is_named_in names) s) s ≡ evals_pass (those_jobs those s) s
 names_are those names s h = sym (λ i. evals_pass (those_jobs (λ j. h j i) s) s)

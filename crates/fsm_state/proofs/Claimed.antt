@@ -15,7 +15,7 @@ use Rattle.cluster_model.specs.Safe.{is_safe, are_safe, is_within, are_distinct}
 use Rattle.cluster_model.specs.Effect.{with_next_count, stop, planned}
 use Rattle.cluster_model.proofs.SafeLaws.{Fewer, nothing, kept, gone, fewer_distinct, distinct_of, stop_releases}
 use Rattle.cluster_model.proofs.UseLaws.{Counts, number_fits, safe_by_numbers, low_numbers}
-use Rattle.cluster_model.specs.Plans.{wanted, are_free, is_made, left, left_by, IsKnown}
+use Rattle.cluster_model.specs.Plans.{wanted, are_free, is_made, left, left_by, FitsWhereAsked}
 use Rattle.cluster_model.proofs.PlanLaws.{all_wanted_count, all_append, distinct-append, kept_is_distinct}
 use Rattle.cluster_model.proofs.RangeLaws.{all_mapped}
 use Rattle.cluster_model.proofs.AfterLaws.{planned_is_safe, safe_is_planned, RowCounts, rows_count}
@@ -65,7 +65,7 @@ left_count x slot n [] h = tt
 left_count x slot n (a ∷ rows) h = elim (is_live a && not (is_made x slot n a)) as (λ b. AllByRecursion Counts (cond b (claim_of a ∷ left x slot n rows) (left x slot n rows))) [ true ↦ (h.0, left_count x slot n rows h.1) | false ↦ left_count x slot n rows h.1 ]
 
 -- the nodes bear what is claimed after a plan exactly where the state after it is safe
-pub bears_is_safe : (p : AcceptedPlan) (s : State) → IsKnown p s → are_safe s.nodes (left_by p s ++ wanted p) ≡ is_safe (planned p (with_next_count s))
+pub bears_is_safe : (p : AcceptedPlan) (s : State) → FitsWhereAsked p s → are_safe s.nodes (left_by p s ++ wanted p) ≡ is_safe (planned p (with_next_count s))
 bears_is_safe p s k =
     let cs = left_by p s ++ wanted p in
     let still = all_mapped RowCounts (stop p.stops) (λ a c. subst Counts (sym ((stop_releases p.stops).same_claim a)) c) s.allocs (rows_count s.allocs k.allocs) in

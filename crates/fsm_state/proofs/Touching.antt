@@ -20,7 +20,7 @@ use Rattle.cluster_model.specs.Effect.{with_evals, touched, is_named, owns}
 use Rattle.cluster_model.proofs.Lists.{or_false}
 use Rattle.cluster_model.proofs.Keys.{names_turn}
 use Rattle.cluster_model.proofs.RangeLaws.{no_more}
-use Rattle.fsm_state.specs.Inner.Steps.{is_in, has_name, jobs_at, owners, AddsNames}
+use Rattle.fsm_state.specs.Inner.Steps.{is_named_in, has_name, jobs_at, owners, AddsNames}
 
 -- whether a job's name is one of these
 abbrev pub is_one_of : List (List ℕ) → Job → Bool
@@ -29,9 +29,9 @@ is_one_of names j = has_name names j.name
 -- ---- the rows of names
 
 -- a set's names, looked up in their order, find the rows of the names
-pub jobs_are : (names : BTreeSet (List ℕ)) (jobs : List Job) → T (is_rising name_cmp job_name jobs) → IsOrdered name_cmp names → jobs_at jobs names.keys ≡ filter (is_in names) jobs
+pub jobs_are : (names : BTreeSet (List ℕ)) (jobs : List Job) → T (is_rising name_cmp job_name jobs) → IsOrdered name_cmp names → jobs_at jobs names.keys ≡ filter (is_named_in names) jobs
 jobs_are names jobs rising sorted =
-    under_are_filtered name_cmp job_name exact_bytes nat_list_cmp_total jobs (is_in names) names.keys rising sorted
+    under_are_filtered name_cmp job_name exact_bytes nat_list_cmp_total jobs (is_named_in names) names.keys rising sorted
     (λ q x e. ap (contains name_cmp names) (sym (found_at name_cmp job_name exact_bytes q x jobs e)))
 
 alone : (name : List ℕ) → IsStrictlySortedBy name_cmp (name ∷ [])

@@ -6,12 +6,12 @@ use Rattle.rows.specs.declared.job.Job.{Job}
 use Rattle.fsm_tables.specs.Lookups.{GivesRows}
 use Rattle.cluster_model.specs.Words.{State}
 use Rattle.cluster_model.specs.Effect.{touched}
-use Rattle.fsm_state.specs.Inner.Steps.{is_in}
+use Rattle.fsm_state.specs.Inner.Steps.{is_named_in}
 
 pub turned : {A E : Type 0} (r : Result A E) (x y z : State) → y ≡ z → OnOk r (x ≡ y) → OnOk r (x ≡ z)
 turned r x y z e h = subst (λ (w : State). OnOk r (x ≡ w)) e h
 
-pub touched_both : (those : Job → Bool) (names : BTreeSet (List ℕ)) (s t : State) → ((j : Job) → those j ≡ is_in names j) → s ≡ t → touched (is_in names) s ≡ touched those t
+pub touched_both : (those : Job → Bool) (names : BTreeSet (List ℕ)) (s t : State) → ((j : Job) → those j ≡ is_named_in names j) → s ≡ t → touched (is_named_in names) s ≡ touched those t
 touched_both those names s t h e = λ i. touched (λ j. sym (h j) i) (e i)
 
 -- rows that are given keep what is said of them

@@ -2,7 +2,7 @@
 ghost use Rattle.std.specs.Prelude.{◌≡◌, ◌≢◌, ◌≤◌, ◌∷◌, None, OnOk, OnErr, length, filter};
 ghost use Rattle.cluster_model.specs.Words.{job_of};
 ghost use Rattle.cluster_model.specs.Effect.{new_eval, touched, is_named};
-ghost use Rattle.fsm_state.specs.Inner.Steps.{touched_at, jobs_at, is_in, AddsNames};
+ghost use Rattle.fsm_state.specs.Inner.Steps.{touched_at, jobs_at, is_named_in, AddsNames};
 
 use crate::cluster::Cluster;
 use rows::{EntryIndex, EvalId, EvalStatus, Evaluation, Index, Job, JobName, NoMemory};
@@ -72,7 +72,7 @@ impl Cluster {
         names: &BTreeSet<JobName>,
     ) -> Result<(), NoMemory>
         requires { entry ≡ self.old.count }
-        ensures { OnOk result (self.new ≡ touched (is_in names.now) self.old) }
+        ensures { OnOk result (self.new ≡ touched (is_named_in names.now) self.old) }
     {
         self.ranges();
         let _count = names.len();
@@ -95,7 +95,7 @@ impl Cluster {
 
     /// How many jobs of these names have a row. It takes one look-up for each name.
     pub(crate) fn count_all(&self, names: &BTreeSet<JobName>) -> usize
-        ensures count { result ≡ length (filter (is_in names.now) self.now.jobs) }
+        ensures count { result ≡ length (filter (is_named_in names.now) self.now.jobs) }
         ensures few { result ≤ length self.now.jobs }
     {
         self.ranges();

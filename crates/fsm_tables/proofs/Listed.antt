@@ -20,7 +20,7 @@ use Rattle.fsm_tables.specs.Claims.{is_active, is_wanted, is_live}
 use Rattle.fsm_tables.specs.LiveNames.{name_of, is_called}
 use Rattle.fsm_tables.specs.Lookups.{lives_as, is_active_on, same_desired, is_listed_anew}
 use Rattle.fsm_tables.specs.Inner.Index.{entry_cmp, entry_under, entry_of, is_entry, AreIndexed, IsSame, Gains, Loses, lacks}
-use Rattle.fsm_tables.specs.Inner.Keys.{alloc_name_cmp, live_name, on_node_cmp, active_on, AreListed}
+use Rattle.fsm_tables.specs.Inner.Keys.{alloc_name_cmp, live_name, on_node_cmp, active_on, AreRowIndexes}
 use Rattle.fsm_tables.specs.Rows.{row_of, has_row, put}
 use Rattle.fsm_tables.proofs.Bounds.{names_total, nodes_total, eq_then, called}
 use Rattle.fsm_tables.proofs.Entries.{indexed_put, indexed_kept, none_indexed, tie_reversed}
@@ -30,19 +30,19 @@ pub record AreEntriesOf (row : Option Allocation) (x : RowEntries) : Type 0 wher
   pub name : x.name ≡ entry_of live_name row
   pub node : x.node ≡ entry_of active_on row
 
-pub none_listed : (x : Indexes) → x.names.keys ≡ [] → x.nodes.keys ≡ [] → AreListed [] x
+pub none_listed : (x : Indexes) → x.names.keys ≡ [] → x.nodes.keys ≡ [] → AreRowIndexes [] x
 none_listed x names nodes = record { names = none_indexed alloc_name_cmp names_total live_name x.names names; nodes = none_indexed on_node_cmp nodes_total active_on x.nodes nodes }
 
-module _ (a : Allocation) (rows : List Allocation) (s m n : Indexes) (new old : RowEntries) (is_new : AreEntriesOf (Some a) new) (is_old : AreEntriesOf (row_of alloc_cmp alloc_id a.id rows) old) (was : AreListed rows s) where
+module _ (a : Allocation) (rows : List Allocation) (s m n : Indexes) (new old : RowEntries) (is_new : AreEntriesOf (Some a) new) (is_old : AreEntriesOf (row_of alloc_cmp alloc_id a.id rows) old) (was : AreRowIndexes rows s) where
   pub listed_put : Gains alloc_name_cmp new.name s.names m.names → Gains on_node_cmp new.node s.nodes m.nodes
-      → Loses alloc_name_cmp old.name new.name m.names n.names → Loses on_node_cmp old.node new.node m.nodes n.nodes → AreListed (put alloc_cmp alloc_id a rows) n
+      → Loses alloc_name_cmp old.name new.name m.names n.names → Loses on_node_cmp old.node new.node m.nodes n.nodes → AreRowIndexes (put alloc_cmp alloc_id a rows) n
   listed_put add add' gone gone' = record {
     names = indexed_put alloc_name_cmp names_total live_name a rows s.names m.names n.names was.names (rw is_new.name at add) (rw (is_old.name, is_new.name) at gone);
     nodes = indexed_put on_node_cmp nodes_total active_on a rows s.nodes m.nodes n.nodes was.nodes (rw is_new.node at add') (rw (is_old.node, is_new.node) at gone');
   }
 
   pub listed_kept : IsSame alloc_name_cmp s.names m.names ⊎ Gains alloc_name_cmp new.name s.names m.names → IsSame on_node_cmp s.nodes m.nodes ⊎ Gains on_node_cmp new.node s.nodes m.nodes
-      → Loses alloc_name_cmp new.name old.name m.names n.names → Loses on_node_cmp new.node old.node m.nodes n.nodes → AreListed rows n
+      → Loses alloc_name_cmp new.name old.name m.names n.names → Loses on_node_cmp new.node old.node m.nodes n.nodes → AreRowIndexes rows n
   listed_kept add add' gone gone' = record {
     names = indexed_kept alloc_name_cmp names_total live_name a rows s.names m.names n.names was.names (rw is_new.name at add) (rw (is_new.name, is_old.name) at gone);
     nodes = indexed_kept on_node_cmp nodes_total active_on a rows s.nodes m.nodes n.nodes was.nodes (rw is_new.node at add') (rw (is_new.node, is_old.node) at gone');
@@ -130,7 +130,7 @@ module _ (a old : Allocation) (rows : List Allocation) (row_is : row_of alloc_cm
       ]
 
 -- an index lacks an entry of a row only where the row is new, or is listed anew
-pub lacks_of_row : (a : Allocation) (rows : List Allocation) (s : Indexes) → AreListed rows s → T (lacks alloc_name_cmp (entry_of live_name (Some a)) s.names || lacks on_node_cmp (entry_of active_on (Some a)) s.nodes)
+pub lacks_of_row : (a : Allocation) (rows : List Allocation) (s : Indexes) → AreRowIndexes rows s → T (lacks alloc_name_cmp (entry_of live_name (Some a)) s.names || lacks on_node_cmp (entry_of active_on (Some a)) s.nodes)
     → T (not (has_row alloc_cmp alloc_id a.id rows) || is_listed_anew (row_of alloc_cmp alloc_id a.id rows) a)
 lacks_of_row a rows s was h =
     elim (row_of alloc_cmp alloc_id a.id rows) as (λ r. row_of alloc_cmp alloc_id a.id rows ≡ r → T (not (is_some r) || is_listed_anew r a)) [

@@ -17,8 +17,8 @@ pub record TableRows : Type 0 where
   pub evals : List Evaluation
   pub allocs : List Allocation
 
-abbrev pub no_rows : TableRows
-no_rows = record { jobs = []; nodes = []; evals = []; allocs = [] }
+abbrev pub no_table_rows : TableRows
+no_table_rows = record { jobs = []; nodes = []; evals = []; allocs = [] }
 
 -- what one table keeps: strictly rising keys, its limit, and the ranges of its rows
 pub record TableFits {K X : Type 0} (R : K → K → Ordering) (key : X → K) (Fits : X → Type 0) (most : ℕ) (rows : List X) : Type 0 where

@@ -31,7 +31,7 @@ impl Model for Allocations {
     ghost use Rattle.std.specs.Prelude.{List, ◌≤◌, length};
     ghost use Rattle.rows.specs.declared.allocation.Allocation.{Allocation};
     ghost use Rattle.fsm_tables.specs.Inner.Sums.{AreSummed};
-    ghost use Rattle.fsm_tables.specs.Inner.Keys.{AreListed};
+    ghost use Rattle.fsm_tables.specs.Inner.Keys.{AreRowIndexes};
 
     ghost Value = { List Allocation };
 
@@ -40,7 +40,7 @@ impl Model for Allocations {
     ghost invariant = { λ a. record {
       cpu : AreSummed (λ z. z.cpu) a.rows a.cpu;
       mem : AreSummed (λ z. z.mem) a.rows a.mem;
-      listed : AreListed a.rows a.indexes;
+      listed : AreRowIndexes a.rows a.indexes;
       few : length a.rows ≤ 65536;
     } };
 }

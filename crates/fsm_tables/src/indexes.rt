@@ -3,7 +3,7 @@ ghost use Rattle.std.specs.Prelude.{◌≡◌, ◌⊎◌, ◌||◌, not, [], OnO
 ghost use Rattle.rows.specs.Keys.{alloc_cmp, alloc_id};
 ghost use Rattle.rows.specs.Rising.{is_rising};
 ghost use Rattle.fsm_tables.specs.Inner.Index.{entry_of, IsSame, Gains, Loses, lacks};
-ghost use Rattle.fsm_tables.specs.Inner.Keys.{alloc_name_cmp, live_name, on_node_cmp, active_on, AreListed};
+ghost use Rattle.fsm_tables.specs.Inner.Keys.{alloc_name_cmp, live_name, on_node_cmp, active_on, AreRowIndexes};
 ghost use Rattle.fsm_tables.specs.Rows.{row_of, has_row, put};
 ghost use Rattle.fsm_tables.specs.Lookups.{is_listed_anew};
 
@@ -58,7 +58,7 @@ impl Indexes {
     /// The entries of rows in rising id.
     pub fn of_rows(alloc: Global, rows: &[Allocation]) -> Result<Indexes, NoMemory>
         requires { Holds (is_rising alloc_cmp alloc_id rows.now) }
-        ensures { IfOk result (λ indexes. AreListed rows.now indexes) }
+        ensures { IfOk result (λ indexes. AreRowIndexes rows.now indexes) }
     {
         Ok(Indexes {
             names: AllocIndex::of_rows(alloc, rows)?,
@@ -107,8 +107,8 @@ pub(crate) fn put_indexed(
     indexes: &mut Indexes,
     row: Allocation,
 ) -> Result<(), NoMemory>
-    requires { AreListed rows.old indexes.old }
-    ensures listed { AreListed rows.new indexes.new }
+    requires { AreRowIndexes rows.old indexes.old }
+    ensures listed { AreRowIndexes rows.new indexes.new }
     ensures ok { OnOk result (rows.new ≡ put alloc_cmp alloc_id row rows.old) }
     ensures err { OnErr result (rows.new ≡ rows.old) }
     ensures memory { OnErr result (Holds (not (has_row alloc_cmp alloc_id row.id rows.old)

@@ -5,7 +5,7 @@ ghost use Rattle.fsm_tables.specs.Rows.{row_of, put_within, makes_row};
 ghost use Rattle.fsm_tables.specs.Claims.{claims, used, are_distinct};
 ghost use Rattle.fsm_tables.specs.LiveNames.{live_named};
 ghost use Rattle.fsm_tables.specs.Lookups.{lives_as, lives_for, lives_on, is_active_on, GivesRows, is_listed_anew};
-ghost use Rattle.fsm_tables.specs.TableRows.{no_rows, TablesFit};
+ghost use Rattle.fsm_tables.specs.TableRows.{no_table_rows, TablesFit};
 
 use crate::allocations::Allocations;
 use crate::name::AllocName;
@@ -53,7 +53,7 @@ impl Tables {
 
     /// The tables without rows. It takes no memory.
     pub fn empty(alloc: Global) -> Tables
-        ensures { result ≡ no_rows }
+        ensures { result ≡ no_table_rows }
     {
         Tables {
             jobs: Table::empty(alloc),

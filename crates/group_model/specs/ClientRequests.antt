@@ -14,7 +14,7 @@ use Rattle.rows.specs.declared.worker.ClientRequestKind.{ClientRequestKind}
 use Rattle.rows.specs.declared.worker.ClientRequestKind.TheVariants as kinds
 use Rattle.rows.specs.Reasons.{reason_of}
 use Rattle.raft_model.specs.Servers.{Server, is_leader}
-use Rattle.raft_model.specs.Steps.{admitted}
+use Rattle.raft_model.specs.Steps.{admission_refusal}
 use Rattle.cluster_model.specs.Words.{State}
 use Rattle.cluster_model.specs.Words.{node_of, is_some_and, is_ready}
 use Rattle.fsm_tables.specs.Lookups.{lives_on}
@@ -79,7 +79,7 @@ abbrev pub writes : ℕ → Server Command → ℕ → ClientRequestKind → Com
 writes me s c kind command d =
     if not (is_leader s.mode) then answers me c kind (Some (refusals.NotLeader s.known)) d
     else if is_taken_already (whole_state s) command then answers me c kind None d
-    else proposes_for me c kind command d (admitted cluster_meaning s command)
+    else proposes_for me c kind command d (admission_refusal cluster_meaning s command)
 
 -- ---- a heartbeat, at an open desk
 

@@ -17,7 +17,7 @@ use Rattle.rows.specs.declared.worker.WorkerResponse.TheVariants.{Delivered, Ref
 use Rattle.rows.specs.Reasons.{reason_of}
 use Rattle.rows.specs.Changes.{change_of}
 use Rattle.raft_model.specs.Servers.{Server}
-use Rattle.raft_model.specs.Steps.{admitted}
+use Rattle.raft_model.specs.Steps.{admission_refusal}
 use Rattle.cluster_model.specs.ClusterMachine.{cluster_meaning}
 use Rattle.group_model.specs.Messages.{BetweenServers, WorkerMessage, Asks, Answers}
 use Rattle.group_model.specs.Brokers.{Given, Nothing, UsedUp, Gives, deliver, outstanding, with_ack, with_nack}
@@ -65,7 +65,7 @@ finishes_by me from id token c o None = record {
 abbrev pub finishes_of : ℕ → Server Command → ℕ → EvalId → Token → EvalOutcome → Desk → Result ℕ Refusal → Act
 finishes_of me s from id token outcome o (Err r) = refuses me from (asked.Finish id token) (Some o) r
 finishes_of me s from id token outcome o (Ok wait) =
-    finishes_by me from id token (commands.EvalStatus id (change_of outcome)) o (admitted cluster_meaning s (commands.EvalStatus id (change_of outcome)))
+    finishes_by me from id token (commands.EvalStatus id (change_of outcome)) o (admission_refusal cluster_meaning s (commands.EvalStatus id (change_of outcome)))
 
 abbrev pub finishes : ℕ → Server Command → ℕ → EvalId → Token → EvalOutcome → Result Desk Refusal → Option Desk → Act
 finishes me s from id token outcome (Err r) d = refuses me from (asked.Finish id token) d r

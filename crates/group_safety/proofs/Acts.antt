@@ -14,7 +14,7 @@ use Rattle.rows.specs.declared.command.Command.TheVariants as commands
 use Rattle.rows.specs.declared.refusal.Refusal.{Refusal}
 use Rattle.rows.specs.declared.refusal.Refusal.TheVariants as refusals
 use Rattle.raft_model.specs.Servers.{Server, is_leader}
-use Rattle.raft_model.specs.Steps.{admitted}
+use Rattle.raft_model.specs.Steps.{admission_refusal}
 use Rattle.cluster_model.specs.Words.{State}
 use Rattle.cluster_model.specs.Words.{node_of}
 use Rattle.cluster_model.specs.ClusterMachine.{cluster_meaning}
@@ -76,7 +76,7 @@ module _ (me : ℕ) (s : Server Command) where
 
   sober_finish : (from : ℕ) (id : EvalId) (token : Token) (f : EvalOutcome) (o : Desk) (r : Result ℕ Refusal) → Sober me s (finishes_of me s from id token f o r)
   sober_finish from id token f o (Err e) = record { no_plan = λ p h. cc; honest = (refl, tt) }
-  sober_finish from id token f o (Ok wait) = sober_finish_by from id token f o (admitted cluster_meaning s (commands.EvalStatus id (change_of f)))
+  sober_finish from id token f o (Ok wait) = sober_finish_by from id token f o (admission_refusal cluster_meaning s (commands.EvalStatus id (change_of f)))
 
   sober_nack : (from : ℕ) (id : EvalId) (token : Token) (o : Desk) (r : Result ℕ Refusal) → Sober me s (nacks_of me from id token o r)
   sober_nack from id token o (Err e) = record { no_plan = λ p h. cc; honest = (refl, tt) }
@@ -111,7 +111,7 @@ module _ (me : ℕ) (s : Server Command) where
     sober_writes : (d : Option Desk) → Sober me s (writes me s c kind command d)
     sober_writes d =
         sober_cond (not (is_leader s.mode)) _ _ (record { no_plan = λ p h. cc; honest = (refl, tt) })
-        (sober_cond (is_taken_already (whole_state s) command) _ _ (record { no_plan = λ p h. cc; honest = (refl, tt) }) (sober_proposes d (admitted cluster_meaning s command)))
+        (sober_cond (is_taken_already (whole_state s) command) _ _ (record { no_plan = λ p h. cc; honest = (refl, tt) }) (sober_proposes d (admission_refusal cluster_meaning s command)))
 
   sober_beats : (c : ℕ) (o : Desk) (p : Option BeatCount) → Sober me s (beats_at me c o p)
   sober_beats c o None = record { no_plan = λ p h. cc; honest = (refl, tt) }
@@ -181,7 +181,7 @@ module _ (me : ℕ) (s : Server Command) where
 
   honest_accept : (d : Desk) (w : QueuedPlan) (r : Result Accepted Refusal) → AllByRecursion (Honest me s) (after_accept me s d w r).sent
   honest_accept d w (Err e) = (refl, tt)
-  honest_accept d w (Ok a) = honest_cond (keeps_some a) _ _ (honest_proposes d w a (admitted cluster_meaning s (plan_command w.plan a))) (refl, tt)
+  honest_accept d w (Ok a) = honest_cond (keeps_some a) _ _ (honest_proposes d w a (admission_refusal cluster_meaning s (plan_command w.plan a))) (refl, tt)
 
   honest_judged : (d : Desk) (w : QueuedPlan) (r : Result ℕ Refusal) → AllByRecursion (Honest me s) (judged me s d w r).sent
   honest_judged d w (Err e) = (refl, tt)

@@ -13,7 +13,7 @@ use Rattle.rows.specs.declared.refusal.Refusal.TheVariants as refusals
 use Rattle.rows.specs.declared.worker.AskedRequest.TheVariants as asked
 use Rattle.rows.specs.Keys.{eval_id}
 use Rattle.rows.specs.Changes.{change_of}
-use Rattle.raft_model.specs.Steps.{admitted}
+use Rattle.raft_model.specs.Steps.{admission_refusal}
 use Rattle.cluster_model.specs.ClusterMachine.{cluster_meaning}
 use Rattle.cluster_model.specs.Words.{State, node_of}
 use Rattle.group_model.specs.Order.{Picked}
@@ -67,7 +67,7 @@ finishes_by_ack me from s id token outcome o = by (outstanding id token o.desk.b
   by : (r : Result ℕ Refusal) → finishes_of me s from id token outcome o.desk r
       ≡ finish_act (refuses me from (asked.Finish id token) (Some o.desk)) s (commands.EvalStatus id (change_of outcome)) (once_outstanding new r)
   by (Err r) = refl
-  by (Ok wait) = at (commands.EvalStatus id (change_of outcome)) (admitted cluster_meaning s (commands.EvalStatus id (change_of outcome)))
+  by (Ok wait) = at (commands.EvalStatus id (change_of outcome)) (admission_refusal cluster_meaning s (commands.EvalStatus id (change_of outcome)))
 
 pub lapses_by_lapse : LapsesByLapse
 lapses_by_lapse id o = by (is_outstanding id o.desk.broker) where

@@ -16,7 +16,7 @@ use Rattle.rows.specs.declared.worker.AskedRequest.TheVariants as asked
 use Rattle.rows.specs.declared.worker.WorkerResponse.TheVariants.{Delivered}
 use Rattle.rows.specs.Changes.{change_of}
 use Rattle.raft_model.specs.Servers.{Server}
-use Rattle.raft_model.specs.Steps.{admitted}
+use Rattle.raft_model.specs.Steps.{admission_refusal}
 use Rattle.cluster_model.specs.ClusterMachine.{cluster_meaning}
 use Rattle.cluster_model.specs.Words.{State}
 use Rattle.group_model.specs.Brokers.{deliver, outstanding}
@@ -72,7 +72,7 @@ proposes_at new c refused None = asks (AskPropose c) (Some new.desk)
 -- a refusal goes back at the desk as it was
 abbrev pub finish_act : (Refusal → Act) → Server Command → Command → Answered (Unit {0}) → Act
 finish_act refused s c (Err r) = refused r
-finish_act refused s c (Ok q) = proposes_at q.1 c refused (admitted cluster_meaning s c)
+finish_act refused s c (Ok q) = proposes_at q.1 c refused (admission_refusal cluster_meaning s c)
 
 abbrev pub FinishesByAck : Type 0
 FinishesByAck = (me from : ℕ) (s : Server Command) (id : EvalId) (token : Token)

@@ -18,13 +18,13 @@ use Rattle.picture.specs.declared.ink.Anchor.{Anchor}
 use Rattle.picture.specs.declared.ink.Anchor.TheVariants as anchors
 use Rattle.picture.specs.declared.ink.Cover.{Cover}
 use Rattle.picture.specs.declared.ink.Cover.TheVariants as covers
-use Rattle.picture.specs.Pictures.{shown, is_plain, is_letter, stands_apart, IsContent, IsPicture}
+use Rattle.picture.specs.Pictures.{shown_byte, is_plain_byte, is_letter, stands_apart, IsContent, IsPicture}
 use Rattle.picture.specs.Pictures.IsContent.{line_end, text, sign, element, both}
 use Rattle.picture.specs.Inner.Shapes.{text_of, line_text, bow_text, circle_text, white_text, words_text, stroke_look, spot_look, ink_look, anchor_look, cover_look, most_of, open_text, about_text, sheet_text, svg_text}
 
 -- ---- bytes that are plain
 
-digit_plain : (d : ℕ) → d < 10 → is_plain (digit_glyph false d) ≡ true
+digit_plain : (d : ℕ) → d < 10 → is_plain_byte (digit_glyph false d) ≡ true
 digit_plain zero small = refl
 digit_plain (suc zero) small = refl
 digit_plain (suc (suc zero)) small = refl
@@ -38,27 +38,27 @@ digit_plain (suc (suc (suc (suc (suc (suc (suc (suc (suc zero))))))))) small = r
 digit_plain (suc (suc (suc (suc (suc (suc (suc (suc (suc (suc d)))))))))) small = absurd (omega arith)
 
 -- one byte more before plain ones
-one_more : (byte : ℕ) (behind : List ℕ) → is_plain byte ≡ true → list_all is_plain behind ≡ true →
-    list_all is_plain (byte ∷ behind) ≡ true
+one_more : (byte : ℕ) (behind : List ℕ) → is_plain_byte byte ≡ true → list_all is_plain_byte behind ≡ true →
+    list_all is_plain_byte (byte ∷ behind) ≡ true
 one_more byte behind one rest = simp (one, rest) refl
 
-plain_digits : (k n : ℕ) (behind : List ℕ) → list_all is_plain behind ≡ true →
-    list_all is_plain (digits_onto k 10 false n behind) ≡ true
+plain_digits : (k n : ℕ) (behind : List ℕ) → list_all is_plain_byte behind ≡ true →
+    list_all is_plain_byte (digits_onto k 10 false n behind) ≡ true
 plain_digits zero n behind plain = plain
 plain_digits (suc k) n behind plain =
     let longer = digit_glyph false (n % 10) ∷ behind in
-    let one : list_all is_plain longer ≡ true =
+    let one : list_all is_plain_byte longer ≡ true =
     one_more (digit_glyph false (n % 10)) behind (digit_plain (n % 10) (mod_below n 10 (lit< tt))) plain in
-    elim (n / 10 == 0) as (λ last. list_all is_plain (if last then longer else digits_onto k 10 false (n / 10) longer) ≡ true) [
+    elim (n / 10 == 0) as (λ last. list_all is_plain_byte (if last then longer else digits_onto k 10 false (n / 10) longer) ≡ true) [
       | true ↦ one
       | false ↦ plain_digits k (n / 10) longer one
     ]
 
-pub plain_decimal : (n : ℕ) → list_all is_plain (decimal n) ≡ true
+pub plain_decimal : (n : ℕ) → list_all is_plain_byte (decimal n) ≡ true
 unfolding digits
 plain_decimal n = plain_digits 64 n [] refl
 
-plain_stroke : (stroke : Stroke) → list_all is_plain (stroke_look stroke) ≡ true
+plain_stroke : (stroke : Stroke) → list_all is_plain_byte (stroke_look stroke) ≡ true
 plain_stroke strokes.Life = refl
 plain_stroke strokes.Leads = refl
 plain_stroke strokes.Came = refl
@@ -67,12 +67,12 @@ plain_stroke strokes.Lost = refl
 plain_stroke strokes.Crash = refl
 plain_stroke strokes.Commit = refl
 
-plain_spot : (spot : Spot) → list_all is_plain (spot_look spot) ≡ true
+plain_spot : (spot : Spot) → list_all is_plain_byte (spot_look spot) ≡ true
 plain_spot spots.Event = refl
 plain_spot spots.Refused = refl
 plain_spot spots.Begins = refl
 
-plain_ink : (ink : Ink) → list_all is_plain (ink_look ink) ≡ true
+plain_ink : (ink : Ink) → list_all is_plain_byte (ink_look ink) ≡ true
 plain_ink inks.Title = refl
 plain_ink inks.Legend = refl
 plain_ink inks.Name = refl
@@ -83,25 +83,25 @@ plain_ink inks.Lost = refl
 plain_ink inks.Refused = refl
 plain_ink inks.Note = refl
 
-plain_anchor : (anchor : Anchor) → list_all is_plain (anchor_look anchor) ≡ true
+plain_anchor : (anchor : Anchor) → list_all is_plain_byte (anchor_look anchor) ≡ true
 plain_anchor anchors.Start = refl
 plain_anchor anchors.Middle = refl
 plain_anchor anchors.End = refl
 
-plain_cover : (cover : Cover) → list_all is_plain (cover_look cover) ≡ true
+plain_cover : (cover : Cover) → list_all is_plain_byte (cover_look cover) ≡ true
 plain_cover covers.Whole = refl
 plain_cover covers.Thin = refl
 
 -- ---- each element
 
 -- an empty element, and the end of its line
-sign_line : (name attributes line : List ℕ) → list_all is_letter name ≡ true → 0 < length name → stands_apart attributes ≡ true → list_all is_plain attributes ≡ true →
+sign_line : (name attributes line : List ℕ) → list_all is_letter name ≡ true → 0 < length name → stands_apart attributes ≡ true → list_all is_plain_byte attributes ≡ true →
     (codes "<" ++ (name ++ (attributes ++ codes "/>"))) ++ codes "\n" ≡ line → IsContent line
 sign_line name attributes line letters named apart plain e =
     subst IsContent e (both _ _ (sign name attributes (record { letters = letters; named = named; apart = apart; plain = plain })) line_end)
 
 -- an element with something in it, and the end of its line
-element_line : (name attributes inside line : List ℕ) → list_all is_letter name ≡ true → 0 < length name → stands_apart attributes ≡ true → list_all is_plain attributes ≡ true → IsContent inside →
+element_line : (name attributes inside line : List ℕ) → list_all is_letter name ≡ true → 0 < length name → stands_apart attributes ≡ true → list_all is_plain_byte attributes ≡ true → IsContent inside →
     (codes "<" ++ (name ++ (attributes ++ (codes ">" ++ (inside ++ (codes "</" ++ (name ++ codes ">"))))))) ++ codes "\n" ≡ line → IsContent line
 element_line name attributes inside line letters named apart plain content e =
     subst IsContent e (both _ _ (element name attributes inside (record { letters = letters; named = named; apart = apart; plain = plain }) content) line_end)
@@ -134,7 +134,7 @@ words_content : (at : Point) (anchor : Anchor) (ink : Ink) (said : List ℕ) →
 words_content at anchor ink said =
     element_line (codes "text")
     (codes " x=\"" ++ (decimal at.x ++ (codes "\" y=\"" ++ (decimal at.y ++ (codes "\" " ++ (anchor_look anchor ++ (codes " " ++ ink_look ink)))))))
-    (flat_map shown (take (most_of ink) said))
+    (flat_map shown_byte (take (most_of ink) said))
     _ refl (lit< tt) refl (simp (list_all-append, plain_decimal, plain_anchor, plain_ink) refl) (text (take (most_of ink) said)) (simp append_assoc refl)
 
 pub shape_content : (shape : Shape) → IsContent (text_of shape)
@@ -221,7 +221,7 @@ is_picture width height title shapes = record {
   inside = all_inside width height shapes;
   tag = record { letters = refl; named = lit< tt; apart = refl; plain = simp (list_all-append, plain_decimal) refl };
   content = both _ _ line_end (both _ _ about_content (both _ _ (sheet_content width height) (drawn_content shapes)));
-  whole = all_parts (open_text width height) xml (size_attributes width height) (codes ">") (codes "\n") (codes "<title>") (flat_map shown title) (codes "</title>") about_text
+  whole = all_parts (open_text width height) xml (size_attributes width height) (codes ">") (codes "\n") (codes "<title>") (flat_map shown_byte title) (codes "</title>") about_text
       (sheet_text width height) (sheet width height) group (flat_map text_of shapes) (codes "</g>\n") (codes "</svg>\n")
       (open_parts width height) (sheet_parts width height);
 }

@@ -14,8 +14,8 @@ abbrev pub MayNotBe : ℕ → List NodeSpec → Type 0
 MayNotBe servers nodes = IsGroup servers → length nodes ≤ 64 → ⊥
 
 -- a byte that begins and ends no tag and no entity
-abbrev pub is_plain : ℕ → Bool
-is_plain byte = not (byte == 60) && (not (byte == 62) && not (byte == 38))
+abbrev pub is_plain_byte : ℕ → Bool
+is_plain_byte byte = not (byte == 60) && (not (byte == 62) && not (byte == 38))
 
 -- a small letter
 abbrev pub is_letter : ℕ → Bool
@@ -28,8 +28,8 @@ stands_apart (byte ∷ _) = byte == 32
 
 -- a byte of a text, as it stands between tags; what cannot be seen, and what is no character of
 -- ASCII, is a question mark
-abbrev pub shown : ℕ → List ℕ
-shown byte = if byte == 60 then codes "&lt;" else
+abbrev pub shown_byte : ℕ → List ℕ
+shown_byte byte = if byte == 60 then codes "&lt;" else
     (if byte == 62 then codes "&gt;" else
     (if byte == 38 then codes "&amp;" else
     (if nat_le 32 byte && nat_le byte 126 then byte ∷ [] else codes "?")))
@@ -39,13 +39,13 @@ pub record IsTag (name attributes : List ℕ) : Type 0 where
   pub letters : list_all is_letter name ≡ true
   pub named : 0 < length name
   pub apart : stands_apart attributes ≡ true
-  pub plain : list_all is_plain attributes ≡ true
+  pub plain : list_all is_plain_byte attributes ≡ true
 
 -- What stands between a tag and its end: lines, texts in which no sign of markup stands, and
 -- elements, which are empty or end with their own name.
 pub data IsContent : List ℕ → Type 0 where
   line_end : IsContent (codes "\n")
-  text : (said : List ℕ) → IsContent (flat_map shown said)
+  text : (said : List ℕ) → IsContent (flat_map shown_byte said)
   sign : (name attributes : List ℕ) → IsTag name attributes →
       IsContent (codes "<" ++ (name ++ (attributes ++ codes "/>")))
   element : (name attributes inside : List ℕ) → IsTag name attributes → IsContent inside →
@@ -54,7 +54,7 @@ pub data IsContent : List ℕ → Type 0 where
 
 -- the element of a title
 abbrev pub title_element : List ℕ → List ℕ
-title_element title = codes "\n<title>" ++ (flat_map shown title ++ codes "</title>")
+title_element title = codes "\n<title>" ++ (flat_map shown_byte title ++ codes "</title>")
 
 -- a picture of this title: one element `svg`, which begins with its title, behind the line that
 -- begins a file of XML

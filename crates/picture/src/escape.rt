@@ -1,7 +1,7 @@
 //! Texts as they stand between the tags of XML.
 ghost use Rattle.std.specs.Prelude.{◌≡◌, ◌<◌, ◌++◌, ◌∷◌, [], OnOk, IfOk, string_bytes, take};
 ghost use Rattle.std.specs.List.{flat_map};
-ghost use Rattle.picture.specs.Pictures.{shown};
+ghost use Rattle.picture.specs.Pictures.{shown_byte};
 
 use rows::NoMemory;
 use std::alloc::Global;
@@ -9,7 +9,7 @@ use std::alloc::Global;
 /// The front of a text, of so many bytes at most, as it stands between tags.
 pub(crate) fn escaped(alloc: Global, text: &str, most: usize) -> Result<String, NoMemory>
     ensures { IfOk result (λ written.
-        string_bytes written ≡ flat_map shown (take most text.now)) }
+        string_bytes written ≡ flat_map shown_byte (take most text.now)) }
 {
     let bytes = text.as_bytes();
     let front = &bytes[..bytes.len().min(most)];
@@ -22,7 +22,7 @@ pub(crate) fn escaped(alloc: Global, text: &str, most: usize) -> Result<String, 
 
 // A byte that is no character of ASCII, or one that cannot be seen, is shown by a question mark.
 fn push_byte(out: &mut String, byte: u8) -> Result<(), NoMemory>
-    ensures { OnOk result (string_bytes out.new ≡ string_bytes out.old ++ shown byte) }
+    ensures { OnOk result (string_bytes out.new ≡ string_bytes out.old ++ shown_byte byte) }
 {
     match byte {
         b'<' => Ok(out.push_str("&lt;")?),

@@ -1,6 +1,6 @@
 //! What an event changed in its actor.
 ghost use Rattle.std.specs.Prelude.{◌≡◌, IfOk, string_bytes};
-ghost use Rattle.picture.specs.Inner.Notes.{turns, leads_anew, applies_more, note_words};
+ghost use Rattle.picture.specs.Inner.Notes.{looks_otherwise, leads_anew, applies_more, note_words};
 
 use crate::record::Face;
 use rows::NoMemory;
@@ -8,7 +8,7 @@ use std::alloc::Global;
 
 /// Whether a lifeline looks otherwise from an event on.
 pub(crate) fn turns(before: Face, after: Face) -> bool
-    ensures { result ≡ turns before after }
+    ensures { result ≡ looks_otherwise before after }
 {
     before.up != after.up || before.leads != after.leads || is_new_leader(before, after)
 }

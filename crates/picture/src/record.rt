@@ -3,8 +3,8 @@
 ghost use Rattle.std.specs.Prelude.{◌≡◌, ◌+◌, ◌++◌, [], Some, is_none, ◌&&◌, length, map, drop, slice_get, OnOk, IfOk, IfNone, IfSome};
 ghost use Rattle.std.specs.List.{count_by};
 ghost use Rattle.std.specs.Option.{unwrap_or};
-ghost use Rattle.picture.specs.Inner.Actors.{actor_in, server_face, client_face, face_in, Happened, RefusedAs};
-ghost use Rattle.picture.specs.Inner.Records.{lifeline_of, column_within, delivered_place, message_in, arrived, had_come, taken_in, as_sent, receiver_line, is_lost, TakesRow, KeepsActors};
+ghost use Rattle.picture.specs.Inner.Actors.{actor_in, server_face, client_face, face_in, IsNextInTrace, RefusedAs};
+ghost use Rattle.picture.specs.Inner.Records.{lifeline_of, column_within, delivered_place, message_in, arrived, had_come, taken_message, as_sent, receiver_line, is_lost, TakesRow, KeepsActors};
 ghost use Rattle.picture.specs.Inner.Places.{capped};
 
 use client_agent::Agent;
@@ -237,7 +237,7 @@ impl Record {
     fn take_in(&mut self, refusal: Option<u8>, message: Option<usize>) -> bool
         ensures steps { self.new.steps.items ≡ self.old.steps.items }
         ensures sendings { self.new.sendings.items
-            ≡ taken_in refusal message self.old.sendings.items }
+            ≡ taken_message refusal message self.old.sendings.items }
         ensures again { result ≡ (is_none refusal && had_come message self.old.sendings.items) }
         ensures actors { KeepsActors self.old self.new }
     {
@@ -331,7 +331,7 @@ fn actor_of(world: &World, event: &Event) -> Option<Actor>
 // be drawn.
 fn refusal_of(world: &mut World, event: Event) -> Result<Option<u8>, NoMemory>
     ensures taken { IfOk result (λ refusal. IfNone refusal
-        (Happened world.old event world.new)) }
+        (IsNextInTrace world.old event world.new)) }
     ensures refused { IfOk result (λ refusal. IfSome refusal
         (λ number. RefusedAs world.old event number world.new)) }
 {

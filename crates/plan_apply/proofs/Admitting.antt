@@ -25,7 +25,7 @@ use Rattle.cluster_model.specs.Words.{State, same_alloc, job_of, node_of, eval_o
 use Rattle.cluster_model.specs.Safe.{are_distinct, is_safe}
 use Rattle.cluster_model.specs.Effect.{stop, with_next_count, planned}
 use Rattle.cluster_model.specs.Admission.{first_of, is_live_of, is_stopped, is_asked, fits_job}
-use Rattle.cluster_model.specs.Plans.{room_of, fits_number, kept_claims, wanted, left_by, IsKnown}
+use Rattle.cluster_model.specs.Plans.{room_of, fits_number, kept_claims, wanted, left_by, FitsWhereAsked}
 use Rattle.cluster_model.proofs.SafeFacts.{T-le, le-T}
 use Rattle.cluster_model.proofs.SafeLaws.{Fewer, nothing, kept, gone, fewer_distinct}
 use Rattle.cluster_model.proofs.AfterLaws.{planned_is_safe}
@@ -130,7 +130,7 @@ fewer_fits nodes cs ds f n h =
 names_exact : (a b : List ℕ) → slice_cmp nat_cmp a b ≡ Equal → a ≡ b
 names_exact a b e = (bytes_eq-Decides a b).0 (sym (is_eq-slice_cmp a b) ∙ ap is_eq e)
 
-safe_after : (s : State) (p : Plan) (a : Accepted) (j : Job) → j.name ≡ p.job → Holds s j a → IsKnown (plan_of_accepted p a) s → T (is_safe (planned (plan_of_accepted p a) (with_next_count s)))
+safe_after : (s : State) (p : Plan) (a : Accepted) (j : Job) → j.name ≡ p.job → Holds s j a → FitsWhereAsked (plan_of_accepted p a) s → T (is_safe (planned (plan_of_accepted p a) (with_next_count s)))
 safe_after s p a j is h known =
     let q = plan_of_accepted p a in
     let all = kept_claims q s ++ wanted q in
@@ -174,7 +174,7 @@ kept_is_admitted s p wait a state safe fit pending e =
     ∙ elim full as (λ b. full ≡ b → cond b (Some refusals.TableFull) (first_of rest) ≡ cond b (Some refusals.TableFull) None) [
       | true ↦ λ t. refl
       | false ↦ λ t.
-          let known : IsKnown q s = record {
+          let known : FitsWhereAsked q s = record {
             few = not_full 65536 (length s.allocs + length a.places) t;
             nodes_rising = state.tables.nodes.rising;
             allocs_rising = state.tables.allocs.rising;

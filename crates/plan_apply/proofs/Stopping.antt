@@ -18,13 +18,13 @@ use Rattle.cluster_model.specs.Admission.{is_live_of}
 use Rattle.cluster_model.proofs.Lists.{or_false}
 use Rattle.group_model.specs.Acceptance.{once_after, kept_stops}
 use Rattle.fsm_state.specs.Inner.Alone.{claim_if_live, ended_by}
-use Rattle.plan_apply.specs.Inner.Stops.{with_stopped, with_stop, AreEnded}
+use Rattle.plan_apply.specs.Inner.Stops.{with_stopped, with_live_stop, AreEnded}
 
 -- ---- the ids
 
 abbrev pub with_stops : State → List ℕ → List AllocId → List AllocId → List AllocId
 with_stops s job ids [] = ids
-with_stops s job ids (x ∷ xs) = with_stops s job (with_stop s job ids x) xs
+with_stops s job ids (x ∷ xs) = with_stops s job (with_live_stop s job ids x) xs
 
 -- as many ids are among the ones as among the others
 abbrev Alike : List AllocId → List AllocId → Type 0
@@ -130,7 +130,7 @@ row_ids : (b : Bool) (rows : List Allocation) (a : Allocation) → map alloc_id 
 row_ids true rows a = refl
 row_ids false rows a = map-append alloc_id rows (a ∷ [])
 
-pub more_ids : (s : State) (job : List ℕ) (rows : List Allocation) (a : Allocation) (id : AllocId) → alloc_of id s ≡ Some a → lives_for job a ≡ true → map alloc_id (with_stopped rows a) ≡ with_stop s job (map alloc_id rows) id
+pub more_ids : (s : State) (job : List ℕ) (rows : List Allocation) (a : Allocation) (id : AllocId) → alloc_of id s ≡ Some a → lives_for job a ≡ true → map alloc_id (with_stopped rows a) ≡ with_live_stop s job (map alloc_id rows) id
 more_ids s job rows a id e live =
     let ids = map alloc_id rows in
     row_ids (list_any (same_alloc a.id) ids) rows a

@@ -5,7 +5,7 @@ ghost use Rattle.rows.specs.Keys.{alloc_id};
 ghost use Rattle.fsm_tables.specs.Lookups.{lives_for};
 ghost use Rattle.cluster_model.specs.Words.{same_alloc};
 ghost use Rattle.group_model.specs.Acceptance.{kept_stops};
-ghost use Rattle.plan_apply.specs.Inner.Stops.{with_stopped, with_stop, AreEnded};
+ghost use Rattle.plan_apply.specs.Inner.Stops.{with_stopped, with_live_stop, AreEnded};
 
 use fsm_state::Cluster;
 use fsm_tables::is_live;
@@ -50,7 +50,7 @@ fn add_stop(
     id: AllocId,
 ) -> Result<(), NoMemory>
     ensures ids { let ids = map alloc_id rows.old in
-        OnOk result (map alloc_id rows.new ≡ with_stop state.now job.now ids id) }
+        OnOk result (map alloc_id rows.new ≡ with_live_stop state.now job.now ids id) }
     ensures ended { OnOk result (AreEnded state.now rows.old → AreEnded state.now rows.new) }
 {
     match state.alloc(id) {

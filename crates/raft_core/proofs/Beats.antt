@@ -13,7 +13,7 @@ use Rattle.raft_core.specs.declared.role.Role.TheVariants as roles
 use Rattle.raft_core.specs.Inner.Beats.{append_from}
 use Rattle.raft_core.specs.Frames.{Sends}
 use Rattle.raft_core.specs.RaftView.{RaftView, while_up, mode_of}
-use Rattle.raft_core.specs.Inner.Turns.{Turned}
+use Rattle.raft_core.specs.Inner.Turns.{TurnTaken}
 use Rattle.raft_core.proofs.Replies.{index-at}
 
 module _ {C : Type 0} (log : List (Entry C)) where
@@ -49,7 +49,7 @@ module _ {C : Type 0} (me term : ℕ) (vote : Option ℕ) (log : List (Entry C))
   all_append n least = others-same me (λ to. append_from me term commit log (index_at next to) to) (beat_message me sender next) n (λ j below. appends j (rw (index-at next j) (least j below)))
 
 -- what the code sends is what the leader owes
-pub beats_by : {S C : Type 0} (m : Meaning S C) (old : RaftView C) (machine : Option S) (me size term : ℕ) (vote : Option ℕ) (log : List (Entry C)) (commit : ℕ) (known : Option ℕ) (role : Role) (votes : List Bool) (next match : List ℕ) (held : Bool) (before after : List Frame) → record { me = me; size = size; server = while_up machine (record { term = term; vote = vote; log = log; covered = 0; commit = commit; known = known; mode = mode_of role votes next match }); projected = held } ≡ old → is_up old.server.mode ≡ true → role ≡ roles.Leader → length next ≡ size → ((j : ℕ) → j < size → 1 ≤ slice_index next j) → Sends m before after (to_others me (λ to. append_from me term commit log (index_at next to) to) (length next)) → Turned m old old before after (record { server = old.server; sent = beats old.size old.me old.server old.server.mode })
+pub beats_by : {S C : Type 0} (m : Meaning S C) (old : RaftView C) (machine : Option S) (me size term : ℕ) (vote : Option ℕ) (log : List (Entry C)) (commit : ℕ) (known : Option ℕ) (role : Role) (votes : List Bool) (next match : List ℕ) (held : Bool) (before after : List Frame) → record { me = me; size = size; server = while_up machine (record { term = term; vote = vote; log = log; covered = 0; commit = commit; known = known; mode = mode_of role votes next match }); projected = held } ≡ old → is_up old.server.mode ≡ true → role ≡ roles.Leader → length next ≡ size → ((j : ℕ) → j < size → 1 ≤ slice_index next j) → Sends m before after (to_others me (λ to. append_from me term commit log (index_at next to) to) (length next)) → TurnTaken m old old before after (record { server = old.server; sent = beats old.size old.me old.server old.server.mode })
 beats_by m old None me size term vote log commit known role votes next match held before after old-is up leads each least sent = absurd (let down : false ≡ true = rw (← old-is) at up in cc)
 beats_by m old (Some machine) me size term vote log commit known role votes next match held before after old-is up leads each least sent =
     rw (← old-is, leads) (record { server = refl; me = refl; size = refl; sent = rw (each, all_append me term vote log commit known next match size least) at sent })

@@ -8,7 +8,7 @@ use Rattle.machine.specs.declared.entry.Entry.{Entry}
 use Rattle.raft_model.specs.Logs.{term_at}
 use Rattle.raft_model.specs.Quorums.{count, is_quorum, Quorum, index_at, or_else}
 use Rattle.raft_model.specs.Servers.{Server, Leader, advanced, advanced_in, is_chosen, greatest}
-use Rattle.raft_core.specs.Commits.{holds, IsGreatest, IsChosen, IsRisen}
+use Rattle.raft_core.specs.Commits.{holds_index, IsGreatest, IsChosen, IsRisen}
 use Rattle.raft_core.specs.Inner.Commits.{is_chosen_in}
 use Rattle.raft_core.proofs.Quorums.{count-next}
 
@@ -78,14 +78,14 @@ module _ {C : Type 0} (n me : ℕ) (s : Server C) (match : List ℕ) where
   is-chosen : (k : ℕ) → k ≤ length s.log → is_chosen n me s match k ≡ true → IsChosen n me s match k
   unfolding is_quorum Quorum
   is-chosen k le e =
-      let t = and_parts (term_at s.log k == s.term) (is_quorum n (holds me match k)) e in
-      record { there = le; term = eqb-true (term_at s.log k) s.term t.0; held = ltb-true n (2 * count (holds me match k) n) t.1 }
+      let t = and_parts (term_at s.log k == s.term) (is_quorum n (holds_index me match k)) e in
+      record { there = le; term = eqb-true (term_at s.log k) s.term t.0; held = ltb-true n (2 * count (holds_index me match k) n) t.1 }
 
   chosen-is : (k : ℕ) → IsChosen n me s match k → is_chosen n me s match k ≡ true
   unfolding is_quorum Quorum
   chosen-is k c =
       let term : (term_at s.log k == s.term) ≡ true = eq-eqb (term_at s.log k) s.term c.term in
-      let held : is_quorum n (holds me match k) ≡ true = lt-ltb n (2 * count (holds me match k) n) c.held in
+      let held : is_quorum n (holds_index me match k) ≡ true = lt-ltb n (2 * count (holds_index me match k) n) c.held in
       rw (term, held) refl
 
   -- what the greatest index that passes means
@@ -125,18 +125,18 @@ holds-same q p m j me low true e le lt h = refl
 holds-same q p m j me low false e le lt h = leb-same q p m le (λ below. omega (arith, h (eqb-false j me e) below))
 
 -- between two match indexes of others the same servers hold an index
-pub quorum-same : (me : ℕ) (matched : List ℕ) (p q low n : ℕ) → ((j : ℕ) → j < n → j ≢ me → index_at matched j < p → index_at matched j ≤ low) → low < q → q ≤ p → is_quorum n (holds me matched q) ≡ is_quorum n (holds me matched p)
+pub quorum-same : (me : ℕ) (matched : List ℕ) (p q low n : ℕ) → ((j : ℕ) → j < n → j ≢ me → index_at matched j < p → index_at matched j ≤ low) → low < q → q ≤ p → is_quorum n (holds_index me matched q) ≡ is_quorum n (holds_index me matched p)
 unfolding is_quorum
 quorum-same me matched p q low n others lt le =
-    ap (λ (k : ℕ). ltb n (2 * k)) (count-same (holds me matched q) (holds me matched p) n
+    ap (λ (k : ℕ). ltb n (2 * k)) (count-same (holds_index me matched q) (holds_index me matched p) n
     (λ j below. holds-same q p (index_at matched j) j me low (eqb j me) refl le lt (others j below)))
 
 module _ {C : Type 0} (n me term : ℕ) (log : List (Entry C)) (matched : List ℕ) where
-  not-held : (q : ℕ) → is_quorum n (holds me matched q) ≡ false → is_chosen_in n me term log matched q ≡ false
+  not-held : (q : ℕ) → is_quorum n (holds_index me matched q) ≡ false → is_chosen_in n me term log matched q ≡ false
   not-held q none = rw none (and-false (term_at log q == term))
 
   -- where no quorum holds an index, none is chosen down to the next lower match index
-  pub jump : (commit p low : ℕ) → low ≤ p → is_quorum n (holds me matched p) ≡ false → ((j : ℕ) → j < n → j ≢ me → index_at matched j < p → index_at matched j ≤ low) → greatest (is_chosen_in n me term log matched) commit p ≡ greatest (is_chosen_in n me term log matched) commit low
+  pub jump : (commit p low : ℕ) → low ≤ p → is_quorum n (holds_index me matched p) ≡ false → ((j : ℕ) → j < n → j ≢ me → index_at matched j < p → index_at matched j ≤ low) → greatest (is_chosen_in n me term log matched) commit p ≡ greatest (is_chosen_in n me term log matched) commit low
   jump commit p low le none others =
       greatest-skip (is_chosen_in n me term log matched) commit low p le (λ q lt below. not-held q (quorum-same me matched p q low n others lt below ∙ none))
 
@@ -149,12 +149,12 @@ module _ {C : Type 0} (n me term : ℕ) (log : List (Entry C)) (matched : List �
       rw no refl)
 
   -- what is found is the greatest
-  pub found : (commit p : ℕ) → commit < p → is_quorum n (holds me matched p) ≡ true → term_at log p ≡ term → greatest (is_chosen_in n me term log matched) commit p ≡ p
+  pub found : (commit p : ℕ) → commit < p → is_quorum n (holds_index me matched p) ≡ true → term_at log p ≡ term → greatest (is_chosen_in n me term log matched) commit p ≡ p
   found commit p lt held same =
       let yes : (term_at log p == term) ≡ true = eq-eqb (term_at log p) term same in
       greatest-here (is_chosen_in n me term log matched) commit p lt (rw (yes, held) refl)
 
 -- one more server is counted
-pub count-holder : (me : ℕ) (matched : List ℕ) (index i d : ℕ) (b : Bool) → i < length matched → (eqb i me || leb index (get_or matched i d)) ≡ b → count (holds me matched index) (i + 1) ≡ cond b 1 0 + count (holds me matched index) i
+pub count-holder : (me : ℕ) (matched : List ℕ) (index i d : ℕ) (b : Bool) → i < length matched → (eqb i me || leb index (get_or matched i d)) ≡ b → count (holds_index me matched index) (i + 1) ≡ cond b 1 0 + count (holds_index me matched index) i
 count-holder me matched index i d b within is =
-    count-next (holds me matched index) i ∙ ap (λ (x : Bool). cond x 1 0 + count (holds me matched index) i) (ap (λ (x : ℕ). eqb i me || leb index x) (number-read matched i d within) ∙ is)
+    count-next (holds_index me matched index) i ∙ ap (λ (x : Bool). cond x 1 0 + count (holds_index me matched index) i) (ap (λ (x : ℕ). eqb i me || leb index x) (number-read matched i d within) ∙ is)

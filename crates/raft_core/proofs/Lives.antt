@@ -5,7 +5,7 @@ use Rattle.machine.specs.Meaning.{Meaning}
 use Rattle.machine.specs.declared.entry.Entry.{Entry}
 use Rattle.raft_model.specs.Logs.{commands, state_after}
 use Rattle.raft_model.specs.Servers.{Server, is_leader, extended}
-use Rattle.raft_core.specs.RaftView.{IsLive, IsAhead, HasRoom, HasTerm, IsRaft, while_up, mode_of}
+use Rattle.raft_core.specs.RaftView.{IsUpToCommit, IsAhead, HasElectionRoom, HasTerm, IsRaft, while_up, mode_of}
 use Rattle.raft_core.specs.declared.role.Role.{Role}
 use Rattle.raft_core.specs.declared.role.Role.TheVariants as roles
 
@@ -34,7 +34,7 @@ pub filled_most : (next : List ℕ) (n k : ℕ) → next ≡ replicate n k → k
 filled_most next n k is most j = rw is (replicate_most n k (2 ^ 40) j most)
 
 -- nothing is applied yet
-pub fresh : {S C : Type 0} (m : Meaning S C) (log : List (Entry C)) (n : ℕ) (matched : List ℕ) (s : S) → s ≡ m.empty → matched ≡ replicate n 0 → IsLive m log 0 matched s
+pub fresh : {S C : Type 0} (m : Meaning S C) (log : List (Entry C)) (n : ℕ) (matched : List ℕ) (s : S) → s ≡ m.empty → matched ≡ replicate n 0 → IsUpToCommit m log 0 matched s
 unfolding commands
 fresh m log n matched s empty levels = record {
   committed = omega arith;
@@ -43,7 +43,7 @@ fresh m log n matched s empty levels = record {
 }
 
 module _ {S C : Type 0} (m : Meaning S C) where
-  live_grown : (log : List (Entry C)) (e : Entry C) (commit : ℕ) (matched : List ℕ) (machine : Option S) → IfSome machine (IsLive m log commit matched) → IfSome machine (IsLive m (log ++ e ∷ []) commit matched)
+  live_grown : (log : List (Entry C)) (e : Entry C) (commit : ℕ) (matched : List ℕ) (machine : Option S) → IfSome machine (IsUpToCommit m log commit matched) → IfSome machine (IsUpToCommit m (log ++ e ∷ []) commit matched)
   live_grown log e commit matched None live = tt
   live_grown log e commit matched (Some s) live = record {
     committed = omega (arith, live.committed, length-append log (e ∷ []));
@@ -52,7 +52,7 @@ module _ {S C : Type 0} (m : Meaning S C) where
   }
 
   -- one more entry
-  pub grown : (me size term : ℕ) (log : List (Entry C)) (e : Entry C) (old new : Role) (commit : ℕ) (votes : List Bool) (next matched : List ℕ) (machine was is : Option S) → IsRaft m me size term log old commit votes next matched machine was → HasTerm new term → length log + 1 < 2 ^ 40 → HasRoom new (log ++ e ∷ []) → IfSome is (IsAhead m (log ++ e ∷ []) new machine) → IsRaft m me size term (log ++ e ∷ []) new commit votes next matched machine is
+  pub grown : (me size term : ℕ) (log : List (Entry C)) (e : Entry C) (old new : Role) (commit : ℕ) (votes : List Bool) (next matched : List ℕ) (machine was is : Option S) → IsRaft m me size term log old commit votes next matched machine was → HasTerm new term → length log + 1 < 2 ^ 40 → HasElectionRoom new (log ++ e ∷ []) → IfSome is (IsAhead m (log ++ e ∷ []) new machine) → IsRaft m me size term (log ++ e ∷ []) new commit votes next matched machine is
   grown me size term log e old new commit votes next matched machine was is kept elected short room ahead = record {
     number = kept.number;
     group = kept.group;
@@ -68,7 +68,7 @@ module _ {S C : Type 0} (m : Meaning S C) where
     second = ahead;
   }
 
-  live_reset : (log : List (Entry C)) (commit : ℕ) (matched levels : List ℕ) (n : ℕ) (machine : Option S) → levels ≡ replicate n 0 → IfSome machine (IsLive m log commit matched) → IfSome machine (IsLive m log commit levels)
+  live_reset : (log : List (Entry C)) (commit : ℕ) (matched levels : List ℕ) (n : ℕ) (machine : Option S) → levels ≡ replicate n 0 → IfSome machine (IsUpToCommit m log commit matched) → IfSome machine (IsUpToCommit m log commit levels)
   live_reset log commit matched levels n None is live = tt
   live_reset log commit matched levels n (Some s) is live = record { committed = live.committed; state = live.state; levels = λ j. rw is (zero_levels n j) }
 
@@ -90,7 +90,7 @@ module _ {S C : Type 0} (m : Meaning S C) where
   }
 
 -- a leader needs no further room
-pub leader_room : {S C : Type 0} (machine : Option S) (term : ℕ) (vote : Option ℕ) (log more : List (Entry C)) (covered commit : ℕ) (known : Option ℕ) (role : Role) (votes : List Bool) (next matched : List ℕ) → is_leader (while_up machine (record { term = term; vote = vote; log = log; covered = covered; commit = commit; known = known; mode = mode_of role votes next matched })).mode ≡ true → HasRoom role more
+pub leader_room : {S C : Type 0} (machine : Option S) (term : ℕ) (vote : Option ℕ) (log more : List (Entry C)) (covered commit : ℕ) (known : Option ℕ) (role : Role) (votes : List Bool) (next matched : List ℕ) → is_leader (while_up machine (record { term = term; vote = vote; log = log; covered = covered; commit = commit; known = known; mode = mode_of role votes next matched })).mode ≡ true → HasElectionRoom role more
 leader_room None term vote log more covered commit known role votes next matched leads = absurd (cc leads)
 leader_room (Some s) term vote log more covered commit known roles.Follower votes next matched leads = tt
 leader_room (Some s) term vote log more covered commit known roles.Candidate votes next matched leads = absurd (cc leads)

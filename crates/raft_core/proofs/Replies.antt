@@ -9,8 +9,8 @@ use Rattle.raft_model.specs.Servers.{Server, Leader, greatest}
 use Rattle.raft_core.specs.Inner.Commits.{is_chosen_in}
 use Rattle.raft_core.specs.declared.role.Role.{Role}
 use Rattle.raft_core.specs.declared.role.Role.TheVariants as roles
-use Rattle.raft_core.specs.RaftView.{RaftView, mode_of, IsLive, IsAhead, IsRaft}
-use Rattle.raft_core.specs.Inner.Replies.{hears, next_after, match_after}
+use Rattle.raft_core.specs.RaftView.{RaftView, mode_of, IsUpToCommit, IsAhead, IsRaft}
+use Rattle.raft_core.specs.Inner.Replies.{hears_either, next_after, match_after}
 
 -- what holds of each item holds of each after a write
 set-each : (P : ℕ → Type 0) (xs : List ℕ) (i v j : ℕ) → P v → P (slice_index xs j) → P (slice_index (slice_set xs i v) j)
@@ -72,20 +72,20 @@ module _ {C : Type 0} (n me term : ℕ) (vote : Option ℕ) (log : List (Entry C
   abbrev pub leader : List ℕ → List ℕ → ℕ → Server C
   leader next match commit = record { term = term; vote = vote; log = log; covered = covered; commit = commit; known = known; mode = Leader next match }
 
-  hears_at : (ok t : Bool) → nat_le at (length log) ≡ t → hears n me (leader next match commit) i ok at (Leader next match) ≡ leader (next_after (length log) i ok at next match) (match_after (length log) i ok at match) (greatest (is_chosen_in n me term log (match_after (length log) i ok at match)) commit (length log))
+  hears_at : (ok t : Bool) → nat_le at (length log) ≡ t → hears_either n me (leader next match commit) i ok at (Leader next match) ≡ leader (next_after (length log) i ok at next match) (match_after (length log) i ok at match) (greatest (is_chosen_in n me term log (match_after (length log) i ok at match)) commit (length log))
   hears_at true true is = rw is refl
   hears_at true false is = rw is refl
   hears_at false t is = refl
 
   -- a leader that has heard
-  pub leader_hears : (ok : Bool) → hears n me (leader next match commit) i ok at (Leader next match) ≡ leader (next_after (length log) i ok at next match) (match_after (length log) i ok at match) (greatest (is_chosen_in n me term log (match_after (length log) i ok at match)) commit (length log))
+  pub leader_hears : (ok : Bool) → hears_either n me (leader next match commit) i ok at (Leader next match) ≡ leader (next_after (length log) i ok at next match) (match_after (length log) i ok at match) (greatest (is_chosen_in n me term log (match_after (length log) i ok at match)) commit (length log))
   leader_hears ok = hears_at ok (nat_le at (length log)) refl
 
 -- a list that was lent out is put back whole
 pub put_back : (xs ys : List ℕ) (len : ℕ) → len ≡ length ys → take len (ys ++ drop (length ys) xs) ≡ ys
 put_back xs ys len is = ap (λ (n : ℕ). take n (ys ++ drop (length ys) xs)) is ∙ take-append_seam ys (drop (length ys) xs)
 
-live_at : {S C : Type 0} (m : Meaning S C) (log : List (Entry C)) (commit : ℕ) (match : List ℕ) (new : Option S) → IfSome new (λ s. (commit ≤ length log) × (s ≡ state_after m (take commit log))) → ((j : ℕ) → slice_index match j < 2 ^ 40) → IfSome new (IsLive m log commit match)
+live_at : {S C : Type 0} (m : Meaning S C) (log : List (Entry C)) (commit : ℕ) (match : List ℕ) (new : Option S) → IfSome new (λ s. (commit ≤ length log) × (s ≡ state_after m (take commit log))) → ((j : ℕ) → slice_index match j < 2 ^ 40) → IfSome new (IsUpToCommit m log commit match)
 live_at m log commit match None live levels = tt
 live_at m log commit match (Some s) live levels = record { committed = live.0; state = live.1; levels = levels }
 
@@ -113,7 +113,7 @@ module _ {S C : Type 0} (m : Meaning S C) (me size term : ℕ) (log : List (Entr
   }
 
 -- what the code leaves is a leader that has heard
-pub heard_by : {C : Type 0} (old : RaftView C) (me size term : ℕ) (vote : Option ℕ) (log : List (Entry C)) (commit : ℕ) (known : Option ℕ) (role : Role) (votes : List Bool) (next match new_next new_match : List ℕ) (new_commit i at : ℕ) (ok held : Bool) → record { me = me; size = size; server = record { term = term; vote = vote; log = log; covered = 0; commit = commit; known = known; mode = mode_of role votes next match }; projected = held } ≡ old → role ≡ roles.Leader → new_next ≡ next_after (length log) i ok at next match → new_match ≡ match_after (length log) i ok at match → length match ≡ size → new_commit ≡ greatest (is_chosen_in (length new_match) me term log new_match) commit (length log) → record { term = term; vote = vote; log = log; covered = 0; commit = new_commit; known = known; mode = mode_of role votes new_next new_match } ≡ hears old.size old.me old.server i ok at old.server.mode
+pub heard_by : {C : Type 0} (old : RaftView C) (me size term : ℕ) (vote : Option ℕ) (log : List (Entry C)) (commit : ℕ) (known : Option ℕ) (role : Role) (votes : List Bool) (next match new_next new_match : List ℕ) (new_commit i at : ℕ) (ok held : Bool) → record { me = me; size = size; server = record { term = term; vote = vote; log = log; covered = 0; commit = commit; known = known; mode = mode_of role votes next match }; projected = held } ≡ old → role ≡ roles.Leader → new_next ≡ next_after (length log) i ok at next match → new_match ≡ match_after (length log) i ok at match → length match ≡ size → new_commit ≡ greatest (is_chosen_in (length new_match) me term log new_match) commit (length log) → record { term = term; vote = vote; log = log; covered = 0; commit = new_commit; known = known; mode = mode_of role votes new_next new_match } ≡ hears_either old.size old.me old.server i ok at old.server.mode
 heard_by old me size term vote log commit known role votes next match new_next new_match new_commit i at ok held old-is leads next-is match-is each risen =
     let n : length new_match ≡ size = ap length match-is ∙ match-length (length log) i at ok match ∙ each in
     rw (← old-is, leads, risen, n, next-is, match-is) (sym (leader_hears size me term vote log 0 commit known next match i at ok))

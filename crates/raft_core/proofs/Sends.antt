@@ -14,7 +14,7 @@ use Rattle.wire.specs.declared.kind.Kind.TheVariants as kinds
 use Rattle.wire.specs.declared.body.Body.{Body}
 use Rattle.wire.specs.declared.body.Body.TheVariants as bodies
 use Rattle.raft_core.specs.Frames.{FrameCarries, Means, Sends, log_message}
-use Rattle.raft_core.specs.Inner.Turns.{Sent}
+use Rattle.raft_core.specs.Inner.Turns.{KeepsFront}
 
 module _ {S C : Type 0} (m : Meaning S C) where
   pub sends-none : (all : List Frame) → Sends m all all []
@@ -54,10 +54,10 @@ module _ {S C : Type 0} (m : Meaning S C) (me : ℕ) (f : ℕ → Message C) whe
   asks_none a = sends-none m a
 
 module _ {S C : Type 0} (m : Meaning S C) where
-  pub sent_front : (a b : List Frame) (xs : List (Message C)) → Sends m a b xs → Sent a b
+  pub sent_front : (a b : List Frame) (xs : List (Message C)) → Sends m a b xs → KeepsFront a b
   sent_front a b xs p = rw p.added (take-append_seam a p.frames)
 
-pub sent_all : (a : List Frame) → Sent a a
+pub sent_all : (a : List Frame) → KeepsFront a a
 sent_all a = take-length a
 
 pub another : (from to : ℕ) → from ≢ to → is_another_server (Server from) (Server to) ≡ true

@@ -5,16 +5,16 @@ use Rattle.machine.specs.Meaning.{Meaning}
 use Rattle.wire.specs.Frames.{Frame}
 use Rattle.raft_model.specs.Logs.{MAX}
 use Rattle.raft_model.specs.Messages.{to_others}
-use Rattle.raft_model.specs.Servers.{Server, Turn, is_up, is_leader, silent, stood, vote_request, beats, crashed, restarted, extended}
+use Rattle.raft_model.specs.Servers.{Server, Turn, is_up, is_leader, silent, stood, vote_request_to, beats, crashed, restarted, extended}
 use Rattle.raft_model.specs.Steps.{step, Input, Timeout, Beat, Propose, Crash, Restart}
 use Rattle.raft_core.specs.RaftView.{RaftView}
 use Rattle.raft_core.specs.Inputs.{Own}
 use Rattle.raft_core.specs.Steps.{Represents, Steps, Takes}
-use Rattle.raft_core.specs.Inner.Turns.{Turned}
+use Rattle.raft_core.specs.Inner.Turns.{TurnTaken}
 use Rattle.raft_core.proofs.Sends.{sends-none}
 
 module _ {S C : Type 0} (m : Meaning S C) where
-  pub steps_by : (old new : RaftView C) (before after : List Frame) (input : Input C) (turn : Turn C) → step m old.size old.me old.server input ≡ Ok turn → Turned m old new before after turn → Steps m old old.server input new before after
+  pub steps_by : (old new : RaftView C) (before after : List Frame) (input : Input C) (turn : Turn C) → step m old.size old.me old.server input ≡ Ok turn → TurnTaken m old new before after turn → Steps m old old.server input new before after
   steps_by old new before after input turn is t = record { turn = turn; step = is; represents = t.server; sent = t.sent }
 
   -- a step with an input of the server's own, as what is handed in
@@ -32,7 +32,7 @@ module _ {S C : Type 0} (m : Meaning S C) where
     pub leader_waits : is_leader s.mode ≡ true → step m n me s Timeout ≡ Ok (silent s)
     leader_waits leads = rw (up, leads) refl
 
-    pub other_stands : is_leader s.mode ≡ false → s.term + 1 < 2 ^ 40 → length s.log + 1 < 2 ^ 40 → step m n me s Timeout ≡ Ok (record { server = stood n me s; sent = to_others me (vote_request me (stood n me s)) n })
+    pub other_stands : is_leader s.mode ≡ false → s.term + 1 < 2 ^ 40 → length s.log + 1 < 2 ^ 40 → step m n me s Timeout ≡ Ok (record { server = stood n me s; sent = to_others me (vote_request_to me (stood n me s)) n })
     other_stands other term room =
         let below : nat_lt s.term MAX ≡ true = lt-ltb s.term MAX (omega arith) in
         let fits : nat_lt (length s.log) MAX ≡ true = lt-ltb (length s.log) MAX (omega arith) in

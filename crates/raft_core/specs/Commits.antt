@@ -6,8 +6,8 @@ use Rattle.raft_model.specs.Quorums.{Quorum, index_at}
 use Rattle.raft_model.specs.Servers.{Server}
 
 -- server j holds index k: the leader `me` all of its log, another what it is known to hold
-abbrev pub holds : ℕ → List ℕ → ℕ → ℕ → Bool
-holds me match k j = (j == me) || nat_le k (index_at match j)
+abbrev pub holds_index : ℕ → List ℕ → ℕ → ℕ → Bool
+holds_index me match k j = (j == me) || nat_le k (index_at match j)
 
 -- p is the greatest of `low` and the numbers above it, up to `high`, that pass the test
 pub record IsGreatest (test : ℕ → Bool) (low high p : ℕ) : Type 0 where
@@ -19,7 +19,7 @@ pub record IsGreatest (test : ℕ → Bool) (low high p : ℕ) : Type 0 where
 pub record IsChosen {C : Type 0} (n me : ℕ) (s : Server C) (match : List ℕ) (k : ℕ) : Type 0 where
   pub there : k ≤ length s.log
   pub term : term_at s.log k ≡ s.term
-  pub held : Quorum n (holds me match k)
+  pub held : Quorum n (holds_index me match k)
 
 -- p is the leader's commit index after a rise: no such entry stands above it, and it rose to none
 -- but such a one

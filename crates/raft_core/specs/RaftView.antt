@@ -41,7 +41,7 @@ while_up None s = crashed s
 while_up (Some machine) s = s
 
 -- While it is up, its machine is in the state after the committed entries.
-pub record IsLive {S C : Type 0} (m : Meaning S C) (log : List (Entry C)) (commit : ℕ) (matched : List ℕ) (machine : S) : Type 0 where
+pub record IsUpToCommit {S C : Type 0} (m : Meaning S C) (log : List (Entry C)) (commit : ℕ) (matched : List ℕ) (machine : S) : Type 0 where
   pub committed : commit ≤ length log
   pub state : machine ≡ state_after m (take commit log)
   pub levels : (j : ℕ) → slice_index matched j < 2 ^ 40
@@ -53,10 +53,10 @@ pub record IsAhead {S C : Type 0} (m : Meaning S C) (log : List (Entry C)) (role
   pub state : ahead ≡ state_after m log
 
 -- a candidate has room for the no-op of its election
-abbrev pub HasRoom : {C : Type 0} → Role → List (Entry C) → Type 0
-HasRoom Follower log = Unit {0}
-HasRoom Candidate log = length log + 1 < 2 ^ 40
-HasRoom Leader log = Unit {0}
+abbrev pub HasElectionRoom : {C : Type 0} → Role → List (Entry C) → Type 0
+HasElectionRoom Follower log = Unit {0}
+HasElectionRoom Candidate log = length log + 1 < 2 ^ 40
+HasElectionRoom Leader log = Unit {0}
 
 -- who stands or leads does so in a term from 1 on
 abbrev pub HasTerm : Role → ℕ → Type 0
@@ -71,11 +71,11 @@ pub record IsRaft {S C : Type 0} (m : Meaning S C) (me size term : ℕ) (log : L
   pub group : size ≤ 5
   pub short : length log < 2 ^ 40
   pub elected : HasTerm role term
-  pub room : HasRoom role log
+  pub room : HasElectionRoom role log
   pub votes_each : length votes ≡ size
   pub next_each : length next ≡ size
   pub next_least : (j : ℕ) → j < size → 1 ≤ slice_index next j
   pub next_most : (j : ℕ) → slice_index next j ≤ 2 ^ 40
   pub matched_each : length matched ≡ size
-  pub live : IfSome machine (IsLive m log commit matched)
+  pub live : IfSome machine (IsUpToCommit m log commit matched)
   pub second : IfSome ahead (IsAhead m log role machine)

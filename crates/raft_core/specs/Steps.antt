@@ -32,8 +32,8 @@ role_of (CandidateMode votes) = Some roles.Candidate
 role_of (LeaderMode next match) = Some roles.Leader
 
 -- a group has 3 or 5 servers, and this place
-abbrev pub is_member : ℕ → ℕ → Bool
-is_member n me = ((n == 3) || (n == 5)) && nat_lt me n
+abbrev pub is_group_place : ℕ → ℕ → Bool
+is_group_place n me = ((n == 3) || (n == 5)) && nat_lt me n
 
 -- the input leads from the one server to one that the new value is, and its messages were sent
 pub record Steps {S C : Type 0} (m : Meaning S C) (old : RaftView C) (s : Server C) (input : Input C)

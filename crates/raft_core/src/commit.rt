@@ -5,7 +5,7 @@ ghost use Rattle.std.specs.Prelude.{◌≡◌, ◌≢◌, ◌^◌, ◌<◌, ◌�
 ghost use Rattle.raft_model.specs.Logs.{state_after};
 ghost use Rattle.raft_model.specs.Quorums.{count, is_quorum, index_at};
 ghost use Rattle.raft_model.specs.Servers.{Server, Leader, advanced, greatest};
-ghost use Rattle.raft_core.specs.Commits.{holds, IsGreatest, IsRisen};
+ghost use Rattle.raft_core.specs.Commits.{holds_index, IsGreatest, IsRisen};
 ghost use Rattle.raft_core.specs.Inner.Commits.{is_chosen_in};
 ghost use Rattle.raft_core.specs.Watching.{SeesAll};
 
@@ -17,7 +17,7 @@ use rows::{Index, LeaderTerm, NoMemory, ServerId};
 
 /// How many servers hold an index: the leader `me`, and each that is known to.
 fn count_holders(me: ServerId, matched: &[u64], index: u64) -> usize
-    ensures count { result ≡ count (holds me matched.now index) (length matched.now) }
+    ensures count { result ≡ count (holds_index me matched.now index) (length matched.now) }
     ensures bound { result ≤ length matched.now }
 {
     let mut held = 0;
@@ -34,7 +34,7 @@ fn count_holders(me: ServerId, matched: &[u64], index: u64) -> usize
 #[tactic(auto, unfolding(raft_model::specs::Quorums::is_quorum))]
 fn is_quorum(me: ServerId, matched: &[u64], index: u64) -> bool
     requires { length matched.now ≤ 5 }
-    ensures { result ≡ is_quorum (length matched.now) (holds me matched.now index) }
+    ensures { result ≡ is_quorum (length matched.now) (holds_index me matched.now index) }
 {
     2 * count_holders(me, matched, index) > matched.len()
 }

@@ -9,9 +9,9 @@ ghost use Rattle.std.specs.Prelude.{◌≡◌, ◌≤◌, true, false, None, len
 ghost use Rattle.raft_model.specs.Logs.{state_after};
 ghost use Rattle.raft_model.specs.Servers.{Server, is_up, is_leader, met, crashed, restarted};
 ghost use Rattle.raft_core.specs.Inputs.{handed};
-ghost use Rattle.raft_core.specs.Steps.{Represents, Stores, Takes, role_of, is_member};
+ghost use Rattle.raft_core.specs.Steps.{Represents, Stores, Takes, role_of, is_group_place};
 ghost use Rattle.raft_core.specs.Refusals.{refusal, HidesNothing, IsRefused, RefusalLeaves, RefusalShows, WhyNot};
-ghost use Rattle.raft_core.specs.Inner.Stops.{Stops};
+ghost use Rattle.raft_core.specs.Inner.Stops.{EndsRefused};
 ghost use Rattle.raft_core.specs.Inner.Views.{with_server};
 ghost use Rattle.raft_core.specs.RaftView.{KeepsAhead};
 ghost use Rattle.raft_core.specs.Watching.{SeesStep};
@@ -91,7 +91,7 @@ fn no_levels(alloc: Global, size: usize) -> Result<Levels, NoMemory>
 }
 
 fn is_member(size: usize, me: ServerId) -> bool
-    ensures { result ≡ is_member size me }
+    ensures { result ≡ is_group_place size me }
 {
     (size == 3 || size == 5) && me.place() < size
 }
@@ -108,7 +108,7 @@ impl<M: Machine> Raft<M> {
         size: usize,
         stable: Stable<M>,
     ) -> Result<Raft<M>, NotRestarted<M>>
-        ensures member { OnOk result (is_member size me ≡ true) }
+        ensures member { OnOk result (is_group_place size me ≡ true) }
         ensures number { IfOk result (λ r. (r.me ≡ me) × (r.size ≡ size)) }
         ensures server { IfOk result (λ r. (s : Server M.Command) → Stores M.meaning stable s →
             Represents M.meaning r (restarted s)) }
@@ -333,7 +333,7 @@ impl<M: Machine> Raft<M> {
             refusal M.meaning self.old.size self.old.me self.old.server (handed input.entry) ≡ None) }
         ensures kept { OnOk result (KeepsAhead self.old self.new) }
         ensures stopped { IfErr result (λ cause.
-            Stops M.meaning self.old (handed input.entry) cause self.new outbox.old outbox.new) }
+            EndsRefused M.meaning self.old (handed input.entry) cause self.new outbox.old outbox.new) }
         ensures unhidden { IfErr result (λ cause. HidesNothing M.meaning self.old.size self.old.me
             self.old.server (handed input.entry) cause) }
         ensures seen { OnOk result

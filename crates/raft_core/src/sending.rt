@@ -2,7 +2,7 @@ ghost use Rattle.std.specs.Prelude.{◌≡◌, ◌≢◌, ◌∷◌, [], true, O
 ghost use Rattle.wire.specs.declared.body.Body.TheVariants as bodies;
 ghost use Rattle.wire.specs.Messages.{kind_of, is_of_log};
 ghost use Rattle.raft_core.specs.Frames.{Sends, log_message};
-ghost use Rattle.raft_core.specs.Inner.Turns.{Sent};
+ghost use Rattle.raft_core.specs.Inner.Turns.{KeepsFront};
 
 use machine::Machine;
 use rows::{NoMemory, ServerId};
@@ -20,7 +20,7 @@ pub fn send<M: Machine>(
     requires log { is_of_log (kind_of body) ≡ true }
     ensures ok { OnOk result (IfSome (log_message from to body) (λ message.
         Sends M.meaning outbox.old outbox.new (message ∷ []))) }
-    ensures front { Sent outbox.old outbox.new }
+    ensures front { KeepsFront outbox.old outbox.new }
     ensures err { OnErr result (outbox.new ≡ outbox.old) }
 {
     outbox.send(&Message::between(from, to, body))
@@ -37,7 +37,7 @@ pub fn answer<M: Machine>(
     requires other { from ≢ to }
     ensures ok { OnOk result (IfSome (log_message {S = M} from to (bodies.AppendReply reply.now)) (λ message.
         Sends M.meaning outbox.old outbox.new (message ∷ []))) }
-    ensures front { Sent outbox.old outbox.new }
+    ensures front { KeepsFront outbox.old outbox.new }
     ensures err { OnErr result (outbox.new ≡ outbox.old) }
 {
     outbox.send_answer::<M>(from, to, reply)

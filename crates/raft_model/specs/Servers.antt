@@ -71,8 +71,8 @@ abbrev pub stood : {C : Type 0} → ℕ → ℕ → Server C → Server C
 stood n me s = record s { term = suc s.term; vote = Some me; known = None; mode = Candidate (slice_set (replicate n false) me true) }
 
 -- What it asks each other server: its vote, for a log that ends so.
-abbrev pub vote_request : {C : Type 0} → ℕ → Server C → ℕ → Message C
-vote_request me s to = record { from = me; to = to; term = s.term; body = VoteRequest (length s.log) (last_term s.log) }
+abbrev pub vote_request_to : {C : Type 0} → ℕ → Server C → ℕ → Message C
+vote_request_to me s to = record { from = me; to = to; term = s.term; body = VoteRequest (length s.log) (last_term s.log) }
 
 -- the vote is none, or c's already
 abbrev pub is_free_for : Option ℕ → ℕ → Bool
@@ -150,16 +150,16 @@ installed s P =
 
 -- A leader hears that server j holds its log up to `at`. What is past its last entry counts for
 -- nothing.
-abbrev pub acked : {C : Type 0} → Server C → ℕ → ℕ → List ℕ → List ℕ → Server C
-acked s j at next match =
+abbrev pub match_raised : {C : Type 0} → Server C → ℕ → ℕ → List ℕ → List ℕ → Server C
+match_raised s j at next match =
     if nat_le at (length s.log)
     then record s { mode = Leader (slice_set next j (suc (max (index_at match j) at))) (slice_set match j (max (index_at match j) at)) }
     else s
 
 -- A leader hears that server j refuses: it will try one earlier at least, and no earlier than what
 -- j is known to hold.
-abbrev pub backed : {C : Type 0} → Server C → ℕ → ℕ → List ℕ → List ℕ → Server C
-backed s j at next match = record s {
+abbrev pub backed_off : {C : Type 0} → Server C → ℕ → ℕ → List ℕ → List ℕ → Server C
+backed_off s j at next match = record s {
   mode = Leader (slice_set next j (max (suc (index_at match j)) (min (index_at next j - 1) (suc at)))) match;
 }
 
@@ -189,14 +189,14 @@ abbrev pub hears_ok : {C : Type 0} → ℕ → ℕ → Server C → ℕ → ℕ 
 hears_ok n me s j at Down = s
 hears_ok n me s j at Follower = s
 hears_ok n me s j at (Candidate votes) = s
-hears_ok n me s j at (Leader next match) = advanced n me (acked s j at next match)
+hears_ok n me s j at (Leader next match) = advanced n me (match_raised s j at next match)
 
 -- so does a refusal
 abbrev pub hears_refusal : {C : Type 0} → ℕ → ℕ → Server C → ℕ → ℕ → Mode → Server C
 hears_refusal n me s j at Down = s
 hears_refusal n me s j at Follower = s
 hears_refusal n me s j at (Candidate votes) = s
-hears_refusal n me s j at (Leader next match) = advanced n me (backed s j at next match)
+hears_refusal n me s j at (Leader next match) = advanced n me (backed_off s j at next match)
 
 -- Beat: what a leader sends to a server whose next index is `next`: all that its snapshot covers,
 -- where next is at or below that, else at most 32 entries from next on. (Figure 2, leaders; section

@@ -5,7 +5,7 @@ use Rattle.rows.specs.declared.refusal.Refusal.TheVariants as refusals
 use Rattle.machine.specs.Meaning.{Meaning}
 use Rattle.raft_model.specs.Logs.{MAX, state_after}
 use Rattle.raft_model.specs.Messages.{Message, Body, VoteRequest, VoteReply, Append, AppendReply, Install, InstallReply, to_others}
-use Rattle.raft_model.specs.Servers.{Server, Turn, is_up, is_leader, silent, reply, met, stood, vote_request, grants, granted, counted, following, follows_append, installed, hears_ok, hears_refusal, beats, crashed, restarted, compacted, extended}
+use Rattle.raft_model.specs.Servers.{Server, Turn, is_up, is_leader, silent, reply, met, stood, vote_request_to, grants, granted, counted, following, follows_append, installed, hears_ok, hears_refusal, beats, crashed, restarted, compacted, extended}
 
 -- what a server takes: a message that came, or an input of its own
 pub data Input (C : Type 0) : Type 0 where
@@ -46,13 +46,13 @@ abbrev pub times_out : {C : Type 0} → ℕ → ℕ → Server C → Result (Tur
 times_out n me s =
     if is_leader s.mode then Ok (silent s)
     else if nat_lt s.term MAX && nat_lt (length s.log) MAX
-    then Ok (record { server = stood n me s; sent = to_others me (vote_request me (stood n me s)) n })
+    then Ok (record { server = stood n me s; sent = to_others me (vote_request_to me (stood n me s)) n })
     else Err refusals.Exhausted
 
 -- the first refusal of a leader's proposal: no more room, then the machine's own against the whole
 -- log, committed or not
-abbrev pub admitted : {S C : Type 0} → Meaning S C → Server C → C → Option Refusal
-admitted m s command = if nat_lt (length s.log) MAX then m.admission (state_after m s.log) command else Some refusals.Exhausted
+abbrev pub admission_refusal : {S C : Type 0} → Meaning S C → Server C → C → Option Refusal
+admission_refusal m s command = if nat_lt (length s.log) MAX then m.admission (state_after m s.log) command else Some refusals.Exhausted
 
 -- a, if there is no refusal
 abbrev pub unless : {A : Type 0} → Option Refusal → A → Result A Refusal
@@ -64,7 +64,7 @@ unless (Some r) a = Err r
 abbrev pub proposes : {S C : Type 0} → Meaning S C → Server C → C → Result (Turn C) Refusal
 proposes m s command =
     if is_leader s.mode
-    then unless (admitted m s command) (silent (extended s command))
+    then unless (admission_refusal m s command) (silent (extended s command))
     else Err (refusals.NotLeader s.known)
 
 -- a server that is up; a message from outside the group is none of its own

@@ -89,14 +89,14 @@ module _ {S C : Type 0} (m : Meaning S C) where
   receiver (Some message) = Some message.to
 
   -- the server that takes the event
-  abbrev pub actor : World C → Event C → Option ℕ
-  actor w (Deliver k) = receiver (slice_get w.sent k)
-  actor w (TimesOut i) = Some i
-  actor w (Beats i) = Some i
-  actor w (Proposes i command) = Some i
-  actor w (Compacts i) = Some i
-  actor w (Crashes i) = Some i
-  actor w (Restarts i) = Some i
+  abbrev pub acting_server : World C → Event C → Option ℕ
+  acting_server w (Deliver k) = receiver (slice_get w.sent k)
+  acting_server w (TimesOut i) = Some i
+  acting_server w (Beats i) = Some i
+  acting_server w (Proposes i command) = Some i
+  acting_server w (Compacts i) = Some i
+  acting_server w (Crashes i) = Some i
+  acting_server w (Restarts i) = Some i
 
   -- the event is a restart
   abbrev pub IsRestart : Event C → Type 0
@@ -121,7 +121,7 @@ module _ {S C : Type 0} (m : Meaning S C) where
         Trace n events outcomes trace past w → IsEvent e → happens w e ≡ Ok next →
         Trace n (events ++ e ∷ []) (outcomes ++ Kept ∷ []) (trace ++ e ∷ []) (past ++ w ∷ []) next
     crashed : {events trace : List (Event C)} {outcomes : List Outcome} {past : List (World C)} {w : World C} (e : Event C) (i : ℕ) (next : World C) →
-        Trace n events outcomes trace past w → actor w e ≡ Some i → happens w (Crashes i) ≡ Ok next →
+        Trace n events outcomes trace past w → acting_server w e ≡ Some i → happens w (Crashes i) ≡ Ok next →
         Trace n (events ++ e ∷ []) (outcomes ++ Crashed ∷ []) (trace ++ Crashes i ∷ []) (past ++ w ∷ []) next
     left_out : {events trace : List (Event C)} {outcomes : List Outcome} {past : List (World C)} {w : World C} (e : Event C) (r : Refusal) →
         Trace n events outcomes trace past w → IsLeftOut w e r →

@@ -11,7 +11,7 @@ use Rattle.raft_model.specs.Chains.{Agree}
 use Rattle.raft_safety.specs.Inner.Agreement.{Rooted, Adopted}
 use Rattle.raft_safety.specs.Inner.Ballots.{Ballots, BallotsGrow}
 use Rattle.raft_safety.specs.Inner.History.{History, HasOrDead, Fixed, Ledgers, Extends}
-use Rattle.raft_safety.specs.Inner.Invariants.{ModeOk, ServerOk, AppendOk, InstallOk, BodyOk, Keeps}
+use Rattle.raft_safety.specs.Inner.Invariants.{ModeOk, ServerOk, AppendOk, InstallOk, BodyOk, KeepsHistory}
 use Rattle.raft_safety.proofs.Functions.{both_cases, both_same, both_other, both_else}
 use Rattle.raft_safety.proofs.Logs.{agree_none, agree_sym, agree_trans, agree_less, agree_term, agree_take, rooted_two, merge_adopts, install_adopts}
 use Rattle.raft_safety.proofs.Completeness.{fixed_in}
@@ -152,7 +152,7 @@ module _ {C : Type 0} (P : List (Entry C) → Type 0) (n : ℕ) (G : History C) 
   -- the log becomes `new`, which has the first m of the leader's; and m is acknowledged
   pub adopt_keeps : (t : Server C) (m : ℕ) (out : List (Message C)) → VotesKept n G.ballots i t out → t.term ≡ s.term → t.mode ≡ Follower → Adopted (G.ledger s.term) s.log t.log m →
       Brings m t.commit → t.covered ≤ t.commit →
-      ((H : History C) → m ≤ H.held s.term i → (k : ℕ) (x : Message C) → slice_get out k ≡ Some x → BodyOk n H x.from x.to x.term x.body) → Keeps P n G i t out
+      ((H : History C) → m ≤ H.held s.term i → (k : ℕ) (x : Message C) → slice_get out k ≡ Some x → BodyOk n H x.from x.to x.term x.body) → KeepsHistory P n G i t out
   unfolding hold ModeOk
   adopt_keeps t m out v same mode ad brings based says =
       let x = max (G.held s.term i) m in
@@ -213,7 +213,7 @@ module _ {C : Type 0} (P : List (Entry C) → Type 0) (n : ℕ) (G : History C) 
   -- an Append that is accepted
   pub append_keeps : (from prev prev_term commit : ℕ) (entries : List (Entry C)) → s.mode ≡ Follower → AppendOk n G s.term prev prev_term commit entries → is_held s prev prev_term ≡ true →
       (let out : List (Message C) = record { from = i; to = from; term = s.term; body = AppendReply s.term true (prev + length entries) } ∷ [] in
-      VotesKept n G.ballots i (appended s prev commit entries) out → Keeps P n G i (appended s prev commit entries) out)
+      VotesKept n G.ballots i (appended s prev commit entries) out → KeepsHistory P n G i (appended s prev commit entries) out)
   unfolding BodyOk
   append_keeps from prev prev_term commit entries mode a held v =
       let m = prev + length entries in
@@ -233,7 +233,7 @@ module _ {C : Type 0} (P : List (Entry C) → Type 0) (n : ℕ) (G : History C) 
   -- an Install
   pub install_keeps : (from : ℕ) (base : List (Entry C)) → s.mode ≡ Follower → InstallOk n G s.term base →
       (let out : List (Message C) = record { from = i; to = from; term = (installed s base).term; body = InstallReply s.term (length base) } ∷ [] in
-      VotesKept n G.ballots i (installed s base) out → Keeps P n G i (installed s base) out)
+      VotesKept n G.ballots i (installed s base) out → KeepsHistory P n G i (installed s base) out)
   unfolding Brings
   install_keeps from base mode a = elim (bool_cases (nat_le (length base) s.commit)) [
     | inl e ↦ rw e (λ v. adopt_keeps s (length base) _ v refl mode

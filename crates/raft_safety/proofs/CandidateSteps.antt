@@ -4,11 +4,11 @@ use Rattle.std.proofs.lemmas.Option.{same_Some}
 use Rattle.machine.specs.declared.entry.Entry.{Entry}
 use Rattle.raft_model.specs.Logs.{MAX}
 use Rattle.raft_model.specs.Messages.{Message, VoteReply, to_others}
-use Rattle.raft_model.specs.Servers.{Server, stood, vote_request, is_up_to_date}
+use Rattle.raft_model.specs.Servers.{Server, stood, vote_request_to, is_up_to_date}
 use Rattle.raft_safety.specs.Inner.Functions.{with_both}
 use Rattle.raft_safety.specs.Inner.Agreement.{Rooted}
 use Rattle.raft_safety.specs.Inner.History.{History, CarriesHeld, Ledgers, Extends}
-use Rattle.raft_safety.specs.Inner.Invariants.{ModeOk, ServerOk, RequestOk, BodyOk, Keeps}
+use Rattle.raft_safety.specs.Inner.Invariants.{ModeOk, ServerOk, RequestOk, BodyOk, KeepsHistory}
 use Rattle.raft_safety.proofs.Functions.{both_cases, both_same, both_other, both_else}
 use Rattle.raft_safety.proofs.Places.{only_marked, to_others_is, get-one}
 use Rattle.raft_safety.proofs.VoterSteps.{VotesKept}
@@ -21,13 +21,13 @@ module _ {C : Type 0} (P : List (Entry C) → Type 0) (n : ℕ) (G : History C) 
   pub grant_keeps : (from index its_last : ℕ) → RequestOk n G from s.term index its_last → is_up_to_date s.log index its_last ≡ true →
       (let r : Server C = record s { vote = Some from } in
       let out : List (Message C) = record { from = i; to = from; term = s.term; body = VoteReply s.term true } ∷ [] in
-      VotesKept n G.ballots i r out → Keeps P n G i r out)
+      VotesKept n G.ballots i r out → KeepsHistory P n G i r out)
   unfolding BodyOk
   grant_keeps from index its_last r newer v = quiet P n G i s I ok _ _ v (omega arith) ok.log ok.role
       (λ k y q. subst (λ (z : Message C). BodyOk n G z.from z.to z.term z.body) (get-one _ k y q) (grant_ok P n G i s I ok from index its_last r newer))
 
   -- a new candidate
-  pub stand_keeps : length s.log < MAX → VotesKept n G.ballots i (stood n i s) (to_others i (vote_request i (stood n i s)) n) → Keeps P n G i (stood n i s) (to_others i (vote_request i (stood n i s)) n)
+  pub stand_keeps : length s.log < MAX → VotesKept n G.ballots i (stood n i s) (to_others i (vote_request_to i (stood n i s)) n) → KeepsHistory P n G i (stood n i s) (to_others i (vote_request_to i (stood n i s)) n)
   unfolding revote ModeOk BodyOk
   stand_keeps room v =
       let t = suc s.term in
@@ -63,7 +63,7 @@ module _ {C : Type 0} (P : List (Entry C) → Type 0) (n : ℕ) (G : History C) 
             });
           };
         };
-        says = λ k x h. let r = to_others_is i (vote_request i (stood n i s)) n k x h in record {
+        says = λ k x h. let r = to_others_is i (vote_request_to i (stood n i s)) n k x h in record {
           vote = v.says k x h;
           body = subst (λ (y : Message C). BodyOk n H y.from y.to y.term y.body) (sym r.3)
               (record { log = s.log; stood = both_same G.stood t i (Some s.log); index_is = refl; last_is = refl });

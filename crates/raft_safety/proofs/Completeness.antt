@@ -6,7 +6,7 @@ use Rattle.machine.specs.declared.entry.Entry.{Entry}
 use Rattle.raft_model.specs.Logs.{term_at}
 use Rattle.raft_model.specs.Chains.{Agree}
 use Rattle.raft_safety.specs.Inner.Agreement.{Rooted}
-use Rattle.raft_safety.specs.Inner.History.{History, Own, Dead, Chosen, HasOrDead, FixedBy, Fixed, Ledgers, UpToDate}
+use Rattle.raft_safety.specs.Inner.History.{History, OfOwnTerm, Dead, Chosen, HasOrDead, FixedBy, Fixed, Ledgers, UpToDate}
 use Rattle.raft_safety.proofs.Quorums.{meet}
 use Rattle.raft_safety.proofs.Logs.{agree_none, agree_sym, agree_trans, agree_less, agree_term, rooted_at}
 
@@ -18,7 +18,7 @@ module _ {C : Type 0} where
   some_entry (e ∷ L) h = omega arith
 
   -- the candidate's last term is greater than u
-  later : (n : ℕ) (G : History C) (L : List (Entry C)) (u k : ℕ) → Ledgers n G → Rooted G.ledger L → 1 ≤ k → Own G u k → u < term_at L (length L) → Dead n G u k ⊎ Agree k (G.ledger u) L
+  later : (n : ℕ) (G : History C) (L : List (Entry C)) (u k : ℕ) → Ledgers n G → Rooted G.ledger L → 1 ≤ k → OfOwnTerm G u k → u < term_at L (length L) → Dead n G u k ⊎ Agree k (G.ledger u) L
   later n G L u k I rL one own less =
       let b = length L in
       let y = term_at L b in
@@ -35,7 +35,7 @@ module _ {C : Type 0} where
       ]
 
   -- the voter's log carries position k of term u itself
-  carried : (n : ℕ) (G : History C) (log L : List (Entry C)) (u k : ℕ) → Ledgers n G → Rooted G.ledger log → Rooted G.ledger L → UpToDate L log → 1 ≤ k → Own G u k → Agree k (G.ledger u) log → Dead n G u k ⊎ Agree k (G.ledger u) L
+  carried : (n : ℕ) (G : History C) (log L : List (Entry C)) (u k : ℕ) → Ledgers n G → Rooted G.ledger log → Rooted G.ledger L → UpToDate L log → 1 ≤ k → OfOwnTerm G u k → Agree k (G.ledger u) log → Dead n G u k ⊎ Agree k (G.ledger u) L
   carried n G log L u k I rl rL up one own a =
       let q = length log in
       let x = term_at log q in

@@ -5,10 +5,10 @@ use Rattle.raft_model.specs.Logs.{term_at}
 use Rattle.raft_model.specs.Messages.{Message, Body, VoteRequest, VoteReply, Append, AppendReply, Install, InstallReply}
 use Rattle.raft_model.specs.Servers.{Server, Mode, Down, Follower, Candidate, Leader, is_leader}
 use Rattle.raft_model.specs.Chains.{Agree}
-use Rattle.raft_safety.specs.Inner.SmallSteps.{Passes}
+use Rattle.raft_safety.specs.Inner.SmallSteps.{LedBefore}
 use Rattle.raft_safety.specs.Inner.Agreement.{Rooted}
 use Rattle.raft_safety.specs.Inner.History.{History, Fixed, CarriesHeld, Ledgers, Extends, DiffersAt}
-use Rattle.raft_safety.specs.Inner.Invariants.{LogOk, CandidateOk, LeaderOk, ModeOk, ServerOk, AppendOk, InstallOk, BodyOk, MessageOk, Keeps}
+use Rattle.raft_safety.specs.Inner.Invariants.{LogOk, CandidateOk, LeaderOk, ModeOk, ServerOk, AppendOk, InstallOk, BodyOk, MessageOk, KeepsHistory}
 use Rattle.raft_safety.proofs.Logs.{agree_sym, agree_trans, agree_less, agree_term}
 use Rattle.std.proofs.lemmas.List.{drop-take}
 use Rattle.raft_safety.proofs.Growth.{agree_on, carries_on, fixed_on}
@@ -222,14 +222,14 @@ module _ {C : Type 0} where
   leader_leads n G j s (Leader next match) ok e l = let h : ModeOk n G j s.term s.log (Leader next match) = subst (λ x. ModeOk n G j s.term s.log x) e ok.role in h.leads
 
   -- small steps that pass a leader on leave its ledger
-  passed_ledger : (n : ℕ) (G H : History C) (i : ℕ) (s r : Server C) (u : ℕ) → ServerOk n G i s → ServerOk n H i r → Passes s r → r.term ≡ u → is_leader r.mode ≡ true → H.ledger u ≡ G.ledger u
+  passed_ledger : (n : ℕ) (G H : History C) (i : ℕ) (s r : Server C) (u : ℕ) → ServerOk n G i s → ServerOk n H i r → LedBefore s r → r.term ≡ u → is_leader r.mode ≡ true → H.ledger u ≡ G.ledger u
   passed_ledger n G H i s r u old new p e l =
       let q = p l in
       ap H.ledger (sym e) ∙ (sym (leader_wrote n H i r r.mode new refl l) ∙ (q.2 ∙ (leader_wrote n G i s s.mode old refl q.0 ∙ ap G.ledger (sym q.1 ∙ e))))
 
   -- one change after another
-  pub keeps_more : (P : List (Entry C) → Type 0) (n : ℕ) (G : History C) (i : ℕ) (s r t : Server C) (out : List (Message C)) → ServerOk n G i s → Passes s r →
-      (x : Keeps P n G i r []) → Keeps P n x.after i t out → Keeps P n G i t out
+  pub keeps_more : (P : List (Entry C) → Type 0) (n : ℕ) (G : History C) (i : ℕ) (s r t : Server C) (out : List (Message C)) → ServerOk n G i s → LedBefore s r →
+      (x : KeepsHistory P n G i r []) → KeepsHistory P n x.after i t out → KeepsHistory P n G i t out
   keeps_more P n G i s r t out ok p x y = record {
     after = y.after;
     extends = extends_more G x.after y.after x.extends y.extends;
@@ -248,7 +248,7 @@ module _ {C : Type 0} where
   }
 
   -- the history stays
-  pub keeps_same : (P : List (Entry C) → Type 0) (n : ℕ) (G : History C) (i : ℕ) (t : Server C) → Ledgers n G → ServerOk n G i t → Keeps P n G i t []
+  pub keeps_same : (P : List (Entry C) → Type 0) (n : ℕ) (G : History C) (i : ℕ) (t : Server C) → Ledgers n G → ServerOk n G i t → KeepsHistory P n G i t []
   keeps_same P n G i t I own = record {
     after = G;
     extends = extends_none G;

@@ -6,7 +6,7 @@ use Rattle.machine.specs.declared.entry.Entry.{Entry}
 use Rattle.raft_model.specs.Quorums.{Quorum}
 use Rattle.raft_model.specs.Chains.{Agree}
 use Rattle.raft_safety.specs.Inner.Agreement.{Adopted}
-use Rattle.raft_safety.specs.Inner.History.{History, Own, Dead, Chosen, HasOrDead, Fixed, Ledgers, Extends}
+use Rattle.raft_safety.specs.Inner.History.{History, OfOwnTerm, Dead, Chosen, HasOrDead, Fixed, Ledgers, Extends}
 use Rattle.raft_safety.proofs.Quorums.{quorum_more, find}
 use Rattle.raft_safety.proofs.Logs.{agree_sym, agree_trans, agree_less, agree_term}
 
@@ -16,7 +16,7 @@ module _ {C : Type 0} where
   agree_on G H u k X e a = agree_trans (agree_sym (agree_less k a.left (e.ledgers u))) a
 
   -- the term of an entry that the longer ledger has
-  pub own_back : (G H : History C) (u k : ℕ) → Extends G H → 1 ≤ k → Own H u k → Own G u k
+  pub own_back : (G H : History C) (u k : ℕ) → Extends G H → 1 ≤ k → OfOwnTerm H u k → OfOwnTerm G u k
   own_back G H u k e one own le =
       let g = e.ledgers u in
       agree_term (length (G.ledger u)) k (G.ledger u) (H.ledger u) g one le ∙ own (omega (arith, le, g.right))

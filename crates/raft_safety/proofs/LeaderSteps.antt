@@ -9,7 +9,7 @@ use Rattle.raft_model.specs.Messages.{Message, to_others}
 use Rattle.raft_model.specs.Servers.{Server, Leader, is_chosen, greatest, beat_message, beat_body}
 use Rattle.raft_model.specs.Chains.{Agree}
 use Rattle.raft_safety.specs.Inner.History.{History, Chosen, Fixed, Ledgers}
-use Rattle.raft_safety.specs.Inner.Invariants.{LogOk, LeaderOk, ServerOk, AppendOk, InstallOk, BodyOk, Keeps}
+use Rattle.raft_safety.specs.Inner.Invariants.{LogOk, LeaderOk, ServerOk, AppendOk, InstallOk, BodyOk, KeepsHistory}
 use Rattle.raft_safety.proofs.Logs.{agree_sym, agree_trans, agree_less, agree_take}
 use Rattle.raft_safety.proofs.Quorums.{quorum_more, quorum_told}
 use Rattle.raft_safety.proofs.Places.{to_others_is}
@@ -91,7 +91,7 @@ module _ {C : Type 0} (P : List (Entry C) → Type 0) (n : ℕ) (G : History C) 
 
   -- the commit rule
   pub advance_keeps : (out : List (Message C)) → out ≡ [] →
-      (let r : Server C = record s { commit = greatest (is_chosen n i s match) s.commit (length s.log) } in VotesKept n G.ballots i r out → Keeps P n G i r out)
+      (let r : Server C = record s { commit = greatest (is_chosen n i s match) s.commit (length s.log) } in VotesKept n G.ballots i r out → KeepsHistory P n G i r out)
   advance_keeps out o v = quiet P n G i s I ok _ out v (omega arith) (advanced_log _ (greatest_told (is_chosen n i s match) s.commit (length s.log))) ok.role (no_bodies P n G i s I ok out o)
 
   -- the log is the ledger's
@@ -138,7 +138,7 @@ module _ {C : Type 0} (P : List (Entry C) → Type 0) (n : ℕ) (G : History C) 
   ]
 
   -- a beat
-  pub beat_keeps : VotesKept n G.ballots i s (to_others i (beat_message i s next) n) → Keeps P n G i s (to_others i (beat_message i s next) n)
+  pub beat_keeps : VotesKept n G.ballots i s (to_others i (beat_message i s next) n) → KeepsHistory P n G i s (to_others i (beat_message i s next) n)
   beat_keeps v = quiet P n G i s I ok s _ v (omega arith) ok.log ok.role
       (λ k x h. let r = to_others_is i (beat_message i s next) n k x h in let l = leader in
       subst (λ (y : Message C). BodyOk n G y.from y.to y.term y.body) (sym r.3)

@@ -6,7 +6,7 @@ use Rattle.raft_model.specs.Logs.{MAX}
 use Rattle.raft_model.specs.Quorums.{is_quorum, marked}
 use Rattle.raft_model.specs.Messages.{Body, VoteRequest, VoteReply, Append, AppendReply, Install, InstallReply}
 use Rattle.raft_model.specs.Servers.{Server, Turn, Mode, Down, Follower, Candidate, Leader, is_up, is_leader, silent, met, grants, counted, is_held, advanced_in, hears_ok, hears_refusal, extended}
-use Rattle.raft_model.specs.Steps.{Input, Arrives, Timeout, Beat, Propose, Compact, Crash, Restart, receives, times_out, proposes, acts, wakes, step, admitted, unless}
+use Rattle.raft_model.specs.Steps.{Input, Arrives, Timeout, Beat, Propose, Compact, Crash, Restart, receives, times_out, proposes, acts, wakes, step, admission_refusal, unless}
 use Rattle.raft_safety.specs.Inner.Leading.{Leading, goes_on, hears, wins}
 use Rattle.raft_safety.specs.Inner.Leading as leading
 use Rattle.raft_safety.proofs.Paths.{bool_cases, same_ok}
@@ -158,7 +158,7 @@ module _ {S C : Type 0} (m : Meaning S C) (n i : ℕ) (s : Server C) where
   -- a proposal
   propose_leads : (command : C) (turn : Turn C) → proposes m s command ≡ Ok turn → LeadingIn m n i s (Propose command) turn.server
   propose_leads command turn h = elim (bool_cases (is_leader s.mode)) [
-    | inl l ↦ admitted_leads command (admitted m s command) turn l (rw l at h)
+    | inl l ↦ admitted_leads command (admission_refusal m s command) turn l (rw l at h)
     | inr l ↦ absurd (let q = rw l at h in cc)
   ]
 

@@ -7,8 +7,8 @@ use Rattle.machine.specs.declared.entry.Entry.{Entry}
 use Rattle.raft_model.specs.Logs.{MAX}
 use Rattle.raft_model.specs.Quorums.{is_quorum, marked, index_at}
 use Rattle.raft_model.specs.Messages.{Message, Body, VoteRequest, VoteReply, Append, AppendReply, Install, InstallReply}
-use Rattle.raft_model.specs.Servers.{Server, Turn, Mode, Down, Follower, Candidate, Leader, is_up, is_leader, silent, met, grants, is_free_for, is_up_to_date, counted, with_votes, following, is_held, installed, acked, advanced_in, hears_ok, hears_refusal, beats, extended}
-use Rattle.raft_model.specs.Steps.{Input, Arrives, Timeout, Beat, Propose, Compact, Crash, Restart, receives, times_out, proposes, acts, wakes, step, admitted, unless}
+use Rattle.raft_model.specs.Servers.{Server, Turn, Mode, Down, Follower, Candidate, Leader, is_up, is_leader, silent, met, grants, is_free_for, is_up_to_date, counted, with_votes, following, is_held, installed, match_raised, advanced_in, hears_ok, hears_refusal, beats, extended}
+use Rattle.raft_model.specs.Steps.{Input, Arrives, Timeout, Beat, Propose, Compact, Crash, Restart, receives, times_out, proposes, acts, wakes, step, admission_refusal, unless}
 use Rattle.raft_safety.specs.Inner.SmallSteps.{IsAck, WasSent, Small, raises, stands, grants_vote, refuses, counts, wins, extends, follows, takes_append, takes_install, acks, backs, advances, covers, beats_all, Path, still, only, after_one, Turns, walks, resets}
 
 -- true or false
@@ -137,7 +137,7 @@ module _ {S C : Type 0} (m : Meaning S C) (n i : ℕ) (sent : List (Message C)) 
   ok_path s (Leader next match) from term at body came ack mode = elim (bool_cases (nat_le at (length s.log))) [
     | inl e ↦
         let r : Server C = record s { mode = Leader (slice_set next from (suc (max (index_at match from) at))) (slice_set match from (max (index_at match from) at)) } in
-        let q : r ≡ acked s from at next match = rw e refl in
+        let q : r ≡ match_raised s from at next match = rw e refl in
         rw e (after_one {s = s} r (acks next match from term at body came ack mode q refl) (λ l. (ap is_leader mode, refl, refl)) (only (advances _ _ refl refl refl)))
     | inr e ↦ rw e (advance_path s s.mode refl)
   ]
@@ -203,7 +203,7 @@ module _ {S C : Type 0} (m : Meaning S C) (n i : ℕ) (sent : List (Message C)) 
   beats_path s (Leader next match) mode = only (beats_all next match mode refl refl)
 
   -- a proposal of a leader
-  admitted_path : (s : Server C) (command : C) (next match : List ℕ) (r : Option Refusal) (turn : Turn C) → m.commands.Fits command → s.mode ≡ Leader next match → admitted m s command ≡ r →
+  admitted_path : (s : Server C) (command : C) (next match : List ℕ) (r : Option Refusal) (turn : Turn C) → m.commands.Fits command → s.mode ≡ Leader next match → admission_refusal m s command ≡ r →
       unless r (silent (extended s command)) ≡ Ok turn → PathTo s turn
   unfolding PathTo
   admitted_path s command next match None turn is mode none h = subst (λ t. PathTo s t) (same_ok _ _ h) (only (extends next match command is mode none refl refl))
@@ -216,7 +216,7 @@ module _ {S C : Type 0} (m : Meaning S C) (n i : ℕ) (sent : List (Message C)) 
   propose_path s command (Candidate votes) turn is mode h = absurd (let g = rw mode at h in cc)
   propose_path s command (Leader next match) turn is mode h =
       let leads : is_leader s.mode ≡ true = ap is_leader mode in
-      admitted_path s command next match (admitted m s command) turn is mode refl (rw leads at h)
+      admitted_path s command next match (admission_refusal m s command) turn is mode refl (rw leads at h)
 
   -- a turn
   TurnsTo : Server C → Turn C → Type 0

@@ -6,12 +6,12 @@ use Rattle.machine.specs.declared.entry.Entry.{Entry}
 use Rattle.raft_model.specs.Logs.{last_term}
 use Rattle.raft_model.specs.Quorums.{index_at}
 use Rattle.raft_model.specs.Messages.{Message, Body, VoteRequest, VoteReply, Append, AppendReply, Install, InstallReply}
-use Rattle.raft_model.specs.Servers.{Server, Mode, Down, Follower, Candidate, Leader, is_up_to_date, following, acked, backed, compacted}
-use Rattle.raft_safety.specs.Inner.SmallSteps.{IsAck, OwesNothing, IsIdle}
+use Rattle.raft_model.specs.Servers.{Server, Mode, Down, Follower, Candidate, Leader, is_up_to_date, following, match_raised, backed_off, compacted}
+use Rattle.raft_safety.specs.Inner.SmallSteps.{IsAck, OwesNothing, KnowsNothing}
 use Rattle.raft_safety.specs.Inner.Agreement.{Rooted}
 use Rattle.raft_safety.specs.Inner.Ballots.{Ballots, BallotsGrow, BallotsApart}
 use Rattle.raft_safety.specs.Inner.History.{History, CarriesHeld, Ledgers, UpToDate, Extends, DiffersAt}
-use Rattle.raft_safety.specs.Inner.Invariants.{LogOk, CandidateOk, LeaderOk, ModeOk, ServerOk, RequestOk, GrantOk, BodyOk, Keeps}
+use Rattle.raft_safety.specs.Inner.Invariants.{LogOk, CandidateOk, LeaderOk, ModeOk, ServerOk, RequestOk, GrantOk, BodyOk, KeepsHistory}
 use Rattle.raft_safety.proofs.Places.{marked_set, index_at_set, get-one}
 use Rattle.raft_safety.proofs.Paths.{bool_cases}
 use Rattle.raft_safety.proofs.Voters.{elected_on}
@@ -61,7 +61,7 @@ module _ {C : Type 0} where
 module _ {C : Type 0} (P : List (Entry C) → Type 0) (n : ℕ) (G : History C) (i : ℕ) (s : Server C) (I : Ledgers n G) (ok : ServerOk n G i s) where
   -- nothing but votes is new
   pub quiet : (t : Server C) (out : List (Message C)) → VotesKept n G.ballots i t out → s.term ≤ t.term → LogOk n G i t.term t.log t.covered t.commit →
-      ModeOk n G i t.term t.log t.mode → ((k : ℕ) (x : Message C) → slice_get out k ≡ Some x → BodyOk n G x.from x.to x.term x.body) → Keeps P n G i t out
+      ModeOk n G i t.term t.log t.mode → ((k : ℕ) (x : Message C) → slice_get out k ≡ Some x → BodyOk n G x.from x.to x.term x.body) → KeepsHistory P n G i t out
   unfolding revote
   quiet t out v le log role says =
       let B = v.votes.after in
@@ -94,22 +94,22 @@ module _ {C : Type 0} (P : List (Entry C) → Type 0) (n : ℕ) (G : History C) 
 
   -- a greater term
   pub raise_keeps : (t : ℕ) (out : List (Message C)) → s.term < t → out ≡ [] →
-      (let r : Server C = record s { term = t; vote = None; known = None; mode = Follower } in VotesKept n G.ballots i r out → Keeps P n G i r out)
+      (let r : Server C = record s { term = t; vote = None; known = None; mode = Follower } in VotesKept n G.ballots i r out → KeepsHistory P n G i r out)
   unfolding ModeOk
   raise_keeps t out less o v = quiet _ out v (omega (arith, less)) (log_later t (omega (arith, less))) tt (no_bodies out o)
 
   -- a follower
-  pub follow_keeps : (from : ℕ) (out : List (Message C)) → out ≡ [] → VotesKept n G.ballots i (following s from) out → Keeps P n G i (following s from) out
+  pub follow_keeps : (from : ℕ) (out : List (Message C)) → out ≡ [] → VotesKept n G.ballots i (following s from) out → KeepsHistory P n G i (following s from) out
   unfolding ModeOk
   follow_keeps from out o v = quiet _ out v (omega arith) ok.log tt (no_bodies out o)
 
   -- a compaction
-  pub cover_keeps : (out : List (Message C)) → out ≡ [] → VotesKept n G.ballots i (compacted s) out → Keeps P n G i (compacted s) out
+  pub cover_keeps : (out : List (Message C)) → out ≡ [] → VotesKept n G.ballots i (compacted s) out → KeepsHistory P n G i (compacted s) out
   cover_keeps out o v = quiet _ out v (omega arith)
       (record { terms = ok.log.terms; rooted = ok.log.rooted; holds = ok.log.holds; based = omega arith; within = ok.log.within; fixed = ok.log.fixed }) ok.role (no_bodies out o)
 
   -- who does nothing owes nothing
-  idle_role : (mode : Mode) → IsIdle mode → ModeOk n G i s.term s.log mode
+  idle_role : (mode : Mode) → KnowsNothing mode → ModeOk n G i s.term s.log mode
   unfolding ModeOk
   idle_role Down h = tt
   idle_role Follower h = tt
@@ -117,8 +117,8 @@ module _ {C : Type 0} (P : List (Entry C) → Type 0) (n : ℕ) (G : History C) 
   idle_role (Leader next match) h = absurd h
 
   -- a crash or a restart
-  pub reset_keeps : (mode : Mode) (out : List (Message C)) → IsIdle mode → out ≡ [] →
-      (let r : Server C = record s { commit = s.covered; known = None; mode = mode } in VotesKept n G.ballots i r out → Keeps P n G i r out)
+  pub reset_keeps : (mode : Mode) (out : List (Message C)) → KnowsNothing mode → out ≡ [] →
+      (let r : Server C = record s { commit = s.covered; known = None; mode = mode } in VotesKept n G.ballots i r out → KeepsHistory P n G i r out)
   reset_keeps mode out h o v = quiet _ out v (omega arith)
       (record {
         terms = ok.log.terms;
@@ -142,7 +142,7 @@ module _ {C : Type 0} (P : List (Entry C) → Type 0) (n : ℕ) (G : History C) 
   refused_body from to term (InstallReply asked at) h = omega (arith, h)
 
   -- a refusal
-  pub refuse_keeps : (x : Message C) → OwesNothing x.body → VotesKept n G.ballots i s (x ∷ []) → Keeps P n G i s (x ∷ [])
+  pub refuse_keeps : (x : Message C) → OwesNothing x.body → VotesKept n G.ballots i s (x ∷ []) → KeepsHistory P n G i s (x ∷ [])
   refuse_keeps x h v = quiet s (x ∷ []) v (omega arith) ok.log ok.role
       (λ k y q. subst (λ z. BodyOk n G z.from z.to z.term z.body) (get-one x k y q) (refused_body x.from x.to x.term x.body h))
 
@@ -193,7 +193,7 @@ module _ {C : Type 0} (P : List (Entry C) → Type 0) (n : ℕ) (G : History C) 
 
   -- a vote counted
   pub count_keeps : (votes : List Bool) (from : ℕ) (out : List (Message C)) → s.mode ≡ Candidate votes → GrantOk n G from i s.term → out ≡ [] →
-      (let r : Server C = record s { mode = Candidate (slice_set votes from true) } in VotesKept n G.ballots i r out → Keeps P n G i r out)
+      (let r : Server C = record s { mode = Candidate (slice_set votes from true) } in VotesKept n G.ballots i r out → KeepsHistory P n G i r out)
   unfolding ModeOk
   count_keeps votes from out mode g o v = quiet _ out v (omega arith) ok.log (counts_role votes from mode g) (no_bodies out o)
 
@@ -260,7 +260,7 @@ module _ {C : Type 0} (P : List (Entry C) → Type 0) (n : ℕ) (G : History C) 
 
   -- an ok
   pub ack_keeps : (next match : List ℕ) (j at : ℕ) (out : List (Message C)) → s.mode ≡ Leader next match → at ≤ G.held s.term j → out ≡ [] →
-      VotesKept n G.ballots i (acked s j at next match) out → Keeps P n G i (acked s j at next match) out
+      VotesKept n G.ballots i (match_raised s j at next match) out → KeepsHistory P n G i (match_raised s j at next match) out
   unfolding ModeOk
   ack_keeps next match j at out mode le o = elim (bool_cases (nat_le at (length s.log))) [
     | inl e ↦ rw e (λ v. quiet _ out v (omega arith) ok.log (acks_role next match j at mode le) (no_bodies out o))
@@ -269,6 +269,6 @@ module _ {C : Type 0} (P : List (Entry C) → Type 0) (n : ℕ) (G : History C) 
 
   -- a refusal heard
   pub back_keeps : (next match : List ℕ) (j at : ℕ) (out : List (Message C)) → s.mode ≡ Leader next match → out ≡ [] →
-      VotesKept n G.ballots i (backed s j at next match) out → Keeps P n G i (backed s j at next match) out
+      VotesKept n G.ballots i (backed_off s j at next match) out → KeepsHistory P n G i (backed_off s j at next match) out
   unfolding ModeOk
   back_keeps next match j at out mode o v = quiet _ out v (omega arith) ok.log (backs_role next match j at mode) (no_bodies out o)

@@ -7,7 +7,7 @@ use Rattle.machine.proofs.Afters.{after_good, Admitted-push}
 use Rattle.machine.specs.declared.entry.Entry.{Entry}
 use Rattle.raft_model.specs.Logs.{MAX, commands, state_after}
 use Rattle.raft_model.specs.Servers.{Server}
-use Rattle.raft_model.specs.Steps.{admitted}
+use Rattle.raft_model.specs.Steps.{admission_refusal}
 use Rattle.raft_safety.proofs.Paths.{bool_cases}
 
 -- the entries were admitted one after the other
@@ -58,14 +58,14 @@ module _ {S C : Type 0} (m : Meaning S C) where
       (Admitted-push m (commands log) e.command h is none (omega (arith, room, commands_length log)))
 
   -- a proposal's tests
-  admitted_told : (s : Server C) (command : C) → admitted m s command ≡ None → (length s.log < MAX) × (m.admission (after m (commands s.log)) command ≡ None)
+  admitted_told : (s : Server C) (command : C) → admission_refusal m s command ≡ None → (length s.log < MAX) × (m.admission (after m (commands s.log)) command ≡ None)
   admitted_told s command h = elim (bool_cases (nat_lt (length s.log) MAX)) [
     | inl e ↦ (ltb-true (length s.log) MAX e, rw e at h)
     | inr e ↦ absurd (let q = rw e at h in cc)
   ]
 
   -- a proposal
-  pub proposal_sound : (s : Server C) (command : C) → m.commands.Fits command → admitted m s command ≡ None → Sound m s.log → Sound m (s.log ++ record { term = s.term; command = command } ∷ [])
+  pub proposal_sound : (s : Server C) (command : C) → m.commands.Fits command → admission_refusal m s command ≡ None → Sound m s.log → Sound m (s.log ++ record { term = s.term; command = command } ∷ [])
   proposal_sound s command is none h = let a = admitted_told s command none in push_sound s.log (record { term = s.term; command = command }) is a.1 a.0 h
 
   -- a new leader's no-op

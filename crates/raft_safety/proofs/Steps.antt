@@ -7,7 +7,7 @@ use Rattle.raft_model.specs.Servers.{Server, is_leader}
 use Rattle.raft_model.specs.Worlds.{World, Event}
 use Rattle.raft_safety.specs.Inner.SmallSteps.{Small, raises, stands, grants_vote, refuses, counts, wins, extends, follows, takes_append, takes_install, acks, backs, advances, covers, beats_all, Path, still, only, after_one, Turns, walks, resets}
 use Rattle.raft_safety.specs.Inner.History.{History, Ledgers, Extends}
-use Rattle.raft_safety.specs.Inner.Invariants.{ServerOk, BodyOk, SentOk, Keeps}
+use Rattle.raft_safety.specs.Inner.Invariants.{ServerOk, BodyOk, SentOk, KeepsHistory}
 use Rattle.raft_safety.proofs.Places.{get_set-cases, set-length, get-split}
 use Rattle.raft_safety.proofs.VoterSteps.{VotesKept, small_votes, reset_votes}
 use Rattle.raft_safety.proofs.Frame.{server_on, message_on, keeps_more, keeps_same}
@@ -21,9 +21,9 @@ use Rattle.raft_safety.proofs.Sound.{Sound, none_sound, first_sound, proposal_so
 
 -- a server and messages given by equations
 shift : {C : Type 0} (P : List (Entry C) → Type 0) (n : ℕ) (G : History C) (i : ℕ) (t r : Server C) (out said : List (Message C)) → t ≡ r → out ≡ said → VotesKept n G.ballots i t out →
-    (VotesKept n G.ballots i r said → Keeps P n G i r said) → Keeps P n G i t out
+    (VotesKept n G.ballots i r said → KeepsHistory P n G i r said) → KeepsHistory P n G i t out
 shift P n G i t r out said e o v f =
-    subst (λ x. Keeps P n G i x out) (sym e) (subst (λ x. Keeps P n G i r x) (sym o)
+    subst (λ x. KeepsHistory P n G i x out) (sym e) (subst (λ x. KeepsHistory P n G i r x) (sym o)
     (f (subst (λ x. VotesKept n G.ballots i r x) o (subst (λ x. VotesKept n G.ballots i x out) e v))))
 
 module _ {S C : Type 0} (m : Meaning S C) (law : LawfulMachine m) (n i : ℕ) (sent : List (Message C)) where
@@ -32,7 +32,7 @@ module _ {S C : Type 0} (m : Meaning S C) (law : LawfulMachine m) (n i : ℕ) (s
   kept_votes G s t out ok given x = small_votes m n G.ballots i sent s ok.voter (λ y came. let g = given y came in g.vote) t out x
 
   -- each small step
-  small_keeps : (G : History C) (s t : Server C) (out : List (Message C)) → Ledgers n G → ServerOk n G i s → SentOk n G sent → VotesKept n G.ballots i t out → Small m n i sent s t out → Keeps (Sound m) n G i t out
+  small_keeps : (G : History C) (s t : Server C) (out : List (Message C)) → Ledgers n G → ServerOk n G i s → SentOk n G sent → VotesKept n G.ballots i t out → Small m n i sent s t out → KeepsHistory (Sound m) n G i t out
   unfolding BodyOk
   small_keeps G s t out I ok given v (raises x came less e o) = shift (Sound m) n G i t _ out out e refl v (raise_keeps (Sound m) n G i s I ok x.term out less o)
   small_keeps G s t out I ok given v (stands term_fits index_fits e o) = shift (Sound m) n G i t _ out _ e o v (stand_keeps (Sound m) n G i s I ok index_fits)
@@ -58,8 +58,8 @@ module _ {S C : Type 0} (m : Meaning S C) (law : LawfulMachine m) (n i : ℕ) (s
   small_keeps G s t out I ok given v (beats_all next match mode e o) = shift (Sound m) n G i t _ out _ e o v (beat_keeps (Sound m) n G i s I ok next match mode)
 
   -- each path
-  pub path_keeps : (t : Server C) (out : List (Message C)) (G : History C) (s : Server C) → Ledgers n G → ServerOk n G i s → SentOk n G sent → Path m n i sent s t out → Keeps (Sound m) n G i t out
-  path_keeps t out G s I ok given (still e o) = subst (λ x. Keeps (Sound m) n G i x out) (sym e) (subst (λ x. Keeps (Sound m) n G i s x) (sym o) (keeps_same (Sound m) n G i s I ok))
+  pub path_keeps : (t : Server C) (out : List (Message C)) (G : History C) (s : Server C) → Ledgers n G → ServerOk n G i s → SentOk n G sent → Path m n i sent s t out → KeepsHistory (Sound m) n G i t out
+  path_keeps t out G s I ok given (still e o) = subst (λ x. KeepsHistory (Sound m) n G i x out) (sym e) (subst (λ x. KeepsHistory (Sound m) n G i s x) (sym o) (keeps_same (Sound m) n G i s I ok))
   path_keeps t out G s I ok given (only x) = small_keeps G s t out I ok given (kept_votes G s t out ok given x) x
   path_keeps t out G s I ok given (after_one r x passes p) =
       let one = small_keeps G s r [] I ok given (kept_votes G s r [] ok given x) x in
@@ -67,7 +67,7 @@ module _ {S C : Type 0} (m : Meaning S C) (law : LawfulMachine m) (n i : ℕ) (s
 
 module _ {S C : Type 0} (m : Meaning S C) (law : LawfulMachine m) (n i : ℕ) (sent : List (Message C)) where
   -- each turn
-  pub turn_keeps : (t : Server C) (out : List (Message C)) (G : History C) (s : Server C) → Ledgers n G → ServerOk n G i s → SentOk n G sent → Turns m n i sent s t out → Keeps (Sound m) n G i t out
+  pub turn_keeps : (t : Server C) (out : List (Message C)) (G : History C) (s : Server C) → Ledgers n G → ServerOk n G i s → SentOk n G sent → Turns m n i sent s t out → KeepsHistory (Sound m) n G i t out
   turn_keeps t out G s I ok given (walks up p) = path_keeps m law n i sent t out G s I ok given p
   turn_keeps t out G s I ok given (resets mode h down e o) = shift (Sound m) n G i t _ out out e refl
       (reset_votes m n G.ballots i sent s ok.voter (λ y came. let g = given y came in g.vote) t out mode h e o) (reset_keeps (Sound m) n G i s I ok mode out h o)
@@ -89,7 +89,7 @@ pub record WorldGoes {S C : Type 0} (m : Meaning S C) (n : ℕ) (G : History C) 
 
 module _ {S C : Type 0} (m : Meaning S C) (law : LawfulMachine m) (n : ℕ) (G : History C) (w : World C) (event : Event C) (next : World C) (ok : WorldOk m n G w) (x : Moves m w event next) where
   -- the server that took the event
-  kept : Keeps (Sound m) n G x.who x.new x.out
+  kept : KeepsHistory (Sound m) n G x.who x.new x.out
   kept = turn_keeps m law n x.who w.sent x.new x.out G x.old ok.ledgers (ok.each x.who x.old x.here) ok.given
       (subst (λ k. Turns m k x.who w.sent x.old x.new x.out) ok.size x.path)
 

@@ -5,8 +5,8 @@ use Rattle.machine.specs.Meaning.{Meaning}
 use Rattle.machine.specs.declared.entry.Entry.{Entry}
 use Rattle.raft_model.specs.Quorums.{marked, is_quorum}
 use Rattle.raft_model.specs.Messages.{Message, Body, VoteRequest, VoteReply, Append, AppendReply, Install, InstallReply}
-use Rattle.raft_model.specs.Servers.{Server, Mode, Follower, Candidate, Leader, stood, vote_request, is_free_for, installed, acked, beat_message, beat_body}
-use Rattle.raft_safety.specs.Inner.SmallSteps.{OwesNothing, IsIdle, WasSent, Small, raises, stands, grants_vote, refuses, counts, wins, extends, follows, takes_append, takes_install, acks, backs, advances, covers, beats_all, Path, still, only, after_one, Turns, walks, resets}
+use Rattle.raft_model.specs.Servers.{Server, Mode, Follower, Candidate, Leader, stood, vote_request_to, is_free_for, installed, match_raised, beat_message, beat_body}
+use Rattle.raft_safety.specs.Inner.SmallSteps.{OwesNothing, KnowsNothing, WasSent, Small, raises, stands, grants_vote, refuses, counts, wins, extends, follows, takes_append, takes_install, acks, backs, advances, covers, beats_all, Path, still, only, after_one, Turns, walks, resets}
 use Rattle.raft_safety.specs.Inner.Ballots.{Ballots, cast, is_for, Elected, VoterMode, Voter, VoteBody, BallotsGrow}
 use Rattle.raft_safety.proofs.Quorums.{quorum_more, quorum_told}
 use Rattle.raft_safety.proofs.Places.{marked_set, only_marked, to_others_is, get-one}
@@ -106,7 +106,7 @@ module _ {S C : Type 0} (m : Meaning S C) (n : ℕ) (B : Ballots) (i : ℕ) (sen
   same_votes = votes_same n B i s.term s.vote s.mode s.mode v v.role
 
   -- who does nothing
-  idle_votes : (mode : Mode) → IsIdle mode → Votes n B i s.term s.vote mode
+  idle_votes : (mode : Mode) → KnowsNothing mode → Votes n B i s.term s.vote mode
   idle_votes mode h = votes_same n B i s.term s.vote s.mode mode v (idle_mode n B i s.term mode h)
 
   -- an Install
@@ -115,7 +115,7 @@ module _ {S C : Type 0} (m : Meaning S C) (n : ℕ) (B : Ballots) (i : ℕ) (sen
 
   -- an ok
   acks_votes : (next match : List ℕ) (j at : ℕ) → s.mode ≡ Leader next match →
-      Votes n B i (acked s j at next match).term (acked s j at next match).vote (acked s j at next match).mode
+      Votes n B i (match_raised s j at next match).term (match_raised s j at next match).vote (match_raised s j at next match).mode
   acks_votes next match j at mode = elim (bool_cases (nat_le at (length s.log))) [ inl e ↦ rw e (leader_votes next match _ _ mode) | inr e ↦ rw e same_votes ]
 
   -- each small step
@@ -124,7 +124,7 @@ module _ {S C : Type 0} (m : Meaning S C) (n : ℕ) (B : Ballots) (i : ℕ) (sen
   small_votes t out (raises x came less e o) = rw e (quiet_out n B i _ out o (votes_raise n B i s.term x.term s.vote s.mode v less))
   small_votes t out (stands term_fits index_fits e o) = rw (e, o) (record {
     votes = stands_votes;
-    says = λ k x h. let r = to_others_is i (vote_request i (stood n i s)) n k x h in rw r.3 tt;
+    says = λ k x h. let r = to_others_is i (vote_request_to i (stood n i s)) n k x h in rw r.3 tt;
   })
   small_votes t out (grants_vote from index its_last came free newer e o) =
       rw (e, o) (says_one n B i _ _ (grants_votes from free) (sym (grants_votes from free).own.stored))
@@ -145,7 +145,7 @@ module _ {S C : Type 0} (m : Meaning S C) (n : ℕ) (B : Ballots) (i : ℕ) (sen
   })
 
   -- a crash or a restart
-  pub reset_votes : (t : Server C) (out : List (Message C)) (mode : Mode) → IsIdle mode → t ≡ record s { commit = s.covered; known = None; mode = mode } → out ≡ [] → VotesKept n B i t out
+  pub reset_votes : (t : Server C) (out : List (Message C)) (mode : Mode) → KnowsNothing mode → t ≡ record s { commit = s.covered; known = None; mode = mode } → out ≡ [] → VotesKept n B i t out
   reset_votes t out mode h e o = rw e (quiet_out n B i _ out o (idle_votes mode h))
 
   -- no step

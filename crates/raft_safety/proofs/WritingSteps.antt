@@ -12,7 +12,7 @@ use Rattle.raft_model.specs.Chains.{Agree}
 use Rattle.raft_safety.specs.Inner.Agreement.{Rooted}
 use Rattle.raft_safety.specs.Inner.Ballots.{Ballots, Elected, VoterMode}
 use Rattle.raft_safety.specs.Inner.History.{History, HasOrDead, Ledgers, Extends, DiffersAt}
-use Rattle.raft_safety.specs.Inner.Invariants.{LogOk, CandidateOk, LeaderOk, ModeOk, ServerOk, Keeps}
+use Rattle.raft_safety.specs.Inner.Invariants.{LogOk, CandidateOk, LeaderOk, ModeOk, ServerOk, KeepsHistory}
 use Rattle.raft_safety.proofs.Functions.{at_same, at_cases, at_other, both_cases, both_same, both_other, both_else}
 use Rattle.raft_safety.proofs.Logs.{agree_none, agree_sym, agree_trans, agree_less, agree_term, rooted_at}
 use Rattle.raft_safety.proofs.Quorums.{quorum_told}
@@ -245,7 +245,7 @@ module _ {C : Type 0} (P : List (Entry C) → Type 0) (n : ℕ) (G : History C) 
     X_role = subst (λ y. ModeOk n H i s.term X y) (sym is) X_leads
 
     -- a leader that writes one entry
-    pub write_keeps : let r : Server C = record s { log = s.log ++ e ∷ []; mode = mode } in Keeps P n G i r out
+    pub write_keeps : let r : Server C = record s { log = s.log ++ e ∷ []; mode = mode } in KeepsHistory P n G i r out
     unfolding H B X write
     write_keeps = record {
       after = H;
@@ -273,7 +273,7 @@ module _ {C : Type 0} (P : List (Entry C) → Type 0) (n : ℕ) (G : History C) 
 module _ {C : Type 0} (P : List (Entry C) → Type 0) (n : ℕ) (G : History C) (i : ℕ) (s : Server C) (I : Ledgers n G) (ok : ServerOk n G i s) where
   -- a proposal
   pub extend_keeps : (next match : List ℕ) (command : C) (out : List (Message C)) → (P s.log → P (s.log ++ record { term = s.term; command = command } ∷ [])) → s.mode ≡ Leader next match → out ≡ [] →
-      (let r : Server C = record s { log = s.log ++ record { term = s.term; command = command } ∷ [] } in VotesKept n G.ballots i r out → Keeps P n G i r out)
+      (let r : Server C = record s { log = s.log ++ record { term = s.term; command = command } ∷ [] } in VotesKept n G.ballots i r out → KeepsHistory P n G i r out)
   extend_keeps next match command out push mode o v =
       let l = as_leader P n G i s I ok next match mode in
       let e : Entry C = record { term = s.term; command = command } in
@@ -303,7 +303,7 @@ module _ {C : Type 0} (P : List (Entry C) → Type 0) (n : ℕ) (G : History C) 
   -- a win
   pub win_keeps : (noop : C) (votes : List Bool) (out : List (Message C)) → P [] → ((k : ℕ) (L : List (Entry C)) → P L → P (take k L)) →
       (length s.log < MAX → P s.log → P (s.log ++ record { term = s.term; command = noop } ∷ [])) → s.mode ≡ Candidate votes → is_quorum n (marked votes) ≡ true → out ≡ [] →
-      VotesKept n G.ballots i (won noop n s) out → Keeps P n G i (won noop n s) out
+      VotesKept n G.ballots i (won noop n s) out → KeepsHistory P n G i (won noop n s) out
   unfolding VoterMode
   win_keeps noop votes out none_sound first_sound push mode many o v =
       let c = as_candidate P n G i s I ok votes mode in

@@ -7,7 +7,7 @@ use Rattle.clap.specs.Kinds.{or_else}
 use Rattle.clap.specs.declared.error.Error.{Error}
 use Rattle.clap.specs.declared.error.kind.ErrorKind.{ErrorKind}
 use Rattle.clap.specs.declared.error.kind.ErrorKind.TheVariants.{OutOfMemory, ValueValidation}
-use Rattle.runner.specs.Words.{AreWorkers, IsAsked, are_workers, miscounts}
+use Rattle.runner.specs.Words.{AreWorkers, IsNamedLine, are_workers, miscounts}
 use Rattle.runner.specs.Inner.Lines.{is_line, is_taken}
 use Rattle.runner.specs.declared.command.CommandLine.{CommandLine}
 use Rattle.runner.specs.declared.command.CommandLine.TheVariants.{Run, Threads, Replay, Draw, Check}
@@ -23,7 +23,7 @@ word_counts n None is = absurd is
 word_counts n (Some word) (least, most, is) = rw is (digit_counts n least most)
 
 -- the line of a subcommand has a number of workers, if it has to have one
-pub line_counts : (named : Option (Text × List Row)) (line : CommandLine) → IsAsked named line → miscounts named ≡ false
+pub line_counts : (named : Option (Text × List Row)) (line : CommandLine) → IsNamedLine named line → miscounts named ≡ false
 line_counts None line is = absurd is
 line_counts (Some (name, rows)) (Run file out) is = rw is.0 refl
 line_counts (Some (name, rows)) (Threads file workers out) is = rw (is.0, word_counts workers (first_of (codes "workers") rows) is.2) refl

@@ -36,8 +36,8 @@ step_job (AnEvent event) = event_job event
 step_job _ = None
 
 -- at least one of the group is put, and no node has room for one
-abbrev pub is_noted : List NodeSpec → Group → Bool
-is_noted nodes g = nat_lt 0 g.count && is_too_large nodes g
+abbrev pub needs_note : List NodeSpec → Group → Bool
+needs_note nodes g = nat_lt 0 g.count && is_too_large nodes g
 
 -- the note of a group of the job that this step puts, steps being counted from 1
 abbrev pub note_of : ℕ → List ℕ → Group → TooLarge
@@ -45,7 +45,7 @@ note_of number job g = record { step = number; job = job; group = g.name; class 
 
 -- the notes of a job that this step puts, in the order of its groups
 abbrev pub job_notes : List NodeSpec → ℕ → JobSpec → List TooLarge
-job_notes nodes number job = map (note_of number job.name) (filter (is_noted nodes) job.groups)
+job_notes nodes number job = map (note_of number job.name) (filter (needs_note nodes) job.groups)
 
 -- the notes of a step: those of the job that it puts, if it puts one
 abbrev pub step_notes : List NodeSpec → ℕ → Step → List TooLarge

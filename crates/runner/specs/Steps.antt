@@ -13,10 +13,10 @@ pub data Step : Type 0 where
   Work : (server : ℕ) → Step
   Flow : (count : Option ℕ) → Step
 
-abbrev pub step_of : ReadStep → Step
-step_of (steps.Event event) = AnEvent (group_event event)
-step_of (steps.Work server) = Work server
-step_of (steps.Flow count) = Flow count
+abbrev pub played_step : ReadStep → Step
+played_step (steps.Event event) = AnEvent (group_event event)
+played_step (steps.Work server) = Work server
+played_step (steps.Flow count) = Flow count
 
 -- the one line of a step whose values are within their limits
 abbrev pub IsLine : Step → List ℕ → Type 0

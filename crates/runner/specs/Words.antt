@@ -87,9 +87,9 @@ IsLineFor name rows (Draw file) =
 IsLineFor name rows (Check file) =
     (name ≡ codes "check") × (first_of (codes "FILE") rows ≡ Some file.now)
 
-abbrev pub IsAsked : Option (Text × List Row) → CommandLine → Type 0
-IsAsked None line = ⊥
-IsAsked (Some named) line = IsLineFor named.0 named.1 line
+abbrev pub IsNamedLine : Option (Text × List Row) → CommandLine → Type 0
+IsNamedLine None line = ⊥
+IsNamedLine (Some named) line = IsLineFor named.0 named.1 line
 
 -- whether the subcommand is `threads`, with a number of workers that is none: one that `clap`
 -- reads, with a sign or a zero in front
@@ -101,7 +101,7 @@ miscounts (Some named) =
 
 -- what the words ask for, the program's own name first
 abbrev pub AskFor : List Text → CommandLine → Type 0
-AskFor words line = IsAsked (subcommand_of nomadsim_app words) line
+AskFor words line = IsNamedLine (subcommand_of nomadsim_app words) line
 
 -- the line asks that steps or events be taken
 abbrev pub IsPlay : CommandLine → Type 0

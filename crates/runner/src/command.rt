@@ -4,7 +4,7 @@ ghost use Rattle.clap.specs.Words.{FailsBy, app_of, first_of, found_of, kind_of,
 ghost use Rattle.clap.specs.declared.builder.command.Command.TheViews.{out-Command};
 ghost use Rattle.clap.specs.declared.error.kind.ErrorKind.TheVariants.{OutOfMemory};
 ghost use Rattle.runner.specs.Inner.Lines.{is_line, is_taken};
-ghost use Rattle.runner.specs.Words.{AreWorkers, AskFor, IsAsked, IsLineFor, are_workers, check_app, draw_app, nomadsim_app, out_option, replay_app, required_word, run_app, threads_app, words_fault, workers_option};
+ghost use Rattle.runner.specs.Words.{AreWorkers, AskFor, IsNamedLine, IsLineFor, are_workers, check_app, draw_app, nomadsim_app, out_option, replay_app, required_word, run_app, threads_app, words_fault, workers_option};
 
 use clap::builder::ValueParser;
 use clap::error::ErrorKind;
@@ -415,7 +415,7 @@ fn check_line<'a>(given: &ArgMatches<'a>) -> Option<CommandLine<'a>>
 }
 
 fn line_of<'a>(matches: &ArgMatches<'a>) -> Option<CommandLine<'a>>
-    ensures some { IfSome result (IsAsked (subcommand_rows_of matches.now)) }
+    ensures some { IfSome result (IsNamedLine (subcommand_rows_of matches.now)) }
     ensures none { IfNone result (is_taken (subcommand_rows_of matches.now) ≡ false) }
 {
     let (name, given) = matches.subcommand()?;

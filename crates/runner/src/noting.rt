@@ -4,9 +4,9 @@ ghost use Rattle.std.specs.List.{list_any};
 ghost use Rattle.server.specs.Handings.{handing};
 ghost use Rattle.world.specs.GroupEvents.{server_input};
 ghost use Rattle.runner.specs.Inner.Grown.{GrowsByOwed};
-ghost use Rattle.runner.specs.Notes.{AreLineNotes, AreNotes, input_job, is_noted, job_notes, note_of, step_job, step_notes};
+ghost use Rattle.runner.specs.Notes.{AreLineNotes, AreNotes, input_job, needs_note, job_notes, note_of, step_job, step_notes};
 ghost use Rattle.runner.specs.Rooms.{can_hold, is_too_large};
-ghost use Rattle.runner.specs.Steps.{step_of};
+ghost use Rattle.runner.specs.Steps.{played_step};
 
 use crate::scenario::Scenario;
 use crate::step::{Step, read_step};
@@ -117,7 +117,7 @@ fn note_step(
     found: &mut Vec<TooLarge>,
 ) -> Result<(), NoMemory>
     ensures { OnOk result (found.new.items
-        ≡ found.old.items ++ step_notes nodes.now number (step_of step.now)) }
+        ≡ found.old.items ++ step_notes nodes.now number (played_step step.now)) }
 {
     match job_of_step(step) {
         Some(job) => note_groups(number, job, nodes, found),
@@ -127,7 +127,7 @@ fn note_step(
 
 // The job that a step puts, if it puts one.
 fn job_of_step(step: &Step) -> Option<&JobSpec>
-    ensures { option_map (λ job. job.now) result ≡ step_job (step_of step.now) }
+    ensures { option_map (λ job. job.now) result ≡ step_job (played_step step.now) }
 {
     match step {
         Step::Event(Event::Server(_, input)) => job_of_input(input.as_ref()),
@@ -171,7 +171,7 @@ fn note_group(
     found: &mut Vec<TooLarge>,
 ) -> Result<(), NoMemory>
     ensures { OnOk result (found.new.items ≡ found.old.items
-        ++ (if is_noted nodes.now group.now then note_of step job group.now ∷ [] else [])) }
+        ++ (if needs_note nodes.now group.now then note_of step job group.now ∷ [] else [])) }
 {
     if is_noted(nodes, group) {
         found.push(TooLarge {
@@ -187,7 +187,7 @@ fn note_group(
 
 // Whether a group that a step puts is noted.
 fn is_noted(nodes: &[NodeSpec], group: &Group) -> bool
-    ensures { result ≡ is_noted nodes.now group.now }
+    ensures { result ≡ needs_note nodes.now group.now }
 {
     group.count.get() > 0 && is_too_large(nodes, group)
 }

@@ -12,7 +12,7 @@ ghost use Rattle.runner.specs.Inner.Files.{IsScenarioFile};
 ghost use Rattle.runner.specs.Inner.Plays.{IsNewPlay, MakesGroup};
 ghost use Rattle.runner.specs.Inner.Printed.{TellsSteps, refusal_line};
 ghost use Rattle.runner.specs.Objects.{IsScenarioText, step_lines};
-ghost use Rattle.runner.specs.Steps.{IsLine, Step as AnyStep, step_of};
+ghost use Rattle.runner.specs.Steps.{IsLine, Step as AnyStep, played_step};
 
 use crate::ending::print_end;
 use crate::fault::{Fault, said};
@@ -153,9 +153,9 @@ fn scenario_of_text<'a>(alloc: Global, text: &str) -> Result<Scenario, Fault<'a>
 
 // The step of a line.
 fn step_of<'a>(alloc: Global, line: &str) -> Result<Step, Fault<'a>>
-    ensures named { IfOk result (λ step. IsLine (step_of step) line.now) }
+    ensures named { IfOk result (λ step. IsLine (played_step step) line.now) }
     ensures read { (step : AnyStep) → IsLine step line.now
-        → IfOk result (λ read. step_of read ≡ step) }
+        → IfOk result (λ read. played_step read ≡ step) }
     ensures fault { IfErr result (MayStopReading (IsStepLine line.now)) }
 {
     match read_step(alloc, line)? {

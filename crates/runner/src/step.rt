@@ -5,7 +5,7 @@ ghost use Rattle.group_model.specs.Worlds.{Event as AnyEvent};
 ghost use Rattle.world.specs.GroupEvents.{group_event};
 ghost use Rattle.runner.specs.declared.step.Step.TheVariants as steps;
 ghost use Rattle.runner.specs.Complaints.{IsStepLine};
-ghost use Rattle.runner.specs.Steps.{AnEvent, IsLine, Step as AnyStep, step_of};
+ghost use Rattle.runner.specs.Steps.{AnEvent, IsLine, Step as AnyStep, played_step};
 
 use rows::{NoMemory, Refusal, ServerId};
 use server::ServerInput;
@@ -29,9 +29,9 @@ pub enum Step {
 /// Reads the line of a step: exactly the one text of each step, with one space between words and
 /// numbers in decimal without leading zeros.
 pub fn read_step(alloc: Global, line: &str) -> Result<Option<Step>, NoMemory>
-    ensures named { IfOk result (λ read. IfSome read (λ step. IsLine (step_of step) line.now)) }
+    ensures named { IfOk result (λ read. IfSome read (λ step. IsLine (played_step step) line.now)) }
     ensures read { (step : AnyStep) → IsLine step line.now
-        → IfOk result (λ read. option_map step_of read ≡ Some step) }
+        → IfOk result (λ read. option_map played_step read ≡ Some step) }
 {
     if line == "flow" {
         return Ok(Some(Step::Flow(None)));
@@ -65,9 +65,9 @@ pub(crate) fn is_step(alloc: Global, line: &str) -> Result<bool, NoMemory>
 
 // A step that is an event.
 fn read_event_step(alloc: Global, line: &str) -> Result<Option<Step>, NoMemory>
-    ensures named { IfOk result (λ read. IfSome read (λ step. IsLine (step_of step) line.now)) }
+    ensures named { IfOk result (λ read. IfSome read (λ step. IsLine (played_step step) line.now)) }
     ensures read { (event : AnyEvent) → IsEventLine event line.now
-        → IfOk result (λ read. option_map step_of read ≡ Some (AnEvent event)) }
+        → IfOk result (λ read. option_map played_step read ≡ Some (AnEvent event)) }
 {
     match read_event(alloc, line) {
         Ok(event) => Ok(Some(Step::Event(event))),

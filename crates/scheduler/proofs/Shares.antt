@@ -26,7 +26,7 @@ use Rattle.fsm_state.proofs.Alone.{ended_sum, gone_sum}
 use Rattle.group_model.specs.Acceptance.{claim_at, place_claims}
 use Rattle.group_model.specs.Scheduling.{PlanPart, with_stop, claimed_by}
 use Rattle.scheduler.specs.declared.load.Load.{Load}
-use Rattle.scheduler.specs.Inner.Loads.{load_of, less, more, sum_within}
+use Rattle.scheduler.specs.Inner.Loads.{load_of, less, with_load, sum_within}
 use Rattle.scheduler.specs.Inner.Growing.{fresh, IsLiveRow}
 
 -- ---- one more stop
@@ -66,14 +66,14 @@ module _ (w : Claim → ℕ) (rows : List Allocation) (rising : T (is_rising all
       → sum_by w (claims (map (stop (ids ++ a.id ∷ [])) rows)) + cond (list_any (same_alloc a.id) ids) 0 (w (claim_of a)) ≡ sum_by w (claims (map (stop ids) rows))
   one_stops ids a live found =
       let all = split ids in
-      let more = split_last ids a.id in
+      let with_load = split_last ids a.id in
       elim (list_any (same_alloc a.id) ids) as (λ b. sum_by w (ended_by (a.id ∷ ids) rows) ≡ sum_by w (cond b (ended_by ids rows) (claim_if_live (row_of alloc_cmp alloc_id a.id rows) (ended_by ids rows)))
       → sum_by w (claims (map (stop (ids ++ a.id ∷ [])) rows)) + cond b 0 (w (claim_of a)) ≡ sum_by w (claims (map (stop ids) rows))) [
-        | true ↦ λ e. omega (arith, all, more, e)
+        | true ↦ λ e. omega (arith, all, with_load, e)
         | false ↦ λ e.
             let share : sum_by w (claim_if_live (row_of alloc_cmp alloc_id a.id rows) (ended_by ids rows)) ≡ w (claim_of a) + sum_by w (ended_by ids rows) =
             ap (λ o. sum_by w (claim_if_live o (ended_by ids rows))) found ∙ live_share w a (ended_by ids rows) live in
-            omega (arith, all, more, e, share)
+            omega (arith, all, with_load, e, share)
       ] refl
 
 -- ---- loads once one more stops
@@ -129,10 +129,10 @@ module _ (s : State) (job : List ℕ) (p : PlanPart) where
       let kept = claims (map (stop p.stops) s.allocs) in
       let new = sum_by-append w kept (place_claims job (p.places ++ k ∷ [])) in
       let old = sum_by-append w kept (place_claims job p.places) in
-      let more : sum_by w (place_claims job (p.places ++ k ∷ [])) ≡ sum_by w (place_claims job p.places) + sum_by w (claim_at job k ∷ []) =
+      let with_load : sum_by w (place_claims job (p.places ++ k ∷ [])) ≡ sum_by w (place_claims job p.places) + sum_by w (claim_at job k ∷ []) =
       ap (sum_by w) (map-append (claim_at job) p.places (k ∷ [])) ∙ sum_by-append w (place_claims job p.places) (claim_at job k ∷ []) in
       let one = sum_by-cons w (claim_at job k) [] in
-      omega (arith, new, old, more, one)
+      omega (arith, new, old, with_load, one)
 
 least : (a b : ℕ) → a + b ≤ 1000000 → sum_within a b ≡ a + b
 least a b le = grind arith
@@ -146,7 +146,7 @@ pub record HasRoomFor (cs : List Claim) (k : AcceptedPlace) : Type 0 where
   pub mem : (used k.node cs).mem + k.size.mem ≤ 1000000
 
 more_share : (k : AcceptedPlace) (cs : List Claim) (n : Node) (d f : ℕ) → HasRoomFor cs k → d ≡ (used n.number cs).cpu + cond (nat_eq k.node n.number) k.size.cpu 0 → f ≡ (used n.number cs).mem + cond (nat_eq k.node n.number) k.size.mem 0
-    → more k (load_of cs n) ≡ loaded n d f
+    → with_load k (load_of cs n) ≡ loaded n d f
 more_share k cs n d f room =
     elim (nat_eq k.node n.number) as (λ b. nat_eq k.node n.number ≡ b → d ≡ (used n.number cs).cpu + cond b k.size.cpu 0 → f ≡ (used n.number cs).mem + cond b k.size.mem 0
     → cond b (loaded n (sum_within (used n.number cs).cpu k.size.cpu) (sum_within (used n.number cs).mem k.size.mem)) (load_of cs n) ≡ loaded n d f) [
@@ -159,9 +159,9 @@ more_share k cs n d f room =
     ] refl
 
 pub loads_more : (s : State) (job : List ℕ) (p : PlanPart) (k : AcceptedPlace) (ns : List Node) → HasRoomFor (claimed_by s job p) k
-    → map (more k) (map (load_of (claimed_by s job p)) ns) ≡ map (load_of (claimed_by s job (record p { places = p.places ++ k ∷ [] }))) ns
+    → map (with_load k) (map (load_of (claimed_by s job p)) ns) ≡ map (load_of (claimed_by s job (record p { places = p.places ++ k ∷ [] }))) ns
 loads_more s job p k ns room =
-    maps (more k) (load_of (claimed_by s job p)) ns
+    maps (with_load k) (load_of (claimed_by s job p)) ns
     ∙ (λ i. map (λ n. more_share k (claimed_by s job p) n _ _ room (places_of s job p (on_node n.number (λ z. z.cpu)) k) (places_of s job p (on_node n.number (λ z. z.mem)) k) i) ns)
 
 -- ---- without a plan

@@ -3,7 +3,7 @@ ghost use Rattle.std.specs.Prelude.{◌≡◌, ◌++◌, ◌∷◌, [], IfOk, On
 ghost use Rattle.std.specs.List.{list_any};
 ghost use Rattle.cluster_model.specs.Words.{same_alloc};
 ghost use Rattle.group_model.specs.Scheduling.{is_full, with_stop, first_part, IsNext, GoesOn};
-ghost use Rattle.scheduler.specs.Inner.Loads.{less, more};
+ghost use Rattle.scheduler.specs.Inner.Loads.{less, with_load};
 ghost use Rattle.scheduler.specs.Inner.Growing.{part_of, fresh, first_unwanted, AreLoads, AreLiveRows};
 
 use crate::load::{Load, best, loads_of, put_on, take_off};
@@ -75,7 +75,7 @@ fn stop(plan: &mut Growing, row: Option<&Allocation>) -> Result<(), NoMemory>
 fn add_place(plan: &mut Growing, place: AcceptedPlace) -> Result<(), NoMemory>
     ensures stops { OnOk result (plan.new.stops ≡ plan.old.stops) }
     ensures places { OnOk result (plan.new.places ≡ plan.old.places ++ place ∷ []) }
-    ensures loads { OnOk result (plan.new.loads.items ≡ map (more place) plan.old.loads.items) }
+    ensures loads { OnOk result (plan.new.loads.items ≡ map (with_load place) plan.old.loads.items) }
 {
     put_on(&mut plan.loads, &place);
     plan.places.push(place)

@@ -4,7 +4,7 @@ ghost use Rattle.std.specs.Prelude.{IfOk, IfNone, IfSome};
 ghost use Rattle.fsm_tables.specs.Claims.{claims};
 ghost use Rattle.cluster_model.specs.Admission.{may_hold};
 ghost use Rattle.group_model.specs.Scheduling.{fullness};
-ghost use Rattle.scheduler.specs.Inner.Loads.{load_of, less, more, takes_one_of, fullness_on, IsBestOf};
+ghost use Rattle.scheduler.specs.Inner.Loads.{load_of, less, with_load, takes_one_of, fullness_on, IsBestOf};
 
 use fsm_state::Cluster;
 use rows::{AcceptedPlace, Allocation, Group, NoMemory, Node, NodeStatus, Ranged, Size};
@@ -89,7 +89,7 @@ impl Load {
 
     /// What is in use with what a place takes.
     fn more(&self, place: &AcceptedPlace) -> Load
-        ensures { result ≡ more place.now self.now }
+        ensures { result ≡ with_load place.now self.now }
     {
         if place.node == self.node.number {
             Load {
@@ -172,7 +172,7 @@ pub(crate) fn take_off(loads: &mut [Load], row: Option<&Allocation>)
 
 /// Puts on what a place takes.
 pub(crate) fn put_on(loads: &mut [Load], place: &AcceptedPlace)
-    ensures { loads.new ≡ map (more place.now) loads.old }
+    ensures { loads.new ≡ map (with_load place.now) loads.old }
 {
     for load in loads.iter_mut() {
         *load = load.more(place);

@@ -13,7 +13,7 @@ use Rattle.wire.specs.declared.kind.Kind.{Kind}
 use Rattle.wire.specs.declared.kind.Kind.TheVariants as kinds
 use Rattle.raft_model.specs.Messages.{Message, to_others}
 use Rattle.raft_model.specs.Logs.{MAX}
-use Rattle.raft_model.specs.Servers.{Server, Turn as RaftTurn, is_up, is_leader, crashed, silent, stood, vote_request}
+use Rattle.raft_model.specs.Servers.{Server, Turn as RaftTurn, is_up, is_leader, crashed, silent, stood, vote_request_to}
 use Rattle.raft_model.specs.Steps as raft_steps
 use Rattle.raft_core.specs.Frames.{Means}
 use Rattle.raft_core.specs.Inputs.{Own}
@@ -115,7 +115,7 @@ module _ (old new : ServerView) (before after : Outbox) (up : is_up old.raft.ser
     up = up;
     follows = follows;
     room = room_by (is_up old.raft.server.mode) (is_leader old.raft.server.mode) (nat_lt old.raft.server.term MAX && nat_lt (length old.raft.server.log) MAX)
-        (Ok (silent old.raft.server)) (Ok (record { server = stood old.raft.size old.raft.me old.raft.server; sent = to_others old.raft.me (vote_request old.raft.me (stood old.raft.size old.raft.me old.raft.server)) old.raft.size }))
+        (Ok (silent old.raft.server)) (Ok (record { server = stood old.raft.size old.raft.me old.raft.server; sent = to_others old.raft.me (vote_request_to old.raft.me (stood old.raft.size old.raft.me old.raft.server)) old.raft.size }))
         (raft_steps.wakes old.raft.server raft_steps.Timeout) refusals.Exhausted up follows none;
   }
 

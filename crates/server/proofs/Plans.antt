@@ -11,7 +11,7 @@ use Rattle.rows.specs.declared.refusal.Refusal.{Refusal}
 use Rattle.rows.specs.declared.refusal.Refusal.TheVariants as refusals
 use Rattle.rows.specs.declared.worker.AskedRequest.TheVariants as asked
 use Rattle.rows.specs.declared.worker.WorkerResponse.TheVariants.{Refused}
-use Rattle.raft_model.specs.Steps.{admitted}
+use Rattle.raft_model.specs.Steps.{admission_refusal}
 use Rattle.cluster_model.specs.Words.{State}
 use Rattle.cluster_model.specs.ClusterMachine.{cluster_meaning}
 use Rattle.group_model.specs.Messages.{BetweenServers, Answers}
@@ -65,16 +65,16 @@ module _ (old new : ServerView) (before after : Outbox) (from : ℕ) (p : Accept
         let is = settling_is o.0 o.1 in
         let said = rw (told_is (suc (length old.raft.server.log))) at sent in
         let q : IsProposed old.raft.server (plan_command w.plan a) new.raft.server = subst (λ (x : AcceptedPlan). IsProposed old.raft.server (commands.Plan x) new.raft.server) k.plan proposed in
-        let free : admitted cluster_meaning old.raft.server (plan_command w.plan a) ≡ None = q.admitted in
+        let free : admission_refusal cluster_meaning old.raft.server (plan_command w.plan a) ≡ None = q.admitted in
         rw (is, some, free) (does_proposed old new before after (plan_command w.plan a) (told_result old.raft.me w (suc (length old.raft.server.log)) a ∷ []) (Some o.0.desk) q (ap group_desk (desk ∙ o.1)) said work)
 
-    refused_as : (e : Refusal) → admitted cluster_meaning old.raft.server (commands.Plan p) ≡ Some e → new.raft.server ≡ old.raft.server → new.desk ≡ old.desk →
+    refused_as : (e : Refusal) → admission_refusal cluster_meaning old.raft.server (commands.Plan p) ≡ Some e → new.raft.server ≡ old.raft.server → new.desk ≡ old.desk →
         SendsOne before.frames after.frames (BetweenServers old.raft.me from (Answers (Refused (asked.Submit p.eval p.token) (reason_of e)))) → DoesAct old (settling old (record { queued = w; kept = Ok a })) new before after
     refused_as e why same desk sent =
         let o = open_of old.desk h.is_open in
         let is = settling_is o.0 o.1 in
         let said = rw (refusal_is e) at sent in
-        let because : admitted cluster_meaning old.raft.server (plan_command w.plan a) ≡ Some e = subst (λ (x : AcceptedPlan). admitted cluster_meaning old.raft.server (commands.Plan x) ≡ Some e) k.plan why in
+        let because : admission_refusal cluster_meaning old.raft.server (plan_command w.plan a) ≡ Some e = subst (λ (x : AcceptedPlan). admission_refusal cluster_meaning old.raft.server (commands.Plan x) ≡ Some e) k.plan why in
         rw (is, some, because) (does_alone old new before after (told_refusal old.raft.me w e ∷ []) (Some o.0.desk) [] same (ap group_desk (desk ∙ o.1)) said (work ∙ sym (append-nil before.work)))
 
     -- the log refuses it

@@ -24,7 +24,7 @@ module _ (n me : ℕ) (s : Server Command) (c : Command) (up : is_up s.mode ≡ 
   step_is : raft_steps.step cluster_meaning n me s (raft_steps.Propose c) ≡ raft_steps.proposes cluster_meaning s c
   step_is = ap (λ b. if b then raft_steps.proposes cluster_meaning s c else Err refusals.Down) up
 
-  taken_at : (leads : Bool) (a : Option Refusal) (turn : Turn Command) → is_leader s.mode ≡ leads → raft_steps.admitted cluster_meaning s c ≡ a → (if leads then raft_steps.unless a (silent (extended s c)) else Err (refusals.NotLeader s.known)) ≡ Ok turn → IsProposed s c turn.server
+  taken_at : (leads : Bool) (a : Option Refusal) (turn : Turn Command) → is_leader s.mode ≡ leads → raft_steps.admission_refusal cluster_meaning s c ≡ a → (if leads then raft_steps.unless a (silent (extended s c)) else Err (refusals.NotLeader s.known)) ≡ Ok turn → IsProposed s c turn.server
   taken_at true None turn leads admitted h = record { leads = leads; admitted = admitted; log = sym (ap (λ (t : Turn Command). t.server) (same h)) } where
     same : {a b : Turn Command} → (let x : Result (Turn Command) Refusal = Ok a in x ≡ Ok b) → a ≡ b
     same h = cc
@@ -33,7 +33,7 @@ module _ (n me : ℕ) (s : Server Command) (c : Command) (up : is_up s.mode ≡ 
 
   -- a proposal that is taken was admitted, and the log is longer by it
   pub proposed : (turn : Turn Command) → raft_steps.step cluster_meaning n me s (raft_steps.Propose c) ≡ Ok turn → IsProposed s c turn.server
-  proposed turn h = taken_at (is_leader s.mode) (raft_steps.admitted cluster_meaning s c) turn refl refl (sym step_is ∙ h)
+  proposed turn h = taken_at (is_leader s.mode) (raft_steps.admission_refusal cluster_meaning s c) turn refl refl (sym step_is ∙ h)
 
   why : (r : Result (Turn Command) Refusal) (cause : Refusal) → refusal_by r ≡ Some cause → r ≡ Err cause
   why (Ok turn) cause h = absurd (cc)

@@ -48,10 +48,10 @@ why_by None turn cause h = absurd cc
 why_by (Some r) turn cause h = ap (λ (x : Refusal). Some x) (same_refusal h)
 
 -- a refusal but want of memory is that of the definitions
-pub refused_why : (s : Server Command) (c : Command) (cause : Refusal) → is_leader s.mode ≡ true → cause ≢ refusals.NoMemory → WhyNotProposed s c cause → raft_steps.admitted cluster_meaning s c ≡ Some cause
+pub refused_why : (s : Server Command) (c : Command) (cause : Refusal) → is_leader s.mode ≡ true → cause ≢ refusals.NoMemory → WhyNotProposed s c cause → raft_steps.admission_refusal cluster_meaning s c ≡ Some cause
 refused_why s c cause leads other h =
     let why = why_not s c cause other h in
-    why_by (raft_steps.admitted cluster_meaning s c) (silent (extended s c)) cause (rw leads at why)
+    why_by (raft_steps.admission_refusal cluster_meaning s c) (silent (extended s c)) cause (rw leads at why)
 
 -- ---- acts that are done
 
@@ -76,7 +76,7 @@ module _ (old new : ServerView) (before after : Outbox) where
       let s = old.raft.server in
       let up : is_up s.mode ≡ true = leader_up s.mode p.leads in
       let leads : is_leader s.mode ≡ true = p.leads in
-      let admitted : raft_steps.admitted cluster_meaning s c ≡ None = p.admitted in
+      let admitted : raft_steps.admission_refusal cluster_meaning s c ≡ None = p.admitted in
       let step : raft_steps.step cluster_meaning old.raft.size old.raft.me s (raft_steps.Propose c) ≡ Ok (silent (extended s c)) = rw (up, leads, admitted) refl in
       let act : Act = record { ask = Some (AskPropose c); desk = d; sent = services; work = [] } in
       record {

@@ -8,7 +8,7 @@ use Rattle.rows.specs.declared.refusal.Refusal.{Refusal}
 use Rattle.rows.specs.declared.refusal.Refusal.TheVariants as refusals
 use Rattle.rows.specs.declared.worker.ClientRequestKind.{ClientRequestKind}
 use Rattle.raft_model.specs.Servers.{is_leader}
-use Rattle.raft_model.specs.Steps.{admitted}
+use Rattle.raft_model.specs.Steps.{admission_refusal}
 use Rattle.cluster_model.specs.ClusterMachine.{cluster_meaning}
 use Rattle.group_model.specs.ClientRequests.{tells, answers, is_taken_already, proposes_for}
 use Rattle.group_model.specs.Desks.{whole_state}
@@ -27,10 +27,10 @@ module _ (old new : ServerView) (before after : Outbox) (client : ℕ) (kind : C
       else if taken then answers old.raft.me client kind None (group_desk old.desk)
       else proposes_for old.raft.me client kind command (group_desk old.desk) r
 
-  write_is : (e : Refusal) → is_leader old.raft.server.mode ≡ true → is_taken_already (whole_state old.raft.server) command ≡ false → admitted cluster_meaning old.raft.server command ≡ Some e → write_act old client kind command ≡ Ok (answers old.raft.me client kind (Some e) (group_desk old.desk))
+  write_is : (e : Refusal) → is_leader old.raft.server.mode ≡ true → is_taken_already (whole_state old.raft.server) command ≡ false → admission_refusal cluster_meaning old.raft.server command ≡ Some e → write_act old client kind command ≡ Ok (answers old.raft.me client kind (Some e) (group_desk old.desk))
   write_is e leads fresh why =
-      ap (λ b. act_taken (by b (is_taken_already (whole_state old.raft.server) command) (admitted cluster_meaning old.raft.server command))) leads
-      ∙ ap (λ b. act_taken (by true b (admitted cluster_meaning old.raft.server command))) fresh
+      ap (λ b. act_taken (by b (is_taken_already (whole_state old.raft.server) command) (admission_refusal cluster_meaning old.raft.server command))) leads
+      ∙ ap (λ b. act_taken (by true b (admission_refusal cluster_meaning old.raft.server command))) fresh
       ∙ ap (λ r. act_taken (by true false r)) why
 
   -- the log refuses the command

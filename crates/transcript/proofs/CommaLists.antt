@@ -5,12 +5,12 @@ use Rattle.std.proofs.lemmas.Bool.{ne_eqb}
 use Rattle.std.proofs.lemmas.List.{map-append}
 use Rattle.std.proofs.lemmas.List.Elements.{All-append, All-cons}
 use Rattle.std.proofs.lemmas.List.Splits.{slice_split_at, slice_split_none}
-use Rattle.transcript.specs.Inner.Plain.{IsNoDash, IsPlain, IsWithout}
+use Rattle.transcript.specs.Inner.Plain.{IsNoDash, IsPlainWord, IsWithout}
 use Rattle.transcript.specs.WorkerLines.{comma_list}
 
 -- each item of a type has a text of one word
 abbrev pub ArePlain : {A : Type 0} → (A → Type 0) → (A → List ℕ) → Type 0
-ArePlain {A} Fits spelling = (x : A) → Fits x → IsPlain (spelling x)
+ArePlain {A} Fits spelling = (x : A) → Fits x → IsPlainWord (spelling x)
 
 no_comma : (text : List ℕ) → IsWithout 44 text → All (λ b. eqb b 44 ≡ false) text
 no_comma text lacks k d lt = ne_eqb (get_or text k d) 44 (lacks k d lt)

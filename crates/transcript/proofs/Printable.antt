@@ -24,7 +24,7 @@ use Rattle.rows.specs.declared.worker.EvalOutcome.TheVariants.{Blocked, Complete
 use Rattle.group_model.specs.Worlds.{Event, Deliver, AtServer, AtClient}
 use Rattle.group_model.specs.Inputs as servers
 use Rattle.group_model.specs.Clients as clients
-use Rattle.transcript.specs.EventLines.{ClientInputHasLine, HasLine, ServerFits, ServerInputHasLine, client_text, client_words, end_text, event_line, event_words, server_text, server_words}
+use Rattle.transcript.specs.EventLines.{ClientInputHasLine, HasLine, ServerFits, ServerInputHasLine, client_text, client_event_words, end_text, event_line, event_words, server_text, server_event_words}
 use Rattle.transcript.specs.Inner.Printable.{IsPrintable}
 use Rattle.transcript.specs.Requests.{RequestFits, drain_text, group_text, groups_text, job_text, mode_text, request_text}
 use Rattle.transcript.specs.Transcripts.{node_line}
@@ -156,7 +156,7 @@ plan p fits = (eval p.eval fits.0, (token p.token fits.1, (name_printable p.job 
 
 -- ---- events
 
-at_server : (s : ℕ) (input : servers.Input) → ServerFits s → ServerInputHasLine input → ArePrintable (server_words s input)
+at_server : (s : ℕ) (input : servers.Input) → ServerFits s → ServerInputHasLine input → ArePrintable (server_event_words s input)
 at_server s (servers.Arrives message) at fits = absurd fits
 at_server s servers.Timeout at fits = (word (codes "timeout") refl, (server s at, tt))
 at_server s servers.Beat at fits = (word (codes "beat") refl, (server s at, tt))
@@ -177,7 +177,7 @@ at_server s servers.Compact at fits = absurd fits
 at_server s servers.Crash at fits = (word (codes "crash") refl, (server s at, tt))
 at_server s servers.Restart at fits = (word (codes "restart") refl, (server s at, tt))
 
-at_client : (c : ℕ) (input : clients.Input) → NodeIdFits c → ClientInputHasLine input → ArePrintable (client_words c input)
+at_client : (c : ℕ) (input : clients.Input) → NodeIdFits c → ClientInputHasLine input → ArePrintable (client_event_words c input)
 at_client c (clients.Arrives from response) at fits = absurd fits
 at_client c (clients.RegisterAt s) at fits = (word (codes "register") refl, (node_id c at, (server s fits, tt)))
 at_client c (clients.Ping s) at fits = (word (codes "ping") refl, (node_id c at, (server s fits, tt)))

@@ -26,42 +26,42 @@ end_text true = codes "complete"
 end_text false = codes "failed"
 
 -- the words of an input of server s; no line says that a message arrives, or that a log is cut
-abbrev pub server_words : ℕ → servers.Input → List (List ℕ)
-server_words s (servers.Arrives message) = []
-server_words s servers.Timeout = codes "timeout" ∷ server_text s ∷ []
-server_words s servers.Beat = codes "beat" ∷ server_text s ∷ []
-server_words s (servers.Request request) = codes "request" ∷ server_text s ∷ request_text request ∷ []
-server_words s (servers.TakeFrom to) = codes "take" ∷ server_text s ∷ server_text to ∷ []
-server_words s (servers.SubmitTo to plan) = codes "submit" ∷ server_text s ∷ server_text to ∷ plan_words plan
-server_words s (servers.FinishAt to eval token outcome) =
+abbrev pub server_event_words : ℕ → servers.Input → List (List ℕ)
+server_event_words s (servers.Arrives message) = []
+server_event_words s servers.Timeout = codes "timeout" ∷ server_text s ∷ []
+server_event_words s servers.Beat = codes "beat" ∷ server_text s ∷ []
+server_event_words s (servers.Request request) = codes "request" ∷ server_text s ∷ request_text request ∷ []
+server_event_words s (servers.TakeFrom to) = codes "take" ∷ server_text s ∷ server_text to ∷ []
+server_event_words s (servers.SubmitTo to plan) = codes "submit" ∷ server_text s ∷ server_text to ∷ plan_words plan
+server_event_words s (servers.FinishAt to eval token outcome) =
     codes "finish" ∷ server_text s ∷ server_text to ∷ eval_text eval ∷ token_text token ∷ outcome_words outcome
-server_words s (servers.NackAt to eval token) =
+server_event_words s (servers.NackAt to eval token) =
     codes "nack" ∷ server_text s ∷ server_text to ∷ eval_text eval ∷ token_text token ∷ []
-server_words s servers.PlanTurn = codes "plan" ∷ server_text s ∷ []
-server_words s (servers.Lapse eval) = codes "lapse" ∷ server_text s ∷ eval_text eval ∷ []
-server_words s (servers.Expire node beats) = codes "expire" ∷ server_text s ∷ decimal node ∷ decimal beats ∷ []
-server_words s (servers.DrainTurn node) = codes "drain" ∷ server_text s ∷ decimal node ∷ []
-server_words s servers.FreeTurn = codes "free" ∷ server_text s ∷ []
-server_words s servers.Reap = codes "reap" ∷ server_text s ∷ []
-server_words s servers.Compact = []
-server_words s servers.Crash = codes "crash" ∷ server_text s ∷ []
-server_words s servers.Restart = codes "restart" ∷ server_text s ∷ []
+server_event_words s servers.PlanTurn = codes "plan" ∷ server_text s ∷ []
+server_event_words s (servers.Lapse eval) = codes "lapse" ∷ server_text s ∷ eval_text eval ∷ []
+server_event_words s (servers.Expire node beats) = codes "expire" ∷ server_text s ∷ decimal node ∷ decimal beats ∷ []
+server_event_words s (servers.DrainTurn node) = codes "drain" ∷ server_text s ∷ decimal node ∷ []
+server_event_words s servers.FreeTurn = codes "free" ∷ server_text s ∷ []
+server_event_words s servers.Reap = codes "reap" ∷ server_text s ∷ []
+server_event_words s servers.Compact = []
+server_event_words s servers.Crash = codes "crash" ∷ server_text s ∷ []
+server_event_words s servers.Restart = codes "restart" ∷ server_text s ∷ []
 
 -- the words of an input of client c
-abbrev pub client_words : ℕ → clients.Input → List (List ℕ)
-client_words c (clients.Arrives from response) = []
-client_words c (clients.RegisterAt server) = codes "register" ∷ decimal c ∷ server_text server ∷ []
-client_words c (clients.Ping server) = codes "ping" ∷ decimal c ∷ server_text server ∷ []
-client_words c (clients.PullFrom server) = codes "pull" ∷ decimal c ∷ server_text server ∷ []
-client_words c (clients.End id ok) = codes "end" ∷ decimal c ∷ alloc_text id ∷ end_text ok ∷ []
-client_words c clients.Crash = codes "crash" ∷ client_text c ∷ []
-client_words c clients.Restart = codes "restart" ∷ client_text c ∷ []
+abbrev pub client_event_words : ℕ → clients.Input → List (List ℕ)
+client_event_words c (clients.Arrives from response) = []
+client_event_words c (clients.RegisterAt server) = codes "register" ∷ decimal c ∷ server_text server ∷ []
+client_event_words c (clients.Ping server) = codes "ping" ∷ decimal c ∷ server_text server ∷ []
+client_event_words c (clients.PullFrom server) = codes "pull" ∷ decimal c ∷ server_text server ∷ []
+client_event_words c (clients.End id ok) = codes "end" ∷ decimal c ∷ alloc_text id ∷ end_text ok ∷ []
+client_event_words c clients.Crash = codes "crash" ∷ client_text c ∷ []
+client_event_words c clients.Restart = codes "restart" ∷ client_text c ∷ []
 
 -- the words of an event's line; messages are numbered from 1 in text, and from 0 here
 abbrev pub event_words : Event → List (List ℕ)
 event_words (Deliver place) = codes "deliver" ∷ decimal (suc place) ∷ []
-event_words (AtServer server input) = server_words server input
-event_words (AtClient client input) = client_words client input
+event_words (AtServer server input) = server_event_words server input
+event_words (AtClient client input) = client_event_words client input
 
 -- a line says such an input: its values are within their limits, and it is no arrival and no cut
 abbrev pub ServerInputHasLine : servers.Input → Type 0

@@ -3,7 +3,7 @@ ghost use Rattle.std.specs.Prelude.{◌≡◌, ◌<◌, ◌≤◌, ◌^◌, ℕ,
 ghost use Rattle.group_model.specs.Worlds as group;
 ghost use Rattle.transcript.specs.declared.line.Line.TheVariants as lines;
 ghost use Rattle.transcript.specs.EventLines.{IsEventLine, TakesMemory};
-ghost use Rattle.transcript.specs.Inner.Lines.{BeginsJobRequest, BeginsPlan, HasParts, IsCrash, IsEnd, IsExpire, IsFinish, IsRequest, IsRestart, IsSmall, IsSubmit, IsTurn, line_event};
+ghost use Rattle.transcript.specs.Inner.Lines.{BeginsJobRequest, BeginsPlan, HasParts, IsCrash, IsEnd, IsExpire, IsFinish, IsRequest, IsRestart, IsSmall, IsSubmit, IsTurnEvent, line_event};
 
 use crate::request::read_request;
 use crate::spelled::{Spelled, cut_pair, cut_word, read_pair};
@@ -131,9 +131,9 @@ fn read_small(verb: &str, words: &str) -> Option<Line>
 
 // A line that names a server and nothing else.
 fn read_turn(verb: &str, words: &str) -> Option<Line>
-    ensures named { IfSome result (λ said. IsTurn (line_event said)
+    ensures named { IfSome result (λ said. IsTurnEvent (line_event said)
         × HasParts (line_event said) verb.now words.now) }
-    ensures read { (event : group.Event) → IsTurn event → HasParts event verb.now words.now
+    ensures read { (event : group.Event) → IsTurnEvent event → HasParts event verb.now words.now
         → IsSomeAnd result (λ said. line_event said ≡ event) }
 {
     let server = ServerId::read_text(words)?;

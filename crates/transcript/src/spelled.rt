@@ -1,6 +1,6 @@
 //! Values that have one text each, and the words of a line in front of others.
 ghost use Rattle.std.specs.Prelude.{◌≡◌, ◌++◌, ◌∷◌, List, ℕ, Some, IfSome, IsSomeAnd, OnOk};
-ghost use Rattle.transcript.specs.Inner.Plain.{IsPlain};
+ghost use Rattle.transcript.specs.Inner.Plain.{IsPlainWord};
 
 use crate::request::{append_group, read_group};
 use crate::word::{
@@ -21,7 +21,7 @@ pub(crate) trait Spelled: Drop {
     ghost spelling: { Self → List ℕ };
 
     /// No space and no comma stands in it.
-    ghost plain: { (value : Self) → Fits value → IsPlain (spelling value) };
+    ghost plain: { (value : Self) → Fits value → IsPlainWord (spelling value) };
 
     /// The value that has this text.
     fn read_text(text: &str) -> Option<Self>

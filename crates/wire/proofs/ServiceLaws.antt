@@ -23,7 +23,7 @@ use Rattle.rows.specs.declared.worker.WorkerRequest.TheVariants as requests
 use Rattle.rows.specs.declared.worker.WorkerResponse.TheVariants as responses
 use Rattle.wire.specs.declared.body.Body.{Body}
 use Rattle.wire.specs.declared.body.Body.TheVariants as bodies
-use Rattle.wire.specs.Services.{take_request_of, submit_request_of, finish_request_of, nack_request_of, delivered_of, plan_result_of, refused_of, register_of, heartbeat_of, pull_of, list_of, report_of, told_message_of, take_body, delivered_body, submit_body, plan_result_body, finish_body, nack_body, refused_body, register_body, heartbeat_body, pull_body, list_body, report_body, told_body}
+use Rattle.wire.specs.Services.{take_request_of, submit_request_of, finish_request_of, nack_request_of, delivered_of, plan_result_of, refused_of, register_of, heartbeat_of, pull_of, list_of, report_message_of, told_message_of, take_body, delivered_body, submit_body, plan_result_body, finish_body, nack_body, refused_body, register_body, heartbeat_body, pull_body, list_body, report_body, told_body}
 
 -- one option has one value
 some_is : {A : Type 0} (x y : A) → Some x ≡ Some y → x ≡ y
@@ -107,7 +107,7 @@ module _ {S C : Type 0} where
   pub list_body_lawful : Lawful (list_body {S = S} {C = C})
   list_body_lawful = variant_lawful _ _ _ (record { back = λ _. refl; there = list_there }) (then_lawful _ _ index_lawful listing_lawful)
 
-  report_there : (v : Body S C) (a : List Report) → report_of v ≡ Some a → bodies.Report a ≡ v
+  report_there : (v : Body S C) (a : List Report) → report_message_of v ≡ Some a → bodies.Report a ≡ v
   report_there (bodies.Report _) a e = cc
   report_there _ a e = absurd cc
 

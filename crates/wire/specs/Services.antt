@@ -69,9 +69,9 @@ abbrev pub list_of : {S C : Type 0} → Body S C → Option (ℕ × List ListedA
 list_of (bodies.List place rows) = Some (place, rows)
 list_of _ = None
 
-abbrev pub report_of : {S C : Type 0} → Body S C → Option (List Report)
-report_of (bodies.Report items) = Some items
-report_of _ = None
+abbrev pub report_message_of : {S C : Type 0} → Body S C → Option (List Report)
+report_message_of (bodies.Report items) = Some items
+report_message_of _ = None
 
 abbrev pub told_message_of : {S C : Type 0} → Body S C → Option (ClientRequestKind × Option Reason)
 told_message_of (bodies.Told asked why) = Some (asked, why)
@@ -113,7 +113,7 @@ abbrev pub list_body : {S C : Type 0} → Format (Body S C)
 list_body = variant (λ p. bodies.List p.0 p.1) list_of (index then listing)
 
 abbrev pub report_body : {S C : Type 0} → Format (Body S C)
-report_body = variant (λ items. bodies.Report items) report_of reports
+report_body = variant (λ items. bodies.Report items) report_message_of reports
 
 abbrev pub told_body : {S C : Type 0} → Format (Body S C)
 told_body = variant (λ p. bodies.Told p.0 p.1) told_message_of (client_request_kind then told_reason)

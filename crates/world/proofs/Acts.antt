@@ -20,10 +20,10 @@ use Rattle.raft_safety.proofs.Places.{get-within}
 use Rattle.world.specs.declared.done.Done.{Done}
 use Rattle.world.specs.declared.done.Done.TheVariants as done
 use Rattle.world.specs.WorldView.{WorldView, RepresentsWorld, RunsTo, IsRaftWorld}
-use Rattle.world.specs.Steps.{IsDone, LeftServer, SameWorld, MayWantFor, RefusesEvent}
+use Rattle.world.specs.Steps.{WasDone, LeftServer, SameWorld, MayWantFor, RefusesEvent}
 use Rattle.world.specs.Inner.HistoryView.{HistoryView}
 use Rattle.world.specs.Inner.Inputs.{ActsIn, IsSent, handed_by, is_restart}
-use Rattle.world.specs.Inner.Parts.{IsFor, PartTaken, PartCrashed, PartStays, IsPartRefused, PartDone}
+use Rattle.world.specs.Inner.Parts.{IsForServer, PartTaken, PartCrashed, PartStays, IsPartRefused, PartDone}
 use Rattle.world.proofs.Zips.{zip_at, zip_length}
 use Rattle.world.proofs.Inputs.{WasSent, Brings, brings}
 use Rattle.world.proofs.Taken.{took, Moved, moved, numbered_on, goes_by, reached_on}
@@ -49,7 +49,7 @@ history_of view = record { sent = view.sent; trace = view.trace; chain = view.ch
 
 -- what became of an event, of which the world says so
 pub record Acted {S C : Type 0} (m : Meaning S C) (old : WorldView C) (e : Event C) (result : Result Done Refusal) (new : WorldView C) : Type 0 where
-  pub ok : IfOk result (λ d. IsDone m old e d new)
+  pub ok : IfOk result (λ d. WasDone m old e d new)
   pub err : OnErr result (SameWorld old new)
   pub cause : IfErr result (λ r. r ≢ refusals.NoMemory → RefusesEvent m old e r)
   pub world : IsRaftWorld m new
@@ -86,7 +86,7 @@ module _ {S C : Type 0} (m : Meaning S C) (old : WorldView C) (e : Event C) (i :
       let s = zip_at (Represents m) old.servers w.servers i h st.servers a.here in
       record { server = s.0; at = s.1; represents = s.2; brings = brings m old.sent w e i st.sent (a.acts w st.sent) }
 
-  pub is_for : IsSent old.sent e → IsFor m h old.sent e
+  pub is_for : IsSent old.sent e → IsForServer m h old.sent e
   is_for there =
       let r = a.reached in
       let runs = r.runs in

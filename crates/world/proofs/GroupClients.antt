@@ -34,7 +34,7 @@ use Rattle.world.specs.declared.done.Done.TheVariants as done
 use Rattle.world.specs.WorldView.{IsGroup}
 use Rattle.world.specs.GroupEvents.{work_of}
 use Rattle.world.specs.GroupView.{GroupView, RepresentsGroup, GroupRunsTo, IsGroupWorld, client_in, node_in, nodes_of, client_view}
-use Rattle.world.specs.GroupSteps.{GroupEventHappened, SameGroup, RefusesGroupEvent, IsGroupAwake}
+use Rattle.world.specs.GroupSteps.{GroupEventHappened, SameView, RefusesGroupEvent, IsGroupAwake}
 use Rattle.world.specs.Inner.GroupParts.{GroupHistoryView, ClientTook, ClientFell, IsClientRefused, ClientDone}
 use Rattle.world.proofs.Zips.{zip_length, zip_append}
 use Rattle.world.proofs.GroupScenes.{SendersIn, ClientTakes}
@@ -392,7 +392,7 @@ module _ (old : GroupView) (e : Event) (c : ℕ) (view : AgentView) (given : Cli
       client_acted (Err r) t =
           let is : old ≡ new = sym (as_it_was t.0 t.1) in
           record {
-            stepped = record { ok = tt; err = subst (λ x. SameGroup old x) is (same_group old); cause = caused r t.2; memory = λ none. awake };
+            stepped = record { ok = tt; err = subst (λ x. SameView old x) is (same_group old); cause = caused r t.2; memory = λ none. awake };
             world = subst IsGroupWorld is s.reached;
           }
 

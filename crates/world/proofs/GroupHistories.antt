@@ -42,7 +42,7 @@ module _ (old new : ServerView) (s : Member) where
   member_fell (OwnInput (Arrives message)) other may left = (may, left)
   member_fell (OwnInput Timeout) other may left = (may.up, left)
   member_fell (OwnInput Beat) other may left = (leads_up s.raft.mode may, left)
-  member_fell (OwnInput (Request request)) other may left = (leads_up s.raft.mode may, left)
+  member_fell (OwnInput (Request request)) other may left = (leads_up s.raft.mode may.leads, left)
   member_fell (OwnInput (TakeFrom to)) other may left = (may.up, left)
   member_fell (OwnInput (SubmitTo to plan)) other may left = (may.up, left)
   member_fell (OwnInput (FinishAt to eval token outcome)) other may left = (may.up, left)

@@ -25,7 +25,7 @@ use Rattle.server.specs.Turns.{TakesTurn}
 use Rattle.server.specs.Refusals.{MayTakeMemory, refusal_in}
 use Rattle.world.specs.GroupEvents.{server_input, client_input, input_work}
 use Rattle.world.specs.GroupSteps.{RunsThere, MayWantAt}
-use Rattle.world.specs.Inner.GroupInputs.{is_frame, is_client_frame, is_restart_input}
+use Rattle.world.specs.Inner.GroupInputs.{comes_as_frame, is_client_frame, is_restart_input}
 use Rattle.world.proofs.GroupScenes.{ServerTakes, ClientTurned, ClientTakes}
 
 refusal_is : (q : Result Turn Refusal) (r : Refusal) → refusal_in q ≡ Some r → q ≡ Err r
@@ -76,7 +76,7 @@ module _ (view : ServerView) (w : World) (i : ℕ) (s : Member) (me : view.raft.
       is_restart_input (OwnInput input) ≡ false → ServerTakes view (OwnInput input) w (AtServer i input) i s
   plain input is wants other = own input is wants (λ so. absurd (cc)) (λ so. absurd (cc))
 
-  by_input : (given : ServerInput) → is_frame (handing given) ≡ false → ServerTakes view (handing given) w (AtServer i (server_input (handing given))) i s
+  by_input : (given : ServerInput) → comes_as_frame (handing given) ≡ false → ServerTakes view (handing given) w (AtServer i (server_input (handing given))) i s
   by_input (inputs.Frame bytes) other = absurd (cc)
   by_input inputs.Timeout other = plain Timeout refl (λ may. may) refl
   by_input inputs.Beat other = plain Beat refl (λ may. may) refl
@@ -94,7 +94,7 @@ module _ (view : ServerView) (w : World) (i : ℕ) (s : Member) (me : view.raft.
   by_input inputs.Crash other = plain Crash refl (λ may. may) refl
   by_input inputs.Restart other = own Restart refl (λ may. may) (λ so. tt) (λ so down. woken (length w.servers) i s down)
 
-pub own_server : (view : ServerView) (given : ServerInput) (w : World) (i : ℕ) (s : Member) → view.raft.me ≡ i → view.raft.size ≡ length w.servers → slice_get w.servers i ≡ Some s → is_frame (handing given) ≡ false →
+pub own_server : (view : ServerView) (given : ServerInput) (w : World) (i : ℕ) (s : Member) → view.raft.me ≡ i → view.raft.size ≡ length w.servers → slice_get w.servers i ≡ Some s → comes_as_frame (handing given) ≡ false →
     ServerTakes view (handing given) w (AtServer i (server_input (handing given))) i s
 own_server view given w i s me size here other = by_input view w i s me size here given other
 

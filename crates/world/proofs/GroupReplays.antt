@@ -18,7 +18,7 @@ use Rattle.world.specs.declared.group.event.Event.{Event as GroupEvent}
 use Rattle.world.specs.Steps.{EachBecame, Lacked}
 use Rattle.world.specs.GroupEvents.{group_event, group_events, work_of, works}
 use Rattle.world.specs.GroupView.{GroupView, GroupRunsTo, nodes_of, renumbered}
-use Rattle.world.specs.GroupSteps.{MayWantAt, MightWant, GroupStarved, GroupMayBecome, GroupEventHappened, IsGroupDone, GroupStaysDown, SameGroup, RefusesGroupEvent, IsNewGroup, GroupPlayed, GroupReplays}
+use Rattle.world.specs.GroupSteps.{MayWantAt, MightWant, GroupStarved, GroupMayBecome, GroupEventHappened, IsGroupDone, GroupStaysDown, SameView, RefusesGroupEvent, IsNewGroup, GroupPlayed, GroupReplays}
 use Rattle.world.proofs.Outcomes.{place_after, place_more, became_more, became_map}
 use Rattle.world.proofs.Runs.{ends_alike, no_end}
 use Rattle.world.proofs.GroupBegins.{new_group_runs}
@@ -100,7 +100,7 @@ module _ (n : ℕ) (nodes : List NodeSpec) where
   }
 
   -- an event that left the same group
-  passed_over : (handed : List Event) (old new : GroupView) (e : Event) (r : Refusal) (p : GroupPlayed n nodes handed old) → IsLeftOut p.world e r → r ≢ refusals.NoMemory → SameGroup old new → GroupPlayed n nodes (handed ++ e ∷ []) new
+  passed_over : (handed : List Event) (old new : GroupView) (e : Event) (r : Refusal) (p : GroupPlayed n nodes handed old) → IsLeftOut p.world e r → r ≢ refusals.NoMemory → SameView old new → GroupPlayed n nodes (handed ++ e ∷ []) new
   passed_over handed old new e r p left other same = record {
     count = same_group_count old new same ∙ p.count;
     nodes_are = same_group_nodes old new same ∙ p.nodes_are;
@@ -145,7 +145,7 @@ module _ (n : ℕ) (nodes : List NodeSpec) where
         last_event (length new.servers) (nodes_of new) new.trace (past ++ w ∷ []) next (limits (length new.servers) (nodes_of new) new.trace (past ++ w ∷ []) next (subst NodesFit (sym are) fit) r.run) old.trace e past w is refl
 
     pub group_play_next : (handed : List Event) (old new : GroupView) (e : Event) (result : Result Done Refusal) → GroupPlayed n nodes handed old →
-        IfOk result (λ done. IsGroupDone old e done new) → OnErr result (SameGroup old new) → IfErr result (λ refusal. refusal ≢ refusals.NoMemory → RefusesGroupEvent old e refusal) → result ≢ Err refusals.NoMemory →
+        IfOk result (λ done. IsGroupDone old e done new) → OnErr result (SameView old new) → IfErr result (λ refusal. refusal ≢ refusals.NoMemory → RefusesGroupEvent old e refusal) → result ≢ Err refusals.NoMemory →
         GroupPlayed n nodes (handed ++ e ∷ []) new
     group_play_next handed old new e (Ok Taken) p went err cause memory =
         let q = went.runs p.past p.world p.runs in

@@ -31,9 +31,9 @@ use Rattle.world.specs.declared.done.Done.TheVariants as done
 use Rattle.world.specs.WorldView.{IsGroup}
 use Rattle.world.specs.GroupEvents.{server_input, work_of, input_work, turn_work}
 use Rattle.world.specs.GroupView.{GroupView, RepresentsGroup, GroupRunsTo, IsGroupWorld, IsSentTo, ServersKnowPlaces, ClientsKnowPlaces, nodes_of, node_in, client_in}
-use Rattle.world.specs.GroupSteps.{GroupEventHappened, SameGroup, RefusesGroupEvent, IsGroupAwake, MayWantAt}
+use Rattle.world.specs.GroupSteps.{GroupEventHappened, SameView, RefusesGroupEvent, IsGroupAwake, MayWantAt}
 use Rattle.world.specs.Inner.Inputs.{committed}
-use Rattle.world.specs.Inner.GroupInputs.{is_frame, is_restart_input}
+use Rattle.world.specs.Inner.GroupInputs.{comes_as_frame, is_restart_input}
 use Rattle.world.specs.Inner.GroupParts.{GroupHistoryView, ServerTook, ServerFell, ServerStays, IsServerRefused, ServerDone, GroupStepped}
 use Rattle.world.proofs.Zips.{zip_at, zip_from, zip_length, zip_set, zip_append}
 use Rattle.world.proofs.GroupScenes.{SendersIn, ServerTakes}
@@ -75,10 +75,10 @@ members_on (x ∷ xs) (y ∷ ys) (s ∷ ss) same r =
     let is = r.0 in
     (record { raft = raft.server ∙ is.raft; desk = ap group_desk one.desk ∙ is.desk }, members_on xs ys ss same.1 r.1)
 
-pub same_group : (view : GroupView) → SameGroup view view
+pub same_group : (view : GroupView) → SameView view view
 same_group view = record { servers = same_members view.servers; clients = refl; outbox = refl; trace = refl; chain = refl }
 
-module _ (old new : GroupView) (same : SameGroup old new) where
+module _ (old new : GroupView) (same : SameView old new) where
   pub same_group_count : length new.servers ≡ length old.servers
   same_group_count = sym (zip_length SameMember old.servers new.servers same.servers)
 
@@ -323,7 +323,7 @@ module _ (old : GroupView) (e : Event) (i : ℕ) (view : ServerView) (h : Handin
           }
 
       -- one that is the same server leaves the same group
-      same_but : SameMember view after → history_of new ≡ history_of old → SameGroup old new
+      same_but : SameMember view after → history_of new ≡ history_of old → SameView old new
       same_but is past = record {
         servers = subst (λ l. AllZip SameMember old.servers l) (sym servers) (set_same_member old.servers i view after scene.here is);
         clients = clients;
@@ -382,7 +382,7 @@ module _ (old : GroupView) (e : Event) (i : ℕ) (view : ServerView) (h : Handin
 
         refused : (r : Refusal) → SameMember view after → history_of new ≡ history_of old → IsServerRefused view (history_of old) h e r → GroupActed old e (Err r) new
         refused r is past says =
-            let left : SameGroup old new = same_but is past in
+            let left : SameView old new = same_but is past in
             record { stepped = record { ok = tt; err = left; cause = caused r says; memory = λ lacks. awake }; world = same_group_reached old new left scene.reached }
 
         acted : (result : Result Done Refusal) → ServerDone view (history_of old) h e i result after (history_of new) → GroupActed old e result new
@@ -410,7 +410,7 @@ module _ (old now : GroupView) (i p : ℕ) (view : ServerView) (same : old ≡ n
   knows_size w st = let n = reached.servers i view stands in n.1 ∙ zip_length IsMember old.servers w.servers st.servers
 
   -- an input of its own
-  pub own_scene : (given : ServerInput) → InputFits (server_input (handing given)) → is_frame (handing given) ≡ false → ServerScene old (AtServer i (server_input (handing given))) i view (handing given)
+  pub own_scene : (given : ServerInput) → InputFits (server_input (handing given)) → comes_as_frame (handing given) ≡ false → ServerScene old (AtServer i (server_input (handing given))) i view (handing given)
   own_scene given fits own = record {
     reached = reached;
     here = stands;

@@ -39,7 +39,7 @@ use Rattle.server.specs.Turns.{takes_in}
 use Rattle.world.specs.GroupEvents.{server_input, client_input}
 use Rattle.world.specs.GroupView.{GroupView, RepresentsGroup, IsSentTo, client_in, client_view}
 use Rattle.world.specs.GroupSteps.{RefusesGroupEvent, IsNoArrival, IsGroupAwake}
-use Rattle.world.specs.Inner.GroupInputs.{is_frame, is_restart_input, is_client_frame, is_client_restart}
+use Rattle.world.specs.Inner.GroupInputs.{comes_as_frame, is_restart_input, is_client_frame, is_client_restart}
 use Rattle.world.specs.Inner.GroupParts.{GroupStepped}
 use Rattle.world.proofs.Zips.{zip_at, zip_none}
 use Rattle.world.proofs.Sleeping.{Awake, awake_is, awake_if, asleep, awake_role, up_awake}
@@ -151,7 +151,7 @@ module _ (w : World) (i : ℕ) (s : Member) (here : slice_get w.servers i ≡ So
   sleeping (OwnInput x) down other = ap (λ o. input_to w i x o) here ∙ rw down refl
 
   -- a frame is no input of its own
-  no_own : (h : Handing) → is_frame h ≡ true → is_up s.raft.mode ≡ true → own_input w i (server_input h) ≡ Err refusals.OutOfRange
+  no_own : (h : Handing) → comes_as_frame h ≡ true → is_up s.raft.mode ≡ true → own_input w i (server_input h) ≡ Err refusals.OutOfRange
   no_own (FrameBytes bytes) frame up = ap (λ o. Err (refuses_message_at o)) here ∙ rw up refl
   no_own (OwnInput x) frame up = absurd (cc)
 
@@ -162,7 +162,7 @@ module _ (w : World) (i : ℕ) (s : Member) (here : slice_get w.servers i ≡ So
   taken_awake : (x : Input) → Awake (step (length w.servers) i s x) → Awake (takes_input w i x)
   taken_awake x awake = subst (λ o. Awake (input_to w i x o)) (sym here) (after_awake w i (step (length w.servers) i s x) awake)
 
-  own_awake : (h : Handing) → is_frame h ≡ false → (is_up s.raft.mode ≡ true) ⊎ (is_restart_input h ≡ true) → Awake (own_input w i (server_input h))
+  own_awake : (h : Handing) → comes_as_frame h ≡ false → (is_up s.raft.mode ≡ true) ⊎ (is_restart_input h ≡ true) → Awake (own_input w i (server_input h))
   own_awake (FrameBytes bytes) other up = absurd (cc)
   own_awake (OwnInput (Arrives message)) other (inl up) = subst (λ o. Awake (let q : Result World Refusal = Err (refuses_message_at o) in q)) (sym here) (rw up (λ e. cc))
   own_awake (OwnInput (Arrives message)) other (inr so) = absurd (cc)
@@ -171,7 +171,7 @@ module _ (w : World) (i : ℕ) (s : Member) (here : slice_get w.servers i ≡ So
   own_awake (OwnInput x) other (inr so) = absurd (cc)
 
 -- an input that is no frame is no arrival
-no_arrival : (i : ℕ) (given : ServerInput) → is_frame (handing given) ≡ false → IsNoArrival (AtServer i (server_input (handing given)))
+no_arrival : (i : ℕ) (given : ServerInput) → comes_as_frame (handing given) ≡ false → IsNoArrival (AtServer i (server_input (handing given)))
 no_arrival i (inputs.Frame bytes) other = absurd (cc)
 no_arrival i given other = tt
 
@@ -191,19 +191,19 @@ module _ (view : GroupView) (i : ℕ) where
     up_or h s is (inl some) = inl (awake_role s.raft.mode (ap is_some (sym (says s is)) ∙ some))
     up_or h s is (inr so) = inr so
 
-    is_no_frame : (w : World) (s : Member) → slice_get w.servers i ≡ Some s → (h : Handing) → is_frame h ≡ true → (is_up s.raft.mode ≡ true) ⊎ (is_restart_input h ≡ true) → own_input w i (server_input h) ≡ Err refusals.OutOfRange
+    is_no_frame : (w : World) (s : Member) → slice_get w.servers i ≡ Some s → (h : Handing) → comes_as_frame h ≡ true → (is_up s.raft.mode ≡ true) ⊎ (is_restart_input h ≡ true) → own_input w i (server_input h) ≡ Err refusals.OutOfRange
     is_no_frame w s there h frame (inl up) = no_own w i s there h frame up
     is_no_frame w s there (FrameBytes bytes) frame (inr so) = absurd (cc)
     is_no_frame w s there (OwnInput x) frame (inr so) = absurd (cc)
 
-    pub frame_is_none : (h : Handing) → is_frame h ≡ true → (is_some role ≡ true) ⊎ (is_restart_input h ≡ true) → RefusesGroupEvent view (AtServer i (server_input h)) refusals.OutOfRange
+    pub frame_is_none : (h : Handing) → comes_as_frame h ≡ true → (is_some role ≡ true) ⊎ (is_restart_input h ≡ true) → RefusesGroupEvent view (AtServer i (server_input h)) refusals.OutOfRange
     frame_is_none h frame up past w r =
         let st = r.represents in
         let s = zip_at IsMember view.servers w.servers i here st.servers at in
         is_no_frame w s.0 s.1 h frame (up_or h s.0 s.2 up)
 
     -- a server that is up does not refuse for being down, nor does one that is to restart
-    pub server_awake : (given : ServerInput) → is_frame (handing given) ≡ false → (is_some role ≡ true) ⊎ (is_restart_input (handing given) ≡ true) → IsGroupAwake view (AtServer i (server_input (handing given)))
+    pub server_awake : (given : ServerInput) → comes_as_frame (handing given) ≡ false → (is_some role ≡ true) ⊎ (is_restart_input (handing given) ≡ true) → IsGroupAwake view (AtServer i (server_input (handing given)))
     server_awake given other up past w r =
         let h = handing given in
         let st = r.represents in

@@ -15,12 +15,12 @@ use Rattle.raft_core.specs.Steps.{Represents}
 use Rattle.raft_safety.proofs.Places.{get-last}
 use Rattle.raft_safety.proofs.Sound.{commands_length}
 use Rattle.world.specs.WorldView.{WorldView, RunsTo}
-use Rattle.world.specs.Claims.{OneListEver, StatesSafeEver, OneHistory, running, machine_of}
+use Rattle.world.specs.Claims.{OneListEver, StatesSafeEver, OneHistory, running_state, machine_of}
 use Rattle.world.proofs.Zips.{zip_at, zip_none}
 
 module _ {S C : Type 0} (m : Meaning S C) where
   -- a server as it is up, or down
-  running_is : (s : Server C) (o : Option (Bor S)) → MatchOption o (is_up s.mode ≡ false) (λ r. (is_up s.mode ≡ true) × (r.now ≡ state_after m (take s.commit s.log))) → option_copied o ≡ running m (Some s)
+  running_is : (s : Server C) (o : Option (Bor S)) → MatchOption o (is_up s.mode ≡ false) (λ r. (is_up s.mode ≡ true) × (r.now ≡ state_after m (take s.commit s.log))) → option_copied o ≡ running_state m (Some s)
   running_is s None down = rw down refl
   running_is s (Some r) up = let u = up.0 in rw u (ap (λ x. Some x) up.1)
 
@@ -54,7 +54,7 @@ module _ {S C : Type 0} (m : Meaning S C) where
       }
 
   -- each running machine's state is that after a first part of the list
-  part : (past : List (World C)) (w : World C) (list : List (Entry C)) → Chain past w list → (i : ℕ) (a : S) (o : Option (Server C)) → slice_get w.servers i ≡ o → running m o ≡ Some a → IsPart list a
+  part : (past : List (World C)) (w : World C) (list : List (Entry C)) → Chain past w list → (i : ℕ) (a : S) (o : Option (Server C)) → slice_get w.servers i ≡ o → running_state m o ≡ Some a → IsPart list a
   part past w list chain i a None here h = absurd (cc)
   part past w list chain i a (Some s) here h = part_of past w list chain i s (is_up s.mode) a refl here h
 

@@ -9,7 +9,7 @@ use Rattle.wire.specs.Frames.{Frame}
 use Rattle.raft_model.specs.Messages.{Message}
 use Rattle.raft_model.specs.Servers.{Server, Mode, is_up}
 use Rattle.raft_model.specs.Steps.{Input, Arrives, Timeout, Beat, Propose, Compact, Crash, Restart, step}
-use Rattle.raft_model.specs.Worlds.{World, Event, Deliver, TimesOut, Beats, Proposes, Compacts, Crashes, Restarts, happens, takes, receiver, delivers, actor}
+use Rattle.raft_model.specs.Worlds.{World, Event, Deliver, TimesOut, Beats, Proposes, Compacts, Crashes, Restarts, happens, takes, receiver, delivers, acting_server}
 use Rattle.raft_core.specs.Frames.{IsFrameOf, FrameCarries}
 use Rattle.raft_core.specs.Inputs.{Reads}
 use Rattle.raft_core.specs.Refusals.{MayLack, MayWant}
@@ -68,7 +68,7 @@ module _ {S C : Type 0} (m : Meaning S C) (sent : List Frame) (w : World C) wher
   own : (e : Event C) (i j : ℕ) (x : Input C) → Some j ≡ Some i → happens m w e ≡ takes m w j x → happens m w e ≡ takes m w i x
   own e i j x who is = is ∙ ap (λ k. takes m w k x) (same_Some j i who)
 
-  pub brings : (e : Event C) (i : ℕ) → AllZip (FrameCarries m) sent w.sent → actor m w e ≡ Some i → Brings e i
+  pub brings : (e : Event C) (i : ℕ) → AllZip (FrameCarries m) sent w.sent → acting_server m w e ≡ Some i → Brings e i
   brings (Deliver k) i z who =
       let x = arrived (slice_get w.sent k) i who in
       let here : slice_get w.sent k ≡ Some x.0 = x.1 in

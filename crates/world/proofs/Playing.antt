@@ -4,13 +4,13 @@ use Rattle.rows.specs.declared.refusal.Refusal.{Refusal}
 use Rattle.rows.specs.declared.refusal.Refusal.TheVariants as refusals
 use Rattle.machine.specs.Meaning.{Meaning}
 use Rattle.raft_model.specs.Servers.{Server}
-use Rattle.raft_model.specs.Worlds.{World, Event, Crashes, Outcome, first, Kept, LeftOut, IsEvent, Run, start, more, actor, Trace, nothing, kept, crashed, left_out}
+use Rattle.raft_model.specs.Worlds.{World, Event, Crashes, Outcome, first, Kept, LeftOut, IsEvent, Run, start, more, acting_server, Trace, nothing, kept, crashed, left_out}
 use Rattle.raft_model.specs.Worlds as model
 use Rattle.world.specs.declared.done.Done.{Done}
 use Rattle.world.specs.declared.done.Done.TheVariants.{Taken, Crashed}
 use Rattle.world.specs.WorldView.{WorldView}
 use Rattle.raft_safety.proofs.Places.{get-more, get-last}
-use Rattle.world.specs.Steps.{IsDone, SameWorld, RefusesEvent, IsNew, MayWantFor, Starved, MayBecome, EachBecame, Played}
+use Rattle.world.specs.Steps.{WasDone, SameWorld, RefusesEvent, IsNew, MayWantFor, Starved, MayBecome, EachBecame, Played}
 use Rattle.world.proofs.Outcomes.{place_after, place_more, became_more, became_map}
 use Rattle.world.proofs.Begins.{new_runs}
 use Rattle.world.proofs.Same.{same_world, same_count, same_runs}
@@ -51,7 +51,7 @@ module _ {S C : Type 0} (m : Meaning S C) where
   became_on trace past w next c handed outcomes all =
       became_map (MayBecome m trace past w) (MayBecome m (trace ++ c ∷ []) (past ++ w ∷ []) next) (λ place e o became. stands_on trace past w next c place e o became) 0 handed outcomes all
 
-  starved_now : (trace : List (Event C)) (past : List (World C)) (w next : World C) (e : Event C) (i place : ℕ) → place ≡ length past → length past ≡ length trace → actor m w e ≡ Some i → ((s : Server C) → slice_get w.servers i ≡ Some s → MayWantFor w e s) →
+  starved_now : (trace : List (Event C)) (past : List (World C)) (w next : World C) (e : Event C) (i place : ℕ) → place ≡ length past → length past ≡ length trace → acting_server m w e ≡ Some i → ((s : Server C) → slice_get w.servers i ≡ Some s → MayWantFor w e s) →
       Starved m (trace ++ Crashes i ∷ []) (past ++ w ∷ []) next place e
   starved_now trace past w next e i place due same is lacking = record {
     before = w;
@@ -89,7 +89,7 @@ module _ {S C : Type 0} (m : Meaning S C) (n : ℕ) where
   }
 
   pub play_next : (handed : List (Event C)) (old new : WorldView C) (e : Event C) (result : Result Done Refusal) → IsEvent m e → Played m n handed old →
-      IfOk result (λ done. IsDone m old e done new) → OnErr result (SameWorld old new) → IfErr result (λ refusal. refusal ≢ refusals.NoMemory → RefusesEvent m old e refusal) → result ≢ Err refusals.NoMemory →
+      IfOk result (λ done. WasDone m old e done new) → OnErr result (SameWorld old new) → IfErr result (λ refusal. refusal ≢ refusals.NoMemory → RefusesEvent m old e refusal) → result ≢ Err refusals.NoMemory →
       Played m n (handed ++ e ∷ []) new
   play_next handed old new e (Ok Taken) is p went err cause memory =
       let q = went.runs p.past p.world p.runs in

@@ -8,7 +8,7 @@ use Rattle.wire.specs.Frames.{Frame}
 use Rattle.raft_model.specs.Logs.{MAX, state_after}
 use Rattle.raft_model.specs.Servers.{Server, Mode, Down, Follower, Candidate, Leader, Turn, is_up, is_leader}
 use Rattle.raft_model.specs.Steps.{Input, Arrives, Timeout, Beat, Propose, Compact, Crash, Restart, acts, unless, step}
-use Rattle.raft_model.specs.Worlds.{World, Event, happens, after_turn, actor}
+use Rattle.raft_model.specs.Worlds.{World, Event, happens, after_turn, acting_server}
 use Rattle.raft_safety.proofs.Places.{get-within}
 use Rattle.raft_core.specs.RaftView.{RaftView}
 use Rattle.raft_core.specs.Frames.{FrameCarries}
@@ -22,10 +22,10 @@ use Rattle.world.proofs.Inputs.{brings}
 use Rattle.world.proofs.Taken.{took}
 
 module _ {S C : Type 0} (m : Meaning S C) (sent : List Frame) (w : World C) (z : AllZip (FrameCarries m) sent w.sent) where
-  absent : (e : Event C) (i : ℕ) → actor m w e ≡ Some i → slice_get w.servers i ≡ None → happens m w e ≡ Err refusals.OutOfRange
+  absent : (e : Event C) (i : ℕ) → acting_server m w e ≡ Some i → slice_get w.servers i ≡ None → happens m w e ≡ Err refusals.OutOfRange
   absent e i who gone = let b = brings m sent w e i z who in b.takes ∙ rw gone refl
 
-  sleeping : (e : Event C) (i : ℕ) (s : Server C) → actor m w e ≡ Some i → slice_get w.servers i ≡ Some s → is_up s.mode ≡ false → is_restart e ≡ false → happens m w e ≡ Err refusals.Down
+  sleeping : (e : Event C) (i : ℕ) (s : Server C) → acting_server m w e ≡ Some i → slice_get w.servers i ≡ Some s → is_up s.mode ≡ false → is_restart e ≡ false → happens m w e ≡ Err refusals.Down
   sleeping e i s who here down other = let b = brings m sent w e i z who in b.takes ∙ took m w i b.input s (Err refusals.Down) here (b.sleeps other _ i s down)
 
 -- no refusal for being down

@@ -49,13 +49,13 @@ pub record StatesSafeEver {S C : Type 0} (m : Meaning S C) (view : WorldView C) 
 -- ---- machines
 
 -- the machine of a server, while it is up: in the state after what it has committed
-abbrev pub running : {S C : Type 0} → Meaning S C → Option (Server C) → Option S
-running m None = None
-running m (Some s) = if is_up s.mode then Some (state_after m (take s.commit s.log)) else None
+abbrev pub running_state : {S C : Type 0} → Meaning S C → Option (Server C) → Option S
+running_state m None = None
+running_state m (Some s) = if is_up s.mode then Some (state_after m (take s.commit s.log)) else None
 
 -- the machine of server i of a world; none where there is no such server, or it is down
 abbrev pub machine_of : {S C : Type 0} → Meaning S C → World C → ℕ → Option S
-machine_of m w i = running m (slice_get w.servers i)
+machine_of m w i = running_state m (slice_get w.servers i)
 
 -- One list of entries is the history of both states: each is the state after as many of its first
 -- entries as the state counts. So the history of the one that counts fewer begins that of the

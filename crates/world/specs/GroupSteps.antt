@@ -75,7 +75,7 @@ IsGroupDone old e Crashed new = GroupActorCrashed old e new ⊎ GroupStaysDown o
 
 -- Nothing happened: the same servers, clients, messages, events and chain. A leader that refused a
 -- command may have made its machine after its whole log.
-pub record SameGroup (old new : GroupView) : Type 0 where
+pub record SameView (old new : GroupView) : Type 0 where
   pub servers : AllZip SameMember old.servers new.servers
   pub clients : new.clients ≡ old.clients
   pub outbox : new.outbox ≡ old.outbox

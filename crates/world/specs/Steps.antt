@@ -6,7 +6,7 @@ use Rattle.std.specs.List.{AllZip}
 use Rattle.machine.specs.Meaning.{Meaning}
 use Rattle.raft_model.specs.Servers.{Server}
 use Rattle.raft_model.specs.Steps.{Input}
-use Rattle.raft_model.specs.Worlds.{World, Event, first, Crashes, Outcome, Kept, LeftOut, Trace, moment, happens, actor, IsRestart}
+use Rattle.raft_model.specs.Worlds.{World, Event, first, Crashes, Outcome, Kept, LeftOut, Trace, moment, happens, acting_server, IsRestart}
 use Rattle.raft_model.specs.Worlds.{Crashed as OutcomeCrashed}
 use Rattle.raft_core.specs.RaftView.{RaftView, SameServer}
 use Rattle.raft_core.specs.Refusals.{MayWant}
@@ -32,7 +32,7 @@ MayWantFor {C} w e s = (input : Input C) × (event_input w e ≡ Some input) × 
 -- the event's actor found no memory, and crashes in its place
 pub record ActorCrashed {S C : Type 0} (m : Meaning S C) (old : WorldView C) (e : Event C) (new : WorldView C) : Type 0 where
   pub who : ℕ
-  pub actor : (w : World C) → RepresentsWorld m old w → actor m w e ≡ Some who
+  pub acting_server : (w : World C) → RepresentsWorld m old w → acting_server m w e ≡ Some who
   pub lacking : (w : World C) (s : Server C) → RepresentsWorld m old w → slice_get w.servers who ≡ Some s →
       MayWantFor w e s
   pub happened : EventHappened m old (Crashes who) new
@@ -44,9 +44,9 @@ pub record StaysDown {S C : Type 0} (m : Meaning S C) (old : WorldView C) (e : E
   pub same : new ≡ old
 
 -- what became of an event that was not refused
-abbrev pub IsDone : {S C : Type 0} → Meaning S C → WorldView C → Event C → Done → WorldView C → Type 0
-IsDone m old e Taken new = EventHappened m old e new
-IsDone m old e Crashed new = ActorCrashed m old e new ⊎ StaysDown m old e new
+abbrev pub WasDone : {S C : Type 0} → Meaning S C → WorldView C → Event C → Done → WorldView C → Type 0
+WasDone m old e Taken new = EventHappened m old e new
+WasDone m old e Crashed new = ActorCrashed m old e new ⊎ StaysDown m old e new
 
 -- A server as a refusal leaves it: the same one. A leader that refused a command may have made its
 -- machine after its whole log; one that held it holds it still.
@@ -69,7 +69,7 @@ RefusesEvent {S} {C} m view e r =
 -- the definitions do not refuse the event for its being down.
 pub record ComesToServer {S C : Type 0} (m : Meaning S C) (w : World C) (e : Event C) : Type 0 where
   pub who : ℕ
-  pub actor : actor m w e ≡ Some who
+  pub acting_server : acting_server m w e ≡ Some who
   pub there : who < length w.servers
   pub awake : happens m w e ≢ Err refusals.Down
 
@@ -96,7 +96,7 @@ pub record Starved {S C : Type 0} (m : Meaning S C) (trace : List (Event C)) (pa
   pub who : ℕ
   pub before_is : moment past w place ≡ Some before
   pub crash_is : slice_get trace place ≡ Some (Crashes who)
-  pub of : actor m before e ≡ Some who
+  pub of : acting_server m before e ≡ Some who
   pub lacking : (s : Server C) → slice_get before.servers who ≡ Some s → MayWantFor before e s
 
 -- what may have become of an event: its server crashed only where it might want memory

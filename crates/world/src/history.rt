@@ -4,7 +4,7 @@ ghost use Rattle.raft_model.specs.Servers.{Server};
 ghost use Rattle.raft_core.specs.Steps.{Represents};
 ghost use Rattle.world.specs.Events.{world_event, world_events};
 ghost use Rattle.world.specs.Inner.Inputs.{committed};
-ghost use Rattle.world.specs.Inner.Parts.{IsFor, PartDone};
+ghost use Rattle.world.specs.Inner.Parts.{IsForServer, PartDone};
 
 use crate::done::Done;
 use crate::event::RaftEvent;
@@ -88,7 +88,7 @@ impl<M: Machine> History<M> {
         server: ServerId,
         event: RaftEvent<M>,
     ) -> Result<Done, Refusal>
-        requires { IsFor M.meaning raft.old self.old.sent (world_event event) }
+        requires { IsForServer M.meaning raft.old self.old.sent (world_event event) }
         ensures same { (raft.new.me ≡ raft.old.me) × (raft.new.size ≡ raft.old.size) }
         ensures done { PartDone M.meaning raft.old self.old (world_event event) server result
             raft.new self.new }

@@ -3,11 +3,11 @@ ghost use Rattle.std.specs.Option.{option_copied};
 ghost use Rattle.rows.specs.declared.refusal.Refusal.TheVariants as refusals;
 ghost use Rattle.raft_model.specs.Servers.{newcomer};
 ghost use Rattle.raft_model.specs.Worlds.{World};
-ghost use Rattle.raft_core.specs.Steps.{Represents, is_member};
+ghost use Rattle.raft_core.specs.Steps.{Represents, is_group_place};
 ghost use Rattle.raft_safety.specs.Claims.{IsGreatestCommit};
 ghost use Rattle.world.specs.Events.{world_event, world_events};
 ghost use Rattle.world.specs.WorldView.{RunsTo, IsGroup};
-ghost use Rattle.world.specs.Steps.{IsDone, SameWorld, RefusesEvent, IsAwake, IsNew, IsNoGroup, Played, Replays};
+ghost use Rattle.world.specs.Steps.{WasDone, SameWorld, RefusesEvent, IsAwake, IsNew, IsNoGroup, Played, Replays};
 ghost use Rattle.world.specs.Claims.{OneLeaderEver, LogsMatchEver, OneListEver, StatesSafeEver};
 ghost use Rattle.world.specs.Inner.Inputs.{ActsIn, IsSent};
 
@@ -43,7 +43,7 @@ impl<M: Machine> Model for RaftWorld<M> {
 
 /// The server at this place, before its first input.
 fn newcomer<M: Machine>(alloc: Global, place: usize, n: usize) -> Result<Raft<M>, NoMemory>
-    requires { is_member n place ≡ true }
+    requires { is_group_place n place ≡ true }
     ensures number { IfOk result (λ r. (r.me ≡ place) × (r.size ≡ n)) }
     ensures server { IfOk result (λ r. Represents M.meaning r newcomer) }
 {
@@ -78,7 +78,7 @@ impl<M: Machine> RaftWorld<M> {
         requires member { server < length self.old.servers }
         requires awake { IsAwake M.meaning self.old (world_event event) }
         ensures ok { IfOk result (λ done.
-            IsDone M.meaning self.old (world_event event) done self.new) }
+            WasDone M.meaning self.old (world_event event) done self.new) }
         ensures err { OnErr result (SameWorld self.old self.new) }
         ensures cause { IfErr result (λ refusal. refusal ≢ refusals.NoMemory →
             RefusesEvent M.meaning self.old (world_event event) refusal) }
@@ -95,7 +95,7 @@ impl<M: Machine> RaftWorld<M> {
     /// An event happens, if its actor is there and up.
     fn take(&mut self, event: RaftEvent<M>) -> Result<Done, Refusal>
         ensures ok { IfOk result (λ done.
-            IsDone M.meaning self.old (world_event event) done self.new) }
+            WasDone M.meaning self.old (world_event event) done self.new) }
         ensures err { OnErr result (SameWorld self.old self.new) }
         ensures cause { IfErr result (λ refusal. refusal ≢ refusals.NoMemory →
             RefusesEvent M.meaning self.old (world_event event) refusal) }
@@ -128,7 +128,7 @@ impl<M: Machine> RaftWorld<M> {
         // It is a step of the definitions; or the event's actor crashed for want of memory, in a
         // restart with nothing changed.
         ensures ok { IfOk result (λ done.
-            IsDone M.meaning self.old (world_event event) done self.new) }
+            WasDone M.meaning self.old (world_event event) done self.new) }
         ensures err { OnErr result (SameWorld self.old self.new) }
         // The definitions refuse it too, for the same reason.
         ensures cause { IfErr result (λ refusal. refusal ≢ refusals.NoMemory →

@@ -3,5 +3,5 @@ use Rattle.std.specs.Prelude.{Bool}
 use Rattle.rows.specs.declared.allocation.AllocId.{AllocId}
 use Rattle.group_model.specs.Clients.{Ended}
 
-abbrev pub ended_as : AllocId → Bool → Ended
-ended_as id ok = record { id = id; ok = ok }
+abbrev pub ended_row : AllocId → Bool → Ended
+ended_row id ok = record { id = id; ok = ok }

@@ -11,16 +11,16 @@ use Rattle.client_agent.specs.declared.ids.IdRow.{IdRow}
 abbrev pub row_id : IdRow → AllocId
 row_id r = r.id
 
-abbrev pub has_id : List IdRow → AllocId → Bool
-has_id rows id = has_row alloc_cmp row_id id rows
+abbrev pub lists_id : List IdRow → AllocId → Bool
+lists_id rows id = has_row alloc_cmp row_id id rows
 
 -- the set has just the ids of the list
 abbrev pub AreSet : List AllocId → List IdRow → Type 0
-AreSet ids rows = (id : AllocId) → has_id rows id ≡ list_any (same_alloc id) ids
+AreSet ids rows = (id : AllocId) → lists_id rows id ≡ list_any (same_alloc id) ids
 
 -- the set has just the ids of those that run
 abbrev pub AreRunning : List Running → List IdRow → Type 0
-AreRunning running rows = (id : AllocId) → has_id rows id ≡ runs running id
+AreRunning running rows = (id : AllocId) → lists_id rows id ≡ runs running id
 
 abbrev pub end_id : Ended → AllocId
 end_id e = e.id

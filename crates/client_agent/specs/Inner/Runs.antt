@@ -9,8 +9,8 @@ abbrev pub runs_of : List AllocId → List Running → Started
 runs_of ids running = record { ids = ids; running = running }
 
 -- more ids may stand behind the old ones, and nothing else changed
-abbrev pub Grows : List AllocId → List AllocId → Type 0
-Grows old new = (more : List AllocId) × (new ≡ old ++ more)
+abbrev pub MoreIds : List AllocId → List AllocId → Type 0
+MoreIds old new = (more : List AllocId) × (new ≡ old ++ more)
 
 -- by these rows, on a node of this size
 abbrev pub followed : Size → List ListedAllocation → List AllocId → Life → Started

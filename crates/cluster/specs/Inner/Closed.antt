@@ -10,17 +10,17 @@ use Rattle.cluster.specs.declared.actor.GroupActor.{GroupActor}
 use Rattle.cluster.specs.declared.closing.NamedActor.{NamedActor}
 use Rattle.cluster.specs.declared.closing.Rest.{Rest}
 use Rattle.cluster.specs.Actors.{group_size}
-use Rattle.cluster.specs.Cells.{CellView, Kept, kept_in, kept_of, IsLedCell}
+use Rattle.cluster.specs.Cells.{CellView, KeptEvent, kept_in, kept_event, IsLedCell}
 use Rattle.cluster.specs.Closing.{cell_actors, noted_events, seat_in}
 
 -- who an actor is, the actor, and the events that it took
 pub record RestView : Type 0 where
   pub me : Actor
   pub actor : GroupActor
-  pub kept : List Kept
+  pub kept : List KeptEvent
 
 abbrev pub rest_of : Rest → RestView
-rest_of r = record { me = r.me; actor = r.actor; kept = map kept_of r.taken.items }
+rest_of r = record { me = r.me; actor = r.actor; kept = map kept_event r.taken.items }
 
 abbrev pub rest_in : CellView → RestView
 rest_in c = record { me = c.seat.actor; actor = c.actor; kept = map kept_in c.seat.notes }

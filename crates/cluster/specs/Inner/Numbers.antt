@@ -10,42 +10,42 @@ use Rattle.event_book.specs.declared.view.Note.{Note}
 use Rattle.cluster.specs.declared.own_input.OwnInput.{OwnInput}
 use Rattle.cluster.specs.declared.merging.Placed.{Placed}
 use Rattle.cluster.specs.Closing.{crash_event, noted_events, own_event}
-use Rattle.cluster.specs.Inner.Merged.{Entry, entry_in, entry_of}
+use Rattle.cluster.specs.Inner.Merged.{TakenEvent, taken_event_in, taken_event_of}
 
 -- how many outputs stand before those of the k-th event
-abbrev pub outputs_before : List Entry → ℕ → ℕ
+abbrev pub outputs_before : List TakenEvent → ℕ → ℕ
 outputs_before xs zero = 0
 outputs_before [] (suc k) = 0
 outputs_before (x ∷ xs) (suc k) = x.sent + outputs_before xs k
 
 -- these are the numbers of outputs before those of the first events
-abbrev pub AreOffsets : List Entry → List ℕ → Type 0
+abbrev pub AreOffsets : List TakenEvent → List ℕ → Type 0
 AreOffsets log offsets = (k n : ℕ) → slice_get offsets k ≡ Some n → n ≡ outputs_before log k
 
 -- the event is what this makes of any history that has these offsets
-abbrev pub FitsOffsets : List ℕ → (List Entry → Event) → GroupEvent → Type 0
-FitsOffsets offsets made e = (log : List Entry) → AreOffsets log offsets → group_event e ≡ made log
+abbrev pub FitsOffsets : List ℕ → (List TakenEvent → Event) → GroupEvent → Type 0
+FitsOffsets offsets made e = (log : List TakenEvent) → AreOffsets log offsets → group_event e ≡ made log
 
-abbrev pub delivery_of : ℕ → ℕ → List Entry → Event
-delivery_of stamp place log = Deliver (outputs_before log stamp + place)
+abbrev pub delivered_event : ℕ → ℕ → List TakenEvent → Event
+delivered_event stamp place log = Deliver (outputs_before log stamp + place)
 
-abbrev pub entry_event : Actor → EventView OwnInput → List Entry → Event
+abbrev pub entry_event : Actor → EventView OwnInput → List TakenEvent → Event
 entry_event actor (Own input) log = own_event actor input
-entry_event actor (Delivery stamp place frame) log = delivery_of stamp place log
+entry_event actor (Delivery stamp place frame) log = delivered_event stamp place log
 entry_event actor Crash log = crash_event actor
 
-abbrev pub entry_events : List Entry → List Entry → List Event
+abbrev pub entry_events : List TakenEvent → List TakenEvent → List Event
 entry_events log xs = map (λ x. entry_event x.actor x.event log) xs
 
 -- the events are those of any history of which these are the events
 abbrev pub AreEventsOf : List Placed → List GroupEvent → Type 0
 AreEventsOf merged events =
-    (log : List (Note OwnInput)) → map entry_in merged ≡ map entry_of log
+    (log : List (Note OwnInput)) → map taken_event_in merged ≡ map taken_event_of log
     → group_events events ≡ noted_events log log
 
 -- the first events of a history are made into these; so many outputs come before those of each of
 -- them, and so many before the next event's
-pub record Numbered (log done : List Entry) (made : List GroupEvent) (before : List ℕ) (sum : ℕ) : Type 0 where
+pub record NumberedSoFar (log done : List TakenEvent) (made : List GroupEvent) (before : List ℕ) (sum : ℕ) : Type 0 where
   pub events : group_events made ≡ entry_events log done
   pub size : length before ≡ length done
   pub offsets : AreOffsets log before

@@ -54,9 +54,9 @@ abbrev pub Did : GroupActor → EventView OwnInput → Stepped → GroupActor �
 Did old event (Taken outbox) new = ActorTurns old event (map output_of outbox.frames) outbox.work new
 Did old event Crashed new = ActorTurns old Crash [] [] new × ActorMayLack old event
 
-abbrev pub Answered : GroupActor → EventView OwnInput → Result Stepped Refusal → GroupActor → Type 0
-Answered old event (Ok stepped) new = Did old event stepped new
-Answered old event (Err cause) new = SameActor old new × RefusedAsSaid (ActorRefuses old event) cause
+abbrev pub DidOrRefused : GroupActor → EventView OwnInput → Result Stepped Refusal → GroupActor → Type 0
+DidOrRefused old event (Ok stepped) new = Did old event stepped new
+DidOrRefused old event (Err cause) new = SameActor old new × RefusedAsSaid (ActorRefuses old event) cause
 
 -- what comes to an actor is no crash in a step's place
 abbrev pub IsAnEvent : EventView OwnInput → Type 0

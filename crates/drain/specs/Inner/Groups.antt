@@ -12,8 +12,8 @@ use Rattle.group_model.specs.Drains.{same_group, group_moves}
 use Rattle.drain.specs.declared.group.JobGroup.{JobGroup}
 use Rattle.drain.specs.declared.marked.Marked.{Marked}
 
-abbrev pub group_of : Allocation → JobGroup
-group_of a = record { job = a.job; group = a.group }
+abbrev pub job_group : Allocation → JobGroup
+job_group a = record { job = a.job; group = a.group }
 
 abbrev pub job_group_cmp : JobGroup → JobGroup → Ordering
 job_group_cmp a b = ordering_then (name_cmp a.job b.job) (name_cmp a.group b.group)
@@ -23,7 +23,7 @@ itself g = g
 
 -- whether the group of an allocation was met
 abbrev pub is_met : List JobGroup → Allocation → Bool
-is_met groups a = has_row job_group_cmp itself (group_of a) groups
+is_met groups a = has_row job_group_cmp itself (job_group a) groups
 
 -- the first of each job and group that was not met
 abbrev pub firsts_but : (Allocation → Bool) → List Allocation → List Allocation

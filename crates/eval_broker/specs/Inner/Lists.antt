@@ -56,8 +56,8 @@ head_for t = record { urgency = urgency_of t; job = t.job }
 
 module _ {X : Type 0} (R : X → X → Ordering) where
   -- whether a list has it
-  abbrev pub is_in : X → List X → Bool
-  is_in q xs = has_row R (λ x. x) q xs
+  abbrev pub holds_key : X → List X → Bool
+  holds_key q xs = has_row R (λ x. x) q xs
 
   -- whether it is what is made of a task that passes
   abbrev pub is_listed : (Task → X) → (Task → Bool) → X → Option Task → Bool
@@ -67,7 +67,7 @@ module _ {X : Type 0} (R : X → X → Ordering) where
   -- the list has what is made of the tasks that pass, and no other, in order
   pub record IsListing (id_of : X → EvalId) (make : Task → X) (passes : Task → Bool) (tasks : List Task) (xs : List X) : Type 0 where
     pub rising : T (is_rising R (λ x. x) xs)
-    pub exact : (q : X) → is_in q xs ≡ is_listed make passes q (task_of (id_of q) tasks)
+    pub exact : (q : X) → holds_key q xs ≡ is_listed make passes q (task_of (id_of q) tasks)
 
 -- the task of a rank as a head, if it waits for a worker
 abbrev pub head_at : Rank → Option Head
@@ -88,15 +88,15 @@ is_head t (Some h) = is_eq (head_cmp t h)
 -- the heads of all jobs
 pub record AreHeads (ranks : List Rank) (heads : List Head) : Type 0 where
   pub rising : T (is_rising head_cmp (λ t. t) heads)
-  pub exact : (t : Head) → is_in head_cmp t heads ≡ is_head t (head_of t.job ranks)
+  pub exact : (t : Head) → holds_key head_cmp t heads ≡ is_head t (head_of t.job ranks)
 
 -- and of all jobs but one
 pub record AreHeadsBut (job : List ℕ) (ranks : List Rank) (heads : List Head) : Type 0 where
   pub rising : T (is_rising head_cmp (λ t. t) heads)
-  pub exact : (t : Head) → is_in head_cmp t heads ≡ (not (is_eq (name_cmp t.job job)) && is_head t (head_of t.job ranks))
+  pub exact : (t : Head) → holds_key head_cmp t heads ≡ (not (is_eq (name_cmp t.job job)) && is_head t (head_of t.job ranks))
 
 -- the three lists are those of these tasks
-pub record AreListed (tasks : List Task) (l : Lists) : Type 0 where
+pub record AreTaskLists (tasks : List Task) (l : Lists) : Type 0 where
   pub ranks : IsListing rank_cmp rank_id rank_of is_any tasks l.ranks.rows
   pub heads : AreHeads l.ranks.rows l.heads.rows
   pub failed : IsListing urgency_cmp urgency_id urgency_of is_failed tasks l.failed.rows
@@ -117,7 +117,7 @@ pub record KeepRoom (old new : Lists) : Type 0 where
 -- brings in a task takes memory
 pub record AreKept (k : Tasks) : Type 0 where
   pub rising : T (is_rising eval_cmp task_id k.tasks.rows)
-  pub listed : AreListed k.tasks.rows k.lists
+  pub listed : AreTaskLists k.tasks.rows k.lists
   pub room : HaveRoom (length k.tasks.rows) k.lists
 
 -- neither out nor acked, nor given out yet

@@ -36,7 +36,7 @@ module _ {I : Type 0} where
 
   -- Between any two moves there is one legal history, which proofs alone see. The word is its
   -- length, no actor noted more than 2^40 - 1 events, and each view fits it
-  pub record Kept (actors : List Actor) (s : State (Unit {0}) (BookView I)) : Type 0 where
+  pub record IsBookState (actors : List Actor) (s : State (Unit {0}) (BookView I)) : Type 0 where
     pub log : List (Note I)
     pub holder : Actor → ℕ
     pub words : s.words ≡ length log ∷ []

@@ -42,8 +42,8 @@ module _ {I : Type 0} where
   first_seat [] = new_seat (Server 0)
   first_seat (seat ∷ seats) = seat
 
-  abbrev pub seat_in : BookView I → SeatView I
-  seat_in view = first_seat view.seats
+  abbrev pub only_seat : BookView I → SeatView I
+  only_seat view = first_seat view.seats
 
   abbrev pub first_token : List (TokenView I) → TokenView I
   first_token [] =
@@ -55,18 +55,18 @@ module _ {I : Type 0} where
 
   -- what the holder of a seat knows, and that of a token
   abbrev pub IsSeat : HolderView I → Type 0
-  IsSeat me = me ≡ (seat_view (seat_in me.0), [])
+  IsSeat me = me ≡ (seat_view (only_seat me.0), [])
 
   abbrev pub IsToken : HolderView I → Type 0
   IsToken me = me ≡ (token_view (token_in me.0), [])
 
   -- a token of an output of the last note
-  abbrev pub tokens_of : ℕ → List (SeatView I) → List (TokenView I)
-  tokens_of place [] = []
-  tokens_of place (seat ∷ seats) = last_token place seat.notes
+  abbrev pub seat_tokens : ℕ → List (SeatView I) → List (TokenView I)
+  seat_tokens place [] = []
+  seat_tokens place (seat ∷ seats) = last_token place seat.notes
 
   abbrev pub last_token_view : ℕ → BookView I → BookView I
-  last_token_view place view = record { seats = []; tokens = tokens_of place view.seats }
+  last_token_view place view = record { seats = []; tokens = seat_tokens place view.seats }
 
   -- a seat after it took a token in
   abbrev pub taken_in : BookView I → BookView I → BookView I
@@ -78,16 +78,16 @@ module _ {I : Type 0} where
       record { seats = view.seats ++ other.seats; tokens = view.tokens ++ other.tokens }
 
   -- the opening seat hands out its first seat
-  abbrev pub first_of : List (SeatView I) → List (SeatView I)
-  first_of [] = []
-  first_of (seat ∷ seats) = seat ∷ []
+  abbrev pub first_alone : List (SeatView I) → List (SeatView I)
+  first_alone [] = []
+  first_alone (seat ∷ seats) = seat ∷ []
 
   abbrev pub others_of : List (SeatView I) → List (SeatView I)
   others_of [] = []
   others_of (seat ∷ seats) = seats
 
   abbrev pub handed_view : BookView I → BookView I
-  handed_view view = record { seats = first_of view.seats; tokens = [] }
+  handed_view view = record { seats = first_alone view.seats; tokens = [] }
 
   abbrev pub rest_view : BookView I → BookView I
   rest_view view = record view { seats = others_of view.seats }

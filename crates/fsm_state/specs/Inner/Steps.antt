@@ -89,8 +89,8 @@ AddsNames more old new = (name : List ℕ) (rest : List (List ℕ))
     → (contains name_cmp new name || has_name rest name) ≡ (contains name_cmp old name || has_name (more rest) name)
 
 -- whether a job's name is one of a set
-abbrev pub is_in : BTreeSet (List ℕ) → Job → Bool
-is_in names j = contains name_cmp names j.name
+abbrev pub is_named_in : BTreeSet (List ℕ) → Job → Bool
+is_named_in names j = contains name_cmp names j.name
 
 -- the rows of the names that have one, in the order of the names
 abbrev pub jobs_at : List Job → List (List ℕ) → List Job

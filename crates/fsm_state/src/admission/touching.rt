@@ -6,7 +6,7 @@ ghost use Rattle.cluster_model.specs.Words.{no_alloc, is_ready};
 ghost use Rattle.cluster_model.specs.Admission.{admission, touch_passes, drains, can_move, is_its_own};
 ghost use Rattle.cluster_model.specs.Effect.{moves, owns, is_ended_by, told, told_all};
 ghost use Rattle.fsm_tables.specs.Lookups.{lives_on};
-ghost use Rattle.fsm_state.specs.Inner.Steps.{is_in, ended_job, ended_now, HasNames, AddsNames};
+ghost use Rattle.fsm_state.specs.Inner.Steps.{is_named_in, ended_job, ended_now, HasNames, AddsNames};
 
 use crate::admission::is_drained;
 use crate::apply::reports::told as told_itself;
@@ -71,7 +71,7 @@ fn add_ended(
 impl Cluster {
     /// Whether the evaluations that touch the jobs of these names would pass the limit.
     fn names_pass(&self, names: &BTreeSet<JobName>) -> bool
-        ensures { result ≡ touch_passes (is_in names.now) self.now }
+        ensures { result ≡ touch_passes (is_named_in names.now) self.now }
     {
         self.ranges();
         let more = self.count_all(names);

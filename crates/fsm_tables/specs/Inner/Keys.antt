@@ -52,6 +52,6 @@ abbrev pub greatest_name : List ℕ → AllocName
 greatest_name job = record { job = job; group = replicate 32 122; index = 63 }
 
 -- both indexes list what they are to list
-pub record AreListed (rows : List Allocation) (x : Indexes) : Type 0 where
+pub record AreRowIndexes (rows : List Allocation) (x : Indexes) : Type 0 where
   pub names : AreIndexed alloc_name_cmp live_name rows x.names
   pub nodes : AreIndexed on_node_cmp active_on rows x.nodes

@@ -15,7 +15,7 @@ use Rattle.world.specs.declared.group.event.Event.TheVariants as events
 use Rattle.world.specs.Events.{place_of}
 use Rattle.world.specs.GroupEvents.{group_event}
 use Rattle.world.specs.GroupView.{GroupView, client_view}
-use Rattle.world.specs.GroupSteps.{SameGroup, RefusesGroupEvent}
+use Rattle.world.specs.GroupSteps.{SameView, RefusesGroupEvent}
 use Rattle.picture.specs.declared.record.Face.{Face}
 
 -- who is to receive a frame
@@ -66,12 +66,12 @@ abbrev pub fetched : GroupView → GroupView
 fetched group = record group { outbox = record group.outbox { work = [] } }
 
 -- the event stands behind those that had happened
-abbrev pub Happened : GroupView → Event → GroupView → Type 0
-Happened old event new = new.trace ≡ old.trace ++ group_event event ∷ []
+abbrev pub IsNextInTrace : GroupView → Event → GroupView → Type 0
+IsNextInTrace old event new = new.trace ≡ old.trace ++ group_event event ∷ []
 
 -- The definitions refuse the event with a refusal of this number, and nothing happened.
 pub record RefusedAs (old : GroupView) (event : Event) (number : ℕ) (new : GroupView) : Type 0 where
   pub refusal : Refusal
   pub number_is : number_of refusal ≡ number
   pub cause : RefusesGroupEvent old (group_event event) refusal
-  pub same : SameGroup (fetched old) new
+  pub same : SameView (fetched old) new

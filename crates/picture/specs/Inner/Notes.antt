@@ -11,8 +11,8 @@ abbrev pub leads_anew : Face → Face → Bool
 leads_anew before after = after.leads && (not before.leads || not (nat_eq before.term after.term))
 
 -- its lifeline looks otherwise from the event on
-abbrev pub turns : Face → Face → Bool
-turns before after = differ before.up after.up || (differ before.leads after.leads || leads_anew before after)
+abbrev pub looks_otherwise : Face → Face → Bool
+looks_otherwise before after = differ before.up after.up || (differ before.leads after.leads || leads_anew before after)
 
 -- it applied entries
 abbrev pub applies_more : Face → Face → Bool

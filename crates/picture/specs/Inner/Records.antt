@@ -11,7 +11,7 @@ use Rattle.picture.specs.declared.record.Record.{Record}
 use Rattle.picture.specs.declared.record.Step.{Step}
 use Rattle.picture.specs.declared.record.Sending.{Sending}
 use Rattle.picture.specs.Inner.Places.{capped}
-use Rattle.picture.specs.Inner.Actors.{actor_in, face_in, Happened, RefusedAs}
+use Rattle.picture.specs.Inner.Actors.{actor_in, face_in, IsNextInTrace, RefusedAs}
 
 -- The place of the message that an event delivers, from 0; none of an input, and none of the number
 -- 0.
@@ -52,9 +52,9 @@ had_come None sendings = false
 had_come (Some place) sendings = has_come (slice_get sendings place)
 
 -- a message comes with an event that is not refused
-abbrev pub taken_in : Option ℕ → Option ℕ → List Sending → List Sending
-taken_in None message sendings = arrived message sendings
-taken_in (Some number) message sendings = sendings
+abbrev pub taken_message : Option ℕ → Option ℕ → List Sending → List Sending
+taken_message None message sendings = arrived message sendings
+taken_message (Some number) message sendings = sendings
 
 -- it never came
 abbrev pub is_lost : Sending → Bool
@@ -88,9 +88,9 @@ pub record TakesRow (old new : Record) (was : GroupView) (event : Event) (is : G
   pub column : step.column ≡ lifeline_of old.servers old.clients (actor_in was.outbox.frames event)
   pub message : step.message ≡ delivered_place event
   pub again : step.again ≡ (is_none step.refusal && had_come step.message old.sendings.items)
-  pub taken : IfNone step.refusal (Happened was event is)
+  pub taken : IfNone step.refusal (IsNextInTrace was event is)
   pub refused : IfSome step.refusal (λ number. RefusedAs was event number is)
   pub before : step.before ≡ face_in was (actor_in was.outbox.frames event)
   pub after : step.after ≡ face_in is (actor_in was.outbox.frames event)
-  pub sendings : new.sendings.items ≡ taken_in step.refusal step.message old.sendings.items
-      ++ map (as_sent old (unwrap_or step.column 0)) (drop (length (taken_in step.refusal step.message old.sendings.items)) is.outbox.frames)
+  pub sendings : new.sendings.items ≡ taken_message step.refusal step.message old.sendings.items
+      ++ map (as_sent old (unwrap_or step.column 0)) (drop (length (taken_message step.refusal step.message old.sendings.items)) is.outbox.frames)

@@ -15,7 +15,7 @@ use Rattle.picture.specs.declared.ink.Anchor.{Anchor}
 use Rattle.picture.specs.declared.ink.Anchor.TheVariants as anchors
 use Rattle.picture.specs.declared.ink.Cover.{Cover}
 use Rattle.picture.specs.declared.ink.Cover.TheVariants as covers
-use Rattle.picture.specs.Pictures.{shown}
+use Rattle.picture.specs.Pictures.{shown_byte}
 
 -- how a text looks
 abbrev pub ink_look : Ink → List ℕ
@@ -75,7 +75,7 @@ abbrev pub white_text : Point → ℕ → ℕ → Cover → List ℕ
 white_text corner width height cover = codes "<rect x=\"" ++ (decimal corner.x ++ (codes "\" y=\"" ++ (decimal corner.y ++ (codes "\" width=\"" ++ (decimal width ++ (codes "\" height=\"" ++ (decimal height ++ (codes "\" " ++ (cover_look cover ++ codes "/>\n")))))))))
 
 abbrev pub words_text : Point → Anchor → Ink → List ℕ → List ℕ
-words_text at anchor ink text = codes "<text x=\"" ++ (decimal at.x ++ (codes "\" y=\"" ++ (decimal at.y ++ (codes "\" " ++ (anchor_look anchor ++ (codes " " ++ (ink_look ink ++ (codes ">" ++ (flat_map shown (take (most_of ink) text) ++ codes "</text>\n")))))))))
+words_text at anchor ink text = codes "<text x=\"" ++ (decimal at.x ++ (codes "\" y=\"" ++ (decimal at.y ++ (codes "\" " ++ (anchor_look anchor ++ (codes " " ++ (ink_look ink ++ (codes ">" ++ (flat_map shown_byte (take (most_of ink) text) ++ codes "</text>\n")))))))))
 
 -- an element, as a line of its own
 abbrev pub text_of : Shape → List ℕ
@@ -86,7 +86,7 @@ text_of (White corner width height cover) = white_text corner width height cover
 text_of (Text at anchor ink text) = words_text at anchor ink (string_bytes text)
 
 abbrev pub title_text : List ℕ → List ℕ
-title_text title = codes "<title>" ++ (flat_map shown title ++ codes "</title>\n")
+title_text title = codes "<title>" ++ (flat_map shown_byte title ++ codes "</title>\n")
 
 abbrev pub about_text : List ℕ
 about_text = codes "<desc>" ++ (ABOUT.now ++ (codes "</desc>\n" ++ (HEAD.now ++ codes "\n")))

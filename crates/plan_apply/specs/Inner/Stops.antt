@@ -10,8 +10,8 @@ use Rattle.cluster_model.specs.Admission.{is_live_of}
 use Rattle.fsm_state.specs.Inner.Alone.{ended_by}
 
 -- one more, if it is a live one of the job that is not there yet
-abbrev pub with_stop : State → List ℕ → List AllocId → AllocId → List AllocId
-with_stop s job ids id =
+abbrev pub with_live_stop : State → List ℕ → List AllocId → AllocId → List AllocId
+with_live_stop s job ids id =
     if is_live_of job s id && not (list_any (same_alloc id) ids) then ids ++ id ∷ [] else ids
 
 -- one more row, if it is not there yet

@@ -4,8 +4,8 @@ use Rattle.raft_model.specs.Quorums.{index_at}
 use Rattle.raft_model.specs.Servers.{Server, Mode, hears_ok, hears_refusal}
 
 -- server j holds its log up to `at`, or refuses and says where to try again
-abbrev pub hears : {C : Type 0} → ℕ → ℕ → Server C → ℕ → Bool → ℕ → Mode → Server C
-hears n me s j ok at mode = if ok then hears_ok n me s j at mode else hears_refusal n me s j at mode
+abbrev pub hears_either : {C : Type 0} → ℕ → ℕ → Server C → ℕ → Bool → ℕ → Mode → Server C
+hears_either n me s j ok at mode = if ok then hears_ok n me s j at mode else hears_refusal n me s j at mode
 
 -- the match indexes after it, where the leader's log ends at `last`
 abbrev pub match_after : ℕ → ℕ → Bool → ℕ → List ℕ → List ℕ

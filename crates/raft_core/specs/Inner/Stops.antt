@@ -13,28 +13,28 @@ use Rattle.raft_core.specs.Frames.{IsFrameOf}
 use Rattle.raft_core.specs.Inputs.{Handed, Own}
 use Rattle.raft_core.specs.Steps.{Steps}
 use Rattle.raft_core.specs.Refusals.{refusal, frame_refusal, message_fault, MayLack}
-use Rattle.raft_core.specs.Inner.Turns.{Lost}
+use Rattle.raft_core.specs.Inner.Turns.{LackedMemory}
 
 -- memory was wanting; a restart takes none
 abbrev pub LosesIn : {C : Type 0} → RaftView C → Handed C → RaftView C → List Frame → List Frame → Type 0
 LosesIn old (Own Restart) new before after = ⊥
-LosesIn old h new before after = MayLack old.server.mode h × Lost old new before after
+LosesIn old h new before after = MayLack old.server.mode h × LackedMemory old new before after
 
 -- nothing changed, and nothing was sent
 pub record Unchanged {C : Type 0} (old new : RaftView C) (before after : List Frame) : Type 0 where
   pub same : new ≡ old
   pub nothing : after ≡ before
 
-abbrev pub Stops : {S C : Type 0} → Meaning S C → RaftView C → Handed C → Refusal → RaftView C
+abbrev pub EndsRefused : {S C : Type 0} → Meaning S C → RaftView C → Handed C → Refusal → RaftView C
     → List Frame → List Frame → Type 0
-Stops m old h refusals.NoMemory new before after = LosesIn old h new before after
-Stops m old h cause new before after =
+EndsRefused m old h refusals.NoMemory new before after = LosesIn old h new before after
+EndsRefused m old h cause new before after =
     (refusal m old.size old.me old.server h ≡ Some cause) × Unchanged old new before after
 
 -- the same of bytes that come to a server that is up
 abbrev pub FrameStops : {S C : Type 0} → Meaning S C → RaftView C → List ℕ → Refusal → RaftView C
     → List Frame → List Frame → Type 0
-FrameStops m old bytes refusals.NoMemory new before after = Lost old new before after
+FrameStops m old bytes refusals.NoMemory new before after = LackedMemory old new before after
 FrameStops m old bytes cause new before after =
     (frame_refusal m old.size old.me bytes ≡ Some cause) × Unchanged old new before after
 
@@ -48,6 +48,6 @@ TakesFrame {C = C} m old s bytes new before after =
 abbrev pub MessageStops : {S C : Type 0} → RaftView C → WireMessage S C → Refusal → RaftView C
     → List Frame → List Frame → Type 0
 MessageStops old read refusals.NoMemory new before after =
-    (message_fault old.size old.me read ≡ None) × Lost old new before after
+    (message_fault old.size old.me read ≡ None) × LackedMemory old new before after
 MessageStops old read cause new before after =
     (message_fault old.size old.me read ≡ Some cause) × Unchanged old new before after

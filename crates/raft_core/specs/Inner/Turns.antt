@@ -7,19 +7,19 @@ use Rattle.raft_core.specs.RaftView.{RaftView}
 use Rattle.raft_core.specs.Frames.{Sends}
 
 -- the turn was taken, its messages sent
-pub record Turned {S C : Type 0} (m : Meaning S C) (old new : RaftView C) (before after : List Frame) (turn : Turn C) : Type 0 where
+pub record TurnTaken {S C : Type 0} (m : Meaning S C) (old new : RaftView C) (before after : List Frame) (turn : Turn C) : Type 0 where
   pub server : new.server ≡ turn.server
   pub me : new.me ≡ old.me
   pub size : new.size ≡ old.size
   pub sent : Sends m before after turn.sent
 
 -- what was sent before still stands in front
-abbrev pub Sent : List Frame → List Frame → Type 0
-Sent before after = take (length before) after ≡ before
+abbrev pub KeepsFront : List Frame → List Frame → Type 0
+KeepsFront before after = take (length before) after ≡ before
 
 -- memory was wanting: what is stored is as it was, and nothing of what was sent before is lost
-pub record Lost {C : Type 0} (old new : RaftView C) (before after : List Frame) : Type 0 where
+pub record LackedMemory {C : Type 0} (old new : RaftView C) (before after : List Frame) : Type 0 where
   pub server : crashed new.server ≡ crashed old.server
   pub me : new.me ≡ old.me
   pub size : new.size ≡ old.size
-  pub front : Sent before after
+  pub front : KeepsFront before after

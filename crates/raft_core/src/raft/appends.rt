@@ -7,7 +7,7 @@ ghost use Rattle.raft_model.specs.Servers.{is_up, is_leader, met, following, fol
 ghost use Rattle.raft_model.specs.Steps.{receives};
 ghost use Rattle.raft_model.specs.Messages.{Append as AppendBody};
 ghost use Rattle.raft_core.specs.Inner.Views.{with_server};
-ghost use Rattle.raft_core.specs.Inner.Turns.{Turned, Lost};
+ghost use Rattle.raft_core.specs.Inner.Turns.{TurnTaken, LackedMemory};
 ghost use Rattle.raft_core.specs.RaftView.{KeepsAhead};
 
 use super::Raft;
@@ -45,11 +45,11 @@ impl<M: Machine> Raft<M> {
         requires missing { (nat_le head.now.prev_index self.old.server.commit || has
             self.old.server.log head.now.prev_index head.now.prev_term) ≡ false }
         ensures taken { OnOk result ((entries : List (Entry M.Command)) →
-            Turned M.meaning self.old self.new outbox.old outbox.new
+            TurnTaken M.meaning self.old self.new outbox.old outbox.new
             (follows_append self.old.me (following (met head.now.term self.old.server) from) from
             head.now.prev_index head.now.prev_term head.now.commit entries)) }
         ensures kept { OnOk result (KeepsAhead self.old self.new) }
-        ensures lost { OnErr result (Lost self.old self.new outbox.old outbox.new) }
+        ensures lost { OnErr result (LackedMemory self.old self.new outbox.old outbox.new) }
     {
         let last = self.log.len() as u64;
         let at = (head.prev_index.get() - 1).min(last);
@@ -84,11 +84,11 @@ impl<M: Machine> Raft<M> {
             self.old.server.log head.now.prev_index head.now.prev_term) ≡ true }
         requires places { head.now.prev_index + length entries.items < 2 ^ 40 }
         ensures taken { OnOk result
-            (Turned M.meaning self.old self.new outbox.old outbox.new
+            (TurnTaken M.meaning self.old self.new outbox.old outbox.new
             (follows_append self.old.me (following (met head.now.term self.old.server) from) from
             head.now.prev_index head.now.prev_term head.now.commit entries.items)) }
         ensures kept { OnOk result (KeepsAhead self.old self.new) }
-        ensures lost { OnErr result (Lost self.old self.new outbox.old outbox.new) }
+        ensures lost { OnErr result (LackedMemory self.old self.new outbox.old outbox.new) }
     {
         forget(&mut self.ahead);
         let Some(reached) = Index::new(head.prev_index.get() + entries.len() as u64) else {
@@ -136,13 +136,13 @@ impl<M: Machine> Raft<M> {
         requires up { is_up self.old.server.mode ≡ true }
         requires other { from ≢ self.old.me }
         ensures taken { OnOk result
-            (Turned M.meaning self.old self.new outbox.old outbox.new
+            (TurnTaken M.meaning self.old self.new outbox.old outbox.new
             (receives M.meaning.noop self.old.size self.old.me
             (met message.head.term self.old.server) from message.head.term
             (AppendBody message.head.prev_index message.head.prev_term message.head.commit
             message.entries))) }
         ensures kept { OnOk result (KeepsAhead self.old self.new) }
-        ensures lost { OnErr result (Lost self.old self.new outbox.old outbox.new) }
+        ensures lost { OnErr result (LackedMemory self.old self.new outbox.old outbox.new) }
     {
         let (head, entries) = message.into_parts();
         let (term, its_term) = (self.term.get(), head.term.get());

@@ -7,7 +7,7 @@ ghost use Rattle.raft_model.specs.Quorums.{index_at};
 ghost use Rattle.raft_model.specs.Servers.{is_up, is_leader, beats};
 ghost use Rattle.raft_core.specs.Inner.Beats.{append_from};
 ghost use Rattle.raft_core.specs.Frames.{Sends};
-ghost use Rattle.raft_core.specs.Inner.Turns.{Turned, Lost, Sent};
+ghost use Rattle.raft_core.specs.Inner.Turns.{TurnTaken, LackedMemory, KeepsFront};
 
 use super::Raft;
 use super::votes::server_at;
@@ -74,7 +74,7 @@ fn send_to_others<M: Machine>(
     ensures ok { OnOk result (Sends M.meaning outbox.old outbox.new
         (to_others me (λ to. append_from me term commit log.now (index_at next.now to) to)
         (length next.now))) }
-    ensures err { OnErr result (Sent outbox.old outbox.new) }
+    ensures err { OnErr result (KeepsFront outbox.old outbox.new) }
 {
     for (place, first) in next.iter().enumerate() {
         if place != me.place() {
@@ -89,14 +89,14 @@ impl<M: Machine> Raft<M> {
     pub(super) fn beat(&self, outbox: &mut Frames) -> Result<(), NoMemory>
         requires { is_up self.now.server.mode ≡ true }
         ensures taken { OnOk result
-            (Turned M.meaning self.now self.now outbox.old outbox.new
+            (TurnTaken M.meaning self.now self.now outbox.old outbox.new
             (record {
               server = self.now.server;
               sent = beats self.now.size self.now.me
                   self.now.server self.now.server.mode;
             })) }
         ensures lost { OnErr result ((is_leader self.now.server.mode ≡ true)
-            × Lost self.now self.now outbox.old outbox.new) }
+            × LackedMemory self.now self.now outbox.old outbox.new) }
     {
         match self.role {
             Role::Follower => Ok(()),

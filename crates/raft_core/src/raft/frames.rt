@@ -7,7 +7,7 @@ ghost use Rattle.raft_model.specs.Steps.{receives};
 ghost use Rattle.wire.specs.Messages.{log_body};
 ghost use Rattle.raft_core.specs.Frames.{log_message};
 ghost use Rattle.raft_core.specs.Steps.{Represents, TakesMessage};
-ghost use Rattle.raft_core.specs.Inner.Turns.{Turned, Lost};
+ghost use Rattle.raft_core.specs.Inner.Turns.{TurnTaken, LackedMemory};
 ghost use Rattle.raft_core.specs.Inner.Stops.{TakesFrame, FrameStops, MessageStops};
 ghost use Rattle.raft_core.specs.Refusals.{frame_refusal, misdirected, message_fault, message_refusal, IsMessageRefused, MessageRefusalLeaves, RefusalShows};
 ghost use Rattle.raft_core.specs.RaftView.{KeepsAhead};
@@ -33,13 +33,13 @@ impl<M: Machine> Raft<M> {
         requires member { from < self.old.size }
         requires other { from ≢ self.old.me }
         ensures taken { OnOk result (IfSome (log_message from self.old.me (log_body body)) (λ x.
-            Turned M.meaning self.old self.new outbox.old outbox.new
+            TurnTaken M.meaning self.old self.new outbox.old outbox.new
             (receives M.meaning.noop self.old.size self.old.me (met x.term self.old.server)
             from x.term x.body))) }
         ensures kept { OnOk result (KeepsAhead self.old self.new) }
         ensures seen { OnOk result
             (SeesStep M.meaning W.sees self.old.server self.new.server watch.old watch.new) }
-        ensures lost { OnErr result (Lost self.old self.new outbox.old outbox.new) }
+        ensures lost { OnErr result (LackedMemory self.old self.new outbox.old outbox.new) }
     {
         match body {
             LogBody::VoteRequest(request) => self.vote_request(from, &request, outbox),

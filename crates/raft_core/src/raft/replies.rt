@@ -5,7 +5,7 @@ ghost use Rattle.raft_model.specs.Servers.{is_up, met, crashed};
 ghost use Rattle.raft_model.specs.Steps.{receives};
 ghost use Rattle.raft_model.specs.Messages.{AppendReply as AppendReplyBody};
 ghost use Rattle.raft_model.specs.Quorums.{index_at};
-ghost use Rattle.raft_core.specs.Inner.Replies.{hears, next_after, match_after};
+ghost use Rattle.raft_core.specs.Inner.Replies.{hears_either, next_after, match_after};
 ghost use Rattle.raft_core.specs.RaftView.{KeepsAhead};
 ghost use Rattle.raft_core.specs.Watching.{SeesStep};
 
@@ -81,7 +81,7 @@ impl<M: Machine> Raft<M> {
         requires member { from < self.old.size }
         ensures same { (self.new.me ≡ self.old.me) × (self.new.size ≡ self.old.size) }
         ensures heard { OnOk result (self.new.server
-            ≡ hears self.old.size self.old.me self.old.server from ok at self.old.server.mode) }
+            ≡ hears_either self.old.size self.old.me self.old.server from ok at self.old.server.mode) }
         ensures kept { OnOk result (KeepsAhead self.old self.new) }
         ensures seen { OnOk result
             (SeesStep M.meaning W.sees self.old.server self.new.server watch.old watch.new) }

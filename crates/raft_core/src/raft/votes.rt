@@ -1,7 +1,7 @@
 //! Elections. (Raft, section 5.2, and section 5.4.1.)
 
 ghost use Rattle.std.specs.Prelude.{◌≡◌, ◌≢◌, ◌+◌, ◌^◌, ◌<◌, ◌≤◌, true, length, None, OnOk, OnErr, IfErr};
-ghost use Rattle.raft_model.specs.Servers.{is_up, met, grants, stood, vote_request, counted, won, crashed};
+ghost use Rattle.raft_model.specs.Servers.{is_up, met, grants, stood, vote_request_to, counted, won, crashed};
 ghost use Rattle.raft_model.specs.Steps.{receives, Timeout};
 ghost use Rattle.raft_model.specs.Messages.{to_others, VoteRequest as VoteRequestBody, VoteReply as VoteReplyBody};
 ghost use Rattle.raft_model.specs.Quorums.{count, is_quorum, marked};
@@ -9,8 +9,8 @@ ghost use Rattle.raft_core.specs.Frames.{Sends};
 ghost use Rattle.raft_core.specs.Inputs.{Own};
 ghost use Rattle.raft_core.specs.Steps.{Steps};
 ghost use Rattle.raft_core.specs.Refusals.{refusal, HidesNothing};
-ghost use Rattle.raft_core.specs.Inner.Stops.{Stops};
-ghost use Rattle.raft_core.specs.Inner.Turns.{Turned, Lost, Sent};
+ghost use Rattle.raft_core.specs.Inner.Stops.{EndsRefused};
+ghost use Rattle.raft_core.specs.Inner.Turns.{TurnTaken, LackedMemory, KeepsFront};
 ghost use Rattle.raft_core.specs.RaftView.{KeepsAhead};
 
 use super::Raft;
@@ -71,7 +71,7 @@ fn ask<M: Machine>(
           body =
               VoteRequestBody request.now.last_index request.now.last_term;
         }) size)) }
-    ensures err { OnErr result (Sent outbox.old outbox.new) }
+    ensures err { OnErr result (KeepsFront outbox.old outbox.new) }
 {
     for place in 0..size {
         if place != me.place() {
@@ -122,12 +122,12 @@ impl<M: Machine> Raft<M> {
         requires up { is_up self.old.server.mode ≡ true }
         requires other { from ≢ self.old.me }
         ensures taken { OnOk result
-            (Turned M.meaning self.old self.new outbox.old outbox.new
+            (TurnTaken M.meaning self.old self.new outbox.old outbox.new
             (receives M.meaning.noop self.old.size self.old.me
             (met request.now.term self.old.server) from request.now.term
             (VoteRequestBody request.now.last_index request.now.last_term))) }
         ensures kept { OnOk result (KeepsAhead self.old self.new) }
-        ensures lost { OnErr result (Lost self.old self.new outbox.old outbox.new) }
+        ensures lost { OnErr result (LackedMemory self.old self.new outbox.old outbox.new) }
     {
         let granted = self.may_grant(from, request);
         let asked = request.term;
@@ -221,15 +221,15 @@ impl<M: Machine> Raft<M> {
         requires term { self.old.server.term + 1 < 2 ^ 40 }
         requires room { length self.old.server.log + 1 < 2 ^ 40 }
         ensures taken { OnOk result
-            (Turned M.meaning self.old self.new outbox.old outbox.new
+            (TurnTaken M.meaning self.old self.new outbox.old outbox.new
             (record {
               server = stood self.old.size self.old.me self.old.server;
               sent = to_others
-                  self.old.me (vote_request self.old.me (stood self.old.size self.old.me self.old.server))
+                  self.old.me (vote_request_to self.old.me (stood self.old.size self.old.me self.old.server))
                   self.old.size;
             })) }
         ensures kept { OnOk result (KeepsAhead self.old self.new) }
-        ensures lost { OnErr result (Lost self.old self.new outbox.old outbox.new) }
+        ensures lost { OnErr result (LackedMemory self.old self.new outbox.old outbox.new) }
     {
         let term = self.term.next();
         let request = VoteRequest {
@@ -258,7 +258,7 @@ impl<M: Machine> Raft<M> {
             refusal M.meaning self.old.size self.old.me self.old.server (Own Timeout) ≡ None) }
         ensures kept { OnOk result (KeepsAhead self.old self.new) }
         ensures stopped { IfErr result (λ cause.
-            Stops M.meaning self.old (Own Timeout) cause self.new outbox.old outbox.new) }
+            EndsRefused M.meaning self.old (Own Timeout) cause self.new outbox.old outbox.new) }
         ensures unhidden { IfErr result (λ cause. HidesNothing M.meaning self.old.size self.old.me
             self.old.server (Own Timeout) cause) }
     {

@@ -19,8 +19,8 @@ pub record History (C : Type 0) : Type 0 where
 
 module _ {C : Type 0} where
   -- if index k of term u exists, its entry is of term u
-  abbrev pub Own : History C → ℕ → ℕ → Type 0
-  Own G u k = k ≤ length (G.ledger u) → term_at (G.ledger u) k ≡ u
+  abbrev pub OfOwnTerm : History C → ℕ → ℕ → Type 0
+  OfOwnTerm G u k = k ≤ length (G.ledger u) → term_at (G.ledger u) k ≡ u
 
   -- a quorum can't acknowledge k in term u any more
   abbrev pub Dead : ℕ → History C → ℕ → ℕ → Type 0
@@ -35,7 +35,7 @@ module _ {C : Type 0} where
 
   -- X has what index k of term u stands for, or it can't be chosen any more
   abbrev pub HasOrDead : ℕ → History C → ℕ → ℕ → List (Entry C) → Type 0
-  HasOrDead n G u k X = Own G u k → Dead n G u k ⊎ Agree k (G.ledger u) X
+  HasOrDead n G u k X = OfOwnTerm G u k → Dead n G u k ⊎ Agree k (G.ledger u) X
 
   -- the first k of X are those of a ledger, below an index that was chosen in a term up to v
   pub record FixedBy (n : ℕ) (G : History C) (v k : ℕ) (X : List (Entry C)) : Type 0 where

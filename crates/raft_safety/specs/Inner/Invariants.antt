@@ -103,7 +103,7 @@ module _ {C : Type 0} (n : ℕ) (G : History C) where
 
 -- the history after a step of server i, which is t then and has said `out`; P is what each ledger
 -- keeps besides
-pub record Keeps {C : Type 0} (P : List (Entry C) → Type 0) (n : ℕ) (G : History C) (i : ℕ) (t : Server C) (out : List (Message C)) : Type 0 where
+pub record KeepsHistory {C : Type 0} (P : List (Entry C) → Type 0) (n : ℕ) (G : History C) (i : ℕ) (t : Server C) (out : List (Message C)) : Type 0 where
   pub after : History C
   pub extends : Extends G after
   pub apart : DiffersAt i G after

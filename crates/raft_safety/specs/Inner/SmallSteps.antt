@@ -6,8 +6,8 @@ use Rattle.machine.specs.declared.entry.Entry.{Entry}
 use Rattle.raft_model.specs.Logs.{MAX}
 use Rattle.raft_model.specs.Quorums.{is_quorum, marked}
 use Rattle.raft_model.specs.Messages.{Message, Body, VoteRequest, VoteReply, Append, AppendReply, Install, InstallReply, to_others}
-use Rattle.raft_model.specs.Servers.{Server, Mode, Down, Follower, Candidate, Leader, is_up, is_leader, stood, vote_request, is_free_for, is_up_to_date, won, following, is_held, appended, installed, acked, backed, is_chosen, greatest, beat_message, compacted, extended}
-use Rattle.raft_model.specs.Steps.{admitted}
+use Rattle.raft_model.specs.Servers.{Server, Mode, Down, Follower, Candidate, Leader, is_up, is_leader, stood, vote_request_to, is_free_for, is_up_to_date, won, following, is_held, appended, installed, match_raised, backed_off, is_chosen, greatest, beat_message, compacted, extended}
+use Rattle.raft_model.specs.Steps.{admission_refusal}
 
 -- replies that refuse: they promise nothing
 abbrev pub OwesNothing : {C : Type 0} → Body C → Type 0
@@ -31,15 +31,15 @@ IsAck (Install covered) asked at = ⊥
 IsAck (InstallReply answered place) asked at = (answered ≡ asked) × (place ≡ at)
 
 -- modes in which nothing volatile is known
-abbrev pub IsIdle : Mode → Type 0
-IsIdle Down = Unit {0}
-IsIdle Follower = Unit {0}
-IsIdle (Candidate votes) = ⊥
-IsIdle (Leader next match) = ⊥
+abbrev pub KnowsNothing : Mode → Type 0
+KnowsNothing Down = Unit {0}
+KnowsNothing Follower = Unit {0}
+KnowsNothing (Candidate votes) = ⊥
+KnowsNothing (Leader next match) = ⊥
 
 -- who leads after these small steps led before them, in the same term and with the same log
-abbrev pub Passes : {C : Type 0} → Server C → Server C → Type 0
-Passes s r = is_leader r.mode ≡ true → (is_leader s.mode ≡ true) × (r.term ≡ s.term) × (r.log ≡ s.log)
+abbrev pub LedBefore : {C : Type 0} → Server C → Server C → Type 0
+LedBefore s r = is_leader r.mode ≡ true → (is_leader s.mode ≡ true) × (r.term ≡ s.term) × (r.log ≡ s.log)
 
 -- a message that was sent
 abbrev pub WasSent : {C : Type 0} → List (Message C) → Message C → Type 0
@@ -51,7 +51,7 @@ module _ {S C : Type 0} (m : Meaning S C) (n i : ℕ) (sent : List (Message C)) 
     -- a message of a greater term
     raises : (message : Message C) → WasSent sent message → s.term < message.term → t ≡ record s { term = message.term; vote = None; known = None; mode = Follower } → out ≡ [] → Small s t out
     -- a timeout
-    stands : s.term < MAX → length s.log < MAX → t ≡ stood n i s → out ≡ to_others i (vote_request i (stood n i s)) n → Small s t out
+    stands : s.term < MAX → length s.log < MAX → t ≡ stood n i s → out ≡ to_others i (vote_request_to i (stood n i s)) n → Small s t out
     -- a vote that is free, for a candidate that is up to date
     grants_vote : (from index its_last : ℕ) → WasSent sent (record { from = from; to = i; term = s.term; body = VoteRequest index its_last }) →
         is_free_for s.vote from ≡ true → is_up_to_date s.log index its_last ≡ true → t ≡ record s { vote = Some from } →
@@ -65,7 +65,7 @@ module _ {S C : Type 0} (m : Meaning S C) (n i : ℕ) (sent : List (Message C)) 
     -- a quorum's votes
     wins : (votes : List Bool) → s.mode ≡ Candidate votes → is_quorum n (marked votes) ≡ true → t ≡ won m.noop n s → out ≡ [] → Small s t out
     -- a proposal that is admitted
-    extends : (next match : List ℕ) (command : C) → m.commands.Fits command → s.mode ≡ Leader next match → admitted m s command ≡ None → t ≡ extended s command → out ≡ [] → Small s t out
+    extends : (next match : List ℕ) (command : C) → m.commands.Fits command → s.mode ≡ Leader next match → admission_refusal m s command ≡ None → t ≡ extended s command → out ≡ [] → Small s t out
     -- a message of the leader of its term
     follows : (from : ℕ) → t ≡ following s from → out ≡ [] → Small s t out
     -- entries that begin where the log is held
@@ -78,9 +78,9 @@ module _ {S C : Type 0} (m : Meaning S C) (n i : ℕ) (sent : List (Message C)) 
         t ≡ installed s P → out ≡ record { from = i; to = from; term = (installed s P).term; body = InstallReply s.term (length P) } ∷ [] → Small s t out
     -- an ok that came
     acks : (next match : List ℕ) (from term at : ℕ) (body : Body C) → WasSent sent (record { from = from; to = i; term = term; body = body }) → IsAck body s.term at →
-        s.mode ≡ Leader next match → t ≡ acked s from at next match → out ≡ [] → Small s t out
+        s.mode ≡ Leader next match → t ≡ match_raised s from at next match → out ≡ [] → Small s t out
     -- a refusal that came
-    backs : (next match : List ℕ) (from at : ℕ) → s.mode ≡ Leader next match → t ≡ backed s from at next match → out ≡ [] → Small s t out
+    backs : (next match : List ℕ) (from at : ℕ) → s.mode ≡ Leader next match → t ≡ backed_off s from at next match → out ≡ [] → Small s t out
     -- the commit rule
     advances : (next match : List ℕ) → s.mode ≡ Leader next match →
         t ≡ record s { commit = greatest (is_chosen n i s match) s.commit (length s.log) } → out ≡ [] → Small s t out
@@ -96,9 +96,9 @@ module _ {S C : Type 0} (m : Meaning S C) (n i : ℕ) (sent : List (Message C)) 
     -- the last small step
     only : {s t : Server C} {out : List (Message C)} → Small s t out → Path s t out
     -- one before others
-    after_one : {s t : Server C} {out : List (Message C)} (r : Server C) → Small s r [] → Passes s r → Path r t out → Path s t out
+    after_one : {s t : Server C} {out : List (Message C)} (r : Server C) → Small s r [] → LedBefore s r → Path r t out → Path s t out
 
   -- a server that is up goes a path; or it crashes, or restarts
   pub data Turns (s t : Server C) (out : List (Message C)) : Type 0 where
     walks : is_up s.mode ≡ true → Path s t out → Turns s t out
-    resets : (mode : Mode) → IsIdle mode → (is_up mode ≡ true → is_up s.mode ≡ false) → t ≡ record s { commit = s.covered; known = None; mode = mode } → out ≡ [] → Turns s t out
+    resets : (mode : Mode) → KnowsNothing mode → (is_up mode ≡ true → is_up s.mode ≡ false) → t ≡ record s { commit = s.covered; known = None; mode = mode } → out ≡ [] → Turns s t out

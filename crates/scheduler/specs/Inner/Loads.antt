@@ -27,8 +27,8 @@ less (Some a) l =
 abbrev pub sum_within : ℕ → ℕ → ℕ
 sum_within a b = min (a + b) (2 ^ 64 - 1)
 
-abbrev pub more : AcceptedPlace → Load → Load
-more k l =
+abbrev pub with_load : AcceptedPlace → Load → Load
+with_load k l =
     if nat_eq k.node l.node.number
     then (record l { cpu = sum_within l.cpu k.size.cpu; mem = sum_within l.mem k.size.mem })
     else l

@@ -97,7 +97,7 @@ DeclinesOwn old input cause new before after =
 -- a leader appended a command that nothing refused
 pub record IsProposed (s : Server Command) (c : Command) (new : Server Command) : Type 0 where
   pub leads : is_leader s.mode ≡ true
-  pub admitted : raft_steps.admitted cluster_meaning s c ≡ None
+  pub admitted : raft_steps.admission_refusal cluster_meaning s c ≡ None
   pub log : new ≡ extended s c
 
 -- why the log refuses a command

@@ -5,6 +5,7 @@ use Rattle.server.specs.Handings.{handing}
 use Rattle.group_model.specs.Inputs as servers
 use Rattle.group_model.specs.Clients as clients
 use Rattle.group_model.specs.Worlds.{Event, Deliver, AtServer, AtClient}
+pub use Rattle.group_model.specs.Worlds.{IsRestart}
 use Rattle.world.specs.Events.{place_of}
 use Rattle.world.specs.GroupEvents.{client_input, server_input}
 use Rattle.transcript.specs.declared.line.Line.{Line}
@@ -41,9 +42,9 @@ IsTurnInput servers.FreeTurn = Unit {0}
 IsTurnInput servers.Reap = Unit {0}
 IsTurnInput _ = ⊥
 
-abbrev pub IsTurn : Event → Type 0
-IsTurn (AtServer server input) = IsTurnInput input
-IsTurn _ = ⊥
+abbrev pub IsTurnEvent : Event → Type 0
+IsTurnEvent (AtServer server input) = IsTurnInput input
+IsTurnEvent _ = ⊥
 
 abbrev pub IsRequest : Event → Type 0
 IsRequest (AtServer server (servers.Request request)) = Unit {0}
@@ -79,11 +80,6 @@ abbrev pub IsCrash : Event → Type 0
 IsCrash (AtServer server servers.Crash) = Unit {0}
 IsCrash (AtClient client clients.Crash) = Unit {0}
 IsCrash _ = ⊥
-
-abbrev pub IsRestart : Event → Type 0
-IsRestart (AtServer server servers.Restart) = Unit {0}
-IsRestart (AtClient client clients.Restart) = Unit {0}
-IsRestart _ = ⊥
 
 -- it is no arrival, and no message past the last number; the types see to all other limits
 abbrev pub IsSayable : Event → Type 0

@@ -12,8 +12,8 @@ abbrev pub IsWithout : ℕ → List ℕ → Type 0
 IsWithout separator text = All (λ b. b ≢ separator) text
 
 -- without a space and without a comma
-abbrev pub IsPlain : List ℕ → Type 0
-IsPlain text = IsWithout 32 text × IsWithout 44 text
+abbrev pub IsPlainWord : List ℕ → Type 0
+IsPlainWord text = IsWithout 32 text × IsWithout 44 text
 
 -- other than the text of a list without items
 abbrev pub IsNoDash : List ℕ → Type 0

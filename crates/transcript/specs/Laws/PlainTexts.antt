@@ -15,7 +15,7 @@ use Rattle.rows.specs.declared.evaluation.EvalId.{EvalId}
 use Rattle.rows.specs.declared.job.Group.{Group}
 use Rattle.rows.specs.declared.plan.Place.{Place}
 use Rattle.rows.specs.declared.token.Token.{Token}
-use Rattle.transcript.specs.Inner.Plain.{IsPlain, IsWithout}
+use Rattle.transcript.specs.Inner.Plain.{IsPlainWord, IsWithout}
 use Rattle.transcript.specs.Requests.{group_text}
 use Rattle.transcript.specs.EventLines.{ServerFits, server_text}
 use Rattle.transcript.specs.Inner.Actors.{ActorFits, actor_text}
@@ -31,58 +31,58 @@ decimal_lacks c n other lt = All-from_get_or (λ b. b ≢ c) (decimal n) 0 (λ i
     let digit = digit_at (decimal n) i (decimal_is_IsNumeral n lt).0.1 h in
     other (rw e at digit))
 
-number_plain : (n : ℕ) → n < 2 ^ 64 → IsPlain (decimal n)
+number_plain : (n : ℕ) → n < 2 ^ 64 → IsPlainWord (decimal n)
 number_plain n lt = (decimal_lacks 32 n (λ h. omega arith) lt, decimal_lacks 44 n (λ h. omega arith) lt)
 
-between : (separator : ℕ) (front back : List ℕ) → separator ≢ 32 → separator ≢ 44 → IsPlain front → IsPlain back
-    → IsPlain (front ++ separator ∷ back)
+between : (separator : ℕ) (front back : List ℕ) → separator ≢ 32 → separator ≢ 44 → IsPlainWord front → IsPlainWord back
+    → IsPlainWord (front ++ separator ∷ back)
 between separator front back space comma f b = (
   All-append (λ c. c ≢ 32) front (separator ∷ back) f.0 (All-cons (λ c. c ≢ 32) separator back space b.0),
   All-append (λ c. c ≢ 44) front (separator ∷ back) f.1 (All-cons (λ c. c ≢ 44) separator back comma b.1),
 )
 
-pub name_plain : (name : List ℕ) → NameFits name → IsPlain name
+pub name_plain : (name : List ℕ) → NameFits name → IsPlainWord name
 name_plain name fits = (name_lacks 32 name refl fits.2, name_lacks 44 name refl fits.2)
 
-pub index_plain : (n : ℕ) → IndexFits n → IsPlain (decimal n)
+pub index_plain : (n : ℕ) → IndexFits n → IsPlainWord (decimal n)
 index_plain n fits = number_plain n (omega arith)
 
-pub node_plain : (n : ℕ) → NodeIdFits n → IsPlain (decimal n)
+pub node_plain : (n : ℕ) → NodeIdFits n → IsPlainWord (decimal n)
 node_plain n fits = number_plain n (omega arith)
 
-pub client_plain : (n : ℕ) → NodeIdFits n → IsPlain (decimal n)
+pub client_plain : (n : ℕ) → NodeIdFits n → IsPlainWord (decimal n)
 client_plain n fits = node_plain n fits
 
-pub server_plain : (server : ℕ) → ServerFits server → IsPlain (server_text server)
+pub server_plain : (server : ℕ) → ServerFits server → IsPlainWord (server_text server)
 server_plain server fits = number_plain (server + 1) (omega arith)
 
-pub actor_plain : (actor : Actor) → ActorFits actor → IsPlain (actor_text actor)
+pub actor_plain : (actor : Actor) → ActorFits actor → IsPlainWord (actor_text actor)
 actor_plain (Server server) fits = server_plain server fits
 actor_plain (Client client) fits =
     let number = client_plain client fits in
     (All-cons (λ c. c ≢ 32) 99 _ (λ e. omega arith) number.0, All-cons (λ c. c ≢ 44) 99 _ (λ e. omega arith) number.1)
 
-pub eval_plain : (eval : EvalId) → EvalIdFits eval → IsPlain (eval_text eval)
+pub eval_plain : (eval : EvalId) → EvalIdFits eval → IsPlainWord (eval_text eval)
 eval_plain eval fits =
     between 46 (decimal eval.index) _ (λ e. omega arith) (λ e. omega arith) (number_plain eval.index (omega arith)) (number_plain eval.slot (omega arith))
 
-pub alloc_plain : (id : AllocId) → AllocIdFits id → IsPlain (alloc_text id)
+pub alloc_plain : (id : AllocId) → AllocIdFits id → IsPlainWord (alloc_text id)
 alloc_plain id fits =
     between 46 (decimal id.index) _ (λ e. omega arith) (λ e. omega arith) (number_plain id.index (omega arith)) (number_plain id.slot (omega arith))
 
-pub token_plain : (token : Token) → TokenFits token → IsPlain (token_text token)
+pub token_plain : (token : Token) → TokenFits token → IsPlainWord (token_text token)
 token_plain token fits =
     between 46 (decimal token.term) _ (λ e. omega arith) (λ e. omega arith) (number_plain token.term (omega arith)) (number_plain token.serial (omega arith))
 
-colon : (front back : List ℕ) → IsPlain front → IsPlain back → IsPlain (front ++ 58 ∷ back)
+colon : (front back : List ℕ) → IsPlainWord front → IsPlainWord back → IsPlainWord (front ++ 58 ∷ back)
 colon front back = between 58 front back (λ e. omega arith) (λ e. omega arith)
 
-pub place_plain : (place : Place) → PlaceFits place → IsPlain (place_text place)
+pub place_plain : (place : Place) → PlaceFits place → IsPlainWord (place_text place)
 place_plain place fits =
     colon place.group _ (name_plain place.group fits.0)
     (colon (decimal place.index) _ (number_plain place.index (omega arith)) (number_plain place.node (omega arith)))
 
-pub group_plain : (g : Group) → GroupFits g → IsPlain (group_text g)
+pub group_plain : (g : Group) → GroupFits g → IsPlainWord (group_text g)
 group_plain g fits =
     colon g.name _ (name_plain g.name fits.0)
     (colon (decimal g.count) _ (number_plain g.count (omega arith))

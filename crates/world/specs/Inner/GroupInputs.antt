@@ -9,9 +9,9 @@ use Rattle.client_agent.specs.declared.input.ClientInput.TheVariants as client_i
 use Rattle.server.specs.Handings.{Handing, FrameBytes, OwnInput}
 pub use Rattle.world.specs.GroupView.{IsSentTo}
 
-abbrev pub is_frame : Handing → Bool
-is_frame (FrameBytes bytes) = true
-is_frame (OwnInput input) = false
+abbrev pub comes_as_frame : Handing → Bool
+comes_as_frame (FrameBytes bytes) = true
+comes_as_frame (OwnInput input) = false
 
 abbrev pub is_restart_input : Handing → Bool
 is_restart_input (OwnInput Restart) = true

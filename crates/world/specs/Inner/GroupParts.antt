@@ -20,7 +20,7 @@ use Rattle.world.specs.declared.done.Done.{Done}
 use Rattle.world.specs.declared.done.Done.TheVariants.{Taken, Crashed}
 use Rattle.world.specs.Inner.Inputs.{committed}
 use Rattle.world.specs.GroupView.{GroupView}
-use Rattle.world.specs.GroupSteps.{IsGroupDone, SameGroup, RefusesGroupEvent, IsGroupAwake}
+use Rattle.world.specs.GroupSteps.{IsGroupDone, SameView, RefusesGroupEvent, IsGroupAwake}
 use Rattle.world.specs.Inner.GroupInputs.{is_restart_input}
 
 -- all frames that were ever sent, with what came for workers; all events that happened; and how
@@ -95,6 +95,6 @@ module _ (client : AgentView) (past : GroupHistoryView) (given : ClientInput) (e
 
 pub record GroupStepped (old : GroupView) (e : Event) (result : Result Done Refusal) (new : GroupView) : Type 0 where
   pub ok : IfOk result (λ d. IsGroupDone old e d new)
-  pub err : OnErr result (SameGroup old new)
+  pub err : OnErr result (SameView old new)
   pub cause : IfErr result (λ r. r ≢ refusals.NoMemory → RefusesGroupEvent old e r)
   pub memory : IfErr result (λ r. r ≡ refusals.NoMemory → IsGroupAwake old e)

@@ -7,7 +7,7 @@ use Rattle.machine.specs.Meaning.{Meaning}
 use Rattle.wire.specs.Frames.{Frame}
 use Rattle.raft_model.specs.Servers.{Server, is_up}
 use Rattle.raft_model.specs.Steps.{Timeout, Beat, Propose, Compact, Crash, Restart}
-use Rattle.raft_model.specs.Worlds.{World, Event, Deliver, TimesOut, Beats, Proposes, Compacts, Crashes, Restarts, happens, actor}
+use Rattle.raft_model.specs.Worlds.{World, Event, Deliver, TimesOut, Beats, Proposes, Compacts, Crashes, Restarts, happens, acting_server}
 use Rattle.raft_core.specs.Frames.{FrameCarries}
 use Rattle.raft_core.specs.RaftView.{RaftView}
 use Rattle.raft_core.specs.Inputs.{Handed, Bytes, Own}
@@ -26,7 +26,7 @@ is_restart (Restarts i) = true
 
 -- server i takes the event
 abbrev pub ActsIn : {S C : Type 0} → Meaning S C → List Frame → Event C → ℕ → Type 0
-ActsIn {C = C} m sent e i = (w : World C) → AllZip (FrameCarries m) sent w.sent → actor m w e ≡ Some i
+ActsIn {C = C} m sent e i = (w : World C) → AllZip (FrameCarries m) sent w.sent → acting_server m w e ≡ Some i
 
 -- nobody takes it
 abbrev pub NobodyActsIn : {S C : Type 0} → Meaning S C → List Frame → Event C → Refusal → Type 0

@@ -19,7 +19,7 @@ use Rattle.world.specs.Inner.Inputs.{IsSent, handed_by, is_restart, committed}
 
 -- the event is one for this server: what it delivers was sent, and what is handed in is an input of
 -- the definitions
-pub record IsFor {S C : Type 0} (m : Meaning S C) (raft : RaftView C) (sent : List Frame) (e : Event C) : Type 0 where
+pub record IsForServer {S C : Type 0} (m : Meaning S C) (raft : RaftView C) (sent : List Frame) (e : Event C) : Type 0 where
   pub inside : raft.me < raft.size
   pub there : IsSent sent e
   pub input : Input C

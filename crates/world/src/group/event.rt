@@ -6,7 +6,7 @@ ghost use Rattle.group_model.specs.Worlds.{AtServer, AtClient};
 ghost use Rattle.group_safety.specs.Limits.{InputFits};
 ghost use Rattle.server.specs.Handings.{handing};
 ghost use Rattle.world.specs.GroupEvents.{server_input, client_input, group_event, HasInput, IsSameEvent};
-ghost use Rattle.world.specs.Inner.GroupInputs.{is_frame, is_restart_input, is_client_frame, is_client_restart};
+ghost use Rattle.world.specs.Inner.GroupInputs.{comes_as_frame, is_restart_input, is_client_frame, is_client_restart};
 
 use client_agent::ClientInput;
 use rows::{ClientId, EvalOutcome, NoMemory, OperatorRequest, Ranged, ServerId};
@@ -66,7 +66,7 @@ impl Event {
 
 /// Whether it is a frame.
 pub(super) fn is_frame(input: &ServerInput) -> bool
-    ensures { result ≡ is_frame (handing input.now) }
+    ensures { result ≡ comes_as_frame (handing input.now) }
 {
     matches!(input, ServerInput::Frame(_))
 }

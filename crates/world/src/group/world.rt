@@ -14,9 +14,9 @@ ghost use Rattle.world.specs.WorldView.{IsGroup};
 ghost use Rattle.world.specs.Events.{place_of};
 ghost use Rattle.world.specs.GroupEvents.{server_input, client_input, group_event, group_events};
 ghost use Rattle.world.specs.GroupView.{client_view, nodes_of, ServersKnowPlaces, ClientsKnowPlaces, IsSentTo};
-ghost use Rattle.world.specs.GroupSteps.{IsGroupDone, SameGroup, RefusesGroupEvent, IsGroupAwake, IsNewGroup, WhyNoGroup, GroupPlayed, GroupReplays};
+ghost use Rattle.world.specs.GroupSteps.{IsGroupDone, SameView, RefusesGroupEvent, IsGroupAwake, IsNewGroup, WhyNoGroup, GroupPlayed, GroupReplays};
 ghost use Rattle.world.specs.GroupClaims.{OneGroupList, SafeGroupStates, BackedPlans, PlacedStarts, GroupHeadline, IsGreatestEver, IsTraced};
-ghost use Rattle.world.specs.Inner.GroupInputs.{new_agents, is_frame, is_client_frame};
+ghost use Rattle.world.specs.Inner.GroupInputs.{new_agents, comes_as_frame, is_client_frame};
 ghost use Rattle.world.specs.Inner.GroupParts.{GroupStepped};
 
 use crate::done::Done;
@@ -146,7 +146,7 @@ impl World {
     /// A server takes an input of its own.
     fn hand_server(&mut self, me: ServerId, input: Box<ServerInput>) -> Result<Done, Refusal>
         requires member { me < length self.old.servers }
-        requires own { is_frame (handing input.value) ≡ false }
+        requires own { comes_as_frame (handing input.value) ≡ false }
         requires awake { IsGroupAwake self.old (AtServer me (server_input (handing input.value))) }
         ensures { GroupStepped self.old (AtServer me (server_input (handing input.value))) result self.new }
     {
@@ -302,7 +302,7 @@ impl World {
         // It is a step of the definitions; or the event's actor crashed for want of memory, in a
         // restart with nothing changed.
         ensures ok { IfOk result (λ done. IsGroupDone self.old (group_event event) done self.new) }
-        ensures err { OnErr result (SameGroup self.old self.new) }
+        ensures err { OnErr result (SameView self.old self.new) }
         // The definitions refuse it too, for the same reason.
         ensures cause { IfErr result (λ refusal. refusal ≢ refusals.NoMemory →
             RefusesGroupEvent self.old (group_event event) refusal) }

@@ -1,13 +1,13 @@
 use Rattle.std.proofs.Common.{◌≡◌, drop}
 use Rattle.group_model.specs.Clients.{starts}
-use Rattle.client_agent.specs.Inner.Rooms.{IsRoom}
-use Rattle.client_agent.specs.Inner.Runs.{runs_of, Grows}
+use Rattle.client_agent.specs.Inner.Rooms.{IsRoomBeside}
+use Rattle.client_agent.specs.Inner.Runs.{runs_of, MoreIds}
 use Rattle.client_agent.proofs.starting.start_listed.Given as goal
 
 abbrev pub invariant-loop-row : goal.invariant-loop-row
 invariant-loop-row l = record {
   whole : l.room.whole ≡ l.fn.whole;
-  room : IsRoom l.running.items l.room;
+  room : IsRoomBeside l.running.items l.room;
   rest : starts l.fn.whole (drop l.row-index l.rows) (runs_of l.started l.running.items) ≡ starts l.fn.whole l.rows (runs_of l.fn.started l.fn.running.items);
-  grows : Grows l.fn.started l.started;
+  grows : MoreIds l.fn.started l.started;
 }

@@ -2,7 +2,7 @@ use Rattle.std.proofs.Common.{◌≡◌, ◌+◌, ◌-◌, ◌<◌, ◌++◌, �
 use Rattle.std.proofs.lemmas.List.{length_push}
 use Rattle.rows.specs.declared.allocation.AllocId.{AllocId}
 use Rattle.fsm_tables.specs.Rows.{put}
-use Rattle.drain.specs.Inner.Groups.{group_of, job_group_cmp, itself}
+use Rattle.drain.specs.Inner.Groups.{job_group, job_group_cmp, itself}
 use Rattle.drain.proofs.Moving.{ids_left, none_met, at_row, met_row, moving_row, staying_row, one_taken}
 use Rattle.drain.proofs.moves.first_of_groups.Goals as goal
 
@@ -69,7 +69,7 @@ loop-row-preserved c =
       few = omega arith;
       all = ap (λ (zs : List AllocId). zs ++ take (64 - length zs) (ids_left s c.put.new.self rest)) pushed
           ∙ ap (λ more. (ids ++ row.id ∷ []) ++ take (64 - length (ids ++ row.id ∷ [])) (ids_left s more rest)) next
-          ∙ sym (one_taken ids row.id (ids_left s (put job_group_cmp itself (group_of row) groups) rest) below)
+          ∙ sym (one_taken ids row.id (ids_left s (put job_group_cmp itself (job_group row) groups) rest) below)
           ∙ ap (λ more. ids ++ take (64 - length ids) more) (sym (here ∙ staying_row s groups row rest met staying))
           ∙ c.loop-row.invariant.all;
     }

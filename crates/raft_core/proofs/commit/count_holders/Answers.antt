@@ -1,13 +1,13 @@
 use Rattle.std.proofs.Common.{◌≡◌, ◌||◌, arith, true, false, eqb, leb, get_or, sym, ◌∙◌}
 use Rattle.std.proofs.lemmas.Bool.{eq-eqb, ne_eqb}
-use Rattle.raft_core.specs.Commits.{holds}
+use Rattle.raft_core.specs.Commits.{holds_index}
 use Rattle.raft_core.proofs.Quorums.{count-none}
 use Rattle.raft_core.proofs.Commits.{count-holder}
 use Rattle.raft_core.proofs.commit.count_holders.Goals as goal
 use Rattle.raft_core.proofs.commit.count_holders.Goals.{then-place, else-place, then-is_holder, else-is_holder}
 
 pub loop-place-init : goal.loop-place-init
-loop-place-init c = record { counted = sym (count-none (holds c.args.me c.args.matched.now c.args.index)); bound = omega arith }
+loop-place-init c = record { counted = sym (count-none (holds_index c.args.me c.args.matched.now c.args.index)); bound = omega arith }
 
 pub loop-place-preserved : goal.loop-place-preserved
 loop-place-preserved c =

@@ -6,7 +6,7 @@ use Rattle.fsm_tables.specs.Rows.{put}
 use Rattle.fsm_tables.proofs.RowLaws.{rising_put}
 use Rattle.fsm_tables.specs.ReservedTables.{without}
 use Rattle.group_model.specs.Brokers.{Task, task_id}
-use Rattle.eval_broker.specs.Inner.Lists.{AreListed, HaveRoom}
+use Rattle.eval_broker.specs.Inner.Lists.{AreTaskLists, HaveRoom}
 use Rattle.eval_broker.proofs.Stored.{put_without, room_kept, no_loss}
 use Rattle.eval_broker.proofs.tasks.Tasks.put.Goals as goal
 
@@ -20,7 +20,7 @@ bring_in-requires-clause-listed c =
     let same : without eval_cmp task_id c.id-id.result c.args.self.now.tasks.rows ≡ without eval_cmp task_id c.id-id.result c.put.new.self.rows =
     ap (λ k. without eval_cmp task_id k ts) c.id-id.ensures ∙ sym (put_without task ts c.requires.kept.rising)
     ∙ (λ i. without eval_cmp task_id (sym c.id-id.ensures i) (sym c.put.ensures.rows i)) in
-    subst (λ us. AreListed us c.take_out.new.self) same c.take_out.ensures.listed
+    subst (λ us. AreTaskLists us c.take_out.new.self) same c.take_out.ensures.listed
 
 pub bring_in-requires-clause-room : goal.bring_in-requires-clause-room
 bring_in-requires-clause-room c =

@@ -1,5 +1,5 @@
 use Rattle.cluster_model.specs.Effect.{with_evals}
-use Rattle.fsm_state.specs.Inner.Steps.{is_in}
+use Rattle.fsm_state.specs.Inner.Steps.{is_named_in}
 use Rattle.fsm_state.proofs.Touching.{jobs_are, few_at}
 use Rattle.fsm_state.proofs.Turns.{turned}
 use Rattle.fsm_state.proofs.cluster.Cluster.touch_all.Goals as goal
@@ -8,7 +8,7 @@ pub touch_each-requires-clause-few : goal.touch_each-requires-clause-few
 touch_each-requires-clause-few c =
     let jobs = c.ranges-2.ensures.tables.jobs in
     let s = c.args.self.now in
-    (few_at (is_in c.args.names.now) s.jobs _ (jobs_are c.args.names.now s.jobs jobs.rising c.len-count.ensures.ordered) jobs.few).1
+    (few_at (is_named_in c.args.names.now) s.jobs _ (jobs_are c.args.names.now s.jobs jobs.rising c.len-count.ensures.ordered) jobs.few).1
 
 pub returns : goal.returns
 returns c =

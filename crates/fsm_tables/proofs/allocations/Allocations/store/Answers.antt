@@ -4,7 +4,7 @@ use Rattle.fsm_tables.proofs.RowLaws.{few_put}
 use Rattle.rows.specs.Keys.{alloc_cmp, alloc_id}
 use Rattle.rows.proofs.KeyLaws.{alloc_cmp_total}
 use Rattle.fsm_tables.specs.Inner.Sums.{AreSummed, IsShare}
-use Rattle.fsm_tables.specs.Inner.Keys.{AreListed}
+use Rattle.fsm_tables.specs.Inner.Keys.{AreRowIndexes}
 use Rattle.fsm_tables.proofs.Sums.{summed_put, covered, room}
 use Rattle.fsm_tables.proofs.allocations.Allocations.store.Goals as goal
 
@@ -37,7 +37,7 @@ invariant_of-self-2 c =
     let to = c.held_by-to.ensures in
     let from = subst (λ o. IsShare o c.held_by-from.result) c.get.ensures c.held_by-from.ensures in
     let place = rw (← c.self.view_is) at c.requires in
-    subst (λ (new : List Allocation). record { cpu : AreSummed (λ z. z.cpu) new c.shift.new.sums; mem : AreSummed (λ z. z.mem) new c.shift-2.new.sums; listed : AreListed new c.put_indexed.new.indexes; few : length new ≤ 65536 }) (sym c.in_ok-put_indexed.ensures.ok) (record {
+    subst (λ (new : List Allocation). record { cpu : AreSummed (λ z. z.cpu) new c.shift.new.sums; mem : AreSummed (λ z. z.mem) new c.shift-2.new.sums; listed : AreRowIndexes new c.put_indexed.new.indexes; few : length new ≤ 65536 }) (sym c.in_ok-put_indexed.ensures.ok) (record {
       cpu = summed_put (λ z. z.cpu) c.args.row rows c.self.inside.cpu c.shift.new.sums (c.held_by-to.result.node, c.held_by-to.result.cpu) (c.held_by-from.result.node, c.held_by-from.result.cpu) c.self.invariant.cpu rising to.cpu from.cpu c.shift.ensures;
       mem = summed_put (λ z. z.mem) c.args.row rows c.self.inside.mem c.shift-2.new.sums (c.held_by-to.result.node, c.held_by-to.result.mem) (c.held_by-from.result.node, c.held_by-from.result.mem) c.self.invariant.mem rising to.mem from.mem c.shift-2.ensures;
       listed = rw c.in_ok-put_indexed.ensures.ok at c.put_indexed.ensures.listed;

@@ -1,13 +1,13 @@
 use Rattle.std.proofs.Common.{arith, ◌≡◌, true, length, ap, sym, ◌∙◌}
 use Rattle.std.proofs.lemmas.List.{length-replicate}
-use Rattle.raft_core.specs.Steps.{is_member}
+use Rattle.raft_core.specs.Steps.{is_group_place}
 use Rattle.raft_core.proofs.Lives.{fresh, filled_least, filled_most}
 use Rattle.raft_core.proofs.Members.{member-below, member-small}
 use Rattle.raft_core.proofs.raft.Raft.restart.Goals as goal
 
 pub invariant_of-result-2 : goal.invariant_of-result-2
 invariant_of-result-2 g c =
-    let member : is_member c.args.size c.args.me ≡ true = sym c.is_member.ensures ∙ c.if-not-is_member.false in
+    let member : is_group_place c.args.size c.args.me ≡ true = sym c.is_member.ensures ∙ c.if-not-is_member.false in
     let size = c.args.size in
     let made = c.in-Ok.ensures in
     record {

@@ -2,11 +2,11 @@ use Rattle.raft_model.specs.Messages.{to_others}
 use Rattle.raft_model.specs.Quorums.{index_at}
 use Rattle.raft_core.specs.Inner.Beats.{append_from}
 use Rattle.raft_core.specs.Frames.{Sends}
-use Rattle.raft_core.specs.Inner.Turns.{Sent}
+use Rattle.raft_core.specs.Inner.Turns.{KeepsFront}
 use Rattle.raft_core.proofs.raft.beats.send_to_others.Given as goal
 
 abbrev pub invariant-loop-place : goal.invariant-loop-place
 invariant-loop-place g l = record {
   sent : Sends g.M.Machine.meaning l.initial.outbox l.outbox (to_others l.me (λ to. append_from l.me l.term l.commit l.log (index_at l.next to) to) l.place);
-  front : Sent l.initial.outbox l.outbox;
+  front : KeepsFront l.initial.outbox l.outbox;
 }

@@ -1,10 +1,10 @@
 use Rattle.raft_model.specs.Messages.{to_others, VoteRequest as VoteRequestBody}
 use Rattle.raft_core.specs.Frames.{Sends}
-use Rattle.raft_core.specs.Inner.Turns.{Sent}
+use Rattle.raft_core.specs.Inner.Turns.{KeepsFront}
 use Rattle.raft_core.proofs.raft.votes.ask.Given as goal
 
 abbrev pub invariant-loop-place : goal.invariant-loop-place
 invariant-loop-place g l = record {
   sent : Sends g.M.Machine.meaning l.initial.outbox l.outbox (to_others l.me (λ to. record { from = l.me; to = to; term = l.request.term; body = VoteRequestBody l.request.last_index l.request.last_term }) l.place);
-  front : Sent l.initial.outbox l.outbox;
+  front : KeepsFront l.initial.outbox l.outbox;
 }
