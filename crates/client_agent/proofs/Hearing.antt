@@ -1,23 +1,16 @@
 -- What a client hears is what the frame says.
-use Rattle.std.proofs.Common.{◌≡◌, ℕ, true, is_some, Option, Some, None, List, refl, subst, sym, ◌∙◌}
-use Rattle.rows.specs.declared.actor.Actor.TheVariants.{Server, Client as ClientActor}
+use Rattle.std.proofs.Common.{◌≡◌, ℕ, true, is_some, Option, Some, None, List, refl, subst}
 use Rattle.rows.specs.declared.command.Command.{Command}
 use Rattle.rows.specs.declared.listing.ListedAllocation.{ListedAllocation}
-use Rattle.wire.specs.Messages.{Message as WireMessage}
-use Rattle.wire.specs.Frames.{Frame, IsFrame}
+use Rattle.wire.specs.Frames.{Frame}
 use Rattle.wire.specs.declared.body.Body.{Body}
 use Rattle.wire.specs.declared.body.Body.TheVariants as bodies
 use Rattle.cluster_model.specs.Words.{State}
-use Rattle.cluster_model.specs.ClusterMachine.{cluster_meaning}
-use Rattle.cluster_model.proofs.ClusterMachine.{cluster_lawful}
-use Rattle.group_model.specs.Messages.{ServiceMessage, ToClient, ClientResponse, Listing, Told}
+use Rattle.group_model.specs.Messages.{ServiceMessage, ToClient, ClientResponse, Told}
 use Rattle.group_model.specs.Clients.{Arrives}
-use Rattle.group_frames.specs.GroupFrames.{service_between, service_of}
-use Rattle.group_frames.proofs.OneMessage.{one_text}
-use Rattle.client_agent.specs.declared.listing.Heard.{Heard}
 use Rattle.client_agent.specs.AgentView.{AgentView}
 use Rattle.client_agent.specs.Steps.{AgentSteps}
-use Rattle.client_agent.specs.Inner.Heard.{IsHeard, TakesHeard}
+use Rattle.client_agent.specs.Inner.Heard.{TakesHeard}
 use Rattle.client_agent.proofs.Taking.{told_by}
 
 -- ---- what is taken of it

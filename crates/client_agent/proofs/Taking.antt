@@ -2,7 +2,6 @@
 use Rattle.std.proofs.Common.{◌≡◌, ℕ, ◌<◌, ◌≤◌, Bool, true, false, is_some, Option, Some, None, List, [], ◌∷◌, map, Ok, nat_lt, refl, ap, ◌∙◌, lt-ltb, le-ltb}
 use Rattle.rows.specs.declared.allocation.AllocId.{AllocId}
 use Rattle.rows.specs.declared.listing.ListedAllocation.{ListedAllocation}
-use Rattle.rows.specs.declared.refusal.Refusal.TheVariants as refusals
 use Rattle.rows.specs.declared.worker.ClientRequestKind.{ClientRequestKind}
 use Rattle.rows.specs.declared.reason.Reason.{Reason}
 use Rattle.wire.specs.Frames.{Frame}
@@ -16,7 +15,6 @@ use Rattle.client_agent.specs.declared.asking.Asked.{Asked}
 use Rattle.client_agent.specs.declared.asking.Asked.TheVariants as asked
 use Rattle.client_agent.specs.AgentView.{AgentView, crashed_agent}
 use Rattle.client_agent.specs.Steps.{AgentSteps, AgentTakes}
-use Rattle.client_agent.specs.Refusals.{agent_refusal, IsAgentRefused}
 use Rattle.client_agent.specs.Inner.Asking.{request_of, handing_of}
 use Rattle.client_agent.specs.Inner.Runs.{followed}
 

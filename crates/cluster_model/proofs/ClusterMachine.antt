@@ -5,7 +5,7 @@ use Rattle.fields_model.proofs.StateTextLaws.{state_lawful}
 use Rattle.fields_model.proofs.CommandLaws.{command_lawful}
 use Rattle.fields_model.proofs.RangeLaws.{fits_state, state_fits, fits_command, command_fits}
 use Rattle.machine.specs.Meaning.{LawfulMachine}
-use Rattle.cluster_model.specs.Words.{State, no_rows}
+use Rattle.cluster_model.specs.Words.{no_rows}
 use Rattle.cluster_model.proofs.SafeFacts.{safe_by_test}
 use Rattle.cluster_model.proofs.SafeLaws.{keeps_safe}
 use Rattle.cluster_model.specs.Effect.{applied}

@@ -165,9 +165,9 @@ pub(crate) struct Layout {
 
 impl Layout {
     /// The layout of what is noted.
-    pub(crate) fn new(alloc: Global, record: &Record) -> Result<Layout, NoMemory> {
-        let slots = slots_of(alloc, &record.sendings)?;
-        let depths = depths_of(alloc, record, &slots)?;
+    pub(crate) fn new(alloc: Global, drawn: &Record) -> Result<Layout, NoMemory> {
+        let slots = slots_of(alloc, &drawn.sendings)?;
+        let depths = depths_of(alloc, drawn, &slots)?;
         let tops = tops_of(alloc, &depths)?;
         let last = match tops.last() {
             Some(top) => *top,
@@ -178,7 +178,7 @@ impl Layout {
             tops,
             slots,
             bottom: last.saturating_add(height_of(deepest)),
-            columns: record.columns(),
+            columns: drawn.columns(),
         })
     }
 
@@ -248,9 +248,9 @@ fn slots_of(alloc: Global, sendings: &[Sending]) -> Result<Vec<u64>, NoMemory> {
 }
 
 // How many lost messages stand below each other at each event, less one.
-fn depths_of(alloc: Global, record: &Record, slots: &[u64]) -> Result<Vec<u64>, NoMemory> {
-    let mut depths = nothing_at(alloc, record.steps.len())?;
-    for (sending, slot) in record.sendings.iter().zip(slots) {
+fn depths_of(alloc: Global, drawn: &Record, slots: &[u64]) -> Result<Vec<u64>, NoMemory> {
+    let mut depths = nothing_at(alloc, drawn.steps.len())?;
+    for (sending, slot) in drawn.sendings.iter().zip(slots) {
         if let Some(depth) = depths.get_mut(sending.row) {
             *depth = (*depth).max(*slot);
         }

@@ -1,20 +1,14 @@
 -- Reports change no row exactly where they change none of their own allocations.
-use Rattle.std.proofs.Common.{◌≡◌, ℕ, Bool, true, false, cond, not, T, ◌&&◌, ◌||◌, List, [], ◌∷◌, Option, Some, None, refl, sym, ap, ◌∙◌}
-use Rattle.std.specs.Prelude.{nat_eq}
+use Rattle.std.proofs.Common.{◌≡◌, ℕ, Bool, true, false, not, T, ◌&&◌, ◌||◌, List, [], ◌∷◌, Option, Some, None, refl, sym, ap, ◌∙◌}
 use Rattle.std.specs.List.{list_any, list_all}
-use Rattle.std.specs.Ordering.{is_eq}
 use Rattle.rows.specs.declared.allocation.Allocation.{Allocation}
 use Rattle.rows.specs.declared.allocation.ClientState.{ClientState}
 use Rattle.rows.specs.declared.allocation.ClientState.TheVariants as clients
 use Rattle.rows.specs.declared.command.Report.{Report}
 use Rattle.rows.specs.Keys.{alloc_cmp, alloc_id}
 use Rattle.rows.specs.Rising.{is_rising}
-use Rattle.rows.proofs.KeyLaws.{alloc_cmp_total}
-use Rattle.fsm_tables.specs.Claims.{is_active}
-use Rattle.cluster_model.specs.Words.{State, alloc_of, is_some_and, same_alloc}
-use Rattle.cluster_model.specs.Effect.{client_state_of, told, told_all}
+use Rattle.cluster_model.specs.Words.{State, alloc_of, is_some_and}
 use Rattle.cluster_model.proofs.Lists.{anys_same}
-use Rattle.cluster_model.proofs.Keys.{at_alloc}
 use Rattle.fsm_state.proofs.Reports.{is_told, untold, told_rows}
 use Rattle.group_model.specs.ClientRequests.{same_state, is_unmoved}
 use Rattle.server.specs.Inner.Idle.{stays_of, is_unmoved_at}

@@ -8,7 +8,7 @@ use Rattle.rows.specs.declared.node.Node.{Node}
 use Rattle.rows.specs.declared.refusal.Refusal.{Refusal}
 use Rattle.rows.specs.declared.refusal.Refusal.TheVariants as refusals
 use Rattle.raft_model.specs.Servers as rafts
-use Rattle.raft_model.specs.Servers.{Server, Mode, Down, Follower, Candidate, Leader, is_up, is_leader}
+use Rattle.raft_model.specs.Servers.{Server, Down, is_up, is_leader}
 use Rattle.raft_model.specs.Steps as raft_steps
 use Rattle.raft_safety.proofs.Places.{get-within}
 use Rattle.raft_core.specs.Steps.{role_of}

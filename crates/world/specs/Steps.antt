@@ -32,7 +32,7 @@ MayWantFor {C} w e s = (input : Input C) × (event_input w e ≡ Some input) × 
 -- the event's actor found no memory, and crashes in its place
 pub record ActorCrashed {S C : Type 0} (m : Meaning S C) (old : WorldView C) (e : Event C) (new : WorldView C) : Type 0 where
   pub who : ℕ
-  pub acting_server : (w : World C) → RepresentsWorld m old w → acting_server m w e ≡ Some who
+  pub actor : (w : World C) → RepresentsWorld m old w → acting_server m w e ≡ Some who
   pub lacking : (w : World C) (s : Server C) → RepresentsWorld m old w → slice_get w.servers who ≡ Some s →
       MayWantFor w e s
   pub happened : EventHappened m old (Crashes who) new
@@ -69,7 +69,7 @@ RefusesEvent {S} {C} m view e r =
 -- the definitions do not refuse the event for its being down.
 pub record ComesToServer {S C : Type 0} (m : Meaning S C) (w : World C) (e : Event C) : Type 0 where
   pub who : ℕ
-  pub acting_server : acting_server m w e ≡ Some who
+  pub actor : acting_server m w e ≡ Some who
   pub there : who < length w.servers
   pub awake : happens m w e ≢ Err refusals.Down
 

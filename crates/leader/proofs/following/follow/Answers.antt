@@ -3,7 +3,7 @@ use Rattle.std.proofs.lemmas.Result.{on_ok_weaker}
 use Rattle.rows.specs.declared.evaluation.Evaluation.{Evaluation}
 use Rattle.blocked.specs.Rooms.{blocked_of}
 use Rattle.leader.specs.Inner.Changes.{broker_after, blocked_after, tell_job, tell_rooms}
-use Rattle.leader.proofs.Follows.{broker_follows, blocked_follows, counts_follow, again, told_some}
+use Rattle.leader.proofs.Follows.{broker_follows, blocked_follows, counts_follow, again}
 use Rattle.leader.proofs.following.follow.Goals as goal
 
 broker_is : (c : goal.After-drop-rows-inside-2) → c.tell_evals.new.broker ≡ broker_after c.in_ok-rows.rows c.args.broker.now

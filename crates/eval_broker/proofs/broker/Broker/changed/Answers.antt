@@ -1,6 +1,6 @@
 use Rattle.std.proofs.Common.{◌≡◌, ◌+◌, List, Some, length, sym, ap, subst, ◌∙◌}
 use Rattle.std.specs.Prelude.{ℕ}
-use Rattle.group_model.specs.Brokers.{Task, task_id, task_of}
+use Rattle.group_model.specs.Brokers.{Task, task_of}
 use Rattle.eval_broker.specs.Inner.Lists.{HaveRoom}
 use Rattle.eval_broker.proofs.Stored.{as_many, new_room}
 use Rattle.eval_broker.proofs.broker.Broker.changed.Goals as goal
