@@ -49,8 +49,8 @@ pub why_not_running : (actors : List Actor) (room : ℕ) (r : Refusal) → are_a
 why_not_running actors room r apart (inl (is, none)) = inl (is, λ room. none (room, named_once actors apart))
 why_not_running actors room r apart (inr (is, has)) = inr (is, has.0)
 
-pub took_input : (n : ℕ) (actor : Actor) (input : OwnInput) (work : List Work) (sent : List EnvelopeView) → TookTurn n (own_envelope actor input) work sent → TookInput n actor input
-took_input n actor input work sent took = (work, sent, took)
+pub took_input : (n : ℕ) (actor : Actor) (input : OwnInput) (work : List Work) (sent : List EnvelopeView) (unsent : ℕ) → TookTurn n (own_envelope actor input) work sent unsent → TookInput n actor input
+took_input n actor input work sent unsent took = (work, sent, unsent, took)
 
 -- ---- what a worker asks
 
@@ -84,8 +84,8 @@ module _ (n server : ℕ) (before : WorkersView) (rest : List Work) (taken : Tak
       let d = subst (λ s. IsHandled s index taken (handled.Asks input)) same (subst (IsHandled found index taken) is done) in
       asked d.step d.next d.handled
 
-pub took_asking : (n server : ℕ) (own : OwnInput) (e : EnvelopeView) (work : List Work) (sent : List EnvelopeView) → IsAsking n server own → e ≡ own_envelope (actors.Server server) own → TookTurn n e work sent → TookAsking n server work sent
-took_asking n server own e work sent asks is took = (own, asks, subst (λ k. TookTurn n k work sent) is took)
+pub took_asking : (n server : ℕ) (own : OwnInput) (e : EnvelopeView) (work : List Work) (sent : List EnvelopeView) (unsent : ℕ) → IsAsking n server own → e ≡ own_envelope (actors.Server server) own → TookTurn n e work sent unsent → TookAsking n server work sent unsent
+took_asking n server own e work sent unsent asks is took = (own, asks, subst (λ k. TookTurn n k work sent unsent) is took)
 
 -- why it took no turn
 pub no_state_taken : (n : ℕ) (all : List Actor) (server : ℕ) (r : Refusal) → WhyNoState n all (actors.Server server) r → WhyNoWorkerTurn n all server r

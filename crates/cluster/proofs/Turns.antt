@@ -103,9 +103,9 @@ last_sent old after noted stamp tokens is =
     let note : Note OwnInput = record { stamp = stamp; actor = old.actor; noted = noted } in
     ap (λ (s : SeatView OwnInput). last_envelopes s.notes) is ∙ envelopes_end old.notes note
 
-pub turned : (old : CellView) (envelope : EnvelopeView) (stepped : Stepped) (new : GroupActor) (after : SeatView OwnInput) (work : List Work) (sent : List EnvelopeView) → envelope.receiver ≡ old.seat.actor → HasNoteLeft old
-    → Did old.actor envelope.event stepped new → IsRecorded old.seat envelope.event envelope.tokens stepped after work sent → Turned old envelope (record { actor = new; seat = after }) work sent
-turned old envelope (Taken outbox) new after work sent mine room did r =
+pub turned : (old : CellView) (envelope : EnvelopeView) (stepped : Stepped) (new : GroupActor) (after : SeatView OwnInput) (work : List Work) (sent : List EnvelopeView) (unsent : ℕ) → envelope.receiver ≡ old.seat.actor → HasNoteLeft old
+    → Did old.actor envelope.event stepped new → IsRecorded old.seat envelope.event envelope.tokens stepped after work sent unsent → Turned old envelope (record { actor = new; seat = after }) work sent unsent
+turned old envelope (Taken outbox) new after work sent unsent mine room did r =
     let outs = map output_of outbox.frames in
     record {
       noted = record { event = envelope.event; outputs = outs };
@@ -118,8 +118,9 @@ turned old envelope (Taken outbox) new after work sent mine room did r =
       seat = r.seat;
       count = r.count;
       are = r.are ∙ ap (take r.count) (last_sent old.seat after (record { event = envelope.event; outputs = outs }) r.stamp envelope.tokens r.seat);
+      all = r.all;
     }
-turned old envelope Crashed new after work sent mine room did r = record {
+turned old envelope Crashed new after work sent unsent mine room did r = record {
   noted = crash_noted;
   taken = [];
   stamp = r.stamp;
@@ -130,11 +131,12 @@ turned old envelope Crashed new after work sent mine room did r = record {
   seat = r.seat;
   count = r.count;
   are = r.are ∙ ap (take r.count) (last_sent old.seat after crash_noted r.stamp [] r.seat);
+  all = r.all;
 }
 
 -- a turn leads the actor on by its note
-pub led_on : (n : ℕ) (old : CellView) (envelope : EnvelopeView) (new : CellView) (work : List Work) (sent : List EnvelopeView) → IsLedCell n old → Turned old envelope new work sent → IsLedCell n new
-led_on n old envelope new work sent led t =
+pub led_on : (n : ℕ) (old : CellView) (envelope : EnvelopeView) (new : CellView) (work : List Work) (sent : List EnvelopeView) (unsent : ℕ) → IsLedCell n old → Turned old envelope new work sent unsent → IsLedCell n new
+led_on n old envelope new work sent unsent led t =
     let note : Note OwnInput = record { stamp = t.stamp; actor = old.seat.actor; noted = t.noted } in
     let newest : reverse (old.seat.notes ++ note ∷ []) ≡ note ∷ reverse old.seat.notes = reverse-append old.seat.notes (note ∷ []) in
     subst (λ (s : SeatView OwnInput). IsLed n s.actor (reverse s.notes) new.actor) (sym t.seat) (subst (λ l. IsLed n old.seat.actor l new.actor) (sym newest) (old.actor, led, (work, t.step)))
@@ -145,21 +147,21 @@ abbrev pub Kept : ℕ → Actor → GroupActor → List StampedEvent → SeatVie
 Kept n me actor taken seat = (me ≡ seat.actor) × (map kept_event taken ≡ map kept_in seat.notes) × IsLedCell n (record { actor = actor; seat = seat })
 
 -- what became of an envelope keeps what a cell keeps
-pub cell_kept : {X : Type 0} (n : ℕ) (me : Actor) (old : CellView) (envelope : EnvelopeView) (q : Result X Refusal) (work : X → List Work) (sent : X → List EnvelopeView) (after : GroupActor) (now : SeatView OwnInput) (before taken : List StampedEvent)
+pub cell_kept : {X : Type 0} (n : ℕ) (me : Actor) (old : CellView) (envelope : EnvelopeView) (q : Result X Refusal) (work : X → List Work) (sent : X → List EnvelopeView) (unsent : X → ℕ) (after : GroupActor) (now : SeatView OwnInput) (before taken : List StampedEvent)
     → Kept n me old.actor before old.seat → envelope.receiver ≡ me → HasNoteLeft old
-    → IfOk q (λ x. IsTurn old.actor old.seat envelope.event envelope.tokens (work x) (sent x) after now) → IfErr q (λ cause. IsStill old.actor old.seat envelope.event cause after now)
+    → IfOk q (λ x. IsTurn old.actor old.seat envelope.event envelope.tokens (work x) (sent x) (unsent x) after now) → IfErr q (λ cause. IsStill old.actor old.seat envelope.event cause after now)
     → map kept_event taken ≡ map kept_in now.notes → Kept n me after taken now
-cell_kept n me old envelope (Ok x) work sent after now before taken was to room turn still kept =
-    let t = turned old envelope turn.stepped after now (work x) (sent x) (to ∙ was.0) room turn.did turn.recorded in
-    (was.0 ∙ sym (ap (λ (s : SeatView OwnInput). s.actor) t.seat), kept, led_on n old envelope (record { actor = after; seat = now }) (work x) (sent x) was.2 t)
-cell_kept n me old envelope (Err cause) work sent after now before taken was to room turn still kept =
+cell_kept n me old envelope (Ok x) work sent unsent after now before taken was to room turn still kept =
+    let t = turned old envelope turn.stepped after now (work x) (sent x) (unsent x) (to ∙ was.0) room turn.did turn.recorded in
+    (was.0 ∙ sym (ap (λ (s : SeatView OwnInput). s.actor) t.seat), kept, led_on n old envelope (record { actor = after; seat = now }) (work x) (sent x) (unsent x) was.2 t)
+cell_kept n me old envelope (Err cause) work sent unsent after now before taken was to room turn still kept =
     (was.0 ∙ sym (ap (λ (s : SeatView OwnInput). s.actor) still.seat_is), kept, subst (λ s. IsLedCell n (record { actor = after; seat = s })) (sym still.seat_is) (led_still n old.seat old.actor after still.same was.2))
 
-pub cell_turned : {X : Type 0} (me : Actor) (old : CellView) (envelope : EnvelopeView) (q : Result X Refusal) (work : X → List Work) (sent : X → List EnvelopeView) (after : GroupActor) (now : SeatView OwnInput)
-    → me ≡ old.seat.actor → envelope.receiver ≡ me → HasNoteLeft old → IfOk q (λ x. IsTurn old.actor old.seat envelope.event envelope.tokens (work x) (sent x) after now)
-    → IfOk q (λ x. Turned old envelope (record { actor = after; seat = now }) (work x) (sent x))
-cell_turned me old envelope (Ok x) work sent after now mine to room turn = turned old envelope turn.stepped after now (work x) (sent x) (to ∙ mine) room turn.did turn.recorded
-cell_turned me old envelope (Err cause) work sent after now mine to room turn = turn
+pub cell_turned : {X : Type 0} (me : Actor) (old : CellView) (envelope : EnvelopeView) (q : Result X Refusal) (work : X → List Work) (sent : X → List EnvelopeView) (unsent : X → ℕ) (after : GroupActor) (now : SeatView OwnInput)
+    → me ≡ old.seat.actor → envelope.receiver ≡ me → HasNoteLeft old → IfOk q (λ x. IsTurn old.actor old.seat envelope.event envelope.tokens (work x) (sent x) (unsent x) after now)
+    → IfOk q (λ x. Turned old envelope (record { actor = after; seat = now }) (work x) (sent x) (unsent x))
+cell_turned me old envelope (Ok x) work sent unsent after now mine to room turn = turned old envelope turn.stepped after now (work x) (sent x) (unsent x) (to ∙ mine) room turn.did turn.recorded
+cell_turned me old envelope (Err cause) work sent unsent after now mine to room turn = turn
 
 as_said : (says : Refusal → Type 0) (cause : Refusal) → RefusedAsSaid says cause → (cause ≡ refusals.NoMemory) ⊎ says cause
 as_said says refusals.NoMemory said = inl refl

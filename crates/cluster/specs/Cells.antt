@@ -108,9 +108,9 @@ IsNoteOf old envelope noted taken =
 abbrev pub HasNoteLeft : CellView → Type 0
 HasNoteLeft c = length c.seat.notes + 1 < 2 ^ 40
 
--- The actor took one step, or crashed in its place; that was noted once; so many of its first
--- outputs come with their tokens (no field says that these are all).
-pub record Turned (old : CellView) (envelope : EnvelopeView) (new : CellView) (work : List Work) (sent : List EnvelopeView) : Type 0 where
+-- The actor took one step, or crashed in its place; that was noted once; its first outputs come with
+-- their tokens, all but as many as are unsent.
+pub record Turned (old : CellView) (envelope : EnvelopeView) (new : CellView) (work : List Work) (sent : List EnvelopeView) (unsent : ℕ) : Type 0 where
   pub noted : NotedView OwnInput
   pub taken : List (TokenView OwnInput)
   pub stamp : ℕ
@@ -121,6 +121,7 @@ pub record Turned (old : CellView) (envelope : EnvelopeView) (new : CellView) (w
   pub seat : new.seat ≡ with_note noted stamp (with_taken taken old.seat)
   pub count : ℕ
   pub are : sent ≡ take count (envelopes_from (record { stamp = stamp; actor = old.seat.actor; noted = noted }) 0 noted.outputs)
+  pub all : count + unsent ≡ length noted.outputs
 
 -- why an actor's own envelope is refused, where it hears it: the seat is full, or else there is no
 -- memory, or the actor refuses it

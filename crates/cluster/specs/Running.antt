@@ -25,7 +25,8 @@ WhyNotRunning room r =
 -- in a group of n servers, a cell of this actor took a turn by this input
 abbrev pub TookInput : ℕ → Actor → OwnInput → Type 0
 TookInput n actor input =
-    (work : List Work) × (sent : List EnvelopeView) × TookTurn n (own_envelope actor input) work sent
+    (work : List Work) × (sent : List EnvelopeView) × (unsent : ℕ)
+    × TookTurn n (own_envelope actor input) work sent unsent
 
 -- how many threads a group has: one for each actor, and so many for each server, as far as 64 bits
 -- count

@@ -19,14 +19,14 @@ use Rattle.cluster.specs.PlanCounts.{WorkersView, plans_under}
 use Rattle.cluster.specs.Working.{HasApplied, WhyNotApplied, asking}
 
 -- In a group of n servers: a cell took a turn by this envelope, of which it is the receiver's; that
--- came for workers, and this was sent. Before and after, its actor is where just the events lead it
--- that its seat noted.
-pub record TookTurn (n : ℕ) (envelope : EnvelopeView) (work : List Work) (sent : List EnvelopeView) : Type 0 where
+-- came for workers, this was sent, and so much more was not. Before and after, its actor is where
+-- just the events lead it that its seat noted.
+pub record TookTurn (n : ℕ) (envelope : EnvelopeView) (work : List Work) (sent : List EnvelopeView) (unsent : ℕ) : Type 0 where
   pub old : CellView
   pub new : CellView
   pub before : IsLedCell n old
   pub after : IsLedCell n new
-  pub turned : Turned old envelope new work sent
+  pub turned : Turned old envelope new work sent unsent
 
 -- a cell, led by its notes, refuses this envelope so
 abbrev pub CellRefuses : ℕ → EnvelopeView → Refusal → Type 0
@@ -66,9 +66,10 @@ abbrev pub own_envelope : Actor → OwnInput → EnvelopeView
 own_envelope actor input = record { receiver = actor; event = Own input; tokens = [] }
 
 -- in a group of n servers, a cell of this server took a turn by what its workers ask
-abbrev pub TookAsking : ℕ → ℕ → List Work → List EnvelopeView → Type 0
-TookAsking n server work sent =
-    (own : OwnInput) × IsAsking n server own × TookTurn n (own_envelope (actors.Server server) own) work sent
+abbrev pub TookAsking : ℕ → ℕ → List Work → List EnvelopeView → ℕ → Type 0
+TookAsking n server work sent unsent =
+    (own : OwnInput) × IsAsking n server own
+    × TookTurn n (own_envelope (actors.Server server) own) work sent unsent
 
 -- why a cell has no state for this actor's workers: it is another actor's, or else it has none
 abbrev pub WhyNoStateAt : CellView → Actor → Refusal → Type 0

@@ -65,6 +65,8 @@ pub struct Turn<B: BookId> {
     pub work: Sequence<Work>,
     /// What the actor sent, each with its token.
     pub sent: Vec<Envelope<B>>,
+    /// How many more messages it sent, the last ones, that found no memory: they are lost.
+    pub unsent: usize,
 }
 
 /// What a step sent, as the book notes it.
@@ -134,39 +136,42 @@ fn envelope<B: BookId>(
     })
 }
 
-/// The outputs of the last note, each with its token; where memory is wanting, the first of them.
+/// The outputs of the last note, each with its token; where memory is wanting, the first of them,
+/// and how many are left out.
 fn envelopes<B: BookId>(
     alloc: Global,
     book: &Book<OwnInput, B>,
     seat: &mut ActorSeat<OwnInput, B>,
     stamp: u64,
     frames: &Frames,
-) -> Vec<Envelope<B>>
+) -> (Vec<Envelope<B>>, usize)
     requires { EndsWith seat.old.notes stamp (map output_of frames.now) }
     ensures same { seat.new ≡ seat.old }
-    ensures first { (k : ℕ) × (result.items ≡ take k (last_envelopes seat.old.notes)) }
+    ensures first { (k : ℕ) × (result.0.items ≡ take k (last_envelopes seat.old.notes))
+        × (k + result.1 ≡ length frames.now) }
 {
     let mut sent = Vec::new(alloc);
     for place in 0..frames.len() {
         if sent.reserve(1).is_err() {
-            return sent;
+            return (sent, frames.len() - place);
         }
         let Ok(next) = envelope(alloc, book, seat, stamp, place, frames) else {
-            return sent;
+            return (sent, frames.len() - place);
         };
         sent.push_reserved(next);
     }
-    sent
+    (sent, 0)
 }
 
-/// Notes what was done and keeps it; then what was sent, each with its token.
+/// Notes what was done and keeps it; then what was sent, each with its token, and how many messages
+/// found no memory.
 fn keep<B: BookId>(
     alloc: Global,
     book: &Book<OwnInput, B>,
     seat: &mut ActorSeat<OwnInput, B>,
     taken: &mut Vec<StampedEvent>,
     done: Done<B>,
-) -> Vec<Envelope<B>>
+) -> (Vec<Envelope<B>>, usize)
     requires addressed { CanBeNoted seat.old (event_view done.event) (tokens_of done.token) }
     requires can_note { length seat.old.notes + 1 < 2 ^ 40 }
     requires room { vec_len taken.old < vec_capacity taken.old }
@@ -174,7 +179,8 @@ fn keep<B: BookId>(
         (map output_of done.frames) seat.new }
     ensures kept { map kept_event taken.old.items ≡ map kept_in seat.old.notes →
         map kept_event taken.new.items ≡ map kept_in seat.new.notes }
-    ensures first { (k : ℕ) × (result.items ≡ take k (last_envelopes seat.new.notes)) }
+    ensures first { (k : ℕ) × (result.0.items ≡ take k (last_envelopes seat.new.notes))
+        × (k + result.1 ≡ length done.frames) }
 {
     let Done {
         event,
@@ -213,7 +219,7 @@ fn record<B: BookId>(
     requires can_note { length seat.old.notes + 1 < 2 ^ 40 }
     requires room { vec_len taken.old < vec_capacity taken.old }
     ensures recorded { IsRecorded seat.old (event_view event) (tokens_of token) stepped seat.new
-        result.work result.sent.items }
+        result.work result.sent.items result.unsent }
     ensures kept { map kept_event taken.old.items ≡ map kept_in seat.old.notes →
         map kept_event taken.new.items ≡ map kept_in seat.new.notes }
 {
@@ -225,8 +231,8 @@ fn record<B: BookId>(
                 token,
                 frames,
             };
-            let sent = keep(alloc, book, seat, taken, done);
-            Turn { work, sent }
+            let (sent, unsent) = keep(alloc, book, seat, taken, done);
+            Turn { work, sent, unsent }
         }
         Stepped::Crashed => {
             use_up(event, token);
@@ -235,9 +241,9 @@ fn record<B: BookId>(
                 token: None,
                 frames: Frames::new(alloc),
             };
-            let sent = keep(alloc, book, seat, taken, done);
+            let (sent, unsent) = keep(alloc, book, seat, taken, done);
             let work = Sequence::new(alloc);
-            Turn { work, sent }
+            Turn { work, sent, unsent }
         }
     }
 }
@@ -264,7 +270,7 @@ fn step<B: BookId>(
     requires can_note { length seat.old.notes + 1 < 2 ^ 40 }
     requires room { vec_len taken.old < vec_capacity taken.old }
     ensures ok { IfOk result (λ turn. IsTurn actor.old seat.old (event_view event)
-        (tokens_of token) turn.work turn.sent.items actor.new seat.new) }
+        (tokens_of token) turn.work turn.sent.items turn.unsent actor.new seat.new) }
     ensures err { IfErr result (λ cause. IsStill actor.old seat.old (event_view event) cause
         actor.new seat.new) }
     ensures kept { map kept_event taken.old.items ≡ map kept_in seat.old.notes →
@@ -342,7 +348,8 @@ impl<B: BookId> Cell<B> {
     }
 
     /// The actor takes an envelope: one step, or a crash in its place where it finds no memory;
-    /// that is noted once, and kept.
+    /// that is noted once, and kept. What it sent comes with its tokens; of the last messages those
+    /// may be left out that found no memory, and the answer says how many.
     ///
     /// An actor that is down refuses every envelope but a restart with `Down`. `OutOfRange` is
     /// answered where the envelope is for another actor, where an input is one of the other kind of
@@ -358,7 +365,7 @@ impl<B: BookId> Cell<B> {
         envelope: Envelope<B>,
     ) -> Result<Turn<B>, Refusal>
         ensures ok { IfOk result (λ turn.
-            Turned self.old envelope self.new turn.work turn.sent.items) }
+            Turned self.old envelope self.new turn.work turn.sent.items turn.unsent) }
         ensures led { IsLedCell (group_size B.actors) self.old }
         ensures err { OnErr result (SameCell self.old self.new) }
         ensures refused { IfErr result (λ cause. IsEnvelopeRefused self.old envelope cause) }

@@ -180,7 +180,7 @@ impl<B: BookId> Cells<B> {
 /// It is refused with `OutOfRange` where the group has no such actor, and else as `Cell::take`
 /// refuses. What the actor sent comes with its tokens.
 /// - `ok`: a cell of the envelope's receiver took one step by it, as `Cell::take` says; this came
-///   for its workers, and this was sent.
+///   for its workers, this was sent, and so many messages more found no memory.
 /// - `sent`: what was sent are first outputs of one event that the receiver noted.
 /// - `refused`: the group lacks the actor, or a cell refuses the envelope so.
 pub fn turn<B: BookId, R: Wait>(
@@ -190,7 +190,7 @@ pub fn turn<B: BookId, R: Wait>(
     envelope: Envelope<B>,
 ) -> Result<Turn<B>, Refusal>
     ensures ok { IfOk result (λ turn.
-        TookTurn (group_size B.actors) envelope turn.work turn.sent.items) }
+        TookTurn (group_size B.actors) envelope turn.work turn.sent.items turn.unsent) }
     ensures sent { IfOk result (λ turn. AreSent envelope.receiver turn.sent.items) }
     ensures refused { IfErr result (λ cause.
         WhyNoTurn (group_size B.actors) cells.now.actors actor envelope cause) }

@@ -205,9 +205,14 @@ impl<B: BookId, G: Gate + Drop> RunningGroup<B, G> {
         looked
     }
 
-    // What comes of a turn goes where it belongs. The workers of a server look again.
+    // What comes of a turn goes where it belongs. The workers of a server look again. Messages that
+    // found no memory are lost.
     fn settle<R: Wait>(&self, rt: &R, actor: Actor, turned: Turn<B>) {
-        let Turn { work, sent } = turned;
+        let Turn {
+            work,
+            sent,
+            unsent: _,
+        } = turned;
         for envelope in sent {
             self.post(rt, envelope);
         }

@@ -123,7 +123,7 @@ pub fn worker_turn<B: BookId, G: Gate, R: Wait>(
     gate: &G,
 ) -> Result<WorkerTurn<B>, Refusal>
     ensures turn { IfOk result (λ w. IfSome w.turn (λ turn.
-        TookAsking (group_size B.actors) server turn.work turn.sent.items)) }
+        TookAsking (group_size B.actors) server turn.work turn.sent.items turn.unsent)) }
     ensures sent { IfOk result (λ w. IfSome w.turn (λ turn.
         AreSent (actors.Server server) turn.sent.items)) }
     ensures resting { IfOk result (λ w. w.went_on ≡ false → w.turn ≡ None) }

@@ -1,5 +1,5 @@
 -- What a cell notes, and the envelopes of what its actor sent.
-use Rattle.std.specs.Prelude.{◌≡◌, ℕ, List, [], ◌∷◌, ◌++◌, map, take}
+use Rattle.std.specs.Prelude.{◌≡◌, ◌+◌, ℕ, List, [], ◌∷◌, ◌++◌, length, map, take}
 use Rattle.rows.specs.declared.worker.Work.{Work}
 use Rattle.event_book.specs.declared.view.EventView.{EventView}
 use Rattle.event_book.specs.declared.view.EventView.TheVariants.{Own, Delivery, Crash}
@@ -59,18 +59,19 @@ abbrev pub work_by : Stepped → List Work
 work_by (Taken outbox) = outbox.work
 work_by Crashed = []
 
-pub record IsRecorded (old : SeatView OwnInput) (event : EventView OwnInput) (tokens : List (TokenView OwnInput)) (stepped : Stepped) (new : SeatView OwnInput) (work : List Work) (sent : List EnvelopeView) : Type 0 where
+pub record IsRecorded (old : SeatView OwnInput) (event : EventView OwnInput) (tokens : List (TokenView OwnInput)) (stepped : Stepped) (new : SeatView OwnInput) (work : List Work) (sent : List EnvelopeView) (unsent : ℕ) : Type 0 where
   pub stamp : ℕ
   pub seat : new ≡ with_note (noted_by event stepped) stamp (with_taken (tokens_by tokens stepped) old)
   pub work_is : work ≡ work_by stepped
   pub count : ℕ
   pub are : sent ≡ take count (last_envelopes new.notes)
+  pub all : count + unsent ≡ length (noted_by event stepped).outputs
 
 -- the actor did something with what came, and the seat recorded that
-pub record IsTurn (actor : GroupActor) (seat : SeatView OwnInput) (event : EventView OwnInput) (tokens : List (TokenView OwnInput)) (work : List Work) (sent : List EnvelopeView) (after : GroupActor) (now : SeatView OwnInput) : Type 0 where
+pub record IsTurn (actor : GroupActor) (seat : SeatView OwnInput) (event : EventView OwnInput) (tokens : List (TokenView OwnInput)) (work : List Work) (sent : List EnvelopeView) (unsent : ℕ) (after : GroupActor) (now : SeatView OwnInput) : Type 0 where
   pub stepped : Stepped
   pub did : Did actor event stepped after
-  pub recorded : IsRecorded seat event tokens stepped now work sent
+  pub recorded : IsRecorded seat event tokens stepped now work sent unsent
 
 -- the actor refused it, and the seat is as it was
 pub record IsStill (actor : GroupActor) (seat : SeatView OwnInput) (event : EventView OwnInput) (cause : Refusal) (after : GroupActor) (now : SeatView OwnInput) : Type 0 where

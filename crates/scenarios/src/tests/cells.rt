@@ -204,17 +204,18 @@ fn are_for<B: BookId>(sent: &[Envelope<B>], wanted: &[Number]) -> bool {
             .all(|(e, n)| number_of(e.receiver()) == *n)
 }
 
-// The number of the refusal; what is sent waits behind the other messages.
+// The number of the refusal; what is sent waits behind the other messages. None of it may lack
+// memory.
 fn answer<B: BookId>(
     taken: Result<Turn<B>, Refusal>,
     to: &[Number],
     waiting: &mut Vec<Envelope<B>>,
 ) -> Result<Option<u8>, Refusal> {
-    let sent = match taken {
-        Ok(turn) => turn.sent,
+    let Turn { sent, unsent, .. } = match taken {
+        Ok(turn) => turn,
         Err(cause) => return Ok(to.is_empty().then_some(cause.number())),
     };
-    let are_wanted = are_for(sent.as_slice(), to);
+    let are_wanted = unsent == 0 && are_for(sent.as_slice(), to);
     for envelope in sent {
         waiting.push(envelope)?;
     }

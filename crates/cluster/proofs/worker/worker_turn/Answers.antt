@@ -24,4 +24,4 @@ returns-clause-turn g c =
     let asks : IsAsking (group_size g.B.BookId.actors) c.args.server own =
     is_asking (group_size g.B.BookId.actors) c.args.server c.deref_mut.result.now c.take.new.self.waiting c.in-Some.taken (arc_value at.state) at.index c.in-Asks.input own c.in-Some.ensures.oldest c.in-Some.ensures.counted at.ensures.state c.in_ok-own-in-Asks.ensures.event
     c.deref.result.now c.in_ok-handled.field-0 c.deref.ensures c.in-Asks.is c.in_ok-handled.ensures in
-    took_asking (group_size g.B.BookId.actors) c.args.server own _ _ _ asks c.own-envelope.ensures c.in_ok-turn-in-Asks.ensures.ok
+    took_asking (group_size g.B.BookId.actors) c.args.server own _ _ _ _ asks c.own-envelope.ensures c.in_ok-turn-in-Asks.ensures.ok
