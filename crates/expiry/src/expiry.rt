@@ -51,9 +51,6 @@ fn counts_over(alloc: Global, nodes: &Table<Node>) -> Result<ReservedTable<BeatC
 {
     nodes.ranges();
     let mut counts = ReservedTable::empty(alloc);
-    if nodes.len() == 0 {
-        return Ok(counts);
-    }
     counts.make_room(nodes.len())?;
     let mut at = nodes.len();
     while at > 0 {

@@ -9,6 +9,7 @@ use Rattle.rows.specs.declared.worker.Work.{Work}
 use Rattle.wire.specs.Frames.{Frame}
 use Rattle.raft_model.specs.Servers.{Server, Turn, Mode, Down, Follower, Candidate, Leader, is_up, is_leader, silent, extended}
 use Rattle.raft_model.specs.Steps as raft_steps
+use Rattle.raft_core.specs.Inner.Turns.{KeepsFront}
 use Rattle.cluster_model.specs.ClusterMachine.{cluster_meaning}
 use Rattle.group_model.specs.Messages.{GroupMessage, Service, ServiceMessage}
 use Rattle.group_model.specs.Desks.{Desk, applied_state, after_entries, desk_after}
@@ -17,7 +18,7 @@ use Rattle.group_model.specs.Members.{logged}
 use Rattle.group_frames.specs.GroupFrames.{SendsGroup}
 use Rattle.server.specs.declared.server.Outbox.{Outbox}
 use Rattle.server.specs.ServerViews.{ServerView, group_desk}
-use Rattle.server.specs.Inner.Acts.{member_of, DoesAct, KeepsFront, IsProposed, WhyNotProposed}
+use Rattle.server.specs.Inner.Acts.{member_of, DoesAct, IsProposed, WhyNotProposed}
 
 pub leader_up : (mode : Mode) → is_leader mode ≡ true → is_up mode ≡ true
 leader_up Down e = absurd cc

@@ -1,5 +1,5 @@
 -- What the parts of a step do, on a server that is up.
-use Rattle.std.specs.Prelude.{◌≡◌, ℕ, true, List, length, take, Option, Some, None, Result, Ok, Err}
+use Rattle.std.specs.Prelude.{◌≡◌, ℕ, true, List, Option, Some, None, Result, Ok, Err}
 use Rattle.rows.specs.declared.command.Command.{Command}
 use Rattle.rows.specs.declared.refusal.Refusal.{Refusal}
 use Rattle.rows.specs.declared.refusal.Refusal.TheVariants as refusals
@@ -10,6 +10,7 @@ use Rattle.rows.specs.declared.worker.ClientRequestKind.{ClientRequestKind}
 use Rattle.wire.specs.Frames.{Frame}
 use Rattle.raft_model.specs.Servers.{Server, is_leader, crashed, extended}
 use Rattle.raft_model.specs.Steps as raft_steps
+use Rattle.raft_core.specs.Inner.Turns.{KeepsFront}
 use Rattle.cluster_model.specs.ClusterMachine.{cluster_meaning}
 use Rattle.group_model.specs.Messages.{ClientRequest}
 use Rattle.group_model.specs.Desks.{Desk}
@@ -64,10 +65,6 @@ asks_of to Take = TakeFrom to
 asks_of to (Submit plan) = SubmitTo to plan
 asks_of to (Finish eval token outcome) = FinishAt to eval token outcome
 asks_of to (Nack eval token) = NackAt to eval token
-
--- what was sent before still stands in front
-abbrev pub KeepsFront : List Frame → List Frame → Type 0
-KeepsFront before after = take (length before) after ≡ before
 
 -- Memory was wanting: what is stored is as it was, and nothing of what was sent before is lost.
 -- What the server does not store may be anything that its type allows.
