@@ -1,7 +1,7 @@
 //! What an agent knows while it is up.
-ghost use Rattle.std.specs.Prelude.{◌≡◌, OnOk, IfOk, filter};
+ghost use Rattle.std.specs.Prelude.{◌≡◌, OnOk, IfOk};
 ghost use Rattle.rows.specs.Listings.{AreListed};
-ghost use Rattle.group_model.specs.Clients.{Running, new_life, runs, is_shown, with_end, news};
+ghost use Rattle.group_model.specs.Clients.{new_life, runs, with_end, news};
 ghost use Rattle.client_agent.specs.Capacity.{FitTogether};
 ghost use Rattle.client_agent.specs.Inner.Runs.{runs_of, followed, MoreIds};
 

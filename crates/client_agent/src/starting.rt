@@ -1,5 +1,5 @@
 //! What is listed and was never started is started, if it fits.
-ghost use Rattle.std.specs.Prelude.{◌≡◌, ◌≤◌, true, nat_le, ◌&&◌, OnOk, OnErr};
+ghost use Rattle.std.specs.Prelude.{◌≡◌, nat_le, ◌&&◌, OnOk};
 ghost use Rattle.group_model.specs.Clients.{starts, starts_one};
 ghost use Rattle.client_agent.specs.Capacity.{FitTogether};
 ghost use Rattle.client_agent.specs.Inner.Rooms.{IsRoomBeside};

@@ -4,7 +4,7 @@ ghost use Rattle.std.specs.Prelude.{◌≡◌, ◌≢◌, MatchBool, ◌+◌, �
 ghost use Rattle.event_book.specs.Noted.{event_view};
 ghost use Rattle.event_book.specs.Seats.{with_taken};
 ghost use Rattle.cluster.specs.Actors.{group_size, IsNewActor};
-ghost use Rattle.cluster.specs.Cells.{IsAddressed, IsLedCell, IsEnvelopeRefused, kept_in, kept_event, SameCell};
+ghost use Rattle.cluster.specs.Cells.{IsLedCell, IsEnvelopeRefused, kept_in, kept_event, SameCell};
 ghost use Rattle.cluster.specs.Cells.{tokens_of, Turned};
 ghost use Rattle.cluster.specs.Inner.Sending.{CanBeNoted, EndsWith, last_envelopes, IsNoted, IsRecorded, IsStill, IsTurn};
 ghost use Rattle.cluster.specs.Inner.Steps.{IsAnEvent, output_of};

@@ -1,5 +1,5 @@
 //! The rule of the book's table, and the kinds of its moves. Its one word is the number of notes.
-ghost use Rattle.std.specs.Prelude.{ℕ, List};
+ghost use Rattle.std.specs.Prelude.{ℕ};
 
 use crate::book::BookId;
 use crate::view::{BookView, NotedView};

@@ -1,7 +1,6 @@
 //! The frames of what servers and clients of a group send each other.
 #![tactic(auto)]
 
-ghost use Rattle.rows.specs.declared.command.Command.{Command};
 ghost use Rattle.cluster_model.specs.ClusterMachine.{cluster_meaning};
 ghost use Rattle.group_frames.specs.GroupFrames.{FramesAreOfOne, FramesAreOfSome, MessagesHaveOneFrame};
 

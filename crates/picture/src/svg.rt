@@ -1,6 +1,5 @@
 //! The picture, written: each element a line of SVG 1.1.
 ghost use Rattle.std.specs.Prelude.{◌≡◌, ◌++◌, OnOk, IfOk, string_bytes};
-ghost use Rattle.std.specs.List.{flat_map};
 ghost use Rattle.picture.specs.Inner.Shapes.{text_of, head_text, open_text, title_text, about_text, sheet_text, svg_text, line_text, bow_text, circle_text, white_text, words_text};
 
 use crate::escape::escaped;

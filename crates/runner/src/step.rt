@@ -1,8 +1,7 @@
 //! The steps of a scenario.
-ghost use Rattle.std.specs.Prelude.{◌≡◌, ◌<◌, ◌^◌, ◌↔◌, ℕ, IsTrue, Some, IfOk, IfSome, codes, decimal, option_map};
+ghost use Rattle.std.specs.Prelude.{◌≡◌, ◌<◌, ◌^◌, ◌↔◌, ℕ, IsTrue, Some, IfOk, IfSome, decimal, option_map};
 ghost use Rattle.transcript.specs.EventLines.{IsEventLine, ServerFits, server_text};
 ghost use Rattle.group_model.specs.Worlds.{Event as AnyEvent};
-ghost use Rattle.world.specs.GroupEvents.{group_event};
 ghost use Rattle.runner.specs.declared.step.Step.TheVariants as steps;
 ghost use Rattle.runner.specs.Complaints.{IsStepLine};
 ghost use Rattle.runner.specs.Steps.{AnEvent, IsLine, Step as AnyStep, played_step};

@@ -1,6 +1,5 @@
 //! A scenario's file, played on threads.
 ghost use Rattle.std.specs.Prelude.{◌≡◌, ◌≤◌, IfOk, length};
-ghost use Rattle.world.specs.WorldView.{IsGroup};
 
 use crate::ending::print_end;
 use crate::fault::Fault;

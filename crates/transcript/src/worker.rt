@@ -1,5 +1,5 @@
 //! What a server's workers ask of another server, as a line of a scenario says it.
-ghost use Rattle.std.specs.Prelude.{◌≡◌, ◌++◌, ◌∷◌, ℕ, List, [], Some, IfOk, IfSome, IsSomeAnd, OnOk, codes, decimal, take};
+ghost use Rattle.std.specs.Prelude.{◌≡◌, ◌++◌, ◌∷◌, List, [], Some, IfOk, IfSome, OnOk, take};
 ghost use Rattle.std.specs.List.{join_with_byte};
 ghost use Rattle.rows.specs.Batches.{BatchFits};
 ghost use Rattle.rows.specs.Fits.{AllocIdFits, EvalIdFits, IndexFits, PlaceFits, PlanFits, TokenFits};

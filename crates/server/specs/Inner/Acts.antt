@@ -1,5 +1,5 @@
 -- What the parts of a step do, on a server that is up.
-use Rattle.std.specs.Prelude.{◌≡◌, ℕ, true, List, Option, Some, None, Result, Ok, Err}
+use Rattle.std.specs.Prelude.{◌≡◌, ℕ, true, Option, Some, None, Result, Ok, Err}
 use Rattle.rows.specs.declared.command.Command.{Command}
 use Rattle.rows.specs.declared.refusal.Refusal.{Refusal}
 use Rattle.rows.specs.declared.refusal.Refusal.TheVariants as refusals
@@ -7,7 +7,6 @@ use Rattle.rows.specs.declared.worker.WorkerRequest.{WorkerRequest}
 use Rattle.rows.specs.declared.worker.WorkerRequest.TheVariants.{Take, Submit, Finish, Nack}
 use Rattle.rows.specs.declared.worker.WorkerResponse.{WorkerResponse}
 use Rattle.rows.specs.declared.worker.ClientRequestKind.{ClientRequestKind}
-use Rattle.wire.specs.Frames.{Frame}
 use Rattle.raft_model.specs.Servers.{Server, is_leader, crashed, extended}
 use Rattle.raft_model.specs.Steps as raft_steps
 use Rattle.raft_core.specs.Inner.Turns.{KeepsFront}

@@ -1,5 +1,5 @@
 //! Whether the desk may be asked.
-ghost use Rattle.std.specs.Prelude.{◌≡◌, true, Err, OnOk, IfErr};
+ghost use Rattle.std.specs.Prelude.{◌≡◌, Err, OnOk, IfErr};
 ghost use Rattle.group_model.specs.Members.{open_desk};
 ghost use Rattle.raft_model.specs.Servers.{is_leader};
 ghost use Rattle.server.specs.Refusals.{HasOpenDesk};

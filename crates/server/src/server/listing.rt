@@ -1,6 +1,5 @@
 //! The live allocations of a node, as its agent is shown them.
 ghost use Rattle.std.specs.Prelude.{◌≡◌, map, IfOk};
-ghost use Rattle.cluster_model.specs.Words.{State};
 ghost use Rattle.group_model.specs.ClientRequests.{listed_state, shown, listed};
 
 use fsm_state::Cluster;

@@ -1,11 +1,11 @@
 //! What comes to the server's part of the log, and the desk that follows it.
-ghost use Rattle.std.specs.Prelude.{◌≡◌, ◌≢◌, true, None, OnOk, OnErr, IfOk, IfErr};
+ghost use Rattle.std.specs.Prelude.{◌≡◌, ◌≢◌, None, OnOk, OnErr, IfErr};
 ghost use Rattle.rows.specs.declared.command.Command.{Command};
 ghost use Rattle.raft_model.specs.Messages.{Message as MessageOf};
 ghost use Rattle.raft_model.specs.Servers.{is_leader};
 ghost use Rattle.raft_core.specs.Frames.{Means};
 ghost use Rattle.raft_core.specs.Inputs.{handed};
-ghost use Rattle.raft_core.specs.Refusals.{message_refusal, refusal, HidesNothing, IsRefused, IsMessageRefused, RefusalLeaves, MessageRefusalLeaves};
+ghost use Rattle.raft_core.specs.Refusals.{message_refusal, HidesNothing, IsRefused, IsMessageRefused, RefusalLeaves, MessageRefusalLeaves};
 ghost use Rattle.cluster_model.specs.ClusterMachine.{cluster_meaning};
 ghost use Rattle.server.specs.Inner.LogSteps.{where_leads, DeskAfterRefusal, HearsLog, TakesAsk, log_ask};
 
