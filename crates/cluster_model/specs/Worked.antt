@@ -2,3 +2,5 @@ pub mod Words
 pub mod Losses
 pub mod Moves
 pub mod Drains
+pub mod Refusals
+pub mod Ends

@@ -8,4 +8,4 @@ mod laws;
 mod worked;
 
 pub use laws::{commands_are_lawful, empty_is_lawful, plans_are_decided, safety_is_decided};
-pub use worked::{worked_drain, worked_loss, worked_move};
+pub use worked::{worked_drain, worked_ends, worked_loss, worked_move, worked_refusals};

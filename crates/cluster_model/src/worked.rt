@@ -3,6 +3,8 @@
 ghost use Rattle.cluster_model.specs.Worked.Losses.{TwoRun, NodeLost, StaysWithoutRow, LateReport, LateReportPasses, PlacedAgain, AllInUse, LastPasses, OneTooMany};
 ghost use Rattle.cluster_model.specs.Worked.Moves.{NameMoves, RoomWhereStopped, MovePasses, MoveTooLarge, NameTwice, OtherJob};
 ghost use Rattle.cluster_model.specs.Worked.Drains.{RisingNames, DownAlready, ComesBack, Marked, MarkTouches, NotDrained, NotEmpty, Drained, Blocked, FinalStays, BlockedComesBack};
+ghost use Rattle.cluster_model.specs.Worked.Refusals.{ComesAgain, OtherCpu, OtherMemory, OtherClass, NoNodeIsDown, NoNodeDrains, NoNodeIsDrained, DoesNotDrain, NoJobStops, NoJobIsAsked, StopsOnce, StoppedIsAsked, NoEvaluation, PendingAlready, PlacePasses, OtherGroup, LessCpu, LessMemory, PastTheCount, NowhereToRun, NotEligible, NotReady, NotOfTheClass, StoppedIsNotPlaced, StoppedIsPlanned, EvaluationFirst, ThenTheJob, ThenTheStops, ThenWhetherStopped, NoneMoves, OneMoves, NoNodeReports, NoneIsReported, OtherNodeReports, EndIsReported};
+ghost use Rattle.cluster_model.specs.Worked.Ends.{JobStops, StopTouches, PutAgain, Ended, EndGivesRoom, EndTouches, ReportsInOrder, OtherNodesReport, StoppingIsLost, StoppingTouchesNone, DrainsByForce, StaysDrained, LostIsNotMarked};
 
 /// Two nodes run a job of two; one node goes down, what it reports late changes nothing, and its
 /// allocation's name is placed again where there is just room for it.
@@ -42,4 +44,61 @@ pub fn worked_drain()
     ensures blocked { Blocked }
     ensures final_stays { FinalStays }
     ensures blocked_comes_back { BlockedComesBack }
+{}
+
+/// What a state refuses, test by test, and in which order a plan is asked.
+pub fn worked_refusals()
+    ensures comes_again { ComesAgain }
+    ensures other_cpu { OtherCpu }
+    ensures other_memory { OtherMemory }
+    ensures other_class { OtherClass }
+    ensures no_node_is_down { NoNodeIsDown }
+    ensures no_node_drains { NoNodeDrains }
+    ensures no_node_is_drained { NoNodeIsDrained }
+    ensures does_not_drain { DoesNotDrain }
+    ensures no_job_stops { NoJobStops }
+    ensures no_job_is_asked { NoJobIsAsked }
+    ensures stops_once { StopsOnce }
+    ensures stopped_is_asked { StoppedIsAsked }
+    ensures no_evaluation { NoEvaluation }
+    ensures pending_already { PendingAlready }
+    ensures place_passes { PlacePasses }
+    ensures other_group { OtherGroup }
+    ensures less_cpu { LessCpu }
+    ensures less_memory { LessMemory }
+    ensures past_the_count { PastTheCount }
+    ensures nowhere_to_run { NowhereToRun }
+    ensures not_eligible { NotEligible }
+    ensures not_ready { NotReady }
+    ensures not_of_the_class { NotOfTheClass }
+    ensures stopped_is_not_placed { StoppedIsNotPlaced }
+    ensures stopped_is_planned { StoppedIsPlanned }
+    ensures evaluation_first { EvaluationFirst }
+    ensures then_the_job { ThenTheJob }
+    ensures then_the_stops { ThenTheStops }
+    ensures then_whether_stopped { ThenWhetherStopped }
+    ensures none_moves { NoneMoves }
+    ensures one_moves { OneMoves }
+    ensures no_node_reports { NoNodeReports }
+    ensures none_is_reported { NoneIsReported }
+    ensures other_node_reports { OtherNodeReports }
+    ensures end_is_reported { EndIsReported }
+{}
+
+/// A job that stops, allocations that end, one that is to stop on a node that is lost, and a node
+/// that comes back while it drains.
+pub fn worked_ends()
+    ensures job_stops { JobStops }
+    ensures stop_touches { StopTouches }
+    ensures put_again { PutAgain }
+    ensures ended { Ended }
+    ensures end_gives_room { EndGivesRoom }
+    ensures end_touches { EndTouches }
+    ensures reports_in_order { ReportsInOrder }
+    ensures other_nodes_report { OtherNodesReport }
+    ensures stopping_is_lost { StoppingIsLost }
+    ensures stopping_touches_none { StoppingTouchesNone }
+    ensures drains_by_force { DrainsByForce }
+    ensures stays_drained { StaysDrained }
+    ensures lost_is_not_marked { LostIsNotMarked }
 {}

@@ -6,3 +6,4 @@ pub mod Votes
 pub mod Logs
 pub mod Leaders
 pub mod Runs
+pub mod Terms

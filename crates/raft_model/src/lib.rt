@@ -8,5 +8,5 @@ mod worked;
 
 pub use worked::{
     late_append_then_install, refusal_comes_again, worked_leader, worked_logs, worked_run,
-    worked_votes,
+    worked_terms, worked_votes,
 };

@@ -4,6 +4,7 @@ ghost use Rattle.raft_model.specs.Worked.Votes.{CandidateAsks, VoterGrants, Newe
 ghost use Rattle.raft_model.specs.Worked.Logs.{HeldAlready, LateAppend, DiffersAtFirst, CommittedStays, OtherPrevious, MissingPrevious, LowerTerm, InstallKeeps, InstallDiscards};
 ghost use Rattle.raft_model.specs.Worked.Leaders.{LeaderBeats, OlderTerm, OwnTerm, PastLast, OtherTerm, NextGoesBack, NextStaysPastMatch, WholeLog, NotLeader, IsDown, IsUp, RestartsFromSnapshot};
 ghost use Rattle.raft_model.specs.Worked.Runs.{ThreeServersCommit, TailStays, TailCommitted, RefusalTwice, RefusalOften, CommitWithinAppend};
+ghost use Rattle.raft_model.specs.Worked.Terms.{FreeInNextTerm, GrantsAgain, OlderTermDenied, StandsAlone, DenialIsNone, StepsDown, FollowsLeader, LeadsOn, CommitNeverFalls, CommittedIsHeld, InstalledBefore, OlderInstall, MatchNeverFalls, InstallCounts, LateAnswers, OutsideTheGroup, ThirtyTwoAtOnce, FollowerIsSilent, Compacts, CrashLosesTheRest, DownHearsNothing, DownBeatsNot, DownTakesNoProposal, DownCompactsNothing, DownCrashesNot};
 
 /// Standing for election, granting and denying votes, and winning. (Raft, extended version 2014,
 /// Figure 2 and section 5.2.)
@@ -68,4 +69,34 @@ pub fn refusal_comes_again()
     ensures twice { RefusalTwice }
     ensures often { RefusalOften }
     ensures commit_within_append { CommitWithinAppend }
+{}
+
+/// Greater and older terms, what was committed before, what comes again, and what a server that is
+/// down refuses. (Raft, Figure 2, all servers, and sections 5.1 to 5.4.)
+pub fn worked_terms()
+    ensures free_in_next_term { FreeInNextTerm }
+    ensures grants_again { GrantsAgain }
+    ensures older_term_denied { OlderTermDenied }
+    ensures stands_alone { StandsAlone }
+    ensures denial_is_none { DenialIsNone }
+    ensures steps_down { StepsDown }
+    ensures follows_leader { FollowsLeader }
+    ensures leads_on { LeadsOn }
+    ensures commit_never_falls { CommitNeverFalls }
+    ensures committed_is_held { CommittedIsHeld }
+    ensures installed_before { InstalledBefore }
+    ensures older_install { OlderInstall }
+    ensures match_never_falls { MatchNeverFalls }
+    ensures install_counts { InstallCounts }
+    ensures late_answers { LateAnswers }
+    ensures outside_the_group { OutsideTheGroup }
+    ensures thirty_two_at_once { ThirtyTwoAtOnce }
+    ensures follower_is_silent { FollowerIsSilent }
+    ensures compacts { Compacts }
+    ensures crash_loses_the_rest { CrashLosesTheRest }
+    ensures down_hears_nothing { DownHearsNothing }
+    ensures down_beats_not { DownBeatsNot }
+    ensures down_takes_no_proposal { DownTakesNoProposal }
+    ensures down_compacts_nothing { DownCompactsNothing }
+    ensures down_crashes_not { DownCrashesNot }
 {}
