@@ -12,16 +12,16 @@ use Rattle.rows.specs.declared.plan.Place.{Place}
 use Rattle.rows.specs.declared.command.Command.TheVariants as commands
 use Rattle.cluster_model.specs.Words.{State}
 use Rattle.cluster_model.specs.Effect.{applied}
-use Rattle.cluster_model.specs.Worked.Words.{web, api, main, size, alloc_id, mains}
-use Rattle.group_model.specs.Acceptance.{Accepted, accept}
+use Rattle.cluster_model.specs.Worked.Words.{linux, web, api, main, size, alloc_id, mains}
+use Rattle.group_model.specs.Acceptance.{Accepted, accept, keeps_some}
 use Rattle.group_model.specs.Drains.{moves_of}
 use Rattle.group_model.specs.Scheduling.{WantedName, missing_names}
 use Rattle.group_model.specs.NextStep.{MOST_PLANS}
 use Rattle.group_model.specs.Clients as agents
-use Rattle.group_model.specs.Messages.{Listing}
+use Rattle.group_model.specs.Messages.{ToServer, Register, Heartbeat, Pull, Listing}
 use Rattle.group_model.specs.Worked.Words.{alloc_row, one_runs}
 use Rattle.group_model.specs.Worked.PlanChecks.{moves_it}
-use Rattle.group_model.specs.Worked.Agents.{agent, said, runs_eight}
+use Rattle.group_model.specs.Worked.Agents.{agent, lists, said, runs_eight, after_lists, after_nine}
 use Rattle.group_model.specs.Worked.Scheduling.{both_live, asks_for_one}
 
 -- ---- a plan that stops 5.0 and places main[0] of `web` on node 2, with a part of it changed
@@ -73,6 +73,13 @@ JobIsStopped = accept (record roomy { jobs = job_row web ∷ [] }) (moves_it 4) 
 abbrev pub OtherEvaluation : Type 0
 OtherEvaluation = accept (record roomy { jobs = job_row api ∷ [] }) (record (moves_it 4) { job = api }) 6 ≡ Err refusals.UnknownJob
 
+-- a stop alone is something to append; nothing is not
+abbrev pub StopIsSome : Type 0
+StopIsSome = keeps_some stop_alone ≡ true
+
+abbrev pub NothingIsNone : Type 0
+NothingIsNone = keeps_some (record stop_alone { stops = [] }) ≡ false
+
 -- ---- what an agent of 1000 cpu and 1000 memory is listed
 
 abbrev pub lists_of : Size → agents.Input
@@ -94,6 +101,23 @@ FirstOfTwo = said (agents.step 3 agent (agents.Arrives 0 (Listing 9 (
     record { id = alloc_id 8 0; size = size 600 300; state = live_states.Pending }
     ∷ record { id = alloc_id 9 0; size = size 500 300; state = live_states.Pending }
     ∷ [])))) ≡ runs_eight
+
+-- what the list says already is not reported; what is not listed runs no more
+abbrev pub KnownIsNotSaid : Type 0
+KnownIsNotSaid = said (agents.step 3 after_nine (lists 9 8 live_states.Running)) ≡ []
+
+abbrev pub UnlistedStops : Type 0
+UnlistedStops = agents.step 3 (after_lists after_nine (agents.Arrives 0 (Listing 10 []) ∷ [])) (agents.End (alloc_id 8 0) true) ≡ Err refusals.UnknownAlloc
+
+-- what it asks of a server
+abbrev pub PingIsHeartbeat : Type 0
+PingIsHeartbeat = said (agents.step 3 agent (agents.Ping 1)) ≡ ToServer 1 1 Heartbeat ∷ []
+
+abbrev pub PullsItsList : Type 0
+PullsItsList = said (agents.step 3 agent (agents.PullFrom 1)) ≡ ToServer 1 1 Pull ∷ []
+
+abbrev pub RegistersItsNode : Type 0
+RegistersItsNode = said (agents.step 3 agent (agents.RegisterAt 2)) ≡ ToServer 1 2 (Register linux (size 1000 1000)) ∷ []
 
 -- ---- two groups of a job on a node that drains: one of each moves
 

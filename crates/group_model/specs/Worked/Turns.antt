@@ -26,7 +26,7 @@ use Rattle.group_model.specs.Members.{Member}
 use Rattle.group_model.specs.Messages.{Service, BetweenServers, ToServer, Heartbeat, Asks, Answers}
 use Rattle.group_model.specs.Worked.Words.{token, entry, leads, log, leader, after_inputs, sent_by, a, narrow, at_narrow}
 use Rattle.group_model.specs.Worked.PlanTurns.{takes_from}
-use Rattle.group_model.specs.Worked.Deliveries.{asks, lapse, failed_at}
+use Rattle.group_model.specs.Worked.Deliveries.{asks, lapse, thrice, failed_at}
 use Rattle.group_model.specs.Worked.Requests.{registers, told}
 use Rattle.group_model.specs.Worked.Agents.{agent}
 
@@ -36,6 +36,11 @@ leads_with entries commit = leads entries commit (after_entries 1 no_rows (take 
 
 abbrev pub log_after : Member → inputs.Input → List (Entry Command)
 log_after s input = (after_inputs s (input ∷ [])).raft.log
+
+-- why an input is refused, if it is
+abbrev pub refusal_of : Result members.Turn Refusal → Option Refusal
+refusal_of (Ok turn) = None
+refusal_of (Err r) = Some r
 
 -- ---- a drained node: job a runs on node 1, as allocation (5, 0), and node 1 drains
 
@@ -93,6 +98,13 @@ Frees = log_after (leads_with roomy 6) inputs.FreeTurn ≡ freed
 abbrev pub FreesOnce : Type 0
 FreesOnce = log_after (leads_with freed 6) inputs.FreeTurn ≡ freed
 
+-- with nothing to do a turn is no refusal, of evaluations that are due and of those that failed
+abbrev pub FreesQuietly : Type 0
+FreesQuietly = refusal_of (members.step 3 0 (leads_with freed 6) inputs.FreeTurn) ≡ None
+
+abbrev pub ReapsQuietly : Type 0
+ReapsQuietly = refusal_of (members.step 3 0 (after_inputs leader (thrice ++ inputs.Reap ∷ [])) inputs.Reap) ≡ None
+
 abbrev pub RoomIsApplied : Type 0
 RoomIsApplied = log_after (leads_with roomy 5) inputs.FreeTurn ≡ roomy
 
@@ -149,10 +161,6 @@ abbrev pub ToldTheLeader : Type 0
 ToldTheLeader = sent_by (members.step 3 0 follows (registers (size 1000 1000))) ≡ told kinds.Register (Some (reasons.NotLeader (Some 2)))
 
 -- Nobody is asked, or heard, outside the group.
-abbrev pub refusal_of : Result members.Turn Refusal → Option Refusal
-refusal_of (Ok turn) = None
-refusal_of (Err r) = Some r
-
 abbrev pub AsksNoStranger : Type 0
 AsksNoStranger = refusal_of (members.step 3 0 at_narrow (inputs.TakeFrom 3)) ≡ Some refusals.OutOfRange
 
