@@ -3,7 +3,7 @@
 ghost use Rattle.cluster_model.specs.Worked.Losses.{TwoRun, NodeLost, StaysWithoutRow, LateReport, LateReportPasses, PlacedAgain, AllInUse, LastPasses, OneTooMany};
 ghost use Rattle.cluster_model.specs.Worked.Moves.{NameMoves, RoomWhereStopped, MovePasses, MoveTooLarge, NameTwice, OtherJob};
 ghost use Rattle.cluster_model.specs.Worked.Drains.{RisingNames, DownAlready, ComesBack, Marked, MarkTouches, NotDrained, NotEmpty, Drained, Blocked, FinalStays, BlockedComesBack};
-ghost use Rattle.cluster_model.specs.Worked.Refusals.{ComesAgain, OtherCpu, OtherMemory, OtherClass, NoNodeIsDown, NoNodeDrains, NoNodeIsDrained, DoesNotDrain, NoJobStops, NoJobIsAsked, StopsOnce, StoppedIsAsked, NoEvaluation, PendingAlready, PlacePasses, OtherGroup, LessCpu, LessMemory, PastTheCount, NowhereToRun, NotEligible, NotReady, NotOfTheClass, StoppedIsNotPlaced, StoppedIsPlanned, EvaluationFirst, ThenTheJob, ThenTheStops, ThenWhetherStopped, NoneMoves, OneMoves, NoNodeReports, NoneIsReported, OtherNodeReports, EndIsReported};
+ghost use Rattle.cluster_model.specs.Worked.Refusals.{ComesAgain, OtherCpu, OtherMemory, OtherClass, NoNodeIsDown, NoNodeDrains, NoNodeIsDrained, NodeIsDown, NodeDrains, NodeIsDrained, DoesNotDrain, NoJobStops, StopPasses, NoJobIsAsked, StopsOnce, StoppedIsAsked, NoEvaluation, EvaluationEnds, PendingAlready, PlacePasses, OtherGroup, LessCpu, LessMemory, PastTheCount, NowhereToRun, NotEligible, NotReady, NotOfTheClass, StoppedIsNotPlaced, StoppedIsPlanned, EvaluationFirst, ThenTheJob, ThenTheStops, ThenWhetherStopped, NoneMoves, OneMoves, NoNodeReports, NoneIsReported, OtherNodeReports, EndIsReported};
 ghost use Rattle.cluster_model.specs.Worked.Ends.{JobStops, StopTouches, PutAgain, Ended, EndGivesRoom, EndTouches, ReportsInOrder, OtherNodesReport, StoppingIsLost, StoppingTouchesNone, DrainsByForce, StaysDrained, LostIsNotMarked};
 
 /// Two nodes run a job of two; one node goes down, what it reports late changes nothing, and its
@@ -55,12 +55,17 @@ pub fn worked_refusals()
     ensures no_node_is_down { NoNodeIsDown }
     ensures no_node_drains { NoNodeDrains }
     ensures no_node_is_drained { NoNodeIsDrained }
+    ensures node_is_down { NodeIsDown }
+    ensures node_drains { NodeDrains }
+    ensures node_is_drained { NodeIsDrained }
     ensures does_not_drain { DoesNotDrain }
     ensures no_job_stops { NoJobStops }
+    ensures stop_passes { StopPasses }
     ensures no_job_is_asked { NoJobIsAsked }
     ensures stops_once { StopsOnce }
     ensures stopped_is_asked { StoppedIsAsked }
     ensures no_evaluation { NoEvaluation }
+    ensures evaluation_ends { EvaluationEnds }
     ensures pending_already { PendingAlready }
     ensures place_passes { PlacePasses }
     ensures other_group { OtherGroup }

@@ -1,5 +1,5 @@
--- What a state refuses, and in which order: one worked command for each test of the table, and the
--- same command where it passes.
+-- What a state refuses, and in which order: worked commands for the tests of the table, but those
+-- of full tables and what the other modules here work out, and commands that pass.
 use Rattle.std.specs.Prelude.{◌≡◌, ℕ, false, true, Some, None, List, [], ◌∷◌}
 use Rattle.rows.specs.declared.refusal.Refusal.TheVariants as refusals
 use Rattle.rows.specs.declared.size.Size.{Size}
@@ -46,7 +46,17 @@ NoNodeDrains = admission one_job (commands.Drain 2 true) ≡ Some refusals.Unkno
 abbrev pub NoNodeIsDrained : Type 0
 NoNodeIsDrained = admission one_job (commands.DrainDone 2) ≡ Some refusals.UnknownNode
 
--- nothing lives on node 1, which does not drain
+-- of one that has a row both are
+abbrev pub NodeIsDown : Type 0
+NodeIsDown = admission one_job (commands.NodeDown 1) ≡ None
+
+abbrev pub NodeDrains : Type 0
+NodeDrains = admission one_job (commands.Drain 1 true) ≡ None
+
+-- it is drained where it drains and nothing lives on it; node 1 does not drain
+abbrev pub NodeIsDrained : Type 0
+NodeIsDrained = admission (applied one_job (commands.Drain 1 true)) (commands.DrainDone 1) ≡ None
+
 abbrev pub DoesNotDrain : Type 0
 DoesNotDrain = admission one_job (commands.DrainDone 1) ≡ Some refusals.NotDraining
 
@@ -54,6 +64,9 @@ DoesNotDrain = admission one_job (commands.DrainDone 1) ≡ Some refusals.NotDra
 
 abbrev pub NoJobStops : Type 0
 NoJobStops = admission one_job (commands.JobStop api) ≡ Some refusals.UnknownJob
+
+abbrev pub StopPasses : Type 0
+StopPasses = admission one_job (commands.JobStop web) ≡ None
 
 abbrev pub NoJobIsAsked : Type 0
 NoJobIsAsked = admission one_job (commands.EvalPut api) ≡ Some refusals.UnknownJob
@@ -70,6 +83,9 @@ StoppedIsAsked = admission stopped_job (commands.EvalPut web) ≡ None
 
 abbrev pub NoEvaluation : Type 0
 NoEvaluation = admission one_job (commands.EvalStatus (eval_id 2 1) changes.Complete) ≡ Some refusals.NotOutstanding
+
+abbrev pub EvaluationEnds : Type 0
+EvaluationEnds = admission one_job (commands.EvalStatus (eval_id 2 0) changes.Complete) ≡ None
 
 abbrev pub PendingAlready : Type 0
 PendingAlready = admission one_job (commands.EvalStatus (eval_id 2 0) changes.Pending) ≡ Some refusals.NotOutstanding

@@ -50,15 +50,19 @@ FirstPlan = sent_by (members.step 3 0 (after_inputs at_narrow both_submitted) in
 abbrev pub SecondPlan : Type 0
 SecondPlan = sent_by (members.step 3 0 (after_inputs at_narrow (both_submitted ++ inputs.PlanTurn ∷ [])) inputs.PlanTurn) ≡ Service (BetweenServers 0 2 (Answers (PlanResult (record { eval = eval_id 4 0; token = token 1 2; last = 5; placed = 0; refused = 1 ∷ [] })))) ∷ []
 
-abbrev pub OneEntry : Type 0
-OneEntry = (after_inputs at_narrow (both_submitted ++ inputs.PlanTurn ∷ inputs.PlanTurn ∷ inputs.PlanTurn ∷ [])).raft.log ≡ narrow ++ entry 1 (commands.Plan (record {
+-- what is appended of it
+abbrev pub a_is_placed : Command
+a_is_placed = commands.Plan (record {
   eval = eval_id 3 0;
   token = token 1 1;
   job = a;
   snapshot = 4;
   stops = [];
   places = record { group = main; index = 0; node = 1; size = size 600 100 } ∷ [];
-})) ∷ []
+})
+
+abbrev pub OneEntry : Type 0
+OneEntry = (after_inputs at_narrow (both_submitted ++ inputs.PlanTurn ∷ inputs.PlanTurn ∷ inputs.PlanTurn ∷ [])).raft.log ≡ narrow ++ entry 1 a_is_placed ∷ []
 
 -- A plan under an earlier token of the evaluation is refused.
 abbrev pub OldTokenPlan : Type 0

@@ -16,7 +16,7 @@ use Rattle.rows.specs.declared.worker.WorkerResponse.TheVariants.{Delivered, Ref
 use Rattle.machine.specs.declared.entry.Entry.{Entry}
 use Rattle.raft_model.specs.Servers as rafts
 use Rattle.cluster_model.specs.Words.{no_rows}
-use Rattle.cluster_model.specs.Worked.Words.{main, size, eval_id, alloc_id, comes}
+use Rattle.cluster_model.specs.Worked.Words.{size, eval_id, alloc_id, comes}
 use Rattle.group_model.specs.Brokers.{outstanding}
 use Rattle.group_model.specs.Clients as agents
 use Rattle.group_model.specs.Desks.{Desk, after_entries}
@@ -24,8 +24,8 @@ use Rattle.group_model.specs.Inputs as inputs
 use Rattle.group_model.specs.Members as members
 use Rattle.group_model.specs.Members.{Member}
 use Rattle.group_model.specs.Messages.{Service, BetweenServers, ToServer, Heartbeat, Asks, Answers}
-use Rattle.group_model.specs.Worked.Words.{token, entry, leads, log, leader, after_inputs, sent_by, a, narrow, at_narrow}
-use Rattle.group_model.specs.Worked.PlanTurns.{takes_from}
+use Rattle.group_model.specs.Worked.Words.{token, entry, leads, log, leader, after_inputs, sent_by, narrow, at_narrow}
+use Rattle.group_model.specs.Worked.PlanTurns.{takes_from, a_is_placed}
 use Rattle.group_model.specs.Worked.Deliveries.{asks, lapse, thrice, failed_at}
 use Rattle.group_model.specs.Worked.Requests.{registers, told}
 use Rattle.group_model.specs.Worked.Agents.{agent}
@@ -45,17 +45,7 @@ refusal_of (Err r) = Some r
 -- ---- a drained node: job a runs on node 1, as allocation (5, 0), and node 1 drains
 
 abbrev pub draining : List (Entry Command)
-draining = narrow
-    ++ entry 1 (commands.Plan (record {
-      eval = eval_id 3 0;
-      token = token 1 1;
-      job = a;
-      snapshot = 4;
-      stops = [];
-      places = record { group = main; index = 0; node = 1; size = size 600 100 } ∷ [];
-    }))
-    ∷ entry 1 (commands.Drain 1 true)
-    ∷ []
+draining = narrow ++ entry 1 a_is_placed ∷ entry 1 (commands.Drain 1 true) ∷ []
 
 -- It is marked to move, also where the drain is not applied yet.
 abbrev pub MarksIt : Type 0
