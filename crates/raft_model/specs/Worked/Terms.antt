@@ -126,8 +126,8 @@ FollowerIsSilent = step tally_meaning 3 1 voted Beat ≡ Ok (silent voted)
 -- ---- snapshots and crashes
 
 -- A snapshot covers what is applied.
-abbrev pub Compacts : Type 0
-Compacts = after_inputs 3 0 (record leader { log = adds 1 7 ∷ adds 1 8 ∷ adds 2 9 ∷ []; commit = 2 }) (Compact ∷ []) ≡ record leader { log = adds 1 7 ∷ adds 1 8 ∷ adds 2 9 ∷ []; commit = 2; covered = 2 }
+abbrev pub CoversTheApplied : Type 0
+CoversTheApplied = after_inputs 3 0 (record leader { log = adds 1 7 ∷ adds 1 8 ∷ adds 2 9 ∷ []; commit = 2 }) (Compact ∷ []) ≡ record leader { log = adds 1 7 ∷ adds 1 8 ∷ adds 2 9 ∷ []; commit = 2; covered = 2 }
 
 -- A crash loses the rest; what a restart begins with stands there already.
 abbrev pub CrashLosesTheRest : Type 0
