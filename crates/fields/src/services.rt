@@ -5,7 +5,7 @@ ghost use Rattle.rows.specs.Rising.{is_behind};
 ghost use Rattle.rows.specs.Ids.{alloc_cmp, node_rises};
 ghost use Rattle.rows.specs.Listings.{listed_id, listed_rises};
 ghost use Rattle.fields_model.specs.Format.{GivesExactly, Puts, number};
-ghost use Rattle.fields_model.specs.Services.{eval_outcome, place_count, node_id_behind, rising_nodes, plan_result, leader_number, told_leader, told_of, told_parts, told_from, told_reason, reason, no_pair, a_pair, asked_number, asked_request, client_request_kind, live_state, listed_allocation, listed_allocation_behind, listing};
+ghost use Rattle.fields_model.specs.Services.{eval_outcome, place_count, node_id_behind, rising_nodes, plan_result, leader_number, told_leader, told_of, told_parts, told_from, told_reason, reason, no_pair, a_pair, asked_request, client_request_kind, live_state, listed_allocation, listed_allocation_behind, listing};
 ghost use Rattle.fields_model.proofs.ServiceLaws.{eval_outcome_lawful, place_count_lawful, node_id_is_ruled, rising_nodes_lawful, plan_result_lawful, reason_lawful, asked_request_lawful, client_request_kind_lawful, live_state_lawful, listed_allocation_lawful, listed_allocation_is_ruled, listing_lawful};
 
 use crate::field::Field;

@@ -1,5 +1,5 @@
 //! Why a state refuses a command.
-ghost use Rattle.std.specs.Prelude.{◌≡◌, ◌≤◌, ◌&&◌, Option, Some, None, IfOk, OnErr, is_none};
+ghost use Rattle.std.specs.Prelude.{◌≡◌, ◌≤◌, ◌&&◌, Option, Some, None, IfOk, OnErr};
 ghost use Rattle.std.specs.List.{list_any};
 ghost use Rattle.rows.specs.declared.command.Command.TheVariants as commands;
 ghost use Rattle.cluster_model.specs.Words.{is_draining};

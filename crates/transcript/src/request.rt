@@ -15,7 +15,7 @@ use crate::spelled::{Spelled, append_word};
 use crate::word::{
     append_next, append_text, cut, read_count, read_name, read_node, read_priority, read_quantity,
 };
-use rows::{Group, Groups, JobName, JobSpec, NoMemory, NodeId, OperatorRequest, Priority, Size};
+use rows::{Group, Groups, JobName, JobSpec, NoMemory, OperatorRequest, Priority, Size};
 use std::alloc::Global;
 
 /// Reads the text of a request: `put NAME PRIORITY GROUPS`, `stop NAME`, `eval NAME`, and

@@ -1,6 +1,6 @@
 //! Whether the state after a plan is safe, by a look at the plan alone where names are known to be
 //! held once.
-ghost use Rattle.std.specs.Prelude.{◌≡◌, List, ◌++◌, ◌≤◌, ◌+◌, ◌&&◌, ◌<◌, ◌^◌, nat_le, IfOk, OnOk, length};
+ghost use Rattle.std.specs.Prelude.{◌≡◌, List, ◌++◌, ◌≤◌, ◌+◌, ◌&&◌, ◌<◌, IfOk, OnOk, length};
 ghost use Rattle.std.specs.List.{list_all};
 ghost use Rattle.fsm_tables.specs.Claims.{used, Claim as AnyClaim};
 ghost use Rattle.rows.specs.Limits.{most_allocs};

@@ -6,7 +6,7 @@ ghost use Rattle.event_book.specs.Seats.{Names};
 use event_book::{
     ActorEvent, ActorSeat, Book, BookId, MessageToken, Noted, OpenedBook, OutputList,
 };
-use rows::{Actor, ClientId, NoMemory, Refusal, ServerId};
+use rows::{Actor, ClientId, Refusal, ServerId};
 use std::alloc::Global;
 use std::marker::Brand;
 use std::test::*;
