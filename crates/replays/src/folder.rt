@@ -64,10 +64,11 @@ impl Shelf for Folder<'_> {
 }
 
 /// A standard output that fails once so many bytes are written, and where it is flushed if none was
-/// left.
+/// left. It is the one for each play, so that the program is built for one.
 #[derive(Drop)]
 pub(crate) struct Output {
     pub(crate) left: usize,
+    pub(crate) bytes: Vec<u8>,
 }
 
 impl Write for Output {
@@ -76,6 +77,7 @@ impl Write for Output {
         if self.left == 0 {
             return Err(io::Error::from(ErrorKind::BrokenPipe));
         }
+        self.bytes.extend_from_slice(&buf[..count])?;
         self.left -= count;
         Ok(count)
     }

@@ -22,11 +22,30 @@ pub(crate) fn run_words<R: Threads + Wait + Copy + Send + 'static>(
     folder: &mut Folder<'_>,
     words: &[&str],
 ) -> Printed {
+    run_to(rt, on, folder, words, usize::MAX)
+}
+
+// What a command line says where the standard output takes so many bytes.
+fn run_to<R: Threads + Wait + Copy + Send + 'static>(
+    rt: &HostRuntime,
+    on: R,
+    folder: &mut Folder<'_>,
+    words: &[&str],
+    left: usize,
+) -> Printed {
     let alloc = rt.alloc();
-    let mut out = Vec::new(alloc);
+    let mut out = Output {
+        left,
+        bytes: Vec::new(alloc),
+    };
     let mut err = Vec::new(alloc);
     let status = nomadsim(on, alloc, words, folder, &mut out, &mut err);
-    Printed { out, err, status }
+    let Output { left: _, bytes } = out;
+    Printed {
+        out: bytes,
+        err,
+        status,
+    }
 }
 
 // Whether this was said, and nothing on the standard error.
@@ -187,18 +206,9 @@ fn fail<R: Threads + Wait + Copy + Send + 'static>(
     words: &[&str],
     left: usize,
 ) -> io::Result<()> {
-    let mut err = Vec::new(rt.alloc());
-    let mut folder = Folder::new(rt, b"");
-    let status = nomadsim(
-        on,
-        rt.alloc(),
-        words,
-        &mut folder,
-        &mut Output { left },
-        &mut err,
-    );
-    io::writer(rt).write_all(&err)?;
-    print!(rt; "{status}")
+    let printed = run_to(rt, on, &mut Folder::new(rt, b""), words, left);
+    io::writer(rt).write_all(&printed.err)?;
+    print!(rt; "{}", printed.status)
 }
 
 /// Plays the scenario `one-refused`, checks `node-too-small`, which has notes, and asks for help,
