@@ -1,6 +1,7 @@
-ghost use Rattle.std.specs.Prelude.{◌≡◌, ◌≢◌, ◌⊎◌, true, is_some, None, Some, option_map, OnOk, OnErr, IfOk, IfErr, IfSome, List};
+ghost use Rattle.std.specs.Prelude.{◌≡◌, ◌≢◌, true, is_some, None, Some, option_map, OnOk, OnErr, IfOk, IfErr, IfSome, List};
 ghost use Rattle.rows.specs.declared.actor.Actor.TheVariants as actors;
 ghost use Rattle.rows.specs.declared.refusal.Refusal.TheVariants as refusals;
+ghost use Rattle.rows.specs.GroupSizes.{IsGroup};
 ghost use Rattle.rows.specs.Listings.{AreListed};
 ghost use Rattle.wire.specs.Frames.{Frame};
 ghost use Rattle.group_model.specs.Messages.{Listing};
@@ -20,7 +21,7 @@ use crate::listing::{Heard, Shown, take_shown};
 use crate::running::RunningAllocation;
 use crate::started::Started;
 use fsm_state::Cluster;
-use rows::{Actor, AllocId, Index, NoMemory, NodeSpec, Refusal, ServerId};
+use rows::{Actor, AllocId, Index, NoMemory, NodeSpec, Refusal, ServerId, is_group_size};
 use std::alloc::Global;
 use std::marker::Model;
 use wire::{Body, Frames, read_message};
@@ -61,11 +62,11 @@ impl Agent {
     /// It is refused with `OutOfRange` where `n` is not 3 or 5.
     pub fn new(alloc: Global, node: NodeSpec, n: usize) -> Result<Agent, Refusal>
         ensures ok { IfOk result (λ a. (a ≡ record { size = n; client = agent_of node })
-            × ((n ≡ 3) ⊎ (n ≡ 5))) }
+            × IsGroup n) }
         ensures err { IfErr result (λ cause. (cause ≡ refusals.OutOfRange)
-            × (n ≢ 3) × (n ≢ 5)) }
+            × (IsGroup n → ⊥)) }
     {
-        if n != 3 && n != 5 {
+        if !is_group_size(n) {
             return Err(Refusal::OutOfRange);
         }
         Ok(Agent {

@@ -8,7 +8,7 @@ use Rattle.rows.specs.declared.refusal.Refusal.TheVariants as refusals
 use Rattle.event_book.specs.declared.view.SeatView.{SeatView}
 use Rattle.event_book.specs.Seats.{actor_in}
 use Rattle.cluster.specs.declared.own_input.OwnInput.{OwnInput}
-use Rattle.world.specs.WorldView.{IsGroup}
+use Rattle.rows.specs.GroupSizes.{IsGroup}
 use Rattle.cluster.specs.Closing.{AreOfGroup, AreSeated}
 
 -- a group of n servers and m clients has this actor

@@ -35,7 +35,7 @@ pub struct Cells<B: BookId> {
 
 impl<B: BookId> Model for Cells<B> {
     ghost use Rattle.std.specs.Prelude.{◌≡◌, ◌≤◌, length, vec_len};
-    ghost use Rattle.world.specs.WorldView.{IsGroup};
+    ghost use Rattle.rows.specs.GroupSizes.{IsGroup};
     ghost use Rattle.cluster.specs.Closing.{AreOfGroup, AreSeated};
     ghost use Rattle.cluster.specs.Opening.{CellGroup};
 

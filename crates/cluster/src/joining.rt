@@ -1,7 +1,7 @@
 //! The world that a closed group of cells comes to.
 ghost use Rattle.std.specs.Prelude.{◌≡◌, ◌≢◌, ◌≤◌, length, IfOk, IfSome, IfNone};
 ghost use Rattle.client_agent.specs.AgentView.{AgentView};
-ghost use Rattle.world.specs.WorldView.{IsGroup};
+ghost use Rattle.rows.specs.GroupSizes.{IsGroup};
 ghost use Rattle.cluster.specs.Actors.{group_size};
 ghost use Rattle.cluster.specs.Closing.{AreOfGroup, ClosesTo};
 ghost use Rattle.cluster.specs.Inner.Joined.{agent_named, HasClient, HasClients, IsNodeOf, AreNodesOf};

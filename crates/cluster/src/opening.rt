@@ -2,7 +2,7 @@
 ghost use Rattle.std.specs.Prelude.{◌≡◌, ◌<◌, ◌≤◌, ℕ, suc, true, false, length, map, IfOk, IfErr, MatchBool, OnOk};
 ghost use Rattle.std.specs.List.{AllByRecursion};
 ghost use Rattle.rows.specs.declared.actor.Actor.TheVariants as actors;
-ghost use Rattle.world.specs.WorldView.{IsGroup};
+ghost use Rattle.rows.specs.GroupSizes.{IsGroup};
 ghost use Rattle.event_book.specs.Seats.{actor_in, are_apart, lists_actor};
 ghost use Rattle.cluster.specs.Actors.{group_size, IsNewActor};
 ghost use Rattle.cluster.specs.Closing.{AreOfGroup, AreSeated};
@@ -14,16 +14,9 @@ use crate::cell::Cell;
 use crate::own_input::OwnInput;
 use client_agent::Agent;
 use event_book::{ActorSeat, BookId};
-use rows::{Actor, ClientId, NodeId, NodeSpec, Refusal, ServerId};
+use rows::{Actor, ClientId, NodeId, NodeSpec, Refusal, ServerId, is_group_size};
 use server::Server;
 use std::alloc::Global;
-
-/// Whether a group may have so many servers.
-fn is_size(n: usize) -> bool
-    ensures { MatchBool result (IsGroup n) (IsGroup n → ⊥) }
-{
-    n == 3 || n == 5
-}
 
 /// Whether each of the `n` servers is among these.
 fn has_servers(n: usize, all: &[Actor]) -> bool
@@ -170,7 +163,7 @@ pub(crate) fn may_open<B: BookId>(
     ensures { MatchBool result (MayOpenCells n m all.now seats.now)
         (MayOpenCells n m all.now seats.now → ⊥) }
 {
-    if !is_size(n) || m > 64 {
+    if !is_group_size(n) || m > 64 {
         return false;
     }
     if seats.len() != all.len() {

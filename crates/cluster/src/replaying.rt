@@ -1,6 +1,6 @@
 //! How the events of a history are played again on a world of their own.
 ghost use Rattle.std.specs.Prelude.{◌≡◌, ◌≤◌, length, IfOk, OnOk};
-ghost use Rattle.world.specs.WorldView.{IsGroup};
+ghost use Rattle.rows.specs.GroupSizes.{IsGroup};
 ghost use Rattle.world.specs.GroupEvents.{group_event, group_events};
 ghost use Rattle.world.specs.GroupView.{nodes_of, renumbered, ClientsKnowPlaces};
 ghost use Rattle.world.specs.GroupSteps.{IsNewGroup, GroupEventHappened};

@@ -3,7 +3,7 @@ use Rattle.std.specs.Prelude.{◌≡◌, ℕ, ◌≤◌, ◌<◌, Bool, true, no
 use Rattle.std.specs.List.{flat_map, list_all}
 use Rattle.std.specs.Io.KnownBytes.{Appends}
 use Rattle.rows.specs.declared.node.NodeSpec.{NodeSpec}
-use Rattle.world.specs.WorldView.{IsGroup}
+use Rattle.rows.specs.GroupSizes.{IsGroup}
 
 -- a group of so many servers and of these nodes' clients may be
 abbrev pub MayBe : ℕ → List NodeSpec → Type 0

@@ -14,7 +14,7 @@ use Rattle.raft_core.specs.declared.no_projection.NoProjection.{NoProjection}
 use Rattle.raft_core.specs.declared.no_projection.NoProjection.TheVariants as reasons
 use Rattle.raft_core.specs.RaftView.{RaftView}
 use Rattle.raft_core.specs.Inputs.{Handed, Bytes, Own}
-use Rattle.raft_core.specs.Steps.{Represents, is_group_place}
+use Rattle.raft_core.specs.Steps.{Represents, IsGroupPlace}
 
 -- ---- what is handed in
 
@@ -140,8 +140,8 @@ RefusalShows cause old new = new ≡ old
 
 -- why a stored part is not started
 abbrev pub WhyNot : ℕ → ℕ → Refusal → Type 0
-WhyNot n me refusals.NoMemory = is_group_place n me ≡ true
-WhyNot n me refusals.OutOfRange = is_group_place n me ≡ false
+WhyNot n me refusals.NoMemory = IsGroupPlace n me
+WhyNot n me refusals.OutOfRange = IsGroupPlace n me → ⊥
 WhyNot n me _ = ⊥
 
 -- why a server has no machine after its whole log

@@ -1,5 +1,6 @@
 -- Which server a value is, and what it does with what is handed in.
-use Rattle.std.specs.Prelude.{◌≡◌, ℕ, ◌==◌, ◌||◌, ◌&&◌, Bool, nat_lt, Option, Some, None, Ok, List}
+use Rattle.std.specs.Prelude.{◌≡◌, ℕ, ◌<◌, Option, Some, None, Ok, List}
+use Rattle.rows.specs.GroupSizes.{IsGroup}
 use Rattle.machine.specs.Meaning.{Meaning}
 use Rattle.wire.specs.Messages.{Message as WireMessage}
 use Rattle.wire.specs.Frames.{Frame}
@@ -31,9 +32,9 @@ role_of FollowerMode = Some roles.Follower
 role_of (CandidateMode votes) = Some roles.Candidate
 role_of (LeaderMode next match) = Some roles.Leader
 
--- a group has 3 or 5 servers, and this place
-abbrev pub is_group_place : ℕ → ℕ → Bool
-is_group_place n me = ((n == 3) || (n == 5)) && nat_lt me n
+-- a group has so many servers, and this place
+abbrev pub IsGroupPlace : ℕ → ℕ → Type 0
+IsGroupPlace n me = IsGroup n × (me < n)
 
 -- the input leads from the one server to one that the new value is, and its messages were sent
 pub record Steps {S C : Type 0} (m : Meaning S C) (old : RaftView C) (s : Server C) (input : Input C)

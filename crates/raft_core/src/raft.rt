@@ -5,11 +5,11 @@ mod propose;
 mod replies;
 mod votes;
 
-ghost use Rattle.std.specs.Prelude.{◌≡◌, ◌≤◌, true, false, None, length, take, replicate, OnOk, OnErr, IfOk, IfErr, IfSome, MatchOption};
+ghost use Rattle.std.specs.Prelude.{◌≡◌, ◌≤◌, true, false, None, length, take, replicate, OnOk, OnErr, IfOk, IfErr, IfSome, MatchBool, MatchOption};
 ghost use Rattle.raft_model.specs.Logs.{state_after};
 ghost use Rattle.raft_model.specs.Servers.{Server, is_up, is_leader, met, crashed, restarted};
 ghost use Rattle.raft_core.specs.Inputs.{handed};
-ghost use Rattle.raft_core.specs.Steps.{Represents, Stores, Takes, role_of, is_group_place};
+ghost use Rattle.raft_core.specs.Steps.{Represents, Stores, Takes, role_of, IsGroupPlace};
 ghost use Rattle.raft_core.specs.Refusals.{refusal, HidesNothing, IsRefused, RefusalLeaves, RefusalShows, WhyNot};
 ghost use Rattle.raft_core.specs.Inner.Stops.{EndsRefused};
 ghost use Rattle.raft_core.specs.Inner.Views.{with_server};
@@ -22,7 +22,7 @@ use crate::role::Role;
 use crate::stable::Stable;
 use crate::watch::{Unwatched, Watch};
 use machine::{Coded, Entry, Machine};
-use rows::{Index, LeaderTerm, NoMemory, Refusal, ServerId, Term};
+use rows::{Index, LeaderTerm, NoMemory, Refusal, ServerId, Term, is_group_size};
 use std::alloc::Global;
 use std::marker::Model;
 use wire::Frames;
@@ -91,9 +91,9 @@ fn no_levels(alloc: Global, size: usize) -> Result<Levels, NoMemory>
 }
 
 fn is_member(size: usize, me: ServerId) -> bool
-    ensures { result ≡ is_group_place size me }
+    ensures { MatchBool result (IsGroupPlace size me) (IsGroupPlace size me → ⊥) }
 {
-    (size == 3 || size == 5) && me.place() < size
+    is_group_size(size) && me.place() < size
 }
 
 impl<M: Machine> Raft<M> {
@@ -108,7 +108,7 @@ impl<M: Machine> Raft<M> {
         size: usize,
         stable: Stable<M>,
     ) -> Result<Raft<M>, NotRestarted<M>>
-        ensures member { OnOk result (is_group_place size me ≡ true) }
+        ensures member { OnOk result (IsGroupPlace size me) }
         ensures number { IfOk result (λ r. (r.me ≡ me) × (r.size ≡ size)) }
         ensures server { IfOk result (λ r. (s : Server M.Command) → Stores M.meaning stable s →
             Represents M.meaning r (restarted s)) }

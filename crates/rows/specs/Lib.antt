@@ -4,6 +4,7 @@ pub mod Words
 pub mod Names
 pub mod Rising
 pub mod Ids
+pub mod GroupSizes
 pub mod Listings
 pub mod Groups
 pub mod Batches

@@ -10,7 +10,7 @@ use Rattle.serde_json.specs.Data.{Data, Items, Members, no_members, member, obje
 use Rattle.serde_json.specs.Find.{as_array, as_number, as_str, as_u64, get}
 use Rattle.serde_json.specs.Read.{read}
 use Rattle.serde_json.specs.View.{items_of}
-use Rattle.world.specs.WorldView.{IsGroup}
+use Rattle.rows.specs.GroupSizes.{IsGroup}
 use Rattle.runner.specs.declared.scenario.Order.{Order}
 use Rattle.runner.specs.declared.scenario.Order.TheVariants.{Sent, Any}
 use Rattle.runner.specs.declared.scenario.Settings.{Settings}

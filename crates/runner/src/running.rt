@@ -3,7 +3,7 @@ ghost use Rattle.std.specs.Prelude.{◌≡◌, ◌≢◌, ◌≤◌, ◌⊎◌, 
 ghost use Rattle.std.specs.Io.KnownBytes.{Appends};
 ghost use Rattle.rows.specs.declared.refusal.Refusal.TheVariants as refusals;
 ghost use Rattle.transcript.specs.Transcripts.{IsTranscript, record_of};
-ghost use Rattle.world.specs.WorldView.{IsGroup};
+ghost use Rattle.rows.specs.GroupSizes.{IsGroup};
 ghost use Rattle.runner.specs.declared.fault.Fault.TheVariants as faults;
 ghost use Rattle.runner.specs.declared.scenario.Scenario.{Scenario};
 ghost use Rattle.runner.specs.Complaints.{IsGood, IsStepLine};

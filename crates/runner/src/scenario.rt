@@ -7,13 +7,13 @@ ghost use Rattle.rows.specs.declared.size.Size.{Size};
 ghost use Rattle.rows.specs.declared.refusal.Refusal.TheVariants.{NoMemory, OutOfRange};
 ghost use Rattle.serde_json.specs.Find.{as_object};
 ghost use Rattle.serde_json.specs.View.{view, items_view};
-ghost use Rattle.world.specs.WorldView.{IsGroup};
+ghost use Rattle.rows.specs.GroupSizes.{IsGroup};
 ghost use Rattle.runner.specs.declared.scenario.Order.{Order};
 ghost use Rattle.runner.specs.declared.scenario.Settings.{Settings};
 ghost use Rattle.runner.specs.declared.scenario.Scenario.{Scenario};
 ghost use Rattle.runner.specs.Objects.{AreNodes, HasSettings, HasSize, IsNode, IsScenario, list_at, members_count, whole_number_at, order_text, strings, text_at};
 
-use rows::{ClassName, Name, NodeId, NodeSpec, Quantity, Refusal, Size};
+use rows::{ClassName, Name, NodeId, NodeSpec, Quantity, Refusal, Size, is_group_size};
 use serde_json::Value;
 use std::alloc::Global;
 
@@ -103,7 +103,7 @@ pub(crate) fn servers_of(value: &Value) -> Option<u8>
         (λ n. (whole_number_at (codes "servers") (view value.now) ≡ Some n) × IsGroup n) }
 {
     let number = number_of(value, "servers")?;
-    if number != 3 && number != 5 {
+    if !is_group_size(number as usize) {
         return None;
     }
     Some(number as u8)

@@ -15,7 +15,7 @@ use Rattle.rows.specs.declared.node.NodeSpec.{NodeSpec}
 use Rattle.group_model.specs.Worlds.{Event, Deliver, AtServer, AtClient}
 use Rattle.group_model.specs.Inputs as servers
 use Rattle.group_model.specs.Clients as clients
-use Rattle.world.specs.WorldView.{IsGroup}
+use Rattle.rows.specs.GroupSizes.{IsGroup}
 use Rattle.transcript.specs.EventLines.{ClientInputHasLine, HasLine, ServerInputHasLine, event_line}
 use Rattle.transcript.specs.Inner.Printable.{IsPrintable}
 use Rattle.transcript.specs.Transcripts.{AreNumberedFrom, BeginsKept, Recorded, lines_text, node_line, of_event, of_node, servers_line, transcript_lines}

@@ -6,7 +6,7 @@ use Rattle.rows.specs.declared.node.NodeSpec.{NodeSpec}
 use Rattle.group_model.specs.Worlds.{Event}
 use Rattle.world.specs.GroupEvents.{group_events}
 use Rattle.world.specs.GroupView.{GroupView, nodes_of}
-use Rattle.world.specs.WorldView.{IsGroup}
+use Rattle.rows.specs.GroupSizes.{IsGroup}
 use Rattle.transcript.specs.EventLines.{HasLine, event_line, IsEventLine, TakesMemory}
 use Rattle.transcript.specs.declared.transcript.Transcript.{Transcript}
 

@@ -5,7 +5,7 @@ ghost use Rattle.rows.specs.Fits.{NodeSpecFits};
 ghost use Rattle.rows.specs.declared.node.NodeSpec.{NodeSpec};
 ghost use Rattle.rows.specs.declared.refusal.Refusal.TheVariants as refusals;
 ghost use Rattle.group_model.specs.Worlds as models;
-ghost use Rattle.world.specs.WorldView.{IsGroup};
+ghost use Rattle.rows.specs.GroupSizes.{IsGroup};
 ghost use Rattle.world.specs.GroupEvents.{group_event, group_events};
 ghost use Rattle.transcript.specs.EventLines.{HasLine, event_line};
 ghost use Rattle.transcript.specs.Transcripts.{AreNumberedFrom, BeginsKept, IsFault, IsTranscript, KeepsLines, Recorded, lines_text, node_line, recorded, servers_line};

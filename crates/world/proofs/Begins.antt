@@ -8,7 +8,8 @@ use Rattle.raft_core.specs.RaftView.{RaftView}
 use Rattle.raft_core.specs.Steps.{Represents}
 use Rattle.raft_core.specs.Frames.{FrameCarries}
 use Rattle.raft_safety.specs.Claims.{IsGreatestCommit}
-use Rattle.world.specs.WorldView.{WorldView, RepresentsWorld, RunsTo, IsRaftWorld, IsGroup}
+use Rattle.rows.specs.GroupSizes.{IsGroup}
+use Rattle.world.specs.WorldView.{WorldView, RepresentsWorld, RunsTo, IsRaftWorld}
 use Rattle.world.proofs.Zips.{zip_append}
 use Rattle.world.proofs.Heights.{first_height}
 

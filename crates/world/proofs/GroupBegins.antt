@@ -18,7 +18,7 @@ use Rattle.group_frames.specs.GroupFrames.{CarriesGroup}
 use Rattle.client_agent.specs.AgentView.{AgentView}
 use Rattle.server.specs.declared.server.Outbox.{Outbox}
 use Rattle.server.specs.ServerViews.{ServerView, IsMember}
-use Rattle.world.specs.WorldView.{IsGroup}
+use Rattle.rows.specs.GroupSizes.{IsGroup}
 use Rattle.world.specs.GroupView.{GroupView, GroupRunsTo, IsGroupWorld, nodes_of, node_in, client_in, renumbered}
 use Rattle.world.specs.GroupSteps.{IsNewGroup}
 use Rattle.world.specs.Inner.GroupInputs.{new_agents}

@@ -28,7 +28,7 @@ use Rattle.server.specs.Handings.{Handing, FrameBytes, OwnInput, handing, bytes_
 use Rattle.server.specs.Refusals.{MayLackMemory, handing_refusal}
 use Rattle.world.specs.declared.done.Done.{Done}
 use Rattle.world.specs.declared.done.Done.TheVariants as done
-use Rattle.world.specs.WorldView.{IsGroup}
+use Rattle.rows.specs.GroupSizes.{IsGroup}
 use Rattle.world.specs.GroupEvents.{server_input, work_of, input_work, turn_work}
 use Rattle.world.specs.GroupView.{GroupView, RepresentsGroup, GroupRunsTo, IsGroupWorld, IsSentTo, ServersKnowPlaces, ClientsKnowPlaces, nodes_of, node_in, client_in}
 use Rattle.world.specs.GroupSteps.{GroupEventHappened, SameView, RefusesGroupEvent, IsGroupAwake, MayWantAt}

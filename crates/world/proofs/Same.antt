@@ -8,7 +8,8 @@ use Rattle.raft_core.specs.RaftView.{RaftView}
 use Rattle.raft_core.specs.Frames.{FrameCarries}
 use Rattle.raft_core.specs.Steps.{Represents}
 use Rattle.raft_safety.specs.Claims.{IsGreatestCommit}
-use Rattle.world.specs.WorldView.{WorldView, RunsTo, Numbered, IsRaftWorld, IsGroup}
+use Rattle.rows.specs.GroupSizes.{IsGroup}
+use Rattle.world.specs.WorldView.{WorldView, RunsTo, Numbered, IsRaftWorld}
 use Rattle.world.specs.Steps.{LeftServer, SameWorld}
 use Rattle.world.proofs.Zips.{zip_length, zip_set, zip_from}
 

@@ -12,7 +12,8 @@ use Rattle.raft_core.specs.Steps.{Represents, Steps}
 use Rattle.raft_safety.specs.Claims.{IsGreatestCommit}
 use Rattle.raft_safety.proofs.Places.{get_set-cases, set-length}
 use Rattle.world.specs.Inner.Inputs.{committed}
-use Rattle.world.specs.WorldView.{WorldView, RepresentsWorld, Numbered, IsRaftWorld, IsGroup}
+use Rattle.rows.specs.GroupSizes.{IsGroup}
+use Rattle.world.specs.WorldView.{WorldView, RepresentsWorld, Numbered, IsRaftWorld}
 use Rattle.world.specs.Steps.{EventHappened}
 use Rattle.world.proofs.Zips.{zip_length, zip_set, zip_append}
 use Rattle.world.proofs.Heights.{height_next}

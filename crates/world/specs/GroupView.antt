@@ -15,7 +15,7 @@ use Rattle.group_frames.specs.GroupFrames.{CarriesGroup}
 use Rattle.client_agent.specs.AgentView.{AgentView}
 use Rattle.server.specs.declared.server.Outbox.{Outbox}
 use Rattle.server.specs.ServerViews.{ServerView, IsMember}
-use Rattle.world.specs.WorldView.{IsGroup}
+use Rattle.rows.specs.GroupSizes.{IsGroup}
 
 -- the servers, the clients, all frames that were ever sent with what came for workers and was not
 -- fetched yet, all events that happened, and how many entries were ever applied

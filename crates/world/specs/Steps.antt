@@ -13,7 +13,8 @@ use Rattle.raft_core.specs.Refusals.{MayWant}
 use Rattle.world.specs.declared.done.Done.{Done}
 use Rattle.world.specs.declared.done.Done.TheVariants.{Taken, Crashed}
 use Rattle.world.specs.Events.{event_input}
-use Rattle.world.specs.WorldView.{WorldView, RepresentsWorld, RunsTo, IsRaftWorld, IsGroup}
+use Rattle.rows.specs.GroupSizes.{IsGroup}
+use Rattle.world.specs.WorldView.{WorldView, RepresentsWorld, RunsTo, IsRaftWorld}
 
 -- The event happens in each world that `old` represents, and makes it one that `new` represents.
 -- Each run of the old value goes on to one of the new value, by this event.
@@ -87,7 +88,7 @@ pub record IsNew {S C : Type 0} (m : Meaning S C) (n : ℕ) (view : WorldView C)
 
 -- why there is no group: the size, or want of memory
 abbrev pub IsNoGroup : ℕ → Refusal → Type 0
-IsNoGroup n r = (r ≡ refusals.NoMemory) ⊎ ((r ≡ refusals.OutOfRange) × (n ≢ 3) × (n ≢ 5))
+IsNoGroup n r = (r ≡ refusals.NoMemory) ⊎ ((r ≡ refusals.OutOfRange) × (IsGroup n → ⊥))
 
 -- In place of this event its server's crash stands at this place of the trace, and at that moment
 -- the event might want memory.

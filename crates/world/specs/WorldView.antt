@@ -1,7 +1,8 @@
 -- What a contract sees of a world, which world of the definitions it represents, and that a run
 -- leads there.
-use Rattle.std.specs.Prelude.{◌≡◌, ℕ, ◌⊎◌, Some, List, length, slice_get}
+use Rattle.std.specs.Prelude.{◌≡◌, ℕ, Some, List, length, slice_get}
 use Rattle.std.specs.List.{AllZip}
+use Rattle.rows.specs.GroupSizes.{IsGroup}
 use Rattle.machine.specs.Meaning.{Meaning}
 use Rattle.wire.specs.Frames.{Frame}
 use Rattle.raft_model.specs.Worlds.{World, Event, Run}
@@ -33,10 +34,6 @@ pub record RunsTo {S C : Type 0} (m : Meaning S C) (view : WorldView C) (past : 
 -- each server knows its place and the size of the group
 abbrev pub Numbered : {C : Type 0} → WorldView C → Type 0
 Numbered {C} view = (i : ℕ) (h : RaftView C) → slice_get view.servers i ≡ Some h → (h.me ≡ i) × (h.size ≡ length view.servers)
-
--- the size of a group
-abbrev pub IsGroup : ℕ → Type 0
-IsGroup n = (n ≡ 3) ⊎ (n ≡ 5)
 
 -- what every world keeps
 pub record IsRaftWorld {S C : Type 0} (m : Meaning S C) (view : WorldView C) : Type 0 where

@@ -3,10 +3,11 @@ ghost use Rattle.std.specs.Option.{option_copied};
 ghost use Rattle.rows.specs.declared.refusal.Refusal.TheVariants as refusals;
 ghost use Rattle.raft_model.specs.Servers.{newcomer};
 ghost use Rattle.raft_model.specs.Worlds.{World};
-ghost use Rattle.raft_core.specs.Steps.{Represents, is_group_place};
+ghost use Rattle.raft_core.specs.Steps.{Represents, IsGroupPlace};
 ghost use Rattle.raft_safety.specs.Claims.{IsGreatestCommit};
 ghost use Rattle.world.specs.Events.{world_event, world_events};
-ghost use Rattle.world.specs.WorldView.{RunsTo, IsGroup};
+ghost use Rattle.rows.specs.GroupSizes.{IsGroup};
+ghost use Rattle.world.specs.WorldView.{RunsTo};
 ghost use Rattle.world.specs.Steps.{WasDone, SameWorld, RefusesEvent, IsAwake, IsNew, IsNoGroup, Played, Replays};
 ghost use Rattle.world.specs.Claims.{OneLeaderEver, LogsMatchEver, OneListEver, StatesSafeEver};
 ghost use Rattle.world.specs.Inner.Inputs.{ActsIn, IsSent};
@@ -18,7 +19,7 @@ use crate::input::actor;
 use machine::Machine;
 use raft_core::{Raft, Stable};
 use raft_safety::{log_matching, one_leader_a_term, one_list, states_are_safe, within_limits};
-use rows::{Index, NoMemory, Refusal, ServerId};
+use rows::{Index, NoMemory, Refusal, ServerId, is_group_size};
 use std::alloc::Global;
 use std::marker::Model;
 use wire::{Frames, frames_are_whole};
@@ -43,7 +44,7 @@ impl<M: Machine> Model for RaftWorld<M> {
 
 /// The server at this place, before its first input.
 fn newcomer<M: Machine>(alloc: Global, place: usize, n: usize) -> Result<Raft<M>, NoMemory>
-    requires { is_group_place n place ≡ true }
+    requires { IsGroupPlace n place }
     ensures number { IfOk result (λ r. (r.me ≡ place) × (r.size ≡ n)) }
     ensures server { IfOk result (λ r. Represents M.meaning r newcomer) }
 {
@@ -160,7 +161,7 @@ impl<M: Machine> RaftWorld<M> {
         // Want of memory is not answered where there is no such group.
         ensures memory { IfErr result (λ refusal. refusal ≡ refusals.NoMemory → IsGroup n) }
     {
-        if n != 3 && n != 5 {
+        if !is_group_size(n) {
             return Err(Refusal::OutOfRange);
         }
         let mut servers = Vec::new(alloc);

@@ -1,7 +1,7 @@
 -- A scenario's group, before its first step.
 use Rattle.std.specs.Prelude.{◌≡◌, ◌≤◌, [], length, replicate}
 use Rattle.world.specs.GroupSteps.{IsNewGroup}
-use Rattle.world.specs.WorldView.{IsGroup}
+use Rattle.rows.specs.GroupSizes.{IsGroup}
 use Rattle.runner.specs.declared.play.Play.{Play}
 use Rattle.runner.specs.declared.scenario.Scenario.{Scenario}
 

@@ -10,7 +10,7 @@ ghost use Rattle.group_model.specs.Worlds.{Deliver, AtServer, AtClient};
 ghost use Rattle.group_safety.specs.Limits.{NodesFit};
 ghost use Rattle.server.specs.Handings.{handing};
 ghost use Rattle.server.specs.ServerViews.{ServerView, IsMember};
-ghost use Rattle.world.specs.WorldView.{IsGroup};
+ghost use Rattle.rows.specs.GroupSizes.{IsGroup};
 ghost use Rattle.world.specs.Events.{place_of};
 ghost use Rattle.world.specs.GroupEvents.{server_input, client_input, group_event, group_events};
 ghost use Rattle.world.specs.GroupView.{client_view, nodes_of, ServersKnowPlaces, ClientsKnowPlaces, IsSentTo};
@@ -32,7 +32,7 @@ use group_safety::{
 };
 use rows::{
     Actor, ClientId, Index, NoMemory, NodeId, NodeSpec, Refusal, Sequence, ServerId, Work,
-    all_ranges,
+    all_ranges, is_group_size,
 };
 use server::{Server, ServerInput};
 use std::alloc::Global;
@@ -341,7 +341,7 @@ impl World {
         ensures memory { IfErr result (λ refusal. refusal ≡ refusals.NoMemory →
             IsGroup n × (length nodes.now ≤ 64)) }
     {
-        if n != 3 && n != 5 {
+        if !is_group_size(n) {
             return Err(Refusal::OutOfRange);
         }
         if nodes.len() > 64 {

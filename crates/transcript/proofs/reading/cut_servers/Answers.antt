@@ -1,5 +1,5 @@
 use Rattle.std.proofs.Common.{◌≡◌, ◌∙◌, ◌+◌, ◌++◌, ◌∷◌, ℕ, [], ap, arith, codes, get_or, inl, inr, refl, sym}
-use Rattle.world.specs.WorldView.{IsGroup}
+use Rattle.rows.specs.GroupSizes.{IsGroup}
 use Rattle.transcript.specs.Transcripts.{servers_line}
 use Rattle.transcript.proofs.Lines.{group_line, group_printable}
 use Rattle.transcript.proofs.reading.cut_servers.Goals as goal

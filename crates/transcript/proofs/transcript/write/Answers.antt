@@ -2,7 +2,7 @@ use Rattle.std.proofs.Common.{◌≡◌, ◌<◌, ◌^◌, ◌++◌, ◌∷◌, 
 use Rattle.std.specs.List.{AllByRecursion}
 use Rattle.std.proofs.lemmas.List.{length-map}
 use Rattle.world.specs.GroupView.{node_in, nodes_of}
-use Rattle.world.specs.WorldView.{IsGroup}
+use Rattle.rows.specs.GroupSizes.{IsGroup}
 use Rattle.transcript.specs.EventLines.{HasLine, event_line}
 use Rattle.transcript.specs.Inner.Lines.{IsSayable}
 use Rattle.transcript.specs.Transcripts.{lines_text, node_line, record_of, servers_line}

@@ -1,18 +1,19 @@
-use Rattle.std.proofs.Common.{arith, ◌≡◌, true, length, ap, sym, ◌∙◌}
+use Rattle.std.proofs.Common.{arith, length, ap, ◌∙◌}
+use Rattle.std.proofs.lemmas.Bool.{MatchBool-at_true}
 use Rattle.std.proofs.lemmas.List.{length-replicate}
-use Rattle.raft_core.specs.Steps.{is_group_place}
+use Rattle.raft_core.specs.Steps.{IsGroupPlace}
 use Rattle.raft_core.proofs.Lives.{fresh, filled_least, filled_most}
-use Rattle.raft_core.proofs.Members.{member-below, member-small}
+use Rattle.raft_core.proofs.Members.{group-small}
 use Rattle.raft_core.proofs.raft.Raft.restart.Goals as goal
 
 pub invariant_of-result-2 : goal.invariant_of-result-2
 invariant_of-result-2 g c =
-    let member : is_group_place c.args.size c.args.me ≡ true = sym c.is_member.ensures ∙ c.if-not-is_member.false in
+    let member : IsGroupPlace c.args.size c.args.me = MatchBool-at_true _ _ c.if-not-is_member.false c.is_member.ensures in
     let size = c.args.size in
     let made = c.in-Ok.ensures in
     record {
-      number = member-below size c.args.me member;
-      group = member-small size c.args.me member;
+      number = member.1;
+      group = group-small size member.0;
       short = c.stable.invariant;
       elected = tt;
       room = tt;

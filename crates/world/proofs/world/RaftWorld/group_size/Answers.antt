@@ -1,5 +1,6 @@
 use Rattle.std.proofs.Common.{length, subst}
-use Rattle.world.specs.WorldView.{WorldView, IsGroup}
+use Rattle.rows.specs.GroupSizes.{IsGroup}
+use Rattle.world.specs.WorldView.{WorldView}
 use Rattle.world.proofs.world.RaftWorld.group_size.Goals as goal
 
 pub returns : goal.returns

@@ -1,19 +1,17 @@
-use Rattle.std.proofs.Common.{◌≡◌, ℕ, subst, arith, ap, inl, inr}
+use Rattle.std.proofs.Common.{◌≡◌, ℕ, subst, arith, ap}
+use Rattle.std.proofs.lemmas.Bool.{MatchBool-at_true}
 use Rattle.world.specs.Inner.HistoryView.{HistoryView}
-use Rattle.world.specs.WorldView.{WorldView, IsGroup}
+use Rattle.rows.specs.GroupSizes.{IsGroup}
+use Rattle.world.specs.WorldView.{WorldView}
 use Rattle.world.proofs.Begins.{Begun, begun_next, begun_reached, begun_represents}
 use Rattle.world.proofs.world.RaftWorld.new.Goals as goal
-use Rattle.world.proofs.world.RaftWorld.new.Goals.{else-n-ne3-via-then-n-ne3+else-n-ne5, else-n-ne3-via-else-n-ne3}
 
 pub invariant_of-result : goal.invariant_of-result
 invariant_of-result g c =
     let all : c.loop-place.place ≡ c.args.n = omega arith in
     let seen : WorldView g.row.M-Command.Denot = record { servers = c.loop-place.servers.items; sent = c.new.result.sent; trace = c.new.result.trace; chain = c.new.result.chain } in
     let begun : Begun g.M.Machine.meaning c.args.n c.args.n c.loop-place.servers.items = subst (λ (k : ℕ). Begun g.M.Machine.meaning c.args.n k c.loop-place.servers.items) all c.loop-place.invariant in
-    let size : IsGroup c.args.n = elim c.else-n-ne3.branch [
-      | else-n-ne3-via-then-n-ne3+else-n-ne5 w ↦ inr (omega arith)
-      | else-n-ne3-via-else-n-ne3 w ↦ inl (omega arith)
-    ] in
+    let size : IsGroup c.args.n = MatchBool-at_true _ _ c.if-not-is_group_size.false c.is_group_size.ensures.both in
     begun_reached g.M.Machine.meaning c.args.n seen size begun (ap (λ (x : HistoryView g.row.M-Command.Denot). x.sent) c.new.ensures) (ap (λ (x : HistoryView g.row.M-Command.Denot). x.trace) c.new.ensures) (ap (λ (x : HistoryView g.row.M-Command.Denot). x.chain) c.new.ensures)
 
 pub loop-place-preserved : goal.loop-place-preserved
@@ -26,10 +24,7 @@ returns-clause-ok g c =
     let all : c.loop-place.place ≡ c.args.n = omega arith in
     let seen : WorldView g.row.M-Command.Denot = record { servers = c.loop-place.servers.items; sent = c.new.result.sent; trace = c.new.result.trace; chain = c.new.result.chain } in
     let begun : Begun g.M.Machine.meaning c.args.n c.args.n c.loop-place.servers.items = subst (λ (k : ℕ). Begun g.M.Machine.meaning c.args.n k c.loop-place.servers.items) all c.loop-place.invariant in
-    let size : IsGroup c.args.n = elim c.else-n-ne3.branch [
-      | else-n-ne3-via-then-n-ne3+else-n-ne5 w ↦ inr (omega arith)
-      | else-n-ne3-via-else-n-ne3 w ↦ inl (omega arith)
-    ] in
+    let size : IsGroup c.args.n = MatchBool-at_true _ _ c.if-not-is_group_size.false c.is_group_size.ensures.both in
     record {
       size = size;
       count = begun.count;

@@ -1,5 +1,5 @@
 use Rattle.std.proofs.Common.{length, subst}
-use Rattle.world.specs.WorldView.{IsGroup}
+use Rattle.rows.specs.GroupSizes.{IsGroup}
 use Rattle.world.specs.GroupView.{GroupView}
 use Rattle.world.proofs.group.world.World.group_size.Goals as goal
 
