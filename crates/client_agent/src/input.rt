@@ -34,11 +34,7 @@ impl ClientInput {
         ensures frame { OnErr result (IsFrameInput self.now) }
     {
         match self {
-            ClientInput::Frame(bytes) => {
-                let mut copy = Vec::new(alloc);
-                copy.extend_from_slice(bytes.as_slice())?;
-                Ok(ClientInput::Frame(Sequence::from_vec(copy)))
-            }
+            ClientInput::Frame(bytes) => Ok(ClientInput::Frame(bytes.try_clone(alloc)?)),
             ClientInput::Register(server) => Ok(ClientInput::Register(*server)),
             ClientInput::Ping(server) => Ok(ClientInput::Ping(*server)),
             ClientInput::Pull(server) => Ok(ClientInput::Pull(*server)),

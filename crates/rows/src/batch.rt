@@ -2,7 +2,7 @@ ghost use Rattle.std.specs.Prelude.{◌≡◌, ◌≤◌, ◌<◌, [], length, I
 ghost use Rattle.rows.specs.declared.refusal.Refusal.TheVariants as refusals;
 
 use crate::list_rules::{Ranged, all_ranges};
-use crate::refusal::Refusal;
+use crate::refusal::{NoMemory, Refusal};
 use crate::sequence::Sequence;
 use std::alloc::Global;
 use std::marker::Model;
@@ -54,6 +54,17 @@ impl<T: Drop> Batch<T> {
         } else {
             Err(Refusal::OutOfRange)
         }
+    }
+}
+
+impl<T: Copy + Drop> Batch<T> {
+    /// The same items once more.
+    pub fn try_clone(&self, alloc: Global) -> Result<Batch<T>, NoMemory>
+        ensures { IfOk result (λ batch. batch ≡ self.now) }
+    {
+        let mut items = Vec::new(alloc);
+        items.extend_from_slice(&self.items)?;
+        Ok(Batch { items })
     }
 }
 

@@ -230,6 +230,19 @@ pub struct JobSpec {
     pub groups: Groups,
 }
 
+impl JobSpec {
+    /// The same job once more.
+    pub fn try_clone(&self, alloc: Global) -> Result<JobSpec, NoMemory>
+        ensures { IfOk result (λ job. job ≡ self.now) }
+    {
+        Ok(JobSpec {
+            name: self.name,
+            priority: self.priority,
+            groups: self.groups.try_clone(alloc)?,
+        })
+    }
+}
+
 impl Ranged for JobSpec {
     ghost use Rattle.rows.specs.Fits.{JobSpecFits};
 

@@ -1,3 +1,5 @@
+ghost use Rattle.std.specs.Prelude.{◌≡◌, IfOk};
+
 use crate::allocation::AllocId;
 use crate::batch::Batch;
 use crate::evaluation::EvalId;
@@ -6,7 +8,9 @@ use crate::list_rules::Ranged;
 use crate::name::{GroupName, JobName};
 use crate::node::NodeId;
 use crate::ordinal::Ordinal;
+use crate::refusal::NoMemory;
 use crate::token::Token;
+use std::alloc::Global;
 
 /// One allocation that a plan is to make: which of a group's, and where.
 #[derive(Clone, Copy, Debug, PartialEq, Eq)]
@@ -49,6 +53,23 @@ pub struct Plan {
     pub stops: Batch<AllocId>,
     /// The allocations to make.
     pub places: Batch<Place>,
+}
+
+impl Plan {
+    /// The same plan once more.
+    pub fn try_clone(&self, alloc: Global) -> Result<Plan, NoMemory>
+        ensures { IfOk result (λ plan. plan ≡ self.now) }
+    {
+        Ok(Plan {
+            eval: self.eval,
+            token: self.token,
+            job: self.job,
+            version: self.version,
+            snapshot: self.snapshot,
+            stops: self.stops.try_clone(alloc)?,
+            places: self.places.try_clone(alloc)?,
+        })
+    }
 }
 
 impl Ranged for Plan {

@@ -1,7 +1,6 @@
 //! A server of the group: its part of the log, and the leader's desk beside it.
 #![tactic(auto)]
 
-mod copies;
 mod server;
 mod server_desk;
 mod server_input;

@@ -1,7 +1,6 @@
 //! What comes to a server of the group.
 ghost use Rattle.std.specs.Prelude.{◌≡◌, IfOk};
 
-use crate::copies::{copied, copied_plan, copied_request};
 use rows::{
     EvalId, EvalOutcome, Index, NoMemory, NodeId, OperatorRequest, Plan, Sequence, ServerId, Token,
 };
@@ -53,14 +52,12 @@ impl ServerInput {
         ensures { IfOk result (λ copy. copy ≡ self.now) }
     {
         Ok(match self {
-            ServerInput::Frame(bytes) => ServerInput::Frame(copied(alloc, bytes.as_slice())?),
+            ServerInput::Frame(bytes) => ServerInput::Frame(bytes.try_clone(alloc)?),
             ServerInput::Timeout => ServerInput::Timeout,
             ServerInput::Beat => ServerInput::Beat,
-            ServerInput::Request(request) => {
-                ServerInput::Request(copied_request(alloc, request)?)
-            }
+            ServerInput::Request(request) => ServerInput::Request(request.try_clone(alloc)?),
             ServerInput::Take(to) => ServerInput::Take(*to),
-            ServerInput::Submit(to, plan) => ServerInput::Submit(*to, copied_plan(alloc, plan)?),
+            ServerInput::Submit(to, plan) => ServerInput::Submit(*to, plan.try_clone(alloc)?),
             ServerInput::Finish(to, eval, token, outcome) => {
                 ServerInput::Finish(*to, *eval, *token, *outcome)
             }
