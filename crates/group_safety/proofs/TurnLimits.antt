@@ -8,7 +8,7 @@ use Rattle.raft_model.specs.Messages.{Message}
 use Rattle.raft_model.specs.Servers as rafts
 use Rattle.raft_model.specs.Servers.{Server, is_leader}
 use Rattle.raft_model.specs.Steps as raft_steps
-use Rattle.raft_safety.proofs.Paths.{same_ok}
+use Rattle.raft_model.proofs.Cases.{same_ok}
 use Rattle.cluster_model.specs.Words.{State}
 use Rattle.cluster_model.specs.Effect.{applied}
 use Rattle.cluster_model.specs.ClusterMachine.{cluster_meaning}

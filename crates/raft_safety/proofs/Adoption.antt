@@ -8,6 +8,7 @@ use Rattle.raft_model.specs.Messages.{Message, AppendReply, InstallReply}
 use Rattle.raft_model.specs.Servers.{Server, Follower, is_held, appended, installed}
 use Rattle.raft_safety.specs.Inner.Functions.{with_both}
 use Rattle.raft_model.specs.Chains.{Agree}
+use Rattle.raft_model.proofs.Cases.{bool_cases}
 use Rattle.raft_safety.specs.Inner.Agreement.{Rooted, Adopted}
 use Rattle.raft_safety.specs.Inner.Ballots.{Ballots, BallotsGrow}
 use Rattle.raft_safety.specs.Inner.History.{History, HasOrDead, Fixed, Ledgers, Extends}
@@ -17,7 +18,6 @@ use Rattle.raft_safety.proofs.Logs.{agree_none, agree_sym, agree_trans, agree_le
 use Rattle.raft_safety.proofs.Completeness.{fixed_in}
 use Rattle.raft_safety.proofs.Growth.{carries_on, adopted_carries, fixed_on}
 use Rattle.raft_safety.proofs.Places.{get-one}
-use Rattle.raft_safety.proofs.Paths.{bool_cases}
 use Rattle.raft_safety.proofs.Voters.{elected_on}
 use Rattle.raft_safety.proofs.VoterSteps.{VotesKept}
 use Rattle.raft_safety.proofs.Frame.{agree_self, fixed_less, fixed_grow, fixed_later}

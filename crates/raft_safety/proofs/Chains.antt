@@ -16,7 +16,8 @@ use Rattle.raft_safety.proofs.Election.{one_leader}
 use Rattle.raft_safety.proofs.WritingSteps.{log_sound, none_is}
 use Rattle.raft_safety.proofs.Sound.{Sound, none_sound, first_sound, sound_safe, sound_admitted}
 use Rattle.raft_safety.proofs.Origins.{origin_agree}
-use Rattle.raft_safety.proofs.Runs.{run_front, moment_front}
+use Rattle.raft_safety.proofs.Moments.{front_get}
+use Rattle.raft_safety.proofs.Runs.{run_front}
 use Rattle.raft_safety.proofs.Stories.{Story, story}
 
 module _ {C : Type 0} (past : List (World C)) (w : World C) where
@@ -55,7 +56,7 @@ module _ {C : Type 0} (past : List (World C)) (w : World C) where
 module _ {C : Type 0} where
   -- a server at an earlier moment of a part of the run is one of the run
   at_front : (past : List (World C)) (w : World C) (l : ℕ) (x : World C) → moment past w l ≡ Some x → (k i : ℕ) (s : Server C) → At (take l past) x k i s → At past w k i s
-  at_front past w l x at k i s a = record { world = a.world; world_is = moment_front past w l x at k a.world a.world_is; here = a.here }
+  at_front past w l x at k i s a = record { world = a.world; world_is = front_get past w l x at k a.world a.world_is; here = a.here }
 
   -- the list of a run begins with that of each first part of it
   pub chain_front : (past : List (World C)) (w : World C) (list : List (Entry C)) (l : ℕ) (x : World C) (short : List (Entry C)) → Chain past w list → moment past w l ≡ Some x →

@@ -5,9 +5,10 @@ use Rattle.std.proofs.lemmas.Bool.{leb-false}
 use Rattle.machine.specs.Meaning.{Meaning}
 use Rattle.raft_model.specs.Messages.{Message}
 use Rattle.raft_model.specs.Servers.{Server, is_up, is_chosen, greatest}
+use Rattle.raft_model.proofs.Cases.{bool_cases}
 use Rattle.raft_safety.specs.Inner.SmallSteps.{Small, raises, stands, grants_vote, refuses, counts, wins, extends, follows, takes_append, takes_install, acks, backs, advances, covers, beats_all, Path, still, only, after_one, Turns, walks, resets}
 use Rattle.raft_safety.specs.Claims.{SameStored}
-use Rattle.raft_safety.proofs.Paths.{bool_cases, path_up}
+use Rattle.raft_safety.proofs.Paths.{path_up}
 use Rattle.raft_safety.proofs.LeaderSteps.{greatest_told}
 
 -- the search never goes below where it begins

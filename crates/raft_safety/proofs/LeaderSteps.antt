@@ -8,12 +8,12 @@ use Rattle.raft_model.specs.Quorums.{index_at, is_quorum}
 use Rattle.raft_model.specs.Messages.{Message, to_others}
 use Rattle.raft_model.specs.Servers.{Server, Leader, is_chosen, greatest, beat_message, beat_body}
 use Rattle.raft_model.specs.Chains.{Agree}
+use Rattle.raft_model.proofs.Cases.{bool_cases}
 use Rattle.raft_safety.specs.Inner.History.{History, Chosen, Fixed, Ledgers}
 use Rattle.raft_safety.specs.Inner.Invariants.{LogOk, LeaderOk, ServerOk, AppendOk, InstallOk, BodyOk, KeepsHistory}
 use Rattle.raft_safety.proofs.Logs.{agree_sym, agree_trans, agree_less, agree_take}
 use Rattle.raft_safety.proofs.Quorums.{quorum_more, quorum_told}
 use Rattle.raft_safety.proofs.Places.{to_others_is}
-use Rattle.raft_safety.proofs.Paths.{bool_cases}
 use Rattle.raft_safety.proofs.VoterSteps.{VotesKept}
 use Rattle.raft_safety.proofs.Frame.{agree_self, fixed_less, fixed_grow}
 use Rattle.raft_safety.proofs.QuietSteps.{or_either, quiet, no_bodies, as_leader}

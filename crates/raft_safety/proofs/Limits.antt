@@ -5,10 +5,10 @@ use Rattle.raft_model.specs.Logs.{MAX}
 use Rattle.raft_model.specs.Messages.{Message, Body, to_others}
 use Rattle.raft_model.specs.Servers.{Server, newcomer, installed}
 use Rattle.raft_model.specs.Worlds.{World, Event, Run, start, more}
+use Rattle.raft_model.proofs.Cases.{bool_cases}
 use Rattle.raft_safety.specs.Inner.SmallSteps.{WasSent, Small, raises, stands, grants_vote, refuses, counts, wins, extends, follows, takes_append, takes_install, acks, backs, advances, covers, beats_all, Path, still, only, after_one, Turns, walks, resets}
 use Rattle.raft_safety.specs.Claims.{IsAmongMembers}
 use Rattle.raft_safety.proofs.Places.{get_set-cases, set-length, get-split, get-one, get-within, replicate-get, to_others_is}
-use Rattle.raft_safety.proofs.Paths.{bool_cases}
 use Rattle.raft_safety.proofs.Election.{Moves, event_moves, replicate-length}
 
 -- a server, and what it says

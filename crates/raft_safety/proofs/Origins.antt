@@ -8,12 +8,11 @@ use Rattle.raft_model.specs.Logs.{term_at}
 use Rattle.raft_model.specs.Servers.{Server, Candidate, is_leader}
 use Rattle.raft_model.specs.Worlds.{World, Event}
 use Rattle.raft_model.specs.Chains.{Agree, At}
-use Rattle.raft_safety.specs.Inner.Leading.{Leading, goes_on, hears, proposes, wins}
+use Rattle.raft_model.proofs.Leading.{Leading, goes_on, hears, appends, wins, step_leads}
 use Rattle.raft_safety.specs.Inner.History.{History}
 use Rattle.raft_safety.specs.Inner.Invariants.{CandidateOk, ServerOk}
 use Rattle.raft_safety.specs.Claims.{Origin, Grew, proposed, elected}
 use Rattle.raft_safety.proofs.Places.{get-more, get-last, get_set-same, get-within, take_append, push_length}
-use Rattle.raft_safety.proofs.Leading.{step_leads}
 use Rattle.raft_safety.proofs.Logs.{agree_less, agree_term, rooted_at}
 use Rattle.raft_safety.proofs.Frame.{leader_wrote, leader_leads}
 use Rattle.raft_safety.proofs.QuietSteps.{as_candidate}
@@ -147,10 +146,10 @@ module _ {S C : Type 0} (m : Meaning S C) (n : ℕ) (events : List (Event C)) (p
   comes_led u p its l less own (goes_on mode term log commit) =
       let old_leads : is_leader x.old.mode ≡ true = ap is_leader (sym mode) ∙ l in
       before u p (omega (arith, less, ap length (ledger_stays u its l old_leads (sym term ∙ its) log))) own
-  comes_led u p its l less own (hears r next_index match leads mode term log is) =
+  comes_led u p its l less own (hears r next_index match leads mode term log commit is) =
       let same_term : x.old.term ≡ u = sym term ∙ (sym (ap (λ (y : Server C). y.term) is) ∙ its) in
       before u p (omega (arith, less, ap length (ledger_stays u its l leads same_term (ap (λ (y : Server C). y.log) is ∙ log)))) own
-  comes_led u p its l less own (proposes command leads input is) =
+  comes_led u p its l less own (appends command leads input is) =
       let term : x.new.term ≡ x.old.term = ap (λ (y : Server C). y.term) is in
       let log = ap (λ (y : Server C). y.log) is in
       let wrote : x.new.log ≡ g.after.ledger u = leader_wrote n g.after x.who x.new x.new.mode new_ok refl l ∙ ap g.after.ledger its in

@@ -9,16 +9,8 @@ use Rattle.raft_model.specs.Quorums.{is_quorum, marked, index_at}
 use Rattle.raft_model.specs.Messages.{Message, Body, VoteRequest, VoteReply, Append, AppendReply, Install, InstallReply}
 use Rattle.raft_model.specs.Servers.{Server, Turn, Mode, Down, Follower, Candidate, Leader, is_up, is_leader, silent, met, grants, is_free_for, is_up_to_date, counted, with_votes, following, is_held, installed, match_raised, advanced_in, hears_ok, hears_refusal, beats, extended}
 use Rattle.raft_model.specs.Steps.{Input, Arrives, Timeout, Beat, Propose, Compact, Crash, Restart, receives, times_out, proposes, acts, wakes, step, admission_refusal, unless}
+use Rattle.raft_model.proofs.Cases.{bool_cases, same_ok}
 use Rattle.raft_safety.specs.Inner.SmallSteps.{IsAck, WasSent, Small, raises, stands, grants_vote, refuses, counts, wins, extends, follows, takes_append, takes_install, acks, backs, advances, covers, beats_all, Path, still, only, after_one, Turns, walks, resets}
-
--- true or false
-pub bool_cases : (b : Bool) → (b ≡ true) ⊎ (b ≡ false)
-bool_cases true = inl refl
-bool_cases false = inr refl
-
--- one answer
-pub same_ok : {A E : Type 0} (a b : A) → let x : Result A E = Ok a in x ≡ Ok b → a ≡ b
-same_ok a b h = cc
 
 -- what came to the server
 abbrev pub CameIn : {S C : Type 0} → Meaning S C → List (Message C) → ℕ → Input C → Type 0

@@ -7,13 +7,13 @@ use Rattle.raft_model.specs.Logs.{last_term}
 use Rattle.raft_model.specs.Quorums.{index_at}
 use Rattle.raft_model.specs.Messages.{Message, Body, VoteRequest, VoteReply, Append, AppendReply, Install, InstallReply}
 use Rattle.raft_model.specs.Servers.{Server, Mode, Down, Follower, Candidate, Leader, is_up_to_date, following, match_raised, backed_off, compacted}
+use Rattle.raft_model.proofs.Cases.{bool_cases}
 use Rattle.raft_safety.specs.Inner.SmallSteps.{IsAck, OwesNothing, KnowsNothing}
 use Rattle.raft_safety.specs.Inner.Agreement.{Rooted}
 use Rattle.raft_safety.specs.Inner.Ballots.{Ballots, BallotsGrow, BallotsApart}
 use Rattle.raft_safety.specs.Inner.History.{History, CarriesHeld, Ledgers, UpToDate, Extends, DiffersAt}
 use Rattle.raft_safety.specs.Inner.Invariants.{LogOk, CandidateOk, LeaderOk, ModeOk, ServerOk, RequestOk, GrantOk, BodyOk, KeepsHistory}
 use Rattle.raft_safety.proofs.Places.{marked_set, index_at_set, get-one}
-use Rattle.raft_safety.proofs.Paths.{bool_cases}
 use Rattle.raft_safety.proofs.Voters.{elected_on}
 use Rattle.raft_safety.proofs.VoterSteps.{VotesKept}
 use Rattle.raft_safety.proofs.Completeness.{grant_carries}

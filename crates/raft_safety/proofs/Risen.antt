@@ -9,13 +9,12 @@ use Rattle.raft_model.specs.Logs.{term_at}
 use Rattle.raft_model.specs.Quorums.{count, Quorum, is_quorum, index_at}
 use Rattle.raft_model.specs.Servers.{Server, Leader, is_leader, is_chosen, greatest}
 use Rattle.raft_model.specs.Worlds.{World, Event, Run, start, more}
-use Rattle.raft_safety.specs.Inner.Leading.{Leading, goes_on, hears, proposes, wins}
+use Rattle.raft_model.proofs.Leading.{Leading, goes_on, hears, appends, wins, step_leads}
+use Rattle.raft_model.proofs.Cases.{bool_cases}
 use Rattle.raft_safety.specs.Inner.Invariants.{ServerOk}
 use Rattle.raft_safety.specs.Claims.{HasRisen}
 use Rattle.raft_safety.proofs.Places.{get_set-cases, index_at_replicate, replicate-get}
-use Rattle.raft_safety.proofs.Leading.{step_leads}
 use Rattle.raft_safety.proofs.Logs.{agree_term}
-use Rattle.raft_safety.proofs.Paths.{bool_cases}
 use Rattle.raft_safety.proofs.Commits.{greatest_from}
 use Rattle.raft_safety.proofs.QuietSteps.{or_either, as_leader, held_within}
 use Rattle.raft_safety.proofs.WritingSteps.{agree_append}
@@ -84,7 +83,7 @@ module _ {S C : Type 0} (m : Meaning S C) (n i : ℕ) (two : 2 ≤ n) where
       HasRisen n i s → Leading m n i s input t → HasRisen n i t
   leading_risen s input t held old (goes_on mode term log commit) next match k e low high own q =
       old next match k (sym mode ∙ e) (omega (arith, low, commit)) (omega (arith, high, ap length log)) (ap (λ L. term_at L k) (sym log) ∙ (own ∙ term)) q
-  leading_risen s input t held old (hears r next2 match2 leads mode term log is) next match k e low high own q =
+  leading_risen s input t held old (hears r next2 match2 leads mode term log commit is) next match k e low high own q =
       let same : match2 ≡ match = same_match next2 match2 next match (sym mode ∙ (sym (ap (λ (y : Server C). y.mode) is) ∙ e)) in
       let its : term_at r.log k ≡ r.term = ap (λ L. term_at L k) (sym (ap (λ (y : Server C). y.log) is)) ∙ (own ∙ ap (λ (y : Server C). y.term) is) in
       let test : is_chosen n i r match2 k ≡ true = and_from (term_at r.log k == r.term) (is_quorum n (λ j. (j == i) || nat_le k (index_at match2 j))) (eq-eqb (term_at r.log k) r.term its)
@@ -92,7 +91,7 @@ module _ {S C : Type 0} (m : Meaning S C) (n i : ℕ) (two : 2 ≤ n) where
       let above : greatest (is_chosen n i r match2) r.commit (length r.log) < k = omega (arith, low, ap (λ (y : Server C). y.commit) is) in
       greatest_last (is_chosen n i r match2) r.commit (length r.log) k (omega (arith, above, greatest_from (is_chosen n i r match2) r.commit (length r.log))) above
       (omega (arith, high, ap (λ (y : Server C). length y.log) is)) test
-  leading_risen s input t held old (proposes command leads its is) next match k e low high own q =
+  leading_risen s input t held old (appends command leads its is) next match k e low high own q =
       let entry : Entry C = record { term = s.term; command = command } in
       let log : t.log ≡ s.log ++ entry ∷ [] = ap (λ (y : Server C). y.log) is in
       let mode : s.mode ≡ Leader next match = sym (ap (λ (y : Server C). y.mode) is) ∙ e in

@@ -8,7 +8,7 @@ use Rattle.machine.specs.declared.entry.Entry.{Entry}
 use Rattle.raft_model.specs.Logs.{MAX, commands, state_after}
 use Rattle.raft_model.specs.Servers.{Server}
 use Rattle.raft_model.specs.Steps.{admission_refusal}
-use Rattle.raft_safety.proofs.Paths.{bool_cases}
+use Rattle.raft_model.proofs.Cases.{bool_cases}
 
 -- the entries were admitted one after the other
 pub Sound : {S C : Type 0} → Meaning S C → List (Entry C) → Type 0

@@ -7,6 +7,7 @@ use Rattle.machine.specs.declared.entry.Entry.{Entry}
 use Rattle.raft_model.specs.Servers.{Server, Leader, is_up, newcomer}
 use Rattle.raft_model.specs.Worlds.{World, first, Event, Run, start, more, moment, Leads}
 use Rattle.raft_model.specs.Chains.{Agree, At, WasCommitted}
+use Rattle.raft_model.proofs.Cases.{bool_cases}
 use Rattle.raft_safety.specs.Inner.Agreement.{Rooted}
 use Rattle.raft_safety.specs.Inner.Ballots.{Voter}
 use Rattle.raft_safety.specs.Inner.History.{History, Fixed, Ledgers}
@@ -15,7 +16,7 @@ use Rattle.raft_safety.proofs.Logs.{agree_none, agree_sym, agree_trans, agree_le
 use Rattle.raft_safety.proofs.Completeness.{fixed_in, fixed_two}
 use Rattle.raft_safety.proofs.Growth.{fixed_on}
 use Rattle.raft_safety.proofs.Places.{get_set-cases, get-one, push_length, get-where, get-more, get-last, replicate-get}
-use Rattle.raft_safety.proofs.Paths.{bool_cases, turns_down}
+use Rattle.raft_safety.proofs.Paths.{turns_down}
 use Rattle.raft_safety.proofs.Frame.{agree_self, rooted_on, fixed_grow, leader_wrote, leader_leads}
 use Rattle.raft_safety.proofs.Election.{Moves, event_moves, no_ballots, first_votes, replicate-length}
 use Rattle.raft_safety.proofs.Origins.{Born, now_here, born_next}

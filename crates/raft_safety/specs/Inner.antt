@@ -1,6 +1,5 @@
 -- The history of a run, and what the proofs carry along it.
 pub mod SmallSteps
-pub mod Leading
 pub mod Functions
 pub mod Ballots
 pub mod Agreement

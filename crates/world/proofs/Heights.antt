@@ -3,8 +3,8 @@ use Rattle.std.proofs.Common.{◌≡◌, ℕ, ◌<◌, ◌≤◌, ◌⊎◌, inl
 use Rattle.raft_model.specs.Servers.{Server, is_up, newcomer}
 use Rattle.raft_model.specs.Worlds.{World, first, moment}
 use Rattle.raft_model.specs.Chains.{At, WasCommitted}
+use Rattle.raft_model.proofs.Cases.{bool_cases}
 use Rattle.raft_safety.proofs.Places.{get_set-cases, get_set-same, get-more, get-later, get-split, get-one, get-within, replicate-get}
-use Rattle.raft_safety.proofs.Paths.{bool_cases}
 use Rattle.raft_safety.specs.Claims.{IsGreatestCommit}
 use Rattle.world.specs.Inner.Inputs.{committed}
 

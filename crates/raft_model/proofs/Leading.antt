@@ -1,15 +1,27 @@
--- Each step that leaves a leader is one of four kinds.
+-- How a server that leads after a step came to it: each step that leaves a leader is one of four
+-- kinds.
 use Rattle.std.proofs.Common.{◌≡◌, ℕ, inl, inr, Bool, true, false, ◌&&◌, ◌==◌, nat_lt, nat_le, Option, Some, None, Ok, List, length, refl, ap, subst, sym, ◌∙◌, slice_set}
 use Rattle.rows.specs.declared.refusal.Refusal.{Refusal}
 use Rattle.machine.specs.Meaning.{Meaning}
 use Rattle.raft_model.specs.Logs.{MAX}
 use Rattle.raft_model.specs.Quorums.{is_quorum, marked}
 use Rattle.raft_model.specs.Messages.{Body, VoteRequest, VoteReply, Append, AppendReply, Install, InstallReply}
-use Rattle.raft_model.specs.Servers.{Server, Turn, Mode, Down, Follower, Candidate, Leader, is_up, is_leader, silent, met, grants, counted, is_held, advanced_in, hears_ok, hears_refusal, extended}
+use Rattle.raft_model.specs.Servers.{Server, Turn, Mode, Down, Follower, Candidate, Leader, is_up, is_leader, silent, met, grants, counted, is_held, won, is_chosen, greatest, advanced_in, hears_ok, hears_refusal, extended}
 use Rattle.raft_model.specs.Steps.{Input, Arrives, Timeout, Beat, Propose, Compact, Crash, Restart, receives, times_out, proposes, acts, wakes, step, admission_refusal, unless}
-use Rattle.raft_safety.specs.Inner.Leading.{Leading, goes_on, hears, wins}
-use Rattle.raft_safety.specs.Inner.Leading as leading
-use Rattle.raft_safety.proofs.Paths.{bool_cases, same_ok}
+use Rattle.raft_model.proofs.Cases.{bool_cases, same_ok}
+
+module _ {S C : Type 0} (m : Meaning S C) (n i : ℕ) where
+  -- Server i was s before the input, and leads as t after it.
+  pub data Leading (s : Server C) (input : Input C) (t : Server C) : Type 0 where
+    -- it goes on as it was
+    goes_on : t.mode ≡ s.mode → t.term ≡ s.term → t.log ≡ s.log → t.commit ≡ s.commit → Leading s input t
+    -- a reply moved next and match, and then the commit rule was applied
+    hears : (r : Server C) (next match : List ℕ) → is_leader s.mode ≡ true → r.mode ≡ Leader next match → r.term ≡ s.term → r.log ≡ s.log → r.commit ≡ s.commit →
+        t ≡ record r { commit = greatest (is_chosen n i r match) r.commit (length r.log) } → Leading s input t
+    -- it appended a proposal
+    appends : (command : C) → is_leader s.mode ≡ true → input ≡ Propose command → t ≡ extended s command → Leading s input t
+    -- it was a candidate, and a vote won
+    wins : (votes : List Bool) → s.mode ≡ Candidate votes → t ≡ won m.noop n s → Leading s input t
 
 module _ {S C : Type 0} (m : Meaning S C) (n i : ℕ) (s : Server C) (input : Input C) where
   -- if it leads, it came to it so
@@ -81,7 +93,7 @@ module _ {S C : Type 0} (m : Meaning S C) (n i : ℕ) (s : Server C) (input : In
   advance_leads Down e = same
   advance_leads Follower e = same
   advance_leads (Candidate votes) e = same
-  advance_leads (Leader next match) e = λ l. hears s next match (ap is_leader e) e refl refl refl
+  advance_leads (Leader next match) e = λ l. hears s next match (ap is_leader e) e refl refl refl refl
 
   -- an ok
   ok_leads : (from at : ℕ) (mode : Mode) → s.mode ≡ mode → LeadingIn (hears_ok n i s from at mode)
@@ -90,7 +102,7 @@ module _ {S C : Type 0} (m : Meaning S C) (n i : ℕ) (s : Server C) (input : In
   ok_leads from at Follower e = same
   ok_leads from at (Candidate votes) e = same
   ok_leads from at (Leader next match) e = elim (bool_cases (nat_le at (length s.log))) [
-    | inl q ↦ rw q (λ l. hears _ _ _ (ap is_leader e) refl refl refl refl)
+    | inl q ↦ rw q (λ l. hears _ _ _ (ap is_leader e) refl refl refl refl refl)
     | inr q ↦ rw q (advance_leads s.mode refl)
   ]
 
@@ -100,7 +112,7 @@ module _ {S C : Type 0} (m : Meaning S C) (n i : ℕ) (s : Server C) (input : In
   refusal_leads from at Down e = same
   refusal_leads from at Follower e = same
   refusal_leads from at (Candidate votes) e = same
-  refusal_leads from at (Leader next match) e = λ l. hears _ _ _ (ap is_leader e) refl refl refl refl
+  refusal_leads from at (Leader next match) e = λ l. hears _ _ _ (ap is_leader e) refl refl refl refl refl
 
   -- each message
   receives_leads : (from term : ℕ) (body : Body C) → LeadingIn (receives m.noop n i s from term body).server
@@ -124,8 +136,8 @@ module _ {S C : Type 0} (m : Meaning S C) (n i : ℕ) (s : Server C) (input : In
 -- a follower that takes a message does not lead
 followers_follow : {S C : Type 0} (m : Meaning S C) (n i : ℕ) (s : Server C) (input : Input C) (t : Server C) → s.mode ≡ Follower → is_leader t.mode ≡ true → Leading m n i s input t → ⊥
 followers_follow m n i s input t e l (goes_on mode term log commit) = let q = ap is_leader (mode ∙ e) in cc
-followers_follow m n i s input t e l (hears r next match leads mode term log is) = let q = ap is_leader e in cc
-followers_follow m n i s input t e l (leading.proposes command leads its is) = let q = ap is_leader e in cc
+followers_follow m n i s input t e l (hears r next match leads mode term log commit is) = let q = ap is_leader e in cc
+followers_follow m n i s input t e l (appends command leads its is) = let q = ap is_leader e in cc
 followers_follow m n i s input t e l (wins votes mode is) = let q : Follower ≡ Candidate votes = sym e ∙ mode in cc
 
 module _ {S C : Type 0} (m : Meaning S C) (n i : ℕ) (s : Server C) where
@@ -152,7 +164,7 @@ module _ {S C : Type 0} (m : Meaning S C) (n i : ℕ) (s : Server C) where
   -- a proposal of a leader
   admitted_leads : (command : C) (r : Option Refusal) (turn : Turn C) → is_leader s.mode ≡ true → unless r (silent (extended s command)) ≡ Ok turn → LeadingIn m n i s (Propose command) turn.server
   unfolding LeadingIn
-  admitted_leads command None turn l h = subst (λ t. LeadingIn m n i s (Propose command) t.server) (same_ok _ _ h) (λ q. leading.proposes command l refl refl)
+  admitted_leads command None turn l h = subst (λ t. LeadingIn m n i s (Propose command) t.server) (same_ok _ _ h) (λ q. appends command l refl refl)
   admitted_leads command (Some r) turn l h = absurd (cc)
 
   -- a proposal
