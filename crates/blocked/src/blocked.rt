@@ -1,4 +1,4 @@
-ghost use Rattle.std.specs.Prelude.{◌≡◌, ◌≤◌, ◌⊎◌, [], true, false, OnOk, OnErr, IfOk, filter, length, map, T as Holds};
+ghost use Rattle.std.specs.Prelude.{◌≡◌, ◌≤◌, ◌⊎◌, [], true, false, OnOk, OnErr, IfOk, length, map, T as Holds};
 ghost use Rattle.std.specs.List.{list_any};
 ghost use Rattle.rows.specs.Keys.{eval_cmp};
 ghost use Rattle.fsm_tables.specs.Rows.{has_row};
@@ -12,12 +12,13 @@ ghost use Rattle.blocked.specs.Rooms.{blocked_of, is_of_job, some_due, with_room
 
 use crate::due::{due_now, due_then};
 use crate::held::BlockedEval;
+use crate::of_job::{anew_of_job, put_all};
 use crate::order::in_order;
-use crate::rebuild::{classes_of, evals_of, held_of, is_blocked, rooms_of};
+use crate::rebuild::{evals_of, held_of, is_blocked, rooms_of};
 use crate::rooms::Rooms;
 use fsm_state::Cluster;
 use fsm_tables::{ReservedTable, Table};
-use rows::{ClassName, EvalId, Evaluation, Index, Job, JobName, NoMemory, Node, Sequence};
+use rows::{ClassName, EvalId, Evaluation, Index, Job, NoMemory, Node, Sequence};
 use std::alloc::Global;
 use std::marker::Model;
 
@@ -102,18 +103,16 @@ impl Blocked {
     }
 
     /// A job's row was made or replaced: its blocked evaluations are put anew, with the classes
-    /// that its groups ask for; where there are none it takes no memory. Without memory some may
-    /// be, so that the value is only to be dropped.
+    /// that its groups ask for; where there are none it takes no memory. Without memory nothing
+    /// changes.
     pub fn put_job(&mut self, alloc: Global, job: &Job) -> Result<(), NoMemory>
         ensures ok { OnOk result
             (blocked_of self.new ≡ blocked_with_job job.now (blocked_of self.old)) }
+        ensures err { OnErr result (self.new ≡ self.old) }
         ensures memory { OnErr result (list_any (is_of_job job.now.name) self.old.evals ≡ true) }
     {
-        let rows = rows_of_job(alloc, self.evals.rows(), &job.name)?;
-        for row in rows.as_slice() {
-            let classes = classes_of(alloc, job)?;
-            self.put(*row, classes)?;
-        }
+        let anew = anew_of_job(alloc, self.evals.rows(), job)?;
+        put_all(&mut self.evals, anew);
         Ok(())
     }
 
@@ -182,23 +181,4 @@ fn make_space(evals: &mut ReservedTable<BlockedEval>, held: &BlockedEval) -> Res
     }
     let count = evals.rows().len() + 1;
     evals.make_room(count)
-}
-
-/// The rows of those that are of a job, in rising id.
-fn rows_of_job(
-    alloc: Global,
-    evals: &[BlockedEval],
-    job: &JobName,
-) -> Result<Sequence<Evaluation>, NoMemory>
-    ensures ok { let those = filter (is_of_job job.now) evals.now in
-        IfOk result (λ rows. rows ≡ map (λ b. b.row) those) }
-    ensures memory { OnErr result (list_any (is_of_job job.now) evals.now ≡ true) }
-{
-    let mut rows = Sequence::new(alloc);
-    for held in evals {
-        if held.row.job == *job {
-            rows.push(held.row)?;
-        }
-    }
-    Ok(rows)
 }

@@ -5,6 +5,7 @@ mod blocked;
 mod due;
 mod held;
 mod laws;
+mod of_job;
 mod order;
 mod rebuild;
 mod rooms;
