@@ -28,7 +28,7 @@ pub use reading::{
     read_u64,
 };
 pub use ruled::{RuledField, read_long_ruled_list, read_ruled_list};
-pub use services::{append_told_reason, read_told_reason};
+pub use services::{read_told_reason, write_told_reason};
 pub use writing::{
     write_actor, write_bool, write_index, write_server, write_term, write_u8, write_u16, write_u32,
     write_u64,

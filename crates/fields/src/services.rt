@@ -4,7 +4,7 @@ ghost use Rattle.std.specs.Prelude.{◌≡◌};
 ghost use Rattle.rows.specs.Rising.{is_behind};
 ghost use Rattle.rows.specs.Ids.{alloc_cmp, node_rises};
 ghost use Rattle.rows.specs.Listings.{listed_id, listed_rises};
-ghost use Rattle.fields_model.specs.Format.{GivesExactly, Puts, number};
+ghost use Rattle.fields_model.specs.Format.{GivesExactly, Puts, Writes, number};
 ghost use Rattle.fields_model.specs.Services.{eval_outcome, place_count, node_id_behind, rising_nodes, plan_result, leader_number, told_leader, told_of, told_parts, told_from, told_reason, reason, no_pair, a_pair, asked_request, client_request_kind, live_state, listed_allocation, listed_allocation_behind, listing};
 ghost use Rattle.fields_model.proofs.ServiceLaws.{eval_outcome_lawful, place_count_lawful, node_id_is_ruled, rising_nodes_lawful, plan_result_lawful, reason_lawful, asked_request_lawful, client_request_kind_lawful, live_state_lawful, listed_allocation_lawful, listed_allocation_is_ruled, listing_lawful};
 
@@ -12,7 +12,7 @@ use crate::field::Field;
 use crate::list::{append_counted, append_long_counted};
 use crate::reading::{read_index, read_u8, read_zero};
 use crate::ruled::{RuledField, read_long_ruled_list, read_ruled_list};
-use crate::writing::write_u8;
+use crate::writing::{take_back, write_u8};
 use rows::{
     AllocId, AskedRequest, ClientRequestKind, EvalId, EvalOutcome, Index, Leader, ListedAllocation,
     Listing, LiveState, NoMemory, NodeId, PlaceCount, PlanResult, Ranged, Reason, Refusal,
@@ -248,12 +248,22 @@ fn told_parts(told: &Option<Reason>) -> (u8, Leader)
 
 /// Puts to the end that a request is taken, or why it is refused. Without memory a part may stand
 /// there.
-pub fn append_told_reason(told: &Option<Reason>, out: &mut Vec<u8>) -> Result<(), NoMemory>
+fn append_told_reason(told: &Option<Reason>, out: &mut Vec<u8>) -> Result<(), NoMemory>
     ensures { Puts told_reason told.now result out.old.items out.new.items }
 {
     let (number, leader) = told_parts(told);
     write_u8(&number, out)?;
     write_u8(&leader_number(leader), out)
+}
+
+/// Puts to the end that a request is taken, or why it is refused. Without memory the buffer stays
+/// as it was.
+pub fn write_told_reason(told: &Option<Reason>, out: &mut Vec<u8>) -> Result<(), NoMemory>
+    ensures { Writes told_reason told.now result out.old.items out.new.items }
+{
+    let start = out.len();
+    let done = append_told_reason(told, out);
+    take_back(done, start, out)
 }
 
 /// A refusal's number in one byte, from 1 to 21, and the number of the leader that refusal 2 tells,

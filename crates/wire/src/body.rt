@@ -10,7 +10,7 @@ use crate::services::{
     append_request, append_response, read_desk_body, request_kind, response_kind,
 };
 use crate::vote::{VoteReply, VoteRequest};
-use fields::{Field, append_told_reason, read_told_reason};
+use fields::{Field, read_told_reason, write_told_reason};
 use machine::{Coded, Entry, Machine};
 use rows::{
     ClassName, ClientRequestKind, Index, Listing, NoMemory, Reason, Refusal, Reports, Size,
@@ -150,7 +150,7 @@ pub fn append_body<M: Machine>(value: &Body<M>, out: &mut Vec<u8>) -> Result<(),
         Body::Report(items) => items.append(out),
         Body::Told(asked, reason) => {
             asked.append(out)?;
-            append_told_reason(reason, out)
+            write_told_reason(reason, out)
         }
     }
 }
