@@ -4,13 +4,13 @@ use Rattle.std.specs.List.{list_all}
 use Rattle.std.specs.Cmp.{tied_itself}
 use Rattle.std.specs.Ordering.{is_eq}
 use Rattle.std.proofs.lemmas.Map.Text.{is_eq-slice_cmp}
-use Rattle.std.proofs.lemmas.List.{append_assoc, append-nil}
+use Rattle.std.proofs.lemmas.List.{append_assoc}
 use Rattle.rows.specs.declared.job.Job.{Job}
 use Rattle.rows.specs.declared.evaluation.EvalId.{EvalId}
 use Rattle.rows.specs.Keys.{eval_cmp}
 use Rattle.rows.specs.Rising.{is_below, is_rising}
 use Rattle.rows.proofs.KeyLaws.{eval_cmp_total}
-use Rattle.fsm_tables.specs.Rows.{row_of, has_row, put}
+use Rattle.fsm_tables.specs.Rows.{row_of, put}
 use Rattle.fsm_tables.proofs.RowLaws.{both, first, second, row_of-put, below_mapped, rising_mapped}
 use Rattle.fsm_state.proofs.StepLaws.{put_between}
 use Rattle.group_model.specs.Blocked.{BlockedEval, blocked_id, classes_of, with_classes_of}

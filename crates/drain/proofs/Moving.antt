@@ -1,6 +1,5 @@
 -- The moves without force, one after the other.
-use Rattle.std.proofs.Common.{◌≡◌, ℕ, zero, suc, ◌-◌, ◌+◌, ◌<◌, Bool, true, false, not, cond, ◌&&◌, ◌||◌, List, [], ◌∷◌, ◌++◌, length, get_or, map, filter, take, drop, bytes_eq, Some, Ok, Err, T, refl, sym, ap, subst, ◌∙◌, arith}
-use Rattle.std.proofs.lemmas.List.{append_assoc, append-nil, length_push, at_drop_more}
+use Rattle.std.proofs.Common.{◌≡◌, ℕ, ◌-◌, Bool, true, false, not, cond, ◌&&◌, ◌||◌, List, [], ◌∷◌, map, filter, take, bytes_eq, Some, Ok, Err, T, refl, sym, ap, subst, ◌∙◌, arith}
 use Rattle.std.proofs.lemmas.Map.Text.{is_eq-slice_cmp}
 use Rattle.std.specs.Cmp.Lexicographic.{nat_list_cmp_total}
 use Rattle.std.specs.declared.cmp.Ordering.TheVariants.{Equal}
@@ -85,10 +84,6 @@ any_err (Err e) P all = all e
 
 -- ---- one row after the other
 
--- what is left of the rows begins with the next one
-pub at_row : {Y : Type 0} (F : List Allocation → Y) (rows : List Allocation) (i : ℕ) (a : Allocation) → i < length rows → a ≡ get_or rows i a → F (drop i rows) ≡ F (a ∷ drop (i + 1) rows)
-at_row F rows i a lt e = at_drop_more F rows i a lt ∙ ap (λ x. F (x ∷ drop (i + 1) rows)) (sym e)
-
 -- the ids of those that stay among the first ones of groups that were not met
 abbrev pub ids_left : State → List JobGroup → List Allocation → List AllocId
 ids_left s groups rows = map (λ (a : Allocation). a.id) (filter (stays s) (firsts_but (is_met groups) rows))
@@ -129,23 +124,3 @@ resting rows = map (λ (a : Allocation). a.id) (filter (λ (a : Allocation). not
 
 pub resting_row : (a : Allocation) (rows : List Allocation) → a.migrate ≡ false → resting (a ∷ rows) ≡ a.id ∷ resting rows
 resting_row a rows e = ap (λ b. map (λ (x : Allocation). x.id) (cond (not b) (a ∷ filter (λ (x : Allocation). not x.migrate) rows) (filter (λ (x : Allocation). not x.migrate) rows))) e
-
--- ---- at most 64
-
-pub one_taken : (ids : List AllocId) (id : AllocId) (rest : List AllocId) → length ids < 64 → ids ++ take (64 - length ids) (id ∷ rest) ≡ (ids ++ id ∷ []) ++ take (64 - length (ids ++ id ∷ [])) rest
-one_taken ids id rest lt =
-    let longer = length_push ids id in
-    let more : 64 - length ids ≡ suc (64 - length (ids ++ id ∷ [])) = omega (arith, longer) in
-    ap (λ n. ids ++ take n (id ∷ rest)) more ∙ sym (append_assoc ids (id ∷ []) (take (64 - length (ids ++ id ∷ [])) rest))
-
-pub all_taken : (ids rest : List AllocId) → length ids ≡ 64 → ids ++ take (64 - length ids) rest ≡ ids
-all_taken ids rest e =
-    let none : 64 - length ids ≡ 0 = omega arith in
-    ap (λ n. ids ++ take n rest) none ∙ append-nil ids
-
-take_none : (n : ℕ) → ◌≡◌ {A = List AllocId} (take n []) []
-take_none zero = refl
-take_none (suc n) = refl
-
-pub none_left : (ids : List AllocId) (n : ℕ) → ids ++ take n [] ≡ ids
-none_left ids n = ap (λ zs. ids ++ zs) (take_none n) ∙ append-nil ids

@@ -34,7 +34,7 @@ use Rattle.leader.specs.Verdicts.{verdict_for, once_picked}
 use Rattle.leader.specs.GroupActs.{take_act, submit_act, nack_act, finish_act, proposes_at, lapse_act, expire_act, drain_act, heartbeat_act, judged_act, status_act}
 use Rattle.leader.specs.GroupActs.{TakesByDeliver, SubmitsBySubmit, NacksByNack, FinishesByAck, LapsesByLapse, PlanTurnsByVerdict, FreesByFreeTurn, ReapsByReap, HeartbeatsByBeat, ExpiresByExpire, DrainsByDrainTurn}
 use Rattle.leader.proofs.Turning.{freed_of_state}
-use Rattle.leader.proofs.Draining.{own_number}
+use Rattle.drain.proofs.Moving.{own_number}
 
 pub takes_by_deliver : TakesByDeliver
 takes_by_deliver me from wait o = by (deliver o.term wait o.desk.broker) where
@@ -138,4 +138,4 @@ drains_by_drain_turn s node o = by (node_of node whole) refl where
 
   by : (m : Option Node) → node_of node whole ≡ m → drain_turn_of o.desk whole m ≡ drain_act o.desk (drain_command_of whole node (next_moves_of whole m))
   by None e = refl
-  by (Some n) e = told n (own_number node whole n e) (next_moves_of whole (Some n))
+  by (Some n) e = told n (own_number node n whole e) (next_moves_of whole (Some n))

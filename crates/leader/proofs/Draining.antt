@@ -1,24 +1,13 @@
--- The next moves off a node that the state drains are few and in rising order; and the row of a node
--- is of its number.
-use Rattle.std.proofs.Common.{◌≡◌, ℕ, Bool, true, false, cond, T, List, Option, Some, None, Ok, Err, ap, subst, arith}
-use Rattle.std.specs.Cmp.{nat_cmp_total}
-use Rattle.std.specs.Ordering.{nat_cmp, is_eq}
+-- The next moves off a node that the state drains are few and in rising order.
+use Rattle.std.proofs.Common.{◌≡◌, ℕ, Bool, true, false, cond, T, List, Option, Some, None, Ok, Err, subst}
 use Rattle.rows.specs.declared.node.Node.{Node}
 use Rattle.rows.specs.declared.allocation.AllocId.{AllocId}
 use Rattle.rows.specs.declared.refusal.Refusal.TheVariants as refusals
-use Rattle.rows.specs.Keys.{alloc_cmp, alloc_id, node_number}
+use Rattle.rows.specs.Keys.{alloc_cmp, alloc_id}
 use Rattle.rows.specs.Rising.{is_rising}
-use Rattle.fsm_tables.proofs.ReservedTables.{found_tied}
 use Rattle.cluster_model.specs.Words.{State, node_of, is_draining}
 use Rattle.group_model.specs.Drains.{moves_of, next_moves, next_moves_of}
 use Rattle.group_model.proofs.NextMoves.{AreFewRising, moves_rise}
-
-pub own_number : (node : ℕ) (s : State) (n : Node) → node_of node s ≡ Some n → n.number ≡ node
-own_number node s n e =
-    let yes : is_eq (nat_cmp node n.number) ≡ true = ap is_eq (found_tied nat_cmp node_number nat_cmp_total node s.nodes n e) in
-    grind arith
-
--- ---- moves
 
 pub next_moves_rise : (s : State) (node : ℕ) (ids : List AllocId) → T (is_rising alloc_cmp alloc_id s.allocs) → next_moves s node ≡ Ok ids → AreFewRising ids
 next_moves_rise s node ids rising e = by (node_of node s) e where

@@ -1,4 +1,4 @@
-use Rattle.std.proofs.Common.{◌≡◌, ℕ, true, length}
+use Rattle.std.proofs.Common.{◌≡◌, true, length}
 use Rattle.std.specs.List.{list_all}
 use Rattle.blocked.specs.Inner.Anew.{is_held, put_all}
 use Rattle.blocked.proofs.of_job.put_all.Given as goal

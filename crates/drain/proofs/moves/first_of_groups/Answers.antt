@@ -2,8 +2,9 @@ use Rattle.std.proofs.Common.{◌≡◌, ◌+◌, ◌-◌, ◌<◌, ◌++◌, �
 use Rattle.std.proofs.lemmas.List.{length_push}
 use Rattle.rows.specs.declared.allocation.AllocId.{AllocId}
 use Rattle.fsm_tables.specs.Rows.{put}
+use Rattle.group_model.proofs.Subs.{at_item, one_taken}
 use Rattle.drain.specs.Inner.Groups.{job_group, job_group_cmp, itself}
-use Rattle.drain.proofs.Moving.{ids_left, none_met, at_row, met_row, moving_row, staying_row, one_taken}
+use Rattle.drain.proofs.Moving.{ids_left, none_met, met_row, moving_row, staying_row}
 use Rattle.drain.proofs.moves.first_of_groups.Goals as goal
 
 pub loop-row-init : goal.loop-row-init
@@ -23,7 +24,7 @@ loop-row-preserved-then-is_met c =
     let groups = c.loop-row.met in
     let ids = c.loop-row.ids in
     let rest = drop (c.loop-row.row-index + 1) c.args.rows.now in
-    let here = at_row (ids_left s groups) c.args.rows.now c.loop-row.row-index c.row-item.result (omega arith) c.row-item.is in
+    let here = at_item (ids_left s groups) c.args.rows.now c.loop-row.row-index c.row-item.result (omega arith) c.row-item.is in
     let met = sym c.is_met.ensures ∙ c.if-is_met.true in
     record {
       marked = c.loop-row.invariant.marked;
@@ -38,7 +39,7 @@ loop-row-preserved-then-branch c =
     let row = c.row-item.result in
     let ids = c.loop-row.ids in
     let rest = drop (c.loop-row.row-index + 1) c.args.rows.now in
-    let here = at_row (ids_left s groups) c.args.rows.now c.loop-row.row-index row (omega arith) c.row-item.is in
+    let here = at_item (ids_left s groups) c.args.rows.now c.loop-row.row-index row (omega arith) c.row-item.is in
     let met = sym c.is_met.ensures ∙ c.if-is_met.false in
     let next = c.in_ok-put.ensures.ok ∙ ap (λ g. put job_group_cmp itself g groups) c.of.ensures in
     let moving = sym c.in_ok-group_moves.ensures.moves ∙ c.if-branch.true in
@@ -57,7 +58,7 @@ loop-row-preserved c =
     let row = c.row-item.result in
     let ids = c.loop-row.ids in
     let rest = drop (c.loop-row.row-index + 1) c.args.rows.now in
-    let here = at_row (ids_left s groups) c.args.rows.now c.loop-row.row-index row (omega arith) c.row-item.is in
+    let here = at_item (ids_left s groups) c.args.rows.now c.loop-row.row-index row (omega arith) c.row-item.is in
     let met = sym c.is_met.ensures ∙ c.if-is_met.false in
     let next = c.in_ok-put.ensures.ok ∙ ap (λ g. put job_group_cmp itself g groups) c.of.ensures in
     let staying = sym c.in_ok-group_moves.ensures.moves ∙ c.if-branch.false in
@@ -69,7 +70,7 @@ loop-row-preserved c =
       few = omega arith;
       all = ap (λ (zs : List AllocId). zs ++ take (64 - length zs) (ids_left s c.put.new.self rest)) pushed
           ∙ ap (λ more. (ids ++ row.id ∷ []) ++ take (64 - length (ids ++ row.id ∷ [])) (ids_left s more rest)) next
-          ∙ sym (one_taken ids row.id (ids_left s (put job_group_cmp itself (job_group row) groups) rest) below)
+          ∙ sym (one_taken 64 ids row.id (ids_left s (put job_group_cmp itself (job_group row) groups) rest) below)
           ∙ ap (λ more. ids ++ take (64 - length ids) more) (sym (here ∙ staying_row s groups row rest met staying))
           ∙ c.loop-row.invariant.all;
     }
