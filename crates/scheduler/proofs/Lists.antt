@@ -1,6 +1,7 @@
 -- Lists, as loops make them.
 use Rattle.std.proofs.Common.{◌≡◌, ℕ, zero, suc, ◌+◌, ◌<◌, ◌≤◌, List, [], ◌∷◌, ◌++◌, length, get_or, set, map, take, drop, refl, sym, ap, ◌∙◌, arith}
-use Rattle.std.proofs.lemmas.List.{append_assoc, at_drop_more}
+use Rattle.std.proofs.lemmas.List.{append_assoc}
+use Rattle.group_model.proofs.Subs.{at_item}
 
 module _ {A : Type 0} where
   -- the item at a place becomes what `f` makes of it, as those before it did
@@ -18,10 +19,6 @@ module _ {A : Type 0} where
   mapped_all f [] ys (suc i) le e = e
   mapped_all f (x ∷ xs) ys zero le e = absurd (omega (arith, le))
   mapped_all f (x ∷ xs) ys (suc i) le e = ap (λ zs. x ∷ zs) (mapped_all f xs (take i xs ++ map f (drop i xs)) i (omega (arith, le)) refl) ∙ e
-
--- what is left of a list begins with the item at the place
-pub at_item : {X Y : Type 0} (F : List X → Y) (xs : List X) (i : ℕ) (a : X) → i < length xs → a ≡ get_or xs i a → F (drop i xs) ≡ F (a ∷ drop (i + 1) xs)
-at_item F xs i a lt e = at_drop_more F xs i a lt ∙ ap (λ x. F (x ∷ drop (i + 1) xs)) (sym e)
 
 -- one more of what `f` makes of the items
 pub mapped_next : {X Y : Type 0} (f : X → Y) (done : List Y) (y : Y) (xs : List X) (i : ℕ) (a : X) → i < length xs → a ≡ get_or xs i a → y ≡ f a → (done ++ y ∷ []) ++ map f (drop (i + 1) xs) ≡ done ++ map f (drop i xs)

@@ -1,9 +1,9 @@
 -- Wanted names, group after group and index after index.
-use Rattle.std.proofs.Common.{◌≡◌, ℕ, zero, suc, ◌+◌, ◌-◌, ◌<◌, Bool, true, false, cond, not, ◌&&◌, ◌||◌, List, [], ◌∷◌, ◌++◌, map, filter, take, length, Option, Some, None, refl, sym, ap, ◌∙◌, arith}
+use Rattle.std.proofs.Common.{◌≡◌, ℕ, zero, suc, ◌+◌, ◌-◌, Bool, true, false, cond, not, ◌&&◌, ◌||◌, List, [], ◌∷◌, ◌++◌, map, filter, take, Option, Some, None, refl, sym, ap, ◌∙◌, arith}
 use Rattle.std.specs.Prelude.{nat_eq, nat_le, nat_lt, bytes_eq}
 use Rattle.std.specs.List.{list_any}
 use Rattle.std.proofs.lemmas.List.Folds.{list_any-append}
-use Rattle.std.proofs.lemmas.List.{append_assoc, append-nil, length_push}
+use Rattle.std.proofs.lemmas.List.{append_assoc}
 use Rattle.rows.specs.declared.job.Group.{Group}
 use Rattle.rows.specs.declared.job.Job.{Job}
 use Rattle.rows.specs.declared.allocation.AllocId.{AllocId}
@@ -74,26 +74,6 @@ unwanted_ids groups rows = map (λ (a : Allocation). a.id) (filter (is_not_wante
 
 pub unwanted_row : (groups : List Group) (a : Allocation) (rows : List Allocation) → list_any (is_of_name a) (names_of_groups groups) ≡ false → unwanted_ids groups (a ∷ rows) ≡ a.id ∷ unwanted_ids groups rows
 unwanted_row groups a rows e = ap (λ b. map (λ (x : Allocation). x.id) (cond (not b) (a ∷ filter (is_not_wanted groups) rows) (filter (is_not_wanted groups) rows))) e
-
--- at most 64 of them
-
-pub one_taken : (ids : List AllocId) (id : AllocId) (rest : List AllocId) → length ids < 64 → ids ++ take (64 - length ids) (id ∷ rest) ≡ (ids ++ id ∷ []) ++ take (64 - length (ids ++ id ∷ [])) rest
-one_taken ids id rest lt =
-    let longer = length_push ids id in
-    let more : 64 - length ids ≡ suc (64 - length (ids ++ id ∷ [])) = omega (arith, longer) in
-    ap (λ n. ids ++ take n (id ∷ rest)) more ∙ sym (append_assoc ids (id ∷ []) (take (64 - length (ids ++ id ∷ [])) rest))
-
-pub all_taken : (ids rest : List AllocId) → length ids ≡ 64 → ids ++ take (64 - length ids) rest ≡ ids
-all_taken ids rest e =
-    let none : 64 - length ids ≡ 0 = omega arith in
-    ap (λ n. ids ++ take n rest) none ∙ append-nil ids
-
-take_none : (n : ℕ) → ◌≡◌ {A = List AllocId} (take n []) []
-take_none zero = refl
-take_none (suc n) = refl
-
-pub none_left : (ids : List AllocId) (n : ℕ) → ids ++ take n [] ≡ ids
-none_left ids n = ap (λ zs. ids ++ zs) (take_none n) ∙ append-nil ids
 
 -- those of a job that live, and are not wanted, are those that live of it unwanted
 pub unwanted_of_job : (s : State) (job : List ℕ) → first_unwanted (wanted_groups (job_of job s)) (filter (lives_for job) s.allocs) ≡ unwanted_stops s job

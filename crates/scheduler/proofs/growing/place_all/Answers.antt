@@ -1,7 +1,7 @@
 use Rattle.std.proofs.Common.{◌≡◌, false, sym, subst, arith, inr}
 use Rattle.group_model.specs.Scheduling.{is_full, GoesOn}
+use Rattle.group_model.proofs.Subs.{at_item}
 use Rattle.scheduler.specs.Inner.Growing.{part_of}
-use Rattle.scheduler.proofs.Lists.{at_item}
 use Rattle.scheduler.proofs.growing.place_all.Goals as goal
 
 pub loop-name-preserved : goal.loop-name-preserved

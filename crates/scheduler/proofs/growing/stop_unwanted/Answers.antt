@@ -6,11 +6,11 @@ use Rattle.rows.specs.Keys.{alloc_cmp, alloc_id}
 use Rattle.rows.specs.Rising.{is_rising}
 use Rattle.fsm_tables.proofs.RowLaws.{some_same}
 use Rattle.group_model.specs.Scheduling.{PlanPart, claimed_by}
+use Rattle.group_model.proofs.Subs.{at_item, one_taken}
 use Rattle.scheduler.specs.Inner.Loads.{load_of, less}
 use Rattle.scheduler.specs.Inner.Growing.{part_of, fresh, IsLiveRow}
 use Rattle.scheduler.proofs.Found.{all_at}
-use Rattle.scheduler.proofs.Lists.{at_item}
-use Rattle.scheduler.proofs.Names.{unwanted_ids, unwanted_row, one_taken}
+use Rattle.scheduler.proofs.Names.{unwanted_ids, unwanted_row}
 use Rattle.scheduler.proofs.Shares.{loads_less}
 use Rattle.scheduler.proofs.growing.stop_unwanted.Goals as goal
 
@@ -35,7 +35,7 @@ loop-row-preserved c =
     record {
       few = omega (arith, longer, below);
       stops = ap (λ (zs : List AllocId). zs ++ take (64 - length zs) rest) pushed
-          ∙ sym (one_taken ids row.id rest below)
+          ∙ sym (one_taken 64 ids row.id rest below)
           ∙ ap (λ more. ids ++ take (64 - length ids) more) (sym here)
           ∙ c.loop-row.invariant.stops;
       places = ap (λ (q : PlanPart). q.places) part ∙ c.loop-row.invariant.places;

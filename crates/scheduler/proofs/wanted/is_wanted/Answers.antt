@@ -2,7 +2,7 @@ use Rattle.std.proofs.Common.{Bool, List, ◌+◌, ◌||◌, drop, sym, ap, ◌�
 use Rattle.std.specs.List.{list_any}
 use Rattle.rows.specs.declared.job.Group.{Group}
 use Rattle.group_model.specs.Scheduling.{names_of_groups, is_of_name}
-use Rattle.scheduler.proofs.Lists.{at_item}
+use Rattle.group_model.proofs.Subs.{at_item}
 use Rattle.scheduler.proofs.Names.{any_of_groups}
 use Rattle.scheduler.proofs.wanted.is_wanted.Goals as goal
 
