@@ -1,6 +1,6 @@
 -- Moments of a run: each first part of it is a run, and between two neighbouring moments lies one
 -- event.
-use Rattle.std.proofs.Common.{◌≡◌, ℕ, suc, ◌≤◌, Some, Ok, List, ◌∷◌, [], ◌++◌, length, take, arith, slice_get}
+use Rattle.std.proofs.Common.{◌≡◌, ℕ, suc, ◌≤◌, Some, Ok, List, ◌∷◌, [], ◌++◌, length, take, arith}
 use Rattle.machine.specs.Meaning.{Meaning}
 use Rattle.raft_model.specs.Worlds.{World, Event, IsEvent, happens, first, Run, start, more, moment}
 use Rattle.raft_safety.specs.Claims.{Happened}
