@@ -10,8 +10,8 @@ ghost use Rattle.fsm_state.specs.Memory.{AdmissionMayLack};
 
 mod alone;
 mod claims;
-mod plans;
-mod touching;
+pub(crate) mod plans;
+pub(crate) mod touching;
 mod whole;
 
 use crate::cluster::Cluster;

@@ -56,8 +56,8 @@ impl Model for Cluster {
         → Holds (are_distinct (claims c.tables.allocs)) };
 }
 
-/// Whether the id is among these.
-pub(crate) fn is_among(id: AllocId, ids: &[AllocId]) -> bool
+/// Whether the id is among these. It takes time of the list.
+pub fn is_among(id: AllocId, ids: &[AllocId]) -> bool
     ensures { result ≡ list_any (same_alloc id) ids.now }
 {
     for other in ids {

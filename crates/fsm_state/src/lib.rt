@@ -11,5 +11,7 @@ mod room;
 mod text;
 mod touch;
 
-pub use cluster::Cluster;
+pub use admission::plans::may_hold;
+pub use admission::touching::after_reports;
+pub use cluster::{Cluster, is_among};
 pub use room::{TakesRoom, is_enough, taken};

@@ -7,7 +7,7 @@ ghost use Rattle.plan_apply.specs.Inner.Names.{same_place, is_single, place_name
 ghost use Rattle.plan_apply.specs.Inner.Overlay.{kept_so_far};
 
 use crate::accepted::Kept;
-use crate::stops::is_among;
+use crate::stops::has_row;
 use fsm_state::Cluster;
 use fsm_tables::{AllocName, is_live};
 use rows::{AcceptedPlace, Allocation, JobName};
@@ -47,7 +47,7 @@ fn name_of(job: &JobName, place: &AcceptedPlace) -> AllocName
 fn keeps_name(row: &Allocation, name: &AllocName, stopped: &[Allocation]) -> bool
     ensures { result ≡ keeps_name name.now (map alloc_id stopped.now) row.now }
 {
-    is_live(row) && !is_among(row.id, stopped) && AllocName::of(row) == *name
+    is_live(row) && !has_row(stopped, row.id) && AllocName::of(row) == *name
 }
 
 /// Whether one of the rows does.
@@ -70,7 +70,7 @@ fn is_kept(state: &Cluster, name: &AllocName, stopped: &[Allocation]) -> bool
 {
     match state.live_named(name) {
         None => false,
-        Some(row) if !is_among(row.id, stopped) => true,
+        Some(row) if !has_row(stopped, row.id) => true,
         Some(_) if state.knows_names_distinct() => false,
         Some(_) => is_kept_in(state.alloc_table().rows(), name, stopped),
     }

@@ -1,11 +1,10 @@
 //! The places of a plan on one node, each with its group's size.
 ghost use Rattle.std.specs.Prelude.{◌≡◌, ◌&&◌, IfOk, find, option_map};
 ghost use Rattle.group_model.specs.Acceptance.{is_group_of, sized_on, on};
-ghost use Rattle.cluster_model.specs.Words.{is_ready};
-ghost use Rattle.cluster_model.specs.Admission.{may_hold};
 ghost use Rattle.plan_apply.specs.Inner.Overlay.{all_sized};
 
-use rows::{AcceptedPlace, Group, Job, NoMemory, Node, NodeId, NodeStatus, Place, Sequence};
+use fsm_state::may_hold;
+use rows::{AcceptedPlace, Group, Job, NoMemory, Node, NodeId, Place, Sequence};
 use std::alloc::Global;
 
 /// The places on a node.
@@ -23,23 +22,6 @@ pub(crate) fn places_on(
         }
     }
     Ok(on)
-}
-
-/// Whether a node is heard of.
-fn is_ready(status: NodeStatus) -> bool
-    ensures { result ≡ is_ready status }
-{
-    match status {
-        NodeStatus::Ready => true,
-        NodeStatus::Down => false,
-    }
-}
-
-/// Whether a node takes what a group asks for.
-fn may_hold(group: &Group, node: &Node) -> bool
-    ensures { result ≡ may_hold group.now node.now }
-{
-    is_ready(node.status) && node.eligible && node.class == group.class
 }
 
 /// Whether the group is the place's, asks for so many, and is one that the node takes.

@@ -13,7 +13,7 @@ use rows::{AllocId, Allocation, JobName, NoMemory, Plan, Sequence};
 use std::alloc::Global;
 
 /// Whether one of these rows is the allocation's.
-pub(crate) fn is_among(id: AllocId, rows: &[Allocation]) -> bool
+pub(crate) fn has_row(rows: &[Allocation], id: AllocId) -> bool
     ensures { result ≡ list_any (same_alloc id) (map alloc_id rows.now) }
 {
     for row in rows {
@@ -35,7 +35,7 @@ fn lives_for(row: &Allocation, job: &JobName) -> bool
 fn add_row(rows: &mut Sequence<Allocation>, row: &Allocation) -> Result<(), NoMemory>
     ensures { OnOk result (rows.new ≡ with_stopped rows.old row.now) }
 {
-    if is_among(row.id, rows.as_slice()) {
+    if has_row(rows.as_slice(), row.id) {
         Ok(())
     } else {
         rows.push(*row)

@@ -1,14 +1,12 @@
 //! A plan that grows: its stops and places so far, and how full the nodes are with them.
 ghost use Rattle.std.specs.Prelude.{◌≡◌, ◌++◌, ◌∷◌, [], IfOk, OnOk, map, option_map};
-ghost use Rattle.std.specs.List.{list_any};
-ghost use Rattle.cluster_model.specs.Words.{same_alloc};
 ghost use Rattle.group_model.specs.Scheduling.{is_full, with_stop, first_part, IsNext, GoesOn};
 ghost use Rattle.scheduler.specs.Inner.Loads.{less, with_load};
 ghost use Rattle.scheduler.specs.Inner.Growing.{part_of, fresh, first_unwanted, AreLoads, AreLiveRows};
 
 use crate::load::{Load, best, loads_of, put_on, take_off};
 use crate::wanted::{WantedName, is_wanted, wanted_groups};
-use fsm_state::Cluster;
+use fsm_state::{Cluster, is_among};
 use rows::{AcceptedPlace, AllocId, Allocation, Group, JobName, NoMemory, Sequence};
 use std::alloc::Global;
 
@@ -24,18 +22,6 @@ pub(crate) struct Growing {
     pub places: Sequence<AcceptedPlace>,
     /// How full the nodes are: all of the state's, in rising number.
     pub loads: Vec<Load>,
-}
-
-/// Whether the id is among these.
-fn is_among(id: AllocId, ids: &[AllocId]) -> bool
-    ensures { result ≡ list_any (same_alloc id) ids.now }
-{
-    for other in ids {
-        if id == *other {
-            return true;
-        }
-    }
-    false
 }
 
 /// The allocation, unless it stops already.

@@ -2,12 +2,11 @@
 ghost use Rattle.std.specs.Prelude.{◌≡◌, ◌+◌, ◌≤◌, ◌<◌, false, true, map, option_map};
 ghost use Rattle.std.specs.Prelude.{IfOk, IfNone, IfSome};
 ghost use Rattle.fsm_tables.specs.Claims.{claims};
-ghost use Rattle.cluster_model.specs.Admission.{may_hold};
 ghost use Rattle.group_model.specs.Scheduling.{fullness};
 ghost use Rattle.scheduler.specs.Inner.Loads.{load_of, less, with_load, takes_one_of, fullness_on, IsBestOf};
 
-use fsm_state::Cluster;
-use rows::{AcceptedPlace, Allocation, Group, NoMemory, Node, NodeStatus, Ranged, Size};
+use fsm_state::{Cluster, may_hold};
+use rows::{AcceptedPlace, Allocation, Group, NoMemory, Node, Ranged, Size};
 use std::alloc::Global;
 
 /// A node, and what is in use of it: sums of processor time in MHz and of memory in MB.
@@ -37,18 +36,6 @@ pub(crate) fn loads_of(alloc: Global, state: &Cluster) -> Result<Vec<Load>, NoMe
         })?;
     }
     Ok(loads)
-}
-
-/// Whether a node may hold what a group asks for, if it has room: it is ready, eligible and of the
-/// class.
-fn may_hold(group: &Group, node: &Node) -> bool
-    ensures { result ≡ may_hold group.now node.now }
-{
-    let is_ready = match node.status {
-        NodeStatus::Ready => true,
-        NodeStatus::Down => false,
-    };
-    is_ready && node.eligible && group.class == node.class
 }
 
 /// What is in use of a room with some more; none where that is past the room.

@@ -24,8 +24,9 @@ fn is_pending(status: EvalStatus) -> bool
     }
 }
 
-/// Whether a node takes what a group asks for.
-fn may_hold(group: &Group, node: &Node) -> bool
+/// Whether a node takes what a group asks for, if it has room: it is ready, eligible and of the
+/// group's class.
+pub fn may_hold(group: &Group, node: &Node) -> bool
     ensures { result ≡ may_hold group.now node.now }
 {
     is_ready(node.status) && node.eligible && node.class == group.class

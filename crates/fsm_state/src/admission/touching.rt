@@ -39,8 +39,9 @@ fn after_report(row: &Allocation, node: NodeId, report: &Report) -> Allocation
     }
 }
 
-/// A row after the reports, one after the other.
-fn after_reports(row: &Allocation, node: NodeId, reports: &[Report]) -> Allocation
+/// A row after the reports of a node, one after the other: a report of another allocation changes
+/// nothing, nor does a report of another node, and complete, failed and lost stay.
+pub fn after_reports(row: &Allocation, node: NodeId, reports: &[Report]) -> Allocation
     ensures { result ≡ told_all node reports.now row.now }
 {
     let mut after = *row;

@@ -8,7 +8,7 @@ pub returns-in-None : goal.returns-in-None
 returns-in-None c = sym (none_kept c.args.name.now (map alloc_id c.args.stopped.now) c.args.state.now.allocs (sym c.in-None.ensures))
 
 pub returns-in-Some : goal.returns-in-Some
-returns-in-Some c = sym (found_kept c.args.name.now (map alloc_id c.args.stopped.now) c.in-Some.row.now c.args.state.now.allocs (sym c.in-Some.ensures) (sym (ap not c.if-not-is_among.ensures)))
+returns-in-Some c = sym (found_kept c.args.name.now (map alloc_id c.args.stopped.now) c.in-Some.row.now c.args.state.now.allocs (sym c.in-Some.ensures) (sym (ap not c.if-not-has_row.ensures)))
 
 pub returns-in-Some-2 : goal.returns-in-Some-2
-returns-in-Some-2 c = sym (once_kept c.args.name.now (map alloc_id c.args.stopped.now) c.in-Some.row.now c.args.state.now.allocs (c.if-knows_names_distinct.ensures tt) (sym c.in-Some.ensures) (sym c.if-not-is_among.ensures))
+returns-in-Some-2 c = sym (once_kept c.args.name.now (map alloc_id c.args.stopped.now) c.in-Some.row.now c.args.state.now.allocs (c.if-knows_names_distinct.ensures tt) (sym c.in-Some.ensures) (sym c.if-not-has_row.ensures))
