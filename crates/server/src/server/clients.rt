@@ -37,8 +37,11 @@ fn is_taken_already(raft: &mut Raft<Cluster>, command: &Command) -> Result<bool,
 {
     match raft.projected() {
         Ok(whole) => {
-            let admitted = whole.admits(command)?.is_none();
-            Ok(admitted && is_idle(whole, command))
+            // What would change a row is weighed once, by the log to which it is proposed.
+            if !is_idle(whole, command) {
+                return Ok(false);
+            }
+            Ok(whole.admits(command)?.is_none())
         }
         Err(_) => Err(NoMemory),
     }

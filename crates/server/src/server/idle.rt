@@ -1,13 +1,11 @@
 //! Commands that a client asks for and that would change no row.
 ghost use Rattle.std.specs.Prelude.{◌≡◌};
 ghost use Rattle.std.specs.List.{list_all};
-ghost use Rattle.cluster_model.specs.Effect.{client_state_of, told, told_all};
-ghost use Rattle.group_model.specs.ClientRequests.{is_registered, is_unmoved, is_idle, same_state};
+ghost use Rattle.group_model.specs.ClientRequests.{is_registered, is_unmoved, is_idle};
 ghost use Rattle.server.specs.Inner.Idle.{is_unmoved_at};
 
-use fsm_state::Cluster;
-use fsm_tables::is_active;
-use rows::{Allocation, ClientState, Command, NodeId, NodeStatus, Report, ReportedState};
+use fsm_state::{Cluster, after_reports};
+use rows::{Command, NodeId, NodeStatus, Report};
 
 /// Whether the node's row is ready.
 fn is_registered(state: &Cluster, node: NodeId) -> bool
@@ -19,58 +17,12 @@ fn is_registered(state: &Cluster, node: NodeId) -> bool
     }
 }
 
-/// Whether two states of an allocation's work are the same.
-fn same_state(state: ClientState, other: ClientState) -> bool
-    ensures { result ≡ same_state state other }
-{
-    match state {
-        ClientState::Pending => matches!(other, ClientState::Pending),
-        ClientState::Running => matches!(other, ClientState::Running),
-        ClientState::Complete => matches!(other, ClientState::Complete),
-        ClientState::Failed => matches!(other, ClientState::Failed),
-        ClientState::Lost => matches!(other, ClientState::Lost),
-    }
-}
-
-/// What is known of an allocation's work by a report.
-fn told_state(state: ReportedState) -> ClientState
-    ensures { result ≡ client_state_of state }
-{
-    match state {
-        ReportedState::Running => ClientState::Running,
-        ReportedState::Complete => ClientState::Complete,
-        ReportedState::Failed => ClientState::Failed,
-    }
-}
-
-/// A row after a report of a node: what is final stays, and what is of another allocation.
-fn told(row: &Allocation, node: NodeId, report: &Report) -> Allocation
-    ensures { result ≡ told node report.now row.now }
-{
-    let mut row = *row;
-    if row.id == report.id && row.node == node && is_active(row.client) {
-        row.client = told_state(report.state);
-    }
-    row
-}
-
-/// A row after the reports of a node, one after the other.
-fn told_all(row: &Allocation, node: NodeId, reports: &[Report]) -> Allocation
-    ensures { result ≡ told_all node reports.now row.now }
-{
-    let mut row = *row;
-    for report in reports {
-        row = told(&row, node, report);
-    }
-    row
-}
-
 /// Whether the row of a report's allocation, if there is one, stays as it is.
 fn is_unmoved_at(state: &Cluster, node: NodeId, reports: &[Report], report: &Report) -> bool
     ensures { result ≡ is_unmoved_at node reports.now state.now report.now }
 {
     match state.alloc(report.id) {
-        Some(row) => same_state(told_all(row, node, reports).client, row.client),
+        Some(row) => after_reports(row, node, reports).client == row.client,
         None => true,
     }
 }
