@@ -113,6 +113,7 @@ impl<M: Machine> Raft<M> {
         match adopt(&mut self.log, machine, commit, risen.get(), prev, entries) {
             Ok(()) => {
                 self.commit = risen;
+                // A candidate needs room for one more entry, which there may not be any more.
                 self.role = Role::Follower;
                 self.follow(from, head.term);
                 Ok(())
