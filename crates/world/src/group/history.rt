@@ -69,33 +69,18 @@ fn place(sent: &Frames, k: u64) -> usize
     requires { place_of k < length sent.now }
     ensures { result ≡ place_of k }
 {
-    if k > sent.len() as u64 {
-        unreachable!()
-    }
-    match k.checked_sub(1) {
-        Some(at) => at as usize,
-        None => unreachable!(),
-    }
+    // No list in memory is so long that the number 0 has a place in it.
+    let _ = sent.len();
+    (k - 1) as usize
 }
 
-/// Copies the k-th frame, from 1.
-fn copy_frame(sent: &Frames, k: u64, frame: &mut Vec<u8>) -> Result<(), NoMemory>
-    ensures { OnOk result (frame.new.items ≡ bytes_of (slice_get sent.now (place_of k))) }
+/// Copies the frame at this place.
+fn copy_frame(sent: &Frames, at: usize, frame: &mut Vec<u8>) -> Result<(), NoMemory>
+    requires { at < length sent.now }
+    ensures { OnOk result (frame.new.items ≡ bytes_of (slice_get sent.now at)) }
 {
     frame.clear();
-    if let Some(found) = frame_at(sent, k) {
-        frame.extend_from_slice(found.bytes())?;
-    }
-    Ok(())
-}
-
-/// Room is made, with this in it, where there is none.
-fn make_room<T: Drop>(alloc: Global, room: &mut Option<Box<T>>, value: T) -> Result<(), NoMemory>
-    ensures { OnOk result (is_some room.new ≡ true) }
-{
-    if room.is_none() {
-        *room = Some(Box::new(alloc, value)?);
-    }
+    frame.extend_from_slice(sent.get(at).unwrap().bytes())?;
     Ok(())
 }
 
@@ -105,7 +90,8 @@ fn make_room<T: Drop>(alloc: Global, room: &mut Option<Box<T>>, value: T) -> Res
 fn new_server_room(alloc: Global, room: &mut Option<Box<ServerInput>>) -> Result<(), NoMemory>
     ensures { OnOk result (is_some room.new ≡ true) }
 {
-    make_room(alloc, room, ServerInput::Crash)
+    *room = Some(Box::new(alloc, ServerInput::Crash)?);
+    Ok(())
 }
 
 /// Room is made for a server's crash, where there is none.
@@ -118,19 +104,24 @@ fn make_server_room(alloc: Global, room: &mut Option<Box<ServerInput>>) -> Resul
     Ok(())
 }
 
+/// Room is made for a client's crash, where there is none.
+fn make_client_room(alloc: Global, room: &mut Option<Box<ClientInput>>) -> Result<(), NoMemory>
+    ensures { OnOk result (is_some room.new ≡ true) }
+{
+    if room.is_none() {
+        *room = Some(Box::new(alloc, ClientInput::Crash)?);
+    }
+    Ok(())
+}
+
 /// The room, with this in it.
 fn take_room<T: Drop>(room: &mut Option<Box<T>>, value: T) -> Box<T>
     requires { is_some room.old ≡ true }
     ensures { result.value ≡ value }
 {
-    match std::mem::replace(room, None) {
-        Some(found) => {
-            let mut taken = found;
-            Box::replace(&mut taken, value);
-            taken
-        }
-        None => unreachable!(),
-    }
+    let mut taken = std::mem::replace(room, None).unwrap();
+    Box::replace(&mut taken, value);
+    taken
 }
 
 impl GroupHistory {
@@ -309,14 +300,16 @@ impl GroupHistory {
         me: ClientId,
         k: u64,
     ) -> Result<Done, Refusal>
+        requires { place_of k < length self.old.outbox.frames }
         ensures same { client.new.size ≡ client.old.size }
         ensures done { ClientDone client.old self.old
             (client_inputs.Frame (bytes_of (slice_get self.old.outbox.frames (place_of k))))
             (Deliver (place_of k)) me result client.new self.new }
     {
         self.trace.reserve(1)?;
-        copy_frame(&self.outbox.frames, k, &mut self.delivered)?;
-        make_room(self.alloc, &mut self.client_room, ClientInput::Crash)?;
+        let at = place(&self.outbox.frames, k);
+        copy_frame(&self.outbox.frames, at, &mut self.delivered)?;
+        make_client_room(self.alloc, &mut self.client_room)?;
         match client.receive(&self.delivered, &mut self.outbox.frames) {
             Ok(()) => {
                 self.trace.push_reserved(Event::Deliver(k));
