@@ -1,6 +1,7 @@
 //! Groups of servers and clients: what comes for the servers' workers, and that a group's own trace
 //! leads to it again.
 use crate::snapshots::copies;
+use fsm_state::Cluster;
 use machine::Machine;
 use rows::{
     Actor, AskedRequest, Delivery, EvalId, PlanResult, ServerId, Token, Work, WorkerResponse,
@@ -8,6 +9,7 @@ use rows::{
 use runner::reading::scenario;
 use runner::scenario::Scenario;
 use runner::step::{Step, read_step};
+use scenarios::claims::safe_state;
 use server::Server;
 use std::alloc::Global;
 use std::rt::Files;
@@ -140,16 +142,18 @@ fn play(rt: &HostRuntime, world: &mut World, played: &Scenario) -> io::Result<bo
     Ok(is_taken)
 }
 
-// Whether two servers have the same term, log's end, and replicated state.
-fn are_alike(alloc: Global, one: &Server, other: &Server) -> bool {
+// Whether two servers have the same term, log's end, and number of applied entries.
+fn are_alike(one: &Server, other: &Server) -> bool {
     if one.term() != other.term() || one.last() != other.last() {
         return false;
     }
-    if one.applied() != other.applied() {
-        return false;
-    }
-    let (Some(one), Some(other)) = (one.state(), other.state()) else {
-        return one.state().is_none() && other.state().is_none();
+    one.applied() == other.applied()
+}
+
+// Whether two replicated states are the same, or neither is there.
+fn are_same(alloc: Global, one: Option<&Cluster>, other: Option<&Cluster>) -> bool {
+    let (Some(one), Some(other)) = (one, other) else {
+        return one.is_none() && other.is_none();
     };
     let mut left = Vec::new(alloc);
     let mut right = Vec::new(alloc);
@@ -168,9 +172,11 @@ fn replays(alloc: Global, world: &World, played: &Scenario) -> bool {
             return false;
         };
         is_same = match (world.server(id), again.server(id)) {
-            (Some(one), Some(other)) => are_alike(alloc, one, other) && is_same,
+            (Some(one), Some(other)) => are_alike(one, other) && is_same,
             _ => false,
         };
+        let (one, other) = (safe_state(world, id), safe_state(&again, id));
+        is_same = are_same(alloc, one, other) && is_same;
     }
     is_same
 }

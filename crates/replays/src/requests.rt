@@ -4,7 +4,6 @@ use fsm_state::Cluster;
 use machine::Machine;
 use rows::ServerId;
 use runner::reading::scenario;
-use scenarios::claims::safe_state;
 use server::ServerInput;
 use std::alloc::Global;
 use std::rt::Files;
@@ -81,7 +80,7 @@ fn put_state(
         return false;
     };
     let mut bytes = Vec::new(alloc);
-    match (safe_state(world, server), safe_state(&again, server)) {
+    match (world.machine(server), again.machine(server)) {
         (Some(state), Some(other)) => {
             state.save(out).is_ok() && other.save(&mut bytes).is_ok() && bytes == *out
         }

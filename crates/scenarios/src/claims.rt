@@ -6,7 +6,7 @@ ghost use Rattle.cluster_model.specs.SafeFacts.{Safe};
 use fsm_state::Cluster;
 use machine::{Machine, Tally};
 use rows::ServerId;
-use world::RaftWorld;
+use world::{RaftWorld, World};
 
 /// Whether two servers that have applied as many commands have the same sum.
 pub fn agree(world: &RaftWorld<Tally>, one: ServerId, other: ServerId) -> bool
@@ -18,9 +18,9 @@ pub fn agree(world: &RaftWorld<Tally>, one: ServerId, other: ServerId) -> bool
     }
 }
 
-/// The replicated state of a server that runs: it is safe, whatever happened.
-pub fn safe_state(world: &RaftWorld<Cluster>, server: ServerId) -> Option<&Cluster>
+/// The replicated state of a server that is up: it is safe, whatever happened.
+pub fn safe_state(world: &World, server: ServerId) -> Option<&Cluster>
     ensures { IfSome result (λ state. Safe state.now) }
 {
-    world.machine(server)
+    world.state(server)
 }

@@ -20,7 +20,7 @@ use Rattle.world.proofs.Zips.{zip_at, zip_none}
 
 module _ {S C : Type 0} (m : Meaning S C) where
   -- a server as it is up, or down
-  running_is : (s : Server C) (o : Option (Bor S)) → MatchOption o (is_up s.mode ≡ false) (λ r. (is_up s.mode ≡ true) × (r.now ≡ state_after m (take s.commit s.log))) → option_copied o ≡ running_state m (Some s)
+  pub running_is : (s : Server C) (o : Option (Bor S)) → MatchOption o (is_up s.mode ≡ false) (λ r. (is_up s.mode ≡ true) × (r.now ≡ state_after m (take s.commit s.log))) → option_copied o ≡ running_state m (Some s)
   running_is s None down = rw down refl
   running_is s (Some r) up = let u = up.0 in rw u (ap (λ x. Some x) up.1)
 
@@ -37,10 +37,10 @@ module _ {S C : Type 0} (m : Meaning S C) where
         rw there (running_is s.0 o (says s.0 s.2))
 
   -- a state after the first k of the list
-  record IsPart (list : List (Entry C)) (a : S) : Type 0 where
-    count : ℕ
-    short : count ≤ length list
-    is : a ≡ state_after m (take count list)
+  pub record IsPart (list : List (Entry C)) (a : S) : Type 0 where
+    pub count : ℕ
+    pub short : count ≤ length list
+    pub is : a ≡ state_after m (take count list)
 
   part_of : (past : List (World C)) (w : World C) (list : List (Entry C)) → Chain past w list → (i : ℕ) (s : Server C) (up : Bool) (a : S) → is_up s.mode ≡ up → slice_get w.servers i ≡ Some s →
       (if up then Some (state_after m (take s.commit s.log)) else None) ≡ Some a → IsPart list a
@@ -54,7 +54,7 @@ module _ {S C : Type 0} (m : Meaning S C) where
       }
 
   -- each running machine's state is that after a first part of the list
-  part : (past : List (World C)) (w : World C) (list : List (Entry C)) → Chain past w list → (i : ℕ) (a : S) (o : Option (Server C)) → slice_get w.servers i ≡ o → running_state m o ≡ Some a → IsPart list a
+  pub part : (past : List (World C)) (w : World C) (list : List (Entry C)) → Chain past w list → (i : ℕ) (a : S) (o : Option (Server C)) → slice_get w.servers i ≡ o → running_state m o ≡ Some a → IsPart list a
   part past w list chain i a None here h = absurd (cc)
   part past w list chain i a (Some s) here h = part_of past w list chain i s (is_up s.mode) a refl here h
 
@@ -71,12 +71,14 @@ module _ {S C : Type 0} (m : Meaning S C) where
       let count : m.count a ≡ p.count = ap (λ x. m.count x) p.is ∙ (after-count m law (commands (take p.count list)) ∙ (commands_length (take p.count list) ∙ length-take-le p.count list p.short)) in
       p.is ∙ ap (λ k. state_after m (take k list)) (sym count)
 
+  -- two states after first parts of one list
+  pub history_of : LawfulMachine m → (list : List (Entry C)) (a b : S) → IsPart list a → IsPart list b → OneHistory m a b
+  history_of law list a b p q = record { list = list; one = counted law list a p; other = counted law list b q }
+
   pub one_history : LawfulMachine m → (seen : WorldView C) → OneListEver m seen → (i j : ℕ) (a b : S) →
       ((past : List (World C)) (w : World C) → RunsTo m seen past w → Some a ≡ machine_of m w i) → ((past : List (World C)) (w : World C) → RunsTo m seen past w → Some b ≡ machine_of m w j) → OneHistory m a b
   one_history law seen l i j a b is_a is_b =
       let chain = l.ever l.past l.world l.runs in
-      record {
-        list = l.list;
-        one = counted law l.list a (part l.past l.world l.list chain i a (slice_get l.world.servers i) refl (sym (is_a l.past l.world l.runs)));
-        other = counted law l.list b (part l.past l.world l.list chain j b (slice_get l.world.servers j) refl (sym (is_b l.past l.world l.runs)));
-      }
+      history_of law l.list a b
+      (part l.past l.world l.list chain i a (slice_get l.world.servers i) refl (sym (is_a l.past l.world l.runs)))
+      (part l.past l.world l.list chain j b (slice_get l.world.servers j) refl (sym (is_b l.past l.world l.runs)))

@@ -22,6 +22,7 @@ pub mod GroupClients
 pub mod GroupOwn
 pub mod GroupDeliveries
 pub mod GroupSleeping
+pub mod GroupStates
 pub mod GroupBegins
 pub mod GroupRuns
 pub mod GroupTraces

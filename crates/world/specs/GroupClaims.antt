@@ -1,13 +1,16 @@
 -- What holds of every group that was reached. Moments, and the servers and logs at them, are those
 -- of the value's runs.
-use Rattle.std.specs.Prelude.{◌≡◌, ℕ, ◌<◌, List, length}
+use Rattle.std.specs.Prelude.{◌≡◌, ℕ, ◌<◌, Option, List, length}
 use Rattle.rows.specs.declared.command.Command.{Command}
 use Rattle.machine.specs.declared.entry.Entry.{Entry}
 use Rattle.raft_safety.specs.Claims.{IsGreatestCommit}
+use Rattle.cluster_model.specs.Words.{State}
+use Rattle.cluster_model.specs.ClusterMachine.{cluster_meaning}
 use Rattle.group_model.specs.Inputs as servers
 use Rattle.group_model.specs.Clients as clients
 use Rattle.group_model.specs.Worlds.{World, Event, Deliver, AtServer, AtClient, raft_of}
 use Rattle.group_safety.specs.Claims.{OneList, SafeStates, PlansAreBacked, StartsArePlaced, logs}
+use Rattle.world.specs.Claims.{machine_of}
 use Rattle.world.specs.GroupView.{GroupView, GroupRunsTo}
 
 -- The value has a run, and there is one list, of length `chain`: in each of its runs what a server
@@ -61,6 +64,11 @@ pub record GroupHeadline (view : GroupView) : Type 0 where
   pub safe : SafeStates list
   pub backed : (past : List World) (w : World) → GroupRunsTo view past w → PlansAreBacked view.trace past w list
   pub placed : (past : List World) (w : World) → GroupRunsTo view past w → StartsArePlaced past w list
+
+-- the replicated state of server i of a world, after all that it has applied; none where there is no
+-- such server, or it is down
+abbrev pub state_of : World → ℕ → Option State
+state_of w i = machine_of cluster_meaning (raft_of w) i
 
 -- the greatest number of entries that any server had applied at some moment, in each of its runs
 abbrev pub IsGreatestEver : GroupView → ℕ → Type 0

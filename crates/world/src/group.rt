@@ -2,6 +2,7 @@
 //! itself.
 mod event;
 mod history;
+mod states;
 mod world;
 
 pub use event::Event;
