@@ -12,8 +12,8 @@ use Rattle.event_book.specs.declared.view.Note.{Note}
 use Rattle.event_book.specs.declared.view.SeatView.{SeatView}
 use Rattle.cluster.specs.declared.own_input.OwnInput.{OwnInput}
 use Rattle.cluster.specs.declared.actor.GroupActor.{GroupActor}
-use Rattle.cluster.specs.Actors.{ActorSteps, IsNewActor}
-use Rattle.cluster.specs.Cells.{CellView, IsLed, IsLedCell}
+use Rattle.cluster.specs.Actors.{ActorSteps}
+use Rattle.cluster.specs.Cells.{CellView, IsLed, IsLedFrom}
 use Rattle.cluster.specs.Closing.{noted_events, seat_in}
 use Rattle.cluster.proofs.CellWorlds.{CellWorld, put, Happened, Runs}
 use Rattle.cluster.proofs.Merge.{Group, Leads, AllLead, History, sent_by, legal_runs, same_actor-refl, same_actor-true, same_actor-false, same_actor-apart}
@@ -21,19 +21,19 @@ use Rattle.cluster.proofs.Merge.{Group, Leads, AllLead, History, sent_by, legal_
 -- ---- worlds of the actors of cells
 
 -- each of these actors is new, and nothing was sent
-abbrev pub Opens : ℕ → List Actor → CellWorld → Type 0
-Opens n all w =
+abbrev pub Opens : (Actor → GroupActor → Type 0) → List Actor → CellWorld → Type 0
+Opens began all w =
     (w.sent ≡ [])
     × ((a : Actor) → lists_actor all a ≡ true →
-    (s : GroupActor) × (w.at a ≡ Some s) × IsNewActor n a s)
+    (s : GroupActor) × (w.at a ≡ Some s) × began a s)
 
--- In the order of the stamps the history is a run of new actors, and no others, to those of the
--- cells.
-pub record ClosedRun (n : ℕ) (all : List Actor) (log : History) (cells : List CellView)
+-- In the order of the stamps the history is a run of actors that began so, and no others, to those of
+-- the cells.
+pub record ClosedRun (began : Actor → GroupActor → Type 0) (all : List Actor) (log : History) (cells : List CellView)
     : Type 0 where
   pub first : CellWorld
   pub last : CellWorld
-  pub opens : Opens n all first
+  pub opens : Opens began all first
   pub outside : (a : Actor) → lists_actor all a ≡ false → first.at a ≡ None
   pub runs : Runs Happened first (noted_events log log) last
   pub sent : last.sent ≡ sent_by log
@@ -67,12 +67,12 @@ group = record {
 -- ---- where an actor began
 
 -- where the notes, the newest first, began, and that they lead on
-leads : (n : ℕ) (a : Actor) (es rest : History) (t z : GroupActor) → IsLed n a es t →
+leads : (began : GroupActor → Type 0) (es rest : History) (t z : GroupActor) → IsLed began es t →
     Leads ActorSteps t rest z →
-    (s : GroupActor) × IsNewActor n a s × Leads ActorSteps s (reverse es ++ rest) z
-leads n a [] rest t z led on = (t, led, on)
-leads n a (e ∷ es) rest t z led on =
-    let more = leads n a es (e ∷ rest) led.0 z led.1 (t, led.2, on) in
+    (s : GroupActor) × began s × Leads ActorSteps s (reverse es ++ rest) z
+leads began [] rest t z led on = (t, led, on)
+leads began (e ∷ es) rest t z led on =
+    let more = leads began es (e ∷ rest) led.0 z led.1 (t, led.2, on) in
     (more.0, more.1, subst (λ l. Leads ActorSteps more.0 l z) (same e es rest) more.2)
   where
     same : (e : Note OwnInput) (es rest : History) →
@@ -81,10 +81,10 @@ leads n a (e ∷ es) rest t z led on =
         sym (append_assoc (reverse es) (e ∷ []) rest)
         ∙ ap (λ l. l ++ rest) (sym (reverse-append (e ∷ []) es))
 
-led_from : (n : ℕ) (c : CellView) → IsLedCell n c →
-    (s : GroupActor) × IsNewActor n c.seat.actor s × Leads ActorSteps s c.seat.notes c.actor
-led_from n c led =
-    let l = leads n c.seat.actor (reverse c.seat.notes) [] c.actor c.actor led refl in
+led_from : (began : Actor → GroupActor → Type 0) (c : CellView) → IsLedFrom began c →
+    (s : GroupActor) × began c.seat.actor s × Leads ActorSteps s c.seat.notes c.actor
+led_from began c led =
+    let l = leads (began c.seat.actor) (reverse c.seat.notes) [] c.actor c.actor led refl in
     let all = append-nil (reverse (reverse c.seat.notes)) ∙ reverse-reverse c.seat.notes in
     (l.0, l.1, subst (λ x. Leads ActorSteps l.0 x c.actor) all l.2)
 
@@ -99,31 +99,31 @@ other a b e = same_actor-false b a (λ same. same_actor-apart a b e (sym same))
 abbrev names : List CellView → List Actor
 names cells = map actor_in (map seat_in cells)
 
-module _ (n : ℕ) where
-  abbrev first_at : (cells : List CellView) → AllByRecursion (IsLedCell n) cells →
+module _ (began : Actor → GroupActor → Type 0) where
+  abbrev first_at : (cells : List CellView) → AllByRecursion (IsLedFrom began) cells →
       Actor → Option GroupActor
   first_at [] h a = None
   first_at (c ∷ cs) h a =
-      if same_actor c.seat.actor a then Some (led_from n c h.0).0 else first_at cs h.1 a
+      if same_actor c.seat.actor a then Some (led_from began c h.0).0 else first_at cs h.1 a
 
   abbrev last_at : List CellView → Actor → Option GroupActor
   last_at [] a = None
   last_at (c ∷ cs) a = if same_actor c.seat.actor a then Some c.actor else last_at cs a
 
-  abbrev Found : History → (cells : List CellView) → AllByRecursion (IsLedCell n) cells →
+  abbrev Found : History → (cells : List CellView) → AllByRecursion (IsLedFrom began) cells →
       Actor → Type 0
   Found log cells led a =
       (s : GroupActor) × (t : GroupActor) × (first_at cells led a ≡ Some s)
       × (last_at cells a ≡ Some t)
       × Leads ActorSteps s (notes_of a log) t
-      × IsNewActor n a s
+      × began a s
 
   found_one : (log : History) (c : CellView) (cs : List CellView) →
-      (led : AllByRecursion (IsLedCell n) (c ∷ cs)) → c.seat.notes ≡ notes_of c.seat.actor log →
+      (led : AllByRecursion (IsLedFrom began) (c ∷ cs)) → c.seat.notes ≡ notes_of c.seat.actor log →
       (a : Actor) → (same_actor c.seat.actor a ≡ false → Found log cs led.1 a) →
       (b : Bool) → same_actor c.seat.actor a ≡ b → Found log (c ∷ cs) led a
   found_one log c cs led mine a rest true e =
-      let f = led_from n c led.0 in
+      let f = led_from began c led.0 in
       let on = subst (λ l. Leads ActorSteps f.0 l c.actor) mine f.2 in
       let is = same_actor-true c.seat.actor a e in (
         f.0,
@@ -131,20 +131,20 @@ module _ (n : ℕ) where
         ap (λ (b : Bool). if b then Some f.0 else first_at cs led.1 a) e,
         ap (λ (b : Bool). if b then Some c.actor else last_at cs a) e,
         subst (λ x. Leads ActorSteps f.0 (notes_of x log) c.actor) is on,
-        subst (λ x. IsNewActor n x f.0) is f.1,
+        subst (λ x. began x f.0) is f.1,
       )
   found_one log c cs led mine a rest false e =
       let r = rest e in (
         r.0,
         r.1,
-        ap (λ (b : Bool). if b then Some (led_from n c led.0).0 else first_at cs led.1 a) e ∙ r.2,
+        ap (λ (b : Bool). if b then Some (led_from began c led.0).0 else first_at cs led.1 a) e ∙ r.2,
         ap (λ (b : Bool). if b then Some c.actor else last_at cs a) e ∙ r.3,
         r.4,
         r.5,
       )
 
   -- each cell that is there was led from its first actor to its last
-  found : (log : History) (cells : List CellView) (led : AllByRecursion (IsLedCell n) cells) →
+  found : (log : History) (cells : List CellView) (led : AllByRecursion (IsLedFrom began) cells) →
       AllByRecursion (λ (p : SeatView OwnInput). p.notes ≡ notes_of p.actor log)
       (map seat_in cells) →
       (a : Actor) → lists_actor (names cells) a ≡ true → Found log cells led a
@@ -155,12 +155,12 @@ module _ (n : ℕ) where
       found_one log c cs led mine.0 a (λ e. found log cs led.1 mine.1 a (rest e)) b refl
 
   -- an actor of no cell is nowhere
-  not_found : (cells : List CellView) (led : AllByRecursion (IsLedCell n) cells) (a : Actor) →
+  not_found : (cells : List CellView) (led : AllByRecursion (IsLedFrom began) cells) (a : Actor) →
       lists_actor (names cells) a ≡ false → first_at cells led a ≡ None
   not_found [] led a out = refl
   not_found (c ∷ cs) led a out =
       let o = or_parts (same_actor c.seat.actor a) (lists_actor (names cs) a) out in
-      ap (λ (b : Bool). if b then Some (led_from n c led.0).0 else first_at cs led.1 a) o.0
+      ap (λ (b : Bool). if b then Some (led_from began c led.0).0 else first_at cs led.1 a) o.0
       ∙ not_found cs led.1 a o.1
 
   -- the cells of distinct actors are the last of their actors
@@ -200,30 +200,30 @@ module _ (n : ℕ) where
       )
 
 -- All cells of a book, each of which keeps to its own notes, make a run together.
-pub closes : (n : ℕ) (all : List Actor) (log : History) (cells : List CellView) →
-    AllByRecursion (IsLedCell n) cells →
+pub closes : (began : Actor → GroupActor → Type 0) (all : List Actor) (log : History) (cells : List CellView) →
+    AllByRecursion (IsLedFrom began) cells →
     IsWhole all log (map seat_in cells) →
     are_apart (map actor_in (map seat_in cells)) ≡ true →
     ((a : Actor) → lists_actor all a ≡ true → lists_actor (map actor_in (map seat_in cells)) a ≡ true) →
     ((a : Actor) → lists_actor (map actor_in (map seat_in cells)) a ≡ true → lists_actor all a ≡ true) →
-    ClosedRun n all log cells
-closes n all log cells led whole apart each within =
-    let w : CellWorld = record { at = first_at n cells led; sent = [] } in
-    let there : (a : Actor) → lists_actor all a ≡ true → Found n log cells led a =
-    λ a inn. found n log cells led whole.1 a (each a inn) in
-    let lead : AllLead group all log w (last_at n cells) =
+    ClosedRun began all log cells
+closes began all log cells led whole apart each within =
+    let w : CellWorld = record { at = first_at began cells led; sent = [] } in
+    let there : (a : Actor) → lists_actor all a ≡ true → Found began log cells led a =
+    λ a inn. found began log cells led whole.1 a (each a inn) in
+    let lead : AllLead group all log w (last_at began cells) =
     λ a inn. let f = there a inn in (f.0, f.1, f.2, f.3, f.4) in
     let out : (a : Actor) → lists_actor all a ≡ false → lists_actor (names cells) a ≡ false =
     λ a no. false_from_ne_true (lists_actor (names cells) a)
     (λ inn. true≢false (sym (within a inn) ∙ no)) in
-    let ends = legal_runs group all log w (last_at n cells) whole.0 refl lead in
+    let ends = legal_runs group all log w (last_at began cells) whole.0 refl lead in
     record {
       first = w;
       last = ends.0;
       opens = (refl, λ a inn. let f = there a inn in (f.0, f.2, f.5));
-      outside = λ a no. not_found n cells led a (out a no);
+      outside = λ a no. not_found began cells led a (out a no);
       runs = ends.1;
       sent = ends.2;
-      ends = all_there n cells (last_at n cells) ends.0.at (λ a inn. ends.3 a (within a inn))
-          (all_last n cells apart);
+      ends = all_there began cells (last_at began cells) ends.0.at (λ a inn. ends.3 a (within a inn))
+          (all_last began cells apart);
     }

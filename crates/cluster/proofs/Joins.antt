@@ -1,6 +1,6 @@
 -- The world that the cells of a closed book come to.
-use Rattle.std.proofs.Common.{◌≡◌, ℕ, zero, suc, ◌<◌, ◌||◌, Bool, true, false, true≢false, Option, Some, List, [], ◌∷◌, map, length, refl, sym, ap, ◌∙◌, subst, arith, slice_get}
-use Rattle.std.proofs.lemmas.Option.{same_Some, none-some}
+use Rattle.std.proofs.Common.{◌≡◌, ℕ, zero, suc, ◌+◌, ◌<◌, ◌||◌, Bool, true, false, true≢false, Option, Some, List, [], ◌∷◌, map, length, take, refl, sym, ap, ◌∙◌, subst, arith, slice_get}
+use Rattle.std.proofs.lemmas.Option.{same_Some, none-some, slice_get_within}
 use Rattle.std.specs.List.{AllByRecursion}
 use Rattle.rows.specs.declared.actor.Actor.{Actor}
 use Rattle.rows.specs.declared.actor.Actor.TheVariants as actors
@@ -21,8 +21,8 @@ use Rattle.cluster.specs.declared.own_input.OwnInput.{OwnInput}
 use Rattle.cluster.specs.declared.actor.GroupActor.{GroupActor}
 use Rattle.cluster.specs.declared.actor.GroupActor.TheVariants.{Server, Client as Agent}
 use Rattle.cluster.specs.declared.closing.NamedActor.{NamedActor}
-use Rattle.cluster.specs.Actors.{IsNewActor, group_size}
-use Rattle.cluster.specs.Cells.{CellView, IsLedCell}
+use Rattle.cluster.specs.Actors.{BeginsAs, HasNode, IsNewActor, group_size}
+use Rattle.cluster.specs.Cells.{CellView, IsOpenedCell}
 use Rattle.cluster.specs.Closing.{AreOfGroup, ShowsActor, HasCell, ClosesTo, cell_actors, noted_events}
 use Rattle.cluster.specs.Inner.Closed.{IsClosed, named_in}
 use Rattle.cluster.specs.Inner.Joined.{agent_named, IsAmong, HasClients, AreNodesOf}
@@ -89,6 +89,37 @@ agents_nodes k [] = refl
 agents_nodes k (node ∷ nodes) =
     ap (λ l. record node { number = k } ∷ l) (agents_nodes (suc k) nodes)
 
+renumbered_again : (k : ℕ) (nodes : List NodeSpec) →
+    renumbered k (renumbered k nodes) ≡ renumbered k nodes
+renumbered_again k [] = refl
+renumbered_again k (node ∷ nodes) =
+    ap (λ l. record node { number = k } ∷ l) (renumbered_again (suc k) nodes)
+
+-- each is the one at its place among these, renumbered
+abbrev AreAtPlaces : ℕ → List NodeSpec → List NodeSpec → Type 0
+AreAtPlaces k nodes given =
+    (j : ℕ) (x : NodeSpec) → slice_get nodes j ≡ Some x →
+    (y : NodeSpec) × (slice_get given j ≡ Some y) × (x ≡ record y { number = k + j })
+
+first_given : (k : ℕ) (nodes given : List NodeSpec) → AreAtPlaces k nodes given →
+    renumbered k nodes ≡ renumbered k (take (length nodes) given)
+first_given k [] given h = refl
+first_given k (x ∷ nodes) [] h = let q = h 0 x refl in absurd (none-some q.0 q.1)
+first_given k (x ∷ nodes) (y ∷ given) h =
+    let q = h 0 x refl in
+    let z : NodeSpec = q.0 in
+    let is : y ≡ z = same_Some y z q.1 in
+    let head : record x { number = k } ≡ record y { number = k } =
+    ap (λ (v : NodeSpec). record v { number = k }) q.2
+    ∙ ap (λ (v : NodeSpec). record v { number = k }) (sym is) in
+    let more = first_given (suc k) nodes given
+    (λ j v at.
+    let p = h (suc j) v at in
+    let w : NodeSpec = p.0 in
+    let place : k + suc j ≡ suc k + j = omega arith in
+    (w, p.1, p.2 ∙ ap (λ i. record w { number = i }) place)) in
+    λ i. head i ∷ more i
+
 renumbered_length : (k : ℕ) (nodes : List NodeSpec) → length (renumbered k nodes) ≡ length nodes
 renumbered_length k [] = refl
 renumbered_length k (node ∷ nodes) = ap suc (renumbered_length (suc k) nodes)
@@ -107,29 +138,31 @@ lead_nodes w last (e ∷ es) lead =
 
 -- ---- the actors at first
 
-record NewClient (n k : ℕ) (c : CellWorld) (node : NodeSpec) : Type 0 where
+record NewClient (n k : ℕ) (given : List NodeSpec) (c : CellWorld) (node : NodeSpec) : Type 0 where
   agent : AgentView
   here : c.at (actors.Client (suc k)) ≡ Some (Agent agent)
   new : IsNewActor n (actors.Client (suc k)) (Agent agent)
   its : node ≡ agent.client.node
+  has : HasNode given (actors.Client (suc k)) (Agent agent)
 
 record NewServer (n i : ℕ) (c : CellWorld) : Type 0 where
   server : ServerView
   here : c.at (actors.Server i) ≡ Some (Server server)
   new : IsNewActor n (actors.Server i) (Server server)
 
-module _ (n m : ℕ) (all : List Actor) (log : List (Note OwnInput)) (cells : List CellView)
-    (r : ClosedRun n all log cells) (g : AreOfGroup n m all) where
+module _ (n m : ℕ) (given : List NodeSpec) (all : List Actor) (log : List (Note OwnInput))
+    (cells : List CellView) (r : ClosedRun (BeginsAs n given) all log cells) (g : AreOfGroup n m all) where
   new_server : (i : ℕ) (s : GroupActor) → r.first.at (actors.Server i) ≡ Some s →
-      IsNewActor n (actors.Server i) s → NewServer n i r.first
-  new_server i (Server v) here new = record { server = v; here = here; new = new }
-  new_server i (Agent a) here new = absurd new
+      BeginsAs n given (actors.Server i) s → NewServer n i r.first
+  new_server i (Server v) here new = record { server = v; here = here; new = new.0 }
+  new_server i (Agent a) here new = absurd new.0
 
   new_client : (k : ℕ) (s : GroupActor) → r.first.at (actors.Client (suc k)) ≡ Some s →
-      IsNewActor n (actors.Client (suc k)) s → (node : NodeSpec) × NewClient n k r.first node
-  new_client k (Server v) here new = absurd new
+      BeginsAs n given (actors.Client (suc k)) s →
+      (node : NodeSpec) × NewClient n k given r.first node
+  new_client k (Server v) here new = absurd new.0
   new_client k (Agent a) here new =
-      (a.client.node, record { agent = a; here = here; new = new; its = refl })
+      (a.client.node, record { agent = a; here = here; new = new.0; its = refl; has = new.1 })
 
   -- whatever is there is one of the book's actors
   is_there : (a : Actor) (s : GroupActor) → r.first.at a ≡ Some s → (b : Bool) →
@@ -137,12 +170,12 @@ module _ (n m : ℕ) (all : List Actor) (log : List (Note OwnInput)) (cells : Li
   is_there a s here true e = e
   is_there a s here false e = absurd (none-some s (sym (r.outside a e) ∙ here))
 
-  first_nodes : Chosen (λ k node. NewClient n k r.first node) m
-  first_nodes = chosen (λ k node. NewClient n k r.first node) m
+  first_nodes : Chosen (λ k node. NewClient n k given r.first node) m
+  first_nodes = chosen (λ k node. NewClient n k given r.first node) m
       (λ k less.
       let s = r.opens.1 (actors.Client (suc k)) (g.clients k less) in new_client k s.0 s.1 s.2)
 
-  is_first : (c : Chosen (λ k node. NewClient n k r.first node) m) → IsFirst n c.list r.first
+  is_first : (c : Chosen (λ k node. NewClient n k given r.first node) m) → IsFirst n c.list r.first
   is_first c = record {
     sent = r.opens.0;
     servers = λ i less.
@@ -151,7 +184,7 @@ module _ (n m : ℕ) (all : List Actor) (log : List (Note OwnInput)) (cells : Li
         (v.server, v.here, v.new);
     clients = λ k less.
         let q = c.at k (omega (arith, less, c.count)) in
-        let a : NewClient n k r.first q.0 = q.2 in
+        let a : NewClient n k given r.first q.0 = q.2 in
         (a.agent, a.here, a.new, q.1 ∙ ap Some a.its);
     no_more_servers = λ i a at.
         g.no_more_servers i (is_there (actors.Server i) a at (lists_actor all (actors.Server i)) refl);
@@ -161,30 +194,49 @@ module _ (n m : ℕ) (all : List Actor) (log : List (Note OwnInput)) (cells : Li
         (p.0, p.1, omega (arith, p.2, c.count));
   }
 
+  are_at_places : (c : Chosen (λ k node. NewClient n k given r.first node) m) →
+      AreAtPlaces 1 c.list given
+  are_at_places c j x at =
+      let q = c.at j (omega (arith, slice_get_within c.list j x at, c.count)) in
+      let a : NewClient n j given r.first q.0 = q.2 in
+      let h = a.has in
+      let spec : NodeSpec = h.1 in
+      let place : h.0 ≡ j = omega (arith, h.2) in
+      let one : suc j ≡ 1 + j = omega arith in
+      let is : x ≡ q.0 = same_Some x q.0 (sym at ∙ q.1) in (
+        spec,
+        ap (slice_get given) (sym place) ∙ h.3,
+        is ∙ a.its ∙ h.4 ∙ ap (λ i. record spec { number = i }) one,
+      )
+
 -- ---- the world of a closed book
 
 -- what the cells noted leads to a world for which their actors stand
-pub record StandsAtLast (n m : ℕ) (log : List (Note OwnInput)) (cells : List CellView) : Type 0 where
+pub record StandsAtLast (n m : ℕ) (given : List NodeSpec) (log : List (Note OwnInput)) (cells : List CellView) : Type 0 where
   pub nodes : List NodeSpec
   pub count : length nodes ≡ m
+  pub given_are : renumbered 1 nodes ≡ renumbered 1 (take m given)
   pub last : CellWorld
   pub world : World
   pub leads : EventsLead (first n nodes) (noted_events log log) world
   pub stands : Stands last world
   pub ends : AllByRecursion (λ (c : CellView). last.at c.seat.actor ≡ Some c.actor) cells
 
-pub stands_at_last : ReadsAgain → (n m : ℕ) (all : List Actor) (log : List (Note OwnInput)) →
-    (cells : List CellView) → IsClosed all log cells → AreOfGroup n m all → group_size all ≡ n →
-    StandsAtLast n m log cells
-stands_at_last again n m all log cells closed g size =
-    let led = subst (λ k. AllByRecursion (IsLedCell k) cells) size closed.led in
-    let r = closes n all log cells led closed.whole closed.apart closed.all closed.within in
-    let c = first_nodes n m all log cells r g in
-    let start = stands_first n c.list r.first (is_first n m all log cells r g c) in
+pub stands_at_last : ReadsAgain → (n m : ℕ) (given : List NodeSpec) (all : List Actor) →
+    (log : List (Note OwnInput)) (cells : List CellView) → IsClosed all given log cells →
+    AreOfGroup n m all → group_size all ≡ n → StandsAtLast n m given log cells
+stands_at_last again n m given all log cells closed g size =
+    let led = subst (λ k. AllByRecursion (IsOpenedCell k given) cells) size closed.led in
+    let r = closes (BeginsAs n given) all log cells led closed.whole closed.apart closed.all
+    closed.within in
+    let c = first_nodes n m given all log cells r g in
+    let start = stands_first n c.list r.first (is_first n m given all log cells r g c) in
     let q = runs_on again (noted_events log log) r.first r.last (first n c.list) r.runs start in
     record {
       nodes = c.list;
       count = c.count;
+      given_are = first_given 1 c.list given (are_at_places n m given all log cells r g c)
+          ∙ ap (λ k. renumbered 1 (take k given)) c.count;
       last = r.last;
       world = q.0;
       leads = q.1;
@@ -291,9 +343,9 @@ module _ (view : GroupView) (c : CellWorld) (w : World) (st : Stands c w)
 
 -- ---- what joining the cells asks for and gives
 
-module _ (n m : ℕ) (all : List Actor) (log : List (Note OwnInput)) (cells : List CellView)
-    (closed : IsClosed all log cells) (g : AreOfGroup n m all)
-    (at : StandsAtLast n m log cells) where
+module _ (n m : ℕ) (given : List NodeSpec) (all : List Actor) (log : List (Note OwnInput))
+    (cells : List CellView) (closed : IsClosed all given log cells) (g : AreOfGroup n m all)
+    (at : StandsAtLast n m given log cells) where
   pub clients_are_there : HasClients m (map named_in cells)
   clients_are_there k less =
       let a = actors.Client (suc k) in
@@ -335,6 +387,11 @@ module _ (n m : ℕ) (all : List Actor) (log : List (Note OwnInput)) (cells : Li
         let same : first n (renumbered 1 nodes) ≡ first n at.nodes =
         first_again n nodes ∙ ap (first n) nodes_are ∙ first_again n at.nodes in
         subst (λ w. EventsLead w (noted_events log log) at.world) (sym same) at.leads
+
+    -- they are the first of those that the group was opened with
+    pub first_of_given : renumbered 1 nodes ≡ renumbered 1 (take m given)
+    first_of_given =
+        ap (renumbered 1) nodes_are ∙ renumbered_again 1 at.nodes ∙ at.given_are
 
     -- a value that played what the cells noted is the world that they close to
     pub closes_to : (view : GroupView) → view.trace ≡ noted_events log log → length view.servers ≡ n →

@@ -20,3 +20,8 @@ map_more f seen x made more y is was new = is ∙ (λ k. was k ++ new k ∷ []) 
 pub ok_together : {X E : Type 0} (A B C D F G : X → Type 0) (q : Result X E) → IfOk q A → IfOk q B → IfOk q C → IfOk q D → IfOk q F → ((x : X) → A x → B x → C x → D x → F x → G x) → IfOk q G
 ok_together A B C D F G (Ok x) a b c d f go = go x a b c d f
 ok_together A B C D F G (Err e) a b c d f go = f
+
+-- what follows from a clause of an answer
+pub ok_and : {X E : Type 0} (A B : X → Type 0) (q : Result X E) → IfOk q A → ((x : X) → A x → B x) → IfOk q B
+ok_and A B (Ok x) a go = go x a
+ok_and A B (Err e) a go = a

@@ -13,8 +13,8 @@ use Rattle.cluster.specs.Actors.{group_size}
 use Rattle.std.proofs.lemmas.Bool.{eqb-true}
 use Rattle.cluster.specs.Cells.{CellView}
 use Rattle.cluster.specs.Closing.{AreOfGroup}
-use Rattle.cluster.specs.Opening.{IsOfGroup, MayOpen}
-use Rattle.cluster.specs.Inner.Begun.{HasSeat, IsNewCell, AreNew}
+use Rattle.cluster.specs.Opening.{AreNew, IsNewCell, IsOfGroup, MayOpen}
+use Rattle.cluster.specs.Inner.Begun.{HasSeat}
 use Rattle.cluster.proofs.Merge.{same_actor-refl, same_actor-true}
 
 either : (a b : Bool) → (a || b) ≡ true → (a ≡ true) ⊎ (b ≡ true)

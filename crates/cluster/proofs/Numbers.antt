@@ -9,7 +9,7 @@ use Rattle.world.specs.GroupEvents.{group_event, group_events}
 use Rattle.event_book.specs.declared.view.EventView.{EventView}
 use Rattle.event_book.specs.declared.view.EventView.TheVariants.{Own, Delivery, Crash}
 use Rattle.event_book.specs.declared.view.Note.{Note}
-use Rattle.event_book.specs.Noted.{event_view}
+use Rattle.cluster.specs.Cells.{kept_input}
 use Rattle.cluster.specs.declared.own_input.OwnInput.{OwnInput}
 use Rattle.cluster.specs.declared.merging.Placed.{Placed}
 use Rattle.cluster.specs.Closing.{noted_event, noted_events, sent_before}
@@ -49,7 +49,7 @@ numbered_next log done rest x events event offsets total next is so new sum = re
 
 pub numbered_more : (all seen left rest : List Placed) (p : Placed) (events more : List GroupEvent) (event : GroupEvent) (offsets longer : List ℕ) (total next : ℕ)
     → seen ++ left ≡ all → left ≡ p ∷ rest → NumberedSoFar (map taken_event_in all) (map taken_event_in seen) events offsets total → more ≡ events ++ event ∷ [] → longer ≡ offsets ++ total ∷ [] → next ≡ total + p.sent
-    → (AreOffsets (map taken_event_in all) offsets → group_event event ≡ entry_event p.actor (event_view p.event) (map taken_event_in all))
+    → (AreOffsets (map taken_event_in all) offsets → group_event event ≡ entry_event p.actor p.event (map taken_event_in all))
     → NumberedSoFar (map taken_event_in all) (map taken_event_in (seen ++ p ∷ [])) more longer next
 numbered_more all seen left rest p events more event offsets longer total next is at so grown long sum new =
     let log = map taken_event_in all in
@@ -65,7 +65,7 @@ before_is [] (suc k) = refl
 before_is (e ∷ es) zero = refl
 before_is (e ∷ es) (suc k) = ap (λ n. length e.noted.outputs + n) (before_is es k)
 
-event_is : (log : List (Note OwnInput)) (a : Actor) (event : EventView OwnInput) → entry_event a event (map taken_event_of log) ≡ noted_event log a event
+event_is : (log : List (Note OwnInput)) (a : Actor) (event : EventView OwnInput) → entry_event a (kept_input event) (map taken_event_of log) ≡ noted_event log a event
 event_is log a (Own input) = refl
 event_is log a (Delivery stamp place frame) = ap (λ n. Deliver (n + place)) (before_is log stamp)
 event_is log a Crash = refl

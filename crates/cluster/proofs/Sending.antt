@@ -14,7 +14,7 @@ use Rattle.event_book.specs.Seats.{HasOutput, last_token, Names, MayNote, with_n
 use Rattle.cluster.specs.declared.own_input.OwnInput.{OwnInput}
 use Rattle.cluster.specs.Inner.Steps.{output_of}
 use Rattle.cluster.specs.declared.cell.StampedEvent.{StampedEvent}
-use Rattle.cluster.specs.Cells.{envelope_of, envelopes_from, kept_event, kept_in}
+use Rattle.cluster.specs.Cells.{envelope_of, envelopes_from, kept_in, kept_input}
 use Rattle.cluster.specs.Inner.Sending.{CanBeNoted, last_envelopes, EndsWith}
 
 token_end : (place : ℕ) (before : List (Note OwnInput)) (e : Note OwnInput) → last_token place (before ++ e ∷ []) ≡ record { note = e; place = place } ∷ []
@@ -98,11 +98,11 @@ may_note old new Crash tokens is can = tt
 -- what is kept is what was noted
 pub kept_more : (old mid new last : SeatView OwnInput) (taken now : List StampedEvent) (e : StampedEvent) (tokens : List (TokenView OwnInput)) (event : EventView OwnInput) (fs : List Frame) (stamp : ℕ)
     → mid ≡ with_taken tokens old → new ≡ with_note (record { event = event; outputs = map output_of fs }) stamp mid → last ≡ new → now ≡ taken ++ e ∷ []
-    → kept_event e ≡ record { stamp = stamp; event = event; sent = length fs } → map kept_event taken ≡ map kept_in old.notes → map kept_event now ≡ map kept_in last.notes
+    → e ≡ record { stamp = stamp; event = kept_input event; sent = length fs } → taken ≡ map kept_in old.notes → now ≡ map kept_in last.notes
 kept_more old mid new last taken now e tokens event fs stamp took noted stays more is same =
     let note : Note OwnInput = record { stamp = stamp; actor = old.actor; noted = record { event = event; outputs = map output_of fs } } in
     let notes : last.notes ≡ old.notes ++ note ∷ [] = ap (λ (s : SeatView OwnInput). s.notes) (stays ∙ noted ∙ ap (with_note (record { event = event; outputs = map output_of fs }) stamp) took) in
     let size : length fs ≡ length (map output_of fs) = sym (length-map fs output_of) in
-    ap (map kept_event) more ∙ map-append kept_event taken (e ∷ [])
-    ∙ (λ i. same i ++ (is ∙ ap (λ (n : ℕ). record { stamp = stamp; event = event; sent = n }) size) i ∷ [])
+    more
+    ∙ (λ i. same i ++ (is ∙ ap (λ (n : ℕ). record { stamp = stamp; event = kept_input event; sent = n }) size) i ∷ [])
     ∙ sym (map-append kept_in old.notes (note ∷ [])) ∙ ap (map kept_in) (sym notes)

@@ -108,7 +108,10 @@ Cells-send B g b = view_send (cells_inside.the_row B g) _ _ _ _ (recorded_send (
         book_sent.the_field_send own_input.the_row B g,
         (
           search (crosses, sendable) depth 30,
-          (Locks-send B g b, tt),
+          (
+            search (crosses, sendable) depth 30,
+            (Locks-send B g b, tt),
+          ),
         ),
       ),
     ),
@@ -126,7 +129,10 @@ Cells-sync B g b = view_sync (cells_inside.the_row B g) _ _ _ _ (recorded_sync (
         book_sent.the_field_sync own_input.the_row B g,
         (
           search (crosses, sendable) depth 30,
-          (Locks-sync B g b, tt),
+          (
+            search (crosses, sendable) depth 30,
+            (Locks-sync B g b, tt),
+          ),
         ),
       ),
     ),

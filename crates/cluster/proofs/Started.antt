@@ -96,4 +96,4 @@ no_memory_taken n all server r is = inr (inl is)
 
 pub asking_refused : (n : ℕ) (all : List Actor) (server : ℕ) (own : OwnInput) (e : EnvelopeView) (r : Refusal) → IsAsking n server own → e ≡ own_envelope (actors.Server server) own → WhyNoTurn n all (actors.Server server) e r → WhyNoWorkerTurn n all server r
 asking_refused n all server own e r asks is (inl none) = inl (inl none)
-asking_refused n all server own e r asks is (inr refuses) = inr (inr (own, asks, subst (λ k. CellRefuses n k r) is refuses))
+asking_refused n all server own e r asks is (inr refuses) = inr (inr (own, asks, subst (λ k. CellRefuses n (actors.Server server) k r) is refuses))

@@ -6,6 +6,7 @@ use Rattle.rows.specs.declared.refusal.Refusal.TheVariants as refusals
 use Rattle.std.proofs.lemmas.List.{reverse-append}
 use Rattle.rows.specs.declared.actor.Actor.{Actor}
 use Rattle.rows.specs.declared.actor.Actor.TheVariants as actors
+use Rattle.rows.specs.declared.node.NodeSpec.{NodeSpec}
 use Rattle.rows.specs.declared.worker.Work.{Work}
 use Rattle.group_model.specs.Members.{Member, Turn, newcomer, step}
 use Rattle.client_agent.specs.AgentView.{AgentView}
@@ -27,9 +28,9 @@ use Rattle.cluster.specs.declared.actor.GroupActor.TheVariants.{Server, Client}
 use Rattle.cluster.specs.declared.actor.Stepped.{Stepped}
 use Rattle.cluster.specs.declared.actor.Stepped.TheVariants.{Taken, Crashed}
 use Rattle.cluster.specs.declared.own_input.OwnInput.TheVariants as own
-use Rattle.cluster.specs.Actors.{output_frame, nothing_sent, ServerTurned, TakesInput, ServerTurns, ClientTurns, ActorTurns, IsNewActor, SameActor}
+use Rattle.cluster.specs.Actors.{output_frame, nothing_sent, ServerTurned, TakesInput, ServerTurns, ClientTurns, ActorTurns, BeginsAs, HasNode, IsNewActor, SameActor}
 use Rattle.cluster.specs.Refusals.{ActorRefuses, Hears}
-use Rattle.cluster.specs.Cells.{EnvelopeView, CellView, HasNoteLeft, IsLed, IsLedCell, IsEnvelopeRefused, Turned, crash_noted, envelopes_from, kept_event, kept_in}
+use Rattle.cluster.specs.Cells.{EnvelopeView, CellView, HasNoteLeft, IsLed, IsLedCell, IsLedFrom, IsOpenedCell, IsEnvelopeRefused, Turned, crash_noted, envelopes_from, kept_in}
 use Rattle.cluster.specs.declared.cell.StampedEvent.{StampedEvent}
 use Rattle.cluster.specs.Inner.Steps.{Did, RefusedAsSaid, output_of}
 use Rattle.cluster.specs.Inner.Sending.{IsRecorded, IsStill, IsTurn, last_envelopes}
@@ -82,13 +83,30 @@ same_new n (actors.Client c) (Server v) b same new = absurd new
 same_new n (actors.Client c) (Client v) (Server w) same new = absurd same
 same_new n (actors.Client c) (Client v) (Client w) same new = subst (λ (y : AgentView). IsNewActor n (actors.Client c) (Client y)) (sym same) new
 
-same_led : (n : ℕ) (me : Actor) (notes : List (Note OwnInput)) (a b : GroupActor) → SameActor a b → IsLed n me notes a → IsLed n me notes b
-same_led n me [] a b same led = same_new n me a b same led
-same_led n me (e ∷ es) a b same led = let t = led.2 in (led.0, led.1, (t.0, same_turns led.0 a b e.noted.event e.noted.outputs t.0 same t.1))
+same_node : (nodes : List NodeSpec) (me : Actor) (a b : GroupActor) → SameActor a b → HasNode nodes me a → HasNode nodes me b
+same_node nodes (actors.Server i) a b same has = tt
+same_node nodes (actors.Client c) (Server v) b same has = absurd has
+same_node nodes (actors.Client c) (Client v) (Server w) same has = absurd same
+same_node nodes (actors.Client c) (Client v) (Client w) same has = subst (λ (y : AgentView). HasNode nodes (actors.Client c) (Client y)) (sym same) has
+
+same_begins : (n : ℕ) (nodes : List NodeSpec) (me : Actor) (a b : GroupActor) → SameActor a b → BeginsAs n nodes me a → BeginsAs n nodes me b
+same_begins n nodes me a b same begins = (same_new n me a b same begins.0, same_node nodes me a b same begins.1)
+
+same_led : (n : ℕ) (nodes : List NodeSpec) (me : Actor) (notes : List (Note OwnInput)) (a b : GroupActor) → SameActor a b → IsLed (BeginsAs n nodes me) notes a → IsLed (BeginsAs n nodes me) notes b
+same_led n nodes me [] a b same led = same_begins n nodes me a b same led
+same_led n nodes me (e ∷ es) a b same led = let t = led.2 in (led.0, led.1, (t.0, same_turns led.0 a b e.noted.event e.noted.outputs t.0 same t.1))
 
 -- a refusal leaves the actor where its notes lead it
-pub led_still : (n : ℕ) (seat : SeatView OwnInput) (a b : GroupActor) → SameActor a b → IsLedCell n (record { actor = a; seat = seat }) → IsLedCell n (record { actor = b; seat = seat })
-led_still n seat a b same led = same_led n seat.actor (reverse seat.notes) a b same led
+led_still : (n : ℕ) (nodes : List NodeSpec) (seat : SeatView OwnInput) (a b : GroupActor) → SameActor a b → IsOpenedCell n nodes (record { actor = a; seat = seat }) → IsOpenedCell n nodes (record { actor = b; seat = seat })
+led_still n nodes seat a b same led = same_led n nodes seat.actor (reverse seat.notes) a b same led
+
+led_weaker : (n : ℕ) (nodes : List NodeSpec) (me : Actor) (notes : List (Note OwnInput)) (a : GroupActor) → IsLed (BeginsAs n nodes me) notes a → IsLed (IsNewActor n me) notes a
+led_weaker n nodes me [] a led = led.0
+led_weaker n nodes me (e ∷ es) a led = (led.0, led_weaker n nodes me es led.0 led.1, led.2)
+
+-- where it began with its own node, its notes lead it
+pub opened_is_led : (n : ℕ) (nodes : List NodeSpec) (c : CellView) → IsOpenedCell n nodes c → IsLedCell n c
+opened_is_led n nodes c led = led_weaker n nodes c.seat.actor (reverse c.seat.notes) c.actor led
 
 pub same_actor : (a : GroupActor) → SameActor a a
 same_actor (Server v) = record { raft = record { me = refl; size = refl; server = refl }; desk = refl }
@@ -135,27 +153,27 @@ turned old envelope Crashed new after work sent unsent mine room did r = record 
 }
 
 -- a turn leads the actor on by its note
-pub led_on : (n : ℕ) (old : CellView) (envelope : EnvelopeView) (new : CellView) (work : List Work) (sent : List EnvelopeView) (unsent : ℕ) → IsLedCell n old → Turned old envelope new work sent unsent → IsLedCell n new
-led_on n old envelope new work sent unsent led t =
+pub led_on : (began : Actor → GroupActor → Type 0) (old : CellView) (envelope : EnvelopeView) (new : CellView) (work : List Work) (sent : List EnvelopeView) (unsent : ℕ) → IsLedFrom began old → Turned old envelope new work sent unsent → IsLedFrom began new
+led_on began old envelope new work sent unsent led t =
     let note : Note OwnInput = record { stamp = t.stamp; actor = old.seat.actor; noted = t.noted } in
     let newest : reverse (old.seat.notes ++ note ∷ []) ≡ note ∷ reverse old.seat.notes = reverse-append old.seat.notes (note ∷ []) in
-    subst (λ (s : SeatView OwnInput). IsLed n s.actor (reverse s.notes) new.actor) (sym t.seat) (subst (λ l. IsLed n old.seat.actor l new.actor) (sym newest) (old.actor, led, (work, t.step)))
+    subst (λ (s : SeatView OwnInput). IsLed (began s.actor) (reverse s.notes) new.actor) (sym t.seat) (subst (λ l. IsLed (began old.seat.actor) l new.actor) (sym newest) (old.actor, led, (work, t.step)))
 
 -- ---- a cell's turn, both ways
 
-abbrev pub Kept : ℕ → Actor → GroupActor → List StampedEvent → SeatView OwnInput → Type 0
-Kept n me actor taken seat = (me ≡ seat.actor) × (map kept_event taken ≡ map kept_in seat.notes) × IsLedCell n (record { actor = actor; seat = seat })
+abbrev pub Kept : ℕ → List NodeSpec → Actor → GroupActor → List StampedEvent → SeatView OwnInput → Type 0
+Kept n nodes me actor taken seat = (me ≡ seat.actor) × (taken ≡ map kept_in seat.notes) × IsOpenedCell n nodes (record { actor = actor; seat = seat })
 
 -- what became of an envelope keeps what a cell keeps
-pub cell_kept : {X : Type 0} (n : ℕ) (me : Actor) (old : CellView) (envelope : EnvelopeView) (q : Result X Refusal) (work : X → List Work) (sent : X → List EnvelopeView) (unsent : X → ℕ) (after : GroupActor) (now : SeatView OwnInput) (before taken : List StampedEvent)
-    → Kept n me old.actor before old.seat → envelope.receiver ≡ me → HasNoteLeft old
+pub cell_kept : {X : Type 0} (n : ℕ) (nodes : List NodeSpec) (me : Actor) (old : CellView) (envelope : EnvelopeView) (q : Result X Refusal) (work : X → List Work) (sent : X → List EnvelopeView) (unsent : X → ℕ) (after : GroupActor) (now : SeatView OwnInput) (before taken : List StampedEvent)
+    → Kept n nodes me old.actor before old.seat → envelope.receiver ≡ me → HasNoteLeft old
     → IfOk q (λ x. IsTurn old.actor old.seat envelope.event envelope.tokens (work x) (sent x) (unsent x) after now) → IfErr q (λ cause. IsStill old.actor old.seat envelope.event cause after now)
-    → map kept_event taken ≡ map kept_in now.notes → Kept n me after taken now
-cell_kept n me old envelope (Ok x) work sent unsent after now before taken was to room turn still kept =
+    → taken ≡ map kept_in now.notes → Kept n nodes me after taken now
+cell_kept n nodes me old envelope (Ok x) work sent unsent after now before taken was to room turn still kept =
     let t = turned old envelope turn.stepped after now (work x) (sent x) (unsent x) (to ∙ was.0) room turn.did turn.recorded in
-    (was.0 ∙ sym (ap (λ (s : SeatView OwnInput). s.actor) t.seat), kept, led_on n old envelope (record { actor = after; seat = now }) (work x) (sent x) (unsent x) was.2 t)
-cell_kept n me old envelope (Err cause) work sent unsent after now before taken was to room turn still kept =
-    (was.0 ∙ sym (ap (λ (s : SeatView OwnInput). s.actor) still.seat_is), kept, subst (λ s. IsLedCell n (record { actor = after; seat = s })) (sym still.seat_is) (led_still n old.seat old.actor after still.same was.2))
+    (was.0 ∙ sym (ap (λ (s : SeatView OwnInput). s.actor) t.seat), kept, led_on (BeginsAs n nodes) old envelope (record { actor = after; seat = now }) (work x) (sent x) (unsent x) was.2 t)
+cell_kept n nodes me old envelope (Err cause) work sent unsent after now before taken was to room turn still kept =
+    (was.0 ∙ sym (ap (λ (s : SeatView OwnInput). s.actor) still.seat_is), kept, subst (λ s. IsOpenedCell n nodes (record { actor = after; seat = s })) (sym still.seat_is) (led_still n nodes old.seat old.actor after still.same was.2))
 
 pub cell_turned : {X : Type 0} (me : Actor) (old : CellView) (envelope : EnvelopeView) (q : Result X Refusal) (work : X → List Work) (sent : X → List EnvelopeView) (unsent : X → ℕ) (after : GroupActor) (now : SeatView OwnInput)
     → me ≡ old.seat.actor → envelope.receiver ≡ me → HasNoteLeft old → IfOk q (λ x. IsTurn old.actor old.seat envelope.event envelope.tokens (work x) (sent x) (unsent x) after now)

@@ -1,7 +1,8 @@
 -- The actors of a group, each a server or a client, and what one step of each is.
-use Rattle.std.specs.Prelude.{◌≡◌, ℕ, suc, max, true, List, [], ◌∷◌, map, is_some}
+use Rattle.std.specs.Prelude.{◌≡◌, ℕ, suc, max, true, Some, List, [], ◌∷◌, map, is_some, slice_get}
 use Rattle.rows.specs.declared.actor.Actor.{Actor}
 use Rattle.rows.specs.declared.actor.Actor.TheVariants as actors
+use Rattle.rows.specs.declared.node.NodeSpec.{NodeSpec}
 use Rattle.rows.specs.declared.worker.Work.{Work}
 use Rattle.wire.specs.Frames.{Frame}
 use Rattle.raft_model.specs.Servers.{is_up}
@@ -106,6 +107,18 @@ IsNewActor n (actors.Server i) (Server v) = (v.raft.me ≡ i) × (v.raft.size �
 IsNewActor n (actors.Server i) (Client a) = ⊥
 IsNewActor n (actors.Client c) (Server v) = ⊥
 IsNewActor n (actors.Client c) (Client a) = (a.size ≡ n) × (a.client ≡ agent_of a.client.node) × (a.client.node.number ≡ c)
+
+-- client k, from 1, has the k-th of these nodes, with k as its number
+abbrev pub HasNode : List NodeSpec → Actor → GroupActor → Type 0
+HasNode nodes (actors.Server i) actor = Unit {0}
+HasNode nodes (actors.Client c) (Server v) = ⊥
+HasNode nodes (actors.Client c) (Client a) =
+    (k : ℕ) × (spec : NodeSpec)
+    × (c ≡ suc k) × (slice_get nodes k ≡ Some spec) × (a.client.node ≡ record spec { number = c })
+
+-- it is this actor of the group of n servers and these nodes' clients that begins
+abbrev pub BeginsAs : ℕ → List NodeSpec → Actor → GroupActor → Type 0
+BeginsAs n nodes me actor = IsNewActor n me actor × HasNode nodes me actor
 
 -- two values that are one actor
 abbrev pub SameActor : GroupActor → GroupActor → Type 0

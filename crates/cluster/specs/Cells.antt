@@ -1,6 +1,7 @@
 -- What a contract sees of envelopes and cells, and what a cell's turn does.
 use Rattle.std.specs.Prelude.{◌≡◌, ◌≢◌, ◌⊎◌, ℕ, suc, ◌+◌, ◌^◌, ◌<◌, ◌≤◌, Option, Some, None, List, [], ◌∷◌, length, take, reverse}
 use Rattle.rows.specs.declared.actor.Actor.{Actor}
+use Rattle.rows.specs.declared.node.NodeSpec.{NodeSpec}
 use Rattle.rows.specs.declared.refusal.Refusal.{Refusal}
 use Rattle.rows.specs.declared.refusal.Refusal.TheVariants as refusals
 use Rattle.rows.specs.declared.worker.Work.{Work}
@@ -12,11 +13,12 @@ use Rattle.event_book.specs.declared.view.Note.{Note}
 use Rattle.event_book.specs.declared.view.TokenView.{TokenView}
 use Rattle.event_book.specs.declared.view.SeatView.{SeatView}
 use Rattle.event_book.specs.Seats.{Names, with_note, with_taken}
-use Rattle.event_book.specs.Noted.{event_view}
 use Rattle.cluster.specs.declared.own_input.OwnInput.{OwnInput}
 use Rattle.cluster.specs.declared.actor.GroupActor.{GroupActor}
+use Rattle.cluster.specs.declared.cell.KeptEvent.{KeptEvent}
+use Rattle.cluster.specs.declared.cell.KeptEvent.TheVariants as kept
 use Rattle.cluster.specs.declared.cell.StampedEvent.{StampedEvent}
-use Rattle.cluster.specs.Actors.{ActorTurns, ActorSteps, IsNewActor, SameActor}
+use Rattle.cluster.specs.Actors.{ActorTurns, ActorSteps, BeginsAs, IsNewActor, SameActor}
 use Rattle.cluster.specs.Refusals.{Hears, IsDeafTo, ActorRefuses, ActorMayLack}
 
 -- ---- envelopes
@@ -66,26 +68,32 @@ pub record CellView : Type 0 where
   pub actor : GroupActor
   pub seat : SeatView OwnInput
 
--- a stamp, an event, and how many outputs it had
-pub record KeptEvent : Type 0 where
-  pub stamp : ℕ
-  pub event : EventView OwnInput
-  pub sent : ℕ
+-- what is kept of an event: of a delivery the stamp and the place of its message, and no frame
+abbrev pub kept_input : EventView OwnInput → KeptEvent
+kept_input (Own input) = kept.Own input
+kept_input (Delivery stamp place frame) = kept.Delivery stamp place
+kept_input Crash = kept.Crash
 
-abbrev pub kept_event : StampedEvent → KeptEvent
-kept_event e = record { stamp = e.stamp; event = event_view e.event; sent = e.sent }
+-- what is kept of a note: its stamp, its event, and how many outputs it had
+abbrev pub kept_in : Note OwnInput → StampedEvent
+kept_in e = record { stamp = e.stamp; event = kept_input e.noted.event; sent = length e.noted.outputs }
 
-abbrev pub kept_in : Note OwnInput → KeptEvent
-kept_in e = record { stamp = e.stamp; event = e.noted.event; sent = length e.noted.outputs }
+-- the actor is where these notes, the newest first, leave one that began so
+abbrev pub IsLed : (GroupActor → Type 0) → List (Note OwnInput) → GroupActor → Type 0
+IsLed began [] a = began a
+IsLed began (e ∷ es) a = (b : GroupActor) × IsLed began es b × ActorSteps b e.noted.event e.noted.outputs a
 
--- the actor is where these notes, the newest first, leave it
-abbrev pub IsLed : ℕ → Actor → List (Note OwnInput) → GroupActor → Type 0
-IsLed n me [] a = IsNewActor n me a
-IsLed n me (e ∷ es) a = (b : GroupActor) × IsLed n me es b × ActorSteps b e.noted.event e.noted.outputs a
+-- the actor is where just the events that its seat noted leave one that began so
+abbrev pub IsLedFrom : (Actor → GroupActor → Type 0) → CellView → Type 0
+IsLedFrom began c = IsLed (began c.seat.actor) (reverse c.seat.notes) c.actor
 
 -- In a group of n servers: the actor is where just the events lead it that its seat noted.
 abbrev pub IsLedCell : ℕ → CellView → Type 0
-IsLedCell n c = IsLed n c.seat.actor (reverse c.seat.notes) c.actor
+IsLedCell n c = IsLedFrom (IsNewActor n) c
+
+-- In a group of n servers and these nodes' clients: so it is, and a client began with its own node.
+abbrev pub IsOpenedCell : ℕ → List NodeSpec → CellView → Type 0
+IsOpenedCell n nodes c = IsLedFrom (BeginsAs n nodes) c
 
 -- nothing changed, but that a leader may have made its machine after its whole log
 pub record SameCell (old new : CellView) : Type 0 where

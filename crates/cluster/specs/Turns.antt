@@ -28,15 +28,22 @@ pub record TookTurn (n : ℕ) (envelope : EnvelopeView) (work : List Work) (sent
   pub after : IsLedCell n new
   pub turned : Turned old envelope new work sent unsent
 
--- a cell, led by its notes, refuses this envelope so
-abbrev pub CellRefuses : ℕ → EnvelopeView → Refusal → Type 0
-CellRefuses n envelope r = (c : CellView) × IsLedCell n c × IsEnvelopeRefused c envelope r
+-- why a cell takes no turn as this actor: it is another actor's, or else it refuses the envelope
+abbrev pub WhyNotTakenAs : CellView → Actor → EnvelopeView → Refusal → Type 0
+WhyNotTakenAs c actor envelope r =
+    (r ≡ refusals.OutOfRange) × (c.seat.actor ≢ actor)
+    ⊎ (c.seat.actor ≡ actor) × IsEnvelopeRefused c envelope r
 
--- why no turn was taken: there is no such actor among these, or a cell refuses the envelope
+-- a cell, led by its notes, takes no turn as this actor by this envelope
+abbrev pub CellRefuses : ℕ → Actor → EnvelopeView → Refusal → Type 0
+CellRefuses n actor envelope r =
+    (c : CellView) × IsLedCell n c × WhyNotTakenAs c actor envelope r
+
+-- why no turn was taken: there is no such actor among these, or its cell refuses the envelope
 abbrev pub WhyNoTurn : ℕ → List Actor → Actor → EnvelopeView → Refusal → Type 0
 WhyNoTurn n all actor envelope r =
     (r ≡ refusals.OutOfRange) × (lists_actor all actor ≡ false)
-    ⊎ CellRefuses n envelope r
+    ⊎ CellRefuses n actor envelope r
 
 -- ---- turns of a server's workers
 
@@ -90,7 +97,7 @@ WhyNoState n all actor r =
 abbrev pub RefusesAsking : ℕ → ℕ → Refusal → Type 0
 RefusesAsking n server r =
     (own : OwnInput) × IsAsking n server own
-    × CellRefuses n (own_envelope (actors.Server server) own) r
+    × CellRefuses n (actors.Server server) (own_envelope (actors.Server server) own) r
 
 -- why a worker took no turn: its server has no state, memory is wanting, or its server refuses
 -- what it asks

@@ -3,12 +3,12 @@ ghost use Rattle.std.specs.Arc.{arc_value};
 ghost use Rattle.std.specs.Prelude.{◌≡◌, ◌≢◌, MatchBool, ◌+◌, ◌<◌, ◌^◌, [], ℕ, Some, length, map, slice_get, take, vec_len, vec_capacity, IfOk, OnErr, IfErr};
 ghost use Rattle.event_book.specs.Noted.{event_view};
 ghost use Rattle.event_book.specs.Seats.{with_taken};
-ghost use Rattle.cluster.specs.Actors.{group_size, IsNewActor};
-ghost use Rattle.cluster.specs.Cells.{IsLedCell, IsEnvelopeRefused, kept_in, kept_event, SameCell};
-ghost use Rattle.cluster.specs.Cells.{tokens_of, Turned};
+ghost use Rattle.cluster.specs.Actors.{group_size, BeginsAs};
+ghost use Rattle.cluster.specs.Cells.{IsLedCell, IsOpenedCell, IsEnvelopeRefused, kept_in, kept_input, SameCell};
+ghost use Rattle.cluster.specs.Cells.{AreSent, tokens_of, Turned};
 ghost use Rattle.cluster.specs.Inner.Sending.{CanBeNoted, EndsWith, last_envelopes, IsNoted, IsRecorded, IsStill, IsTurn};
 ghost use Rattle.cluster.specs.Inner.Steps.{IsAnEvent, output_of};
-ghost use Rattle.cluster.specs.Turns.{CellHasNoState, CellHasState};
+ghost use Rattle.cluster.specs.Turns.{CellHasNoState, CellHasState, CellRefuses, TookTurn};
 ghost use Rattle.cluster.specs.Working.{HasApplied, WhyNotApplied};
 
 use crate::actor::{GroupActor, Stepped};
@@ -23,13 +23,30 @@ use std::marker::Model;
 use std::sync::Arc;
 use wire::Frames;
 
+/// What a cell keeps of an event that its actor took. Of a message it keeps which one it was, and
+/// no frame.
+#[derive(Drop)]
+pub enum KeptEvent {
+    /// An input of the actor's own.
+    Own(OwnInput),
+    /// A message that was delivered.
+    Delivery {
+        /// The stamp of the event that sent it.
+        stamp: u64,
+        /// The place of the output in that event, from 0.
+        place: u64,
+    },
+    /// A crash in a step's place.
+    Crash,
+}
+
 /// An event that an actor took: the stamp of its note, what it was, and how many outputs it gave.
 #[derive(Drop)]
 pub struct StampedEvent {
     /// The number of its note, from 0, among those of all actors.
     pub stamp: u64,
     /// What it was to the actor.
-    pub event: ActorEvent<OwnInput>,
+    pub event: KeptEvent,
     /// How many messages the actor sent then.
     pub sent: usize,
 }
@@ -47,15 +64,18 @@ pub struct Cell<B: BookId> {
 impl<B: BookId> Model for Cell<B> {
     ghost use Rattle.std.specs.Prelude.{◌≡◌, map};
     ghost use Rattle.cluster.specs.Actors.{group_size};
-    ghost use Rattle.cluster.specs.Cells.{CellView, IsLedCell, kept_event, kept_in};
+    ghost use Rattle.cluster.specs.Cells.{CellView, IsOpenedCell, kept_in};
 
     ghost Value = { CellView };
 
     ghost view = { λ c. record { actor = c.actor; seat = c.seat } };
 
     ghost invariant = { λ c. (c.me ≡ c.seat.actor)
-        × (map kept_event c.taken.items ≡ map kept_in c.seat.notes)
-        × IsLedCell (group_size B.actors) (record { actor = c.actor; seat = c.seat }) };
+        × (c.taken.items ≡ map kept_in c.seat.notes)
+        × IsOpenedCell (group_size B.actors) B.nodes (record {
+          actor = c.actor;
+          seat = c.seat;
+        }) };
 }
 
 /// What a turn of an actor gives.
@@ -88,6 +108,17 @@ struct Done<B: BookId> {
     event: ActorEvent<OwnInput>,
     token: Option<MessageToken<OwnInput, B>>,
     frames: Frames,
+}
+
+/// What is kept of an event.
+fn kept(event: ActorEvent<OwnInput>) -> KeptEvent
+    ensures { result ≡ kept_input (event_view event) }
+{
+    match event {
+        ActorEvent::Own(input) => KeptEvent::Own(input),
+        ActorEvent::Delivery { stamp, place, .. } => KeptEvent::Delivery { stamp, place },
+        ActorEvent::Crash => KeptEvent::Crash,
+    }
 }
 
 /// Uses the token up, if there is one.
@@ -177,8 +208,8 @@ fn keep<B: BookId>(
     requires room { vec_len taken.old < vec_capacity taken.old }
     ensures noted { IsNoted seat.old (event_view done.event) (tokens_of done.token)
         (map output_of done.frames) seat.new }
-    ensures kept { map kept_event taken.old.items ≡ map kept_in seat.old.notes →
-        map kept_event taken.new.items ≡ map kept_in seat.new.notes }
+    ensures kept { taken.old.items ≡ map kept_in seat.old.notes →
+        taken.new.items ≡ map kept_in seat.new.notes }
     ensures first { (k : ℕ) × (result.0.items ≡ take k (last_envelopes seat.new.notes))
         × (k + result.1 ≡ length done.frames) }
 {
@@ -198,6 +229,7 @@ fn keep<B: BookId>(
     let Noted { event, outputs } = noted;
     let SentFrames { frames } = outputs;
     let sent = frames.len();
+    let event = kept(event);
     taken.push_reserved(StampedEvent { stamp, event, sent });
     envelopes(alloc, book, seat, stamp, &frames)
 }
@@ -220,8 +252,8 @@ fn record<B: BookId>(
     requires room { vec_len taken.old < vec_capacity taken.old }
     ensures recorded { IsRecorded seat.old (event_view event) (tokens_of token) stepped seat.new
         result.work result.sent.items result.unsent }
-    ensures kept { map kept_event taken.old.items ≡ map kept_in seat.old.notes →
-        map kept_event taken.new.items ≡ map kept_in seat.new.notes }
+    ensures kept { taken.old.items ≡ map kept_in seat.old.notes →
+        taken.new.items ≡ map kept_in seat.new.notes }
 {
     match stepped {
         Stepped::Taken(outbox) => {
@@ -273,8 +305,8 @@ fn step<B: BookId>(
         (tokens_of token) turn.work turn.sent.items turn.unsent actor.new seat.new) }
     ensures err { IfErr result (λ cause. IsStill actor.old seat.old (event_view event) cause
         actor.new seat.new) }
-    ensures kept { map kept_event taken.old.items ≡ map kept_in seat.old.notes →
-        map kept_event taken.new.items ≡ map kept_in seat.new.notes }
+    ensures kept { taken.old.items ≡ map kept_in seat.old.notes →
+        taken.new.items ≡ map kept_in seat.new.notes }
 {
     match actor.step(alloc, &event) {
         Ok(stepped) => Ok(record(alloc, book, seat, taken, event, token, stepped)),
@@ -289,7 +321,7 @@ impl<B: BookId> Cell<B> {
     /// An actor before its first event.
     pub(crate) fn new(alloc: Global, actor: GroupActor, seat: ActorSeat<OwnInput, B>) -> Cell<B>
         requires new { seat.notes ≡ [] }
-        requires begins { IsNewActor (group_size B.actors) seat.actor actor }
+        requires begins { BeginsAs (group_size B.actors) B.nodes seat.actor actor }
         ensures { result ≡ record { actor = actor; seat = seat } }
     {
         Cell {
@@ -302,18 +334,29 @@ impl<B: BookId> Cell<B> {
 
     /// The actor, where just the events lead it that its seat noted.
     /// - `led`: that is where it is, in the group of the book's actors.
+    /// - `opened`: it is there from the actor of its name with which the group of the book's actors
+    ///   and nodes begins; so a client has its own node.
     pub fn actor(&self) -> &GroupActor
         ensures actor { result.now ≡ self.now.actor }
         ensures led { IsLedCell (group_size B.actors) self.now }
+        ensures opened { IsOpenedCell (group_size B.actors) B.nodes self.now }
     {
         &self.actor
     }
 
     /// The events that it took, oldest first, each with its stamp: just those that its seat noted.
+    /// Of a delivery they say the message by its stamp and place, without its frame.
     pub fn inputs(&self) -> &[StampedEvent]
-        ensures { map kept_event result.now ≡ map kept_in self.now.seat.notes }
+        ensures { result.now ≡ map kept_in self.now.seat.notes }
     {
         self.taken.as_slice()
+    }
+
+    /// The seat that noted them.
+    pub(crate) fn seat(&self) -> &ActorSeat<OwnInput, B>
+        ensures { result.now ≡ self.now.seat }
+    {
+        &self.seat
     }
 
     /// A copy of a server's replicated state after the committed entries, and how many those are.
@@ -370,6 +413,8 @@ impl<B: BookId> Cell<B> {
         ensures err { OnErr result (SameCell self.old self.new) }
         ensures refused { IfErr result (λ cause. IsEnvelopeRefused self.old envelope cause) }
     {
+        // (what `actor` says of where its actor is)
+        let _ = self.actor();
         let Cell {
             me,
             actor,
@@ -392,5 +437,29 @@ impl<B: BookId> Cell<B> {
         }
         taken.reserve(1)?;
         step(alloc, book, actor, seat, taken, event, token)
+    }
+
+    /// `take`, as this actor. It is refused with `OutOfRange` where the cell is another actor's.
+    /// - `ok`, `refused`: of a cell of which it is known that its notes lead its actor to where
+    ///   that is.
+    pub(crate) fn take_of(
+        &mut self,
+        actor: Actor,
+        alloc: Global,
+        book: &Book<OwnInput, B>,
+        envelope: Envelope<B>,
+    ) -> Result<Turn<B>, Refusal>
+        ensures ok { IfOk result (λ turn.
+            TookTurn (group_size B.actors) envelope turn.work turn.sent.items turn.unsent) }
+        ensures sent { IfOk result (λ turn. AreSent envelope.receiver turn.sent.items) }
+        ensures refused { IfErr result (CellRefuses (group_size B.actors) actor envelope) }
+    {
+        // (what `actor` says of where its actor is)
+        let _ = self.actor();
+        if is_for(actor, self.me) {
+            self.take(alloc, book, envelope)
+        } else {
+            Err(Refusal::OutOfRange)
+        }
     }
 }

@@ -1,24 +1,26 @@
 //! All actors of a group, each in a cell under a lock of its own.
-ghost use Rattle.std.specs.Prelude.{◌≡◌, ◌<◌, true, false, List, length, map, vec_len};
+ghost use Rattle.std.specs.Prelude.{◌≡◌, ◌<◌, ◌≤◌, true, false, length, map, vec_len};
 ghost use Rattle.std.specs.Prelude.{IfErr, IfNone, IfOk, IfSome, OnOk, OnSome};
-ghost use Rattle.event_book.specs.Seats.{actor_in, are_apart, lists_actor};
-ghost use Rattle.cluster.specs.Cells.{AreSent, CellView};
-ghost use Rattle.cluster.specs.Closing.{AreOfGroup, ClosesTo};
+ghost use Rattle.event_book.specs.Seats.{are_apart, lists_actor};
+ghost use Rattle.rows.specs.GroupSizes.{IsGroup};
+ghost use Rattle.cluster.specs.Cells.{AreSent};
+ghost use Rattle.cluster.specs.Closing.{AreOfGroup, cell_actors, seat_in};
 ghost use Rattle.cluster.specs.Opening.{MayOpenCells, WhyNotOpen};
 ghost use Rattle.cluster.specs.Actors.{group_size};
 ghost use Rattle.cluster.specs.Turns.{TookTurn, WhyNoTurn};
 
 use crate::cell::{Cell, Turn};
 use crate::envelope::Envelope;
-use crate::joining::join_cells;
-use crate::opening::{cells_of, may_open};
+use crate::opening::may_open;
 use crate::own_input::OwnInput;
-use event_book::{ActorSeat, Book, BookId};
-use rows::{Actor, NoMemory, NodeSpec, Refusal};
+use event_book::{Book, BookId};
+use rows::{Actor, NoMemory, Refusal};
 use std::alloc::Global;
 use std::marker::Model;
 use std::sync::{Mutex, MutexGuard, Wait};
-use world::World;
+
+/// How many actors there are at most: 5 servers and 64 clients.
+const ACTORS: usize = 69;
 
 /// All actors of a group, each in a cell under a lock of its own, and the book in which they note
 /// what they do. Contracts see how many servers and clients there are, and who they are.
@@ -30,6 +32,8 @@ pub struct Cells<B: BookId> {
     pub(crate) book: Book<OwnInput, B>,
     // The actor of the cell at each place.
     pub(crate) actors: Vec<Actor>,
+    // Where an actor's cell is, by the actor's index.
+    pub(crate) places: [u8; ACTORS],
     pub(crate) cells: Vec<Mutex<Cell<B>>>,
 }
 
@@ -74,22 +78,53 @@ fn unlocked<B: BookId>(alloc: Global, locks: Vec<Mutex<Cell<B>>>) -> Result<Vec<
     Ok(cells)
 }
 
-/// The actor of each seat, in their order.
-fn actors_of<B: BookId>(
-    alloc: Global,
-    seats: &[ActorSeat<OwnInput, B>],
-) -> Result<Vec<Actor>, NoMemory>
-    ensures { IfOk result (λ actors. actors.items ≡ map actor_in seats.now) }
+/// The cells of a group that nobody else has, and their book.
+#[derive(Drop)]
+pub struct OwnedCells<B: BookId> {
+    /// How many servers the group has.
+    pub servers: usize,
+    /// How many clients it has.
+    pub clients: usize,
+    /// The book in which the actors noted what they did.
+    pub book: Book<OwnInput, B>,
+    /// The cells, in any order.
+    pub cells: Vec<Cell<B>>,
+}
+
+/// The actor of each cell, in their order.
+fn actors_of<B: BookId>(alloc: Global, cells: &[Cell<B>]) -> Result<Vec<Actor>, NoMemory>
+    ensures { IfOk result (λ actors. actors.items ≡ cell_actors cells.now) }
 {
     let mut actors = Vec::new(alloc);
-    for seat in seats {
-        actors.push(seat.actor())?;
+    for cell in cells {
+        actors.push(cell.seat().actor())?;
     }
     Ok(actors)
 }
 
+/// The index of an actor: the servers come first.
+fn index_of(actor: Actor) -> usize {
+    match actor {
+        Actor::Server(server) => server.place(),
+        Actor::Client(client) => 4 + usize::from(client.number()),
+    }
+}
+
+/// The place of each of these actors, by its index.
+fn places_of(actors: &[Actor]) -> [u8; ACTORS] {
+    let mut places = [0; ACTORS];
+    let mut place = 0u8;
+    for actor in actors {
+        if let Some(slot) = places.get_mut(index_of(*actor)) {
+            *slot = place;
+        }
+        place = place.saturating_add(1);
+    }
+    places
+}
+
 /// The place of an actor among these; none where it is none of them.
-fn place_of(actors: &[Actor], actor: &Actor) -> Option<usize>
+fn place_among(actors: &[Actor], actor: &Actor) -> Option<usize>
     ensures some { IfSome result (λ place.
         (place < length actors.now) × (lists_actor actors.now actor.now ≡ true)) }
     ensures none { IfNone result (lists_actor actors.now actor.now ≡ false) }
@@ -98,47 +133,53 @@ fn place_of(actors: &[Actor], actor: &Actor) -> Option<usize>
     if *first == *actor {
         return Some(0);
     }
-    Some(place_of(rest, actor)? + 1)
+    Some(place_among(rest, actor)? + 1)
 }
 
 impl<B: BookId> Cells<B> {
-    /// The cells of a group of `n` servers and a client for each of these nodes, the k-th client,
-    /// from 1, being that of the k-th node, before their first event.
+    /// The cells of a group of `n` servers and `m` clients, each under a lock of its own. They are
+    /// new: `cells_of` makes them.
     ///
-    /// It is refused with `OutOfRange` where `n` is not 3 or 5 or there are more than 64 nodes,
-    /// where the book's actors are not those of the group, where the seats are not one for each of
-    /// them and for no other, or one of them has noted something; and where none of this is so,
+    /// It is refused with `OutOfRange` where `n` is not 3 or 5 or `m` is more than 64, where the
+    /// book's actors are not those of the group, and where the cells are not one for each of them
+    /// and for no other, or one of their seats has noted something; and where none of this is so,
     /// with `NoMemory`.
     pub fn open(
         alloc: Global,
         n: usize,
-        nodes: &[NodeSpec],
+        m: usize,
         book: Book<OwnInput, B>,
-        seats: Vec<ActorSeat<OwnInput, B>>,
+        cells: Vec<Cell<B>>,
     ) -> Result<Cells<B>, Refusal>
-        ensures ok { OnOk result (MayOpenCells n (length nodes.now) B.actors seats.items) }
-        ensures size { IfOk result (λ c.
-            (c.servers ≡ n) × (c.clients ≡ length nodes.now)) }
-        ensures actors { IfOk result (λ c. c.actors ≡ map actor_in seats.items) }
+        ensures ok { OnOk result (MayOpenCells n m B.actors (map seat_in cells.items)) }
+        ensures size { IfOk result (λ c. (c.servers ≡ n) × (c.clients ≡ m)) }
+        ensures actors { IfOk result (λ c. c.actors ≡ cell_actors cells.items) }
         ensures refused { IfErr result
-            (WhyNotOpen (MayOpenCells n (length nodes.now) B.actors seats.items)) }
+            (WhyNotOpen (MayOpenCells n m B.actors (map seat_in cells.items))) }
     {
-        if !may_open(n, nodes.len(), book.actors(), seats.as_slice()) {
+        if !may_open(n, m, book.actors(), cells.as_slice()) {
             return Err(Refusal::OutOfRange);
         }
-        let actors = actors_of(alloc, seats.as_slice())?;
-        let cells = locked(alloc, cells_of(alloc, n, nodes, seats)?)?;
+        let actors = actors_of(alloc, cells.as_slice())?;
+        let places = places_of(actors.as_slice());
+        let cells = locked(alloc, cells)?;
         Ok(Cells {
             alloc,
             size: n,
-            clients: nodes.len(),
+            clients: m,
             book,
             actors,
+            places,
             cells,
         })
     }
 
-    /// The actors of the group, each once, in the order of their seats.
+    /// The book in which the actors note what they do.
+    pub fn book(&self) -> &Book<OwnInput, B> {
+        &self.book
+    }
+
+    /// The actors of the group, each once, in the order of their cells.
     pub fn actors(&self) -> &[Actor]
         ensures actors { result.now ≡ self.now.actors }
         ensures are { AreOfGroup self.now.servers self.now.clients result.now }
@@ -152,6 +193,23 @@ impl<B: BookId> Cells<B> {
         ensures { result ≡ self.now.servers }
     {
         self.size
+    }
+
+    /// The place of an actor among those of the group; none where it is none of them.
+    pub(crate) fn place_of(&self, actor: Actor) -> Option<usize>
+        ensures some { IfSome result (λ place. (place < length self.now.actors)
+            × (lists_actor self.now.actors actor ≡ true)) }
+        ensures none { IfNone result (lists_actor self.now.actors actor ≡ false) }
+    {
+        let actors = self.actors.as_slice();
+        if let Some(place) = self.places.get(index_of(actor))
+            && let Some(found) = actors.get(usize::from(*place))
+            && *found == actor
+        {
+            return Some(usize::from(*place));
+        }
+        // No actor of the group comes here.
+        place_among(actors, &actor)
     }
 
     /// Two envelopes of one, for a message that is delivered twice: `Envelope::again`.
@@ -170,8 +228,38 @@ impl<B: BookId> Cells<B> {
         ensures some { OnSome result (lists_actor self.now.actors actor ≡ true) }
         ensures none { IfNone result (lists_actor self.now.actors actor ≡ false) }
     {
-        let place = place_of(self.actors.as_slice(), &actor)?;
+        let place = self.place_of(actor)?;
         Some(self.cells[place].lock(rt))
+    }
+
+    /// The cells, once nobody holds their locks, with what they close to asks for: how many servers
+    /// and clients the group has, and its book. Memory may be wanting for the list of the cells.
+    /// - `count`: there are as many cells as the book has actors. That each of these has one follows
+    ///   when the book closes.
+    /// - `size`: the group has as many servers and clients as it was opened with.
+    /// - `range`, `group`: these are 3 or 5, and at most 64, and the book's actors are theirs.
+    pub fn into_cells(self) -> Result<OwnedCells<B>, NoMemory>
+        ensures count { IfOk result (λ c. length c.cells.items ≡ length B.actors) }
+        ensures size { IfOk result (λ c.
+            (c.servers ≡ self.servers) × (c.clients ≡ self.clients)) }
+        ensures range { IfOk result (λ c. IsGroup c.servers × (c.clients ≤ 64)) }
+        ensures group { IfOk result (λ c. AreOfGroup c.servers c.clients B.actors) }
+    {
+        let Cells {
+            alloc,
+            size,
+            clients,
+            book,
+            actors: _,
+            places: _,
+            cells,
+        } = self;
+        Ok(OwnedCells {
+            servers: size,
+            clients,
+            book,
+            cells: unlocked(alloc, cells)?,
+        })
     }
 }
 
@@ -182,7 +270,9 @@ impl<B: BookId> Cells<B> {
 /// - `ok`: a cell of the envelope's receiver took one step by it, as `Cell::take` says; this came
 ///   for its workers, this was sent, and so many messages more found no memory.
 /// - `sent`: what was sent are first outputs of one event that the receiver noted.
-/// - `refused`: the group lacks the actor, or a cell refuses the envelope so.
+/// - `refused`: the group lacks the actor, or a cell of the actor refuses the envelope so. What is
+///   locked is known to be that actor's cell since it is asked; it would be refused with
+///   `OutOfRange` if it were not.
 pub fn turn<B: BookId, R: Wait>(
     rt: &R,
     cells: &Cells<B>,
@@ -195,25 +285,9 @@ pub fn turn<B: BookId, R: Wait>(
     ensures refused { IfErr result (λ cause.
         WhyNoTurn (group_size B.actors) cells.now.actors actor envelope cause) }
 {
+    let me = actor;
     let Some(mut cell) = cells.lock(rt, actor) else {
         return Err(Refusal::OutOfRange);
     };
-    cell.take(cells.alloc, &cells.book, envelope)
-}
-
-/// Closes a group of cells once nobody else has them: the world to which all that they noted leads,
-/// each event once and in the order of its stamp. Its actors are those of the cells. The world is
-/// made by playing these events again, and memory may be wanting for it.
-pub fn close<B: BookId>(cells: Cells<B>) -> Result<World, NoMemory>
-    ensures { IfOk result (λ w. (views : List CellView) × ClosesTo B.actors views w) }
-{
-    let Cells {
-        alloc,
-        size,
-        clients,
-        book,
-        actors: _,
-        cells,
-    } = cells;
-    join_cells(alloc, size, clients, book, unlocked(alloc, cells)?)
+    cell.take_of(me, cells.alloc, &cells.book, envelope)
 }

@@ -3,7 +3,7 @@ ghost use Rattle.std.specs.Prelude.{◌≡◌, length, map, IfOk, OnOk};
 ghost use Rattle.std.specs.List.{AllByRecursion};
 ghost use Rattle.world.specs.GroupEvents.{group_events};
 ghost use Rattle.cluster.specs.Actors.{group_size};
-ghost use Rattle.cluster.specs.Cells.{IsLedCell};
+ghost use Rattle.cluster.specs.Cells.{IsOpenedCell};
 ghost use Rattle.cluster.specs.Closing.{seat_in};
 ghost use Rattle.cluster.specs.Inner.Closed.{AreAllNoted, named_in, rest_in, rest_of};
 
@@ -47,7 +47,7 @@ pub(crate) struct JoinedCells {
 fn take_apart<B: BookId>(cell: Cell<B>) -> (ActorSeat<OwnInput, B>, Rest)
     ensures seat { result.0 ≡ cell.seat }
     ensures rest { rest_of result.1 ≡ rest_in cell }
-    ensures led { IsLedCell (group_size B.actors) cell }
+    ensures led { IsOpenedCell (group_size B.actors) B.nodes cell }
 {
     let Cell {
         me,
@@ -65,7 +65,8 @@ fn all_apart<B: BookId>(
 ) -> Result<(Vec<ActorSeat<OwnInput, B>>, Vec<Rest>), NoMemory>
     ensures seats { IfOk result (λ r. r.0.items ≡ map seat_in cells.items) }
     ensures rests { IfOk result (λ r. map rest_of r.1.items ≡ map rest_in cells.items) }
-    ensures led { OnOk result (AllByRecursion (IsLedCell (group_size B.actors)) cells.items) }
+    ensures led { OnOk result
+        (AllByRecursion (IsOpenedCell (group_size B.actors) B.nodes) cells.items) }
 {
     let mut seats = Vec::new(alloc);
     let mut rests = Vec::new(alloc);
@@ -89,7 +90,7 @@ pub(crate) fn history<B: BookId>(
 ) -> Result<JoinedCells, NoMemory>
     requires { length cells.items ≡ length B.actors }
     ensures events { IfOk result (λ r.
-        AreAllNoted B.actors cells.items (group_events r.events.items)) }
+        AreAllNoted B.actors B.nodes cells.items (group_events r.events.items)) }
     ensures actors { IfOk result (λ r. r.actors.items ≡ map named_in cells.items) }
 {
     let (seats, rests) = all_apart(alloc, cells)?;

@@ -1,17 +1,16 @@
 //! The world that a closed group of cells comes to.
-ghost use Rattle.std.specs.Prelude.{◌≡◌, ◌≢◌, ◌≤◌, length, IfOk, IfSome, IfNone};
+ghost use Rattle.std.specs.Prelude.{◌≡◌, ◌≢◌, ◌≤◌, length, take, IfOk, IfSome, IfNone};
 ghost use Rattle.client_agent.specs.AgentView.{AgentView};
 ghost use Rattle.rows.specs.GroupSizes.{IsGroup};
-ghost use Rattle.cluster.specs.Actors.{group_size};
+ghost use Rattle.world.specs.GroupView.{nodes_of, renumbered};
 ghost use Rattle.cluster.specs.Closing.{AreOfGroup, ClosesTo};
 ghost use Rattle.cluster.specs.Inner.Joined.{agent_named, HasClient, HasClients, IsNodeOf, AreNodesOf};
 
 use crate::actor::GroupActor;
-use crate::cell::Cell;
+use crate::cells::OwnedCells;
 use crate::closing::{JoinedCells, NamedActor, history};
-use crate::own_input::OwnInput;
 use crate::replaying::replay;
-use event_book::{Book, BookId};
+use event_book::BookId;
 use fsm_state::Cluster;
 use rows::{Actor, ClientId, NoMemory, NodeSpec};
 use std::alloc::Global;
@@ -62,30 +61,33 @@ fn nodes_among(alloc: Global, m: usize, actors: &[NamedActor]) -> Result<Vec<Nod
     Ok(nodes)
 }
 
-/// Closes a book with all of its cells: the world of `n` servers, 3 or 5, and at most 64 clients
-/// to which what the cells noted leads. It asks for as many cells as the book has actors, in any
-/// order, and for a book of the actors of such a group.
+/// Closes a book with all of its cells: the world to which what they noted leads. It asks for as
+/// many cells as the book has actors, in any order, and for a book of the actors of a group of 3 or
+/// 5 servers and at most 64 clients; `Cells::into_cells` gives such cells.
 ///
 /// The world's trace is all that the cells noted, each event once and in the order of its stamp,
 /// and its actors are those of the cells: each of the book's actors has one of them. The world is
 /// made by playing these events again, and memory may be wanting for it.
-pub fn join_cells<B: BookId>(
-    alloc: Global,
-    n: usize,
-    m: usize,
-    book: Book<OwnInput, B>,
-    cells: Vec<Cell<B>>,
-) -> Result<World, NoMemory>
-    requires count { length cells.items ≡ length B.actors }
-    requires size { IsGroup n }
-    requires few { m ≤ 64 }
-    requires group { AreOfGroup n m B.actors }
-    requires is { group_size B.actors ≡ n }
-    ensures { IfOk result (λ w. ClosesTo B.actors cells.items w) }
+/// - `closes`: it is that world of these cells.
+/// - `nodes`: the nodes of its clients are those that the book's name has, the k-th client's the
+///   k-th.
+pub fn close<B: BookId>(alloc: Global, cells: OwnedCells<B>) -> Result<World, NoMemory>
+    requires count { length cells.cells.items ≡ length B.actors }
+    requires size { IsGroup cells.servers }
+    requires few { cells.clients ≤ 64 }
+    requires group { AreOfGroup cells.servers cells.clients B.actors }
+    ensures closes { IfOk result (λ w. ClosesTo B.actors cells.cells.items w) }
+    ensures nodes { IfOk result (λ w. nodes_of w ≡ renumbered 1 (take cells.clients B.nodes)) }
 {
     // A frame that was sent is read as the message that it is.
     frames_are_whole::<Cluster>();
+    let OwnedCells {
+        servers,
+        clients,
+        book,
+        cells,
+    } = cells;
     let JoinedCells { events, actors } = history(alloc, book, cells)?;
-    let nodes = nodes_among(alloc, m, &actors)?;
-    replay(alloc, n, &nodes, events)
+    let nodes = nodes_among(alloc, clients, &actors)?;
+    replay(alloc, servers, &nodes, events)
 }

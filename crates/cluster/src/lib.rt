@@ -21,10 +21,11 @@ mod work_queue;
 mod worker;
 
 pub use actor::{GroupActor, Stepped};
-pub use cell::{Cell, StampedEvent, Turn};
-pub use cells::{Cells, close, turn};
+pub use cell::{Cell, KeptEvent, StampedEvent, Turn};
+pub use cells::{Cells, OwnedCells, turn};
 pub use envelope::Envelope;
-pub use joining::join_cells;
+pub use joining::close;
+pub use opening::cells_of;
 pub use own_input::OwnInput;
 pub use running::{GroupThreads, NetSettings, RunningGroup, start, stop};
 pub use server_workers::{Handled, ServerWorkers, TakenWork};

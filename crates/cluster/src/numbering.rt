@@ -1,14 +1,13 @@
 //! Noted events as the group's events.
 ghost use Rattle.std.specs.Prelude.{◌≡◌, ◌+◌, ◌^◌, ◌≤◌, ◌⊎◌, length, slice_index, IfOk, OnErr};
-ghost use Rattle.event_book.specs.Noted.{event_view};
 ghost use Rattle.world.specs.GroupEvents.{group_event};
 ghost use Rattle.cluster.specs.Closing.{crash_event, own_event};
 ghost use Rattle.cluster.specs.Inner.Numbers.{AreEventsOf, FitsOffsets, delivered_event, entry_event};
 
+use crate::cell::KeptEvent;
 use crate::merging::Placed;
 use crate::own_input::OwnInput;
 use client_agent::ClientInput;
-use event_book::ActorEvent;
 use rows::{Actor, NoMemory};
 use server::ServerInput;
 use std::alloc::Global;
@@ -70,14 +69,14 @@ fn event_at(
     alloc: Global,
     offsets: &[u64],
     actor: Actor,
-    event: ActorEvent<OwnInput>,
+    event: KeptEvent,
 ) -> Result<Event, NoMemory>
-    ensures { IfOk result (FitsOffsets offsets.now (entry_event actor (event_view event))) }
+    ensures { IfOk result (FitsOffsets offsets.now (entry_event actor event)) }
 {
     match event {
-        ActorEvent::Own(input) => own(alloc, actor, input),
-        ActorEvent::Delivery { stamp, place, .. } => delivery(offsets, stamp, place),
-        ActorEvent::Crash => crash(alloc, actor),
+        KeptEvent::Own(input) => own(alloc, actor, input),
+        KeptEvent::Delivery { stamp, place } => delivery(offsets, stamp, place),
+        KeptEvent::Crash => crash(alloc, actor),
     }
 }
 

@@ -3,17 +3,17 @@ ghost use Rattle.std.specs.Prelude.{◌≡◌, ◌<◌, ◌≤◌, ℕ, suc, tru
 ghost use Rattle.std.specs.List.{AllByRecursion};
 ghost use Rattle.rows.specs.declared.actor.Actor.TheVariants as actors;
 ghost use Rattle.rows.specs.GroupSizes.{IsGroup};
-ghost use Rattle.event_book.specs.Seats.{actor_in, are_apart, lists_actor};
-ghost use Rattle.cluster.specs.Actors.{group_size, IsNewActor};
-ghost use Rattle.cluster.specs.Closing.{AreOfGroup, AreSeated};
-ghost use Rattle.cluster.specs.Inner.Begun.{AreNew, HasNode, HasSeat, WhyNotBegun};
-ghost use Rattle.cluster.specs.Opening.{IsOfGroup, MayOpen, MayOpenCells};
+ghost use Rattle.event_book.specs.Seats.{are_apart, lists_actor};
+ghost use Rattle.cluster.specs.Actors.{group_size, BeginsAs};
+ghost use Rattle.cluster.specs.Closing.{AreOfGroup, AreSeated, cell_actors, seat_in};
+ghost use Rattle.cluster.specs.Inner.Begun.{HasSeat, WhyNotBegun};
+ghost use Rattle.cluster.specs.Opening.{AreNew, IsOfGroup, MayMakeCells, MayOpen, MayOpenCells, WhyNotOpen};
 
 use crate::actor::GroupActor;
 use crate::cell::Cell;
 use crate::own_input::OwnInput;
 use client_agent::Agent;
-use event_book::{ActorSeat, BookId};
+use event_book::{ActorSeat, Book, BookId};
 use rows::{Actor, ClientId, NodeId, NodeSpec, Refusal, ServerId, is_group_size};
 use server::Server;
 use std::alloc::Global;
@@ -92,6 +92,13 @@ fn is_group(n: usize, m: usize, all: &[Actor]) -> bool
     has_clients(m, all)
 }
 
+/// Whether this seat is of an actor of the group, and noted nothing.
+fn is_unused<B: BookId>(n: usize, m: usize, seat: &ActorSeat<OwnInput, B>) -> bool
+    ensures { MatchBool result (MayOpen n m seat.now) (MayOpen n m seat.now → ⊥) }
+{
+    !seat.has_noted() && is_of_group(n, m, seat.actor())
+}
+
 /// Whether each of these seats is of an actor of the group, and noted nothing.
 fn are_unused<B: BookId>(n: usize, m: usize, seats: &[ActorSeat<OwnInput, B>]) -> bool
     ensures { MatchBool result (AllByRecursion (MayOpen n m) seats.now)
@@ -99,88 +106,98 @@ fn are_unused<B: BookId>(n: usize, m: usize, seats: &[ActorSeat<OwnInput, B>]) -
 {
     match seats.split_first() {
         None => true,
-        Some((seat, rest)) => {
-            !seat.has_noted() && is_of_group(n, m, seat.actor()) && are_unused(n, m, rest)
-        }
+        Some((seat, rest)) => is_unused(n, m, seat) && are_unused(n, m, rest),
     }
 }
 
-/// Whether one of these seats is this actor's.
-fn has_seat<B: BookId>(seats: &[ActorSeat<OwnInput, B>], actor: Actor) -> bool
-    ensures { result ≡ lists_actor (map actor_in seats.now) actor }
-{
-    match seats.split_first() {
-        None => false,
-        Some((seat, rest)) => seat.actor() == actor || has_seat(rest, actor),
-    }
-}
-
-/// Whether each of these actors has one of these seats.
-fn have_seats<B: BookId>(seats: &[ActorSeat<OwnInput, B>], all: &[Actor]) -> bool
-    ensures { MatchBool result (AllByRecursion (HasSeat seats.now) all.now)
-        (AllByRecursion (HasSeat seats.now) all.now → ⊥) }
-{
-    match all.split_first() {
-        None => true,
-        Some((actor, rest)) => has_seat(seats, *actor) && have_seats(seats, rest),
-    }
-}
-
-/// Whether no two of these seats are of one actor.
-fn are_single<B: BookId>(seats: &[ActorSeat<OwnInput, B>]) -> bool
-    ensures { result ≡ are_apart (map actor_in seats.now) }
-{
-    match seats.split_first() {
-        None => true,
-        Some((seat, rest)) => !has_seat(rest, seat.actor()) && are_single(rest),
-    }
-}
-
-/// Whether a group's actors have one each of these seats, which are of actors of the group.
-#[tactic(auto, using(crate::proofs::Members::seats_of_group, crate::proofs::Members::group_has_seats))]
-fn are_seated<B: BookId>(
-    n: usize,
-    m: usize,
-    all: &[Actor],
-    seats: &[ActorSeat<OwnInput, B>],
-) -> bool
-    requires group { AreOfGroup n m all.now }
-    requires unused { AllByRecursion (MayOpen n m) seats.now }
-    ensures { MatchBool result (AreSeated n m (map actor_in seats.now))
-        (AreSeated n m (map actor_in seats.now) → ⊥) }
-{
-    have_seats(seats, all) && are_single(seats)
-}
-
-/// Whether there may be cells of `n` servers and `m` clients, which are these actors, at these
-/// seats. It takes no memory.
-pub(crate) fn may_open<B: BookId>(
-    n: usize,
-    m: usize,
-    all: &[Actor],
-    seats: &[ActorSeat<OwnInput, B>],
-) -> bool
-    ensures { MatchBool result (MayOpenCells n m all.now seats.now)
-        (MayOpenCells n m all.now seats.now → ⊥) }
+/// Whether there may be new cells at these seats, in a group of `n` servers and `m` clients whose
+/// book has these actors. It takes no memory.
+fn may_make<B: BookId>(n: usize, m: usize, all: &[Actor], seats: &[ActorSeat<OwnInput, B>]) -> bool
+    ensures { MatchBool result (MayMakeCells n m all.now seats.now)
+        (MayMakeCells n m all.now seats.now → ⊥) }
 {
     if !is_group_size(n) || m > 64 {
         return false;
     }
-    if seats.len() != all.len() {
+    is_group(n, m, all) && are_unused(n, m, seats)
+}
+
+/// Whether the seat of each of these cells is of an actor of the group, and noted nothing.
+fn are_fresh<B: BookId>(n: usize, m: usize, cells: &[Cell<B>]) -> bool
+    ensures { MatchBool result (AllByRecursion (MayOpen n m) (map seat_in cells.now))
+        (AllByRecursion (MayOpen n m) (map seat_in cells.now) → ⊥) }
+{
+    match cells.split_first() {
+        None => true,
+        Some((cell, rest)) => is_unused(n, m, cell.seat()) && are_fresh(n, m, rest),
+    }
+}
+
+/// Whether one of these cells has this actor's seat.
+fn has_seat<B: BookId>(cells: &[Cell<B>], actor: Actor) -> bool
+    ensures { result ≡ lists_actor (cell_actors cells.now) actor }
+{
+    match cells.split_first() {
+        None => false,
+        Some((cell, rest)) => cell.seat().actor() == actor || has_seat(rest, actor),
+    }
+}
+
+/// Whether each of these actors has its seat in one of these cells.
+fn have_seats<B: BookId>(cells: &[Cell<B>], all: &[Actor]) -> bool
+    ensures { MatchBool result (AllByRecursion (HasSeat (map seat_in cells.now)) all.now)
+        (AllByRecursion (HasSeat (map seat_in cells.now)) all.now → ⊥) }
+{
+    match all.split_first() {
+        None => true,
+        Some((actor, rest)) => has_seat(cells, *actor) && have_seats(cells, rest),
+    }
+}
+
+/// Whether no two of these cells have seats of one actor.
+fn are_single<B: BookId>(cells: &[Cell<B>]) -> bool
+    ensures { result ≡ are_apart (cell_actors cells.now) }
+{
+    match cells.split_first() {
+        None => true,
+        Some((cell, rest)) => !has_seat(rest, cell.seat().actor()) && are_single(rest),
+    }
+}
+
+/// Whether a group's actors have one each of these cells, whose seats are of actors of the group.
+#[tactic(auto, using(crate::proofs::Members::seats_of_group, crate::proofs::Members::group_has_seats))]
+fn are_seated<B: BookId>(n: usize, m: usize, all: &[Actor], cells: &[Cell<B>]) -> bool
+    requires group { AreOfGroup n m all.now }
+    requires unused { AllByRecursion (MayOpen n m) (map seat_in cells.now) }
+    ensures { MatchBool result (AreSeated n m (cell_actors cells.now))
+        (AreSeated n m (cell_actors cells.now) → ⊥) }
+{
+    have_seats(cells, all) && are_single(cells)
+}
+
+/// Whether these may be the cells of a group of `n` servers and `m` clients, which are these
+/// actors. It takes no memory.
+pub(crate) fn may_open<B: BookId>(n: usize, m: usize, all: &[Actor], cells: &[Cell<B>]) -> bool
+    ensures { MatchBool result (MayOpenCells n m all.now (map seat_in cells.now))
+        (MayOpenCells n m all.now (map seat_in cells.now) → ⊥) }
+{
+    if !is_group_size(n) || m > 64 {
         return false;
     }
-    if !is_group(n, m, all) || !are_unused(n, m, seats) {
+    if cells.len() != all.len() {
         return false;
     }
-    are_seated(n, m, all, seats)
+    if !is_group(n, m, all) || !are_fresh(n, m, cells) {
+        return false;
+    }
+    are_seated(n, m, all, cells)
 }
 
 /// The actor of a group before its first event.
 fn begin(alloc: Global, n: usize, nodes: &[NodeSpec], actor: Actor) -> Result<GroupActor, Refusal>
     requires size { IsGroup n }
     requires few { length nodes.now ≤ 64 }
-    ensures ok { IfOk result (λ a. IsNewActor n actor a) }
-    ensures node { IfOk result (λ a. HasNode nodes.now a) }
+    ensures ok { IfOk result (λ a. BeginsAs n nodes.now actor a) }
     ensures there { OnOk result (IsOfGroup n (length nodes.now) actor) }
     ensures refused { IfErr result (WhyNotBegun (IsOfGroup n (length nodes.now) actor)) }
 {
@@ -209,11 +226,8 @@ fn begin(alloc: Global, n: usize, nodes: &[NodeSpec], actor: Actor) -> Result<Gr
     }
 }
 
-/// A cell for each seat, before its actor's first event: in a group of `n` servers and a client for
-/// each of these nodes, the k-th client, from 1, being that of the k-th node. It is refused with
-/// `OutOfRange` where a seat is of no actor of the group, or has noted something, and with
-/// `NoMemory`.
-pub fn cells_of<B: BookId>(
+/// A cell for each seat, before its actor's first event.
+fn new_cells<B: BookId>(
     alloc: Global,
     n: usize,
     nodes: &[NodeSpec],
@@ -222,8 +236,8 @@ pub fn cells_of<B: BookId>(
     requires size { IsGroup n }
     requires few { length nodes.now ≤ 64 }
     requires named { group_size B.actors ≡ n }
+    requires nodes { nodes.now ≡ B.nodes }
     ensures new { IfOk result (λ cells. AreNew n nodes.now cells.items seats.items) }
-    ensures each { OnOk result (AllByRecursion (MayOpen n (length nodes.now)) seats.items) }
     ensures refused { IfErr result
         (WhyNotBegun (AllByRecursion (MayOpen n (length nodes.now)) seats.items)) }
 {
@@ -236,4 +250,33 @@ pub fn cells_of<B: BookId>(
         cells.push(Cell::new(alloc, actor, seat))?;
     }
     Ok(cells)
+}
+
+/// A new cell for each of these seats of a book, in a group of `n` servers and a client for each of
+/// these nodes, which are those that the book's name has. Its actor is the one with which
+/// `World::new(n, nodes)` begins, so that the k-th client, from 1, has the k-th node; and it has no
+/// inputs.
+///
+/// It is refused with `OutOfRange` where `n` is not 3 or 5 or there are more than 64 nodes, where
+/// the book's actors are not those of the group, and where a seat is of no actor of the group or
+/// has noted something; and where none of this is so, with `NoMemory`.
+/// - `new`: each cell has its seat, which noted nothing, and its actor is that of the group that
+///   begins.
+pub fn cells_of<B: BookId>(
+    alloc: Global,
+    n: usize,
+    nodes: &[NodeSpec],
+    book: &Book<OwnInput, B>,
+    seats: Vec<ActorSeat<OwnInput, B>>,
+) -> Result<Vec<Cell<B>>, Refusal>
+    requires { nodes.now ≡ B.nodes }
+    ensures ok { OnOk result (MayMakeCells n (length nodes.now) B.actors seats.items) }
+    ensures new { IfOk result (λ cells. AreNew n nodes.now cells.items seats.items) }
+    ensures refused { IfErr result
+        (WhyNotOpen (MayMakeCells n (length nodes.now) B.actors seats.items)) }
+{
+    if !may_make(n, nodes.len(), book.actors(), seats.as_slice()) {
+        return Err(Refusal::OutOfRange);
+    }
+    new_cells(alloc, n, nodes, seats)
 }

@@ -12,19 +12,24 @@ use rows::Actor;
 use std::alloc::Global;
 use std::marker::{Brand, PhantomData};
 
-/// Which book it is: its table, and its actors in the order in which they were named. A program
-/// picks it where it opens a book, by a call at `Brand`, so that no seat or token is used with
-/// another book.
+/// Which book it is: its table, its actors in the order in which they were named, and the nodes of
+/// those of them that are clients. A program picks it where it opens a book, by a call at `Brand`,
+/// so that no seat or token is used with another book.
 pub trait BookId {
     ghost use Rattle.std.specs.Prelude.{List};
     ghost use Rattle.atomic_table.specs.Seated.{TableId};
     ghost use Rattle.rows.specs.declared.actor.Actor.{Actor};
+    ghost use Rattle.rows.specs.declared.node.NodeSpec.{NodeSpec};
 
     /// The table.
     ghost table: { TableId };
 
     /// The actors.
     ghost actors: { List Actor };
+
+    /// The nodes of the clients, the k-th client's at the k-th place. No call of a book asks for
+    /// them; they are for who keeps clients under the book's name.
+    ghost nodes: { List NodeSpec };
 }
 
 impl BookId for Brand {
@@ -34,6 +39,8 @@ impl BookId for Brand {
     ghost table = { no_table };
 
     ghost actors = { [] };
+
+    ghost nodes = { [] };
 }
 
 /// A book in which actors note their events, in one order for all. Threads share it by `&`: a note

@@ -21,6 +21,7 @@ fn main(rt: HostRuntime) -> io::Result<()> {
     said::pictures(&rt, rt)?;
     threads::elections(&rt, rt)?;
     threads::placements(&rt, rt)?;
+    threads::nodes(&rt, rt)?;
     threads::replayed(&rt, rt)?;
     said::no_transcripts(&rt, rt)?;
     said::command_lines(&rt, rt)?;

@@ -30,6 +30,20 @@ const ROUND: &[u8] = b",
 
 const ROUNDS: u32 = 1_000;
 
+// A group whose nodes differ.
+const DIFFERENT: &[u8] = b"{ \"servers\": 3, \"nodes\": [
+    {\"class\": \"linux\", \"cpu\": 1000, \"mem\": 2000},
+    {\"class\": \"linux\", \"cpu\": 3000, \"mem\": 4000},
+    {\"class\": \"metal\", \"cpu\": 1000, \"mem\": 4000}],
+  \"key\": 0, \"drop\": 0, \"repeat\": 0, \"order\": \"sent\", \"steps\": [\"timeout 1\", \"flow\"] }";
+
+const NODE_LINES: &[u8] = b"servers 3
+node 1 linux 1000 2000
+node 2 linux 3000 4000
+node 3 metal 1000 4000
+timeout 1
+";
+
 const LEADER: &[u8] = b"server 1 leader term 1 last 8 applied 8";
 
 const FIRST: &[u8] = b"alloc web.main[0] id 5.0 node 1 running";
@@ -138,4 +152,20 @@ pub(crate) fn replayed<R: Threads + Wait + Copy + Send + 'static>(
         println!(rt; "threads of {name}, again: {is_same}")?;
     }
     Ok(())
+}
+
+/// Plays a group whose nodes differ, and says whether its transcript has them, each under its own
+/// number.
+pub(crate) fn nodes<R: Threads + Wait + Copy + Send + 'static>(
+    rt: &HostRuntime,
+    on: R,
+) -> io::Result<()> {
+    let mut folder = Folder::new(rt, DIFFERENT);
+    let words = ["nomadsim", "threads", "text.json", "--out", "transcript"];
+    let played = run_words(rt, on, &mut folder, &words);
+    let has_them = folder
+        .transcript()
+        .is_some_and(|text| text.starts_with(NODE_LINES));
+    let is_so = played.status == 0 && has_them;
+    println!(rt; "threads of nodes that differ: {is_so}")
 }

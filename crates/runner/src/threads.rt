@@ -1,5 +1,6 @@
 //! A scenario's file, played on threads.
 ghost use Rattle.std.specs.Prelude.{◌≡◌, ◌≤◌, IfOk, length};
+ghost use Rattle.world.specs.GroupView.{nodes_of, renumbered};
 
 use crate::ending::print_end;
 use crate::fault::Fault;
@@ -7,7 +8,7 @@ use crate::running::{Stage, check_steps, load, play_steps, save};
 use crate::scenario::Scenario;
 use crate::shelf::Shelf;
 use crate::step::Step;
-use cluster::{Cells, NetSettings, OpenGate, OwnInput, RunningGroup, close, start, stop};
+use cluster::{Cells, NetSettings, OpenGate, OwnInput, RunningGroup, cells_of, close, start, stop};
 use event_book::{BookId, OpenedBook};
 use rows::{Actor, ClientId, NoMemory, Refusal, ServerId};
 use std::alloc::Global;
@@ -125,14 +126,15 @@ fn open_book<'a>(alloc: Global, scenario: &Scenario) -> Result<OpenedBook<OwnInp
     }
 }
 
-// The group of a scenario, before its threads start.
+// The group of a scenario, before its threads start: a client for each of its nodes, in their order.
 #[tactic(auto, using(crate::proofs::Seats::actors_of_seats))]
 fn group<B: BookId>(
     alloc: Global,
     scenario: &Scenario,
     opened: OpenedBook<OwnInput>,
 ) -> Result<Arc<RunningGroup<B, OpenGate>, Global>, Refusal>
-    requires { opened ≡ (B.table, B.actors) }
+    requires book { opened ≡ (B.table, B.actors) }
+    requires nodes { scenario.now.nodes.items ≡ B.nodes }
     ensures size { IfOk result (λ group.
         (group.value.cells.servers ≡ scenario.now.settings.servers)
         × (group.value.cells.clients ≡ length scenario.now.nodes.items)) }
@@ -142,7 +144,8 @@ fn group<B: BookId>(
 {
     let (book, seats) = opened.seats::<B>(alloc)?;
     let size = usize::from(scenario.settings.servers);
-    let cells = Cells::open(alloc, size, scenario.nodes.as_slice(), book, seats)?;
+    let cells = cells_of(alloc, size, scenario.nodes.as_slice(), &book, seats)?;
+    let cells = Cells::open(alloc, size, scenario.nodes.len(), book, cells)?;
     let net = NetSettings {
         room: ROOM,
         key: scenario.settings.key,
@@ -173,8 +176,11 @@ where
     B: BookId + Send + Sync + 'static,
     W: Write,
     R: Threads + Wait + Copy + Send + 'static,
-    requires { opened ≡ (B.table, B.actors) }
-    ensures { IfOk result (λ played. played.0 ≤ 1) }
+    requires book { opened ≡ (B.table, B.actors) }
+    requires nodes { scenario.now.nodes.items ≡ B.nodes }
+    ensures status { IfOk result (λ played. played.0 ≤ 1) }
+    ensures nodes { IfOk result (λ played.
+        nodes_of played.1 ≡ renumbered 1 scenario.now.nodes.items) }
 {
     let group = match group::<B>(alloc, scenario, opened) {
         Ok(group) => group,
@@ -191,7 +197,7 @@ where
     let cells = stop(&rt, group, threads);
     let status = played?;
     match cells {
-        Some(cells) => Ok((status, close(cells)?)),
+        Some(cells) => Ok((status, close(alloc, cells.into_cells()?)?)),
         // Nobody else has the group once its threads have ended.
         None => Err(Fault::NoMemory),
     }

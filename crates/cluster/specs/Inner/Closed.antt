@@ -2,6 +2,7 @@
 use Rattle.std.specs.Prelude.{◌≡◌, true, List, map}
 use Rattle.std.specs.List.{AllByRecursion}
 use Rattle.rows.specs.declared.actor.Actor.{Actor}
+use Rattle.rows.specs.declared.node.NodeSpec.{NodeSpec}
 use Rattle.group_model.specs.Worlds.{Event}
 use Rattle.event_book.specs.declared.view.Note.{Note}
 use Rattle.event_book.specs.Seats.{IsWhole, are_apart, lists_actor}
@@ -10,17 +11,18 @@ use Rattle.cluster.specs.declared.actor.GroupActor.{GroupActor}
 use Rattle.cluster.specs.declared.closing.NamedActor.{NamedActor}
 use Rattle.cluster.specs.declared.closing.Rest.{Rest}
 use Rattle.cluster.specs.Actors.{group_size}
-use Rattle.cluster.specs.Cells.{CellView, KeptEvent, kept_in, kept_event, IsLedCell}
+use Rattle.cluster.specs.declared.cell.StampedEvent.{StampedEvent}
+use Rattle.cluster.specs.Cells.{CellView, kept_in, IsOpenedCell}
 use Rattle.cluster.specs.Closing.{cell_actors, noted_events, seat_in}
 
 -- who an actor is, the actor, and the events that it took
 pub record RestView : Type 0 where
   pub me : Actor
   pub actor : GroupActor
-  pub kept : List KeptEvent
+  pub kept : List StampedEvent
 
 abbrev pub rest_of : Rest → RestView
-rest_of r = record { me = r.me; actor = r.actor; kept = map kept_event r.taken.items }
+rest_of r = record { me = r.me; actor = r.actor; kept = r.taken.items }
 
 abbrev pub rest_in : CellView → RestView
 rest_in c = record { me = c.seat.actor; actor = c.actor; kept = map kept_in c.seat.notes }
@@ -32,15 +34,15 @@ abbrev pub named_in : CellView → NamedActor
 named_in c = record { me = c.seat.actor; actor = c.actor }
 
 -- The history is legal, and each cell noted just what its actor noted in it; each actor is where
--- that leads it. Each of the book's actors has one cell, and no other actor has one.
-pub record IsClosed (actors : List Actor) (log : List (Note OwnInput)) (cells : List CellView) : Type 0 where
+-- that leads it from its beginning with these nodes. Each of the book's actors has one cell, and no other actor has one.
+pub record IsClosed (actors : List Actor) (nodes : List NodeSpec) (log : List (Note OwnInput)) (cells : List CellView) : Type 0 where
   pub whole : IsWhole actors log (map seat_in cells)
-  pub led : AllByRecursion (IsLedCell (group_size actors)) cells
+  pub led : AllByRecursion (IsOpenedCell (group_size actors) nodes) cells
   pub apart : are_apart (cell_actors cells) ≡ true
   pub all : (a : Actor) → lists_actor actors a ≡ true → lists_actor (cell_actors cells) a ≡ true
   pub within : (a : Actor) → lists_actor (cell_actors cells) a ≡ true → lists_actor actors a ≡ true
 
 -- the events are all that the cells of a closed book noted, in the order of their stamps
-abbrev pub AreAllNoted : List Actor → List CellView → List Event → Type 0
-AreAllNoted actors cells events =
-    (log : List (Note OwnInput)) × IsClosed actors log cells × (events ≡ noted_events log log)
+abbrev pub AreAllNoted : List Actor → List NodeSpec → List CellView → List Event → Type 0
+AreAllNoted actors nodes cells events =
+    (log : List (Note OwnInput)) × IsClosed actors nodes log cells × (events ≡ noted_events log log)

@@ -4,10 +4,10 @@ use Rattle.rows.specs.declared.actor.Actor.{Actor}
 use Rattle.group_model.specs.Worlds.{Event, Deliver}
 use Rattle.world.specs.declared.group.event.Event.{Event as GroupEvent}
 use Rattle.world.specs.GroupEvents.{group_event, group_events}
-use Rattle.event_book.specs.declared.view.EventView.{EventView}
-use Rattle.event_book.specs.declared.view.EventView.TheVariants.{Own, Delivery, Crash}
 use Rattle.event_book.specs.declared.view.Note.{Note}
 use Rattle.cluster.specs.declared.own_input.OwnInput.{OwnInput}
+use Rattle.cluster.specs.declared.cell.KeptEvent.{KeptEvent}
+use Rattle.cluster.specs.declared.cell.KeptEvent.TheVariants.{Own, Delivery, Crash}
 use Rattle.cluster.specs.declared.merging.Placed.{Placed}
 use Rattle.cluster.specs.Closing.{crash_event, noted_events, own_event}
 use Rattle.cluster.specs.Inner.Merged.{TakenEvent, taken_event_in, taken_event_of}
@@ -29,9 +29,9 @@ FitsOffsets offsets made e = (log : List TakenEvent) → AreOffsets log offsets 
 abbrev pub delivered_event : ℕ → ℕ → List TakenEvent → Event
 delivered_event stamp place log = Deliver (outputs_before log stamp + place)
 
-abbrev pub entry_event : Actor → EventView OwnInput → List TakenEvent → Event
+abbrev pub entry_event : Actor → KeptEvent → List TakenEvent → Event
 entry_event actor (Own input) log = own_event actor input
-entry_event actor (Delivery stamp place frame) log = delivered_event stamp place log
+entry_event actor (Delivery stamp place) log = delivered_event stamp place log
 entry_event actor Crash log = crash_event actor
 
 abbrev pub entry_events : List TakenEvent → List TakenEvent → List Event

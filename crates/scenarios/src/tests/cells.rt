@@ -1,10 +1,13 @@
-//! Cells of a group: turns of servers one after another, what each refuses and keeps, and groups
-//! for which no cells open. What is sent, and where, is worked out by hand from Raft, extended
-//! version 2014, section 5.2; the stamps and places are counted by hand.
+//! Cells of a group: turns of actors one after another, what each refuses and keeps, groups for
+//! which no cells open, and the nodes of clients. What is sent, and where, is worked out by hand
+//! from Raft, extended version 2014, section 5.2; the stamps and places are counted by hand.
 ghost use Rattle.std.specs.Prelude.{◌≡◌};
 
-use client_agent::ClientInput;
-use cluster::{Cells, Envelope, OwnInput, StampedEvent, Turn, close, turn};
+use client_agent::{Agent, ClientInput};
+use cluster::{
+    Cell, Cells, Envelope, GroupActor, KeptEvent, OwnInput, StampedEvent, Turn, cells_of, close,
+    turn,
+};
 use event_book::{ActorEvent, ActorSeat, Book, BookId, Noted, OpenedBook, OutputList};
 use raft_core::Role;
 use rows::{Actor, ClientId, Name, NodeId, NodeSpec, Refusal, Sequence, ServerId, Size};
@@ -27,13 +30,14 @@ enum Come {
     Restart,
     // An input of a server's own that is a frame.
     Frame,
-    // An input of a client's own.
+    // Inputs of a client's own.
     Ping,
+    Fall,
     // The first of the messages that were sent and not handed over yet.
     Message,
 }
 
-use Come::{Crash, Frame, Message, Ping, Restart, Timeout};
+use Come::{Crash, Fall, Frame, Message, Ping, Restart, Timeout};
 
 /// What a cell keeps: the stamp, for a delivery the stamp and the place of its message, and how
 /// many messages were sent.
@@ -64,7 +68,7 @@ const TURNS: &[Row] = &[
     (2, (Timeout, 1), 12, &[], &[VOTED]),
     // The group has no such actors.
     (4, (Timeout, 4), 12, &[], &[]),
-    (129, (Ping, 129), 12, &[], &[]),
+    (130, (Ping, 130), 12, &[], &[]),
     // A server takes no input of a client, no frame as an input, and no restart while it is up.
     (3, (Ping, 3), 12, &[], &[]),
     (3, (Frame, 3), 12, &[], &[]),
@@ -91,9 +95,16 @@ const TURNS: &[Row] = &[
         &[],
         &[(3, None, 2), (6, Some((5, 0)), 0)],
     ),
+    // A client takes no input of a server. Once it is down, it and no other refuses what it would
+    // take, and what is not for it.
+    (129, (Timeout, 129), 12, &[], &[]),
+    (129, (Fall, 129), 0, &[], &[(7, None, 0)]),
+    (129, (Ping, 129), 16, &[], &[(7, None, 0)]),
+    (129, (Timeout, 2), 16, &[], &[(7, None, 0)]),
+    (2, (Ping, 129), 12, &[], &[VOTED, (5, Some((3, 1)), 1)]),
 ];
 
-/// What is done with the seats of a book before its cells open.
+/// What is done with the seats of a book, or with their cells, before these open.
 #[derive(Clone, Copy)]
 enum Seats {
     AsTheyAre,
@@ -101,9 +112,13 @@ enum Seats {
     LastNotes,
     // The last of them is not handed over.
     LastKept,
+    // The cell of the last of them takes an input before the cells open.
+    LastTakes,
+    // The cells open for one client fewer.
+    ForFewer,
 }
 
-use Seats::{AsTheyAre, LastKept, LastNotes};
+use Seats::{AsTheyAre, ForFewer, LastKept, LastNotes, LastTakes};
 
 /// How many servers the group is to have, and how many nodes; the servers of the book, and how many
 /// clients it has; what is done with the seats; and the number of the refusal, if there is one.
@@ -125,6 +140,8 @@ const OPENINGS: &[Opening] = &[
     ((3, 0), (&[1, 2, 3], 0), LastNotes, Some(12)),
     ((3, 1), (&[1, 2, 3], 1), LastNotes, Some(12)),
     ((3, 0), (&[1, 2, 3], 0), LastKept, Some(12)),
+    ((3, 0), (&[1, 2, 3], 0), LastTakes, Some(12)),
+    ((3, 2), (&[1, 2, 3], 2), ForFewer, Some(12)),
 ];
 
 pub(super) fn actor(number: Number) -> Result<Actor, Refusal> {
@@ -150,6 +167,7 @@ fn own(alloc: Global, come: Come) -> Result<OwnInput, Refusal> {
         Crash => ServerInput::Crash,
         Restart => ServerInput::Restart,
         Frame | Message => ServerInput::Frame(Sequence::new(alloc)),
+        Fall => return Ok(OwnInput::client(alloc, ClientInput::Crash)?),
         Ping => {
             let Actor::Server(first) = actor(1)? else {
                 return Err(Refusal::OutOfRange);
@@ -176,9 +194,9 @@ fn next<B: BookId>(
 
 fn is_kept(event: &StampedEvent, wanted: &Kept) -> bool {
     let from = match &event.event {
-        ActorEvent::Own(_) => None,
-        ActorEvent::Delivery { stamp, place, .. } => Some((*stamp, *place)),
-        ActorEvent::Crash => return false,
+        KeptEvent::Own(_) => None,
+        KeptEvent::Delivery { stamp, place } => Some((*stamp, *place)),
+        KeptEvent::Crash => return false,
     };
     event.stamp == wanted.0 && from == wanted.1 && event.sent == wanted.2
 }
@@ -222,17 +240,48 @@ fn answer<B: BookId>(
     Ok(are_wanted.then_some(0))
 }
 
+/// How an actor takes what comes.
+#[derive(Clone, Copy)]
+enum Way {
+    // By `turn`.
+    ByTurn,
+    // By its cell, whose lock the caller holds.
+    ByHand,
+}
+
+use Way::{ByHand, ByTurn};
+
+fn taken<B: BookId, R: Wait>(
+    rt: &R,
+    alloc: Global,
+    cells: &Cells<B>,
+    me: Actor,
+    envelope: Envelope<B>,
+    way: Way,
+) -> Result<Turn<B>, Refusal> {
+    match way {
+        ByTurn => turn(rt, cells, me, envelope),
+        ByHand => {
+            let Some(mut cell) = cells.lock(rt, me) else {
+                return Err(Refusal::OutOfRange);
+            };
+            cell.take(alloc, cells.book(), envelope)
+        }
+    }
+}
+
 // A turn, and whether it does what is wanted.
 fn is_played<B: BookId, R: Wait>(
     rt: &R,
     alloc: Global,
     cells: &Cells<B>,
     row: &Row,
+    way: Way,
     waiting: &mut Vec<Envelope<B>>,
 ) -> Result<bool, Refusal> {
     let me = actor(row.0)?;
     let envelope = next(alloc, row.1, waiting)?;
-    let answered = answer(turn(rt, cells, me, envelope), row.3, waiting)?;
+    let answered = answer(taken(rt, alloc, cells, me, envelope, way), row.3, waiting)?;
     Ok(answered == Some(row.2) && keeps(rt, cells, me, row.4))
 }
 
@@ -242,7 +291,7 @@ type End = (usize, usize, bool);
 
 // After the last turn: each of its stamps stands for one event, and the messages are those of the
 // rows. Server 2 had voted for server 1 in that term, so server 3 has its own vote alone.
-const END: End = (7, 6, true);
+const END: End = (8, 6, true);
 
 fn end_of(world: &World) -> Result<End, Refusal> {
     let Actor::Server(third) = actor(3)? else {
@@ -260,21 +309,26 @@ fn play<B: BookId, R: Wait>(
     rt: &R,
     alloc: Global,
     opened: OpenedBook<OwnInput>,
+    nodes: Vec<NodeSpec>,
+    way: Way,
 ) -> Result<(usize, End), Refusal>
-    requires { opened ≡ (B.table, B.actors) }
+    requires book { opened ≡ (B.table, B.actors) }
+    requires nodes { nodes.items ≡ B.nodes }
 {
     let (book, seats) = opened.seats::<B>(alloc)?;
-    let cells = Cells::open(alloc, 3, &[], book, seats)?;
+    let cells = cells_of(alloc, 3, nodes.as_slice(), &book, seats)?;
+    let cells = Cells::open(alloc, 3, nodes.len(), book, cells)?;
     let mut waiting = Vec::new(alloc);
     let mut played = TURNS.len();
     for (place, row) in TURNS.iter().enumerate() {
-        if !is_played(rt, alloc, &cells, row, &mut waiting)? {
+        if !is_played(rt, alloc, &cells, row, way, &mut waiting)? {
             played = place;
             break;
         }
     }
     drop(waiting);
-    Ok((played, end_of(&close(cells)?)?))
+    let world = close(alloc, cells.into_cells()?)?;
+    Ok((played, end_of(&world)?))
 }
 
 fn actors(alloc: Global, servers: &[Number], clients: u8) -> Result<Vec<Actor>, Refusal> {
@@ -288,19 +342,19 @@ fn actors(alloc: Global, servers: &[Number], clients: u8) -> Result<Vec<Actor>, 
     Ok(all)
 }
 
-// A client's node; which client it is of, its place says.
-fn node() -> Result<NodeSpec, Refusal> {
+// A client's node; which client it is of, its place says. No two have as much memory.
+fn node(place: usize) -> Result<NodeSpec, Refusal> {
     Ok(NodeSpec {
         number: NodeId::from_number(1).ok_or(Refusal::OutOfRange)?,
         class: Name::read("linux")?,
-        size: Size::check(1000, 2000)?,
+        size: Size::check(1000, 2000 + place as u32)?,
     })
 }
 
 pub(super) fn nodes(alloc: Global, count: usize) -> Result<Vec<NodeSpec>, Refusal> {
     let mut all = Vec::new(alloc);
-    for _ in 0..count {
-        all.push(node()?)?;
+    for place in 0..count.min(100) {
+        all.push(node(place)?)?;
     }
     Ok(all)
 }
@@ -326,23 +380,50 @@ fn prepared<B: BookId>(
             seats.push(last)?;
         }
         LastKept => (),
+        LastTakes | ForFewer => seats.push(last)?,
     }
     Ok(seats)
+}
+
+// The cell of the last seat takes an input.
+fn used<B: BookId>(
+    alloc: Global,
+    book: &Book<OwnInput, B>,
+    cells: Vec<Cell<B>>,
+    number: Number,
+) -> Result<Vec<Cell<B>>, Refusal> {
+    let mut cells = cells;
+    if let Some(last) = cells.last_mut() {
+        last.take(
+            alloc,
+            book,
+            Envelope::own(actor(number)?, own(alloc, Timeout)?),
+        )?;
+    }
+    Ok(cells)
 }
 
 // The cells of a group open.
 fn open<B: BookId>(
     alloc: Global,
     opened: OpenedBook<OwnInput>,
-    group: (usize, usize),
+    nodes: Vec<NodeSpec>,
+    size: usize,
     how: Seats,
 ) -> Result<(), Refusal>
-    requires { opened ≡ (B.table, B.actors) }
+    requires book { opened ≡ (B.table, B.actors) }
+    requires nodes { nodes.items ≡ B.nodes }
 {
     let (book, seats) = opened.seats::<B>(alloc)?;
     let seats = prepared(alloc, &book, seats, how)?;
-    let nodes = nodes(alloc, group.1)?;
-    let _cells = Cells::open(alloc, group.0, nodes.as_slice(), book, seats)?;
+    let mut cells = cells_of(alloc, size, nodes.as_slice(), &book, seats)?;
+    let mut clients = nodes.len();
+    match how {
+        LastTakes => cells = used(alloc, &book, cells, 3)?,
+        ForFewer => clients = clients.saturating_sub(1),
+        AsTheyAre | LastNotes | LastKept => (),
+    }
+    let _cells = Cells::open(alloc, size, clients, book, cells)?;
     Ok(())
 }
 
@@ -354,12 +435,84 @@ pub(super) fn opened(
     OpenedBook::new(alloc, actors(alloc, servers, clients)?)
 }
 
+// Whether the actor of a cell, which took nothing, is that of its name: a client has the node of its
+// place, with its number.
+fn is_new<B: BookId>(cell: &Cell<B>, wanted: Actor) -> Result<bool, Refusal> {
+    let is_wanted = match (cell.actor(), wanted) {
+        (GroupActor::Server(server), Actor::Server(id)) => server.me() == id,
+        (GroupActor::Client(client), Actor::Client(id)) => {
+            has_node(client.node(), usize::from(id.number()))?
+        }
+        _ => false,
+    };
+    Ok(is_wanted && cell.inputs().is_empty())
+}
+
+// Whether it is the node of this client.
+fn has_node(found: NodeSpec, number: usize) -> Result<bool, Refusal> {
+    let wanted = node(number.saturating_sub(1))?;
+    Ok(usize::from(found.number.number()) == number && found.size == wanted.size)
+}
+
+fn have_nodes(clients: &[Agent]) -> Result<bool, Refusal> {
+    for (place, client) in clients.iter().enumerate() {
+        if !has_node(client.node(), place.saturating_add(1))? {
+            return Ok(false);
+        }
+    }
+    Ok(true)
+}
+
+// How many new cells have the actor of their seat, with the node of its place; and whether the world
+// has these nodes to which they close.
+fn new_ones<B: BookId>(
+    alloc: Global,
+    opened: OpenedBook<OwnInput>,
+    nodes: Vec<NodeSpec>,
+) -> Result<(usize, bool), Refusal>
+    requires book { opened ≡ (B.table, B.actors) }
+    requires nodes { nodes.items ≡ B.nodes }
+{
+    let (book, seats) = opened.seats::<B>(alloc)?;
+    let cells = cells_of(alloc, 3, nodes.as_slice(), &book, seats)?;
+    let mut count = 0;
+    for (cell, wanted) in cells.iter().zip(book.actors()) {
+        if is_new(cell, *wanted)? {
+            count += 1;
+        }
+    }
+    let cells = Cells::open(alloc, 3, nodes.len(), book, cells)?;
+    let world = close(alloc, cells.into_cells()?)?;
+    Ok((count, have_nodes(world.clients())?))
+}
+
 #[test]
 fn cells_take_turns(rt: HostRuntime) -> Result<(), Fail> {
-    let book = opened(rt.alloc(), &[1, 2, 3], 0)?;
-    let (played, end) = play::<Brand, _>(&rt, rt.alloc(), book)?;
+    let book = opened(rt.alloc(), &[1, 2, 3], 1)?;
+    let nodes = nodes(rt.alloc(), 1)?;
+    let (played, end) = play::<Brand, _>(&rt, rt.alloc(), book, nodes, ByTurn)?;
     assert!(rt; played == TURNS.len(), "turn {played}");
     assert!(rt; end == END, "events {}, messages {}", end.0, end.1);
+    Ok(())
+}
+
+#[test]
+fn cells_in_hand_take_the_same_turns(rt: HostRuntime) -> Result<(), Fail> {
+    let book = opened(rt.alloc(), &[1, 2, 3], 1)?;
+    let nodes = nodes(rt.alloc(), 1)?;
+    let (played, end) = play::<Brand, _>(&rt, rt.alloc(), book, nodes, ByHand)?;
+    assert!(rt; played == TURNS.len(), "turn {played}");
+    assert!(rt; end == END, "events {}, messages {}", end.0, end.1);
+    Ok(())
+}
+
+#[test]
+fn each_client_has_its_own_node(rt: HostRuntime) -> Result<(), Fail> {
+    let book = opened(rt.alloc(), &[3, 1, 2], 5)?;
+    let nodes = nodes(rt.alloc(), 5)?;
+    let (count, closed) = new_ones::<Brand>(rt.alloc(), book, nodes)?;
+    assert!(rt; count == 8, "new cells {count}");
+    assert!(rt; closed, "nodes of the world");
     Ok(())
 }
 
@@ -368,7 +521,8 @@ fn cells_open_for_the_actors_of_a_group(rt: HostRuntime) -> Result<(), Fail> {
     for (number, row) in OPENINGS.iter().enumerate() {
         let (group, (servers, clients), how, wanted) = *row;
         let book = opened(rt.alloc(), servers, clients)?;
-        let refused = open::<Brand>(rt.alloc(), book, group, how).err();
+        let nodes = nodes(rt.alloc(), group.1)?;
+        let refused = open::<Brand>(rt.alloc(), book, nodes, group.0, how).err();
         assert!(rt; refused.map(|e| e.number()) == wanted, "opening {number}");
     }
     Ok(())

@@ -6,11 +6,12 @@ ghost use Rattle.std.specs.Prelude.{◌≡◌};
 
 use crate::tests::cells::{actor, nodes, opened};
 use cluster::{
-    Cells, Gate, GroupActor, NetSettings, OpenGate, OwnInput, RunningGroup, close, start, stop,
+    Cells, Gate, GroupActor, NetSettings, OpenGate, OwnInput, RunningGroup, cells_of, close, start,
+    stop,
 };
 use event_book::{BookId, OpenedBook};
 use raft_core::Role;
-use rows::{Actor, Delivery, Name, Refusal};
+use rows::{Actor, Delivery, Name, NodeSpec, Refusal};
 use server::Server;
 use std::alloc::Global;
 use std::marker::Brand;
@@ -197,40 +198,47 @@ const NET: NetSettings = NetSettings {
 fn group<B: BookId, G: Gate + Drop>(
     alloc: Global,
     opened: OpenedBook<OwnInput>,
-    clients: usize,
+    nodes: Vec<NodeSpec>,
     gate: G,
 ) -> Result<RunningGroup<B, G>, Refusal>
-    requires { opened ≡ (B.table, B.actors) }
+    requires book { opened ≡ (B.table, B.actors) }
+    requires nodes { nodes.items ≡ B.nodes }
 {
     let (book, seats) = opened.seats::<B>(alloc)?;
-    let nodes = nodes(alloc, clients)?;
-    let cells = Cells::open(alloc, 3, nodes.as_slice(), book, seats)?;
+    let cells = cells_of(alloc, 3, nodes.as_slice(), &book, seats)?;
+    let cells = Cells::open(alloc, 3, nodes.len(), book, cells)?;
     RunningGroup::new(alloc, cells, NET, gate)
 }
 
 // The world to which a group on threads closes.
-fn closed<B: BookId>(cells: Option<Cells<B>>) -> Result<World, Refusal> {
+fn closed<B: BookId>(alloc: Global, cells: Option<Cells<B>>) -> Result<World, Refusal> {
     match cells {
-        Some(cells) => Ok(close(cells)?),
+        Some(cells) => Ok(close(alloc, cells.into_cells()?)?),
         None => Err(Refusal::OutOfRange),
     }
 }
 
-fn hold_a_worker<B, R>(rt: R, alloc: Global, opened: OpenedBook<OwnInput>) -> Result<u8, Refusal>
+fn hold_a_worker<B, R>(
+    rt: R,
+    alloc: Global,
+    opened: OpenedBook<OwnInput>,
+    nodes: Vec<NodeSpec>,
+) -> Result<u8, Refusal>
 where
     B: BookId + Send + Sync + 'static,
     R: Threads + Wait + Copy + Send + 'static,
-    requires { opened ≡ (B.table, B.actors) }
+    requires book { opened ≡ (B.table, B.actors) }
+    requires nodes { nodes.items ≡ B.nodes }
 {
     let gate = HoldingGate {
         holds: AtomicBool::new(false),
         open: AtomicBool::new(false),
     };
-    let group = Arc::new(alloc, group::<B, _>(alloc, opened, 2, gate)?)?;
+    let group = Arc::new(alloc, group::<B, _>(alloc, opened, nodes, gate)?)?;
     let threads = start(rt, alloc, &group, 1)?;
     let came = hold_one(&rt, alloc, &group);
     group.gate().open.store(true, Ordering::SeqCst);
-    let _world = closed(stop(&rt, group, threads))?;
+    let _world = closed(alloc, stop(&rt, group, threads))?;
     came
 }
 
@@ -276,24 +284,27 @@ fn hold_a_cell<B, R>(
     rt: R,
     alloc: Global,
     opened: OpenedBook<OwnInput>,
+    nodes: Vec<NodeSpec>,
 ) -> Result<(bool, usize), Refusal>
 where
     B: BookId + Send + Sync + 'static,
     R: Threads + Wait + Copy + Send + 'static,
-    requires { opened ≡ (B.table, B.actors) }
+    requires book { opened ≡ (B.table, B.actors) }
+    requires nodes { nodes.items ≡ B.nodes }
 {
-    let group = Arc::new(alloc, group::<B, _>(alloc, opened, 0, OpenGate)?)?;
+    let group = Arc::new(alloc, group::<B, _>(alloc, opened, nodes, OpenGate)?)?;
     let threads = start(rt, alloc, &group, 1)?;
     let elected = elect(&rt, alloc, &group);
     group.flow(FLOW);
-    let world = closed(stop(&rt, group, threads))?;
+    let world = closed(alloc, stop(&rt, group, threads))?;
     Ok((elected?, world.trace().len()))
 }
 
 #[test]
 fn a_held_worker_holds_no_other(rt: HostRuntime) -> Result<(), Fail> {
     let book = opened(rt.alloc(), &[1, 2, 3], 2)?;
-    let came = hold_a_worker::<Brand, _>(rt, rt.alloc(), book)?;
+    let nodes = nodes(rt.alloc(), 2)?;
+    let came = hold_a_worker::<Brand, _>(rt, rt.alloc(), book, nodes)?;
     assert!(rt; came == 4, "came to {came}");
     Ok(())
 }
@@ -301,7 +312,8 @@ fn a_held_worker_holds_no_other(rt: HostRuntime) -> Result<(), Fail> {
 #[test]
 fn a_held_cell_holds_no_other(rt: HostRuntime) -> Result<(), Fail> {
     let book = opened(rt.alloc(), &[1, 2, 3], 0)?;
-    let (elected, events) = hold_a_cell::<Brand, _>(rt, rt.alloc(), book)?;
+    let nodes = nodes(rt.alloc(), 0)?;
+    let (elected, events) = hold_a_cell::<Brand, _>(rt, rt.alloc(), book, nodes)?;
     assert!(rt; elected, "no leader");
     // Server 3 stands, both others vote, and it counts both votes.
     assert!(rt; events == 5, "events {events}");

@@ -1,6 +1,5 @@
-use Rattle.std.proofs.Common.{ap}
 use Rattle.event_book.specs.Noted.{event_view}
-use Rattle.cluster.specs.Cells.{tokens_of}
+use Rattle.cluster.specs.Cells.{kept_input, tokens_of}
 use Rattle.cluster.specs.declared.cell.StampedEvent.{StampedEvent}
 use Rattle.cluster.proofs.Sending.{may_note, kept_more}
 use Rattle.cluster.proofs.cell.keep.Goals as goal
@@ -10,6 +9,6 @@ note-requires g c = may_note c.args.seat.now c.take_in.new.seat (event_view c.ar
 
 pub returns-clause-kept : goal.returns-clause-kept
 returns-clause-kept g c same =
-    let e : StampedEvent = record { stamp = c.in-Ok.stamp; event = c.args.done.event; sent = c.len-sent.result } in
+    let e : StampedEvent = record { stamp = c.in-Ok.stamp; event = c.kept-event.result; sent = c.len-sent.result } in
     kept_more c.args.seat.now c.take_in.new.seat c.note.new.self c.envelopes.new.seat c.args.taken.now.items c.push_reserved.new.self.items e (tokens_of c.args.done.token) (event_view c.args.done.event) c.args.done.frames c.in-Ok.stamp
-    c.take_in.ensures c.in-Ok.ensures.ok c.envelopes.ensures.same c.push_reserved.ensures.items (ap (λ n. record { stamp = c.in-Ok.stamp; event = event_view c.args.done.event; sent = n }) c.len-sent.ensures) same
+    c.take_in.ensures c.in-Ok.ensures.ok c.envelopes.ensures.same c.push_reserved.ensures.items (λ i. record { stamp = c.in-Ok.stamp; event = c.kept-event.ensures i; sent = c.len-sent.ensures i }) same

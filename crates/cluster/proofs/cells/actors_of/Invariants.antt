@@ -1,6 +1,6 @@
-use Rattle.std.proofs.Common.{◌≡◌, map, take}
-use Rattle.event_book.specs.Seats.{actor_in}
+use Rattle.std.proofs.Common.{◌≡◌, take}
+use Rattle.cluster.specs.Closing.{cell_actors}
 use Rattle.cluster.proofs.cells.actors_of.Given as goal
 
-abbrev pub invariant-loop-seat : goal.invariant-loop-seat
-invariant-loop-seat g l = l.actors.items ≡ map actor_in (take l.seat-index l.seats)
+abbrev pub invariant-loop-cell : goal.invariant-loop-cell
+invariant-loop-cell g l = l.actors.items ≡ cell_actors (take l.cell-index l.cells)

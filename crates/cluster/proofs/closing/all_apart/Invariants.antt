@@ -2,7 +2,7 @@ use Rattle.std.proofs.Common.{◌≡◌, ◌++◌, length, map}
 use Rattle.std.specs.List.{AllByRecursion}
 use Rattle.std.specs.Vec.Iter.{into_iter_items, into_iter_len}
 use Rattle.cluster.specs.Actors.{group_size}
-use Rattle.cluster.specs.Cells.{IsLedCell}
+use Rattle.cluster.specs.Cells.{IsOpenedCell}
 use Rattle.cluster.specs.Closing.{seat_in}
 use Rattle.cluster.specs.Inner.Closed.{rest_in, rest_of}
 use Rattle.cluster.proofs.closing.all_apart.Given as goal
@@ -13,4 +13,4 @@ invariant-loop-cell g l =
     × (into_iter_len l.cell-iterator ≡ length (into_iter_items l.cell-iterator))
     × (l.seats.items ≡ map seat_in l.yielded)
     × (map rest_of l.rests.items ≡ map rest_in l.yielded)
-    × AllByRecursion (IsLedCell (group_size g.B.BookId.actors)) l.yielded
+    × AllByRecursion (IsOpenedCell (group_size g.B.BookId.actors) g.B.BookId.nodes) l.yielded

@@ -1,8 +1,8 @@
-use Rattle.std.proofs.Common.{ap, ◌∙◌, subst, map}
+use Rattle.std.proofs.Common.{ap, ◌∙◌, subst}
 use Rattle.std.specs.Prelude.{IfErr, IfOk}
 use Rattle.event_book.specs.Noted.{event_view}
 use Rattle.cluster.specs.Actors.{group_size}
-use Rattle.cluster.specs.Cells.{CellView, EnvelopeView, IsEnvelopeRefused, Turned, kept_event, tokens_of}
+use Rattle.cluster.specs.Cells.{CellView, EnvelopeView, IsEnvelopeRefused, Turned, tokens_of}
 use Rattle.cluster.proofs.Turns.{cell_kept, cell_refused, cell_turned}
 use Rattle.cluster.proofs.cell.Cell.take.Goals as goal
 
@@ -11,8 +11,8 @@ invariant_of-self-2 g c =
     let i = c.self.inside in
     let old : CellView = record { actor = i.actor; seat = i.seat } in
     let given : EnvelopeView = record { receiver = c.envelope.inside.receiver; event = event_view c.envelope.inside.event; tokens = tokens_of c.envelope.inside.token } in
-    let kept = c.step.ensures.kept (ap (map kept_event) c.in_ok-reserve.ensures.items ∙ c.self.invariant.1) in
-    cell_kept (group_size g.B.BookId.actors) i.me old given c.step.result (λ turn. turn.work) (λ turn. turn.sent.items) (λ turn. turn.unsent) c.step.new.actor c.step.new.seat i.taken.items c.step.new.taken.items c.self.invariant c.if-not-is_for.ensures c.if-not-can_note.ensures c.step.ensures.ok c.step.ensures.err kept
+    let kept = c.step.ensures.kept (c.in_ok-reserve.ensures.items ∙ c.self.invariant.1) in
+    cell_kept (group_size g.B.BookId.actors) g.B.BookId.nodes i.me old given c.step.result (λ turn. turn.work) (λ turn. turn.sent.items) (λ turn. turn.unsent) c.step.new.actor c.step.new.seat i.taken.items c.step.new.taken.items c.self.invariant c.if-not-is_for.ensures c.if-not-can_note.ensures c.step.ensures.ok c.step.ensures.err kept
 
 pub returns-clause-ok : goal.returns-clause-ok
 returns-clause-ok g c =

@@ -1,9 +1,8 @@
 use Rattle.std.proofs.Common.{◌≡◌, ◌++◌, length}
 use Rattle.std.specs.Vec.Iter.{into_iter_items, into_iter_len}
-use Rattle.cluster.specs.Inner.Begun.{AreNew}
-use Rattle.cluster.specs.Opening.{MayOpen}
+use Rattle.cluster.specs.Opening.{AreNew, MayOpen}
 use Rattle.std.specs.List.{AllByRecursion}
-use Rattle.cluster.proofs.opening.cells_of.Given as goal
+use Rattle.cluster.proofs.opening.new_cells.Given as goal
 
 abbrev pub invariant-loop-seat : goal.invariant-loop-seat
 invariant-loop-seat g l =
