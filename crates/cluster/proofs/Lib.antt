@@ -18,3 +18,5 @@ pub mod Joins
 pub mod Sent
 pub mod Started
 pub mod Leases
+pub mod Due
+pub mod NetWords

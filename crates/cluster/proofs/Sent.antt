@@ -43,7 +43,7 @@ use Rattle.cluster.specs.contracts.cells.Cells as cells
 use Rattle.cluster.specs.contracts.cells.Cells.TheInside as cells_inside
 use Rattle.cluster.specs.contracts.running.RunningGroup as running
 use Rattle.cluster.specs.contracts.running.RunningGroup.TheInside as running_inside
-use Rattle.cluster.specs.contracts.running.WorkersOfServer as workers
+use Rattle.cluster.specs.contracts.running.AtServer as at_server
 use Rattle.cluster.specs.contracts.own_input.OwnInput as own_input
 use Rattle.cluster.specs.contracts.cell.StampedEvent as stamped
 use Rattle.cluster.specs.contracts.cell.Cell as cell
@@ -139,17 +139,17 @@ Cells-sync B g b = view_sync (cells_inside.the_row B g) _ _ _ _ (recorded_sync (
   ),
 )))
 
-pub Workers-send : IsSend workers.the_row
-Workers-send = search (maps, crosses, sendable) depth 60 fits 200000
-
-pub Workers-sync : IsSync workers.the_row
-Workers-sync = search (maps, crosses, sendable) depth 60 fits 200000
-
 Bell-send : IsSend bell.the_row
 Bell-send = search (crosses, sendable) depth 60 fits 200000
 
 Bell-sync : IsSync bell.the_row
 Bell-sync = search (crosses, sendable) depth 60 fits 200000
+
+AtServer-send : IsSend at_server.the_row
+AtServer-send = search (Bell-send, maps, crosses, sendable) depth 60 fits 200000
+
+AtServer-sync : IsSync at_server.the_row
+AtServer-sync = search (Bell-sync, maps, crosses, sendable) depth 60 fits 200000
 
 Group-send : (B G : RattleType) (g : book_id.Ghosts B.Denot) → IsSend B → IsSend G → IsSend (running.the_row B G g)
 Group-send B G g b s = view_send (running_inside.the_row B G g) _ _ _ _ (recorded_send (running_inside.the_field B G g).row _ _ (running_inside.the_type B G g).to_one (struct_send (shape (running_inside.the_type B G g)) (
@@ -165,12 +165,18 @@ Group-send B G g b s = view_send (running_inside.the_row B G g) _ _ _ _ (recorde
           (
             search (crosses, sendable),
             (
-              search (Bell-send, crosses, sendable) depth 30,
+              Bell-send,
               (
-                search (Workers-send, sendable) depth 30,
+                search (crosses, sendable),
                 (
-                  s,
-                  (search (crosses, sendable), tt),
+                  search (AtServer-send, sendable) depth 30,
+                  (
+                    search (Bell-send, crosses, sendable) depth 30,
+                    (
+                      s,
+                      (search (crosses, sendable), tt),
+                    ),
+                  ),
                 ),
               ),
             ),
@@ -195,12 +201,18 @@ Group-sync B G g b s = view_sync (running_inside.the_row B G g) _ _ _ _ (recorde
           (
             search (crosses, sendable),
             (
-              search (Bell-sync, crosses, sendable) depth 30,
+              Bell-sync,
               (
-                search (Workers-sync, sendable) depth 30,
+                search (crosses, sendable),
                 (
-                  s,
-                  (search (crosses, sendable), tt),
+                  search (AtServer-sync, sendable) depth 30,
+                  (
+                    search (Bell-sync, crosses, sendable) depth 30,
+                    (
+                      s,
+                      (search (crosses, sendable), tt),
+                    ),
+                  ),
                 ),
               ),
             ),

@@ -7,3 +7,4 @@ pub mod Numbers
 pub mod Runs
 pub mod Joined
 pub mod Asked
+pub mod Posting

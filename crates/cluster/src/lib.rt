@@ -14,6 +14,7 @@ mod numbering;
 mod opening;
 mod own_input;
 mod plan_counts;
+mod posting;
 mod replaying;
 mod running;
 mod server_workers;

@@ -1,8 +1,9 @@
 //! Noted events as the group's events.
-ghost use Rattle.std.specs.Prelude.{◌≡◌, ◌+◌, ◌^◌, ◌≤◌, ◌⊎◌, length, slice_index, IfOk, OnErr};
+ghost use Rattle.std.specs.Prelude.{◌≡◌, ◌+◌, ◌^◌, ◌<◌, ◌≤◌, length, map, slice_index, IfOk, OnErr};
 ghost use Rattle.world.specs.GroupEvents.{group_event};
 ghost use Rattle.cluster.specs.Closing.{crash_event, own_event};
-ghost use Rattle.cluster.specs.Inner.Numbers.{AreEventsOf, FitsOffsets, delivered_event, entry_event};
+ghost use Rattle.cluster.specs.Inner.Merged.{taken_event_in};
+ghost use Rattle.cluster.specs.Inner.Numbers.{AreDue, AreEventsOf, FallsWithin, FitsOffsets, IsNoDelivery, delivered_event, entry_event};
 
 use crate::cell::KeptEvent;
 use crate::merging::Placed;
@@ -51,40 +52,45 @@ fn sum(m: u64, n: u64) -> Result<u64, NoMemory>
 }
 
 /// The delivery of the output at a place of an event, where the offsets say how many outputs come
-/// before those of each event so far. `NoMemory` is the answer just where that event is not among
-/// them, or the output's number is 2^64 or more.
-fn delivery(offsets: &[u64], stamp: u64, place: u64) -> Result<Event, NoMemory>
-    ensures ok { IfOk result (FitsOffsets offsets.now (delivered_event stamp place)) }
-    ensures err { OnErr result ((length offsets.now ≤ stamp)
-        ⊎ (2 ^ 64 ≤ slice_index offsets.now stamp + place + 1)) }
+/// before those of each event so far, and the total how many come so far. It asks for an output
+/// among these.
+fn delivery(offsets: &[u64], total: u64, stamp: u64, place: u64) -> Event
+    requires known { stamp < length offsets.now }
+    requires within { slice_index offsets.now stamp + place < total }
+    ensures { FitsOffsets offsets.now (delivered_event stamp place) result }
 {
     let Some(before) = offsets.get(stamp as usize) else {
-        return Err(NoMemory);
+        unreachable!()
     };
-    Ok(Event::Deliver(sum(sum(*before, place)?, 1)?))
+    Event::Deliver(*before + place + 1)
 }
 
-/// The event that an actor's event is.
+/// The event that an actor's event is. It asks that a delivery be of an output so far, and memory
+/// is wanting for no delivery.
 fn event_at(
     alloc: Global,
     offsets: &[u64],
+    total: u64,
     actor: Actor,
     event: KeptEvent,
 ) -> Result<Event, NoMemory>
-    ensures { IfOk result (FitsOffsets offsets.now (entry_event actor event)) }
+    requires { FallsWithin offsets.now total event }
+    ensures ok { IfOk result (FitsOffsets offsets.now (entry_event actor event)) }
+    ensures memory { OnErr result (IsNoDelivery event) }
 {
     match event {
         KeptEvent::Own(input) => own(alloc, actor, input),
-        KeptEvent::Delivery { stamp, place } => delivery(offsets, stamp, place),
+        KeptEvent::Delivery { stamp, place } => Ok(delivery(offsets, total, stamp, place)),
         KeptEvent::Crash => crash(alloc, actor),
     }
 }
 
 /// The events of a history, in its order. A delivery counts the outputs of all events from 1, in
-/// the order of the events and then of their places. `NoMemory` is the answer also where that count
-/// passes 2^64, which it can't in memory that exists, and where a delivery is of an event that does
-/// not come before it, which no legal history has.
+/// the order of the events and then of their places. It asks that each delivery be of an output of
+/// an event that comes before it. `NoMemory` is the answer for want of memory, and where there are
+/// 2^64 outputs or more: no memory has room for a world in which so much was sent.
 pub(crate) fn number(alloc: Global, merged: Vec<Placed>) -> Result<Vec<Event>, NoMemory>
+    requires { AreDue (map taken_event_in merged.items) }
     ensures { IfOk result (λ r. AreEventsOf merged.items r.items) }
 {
     let mut offsets = Vec::new(alloc);
@@ -92,7 +98,7 @@ pub(crate) fn number(alloc: Global, merged: Vec<Placed>) -> Result<Vec<Event>, N
     let mut total = 0u64;
     for placed in merged {
         let Placed { actor, event, sent } = placed;
-        events.push(event_at(alloc, &offsets, actor, event)?)?;
+        events.push(event_at(alloc, &offsets, total, actor, event)?)?;
         offsets.push(total)?;
         total = sum(total, sent as u64)?;
     }

@@ -11,10 +11,11 @@ use crate::cell::Turn;
 use crate::cells::{Cells, turn};
 use crate::envelope::Envelope;
 use crate::own_input::OwnInput;
+use crate::posting::{copies, times};
 use crate::server_workers::ServerWorkers;
 use crate::worker::{Gate, WorkerTurn, worker_turn};
 use event_book::BookId;
-use lossy_net::{Fates, MessageFate, Net, fate};
+use lossy_net::{Fates, Net};
 use rows::{Actor, NoMemory, Refusal, Sequence, ServerId, Work};
 use std::alloc::{AllocError, Global};
 use std::marker::Model;
@@ -22,6 +23,13 @@ use std::sync::atomic::{AtomicBool, AtomicU64, Ordering};
 use std::sync::{Arc, Mutex, Wait};
 use std::thread;
 use std::thread::{JoinHandle, Threads};
+use std::time::Duration;
+
+// How often a `flow` gives way to the threads before it sleeps between its looks.
+const YIELDS: u64 = 64;
+
+// How long a `flow` sleeps at most between two looks, in microseconds.
+const PATIENCE: u64 = 1_000;
 
 /// What a group's messages meet on their way.
 #[derive(Clone, Copy, Debug, PartialEq, Eq)]
@@ -38,10 +46,12 @@ pub struct NetSettings {
 
 /// What the threads of a group share: its cells, the messages on their way, and what waits for the
 /// workers of each server. Each message that an actor sends draws one word, whose fate it has: it
-/// is lost, put once, or put twice; one for which there is no room is lost.
+/// is lost, put once, or put twice. Where none of a hundred is to be lost or to come twice, each is
+/// put once and no word is drawn. One for which there is no room is lost, and counted.
 ///
 /// Contracts see the cells as they see `Cells`, the settings of the net, and the gate. What is on
-/// its way, what waits for workers, and what lies in the cells, threads may change at any moment.
+/// its way, what was lost, what waits for workers, and what lies in the cells, threads may change at
+/// any moment.
 #[derive(Drop)]
 pub struct RunningGroup<B: BookId, G: Gate + Drop> {
     cells: Cells<B>,
@@ -52,9 +62,13 @@ pub struct RunningGroup<B: BookId, G: Gate + Drop> {
     // How many messages were put and are not done with: each counts until the receiver's turn is
     // over and what it sent was put or lost.
     flying: AtomicU64,
-    // Of each actor, by its place: rung when a message was put for it.
-    calls: Vec<Bell>,
-    servers: [WorkersOfServer; 5],
+    // Rung when the last of those was done with.
+    landed: Bell,
+    // How many messages found no room or no memory.
+    lost: AtomicU64,
+    servers: [AtServer; 5],
+    // Of each client: rung when a message was put for it.
+    clients: Vec<Bell>,
     gate: G,
     stopped: AtomicBool,
 }
@@ -72,22 +86,24 @@ impl<B: BookId, G: Gate + Drop> Model for RunningGroup<B, G> {
     } };
 }
 
-// What waits for the workers of a server; and a bell that counts the server's turns, and rings where
-// something waits after one.
+// What waits for the workers of a server; a bell that counts the server's turns, and rings where
+// something waits after one; and a bell that is rung when a message was put for the server.
 #[derive(Drop)]
-struct WorkersOfServer {
+struct AtServer {
     work: Mutex<ServerWorkers>,
     turned: Bell,
+    called: Bell,
 }
 
-fn workers_of_server(alloc: Global) -> WorkersOfServer {
-    WorkersOfServer {
+fn at_server(alloc: Global) -> AtServer {
+    AtServer {
         work: Mutex::new(ServerWorkers::new(alloc)),
         turned: Bell::new(),
+        called: Bell::new(),
     }
 }
 
-// A bell for each actor.
+// So many bells.
 fn bells(alloc: Global, count: usize) -> Result<Vec<Bell>, NoMemory> {
     let mut bells = Vec::new(alloc);
     for _ in 0..count {
@@ -122,7 +138,7 @@ impl<B: BookId, G: Gate + Drop> RunningGroup<B, G> {
         ensures refused { IfErr result (WhyNotRunning net.room) }
     {
         let queues = Net::new(alloc, cells.actors(), net.room)?;
-        let calls = bells(alloc, cells.actors().len())?;
+        let clients = bells(alloc, cells.actors().len())?;
         Ok(RunningGroup {
             cells,
             net: queues,
@@ -130,14 +146,16 @@ impl<B: BookId, G: Gate + Drop> RunningGroup<B, G> {
             drop: net.drop,
             repeat: net.repeat,
             flying: AtomicU64::new(0),
-            calls,
+            landed: Bell::new(),
+            lost: AtomicU64::new(0),
             servers: [
-                workers_of_server(alloc),
-                workers_of_server(alloc),
-                workers_of_server(alloc),
-                workers_of_server(alloc),
-                workers_of_server(alloc),
+                at_server(alloc),
+                at_server(alloc),
+                at_server(alloc),
+                at_server(alloc),
+                at_server(alloc),
             ],
+            clients,
             gate,
             stopped: AtomicBool::new(false),
         })
@@ -187,32 +205,57 @@ impl<B: BookId, G: Gate + Drop> RunningGroup<B, G> {
 
     /// Waits until each message that was put is done with: its receiver took it or refused it, and
     /// what that sent was put or lost. It looks so often at most, and then goes on; it answers how
-    /// often it looked. Other threads change what it sees, so no clause says what that was.
+    /// often it looked. Other threads change what it sees, so no clause says what that was. Between
+    /// its looks it gives way to the threads, and later sleeps until the last message is done with,
+    /// or for a millisecond.
     /// - `most`: it does not look more often.
     /// - `least`: it looks where it may.
-    pub fn flow(&self, looks: u64) -> u64
+    pub fn flow<R: Wait>(&self, rt: &R, looks: u64) -> u64
         ensures most { result ≤ looks }
         ensures least { 0 < looks → 0 < result }
     {
         let mut looked = 0;
         for _ in 0..looks {
             looked += 1;
-            if self.flying.load(Ordering::SeqCst) == 0 {
+            let heard = self.landed.rings();
+            if self.in_flight() == 0 {
                 break;
             }
-            thread::yield_now();
+            self.rest(rt, looked, heard);
         }
         looked
+    }
+
+    // What a `flow` does after this look.
+    fn rest<R: Wait>(&self, rt: &R, looked: u64, heard: u64) {
+        if looked <= YIELDS {
+            thread::yield_now();
+        } else {
+            self.landed
+                .wait_once(rt, heard, Duration::from_micros(PATIENCE));
+        }
+    }
+
+    /// How many messages were put and are not done with. Other threads change the number, so no
+    /// clause says what it is.
+    pub fn in_flight(&self) -> u64 {
+        self.flying.load(Ordering::SeqCst)
+    }
+
+    /// How many messages were lost so far since a queue had no room, or since there was no memory
+    /// for them, modulo 2^64: not those that are lost by their fate. A message that comes twice may
+    /// find no room twice; one for which there is no memory to come twice comes once, and is not
+    /// lost. What is on its way when a group is stopped is not counted either. Other threads change
+    /// the number, so no clause says what it is.
+    pub fn lost_messages(&self) -> u64 {
+        self.lost.load(Ordering::SeqCst)
     }
 
     // What comes of a turn goes where it belongs. The workers of a server look again. Messages that
     // found no memory are lost.
     fn settle<R: Wait>(&self, rt: &R, actor: Actor, turned: Turn<B>) {
-        let Turn {
-            work,
-            sent,
-            unsent: _,
-        } = turned;
+        let Turn { work, sent, unsent } = turned;
+        self.lost.fetch_add(unsent as u64, Ordering::SeqCst);
         for envelope in sent {
             self.post(rt, envelope);
         }
@@ -221,21 +264,30 @@ impl<B: BookId, G: Gate + Drop> RunningGroup<B, G> {
         }
     }
 
-    // What came for a server's workers waits for them; what there is no memory for is lost. Where
-    // the server is down, also for want of memory, they have nothing any more.
+    // What came for a server's workers waits for them, and they are woken; what there is no memory
+    // for is lost. Where nothing came, those that sleep are woken only where something waits.
     //
     // The turn is counted first: a worker that took work up before it, and puts it back for a later
-    // state, looks again. Those that sleep are woken only where something waits.
+    // state, looks again.
     fn admit<R: Wait>(&self, rt: &R, server: ServerId, work: Sequence<Work>) {
         let workers = &self.servers[server.place()];
-        workers.turned.count(rt);
-        if self.is_up(rt, server) {
+        workers.turned.count();
+        if !work.is_empty() {
             let _ = workers.work.lock(rt).admit(work);
+            workers.turned.ring();
+        } else if !workers.work.lock(rt).is_idle() {
+            self.look_again(rt, server);
+        }
+    }
+
+    // Something waits for a server's workers after a turn. Where the server is down, also for want
+    // of memory, they have nothing any more.
+    fn look_again<R: Wait>(&self, rt: &R, server: ServerId) {
+        let workers = &self.servers[server.place()];
+        if self.is_up(rt, server) {
+            workers.turned.ring();
         } else {
             workers.work.lock(rt).forget();
-        }
-        if !workers.work.lock(rt).is_idle() {
-            workers.turned.ring(rt);
         }
     }
 
@@ -248,42 +300,46 @@ impl<B: BookId, G: Gate + Drop> RunningGroup<B, G> {
 
     // What becomes of a message that is sent.
     fn post<R: Wait>(&self, rt: &R, envelope: Envelope<B>) {
-        let word = self.fates.lock(rt).next();
-        match fate(word, self.drop, self.repeat) {
-            MessageFate::Lose => drop(envelope),
-            MessageFate::Once => self.put(rt, envelope),
-            MessageFate::Repeat => match self.cells.again(envelope) {
-                Ok((one, other)) => {
-                    self.put(rt, one);
-                    self.put(rt, other);
-                }
-                Err(one) => self.put(rt, one),
-            },
+        let (first, second) = copies(
+            &self.cells,
+            envelope,
+            times(rt, &self.fates, self.drop, self.repeat),
+        );
+        if let Some(envelope) = first {
+            self.put(rt, envelope);
+        }
+        if let Some(envelope) = second {
+            self.put(rt, envelope);
         }
     }
 
-    // A message is put on its way, or lost where there is no room.
+    // A message is put on its way, and the thread of its receiver is woken. Where there is no room
+    // it is lost.
     fn put<R: Wait>(&self, rt: &R, envelope: Envelope<B>) {
         let receiver = envelope.receiver();
         self.flying.fetch_add(1, Ordering::SeqCst);
         if self.net.put(rt, envelope.receiver(), envelope).is_err() {
-            self.flying.fetch_sub(1, Ordering::SeqCst);
+            self.lost.fetch_add(1, Ordering::SeqCst);
+            self.land();
             return;
         }
-        self.call(rt, receiver);
+        if let Some(bell) = self.bell_of(receiver) {
+            bell.ring();
+        }
     }
 
-    // Wakes the thread of an actor.
-    fn call<R: Wait>(&self, rt: &R, receiver: Actor) {
-        let mut bells = self.calls.iter();
-        for actor in self.cells.actors() {
-            let Some(bell) = bells.next() else {
-                return;
-            };
-            if *actor == receiver {
-                bell.ring(rt);
-                return;
-            }
+    // A message is done with. Where it was the last, who waits in a `flow` is woken.
+    fn land(&self) {
+        if self.flying.fetch_sub(1, Ordering::SeqCst) == 1 {
+            self.landed.ring();
+        }
+    }
+
+    // The bell of an actor.
+    fn bell_of(&self, actor: Actor) -> Option<&Bell> {
+        match actor {
+            Actor::Server(server) => Some(&self.servers[server.place()].called),
+            Actor::Client(client) => self.clients.get(usize::from(client.number()) - 1),
         }
     }
 
@@ -298,18 +354,20 @@ impl<B: BookId, G: Gate + Drop> RunningGroup<B, G> {
         if let Ok(turned) = turned {
             self.settle(rt, receiver, turned);
         }
-        self.flying.fetch_sub(1, Ordering::SeqCst);
+        self.land();
         true
     }
 
     // The thread of the actor at this place.
     fn run_actor<R: Wait>(&self, rt: &R, place: usize) {
-        let (Some(bell), Some(actor)) = (self.calls.get(place), self.cells.actors().get(place))
-        else {
+        let Some(actor) = self.cells.actors().get(place) else {
+            return;
+        };
+        let Some(bell) = self.bell_of(*actor) else {
             return;
         };
         for _ in rt.forever() {
-            let heard = bell.rings(rt);
+            let heard = bell.rings();
             if self.stopped.load(Ordering::SeqCst) {
                 return;
             }
@@ -341,7 +399,7 @@ impl<B: BookId, G: Gate + Drop> RunningGroup<B, G> {
         };
         let bell = &self.servers[server.place()].turned;
         for _ in rt.forever() {
-            let heard = bell.rings(rt);
+            let heard = bell.rings();
             if self.stopped.load(Ordering::SeqCst) {
                 return;
             }
@@ -362,13 +420,14 @@ impl<B: BookId, G: Gate + Drop> RunningGroup<B, G> {
     }
 
     // Every thread ends once it is done with what it is at.
-    fn stop<R: Wait>(&self, rt: &R) {
+    fn stop(&self) {
         self.stopped.store(true, Ordering::SeqCst);
-        for bell in &self.calls {
-            bell.ring(rt);
+        for bell in &self.clients {
+            bell.ring();
         }
         for server in &self.servers {
-            server.turned.ring(rt);
+            server.called.ring();
+            server.turned.ring();
         }
     }
 }
@@ -447,27 +506,26 @@ where
     G: Gate + Drop,
     R: Threads + Wait,
 {
-    group.stop(rt);
+    group.stop();
     for handle in threads.handles {
         handle.join(rt);
     }
 }
 
-/// Stops the threads of a group, each once it is done with what it is at, and gives the cells back
-/// once all have ended; none where somebody else still has the group. What is on its way is lost,
-/// and what waits for workers is dropped.
-/// - `cells`: what is given back are the group's cells.
+/// Stops the threads of a group, each once it is done with what it is at, and gives the group back
+/// once all have ended; none where somebody else still has it. Nothing is taken any more then.
+/// - `group`: what is given back is the group, with its cells.
 pub fn stop<B, G, R>(
     rt: &R,
     group: Arc<RunningGroup<B, G>, Global>,
     threads: GroupThreads,
-) -> Option<Cells<B>>
+) -> Option<RunningGroup<B, G>>
 where
     B: BookId,
     G: Gate + Drop,
     R: Threads + Wait,
-    ensures cells { IfSome result (λ cells. cells ≡ (arc_value group).cells) }
+    ensures group { IfSome result (λ stopped. stopped ≡ arc_value group) }
 {
     end(rt, &group, threads);
-    Some(Arc::into_inner(group)?.into_cells())
+    Arc::into_inner(group)
 }

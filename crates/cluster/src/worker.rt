@@ -5,8 +5,9 @@ ghost use Rattle.rows.specs.declared.actor.Actor.TheVariants as actors;
 ghost use Rattle.cluster.specs.Actors.{group_size};
 ghost use Rattle.cluster.specs.Cells.{AreSent};
 ghost use Rattle.cluster.specs.Turns.{CellHasState, TookAsking, WhyNoState, WhyNoWorkerTurn};
-ghost use Rattle.cluster.specs.Inner.Asked.{IsHandled};
+ghost use Rattle.cluster.specs.Inner.Asked.{IsHandled, least_index};
 
+use crate::actor::GroupActor;
 use crate::cell::Turn;
 use crate::cells::{Cells, turn};
 use crate::envelope::Envelope;
@@ -47,6 +48,35 @@ pub struct WorkerTurn<B: BookId> {
 fn pass<G: Gate>(gate: &G, response: &WorkerResponse) {
     if let WorkerResponse::Delivered(Some(delivery)) = response {
         gate.pass(delivery);
+    }
+}
+
+// How many entries a server must have applied for its workers to go on with what came for them.
+fn least_index(response: &WorkerResponse) -> Index
+    ensures { result ≡ least_index response.now }
+{
+    match response {
+        WorkerResponse::Delivered(Some(delivery)) => delivery.wait,
+        WorkerResponse::PlanResult(result) => result.last,
+        WorkerResponse::Delivered(None) | WorkerResponse::Refused(_, _) => Index::ZERO,
+    }
+}
+
+// Whether a server that is up has applied fewer entries. Its cell is locked meanwhile.
+fn is_behind<B: BookId, R: Wait>(rt: &R, cells: &Cells<B>, server: ServerId, least: Index) -> bool {
+    match cells.lock(rt, Actor::Server(server)) {
+        Some(cell) => has_applied_less(cell.actor(), least),
+        None => false,
+    }
+}
+
+fn has_applied_less(actor: &GroupActor, least: Index) -> bool {
+    let GroupActor::Server(server) = actor else {
+        return false;
+    };
+    match server.applied() {
+        Some(applied) => applied < least,
+        None => false,
     }
 }
 
@@ -103,7 +133,8 @@ fn handled<R: Wait>(
 
 /// A worker of a server takes up the oldest work that waits: it copies its server's state under the
 /// lock of the server's cell, passes the gate where an evaluation was delivered, plans, and lets its
-/// server take in what it asks. It holds no lock while it passes the gate and plans.
+/// server take in what it asks. It holds no lock while it passes the gate and plans. Where the work
+/// needs a later state, it copies none and passes no gate.
 ///
 /// It is refused with `OutOfRange` where the group has no such server, with `Down` where it is
 /// down, with `NoMemory`, and as `Cell::take` refuses; what it took up is lost then, unless there
@@ -132,6 +163,10 @@ pub fn worker_turn<B: BookId, G: Gate, R: Wait>(
     let Some(taken) = workers.lock(rt).take() else {
         return Ok(resting(false));
     };
+    if is_behind(rt, cells, server, least_index(&taken.work.response)) {
+        workers.lock(rt).put_back(taken)?;
+        return Ok(resting(false));
+    }
     let (state, index) = snapshot(rt, cells, server)?;
     pass(gate, &taken.work.response);
     match handled(rt, cells.alloc, workers, taken, &state, index)? {

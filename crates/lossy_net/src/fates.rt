@@ -1,7 +1,9 @@
 //! The words that decide, drawn one after the other.
 ghost use Rattle.std.specs.Prelude.{◌≡◌, ◌+◌, ◌%◌, ◌^◌};
+ghost use Rattle.lossy_net.specs.Fates.{IsPutSoOften};
 ghost use Rattle.lossy_net.specs.Words.{nth_word};
 
+use crate::message_fate::{MessageFate, fate};
 use rand_chacha::ChaCha8Rng;
 use rand_core::SeedableRng;
 use rand_core::utils::NextWord;
@@ -56,5 +58,22 @@ impl Fates {
         ensures drawn { self.new.drawn ≡ (self.old.drawn + 1) % 2 ^ 68 }
     {
         self.words.next_word()
+    }
+
+    /// How often the next message is put on its way, where `drop` percent of the messages are to be
+    /// lost and `repeat` percent to come twice: the next word gives it its fate, as `fate` says.
+    /// - `times`: never where it is lost, twice where it is repeated, and else once.
+    /// - `key`: the words to come are those of the same key.
+    /// - `drawn`: one more was drawn.
+    pub fn times(&mut self, drop: u8, repeat: u8) -> u8
+        ensures times { IsPutSoOften (nth_word self.old.key self.old.drawn) drop repeat result }
+        ensures key { self.new.key ≡ self.old.key }
+        ensures drawn { self.new.drawn ≡ (self.old.drawn + 1) % 2 ^ 68 }
+    {
+        match fate(self.next(), drop, repeat) {
+            MessageFate::Lose => 0,
+            MessageFate::Once => 1,
+            MessageFate::Repeat => 2,
+        }
     }
 }

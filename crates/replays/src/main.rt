@@ -22,6 +22,7 @@ fn main(rt: HostRuntime) -> io::Result<()> {
     threads::elections(&rt, rt)?;
     threads::placements(&rt, rt)?;
     threads::nodes(&rt, rt)?;
+    threads::losses(&rt, rt)?;
     threads::replayed(&rt, rt)?;
     said::no_transcripts(&rt, rt)?;
     said::command_lines(&rt, rt)?;

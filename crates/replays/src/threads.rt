@@ -50,6 +50,14 @@ const FIRST: &[u8] = b"alloc web.main[0] id 5.0 node 1 running";
 
 const SECOND: &[u8] = b"alloc web.main[1] id 5.1 node 2 running";
 
+// A group that has no leader, and one client.
+const CROWDED: &[u8] = b"{ \"servers\": 3, \"nodes\": [
+    {\"class\": \"linux\", \"cpu\": 1000, \"mem\": 1000}],
+  \"key\": 0, \"drop\": 0, \"repeat\": 0, \"order\": \"sent\", \"steps\": [
+    \"timeout 1\"";
+
+const HEARTBEATS: u32 = 20_000;
+
 // How many times each is played; each time the threads may meet in another order.
 const TIMES: u32 = 20;
 
@@ -112,6 +120,50 @@ pub(crate) fn placements<R: Threads + Wait + Copy + Send + 'static>(
         }
     }
     println!(rt; "threads of a placement: as foreseen {count} times")
+}
+
+// More heartbeats than wait in a queue, none of which is waited for.
+fn crowding(rt: &HostRuntime) -> Result<Vec<u8>, AllocError> {
+    let mut text = CROWDED.to_vec(rt.alloc())?;
+    for _ in 0..HEARTBEATS {
+        text.extend_from_slice(b", \"ping 1 1\"")?;
+    }
+    text.extend_from_slice(b"] }")?;
+    Ok(text)
+}
+
+/// Plays heartbeats until some find no room, and says whether the standard error was told of that
+/// in one line, with status 0.
+pub(crate) fn losses<R: Threads + Wait + Copy + Send + 'static>(
+    rt: &HostRuntime,
+    on: R,
+) -> io::Result<()> {
+    let text = crowding(rt)?;
+    let mut is_told = false;
+    for _ in 0..TIMES {
+        let mut folder = Folder::new(rt, &text);
+        let printed = run_words(rt, on, &mut folder, &["nomadsim", "threads", "text.json"]);
+        let err = printed.err.as_slice();
+        if !err.is_empty() {
+            is_told = printed.status == 0 && is_loss(err);
+            break;
+        }
+    }
+    println!(rt; "threads without room: told {is_told}")
+}
+
+// Whether this is the one line of lost messages.
+fn is_loss(text: &[u8]) -> bool {
+    let (head, tail) = (b"nomadsim: lost ", b" messages\n");
+    let Some(rest) = text.strip_prefix(head) else {
+        return false;
+    };
+    match rest.strip_suffix(tail) {
+        Some(number) => !number.is_empty()
+            && number[0] != b'0'
+            && number.iter().all(|byte| byte.is_ascii_digit()),
+        None => false,
+    }
 }
 
 // The scenario of a file, on a net that loses 20 of a hundred messages and repeats 20.

@@ -115,6 +115,18 @@ IsPlay (Check file) = ⊥
 abbrev pub AskForPlay : List Text → Type 0
 AskForPlay words = (line : CommandLine) × AskFor words line × IsPlay line
 
+-- the line asks for a run on threads
+abbrev pub IsThreads : CommandLine → Type 0
+IsThreads (Run file out) = ⊥
+IsThreads (Threads file workers out) = Unit {0}
+IsThreads (Replay file) = ⊥
+IsThreads (Draw file) = ⊥
+IsThreads (Check file) = ⊥
+
+-- the words ask for such a line
+abbrev pub AskForThreads : List Text → Type 0
+AskForThreads words = (line : CommandLine) × AskFor words line × IsThreads line
+
 -- the kinds of error that the first fault of the words may have, none where there is no fault:
 -- those that `clap` finds, and where it finds none that of a number of workers that is none
 abbrev pub words_fault : List Text → Kinds

@@ -2,7 +2,7 @@
 ghost use Rattle.std.specs.Prelude.{◌≡◌, ◌≢◌, ◌≤◌, ◌⊎◌, [], IfErr, IfOk, map};
 ghost use Rattle.runner.specs.Faults.{IsExit, IsStatus};
 ghost use Rattle.runner.specs.Inner.Faults.{MayEndBy};
-ghost use Rattle.runner.specs.Words.{AskForPlay, IsPlay, words_fault};
+ghost use Rattle.runner.specs.Words.{AskForPlay, AskForThreads, IsPlay, IsThreads, words_fault};
 ghost use Rattle.runner.specs.declared.fault.Fault.TheVariants.{Output};
 
 use crate::checking::check_file;
@@ -22,6 +22,8 @@ use std::thread::Threads;
 /// answers its exit status: 0 where every step was taken, 1 where one was refused, 2 for a bad
 /// command line, a bad file, or an output that failed, 3 where there was no memory. What is said is
 /// flushed before the status is answered.
+/// - `quiet`: at status 0 and 1 the standard error is told nothing, but under `threads` how many
+///   messages were lost.
 ///
 /// Under `threads` it starts threads and waits for them, so that its return is not claimed.
 pub fn nomadsim<'a, R, F: Shelf, W: Write, E: Write>(
@@ -36,11 +38,12 @@ where
     R: Threads + Wait + Copy + Send + 'static,
     ensures most { result ≤ 3 }
     ensures exit { IsExit (words_fault (map (λ w. w.now) words.entry.now)) result }
-    ensures quiet { result ≤ 1 → err.new ≡ err.old }
+    ensures quiet { result ≤ 1 → (err.new ≡ err.old)
+        ⊎ AskForThreads (map (λ w. w.now) words.entry.now) }
     ensures played { result ≡ 1 → AskForPlay (map (λ w. w.now) words.entry.now) }
     ensures unread { words_fault (map (λ w. w.now) words.entry.now) ≢ [] → shelf.new ≡ shelf.old }
 {
-    match run(rt, alloc, words, shelf, out) {
+    match run(rt, alloc, words, shelf, out, err) {
         Ok(status) => status,
         Err(fault) => report(&fault, out, err),
     }
@@ -70,12 +73,13 @@ fn report<W: Write, E: Write>(fault: &Fault<'_>, out: &mut W, err: &mut E) -> u8
     status
 }
 
-fn run<'a, R, F: Shelf, W: Write>(
+fn run<'a, R, F: Shelf, W: Write, E: Write>(
     rt: R,
     alloc: Global,
     words: &'a [&'a str],
     shelf: &mut F,
     out: &mut W,
+    err: &mut E,
 ) -> Result<u8, Fault<'a>>
 where
     R: Threads + Wait + Copy + Send + 'static,
@@ -84,27 +88,30 @@ where
     ensures err { IfErr result (MayEndBy (words_fault (map (λ w. w.now) words.entry.now))) }
     ensures played { IfOk result (λ status. status ≡ 1
         → AskForPlay (map (λ w. w.now) words.entry.now)) }
+    ensures quiet { (err.new ≡ err.old) ⊎ AskForThreads (map (λ w. w.now) words.entry.now) }
     ensures unread { words_fault (map (λ w. w.now) words.entry.now) ≢ [] → shelf.new ≡ shelf.old }
 {
     match command(alloc, words) {
-        Ok(line) => obey(rt, alloc, line, shelf, out),
+        Ok(line) => obey(rt, alloc, line, shelf, out, err),
         Err(error) if error.kind() == ErrorKind::OutOfMemory => Err(Fault::NoMemory),
         Err(error) => Err(Fault::CommandLine(error)),
     }
 }
 
 // Does what the command line asks for.
-fn obey<'a, R, F: Shelf, W: Write>(
+fn obey<'a, R, F: Shelf, W: Write, E: Write>(
     rt: R,
     alloc: Global,
     line: CommandLine<'a>,
     shelf: &mut F,
     out: &mut W,
+    err: &mut E,
 ) -> Result<u8, Fault<'a>>
 where
     R: Threads + Wait + Copy + Send + 'static,
     ensures ok { IfOk result (λ status. status ≤ 1) }
     ensures played { IfOk result (λ status. status ≡ 1 → IsPlay line.entry) }
+    ensures quiet { (err.new ≡ err.old) ⊎ IsThreads line.entry }
 {
     match line {
         CommandLine::Run { file, out: to } => run_file(alloc, shelf, out, file, to),
@@ -112,7 +119,7 @@ where
             file,
             workers,
             out: to,
-        } => threads_file(rt, alloc, shelf, out, file, workers, to),
+        } => threads_file(rt, alloc, shelf, out, err, file, workers, to),
         CommandLine::Replay { file } => replay_file(alloc, shelf, out, file),
         CommandLine::Draw { file } => draw_file(alloc, shelf, out, file),
         CommandLine::Check { file } => check_file(alloc, shelf, out, file),

@@ -1,6 +1,8 @@
 //! A scenario's file, played on threads.
-ghost use Rattle.std.specs.Prelude.{◌≡◌, ◌≤◌, IfOk, length};
+ghost use Rattle.std.specs.Prelude.{◌≡◌, ◌≢◌, ◌≤◌, IfOk, OnOk, length};
+ghost use Rattle.std.specs.Io.KnownBytes.{Appends};
 ghost use Rattle.world.specs.GroupView.{nodes_of, renumbered};
+ghost use Rattle.runner.specs.Inner.Printed.{lost_line};
 
 use crate::ending::print_end;
 use crate::fault::Fault;
@@ -12,6 +14,7 @@ use cluster::{Cells, NetSettings, OpenGate, OwnInput, RunningGroup, cells_of, cl
 use event_book::{BookId, OpenedBook};
 use rows::{Actor, ClientId, NoMemory, Refusal, ServerId};
 use std::alloc::Global;
+use std::io;
 use std::io::Write;
 use std::marker::Brand;
 use std::sync::{Arc, Wait};
@@ -25,23 +28,31 @@ const ROOM: usize = 1_024;
 const LOOKS: u64 = 10_000_000;
 
 /// Plays a scenario on threads, one for each actor and so many workers for each server: says each
-/// refused step at once, writes the transcript where one is asked for, and then says how the group
-/// stands.
-pub(crate) fn threads_file<'a, F: Shelf, W: Write, R: Threads + Wait + Copy + Send + 'static>(
+/// refused step at once, tells the standard error how many messages were lost where any was, writes
+/// the transcript where one is asked for, and then says how the group stands.
+pub(crate) fn threads_file<'a, F, W, E, R>(
     rt: R,
     alloc: Global,
     shelf: &mut F,
     out: &mut W,
+    err: &mut E,
     file: &'a str,
     workers: u8,
     transcript: Option<&'a str>,
 ) -> Result<u8, Fault<'a>>
+where
+    F: Shelf,
+    W: Write,
+    E: Write,
+    R: Threads + Wait + Copy + Send + 'static,
     ensures { IfOk result (λ status. status ≤ 1) }
 {
     let scenario = load(alloc, shelf, file)?;
     check_steps(alloc, &scenario)?;
     let book = open_book(alloc, &scenario)?;
-    let (status, world) = play_threads::<Brand, _, _>(rt, alloc, out, &scenario, workers, book)?;
+    let (status, world) = play_threads::<Brand, _, _, _>(
+        rt, alloc, out, err, &scenario, workers, book,
+    )?;
     if let Some(name) = transcript {
         save(alloc, shelf, &world, name)?;
     }
@@ -63,7 +74,7 @@ impl<B: BookId, R: Wait> Stage for OnThreads<B, R> {
             Step::Event(event) => self.event(event),
             Step::Work(_) => Ok(()),
             Step::Flow(_) => {
-                self.group.flow(LOOKS);
+                self.group.flow(&self.rt, LOOKS);
                 Ok(())
             }
         }
@@ -164,10 +175,11 @@ fn held<B: BookId>(
 
 // Plays the steps while the threads run; then the threads end, and the group is closed to its
 // world.
-fn play_threads<'a, B, W, R>(
+fn play_threads<'a, B, W, E, R>(
     rt: R,
     alloc: Global,
     out: &mut W,
+    err: &mut E,
     scenario: &Scenario,
     workers: u8,
     opened: OpenedBook<OwnInput>,
@@ -175,6 +187,7 @@ fn play_threads<'a, B, W, R>(
 where
     B: BookId + Send + Sync + 'static,
     W: Write,
+    E: Write,
     R: Threads + Wait + Copy + Send + 'static,
     requires book { opened ≡ (B.table, B.actors) }
     requires nodes { scenario.now.nodes.items ≡ B.nodes }
@@ -194,11 +207,22 @@ where
     let threads = start(rt, alloc, &group, workers)?;
     let played = play_steps(alloc, out, &mut stage, scenario);
     drop(stage);
-    let cells = stop(&rt, group, threads);
-    let status = played?;
-    match cells {
-        Some(cells) => Ok((status, close(alloc, cells.into_cells()?)?)),
-        // Nobody else has the group once its threads have ended.
-        None => Err(Fault::NoMemory),
+    // Nobody else has the group once its threads have ended.
+    let group = stop(&rt, group, threads).ok_or(Fault::NoMemory)?;
+    // Where the standard error fails, the run goes on.
+    let _ = tell_lost(err, group.lost_messages());
+    Ok((played?, close(alloc, group.into_cells().into_cells()?)?))
+}
+
+// Tells the standard error how many messages were lost, where any was.
+fn tell_lost<E: Write>(err: &mut E, lost: u64) -> io::Result<()>
+    ensures none { lost ≡ 0 → err.new ≡ err.old }
+    ensures line { OnOk result (lost ≢ 0
+        → Appends (E.contents err.old) (E.contents err.new) (lost_line lost)) }
+{
+    if lost == 0 {
+        return Ok(());
     }
+    writeln!(err, "nomadsim: lost {lost} messages")?;
+    err.flush()
 }

@@ -1,5 +1,5 @@
 -- Events as those of the group, where how many outputs each had is known.
-use Rattle.std.specs.Prelude.{◌≡◌, ℕ, zero, suc, ◌+◌, Some, List, [], ◌∷◌, length, map, slice_get}
+use Rattle.std.specs.Prelude.{◌≡◌, ℕ, zero, suc, ◌+◌, ◌<◌, Some, List, [], ◌∷◌, length, map, slice_get, slice_index}
 use Rattle.rows.specs.declared.actor.Actor.{Actor}
 use Rattle.group_model.specs.Worlds.{Event, Deliver}
 use Rattle.world.specs.declared.group.event.Event.{Event as GroupEvent}
@@ -50,3 +50,25 @@ pub record NumberedSoFar (log done : List TakenEvent) (made : List GroupEvent) (
   pub size : length before ≡ length done
   pub offsets : AreOffsets log before
   pub total : sum ≡ outputs_before log (length done)
+
+-- of an event at this place among these: a delivery is of an output of one that stands before it
+abbrev pub IsDue : List TakenEvent → ℕ → KeptEvent → Type 0
+IsDue all k (Own input) = Unit {0}
+IsDue all k (Delivery stamp place) =
+    (stamp < k) × (sender : TakenEvent) × (slice_get all stamp ≡ Some sender) × (place < sender.sent)
+IsDue all k Crash = Unit {0}
+
+abbrev pub AreDue : List TakenEvent → Type 0
+AreDue all = (k : ℕ) (x : TakenEvent) → slice_get all k ≡ Some x → IsDue all k x.event
+
+-- a delivery is of one of the outputs so far, of which so many come before those of each event
+abbrev pub FallsWithin : List ℕ → ℕ → KeptEvent → Type 0
+FallsWithin offsets total (Own input) = Unit {0}
+FallsWithin offsets total (Delivery stamp place) =
+    (stamp < length offsets) × (slice_index offsets stamp + place < total)
+FallsWithin offsets total Crash = Unit {0}
+
+abbrev pub IsNoDelivery : KeptEvent → Type 0
+IsNoDelivery (Own input) = Unit {0}
+IsNoDelivery (Delivery stamp place) = ⊥
+IsNoDelivery Crash = Unit {0}

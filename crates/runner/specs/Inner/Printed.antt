@@ -16,6 +16,10 @@ use Rattle.runner.specs.EachLine.{OfEachLine}
 use Rattle.runner.specs.Objects.{IsScenarioText}
 use Rattle.runner.specs.WrongTexts.{wrong_text}
 
+-- what the standard error is told of so many lost messages
+abbrev pub lost_line : ℕ → List ℕ
+lost_line lost = codes "nomadsim: lost " ++ decimal lost ++ codes " messages\n"
+
 -- the line of a refusal, of the line of a step or an event
 abbrev pub refusal_line : Refusal → List ℕ → List ℕ
 refusal_line refusal line = codes "refused " ++ decimal (number_of refusal) ++ 32 ∷ line ++ 10 ∷ []

@@ -1,17 +1,18 @@
 //! Groups on threads: while one worker is held at the gate, others plan and their plans are
-//! applied; and while one server's cell is held, others take their turns. Each gives up after so
-//! many turns of waiting. What has to come of it is worked out by hand from Raft and from Nomad's
-//! scheduling.
+//! applied; while one server's cell is held, others take their turns; and elections on nets that
+//! lose and repeat messages. Each gives up after so many turns of waiting. What has to come of it is
+//! worked out by hand from Raft and from Nomad's scheduling, and the words of keys by a program that
+//! was written from Bernstein's paper.
 ghost use Rattle.std.specs.Prelude.{◌≡◌};
 
 use crate::tests::cells::{actor, nodes, opened};
 use cluster::{
-    Cells, Gate, GroupActor, NetSettings, OpenGate, OwnInput, RunningGroup, cells_of, close, start,
-    stop,
+    Cells, Gate, GroupActor, GroupThreads, NetSettings, OpenGate, OwnInput, RunningGroup, cells_of,
+    close, start, stop,
 };
 use event_book::{BookId, OpenedBook};
 use raft_core::Role;
-use rows::{Actor, Delivery, Name, NodeSpec, Refusal};
+use rows::{Actor, Delivery, Name, NodeSpec, Refusal, ServerId};
 use server::Server;
 use std::alloc::Global;
 use std::marker::Brand;
@@ -55,6 +56,14 @@ struct HoldingGate {
     open: AtomicBool,
 }
 
+// A gate that holds the first that comes.
+fn closed_gate() -> HoldingGate {
+    HoldingGate {
+        holds: AtomicBool::new(false),
+        open: AtomicBool::new(false),
+    }
+}
+
 impl Gate for HoldingGate {
     fn pass(&self, _of: &Delivery) {
         if self.holds.swap(true, Ordering::SeqCst) {
@@ -76,8 +85,8 @@ fn wait() {
     }
 }
 
-// An actor takes the event of a line; then all messages come.
-fn hand<B: BookId, G: Gate + Drop, R: Wait>(
+// An actor takes the event of a line.
+fn give<B: BookId, G: Gate + Drop, R: Wait>(
     rt: &R,
     alloc: Global,
     group: &RunningGroup<B, G>,
@@ -85,14 +94,24 @@ fn hand<B: BookId, G: Gate + Drop, R: Wait>(
 ) -> Result<(), Refusal> {
     match read_event(alloc, line)? {
         Event::Server(server, input) => {
-            group.hand(rt, Actor::Server(server), OwnInput::Server(input))?;
+            group.hand(rt, Actor::Server(server), OwnInput::Server(input))
         }
         Event::Client(client, input) => {
-            group.hand(rt, Actor::Client(client), OwnInput::Client(input))?;
+            group.hand(rt, Actor::Client(client), OwnInput::Client(input))
         }
-        Event::Deliver(_) => return Err(Refusal::OutOfRange),
+        Event::Deliver(_) => Err(Refusal::OutOfRange),
     }
-    group.flow(FLOW);
+}
+
+// An actor takes the event of a line; then all messages come.
+fn hand<B: BookId, G: Gate + Drop, R: Wait>(
+    rt: &R,
+    alloc: Global,
+    group: &RunningGroup<B, G>,
+    line: &str,
+) -> Result<(), Refusal> {
+    give(rt, alloc, group, line)?;
+    group.flow(rt, FLOW);
     Ok(())
 }
 
@@ -199,6 +218,7 @@ fn group<B: BookId, G: Gate + Drop>(
     alloc: Global,
     opened: OpenedBook<OwnInput>,
     nodes: Vec<NodeSpec>,
+    net: NetSettings,
     gate: G,
 ) -> Result<RunningGroup<B, G>, Refusal>
     requires book { opened ≡ (B.table, B.actors) }
@@ -207,13 +227,16 @@ fn group<B: BookId, G: Gate + Drop>(
     let (book, seats) = opened.seats::<B>(alloc)?;
     let cells = cells_of(alloc, 3, nodes.as_slice(), &book, seats)?;
     let cells = Cells::open(alloc, 3, nodes.len(), book, cells)?;
-    RunningGroup::new(alloc, cells, NET, gate)
+    RunningGroup::new(alloc, cells, net, gate)
 }
 
-// The world to which a group on threads closes.
-fn closed<B: BookId>(alloc: Global, cells: Option<Cells<B>>) -> Result<World, Refusal> {
-    match cells {
-        Some(cells) => Ok(close(alloc, cells.into_cells()?)?),
+// The world to which a group closes that was stopped. Nobody else has it, so it is given back.
+fn closed<B: BookId, G: Gate + Drop>(
+    alloc: Global,
+    stopped: Option<RunningGroup<B, G>>,
+) -> Result<World, Refusal> {
+    match stopped {
+        Some(group) => Ok(close(alloc, group.into_cells().into_cells()?)?),
         None => Err(Refusal::OutOfRange),
     }
 }
@@ -230,11 +253,8 @@ where
     requires book { opened ≡ (B.table, B.actors) }
     requires nodes { nodes.items ≡ B.nodes }
 {
-    let gate = HoldingGate {
-        holds: AtomicBool::new(false),
-        open: AtomicBool::new(false),
-    };
-    let group = Arc::new(alloc, group::<B, _>(alloc, opened, nodes, gate)?)?;
+    let group = group::<B, _>(alloc, opened, nodes, NET, closed_gate())?;
+    let group = Arc::new(alloc, group)?;
     let threads = start(rt, alloc, &group, 1)?;
     let came = hold_one(&rt, alloc, &group);
     group.gate().open.store(true, Ordering::SeqCst);
@@ -242,26 +262,34 @@ where
     came
 }
 
-// While server 1's cell is held, server 3 is elected by server 2; whether it is.
-fn elect<B: BookId, G: Gate + Drop, R: Wait>(
-    rt: &R,
+// The threads of a group start while the cell of server 1 is held, and server 3 has asked both
+// others for their votes. Whether it leads by that of server 2, while the cell is still held.
+fn elect<B, R>(
+    rt: R,
     alloc: Global,
-    group: &RunningGroup<B, G>,
-) -> Result<bool, Refusal> {
-    let Some(_held) = group.cells().lock(rt, actor(1)?) else {
-        return Ok(false);
+    group: &Arc<RunningGroup<B, OpenGate>, Global>,
+) -> Result<(bool, GroupThreads), Refusal>
+where
+    B: BookId + Send + Sync + 'static,
+    R: Threads + Wait + Copy + Send + 'static,
+{
+    let Some(_held) = group.cells().lock(&rt, actor(1)?) else {
+        return Err(Refusal::OutOfRange);
     };
-    let Event::Server(server, input) = read_event(alloc, "timeout 3")? else {
-        return Ok(false);
-    };
-    group.hand(rt, Actor::Server(server), OwnInput::Server(input))?;
+    let threads = start(rt, alloc, group, 1)?;
+    let elected = is_elected(&rt, group);
+    Ok((elected, threads))
+}
+
+// Waits until what server 1 is asked is alone on its way; whether server 3 leads then.
+fn is_elected<B: BookId, R: Wait>(rt: &R, group: &RunningGroup<B, OpenGate>) -> bool {
     for _ in 0..LIMIT {
-        if leads(rt, group)? {
-            return Ok(true);
+        if group.in_flight() == 1 {
+            return matches!(leads(rt, group), Ok(true));
         }
         wait();
     }
-    Ok(false)
+    false
 }
 
 // Whether server 3 leads.
@@ -292,12 +320,107 @@ where
     requires book { opened ≡ (B.table, B.actors) }
     requires nodes { nodes.items ≡ B.nodes }
 {
-    let group = Arc::new(alloc, group::<B, _>(alloc, opened, nodes, OpenGate)?)?;
-    let threads = start(rt, alloc, &group, 1)?;
-    let elected = elect(&rt, alloc, &group);
-    group.flow(FLOW);
+    let group = Arc::new(alloc, group::<B, _>(alloc, opened, nodes, NET, OpenGate)?)?;
+    give(&rt, alloc, &group, "timeout 3")?;
+    let (elected, threads) = elect(rt, alloc, &group)?;
+    group.flow(&rt, FLOW);
     let world = closed(alloc, stop(&rt, group, threads))?;
-    Ok((elected?, world.trace().len()))
+    Ok((elected, world.trace().len()))
+}
+
+/// An election on a net of a key that loses and repeats so many of a hundred messages: the role of
+/// server 1, how many events there are, and how many messages were sent.
+type Election = (u64, u8, u8, Role, usize, usize);
+
+const ELECTIONS: &[Election] = &[
+    // Both requests for a vote are lost.
+    (0, 100, 0, Role::Candidate, 1, 2),
+    // Both requests come twice, and are answered each time, and each answer comes twice.
+    (0, 0, 100, Role::Leader, 13, 6),
+    // By the first words of key 0, which leave 18, 85 and 59, the first request is lost, and the
+    // second and its answer come.
+    (0, 50, 0, Role::Leader, 3, 3),
+    // By those of key 1, which leave 5 and 11, both are lost.
+    (1, 50, 0, Role::Candidate, 1, 2),
+];
+
+// The role of server 1, and how many events there are and messages were sent, once server 1 has
+// stood and all messages have come; and how many messages found no room.
+fn stand<B, R>(
+    rt: R,
+    alloc: Global,
+    opened: OpenedBook<OwnInput>,
+    nodes: Vec<NodeSpec>,
+    net: NetSettings,
+) -> Result<(Role, usize, usize, u64), Refusal>
+where
+    B: BookId + Send + Sync + 'static,
+    R: Threads + Wait + Copy + Send + 'static,
+    requires book { opened ≡ (B.table, B.actors) }
+    requires nodes { nodes.items ≡ B.nodes }
+{
+    let group = Arc::new(alloc, group::<B, _>(alloc, opened, nodes, net, OpenGate)?)?;
+    let threads = start(rt, alloc, &group, 1)?;
+    let came = hand(&rt, alloc, &group, "timeout 1");
+    let lost = group.lost_messages();
+    let world = closed(alloc, stop(&rt, group, threads))?;
+    came?;
+    let first = ServerId::from_number(1).ok_or(Refusal::OutOfRange)?;
+    let server = world.server(first).ok_or(Refusal::OutOfRange)?;
+    let role = server.role().ok_or(Refusal::Down)?;
+    Ok((role, world.trace().len(), world.sent().len(), lost))
+}
+
+fn election<R>(rt: R, alloc: Global, row: &Election) -> Result<bool, Refusal>
+where
+    R: Threads + Wait + Copy + Send + 'static,
+{
+    let (key, drop, repeat, role, events, messages) = *row;
+    let net = NetSettings {
+        room: 1_024,
+        key,
+        drop,
+        repeat,
+    };
+    let book = opened(alloc, &[1, 2, 3], 0)?;
+    let nodes = nodes(alloc, 0)?;
+    Ok(stand::<Brand, _>(rt, alloc, book, nodes, net)? == (role, events, messages, 0))
+}
+
+// Server 1 stands once more in a group without threads, where no message is taken. How many were
+// lost by then.
+fn stand_alone<B: BookId, R: Wait>(
+    rt: &R,
+    alloc: Global,
+    group: &RunningGroup<B, OpenGate>,
+) -> Result<u64, Refusal> {
+    give(rt, alloc, group, "timeout 1")?;
+    Ok(group.lost_messages())
+}
+
+// In a group without threads, whose queues have room for one message: how often a flow looks where
+// nothing is on its way, how many messages were lost after server 1 stood once and after it stood
+// twice, how often a flow looks then, and how many messages were sent.
+fn overflow<B, R>(
+    rt: &R,
+    alloc: Global,
+    opened: OpenedBook<OwnInput>,
+    nodes: Vec<NodeSpec>,
+) -> Result<(u64, u64, u64, u64, usize), Refusal>
+where
+    B: BookId,
+    R: Wait,
+    requires book { opened ≡ (B.table, B.actors) }
+    requires nodes { nodes.items ≡ B.nodes }
+{
+    let net = NetSettings { room: 1, ..NET };
+    let group = group::<B, _>(alloc, opened, nodes, net, OpenGate)?;
+    let empty = group.flow(rt, LOOKS);
+    let once = stand_alone(rt, alloc, &group)?;
+    let twice = stand_alone(rt, alloc, &group)?;
+    let full = group.flow(rt, LOOKS);
+    let world = close(alloc, group.into_cells().into_cells()?)?;
+    Ok((empty, once, twice, full, world.sent().len()))
 }
 
 #[test]
@@ -317,5 +440,29 @@ fn a_held_cell_holds_no_other(rt: HostRuntime) -> Result<(), Fail> {
     assert!(rt; elected, "no leader");
     // Server 3 stands, both others vote, and it counts both votes.
     assert!(rt; events == 5, "events {events}");
+    Ok(())
+}
+
+#[test]
+fn a_net_loses_and_repeats_by_its_key(rt: HostRuntime) -> Result<(), Fail> {
+    for row in ELECTIONS {
+        let is_so = election(rt, rt.alloc(), row)?;
+        let (key, lost, repeated, ..) = *row;
+        assert!(rt; is_so, "key {key} drop {lost} repeat {repeated}");
+    }
+    Ok(())
+}
+
+#[test]
+fn messages_without_room_are_counted(rt: HostRuntime) -> Result<(), Fail> {
+    let book = opened(rt.alloc(), &[1, 2, 3], 0)?;
+    let nodes = nodes(rt.alloc(), 0)?;
+    let found = overflow::<Brand, _>(&rt, rt.alloc(), book, nodes)?;
+    // Each time both others are asked; a flow gives up where nobody takes what was sent.
+    let (empty, once, twice, full, sent) = found;
+    assert!(rt;
+        found == (1, 0, 2, LOOKS, 4),
+        "{empty} {once} {twice} {full} {sent}"
+    );
     Ok(())
 }
