@@ -30,8 +30,9 @@ use Rattle.cluster.specs.declared.actor.Stepped.TheVariants.{Taken, Crashed}
 use Rattle.cluster.specs.declared.own_input.OwnInput.TheVariants as own
 use Rattle.cluster.specs.Actors.{output_frame, nothing_sent, ServerTurned, TakesInput, ServerTurns, ClientTurns, ActorTurns, BeginsAs, HasNode, IsNewActor, SameActor}
 use Rattle.cluster.specs.Refusals.{ActorRefuses, Hears}
-use Rattle.cluster.specs.Cells.{EnvelopeView, CellView, HasNoteLeft, IsLed, IsLedCell, IsLedFrom, IsOpenedCell, IsEnvelopeRefused, Turned, crash_noted, envelopes_from, kept_in}
+use Rattle.cluster.specs.Cells.{AreSent, EnvelopeView, CellView, HasNoteLeft, IsLed, IsLedCell, IsLedFrom, IsOpenedCell, IsEnvelopeRefused, Turned, crash_noted, envelopes_from, kept_in}
 use Rattle.cluster.specs.declared.cell.StampedEvent.{StampedEvent}
+use Rattle.cluster.specs.Turns.{CellRefuses, TookTurn}
 use Rattle.cluster.specs.Inner.Steps.{Did, RefusedAsSaid, output_of}
 use Rattle.cluster.specs.Inner.Sending.{IsRecorded, IsStill, IsTurn, last_envelopes}
 use Rattle.cluster.proofs.Sending.{envelopes_end}
@@ -190,3 +191,19 @@ pub cell_refused : {X : Type 0} (me : Actor) (old : CellView) (envelope : Envelo
     → IfErr q (λ cause. IsEnvelopeRefused old envelope cause)
 cell_refused me old envelope (Ok x) after now mine hears to room still = still
 cell_refused me old envelope (Err cause) after now mine hears to room still = inr (hears, inr (to ∙ mine, inr (room, as_said (ActorRefuses old.actor envelope.event) cause still.refused)))
+
+-- ---- a turn as an actor's
+
+pub took_turn : {X : Type 0} (n : ℕ) (old : CellView) (envelope : EnvelopeView) (q : Result X Refusal) (work : X → List Work) (sent : X → List EnvelopeView) (unsent : X → ℕ) (new : CellView)
+    → IsLedCell n old → IfOk q (λ x. Turned old envelope new (work x) (sent x) (unsent x)) → IfOk q (λ x. TookTurn n envelope (work x) (sent x) (unsent x))
+took_turn n old envelope (Ok x) work sent unsent new led t = record { old = old; new = new; before = led; after = led_on (IsNewActor n) old envelope new (work x) (sent x) (unsent x) led t; turned = t }
+took_turn n old envelope (Err cause) work sent unsent new led t = t
+
+pub sent_by : {X : Type 0} (old : CellView) (envelope : EnvelopeView) (q : Result X Refusal) (work : X → List Work) (sent : X → List EnvelopeView) (unsent : X → ℕ) (new : CellView)
+    → IfOk q (λ x. Turned old envelope new (work x) (sent x) (unsent x)) → IfOk q (λ x. AreSent envelope.receiver (sent x))
+sent_by old envelope (Ok x) work sent unsent new t = record { note = record { stamp = t.stamp; actor = old.seat.actor; noted = t.noted }; of = sym t.receiver; count = t.count; are = t.are }
+sent_by old envelope (Err cause) work sent unsent new t = t
+
+pub refused_as : {X : Type 0} (n : ℕ) (actor : Actor) (old : CellView) (envelope : EnvelopeView) (q : Result X Refusal) → IsLedCell n old → old.seat.actor ≡ actor → IfErr q (IsEnvelopeRefused old envelope) → IfErr q (CellRefuses n actor envelope)
+refused_as n actor old envelope (Ok x) led mine refused = refused
+refused_as n actor old envelope (Err cause) led mine refused = (old, led, inr (mine, refused))

@@ -234,7 +234,7 @@ impl<B: BookId> Cells<B> {
 
     /// The cells, once nobody holds their locks, with what they close to asks for: how many servers
     /// and clients the group has, and its book. Memory may be wanting for the list of the cells.
-    /// - `count`: there are as many cells as the book has actors. That each of these has one follows
+    /// - `count`: there are as many cells as the book has actors. That each of them has one follows
     ///   when the book closes.
     /// - `size`: the group has as many servers and clients as it was opened with.
     /// - `range`, `group`: these are 3 or 5, and at most 64, and the book's actors are theirs.

@@ -35,7 +35,8 @@ const DIFFERENT: &[u8] = b"{ \"servers\": 3, \"nodes\": [
     {\"class\": \"linux\", \"cpu\": 1000, \"mem\": 2000},
     {\"class\": \"linux\", \"cpu\": 3000, \"mem\": 4000},
     {\"class\": \"metal\", \"cpu\": 1000, \"mem\": 4000}],
-  \"key\": 0, \"drop\": 0, \"repeat\": 0, \"order\": \"sent\", \"steps\": [\"timeout 1\", \"flow\"] }";
+  \"key\": 0, \"drop\": 0, \"repeat\": 0, \"order\": \"sent\",
+  \"steps\": [\"timeout 1\", \"flow\"] }";
 
 const NODE_LINES: &[u8] = b"servers 3
 node 1 linux 1000 2000

@@ -435,8 +435,8 @@ pub(super) fn opened(
     OpenedBook::new(alloc, actors(alloc, servers, clients)?)
 }
 
-// Whether the actor of a cell, which took nothing, is that of its name: a client has the node of its
-// place, with its number.
+// Whether a cell took nothing, and its actor is this one: a client has the node of its place, with
+// its number.
 fn is_new<B: BookId>(cell: &Cell<B>, wanted: Actor) -> Result<bool, Refusal> {
     let is_wanted = match (cell.actor(), wanted) {
         (GroupActor::Server(server), Actor::Server(id)) => server.me() == id,
@@ -463,8 +463,8 @@ fn have_nodes(clients: &[Agent]) -> Result<bool, Refusal> {
     Ok(true)
 }
 
-// How many new cells have the actor of their seat, with the node of its place; and whether the world
-// has these nodes to which they close.
+// How many new cells have the actor of their seat, with the node of its place; and whether these are
+// the nodes of the world to which they close.
 fn new_ones<B: BookId>(
     alloc: Global,
     opened: OpenedBook<OwnInput>,
