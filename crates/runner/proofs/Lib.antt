@@ -10,3 +10,4 @@ pub mod GoodSteps
 pub mod Reasons
 pub mod Refusals
 pub mod Seats
+pub mod Plays

@@ -6,3 +6,7 @@ pub mod Grown
 pub mod Files
 pub mod Printed
 pub mod Plays
+pub mod PlayEvents
+pub mod Flows
+pub mod PlayWork
+pub mod PlaySteps

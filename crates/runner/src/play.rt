@@ -1,7 +1,15 @@
 //! A scenario's group, with its messages in flight and its workers; and its steps, one at a time.
-ghost use Rattle.std.specs.Prelude.{IfErr, IfOk};
+ghost use Rattle.std.specs.Prelude.{◌≡◌, ◌≢◌, IfErr, IfNone, IfOk, IfSome, MatchBool, OnOk, []};
+ghost use Rattle.rows.specs.declared.refusal.Refusal.TheVariants as refusals;
+ghost use Rattle.world.specs.GroupEvents.{group_event};
 ghost use Rattle.world.specs.GroupSteps.{WhyNoGroup};
+ghost use Rattle.runner.specs.Inner.Flows.{Flowed, MessagePassed, MessageTaken};
+ghost use Rattle.runner.specs.Inner.PlayEvents.{EventRefused, EventTaken, Handed};
+ghost use Rattle.runner.specs.Inner.PlayEvents.{IsDownIn, IsUpIn, fetched, server_of};
+ghost use Rattle.runner.specs.Inner.PlaySteps.{StepRefused, StepTaken};
+ghost use Rattle.runner.specs.Inner.PlayWork.{IsAsked, WorkRefused, WorkTaken, input_of};
 ghost use Rattle.runner.specs.Inner.Plays.{IsNewPlay};
+ghost use Rattle.runner.specs.Steps.{played_step};
 
 use crate::flight::Flight;
 use crate::running::Stage;
@@ -10,6 +18,7 @@ use crate::step::Step;
 use cluster::{Handled, ServerWorkers};
 use lossy_net::{Fates, MessageFate, fate};
 use rows::{Actor, NoMemory, Refusal, ServerId};
+use server::ServerInput;
 use std::alloc::Global;
 use world::{Event, World};
 
@@ -29,6 +38,65 @@ pub(crate) struct Play {
     // How many of a hundred messages are lost, and how many come again.
     drop: u8,
     repeat: u8,
+}
+
+// The server that takes an event.
+fn server_of(world: &World, event: &Event) -> Option<ServerId>
+    ensures { result ≡ server_of world.now (group_event event.now) }
+{
+    match event {
+        Event::Deliver(message) => match world.receiver(*message)? {
+            Actor::Server(server) => Some(server),
+            Actor::Client(_) => None,
+        },
+        Event::Server(server, _) => Some(*server),
+        Event::Client(_, _) => None,
+    }
+}
+
+fn is_up(world: &World, server: ServerId) -> bool
+    ensures { MatchBool result (IsUpIn world.now server) (IsDownIn world.now server) }
+{
+    match world.server(server) {
+        Some(server) => server.applied().is_some(),
+        None => false,
+    }
+}
+
+// The input by which what a worker asks is sent; none where it asks for nothing.
+fn input_of(made: Handled) -> Option<ServerInput>
+    ensures { result ≡ input_of made }
+{
+    match made {
+        Handled::Asks(input) => Some(input),
+        Handled::Waits | Handled::Dropped => None,
+    }
+}
+
+// A worker of a server takes up the oldest answer that came for it, and goes on by the server's
+// state: what it asks, if anything. Nothing is taken up where the server is down, or nothing came.
+fn asked(
+    alloc: Global,
+    world: &World,
+    server: ServerId,
+    workers: &mut ServerWorkers,
+) -> Result<Option<ServerInput>, NoMemory>
+    ensures { IfOk result (λ asked. IsAsked world.now server workers.old asked workers.new) }
+{
+    let Some(member) = world.server(server) else {
+        return Ok(None);
+    };
+    let Some(state) = member.state() else {
+        return Ok(None);
+    };
+    let Some(applied) = member.applied() else {
+        return Ok(None);
+    };
+    let Some(taken) = workers.take() else {
+        return Ok(None);
+    };
+    let step = taken.next(alloc, state, applied)?;
+    Ok(input_of(workers.go_on(taken, step)?))
 }
 
 impl Play {
@@ -58,13 +126,21 @@ impl Play {
     }
 
     /// The group.
-    pub(crate) fn world(&self) -> &World {
+    pub(crate) fn world(&self) -> &World
+        ensures { result.now ≡ self.now.world }
+    {
         &self.world
     }
 
+    // An event of the group. What came by it goes to the workers of the server that took it, and
+    // what was sent by it is in flight.
     #[inline(always)]
-    fn event(&mut self, event: Event) -> Result<(), Refusal> {
-        let server = self.server_of(&event);
+    fn event(&mut self, event: Event) -> Result<(), Refusal>
+        ensures taken { OnOk result (EventTaken self.old (group_event event) self.new) }
+        ensures refused { IfErr result (λ refusal. refusal ≢ refusals.NoMemory
+            → EventRefused self.old (group_event event) refusal self.new) }
+    {
+        let server = server_of(&self.world, &event);
         self.world.step(event)?;
         if let Some(server) = server {
             self.hand(server)?;
@@ -73,23 +149,18 @@ impl Play {
         Ok(())
     }
 
-    // The server that takes an event.
-    fn server_of(&self, event: &Event) -> Option<ServerId> {
-        match event {
-            Event::Deliver(message) => match self.world.receiver(*message)? {
-                Actor::Server(server) => Some(server),
-                Actor::Client(_) => None,
-            },
-            Event::Server(server, _) => Some(*server),
-            Event::Client(_, _) => None,
-        }
-    }
-
     // Hands a server's workers what came for them. Where the server is down, also for want of
     // memory, they have nothing any more.
     #[inline(always)]
-    fn hand(&mut self, server: ServerId) -> Result<(), NoMemory> {
-        if !self.is_up(server) {
+    fn hand(&mut self, server: ServerId) -> Result<(), NoMemory>
+        ensures handed { OnOk result
+            (Handed self.old.world server self.old.workers self.new.workers) }
+        ensures rest { OnOk result (self.new ≡ record self.old {
+          world = fetched self.old.world;
+          workers = self.new.workers;
+        }) }
+    {
+        if !is_up(&self.world, server) {
             self.workers[server.place()].forget();
             let _lost = self.world.take_work();
             return Ok(());
@@ -98,43 +169,29 @@ impl Play {
             return Ok(());
         }
         let work = self.world.take_work();
-        self.workers[server.place()].admit(work)
-    }
-
-    fn is_up(&self, server: ServerId) -> bool {
-        match self.world.server(server) {
-            Some(server) => server.role().is_some(),
-            None => false,
-        }
-    }
-
-    // A worker of a server takes up the oldest answer that came for it. A server that is down has
-    // no worker. The server's state is copied only where there is something to take up.
-    fn work(&mut self, server: ServerId) -> Result<(), Refusal> {
-        if !self.is_up(server) || self.workers[server.place()].is_idle() {
-            return Ok(());
-        }
-        match self.asked(server)? {
-            Handled::Asks(input) => self.event(Event::server(self.alloc, server, input)?),
-            Handled::Waits | Handled::Dropped => Ok(()),
-        }
-    }
-
-    // What a worker of a server asks next, at the server's snapshot.
-    fn asked(&mut self, server: ServerId) -> Result<Handled, Refusal> {
-        let Some(member) = self.world.server(server) else {
-            return Ok(Handled::Dropped);
-        };
-        let (state, index) = member.snapshot()?;
         let workers = &mut self.workers[server.place()];
-        let Some(taken) = workers.take() else {
-            return Ok(Handled::Dropped);
-        };
-        let step = taken.next(self.alloc, &state, index)?;
-        Ok(workers.go_on(taken, step)?)
+        workers.admit(work)
     }
 
-    fn flow(&mut self, count: u64) -> Result<(), NoMemory> {
+    // A worker of a server takes up the oldest answer that came for it, and its server sends what
+    // it asks. A server that is down has no worker.
+    fn work(&mut self, server: ServerId) -> Result<(), Refusal>
+        ensures taken { OnOk result (WorkTaken self.old server self.new) }
+        ensures refused { IfErr result (λ refusal. refusal ≢ refusals.NoMemory
+            → WorkRefused self.old server refusal self.new) }
+    {
+        let own = &mut self.workers[server.place()];
+        let Some(input) = asked(self.alloc, &self.world, server, own)? else {
+            return Ok(());
+        };
+        let event = Event::server(self.alloc, server, input)?;
+        self.event(event)
+    }
+
+    // A flow takes messages one after the other, as many as this, or until none is in flight.
+    fn flow(&mut self, count: u64) -> Result<(), NoMemory>
+        ensures { OnOk result (Flowed count self.old self.new) }
+    {
         for _ in 0..count {
             let Some(message) = self.take_message() else {
                 return Ok(());
@@ -146,7 +203,11 @@ impl Play {
 
     // The message in flight that comes next. By lot it is the one at the place that a word gives;
     // where nothing is in flight no word is drawn.
-    fn take_message(&mut self) -> Option<u64> {
+    fn take_message(&mut self) -> Option<u64>
+        ensures some { IfSome result (λ message. MessageTaken self.old message self.new) }
+        ensures none { IfNone result (self.old.flight.waiting ≡ []) }
+        ensures left { IfNone result (self.new ≡ self.old) }
+    {
         match self.order {
             Order::Sent => self.flight.take(),
             Order::Any => {
@@ -162,7 +223,9 @@ impl Play {
 
     // A word says what becomes of a message that was taken: it is lost, or it comes, and may be put
     // in flight again then. One to an actor that is down is lost, whatever the word says.
-    fn pass(&mut self, message: u64) -> Result<(), NoMemory> {
+    fn pass(&mut self, message: u64) -> Result<(), NoMemory>
+        ensures { OnOk result (MessagePassed self.old message self.new) }
+    {
         let fate = fate(self.fates.next(), self.drop, self.repeat);
         if fate == MessageFate::Lose {
             return Ok(());
@@ -176,7 +239,11 @@ impl Play {
 }
 
 impl Stage for Play {
-    fn take(&mut self, step: Step) -> Result<(), Refusal> {
+    fn take(&mut self, step: Step) -> Result<(), Refusal>
+        ensures taken { OnOk result (StepTaken (played_step step) self.old self.new) }
+        ensures refused { IfErr result (λ refusal. refusal ≢ refusals.NoMemory
+            → StepRefused (played_step step) self.old refusal self.new) }
+    {
         match step {
             Step::Event(event) => self.event(event),
             Step::Work(server) => self.work(server),
