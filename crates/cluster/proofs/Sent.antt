@@ -44,6 +44,7 @@ use Rattle.cluster.specs.contracts.cells.Cells.TheInside as cells_inside
 use Rattle.cluster.specs.contracts.running.RunningGroup as running
 use Rattle.cluster.specs.contracts.running.RunningGroup.TheInside as running_inside
 use Rattle.cluster.specs.contracts.running.AtServer as at_server
+use Rattle.cluster.specs.contracts.server_workers.ServerWorkers as workers
 use Rattle.cluster.specs.contracts.own_input.OwnInput as own_input
 use Rattle.cluster.specs.contracts.cell.StampedEvent as stamped
 use Rattle.cluster.specs.contracts.cell.Cell as cell
@@ -139,17 +140,26 @@ Cells-sync B g b = view_sync (cells_inside.the_row B g) _ _ _ _ (recorded_sync (
   ),
 )))
 
-Bell-send : IsSend bell.the_row
+Bell-send : IsSend (bell.the_field).row
 Bell-send = search (crosses, sendable) depth 60 fits 200000
 
-Bell-sync : IsSync bell.the_row
+Bell-sync : IsSync (bell.the_field).row
 Bell-sync = search (crosses, sendable) depth 60 fits 200000
 
-AtServer-send : IsSend at_server.the_row
-AtServer-send = search (Bell-send, maps, crosses, sendable) depth 60 fits 200000
+Workers-send : IsSend workers.the_row
+Workers-send = search (maps, crosses, sendable) depth 60 fits 200000
 
-AtServer-sync : IsSync at_server.the_row
-AtServer-sync = search (Bell-sync, maps, crosses, sendable) depth 60 fits 200000
+AtServer-send : IsSend (at_server.the_field).row
+AtServer-send = struct_send (shape at_server.the_type) (
+  mutex_sent.the_send workers.the_row Workers-send,
+  (Bell-send, (Bell-send, tt)),
+)
+
+AtServer-sync : IsSync (at_server.the_field).row
+AtServer-sync = struct_sync (shape at_server.the_type) (
+  mutex_sent.the_sync workers.the_row Workers-send,
+  (Bell-sync, (Bell-sync, tt)),
+)
 
 Group-send : (B G : RattleType) (g : book_id.Ghosts B.Denot) → IsSend B → IsSend G → IsSend (running.the_row B G g)
 Group-send B G g b s = view_send (running_inside.the_row B G g) _ _ _ _ (recorded_send (running_inside.the_field B G g).row _ _ (running_inside.the_type B G g).to_one (struct_send (shape (running_inside.the_type B G g)) (
