@@ -138,7 +138,6 @@ fn open_book<'a>(alloc: Global, scenario: &Scenario) -> Result<OpenedBook<OwnInp
 }
 
 // The group of a scenario, before its threads start: a client for each of its nodes.
-#[tactic(auto, using(crate::proofs::Seats::actors_of_seats))]
 fn group<B: BookId>(
     alloc: Global,
     scenario: &Scenario,
