@@ -1,16 +1,22 @@
 -- The servers and workers of a scenario's group.
 use Rattle.std.proofs.Common.{◌≡◌, ◌<◌, ◌++◌, ℕ, List, [], Option, Some, None, Result, Ok, Err, true, false, length, get_or, is_some, set, slice_get, append-nil, sym, refl, arith, inl, inr}
-use Rattle.std.specs.Prelude.{MatchBool, MatchOption, OnOk}
+use Rattle.std.specs.Prelude.{◌≢◌, IfErr, MatchBool, MatchOption, OnOk}
 use Rattle.std.proofs.lemmas.List.{set-get_or}
 use Rattle.std.proofs.lemmas.Option.{slice_get_cases, slice_get_read}
 use Rattle.rows.specs.declared.refusal.NoMemory.{NoMemory}
+use Rattle.rows.specs.declared.refusal.Refusal.{Refusal}
+use Rattle.rows.specs.declared.refusal.Refusal.TheVariants as refusals
 use Rattle.rows.specs.declared.worker.Work.{Work}
 use Rattle.raft_model.specs.Servers.{is_up}
 use Rattle.group_model.specs.Members.{Member}
+use Rattle.group_model.specs.Worlds.{Event}
+use Rattle.server.specs.declared.server_input.ServerInput.{ServerInput}
 use Rattle.server.specs.ServerViews.{IsMember, ServerView}
 use Rattle.world.specs.GroupView.{GroupView}
 use Rattle.cluster.specs.PlanCounts.{WorkersView}
-use Rattle.runner.specs.Inner.PlayEvents.{Handed, IsDownIn, IsUpIn}
+use Rattle.runner.specs.declared.play.Play.{Play}
+use Rattle.runner.specs.Inner.PlayEvents.{EventRefused, Handed, IsDownIn, IsUpIn}
+use Rattle.runner.specs.Inner.PlayWork.{IsAsked, WorkRefused, WorkersAsk, own_event}
 
 -- ---- whether a server is up
 
@@ -57,3 +63,29 @@ module _ (world : GroupView) (server place : ℕ) (workers : List WorkersView) (
     others = rw is refl;
   }
   came up work all (Err e) waiting plans = tt
+
+-- ---- a turn of a worker
+
+module _ (old : Play) (place server : ℕ) (before after : WorkersView) (asked : Option ServerInput) (five : length old.workers ≡ 5) (is : place ≡ server) (within : place < 5) (at : before ≡ get_or old.workers place before) (asks : IsAsked old.world server before asked after) where
+  abbrev asked_play : Play
+  asked_play = record old { workers = set old.workers place after }
+
+  workers_ask : WorkersAsk old server asked asked_play
+  workers_ask = record {
+    before = before;
+    after = after;
+    own = own_workers old.workers place server before five is within at;
+    asks = asks;
+    others = rw is refl;
+  }
+
+  -- what was asked is refused
+  pub ask_refused : (input : ServerInput) → asked ≡ Some input → (event : Event) → event ≡ own_event server input → (new : Play) → (r : Result (Unit {0}) Refusal)
+      → IfErr r (λ refusal. refusal ≢ refusals.NoMemory → EventRefused asked_play event refusal new) → IfErr r (λ refusal. refusal ≢ refusals.NoMemory → WorkRefused old server refusal new)
+  ask_refused input some event sent new (Ok u) refused = tt
+  ask_refused input some event sent new (Err e) refused = λ other. record {
+    asked = asked;
+    between = asked_play;
+    worked = workers_ask;
+    refused = rw some (rw sent at (refused other));
+  }

@@ -1,4 +1,4 @@
-use Rattle.std.proofs.Common.{inl, inr, refl, sym, rules}
+use Rattle.std.proofs.Common.{inl, inr, refl, sym}
 use Rattle.scheduler.specs.Steps.{step_as}
 use Rattle.runner.proofs.Plays.{down_in}
 use Rattle.runner.proofs.play.asked.Goals as goal
