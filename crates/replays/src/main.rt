@@ -23,6 +23,7 @@ fn main(rt: HostRuntime) -> io::Result<()> {
     threads::placements(&rt, rt)?;
     threads::nodes(&rt, rt)?;
     threads::losses(&rt, rt)?;
+    threads::refusals(&rt, rt)?;
     threads::replayed(&rt, rt)?;
     said::no_transcripts(&rt, rt)?;
     said::command_lines(&rt, rt)?;

@@ -58,6 +58,14 @@ const CROWDED: &[u8] = b"{ \"servers\": 3, \"nodes\": [
     \"timeout 1\"";
 
 const HEARTBEATS: u32 = 20_000;
+// Steps that no follower takes, before and after the election.
+const REFUSED: &[u8] = b"{ \"servers\": 3, \"nodes\": [], \"key\": 0, \"drop\": 0, \"repeat\": 0,
+  \"order\": \"sent\", \"steps\": [\"request 1 stop web\", \"timeout 1\", \"flow\",
+    \"request 2 stop web\"] }";
+
+const REFUSALS: &[u8] = b"refused 2 request 1 stop web
+refused 2 request 2 stop web
+";
 
 // How many times each is played; each time the threads may meet in another order.
 const TIMES: u32 = 20;
@@ -89,6 +97,24 @@ pub(crate) fn elections<R: Threads + Wait + Copy + Send + 'static>(
         }
     }
     println!(rt; "threads of an election: as foreseen {of_two} and {of_eight} times")
+}
+
+/// Plays an election with two refused steps, and says how often it named them at once and answered
+/// that a step was refused.
+pub(crate) fn refusals<R: Threads + Wait + Copy + Send + 'static>(
+    rt: &HostRuntime,
+    on: R,
+) -> io::Result<()> {
+    let mut count: u32 = 0;
+    for _ in 0..TIMES {
+        let mut folder = Folder::new(rt, REFUSED);
+        let printed = run_words(rt, on, &mut folder, &["nomadsim", "threads", "text.json"]);
+        let ended = printed.out.strip_prefix(REFUSALS) == Some(ELECTED);
+        if printed.status == 1 && printed.err.is_empty() && ended {
+            count = count.saturating_add(1);
+        }
+    }
+    println!(rt; "threads of refused steps: as foreseen {count} times")
 }
 
 fn placing(rt: &HostRuntime) -> Result<Vec<u8>, AllocError> {
