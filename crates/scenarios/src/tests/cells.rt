@@ -347,7 +347,7 @@ fn node(place: usize) -> Result<NodeSpec, Refusal> {
     Ok(NodeSpec {
         number: NodeId::from_number(1).ok_or(Refusal::OutOfRange)?,
         class: Name::read("linux")?,
-        size: Size::check(1000, 2000 + place as u32)?,
+        size: Size::check(1000, 2000 + place.min(1000) as u32)?,
     })
 }
 
@@ -475,10 +475,10 @@ fn new_ones<B: BookId>(
 {
     let (book, seats) = opened.seats::<B>(alloc)?;
     let cells = cells_of(alloc, 3, nodes.as_slice(), &book, seats)?;
-    let mut count = 0;
+    let mut count = 0usize;
     for (cell, wanted) in cells.iter().zip(book.actors()) {
         if is_new(cell, *wanted)? {
-            count += 1;
+            count = count.saturating_add(1);
         }
     }
     let cells = Cells::open(alloc, 3, nodes.len(), book, cells)?;
