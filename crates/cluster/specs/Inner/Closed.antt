@@ -34,7 +34,8 @@ abbrev pub named_in : CellView → NamedActor
 named_in c = record { me = c.seat.actor; actor = c.actor }
 
 -- The history is legal, and each cell noted just what its actor noted in it; each actor is where
--- that leads it from its beginning with these nodes. Each of the book's actors has one cell, and no other actor has one.
+-- that leads it from its beginning with these nodes. Each of the book's actors has one cell, and no
+-- other actor has one.
 pub record IsClosed (actors : List Actor) (nodes : List NodeSpec) (log : List (Note OwnInput)) (cells : List CellView) : Type 0 where
   pub whole : IsWhole actors log (map seat_in cells)
   pub led : AllByRecursion (IsOpenedCell (group_size actors) nodes) cells
