@@ -6,7 +6,7 @@ use Rattle.std.proofs.lemmas.List.{length-set, get_or-set_other}
 use Rattle.std.proofs.lemmas.List.Sums.{sum_by-set, sum_by_push}
 use Rattle.std.proofs.lemmas.Option.{slice_get_within, get_or_from_slice_get}
 use Rattle.rows.specs.declared.refusal.Refusal.TheVariants.{OutOfRange}
-use Rattle.machine.specs.After.{after_from, after, AdmittedFrom, Admitted}
+use Rattle.machine_model.specs.After.{after_from, after, AdmittedFrom, Admitted}
 use Rattle.bank.specs.BankState.{BankState}
 use Rattle.bank.specs.Outcomes.{MOST_MONEY, raised, lowered, both, with_one, with_two, outcome}
 use Rattle.bank.specs.Bank.{refused, bank_meaning}

@@ -2,7 +2,7 @@
 use Rattle.std.specs.Prelude.{◌≤◌, ◌+◌, Option, Some, None, List, ℕ, [], All}
 use Rattle.std.specs.Option.{unwrap_or}
 use Rattle.rows.specs.declared.refusal.Refusal.{Refusal}
-use Rattle.machine.specs.Meaning.{Meaning}
+use Rattle.machine_model.specs.Meaning.{Meaning}
 use Rattle.bank.specs.BankState.{BankState}
 use Rattle.bank.specs.Outcomes.{MOST_MONEY, outcome, command_refusal}
 use Rattle.bank.specs.Texts.{bank, bank_command}

@@ -1,6 +1,6 @@
 -- What is known of the banks of a group.
 use Rattle.std.specs.Prelude.{◌≡◌, ◌≤◌, ℕ, Some, List, All, length, take}
-use Rattle.machine.specs.After.{after}
+use Rattle.machine_model.specs.After.{after}
 use Rattle.raft_model.specs.Worlds.{World, moment}
 use Rattle.world.specs.WorldView.{WorldView, RunsTo}
 use Rattle.world.specs.Claims.{machine_of}

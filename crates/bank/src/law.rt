@@ -2,7 +2,7 @@
 //! is its contract.
 ghost use Rattle.std.specs.Prelude.{◌≡◌, ◌≢◌, ◌<◌, ℕ, List, Some, None, slice_get, sum};
 ghost use Rattle.rows.specs.declared.refusal.Refusal.TheVariants.{OutOfRange};
-ghost use Rattle.machine.specs.After.{after, Admitted};
+ghost use Rattle.machine_model.specs.After.{after, Admitted};
 ghost use Rattle.bank.specs.BankState.{BankState};
 ghost use Rattle.bank.specs.Bank.{bank_meaning};
 ghost use Rattle.bank.specs.Books.{Balanced};

@@ -9,9 +9,9 @@ use Rattle.group_model.specs.Messages.{Service, ServiceMessage}
 use Rattle.group_frames.specs.GroupFrames.{SendsGroup, service_of, service_receiver}
 
 pub sends_one : (m : WireMessage State Command) (x : ServiceMessage) (before after : List Frame) → service_of m ≡ Some x → m.to ≡ service_receiver x →
-    ListsFrame cluster_meaning.commands m before after → SendsGroup cluster_meaning before after (Service x ∷ [])
+    ListsFrame cluster_meaning m before after → SendsGroup cluster_meaning before after (Service x ∷ [])
 sends_one m x before after says to lists = record {
-  frames = frame_of cluster_meaning.commands m ∷ [];
+  frames = frame_of cluster_meaning m ∷ [];
   added = lists.1;
   carry = (record { to = to; bytes = record { read = m; fits = lists.0; text = refl; means = says } }, tt);
 }

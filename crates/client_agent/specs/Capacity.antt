@@ -1,15 +1,15 @@
 -- What runs on a node, beside what the node has; and lists of ids without doubles.
-use Rattle.std.specs.Prelude.{◌≤◌, Bool, true, ◌≡◌, not, ◌&&◌, List, [], ◌∷◌, sum_by}
+use Rattle.std.specs.Prelude.{T, Bool, true, ◌≡◌, not, ◌&&◌, List, [], ◌∷◌}
 use Rattle.std.specs.List.{list_any}
 use Rattle.rows.specs.declared.size.Size.{Size}
+use Rattle.rows.specs.Sizes.{total, fits}
 use Rattle.rows.specs.declared.allocation.AllocId.{AllocId}
 use Rattle.cluster_model.specs.Words.{same_alloc}
 use Rattle.group_model.specs.Clients.{Running}
 
--- all of them together take no more than a node of this size has, in cpu and in memory
-pub record FitTogether (whole : Size) (running : List Running) : Type 0 where
-  pub cpu : sum_by (λ (r : Running). r.size.cpu) running ≤ whole.cpu
-  pub mem : sum_by (λ (r : Running). r.size.mem) running ≤ whole.mem
+-- all of them together take no more than a node of this size has
+abbrev pub FitTogether : Size → List Running → Type 0
+FitTogether whole running = T (fits (total (λ (r : Running). r.size) running) whole)
 
 abbrev pub have_distinct_ids : List AllocId → Bool
 have_distinct_ids [] = true

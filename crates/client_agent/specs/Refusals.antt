@@ -42,7 +42,7 @@ unreadable_to_client n me (Err place) = Some (refusals.Frame place)
 
 abbrev pub client_frame_refusal : ℕ → ℕ → List ℕ → Option Refusal
 client_frame_refusal n me bytes =
-    unreadable_to_client {S = State} n me (message_at cluster_meaning.commands bytes)
+    unreadable_to_client {S = State} n me (message_at cluster_meaning bytes)
 
 -- Why a client in a group of n servers refuses what is handed in, if it does: it is down; bytes are
 -- no frame, or one for another; else as the definitions say.

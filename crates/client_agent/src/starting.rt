@@ -1,61 +1,50 @@
 //! What is listed and was never started is started, if it fits.
-ghost use Rattle.std.specs.Prelude.{◌≡◌, nat_le, ◌&&◌, OnOk};
+ghost use Rattle.std.specs.Prelude.{◌≡◌, OnOk};
+ghost use Rattle.rows.specs.Sizes.{fits};
 ghost use Rattle.group_model.specs.Clients.{starts, starts_one};
 ghost use Rattle.client_agent.specs.Capacity.{FitTogether};
-ghost use Rattle.client_agent.specs.Inner.Rooms.{IsRoomBeside};
+ghost use Rattle.client_agent.specs.Inner.Rooms.{IsLeftBeside};
 ghost use Rattle.client_agent.specs.Inner.Runs.{runs_of, MoreIds};
 
 use crate::running::RunningAllocation;
 use crate::started::Started;
-use rows::{ListedAllocation, NoMemory, Size};
+use rows::{ListedAllocation, NoMemory, Size, Usage};
 
-/// What is free of a node: processor time in MHz and memory in MB.
-#[derive(Clone, Copy)]
-pub(crate) struct Room {
-    /// What the node has.
-    pub whole: Size,
-    /// The processor time that is free.
-    pub cpu: u32,
-    /// The memory that is free.
-    pub mem: u32,
-}
-
-/// What is free of a node of this size beside what runs there.
-fn room_beside(whole: Size, running: &[RunningAllocation]) -> Room
-    requires { FitTogether whole running.now }
-    ensures whole { result.whole ≡ whole }
-    ensures room { IsRoomBeside running.now result }
+/// What is left of a node of this size beside what runs there.
+fn left_beside(whole: &Size, running: &[RunningAllocation]) -> Usage
+    requires { FitTogether whole.now running.now }
+    ensures { IsLeftBeside whole.now running.now result }
 {
-    let (mut cpu, mut mem) = (whole.cpu.get(), whole.mem.get());
+    let mut left = Usage::of(*whole);
     for one in running {
-        cpu -= one.size.cpu.get();
-        mem -= one.size.mem.get();
+        left = left.take(Usage::of(one.size));
     }
-    Room { whole, cpu, mem }
+    left
 }
 
-/// Whether this fits into what is free.
-fn has_room(room: &Room, size: Size) -> bool
-    ensures { result ≡ (nat_le size.cpu room.now.cpu && nat_le size.mem room.now.mem) }
+/// Whether this fits into what is left.
+fn has_room(left: Usage, size: Size) -> bool
+    ensures { result ≡ fits size left }
 {
-    size.cpu.get() <= room.cpu && size.mem.get() <= room.mem
+    Usage::of(size).is_within(left)
 }
 
-/// A listed one starts, if it never did and fits.
+/// A listed one starts on a node of this size, if it never did and fits into what is left.
+#[tactic(auto, using(crate::proofs::Fits::beside_more))]
 fn start_one(
+    whole: &Size,
     row: &ListedAllocation,
     started: &mut Started,
     running: &mut Vec<RunningAllocation>,
-    room: &mut Room,
+    left: &mut Usage,
 ) -> Result<(), NoMemory>
-    requires { IsRoomBeside running.old.items room.old }
-    ensures whole { room.new.whole ≡ room.old.whole }
+    requires { IsLeftBeside whole.now running.old.items left.old }
     ensures ok { OnOk result (runs_of started.new running.new.items
-        ≡ starts_one room.old.whole row.now (runs_of started.old running.old.items)) }
-    ensures room { OnOk result (IsRoomBeside running.new.items room.new) }
+        ≡ starts_one whole.now row.now (runs_of started.old running.old.items)) }
+    ensures left { OnOk result (IsLeftBeside whole.now running.new.items left.new) }
     ensures grows { MoreIds started.old started.new }
 {
-    if started.has(&row.id) || !has_room(room, row.size) {
+    if started.has(&row.id) || !has_room(*left, row.size) {
         return Ok(());
     }
     running.push(RunningAllocation {
@@ -63,8 +52,7 @@ fn start_one(
         size: row.size,
     })?;
     started.push(&row.id)?;
-    room.cpu -= row.size.cpu.get();
-    room.mem -= row.size.mem.get();
+    *left = left.take(Usage::of(row.size));
     Ok(())
 }
 
@@ -82,9 +70,9 @@ pub(crate) fn start_listed(
     ensures fit { OnOk result (FitTogether whole running.new.items) }
     ensures grows { MoreIds started.old started.new }
 {
-    let mut room = room_beside(whole, running);
+    let mut left = left_beside(&whole, running);
     for row in rows {
-        start_one(row, started, running, &mut room)?;
+        start_one(&whole, row, started, running, &mut left)?;
     }
     Ok(())
 }

@@ -20,9 +20,11 @@ use Rattle.rows.specs.Rising.{is_rising}
 use Rattle.fsm_tables.specs.Rows.{row_of, has_row, put, put_within}
 use Rattle.fsm_tables.proofs.RowLaws.{first, second, none_below, below_tied, rising_put, rising_mapped, length-put, sum_by-put}
 use Rattle.fsm_tables.specs.Inner.Sums.{weight_of, weight}
-use Rattle.fsm_tables.specs.Claims.{Claim, claim_of, claims, on_node, used, is_live}
+use Rattle.fsm_tables.proofs.Uses.{same_use}
+use Rattle.fsm_tables.specs.Claims.{Claim, claim_of, claims, on_node, is_live}
 use Rattle.cluster_model.specs.Words.{State, same_alloc}
-use Rattle.cluster_model.specs.Safe.{fits, is_safe}
+use Rattle.rows.specs.Sizes.{fits}
+use Rattle.cluster_model.specs.Safe.{is_safe}
 use Rattle.cluster_model.specs.Effect.{with_next_count, stop, frees, with_room, alloc_row, with_places, planned}
 use Rattle.rows.proofs.KeyLaws.{alloc_cmp_total}
 use Rattle.cluster_model.proofs.SafeLaws.{stop_releases, kept_safe, with_room_keeps, distinct_of}
@@ -207,9 +209,6 @@ places_count x slot p (k ∷ ks) rows g h =
     let some = g.0.3.0.0 in
     places_count x (slot + 1) p ks _ g.1 (all_within alloc_cmp alloc_id RowCounts 65536 (alloc_row x slot p k) rows (omega (arith, low), some, g.0.2.0) h)
 
-same_use : (cs ds : List Claim) → ((w : Claim → ℕ) → sum_by w cs ≡ sum_by w ds) → (n : ℕ) → used n cs ≡ used n ds
-same_use cs ds same n = λ i. record { cpu = same (on_node n (λ z. z.cpu)) i; mem = same (on_node n (λ z. z.mem)) i }
-
 pub planned_is_safe : (p : AcceptedPlan) (s : State) → FitsWhereAsked p s → AfterIsSafe p s → T (is_safe (planned p (with_next_count s)))
 planned_is_safe p s k h =
     let g = with_room (frees (stop p.stops) s.allocs) (s.count + 1) in
@@ -222,7 +221,7 @@ planned_is_safe p s k h =
     let counts = claims_count (planned p (with_next_count s)).allocs (places_count (s.count + 1) 0 p p.places rows k.places kept) in
     kept_safe g keeps s.nodes cs
     (safe_by_numbers s.nodes cs k.nodes_rising (low_numbers s.nodes k.nodes) counts
-    (λ n lt. subst (λ z. T (fits z (room_of (row_of nat_cmp node_number n s.nodes)))) (sym (same_use cs ds same n)) (h.fit n lt))
+    (λ n lt. subst (λ z. T (fits z (room_of (row_of nat_cmp node_number n s.nodes)))) (sym (same_use cs ds n (λ q. same (on_node n q)))) (h.fit n lt))
     (distinct_same ds cs (λ w. sym (same w)) h.distinct))
 
 pub safe_is_planned : (p : AcceptedPlan) (s : State) → FitsWhereAsked p s → T (is_safe (planned p (with_next_count s))) → AfterIsSafe p s
@@ -233,6 +232,6 @@ safe_is_planned p s k h =
     let ds = left_by p s ++ wanted p in
     let same : (w : Claim → ℕ) → sum_by w cs ≡ sum_by w ds = λ w. sums_planned w p s k.allocs_rising k.few in
     record {
-      fit = λ n lt. subst (λ z. T (fits z (room_of (row_of nat_cmp node_number n s.nodes)))) (same_use cs ds same n) (kept_numbers g keeps s.nodes cs n (number_fits (map g s.nodes) cs h n));
+      fit = λ n lt. subst (λ z. T (fits z (room_of (row_of nat_cmp node_number n s.nodes)))) (same_use cs ds n (λ q. same (on_node n q))) (kept_numbers g keeps s.nodes cs n (number_fits (map g s.nodes) cs h n));
       distinct = distinct_same cs ds same (distinct_of (map g s.nodes) cs h);
     }

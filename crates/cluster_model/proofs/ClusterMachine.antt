@@ -4,7 +4,7 @@ use Rattle.rows.specs.declared.command.Command.TheVariants as commands
 use Rattle.fields_model.proofs.StateTextLaws.{state_lawful}
 use Rattle.fields_model.proofs.CommandLaws.{command_lawful}
 use Rattle.fields_model.proofs.RangeLaws.{fits_state, state_fits, fits_command, command_fits}
-use Rattle.machine.specs.Meaning.{LawfulMachine}
+use Rattle.machine_model.specs.Meaning.{LawfulMachine}
 use Rattle.cluster_model.specs.Words.{no_rows}
 use Rattle.cluster_model.proofs.SafeFacts.{safe_by_test}
 use Rattle.cluster_model.proofs.SafeLaws.{keeps_safe}

@@ -1,18 +1,12 @@
 -- The test of a safe state decides the facts.
-use Rattle.std.proofs.Common.{ℕ, ◌≤◌, Bool, true, false, not, ◌&&◌, ◌||◌, T, List, [], ◌∷◌, is_some, arith}
-use Rattle.std.specs.Prelude.{nat_le}
+use Rattle.std.proofs.Common.{Bool, true, false, not, ◌&&◌, ◌||◌, T, List, [], ◌∷◌, is_some}
 use Rattle.std.specs.List.{AllByRecursion, list_all, list_any}
 use Rattle.fsm_tables.proofs.RowLaws.{both, first, second}
 use Rattle.cluster_model.specs.Words.{State, node_of}
-use Rattle.fsm_tables.specs.Claims.{Claim, claims}
+use Rattle.rows.proofs.SizeLaws.{fits_of, of_fits}
+use Rattle.fsm_tables.specs.Claims.{Claim, claims, used}
 use Rattle.cluster_model.specs.Safe.{is_within, is_placed, same_name, are_distinct, is_safe}
 use Rattle.cluster_model.specs.SafeFacts.{Within, Apart, AllApart, Safe}
-
-pub T-le : (a b : ℕ) → T (nat_le a b) → a ≤ b
-T-le a b h = grind arith
-
-pub le-T : (a b : ℕ) → a ≤ b → T (nat_le a b)
-le-T a b h = grind arith
 
 neither : (a b : Bool) → T (not (a || b)) → (T a → ⊥) × T (not b)
 neither true b h = absurd h
@@ -52,7 +46,7 @@ safe_by_test s h =
     let cs = claims s.allocs in
     let front : T (list_all (is_within cs) s.nodes && list_all (is_placed s.nodes) cs) = first (list_all (is_within cs) s.nodes && list_all (is_placed s.nodes) cs) (are_distinct cs) h in
     record {
-      within = all_hold (is_within cs) (Within cs) (λ n w. (T-le _ _ (first _ _ w), T-le _ _ (second _ _ w))) s.nodes (first (list_all (is_within cs) s.nodes) (list_all (is_placed s.nodes) cs) front);
+      within = all_hold (is_within cs) (Within cs) (λ n w. of_fits (used n.number cs) n.size w) s.nodes (first (list_all (is_within cs) s.nodes) (list_all (is_placed s.nodes) cs) front);
       placed = all_hold (is_placed s.nodes) (λ c. T (is_some (node_of c.node s))) (λ c p. p) cs (second (list_all (is_within cs) s.nodes) (list_all (is_placed s.nodes) cs) front);
       apart = distinct_apart cs (second (list_all (is_within cs) s.nodes && list_all (is_placed s.nodes) cs) (are_distinct cs) h);
     }
@@ -61,6 +55,6 @@ pub test_by_safe : (s : State) → Safe s → T (is_safe s)
 test_by_safe s h =
     let cs = claims s.allocs in
     both _ _ (both _ _
-    (all_pass (is_within cs) (Within cs) (λ n w. both _ _ (le-T _ _ w.0) (le-T _ _ w.1)) s.nodes h.within)
+    (all_pass (is_within cs) (Within cs) (λ n w. fits_of (used n.number cs) n.size w) s.nodes h.within)
     (all_pass (is_placed s.nodes) (λ c. T (is_some (node_of c.node s))) (λ c p. p) cs h.placed))
     (apart_distinct cs h.apart)

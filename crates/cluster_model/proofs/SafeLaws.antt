@@ -1,11 +1,12 @@
 -- A command that admission does not refuse keeps a safe state safe.
 use Rattle.std.proofs.Common.{◌≡◌, ℕ, ◌+◌, ◌≤◌, Bool, true, false, cond, not, ◌&&◌, ◌||◌, T, List, [], ◌∷◌, length, map, Option, Some, None, is_some, refl, sym, ap, subst, ◌∙◌, arith}
-use Rattle.std.specs.Prelude.{sum_by, nat_eq, nat_le, nat_lt}
+use Rattle.std.specs.Prelude.{sum_by, nat_eq, nat_lt}
 use Rattle.std.specs.List.{list_all, list_any}
 use Rattle.std.specs.Cmp.{nat_cmp_total}
 use Rattle.std.specs.Ordering.{nat_cmp, is_eq}
 use Rattle.std.specs.declared.cmp.Ordering.TheVariants.{Less, Equal, Greater}
 use Rattle.std.proofs.lemmas.List.Sums.{sum_by-cons}
+use Rattle.rows.specs.declared.size.Size.{Size}
 use Rattle.rows.specs.declared.node.Node.{Node}
 use Rattle.rows.specs.declared.node.NodeSpec.{NodeSpec}
 use Rattle.rows.specs.declared.node.NodeStatus.TheVariants as statuses
@@ -23,11 +24,13 @@ use Rattle.rows.specs.declared.refusal.Refusal.{Refusal}
 use Rattle.rows.specs.Keys.{node_number}
 use Rattle.fsm_tables.specs.Rows.{row_of, has_row, put, by_order}
 use Rattle.fsm_tables.proofs.RowLaws.{both, first, second, row_of-put}
+use Rattle.fsm_tables.proofs.Uses.{use_fits, fitting_use}
 use Rattle.fsm_tables.specs.Claims.{Claim, claim_of, claims, on_node, used, is_live, is_wanted, is_active}
 use Rattle.cluster_model.specs.Words.{State, no_rows, node_of, no_node, same_alloc}
-use Rattle.cluster_model.specs.Safe.{fits, is_within, is_placed, same_name, are_distinct, are_safe, is_safe}
+use Rattle.rows.specs.Sizes.{fits}
+use Rattle.cluster_model.specs.Safe.{is_within, is_placed, same_name, are_distinct, are_safe, is_safe}
 use Rattle.cluster_model.specs.SafeFacts.{Safe}
-use Rattle.cluster_model.proofs.SafeFacts.{safe_by_test, test_by_safe, T-le, le-T}
+use Rattle.cluster_model.proofs.SafeFacts.{safe_by_test, test_by_safe}
 use Rattle.cluster_model.specs.Effect.{applied, with_next_count, node_row, with_node, down, draining, drained, lost, moves, with_migrate_mark, stop, client_state_of, told, told_all, frees, with_room, downed}
 use Rattle.cluster_model.specs.Admission.{first_of, admission, tests}
 use Rattle.cluster_model.proofs.StateLaws.{either}
@@ -71,13 +74,12 @@ all_by : {A : Type 0} (p q : A → Bool) (xs : List A) → ((x : A) → T (p x) 
 all_by p q [] f h = tt
 all_by p q (x ∷ xs) f h = both _ _ (f x (first _ _ h)) (all_by p q xs f (second _ _ h))
 
-less_fits : (a b c : ℕ) → a ≤ b → T (nat_le b c) → T (nat_le a c)
-less_fits a b c le h = let g = T-le b c h in le-T a c (omega arith)
+-- so less is used of a node
+pub fewer_used : (cs ds : List Claim) → Fewer cs ds → (n : ℕ) (room : Size) → T (fits (used n ds) room) → T (fits (used n cs) room)
+fewer_used cs ds f n room h = use_fits n cs room (λ p. let less = fewer_sum (on_node n p) cs ds f in let fit = fitting_use n ds room h p in omega (arith, less, fit))
 
 fewer_within : (cs ds : List Claim) → Fewer cs ds → (n : Node) → T (is_within ds n) → T (is_within cs n)
-fewer_within cs ds f n h = both _ _
-    (less_fits _ _ _ (fewer_sum (on_node n.number (λ z. z.cpu)) cs ds f) (first _ _ h))
-    (less_fits _ _ _ (fewer_sum (on_node n.number (λ z. z.mem)) cs ds f) (second _ _ h))
+fewer_within cs ds f n h = fewer_used cs ds f n.number n.size h
 
 -- ---- the three parts of a safe state
 
@@ -237,13 +239,11 @@ unused i nodes w none apart (c ∷ cs) h =
     let here : w c ≡ 0 = apart c (λ same. subst (λ o. T (is_some o)) (ap (λ j. row_of nat_cmp node_number j nodes) (same_number i c.node same) ∙ none) (first _ _ h)) in
     omega (arith, sum_by-cons w c cs)
 
-pub none_fits : (a b : ℕ) → a ≡ 0 → T (nat_le a b)
-none_fits a b e = le-T a b (omega arith)
+pub unused_fits : (n : ℕ) (nodes : List Node) → row_of nat_cmp node_number n nodes ≡ None → (cs : List Claim) → T (list_all (is_placed nodes) cs) → (room : Size) → T (fits (used n cs) room)
+unused_fits n nodes none cs h room = use_fits n cs room (λ p. let no_use = unused n nodes (on_node n p) none (λ c apart. apart_adds_nothing _ _ apart) cs h in omega (arith, no_use))
 
 node_row_within : (x : ℕ) (n : NodeSpec) (nodes : List Node) (cs : List Claim) → T (are_safe nodes cs) → (old : Option Node) → row_of nat_cmp node_number n.number nodes ≡ old → T (is_within cs (node_row x n old))
-node_row_within x n nodes cs h None e = both _ _
-    (none_fits _ _ (unused n.number nodes (on_node n.number (λ z. z.cpu)) e (λ c apart. apart_adds_nothing _ _ apart) cs (placed_of nodes cs h)))
-    (none_fits _ _ (unused n.number nodes (on_node n.number (λ z. z.mem)) e (λ c apart. apart_adds_nothing _ _ apart) cs (placed_of nodes cs h)))
+node_row_within x n nodes cs h None e = unused_fits n.number nodes e cs (placed_of nodes cs h) n.size
 node_row_within x n nodes cs h (Some old) e = found_passes (is_within cs) n.number old nodes e (within_of nodes cs h)
 
 with_node_safe : (n : NodeSpec) (s : State) → T (is_safe s) → T (is_safe (with_node n s))

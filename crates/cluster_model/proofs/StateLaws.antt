@@ -23,7 +23,7 @@ use Rattle.rows.specs.declared.refusal.Refusal.{Refusal}
 use Rattle.rows.specs.Changes.{status_of, snapshot_of}
 use Rattle.rows.specs.Keys.{name_cmp, eval_cmp, alloc_cmp, job_name, node_number, eval_id, alloc_id}
 use Rattle.rows.proofs.KeyLaws.{alloc_cmp_total, eval_cmp_total}
-use Rattle.machine.specs.Meaning.{IsMachineRefusal}
+use Rattle.machine_model.specs.Meaning.{IsMachineRefusal}
 use Rattle.fsm_tables.specs.Rows.{put_within}
 use Rattle.fsm_tables.proofs.RowLaws.{rising_put_within, few_put_within, rising_mapped}
 use Rattle.fsm_tables.specs.Claims.{is_active, is_wanted}

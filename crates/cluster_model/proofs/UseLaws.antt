@@ -16,9 +16,10 @@ use Rattle.rows.specs.Fits.{AllocationFits, NodeFits}
 use Rattle.fsm_tables.specs.Rows.{row_of}
 use Rattle.fsm_tables.proofs.RowLaws.{both, first, second, less, equal}
 use Rattle.fsm_tables.specs.Claims.{Claim, claim_of, claims, on_node, used, is_live}
-use Rattle.cluster_model.specs.Safe.{fits, is_within, is_placed, are_distinct, are_safe}
-use Rattle.cluster_model.proofs.SafeFacts.{T-le}
-use Rattle.cluster_model.proofs.SafeLaws.{KeepsSize, Releases, found_passes, unused, none_fits, within_of, placed_of, from_parts, apart_adds_nothing}
+use Rattle.rows.specs.Sizes.{Cpu, no_size, fits}
+use Rattle.fsm_tables.proofs.Uses.{fitting_use}
+use Rattle.cluster_model.specs.Safe.{is_within, is_placed, are_distinct, are_safe}
+use Rattle.cluster_model.proofs.SafeLaws.{KeepsSize, Releases, found_passes, unused_fits, within_of, placed_of, from_parts}
 use Rattle.cluster_model.specs.Plans.{room_of, fits_number, ended}
 
 -- ---- in a safe state each number's use is within what it has
@@ -34,9 +35,7 @@ found_number i x (y ∷ ys) e =
 pub number_fits : (nodes : List Node) (cs : List Claim) → T (are_safe nodes cs) → (n : ℕ) → T (fits_number nodes cs n)
 number_fits nodes cs h n =
     elim (row_of nat_cmp node_number n nodes) as (λ o. row_of nat_cmp node_number n nodes ≡ o → T (fits (used n cs) (room_of o))) [
-      | None ↦ λ e. both _ _
-          (none_fits _ _ (unused n nodes (on_node n (λ z. z.cpu)) e (λ c apart. apart_adds_nothing _ _ apart) cs (placed_of nodes cs h)))
-          (none_fits _ _ (unused n nodes (on_node n (λ z. z.mem)) e (λ c apart. apart_adds_nothing _ _ apart) cs (placed_of nodes cs h)))
+      | None ↦ λ e. unused_fits n nodes e cs (placed_of nodes cs h) no_size
       | Some r ↦ λ e. subst (λ i. T (fits (used i cs) r.size)) (found_number n r nodes e) (found_passes (is_within cs) n r nodes e (within_of nodes cs h))
     ] refl
 
@@ -71,23 +70,23 @@ Counts c = (c.node < 65) × (1 ≤ c.size.cpu) × (1 ≤ c.node)
 itself : (n x : ℕ) → cond (nat_eq n n) x 0 ≡ x
 itself n x = grind arith
 
-uses_some : (cs ds : List Claim) → AllByRecursion Counts cs → AllByRecursion (λ c. 1 ≤ sum_by (on_node c.node (λ z. z.cpu)) (ds ++ cs)) cs
+uses_some : (cs ds : List Claim) → AllByRecursion Counts cs → AllByRecursion (λ c. 1 ≤ sum_by (on_node c.node Cpu) (ds ++ cs)) cs
 uses_some [] ds h = tt
 uses_some (c ∷ cs) ds h =
-    let one : on_node c.node (λ z. z.cpu) c ≡ c.size.cpu = itself c.node c.size.cpu in
+    let one : on_node c.node Cpu c ≡ c.size.cpu = itself c.node c.size.cpu in
     let some : 1 ≤ c.size.cpu = h.0.1 in
-    let all = sum_by-append (on_node c.node (λ z. z.cpu)) ds (c ∷ cs) in
-    let more = sum_by-cons (on_node c.node (λ z. z.cpu)) c cs in (
+    let all = sum_by-append (on_node c.node Cpu) ds (c ∷ cs) in
+    let more = sum_by-cons (on_node c.node Cpu) c cs in (
       omega (arith, one, some, all, more),
-      subst (λ es. AllByRecursion (λ d. 1 ≤ sum_by (on_node d.node (λ z. z.cpu)) es) cs) (append_assoc ds (c ∷ []) cs) (uses_some cs (ds ++ c ∷ []) h.1),
+      subst (λ es. AllByRecursion (λ d. 1 ≤ sum_by (on_node d.node Cpu) es) cs) (append_assoc ds (c ∷ []) cs) (uses_some cs (ds ++ c ∷ []) h.1),
     )
 
 placed_by_number : (nodes : List Node) (cs : List Claim) → ((n : ℕ) → n < 65 → T (fits_number nodes cs n))
-    → (ds : List Claim) → AllByRecursion Counts ds → AllByRecursion (λ c. 1 ≤ sum_by (on_node c.node (λ z. z.cpu)) cs) ds → T (list_all (is_placed nodes) ds)
+    → (ds : List Claim) → AllByRecursion Counts ds → AllByRecursion (λ c. 1 ≤ sum_by (on_node c.node Cpu) cs) ds → T (list_all (is_placed nodes) ds)
 placed_by_number nodes cs f [] h some = tt
 placed_by_number nodes cs f (c ∷ ds) h some = both _ _
     (elim (row_of nat_cmp node_number c.node nodes) as (λ o. T (fits (used c.node cs) (room_of o)) → T (is_some o)) [
-      | None ↦ λ fit. let none : (used c.node cs).cpu ≤ 0 = T-le _ _ (first _ _ fit) in let one : 1 ≤ (used c.node cs).cpu = some.0 in absurd (omega (arith, none, one))
+      | None ↦ λ fit. let none : sum_by (on_node c.node Cpu) cs ≤ 0 = fitting_use c.node cs no_size fit Cpu in absurd (omega (arith, none, some.0))
       | Some r ↦ λ fit. tt
     ] (f c.node h.0.0))
     (placed_by_number nodes cs f ds h.1 some.1)

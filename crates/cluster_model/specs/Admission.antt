@@ -2,7 +2,6 @@
 -- no test holds.
 use Rattle.std.specs.Prelude.{ℕ, ◌+◌, Bool, not, ◌&&◌, ◌||◌, List, [], ◌∷◌, length, filter, Option, Some, None, nat_eq, nat_lt, bytes_eq, if◌then◌else◌}
 use Rattle.std.specs.List.{list_any, list_all}
-use Rattle.rows.specs.declared.size.Size.{Size}
 use Rattle.rows.specs.declared.job.Job.{Job}
 use Rattle.rows.specs.declared.job.Group.{Group}
 use Rattle.rows.specs.declared.node.Node.{Node}
@@ -20,7 +19,9 @@ use Rattle.rows.specs.declared.refusal.Refusal.TheVariants as refusals
 use Rattle.fsm_tables.specs.Claims.{is_live}
 use Rattle.fsm_tables.specs.Lookups.{lives_on}
 use Rattle.rows.specs.Limits.{most_jobs, most_evals, most_allocs}
-use Rattle.cluster_model.specs.Words.{State, job_of, node_of, eval_of, alloc_of, is_some_and, no_job, no_node, no_alloc, is_ready, is_draining, is_pending, is_blocked}
+use Rattle.rows.specs.NodeStatuses.{is_ready, is_down}
+use Rattle.rows.specs.Sizes.{same_size}
+use Rattle.cluster_model.specs.Words.{State, job_of, node_of, eval_of, alloc_of, is_some_and, no_job, no_node, no_alloc, is_draining, is_pending, is_blocked}
 use Rattle.cluster_model.specs.Safe.{is_safe}
 use Rattle.cluster_model.specs.Effect.{with_next_count, is_named, owns, moves, is_ended_by, told_all, planned}
 
@@ -48,9 +49,6 @@ those_jobs those s = length (filter those s.jobs)
 -- whether the evaluations that touch the jobs of that kind would pass the limit
 abbrev pub touch_passes : (Job → Bool) → State → Bool
 touch_passes those s = evals_pass (those_jobs those s) s
-
-abbrev pub same_size : Size → Size → Bool
-same_size a b = nat_eq a.cpu b.cpu && nat_eq a.mem b.mem
 
 abbrev pub differs : NodeSpec → Node → Bool
 differs n old = not (bytes_eq old.class n.class && same_size old.size n.size)
@@ -104,7 +102,7 @@ tests s (commands.NodePut n) =
     ∷ []
 tests s (commands.NodeDown n) =
     (no_node n s, refusals.UnknownNode)
-    ∷ (is_some_and (λ r. not (is_ready r.status)) (node_of n s), refusals.StaleExpiry)
+    ∷ (is_some_and (λ r. is_down r.status) (node_of n s), refusals.StaleExpiry)
     ∷ (touch_passes (owns (lives_on n) s.allocs) s, refusals.TableFull)
     ∷ []
 tests s (commands.Drain n force) =

@@ -3,7 +3,7 @@ use Rattle.rows.specs.declared.command.Command.{Command}
 use Rattle.rows.specs.declared.command.Command.TheVariants as commands
 use Rattle.fields_model.specs.StateText.{state}
 use Rattle.fields_model.specs.Commands.{command}
-use Rattle.machine.specs.Meaning.{Meaning}
+use Rattle.machine_model.specs.Meaning.{Meaning}
 use Rattle.cluster_model.specs.Words.{State, no_rows}
 use Rattle.cluster_model.specs.SafeFacts.{Safe}
 use Rattle.cluster_model.specs.Effect.{applied}

@@ -7,6 +7,7 @@ use Rattle.rows.specs.declared.job.Job.{Job}
 use Rattle.rows.specs.declared.job.JobSpec.{JobSpec}
 use Rattle.rows.specs.declared.node.Node.{Node}
 use Rattle.rows.specs.declared.node.NodeSpec.{NodeSpec}
+use Rattle.rows.specs.declared.node.NodeStatus.{NodeStatus}
 use Rattle.rows.specs.declared.node.NodeStatus.TheVariants as statuses
 use Rattle.rows.specs.declared.node.DrainMode.TheVariants as drains
 use Rattle.rows.specs.declared.evaluation.EvalId.{EvalId}
@@ -108,11 +109,11 @@ with_node n s =
     let row = node_row s.count n (node_of n.number s) in
     record s { nodes = put_within nat_cmp node_number most_nodes row s.nodes }
 
-abbrev pub down_row : Node → Node
-down_row r = record r { status = statuses.Down }
+abbrev pub status_row : NodeStatus → Node → Node
+status_row status r = record r { status = status }
 
-abbrev pub down : ℕ → Node → Node
-down n r = if nat_eq r.number n then down_row r else r
+abbrev pub marked_as : NodeStatus → ℕ → Node → Node
+marked_as status n r = if nat_eq r.number n then status_row status r else r
 
 abbrev pub draining_row : Bool → Node → Node
 draining_row force r = record r { eligible = false; drain = if force then drains.Force else drains.Slow }
@@ -134,18 +135,33 @@ drained n r = if nat_eq r.number n then drained_row r else r
 abbrev pub without_drain : ℕ → State → State
 without_drain n s = record s { nodes = map (drained n) s.nodes }
 
-abbrev pub lost_row : Allocation → Allocation
-lost_row a = record a { client = clients.Lost }
+abbrev pub client_row : ClientState → Allocation → Allocation
+client_row client a = record a { client = client }
+
+-- what is not final on the node
+abbrev pub left_as : ClientState → ℕ → Allocation → Allocation
+left_as client n a = if is_active_on n a then client_row client a else a
+
+-- A node is not heard of: its row is of this status, and what was not final on it in this client
+-- state.
+abbrev pub unheard : NodeStatus → ClientState → ℕ → State → State
+unheard status client n s =
+    record s { nodes = map (marked_as status n) s.nodes; allocs = map (left_as client n) s.allocs }
+
+abbrev pub down_row : Node → Node
+down_row = status_row statuses.Down
+
+abbrev pub down : ℕ → Node → Node
+down = marked_as statuses.Down
 
 abbrev pub lost : ℕ → Allocation → Allocation
-lost n a = if is_active_on n a then lost_row a else a
+lost = left_as clients.Lost
 
 -- A node that has a row is down: what was not final on it is lost, and the jobs of what was live
 -- are touched.
 abbrev pub downed : ℕ → State → State
 downed n s =
-    let after = record s { nodes = map (down n) s.nodes; allocs = map (lost n) s.allocs } in
-    touched (owns (lives_on n) s.allocs) after
+    touched (owns (lives_on n) s.allocs) (unheard statuses.Down clients.Lost n s)
 
 -- A node's loss. Without a row of the node nothing changes, also where allocations name it.
 abbrev pub without_node : ℕ → State → State

@@ -10,7 +10,8 @@ use Rattle.rows.specs.Rising.{is_rising}
 use Rattle.rows.specs.Fits.{AllocationFits, NodeFits, AcceptedPlaceFits}
 use Rattle.fsm_tables.specs.Rows.{row_of}
 use Rattle.fsm_tables.specs.Claims.{Claim, claim_of, claims, used, is_live}
-use Rattle.cluster_model.specs.Safe.{fits, are_distinct, same_name}
+use Rattle.rows.specs.Sizes.{no_size, fits}
+use Rattle.cluster_model.specs.Safe.{are_distinct, same_name}
 use Rattle.cluster_model.specs.Effect.{is_ended_by, stop}
 use Rattle.rows.specs.declared.command.AcceptedPlace.{AcceptedPlace}
 use Rattle.rows.specs.declared.command.AcceptedPlan.{AcceptedPlan}
@@ -21,7 +22,7 @@ use Rattle.cluster_model.specs.Words.{State}
 
 -- what a number has: its node's size, and nothing where it has no node
 abbrev pub room_of : Option Node → Size
-room_of None = record { cpu = 0; mem = 0 }
+room_of None = no_size
 room_of (Some n) = n.size
 
 abbrev pub fits_number : List Node → List Claim → ℕ → Bool

@@ -1,18 +1,14 @@
 -- What a safe state is: what the live allocations hold fits the nodes, and no name is held twice.
-use Rattle.std.specs.Prelude.{Bool, ◌&&◌, List, nat_le}
+use Rattle.std.specs.Prelude.{Bool, ◌&&◌, List}
 use Rattle.std.specs.List.{list_all}
 use Rattle.std.specs.Ordering.{nat_cmp}
-use Rattle.rows.specs.declared.size.Size.{Size}
+use Rattle.rows.specs.Sizes.{fits}
 use Rattle.rows.specs.declared.node.Node.{Node}
 use Rattle.rows.specs.Keys.{node_number}
 use Rattle.fsm_tables.specs.Rows.{has_row}
 use Rattle.fsm_tables.specs.Claims.{Claim, claims, used}
 pub use Rattle.fsm_tables.specs.Claims.{same_name, are_distinct}
 use Rattle.cluster_model.specs.Words.{State}
-
--- so much use is within a size
-abbrev pub fits : Size → Size → Bool
-fits load room = nat_le load.cpu room.cpu && nat_le load.mem room.mem
 
 -- a node's use is within its size
 abbrev pub is_within : List Claim → Node → Bool

@@ -2,13 +2,14 @@
 use Rattle.std.specs.Prelude.{◌≤◌, T, List, [], ◌∷◌, is_some}
 use Rattle.std.specs.List.{AllByRecursion}
 use Rattle.rows.specs.declared.node.Node.{Node}
+use Rattle.rows.specs.Sizes.{Part, amount}
 use Rattle.cluster_model.specs.Words.{State, node_of}
 use Rattle.fsm_tables.specs.Claims.{Claim, claims, used}
 use Rattle.cluster_model.specs.Safe.{same_name}
 
--- the node's use is within what it has
+-- of each part the node's use is within what it has
 abbrev pub Within : List Claim → Node → Type 0
-Within cs n = ((used n.number cs).cpu ≤ n.size.cpu) × ((used n.number cs).mem ≤ n.size.mem)
+Within cs n = (p : Part) → amount p (used n.number cs) ≤ amount p n.size
 
 -- another claim is of another name
 abbrev pub Apart : Claim → Claim → Type 0

@@ -3,8 +3,6 @@ use Rattle.std.specs.Prelude.{ℕ, Bool, true, false, ◌&&◌, List, [], Option
 use Rattle.std.specs.Ordering.{nat_cmp}
 use Rattle.rows.specs.declared.job.Job.{Job}
 use Rattle.rows.specs.declared.node.Node.{Node}
-use Rattle.rows.specs.declared.node.NodeStatus.{NodeStatus}
-use Rattle.rows.specs.declared.node.NodeStatus.TheVariants as statuses
 use Rattle.rows.specs.declared.node.DrainMode.{DrainMode}
 use Rattle.rows.specs.declared.node.DrainMode.TheVariants as drains
 use Rattle.rows.specs.declared.evaluation.EvalId.{EvalId}
@@ -56,10 +54,6 @@ abbrev pub no_alloc : AllocId → State → Bool
 no_alloc a s = is_none (alloc_of a s)
 
 -- ---- tests of rows
-
-abbrev pub is_ready : NodeStatus → Bool
-is_ready statuses.Ready = true
-is_ready statuses.Down = false
 
 abbrev pub is_draining : DrainMode → Bool
 is_draining drains.Off = false

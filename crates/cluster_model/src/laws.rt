@@ -14,7 +14,7 @@ ghost use Rattle.cluster_model.specs.Plans.{FitsWhereAsked, AfterIsSafe};
 ghost use Rattle.cluster_model.specs.Safe.{is_safe};
 ghost use Rattle.cluster_model.specs.Admission.{admission};
 ghost use Rattle.rows.specs.Fits.{CommandFits};
-ghost use Rattle.machine.specs.Meaning.{IsMachineRefusal};
+ghost use Rattle.machine_model.specs.Meaning.{IsMachineRefusal};
 ghost use Rattle.rows.specs.States.{AreTables};
 ghost use Rattle.rows.specs.States.{IsState};
 

@@ -21,7 +21,7 @@ pub fn is_done(state: &Cluster, node: NodeId) -> bool
     ensures { result ≡ is_done node state.now }
 {
     state.alloc_table().ranges();
-    let in_use = state.used(node).cpu > 0;
+    let in_use = state.used(node).cpu() > 0;
     !in_use
 }
 

@@ -9,7 +9,7 @@ use Rattle.rows.specs.Keys.{node_number}
 use Rattle.rows.specs.Rising.{is_below, is_rising}
 use Rattle.fsm_tables.specs.Rows.{has_row, put}
 use Rattle.fsm_tables.proofs.RowLaws.{first, second}
-use Rattle.cluster_model.specs.Words.{is_ready}
+use Rattle.rows.specs.NodeStatuses.{is_ready}
 use Rattle.cluster_model.proofs.Keys.{at_number}
 use Rattle.cluster_model.proofs.Lists.{maps_same, rest_from}
 use Rattle.fsm_state.proofs.StepLaws.{put_only}

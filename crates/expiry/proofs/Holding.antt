@@ -8,7 +8,7 @@ use Rattle.rows.specs.Keys.{node_number}
 use Rattle.rows.specs.Rising.{is_rising}
 use Rattle.fsm_tables.specs.Rows.{put}
 use Rattle.fsm_tables.proofs.RowLaws.{rising_put}
-use Rattle.cluster_model.specs.Words.{is_ready}
+use Rattle.rows.specs.NodeStatuses.{is_ready}
 use Rattle.group_model.specs.Expiry.{BeatCount, count_node, counted_node, beat_count_of, beat_counts_over, one_beat_more, with_beat, HoldsReady}
 use Rattle.group_model.proofs.Following.{counts_follow}
 use Rattle.expiry.specs.Calls.{Call, Rebuild, Changed, Beat, HoldsAfter}

@@ -3,7 +3,7 @@ ghost use Rattle.std.specs.Prelude.{OnOk, OnErr, IfOk, IfErr};
 ghost use Rattle.rows.specs.declared.refusal.Refusal.TheVariants as refusals;
 ghost use Rattle.std.specs.Ordering.{nat_cmp};
 ghost use Rattle.fsm_tables.specs.ReservedTables.{has_space};
-ghost use Rattle.cluster_model.specs.Words.{is_ready};
+ghost use Rattle.rows.specs.NodeStatuses.{is_ready};
 ghost use Rattle.group_model.specs.Expiry.{count_node, beat_count_of, beat_counts_over, beat_counts_with};
 ghost use Rattle.group_model.specs.BeatCounts.{beat_heard, expiry_refusal};
 ghost use Rattle.expiry.specs.Errors.{refusal_of};
@@ -12,7 +12,7 @@ use crate::beat_count::BeatCount;
 use crate::errors::{ExpiryError, UnknownNode};
 use fsm_state::Cluster;
 use fsm_tables::{ReservedTable, Table};
-use rows::{Index, NoMemory, Node, NodeId, NodeStatus};
+use rows::{Index, NoMemory, Node, NodeId};
 use std::alloc::Global;
 use std::marker::Model;
 
@@ -34,16 +34,6 @@ impl Model for Expiry {
     ghost view = { λ e. e.counts.rows };
 }
 
-/// Whether a node is ready.
-fn is_ready(row: &Node) -> bool
-    ensures { result ≡ is_ready row.now.status }
-{
-    match row.status {
-        NodeStatus::Ready => true,
-        NodeStatus::Down => false,
-    }
-}
-
 /// The ready ones of the nodes, none of which was heard of yet.
 fn counts_over(alloc: Global, nodes: &Table<Node>) -> Result<ReservedTable<BeatCount>, NoMemory>
     ensures ok { IfOk result (λ counts. counts.rows ≡ beat_counts_over nodes.now []) }
@@ -58,7 +48,7 @@ fn counts_over(alloc: Global, nodes: &Table<Node>) -> Result<ReservedTable<BeatC
         let Some(row) = nodes.at(at) else {
             unreachable!()
         };
-        if is_ready(row) {
+        if row.status.is_ready() {
             counts.put(BeatCount {
                 node: row.number,
                 beats: Index::ZERO,
@@ -120,7 +110,7 @@ impl Expiry {
         ensures memory { let old = beat_count_of row.now.number self.old in
             OnErr result ((is_ready row.now.status ≡ true) × (old ≡ None)) }
     {
-        if !is_ready(row) {
+        if !row.status.is_ready() {
             self.counts.cut(&row.number);
             return Ok(());
         }

@@ -1,9 +1,11 @@
-//! Fields as bytes, both ways: a reader and a writer for each field, row and command, for lists and
-//! for options, by the formats of `fields_model`. One value has one text.
+//! Fields as bytes, both ways: a reader and a writer for each field, row, command and entry, for
+//! lists and for options, by the formats of `fields_model` and `machine_model`. One value has one
+//! text.
 #![tactic(auto)]
 
 mod codes;
 mod commands;
+mod entry;
 mod field;
 mod groups;
 mod ids;
@@ -13,6 +15,7 @@ mod reading;
 mod rows_text;
 mod ruled;
 mod services;
+mod tally;
 mod writing;
 
 pub use field::{Field, read_whole, write};

@@ -7,6 +7,7 @@ use Rattle.std.specs.BTreeSet.{BTreeSet}
 use Rattle.rows.specs.declared.job.Job.{Job}
 use Rattle.rows.specs.declared.allocation.Allocation.{Allocation}
 use Rattle.rows.specs.Fits.{AllocationFits}
+use Rattle.rows.specs.Sizes.{Cpu}
 use Rattle.fsm_tables.specs.Claims.{claim_of, claims, on_node, is_live}
 use Rattle.fsm_tables.specs.Lookups.{lives_on}
 use Rattle.cluster_model.specs.Words.{State}
@@ -25,11 +26,11 @@ in_use false true cpu rest any le e = let same : 0 + rest ≡ rest = omega arith
 in_use false false cpu rest any le e = let same : 0 + rest ≡ rest = omega arith in ap (nat_lt 0) same ∙ e
 
 abbrev cpu_on : ℕ → List Allocation → ℕ
-cpu_on n rows = sum_by (on_node n (λ z. z.cpu)) (claims rows)
+cpu_on n rows = sum_by (on_node n Cpu) (claims rows)
 
 one_more : (n : ℕ) (a : Allocation) (rows : List Allocation) → cpu_on n (a ∷ rows) ≡ cond (is_live a) (cond (nat_eq a.node n) a.size.cpu 0) 0 + cpu_on n rows
-one_more n a rows = elim (is_live a) as (λ b. sum_by (on_node n (λ z. z.cpu)) (cond b (claim_of a ∷ claims rows) (claims rows)) ≡ cond b (cond (nat_eq a.node n) a.size.cpu 0) 0 + cpu_on n rows) [
-  | true ↦ sum_by-cons (on_node n (λ z. z.cpu)) (claim_of a) (claims rows)
+one_more n a rows = elim (is_live a) as (λ b. sum_by (on_node n Cpu) (cond b (claim_of a ∷ claims rows) (claims rows)) ≡ cond b (cond (nat_eq a.node n) a.size.cpu 0) 0 + cpu_on n rows) [
+  | true ↦ sum_by-cons (on_node n Cpu) (claim_of a) (claims rows)
   | false ↦ omega arith
 ]
 

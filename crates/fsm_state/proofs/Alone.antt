@@ -19,6 +19,9 @@ use Rattle.rows.specs.Rising.{is_below, is_rising}
 use Rattle.fsm_tables.specs.Rows.{row_of, has_row, put, put_within}
 use Rattle.fsm_tables.proofs.RowLaws.{both, first, second, sum_by-put}
 use Rattle.fsm_tables.specs.Inner.Sums.{weight_of, weight}
+use Rattle.rows.specs.Sizes.{Part, amount, plus}
+use Rattle.rows.proofs.SizeLaws.{amount_of_plus, same_in_each}
+use Rattle.fsm_tables.proofs.Uses.{use_is, use_fits}
 use Rattle.fsm_tables.specs.Claims.{Claim, claim_of, claims, on_node, used, is_live, is_wanted, is_active}
 use Rattle.fsm_tables.specs.LiveNames.{live_named}
 use Rattle.cluster_model.specs.Words.{State, same_alloc}
@@ -201,41 +204,33 @@ part_is : (w : Claim → ℕ) (p : AcceptedPlan) (s : State) (r : ℕ) → T (is
     → nat_le (sum_by w (claims s.allocs) + sum_by w (wanted p)) (r + sum_by w (ended_by p.stops s.allocs)) ≡ nat_le (sum_by w (kept_claims p s ++ wanted p)) r
 part_is w p s r h = moved _ _ _ _ _ r (used_planned w p s) (ended_sum w p.stops s.allocs ∙ gone_sum w p.stops s.allocs h)
 
+-- a part of what is used by some and by others, and of a room with what some give back
+pub plus_use : (q : Part) (n : ℕ) (cs ds : List Claim) → amount q (plus (used n cs) (used n ds)) ≡ sum_by (on_node n q) cs + sum_by (on_node n q) ds
+plus_use q n cs ds = amount_of_plus q (used n cs) (used n ds) ∙ (λ i. use_is q n cs i + use_is q n ds i)
+
+pub room_with : (q : Part) (n : ℕ) (room : Size) (cs : List Claim) → amount q (plus room (used n cs)) ≡ amount q room + sum_by (on_node n q) cs
+room_with q n room cs = amount_of_plus q room (used n cs) ∙ ap (λ (m : ℕ). amount q room + m) (use_is q n cs)
+
 room_is : (p : AcceptedPlan) (s : State) (n : ℕ) → T (is_rising alloc_cmp alloc_id s.allocs) → has_room s (ended_by p.stops s.allocs) (wanted p) n ≡ fits_number s.nodes (kept_claims p s ++ wanted p) n
-room_is p s n h = λ i.
-    part_is (on_node n (λ z. z.cpu)) p s (room_of (row_of nat_cmp node_number n s.nodes)).cpu h i
-    && part_is (on_node n (λ z. z.mem)) p s (room_of (row_of nat_cmp node_number n s.nodes)).mem h i
-
--- one answer and then another, where both are asked for
-pub and_then : (r q a b w : Bool) → r ≡ a → q ≡ b → r ≡ true → (a && b) ≡ w → q ≡ w
-and_then r q a b w e f t g = f ∙ ap (λ x. x && b) (sym t ∙ e) ∙ g
-
-pub and_else : (r a b w : Bool) → r ≡ a → r ≡ false → (a && b) ≡ w → r ≡ w
-and_else r a b w e t g = t ∙ ap (λ x. x && b) (sym t ∙ e) ∙ g
-
--- the test of a node's room, of numbers that are these
-pub has_room_is : (s : State) (es ws : List Claim) (n : ℕ) → {r1 u1 m1 l1 r2 u2 m2 l2 : ℕ}
-    → r1 ≡ (room_of (row_of nat_cmp node_number n s.nodes)).cpu → u1 ≡ (used n (claims s.allocs)).cpu
-    → m1 ≡ (used n (map (λ (c : Claim). c) ws)).cpu → l1 ≡ (used n (map (λ (c : Claim). c) es)).cpu
-    → r2 ≡ (room_of (row_of nat_cmp node_number n s.nodes)).mem → u2 ≡ (used n (claims s.allocs)).mem
-    → m2 ≡ (used n (map (λ (c : Claim). c) ws)).mem → l2 ≡ (used n (map (λ (c : Claim). c) es)).mem
-    → (nat_le (u1 + m1) (r1 + l1) && nat_le (u2 + m2) (r2 + l2)) ≡ has_room s es ws n
-has_room_is s es ws n a1 b1 d1 e1 a2 b2 d2 e2 =
-    (λ i. nat_le (b1 i + d1 i) (a1 i + e1 i) && nat_le (b2 i + d2 i) (a2 i + e2 i))
-    ∙ (λ i. has_room s (map-id es i) (map-id ws i) n)
+room_is p s n h =
+    let room = room_of (row_of nat_cmp node_number n s.nodes) in
+    let more = plus (used n (claims s.allocs)) (used n (wanted p)) in
+    let whole = plus room (used n (ended_by p.stops s.allocs)) in
+    let cs = kept_claims p s ++ wanted p in
+    same_in_each (λ q. nat_le (amount q more) (amount q whole)) (λ q. nat_le (amount q (used n cs)) (amount q room)) (λ q.
+    (λ i. nat_le (plus_use q n (claims s.allocs) (wanted p) i) (room_with q n room (ended_by p.stops s.allocs) i))
+    ∙ part_is (on_node n q) p s (amount q room) h
+    ∙ ap (λ (m : ℕ). nat_le m (amount q room)) (sym (use_is q n cs)))
 
 off_zero : (n x : ℕ) → 1 ≤ n → cond (nat_eq n 0) x 0 ≡ 0
 off_zero n x le = grind arith
 
-none_on_zero : (part : Size → ℕ) (cs : List Claim) → AllByRecursion Counts cs → sum_by (on_node 0 part) cs ≡ 0
-none_on_zero part [] h = refl
-none_on_zero part (c ∷ cs) h =
-    let rest : sum_by (on_node 0 part) cs ≡ 0 = none_on_zero part cs h.1 in
-    let here : on_node 0 part c ≡ 0 = off_zero c.node (part c.size) h.0.2 in
-    sum_by-cons (on_node 0 part) c cs ∙ omega (arith, rest, here)
-
-none_fits : (n r : ℕ) → n ≡ 0 → T (nat_le n r)
-none_fits n r e = grind arith
+none_on_zero : (q : Part) (cs : List Claim) → AllByRecursion Counts cs → sum_by (on_node 0 q) cs ≡ 0
+none_on_zero q [] h = refl
+none_on_zero q (c ∷ cs) h =
+    let rest : sum_by (on_node 0 q) cs ≡ 0 = none_on_zero q cs h.1 in
+    let here : on_node 0 q c ≡ 0 = off_zero c.node (amount q c.size) h.0.2 in
+    sum_by-cons (on_node 0 q) c cs ∙ omega (arith, rest, here)
 
 from_all : (f : ℕ → Bool) (n k : ℕ) → T (all_from f n k) → (m : ℕ) → n ≤ m → m < n + k → T (f m)
 from_all f n zero h m le lt = absurd (omega arith)
@@ -275,7 +270,8 @@ fit_at p s a rising h n lt =
       | inr none ↦
           let zeroth : 0 ≡ n = omega arith in
           subst (λ m. T (fits_number s.nodes (kept_claims p s ++ wanted p) m)) zeroth
-          (both _ _ (none_fits _ _ (none_on_zero (λ z. z.cpu) (kept_claims p s ++ wanted p) (planned_count p s a))) (none_fits _ _ (none_on_zero (λ z. z.mem) (kept_claims p s ++ wanted p) (planned_count p s a))))
+          (let cs = kept_claims p s ++ wanted p in let room = room_of (row_of nat_cmp node_number 0 s.nodes) in
+          use_fits 0 cs room (λ q. let no_use = none_on_zero q cs (planned_count p s a) in omega (arith, no_use)))
     ]
 
 -- ---- the test

@@ -8,8 +8,12 @@ use Rattle.std.proofs.lemmas.List.Sums.{sum_by-cons}
 use Rattle.rows.specs.declared.node.Node.{Node}
 use Rattle.rows.specs.declared.allocation.Allocation.{Allocation}
 use Rattle.rows.specs.declared.command.AcceptedPlan.{AcceptedPlan}
+use Rattle.rows.specs.declared.size.Size.{Size}
+use Rattle.rows.specs.Sizes.{Part, amount, in_each_part, less, fits}
+use Rattle.rows.proofs.SizeLaws.{amount_of_less, both_in_each, same_in_each}
 use Rattle.rows.proofs.Truth.{is_true}
-use Rattle.fsm_tables.specs.Claims.{Claim, claim_of, claims, on_node, is_live}
+use Rattle.fsm_tables.specs.Claims.{Claim, claim_of, claims, on_node, used, is_live}
+use Rattle.fsm_tables.proofs.Uses.{use_is, use_fits}
 use Rattle.cluster_model.specs.Words.{State}
 use Rattle.cluster_model.specs.Safe.{is_safe, are_safe, is_within, are_distinct}
 use Rattle.cluster_model.specs.Effect.{with_next_count, stop, planned}
@@ -25,40 +29,27 @@ use Rattle.cluster_model.proofs.Lists.{same_truth}
 one_step : (a s u : ℕ) → (nat_le a u && nat_le s (u - a)) ≡ nat_le (a + s) u
 one_step a s u = grind arith
 
-paired : (a b c d : Bool) → (a && b && (c && d)) ≡ ((a && c) && (b && d))
-paired true true true d = refl
-paired true true false d = refl
-paired true false true d = refl
-paired true false false d = refl
-paired false b c d = refl
-
-within_step : (a b s t u v : ℕ) → (nat_le a u && nat_le b v && (nat_le s (u - a) && nat_le t (v - b))) ≡ (nat_le (a + s) u && nat_le (b + t) v)
-within_step a b s t u v = paired (nat_le a u) (nat_le b v) (nat_le s (u - a)) (nat_le t (v - b)) ∙ (λ i. one_step a s u i && one_step b t v i)
-
 no_more : (n : ℕ) → 0 + n ≡ n
 no_more n = omega arith
 
-nothing_fits : (n : ℕ) → nat_le 0 n ≡ true
-nothing_fits n = grind arith
-
-abbrev sum_cpu : ℕ → List Claim → ℕ
-sum_cpu n cs = sum_by (on_node n (λ z. z.cpu)) cs
-
-abbrev sum_mem : ℕ → List Claim → ℕ
-sum_mem n cs = sum_by (on_node n (λ z. z.mem)) cs
-
-pub fits_is : (n : ℕ) (cs : List Claim) (cpu mem : ℕ) → fits_steps n cs cpu mem ≡ (nat_le (sum_cpu n cs) cpu && nat_le (sum_mem n cs) mem)
-fits_is n [] cpu mem = sym (λ i. nothing_fits cpu i && nothing_fits mem i)
-fits_is n (c ∷ cs) cpu mem =
-    elim (nat_eq c.node n) as (λ b. cond b (nat_le c.size.cpu cpu && nat_le c.size.mem mem && fits_steps n cs (cpu - c.size.cpu) (mem - c.size.mem)) (fits_steps n cs cpu mem) ≡ (nat_le (cond b c.size.cpu 0 + sum_cpu n cs) cpu && nat_le (cond b c.size.mem 0 + sum_mem n cs) mem)) [
-      | true ↦ ap (λ b. nat_le c.size.cpu cpu && nat_le c.size.mem mem && b) (fits_is n cs (cpu - c.size.cpu) (mem - c.size.mem)) ∙ within_step c.size.cpu c.size.mem (sum_cpu n cs) (sum_mem n cs) cpu mem
-      | false ↦ fits_is n cs cpu mem ∙ sym (λ i. nat_le (no_more (sum_cpu n cs) i) cpu && nat_le (no_more (sum_mem n cs) i) mem)
+pub fits_is : (n : ℕ) (cs : List Claim) (left : Size) → fits_steps n cs left ≡ fits (used n cs) left
+fits_is n [] left = sym (is_true (fits (used n []) left) (use_fits n [] left (λ p. omega arith)))
+fits_is n (c ∷ cs) left =
+    let sum = λ (p : Part). sum_by (on_node n p) cs in
+    elim (nat_eq c.node n) as (λ b. cond b (fits c.size left && fits_steps n cs (less left c.size)) (fits_steps n cs left) ≡ in_each_part (λ p. nat_le (cond b (amount p c.size) 0 + sum p) (amount p left))) [
+      | true ↦
+          ap (λ b. fits c.size left && b) (fits_is n cs (less left c.size))
+          ∙ both_in_each (λ p. nat_le (amount p c.size) (amount p left)) (λ p. nat_le (amount p (used n cs)) (amount p (less left c.size)))
+          ∙ same_in_each (λ p. nat_le (amount p c.size) (amount p left) && nat_le (amount p (used n cs)) (amount p (less left c.size))) (λ p. nat_le (amount p c.size + sum p) (amount p left)) (λ p.
+          (λ i. nat_le (amount p c.size) (amount p left) && nat_le (use_is p n cs i) (amount_of_less p left c.size i))
+          ∙ one_step (amount p c.size) (sum p) (amount p left))
+      | false ↦ fits_is n cs left ∙ sym (λ i. in_each_part (λ p. nat_le (no_more (sum p) i) (amount p left)))
     ]
-    ∙ sym (λ i. nat_le (sum_by-cons (on_node n (λ z. z.cpu)) c cs i) cpu && nat_le (sum_by-cons (on_node n (λ z. z.mem)) c cs i) mem)
+    ∙ sym (λ i. in_each_part (λ p. nat_le (sum_by-cons (on_node n p) c cs i) (amount p left)))
 
 pub all_within : (cs : List Claim) (nodes : List Node) → list_all (bears_node cs) nodes ≡ list_all (is_within cs) nodes
 all_within cs [] = refl
-all_within cs (n ∷ nodes) = λ i. fits_is n.number cs n.size.cpu n.size.mem i && all_within cs nodes i
+all_within cs (n ∷ nodes) = λ i. fits_is n.number cs n.size i && all_within cs nodes i
 
 left_count : (x slot n : ℕ) (rows : List Allocation) → AllByRecursion RowCounts rows → AllByRecursion Counts (left x slot n rows)
 left_count x slot n [] h = tt

@@ -9,7 +9,7 @@ use Rattle.std.specs.declared.cmp.Ordering.{Ordering}
 use Rattle.std.specs.declared.cmp.Ordering.TheVariants.{Less, Equal, Greater}
 use Rattle.rows.specs.declared.job.Job.{Job}
 use Rattle.rows.specs.declared.node.Node.{Node}
-use Rattle.rows.specs.declared.node.NodeStatus.TheVariants as statuses
+use Rattle.rows.specs.declared.node.NodeStatus.{NodeStatus}
 use Rattle.rows.specs.declared.node.DrainMode.TheVariants as drains
 use Rattle.rows.specs.declared.evaluation.EvalId.{EvalId}
 use Rattle.rows.specs.declared.evaluation.Evaluation.{Evaluation}
@@ -21,7 +21,7 @@ use Rattle.fsm_tables.specs.Rows.{by_order, row_of, has_row, put, put_within}
 use Rattle.fsm_tables.proofs.RowLaws.{both, less, first, second, none_below, below_less, below_tied, some_none, some_same}
 use Rattle.fsm_tables.proofs.ReservedTables.{found_tied}
 use Rattle.cluster_model.specs.Words.{is_some_and, same_eval, is_open}
-use Rattle.cluster_model.specs.Effect.{stop_job, down, draining, drained, set_status}
+use Rattle.cluster_model.specs.Effect.{stop_job, status_row, marked_as, draining, drained, set_status}
 use Rattle.rows.proofs.KeyLaws.{eval_cmp_total}
 use Rattle.fsm_state.specs.Inner.Steps.{put_changed, with_row_changed, set_one}
 use Rattle.cluster_model.proofs.Lists.{maps_same, or_false, both_tests}
@@ -144,8 +144,8 @@ node_changed_is f keeps n nodes h =
     changed_is nat_cmp node_number nat_cmp_total 64 f keeps n nodes h
     ∙ maps_same _ (λ r. cond (nat_eq r.number n) (f r) r) (λ r. ap (λ b. cond b (f r) r) (at_number n r.number)) nodes
 
-pub downed_node : (n : ℕ) (nodes : List Node) → T (is_rising nat_cmp node_number nodes) → with_row_changed nat_cmp node_number 64 (λ r. record r { status = statuses.Down }) n nodes ≡ map (down n) nodes
-downed_node n nodes h = node_changed_is (λ r. record r { status = statuses.Down }) (λ r. refl) n nodes h
+pub marked_node : (status : NodeStatus) (n : ℕ) (nodes : List Node) → T (is_rising nat_cmp node_number nodes) → with_row_changed nat_cmp node_number 64 (status_row status) n nodes ≡ map (marked_as status n) nodes
+marked_node status n nodes h = node_changed_is (status_row status) (λ r. refl) n nodes h
 
 pub draining_node : (n : ℕ) (force : Bool) (nodes : List Node) → T (is_rising nat_cmp node_number nodes) → with_row_changed nat_cmp node_number 64 (λ r. record r { eligible = false; drain = cond force drains.Force drains.Slow }) n nodes ≡ map (draining n force) nodes
 draining_node n force nodes h = node_changed_is (λ r. record r { eligible = false; drain = cond force drains.Force drains.Slow }) (λ r. refl) n nodes h

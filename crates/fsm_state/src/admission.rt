@@ -141,7 +141,7 @@ impl Cluster {
         ensures { result ≡ list_any (lives_on node) self.now.allocs }
     {
         self.ranges();
-        self.used(node).cpu > 0
+        self.used(node).cpu() > 0
     }
 
     /// Why a drain may not be done.

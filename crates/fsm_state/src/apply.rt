@@ -1,7 +1,7 @@
 //! The effect of each command.
 ghost use Rattle.std.specs.Prelude.{◌≡◌, ◌≢◌, ◌+◌, ◌<◌, ◌^◌, None, IsOk, OnOk, OnErr};
 ghost use Rattle.cluster_model.specs.Words.{job_of, node_of};
-ghost use Rattle.cluster_model.specs.Effect.{applied, touched, is_named, with_job, without_job, without_node, downed, with_drain, without_drain, migrated, with_status, planned, reported};
+ghost use Rattle.cluster_model.specs.Effect.{applied, touched, is_named, with_job, without_job, without_node, unheard, downed, with_drain, without_drain, migrated, with_status, planned, reported};
 ghost use Rattle.fsm_state.specs.Memory.{EffectMayLack};
 
 mod allocs;
@@ -15,8 +15,8 @@ pub(crate) mod reports;
 
 use crate::cluster::Cluster;
 use rows::{
-    AcceptedPlan, AllocId, Command, EntryIndex, EvalId, JobName, JobSpec, NoMemory, NodeId, Report,
-    StatusChange,
+    AcceptedPlan, AllocId, ClientState, Command, EntryIndex, EvalId, JobName, JobSpec, NoMemory,
+    NodeId, NodeStatus, Report, StatusChange,
 };
 
 impl Cluster {
@@ -42,6 +42,21 @@ impl Cluster {
         self.touch(entry, name)
     }
 
+    /// A node is not heard of: its row is of this status, and what waits or runs on it in this
+    /// client state.
+    fn set_unheard(
+        &mut self,
+        number: NodeId,
+        status: NodeStatus,
+        client: ClientState,
+    ) -> Result<(), NoMemory>
+        ensures { OnOk result (self.new ≡ unheard status client number self.old) }
+    {
+        self.ranges();
+        self.set_status(number, status)?;
+        self.leave(number, client)
+    }
+
     /// A node that has a row is down: what waits or runs on it is lost, and the jobs of what was
     /// live are touched.
     fn take_down(&mut self, entry: EntryIndex, number: NodeId) -> Result<(), NoMemory>
@@ -50,8 +65,7 @@ impl Cluster {
     {
         self.ranges();
         let names = self.jobs_on(number)?;
-        self.set_down(number)?;
-        self.lose(number)?;
+        self.set_unheard(number, NodeStatus::Down, ClientState::Lost)?;
         self.touch_all(entry, &names)
     }
 

@@ -15,10 +15,10 @@ ghost use Rattle.cluster_model.specs.Safe.{are_distinct};
 ghost use Rattle.fsm_state.specs.Inner.Alone.{is_free_but, is_name_free};
 ghost use Rattle.fsm_state.specs.Inner.Steps.{rows_of, put_job, put_node, put_eval, put_alloc};
 
-use fsm_tables::{AllocName, Table, Tables, Usage, is_live};
+use fsm_tables::{AllocName, Table, Tables, is_live};
 use rows::{
     AllocId, Allocation, EntryIndex, EvalId, Evaluation, Index, Job, JobName, NoMemory, Node,
-    NodeId, Sequence,
+    NodeId, Sequence, Usage,
 };
 use std::alloc::Global;
 use std::marker::Model;
@@ -183,8 +183,7 @@ impl Cluster {
     /// What the live allocations on a node take of it: the sums of their processor time and of
     /// their memory.
     pub fn used(&self, node: NodeId) -> Usage
-        ensures cpu { result.cpu ≡ (used node (claims self.now.allocs)).cpu }
-        ensures mem { result.mem ≡ (used node (claims self.now.allocs)).mem }
+        ensures { result ≡ used node (claims self.now.allocs) }
     {
         self.tables.used(node)
     }

@@ -14,4 +14,4 @@ mod touch;
 pub use admission::plans::may_hold;
 pub use admission::touching::after_reports;
 pub use cluster::{Cluster, is_among};
-pub use room::{TakesRoom, is_enough, taken};
+pub use room::{TakesRoom, taken};

@@ -1,5 +1,6 @@
 //! The replicated state as a machine.
 ghost use Rattle.std.specs.Prelude.{◌≡◌, ◌+◌, ◌<◌, ◌^◌, IfOk, OnOk, OnErr};
+ghost use Rattle.machine_model.specs.Meaning.{IsStateOf, IsCommandOf};
 ghost use Rattle.fsm_state.specs.Memory.{AdmissionMayLack, EffectMayLack};
 ghost use Rattle.cluster_model.specs.ClusterMachine.{cluster_meaning};
 ghost use Rattle.cluster_model.proofs.ClusterMachine.{cluster_lawful};
@@ -46,8 +47,8 @@ impl Machine for Cluster {
     fn admits(&self, command: &Command) -> Result<Option<Refusal>, NoMemory>
         ensures ok { IfOk result (λ why. why ≡ cluster_meaning.admission self.now command.now) }
         ensures memory { OnErr result (AdmissionMayLack self.now command.now) }
-        ensures fits { cluster_meaning.states.Fits self.now }
-        ensures command_fits { cluster_meaning.commands.Fits command.now }
+        ensures fits { IsStateOf cluster_meaning self.now }
+        ensures command_fits { IsCommandOf cluster_meaning command.now }
     {
         self.fits();
         has_text(command);

@@ -1,9 +1,9 @@
-//! What is taken of a node, and whether its room bears it.
-ghost use Rattle.std.specs.Prelude.{◌≡◌, ◌+◌, ◌≤◌, ◌<◌, ◌^◌, List, ℕ, length, map, nat_le};
+//! What is taken of a node.
+ghost use Rattle.std.specs.Prelude.{◌≡◌, ◌≤◌, List, ℕ, length, map};
+ghost use Rattle.rows.specs.Sizes.{Part, amount};
 ghost use Rattle.fsm_tables.specs.Claims.{Claim, claim_of, used};
 
-use fsm_tables::Usage;
-use rows::{AcceptedPlace, Allocation, NodeId, Size};
+use rows::{AcceptedPlace, Allocation, NodeId, Size, Usage};
 
 /// What takes room of a node, as an allocation or a place of a plan. (Nomad documentation,
 /// "resources block".)
@@ -54,29 +54,14 @@ impl TakesRoom for AcceptedPlace {
 /// MB.
 pub fn taken<T: TakesRoom>(node: NodeId, takers: &[T]) -> Usage
     requires { length takers.now ≤ 64 }
-    ensures cpu { (job : List ℕ)
-        → result.cpu ≡ (used node (map (T.claim job) takers.now)).cpu }
-    ensures mem { (job : List ℕ)
-        → result.mem ≡ (used node (map (T.claim job) takers.now)).mem }
-    ensures small { (result.cpu ≤ 64000000) × (result.mem ≤ 64000000) }
+    ensures value { (job : List ℕ) → result ≡ used node (map (T.claim job) takers.now) }
+    ensures small { (p : Part) → amount p result ≤ 64000000 }
 {
-    let mut taken = Usage { cpu: 0, mem: 0 };
+    let mut taken = Usage::NONE;
     for taker in takers {
         if taker.node() == node {
-            let size = taker.size();
-            taken.cpu += size.cpu.get() as u64;
-            taken.mem += size.mem.get() as u64;
+            taken = taken.add(Usage::of(taker.size()));
         }
     }
     taken
-}
-
-/// Whether a room bears what is used of it and some more, once some is given back: of processor
-/// time in MHz, or of memory in MB.
-pub fn is_enough(room: u64, used: u64, more: u64, less: u64) -> bool
-    requires { room + less < 2 ^ 64 }
-    ensures { result ≡ nat_le (used + more) (room + less) }
-{
-    let room = room + less;
-    used <= room && more <= room - used
 }

@@ -9,3 +9,4 @@ pub mod Listed
 pub mod NamedOnce
 pub mod ReservedTables
 pub mod Urgencies
+pub mod Uses

@@ -2,6 +2,7 @@
 use Rattle.std.specs.Prelude.{ℕ, Bool, true, false, not, cond, ◌&&◌, List, [], ◌∷◌, nat_eq, bytes_eq, sum_by}
 use Rattle.std.specs.List.{list_any}
 use Rattle.rows.specs.declared.size.Size.{Size}
+use Rattle.rows.specs.Sizes.{Part, amount, by_parts}
 use Rattle.rows.specs.declared.allocation.Desired.{Desired}
 use Rattle.rows.specs.declared.allocation.Desired.TheVariants as desires
 use Rattle.rows.specs.declared.allocation.ClientState.{ClientState}
@@ -48,9 +49,9 @@ are_distinct [] = true
 are_distinct (c ∷ cs) = not (list_any (same_name c) cs) && are_distinct cs
 
 -- what a claim takes of a node: a part of its size, if it names the node
-abbrev pub on_node : ℕ → (Size → ℕ) → Claim → ℕ
-on_node n part c = cond (nat_eq c.node n) (part c.size) 0
+abbrev pub on_node : ℕ → Part → Claim → ℕ
+on_node n p c = cond (nat_eq c.node n) (amount p c.size) 0
 
--- a node's use: the sums of cpu and of mem over the claims that name it
+-- a node's use: of each part, the sum over the claims that name it
 abbrev pub used : ℕ → List Claim → Size
-used n cs = record { cpu = sum_by (on_node n (λ z. z.cpu)) cs; mem = sum_by (on_node n (λ z. z.mem)) cs }
+used n cs = by_parts (λ p. sum_by (on_node n p) cs)

@@ -10,8 +10,8 @@ use crate::indexes::{Indexes, put_indexed};
 use crate::listing::{first_under, rows_between};
 use crate::name::AllocName;
 use crate::table::Table;
-use crate::usage::{Usage, held_by, shift, sums_of};
-use rows::{AllocId, Allocation, JobName, NoMemory, NodeId, Sequence};
+use crate::usage::{held_by, put_on, sums_of, take_off};
+use rows::{AllocId, Allocation, JobName, NoMemory, NodeId, Sequence, Usage};
 use std::alloc::Global;
 use std::marker::Model;
 
@@ -21,9 +21,7 @@ use std::marker::Model;
 pub(crate) struct Allocations {
     rows: Table<Allocation>,
     /// By node number.
-    cpu: [u64; 65],
-    /// By node number.
-    mem: [u64; 65],
+    sums: [Usage; 65],
     indexes: Indexes,
 }
 
@@ -38,8 +36,7 @@ impl Model for Allocations {
     ghost view = { λ a. a.rows };
 
     ghost invariant = { λ a. record {
-      cpu : AreSummed (λ z. z.cpu) a.rows a.cpu;
-      mem : AreSummed (λ z. z.mem) a.rows a.mem;
+      summed : AreSummed a.rows a.sums;
       listed : AreRowIndexes a.rows a.indexes;
       few : length a.rows ≤ 65536;
     } };
@@ -55,8 +52,7 @@ impl Allocations {
     {
         Allocations {
             rows: Table::empty(alloc),
-            cpu: [0; 65],
-            mem: [0; 65],
+            sums: [Usage::NONE; 65],
             indexes: Indexes::empty(alloc),
         }
     }
@@ -66,12 +62,11 @@ impl Allocations {
         requires { length rows ≤ 65536 }
         ensures { IfOk result (λ a. a ≡ rows) }
     {
-        let (cpu, mem) = sums_of(&rows);
+        let sums = sums_of(&rows);
         let indexes = Indexes::of_rows(rows.memory(), rows.rows())?;
         Ok(Allocations {
             rows,
-            cpu,
-            mem,
+            sums,
             indexes,
         })
     }
@@ -82,8 +77,7 @@ impl Allocations {
     {
         Ok(Allocations {
             rows: self.rows.fork()?,
-            cpu: self.cpu,
-            mem: self.mem,
+            sums: self.sums,
             indexes: self.indexes.fork()?,
         })
     }
@@ -169,14 +163,9 @@ impl Allocations {
 
     /// What the live allocations take of a node.
     pub fn used(&self, node: NodeId) -> Usage
-        ensures cpu { result.cpu ≡ (used node (claims self.now)).cpu }
-        ensures mem { result.mem ≡ (used node (claims self.now)).mem }
+        ensures { result ≡ used node (claims self.now) }
     {
-        let place = node.number() as usize;
-        Usage {
-            cpu: self.cpu[place],
-            mem: self.mem[place],
-        }
+        self.sums[node.number() as usize]
     }
 
     /// Makes or replaces the row of the id, and changes no other; a row under a new id is not made
@@ -206,8 +195,8 @@ impl Allocations {
         let to = held_by(Some(&row));
         let from = held_by(self.rows.get(&row.id));
         put_indexed(&mut self.rows, &mut self.indexes, row)?;
-        shift(&mut self.cpu, (to.node, to.cpu), (from.node, from.cpu));
-        shift(&mut self.mem, (to.node, to.mem), (from.node, from.mem));
+        put_on(&mut self.sums, to);
+        take_off(&mut self.sums, from);
         Ok(())
     }
 }

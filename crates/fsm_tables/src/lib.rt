@@ -22,4 +22,4 @@ pub use reserved_table::ReservedTable;
 pub use table::{CopiedRow, Row, Table};
 pub use tables::Tables;
 pub use urgency::Urgency;
-pub use usage::{Usage, is_active, is_live};
+pub use usage::{is_active, is_live};

@@ -10,9 +10,8 @@ ghost use Rattle.fsm_tables.specs.TableRows.{no_table_rows, TablesFit};
 use crate::allocations::Allocations;
 use crate::name::AllocName;
 use crate::table::Table;
-use crate::usage::Usage;
 use rows::{
-    AllocId, Allocation, EvalId, Evaluation, Job, JobName, NoMemory, Node, NodeId, Sequence,
+    AllocId, Allocation, EvalId, Evaluation, Job, JobName, NoMemory, Node, NodeId, Sequence, Usage,
 };
 use std::alloc::Global;
 use std::marker::Model;
@@ -178,8 +177,7 @@ impl Tables {
     /// What the live allocations on a node take of it: the sums of their processor time and of
     /// their memory. It takes one step.
     pub fn used(&self, node: NodeId) -> Usage
-        ensures cpu { result.cpu ≡ (used node (claims self.now.allocs)).cpu }
-        ensures mem { result.mem ≡ (used node (claims self.now.allocs)).mem }
+        ensures { result ≡ used node (claims self.now.allocs) }
     {
         self.allocs.used(node)
     }

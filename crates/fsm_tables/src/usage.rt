@@ -1,29 +1,18 @@
-ghost use Rattle.std.specs.Prelude.{◌≡◌, ◌≤◌, ◌<◌, ◌+◌, ◌^◌, ℕ, Some, cond, length, nat_eq, slice_index, option_map};
+ghost use Rattle.std.specs.Prelude.{◌≡◌, ◌≤◌, ◌<◌, ◌+◌, ◌^◌, Some, length, option_map};
+ghost use Rattle.rows.specs.Sizes.{Part, amount};
 ghost use Rattle.fsm_tables.specs.Claims.{is_wanted, is_active, is_live};
-ghost use Rattle.fsm_tables.specs.Inner.Sums.{AreSummed, IsShare};
+ghost use Rattle.fsm_tables.specs.Inner.Sums.{AreSummed, AreMore, AreLess, IsShare, sum_at};
 
 use crate::table::Table;
-use rows::{Allocation, ClientState, Desired};
-
-/// What the live allocations on a node take of it together: sums of processor time in MHz and of
-/// memory in MB.
-#[derive(Clone, Copy, Debug, PartialEq, Eq)]
-pub struct Usage {
-    /// Processor time, in MHz.
-    pub cpu: u64,
-    /// Memory, in MB.
-    pub mem: u64,
-}
+use rows::{Allocation, ClientState, Desired, Usage};
 
 /// What one row takes of its node; of node 0, which is none, where it takes nothing of any.
 #[derive(Clone, Copy)]
 pub(crate) struct Share {
     /// The node's number, or 0.
     pub node: usize,
-    /// Processor time, in MHz.
-    pub cpu: u64,
-    /// Memory, in MB.
-    pub mem: u64,
+    /// What it takes.
+    pub size: Usage,
 }
 
 /// Whether the servers want an allocation to run.
@@ -61,13 +50,10 @@ pub fn is_live(row: &Allocation) -> bool
 fn held(row: &Allocation) -> Share
     ensures { IsShare (Some row.now) result }
 {
-    let live = is_live(row);
-    let cpu = row.size.cpu.get() as u64;
-    let mem = row.size.mem.get() as u64;
+    let size = Usage::of(row.size);
     Share {
         node: row.node.number() as usize,
-        cpu: if live { cpu } else { 0 },
-        mem: if live { mem } else { 0 },
+        size: if is_live(row) { size } else { Usage::NONE },
     }
 }
 
@@ -79,36 +65,36 @@ pub(crate) fn held_by(row: Option<&Allocation>) -> Share
         Some(row) => held(row),
         None => Share {
             node: 0,
-            cpu: 0,
-            mem: 0,
+            size: Usage::NONE,
         },
     }
 }
 
-/// Gives one node's sum more, and then takes from another's.
-pub(crate) fn shift(sums: &mut [u64; 65], to: (usize, u64), from: (usize, u64))
-    requires places { (to.0 < 65) × (from.0 < 65) }
-    requires fits { slice_index sums.old to.0 + to.1 < 2 ^ 64 }
-    requires covers { from.1 ≤ slice_index sums.old from.0 + cond (nat_eq to.0 from.0) to.1 0 }
-    ensures { (n : ℕ) → n < 65 → slice_index sums.new n + cond (nat_eq from.0 n) from.1 0 ≡ slice_index sums.old n + cond (nat_eq to.0 n) to.1 0 }
+/// Adds a share to its node's sum.
+pub(crate) fn put_on(sums: &mut [Usage; 65], share: Share)
+    requires place { share.node < 65 }
+    requires fits { (p : Part) → sum_at sums.old share.node p + amount p share.size < 2 ^ 64 }
+    ensures { AreMore share sums.old sums.new }
 {
-    sums[to.0] += to.1;
-    sums[from.0] -= from.1;
+    sums[share.node] = sums[share.node].add(share.size);
 }
 
-/// What the live ones of the rows take of each node, by node number: sums of processor time and of
-/// memory, added up in one walk.
-pub(crate) fn sums_of(rows: &Table<Allocation>) -> ([u64; 65], [u64; 65])
-    requires { length rows.now ≤ 65536 }
-    ensures cpu { AreSummed (λ z. z.cpu) rows.now result.0 }
-    ensures mem { AreSummed (λ z. z.mem) rows.now result.1 }
+/// Takes a share from its node's sum.
+pub(crate) fn take_off(sums: &mut [Usage; 65], share: Share)
+    requires place { share.node < 65 }
+    ensures { AreLess share sums.old sums.new }
 {
-    let mut cpu = [0; 65];
-    let mut mem = [0; 65];
+    sums[share.node] = sums[share.node].take(share.size);
+}
+
+/// What the live ones of the rows take of each node, by node number, added up in one walk.
+pub(crate) fn sums_of(rows: &Table<Allocation>) -> [Usage; 65]
+    requires { length rows.now ≤ 65536 }
+    ensures { AreSummed rows.now result }
+{
+    let mut sums = [Usage::NONE; 65];
     for row in rows.rows() {
-        let share = held(row);
-        shift(&mut cpu, (share.node, share.cpu), (0, 0));
-        shift(&mut mem, (share.node, share.mem), (0, 0));
+        put_on(&mut sums, held(row));
     }
-    (cpu, mem)
+    sums
 }

@@ -3,7 +3,7 @@ use Rattle.std.proofs.Common.{◌≡◌, ℕ, Option, Some, None, List, refl, sy
 use Rattle.rows.specs.declared.actor.Actor.{Actor}
 use Rattle.rows.specs.declared.actor.Actor.TheVariants.{Server, Client}
 use Rattle.rows.specs.declared.command.Command.{Command}
-use Rattle.machine.specs.Meaning.{Meaning}
+use Rattle.machine_model.specs.Meaning.{Meaning}
 use Rattle.wire.specs.Messages.{Message as WireMessage}
 use Rattle.wire.specs.Frames.{message_text}
 use Rattle.wire.specs.declared.body.Body.{Body}
@@ -84,7 +84,7 @@ module _ {S : Type 0} where
 
 pub one_frame : {S : Type 0} (m : Meaning S Command) → MessagesHaveOneFrame m
 one_frame {S} m (Raft x) a b p q =
-    p.text ∙ ap (message_text m.commands) (log_read_is p.read q.read x p.means q.means) ∙ sym q.text
+    p.text ∙ ap (message_text m) (log_read_is p.read q.read x p.means q.means) ∙ sym q.text
 one_frame {S} m (Service y) a b p q =
     let same : p.read ≡ q.read = sym (service_is p.read.from p.read.to p.read.body y p.means) ∙ service_is q.read.from q.read.to q.read.body y q.means in
-    p.text ∙ ap (message_text m.commands) same ∙ sym q.text
+    p.text ∙ ap (message_text m) same ∙ sym q.text

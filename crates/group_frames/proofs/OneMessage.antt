@@ -3,7 +3,7 @@ use Rattle.std.proofs.Common.{◌≡◌, ℕ, Option, Some, None, List, [], ◌+
 use Rattle.rows.specs.declared.actor.Actor.{Actor}
 use Rattle.rows.specs.declared.actor.Actor.TheVariants.{Server}
 use Rattle.rows.specs.declared.command.Command.{Command}
-use Rattle.machine.specs.Meaning.{Meaning, LawfulMachine}
+use Rattle.machine_model.specs.Meaning.{Meaning, LawfulMachine}
 use Rattle.wire.specs.Messages.{Message as WireMessage}
 use Rattle.wire.specs.Frames.{MessageFits, message_text}
 use Rattle.wire.specs.declared.body.Body.{Body}
@@ -45,10 +45,10 @@ apart i j (bodies.Report items) x y p h = no_message p
 apart i j (bodies.Told kind refused) x y p h = no_message p
 
 module _ {S : Type 0} (m : Meaning S Command) (law : LawfulMachine m) where
-  pub one_text : (r q : WireMessage S Command) → MessageFits m.commands r → MessageFits m.commands q → message_text m.commands r ≡ message_text m.commands q → r ≡ q
+  pub one_text : (r q : WireMessage S Command) → MessageFits m r → MessageFits m q → message_text m r ≡ message_text m q → r ≡ q
   one_text r q fr fq same =
       let short : ShortCommands m.commands = record { lawful = law.commands_lawful; short = law.commands_short } in
-      frames_apart m.commands short r q [] [] fr fq (ap (λ (t : List ℕ). t ++ []) same)
+      frames_apart m short r q [] [] fr fq (ap (λ (t : List ℕ). t ++ []) same)
 
   one_log : (r : WireMessage S Command) (x y : Message Command) → Means r x → Means r y → x ≡ y
   one_log r x y p q =

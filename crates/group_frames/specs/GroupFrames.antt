@@ -5,7 +5,7 @@ use Rattle.std.specs.List.{AllZip}
 use Rattle.rows.specs.declared.actor.Actor.{Actor}
 use Rattle.rows.specs.declared.actor.Actor.TheVariants.{Server, Client}
 use Rattle.rows.specs.declared.command.Command.{Command}
-use Rattle.machine.specs.Meaning.{Meaning}
+use Rattle.machine_model.specs.Meaning.{Meaning}
 use Rattle.wire.specs.Messages.{Message as WireMessage}
 use Rattle.wire.specs.Frames.{Frame, MessageFits, IsFrame, message_text}
 use Rattle.wire.specs.declared.body.Body.{Body}
@@ -32,8 +32,8 @@ service_of read = service_between read.from read.to read.body
 -- the bytes are the frame of a message beside the log's
 pub record IsServiceFrame {S C : Type 0} (m : Meaning S C) (bytes : List ℕ) (message : ServiceMessage) : Type 0 where
   pub read : WireMessage S C
-  pub fits : MessageFits m.commands read
-  pub text : bytes ≡ message_text m.commands read
+  pub fits : MessageFits m read
+  pub text : bytes ≡ message_text m read
   pub means : service_of read ≡ Some message
 
 -- the bytes are the message's frame
@@ -74,7 +74,7 @@ FramesAreOfOne m =
 -- a frame that can be read is of some message
 abbrev pub FramesAreOfSome : {S : Type 0} → Meaning S Command → Type 0
 FramesAreOfSome {S} m =
-    (bytes : List ℕ) (read : WireMessage S Command) → IsFrame m.commands read bytes
+    (bytes : List ℕ) (read : WireMessage S Command) → IsFrame m read bytes
     → (message : GroupMessage) × IsGroupFrame m bytes message
 
 -- a message has one frame at most

@@ -10,7 +10,8 @@ use Rattle.rows.specs.Keys.{eval_cmp, eval_id, node_number}
 use Rattle.rows.proofs.KeyLaws.{eval_cmp_total}
 use Rattle.rows.specs.Rising.{is_rising}
 use Rattle.fsm_tables.specs.Rows.{put}
-use Rattle.cluster_model.specs.Words.{is_pending, is_ready}
+use Rattle.rows.specs.NodeStatuses.{is_ready}
+use Rattle.cluster_model.specs.Words.{is_pending}
 use Rattle.group_model.specs.Brokers.{Task, Key, task_id, task_key, eval_key, task_of, carry, tasks_over, tasks_with, HoldsPending}
 use Rattle.group_model.specs.Expiry.{BeatCount, count_node, beat_count_of, counted_node, beat_counts_over, HoldsReady}
 use Rattle.group_model.specs.OneRow.{BrokerFollows, CountsFollow}

@@ -16,7 +16,8 @@ use Rattle.rows.specs.Reasons.{reason_of}
 use Rattle.raft_model.specs.Servers.{Server, is_leader}
 use Rattle.raft_model.specs.Steps.{admission_refusal}
 use Rattle.cluster_model.specs.Words.{State}
-use Rattle.cluster_model.specs.Words.{node_of, is_some_and, is_ready}
+use Rattle.rows.specs.NodeStatuses.{is_ready}
+use Rattle.cluster_model.specs.Words.{node_of, is_some_and}
 use Rattle.fsm_tables.specs.Lookups.{lives_on}
 use Rattle.cluster_model.specs.Effect.{told_all}
 use Rattle.cluster_model.specs.Admission.{admission}

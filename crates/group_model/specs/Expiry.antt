@@ -7,7 +7,7 @@ use Rattle.rows.specs.declared.node.Node.{Node}
 use Rattle.rows.specs.Keys.{node_number}
 use Rattle.raft_model.specs.Logs.{MAX}
 use Rattle.fsm_tables.specs.Rows.{row_of, put}
-use Rattle.cluster_model.specs.Words.{is_ready}
+use Rattle.rows.specs.NodeStatuses.{is_ready}
 use Rattle.fsm_tables.specs.ReservedTables.{without}
 
 -- a ready node with its number of heartbeats

@@ -17,9 +17,9 @@ use Rattle.fsm_tables.specs.Claims.{Claim, claims, used}
 use Rattle.fsm_tables.specs.LiveNames.{live_named}
 use Rattle.fsm_tables.specs.Lookups.{lives_for}
 use Rattle.cluster_model.specs.Words.{State, job_of, node_of, is_some_and}
-use Rattle.cluster_model.specs.Safe.{fits}
+use Rattle.rows.specs.Sizes.{plus, fits, same_size}
 use Rattle.cluster_model.specs.Effect.{stop}
-use Rattle.cluster_model.specs.Admission.{same_size, may_hold}
+use Rattle.cluster_model.specs.Admission.{may_hold}
 use Rattle.group_model.specs.Acceptance.{place_claims}
 
 -- ---- the names that a job wants
@@ -114,12 +114,9 @@ claimed_by s job p = claims (map (stop p.stops) s.allocs) ++ place_claims job p.
 
 -- ---- the node for a name, where so much is claimed
 
-abbrev pub with_size : Size → Size → Size
-with_size a b = record { cpu = a.cpu + b.cpu; mem = a.mem + b.mem }
-
 -- the node's use with one more of the group
 abbrev pub use_with : List Claim → Group → Node → Size
-use_with cs g n = with_size (used n.number cs) g.size
+use_with cs g n = plus (used n.number cs) g.size
 
 -- the node is ready, eligible and of the class, and has room for it
 abbrev pub has_room_for : List Claim → Group → Node → Bool

@@ -25,7 +25,8 @@ use Rattle.fsm_tables.proofs.ReservedTables.{found_tied}
 use Rattle.fsm_state.proofs.StepLaws.{put_only, row_tied}
 use Rattle.rows.specs.Limits.{most_jobs, most_nodes}
 use Rattle.rows.specs.States.{AreTables}
-use Rattle.cluster_model.specs.Words.{State, is_ready, is_open, is_blocked, same_eval, no_node, job_of, node_of}
+use Rattle.rows.specs.NodeStatuses.{is_ready}
+use Rattle.cluster_model.specs.Words.{State, is_open, is_blocked, same_eval, no_node, job_of, node_of}
 use Rattle.cluster_model.specs.Effect.{applied, with_next_count, with_evals, is_named, owns, job_row, stopped_row, stop_job, node_row, down_row, down, downed, draining_row, draining, drained_row, drained, moves, set_status, with_room, frees, stop, told_all, is_ended_by}
 use Rattle.cluster_model.proofs.Keys.{at_eval, at_number}
 use Rattle.cluster_model.proofs.Lists.{maps_same}

@@ -7,7 +7,8 @@ use Rattle.rows.specs.declared.evaluation.Evaluation.{Evaluation}
 use Rattle.rows.specs.declared.command.Command.{Command}
 use Rattle.rows.specs.declared.command.Command.TheVariants as commands
 use Rattle.rows.specs.Keys.{node_number}
-use Rattle.cluster_model.specs.Words.{State, is_ready}
+use Rattle.rows.specs.NodeStatuses.{is_ready}
+use Rattle.cluster_model.specs.Words.{State}
 use Rattle.cluster_model.specs.Effect.{applied}
 use Rattle.cluster_model.proofs.StateLaws.{applied_are_tables}
 use Rattle.group_model.specs.Brokers.{Broker, broker_over, HoldsPending}

@@ -1,17 +1,13 @@
-//! Machines that are replicated: the trait with its meaning and its law, entries of a log, and the
-//! tally, a small machine.
+//! Code round replicated machines: a machine's command as a field, and the tally, a small machine.
+//! What a machine is stands in `machine_model`, whose names are here once more.
 #![tactic(auto)]
 
-mod amount;
 mod coded;
-mod entry;
-mod laws;
-mod machine;
 mod tally;
 
-pub use amount::Amount;
 pub use coded::Coded;
-pub use entry::Entry;
-pub use laws::{admitted_is_safe, commands_are_whole, entries_are_lawful, states_are_whole};
-pub use machine::Machine;
-pub use tally::{Tally, TallyCommand};
+pub use machine_model::{
+    Amount, Entry, Machine, TallyCommand, admitted_is_safe, commands_are_whole, entries_are_lawful,
+    states_are_whole,
+};
+pub use tally::Tally;

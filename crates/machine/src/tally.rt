@@ -1,11 +1,10 @@
 ghost use Rattle.std.specs.Prelude.{◌≡◌, ◌≤◌};
 ghost use Rattle.fields_model.specs.Format.{GivesExactly};
-ghost use Rattle.machine.specs.Tally.{tally, tally_command, tally_meaning};
-ghost use Rattle.machine.specs.Laws.TallyLaws.{tally_is_lawful, tally_command_lawful, tally_lawful};
+ghost use Rattle.machine_model.specs.Tally.{tally, tally_meaning};
+ghost use Rattle.machine_model.proofs.TallyLaws.{tally_is_lawful, tally_lawful};
 
-use crate::amount::Amount;
-use crate::machine::Machine;
-use fields::{Field, read_index, read_u8, read_whole, write, write_index, write_u8};
+use fields::{Field, read_index, read_whole, write, write_index};
+use machine_model::{Amount, Machine, TallyCommand};
 use rows::{Index, NoMemory, Refusal};
 use std::alloc::Global;
 use std::marker::Model;
@@ -20,23 +19,13 @@ pub struct Tally {
 
 impl Model for Tally {
     ghost use Rattle.std.specs.Prelude.{◌<◌, ◌≤◌, ◌^◌};
-    ghost use Rattle.machine.specs.TallyState.{TallyState};
+    ghost use Rattle.machine_model.specs.TallyState.{TallyState};
 
     ghost Value = { TallyState };
 
     ghost view = { λ t. record { count = t.count; sum = t.sum } };
 
     ghost invariant = { λ t. (t.count < 2 ^ 40) × (t.sum ≤ 1000) };
-}
-
-/// What moves a tally. Each command adds one to the count.
-#[derive(Drop)]
-pub enum TallyCommand {
-    /// Leaves the sum.
-    Noop,
-    /// Adds the amount to the sum. A state whose sum would pass 1,000 refuses it with `OutOfRange`;
-    /// applied all the same, it leaves the sum.
-    Add(Amount),
 }
 
 impl Tally {
@@ -66,37 +55,6 @@ impl Field for Tally {
     fn append(&self, out: &mut Vec<u8>) -> Result<(), NoMemory> {
         write_index(&self.count, out)?;
         self.sum.append(out)
-    }
-}
-
-/// A tag in one byte, 0 for the no-op, or 1 and then the amount in two.
-impl Field for TallyCommand {
-    ghost format = { tally_command };
-
-    ghost lawful = { tally_command_lawful };
-
-    fn read_at(alloc: Global, bytes: &[u8], at: usize) -> Result<(TallyCommand, usize), Refusal>
-        ensures { GivesExactly result (tally_command.read bytes.now at) }
-    {
-        let (tag, next) = read_u8(bytes, at)?;
-        match tag {
-            0 => Ok((TallyCommand::Noop, next)),
-            1 => {
-                let (amount, next) = Amount::read_at(alloc, bytes, next)?;
-                Ok((TallyCommand::Add(amount), next))
-            }
-            _ => Err(Refusal::Frame(at)),
-        }
-    }
-
-    fn append(&self, out: &mut Vec<u8>) -> Result<(), NoMemory> {
-        match self {
-            TallyCommand::Noop => write_u8(&0, out),
-            TallyCommand::Add(amount) => {
-                write_u8(&1, out)?;
-                amount.append(out)
-            }
-        }
     }
 }
 

@@ -1,11 +1,10 @@
 -- What is kept of a plan at a safe state is admitted there, but for a full table.
 use Rattle.std.proofs.Common.{◌≡◌, ℕ, zero, suc, ◌+◌, ◌≤◌, Bool, true, false, cond, not, ◌&&◌, T, List, [], ◌∷◌, ◌++◌, length, map, filter, Option, Some, None, Result, Ok, Err, is_none, refl, sym, ap, subst, ◌∙◌, arith}
-use Rattle.std.specs.Prelude.{nat_eq, nat_lt, nat_le, sum_by}
+use Rattle.std.specs.Prelude.{nat_eq, nat_lt}
 use Rattle.std.specs.List.{list_all, list_any}
 use Rattle.std.specs.Cmp.Lexicographic.{slice_cmp}
 use Rattle.std.specs.Ordering.{nat_cmp, is_eq}
 use Rattle.std.specs.declared.cmp.Ordering.TheVariants.{Equal}
-use Rattle.std.proofs.lemmas.List.Sums.{sum_by-cons}
 use Rattle.std.proofs.lemmas.Map.Text.{is_eq-slice_cmp}
 use Rattle.std.proofs.lemmas.Slice.Eq.{bytes_eq-Decides}
 use Rattle.rows.specs.declared.job.Job.{Job}
@@ -17,7 +16,7 @@ use Rattle.rows.specs.declared.command.AcceptedPlace.{AcceptedPlace}
 use Rattle.rows.specs.declared.refusal.Refusal.{Refusal}
 use Rattle.rows.specs.declared.refusal.Refusal.TheVariants as refusals
 use Rattle.rows.specs.Keys.{name_cmp, job_name, node_number}
-use Rattle.fsm_tables.specs.Claims.{Claim, on_node, used}
+use Rattle.fsm_tables.specs.Claims.{Claim}
 use Rattle.fsm_tables.specs.Rows.{row_of}
 use Rattle.fsm_tables.proofs.RowLaws.{both, first, second}
 use Rattle.fsm_tables.proofs.Filters.{found_at}
@@ -26,8 +25,7 @@ use Rattle.cluster_model.specs.Safe.{are_distinct, is_safe}
 use Rattle.cluster_model.specs.Effect.{stop, with_next_count, planned}
 use Rattle.cluster_model.specs.Admission.{first_of, is_live_of, is_stopped, is_asked, fits_job}
 use Rattle.cluster_model.specs.Plans.{room_of, fits_number, kept_claims, wanted, left_by, FitsWhereAsked}
-use Rattle.cluster_model.proofs.SafeFacts.{T-le, le-T}
-use Rattle.cluster_model.proofs.SafeLaws.{Fewer, nothing, kept, gone, fewer_distinct}
+use Rattle.cluster_model.proofs.SafeLaws.{Fewer, nothing, kept, gone, fewer_distinct, fewer_used}
 use Rattle.cluster_model.proofs.AfterLaws.{planned_is_safe}
 use Rattle.group_model.specs.Acceptance.{Accepted, once_after, kept_stops, kept_where, with_kept, claimed, on, keep_places, keep_upto, keep, is_eval_of, accept_of, accept, plan_of_accepted}
 use Rattle.group_model.proofs.PlanLimits.{accept_fits}
@@ -112,20 +110,9 @@ fewer_append _ _ (z ∷ zs) nothing = kept z zs zs (fewer_append [] [] zs nothin
 fewer_append _ _ zs (kept x xs ys f) = kept x (xs ++ zs) (ys ++ zs) (fewer_append xs ys zs f)
 fewer_append _ _ zs (gone y xs ys f) = gone y (xs ++ zs) (ys ++ zs) (fewer_append xs ys zs f)
 
-fewer_sum : (w : Claim → ℕ) (xs ys : List Claim) → Fewer xs ys → sum_by w xs ≤ sum_by w ys
-fewer_sum w _ _ nothing = omega arith
-fewer_sum w _ _ (kept x xs ys h) = let rest : sum_by w xs ≤ sum_by w ys = fewer_sum w xs ys h in omega (arith, sum_by-cons w x xs, sum_by-cons w x ys, rest)
-fewer_sum w _ _ (gone y xs ys h) = let rest : sum_by w xs ≤ sum_by w ys = fewer_sum w xs ys h in omega (arith, sum_by-cons w y ys, rest)
-
-less_fits : (a b c : ℕ) → a ≤ b → T (nat_le b c) → T (nat_le a c)
-less_fits a b c le h = let g = T-le b c h in le-T a c (omega (arith, g, le))
-
 fewer_fits : (nodes : List Node) (cs ds : List Claim) → Fewer cs ds → (n : ℕ) → T (fits_number nodes ds n) → T (fits_number nodes cs n)
 fewer_fits nodes cs ds f n h =
-    let room = room_of (row_of nat_cmp node_number n nodes) in
-    both _ _
-    (less_fits (used n cs).cpu (used n ds).cpu room.cpu (fewer_sum (on_node n (λ z. z.cpu)) cs ds f) (first (nat_le (used n ds).cpu room.cpu) (nat_le (used n ds).mem room.mem) h))
-    (less_fits (used n cs).mem (used n ds).mem room.mem (fewer_sum (on_node n (λ z. z.mem)) cs ds f) (second (nat_le (used n ds).cpu room.cpu) (nat_le (used n ds).mem room.mem) h))
+    fewer_used cs ds f n (room_of (row_of nat_cmp node_number n nodes)) h
 
 names_exact : (a b : List ℕ) → slice_cmp nat_cmp a b ≡ Equal → a ≡ b
 names_exact a b e = (bytes_eq-Decides a b).0 (sym (is_eq-slice_cmp a b) ∙ ap is_eq e)

@@ -22,10 +22,13 @@ use Rattle.fsm_tables.specs.Rows.{row_of}
 use Rattle.fsm_tables.proofs.RowLaws.{both, first, second}
 use Rattle.fsm_tables.proofs.Filters.{found_at}
 use Rattle.cluster_model.specs.Words.{State, node_of, is_some_and}
-use Rattle.cluster_model.specs.Safe.{fits, is_within, are_distinct, are_safe}
+use Rattle.rows.specs.Sizes.{Part, amount, fits}
+use Rattle.rows.proofs.SizeLaws.{size_itself}
+use Rattle.fsm_tables.proofs.Uses.{same_use}
+use Rattle.cluster_model.specs.Safe.{is_within, are_distinct, are_safe}
 use Rattle.cluster_model.specs.SafeFacts.{Safe}
 use Rattle.cluster_model.specs.Effect.{stop}
-use Rattle.cluster_model.specs.Admission.{same_size, may_hold, is_asked}
+use Rattle.cluster_model.specs.Admission.{may_hold, is_asked}
 use Rattle.cluster_model.specs.Plans.{room_of, fits_number}
 use Rattle.cluster_model.proofs.SafeFacts.{test_by_safe}
 use Rattle.cluster_model.proofs.SafeLaws.{stop_releases, released, fewer_safe, distinct_of}
@@ -40,9 +43,6 @@ pub record Holds (s : State) (j : Job) (a : Accepted) : Type 0 where
   pub asked : T (list_all (λ k. list_any (is_asked s k) j.groups) a.places)
 
 -- ---- the places of one node
-
-size_itself : (z : Size) → T (same_size z z)
-size_itself z = let cpu : T (nat_eq z.cpu z.cpu) = grind arith in let mem : T (nat_eq z.mem z.mem) = grind arith in both _ _ cpu mem
 
 abbrev with_size : Place → Group → AcceptedPlace
 with_size k g = record { group = k.group; index = k.index; node = k.node; size = g.size }
@@ -103,12 +103,12 @@ on_it m (k ∷ ks) = elim (nat_eq k.node m) as (λ b. nat_eq k.node m ≡ b → 
 apart_zero : (a m n x : ℕ) → a ≡ m → nat_eq m n ≡ false → cond (nat_eq a n) x 0 ≡ 0
 apart_zero a m n x p e = ap (λ i. cond (nat_eq i n) x 0) p ∙ ap (λ b. cond b x 0) e
 
-none_elsewhere : (part : Size → ℕ) (s : State) (j : Job) (job : List ℕ) (m n : ℕ) → nat_eq m n ≡ false → (ks : List AcceptedPlace) → AllByRecursion (λ k. T (list_any (is_asked s k) j.groups) × (k.node ≡ m)) ks → sum_by (on_node n part) (place_claims job ks) ≡ 0
-none_elsewhere part s j job m n e [] h = refl
-none_elsewhere part s j job m n e (k ∷ ks) h =
-    let rest : sum_by (on_node n part) (place_claims job ks) ≡ 0 = none_elsewhere part s j job m n e ks h.1 in
-    let here : on_node n part (claim_at job k) ≡ 0 = apart_zero k.node m n (part k.size) h.0.1 e in
-    sum_by-cons (on_node n part) (claim_at job k) (place_claims job ks) ∙ omega (arith, rest, here)
+none_elsewhere : (p : Part) (s : State) (j : Job) (job : List ℕ) (m n : ℕ) → nat_eq m n ≡ false → (ks : List AcceptedPlace) → AllByRecursion (λ k. T (list_any (is_asked s k) j.groups) × (k.node ≡ m)) ks → sum_by (on_node n p) (place_claims job ks) ≡ 0
+none_elsewhere p s j job m n e [] h = refl
+none_elsewhere p s j job m n e (k ∷ ks) h =
+    let rest : sum_by (on_node n p) (place_claims job ks) ≡ 0 = none_elsewhere p s j job m n e ks h.1 in
+    let here : on_node n p (claim_at job k) ≡ 0 = apart_zero k.node m n (amount p k.size) h.0.1 e in
+    sum_by-cons (on_node n p) (claim_at job k) (place_claims job ks) ∙ omega (arith, rest, here)
 
 same_sum : (w : Claim → ℕ) (cs ds : List Claim) → sum_by w ds ≡ 0 → sum_by w (cs ++ ds) ≡ sum_by w cs
 same_sum w cs ds e = let all = sum_by-append w cs ds in omega (arith, all, e)
@@ -137,9 +137,8 @@ module _ (s : State) (j : Job) (m : ℕ) (n : Node) (e : node_of m s ≡ Some n)
   fit_at i = elim (nat_eq m i) as (λ t. nat_eq m i ≡ t → T (fits_number s.nodes (cs ++ ds) i)) [
     | true ↦ λ t. subst (λ x. T (fits_number s.nodes (cs ++ ds) x)) (number_of m i (subst T (sym t) tt)) fit_here
     | false ↦ λ t.
-        let cpu = same_sum (on_node i (λ z. z.cpu)) cs ds (none_elsewhere (λ z. z.cpu) s j j.name m i t ks taken) in
-        let mem = same_sum (on_node i (λ z. z.mem)) cs ds (none_elsewhere (λ z. z.mem) s j j.name m i t ks taken) in
-        subst (λ (z : Size). T (fits z (room_of (row_of nat_cmp node_number i s.nodes)))) (λ x. record { cpu = sym cpu x; mem = sym mem x }) (h.fit i)
+        let same = same_use (cs ++ ds) cs i (λ p. same_sum (on_node i p) cs ds (none_elsewhere p s j j.name m i t ks taken)) in
+        subst (λ (z : Size). T (fits z (room_of (row_of nat_cmp node_number i s.nodes)))) (sym same) (h.fit i)
   ] refl
 
   pub more_holds : Holds s j (record a { places = a.places ++ ks })

@@ -1,5 +1,5 @@
 -- A node's use told from the sums of the state and from what is kept, as the code looks at them.
-use Rattle.std.proofs.Common.{◌≡◌, ℕ, ◌+◌, ◌&&◌, T, List, ◌++◌, map, sym, ap, ◌∙◌, arith}
+use Rattle.std.proofs.Common.{◌≡◌, ℕ, ◌+◌, T, List, ◌++◌, map, sym, ap, ◌∙◌, arith}
 use Rattle.std.specs.Prelude.{sum_by, nat_le}
 use Rattle.std.proofs.lemmas.List.Sums.{sum_by-append}
 use Rattle.rows.specs.declared.node.Node.{Node}
@@ -7,6 +7,9 @@ use Rattle.rows.specs.declared.allocation.Allocation.{Allocation}
 use Rattle.rows.specs.declared.command.AcceptedPlace.{AcceptedPlace}
 use Rattle.rows.specs.Keys.{alloc_cmp, alloc_id}
 use Rattle.rows.specs.Rising.{is_rising}
+use Rattle.rows.specs.Sizes.{amount, plus, fits}
+use Rattle.rows.proofs.SizeLaws.{amount_of_plus, same_in_each}
+use Rattle.fsm_tables.proofs.Uses.{use_is}
 use Rattle.fsm_tables.specs.Claims.{Claim, claim_of, claims, on_node, used}
 use Rattle.cluster_model.specs.Words.{State}
 use Rattle.cluster_model.specs.Effect.{stop}
@@ -15,7 +18,7 @@ use Rattle.cluster_model.specs.Plans.{ended}
 use Rattle.cluster_model.proofs.SafeLaws.{stop_releases}
 use Rattle.cluster_model.proofs.UseLaws.{released_sum}
 use Rattle.group_model.specs.Acceptance.{place_claims}
-use Rattle.fsm_state.proofs.Alone.{ended_sum, gone_sum}
+use Rattle.fsm_state.proofs.Alone.{ended_sum, gone_sum, plus_use, room_with}
 use Rattle.plan_apply.specs.Inner.Stops.{AreEnded}
 
 moved : (u a e f h m r : ℕ) → a + e ≡ u → e ≡ f → nat_le (u + (h + m)) (r + f) ≡ nat_le (a + h + m) r
@@ -31,14 +34,17 @@ part_is w s rows job ks ms r h e =
     (released_sum w (stop ids) (stop_releases ids) s.allocs) (ended_sum w ids s.allocs ∙ gone_sum w ids s.allocs h ∙ ap (sum_by w) e)
     ∙ ap (λ (n : ℕ). nat_le n r) (sym (sum_by-append w (left ++ place_claims job ks) (place_claims job ms) ∙ ap (λ (n : ℕ). n + sum_by w (place_claims job ms)) (sum_by-append w left (place_claims job ks))))
 
--- the test, of numbers that are these
-pub room_test : (s : State) (rows : List Allocation) (job : List ℕ) (ks ms : List AcceptedPlace) (n : Node) (u1 h1 m1 r1 l1 u2 h2 m2 r2 l2 : ℕ) → T (is_rising alloc_cmp alloc_id s.allocs) → AreEnded s rows
-    → u1 ≡ (used n.number (claims s.allocs)).cpu → u2 ≡ (used n.number (claims s.allocs)).mem
-    → h1 ≡ (used n.number (place_claims job ks)).cpu → h2 ≡ (used n.number (place_claims job ks)).mem
-    → m1 ≡ (used n.number (place_claims job ms)).cpu → m2 ≡ (used n.number (place_claims job ms)).mem
-    → r1 ≡ n.size.cpu → r2 ≡ n.size.mem
-    → l1 ≡ (used n.number (map claim_of rows)).cpu → l2 ≡ (used n.number (map claim_of rows)).mem
-    → (nat_le (u1 + (h1 + m1)) (r1 + l1) && nat_le (u2 + (h2 + m2)) (r2 + l2)) ≡ is_within ((claims (map (stop (map alloc_id rows)) s.allocs) ++ place_claims job ks) ++ place_claims job ms) n
-room_test s rows job ks ms n u1 h1 m1 r1 l1 u2 h2 m2 r2 l2 h e a1 a2 b1 b2 d1 d2 f1 f2 g1 g2 =
-    (λ i. nat_le (a1 i + (b1 i + d1 i)) (f1 i + g1 i) && nat_le (a2 i + (b2 i + d2 i)) (f2 i + g2 i))
-    ∙ (λ i. part_is (on_node n.number (λ z. z.cpu)) s rows job ks ms n.size.cpu h e i && part_is (on_node n.number (λ z. z.mem)) s rows job ks ms n.size.mem h e i)
+-- the test of the code
+pub room_test : (s : State) (rows : List Allocation) (job : List ℕ) (ks ms : List AcceptedPlace) (n : Node) → T (is_rising alloc_cmp alloc_id s.allocs) → AreEnded s rows
+    → fits (plus (used n.number (claims s.allocs)) (plus (used n.number (place_claims job ks)) (used n.number (place_claims job ms)))) (plus n.size (used n.number (map claim_of rows)))
+    ≡ is_within ((claims (map (stop (map alloc_id rows)) s.allocs) ++ place_claims job ks) ++ place_claims job ms) n
+room_test s rows job ks ms n h e =
+    let held = plus (used n.number (place_claims job ks)) (used n.number (place_claims job ms)) in
+    let more = plus (used n.number (claims s.allocs)) held in
+    let whole = plus n.size (used n.number (map claim_of rows)) in
+    let cs = (claims (map (stop (map alloc_id rows)) s.allocs) ++ place_claims job ks) ++ place_claims job ms in
+    same_in_each (λ p. nat_le (amount p more) (amount p whole)) (λ p. nat_le (amount p (used n.number cs)) (amount p n.size)) (λ p.
+    ap (λ (m : ℕ). nat_le m (amount p whole)) (amount_of_plus p (used n.number (claims s.allocs)) held)
+    ∙ (λ i. nat_le (use_is p n.number (claims s.allocs) i + plus_use p n.number (place_claims job ks) (place_claims job ms) i) (room_with p n.number n.size (map claim_of rows) i))
+    ∙ part_is (on_node n.number p) s rows job ks ms (amount p n.size) h e
+    ∙ ap (λ (m : ℕ). nat_le m (amount p n.size)) (sym (use_is p n.number cs)))

@@ -6,8 +6,8 @@ ghost use Rattle.plan_apply.specs.Inner.Overlay.{kept_so_far};
 ghost use Rattle.plan_apply.specs.Inner.Stops.{AreEnded};
 
 use crate::accepted::Kept;
-use fsm_state::{Cluster, is_enough, taken};
-use rows::{AcceptedPlace, Allocation, JobName, Node};
+use fsm_state::{Cluster, taken};
+use rows::{AcceptedPlace, Allocation, JobName, Node, Usage};
 
 /// Whether a node has room for more places beside those that are kept, once the rows stop.
 pub(crate) fn has_room(
@@ -29,17 +29,5 @@ pub(crate) fn has_room(
     let less = taken(node.number, stopped);
     let held = taken(node.number, kept.places.as_slice());
     let new = taken(node.number, more);
-    let cpu = is_enough(
-        node.size.cpu.get() as u64,
-        used.cpu,
-        held.cpu + new.cpu,
-        less.cpu,
-    );
-    let mem = is_enough(
-        node.size.mem.get() as u64,
-        used.mem,
-        held.mem + new.mem,
-        less.mem,
-    );
-    cpu && mem
+    Usage::is_enough(Usage::of(node.size), used, held.add(new), less)
 }

@@ -3,10 +3,10 @@ use Rattle.std.proofs.Common.{◌≡◌, ℕ, suc, ◌+◌, ◌-◌, ◌<◌, �
 use Rattle.std.proofs.Math.Seq.{take-add}
 use Rattle.std.proofs.lemmas.List.{take_more}
 use Rattle.std.specs.List.{slice_range}
-use Rattle.machine.specs.Meaning.{Meaning, LawfulMachine}
-use Rattle.machine.specs.After.{after, after_from}
-use Rattle.machine.proofs.Afters.{after_from-append, after_from-count, after-count}
-use Rattle.machine.specs.declared.entry.Entry.{Entry}
+use Rattle.machine_model.specs.Meaning.{Meaning, LawfulMachine}
+use Rattle.machine_model.specs.After.{after, after_from}
+use Rattle.machine_model.proofs.Afters.{after_from-append, after_from-count, after-count}
+use Rattle.machine_model.specs.declared.entry.Entry.{Entry}
 use Rattle.raft_model.specs.Logs.{commands, state_after}
 
 pub commands-append : {C : Type 0} (xs ys : List (Entry C)) → commands (xs ++ ys) ≡ commands xs ++ commands ys

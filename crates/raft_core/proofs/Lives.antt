@@ -1,8 +1,8 @@
 -- What a server that starts keeps.
 use Rattle.std.proofs.Common.{◌≡◌, ℕ, zero, suc, ◌+◌, ◌^◌, ◌<◌, ◌≤◌, lit<, Bool, true, Option, Some, None, IfSome, slice_index, replicate, List, [], ◌∷◌, ◌++◌, length, length-append, refl, sym, ap, ◌∙◌, arith}
 use Rattle.std.proofs.lemmas.List.{length-replicate, take-append-le}
-use Rattle.machine.specs.Meaning.{Meaning}
-use Rattle.machine.specs.declared.entry.Entry.{Entry}
+use Rattle.machine_model.specs.Meaning.{Meaning}
+use Rattle.machine_model.specs.declared.entry.Entry.{Entry}
 use Rattle.raft_model.specs.Logs.{commands, state_after}
 use Rattle.raft_model.specs.Servers.{Server, is_leader, extended}
 use Rattle.raft_core.specs.RaftView.{IsUpToCommit, IsAhead, HasElectionRoom, HasTerm, IsRaft, while_up, mode_of}

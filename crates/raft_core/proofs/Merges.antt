@@ -4,10 +4,10 @@ use Rattle.std.proofs.Common.{◌≡◌, ℕ, zero, suc, ◌+◌, ◌-◌, ◌<�
 use Rattle.std.proofs.Math.Seq.{take-append-add}
 use Rattle.std.proofs.lemmas.List.{take-append-le}
 use Rattle.std.proofs.lemmas.Bool.Decides.{leb_tells}
-use Rattle.machine.specs.Meaning.{Meaning}
-use Rattle.machine.specs.After.{after, after_from}
-use Rattle.machine.proofs.Afters.{after_from-append}
-use Rattle.machine.specs.declared.entry.Entry.{Entry}
+use Rattle.machine_model.specs.Meaning.{Meaning}
+use Rattle.machine_model.specs.After.{after, after_from}
+use Rattle.machine_model.proofs.Afters.{after_from-append}
+use Rattle.machine_model.specs.declared.entry.Entry.{Entry}
 use Rattle.raft_model.specs.Logs.{commands, state_after, has, merge}
 use Rattle.raft_core.proofs.Applies.{commands-append}
 

@@ -1,8 +1,8 @@
 -- What a leader knows of the others' logs, after an answer.
 use Rattle.std.proofs.Common.{◌≡◌, ℕ, zero, suc, ◌-◌, ◌^◌, ◌<◌, ◌≤◌, max, min, Bool, true, false, nat_le, Option, Some, None, is_some, IfSome, List, [], ◌∷◌, ◌++◌, length, take, drop, slice_index, slice_set, refl, sym, ap, ◌∙◌, arith}
 use Rattle.std.proofs.Math.Seq.{take-append_seam}
-use Rattle.machine.specs.Meaning.{Meaning}
-use Rattle.machine.specs.declared.entry.Entry.{Entry}
+use Rattle.machine_model.specs.Meaning.{Meaning}
+use Rattle.machine_model.specs.declared.entry.Entry.{Entry}
 use Rattle.raft_model.specs.Logs.{state_after}
 use Rattle.raft_model.specs.Quorums.{index_at}
 use Rattle.raft_model.specs.Servers.{Server, Leader, greatest}

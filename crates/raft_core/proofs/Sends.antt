@@ -4,7 +4,7 @@ use Rattle.std.proofs.lemmas.Bool.{eq-eqb, ne_eqb}
 use Rattle.std.proofs.Math.Seq.{take-append_seam, take-length}
 use Rattle.std.proofs.lemmas.List.{append-nil}
 use Rattle.std.specs.List.{AllZip}
-use Rattle.machine.specs.Meaning.{Meaning}
+use Rattle.machine_model.specs.Meaning.{Meaning}
 use Rattle.raft_model.specs.Messages.{Message, to_others}
 use Rattle.rows.specs.declared.actor.Actor.TheVariants.{Server}
 use Rattle.wire.specs.Frames.{Frame, ListsFrame, frame_of}
@@ -87,15 +87,15 @@ pub may_go_between : {S C : Type 0} (from to : ℕ) (body : Body S C) → from �
 may_go_between from to body other log = may_go_by (kind_of body) from to other log
 
 module _ {S C : Type 0} (m : Meaning S C) where
-  sends_said : (read : WireMessage S C) (x : Message C) (before after : List Frame) → Means read x → ListsFrame m.commands read before after → Sends m before after (x ∷ [])
+  sends_said : (read : WireMessage S C) (x : Message C) (before after : List Frame) → Means read x → ListsFrame m read before after → Sends m before after (x ∷ [])
   sends_said read x before after means listed = record {
-    frames = frame_of m.commands read ∷ [];
+    frames = frame_of m read ∷ [];
     added = listed.1;
     carry = (record { to = means.to; bytes = record { read = read; fits = listed.0; text = refl; means = means } }, tt);
   }
 
   -- the frame of a body carries the message that it says
-  pub sends_one : (from to : ℕ) (body : Body S C) (before after : List Frame) → ListsFrame m.commands (record { from = Server from; to = Server to; body = body }) before after → IfSome (log_message from to body) (λ x. Sends m before after (x ∷ []))
+  pub sends_one : (from to : ℕ) (body : Body S C) (before after : List Frame) → ListsFrame m (record { from = Server from; to = Server to; body = body }) before after → IfSome (log_message from to body) (λ x. Sends m before after (x ∷ []))
   sends_one from to (bodies.VoteRequest v) before after listed = sends_said _ _ before after (record { from = refl; to = refl; said = refl }) listed
   sends_one from to (bodies.VoteReply v) before after listed = sends_said _ _ before after (record { from = refl; to = refl; said = refl }) listed
   sends_one from to (bodies.Append a) before after listed = sends_said _ _ before after (record { from = refl; to = refl; said = refl }) listed

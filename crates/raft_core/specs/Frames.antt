@@ -2,7 +2,7 @@
 use Rattle.std.specs.Prelude.{◌≡◌, ℕ, Option, Some, None, List, ◌++◌}
 use Rattle.std.specs.List.{AllZip}
 use Rattle.rows.specs.declared.actor.Actor.TheVariants.{Server}
-use Rattle.machine.specs.Meaning.{Meaning}
+use Rattle.machine_model.specs.Meaning.{Meaning}
 use Rattle.wire.specs.Messages.{Message as WireMessage}
 use Rattle.wire.specs.Frames.{Frame, MessageFits, message_text}
 use Rattle.wire.specs.declared.body.Body.{Body as WireBody}
@@ -40,8 +40,8 @@ pub record Means {S C : Type 0} (read : WireMessage S C) (message : Message C) :
 -- the bytes are the message's frame
 pub record IsFrameOf {S C : Type 0} (m : Meaning S C) (bytes : List ℕ) (message : Message C) : Type 0 where
   pub read : WireMessage S C
-  pub fits : MessageFits m.commands read
-  pub text : bytes ≡ message_text m.commands read
+  pub fits : MessageFits m read
+  pub text : bytes ≡ message_text m read
   pub means : Means read message
 
 -- a frame on its way carries the message, to its receiver

@@ -1,6 +1,6 @@
 -- What is handed to a server.
 use Rattle.std.specs.Prelude.{◌≡◌, ℕ, List}
-use Rattle.machine.specs.Meaning.{Meaning}
+use Rattle.machine_model.specs.Meaning.{Meaning}
 use Rattle.raft_model.specs.Messages.{Message}
 use Rattle.raft_model.specs.Steps.{Input, Arrives, Timeout, Beat, Crash, Restart}
 use Rattle.raft_core.specs.declared.input.Input.{Input as CodeInput}

@@ -1,7 +1,7 @@
 -- What a contract sees of a server, and what its type keeps.
 use Rattle.std.specs.Prelude.{◌≡◌, ℕ, ◌+◌, ◌^◌, ◌<◌, ◌≤◌, Bool, ◌&&◌, true, Option, Some, None, List, length, take, slice_index, is_some, IfSome}
-use Rattle.machine.specs.Meaning.{Meaning}
-use Rattle.machine.specs.declared.entry.Entry.{Entry}
+use Rattle.machine_model.specs.Meaning.{Meaning}
+use Rattle.machine_model.specs.declared.entry.Entry.{Entry}
 use Rattle.raft_model.specs.Logs.{state_after}
 use Rattle.raft_model.specs.Servers.{Server, Mode, is_leader, crashed}
 use Rattle.raft_model.specs.Servers.{Follower as FollowerMode, Candidate as CandidateMode, Leader as LeaderMode}

@@ -4,7 +4,7 @@ use Rattle.rows.specs.declared.actor.Actor.{Actor}
 use Rattle.rows.specs.declared.actor.Actor.TheVariants.{Server as ServerActor, Client}
 use Rattle.rows.specs.declared.refusal.Refusal.{Refusal}
 use Rattle.rows.specs.declared.refusal.Refusal.TheVariants as refusals
-use Rattle.machine.specs.Meaning.{Meaning}
+use Rattle.machine_model.specs.Meaning.{Meaning}
 use Rattle.wire.specs.Messages.{Message as WireMessage, kind_of, is_of_log}
 use Rattle.wire.specs.Frames.{message_at}
 use Rattle.raft_model.specs.Logs.{MAX}
@@ -52,7 +52,7 @@ unreadable n me (Ok message) = message_fault n me message
 unreadable n me (Err place) = Some (refusals.Frame place)
 
 abbrev pub frame_refusal : {S C : Type 0} → Meaning S C → ℕ → ℕ → List ℕ → Option Refusal
-frame_refusal {S = S} m n me bytes = unreadable {S = S} n me (message_at m.commands bytes)
+frame_refusal {S = S} m n me bytes = unreadable {S = S} n me (message_at m bytes)
 
 -- Why server `me` of n refuses what is handed in, if it does: it is down; bytes are no frame, or
 -- none for it; else as the definitions say.
@@ -130,6 +130,22 @@ abbrev pub MessageRefusalLeaves : {S C : Type 0} → Meaning S C → RaftView C 
     → RaftView C → Type 0
 MessageRefusalLeaves m old s refusals.NoMemory new = Represents m new (crashed s)
 MessageRefusalLeaves m old s cause new = new ≡ old
+
+-- The same of the value itself, whichever servers it is: want of memory in a step is a crash, but
+-- that a restart, of one that is down, changes nothing.
+abbrev pub LackStays : {C : Type 0} → Handed C → RaftView C → RaftView C → Type 0
+LackStays (Own Restart) old new = (is_up old.server.mode ≡ false) × (new ≡ old)
+LackStays h old new = new.server ≡ crashed old.server
+
+-- any other refusal of a step changes nothing
+abbrev pub Stays : {C : Type 0} → Handed C → Refusal → RaftView C → RaftView C → Type 0
+Stays h refusals.NoMemory old new = LackStays h old new
+Stays h cause old new = new ≡ old
+
+-- the same of a message that was read
+abbrev pub MessageStays : {C : Type 0} → Refusal → RaftView C → RaftView C → Type 0
+MessageStays refusals.NoMemory old new = new.server ≡ crashed old.server
+MessageStays cause old new = new ≡ old
 
 -- any refusal but want of memory shows a watcher nothing
 abbrev pub RefusalShows : {W : Type 0} → Refusal → W → W → Type 0

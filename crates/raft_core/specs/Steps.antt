@@ -1,7 +1,7 @@
 -- Which server a value is, and what it does with what is handed in.
 use Rattle.std.specs.Prelude.{◌≡◌, ℕ, ◌<◌, Option, Some, None, Ok, List}
 use Rattle.rows.specs.GroupSizes.{IsGroup}
-use Rattle.machine.specs.Meaning.{Meaning}
+use Rattle.machine_model.specs.Meaning.{Meaning}
 use Rattle.wire.specs.Messages.{Message as WireMessage}
 use Rattle.wire.specs.Frames.{Frame}
 use Rattle.raft_model.specs.Servers.{Server, Turn, Mode}

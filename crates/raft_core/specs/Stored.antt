@@ -1,6 +1,6 @@
 -- What a server stores.
 use Rattle.std.specs.Prelude.{ℕ, Option, List}
-use Rattle.machine.specs.declared.entry.Entry.{Entry}
+use Rattle.machine_model.specs.declared.entry.Entry.{Entry}
 
 pub record Stored (C : Type 0) : Type 0 where
   pub term : ℕ

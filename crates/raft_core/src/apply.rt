@@ -1,7 +1,7 @@
 //! Entries of a log are applied to a machine.
 
 ghost use Rattle.std.specs.Prelude.{◌≡◌, ◌+◌, ◌^◌, ◌<◌, ◌≤◌, length, take, drop, OnOk};
-ghost use Rattle.machine.specs.After.{after_from};
+ghost use Rattle.machine_model.specs.After.{after_from};
 ghost use Rattle.raft_model.specs.Logs.{commands, state_after};
 ghost use Rattle.raft_core.specs.Watching.{SeesAll};
 

@@ -5,12 +5,12 @@ mod propose;
 mod replies;
 mod votes;
 
-ghost use Rattle.std.specs.Prelude.{◌≡◌, ◌≤◌, true, false, None, length, take, replicate, OnOk, OnErr, IfOk, IfErr, IfSome, MatchBool, MatchOption};
+ghost use Rattle.std.specs.Prelude.{◌≡◌, ◌≤◌, true, false, is_some, None, length, take, replicate, OnOk, OnErr, IfOk, IfErr, IfSome, MatchBool, MatchOption};
 ghost use Rattle.raft_model.specs.Logs.{state_after};
 ghost use Rattle.raft_model.specs.Servers.{Server, is_up, is_leader, met, crashed, restarted};
 ghost use Rattle.raft_core.specs.Inputs.{handed};
 ghost use Rattle.raft_core.specs.Steps.{Represents, Stores, Takes, role_of, IsGroupPlace};
-ghost use Rattle.raft_core.specs.Refusals.{refusal, HidesNothing, IsRefused, RefusalLeaves, RefusalShows, WhyNot};
+ghost use Rattle.raft_core.specs.Refusals.{refusal, HidesNothing, IsRefused, RefusalLeaves, RefusalShows, Stays, WhyNot};
 ghost use Rattle.raft_core.specs.Inner.Stops.{EndsRefused};
 ghost use Rattle.raft_core.specs.Inner.Views.{with_server};
 ghost use Rattle.raft_core.specs.RaftView.{KeepsAhead};
@@ -179,8 +179,9 @@ impl<M: Machine> Raft<M> {
 
     /// What it is doing, while it is up.
     pub fn role(&self) -> Option<Role>
-        ensures { (s : Server M.Command) → Represents M.meaning self.now s →
+        ensures value { (s : Server M.Command) → Represents M.meaning self.now s →
             result ≡ role_of s.mode }
+        ensures shown { result ≡ role_of self.now.server.mode }
     {
         match self.machine {
             Some(_) => Some(self.role),
@@ -192,7 +193,9 @@ impl<M: Machine> Raft<M> {
     /// down. A server that leads or stands for election knows none, and a greater term or a restart
     /// makes it forget.
     pub fn known_leader(&self) -> Option<ServerId>
-        ensures { (s : Server M.Command) → Represents M.meaning self.now s → result ≡ s.known }
+        ensures value { (s : Server M.Command) → Represents M.meaning self.now s →
+            result ≡ s.known }
+        ensures shown { result ≡ self.now.server.known }
     {
         match self.machine {
             Some(_) => self.known,
@@ -202,14 +205,18 @@ impl<M: Machine> Raft<M> {
 
     /// Its current term, also while it is down.
     pub fn term(&self) -> Term
-        ensures { (s : Server M.Command) → Represents M.meaning self.now s → result ≡ s.term }
+        ensures value { (s : Server M.Command) → Represents M.meaning self.now s →
+            result ≡ s.term }
+        ensures shown { result ≡ self.now.server.term }
     {
         self.term
     }
 
     /// The index of the last entry of its log, also while it is down; 0 where there is none.
     pub fn last(&self) -> Index
-        ensures { (s : Server M.Command) → Represents M.meaning self.now s → result ≡ length s.log }
+        ensures value { (s : Server M.Command) → Represents M.meaning self.now s →
+            result ≡ length s.log }
+        ensures shown { result ≡ length self.now.server.log }
     {
         match Index::new(self.log.len() as u64) {
             Some(last) => last,
@@ -224,6 +231,9 @@ impl<M: Machine> Raft<M> {
             × (n ≡ s.commit)) }
         ensures held { (s : Server M.Command) → Represents M.meaning self.now s →
             IfSome result (λ n. n ≤ length s.log) }
+        ensures shown { let s = self.now.server in
+            MatchOption result (is_up s.mode ≡ false) (λ n. (is_up s.mode ≡ true)
+            × (n ≡ s.commit)) }
     {
         match self.machine {
             Some(_) => Some(self.commit),
@@ -233,17 +243,19 @@ impl<M: Machine> Raft<M> {
 
     /// The machine after the committed entries, while it is up.
     pub fn machine(&self) -> Option<&M>
-        ensures { (s : Server M.Command) → Represents M.meaning self.now s →
+        ensures value { (s : Server M.Command) → Represents M.meaning self.now s →
             MatchOption result (is_up s.mode ≡ false) (λ r. (is_up s.mode ≡ true)
             × (r.now ≡ state_after M.meaning (take s.commit s.log))) }
+        ensures shown { is_some result ≡ is_up self.now.server.mode }
     {
         self.machine.as_ref()
     }
 
     /// Whether it is up: it has not crashed since it last started.
     pub fn is_up(&self) -> bool
-        ensures { (s : Server M.Command) → Represents M.meaning self.now s →
+        ensures value { (s : Server M.Command) → Represents M.meaning self.now s →
             result ≡ is_up s.mode }
+        ensures shown { result ≡ is_up self.now.server.mode }
     {
         match self.machine {
             Some(_) => true,
@@ -253,7 +265,10 @@ impl<M: Machine> Raft<M> {
 
     /// Its term while it leads.
     pub fn leader_term(&self) -> Option<LeaderTerm>
-        ensures { (s : Server M.Command) → Represents M.meaning self.now s →
+        ensures value { (s : Server M.Command) → Represents M.meaning self.now s →
+            MatchOption result (is_leader s.mode ≡ false) (λ n. (is_leader s.mode ≡ true)
+            × (n ≡ s.term)) }
+        ensures shown { let s = self.now.server in
             MatchOption result (is_leader s.mode ≡ false) (λ n. (is_leader s.mode ≡ true)
             × (n ≡ s.term)) }
     {
@@ -278,6 +293,7 @@ impl<M: Machine> Raft<M> {
         ensures same { (self.new.me ≡ self.old.me) × (self.new.size ≡ self.old.size) }
         ensures crashed { (s : Server M.Command) → Represents M.meaning self.old s →
             Represents M.meaning self.new (crashed s) }
+        ensures shown { self.new.server ≡ crashed self.old.server }
     {
         self.go_down();
     }
@@ -405,6 +421,8 @@ impl<M: Machine> Raft<M> {
         ensures left { IfErr result (λ cause. (s : Server M.Command) →
             Represents M.meaning self.old s →
             RefusalLeaves M.meaning self.old s (handed input.entry) cause self.new) }
+        ensures stays { IfErr result (λ cause.
+            Stays (handed input.entry) cause self.old self.new) }
         ensures unsent { OnErr result (outbox.new ≡ outbox.old) }
     {
         self.step_watched(input, outbox, &mut Unwatched)
@@ -435,6 +453,8 @@ impl<M: Machine> Raft<M> {
         ensures left { IfErr result (λ cause. (s : Server M.Command) →
             Represents M.meaning self.old s →
             RefusalLeaves M.meaning self.old s (handed input.entry) cause self.new) }
+        ensures stays { IfErr result (λ cause.
+            Stays (handed input.entry) cause self.old self.new) }
         ensures unsent { OnErr result (outbox.new ≡ outbox.old) }
         ensures seen { OnOk result ((s next : Server M.Command) →
             Represents M.meaning self.old s → Represents M.meaning self.new next →

@@ -1,7 +1,7 @@
 //! What watches a leader apply entries.
 
 ghost use Rattle.std.specs.Prelude.{◌≡◌, ℕ, OnOk};
-ghost use Rattle.machine.specs.declared.entry.Entry.{Entry};
+ghost use Rattle.machine_model.specs.declared.entry.Entry.{Entry};
 
 use machine::{Coded, Entry, Machine};
 use rows::{LeaderTerm, NoMemory};

@@ -2,7 +2,7 @@
 -- kinds.
 use Rattle.std.proofs.Common.{◌≡◌, ℕ, inl, inr, Bool, true, false, ◌&&◌, ◌==◌, nat_lt, nat_le, Option, Some, None, Ok, List, length, refl, ap, subst, sym, ◌∙◌, slice_set}
 use Rattle.rows.specs.declared.refusal.Refusal.{Refusal}
-use Rattle.machine.specs.Meaning.{Meaning}
+use Rattle.machine_model.specs.Meaning.{Meaning}
 use Rattle.raft_model.specs.Logs.{MAX}
 use Rattle.raft_model.specs.Quorums.{is_quorum, marked}
 use Rattle.raft_model.specs.Messages.{Body, VoteRequest, VoteReply, Append, AppendReply, Install, InstallReply}

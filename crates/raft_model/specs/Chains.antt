@@ -1,7 +1,7 @@
 -- The one list of a run. (Raft, Figure 3: log matching, leader completeness and state machine
 -- safety.)
 use Rattle.std.specs.Prelude.{◌≡◌, ℕ, ◌≤◌, ◌⊎◌, true, Some, List, [], length, take, slice_get}
-use Rattle.machine.specs.declared.entry.Entry.{Entry}
+use Rattle.machine_model.specs.declared.entry.Entry.{Entry}
 use Rattle.raft_model.specs.Servers.{Server, is_up}
 use Rattle.raft_model.specs.Worlds.{World, moment, Leads, OneLeader}
 

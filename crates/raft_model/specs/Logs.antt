@@ -1,9 +1,9 @@
 -- Logs: lists of entries. Indexes begin at 1; an empty log ends at index 0 with term 0. (Raft,
 -- extended version 2014, Figure 2.)
 use Rattle.std.specs.Prelude.{ℕ, zero, suc, ◌-◌, ◌^◌, List, [], ◌∷◌, ◌++◌, length, take, drop, Bool, ◌&&◌, ◌||◌, nat_le, ◌==◌, if◌then◌else◌}
-use Rattle.machine.specs.Meaning.{Meaning}
-use Rattle.machine.specs.After.{after}
-use Rattle.machine.specs.declared.entry.Entry.{Entry}
+use Rattle.machine_model.specs.Meaning.{Meaning}
+use Rattle.machine_model.specs.After.{after}
+use Rattle.machine_model.specs.declared.entry.Entry.{Entry}
 
 -- the greatest term, and the greatest index: both stay below 2^40
 abbrev pub MAX : ℕ

@@ -2,7 +2,7 @@
 -- term; a reply also has the term that it answers (`asked`), since messages may come late, twice or
 -- never. (Raft, extended version 2014, Figures 2 and 13.)
 use Rattle.std.specs.Prelude.{ℕ, zero, suc, Bool, ◌==◌, if◌then◌else◌, List, [], ◌∷◌, ◌++◌}
-use Rattle.machine.specs.declared.entry.Entry.{Entry}
+use Rattle.machine_model.specs.declared.entry.Entry.{Entry}
 
 -- what a message says, beside its sender, its receiver and its term
 pub data Body (C : Type 0) : Type 0 where

@@ -1,7 +1,7 @@
 -- Servers, and the rules by which an input changes one. (Raft, extended version 2014, Figures 2 and
 -- 13.)
 use Rattle.std.specs.Prelude.{ℕ, zero, suc, ◌+◌, ◌-◌, max, min, Bool, true, false, ◌&&◌, ◌||◌, ◌==◌, nat_lt, nat_le, if◌then◌else◌, Option, Some, None, List, [], ◌∷◌, ◌++◌, length, take, drop, replicate, slice_set}
-use Rattle.machine.specs.declared.entry.Entry.{Entry}
+use Rattle.machine_model.specs.declared.entry.Entry.{Entry}
 use Rattle.raft_model.specs.Logs.{term_at, last_term, has, merge, install}
 use Rattle.raft_model.specs.Quorums.{is_quorum, marked, index_at}
 use Rattle.raft_model.specs.Messages.{Message, Body, VoteRequest, Append, AppendReply, Install, to_others}

@@ -3,7 +3,7 @@
 use Rattle.std.specs.Prelude.{◌≡◌, ℕ, ◌⊎◌, Option, Some, None, Result, Ok, Err, List, [], ◌∷◌, ◌++◌, length, replicate, slice_get, slice_set}
 use Rattle.rows.specs.declared.refusal.Refusal.{Refusal}
 use Rattle.rows.specs.declared.refusal.Refusal.TheVariants as refusals
-use Rattle.machine.specs.Meaning.{Meaning}
+use Rattle.machine_model.specs.Meaning.{Meaning, IsCommandOf}
 use Rattle.raft_model.specs.Messages.{Message}
 use Rattle.raft_model.specs.Servers.{Server, Leader, Turn, newcomer}
 use Rattle.raft_model.specs.Steps.{Input, Arrives, Timeout, Beat, Propose, Compact, Crash, Restart, step}
@@ -70,7 +70,7 @@ module _ {S C : Type 0} (m : Meaning S C) where
   IsEvent (Deliver k) = Unit {0}
   IsEvent (TimesOut i) = Unit {0}
   IsEvent (Beats i) = Unit {0}
-  IsEvent (Proposes i command) = m.commands.Fits command
+  IsEvent (Proposes i command) = IsCommandOf m command
   IsEvent (Compacts i) = Unit {0}
   IsEvent (Crashes i) = Unit {0}
   IsEvent (Restarts i) = Unit {0}

@@ -2,7 +2,7 @@
 use Rattle.std.proofs.Common.{◌≡◌, ℕ, zero, suc, ◌+◌, ◌<◌, ◌≤◌, ◌⊎◌, inl, inr, true, ◌==◌, nat_le, min, max, Some, List, [], ◌∷◌, length, take, refl, sym, ap, ◌∙◌, subst, arith, slice_get, length-take-le}
 use Rattle.std.proofs.lemmas.Bool.{and_parts, leb-true, leb-false, eqb-true}
 use Rattle.std.proofs.lemmas.Bool.Decides.{leb_tells}
-use Rattle.machine.specs.declared.entry.Entry.{Entry}
+use Rattle.machine_model.specs.declared.entry.Entry.{Entry}
 use Rattle.raft_model.specs.Logs.{term_at, has, install}
 use Rattle.raft_model.specs.Messages.{Message, AppendReply, InstallReply}
 use Rattle.raft_model.specs.Servers.{Server, Follower, is_held, appended, installed}

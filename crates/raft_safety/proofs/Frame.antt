@@ -1,6 +1,6 @@
 -- What survives when the history grows.
 use Rattle.std.proofs.Common.{◌≡◌, ◌≢◌, ℕ, zero, suc, ◌+◌, ◌≤◌, inl, inr, Bool, true, false, Some, List, [], ◌∷◌, length, take, drop, refl, sym, ap, ◌∙◌, subst, arith}
-use Rattle.machine.specs.declared.entry.Entry.{Entry}
+use Rattle.machine_model.specs.declared.entry.Entry.{Entry}
 use Rattle.raft_model.specs.Logs.{term_at}
 use Rattle.raft_model.specs.Messages.{Message, Body, VoteRequest, VoteReply, Append, AppendReply, Install, InstallReply}
 use Rattle.raft_model.specs.Servers.{Server, Mode, Down, Follower, Candidate, Leader, is_leader}

@@ -1,6 +1,6 @@
 -- The numbers of servers and messages stay within their limits.
 use Rattle.std.proofs.Common.{◌≡◌, ℕ, Some, List, arith, slice_get}
-use Rattle.machine.specs.Meaning.{Meaning, LawfulMachine}
+use Rattle.machine_model.specs.Meaning.{Meaning, LawfulMachine}
 use Rattle.raft_model.specs.Messages.{Message}
 use Rattle.raft_model.specs.Servers.{Server}
 use Rattle.raft_model.specs.Worlds.{World, Event, Run}

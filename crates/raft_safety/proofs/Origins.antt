@@ -2,8 +2,8 @@
 use Rattle.std.proofs.Common.{◌≡◌, ℕ, suc, ◌<◌, inl, inr, Bool, true, Option, Some, None, List, [], ◌∷◌, ◌++◌, length, take, refl, sym, ap, ◌∙◌, subst, arith, slice_get, take_all}
 use Rattle.std.proofs.lemmas.Bool.Decides.{leb_tells}
 use Rattle.std.proofs.lemmas.Option.{same_Some}
-use Rattle.machine.specs.Meaning.{Meaning}
-use Rattle.machine.specs.declared.entry.Entry.{Entry}
+use Rattle.machine_model.specs.Meaning.{Meaning}
+use Rattle.machine_model.specs.declared.entry.Entry.{Entry}
 use Rattle.raft_model.specs.Logs.{term_at}
 use Rattle.raft_model.specs.Servers.{Server, Candidate, is_leader}
 use Rattle.raft_model.specs.Worlds.{World, Event}

@@ -1,9 +1,9 @@
 -- Each event is a path of small steps.
 use Rattle.std.proofs.Common.{◌≡◌, ℕ, suc, ◌<◌, ◌≤◌, inl, inr, Bool, true, false, ◌&&◌, ◌==◌, nat_lt, nat_le, max, Option, Some, None, Ok, List, [], ◌∷◌, length, refl, sym, ap, ◌∙◌, subst, arith, slice_set, true≢false}
 use Rattle.std.proofs.lemmas.Bool.{and_parts, ltb-true, ltb-false, eqb-true}
-use Rattle.machine.specs.Meaning.{Meaning}
+use Rattle.machine_model.specs.Meaning.{Meaning, IsCommandOf}
 use Rattle.rows.specs.declared.refusal.Refusal.{Refusal}
-use Rattle.machine.specs.declared.entry.Entry.{Entry}
+use Rattle.machine_model.specs.declared.entry.Entry.{Entry}
 use Rattle.raft_model.specs.Logs.{MAX}
 use Rattle.raft_model.specs.Quorums.{is_quorum, marked, index_at}
 use Rattle.raft_model.specs.Messages.{Message, Body, VoteRequest, VoteReply, Append, AppendReply, Install, InstallReply}
@@ -17,7 +17,7 @@ abbrev pub CameIn : {S C : Type 0} → Meaning S C → List (Message C) → ℕ 
 CameIn m sent i (Arrives message) = WasSent sent message × (message.to ≡ i)
 CameIn m sent i Timeout = Unit {0}
 CameIn m sent i Beat = Unit {0}
-CameIn m sent i (Propose command) = m.commands.Fits command
+CameIn m sent i (Propose command) = IsCommandOf m command
 CameIn m sent i Compact = Unit {0}
 CameIn m sent i Crash = Unit {0}
 CameIn m sent i Restart = Unit {0}
@@ -195,14 +195,14 @@ module _ {S C : Type 0} (m : Meaning S C) (n i : ℕ) (sent : List (Message C)) 
   beats_path s (Leader next match) mode = only (beats_all next match mode refl refl)
 
   -- a proposal of a leader
-  admitted_path : (s : Server C) (command : C) (next match : List ℕ) (r : Option Refusal) (turn : Turn C) → m.commands.Fits command → s.mode ≡ Leader next match → admission_refusal m s command ≡ r →
+  admitted_path : (s : Server C) (command : C) (next match : List ℕ) (r : Option Refusal) (turn : Turn C) → IsCommandOf m command → s.mode ≡ Leader next match → admission_refusal m s command ≡ r →
       unless r (silent (extended s command)) ≡ Ok turn → PathTo s turn
   unfolding PathTo
   admitted_path s command next match None turn is mode none h = subst (λ t. PathTo s t) (same_ok _ _ h) (only (extends next match command is mode none refl refl))
   admitted_path s command next match (Some r) turn is mode none h = absurd (cc)
 
   -- a proposal
-  propose_path : (s : Server C) (command : C) (mode : Mode) (turn : Turn C) → m.commands.Fits command → s.mode ≡ mode → proposes m s command ≡ Ok turn → PathTo s turn
+  propose_path : (s : Server C) (command : C) (mode : Mode) (turn : Turn C) → IsCommandOf m command → s.mode ≡ mode → proposes m s command ≡ Ok turn → PathTo s turn
   propose_path s command Down turn is mode h = absurd (let g = rw mode at h in cc)
   propose_path s command Follower turn is mode h = absurd (let g = rw mode at h in cc)
   propose_path s command (Candidate votes) turn is mode h = absurd (let g = rw mode at h in cc)

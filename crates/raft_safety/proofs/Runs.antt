@@ -1,7 +1,7 @@
 -- Moments of a run: each first part of it is a run, and between two neighbouring moments lies one
 -- event.
 use Rattle.std.proofs.Common.{◌≡◌, ℕ, suc, ◌≤◌, Some, Ok, List, ◌∷◌, [], ◌++◌, length, take, arith}
-use Rattle.machine.specs.Meaning.{Meaning}
+use Rattle.machine_model.specs.Meaning.{Meaning}
 use Rattle.raft_model.specs.Worlds.{World, Event, IsEvent, happens, first, Run, start, more, moment}
 use Rattle.raft_safety.specs.Claims.{Happened}
 use Rattle.raft_safety.proofs.Moments.{Came, begun, gone, came_even, came_front, came_step}

@@ -1,10 +1,10 @@
 -- Logs whose commands were each admitted after those before them.
 use Rattle.std.proofs.Common.{◌≡◌, ℕ, zero, suc, ◌<◌, ◌≤◌, nat_lt, None, List, [], ◌∷◌, ◌++◌, length, take, refl, sym, ap, subst, arith, inl, inr}
 use Rattle.std.proofs.lemmas.Bool.{ltb-true}
-use Rattle.machine.specs.Meaning.{Meaning, LawfulMachine}
-use Rattle.machine.specs.After.{after, AdmittedFrom, Admitted}
-use Rattle.machine.proofs.Afters.{after_good, Admitted-push}
-use Rattle.machine.specs.declared.entry.Entry.{Entry}
+use Rattle.machine_model.specs.Meaning.{Meaning, LawfulMachine, IsCommandOf}
+use Rattle.machine_model.specs.After.{after, AdmittedFrom, Admitted}
+use Rattle.machine_model.proofs.Afters.{after_good, Admitted-push}
+use Rattle.machine_model.specs.declared.entry.Entry.{Entry}
 use Rattle.raft_model.specs.Logs.{MAX, commands, state_after}
 use Rattle.raft_model.specs.Servers.{Server}
 use Rattle.raft_model.specs.Steps.{admission_refusal}
@@ -52,7 +52,7 @@ module _ {S C : Type 0} (m : Meaning S C) where
   first_sound k log h = record { short = omega (arith, first_length k log, h.short); each = first_each m.empty k log h.each }
 
   -- one more entry, if it is admitted
-  push_sound : (log : List (Entry C)) (e : Entry C) → m.commands.Fits e.command → m.admission (after m (commands log)) e.command ≡ None → length log < MAX → Sound m log → Sound m (log ++ e ∷ [])
+  push_sound : (log : List (Entry C)) (e : Entry C) → IsCommandOf m e.command → m.admission (after m (commands log)) e.command ≡ None → length log < MAX → Sound m log → Sound m (log ++ e ∷ [])
   unfolding Sound
   push_sound log e is none room h = subst (λ cs. Admitted m cs) (sym (commands_push log e))
       (Admitted-push m (commands log) e.command h is none (omega (arith, room, commands_length log)))
@@ -65,7 +65,7 @@ module _ {S C : Type 0} (m : Meaning S C) where
   ]
 
   -- a proposal
-  pub proposal_sound : (s : Server C) (command : C) → m.commands.Fits command → admission_refusal m s command ≡ None → Sound m s.log → Sound m (s.log ++ record { term = s.term; command = command } ∷ [])
+  pub proposal_sound : (s : Server C) (command : C) → IsCommandOf m command → admission_refusal m s command ≡ None → Sound m s.log → Sound m (s.log ++ record { term = s.term; command = command } ∷ [])
   proposal_sound s command is none h = let a = admitted_told s command none in push_sound s.log (record { term = s.term; command = command }) is a.1 a.0 h
 
   -- a new leader's no-op

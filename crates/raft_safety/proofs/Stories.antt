@@ -2,8 +2,8 @@
 -- far.
 use Rattle.std.proofs.Common.{◌≡◌, ℕ, suc, ◌<◌, ◌≤◌, ◌⊎◌, inl, inr, Some, None, List, [], ◌∷◌, ◌++◌, length, take, refl, sym, ap, ◌∙◌, subst, arith, slice_get, true, false, length-take-le}
 use Rattle.std.proofs.lemmas.Bool.Decides.{leb_tells}
-use Rattle.machine.specs.Meaning.{Meaning, LawfulMachine}
-use Rattle.machine.specs.declared.entry.Entry.{Entry}
+use Rattle.machine_model.specs.Meaning.{Meaning, LawfulMachine}
+use Rattle.machine_model.specs.declared.entry.Entry.{Entry}
 use Rattle.raft_model.specs.Servers.{Server, Leader, is_up, newcomer}
 use Rattle.raft_model.specs.Worlds.{World, first, Event, Run, start, more, moment, Leads}
 use Rattle.raft_model.specs.Chains.{Agree, At, WasCommitted}

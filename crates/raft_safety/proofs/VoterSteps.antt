@@ -1,8 +1,8 @@
 -- Votes through small steps, and through a path of them.
 use Rattle.std.proofs.Common.{◌≡◌, ℕ, suc, inl, inr, Bool, true, false, Option, Some, None, List, [], ◌∷◌, length, sym, ◌∙◌, subst, arith, slice_get, slice_set, nat_le}
 use Rattle.std.proofs.lemmas.Bool.{eqb-true}
-use Rattle.machine.specs.Meaning.{Meaning}
-use Rattle.machine.specs.declared.entry.Entry.{Entry}
+use Rattle.machine_model.specs.Meaning.{Meaning}
+use Rattle.machine_model.specs.declared.entry.Entry.{Entry}
 use Rattle.raft_model.specs.Quorums.{marked, is_quorum}
 use Rattle.raft_model.specs.Messages.{Message, Body, VoteRequest, VoteReply, Append, AppendReply, Install, InstallReply}
 use Rattle.raft_model.specs.Servers.{Server, Mode, Follower, Candidate, Leader, stood, vote_request_to, is_free_for, installed, match_raised, beat_message, beat_body}

@@ -2,7 +2,7 @@
 use Rattle.std.proofs.Common.{◌≡◌, ◌≢◌, ℕ, suc, ◌<◌, ◌≤◌, ◌⊎◌, inl, inr, Bool, true, Option, Some, None, List, [], ◌∷◌, ◌++◌, length, take, refl, sym, ap, ◌∙◌, subst, arith, replicate, length-append, take_all}
 use Rattle.std.proofs.lemmas.Bool.Decides.{leb_tells}
 use Rattle.std.proofs.lemmas.Option.{same_Some}
-use Rattle.machine.specs.declared.entry.Entry.{Entry}
+use Rattle.machine_model.specs.declared.entry.Entry.{Entry}
 use Rattle.raft_model.specs.Logs.{MAX, term_at}
 use Rattle.raft_model.specs.Quorums.{marked, index_at, is_quorum}
 use Rattle.raft_model.specs.Messages.{Message}

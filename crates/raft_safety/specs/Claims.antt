@@ -1,7 +1,7 @@
 -- What the theorems say of a run. Server numbers and moments begin at 0, indexes of entries at 1.
 use Rattle.std.specs.Prelude.{◌≡◌, ◌≢◌, ℕ, suc, ◌≤◌, ◌<◌, ◌⊎◌, Bool, true, ◌==◌, ◌||◌, nat_le, Some, Ok, List, [], ◌∷◌, ◌++◌, length, take, slice_get}
-use Rattle.machine.specs.Meaning.{Meaning}
-use Rattle.machine.specs.declared.entry.Entry.{Entry}
+use Rattle.machine_model.specs.Meaning.{Meaning}
+use Rattle.machine_model.specs.declared.entry.Entry.{Entry}
 use Rattle.raft_model.specs.Logs.{MAX, term_at}
 use Rattle.raft_model.specs.Quorums.{Quorum, index_at}
 use Rattle.raft_model.specs.Messages.{Message}

@@ -1,15 +1,15 @@
 //! Log matching, the one list of a run, its states, and where its entries come from. (Raft, Figure
 //! 3 and sections 5.3, 5.4.)
 ghost use Rattle.std.specs.Prelude.{◌≡◌, ◌<◌, ℕ, List, length, take, Some};
-ghost use Rattle.machine.specs.After.{Admitted};
-ghost use Rattle.machine.specs.declared.entry.Entry.{Entry};
+ghost use Rattle.machine_model.specs.After.{Admitted};
+ghost use Rattle.machine_model.specs.declared.entry.Entry.{Entry};
 ghost use Rattle.raft_model.specs.Logs.{commands, state_after};
 ghost use Rattle.raft_model.specs.Servers.{Server};
 ghost use Rattle.raft_model.specs.Worlds.{World, moment};
 ghost use Rattle.raft_model.specs.Chains.{Agree, At, Chain};
 ghost use Rattle.raft_safety.specs.Claims.{EachRun, LogMatching, IsGreatestCommit, Origin};
 
-use machine::Machine;
+use machine_model::Machine;
 
 /// Two logs that hold an entry of one index and term, at one moment or at two, are the same up to
 /// it.

@@ -3,7 +3,7 @@ ghost use Rattle.std.specs.Prelude.{◌≡◌, ℕ, suc, Some, List, take};
 ghost use Rattle.raft_model.specs.Worlds.{World, Event, Outcome, Run, Trace, moment};
 ghost use Rattle.raft_safety.specs.Claims.{EachRun, Happened};
 
-use machine::Machine;
+use machine_model::Machine;
 
 /// What is left of a list of events, each kept, replaced by a crash or left out with its refusal,
 /// is the list of a run.

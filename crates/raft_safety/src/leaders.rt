@@ -2,7 +2,7 @@
 ghost use Rattle.raft_model.specs.Worlds.{OneLeader};
 ghost use Rattle.raft_safety.specs.Claims.{EachRun};
 
-use machine::Machine;
+use machine_model::Machine;
 
 /// No two servers are ever leaders of one term, at one moment or at two.
 pub fn one_leader_a_term<M: Machine>()

@@ -6,7 +6,7 @@ ghost use Rattle.raft_model.specs.Servers.{Server, is_up};
 ghost use Rattle.raft_model.specs.Chains.{Agree, At};
 ghost use Rattle.raft_safety.specs.Claims.{EachRun, UpFromTo, SameStored, Limits, IsAmongMembers, HasRisen};
 
-use machine::Machine;
+use machine_model::Machine;
 
 /// What a server has applied it keeps as long as it is up.
 /// - `stays`: from one moment to a later one, up at each between them, commit does not fall, and

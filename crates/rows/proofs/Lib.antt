@@ -4,3 +4,4 @@ pub mod KeyLaws
 pub mod RisingLaws
 pub mod NodeLaws
 pub mod Truth
+pub mod SizeLaws

@@ -10,6 +10,8 @@ pub mod Groups
 pub mod Batches
 pub mod Keys
 pub mod Fits
+pub mod Sizes
+pub mod NodeStatuses
 pub mod State
 pub mod Limits
 pub mod States

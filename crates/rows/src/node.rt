@@ -1,4 +1,5 @@
 ghost use Rattle.std.specs.Prelude.{◌≡◌, ◌<◌, ◌≤◌, IfSome, IfNone};
+ghost use Rattle.rows.specs.NodeStatuses.{is_ready, is_down};
 
 use crate::index::Index;
 use crate::list_rules::{Ranged, Ruled};
@@ -91,6 +92,28 @@ pub enum NodeStatus {
     Ready,
     /// It was not heard of in time.
     Down,
+}
+
+impl NodeStatus {
+    /// Whether its agent reports.
+    pub fn is_ready(self) -> bool
+        ensures { result ≡ is_ready self }
+    {
+        match self {
+            NodeStatus::Ready => true,
+            NodeStatus::Down => false,
+        }
+    }
+
+    /// Whether it was not heard of in time.
+    pub fn is_down(self) -> bool
+        ensures { result ≡ is_down self }
+    {
+        match self {
+            NodeStatus::Ready => false,
+            NodeStatus::Down => true,
+        }
+    }
 }
 
 /// How a node is emptied, if it is. (Nomad documentation, "node drain" command.)

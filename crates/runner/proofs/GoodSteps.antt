@@ -4,7 +4,7 @@ use Rattle.std.specs.List.{All}
 use Rattle.std.specs.declared.alloc.Global.{Global}
 use Rattle.std.proofs.lemmas.List.{get_or-map, length-map, map-append, take_all, take_more}
 use Rattle.std.proofs.lemmas.List.Elements.{All-append, All-cons, All-nil}
-use Rattle.runner.specs.Complaints.{IsStepLine}
+use Rattle.scenario_file.specs.Complaints.{IsStepLine}
 
 pub good_at : (steps : List (String Global)) (i : ℕ) (step : String Global) → All IsStepLine (map string_bytes steps) → i < length steps → step ≡ get_or steps i step → IsStepLine (string_bytes step)
 good_at steps i step good inside at =

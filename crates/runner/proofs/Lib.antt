@@ -1,13 +1,10 @@
-pub mod Turns
-pub mod Lines
-pub mod Counts
-pub mod GivenValues
 pub mod Numbers
-pub mod Objects
-pub mod EachLine
-pub mod Complaints
 pub mod GoodSteps
 pub mod Reasons
 pub mod Refusals
+pub mod Stages
+pub mod Replays
+pub mod KeptNodes
+pub mod Tellings
 pub mod Seats
 pub mod Plays

@@ -13,7 +13,7 @@ use Rattle.group_model.specs.Worlds.{Event}
 use Rattle.server.specs.declared.server_input.ServerInput.{ServerInput}
 use Rattle.server.specs.ServerViews.{IsMember, ServerView}
 use Rattle.world.specs.GroupView.{GroupView}
-use Rattle.cluster.specs.PlanCounts.{WorkersView}
+use Rattle.workers.specs.PlanCounts.{WorkersView}
 use Rattle.runner.specs.declared.play.Play.{Play}
 use Rattle.runner.specs.Inner.PlayEvents.{EventRefused, Handed, IsDownIn, IsUpIn}
 use Rattle.runner.specs.Inner.PlayWork.{IsAsked, WorkRefused, WorkersAsk, own_event}

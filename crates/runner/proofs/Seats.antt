@@ -3,10 +3,10 @@ use Rattle.std.proofs.Common.{◌≡◌, ℕ, ◌∷◌, List, [], ap, map, refl
 use Rattle.rows.specs.declared.actor.Actor.{Actor}
 use Rattle.rows.specs.declared.node.NodeSpec.{NodeSpec}
 use Rattle.event_book.specs.declared.view.SeatView.{SeatView}
-use Rattle.cluster.specs.declared.own_input.OwnInput.{OwnInput}
-use Rattle.cluster.specs.Cells.{CellView}
-use Rattle.cluster.specs.Closing.{seat_in}
-use Rattle.cluster.specs.Opening.{AreNew}
+use Rattle.cells.specs.declared.own_input.OwnInput.{OwnInput}
+use Rattle.cells.specs.Cells.{CellView}
+use Rattle.cells.specs.Groups.{seat_in}
+use Rattle.cells.specs.Opening.{AreNew}
 use Rattle.event_book.specs.Seats.{actor_in, new_seat}
 
 pub actors_of_seats : (I : Type 0) (actors : List Actor) → map (actor_in {I = I}) (map new_seat actors) ≡ actors

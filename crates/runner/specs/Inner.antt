@@ -1,8 +1,6 @@
 -- Words of private contracts.
 pub mod Flight
-pub mod Lines
 pub mod Faults
-pub mod Grown
 pub mod Files
 pub mod Printed
 pub mod Plays
@@ -10,3 +8,6 @@ pub mod PlayEvents
 pub mod Flows
 pub mod PlayWork
 pub mod PlaySteps
+pub mod ThreadSteps
+pub mod Played
+pub mod Replayed

@@ -1,10 +1,3 @@
-pub mod Words
-pub mod Objects
-pub mod Steps
 pub mod Faults
-pub mod EachLine
-pub mod Complaints
-pub mod Rooms
-pub mod Notes
-pub mod WrongTexts
+pub mod Told
 pub mod Inner

@@ -3,6 +3,7 @@ ghost use Rattle.std.specs.Prelude.{◌≡◌, ◌≢◌, ◌≤◌, ◌↔◌, 
 ghost use Rattle.runner.specs.Faults.{IsStatus};
 ghost use Rattle.runner.specs.declared.fault.Fault.TheVariants as faults;
 
+use ending::EndError;
 use rows::NoMemory;
 use std::io;
 use thiserror::Error;
@@ -40,6 +41,19 @@ impl<'a> From<NoMemory> for Fault<'a> {
 
     fn from(_e: NoMemory) -> Fault<'a> {
         Fault::NoMemory
+    }
+}
+
+impl<'a> From<EndError> for Fault<'a> {
+    ghost use Rattle.runner.specs.Inner.Faults.{IsOfRun, end_fault};
+
+    ghost from_gives = { λ e fault. (fault ≡ end_fault e) × IsOfRun fault };
+
+    fn from(e: EndError) -> Fault<'a> {
+        match e {
+            EndError::NoMemory => Fault::NoMemory,
+            EndError::Output => Fault::Output,
+        }
     }
 }
 

@@ -1,23 +1,18 @@
-//! The program `nomadsim`: its command line, its scenario files, and what it does with them and
-//! with transcripts, over files and streams that are handed in.
+//! The program `nomadsim`: what it does with scenario files and with transcripts, over files and
+//! streams that are handed in. Its command line and its scenario files are crates of their own,
+//! whose modules it hands on.
 #![tactic(auto)]
 
 pub mod checking;
-pub mod command;
-mod ending;
 pub mod fault;
 mod flight;
-mod forms;
-pub mod noting;
 mod play;
 pub mod program;
-pub mod reading;
 mod replaying;
 mod running;
-pub mod scenario;
 pub mod shelf;
-pub mod step;
 mod threads;
-pub mod wrong;
 
+pub use command_line::command;
 pub use program::nomadsim;
+pub use scenario_file::{noting, reading, scenario, step, wrong};

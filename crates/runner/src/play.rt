@@ -9,17 +9,16 @@ ghost use Rattle.runner.specs.Inner.PlayEvents.{IsDownIn, IsUpIn, fetched, serve
 ghost use Rattle.runner.specs.Inner.PlaySteps.{StepRefused, StepTaken};
 ghost use Rattle.runner.specs.Inner.PlayWork.{IsAsked, WorkRefused, WorkTaken, input_of};
 ghost use Rattle.runner.specs.Inner.Plays.{IsNewPlay};
-ghost use Rattle.runner.specs.Steps.{played_step};
 
 use crate::flight::Flight;
 use crate::running::Stage;
-use crate::scenario::{Order, Scenario};
-use crate::step::Step;
-use cluster::{Handled, ServerWorkers};
 use lossy_net::{Fates, MessageFate, fate};
 use rows::{Actor, NoMemory, Refusal, ServerId};
+use scenario_file::scenario::{Order, Scenario};
+use scenario_file::step::Step;
 use server::ServerInput;
 use std::alloc::Global;
+use workers::{Handled, ServerWorkers};
 use world::{Event, World};
 
 // How many messages a `flow` without a number takes at most.
@@ -239,11 +238,11 @@ impl Play {
 }
 
 impl Stage for Play {
-    fn take(&mut self, step: Step) -> Result<(), Refusal>
-        ensures taken { OnOk result (StepTaken (played_step step) self.old self.new) }
-        ensures refused { IfErr result (λ refusal. refusal ≢ refusals.NoMemory
-            → StepRefused (played_step step) self.old refusal self.new) }
-    {
+    ghost Takes = { StepTaken };
+
+    ghost Refuses = { StepRefused };
+
+    fn take(&mut self, step: Step) -> Result<(), Refusal> {
         match step {
             Step::Event(event) => self.event(event),
             Step::Work(server) => self.work(server),

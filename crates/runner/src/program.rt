@@ -1,18 +1,20 @@
 //! The whole program, over files and streams that are handed in.
 ghost use Rattle.std.specs.Prelude.{◌≡◌, ◌≢◌, ◌≤◌, ◌⊎◌, [], IfErr, IfOk, map};
+ghost use Rattle.command_line.specs.Words.{AskFor, AskForPlay, AskForThreads, IsPlay, IsThreads, words_fault};
+ghost use Rattle.command_line.specs.declared.command.CommandLine.{CommandLine};
 ghost use Rattle.runner.specs.Faults.{IsExit, IsStatus};
-ghost use Rattle.runner.specs.Inner.Faults.{MayEndBy};
-ghost use Rattle.runner.specs.Words.{AskForPlay, AskForThreads, IsPlay, IsThreads, words_fault};
+ghost use Rattle.runner.specs.Told.{Tells, TellsFor};
+ghost use Rattle.runner.specs.Inner.Faults.{IsFound, IsOfRun};
 ghost use Rattle.runner.specs.declared.fault.Fault.TheVariants.{Output};
 
 use crate::checking::check_file;
-use crate::command::{CommandLine, command};
 use crate::fault::Fault;
 use crate::replaying::{draw_file, replay_file};
 use crate::running::run_file;
 use crate::shelf::Shelf;
 use crate::threads::threads_file;
 use clap::error::ErrorKind;
+use command_line::command::{CommandLine, command};
 use std::alloc::Global;
 use std::io::Write;
 use std::sync::Wait;
@@ -22,6 +24,9 @@ use std::thread::Threads;
 /// answers its exit status: 0 where every step was taken, 1 where one was refused, 2 for a bad
 /// command line, a bad file, or an output that failed, 3 where there was no memory. What is said is
 /// flushed before the status is answered.
+/// - `told`: at status 0 and 1 the words ask for help, or what they ask for is told: of `run`,
+///   `threads` and `replay` what was refused, which is nothing just at status 0, and then how the
+///   group stands.
 /// - `quiet`: at status 0 and 1 the standard error is told nothing, but under `threads` how many
 ///   messages were lost.
 ///
@@ -85,7 +90,7 @@ where
     R: Threads + Wait + Copy + Send + 'static,
     ensures ok { IfOk result (λ status. (status ≤ 1)
         × (words_fault (map (λ w. w.now) words.entry.now) ≡ [])) }
-    ensures err { IfErr result (MayEndBy (words_fault (map (λ w. w.now) words.entry.now))) }
+    ensures err { IfErr result (IsFound (words_fault (map (λ w. w.now) words.entry.now))) }
     ensures played { IfOk result (λ status. status ≡ 1
         → AskForPlay (map (λ w. w.now) words.entry.now)) }
     ensures quiet { (err.new ≡ err.old) ⊎ AskForThreads (map (λ w. w.now) words.entry.now) }
@@ -111,6 +116,7 @@ where
     R: Threads + Wait + Copy + Send + 'static,
     ensures ok { IfOk result (λ status. status ≤ 1) }
     ensures played { IfOk result (λ status. status ≡ 1 → IsPlay line.entry) }
+    ensures of_run { IfErr result IsOfRun }
     ensures quiet { (err.new ≡ err.old) ⊎ IsThreads line.entry }
 {
     match line {

@@ -1,27 +1,29 @@
 //! A scenario's file, played.
-ghost use Rattle.std.specs.Prelude.{◌≡◌, ◌≢◌, ◌≤◌, ◌⊎◌, IfErr, IfOk, IfSome, OnOk};
+ghost use Rattle.std.specs.Prelude.{◌≡◌, ◌≢◌, ◌≤◌, ◌⊎◌, IfErr, IfOk, IfSome, OnOk, option_and_then, option_map};
 ghost use Rattle.std.specs.Io.KnownBytes.{Appends};
 ghost use Rattle.rows.specs.declared.refusal.Refusal.TheVariants as refusals;
 ghost use Rattle.transcript.specs.Transcripts.{IsTranscript, record_of};
 ghost use Rattle.rows.specs.GroupSizes.{IsGroup};
+ghost use Rattle.ending.specs.Endings.{TellsEnding};
+ghost use Rattle.scenario_file.specs.declared.scenario.Scenario.{Scenario};
+ghost use Rattle.scenario_file.specs.Complaints.{IsGood, IsStepLine};
+ghost use Rattle.scenario_file.specs.Objects.{IsScenarioText, step_lines};
+ghost use Rattle.scenario_file.specs.Steps.{IsLine, Step as AnyStep, played_step};
 ghost use Rattle.runner.specs.declared.fault.Fault.TheVariants as faults;
-ghost use Rattle.runner.specs.declared.scenario.Scenario.{Scenario};
-ghost use Rattle.runner.specs.Complaints.{IsGood, IsStepLine};
-ghost use Rattle.runner.specs.Inner.Faults.{MayStopReading};
+ghost use Rattle.runner.specs.Inner.Faults.{IsOfRun, MayStopReading};
 ghost use Rattle.runner.specs.Inner.Files.{IsScenarioFile};
 ghost use Rattle.runner.specs.Inner.Plays.{IsNewPlay, MakesGroup};
-ghost use Rattle.runner.specs.Inner.Printed.{TellsSteps, refusal_line};
-ghost use Rattle.runner.specs.Objects.{IsScenarioText, step_lines};
-ghost use Rattle.runner.specs.Steps.{IsLine, Step as AnyStep, played_step};
+ghost use Rattle.runner.specs.Inner.Played.{TellsLines, TellsPlay, TellsSteps};
+ghost use Rattle.runner.specs.Told.{refusal_line};
 
-use crate::ending::print_end;
 use crate::fault::{Fault, said};
 use crate::play::Play;
-use crate::reading::scenario;
-use crate::scenario::Scenario;
 use crate::shelf::{Shelf, ShelfFault};
-use crate::step::{Step, is_step, read_step};
+use ending::print_end;
 use rows::Refusal;
+use scenario_file::reading::scenario;
+use scenario_file::scenario::Scenario;
+use scenario_file::step::{Step, is_step, read_step};
 use std::alloc::Global;
 use std::io::Write;
 use transcript::write;
@@ -29,8 +31,20 @@ use world::World;
 
 /// Where the steps of a scenario are taken.
 pub(crate) trait Stage {
+    ghost use Rattle.rows.specs.declared.refusal.Refusal.{Refusal};
+    ghost use Rattle.scenario_file.specs.Steps.{Step};
+
+    // What a step that is taken does.
+    ghost Takes: { Step → Self → Self → Type 0 };
+
+    // What one that is refused does.
+    ghost Refuses: { Step → Self → Refusal → Self → Type 0 };
+
     /// Takes a step, or says why it is refused.
-    fn take(&mut self, step: Step) -> Result<(), Refusal>;
+    fn take(&mut self, step: Step) -> Result<(), Refusal>
+        ensures taken { OnOk result (Takes (played_step step) self.old self.new) }
+        ensures refused { IfErr result (λ refusal. refusal ≢ refusals.NoMemory
+            → Refuses (played_step step) self.old refusal self.new) };
 }
 
 /// Plays a scenario: says each refused step at once, writes the transcript where one is asked for,
@@ -42,16 +56,14 @@ pub(crate) fn run_file<'a, F: Shelf, W: Write>(
     file: &'a str,
     transcript: Option<&'a str>,
 ) -> Result<u8, Fault<'a>>
-    ensures { IfOk result (λ status. status ≤ 1) }
+    ensures most { IfOk result (λ status. status ≤ 1) }
+    ensures of_run { IfErr result IsOfRun }
 {
     let scenario = load(alloc, shelf, file)?;
     check_steps(alloc, &scenario)?;
     let mut play = begin(alloc, &scenario)?;
     let status = play_steps(alloc, out, &mut play, &scenario)?;
-    if let Some(name) = transcript {
-        save(alloc, shelf, play.world(), name)?;
-    }
-    print_end(alloc, out, play.world())?;
+    end_run(alloc, shelf, out, play.world(), transcript)?;
     Ok(status)
 }
 
@@ -64,8 +76,11 @@ pub(crate) fn play_steps<'a, W: Write, S: Stage>(
 ) -> Result<u8, Fault<'a>>
     ensures most { IfOk result (λ status. status ≤ 1) }
     ensures quiet { IfOk result (λ status. status ≡ 0 → out.new ≡ out.old) }
-    ensures told { IfOk result (λ status. TellsSteps (step_lines scenario.now) status
+    ensures told { IfOk result (λ status. TellsLines S.Takes S.Refuses (step_lines scenario.now)
+        stage.old stage.new status (W.contents out.old) (W.contents out.new)) }
+    ensures some { IfOk result (λ status. TellsSteps (step_lines scenario.now) status
         (W.contents out.old) (W.contents out.new)) }
+    ensures of_run { IfErr result IsOfRun }
 {
     let mut status = 0;
     for line in &scenario.steps {
@@ -76,6 +91,27 @@ pub(crate) fn play_steps<'a, W: Write, S: Stage>(
         }
     }
     Ok(status)
+}
+
+/// Writes a group's transcript where one is asked for, and then says how the group stands.
+pub(crate) fn end_run<'a, F: Shelf, W: Write>(
+    alloc: Global,
+    shelf: &mut F,
+    out: &mut W,
+    world: &World,
+    transcript: Option<&'a str>,
+) -> Result<(), Fault<'a>>
+    ensures written { IfSome (option_and_then (F.file shelf.new)
+        (option_map (λ t. t.now) transcript.entry)) (λ known.
+        OnOk result (IsTranscript (record_of world.now) known)) }
+    ensures ending { OnOk result
+        (TellsEnding world.now (W.contents out.old) (W.contents out.new)) }
+    ensures of_run { IfErr result IsOfRun }
+{
+    if let Some(name) = transcript {
+        save(alloc, shelf, world, name)?;
+    }
+    Ok(print_end(alloc, out, world)?)
 }
 
 /// Writes a group's transcript.
@@ -89,6 +125,7 @@ pub(crate) fn save<'a, F: Shelf>(
         ⊎ (fault ≡ faults.CannotWrite name.entry)) }
     ensures written { IfSome (F.file shelf.new name.entry.now) (λ known.
         OnOk result (IsTranscript (record_of world.now) known)) }
+    ensures of_run { IfErr result IsOfRun }
 {
     let text = write(alloc, world)?;
     match shelf.write(name, text.as_slice()) {
@@ -104,6 +141,7 @@ pub(crate) fn load_bytes<'a, F: Shelf>(shelf: &mut F, file: &'a str) -> Result<V
         ⊎ (fault ≡ faults.CannotRead file.entry)) }
     ensures bytes { IfSome (F.file shelf.old file.entry.now) (λ known.
         IfOk result (λ bytes. bytes.items ≡ known)) }
+    ensures of_run { IfErr result IsOfRun }
 {
     match shelf.read(file) {
         Ok(bytes) => Ok(bytes),
@@ -121,6 +159,7 @@ pub(crate) fn load<'a, F: Shelf>(
     ensures size { IfOk result (λ scenario. IsGroup scenario.settings.servers) }
     ensures read { IfSome (F.file shelf.old file.entry.now) (λ known.
         IfOk result (IsScenarioText known)) }
+    ensures of_run { IfErr result IsOfRun }
 {
     let bytes = load_bytes(shelf, file)?;
     scenario_of_bytes(alloc, bytes.as_slice())
@@ -130,6 +169,7 @@ pub(crate) fn load<'a, F: Shelf>(
 fn scenario_of_bytes<'a>(alloc: Global, bytes: &[u8]) -> Result<Scenario, Fault<'a>>
     ensures ok { IfOk result (IsScenarioText bytes.now) }
     ensures fault { IfErr result (MayStopReading (IsScenarioFile bytes.now)) }
+    ensures of_run { IfErr result IsOfRun }
 {
     match std::str::from_utf8(bytes) {
         Ok(text) => scenario_of_text(alloc, text),
@@ -141,6 +181,7 @@ fn scenario_of_bytes<'a>(alloc: Global, bytes: &[u8]) -> Result<Scenario, Fault<
 fn scenario_of_text<'a>(alloc: Global, text: &str) -> Result<Scenario, Fault<'a>>
     ensures ok { IfOk result (IsScenarioText text.now) }
     ensures fault { IfErr result (MayStopReading ((s : Scenario) × IsScenarioText text.now s)) }
+    ensures of_run { IfErr result IsOfRun }
 {
     match scenario(alloc, text) {
         Ok(scenario) => Ok(scenario),
@@ -157,6 +198,7 @@ fn step_of<'a>(alloc: Global, line: &str) -> Result<Step, Fault<'a>>
     ensures read { (step : AnyStep) → IsLine step line.now
         → IfOk result (λ read. played_step read ≡ step) }
     ensures fault { IfErr result (MayStopReading (IsStepLine line.now)) }
+    ensures of_run { IfErr result IsOfRun }
 {
     match read_step(alloc, line)? {
         Some(step) => Ok(step),
@@ -169,6 +211,7 @@ fn step_of<'a>(alloc: Global, line: &str) -> Result<Step, Fault<'a>>
 pub(crate) fn check_steps<'a>(alloc: Global, scenario: &Scenario) -> Result<(), Fault<'a>>
     ensures good { OnOk result (IsGood scenario.now) }
     ensures fault { IfErr result (MayStopReading (IsGood scenario.now)) }
+    ensures of_run { IfErr result IsOfRun }
 {
     for line in &scenario.steps {
         if !is_step(alloc, line.as_str())? {
@@ -183,6 +226,7 @@ fn begin<'a>(alloc: Global, scenario: &Scenario) -> Result<Play, Fault<'a>>
     ensures ok { IfOk result (IsNewPlay scenario.now) }
     ensures fault { IfErr result (λ fault. (fault ≡ faults.NoMemory)
         ⊎ ((fault ≡ faults.BadScenario) × ¬ MakesGroup scenario.now)) }
+    ensures of_run { IfErr result IsOfRun }
 {
     match Play::new(alloc, scenario) {
         Ok(play) => Ok(play),
@@ -205,6 +249,7 @@ pub(crate) fn print_refusal<'a, W: Write>(
         → fault ≡ faults.NoMemory) }
     ensures output { IfErr result (λ fault. refusal ≢ refusals.NoMemory
         → fault ≡ faults.Output) }
+    ensures of_run { IfErr result IsOfRun }
 {
     if matches!(refusal, Refusal::NoMemory) {
         return Err(Fault::NoMemory);

@@ -1,18 +1,27 @@
 //! A scenario's file, played on threads.
-ghost use Rattle.std.specs.Prelude.{◌≡◌, ◌≢◌, ◌≤◌, IfOk, OnOk, length};
+ghost use Rattle.std.specs.Prelude.{◌≡◌, ◌≢◌, ◌≤◌, IfErr, IfNone, IfOk, IfSome, OnOk, length, option_and_then, option_map};
 ghost use Rattle.std.specs.Io.KnownBytes.{Appends};
+ghost use Rattle.cells.specs.Actors.{group_size, own_event};
+ghost use Rattle.world.specs.GroupEvents.{group_event};
 ghost use Rattle.world.specs.GroupView.{nodes_of, renumbered};
 ghost use Rattle.runner.specs.Inner.Printed.{lost_line};
+ghost use Rattle.runner.specs.Inner.Faults.{IsOfRun};
+ghost use Rattle.runner.specs.Inner.Played.{TellsSteps};
+ghost use Rattle.runner.specs.Inner.ThreadSteps.{IsDelivery, RefusedOnThreads, TakenOnThreads};
+ghost use Rattle.runner.specs.Told.{TellsScenario};
+ghost use Rattle.scenario_file.specs.Objects.{step_lines};
+ghost use Rattle.scenario_file.specs.Steps.{AnEvent};
 
-use crate::ending::print_end;
 use crate::fault::Fault;
-use crate::running::{Stage, check_steps, load, play_steps, save};
-use crate::scenario::Scenario;
+use crate::running::{Stage, check_steps, end_run, load, play_steps};
 use crate::shelf::Shelf;
-use crate::step::Step;
-use cluster::{Cells, NetSettings, OpenGate, OwnInput, RunningGroup, cells_of, close, start, stop};
+use cells::{Cells, OwnInput, cells_of};
+use closing::close;
 use event_book::{BookId, OpenedBook};
+use group_threads::{NetSettings, OpenGate, RunningGroup, start, stop};
 use rows::{Actor, ClientId, NoMemory, Refusal, ServerId};
+use scenario_file::scenario::Scenario;
+use scenario_file::step::Step;
 use std::alloc::Global;
 use std::io;
 use std::io::Write;
@@ -45,7 +54,8 @@ where
     W: Write,
     E: Write,
     R: Threads + Wait + Copy + Send + 'static,
-    ensures { IfOk result (λ status. status ≤ 1) }
+    ensures most { IfOk result (λ status. status ≤ 1) }
+    ensures of_run { IfErr result IsOfRun }
 {
     let scenario = load(alloc, shelf, file)?;
     check_steps(alloc, &scenario)?;
@@ -53,10 +63,7 @@ where
     let (status, world) = play_threads::<Brand, _, _, _>(
         rt, alloc, out, err, &scenario, workers, book,
     )?;
-    if let Some(name) = transcript {
-        save(alloc, shelf, &world, name)?;
-    }
-    print_end(alloc, out, &world)?;
+    end_run(alloc, shelf, out, &world, transcript)?;
     Ok(status)
 }
 
@@ -68,6 +75,11 @@ struct OnThreads<B: BookId, R> {
 }
 
 impl<B: BookId, R: Wait> Stage for OnThreads<B, R> {
+    ghost Takes = { λ step old new. TakenOnThreads (group_size B.actors) step };
+
+    ghost Refuses = { λ step old refusal new.
+        RefusedOnThreads (group_size B.actors) old.group.value.cells.actors step refusal };
+
     // Workers run by themselves, and messages come by themselves.
     fn take(&mut self, step: Step) -> Result<(), Refusal> {
         match step {
@@ -82,31 +94,27 @@ impl<B: BookId, R: Wait> Stage for OnThreads<B, R> {
 }
 
 impl<B: BookId, R: Wait> OnThreads<B, R> {
-    fn event(&self, event: Event) -> Result<(), Refusal> {
-        let Some(actor) = actor_of(&event) else {
-            return Ok(());
-        };
-        match input_handed(event) {
-            Some(input) => self.group.hand(&self.rt, actor, input),
+    fn event(&self, event: Event) -> Result<(), Refusal>
+        ensures taken { OnOk result
+            (TakenOnThreads (group_size B.actors) (AnEvent (group_event event))) }
+        ensures refused { IfErr result (RefusedOnThreads (group_size B.actors)
+            self.now.group.value.cells.actors (AnEvent (group_event event))) }
+    {
+        match handed(event) {
+            Some((actor, input)) => self.group.hand(&self.rt, actor, input),
             None => Ok(()),
         }
     }
 }
 
-// The actor that takes an event of its own; none of a delivery.
-fn actor_of(event: &Event) -> Option<Actor> {
+// What an event hands to its actor; nothing where it is the delivery of a message.
+fn handed(event: Event) -> Option<(Actor, OwnInput)>
+    ensures some { IfSome result (λ handed. own_event handed.0 handed.1 ≡ group_event event) }
+    ensures none { IfNone result (IsDelivery (group_event event)) }
+{
     match event {
-        Event::Server(server, _) => Some(Actor::Server(*server)),
-        Event::Client(client, _) => Some(Actor::Client(*client)),
-        Event::Deliver(_) => None,
-    }
-}
-
-// The input that an event hands to its actor; none of a delivery.
-fn input_handed(event: Event) -> Option<OwnInput> {
-    match event {
-        Event::Server(_, input) => Some(OwnInput::Server(input)),
-        Event::Client(_, input) => Some(OwnInput::Client(input)),
+        Event::Server(server, input) => Some((Actor::Server(server), OwnInput::Server(input))),
+        Event::Client(client, input) => Some((Actor::Client(client), OwnInput::Client(input))),
         Event::Deliver(_) => None,
     }
 }
@@ -129,7 +137,9 @@ fn opened(alloc: Global, scenario: &Scenario) -> Result<OpenedBook<OwnInput>, Re
     OpenedBook::new(alloc, actors(alloc, scenario)?)
 }
 
-fn open_book<'a>(alloc: Global, scenario: &Scenario) -> Result<OpenedBook<OwnInput>, Fault<'a>> {
+fn open_book<'a>(alloc: Global, scenario: &Scenario) -> Result<OpenedBook<OwnInput>, Fault<'a>>
+    ensures of_run { IfErr result IsOfRun }
+{
     match opened(alloc, scenario) {
         Ok(book) => Ok(book),
         // A group of a scenario's size has a book, unless there is no memory.
@@ -191,8 +201,11 @@ where
     requires book { opened ≡ (B.table, B.actors) }
     requires nodes { scenario.now.nodes.items ≡ B.nodes }
     ensures status { IfOk result (λ played. played.0 ≤ 1) }
+    ensures told { IfOk result (λ played. TellsSteps (step_lines scenario.now) played.0
+        (W.contents out.old) (W.contents out.new)) }
     ensures nodes { IfOk result (λ played.
         nodes_of played.1 ≡ renumbered 1 scenario.now.nodes.items) }
+    ensures of_run { IfErr result IsOfRun }
 {
     let group = match group::<B>(alloc, scenario, opened) {
         Ok(group) => group,

@@ -1,10 +1,14 @@
 -- What stops and places change of the nodes' loads.
 use Rattle.std.proofs.Common.{◌≡◌, ℕ, ◌+◌, ◌-◌, ◌≤◌, Bool, true, false, cond, ◌||◌, T, List, [], ◌∷◌, ◌++◌, map, Option, Some, None, refl, sym, ap, subst, ◌∙◌, arith}
-use Rattle.std.specs.Prelude.{sum_by, nat_eq}
+use Rattle.std.specs.Prelude.{sum_by, nat_eq, min, ◌^◌}
 use Rattle.std.specs.List.{list_any}
 use Rattle.std.proofs.lemmas.List.{append-nil, map-append}
 use Rattle.std.proofs.lemmas.List.Folds.{list_any-append}
 use Rattle.std.proofs.lemmas.List.Sums.{sum_by-cons, sum_by-append}
+use Rattle.rows.specs.declared.size.Size.{Size}
+use Rattle.rows.specs.Sizes.{Part, amount, less, plus_within}
+use Rattle.rows.proofs.SizeLaws.{amount_by, size_by, amount_of_less}
+use Rattle.fsm_tables.proofs.Uses.{use_is}
 use Rattle.rows.specs.declared.node.Node.{Node}
 use Rattle.rows.specs.declared.allocation.AllocId.{AllocId}
 use Rattle.rows.specs.declared.allocation.Allocation.{Allocation}
@@ -26,7 +30,7 @@ use Rattle.fsm_state.proofs.Alone.{ended_sum, gone_sum}
 use Rattle.group_model.specs.Acceptance.{claim_at, place_claims}
 use Rattle.group_model.specs.Scheduling.{PlanPart, with_stop, claimed_by}
 use Rattle.scheduler.specs.declared.load.Load.{Load}
-use Rattle.scheduler.specs.Inner.Loads.{load_of, less, with_load, sum_within}
+use Rattle.scheduler.specs.Inner.Loads.{load_of, load_less, with_load}
 use Rattle.scheduler.specs.Inner.Growing.{fresh, IsLiveRow}
 
 -- ---- one more stop
@@ -78,19 +82,15 @@ module _ (w : Claim → ℕ) (rows : List Allocation) (rising : T (is_rising all
 
 -- ---- loads once one more stops
 
-abbrev loaded : Node → ℕ → ℕ → Load
-loaded n cpu mem = record { node = n; cpu = cpu; mem = mem }
+abbrev loaded : Node → Size → Load
+loaded n z = record { node = n; used = z }
 
-same_loads : (n : Node) (c d e f : ℕ) → c ≡ d → e ≡ f → loaded n c e ≡ loaded n d f
-same_loads n c d e f g h = λ i. loaded n (g i) (h i)
-
-less_share : (a : Allocation) (n : Node) (c d e f : ℕ) → d + cond (nat_eq a.node n.number) a.size.cpu 0 ≡ c → f + cond (nat_eq a.node n.number) a.size.mem 0 ≡ e
-    → less (Some a) (loaded n c e) ≡ loaded n d f
-less_share a n c d e f =
-    elim (nat_eq a.node n.number) as (λ b. d + cond b a.size.cpu 0 ≡ c → f + cond b a.size.mem 0 ≡ e
-    → cond b (loaded n (c - a.size.cpu) (e - a.size.mem)) (loaded n c e) ≡ loaded n d f) [
-      | true ↦ λ g h. same_loads n (c - a.size.cpu) d (e - a.size.mem) f (omega (arith, g)) (omega (arith, h))
-      | false ↦ λ g h. same_loads n c d e f (omega (arith, g)) (omega (arith, h))
+less_share : (a : Allocation) (n : Node) (y z : Size) → ((q : Part) → amount q z + cond (nat_eq a.node n.number) (amount q a.size) 0 ≡ amount q y)
+    → load_less (Some a) (loaded n y) ≡ loaded n z
+less_share a n y z =
+    elim (nat_eq a.node n.number) as (λ b. ((q : Part) → amount q z + cond b (amount q a.size) 0 ≡ amount q y) → cond b (loaded n (less y a.size)) (loaded n y) ≡ loaded n z) [
+      | true ↦ λ h. ap (loaded n) (size_by (less y a.size) z (λ q. let all = h q in let rest = amount_of_less q y a.size in omega (arith, all, rest)))
+      | false ↦ λ h. ap (loaded n) (size_by y z (λ q. let all = h q in omega (arith, all)))
     ]
 
 module _ (s : State) (job : List ℕ) (p : PlanPart) where
@@ -103,23 +103,23 @@ module _ (s : State) (job : List ℕ) (p : PlanPart) where
       omega (arith, one, new, old)
 
   less_one : (a : Allocation) (n : Node) → T (is_rising alloc_cmp alloc_id s.allocs) → IsLiveRow s a
-      → less (fresh p.stops (Some a)) (load_of (claimed_by s job p) n) ≡ load_of (claimed_by s job (with_stop (Some a) p)) n
+      → load_less (fresh p.stops (Some a)) (load_of (claimed_by s job p) n) ≡ load_of (claimed_by s job (with_stop (Some a) p)) n
   less_one a n rising live =
       let old = claimed_by s job p in
       let new = claimed_by s job (with_stop (Some a) p) in
-      elim (list_any (same_alloc a.id) p.stops) as (λ b.
-      (used n.number new).cpu + cond b 0 (on_node n.number (λ z. z.cpu) (claim_of a)) ≡ (used n.number old).cpu
-      → (used n.number new).mem + cond b 0 (on_node n.number (λ z. z.mem) (claim_of a)) ≡ (used n.number old).mem
-      → less (cond b None (Some a)) (load_of old n) ≡ load_of new n) [
-        | true ↦ λ g h. same_loads n _ _ _ _ (omega (arith, g)) (omega (arith, h))
-        | false ↦ λ g h. less_share a n _ _ _ _ g h
-      ] (stops_of (on_node n.number (λ z. z.cpu)) a rising live) (stops_of (on_node n.number (λ z. z.mem)) a rising live)
+      elim (list_any (same_alloc a.id) p.stops) as (λ b. ((q : Part) → amount q (used n.number new) + cond b 0 (on_node n.number q (claim_of a)) ≡ amount q (used n.number old))
+      → load_less (cond b None (Some a)) (load_of old n) ≡ load_of new n) [
+        | true ↦ λ h. ap (loaded n) (size_by (used n.number old) (used n.number new) (λ q. let all = h q in omega (arith, all)))
+        | false ↦ λ h. less_share a n (used n.number old) (used n.number new) h
+      ] (λ q.
+      ap (λ (m : ℕ). m + cond (list_any (same_alloc a.id) p.stops) 0 (on_node n.number q (claim_of a))) (use_is q n.number new)
+      ∙ stops_of (on_node n.number q) a rising live ∙ sym (use_is q n.number old))
 
   pub loads_less : (o : Option Allocation) (ns : List Node) → T (is_rising alloc_cmp alloc_id s.allocs) → ((a : Allocation) → o ≡ Some a → IsLiveRow s a)
-      → map (less (fresh p.stops o)) (map (load_of (claimed_by s job p)) ns) ≡ map (load_of (claimed_by s job (with_stop o p))) ns
-  loads_less None ns rising live = maps (less None) (load_of (claimed_by s job p)) ns
+      → map (load_less (fresh p.stops o)) (map (load_of (claimed_by s job p)) ns) ≡ map (load_of (claimed_by s job (with_stop o p))) ns
+  loads_less None ns rising live = maps (load_less None) (load_of (claimed_by s job p)) ns
   loads_less (Some a) ns rising live =
-      maps (less (fresh p.stops (Some a))) (load_of (claimed_by s job p)) ns
+      maps (load_less (fresh p.stops (Some a))) (load_of (claimed_by s job p)) ns
       ∙ (λ i. map (λ n. less_one a n rising (live a refl) i) ns)
 
   -- ---- loads once one more is placed
@@ -134,35 +134,37 @@ module _ (s : State) (job : List ℕ) (p : PlanPart) where
       let one = sum_by-cons w (claim_at job k) [] in
       omega (arith, new, old, with_load, one)
 
-least : (a b : ℕ) → a + b ≤ 1000000 → sum_within a b ≡ a + b
+least : (a b : ℕ) → a + b ≤ 1000000 → min (a + b) (2 ^ 64 - 1) ≡ a + b
 least a b le = grind arith
 
 number_of : (a b : ℕ) → nat_eq a b ≡ true → a ≡ b
 number_of a b e = grind arith
 
 -- what the place takes keeps its node within a room
-pub record HasRoomFor (cs : List Claim) (k : AcceptedPlace) : Type 0 where
-  pub cpu : (used k.node cs).cpu + k.size.cpu ≤ 1000000
-  pub mem : (used k.node cs).mem + k.size.mem ≤ 1000000
+abbrev pub HasRoomFor : List Claim → AcceptedPlace → Type 0
+HasRoomFor cs k = (q : Part) → amount q (used k.node cs) + amount q k.size ≤ 1000000
 
-more_share : (k : AcceptedPlace) (cs : List Claim) (n : Node) (d f : ℕ) → HasRoomFor cs k → d ≡ (used n.number cs).cpu + cond (nat_eq k.node n.number) k.size.cpu 0 → f ≡ (used n.number cs).mem + cond (nat_eq k.node n.number) k.size.mem 0
-    → with_load k (load_of cs n) ≡ loaded n d f
-more_share k cs n d f room =
-    elim (nat_eq k.node n.number) as (λ b. nat_eq k.node n.number ≡ b → d ≡ (used n.number cs).cpu + cond b k.size.cpu 0 → f ≡ (used n.number cs).mem + cond b k.size.mem 0
-    → cond b (loaded n (sum_within (used n.number cs).cpu k.size.cpu) (sum_within (used n.number cs).mem k.size.mem)) (load_of cs n) ≡ loaded n d f) [
-      | true ↦ λ e g h.
+more_share : (k : AcceptedPlace) (cs : List Claim) (n : Node) (z : Size) → HasRoomFor cs k → ((q : Part) → amount q z ≡ amount q (used n.number cs) + cond (nat_eq k.node n.number) (amount q k.size) 0)
+    → with_load k (load_of cs n) ≡ loaded n z
+more_share k cs n z room =
+    let taken = used n.number cs in
+    elim (nat_eq k.node n.number) as (λ b. nat_eq k.node n.number ≡ b → ((q : Part) → amount q z ≡ amount q taken + cond b (amount q k.size) 0) → cond b (loaded n (plus_within taken k.size)) (loaded n taken) ≡ loaded n z) [
+      | true ↦ λ e h.
           let here = number_of k.node n.number e in
-          same_loads n _ d _ f
-          (least (used n.number cs).cpu k.size.cpu (subst (λ m. (used m cs).cpu + k.size.cpu ≤ 1000000) here room.cpu) ∙ sym g)
-          (least (used n.number cs).mem k.size.mem (subst (λ m. (used m cs).mem + k.size.mem ≤ 1000000) here room.mem) ∙ sym h)
-      | false ↦ λ e g h. same_loads n _ d _ f (omega (arith, g)) (omega (arith, h))
+          ap (loaded n) (size_by (plus_within taken k.size) z (λ q.
+          amount_by q (λ r. min (amount r taken + amount r k.size) (2 ^ 64 - 1))
+          ∙ least (amount q taken) (amount q k.size) (subst (λ m. amount q (used m cs) + amount q k.size ≤ 1000000) here (room q)) ∙ sym (h q)))
+      | false ↦ λ e h. ap (loaded n) (size_by taken z (λ q. let all = h q in omega (arith, all)))
     ] refl
 
 pub loads_more : (s : State) (job : List ℕ) (p : PlanPart) (k : AcceptedPlace) (ns : List Node) → HasRoomFor (claimed_by s job p) k
     → map (with_load k) (map (load_of (claimed_by s job p)) ns) ≡ map (load_of (claimed_by s job (record p { places = p.places ++ k ∷ [] }))) ns
 loads_more s job p k ns room =
-    maps (with_load k) (load_of (claimed_by s job p)) ns
-    ∙ (λ i. map (λ n. more_share k (claimed_by s job p) n _ _ room (places_of s job p (on_node n.number (λ z. z.cpu)) k) (places_of s job p (on_node n.number (λ z. z.mem)) k) i) ns)
+    let old = claimed_by s job p in
+    let new = claimed_by s job (record p { places = p.places ++ k ∷ [] }) in
+    maps (with_load k) (load_of old) ns
+    ∙ (λ i. map (λ n. more_share k old n (used n.number new) room (λ q.
+    use_is q n.number new ∙ places_of s job p (on_node n.number q) k ∙ ap (λ (m : ℕ). m + on_node n.number q (claim_at job k)) (sym (use_is q n.number old))) i) ns)
 
 -- ---- without a plan
 

@@ -1,7 +1,7 @@
 //! A plan that grows: its stops and places so far, and how full the nodes are with them.
 ghost use Rattle.std.specs.Prelude.{◌≡◌, ◌++◌, ◌∷◌, [], IfOk, OnOk, map, option_map};
 ghost use Rattle.group_model.specs.Scheduling.{is_full, with_stop, first_part, IsNext, GoesOn};
-ghost use Rattle.scheduler.specs.Inner.Loads.{less, with_load};
+ghost use Rattle.scheduler.specs.Inner.Loads.{load_less, with_load};
 ghost use Rattle.scheduler.specs.Inner.Growing.{part_of, fresh, first_unwanted, AreLoads, AreLiveRows};
 
 use crate::load::{Load, best, loads_of, put_on, take_off};
@@ -46,7 +46,7 @@ fn stop(plan: &mut Growing, row: Option<&Allocation>) -> Result<(), NoMemory>
     ensures part { let a = option_map (λ r. r.now) row.entry in
         OnOk result (part_of plan.new ≡ with_stop a (part_of plan.old)) }
     ensures loads { let a = option_map (λ r. r.now) row.entry in
-        let off = less (fresh plan.old.stops a) in
+        let off = load_less (fresh plan.old.stops a) in
         OnOk result (plan.new.loads.items ≡ map off plan.old.loads.items) }
 {
     let gone = fresh(plan.stops.as_slice(), row);

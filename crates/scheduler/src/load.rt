@@ -1,23 +1,23 @@
 //! How full the nodes are, and which is the best for one more allocation.
-ghost use Rattle.std.specs.Prelude.{◌≡◌, ◌+◌, ◌≤◌, ◌<◌, false, true, map, option_map};
+ghost use Rattle.std.specs.Prelude.{◌≡◌, ◌≤◌, false, true, map, option_map};
 ghost use Rattle.std.specs.Prelude.{IfOk, IfNone, IfSome};
+ghost use Rattle.rows.specs.Fits.{SizeFits};
+ghost use Rattle.rows.specs.Sizes.{plus, fits};
 ghost use Rattle.fsm_tables.specs.Claims.{claims};
 ghost use Rattle.group_model.specs.Scheduling.{fullness};
-ghost use Rattle.scheduler.specs.Inner.Loads.{load_of, less, with_load, takes_one_of, fullness_on, IsBestOf};
+ghost use Rattle.scheduler.specs.Inner.Loads.{load_of, load_less, with_load, takes_one_of, fullness_on, IsBestOf};
 
 use fsm_state::{Cluster, may_hold};
-use rows::{AcceptedPlace, Allocation, Group, NoMemory, Node, Ranged, Size};
+use rows::{AcceptedPlace, Allocation, Group, NoMemory, Node, Size, Usage};
 use std::alloc::Global;
 
-/// A node, and what is in use of it: sums of processor time in MHz and of memory in MB.
+/// A node, and what is in use of it.
 #[derive(Clone, Copy)]
 pub(crate) struct Load {
     /// The node's row.
     pub node: Node,
-    /// Processor time, in MHz.
-    pub cpu: u64,
-    /// Memory, in MB.
-    pub mem: u64,
+    /// What is in use of it.
+    pub used: Usage,
 }
 
 /// What is in use of each node of a state, in rising number.
@@ -28,23 +28,24 @@ pub(crate) fn loads_of(alloc: Global, state: &Cluster) -> Result<Vec<Load>, NoMe
     let mut loads = Vec::new(alloc);
     let nodes = state.node_table().rows();
     for node in nodes {
-        let used = state.used(node.number);
         loads.push(Load {
             node: *node,
-            cpu: used.cpu,
-            mem: used.mem,
+            used: state.used(node.number),
         })?;
     }
     Ok(loads)
 }
 
-/// What is in use of a room with some more; none where that is past the room.
-fn filled(used: u64, more: u64, room: u64) -> Option<u64>
-    ensures some { IfSome result (λ n. (n ≡ used + more) × (n ≤ room)) }
-    ensures none { IfNone result (room < used + more) }
+/// What is in use of a node with some more; none where that is past the node's size.
+fn filled(used: Usage, more: Size, size: Size) -> Option<Usage>
+    ensures some { IfSome result (λ u. (u ≡ plus used more) × (fits (plus used more) size ≡ true)
+        × SizeFits size) }
+    ensures none { IfNone result (fits (plus used more) size ≡ false) }
 {
-    if more <= room && used <= room - more {
-        Some(used + more)
+    let more = Usage::of(more);
+    let room = Usage::of(size);
+    if Usage::is_enough(room, used, more, Usage::NONE) {
+        Some(used.add(more))
     } else {
         None
     }
@@ -52,23 +53,22 @@ fn filled(used: u64, more: u64, room: u64) -> Option<u64>
 
 /// How full a node of a size is with so much of it in use, in thousandths of its processor time and
 /// of its memory together.
-fn fullness(cpu: u64, mem: u64, size: &Size) -> u64
-    requires { (cpu ≤ 1000000) × (mem ≤ 1000000) }
-    ensures { result ≡ fullness (record { cpu = cpu; mem = mem }) size.now }
+fn fullness(used: Usage, size: &Size) -> u64
+    requires { (used.cpu ≤ 1000000) × (used.mem ≤ 1000000) }
+    ensures { result ≡ fullness used size.now }
 {
-    1000 * cpu / size.cpu.get() as u64 + 1000 * mem / size.mem.get() as u64
+    1000 * used.cpu() / size.cpu.get() as u64 + 1000 * used.mem() / size.mem.get() as u64
 }
 
 impl Load {
     /// What is in use without what an allocation takes, if there is one.
     fn less(&self, row: Option<&Allocation>) -> Load
-        ensures { result ≡ less (option_map (λ r. r.now) row.entry) self.now }
+        ensures { result ≡ load_less (option_map (λ r. r.now) row.entry) self.now }
     {
         match row {
             Some(row) if row.node == self.node.number => Load {
                 node: self.node,
-                cpu: self.cpu.saturating_sub(row.size.cpu.get() as u64),
-                mem: self.mem.saturating_sub(row.size.mem.get() as u64),
+                used: self.used.take(Usage::of(row.size)),
             },
             _ => *self,
         }
@@ -81,8 +81,7 @@ impl Load {
         if place.node == self.node.number {
             Load {
                 node: self.node,
-                cpu: self.cpu.saturating_add(place.size.cpu.get() as u64),
-                mem: self.mem.saturating_add(place.size.mem.get() as u64),
+                used: self.used.saturating_add(Usage::of(place.size)),
             }
         } else {
             *self
@@ -95,21 +94,12 @@ impl Load {
             × (n ≡ fullness_on group.now self.now)) }
         ensures none { IfNone result (takes_one_of group.now self.now ≡ false) }
     {
-        self.node.ranges();
         if !may_hold(group, &self.node) {
             return None;
         }
-        let size = &self.node.size;
-        match filled(self.cpu, group.size.cpu.get() as u64, size.cpu.get() as u64) {
+        match filled(self.used, group.size, self.node.size) {
             None => None,
-            Some(cpu) => match filled(
-                self.mem,
-                group.size.mem.get() as u64,
-                size.mem.get() as u64,
-            ) {
-                None => None,
-                Some(mem) => Some(fullness(cpu, mem, size)),
-            },
+            Some(used) => Some(fullness(used, &self.node.size)),
         }
     }
 }
@@ -117,9 +107,9 @@ impl Load {
 /// How full a node is with one more of a group, once an allocation is gone; none where it does not
 /// take it.
 fn fullness_without(load: &Load, gone: Option<&Allocation>, group: &Group) -> Option<u64>
-    ensures some { let l = less (option_map (λ r. r.now) gone.entry) load.now in
+    ensures some { let l = load_less (option_map (λ r. r.now) gone.entry) load.now in
         IfSome result (λ n. (takes_one_of group.now l ≡ true) × (n ≡ fullness_on group.now l)) }
-    ensures none { let l = less (option_map (λ r. r.now) gone.entry) load.now in
+    ensures none { let l = load_less (option_map (λ r. r.now) gone.entry) load.now in
         IfNone result (takes_one_of group.now l ≡ false) }
 {
     load.less(gone).fullness_with(group)
@@ -129,7 +119,7 @@ fn fullness_without(load: &Load, gone: Option<&Allocation>, group: &Group) -> Op
 /// first, once an allocation is gone.
 pub(crate) fn best(loads: &[Load], group: &Group, gone: Option<&Allocation>) -> Option<usize>
     ensures { let row = option_map (λ r. r.now) gone.entry in
-        IsBestOf (less row) group.now loads.now result }
+        IsBestOf (load_less row) group.now loads.now result }
 {
     let mut is_found = false;
     let mut best = 0;
@@ -150,7 +140,7 @@ pub(crate) fn best(loads: &[Load], group: &Group, gone: Option<&Allocation>) -> 
 
 /// Takes off what an allocation takes, if there is one.
 pub(crate) fn take_off(loads: &mut [Load], row: Option<&Allocation>)
-    ensures { loads.new ≡ map (less (option_map (λ r. r.now) row.entry)) loads.old }
+    ensures { loads.new ≡ map (load_less (option_map (λ r. r.now) row.entry)) loads.old }
 {
     for load in loads.iter_mut() {
         *load = load.less(row);

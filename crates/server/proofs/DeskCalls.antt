@@ -1,8 +1,9 @@
 -- What the calls of a desk answer and leave, where it is open, and that it stays the leader's.
 use Rattle.std.proofs.Common.{◌≡◌, ◌≢◌, ◌⊎◌, inl, inr, ℕ, Bool, true, false, cond, Option, Some, None, Result, Ok, Err, refl, sym, subst, ap, ◌∙◌}
-use Rattle.std.specs.Prelude.{IfSome, IfOk, OnErr, is_some}
+use Rattle.std.specs.Prelude.{IfSome, is_some}
 use Rattle.rows.specs.declared.evaluation.EvalId.{EvalId}
 use Rattle.rows.specs.declared.token.Token.{Token}
+use Rattle.rows.specs.declared.plan.Plan.{Plan}
 use Rattle.rows.specs.declared.command.Command.{Command}
 use Rattle.rows.specs.declared.refusal.Refusal.{Refusal}
 use Rattle.rows.specs.declared.refusal.Refusal.TheVariants as refusals
@@ -10,12 +11,20 @@ use Rattle.cluster_model.specs.Words.{State}
 use Rattle.group_model.specs.Brokers.{Given, Nothing, UsedUp, Gives, deliver, outstanding, is_outstanding, with_ack, with_nack}
 use Rattle.group_model.specs.Expiry.{BeatCount, beat_count_of}
 use Rattle.group_model.specs.BeatCounts.{beat_heard_of}
-use Rattle.group_model.specs.Desks.{applied_state}
-use Rattle.raft_core.specs.RaftView.{RaftView}
-use Rattle.leader.specs.OpenDesks.{OpenDesk, IsOverBlocked, LacksMemory, Answered, leaves_open, at_open, with_broker, once_given, once_outstanding, once_heard, on_deliver, on_ack, on_nack, on_lapse, on_beat}
+use Rattle.group_model.specs.Order.{Picked}
+use Rattle.group_model.specs.Plans.{submitted}
+use Rattle.group_model.specs.Queues.{first_plan}
+use Rattle.group_model.specs.Desks.{Desk, QueuedPlan, applied_state}
+use Rattle.group_model.specs.Members.{Member, open_desk}
+use Rattle.raft_model.specs.Servers.{Server, is_leader}
+use Rattle.raft_core.specs.RaftView.{SameServer}
+use Rattle.leader.specs.OpenDesks.{OpenDesk, IsOverBlocked, LacksMemory, Answered, leaves_open, at_open, with_broker, once_given, once_outstanding, once_heard, once_submitted, on_deliver, on_ack, on_nack, on_lapse, on_submit, on_beat}
+use Rattle.leader.specs.Verdicts.{once_picked, on_plan_turn}
 use Rattle.leader.specs.Staying.{IsOver}
-use Rattle.leader.proofs.Staying.{deliver_stays, ack_stays, nack_stays, lapse_stays, beat_stays}
-use Rattle.server.specs.ServerViews.{IsOfLeader, group_desk}
+use Rattle.leader.proofs.Staying.{deliver_stays, ack_stays, nack_stays, lapse_stays, beat_stays, submit_stays, plan_turn_stays}
+use Rattle.server.specs.ServerViews.{ServerView, IsMember, IsOfLeader, group_desk}
+use Rattle.server.specs.Refusals.{HasOpenDesk}
+use Rattle.server.proofs.Members.{same_server, desk_at, open_at}
 
 -- an open desk, by the group's
 pub open_of : (d : Option OpenDesk) → is_some (group_desk d) ≡ true → (o : OpenDesk) × (d ≡ Some o)
@@ -73,19 +82,48 @@ not_lacking (Some o) e other (inl l) = absurd (other l)
 abbrev pub Keeps : {A : Type 0} → (OpenDesk → Answered A) → Type 0
 Keeps {A} call = (s : State) (o : OpenDesk) (a : A) (new : OpenDesk) → IsOver s o → call o ≡ Ok (a, new) → IsOver s new × (new.term ≡ o.term)
 
-module _ {A : Type 0} (call : OpenDesk → Answered A) (keeps : Keeps call) (raft : RaftView Command) where
-  -- an open desk stays the leader's
-  pub stays_leaders : (old : Option OpenDesk) (a : A) (new : Option OpenDesk) → at_open call old ≡ Ok (a, new) → IfSome old (IsOfLeader raft) → IfSome new (IsOfLeader raft)
-  stays_leaders old a new h inv =
-      let k = called call old a new h in
-      let of : IsOfLeader raft k.before = rw k.was at inv in
-      let left = keeps (applied_state raft.server) k.before a k.after of.over k.answers in
-      rw k.is (record { leads = of.leads; term = left.1 ∙ of.term; over = left.0 })
+-- A call that an open desk took, of a leader that a value is: the desk stays the leader's.
+pub record Moves {A : Type 0} (call : OpenDesk → Answered A) (s : Member) (a : A) (new : ServerView) : Type 0 where
+  pub before : OpenDesk
+  pub after : OpenDesk
+  pub was : s.desk ≡ Some before.desk
+  pub is_open : open_desk s ≡ Ok before.desk
+  pub of : IsOfLeader s.raft before
+  pub answers : call before ≡ Ok (a, after)
+  pub member : IsMember new (record s { desk = Some after.desk })
 
--- whether it was refused or not
-pub still_leaders : {A E : Type 0} (call : OpenDesk → Answered A) → Keeps call → (raft : RaftView Command) (old new : Option OpenDesk) (r : Result A E) → IfOk r (λ (a : A). at_open call old ≡ Ok (a, new)) → OnErr r (new ≡ old) → IfSome old (IsOfLeader raft) → IfSome new (IsOfLeader raft)
-still_leaders call keeps raft old new (Ok a) ok err inv = stays_leaders call keeps raft old a new ok inv
-still_leaders call keeps raft old new (Err e) ok err inv = subst (λ (d : Option OpenDesk). IfSome d (IsOfLeader raft)) (sym err) inv
+module _ {A : Type 0} (call : OpenDesk → Answered A) (keeps : Keeps call) (s : Member) where
+  pub moves : (old new : ServerView) (a : A) → is_leader s.raft.mode ≡ true → IsMember old s → SameServer old.raft new.raft → at_open call old.desk ≡ Ok (a, new.desk) → Moves call s a new
+  moves old new a leads is same h =
+      let k = called call old.desk a new.desk h in
+      let of : IsOfLeader s.raft k.before = subst (λ (d : Option OpenDesk). IfSome d (IsOfLeader s.raft)) k.was is.led in
+      let left = keeps (applied_state s.raft) k.before a k.after of.over k.answers in
+      let led : IsOfLeader s.raft k.after = record { leads = of.leads; term = left.1 ∙ of.term; over = left.0 } in
+      record {
+        before = k.before;
+        after = k.after;
+        was = desk_at old s is k.before k.was;
+        is_open = open_at old s is k.before leads k.was;
+        of = of;
+        answers = k.answers;
+        member = record {
+          raft = same_server old.raft new.raft s.raft same is.raft;
+          desk = ap group_desk k.is;
+          led = subst (λ (d : Option OpenDesk). IfSome d (IsOfLeader s.raft)) (sym k.is) led;
+        };
+      }
+
+-- and one that it refused
+pub record Holds {A : Type 0} (call : OpenDesk → Answered A) (s : Member) (e : Refusal) : Type 0 where
+  pub desk : OpenDesk
+  pub was : s.desk ≡ Some desk.desk
+  pub is_open : open_desk s ≡ Ok desk.desk
+  pub answers : call desk ≡ Err e
+
+pub holds : {A : Type 0} (call : OpenDesk → Answered A) (s : Member) (old : ServerView) (e : Refusal) → HasOpenDesk s → IsMember old s → at_open call old.desk ≡ Err e → Holds call s e
+holds call s old e h is refuses =
+    let o = open_of old.desk (subst (λ (d : Option Desk). is_some d ≡ true) (sym is.desk) h.is_open) in
+    record { desk = o.0; was = desk_at old s is o.0 o.1; is_open = open_at old s is o.0 h.leads o.1; answers = refused call old.desk o.0 e o.1 refuses }
 
 term_kept : {A : Type 0} (call : OpenDesk → Answered A) (o : OpenDesk) (a : A) (new : OpenDesk) → (left_by call o (call o)).term ≡ o.term → call o ≡ Ok (a, new) → new.term ≡ o.term
 term_kept {A} call o a new keeps h = sym (ap (λ (r : Answered A). (left_by call o r).term) h) ∙ keeps
@@ -123,7 +161,21 @@ beat_term node o (Some c) = refl
 pub beat_keeps : (node : ℕ) → Keeps (on_beat node)
 beat_keeps node s o a new over h = (beat_stays s node o a new over h, term_kept (on_beat node) o a new (beat_term node o (beat_count_of node o.desk.beat_counts)) h)
 
+picked_term : (whole : State) (o : OpenDesk) (p : Option (Picked QueuedPlan)) → (once_picked whole o p).1.term ≡ o.term
+picked_term whole o None = refl
+picked_term whole o (Some p) = refl
+
+pub plan_turn_keeps : (whole : State) → Keeps (on_plan_turn whole)
+plan_turn_keeps whole s o a new over h = (plan_turn_stays s whole o a new over h, term_kept (on_plan_turn whole) o a new (picked_term whole o (first_plan o.desk.plans)) h)
+
+submitted_term : (call : OpenDesk → Answered (Unit {0})) (o : OpenDesk) (r : Result Desk Refusal) → (left_by call o (once_submitted o r)).term ≡ o.term
+submitted_term call o (Err e) = refl
+submitted_term call o (Ok d) = refl
+
+pub submit_keeps : (from : ℕ) (applied : State) (p : Plan) → Keeps (on_submit from applied p)
+submit_keeps from applied p s o a new over h = (submit_stays s applied from p o a new over h, term_kept (on_submit from applied p) o a new (submitted_term (on_submit from applied p) o (submitted from applied o.desk p)) h)
+
 -- an open desk has the blocked evaluations of the applied state
-pub over_blocked : (raft : RaftView Command) (d : Option OpenDesk) → is_some (group_desk d) ≡ true → IfSome d (IsOfLeader raft) → IsOverBlocked (applied_state raft.server) d
-over_blocked raft None h inv = absurd cc
-over_blocked raft (Some o) h inv = inv.over.blocked
+pub over_blocked : (s : Server Command) (d : Option OpenDesk) → is_some d ≡ true → IfSome d (IsOfLeader s) → IsOverBlocked (applied_state s) d
+over_blocked s None h led = absurd cc
+over_blocked s (Some o) h led = led.over.blocked

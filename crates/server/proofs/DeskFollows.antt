@@ -6,11 +6,10 @@ use Rattle.std.specs.Prelude.{IfSome}
 use Rattle.std.specs.List.{slice_range}
 use Rattle.rows.specs.declared.command.Command.{Command}
 use Rattle.rows.specs.States.{AreTables}
-use Rattle.machine.specs.After.{after_from}
-use Rattle.machine.specs.declared.entry.Entry.{Entry}
+use Rattle.machine_model.specs.After.{after_from}
+use Rattle.machine_model.specs.declared.entry.Entry.{Entry}
 use Rattle.raft_model.specs.Logs.{commands, state_after}
 use Rattle.raft_model.specs.Servers.{Server, is_leader, Candidate}
-use Rattle.raft_core.specs.RaftView.{RaftView}
 use Rattle.raft_core.specs.Watching.{SeesAll, SeesStep}
 use Rattle.cluster_model.specs.Words.{State}
 use Rattle.cluster_model.specs.Effect.{applied}
@@ -76,13 +75,13 @@ state_on log c d le =
 abbrev IsLed : Server Command → Option OpenDesk → Type 0
 IsLed s d = IfSome d (λ o. (is_leader s.mode ≡ true) × ((o.term ≡ s.term) × IsOver (applied_state s) o))
 
-led : (raft : RaftView Command) (d : Option OpenDesk) → IfSome d (IsOfLeader raft) → IsLed raft.server d
-led raft None h = tt
-led raft (Some o) h = (h.leads, (h.term, h.over))
+led : (s : Server Command) (d : Option OpenDesk) → IfSome d (IsOfLeader s) → IsLed s d
+led s None h = tt
+led s (Some o) h = (h.leads, (h.term, h.over))
 
-is_of_leader : (raft : RaftView Command) (d : Option OpenDesk) → IsLed raft.server d → IfSome d (IsOfLeader raft)
-is_of_leader raft None h = tt
-is_of_leader raft (Some o) h = record { leads = h.0; term = h.1.0; over = h.1.1 }
+is_of_leader : (s : Server Command) (d : Option OpenDesk) → IsLed s d → IfSome d (IsOfLeader s)
+is_of_leader s None h = tt
+is_of_leader s (Some o) h = record { leads = h.0; term = h.1.0; over = h.1.1 }
 
 led_at : (s : Server Command) (term : ℕ) (d : Option OpenDesk) → term ≡ s.term → IsLed s d → IsAt term (applied_state s) d
 led_at s term None is h = tt
@@ -118,7 +117,7 @@ module _ (s t : Server Command) (w seen : Option OpenDesk) where
 
 -- The desk after a step of the log, closed where the server does not lead, is that of the
 -- definitions; and it is of the leader.
-pub goes_on : (s t : RaftView Command) (w seen new : Option OpenDesk) → IfSome w (IsOfLeader s) → SeesStep cluster_meaning DeskSees s.server t.server w seen → (is_leader t.server.mode ≡ true → LeadsOn s.server t.server) → new ≡ where_leads (is_leader t.server.mode) seen → (group_desk new ≡ desk_after s.server t.server (group_desk w)) × IfSome new (IsOfLeader t)
+pub goes_on : (s t : Server Command) (w seen new : Option OpenDesk) → IfSome w (IsOfLeader s) → SeesStep cluster_meaning DeskSees s t w seen → (is_leader t.mode ≡ true → LeadsOn s t) → new ≡ where_leads (is_leader t.mode) seen → (group_desk new ≡ desk_after s t (group_desk w)) × IfSome new (IsOfLeader t)
 goes_on s t w seen new h sees on is =
-    let g = leads_or s.server t.server w seen (is_leader t.server.mode) refl (led s w h) sees on in
-    rw is (g.0, is_of_leader t (where_leads (is_leader t.server.mode) seen) g.1)
+    let g = leads_or s t w seen (is_leader t.mode) refl (led s w h) sees on in
+    rw is (g.0, is_of_leader t (where_leads (is_leader t.mode) seen) g.1)

@@ -1,26 +1,25 @@
--- A turn of a node's drain is told by the answer of the desk's call, and proposes what it asks for.
-use Rattle.std.proofs.Common.{◌≡◌, ℕ, true, Option, Some, None, Result, Ok, Err, [], refl, sym, ap, subst, ◌∙◌, if◌then◌else◌}
-use Rattle.std.proofs.Math.Seq.{take-length}
-use Rattle.std.specs.Prelude.{OnOk, OnErr, IfOk, IfErr}
+-- A turn of a node's drain is told by the answer of the desk's call.
+use Rattle.std.proofs.Common.{◌≡◌, ℕ, Option, Some, None, Result, Ok, Err, refl, sym, ap, subst, ◌∙◌, if◌then◌else◌}
+use Rattle.std.specs.Prelude.{IfOk}
 use Rattle.rows.specs.declared.command.Command.{Command}
 use Rattle.rows.specs.declared.refusal.Refusal.{Refusal}
 use Rattle.rows.specs.declared.refusal.Refusal.TheVariants as refusals
-use Rattle.raft_model.specs.Servers.{Server, is_up, crashed}
-use Rattle.raft_model.specs.Steps as raft_steps
+use Rattle.raft_model.specs.Servers.{Server}
+use Rattle.raft_core.specs.RaftView.{RaftView}
+use Rattle.raft_core.specs.Steps.{Represents}
+use Rattle.cluster_model.specs.Words.{State}
 use Rattle.cluster_model.specs.ClusterMachine.{cluster_meaning}
-use Rattle.group_model.specs.Desks.{whole_state}
-use Rattle.group_model.specs.Inputs.{Act, AskPropose, DrainTurn, asks}
-use Rattle.group_model.specs.Members.{open_or, at_desk, done, logged}
+use Rattle.group_model.specs.Desks.{Desk, whole_state}
+use Rattle.group_model.specs.Inputs.{DrainTurn}
+use Rattle.group_model.specs.Members.{Member, open_or, at_desk}
 use Rattle.group_model.specs.Turns.{drain_turn}
-use Rattle.group_frames.proofs.Sending.{sends_nothing}
 use Rattle.leader.specs.OpenDesks.{OpenDesk, if_open, on_drain_turn}
 use Rattle.leader.specs.GroupActs.{drain_act}
 use Rattle.leader.proofs.Acts.{drains_by_drain_turn}
-use Rattle.server.specs.declared.server.Outbox.{Outbox}
-use Rattle.server.specs.ServerViews.{ServerView, SameMember, group_desk}
+use Rattle.server.specs.ServerViews.{ServerView, IsMember, group_desk}
 use Rattle.server.specs.Refusals.{HasOpenDesk}
-use Rattle.server.specs.Inner.Acts.{DoesAct, DeclinesOwn, IsProposed, WhyNotProposed, act_of, drain_at, member_of, proposes_if_any}
-use Rattle.server.proofs.Serving.{leader_up, does_proposed}
+use Rattle.server.specs.Inner.Acts.{act_of, drain_at, proposes_if_any}
+use Rattle.server.proofs.Serving.{act_taken}
 
 module _ (s : Server Command) (node : ℕ) where
   told : (d : Option OpenDesk) (c : Option Command) → if_open (on_drain_turn node (whole_state s)) d ≡ Ok c → drain_at s (group_desk d) node ≡ Ok (proposes_if_any (group_desk d) c)
@@ -30,42 +29,20 @@ module _ (s : Server Command) (node : ℕ) where
     by None = refl
     by (Some c) = refl
 
-  pub drain_told : (d : Option OpenDesk) (r : Result (Option Command) Refusal) → IfOk r (λ c. if_open (on_drain_turn node (whole_state s)) d ≡ Ok c) → IfOk r (λ c. drain_at s (group_desk d) node ≡ Ok (proposes_if_any (group_desk d) c))
+  drain_told : (d : Option OpenDesk) (r : Result (Option Command) Refusal) → IfOk r (λ c. if_open (on_drain_turn node (whole_state s)) d ≡ Ok c) → IfOk r (λ c. drain_at s (group_desk d) node ≡ Ok (proposes_if_any (group_desk d) c))
   drain_told d (Ok c) e = told d c e
   drain_told d (Err cause) e = tt
 
-module _ (old mid new : ServerView) (node : ℕ) (c : Command) (h : HasOpenDesk (member_of old)) (turn : drain_at old.raft.server (group_desk old.desk) node ≡ Ok (proposes_if_any (group_desk old.desk) (Some c))) (same : SameMember old mid) where
-  abbrev act : Act
-  act = asks (AskPropose c) (group_desk old.desk)
+pub drain_told_each : (raft : RaftView Command) (node : ℕ) (d : Option OpenDesk) (w : State) → ((s : Server Command) → Represents cluster_meaning raft s → w ≡ whole_state s) → (r : Result (Option Command) Refusal) → IfOk r (λ c. if_open (on_drain_turn node w) d ≡ Ok c) →
+    IfOk r (λ c. (s : Server Command) → Represents cluster_meaning raft s → drain_at s (group_desk d) node ≡ Ok (proposes_if_any (group_desk d) c))
+drain_told_each raft node d w known (Ok c) e = λ s r. drain_told s node d (Ok c) (subst (λ (x : State). if_open (on_drain_turn node x) d ≡ Ok c) (known s r) e)
+drain_told_each raft node d w known (Err cause) e = tt
 
-  is : act_of old (DrainTurn node) ≡ Ok act
-  is = ap (λ b. at_desk (if b then open_or (group_desk old.desk) else Err (refusals.NotLeader old.raft.server.known)) (λ d. drain_turn old.raft.server d node)) h.leads ∙ turn
+-- the turn of each server that a value is, by that of its log with the desk
+pub drain_is : (old : ServerView) (node : ℕ) (s : Member) → IsMember old s → HasOpenDesk s → act_of old (DrainTurn node) s ≡ drain_at s.raft (group_desk old.desk) node
+drain_is old node s is h =
+    ap (λ b. at_desk (if b then open_or s.desk else Err (refusals.NotLeader s.raft.known)) (λ d. drain_turn s.raft d node)) h.leads
+    ∙ ap (λ (d : Option Desk). drain_at s.raft d node) (sym is.desk)
 
-  pub drain_proposed : (r : Result (Unit {0}) Refusal) → OnOk r (IsProposed mid.raft.server c new.raft.server) → new.desk ≡ mid.desk → OnOk r ((out : Outbox) → DoesAct old (act_of old (DrainTurn node)) new out out)
-  drain_proposed (Err cause) p desk = tt
-  drain_proposed (Ok u) p desk = λ out.
-      subst (λ (a : Result Act Refusal). DoesAct old a new out out) (sym is)
-      (does_proposed old new out out c [] (group_desk old.desk) (subst (λ (s : Server Command). IsProposed s c new.raft.server) same.raft.server p) (ap group_desk (desk ∙ same.desk)) (sends_nothing cluster_meaning out.frames) refl)
-
-  left : SameMember mid new → SameMember old new
-  left stays = record {
-    raft = record { me = stays.raft.me ∙ same.raft.me; size = stays.raft.size ∙ same.raft.size; server = stays.raft.server ∙ same.raft.server };
-    desk = stays.desk ∙ same.desk;
-  }
-
-  declined : (cause : Refusal) → WhyNotProposed old.raft.server c cause → SameMember old new → (out : Outbox) → DeclinesOwn old (DrainTurn node) cause new out out
-  declined refusals.NoMemory why stays out = (
-    h,
-    record { me = stays.raft.me; size = stays.raft.size; stored = ap crashed stays.raft.server; front = take-length out.frames; work = refl },
-  )
-  declined cause why stays out =
-      let up : is_up old.raft.server.mode ≡ true = leader_up old.raft.server.mode h.leads in (
-        ap (done old.raft.size old.raft.me (member_of old)) is
-            ∙ ap (λ b. logged (member_of old) act (if b then raft_steps.proposes cluster_meaning old.raft.server c else Err refusals.Down)) up
-            ∙ ap (logged (member_of old) act) why,
-        record { same = stays; nothing = refl },
-      )
-
-  pub drain_declined : (r : Result (Unit {0}) Refusal) → IfErr r (λ cause. WhyNotProposed mid.raft.server c cause) → OnErr r (SameMember mid new) → IfErr r (λ cause. (out : Outbox) → DeclinesOwn old (DrainTurn node) cause new out out)
-  drain_declined (Ok u) why stays = tt
-  drain_declined (Err cause) why stays = declined cause (subst (λ (s : Server Command). WhyNotProposed s c cause) same.raft.server why) (left stays)
+pub drain_asks : (old : ServerView) (node : ℕ) (c : Option Command) (s : Member) → IsMember old s → HasOpenDesk s → drain_at s.raft (group_desk old.desk) node ≡ Ok (proposes_if_any (group_desk old.desk) c) → act_of old (DrainTurn node) s ≡ Ok (proposes_if_any s.desk c)
+drain_asks old node c s is h turn = drain_is old node s is h ∙ turn ∙ ap (λ (d : Option Desk). act_taken (proposes_if_any d c)) is.desk

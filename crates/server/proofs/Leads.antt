@@ -2,7 +2,7 @@
 -- before, in the same term, and commit did not fall; or it was a candidate, and nothing is newly
 -- applied.
 use Rattle.std.proofs.Common.{◌≡◌, ℕ, ◌≤◌, Bool, true, Ok, List, length, sym, ap, ◌∙◌, arith}
-use Rattle.machine.specs.Meaning.{Meaning}
+use Rattle.machine_model.specs.Meaning.{Meaning}
 use Rattle.raft_model.specs.Messages.{Message}
 use Rattle.raft_model.specs.Servers.{Server, Turn, Candidate, is_leader, is_chosen}
 use Rattle.raft_model.specs.Steps.{Input, Arrives, Timeout, Beat, Propose, Crash, Restart, step}

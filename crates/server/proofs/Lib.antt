@@ -1,3 +1,4 @@
+pub mod Members
 pub mod DeskCalls
 pub mod Serving
 pub mod Requests
@@ -12,3 +13,5 @@ pub mod Proposing
 pub mod DrainTurns
 pub mod Unmoved
 pub mod Listings
+pub mod Turns
+pub mod Heartbeats

@@ -17,14 +17,22 @@ use Rattle.cluster_model.specs.ClusterMachine.{cluster_meaning}
 use Rattle.group_model.specs.Desks.{applied_state}
 use Rattle.leader.specs.OpenDesks.{OpenDesk}
 use Rattle.leader.specs.Staying.{IsOver}
-use Rattle.server.specs.ServerViews.{IsOfLeader}
-use Rattle.server.specs.Inner.Acts.{IsProposed, WhyNotProposed}
+use Rattle.server.specs.ServerViews.{ServerView, IsOfLeader}
+use Rattle.server.specs.Inner.Acts.{EachMember, IsProposed, WhyNotProposed}
+use Rattle.server.proofs.Members.{up_of}
+use Rattle.server.proofs.LogSteps.{IsLedBy}
+
+-- a leader's log is longer by a command that nothing refused
+pub record IsAppended (s : Server Command) (c : Command) (new : Server Command) : Type 0 where
+  pub leads : is_leader s.mode ≡ true
+  pub admitted : raft_steps.admission_refusal cluster_meaning s c ≡ None
+  pub log : new ≡ extended s c
 
 module _ (n me : ℕ) (s : Server Command) (c : Command) (up : is_up s.mode ≡ true) where
   step_is : raft_steps.step cluster_meaning n me s (raft_steps.Propose c) ≡ raft_steps.proposes cluster_meaning s c
   step_is = ap (λ b. if b then raft_steps.proposes cluster_meaning s c else Err refusals.Down) up
 
-  taken_at : (leads : Bool) (a : Option Refusal) (turn : Turn Command) → is_leader s.mode ≡ leads → raft_steps.admission_refusal cluster_meaning s c ≡ a → (if leads then raft_steps.unless a (silent (extended s c)) else Err (refusals.NotLeader s.known)) ≡ Ok turn → IsProposed s c turn.server
+  taken_at : (leads : Bool) (a : Option Refusal) (turn : Turn Command) → is_leader s.mode ≡ leads → raft_steps.admission_refusal cluster_meaning s c ≡ a → (if leads then raft_steps.unless a (silent (extended s c)) else Err (refusals.NotLeader s.known)) ≡ Ok turn → IsAppended s c turn.server
   taken_at true None turn leads admitted h = record { leads = leads; admitted = admitted; log = sym (ap (λ (t : Turn Command). t.server) (same h)) } where
     same : {a b : Turn Command} → (let x : Result (Turn Command) Refusal = Ok a in x ≡ Ok b) → a ≡ b
     same h = cc
@@ -32,7 +40,7 @@ module _ (n me : ℕ) (s : Server Command) (c : Command) (up : is_up s.mode ≡ 
   taken_at false a turn leads admitted h = absurd (cc)
 
   -- a proposal that is taken was admitted, and the log is longer by it
-  pub proposed : (turn : Turn Command) → raft_steps.step cluster_meaning n me s (raft_steps.Propose c) ≡ Ok turn → IsProposed s c turn.server
+  pub proposed : (turn : Turn Command) → raft_steps.step cluster_meaning n me s (raft_steps.Propose c) ≡ Ok turn → IsAppended s c turn.server
   proposed turn h = taken_at (is_leader s.mode) (raft_steps.admission_refusal cluster_meaning s c) turn refl refl (sym step_is ∙ h)
 
   why : (r : Result (Turn Command) Refusal) (cause : Refusal) → refusal_by r ≡ Some cause → r ≡ Err cause
@@ -60,21 +68,9 @@ applied_stays : (s : Server Command) (c : Command) → s.commit ≤ length s.log
 applied_stays s c held = ap (state_after cluster_meaning) (take-append-le s.commit s.log (record { term = s.term; command = c } ∷ []) held)
 
 -- an open desk is still of the state that is applied
-pub proposal_keeps : (old new : RaftView Command) (c : Command) (d : Option OpenDesk) → IfSome d (IsOfLeader old) → IsProposed old.server c new.server → old.server.commit ≤ length old.server.log → IfSome d (IsOfLeader new)
-proposal_keeps old new c None h p held = tt
-proposal_keeps old new c (Some o) h p held = record {
-  leads = ap (λ (s : Server Command). is_leader s.mode) p.log ∙ h.leads;
-  term = h.term ∙ sym (ap (λ (s : Server Command). s.term) p.log);
-  over = subst (λ x. IsOver x o) (sym (ap applied_state p.log ∙ applied_stays old.server c held)) h.over;
-}
-
-pub same_keeps : (old new : RaftView Command) (d : Option OpenDesk) → IfSome d (IsOfLeader old) → new.server ≡ old.server → IfSome d (IsOfLeader new)
-same_keeps old new None h is = tt
-same_keeps old new (Some o) h is = record {
-  leads = ap (λ (s : Server Command). is_leader s.mode) is ∙ h.leads;
-  term = h.term ∙ sym (ap (λ (s : Server Command). s.term) is);
-  over = subst (λ x. IsOver x o) (sym (ap applied_state is)) h.over;
-}
+proposal_keeps : (s : Server Command) (c : Command) (d : Option OpenDesk) → s.commit ≤ length s.log → IfSome d (IsOfLeader s) → IfSome d (IsOfLeader (extended s c))
+proposal_keeps s c None held h = tt
+proposal_keeps s c (Some o) held h = record { leads = h.leads; term = h.term; over = subst (λ x. IsOver x o) (sym (applied_stays s c held)) h.over }
 
 -- ---- the call
 
@@ -85,25 +81,29 @@ held_by : (s : Server Command) (r : Option ℕ) → is_up s.mode ≡ true → Ma
 held_by s None up value held = absurd (let q : true ≡ false = sym up ∙ value in cc)
 held_by s (Some n) up value held = subst (λ (k : ℕ). k ≤ length s.log) value.1 held
 
-module _ (old new : RaftView Command) (c : Command) (up : is_up old.server.mode ≡ true) where
-  taken_by : ((s : Server Command) (sent : List Frame) → Represents cluster_meaning old s → Takes cluster_meaning old s (Own (raft_steps.Propose c)) new sent sent) → IsProposed old.server c new.server
-  taken_by taken =
-      let steps = taken old.server [] refl (raft_steps.Propose c) refl in
-      subst (λ t. IsProposed old.server c t) (sym steps.represents) (proposed old.size old.me old.server c up steps.turn steps.step)
+module _ (old : ServerView) (new : RaftView Command) (c : Command) (up : is_up old.raft.server.mode ≡ true) where
+  pub propose_takes : (n : Option ℕ) → ((s : Server Command) → Represents cluster_meaning old.raft s → MatchOption n (is_up s.mode ≡ false) (λ k. (is_up s.mode ≡ true) × (k ≡ s.commit))) → ((s : Server Command) → Represents cluster_meaning old.raft s → IfSome n (λ k. k ≤ length s.log))
+      → (r : Answer) → OnOk r ((s : Server Command) (sent : List Frame) → Represents cluster_meaning old.raft s → Takes cluster_meaning old.raft s (Own (raft_steps.Propose c)) new sent sent)
+      → OnOk r (EachMember old (λ s. IsProposed s c (record { raft = new; desk = old.desk })))
+  propose_takes n value held (Err cause) taken = tt
+  propose_takes n value held (Ok u) taken = λ s is.
+      let up_at = up_of old s is up in
+      let steps = taken s.raft [] is.raft (raft_steps.Propose c) refl in
+      let p = proposed old.raft.size old.raft.me s.raft c up_at steps.turn steps.step in
+      let within = held_by s.raft n up_at (value s.raft is.raft) (held s.raft is.raft) in
+      record {
+        leads = p.leads;
+        admitted = p.admitted;
+        member = record { raft = subst (λ (t : Server Command). Represents cluster_meaning new t) p.log steps.represents; desk = is.desk; led = proposal_keeps s.raft c old.desk within is.led };
+      }
 
-  pub propose_takes : (r : Answer) → OnOk r ((s : Server Command) (sent : List Frame) → Represents cluster_meaning old s → Takes cluster_meaning old s (Own (raft_steps.Propose c)) new sent sent) → OnOk r (IsProposed old.server c new.server)
-  propose_takes (Ok u) taken = taken_by taken
-  propose_takes (Err cause) taken = tt
+  pub propose_declines : (r : Answer) → IfErr r (λ cause. (s : Server Command) → Represents cluster_meaning old.raft s → IsRefused cluster_meaning old.raft.size old.raft.me s (Own (raft_steps.Propose c)) cause) →
+      IfErr r (λ cause. (s : Server Command) → Represents cluster_meaning old.raft s → HidesNothing cluster_meaning old.raft.size old.raft.me s (Own (raft_steps.Propose c)) cause) → IfErr r (λ cause. EachMember old (λ s. WhyNotProposed s.raft c cause))
+  propose_declines (Ok u) h hidden = tt
+  propose_declines (Err cause) h hidden = λ s is. refused old.raft.size old.raft.me s.raft c (up_of old s is up) cause (h s.raft is.raft) (hidden s.raft is.raft)
 
-pub propose_refused : (old : RaftView Command) (c : Command) → is_up old.server.mode ≡ true → (r : Answer) → IfErr r (λ cause. (s : Server Command) → Represents cluster_meaning old s → IsRefused cluster_meaning old.size old.me s (Own (raft_steps.Propose c)) cause) →
-    IfErr r (λ cause. (s : Server Command) → Represents cluster_meaning old s → HidesNothing cluster_meaning old.size old.me s (Own (raft_steps.Propose c)) cause) → IfErr r (λ cause. WhyNotProposed old.server c cause)
-propose_refused old c up (Ok u) h hidden = tt
-propose_refused old c up (Err cause) h hidden = refused old.size old.me old.server c up cause (h old.server refl) (hidden old.server refl)
-
-pub propose_keeps : (old new : RaftView Command) (c : Command) (d : Option OpenDesk) → IfSome d (IsOfLeader old) → is_up old.server.mode ≡ true
-    → (n : Option ℕ) → ((s : Server Command) → Represents cluster_meaning old s → MatchOption n (is_up s.mode ≡ false) (λ k. (is_up s.mode ≡ true) × (k ≡ s.commit))) → ((s : Server Command) → Represents cluster_meaning old s → IfSome n (λ k. k ≤ length s.log))
-    → (r : Answer) → OnOk r ((s : Server Command) (sent : List Frame) → Represents cluster_meaning old s → Takes cluster_meaning old s (Own (raft_steps.Propose c)) new sent sent) → OnErr r (SameServer old new)
-    → IfSome d (IsOfLeader new)
-propose_keeps old new c d inside up n value held (Ok u) taken same =
-    proposal_keeps old new c d inside (taken_by old new c up taken) (held_by old.server n up (value old.server refl) (held old.server refl))
-propose_keeps old new c d inside up n value held (Err cause) taken same = same_keeps old new d inside same.server
+-- a server that leads goes on to
+pub propose_leads : (old new : RaftView Command) (d : Option OpenDesk) → IsLedBy old d → (r : Answer) → OnOk r (is_leader new.server.mode ≡ true) → OnErr r (SameServer old new) → IsLedBy new d
+propose_leads old new None led r leads same = tt
+propose_leads old new (Some o) led (Ok u) leads same = leads
+propose_leads old new (Some o) led (Err cause) leads same = ap (λ (s : Server Command). is_leader s.mode) same.server ∙ led

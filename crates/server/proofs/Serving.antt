@@ -1,5 +1,5 @@
 -- What a server's parts do is what the definitions say.
-use Rattle.std.proofs.Common.{◌≡◌, ◌≢◌, ℕ, zero, suc, true, Option, Some, None, Result, Ok, Err, List, [], ◌∷◌, ◌++◌, map, take, drop, refl, sym, ap, ◌∙◌}
+use Rattle.std.proofs.Common.{◌≡◌, ◌≢◌, ℕ, zero, suc, true, Option, Some, None, Result, Ok, Err, List, [], ◌∷◌, ◌++◌, map, take, drop, refl, sym, ap, subst, ◌∙◌}
 use Rattle.std.proofs.lemmas.List.{append-nil}
 use Rattle.std.proofs.Math.Seq.{take-append_seam}
 use Rattle.rows.specs.declared.command.Command.{Command}
@@ -13,12 +13,13 @@ use Rattle.raft_core.specs.Inner.Turns.{KeepsFront}
 use Rattle.cluster_model.specs.ClusterMachine.{cluster_meaning}
 use Rattle.group_model.specs.Messages.{GroupMessage, Service, ServiceMessage}
 use Rattle.group_model.specs.Desks.{Desk, applied_state, after_entries, desk_after}
-use Rattle.group_model.specs.Inputs.{Act, AskPropose}
-use Rattle.group_model.specs.Members.{logged}
+use Rattle.group_model.specs.Inputs.{Act, AskPropose, rests}
+use Rattle.group_model.specs.Members.{Member, logged}
 use Rattle.group_frames.specs.GroupFrames.{SendsGroup}
+use Rattle.group_frames.proofs.Sending.{sends_nothing}
 use Rattle.server.specs.declared.server.Outbox.{Outbox}
-use Rattle.server.specs.ServerViews.{ServerView, group_desk}
-use Rattle.server.specs.Inner.Acts.{member_of, DoesAct, IsProposed, WhyNotProposed}
+use Rattle.server.specs.ServerViews.{ServerView, IsMember}
+use Rattle.server.specs.Inner.Acts.{DoesAct, WhyNotProposed}
 
 pub leader_up : (mode : Mode) → is_leader mode ≡ true → is_up mode ≡ true
 leader_up Down e = absurd cc
@@ -34,6 +35,10 @@ drop_same (suc n) (x ∷ xs) = drop_same n xs
 -- a proposal leaves the desk as it is
 pub desk_stays : (s : Server Command) (c : Command) (d : Option Desk) → is_leader s.mode ≡ true → desk_after s (extended s c) d ≡ d
 desk_stays s c d leads = rw leads (ap (λ es. after_entries s.term (applied_state s) es d) (drop_same s.commit (extended s c).log))
+
+-- an act, as one that is not refused
+abbrev pub act_taken : Act → Result Act Refusal
+act_taken a = Ok a
 
 -- ---- what a proposal is refused for
 
@@ -56,34 +61,37 @@ refused_why s c cause leads other h =
 
 -- ---- acts that are done
 
-module _ (old new : ServerView) (before after : Outbox) where
+pub nothing_sent : (before after : Outbox) → after ≡ before → SendsGroup cluster_meaning before.frames after.frames []
+nothing_sent before after nothing = subst (λ (o : Outbox). SendsGroup cluster_meaning before.frames o.frames []) (sym nothing) (sends_nothing cluster_meaning before.frames)
+
+module _ (n me : ℕ) (s : Member) (new : ServerView) (before after : Outbox) where
   -- nothing is asked of the log
-  pub does_alone : (services : List ServiceMessage) (d : Option Desk) (work : List Work) → new.raft.server ≡ old.raft.server → group_desk new.desk ≡ d →
+  pub does_alone : (services : List ServiceMessage) (d : Option Desk) (work : List Work) → IsMember new (record s { desk = d }) →
       SendsGroup cluster_meaning before.frames after.frames (map Service services) → after.work ≡ before.work ++ work →
-      DoesAct old (Ok (record { ask = None; desk = d; sent = services; work = work })) new before after
-  does_alone services d work same desk sent out = record {
-    turn = record { member = record { raft = old.raft.server; desk = d }; sent = map Service services; work = work };
+      DoesAct n me s (Ok (record { ask = None; desk = d; sent = services; work = work })) new before after
+  does_alone services d work member sent out = record {
+    turn = record { member = record s { desk = d }; sent = map Service services; work = work };
     is = refl;
-    member = record { raft = same; desk = desk };
+    member = member;
     sent = sent;
     work = out;
   }
 
+  pub does_nothing : (d : Option Desk) → IsMember new (record s { desk = d }) → after ≡ before → DoesAct n me s (Ok (rests d)) new before after
+  does_nothing d member nothing = does_alone [] d [] member (nothing_sent before after nothing) (ap (λ (o : Outbox). o.work) nothing ∙ sym (append-nil before.work))
+
   -- a command is appended
-  pub does_proposed : (c : Command) (services : List ServiceMessage) (d : Option Desk) → IsProposed old.raft.server c new.raft.server → group_desk new.desk ≡ d →
-      SendsGroup cluster_meaning before.frames after.frames (map Service services) → after.work ≡ before.work →
-      DoesAct old (Ok (record { ask = Some (AskPropose c); desk = d; sent = services; work = [] })) new before after
-  does_proposed c services d p desk sent out =
-      let s = old.raft.server in
-      let up : is_up s.mode ≡ true = leader_up s.mode p.leads in
-      let leads : is_leader s.mode ≡ true = p.leads in
-      let admitted : raft_steps.admission_refusal cluster_meaning s c ≡ None = p.admitted in
-      let step : raft_steps.step cluster_meaning old.raft.size old.raft.me s (raft_steps.Propose c) ≡ Ok (silent (extended s c)) = rw (up, leads, admitted) refl in
+  pub does_proposed : (c : Command) (services : List ServiceMessage) (d : Option Desk) → is_leader s.raft.mode ≡ true → raft_steps.admission_refusal cluster_meaning s.raft c ≡ None →
+      IsMember new (record { raft = extended s.raft c; desk = d }) → SendsGroup cluster_meaning before.frames after.frames (map Service services) → after.work ≡ before.work →
+      DoesAct n me s (Ok (record { ask = Some (AskPropose c); desk = d; sent = services; work = [] })) new before after
+  does_proposed c services d leads admitted member sent out =
+      let up : is_up s.raft.mode ≡ true = leader_up s.raft.mode leads in
+      let step : raft_steps.step cluster_meaning n me s.raft (raft_steps.Propose c) ≡ Ok (silent (extended s.raft c)) = rw (up, leads, admitted) refl in
       let act : Act = record { ask = Some (AskPropose c); desk = d; sent = services; work = [] } in
       record {
-        turn = record { member = record { raft = extended s c; desk = desk_after s (extended s c) d }; sent = map Service services; work = [] };
-        is = ap (logged (member_of old) act) step;
-        member = record { raft = p.log; desk = desk ∙ sym (desk_stays s c d p.leads) };
+        turn = record { member = record { raft = extended s.raft c; desk = desk_after s.raft (extended s.raft c) d }; sent = map Service services; work = [] };
+        is = ap (logged s act) step;
+        member = record { raft = member.raft; desk = member.desk ∙ sym (desk_stays s.raft c d leads); led = member.led };
         sent = sent;
         work = out ∙ sym (append-nil before.work);
       }

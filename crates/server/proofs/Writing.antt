@@ -1,5 +1,5 @@
 -- What a server does with a command that a client's request asks for.
-use Rattle.std.proofs.Common.{◌≡◌, ◌≢◌, ℕ, Bool, true, false, not, if◌then◌else◌, [], ◌∷◌, Option, Some, None, Result, Ok, Err, sym, subst, ap, ◌∙◌}
+use Rattle.std.proofs.Common.{◌≡◌, ◌≢◌, ℕ, Bool, true, false, not, if◌then◌else◌, [], ◌∷◌, Option, Some, None, Result, Ok, Err, refl, sym, subst, ap, ◌∙◌}
 use Rattle.std.specs.Prelude.{OnOk}
 use Rattle.std.proofs.lemmas.List.{append-nil}
 use Rattle.rows.specs.declared.command.Command.{Command}
@@ -13,30 +13,44 @@ use Rattle.cluster_model.specs.ClusterMachine.{cluster_meaning}
 use Rattle.group_model.specs.ClientRequests.{tells, answers, is_taken_already, proposes_for}
 use Rattle.group_model.specs.Desks.{whole_state}
 use Rattle.group_model.specs.Inputs.{Act}
+use Rattle.group_model.specs.Members.{Member}
 use Rattle.server.specs.declared.server.Outbox.{Outbox}
-use Rattle.server.specs.ServerViews.{ServerView, group_desk}
-use Rattle.server.specs.Inner.Acts.{DoesAct, WhyNotProposed, write_act}
+use Rattle.server.specs.ServerViews.{ServerView, IsMember, SameMember}
+use Rattle.server.specs.Inner.Acts.{EachMember, DoesAct, EachDoes, WhyNotProposed, write_act}
 use Rattle.server.specs.Inner.Replies.{SendsOne}
-use Rattle.server.proofs.Requests.{act_taken}
-use Rattle.server.proofs.Serving.{does_alone, refused_why}
+use Rattle.server.proofs.Members.{same_is}
+use Rattle.server.proofs.Serving.{act_taken, does_alone, refused_why}
 
-module _ (old new : ServerView) (before after : Outbox) (client : ℕ) (kind : ClientRequestKind) (command : Command) where
+module _ (old new : ServerView) (before after : Outbox) (client : ℕ) (kind : ClientRequestKind) (command : Command) (s : Member) where
   abbrev by : Bool → Bool → Option Refusal → Act
   by leads taken r =
-      if not leads then answers old.raft.me client kind (Some (refusals.NotLeader old.raft.server.known)) (group_desk old.desk)
-      else if taken then answers old.raft.me client kind None (group_desk old.desk)
-      else proposes_for old.raft.me client kind command (group_desk old.desk) r
+      if not leads then answers old.raft.me client kind (Some (refusals.NotLeader s.raft.known)) s.desk
+      else if taken then answers old.raft.me client kind None s.desk
+      else proposes_for old.raft.me client kind command s.desk r
 
-  write_is : (e : Refusal) → is_leader old.raft.server.mode ≡ true → is_taken_already (whole_state old.raft.server) command ≡ false → admission_refusal cluster_meaning old.raft.server command ≡ Some e → write_act old client kind command ≡ Ok (answers old.raft.me client kind (Some e) (group_desk old.desk))
-  write_is e leads fresh why =
-      ap (λ b. act_taken (by b (is_taken_already (whole_state old.raft.server) command) (admission_refusal cluster_meaning old.raft.server command))) leads
-      ∙ ap (λ b. act_taken (by true b (admission_refusal cluster_meaning old.raft.server command))) fresh
-      ∙ ap (λ r. act_taken (by true false r)) why
+  write_is : (taken : Bool) (r : Option Refusal) → is_leader s.raft.mode ≡ true → is_taken_already (whole_state s.raft) command ≡ taken → admission_refusal cluster_meaning s.raft command ≡ r → write_act old client kind command s ≡ Ok (by true taken r)
+  write_is taken r leads fresh why =
+      ap (λ b. act_taken (by b (is_taken_already (whole_state s.raft) command) (admission_refusal cluster_meaning s.raft command))) leads
+      ∙ ap (λ b. act_taken (by true b (admission_refusal cluster_meaning s.raft command))) fresh
+      ∙ ap (λ x. act_taken (by true taken x)) why
 
-  -- the log refuses the command
-  pub write_declined : (e : Refusal) (r : Result (Unit {0}) NoMemory) → is_leader old.raft.server.mode ≡ true → is_taken_already (whole_state old.raft.server) command ≡ false → WhyNotProposed old.raft.server command e → e ≢ refusals.NoMemory → new.raft.server ≡ old.raft.server → new.desk ≡ old.desk → after.work ≡ before.work →
-      OnOk r (SendsOne before.frames after.frames (tells old.raft.me client kind (Some e))) → OnOk r (DoesAct old (write_act old client kind command) new before after)
-  write_declined e (Err x) leads fresh why other same desk work sent = tt
-  write_declined e (Ok u) leads fresh why other same desk work sent =
-      subst (λ (act : Result Act Refusal). DoesAct old act new before after) (sym (write_is e leads fresh (refused_why old.raft.server command e leads other why)))
-      (does_alone old new before after (tells old.raft.me client kind (Some e) ∷ []) (group_desk old.desk) [] same (ap group_desk desk) sent (work ∙ sym (append-nil before.work)))
+  -- the client is told, and that is all
+  write_told : (act : Result Act Refusal) (e : Option Refusal) → act ≡ Ok (answers old.raft.me client kind e s.desk) → IsMember new s → after.work ≡ before.work → SendsOne before.frames after.frames (tells old.raft.me client kind e) →
+      DoesAct old.raft.size old.raft.me s act new before after
+  write_told act e is member work sent =
+      subst (λ (a : Result Act Refusal). DoesAct old.raft.size old.raft.me s a new before after) (sym is)
+      (does_alone old.raft.size old.raft.me s new before after (tells old.raft.me client kind e ∷ []) s.desk [] member sent (work ∙ sym (append-nil before.work)))
+
+  -- the log refuses it
+  pub write_refused : (e : Refusal) → is_leader s.raft.mode ≡ true → is_taken_already (whole_state s.raft) command ≡ false → WhyNotProposed s.raft command e → e ≢ refusals.NoMemory → IsMember new s → after.work ≡ before.work →
+      SendsOne before.frames after.frames (tells old.raft.me client kind (Some e)) → DoesAct old.raft.size old.raft.me s (write_act old client kind command s) new before after
+  write_refused e leads fresh why other = write_told (write_act old client kind command s) (Some e) (write_is false (Some e) leads fresh (refused_why s.raft command e leads other why))
+
+-- the same of what the sending answers
+module _ (old new : ServerView) (before after : Outbox) (client : ℕ) (kind : ClientRequestKind) (command : Command) (r : Result (Unit {0}) NoMemory) where
+  pub refusal_told : (e : Refusal) → EachMember old (λ s. is_leader s.raft.mode ≡ true) → EachMember old (λ s. is_taken_already (whole_state s.raft) command ≡ false) → EachMember old (λ s. WhyNotProposed s.raft command e) → e ≢ refusals.NoMemory → SameMember old new → after.work ≡ before.work →
+      OnOk r (SendsOne before.frames after.frames (tells old.raft.me client kind (Some e))) → OnOk r (EachDoes old (write_act old client kind command) new before after)
+  refusal_told e leads fresh why other same work = by r where
+    by : (r : Result (Unit {0}) NoMemory) → OnOk r (SendsOne before.frames after.frames (tells old.raft.me client kind (Some e))) → OnOk r (EachDoes old (write_act old client kind command) new before after)
+    by (Err x) sent = tt
+    by (Ok u) sent = λ s is. write_refused old new before after client kind command s e (leads s is) (fresh s is) (why s is) other (same_is old new s same is) work sent

@@ -39,7 +39,7 @@ read_refusal n me (Ok read) = wrong_address n me read.from read.to
 read_refusal n me (Err place) = Some (refusals.Frame place)
 
 abbrev pub bytes_refusal : ℕ → ℕ → List ℕ → Option Refusal
-bytes_refusal n me bytes = read_refusal n me (message_at {S = State} cluster_meaning.commands bytes)
+bytes_refusal n me bytes = read_refusal n me (message_at cluster_meaning bytes)
 
 -- ---- what is handed in
 
@@ -129,6 +129,16 @@ NoMemoryLeaves old s h new = IsMember new (crashed_member s)
 abbrev pub HandingRefusalLeaves : ServerView → Member → Handing → Refusal → ServerView → Type 0
 HandingRefusalLeaves old s h refusals.NoMemory new = NoMemoryLeaves old s h new
 HandingRefusalLeaves old s h cause new = SameMember old new
+
+-- The same of the value itself, whichever servers it is: any refusal but want of memory leaves the
+-- same server, and want of memory in a restart changes nothing.
+abbrev pub NoMemoryStays : ServerView → Handing → ServerView → Type 0
+NoMemoryStays old (OwnInput Restart) new = new ≡ old
+NoMemoryStays old h new = Unit {0}
+
+abbrev pub HandingStays : ServerView → Handing → Refusal → ServerView → Type 0
+HandingStays old h refusals.NoMemory new = NoMemoryStays old h new
+HandingStays old h cause new = SameMember old new
 
 -- ---- other calls
 

@@ -1,8 +1,8 @@
 -- What a contract sees of a server of the group, which server of the definitions it is, and what
 -- its type keeps.
-use Rattle.std.specs.Prelude.{◌≡◌, true, Option, None, option_map}
+use Rattle.std.specs.Prelude.{◌≡◌, true, Option, None, option_map, IfSome}
 use Rattle.rows.specs.declared.command.Command.{Command}
-use Rattle.raft_model.specs.Servers.{is_leader, crashed}
+use Rattle.raft_model.specs.Servers.{Server, is_leader, crashed}
 use Rattle.raft_core.specs.RaftView.{RaftView, SameServer}
 use Rattle.raft_core.specs.Steps.{Represents}
 use Rattle.cluster_model.specs.ClusterMachine.{cluster_meaning}
@@ -20,10 +20,17 @@ pub record ServerView : Type 0 where
 abbrev pub group_desk : Option OpenDesk → Option Desk
 group_desk d = option_map (λ (o : OpenDesk). o.desk) d
 
+-- An open desk is the leader's, of its term, and of the state that it has applied.
+pub record IsOfLeader (s : Server Command) (o : OpenDesk) : Type 0 where
+  pub leads : is_leader s.mode ≡ true
+  pub term : o.term ≡ s.term
+  pub over : IsOver (applied_state s) o
+
 -- which server of the definitions a value is
 pub record IsMember (view : ServerView) (s : Member) : Type 0 where
   pub raft : Represents cluster_meaning view.raft s.raft
   pub desk : group_desk view.desk ≡ s.desk
+  pub led : IfSome view.desk (IsOfLeader s.raft)
 
 -- two values that are one server; one may hold the machine after the whole log, and the other not
 pub record SameMember (old new : ServerView) : Type 0 where
@@ -33,9 +40,3 @@ pub record SameMember (old new : ServerView) : Type 0 where
 -- a server that lost what it does not store
 abbrev pub crashed_member : Member → Member
 crashed_member s = record { raft = crashed s.raft; desk = None }
-
--- An open desk is the leader's, of its term, and of the state that it has applied.
-pub record IsOfLeader (raft : RaftView Command) (o : OpenDesk) : Type 0 where
-  pub leads : is_leader raft.server.mode ≡ true
-  pub term : o.term ≡ raft.server.term
-  pub over : IsOver (applied_state raft.server) o

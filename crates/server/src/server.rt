@@ -52,14 +52,15 @@ pub struct Server {
 }
 
 impl Model for Server {
-    ghost use Rattle.std.specs.Prelude.{IfSome};
-    ghost use Rattle.server.specs.ServerViews.{ServerView, IsOfLeader};
+    ghost use Rattle.std.specs.Prelude.{◌≡◌, true, IfSome};
+    ghost use Rattle.raft_model.specs.Servers.{is_leader};
+    ghost use Rattle.server.specs.ServerViews.{ServerView};
 
     ghost Value = { ServerView };
 
     ghost view = { λ s. record { raft = s.raft; desk = s.desk } };
 
-    ghost invariant = { λ s. IfSome s.desk (IsOfLeader s.raft) };
+    ghost invariant = { λ s. IfSome s.desk (λ o. is_leader s.raft.server.mode ≡ true) };
 }
 
 impl Server {
@@ -91,30 +92,36 @@ impl Server {
 
     /// What it is doing in the group, while it is up.
     pub fn role(&self) -> Option<Role>
-        ensures { (s : Member) → IsMember self.now s → result ≡ role_of s.raft.mode }
+        ensures value { (s : Member) → IsMember self.now s → result ≡ role_of s.raft.mode }
+        ensures shown { result ≡ role_of self.now.raft.server.mode }
     {
         self.raft.role()
     }
 
     /// Its current term, also while it is down.
     pub fn term(&self) -> Term
-        ensures { (s : Member) → IsMember self.now s → result ≡ s.raft.term }
+        ensures value { (s : Member) → IsMember self.now s → result ≡ s.raft.term }
+        ensures shown { result ≡ self.now.raft.server.term }
     {
         self.raft.term()
     }
 
     /// The index of the last entry of its log, also while it is down; 0 where there is none.
     pub fn last(&self) -> Index
-        ensures { (s : Member) → IsMember self.now s → result ≡ length s.raft.log }
+        ensures value { (s : Member) → IsMember self.now s → result ≡ length s.raft.log }
+        ensures shown { result ≡ length self.now.raft.server.log }
     {
         self.raft.last()
     }
 
     /// How many entries are applied, while it is up: all that are committed.
     pub fn applied(&self) -> Option<Index>
-        ensures { (s : Member) → IsMember self.now s →
+        ensures value { (s : Member) → IsMember self.now s →
             MatchOption result (is_up s.raft.mode ≡ false) (λ n. (is_up s.raft.mode ≡ true)
             × (n ≡ s.raft.commit)) }
+        ensures shown { let s = self.now.raft.server in
+            MatchOption result (is_up s.mode ≡ false) (λ n. (is_up s.mode ≡ true)
+            × (n ≡ s.commit)) }
     {
         self.raft.applied()
     }

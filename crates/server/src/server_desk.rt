@@ -1,6 +1,6 @@
 //! The leader's desk, which watches the log.
 ghost use Rattle.std.specs.Prelude.{◌≡◌, None};
-ghost use Rattle.machine.specs.declared.entry.Entry.{Entry};
+ghost use Rattle.machine_model.specs.declared.entry.Entry.{Entry};
 
 use fsm_state::Cluster;
 use leader::Desk;

@@ -6,12 +6,13 @@ use Rattle.fields_model.specs.Fields.{actor}
 use Rattle.fields_model.proofs.FormatLaws.{number_lawful, then_lawful, depends_lawful, made_lawful, list_lawful, coded_lawful, kept_lawful, variant_lawful}
 use Rattle.fields_model.proofs.PlacedLaws.{placed_lawful}
 use Rattle.fields_model.proofs.FieldLaws.{actor_lawful}
+use Rattle.machine_model.specs.Meaning.{Meaning}
 use Rattle.wire.specs.declared.kind.Kind.{Kind}
 use Rattle.wire.specs.declared.kind.Kind.TheVariants as kinds
 use Rattle.wire.specs.declared.vote.VoteRequest.{VoteRequest}
 use Rattle.wire.specs.declared.vote.VoteReply.{VoteReply}
-use Rattle.machine.specs.Entries.{entry}
-use Rattle.machine.specs.Laws.EntryLaws.{entry_lawful}
+use Rattle.machine_model.specs.Entries.{entry}
+use Rattle.machine_model.proofs.EntryLaws.{entry_lawful}
 use Rattle.wire.specs.declared.append.AppendReply.{AppendReply}
 use Rattle.wire.specs.Appends.{Append}
 use Rattle.wire.specs.declared.body.Body.{Body}
@@ -77,78 +78,78 @@ is_append_reply {S} {C} = record { back = λ _. refl; there = λ v a e. there v 
   there (bodies.AppendReply _) a e = cc
   there _ a e = absurd cc
 
-pub body_lawful : {S C : Type 0} (commands : Format C) → Lawful commands → (k : Kind) → Lawful (body {S = S} commands k)
-body_lawful commands lc kinds.VoteRequest = variant_lawful _ _ _ is_vote_request vote_request_lawful
-body_lawful commands lc kinds.VoteReply = variant_lawful _ _ _ is_vote_reply vote_reply_lawful
-body_lawful commands lc kinds.Append = variant_lawful _ _ _ is_append (append_lawful commands lc)
-body_lawful commands lc kinds.AppendReply = variant_lawful _ _ _ is_append_reply append_reply_lawful
-body_lawful commands lc kinds.Take = take_body_lawful
-body_lawful commands lc kinds.Delivered = delivered_body_lawful
-body_lawful commands lc kinds.Submit = submit_body_lawful
-body_lawful commands lc kinds.PlanResult = plan_result_body_lawful
-body_lawful commands lc kinds.Finish = finish_body_lawful
-body_lawful commands lc kinds.Nack = nack_body_lawful
-body_lawful commands lc kinds.Refused = refused_body_lawful
-body_lawful commands lc kinds.Register = register_body_lawful
-body_lawful commands lc kinds.Heartbeat = heartbeat_body_lawful
-body_lawful commands lc kinds.Pull = pull_body_lawful
-body_lawful commands lc kinds.List = list_body_lawful
-body_lawful commands lc kinds.Report = report_body_lawful
-body_lawful commands lc kinds.Told = told_body_lawful
+pub body_lawful : {S C : Type 0} (meaning : Meaning S C) → Lawful meaning.commands → (k : Kind) → Lawful (body meaning k)
+body_lawful meaning lc kinds.VoteRequest = variant_lawful _ _ _ is_vote_request vote_request_lawful
+body_lawful meaning lc kinds.VoteReply = variant_lawful _ _ _ is_vote_reply vote_reply_lawful
+body_lawful meaning lc kinds.Append = variant_lawful _ _ _ is_append (append_lawful meaning.commands lc)
+body_lawful meaning lc kinds.AppendReply = variant_lawful _ _ _ is_append_reply append_reply_lawful
+body_lawful meaning lc kinds.Take = take_body_lawful
+body_lawful meaning lc kinds.Delivered = delivered_body_lawful
+body_lawful meaning lc kinds.Submit = submit_body_lawful
+body_lawful meaning lc kinds.PlanResult = plan_result_body_lawful
+body_lawful meaning lc kinds.Finish = finish_body_lawful
+body_lawful meaning lc kinds.Nack = nack_body_lawful
+body_lawful meaning lc kinds.Refused = refused_body_lawful
+body_lawful meaning lc kinds.Register = register_body_lawful
+body_lawful meaning lc kinds.Heartbeat = heartbeat_body_lawful
+body_lawful meaning lc kinds.Pull = pull_body_lawful
+body_lawful meaning lc kinds.List = list_body_lawful
+body_lawful meaning lc kinds.Report = report_body_lawful
+body_lawful meaning lc kinds.Told = told_body_lawful
 
 -- a body is one of its own kind alone
-pub body_has_kind : {S C : Type 0} (commands : Format C) (k : Kind) (b : Body S C) → (body commands k).Fits b → kind_of b ≡ k
-body_has_kind commands kinds.VoteRequest (bodies.VoteRequest _) fits = refl
-body_has_kind commands kinds.VoteReply (bodies.VoteReply _) fits = refl
-body_has_kind commands kinds.Append (bodies.Append _) fits = refl
-body_has_kind commands kinds.AppendReply (bodies.AppendReply _) fits = refl
-body_has_kind commands kinds.Take (bodies.Request requests.Take) fits = refl
-body_has_kind commands kinds.Delivered (bodies.Response (responses.Delivered _)) fits = refl
-body_has_kind commands kinds.Submit (bodies.Request (requests.Submit _)) fits = refl
-body_has_kind commands kinds.PlanResult (bodies.Response (responses.PlanResult _)) fits = refl
-body_has_kind commands kinds.Finish (bodies.Request (requests.Finish _ _ _)) fits = refl
-body_has_kind commands kinds.Nack (bodies.Request (requests.Nack _ _)) fits = refl
-body_has_kind commands kinds.Refused (bodies.Response (responses.Refused _ _)) fits = refl
-body_has_kind commands kinds.Register (bodies.Register _ _) fits = refl
-body_has_kind commands kinds.Heartbeat bodies.Heartbeat fits = refl
-body_has_kind commands kinds.Pull bodies.Pull fits = refl
-body_has_kind commands kinds.List (bodies.List _ _) fits = refl
-body_has_kind commands kinds.Report (bodies.Report _) fits = refl
-body_has_kind commands kinds.Told (bodies.Told _ _) fits = refl
-body_has_kind commands kinds.VoteRequest _ fits = absurd fits
-body_has_kind commands kinds.VoteReply _ fits = absurd fits
-body_has_kind commands kinds.Append _ fits = absurd fits
-body_has_kind commands kinds.AppendReply _ fits = absurd fits
-body_has_kind commands kinds.Take _ fits = absurd fits
-body_has_kind commands kinds.Delivered _ fits = absurd fits
-body_has_kind commands kinds.Submit _ fits = absurd fits
-body_has_kind commands kinds.PlanResult _ fits = absurd fits
-body_has_kind commands kinds.Finish _ fits = absurd fits
-body_has_kind commands kinds.Nack _ fits = absurd fits
-body_has_kind commands kinds.Refused _ fits = absurd fits
-body_has_kind commands kinds.Register _ fits = absurd fits
-body_has_kind commands kinds.Heartbeat _ fits = absurd fits
-body_has_kind commands kinds.Pull _ fits = absurd fits
-body_has_kind commands kinds.List _ fits = absurd fits
-body_has_kind commands kinds.Report _ fits = absurd fits
-body_has_kind commands kinds.Told _ fits = absurd fits
+pub body_has_kind : {S C : Type 0} (meaning : Meaning S C) (k : Kind) (b : Body S C) → (body meaning k).Fits b → kind_of b ≡ k
+body_has_kind meaning kinds.VoteRequest (bodies.VoteRequest _) fits = refl
+body_has_kind meaning kinds.VoteReply (bodies.VoteReply _) fits = refl
+body_has_kind meaning kinds.Append (bodies.Append _) fits = refl
+body_has_kind meaning kinds.AppendReply (bodies.AppendReply _) fits = refl
+body_has_kind meaning kinds.Take (bodies.Request requests.Take) fits = refl
+body_has_kind meaning kinds.Delivered (bodies.Response (responses.Delivered _)) fits = refl
+body_has_kind meaning kinds.Submit (bodies.Request (requests.Submit _)) fits = refl
+body_has_kind meaning kinds.PlanResult (bodies.Response (responses.PlanResult _)) fits = refl
+body_has_kind meaning kinds.Finish (bodies.Request (requests.Finish _ _ _)) fits = refl
+body_has_kind meaning kinds.Nack (bodies.Request (requests.Nack _ _)) fits = refl
+body_has_kind meaning kinds.Refused (bodies.Response (responses.Refused _ _)) fits = refl
+body_has_kind meaning kinds.Register (bodies.Register _ _) fits = refl
+body_has_kind meaning kinds.Heartbeat bodies.Heartbeat fits = refl
+body_has_kind meaning kinds.Pull bodies.Pull fits = refl
+body_has_kind meaning kinds.List (bodies.List _ _) fits = refl
+body_has_kind meaning kinds.Report (bodies.Report _) fits = refl
+body_has_kind meaning kinds.Told (bodies.Told _ _) fits = refl
+body_has_kind meaning kinds.VoteRequest _ fits = absurd fits
+body_has_kind meaning kinds.VoteReply _ fits = absurd fits
+body_has_kind meaning kinds.Append _ fits = absurd fits
+body_has_kind meaning kinds.AppendReply _ fits = absurd fits
+body_has_kind meaning kinds.Take _ fits = absurd fits
+body_has_kind meaning kinds.Delivered _ fits = absurd fits
+body_has_kind meaning kinds.Submit _ fits = absurd fits
+body_has_kind meaning kinds.PlanResult _ fits = absurd fits
+body_has_kind meaning kinds.Finish _ fits = absurd fits
+body_has_kind meaning kinds.Nack _ fits = absurd fits
+body_has_kind meaning kinds.Refused _ fits = absurd fits
+body_has_kind meaning kinds.Register _ fits = absurd fits
+body_has_kind meaning kinds.Heartbeat _ fits = absurd fits
+body_has_kind meaning kinds.Pull _ fits = absurd fits
+body_has_kind meaning kinds.List _ fits = absurd fits
+body_has_kind meaning kinds.Report _ fits = absurd fits
+body_has_kind meaning kinds.Told _ fits = absurd fits
 
 -- no body is longer than a frame has room for, where no command is longer than 65,536 bytes
-pub body_is_short : (S : Type 0) {C : Type 0} (commands : Format C) → commands.most ≤ 65536 → (k : Kind) → (body {S = S} commands k).most ≤ 16777208
-body_is_short S commands short kinds.VoteRequest = omega arith
-body_is_short S commands short kinds.VoteReply = omega arith
-body_is_short S commands short kinds.Append = omega arith
-body_is_short S commands short kinds.AppendReply = omega arith
-body_is_short S commands short kinds.Take = omega arith
-body_is_short S commands short kinds.Delivered = omega arith
-body_is_short S commands short kinds.Submit = omega arith
-body_is_short S commands short kinds.PlanResult = omega arith
-body_is_short S commands short kinds.Finish = omega arith
-body_is_short S commands short kinds.Nack = omega arith
-body_is_short S commands short kinds.Refused = omega arith
-body_is_short S commands short kinds.Register = omega arith
-body_is_short S commands short kinds.Heartbeat = omega arith
-body_is_short S commands short kinds.Pull = omega arith
-body_is_short S commands short kinds.List = omega arith
-body_is_short S commands short kinds.Report = omega arith
-body_is_short S commands short kinds.Told = omega arith
+pub body_is_short : {S C : Type 0} (meaning : Meaning S C) → meaning.commands.most ≤ 65536 → (k : Kind) → (body meaning k).most ≤ 16777208
+body_is_short meaning short kinds.VoteRequest = omega arith
+body_is_short meaning short kinds.VoteReply = omega arith
+body_is_short meaning short kinds.Append = omega arith
+body_is_short meaning short kinds.AppendReply = omega arith
+body_is_short meaning short kinds.Take = omega arith
+body_is_short meaning short kinds.Delivered = omega arith
+body_is_short meaning short kinds.Submit = omega arith
+body_is_short meaning short kinds.PlanResult = omega arith
+body_is_short meaning short kinds.Finish = omega arith
+body_is_short meaning short kinds.Nack = omega arith
+body_is_short meaning short kinds.Refused = omega arith
+body_is_short meaning short kinds.Register = omega arith
+body_is_short meaning short kinds.Heartbeat = omega arith
+body_is_short meaning short kinds.Pull = omega arith
+body_is_short meaning short kinds.List = omega arith
+body_is_short meaning short kinds.Report = omega arith
+body_is_short meaning short kinds.Told = omega arith

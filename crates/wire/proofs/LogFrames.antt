@@ -6,9 +6,10 @@ use Rattle.rows.specs.declared.refusal.Refusal.{Refusal}
 use Rattle.rows.specs.declared.refusal.Refusal.TheVariants as refusals
 use Rattle.rows.specs.declared.actor.Actor.{Actor}
 use Rattle.rows.specs.declared.actor.Actor.TheVariants.{Server, Client}
-use Rattle.fields_model.specs.Format.{Answers, Gives, Refuses, Format, IsBytes, spelled}
+use Rattle.fields_model.specs.Format.{Answers, Gives, Refuses, IsBytes, spelled}
 use Rattle.fields_model.specs.Fields.{actor}
 use Rattle.fields_model.proofs.FormatLaws.{past, length-spelled}
+use Rattle.machine_model.specs.Meaning.{Meaning}
 use Rattle.wire.specs.declared.kind.Kind.{Kind}
 use Rattle.wire.specs.declared.kind.Kind.TheVariants as kinds
 use Rattle.wire.specs.declared.header.Header.{Header}
@@ -37,11 +38,11 @@ header_named kinds bytes h at fits read =
     let stands = header_lawful.found bytes 0 h at fits read in
     kind_named kinds bytes h (drop at bytes) stands.fits stands.here
 
-pub named_of : {S C : Type 0} (commands : Format C) → ShortCommands commands → (bytes : List ℕ) (r : Result (Message S C) Refusal) → IsBytes bytes → Gives r (message_at commands bytes) → IfOk r (λ m. is_of_log (kind_of m.body) ≡ is_log_frame bytes)
-named_of commands law bytes (Ok m) fits given =
-    let found = message_found commands law bytes m fits given in
+pub named_of : {S C : Type 0} (meaning : Meaning S C) → ShortCommands meaning.commands → (bytes : List ℕ) (r : Result (Message S C) Refusal) → IsBytes bytes → Gives r (message_at meaning bytes) → IfOk r (λ m. is_of_log (kind_of m.body) ≡ is_log_frame bytes)
+named_of meaning law bytes (Ok m) fits given =
+    let found = message_found meaning law bytes m fits given in
     kind_named is_of_log bytes (header_of m) _ found.0.header_fits found.1
-named_of commands law bytes (Err e) fits given = tt
+named_of meaning law bytes (Err e) fits given = tt
 
 -- ---- when memory may be lacking
 

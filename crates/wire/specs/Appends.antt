@@ -1,7 +1,7 @@
 -- What a leader replicates with. It stands alone, since the bodies cite it, and the formats cite
 -- these.
 use Rattle.std.specs.Prelude.{List}
-use Rattle.machine.specs.declared.entry.Entry.{Entry}
+use Rattle.machine_model.specs.declared.entry.Entry.{Entry}
 use Rattle.wire.specs.declared.append.AppendHead.{AppendHead}
 
 -- a leader sends the entries behind a place of its log, over the commands C

@@ -2,6 +2,7 @@
 use Rattle.std.specs.Prelude.{◌≡◌, ℕ, ◌+◌, ◌^◌, Bool, false, List, [], ◌∷◌, ◌++◌, length, Result, Ok, Err, ◌&&◌, nat_eq, nat_le, if◌then◌else◌}
 use Rattle.fields_model.specs.Format.{Reading, ◌>>=◌, Format, spelled, number_at}
 use Rattle.rows.specs.declared.actor.Actor.{Actor}
+use Rattle.machine_model.specs.Meaning.{Meaning}
 use Rattle.wire.specs.declared.kind.Kind.{Kind}
 use Rattle.wire.specs.declared.header.Header.{Header}
 use Rattle.wire.specs.Messages.{Message, kind_of, is_of_log, holds_list}
@@ -37,25 +38,25 @@ abbrev pub header_of : {S C : Type 0} → Message S C → Header
 header_of m = record { kind = kind_of m.body; from = m.from; to = m.to }
 
 -- the one frame of a message
-abbrev pub message_text : {S C : Type 0} → Format C → Message S C → List ℕ
-message_text commands m = frame_text header (λ h. body commands h.kind) (header_of m) m.body
+abbrev pub message_text : {S C : Type 0} → Meaning S C → Message S C → List ℕ
+message_text meaning m = frame_text header (λ h. body meaning h.kind) (header_of m) m.body
 
 -- which messages have a frame: each part is within its range
-pub record MessageFits {S C : Type 0} (commands : Format C) (m : Message S C) : Type 0 where
+pub record MessageFits {S C : Type 0} (meaning : Meaning S C) (m : Message S C) : Type 0 where
   pub header_fits : header.Fits (header_of m)
-  pub body_fits : (body commands (kind_of m.body)).Fits m.body
+  pub body_fits : (body meaning (kind_of m.body)).Fits m.body
 
 -- the bytes are the frame of the message, which has one
-abbrev pub IsFrame : {S C : Type 0} → Format C → Message S C → List ℕ → Type 0
-IsFrame commands m bytes = MessageFits commands m × (bytes ≡ message_text commands m)
+abbrev pub IsFrame : {S C : Type 0} → Meaning S C → Message S C → List ℕ → Type 0
+IsFrame meaning m bytes = MessageFits meaning m × (bytes ≡ message_text meaning m)
 
 -- the frame of the message, which has one, comes to the end of the bytes
-abbrev pub AddsFrame : {S C : Type 0} → Format C → Message S C → List ℕ → List ℕ → Type 0
-AddsFrame commands m old new = MessageFits commands m × (new ≡ old ++ message_text commands m)
+abbrev pub AddsFrame : {S C : Type 0} → Meaning S C → Message S C → List ℕ → List ℕ → Type 0
+AddsFrame meaning m old new = MessageFits meaning m × (new ≡ old ++ message_text meaning m)
 
 -- the message of a frame, or the place of its first fault
-unfoldable pub message_at : {S C : Type 0} → Format C → List ℕ → Result (Message S C) ℕ
-message_at commands bytes = frame_at header (λ h. body commands h.kind) (λ h b. record { from = h.from; to = h.to; body = b }) bytes
+unfoldable pub message_at : {S C : Type 0} → Meaning S C → List ℕ → Result (Message S C) ℕ
+message_at meaning bytes = frame_at header (λ h. body meaning h.kind) (λ h b. record { from = h.from; to = h.to; body = b }) bytes
 
 -- what was read is one of these kinds
 abbrev pub reads_one_of : (Kind → Bool) → Reading Kind → Bool
@@ -75,9 +76,9 @@ pub record Frame : Type 0 where
   pub to : Actor
   pub bytes : List ℕ
 
-abbrev pub frame_of : {S C : Type 0} → Format C → Message S C → Frame
-frame_of commands m = record { to = m.to; bytes = message_text commands m }
+abbrev pub frame_of : {S C : Type 0} → Meaning S C → Message S C → Frame
+frame_of meaning m = record { to = m.to; bytes = message_text meaning m }
 
 -- the frame of the message, which has one, comes to the end of the frames
-abbrev pub ListsFrame : {S C : Type 0} → Format C → Message S C → List Frame → List Frame → Type 0
-ListsFrame commands m old new = MessageFits commands m × (new ≡ old ++ frame_of commands m ∷ [])
+abbrev pub ListsFrame : {S C : Type 0} → Meaning S C → Message S C → List Frame → List Frame → Type 0
+ListsFrame meaning m old new = MessageFits meaning m × (new ≡ old ++ frame_of meaning m ∷ [])

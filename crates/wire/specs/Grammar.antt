@@ -3,8 +3,9 @@ use Rattle.std.specs.Prelude.{ℕ, ◌-◌, ◌^◌, min, List, [], ◌∷◌, O
 use Rattle.fields_model.specs.Format.{Format, number, ◌then◌, depends, made, list, placed, variant, coded, kept, numbered}
 use Rattle.fields_model.specs.Fields.{term, index, bool, actor}
 use Rattle.rows.specs.declared.actor.Actor.{Actor}
-use Rattle.machine.specs.declared.entry.Entry.{Entry}
-use Rattle.machine.specs.Entries.{entry}
+use Rattle.machine_model.specs.Meaning.{Meaning}
+use Rattle.machine_model.specs.declared.entry.Entry.{Entry}
+use Rattle.machine_model.specs.Entries.{entry}
 use Rattle.wire.specs.declared.kind.Kind.{Kind}
 use Rattle.wire.specs.declared.kind.Kind.TheVariants as kinds
 use Rattle.wire.specs.declared.header.Header.{Header}
@@ -121,21 +122,21 @@ append_reply_of (bodies.AppendReply v) = Some v
 append_reply_of _ = None
 
 -- what stands behind the header of each kind
-abbrev pub body : {S C : Type 0} → Format C → Kind → Format (Body S C)
-body commands kinds.VoteRequest = variant (λ v. bodies.VoteRequest v) vote_request_of vote_request
-body commands kinds.VoteReply = variant (λ v. bodies.VoteReply v) vote_reply_of vote_reply
-body commands kinds.Append = variant (λ v. bodies.Append v) append_of (append commands)
-body commands kinds.AppendReply = variant (λ v. bodies.AppendReply v) append_reply_of append_reply
-body commands kinds.Take = take_body
-body commands kinds.Delivered = delivered_body
-body commands kinds.Submit = submit_body
-body commands kinds.PlanResult = plan_result_body
-body commands kinds.Finish = finish_body
-body commands kinds.Nack = nack_body
-body commands kinds.Refused = refused_body
-body commands kinds.Register = register_body
-body commands kinds.Heartbeat = heartbeat_body
-body commands kinds.Pull = pull_body
-body commands kinds.List = list_body
-body commands kinds.Report = report_body
-body commands kinds.Told = told_body
+abbrev pub body : {S C : Type 0} → Meaning S C → Kind → Format (Body S C)
+body meaning kinds.VoteRequest = variant (λ v. bodies.VoteRequest v) vote_request_of vote_request
+body meaning kinds.VoteReply = variant (λ v. bodies.VoteReply v) vote_reply_of vote_reply
+body meaning kinds.Append = variant (λ v. bodies.Append v) append_of (append meaning.commands)
+body meaning kinds.AppendReply = variant (λ v. bodies.AppendReply v) append_reply_of append_reply
+body meaning kinds.Take = take_body
+body meaning kinds.Delivered = delivered_body
+body meaning kinds.Submit = submit_body
+body meaning kinds.PlanResult = plan_result_body
+body meaning kinds.Finish = finish_body
+body meaning kinds.Nack = nack_body
+body meaning kinds.Refused = refused_body
+body meaning kinds.Register = register_body
+body meaning kinds.Heartbeat = heartbeat_body
+body meaning kinds.Pull = pull_body
+body meaning kinds.List = list_body
+body meaning kinds.Report = report_body
+body meaning kinds.Told = told_body

@@ -81,7 +81,7 @@ pub fn read_body<M: Machine>(
 ) -> Result<(Body<M>, usize), Refusal>
     // Memory is wanted for a kind that holds a list alone.
     ensures value { Answers (holds_list kind ≡ true) result
-        ((body M.meaning.commands kind).read bytes.now at) }
+        ((body M.meaning kind).read bytes.now at) }
     ensures same_kind { IfOk result (λ b. kind_of b.0 ≡ kind) }
 {
     match kind {
@@ -129,7 +129,7 @@ pub fn read_body<M: Machine>(
 /// Puts the body to the end.
 #[inline(never)]
 pub fn append_body<M: Machine>(value: &Body<M>, out: &mut Vec<u8>) -> Result<(), NoMemory>
-    ensures { Puts (body M.meaning.commands (kind_of value.now)) value.now result out.old.items out.new.items }
+    ensures { Puts (body M.meaning (kind_of value.now)) value.now result out.old.items out.new.items }
 {
     match value {
         Body::VoteRequest(request) => request.append(out),
@@ -183,7 +183,7 @@ impl<'a, M: Machine> Said<'a, M> {
 #[inline(always)]
 pub fn append_said<M: Machine>(said: &Said<'_, M>, out: &mut Vec<u8>) -> Result<(), NoMemory>
     requires { HavePlaces said.now }
-    ensures { Puts (body M.meaning.commands (kind_of (said_body said.now))) (said_body said.now)
+    ensures { Puts (body M.meaning (kind_of (said_body said.now))) (said_body said.now)
         result out.old.items out.new.items }
 {
     match said {

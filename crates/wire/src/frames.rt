@@ -106,7 +106,7 @@ impl Frames {
 
     /// Puts the frame of a message to the end, for the message's receiver, or changes nothing.
     pub fn send<M: Machine>(&mut self, message: &Message<M>) -> Result<(), NoMemory>
-        ensures ok { OnOk result (ListsFrame M.meaning.commands message.now self.old self.new) }
+        ensures ok { OnOk result (ListsFrame M.meaning message.now self.old self.new) }
         ensures err { OnErr result (self.new ≡ self.old) }
     {
         self.ends.reserve(1)?;
@@ -131,7 +131,7 @@ impl Frames {
         requires allowed { may_go kinds.Append (actors.Server from) (actors.Server to) ≡ true }
         requires few { length entries.now ≤ 32 }
         requires places { head.now.prev_index + length entries.now < 2 ^ 40 }
-        ensures ok { OnOk result (ListsFrame M.meaning.commands (append_message {S = M} from to head.now entries.now)
+        ensures ok { OnOk result (ListsFrame M.meaning (append_message {S = M} from to head.now entries.now)
             self.old self.new) }
         ensures err { OnErr result (self.new ≡ self.old) }
     {
@@ -154,7 +154,7 @@ impl Frames {
         reply: &AppendReply,
     ) -> Result<(), NoMemory>
         requires { may_go kinds.AppendReply (actors.Server from) (actors.Server to) ≡ true }
-        ensures ok { OnOk result (ListsFrame M.meaning.commands (answer_message {S = M} from to reply.now)
+        ensures ok { OnOk result (ListsFrame M.meaning (answer_message {S = M} from to reply.now)
             self.old self.new) }
         ensures err { OnErr result (self.new ≡ self.old) }
     {

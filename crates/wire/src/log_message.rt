@@ -100,7 +100,7 @@ fn read_log_body<M: Machine>(
 ) -> Result<(LogBody<M>, usize), Refusal>
     requires { is_of_log kind ≡ true }
     ensures { AnswersLogBody (holds_list kind ≡ true) result
-        ((body M.meaning.commands kind).read bytes.now at) }
+        ((body M.meaning kind).read bytes.now at) }
 {
     match kind {
         Kind::VoteRequest => {
@@ -140,7 +140,7 @@ fn server_of(actor: &Actor) -> ServerId
 fn read_log_frame<M: Machine>(alloc: Global, bytes: &[u8]) -> Result<LogMessage<M>, Refusal>
     requires { is_log_frame bytes.now ≡ true }
     ensures exact { Answers (frame_holds_list bytes.now ≡ true) result
-        (message_at M.meaning.commands bytes.now) }
+        (message_at M.meaning bytes.now) }
     ensures log { IfOk result (λ m. is_of_log (kind_of m.body) ≡ true) }
     ensures allowed { IfOk result (λ m. may_go (kind_of m.body) m.from m.to ≡ true) }
 {
@@ -163,12 +163,12 @@ fn read_log_frame<M: Machine>(alloc: Global, bytes: &[u8]) -> Result<LogMessage<
 pub fn read_log_message<M: Machine>(alloc: Global, bytes: &[u8]) -> Result<LogMessage<M>, Refusal>
     requires { is_log_frame bytes.now ≡ true }
     // What is read has just these bytes.
-    ensures found { IfOk result (λ m. IsFrame M.meaning.commands m bytes.now) }
+    ensures found { IfOk result (λ m. IsFrame M.meaning m bytes.now) }
     // A message's bytes are read, unless memory runs out.
-    ensures only { (m : MessageOf M M.Command) → MessageFits M.meaning.commands m
-        → bytes.now ≡ message_text M.meaning.commands m → Gives result (Ok m) }
+    ensures only { (m : MessageOf M M.Command) → MessageFits M.meaning m
+        → bytes.now ≡ message_text M.meaning m → Gives result (Ok m) }
     // Which field is at fault.
-    ensures exact { Gives result (message_at M.meaning.commands bytes.now) }
+    ensures exact { Gives result (message_at M.meaning bytes.now) }
     // Memory can run out only where the second byte says that there is a list.
     ensures memory { IfErr result (λ e. e ≡ refusals.NoMemory → frame_holds_list bytes.now ≡ true) }
     // It is one by which servers keep one log, and goes where such go.

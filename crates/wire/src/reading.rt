@@ -36,7 +36,7 @@ pub fn read_size(bytes: &[u8], at: usize) -> Result<(u32, usize), Refusal>
 #[tactic(auto, unfolding(crate::specs::Frames::message_at))]
 fn read_frame<M: Machine>(alloc: Global, bytes: &[u8]) -> Result<Message<M>, Refusal>
     ensures { Answers (frame_holds_list bytes.now ≡ true) result
-        (message_at M.meaning.commands bytes.now) }
+        (message_at M.meaning bytes.now) }
 {
     let (header, at) = read_header(alloc, bytes, 0)?;
     let (_, at) = read_size(bytes, at)?;
@@ -55,12 +55,12 @@ fn read_frame<M: Machine>(alloc: Global, bytes: &[u8]) -> Result<Message<M>, Ref
 /// the first of them.
 pub fn read_message<M: Machine>(alloc: Global, bytes: &[u8]) -> Result<Message<M>, Refusal>
     // What is read has just these bytes.
-    ensures found { IfOk result (λ m. IsFrame M.meaning.commands m bytes.now) }
+    ensures found { IfOk result (λ m. IsFrame M.meaning m bytes.now) }
     // A message's bytes are read, unless memory runs out.
-    ensures only { (m : MessageOf M M.Command) → MessageFits M.meaning.commands m
-        → bytes.now ≡ message_text M.meaning.commands m → Gives result (Ok m) }
+    ensures only { (m : MessageOf M M.Command) → MessageFits M.meaning m
+        → bytes.now ≡ message_text M.meaning m → Gives result (Ok m) }
     // Which field is at fault.
-    ensures exact { Gives result (message_at M.meaning.commands bytes.now) }
+    ensures exact { Gives result (message_at M.meaning bytes.now) }
     // Memory can run out only where the second byte says that there is a list.
     ensures memory { IfErr result (λ e. e ≡ refusals.NoMemory → frame_holds_list bytes.now ≡ true) }
     // The second byte says whether the message is one by which servers keep one log.

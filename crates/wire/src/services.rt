@@ -68,7 +68,7 @@ pub fn read_desk_body<M: Machine>(
     requires { is_of_desk kind ≡ true }
     // Memory is wanted for a kind that holds a list alone.
     ensures value { Answers (holds_list kind ≡ true) result
-        ((body M.meaning.commands kind).read bytes.now at) }
+        ((body M.meaning kind).read bytes.now at) }
     ensures same_kind { IfOk result (λ b. kind_of b.0 ≡ kind) }
 {
     match kind {
@@ -111,7 +111,7 @@ pub fn append_request<M: Machine>(
     request: &WorkerRequest,
     out: &mut Vec<u8>,
 ) -> Result<(), NoMemory>
-    ensures { Puts (body {S = M} M.meaning.commands (request_kind request.now)) (bodies.Request request.now)
+    ensures { Puts (body M.meaning (request_kind request.now)) (bodies.Request request.now)
         result out.old.items out.new.items }
 {
     match request {
@@ -134,7 +134,7 @@ pub fn append_response<M: Machine>(
     response: &WorkerResponse,
     out: &mut Vec<u8>,
 ) -> Result<(), NoMemory>
-    ensures { Puts (body {S = M} M.meaning.commands (response_kind response.now)) (bodies.Response response.now)
+    ensures { Puts (body M.meaning (response_kind response.now)) (bodies.Response response.now)
         result out.old.items out.new.items }
 {
     match response {

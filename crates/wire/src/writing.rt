@@ -27,7 +27,7 @@ fn put_size(out: &mut Vec<u8>, at: usize)
 #[inline(always)]
 fn append_sized<M: Machine>(said: &Said<'_, M>, out: &mut Vec<u8>) -> Result<(), NoMemory>
     requires { HavePlaces said.now }
-    ensures ok { OnOk result (AddsSized (body M.meaning.commands (kind_of (said_body said.now)))
+    ensures ok { OnOk result (AddsSized (body M.meaning (kind_of (said_body said.now)))
         (said_body said.now) out.old.items out.new.items) }
     ensures err { OnErr result (Grows out.old.items out.new.items) }
 {
@@ -49,7 +49,7 @@ fn append_frame<M: Machine>(
 ) -> Result<(), NoMemory>
     requires allowed { may_go (kind_of (said_body said.now)) from.now to.now ≡ true }
     requires places { HavePlaces said.now }
-    ensures ok { OnOk result (AddsFrame M.meaning.commands
+    ensures ok { OnOk result (AddsFrame M.meaning
         (record { from = from.now; to = to.now; body = said_body said.now }) out.old.items out.new.items) }
     ensures err { OnErr result (Grows out.old.items out.new.items) }
 {
@@ -74,7 +74,7 @@ pub fn write_frame<M: Machine>(
 ) -> Result<(), NoMemory>
     requires allowed { may_go (kind_of (said_body said.now)) from.now to.now ≡ true }
     requires places { HavePlaces said.now }
-    ensures ok { OnOk result (AddsFrame M.meaning.commands
+    ensures ok { OnOk result (AddsFrame M.meaning
         (record { from = from.now; to = to.now; body = said_body said.now }) out.old.items out.new.items) }
     ensures err { OnErr result (out.new.items ≡ out.old.items) }
 {
@@ -88,7 +88,7 @@ pub fn write_frame<M: Machine>(
 
 /// Puts the one frame of a message to the end, or changes nothing.
 pub fn write_message<M: Machine>(message: &Message<M>, out: &mut Vec<u8>) -> Result<(), NoMemory>
-    ensures ok { OnOk result (AddsFrame M.meaning.commands message.now out.old.items out.new.items) }
+    ensures ok { OnOk result (AddsFrame M.meaning message.now out.old.items out.new.items) }
     ensures err { OnErr result (out.new.items ≡ out.old.items) }
 {
     let said = Said::Body(message.body());

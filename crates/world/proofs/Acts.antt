@@ -5,7 +5,7 @@ use Rattle.std.proofs.lemmas.Option.{same_Some, slice_get_read}
 use Rattle.std.specs.List.{AllZip}
 use Rattle.rows.specs.declared.refusal.Refusal.{Refusal}
 use Rattle.rows.specs.declared.refusal.Refusal.TheVariants as refusals
-use Rattle.machine.specs.Meaning.{Meaning}
+use Rattle.machine_model.specs.Meaning.{Meaning}
 use Rattle.wire.specs.Messages.{Message as WireMessage}
 use Rattle.wire.specs.Frames.{MessageFits, message_at, message_text}
 use Rattle.raft_model.specs.Messages.{Message}
@@ -154,7 +154,7 @@ module _ {S C : Type 0} (m : Meaning S C) (old : WorldView C) (e : Event C) (i :
           world = subst (λ x. IsRaftWorld m x) (sym is) a.reached;
         }
 
-    module _ (again : (y : WireMessage S C) → MessageFits m.commands y → message_at m.commands (message_text m.commands y) ≡ Ok y)
+    module _ (again : (y : WireMessage S C) → MessageFits m y → message_at m (message_text m y) ≡ Ok y)
         (within : (n : ℕ) (events : List (Event C)) (past : List (World C)) (w : World C) → Run m n events past w → (k : ℕ) (x : Message C) → slice_get w.sent k ≡ Some x → IsAmongMembers n x) where
       addressed : (past : List (World C)) (w : World C) → RunsTo m old past w → (x : Input C) → WasSent w i x → IsAddressed h.size h.me x
       addressed past w run (Arrives x) came = let q = within (length old.servers) old.trace past w run.run came.0 x came.1 in (omega (arith, q.from, size_is), omega (arith, came.2, me_is))

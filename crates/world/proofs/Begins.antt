@@ -1,7 +1,7 @@
 -- The first servers of a group, as they are made.
 use Rattle.std.proofs.Common.{◌≡◌, ℕ, zero, suc, ◌+◌, ◌⊎◌, inl, inr, Some, List, [], ◌∷◌, ◌++◌, length, length-append, replicate, refl, sym, ap, ◌∙◌, subst, arith, slice_get}
 use Rattle.std.specs.List.{AllZip}
-use Rattle.machine.specs.Meaning.{Meaning}
+use Rattle.machine_model.specs.Meaning.{Meaning}
 use Rattle.raft_model.specs.Servers.{newcomer}
 use Rattle.raft_model.specs.Worlds.{first, start, Run}
 use Rattle.raft_core.specs.RaftView.{RaftView}

@@ -99,7 +99,7 @@ goes (actors.Client c) (actors.Client d) _ x is = absurd (cc is)
 -- the bytes are read as the message
 record ReadAs (bytes : List ℕ) (x : GroupMessage) : Type 0 where
   read : WireMessage State Command
-  is : message_at cluster_meaning.commands bytes ≡ Ok read
+  is : message_at cluster_meaning bytes ≡ Ok read
   from_is : read.from ≡ sender_of x
   to_is : read.to ≡ receiver_of x
 
@@ -109,12 +109,12 @@ sender_in n (Service (BetweenServers from to message)) inside = lt-ltb from n in
 sender_in n (Service (ToServer client server request)) inside = refl
 sender_in n (Service (ToClient server client response)) inside = lt-ltb server n inside
 
-module _ (again : (y : WireMessage State Command) → MessageFits cluster_meaning.commands y → message_at cluster_meaning.commands (message_text cluster_meaning.commands y) ≡ Ok y) where
+module _ (again : (y : WireMessage State Command) → MessageFits cluster_meaning y → message_at cluster_meaning (message_text cluster_meaning y) ≡ Ok y) where
   reads : (bytes : List ℕ) (x : GroupMessage) → IsGroupFrame cluster_meaning bytes x → ReadAs bytes x
-  reads bytes (Raft message) f = record { read = f.read; is = ap (λ t. message_at cluster_meaning.commands t) f.text ∙ again f.read f.fits; from_is = f.means.from; to_is = f.means.to }
+  reads bytes (Raft message) f = record { read = f.read; is = ap (λ t. message_at cluster_meaning t) f.text ∙ again f.read f.fits; from_is = f.means.from; to_is = f.means.to }
   reads bytes (Service message) f =
       let g = goes f.read.from f.read.to f.read.body message f.means in
-      record { read = f.read; is = ap (λ t. message_at cluster_meaning.commands t) f.text ∙ again f.read f.fits; from_is = g.from_is; to_is = g.to_is }
+      record { read = f.read; is = ap (λ t. message_at cluster_meaning t) f.text ∙ again f.read f.fits; from_is = g.from_is; to_is = g.to_is }
 
   -- what was sent to this server is not refused for its bytes
   readable : (n me : ℕ) (bytes : List ℕ) (x : GroupMessage) → IsGroupFrame cluster_meaning bytes x → IsFromMember n x → receiver_of x ≡ actors.Server me → bytes_refusal n me bytes ≡ None
@@ -169,7 +169,7 @@ pub down_takes : (n i : ℕ) (s : Member) (x : GroupMessage) → is_up s.raft.mo
 down_takes n i s (Raft message) down = rw down refl
 down_takes n i s (Service message) down = rw down refl
 
-pub sent_to_server : ((y : WireMessage State Command) → MessageFits cluster_meaning.commands y → message_at cluster_meaning.commands (message_text cluster_meaning.commands y) ≡ Ok y) →
+pub sent_to_server : ((y : WireMessage State Command) → MessageFits cluster_meaning y → message_at cluster_meaning (message_text cluster_meaning y) ≡ Ok y) →
     (view : ServerView) (frames : List Frame) (place : ℕ) (w : World) (i : ℕ) (s : Member) → AllZip (CarriesGroup cluster_meaning) frames w.sent → IsSentTo frames place (actors.Server i) →
     view.raft.me ≡ i → view.raft.size ≡ length w.servers → slice_get w.servers i ≡ Some s → ServerTakes view (FrameBytes (bytes_of (slice_get frames place))) w (Deliver place) i s
 sent_to_server again view frames place w i s z sent me size here =
@@ -205,7 +205,7 @@ pub down_hears : (n : ℕ) (c : Client) (life : Option Life) (from : ℕ) (respo
 down_hears n c None from response down = refl
 down_hears n c (Some l) from response down = absurd (cc down)
 
-pub sent_to_client : ((y : WireMessage State Command) → MessageFits cluster_meaning.commands y → message_at cluster_meaning.commands (message_text cluster_meaning.commands y) ≡ Ok y) →
+pub sent_to_client : ((y : WireMessage State Command) → MessageFits cluster_meaning y → message_at cluster_meaning (message_text cluster_meaning y) ≡ Ok y) →
     (view : AgentView) (frames : List Frame) (place : ℕ) (w : World) (c : ℕ) → AllZip (CarriesGroup cluster_meaning) frames w.sent → IsSentTo frames place (actors.Client c) →
     view.client.node.number ≡ c → view.size ≡ length w.servers → client_at w.clients c ≡ Some view.client → ClientTakes view (client_inputs.Frame (bytes_of (slice_get frames place))) w (Deliver place) c
 sent_to_client again view frames place w c z sent number size here =

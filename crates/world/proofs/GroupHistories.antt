@@ -7,9 +7,9 @@ use Rattle.raft_model.specs.Servers.{Mode, Down, Follower, Candidate, Leader, is
 use Rattle.group_model.specs.Inputs.{Arrives, Timeout, Beat, Request, TakeFrom, SubmitTo, FinishAt, NackAt, PlanTurn, Lapse, Expire, DrainTurn, FreeTurn, Reap, Compact, Crash, Restart}
 use Rattle.group_model.specs.Members.{Member}
 use Rattle.group_model.specs.Worlds.{Event}
-use Rattle.server.specs.ServerViews.{ServerView, IsMember, SameMember, crashed_member, group_desk}
+use Rattle.server.specs.ServerViews.{ServerView, IsMember, SameMember, crashed_member}
 use Rattle.server.specs.Handings.{Handing, FrameBytes, OwnInput}
-use Rattle.server.specs.Refusals.{MayLackMemory, NoMemoryLeaves, HandingRefusalLeaves, IsHandingRefused}
+use Rattle.server.specs.Refusals.{MayLackMemory, NoMemoryLeaves, NoMemoryStays, HandingStays, IsHandingRefused}
 use Rattle.world.specs.declared.group.event.Event.{Event as GroupEvent}
 use Rattle.world.specs.GroupEvents.{group_event, group_events}
 use Rattle.world.specs.Inner.GroupInputs.{is_restart_input}
@@ -21,13 +21,6 @@ pub one_group_event_more : (before after was : List GroupEvent) (e : GroupEvent)
 one_group_event_more before after was e same is = ap group_events is ∙ (map-append group_event before (e ∷ []) ∙ ap (λ l. group_events l ++ group_event e ∷ []) same)
 
 -- ---- a server
-
--- the server that a value is
-abbrev pub member_of : ServerView → Member
-member_of view = record { raft = view.raft.server; desk = group_desk view.desk }
-
-pub is_member_of : (view : ServerView) → IsMember view (member_of view)
-is_member_of view = record { raft = refl; desk = refl }
 
 leads_up : (mode : Mode) → is_leader mode ≡ true → is_up mode ≡ true
 leads_up Down h = absurd (cc)
@@ -57,30 +50,36 @@ module _ (old new : ServerView) (s : Member) where
   member_fell (OwnInput Crash) other may left = absurd may
   member_fell (OwnInput Restart) other may left = absurd (cc)
 
-  -- but that of a restart, which changes nothing
-  pub member_stayed : (h : Handing) → is_restart_input h ≡ true → MayLackMemory old.raft.size s h → NoMemoryLeaves old s h new → (is_up s.raft.mode ≡ false) × (new ≡ old)
-  member_stayed (FrameBytes bytes) so may left = absurd (cc)
-  member_stayed (OwnInput (Arrives message)) so may left = absurd (cc)
-  member_stayed (OwnInput Timeout) so may left = absurd (cc)
-  member_stayed (OwnInput Beat) so may left = absurd (cc)
-  member_stayed (OwnInput (Request request)) so may left = absurd (cc)
-  member_stayed (OwnInput (TakeFrom to)) so may left = absurd (cc)
-  member_stayed (OwnInput (SubmitTo to plan)) so may left = absurd (cc)
-  member_stayed (OwnInput (FinishAt to eval token outcome)) so may left = absurd (cc)
-  member_stayed (OwnInput (NackAt to eval token)) so may left = absurd (cc)
-  member_stayed (OwnInput PlanTurn) so may left = absurd (cc)
-  member_stayed (OwnInput (Lapse eval)) so may left = absurd (cc)
-  member_stayed (OwnInput (Expire node beats)) so may left = absurd (cc)
-  member_stayed (OwnInput (DrainTurn node)) so may left = absurd (cc)
-  member_stayed (OwnInput FreeTurn) so may left = absurd (cc)
-  member_stayed (OwnInput Reap) so may left = absurd (cc)
-  member_stayed (OwnInput Compact) so may left = absurd (cc)
-  member_stayed (OwnInput Crash) so may left = absurd (cc)
-  member_stayed (OwnInput Restart) so may left = (may, left)
+  -- but that of a restart, of one that is down
+  pub member_stayed : (h : Handing) → is_restart_input h ≡ true → MayLackMemory old.raft.size s h → is_up s.raft.mode ≡ false
+  member_stayed (FrameBytes bytes) so may = absurd (cc)
+  member_stayed (OwnInput (Arrives message)) so may = absurd (cc)
+  member_stayed (OwnInput Timeout) so may = absurd (cc)
+  member_stayed (OwnInput Beat) so may = absurd (cc)
+  member_stayed (OwnInput (Request request)) so may = absurd (cc)
+  member_stayed (OwnInput (TakeFrom to)) so may = absurd (cc)
+  member_stayed (OwnInput (SubmitTo to plan)) so may = absurd (cc)
+  member_stayed (OwnInput (FinishAt to eval token outcome)) so may = absurd (cc)
+  member_stayed (OwnInput (NackAt to eval token)) so may = absurd (cc)
+  member_stayed (OwnInput PlanTurn) so may = absurd (cc)
+  member_stayed (OwnInput (Lapse eval)) so may = absurd (cc)
+  member_stayed (OwnInput (Expire node beats)) so may = absurd (cc)
+  member_stayed (OwnInput (DrainTurn node)) so may = absurd (cc)
+  member_stayed (OwnInput FreeTurn) so may = absurd (cc)
+  member_stayed (OwnInput Reap) so may = absurd (cc)
+  member_stayed (OwnInput Compact) so may = absurd (cc)
+  member_stayed (OwnInput Crash) so may = absurd (cc)
+  member_stayed (OwnInput Restart) so may = may
+
+-- which changes nothing
+pub same_server : (old new : ServerView) (h : Handing) → is_restart_input h ≡ true → NoMemoryStays old h new → new ≡ old
+same_server old new (OwnInput Restart) so stays = stays
+same_server old new (FrameBytes bytes) so stays = absurd (cc)
+same_server old new (OwnInput x) so stays = absurd (cc)
 
 -- any other refusal leaves the same server, and is that of what is handed in
 pub server_refused : (server after : ServerView) (past : GroupHistoryView) (h : Handing) (e : Event) (cause : Refusal) → cause ≢ refusals.NoMemory →
     ((s : Member) → IsMember server s → IsHandingRefused server.raft.size server.raft.me s h cause) →
-    ((s : Member) → IsMember server s → HandingRefusalLeaves server s h cause after) → SameMember server after × IsServerRefused server past h e cause
-server_refused server after past h e refusals.NoMemory other refused left = absurd (other refl)
-server_refused server after past h e _ other refused left = (left (member_of server) (is_member_of server), refused)
+    HandingStays server h cause after → SameMember server after × IsServerRefused server past h e cause
+server_refused server after past h e refusals.NoMemory other refused stays = absurd (other refl)
+server_refused server after past h e _ other refused stays = (stays, refused)

@@ -22,7 +22,8 @@ use Rattle.group_safety.specs.Limits.{InputFits, EventFits, NodesFit, LimitedRun
 use Rattle.group_safety.proofs.Lists.{set_same}
 use Rattle.group_frames.specs.GroupFrames.{CarriesGroup, SendsGroup}
 use Rattle.server.specs.declared.server.Outbox.{Outbox}
-use Rattle.server.specs.ServerViews.{ServerView, IsMember, SameMember, group_desk, crashed_member}
+use Rattle.server.specs.ServerViews.{ServerView, IsMember, SameMember, crashed_member}
+use Rattle.server.proofs.Members.{same_is}
 use Rattle.server.specs.declared.server_input.ServerInput.{ServerInput}
 use Rattle.server.specs.Handings.{Handing, FrameBytes, OwnInput, handing, bytes_of}
 use Rattle.server.specs.Refusals.{MayLackMemory, handing_refusal}
@@ -71,9 +72,8 @@ members_on (x ∷ xs) [] ss same r = absurd same
 members_on (x ∷ xs) (y ∷ ys) [] same r = absurd r
 members_on (x ∷ xs) (y ∷ ys) (s ∷ ss) same r =
     let one = same.0 in
-    let raft = one.raft in
     let is = r.0 in
-    (record { raft = raft.server ∙ is.raft; desk = ap group_desk one.desk ∙ is.desk }, members_on xs ys ss same.1 r.1)
+    (same_is x y s one is, members_on xs ys ss same.1 r.1)
 
 pub same_group : (view : GroupView) → SameView view view
 same_group view = record { servers = same_members view.servers; clients = refl; outbox = refl; trace = refl; chain = refl }
@@ -419,7 +419,7 @@ module _ (old now : GroupView) (i p : ℕ) (view : ServerView) (same : old ≡ n
   }
 
   -- a frame that was sent to it
-  pub sent_scene : ((y : WireMessage State Command) → MessageFits cluster_meaning.commands y → message_at cluster_meaning.commands (message_text cluster_meaning.commands y) ≡ Ok y) →
+  pub sent_scene : ((y : WireMessage State Command) → MessageFits cluster_meaning y → message_at cluster_meaning (message_text cluster_meaning y) ≡ Ok y) →
       (place : ℕ) → IsSentTo now.outbox.frames place (actors.Server i) → ServerScene old (Deliver place) i view (FrameBytes (bytes_of (slice_get old.outbox.frames place)))
   sent_scene again place sent = record {
     reached = reached;

@@ -3,9 +3,9 @@ use Rattle.std.proofs.Common.{◌≡◌, ℕ, ◌≤◌, Bool, true, false, Bor,
 use Rattle.std.proofs.lemmas.Option.{same_Some}
 use Rattle.std.proofs.lemmas.List.{length-take-le}
 use Rattle.std.specs.Option.{option_copied}
-use Rattle.machine.specs.Meaning.{Meaning, LawfulMachine}
-use Rattle.machine.specs.declared.entry.Entry.{Entry}
-use Rattle.machine.proofs.Afters.{after-count}
+use Rattle.machine_model.specs.Meaning.{Meaning, LawfulMachine}
+use Rattle.machine_model.specs.declared.entry.Entry.{Entry}
+use Rattle.machine_model.proofs.Afters.{after-count}
 use Rattle.raft_model.specs.Logs.{commands, state_after}
 use Rattle.raft_model.specs.Servers.{Server, is_up}
 use Rattle.raft_model.specs.Worlds.{World}

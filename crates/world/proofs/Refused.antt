@@ -3,7 +3,7 @@ use Rattle.std.proofs.Common.{◌≡◌, ◌≢◌, ℕ, ◌<◌, Bool, true, fa
 use Rattle.std.proofs.lemmas.Bool.{lt-ltb, eq-eqb}
 use Rattle.rows.specs.declared.refusal.Refusal.{Refusal}
 use Rattle.rows.specs.declared.refusal.Refusal.TheVariants as refusals
-use Rattle.machine.specs.Meaning.{Meaning}
+use Rattle.machine_model.specs.Meaning.{Meaning}
 use Rattle.wire.specs.Messages.{Message as WireMessage, kind_of, is_of_log}
 use Rattle.wire.specs.declared.body.Body.{Body}
 use Rattle.wire.specs.declared.body.Body.TheVariants as bodies
@@ -16,10 +16,10 @@ use Rattle.raft_core.specs.RaftView.{RaftView}
 use Rattle.raft_core.specs.Frames.{IsFrameOf, log_message}
 use Rattle.raft_core.specs.Inputs.{Handed, Bytes, Own, Reads}
 use Rattle.raft_core.specs.Steps.{Represents}
-use Rattle.raft_core.specs.Refusals.{refusal, refusal_by, frame_refusal, MayLack, IsRefused, LackLeaves, RefusalLeaves}
+use Rattle.raft_core.specs.Refusals.{refusal, refusal_by, frame_refusal, MayLack, IsRefused, LackLeaves, LackStays, RefusalLeaves, Stays}
 use Rattle.world.specs.Steps.{LeftServer}
 use Rattle.world.specs.Inner.HistoryView.{HistoryView}
-use Rattle.world.specs.Inner.Inputs.{is_restart, Leaves, handed_by}
+use Rattle.world.specs.Inner.Inputs.{is_restart, Leaves, StaysOrLeft, handed_by}
 use Rattle.world.specs.Inner.Parts.{IsPartRefused}
 
 refusal_is : {C : Type 0} (q : Result (Turn C) Refusal) (r : Refusal) → refusal_by q ≡ Some r → q ≡ Err r
@@ -52,11 +52,11 @@ said_kind from to (bodies.Report items) x is = absurd (cc is)
 said_kind from to (bodies.Told kind reason) x is = absurd (cc is)
 
 module _ {S C : Type 0} (m : Meaning S C) (n me : ℕ)
-    (again : (y : WireMessage S C) → MessageFits m.commands y → message_at m.commands (message_text m.commands y) ≡ Ok y) where
+    (again : (y : WireMessage S C) → MessageFits m y → message_at m (message_text m y) ≡ Ok y) where
   -- a frame that was sent to this server is not refused for its bytes
   readable : (bytes : List ℕ) (x : Message C) → IsFrameOf m bytes x → x.from < n → x.to ≡ me → frame_refusal m n me bytes ≡ None
   readable bytes x f from to =
-      let read : message_at m.commands bytes ≡ Ok f.read = ap (message_at m.commands) f.text ∙ again f.read f.fits in
+      let read : message_at m bytes ≡ Ok f.read = ap (message_at m) f.text ∙ again f.read f.fits in
       let inside : nat_lt x.from n ≡ true = lt-ltb x.from n from in
       let mine : (x.to == me) ≡ true = eq-eqb x.to me to in
       let f_from = f.means.from in
@@ -93,15 +93,25 @@ module _ {S C : Type 0} (m : Meaning S C) (h h2 : RaftView C) (sent : List Frame
   fallen (Crashes i) other may left = absurd may
   fallen (Restarts i) other may left = absurd (cc)
 
-  -- but that of a restart, which changes nothing
-  pub stayed : (e : Event C) → is_restart e ≡ true → MayLack s.mode (handed_by sent e) → LackLeaves m h s (handed_by sent e) h2 → (is_up s.mode ≡ false) × (h2 ≡ h)
-  stayed (Deliver k) so may left = absurd (cc)
-  stayed (TimesOut i) so may left = absurd (cc)
-  stayed (Beats i) so may left = absurd (cc)
-  stayed (Proposes i command) so may left = absurd (cc)
-  stayed (Compacts i) so may left = absurd (cc)
-  stayed (Crashes i) so may left = absurd (cc)
-  stayed (Restarts i) so may left = (may, left)
+  -- but that of a restart, of one that is down
+  pub stayed : (e : Event C) → is_restart e ≡ true → MayLack s.mode (handed_by sent e) → is_up s.mode ≡ false
+  stayed (Deliver k) so may = absurd (cc)
+  stayed (TimesOut i) so may = absurd (cc)
+  stayed (Beats i) so may = absurd (cc)
+  stayed (Proposes i command) so may = absurd (cc)
+  stayed (Compacts i) so may = absurd (cc)
+  stayed (Crashes i) so may = absurd (cc)
+  stayed (Restarts i) so may = may
+
+-- which changes nothing
+pub same_raft : {C : Type 0} (h h2 : RaftView C) (sent : List Frame) (e : Event C) → is_restart e ≡ true → LackStays (handed_by sent e) h h2 → h2 ≡ h
+same_raft h h2 sent (Deliver k) so left = absurd (cc)
+same_raft h h2 sent (TimesOut i) so left = absurd (cc)
+same_raft h h2 sent (Beats i) so left = absurd (cc)
+same_raft h h2 sent (Proposes i command) so left = absurd (cc)
+same_raft h h2 sent (Compacts i) so left = absurd (cc)
+same_raft h h2 sent (Crashes i) so left = absurd (cc)
+same_raft h h2 sent (Restarts i) so left = left.1
 
 pub as_is : {C : Type 0} (old new : RaftView C) → new ≡ old → LeftServer old new
 as_is old new e = (record { me = ap (λ (x : RaftView _). x.me) e; size = ap (λ (x : RaftView _). x.size) e; server = ap (λ (x : RaftView _). x.server) e }, λ h. ap (λ (x : RaftView _). x.projected) e ∙ h)
@@ -116,9 +126,18 @@ module _ {S C : Type 0} (m : Meaning S C) (old : RaftView C) (h : Handed C) (new
   step_leaves (Ok x) f = tt
   step_leaves (Err cause) f = λ s r. leaves s cause (f s r)
 
+module _ {C : Type 0} (old : RaftView C) (h : Handed C) (new : RaftView C) where
+  stays : (cause : Refusal) → Stays h cause old new → StaysOrLeft h cause old new
+  stays refusals.NoMemory left = left
+  stays _ left = as_is old new left
+
+  pub step_stays : {T : Type 0} (r : Result T Refusal) → IfErr r (λ cause. Stays h cause old new) → IfErr r (λ cause. StaysOrLeft h cause old new)
+  step_stays (Ok x) f = tt
+  step_stays (Err cause) f = stays cause f
+
 -- any other refusal leaves the same server, and is that of what is handed in
 pub part_refused : {S C : Type 0} (m : Meaning S C) (h h2 : RaftView C) (past : HistoryView C) (e : Event C) (cause : Refusal) → cause ≢ refusals.NoMemory →
     ((s : Server C) → Represents m h s → IsRefused m h.size h.me s (handed_by past.sent e) cause) →
-    ((s : Server C) → Represents m h s → Leaves m h s (handed_by past.sent e) cause h2) → LeftServer h h2 × IsPartRefused m h past e cause
+    StaysOrLeft (handed_by past.sent e) cause h h2 → LeftServer h h2 × IsPartRefused m h past e cause
 part_refused m h h2 past e refusals.NoMemory other refused left = absurd (other refl)
-part_refused m h h2 past e _ other refused left = (left h.server refl, refused)
+part_refused m h h2 past e _ other refused left = (left, refused)

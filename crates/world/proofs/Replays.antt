@@ -1,6 +1,6 @@
 -- The run of a list of events comes again when the list is played, unless memory is wanting.
 use Rattle.std.proofs.Common.{◌≡◌, ℕ, ◌⊎◌, inl, inr, Some, Ok, Err, List, [], ◌∷◌, ◌++◌, length, refl, sym, ap, ◌∙◌, subst, slice_get}
-use Rattle.machine.specs.Meaning.{Meaning}
+use Rattle.machine_model.specs.Meaning.{Meaning}
 use Rattle.raft_model.specs.Worlds.{World, Event, Run, start, more, happens, Outcome, Kept, LeftOut, Trace, nothing, kept, crashed, left_out}
 use Rattle.raft_model.specs.Worlds.{Crashed as OutcomeCrashed}
 use Rattle.raft_safety.proofs.Places.{get-more, get-last}

@@ -1,7 +1,7 @@
 -- A list of events has one run.
 use Rattle.std.proofs.Common.{◌≡◌, ℕ, Ok, List, [], ◌∷◌, ◌++◌, length, refl, sym, ap, ◌∙◌, subst}
-use Rattle.machine.specs.Meaning.{Meaning}
-use Rattle.machine.specs.declared.entry.Entry.{Entry}
+use Rattle.machine_model.specs.Meaning.{Meaning}
+use Rattle.machine_model.specs.declared.entry.Entry.{Entry}
 use Rattle.raft_model.specs.Worlds.{World, Event, Run, start, more, happens}
 use Rattle.raft_model.specs.Chains.{Chain}
 use Rattle.raft_safety.specs.Claims.{EachRun, IsGreatestCommit}

@@ -1,7 +1,7 @@
 -- A world in which nothing happened.
 use Rattle.std.proofs.Common.{◌≡◌, ℕ, List, [], ◌∷◌, length, refl, sym, ◌∙◌, subst, slice_set}
 use Rattle.std.specs.List.{AllZip}
-use Rattle.machine.specs.Meaning.{Meaning}
+use Rattle.machine_model.specs.Meaning.{Meaning}
 use Rattle.raft_model.specs.Servers.{Server}
 use Rattle.raft_model.specs.Worlds.{World, Run}
 use Rattle.raft_core.specs.RaftView.{RaftView}

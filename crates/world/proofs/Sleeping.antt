@@ -3,7 +3,7 @@ use Rattle.std.proofs.Common.{◌≡◌, ◌≢◌, ◌⊎◌, inl, inr, ◌&&�
 use Rattle.std.specs.List.{AllZip}
 use Rattle.rows.specs.declared.refusal.Refusal.{Refusal}
 use Rattle.rows.specs.declared.refusal.Refusal.TheVariants as refusals
-use Rattle.machine.specs.Meaning.{Meaning, LawfulMachine, IsMachineRefusal}
+use Rattle.machine_model.specs.Meaning.{Meaning, LawfulMachine, IsMachineRefusal}
 use Rattle.wire.specs.Frames.{Frame}
 use Rattle.raft_model.specs.Logs.{MAX, state_after}
 use Rattle.raft_model.specs.Servers.{Server, Mode, Down, Follower, Candidate, Leader, Turn, is_up, is_leader}

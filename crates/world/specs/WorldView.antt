@@ -3,7 +3,7 @@
 use Rattle.std.specs.Prelude.{◌≡◌, ℕ, Some, List, length, slice_get}
 use Rattle.std.specs.List.{AllZip}
 use Rattle.rows.specs.GroupSizes.{IsGroup}
-use Rattle.machine.specs.Meaning.{Meaning}
+use Rattle.machine_model.specs.Meaning.{Meaning}
 use Rattle.wire.specs.Frames.{Frame}
 use Rattle.raft_model.specs.Worlds.{World, Event, Run}
 use Rattle.raft_core.specs.RaftView.{RaftView}

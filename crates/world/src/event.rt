@@ -1,4 +1,5 @@
 ghost use Rattle.std.specs.Prelude.{◌≡◌, IfOk};
+ghost use Rattle.machine_model.specs.Meaning.{IsCommandOf};
 ghost use Rattle.raft_model.specs.Worlds.{IsEvent};
 ghost use Rattle.world.specs.Events.{world_event};
 ghost use Rattle.world.specs.Inner.Inputs.{is_restart};
@@ -32,7 +33,7 @@ pub(crate) fn command_again<M: Machine>(
     alloc: Global,
     command: &M::Command,
 ) -> Result<M::Command, NoMemory>
-    ensures { IfOk result (λ again. (again ≡ command.now) × M.meaning.commands.Fits again) }
+    ensures { IfOk result (λ again. (again ≡ command.now) × IsCommandOf M.meaning again) }
 {
     let mut text = Vec::new(alloc);
     M::write_command(command, &mut text)?;

@@ -8,7 +8,7 @@ ghost use Rattle.raft_core.specs.Inputs.{Own};
 ghost use Rattle.raft_core.specs.Steps.{Represents, Takes};
 ghost use Rattle.raft_core.specs.Refusals.{IsRefused};
 ghost use Rattle.world.specs.Events.{place_of, world_event};
-ghost use Rattle.world.specs.Inner.Inputs.{ActsIn, NobodyActsIn, IsSent, HasFrame, Leaves, handed_by};
+ghost use Rattle.world.specs.Inner.Inputs.{ActsIn, NobodyActsIn, IsSent, HasFrame, Leaves, StaysOrLeft, handed_by};
 
 use crate::event::RaftEvent;
 use machine::Machine;
@@ -68,6 +68,8 @@ fn propose<M: Machine>(raft: &mut Raft<M>, command: M::Command) -> Result<(), Re
         IsRefused M.meaning raft.old.size raft.old.me s (Own (Propose command)) cause) }
     ensures left { IfErr result (λ cause. (s : Server M.Command) → Represents M.meaning raft.old s →
         Leaves M.meaning raft.old s (Own (Propose command)) cause raft.new) }
+    ensures stays { IfErr result (λ cause.
+        StaysOrLeft (Own (Propose command)) cause raft.old raft.new) }
 {
     match raft.propose(command) {
         Ok(()) => Ok(()),
@@ -125,6 +127,8 @@ pub(crate) fn hand<M: Machine>(
         cause) }
     ensures left { IfErr result (λ cause. (s : Server M.Command) → Represents M.meaning raft.old s →
         Leaves M.meaning raft.old s (handed_by sent.old (world_event event)) cause raft.new) }
+    ensures stays { IfErr result (λ cause.
+        StaysOrLeft (handed_by sent.old (world_event event)) cause raft.old raft.new) }
 {
     match event {
         RaftEvent::Deliver(_) => raft.step(Input::Frame(frame), sent),

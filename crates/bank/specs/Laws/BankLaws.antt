@@ -5,7 +5,7 @@ use Rattle.std.proofs.lemmas.List.{length-set}
 use Rattle.std.proofs.lemmas.List.Elements.{All-nil, All-get_or, All-set, All-push, All-from_recursion, recursion_from_All, All-weaker}
 use Rattle.std.proofs.lemmas.Option.{slice_get_within, get_or_from_slice_get}
 use Rattle.rows.specs.declared.refusal.Refusal.{Refusal}
-use Rattle.machine.specs.Meaning.{LawfulMachine, IsMachineRefusal}
+use Rattle.machine_model.specs.Meaning.{LawfulMachine, IsMachineRefusal}
 use Rattle.bank.specs.BankState.{BankState}
 use Rattle.bank.specs.Outcomes.{MOST_MONEY, raised, lowered, both, with_one, with_two, outcome, command_refusal}
 use Rattle.bank.specs.Texts.{money, balances, bank, bank_command}

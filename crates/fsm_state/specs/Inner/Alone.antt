@@ -1,12 +1,13 @@
 -- A plan looked at alone, where names are held once: what its stops end, what it wants, each node's
 -- use, and the names that it takes.
-use Rattle.std.specs.Prelude.{ℕ, zero, suc, ◌+◌, Bool, true, ◌&&◌, List, [], ◌∷◌, Option, Some, None, nat_le, if◌then◌else◌}
+use Rattle.std.specs.Prelude.{ℕ, zero, suc, ◌+◌, Bool, true, ◌&&◌, List, [], ◌∷◌, Option, Some, None, if◌then◌else◌}
 use Rattle.std.specs.List.{list_any, list_all}
 use Rattle.std.specs.Ordering.{nat_cmp}
 use Rattle.rows.specs.declared.allocation.AllocId.{AllocId}
 use Rattle.rows.specs.declared.allocation.Allocation.{Allocation}
 use Rattle.rows.specs.declared.command.AcceptedPlan.{AcceptedPlan}
 use Rattle.rows.specs.Keys.{alloc_cmp, alloc_id, node_number}
+use Rattle.rows.specs.Sizes.{plus, fits}
 use Rattle.fsm_tables.specs.Rows.{row_of}
 use Rattle.fsm_tables.specs.Claims.{Claim, claim_of, claims, used, is_live}
 use Rattle.fsm_tables.specs.LiveNames.{live_named}
@@ -49,8 +50,7 @@ ended_by (id ∷ ids) rows =
 abbrev pub has_room : State → List Claim → List Claim → ℕ → Bool
 has_room s es ws n =
     let room = room_of (row_of nat_cmp node_number n s.nodes) in
-    nat_le ((used n (claims s.allocs)).cpu + (used n ws).cpu) (room.cpu + (used n es).cpu)
-    && nat_le ((used n (claims s.allocs)).mem + (used n ws).mem) (room.mem + (used n es).mem)
+    fits (plus (used n (claims s.allocs)) (used n ws)) (plus room (used n es))
 
 -- whether so many numbers from one on pass
 abbrev pub all_from : (ℕ → Bool) → ℕ → ℕ → Bool

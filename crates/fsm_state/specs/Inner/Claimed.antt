@@ -1,6 +1,8 @@
 -- What is claimed after a plan, one claim after the other, as the code looks at it.
-use Rattle.std.specs.Prelude.{T, take, ℕ, ◌-◌, Bool, true, not, ◌&&◌, List, [], ◌∷◌, nat_eq, nat_le, if◌then◌else◌}
+use Rattle.std.specs.Prelude.{T, take, ℕ, Bool, true, not, ◌&&◌, List, [], ◌∷◌, nat_eq, if◌then◌else◌}
+use Rattle.rows.specs.declared.size.Size.{Size}
 use Rattle.rows.specs.declared.node.Node.{Node}
+use Rattle.rows.specs.Sizes.{less, fits}
 use Rattle.rows.specs.declared.allocation.Allocation.{Allocation}
 use Rattle.fsm_tables.specs.Claims.{Claim, claim_of, claims, is_live}
 use Rattle.cluster_model.specs.Words.{State}
@@ -8,17 +10,15 @@ use Rattle.cluster_model.specs.Safe.{are_distinct}
 use Rattle.cluster_model.specs.Plans.{is_made}
 
 -- whether what is claimed of a node is within so much
-abbrev pub fits_steps : ℕ → List Claim → ℕ → ℕ → Bool
-fits_steps n [] cpu mem = true
-fits_steps n (c ∷ cs) cpu mem =
-    if nat_eq c.node n then (
-    nat_le c.size.cpu cpu && nat_le c.size.mem mem
-    && fits_steps n cs (cpu - c.size.cpu) (mem - c.size.mem)
-    ) else fits_steps n cs cpu mem
+abbrev pub fits_steps : ℕ → List Claim → Size → Bool
+fits_steps n [] left = true
+fits_steps n (c ∷ cs) left =
+    if nat_eq c.node n then (fits c.size left && fits_steps n cs (less left c.size))
+    else fits_steps n cs left
 
 -- whether what is claimed of a node is within its size
 abbrev pub bears_node : List Claim → Node → Bool
-bears_node cs n = fits_steps n.number cs n.size.cpu n.size.mem
+bears_node cs n = fits_steps n.number cs n.size
 
 -- what a row that the plan does not replace claims, before the rest
 abbrev pub left_one : ℕ → ℕ → Allocation → List Claim → List Claim

@@ -10,6 +10,7 @@ use Rattle.rows.specs.declared.node.Node.{Node}
 use Rattle.rows.specs.declared.evaluation.EvalId.{EvalId}
 use Rattle.rows.specs.declared.evaluation.Evaluation.{Evaluation}
 use Rattle.rows.specs.declared.allocation.Desired.TheVariants as desires
+use Rattle.rows.specs.declared.allocation.ClientState.{ClientState}
 use Rattle.rows.specs.declared.allocation.AllocId.{AllocId}
 use Rattle.rows.specs.declared.allocation.Allocation.{Allocation}
 use Rattle.rows.specs.declared.command.Report.{Report}
@@ -19,7 +20,7 @@ use Rattle.fsm_tables.specs.TableRows.{TableRows}
 use Rattle.fsm_tables.specs.Claims.{is_active, is_live}
 use Rattle.rows.specs.Limits.{most_jobs, most_nodes, most_evals, most_allocs}
 use Rattle.cluster_model.specs.Words.{State, alloc_of, is_open}
-use Rattle.cluster_model.specs.Effect.{lost_row, lost, is_ended_by, client_state_of, with_evals}
+use Rattle.cluster_model.specs.Effect.{client_row, left_as, is_ended_by, client_state_of, with_evals}
 use Rattle.rows.specs.declared.command.StatusChange.{StatusChange}
 use Rattle.rows.specs.Changes.{status_of, snapshot_of}
 
@@ -62,9 +63,9 @@ eval_changed f id s = record s { evals = with_row_changed eval_cmp eval_id most_
 abbrev pub alloc_changed : (Allocation → Allocation) → AllocId → State → State
 alloc_changed f id s = record s { allocs = with_row_changed alloc_cmp alloc_id most_allocs f id s.allocs }
 
--- all that is on a node is lost
-abbrev pub all_lost : ℕ → State → State
-all_lost n s = record s { allocs = map (lost n) s.allocs }
+-- all that is on a node comes into a client state
+abbrev pub all_left : ClientState → ℕ → State → State
+all_left client n s = record s { allocs = map (left_as client n) s.allocs }
 
 -- a node has room from entry x on
 abbrev pub room_at : ℕ → ℕ → List Node → List Node
@@ -159,12 +160,12 @@ abbrev pub live_jobs : List AllocId → State → List (List ℕ)
 live_jobs [] s = []
 live_jobs (id ∷ ids) s = live_job (alloc_of id s) (live_jobs ids s)
 
--- ---- a node's loss: what waits or runs on it is lost, one after the other, and the jobs of what
--- was live
+-- ---- a node's loss: what waits or runs on it comes into a client state, one after the other, and
+-- the jobs of what was live
 
-abbrev pub lost_steps : List Allocation → State → State
-lost_steps [] s = s
-lost_steps (a ∷ rows) s = lost_steps rows (put_alloc (lost_row a) s)
+abbrev pub left_steps : ClientState → List Allocation → State → State
+left_steps client [] s = s
+left_steps client (a ∷ rows) s = left_steps client rows (put_alloc (client_row client a) s)
 
 -- the names of the jobs of rows
 abbrev pub owners : List Allocation → List (List ℕ)

@@ -12,9 +12,9 @@ ghost use Rattle.fsm_state.specs.Inner.Alone.{claim_name, is_name_free, claim_if
 
 use crate::admission::claims::{Claim, add_wanted, are_distinct, claim_by};
 use crate::cluster::{Cluster, is_among};
-use crate::room::{is_enough, taken};
-use fsm_tables::{AllocName, Usage, is_live};
-use rows::{AcceptedPlan, AllocId, NoMemory, NodeId, Ranged, Sequence};
+use crate::room::taken;
+use fsm_tables::{AllocName, is_live};
+use rows::{AcceptedPlan, AllocId, NoMemory, NodeId, Ranged, Sequence, Usage};
 
 /// The name that a claim holds.
 fn named(claim: &Claim) -> AllocName
@@ -30,16 +30,11 @@ fn named(claim: &Claim) -> AllocName
 impl Cluster {
     /// What a node has; nothing where it has no row.
     fn room_of(&self, node: NodeId) -> Usage
-        ensures cpu { result.cpu ≡ (room_of (node_of node self.now)).cpu }
-        ensures mem { result.mem ≡ (room_of (node_of node self.now)).mem }
-        ensures small { (result.cpu ≤ 1000000) × (result.mem ≤ 1000000) }
+        ensures { result ≡ room_of (node_of node self.now) }
     {
         match self.node(node) {
-            Some(row) => Usage {
-                cpu: row.size.cpu.get() as u64,
-                mem: row.size.mem.get() as u64,
-            },
-            None => Usage { cpu: 0, mem: 0 },
+            Some(row) => Usage::of(row.size),
+            None => Usage::NONE,
         }
     }
 
@@ -53,8 +48,7 @@ impl Cluster {
         let used = self.used(node);
         let more = taken(node, wanted);
         let less = taken(node, ended);
-        is_enough(room.cpu, used.cpu, more.cpu, less.cpu)
-            && is_enough(room.mem, used.mem, more.mem, less.mem)
+        Usage::is_enough(room, used, more, less)
     }
 
     /// The same for the node of a number.

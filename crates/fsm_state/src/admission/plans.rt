@@ -6,7 +6,6 @@ ghost use Rattle.cluster_model.specs.Words.{is_some_and, is_pending, eval_of, no
 ghost use Rattle.rows.specs.declared.command.Command.TheVariants as commands;
 ghost use Rattle.cluster_model.specs.Admission.{admission, is_stopped, is_live_of, may_hold, is_asked, fits_job};
 
-use crate::admission::touching::is_ready;
 use crate::cluster::Cluster;
 use fsm_tables::{Tables, is_live};
 use rows::{
@@ -29,7 +28,7 @@ fn is_pending(status: EvalStatus) -> bool
 pub fn may_hold(group: &Group, node: &Node) -> bool
     ensures { result ≡ may_hold group.now node.now }
 {
-    is_ready(node.status) && node.eligible && node.class == group.class
+    node.status.is_ready() && node.eligible && node.class == group.class
 }
 
 impl Cluster {

@@ -2,7 +2,7 @@
 ghost use Rattle.std.specs.Prelude.{◌≡◌, ◌≢◌, [], Option, Some, None, IfOk, OnOk, OnErr, filter, option_map};
 ghost use Rattle.std.specs.List.{list_any, list_all};
 ghost use Rattle.rows.specs.declared.command.Command.TheVariants as commands;
-ghost use Rattle.cluster_model.specs.Words.{no_alloc, is_ready};
+ghost use Rattle.cluster_model.specs.Words.{no_alloc};
 ghost use Rattle.cluster_model.specs.Admission.{admission, touch_passes, drains, can_move, is_its_own};
 ghost use Rattle.cluster_model.specs.Effect.{moves, owns, is_ended_by, told, told_all};
 ghost use Rattle.fsm_tables.specs.Lookups.{lives_on};
@@ -13,20 +13,8 @@ use crate::apply::reports::told as told_itself;
 use crate::cluster::Cluster;
 use crate::touch::add_name;
 use fsm_tables::{Tables, is_live};
-use rows::{
-    AllocId, Allocation, JobName, NoMemory, NodeId, NodeStatus, Refusal, Report, Reports, RisingIds,
-};
+use rows::{AllocId, Allocation, JobName, NoMemory, NodeId, Refusal, Report, Reports, RisingIds};
 use std::collections::BTreeSet;
-
-/// Whether a node is ready.
-pub(super) fn is_ready(status: NodeStatus) -> bool
-    ensures { result ≡ is_ready status }
-{
-    match status {
-        NodeStatus::Ready => true,
-        NodeStatus::Down => false,
-    }
-}
 
 /// A row after a report, if it is of that allocation.
 fn after_report(row: &Allocation, node: NodeId, report: &Report) -> Allocation
@@ -106,7 +94,7 @@ impl Cluster {
     {
         match self.node(node) {
             None => Ok(Some(Refusal::UnknownNode)),
-            Some(row) if !is_ready(row.status) => Ok(Some(Refusal::StaleExpiry)),
+            Some(row) if row.status.is_down() => Ok(Some(Refusal::StaleExpiry)),
             Some(_) if self.loss_passes(node)? => Ok(Some(Refusal::TableFull)),
             Some(_) => Ok(None),
         }

@@ -12,7 +12,7 @@ ghost use Rattle.fsm_tables.specs.Claims.{Claim as AnyClaim};
 use crate::admission::claims::{Claim, add_wanted, are_distinct, claim_by, is_claimed};
 use crate::cluster::{Cluster, is_among};
 use fsm_tables::is_live;
-use rows::{AcceptedPlan, AllocId, Allocation, Desired, NoMemory, Node, Ranged, Sequence};
+use rows::{AcceptedPlan, AllocId, Allocation, Desired, NoMemory, Node, Ranged, Sequence, Usage};
 
 /// A row after the stops of a plan.
 fn after_stops(row: &Allocation, stops: &[AllocId]) -> Allocation
@@ -29,15 +29,14 @@ fn after_stops(row: &Allocation, stops: &[AllocId]) -> Allocation
 fn is_within(node: &Node, claims: &[Claim]) -> bool
     ensures { result ≡ bears_node claims.now node.now }
 {
-    let mut cpu = node.size.cpu.get();
-    let mut mem = node.size.mem.get();
+    let mut left = Usage::of(node.size);
     for claim in claims {
         if claim.node == node.number {
-            if claim.size.cpu.get() > cpu || claim.size.mem.get() > mem {
+            let size = Usage::of(claim.size);
+            if !size.is_within(left) {
                 return false;
             }
-            cpu -= claim.size.cpu.get();
-            mem -= claim.size.mem.get();
+            left = left.take(size);
         }
     }
     true

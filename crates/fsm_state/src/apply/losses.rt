@@ -1,20 +1,20 @@
-//! Allocations that are lost with their node, and their jobs.
+//! Allocations on a node that is not heard of, and their jobs.
 ghost use Rattle.std.specs.Prelude.{◌≡◌, ◌≢◌, [], OnOk, MatchResult, filter};
 ghost use Rattle.fsm_tables.specs.Lookups.{lives_on};
-ghost use Rattle.cluster_model.specs.Effect.{lost_row};
-ghost use Rattle.fsm_state.specs.Inner.Steps.{all_lost, owners, HasNames};
+ghost use Rattle.cluster_model.specs.Effect.{client_row};
+ghost use Rattle.fsm_state.specs.Inner.Steps.{all_left, owners, HasNames};
 
 use crate::cluster::Cluster;
 use crate::touch::add_name;
 use rows::{Allocation, ClientState, JobName, NoMemory, NodeId};
 use std::collections::BTreeSet;
 
-/// A row that is lost.
-fn lost_row(row: &Allocation) -> Allocation
-    ensures { result ≡ lost_row row.now }
+/// A row in another client state.
+fn with_client(row: &Allocation, client: ClientState) -> Allocation
+    ensures { result ≡ client_row client row.now }
 {
     let mut row = *row;
-    row.client = ClientState::Lost;
+    row.client = client;
     row
 }
 
@@ -33,15 +33,15 @@ impl Cluster {
         Ok(names)
     }
 
-    /// What waits or runs on a node is lost. It takes time in the logarithm of the table, and so
-    /// much again for each of them.
-    pub(super) fn lose(&mut self, node: NodeId) -> Result<(), NoMemory>
-        ensures { OnOk result (self.new ≡ all_lost node self.old) }
+    /// What waits or runs on a node comes into this client state. It takes time in the logarithm of
+    /// the table, and so much again for each of them.
+    pub(super) fn leave(&mut self, node: NodeId, client: ClientState) -> Result<(), NoMemory>
+        ensures { OnOk result (self.new ≡ all_left client node self.old) }
     {
         self.ranges();
         let rows = self.active_on(node)?;
         for row in rows.as_slice() {
-            self.put_alloc(lost_row(row))?;
+            self.put_alloc(with_client(row, client))?;
         }
         Ok(())
     }

@@ -1,7 +1,7 @@
 //! Rows of nodes that come, go down, are drained, and have room.
 ghost use Rattle.std.specs.Prelude.{◌≡◌, IsOk, OnOk, OnErr, None, false, true, option_map};
 ghost use Rattle.cluster_model.specs.Words.{node_of};
-ghost use Rattle.cluster_model.specs.Effect.{with_node, node_row, down_row, draining_row, drained_row};
+ghost use Rattle.cluster_model.specs.Effect.{with_node, node_row, status_row, draining_row, drained_row};
 ghost use Rattle.fsm_state.specs.Inner.Steps.{node_changed, node_has_room};
 
 use crate::cluster::Cluster;
@@ -40,14 +40,14 @@ impl Cluster {
         self.put_node(row)
     }
 
-    /// Marks a node as down.
-    pub(super) fn set_down(&mut self, number: NodeId) -> Result<(), NoMemory>
-        ensures { OnOk result (self.new ≡ node_changed down_row number self.old) }
+    /// Gives a node another status.
+    pub(super) fn set_status(&mut self, number: NodeId, status: NodeStatus) -> Result<(), NoMemory>
+        ensures { OnOk result (self.new ≡ node_changed (status_row status) number self.old) }
     {
         match self.node(number) {
             Some(row) => {
                 let mut row = *row;
-                row.status = NodeStatus::Down;
+                row.status = status;
                 self.put_node(row)
             }
             None => Ok(()),

@@ -8,7 +8,7 @@ use Rattle.rows.specs.declared.reason.Reason.TheVariants as reasons
 use Rattle.rows.specs.declared.worker.WorkerRequest.TheVariants.{Take, Submit}
 use Rattle.rows.specs.declared.worker.AskedRequest.TheVariants as asked
 use Rattle.rows.specs.declared.worker.WorkerResponse.TheVariants.{Delivered, PlanResult, Refused}
-use Rattle.machine.specs.declared.entry.Entry.{Entry}
+use Rattle.machine_model.specs.declared.entry.Entry.{Entry}
 use Rattle.raft_model.specs.Servers as rafts
 use Rattle.cluster_model.specs.Words.{no_rows}
 use Rattle.cluster_model.specs.Worked.Words.{main, size, eval_id}

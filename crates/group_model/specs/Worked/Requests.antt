@@ -5,7 +5,7 @@ use Rattle.rows.specs.declared.listing.LiveState.TheVariants as live_states
 use Rattle.rows.specs.declared.command.ReportedState.TheVariants as reported
 use Rattle.rows.specs.declared.command.Command.{Command}
 use Rattle.rows.specs.declared.command.Command.TheVariants as commands
-use Rattle.machine.specs.declared.entry.Entry.{Entry}
+use Rattle.machine_model.specs.declared.entry.Entry.{Entry}
 use Rattle.cluster_model.specs.Worked.Words.{linux, api, main, size, eval_id, alloc_id}
 use Rattle.group_model.specs.Inputs as inputs
 use Rattle.group_model.specs.Members as members

@@ -13,7 +13,7 @@ use Rattle.rows.specs.declared.worker.EvalOutcome.TheVariants as outcomes
 use Rattle.rows.specs.declared.worker.WorkerRequest.TheVariants.{Finish}
 use Rattle.rows.specs.declared.worker.AskedRequest.TheVariants as asked
 use Rattle.rows.specs.declared.worker.WorkerResponse.TheVariants.{Delivered, Refused}
-use Rattle.machine.specs.declared.entry.Entry.{Entry}
+use Rattle.machine_model.specs.declared.entry.Entry.{Entry}
 use Rattle.raft_model.specs.Servers as rafts
 use Rattle.cluster_model.specs.Words.{no_rows}
 use Rattle.cluster_model.specs.Worked.Words.{size, eval_id, alloc_id, comes}

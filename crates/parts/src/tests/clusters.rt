@@ -50,7 +50,7 @@ fn has_counts(state: &Cluster, counts: [usize; 4]) -> bool {
 
 fn uses(state: &Cluster, node: usize, usage: [u64; 2]) -> bool {
     match NodeId::from_number(node.min(255) as u8) {
-        Some(node) => [state.used(node).cpu, state.used(node).mem] == usage,
+        Some(node) => [state.used(node).cpu(), state.used(node).mem()] == usage,
         None => false,
     }
 }
@@ -132,8 +132,8 @@ fn finds_alone(tables: &Tables, row: &Allocation) -> bool {
         && is_alone(tables.live_of_job(&row.job), row.id)
         && is_alone(tables.live_on(row.node), row.id)
         && is_alone(tables.active_on(row.node), row.id)
-        && usage.cpu == 600
-        && usage.mem == 300
+        && usage.cpu() == 600
+        && usage.mem() == 300
         && tables.allocs().len() == 1
 }
 

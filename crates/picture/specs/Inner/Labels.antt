@@ -22,7 +22,6 @@ use Rattle.wire.specs.declared.vote.VoteReply.{VoteReply}
 use Rattle.wire.specs.Appends.{Append}
 use Rattle.wire.specs.Messages.{Message}
 use Rattle.wire.specs.Frames.{Frame, message_at}
-use Rattle.cluster_model.specs.Words.{State}
 use Rattle.cluster_model.specs.ClusterMachine.{cluster_meaning}
 use Rattle.client_agent.specs.declared.input.ClientInput.{ClientInput}
 use Rattle.client_agent.specs.declared.input.ClientInput.TheVariants as client_inputs
@@ -114,7 +113,7 @@ read_label (Err place) = codes "no message"
 
 -- the message of a frame
 abbrev pub frame_label : List ℕ → List ℕ
-frame_label bytes = read_label (message_at {S = State} cluster_meaning.commands bytes)
+frame_label bytes = read_label (message_at cluster_meaning bytes)
 
 -- what was sent at a place, if anything
 abbrev pub sent_label : Option Frame → List ℕ

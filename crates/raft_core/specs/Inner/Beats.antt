@@ -1,6 +1,6 @@
 -- What a leader sends at a beat.
 use Rattle.std.specs.Prelude.{ℕ, ◌-◌, List, take, drop}
-use Rattle.machine.specs.declared.entry.Entry.{Entry}
+use Rattle.machine_model.specs.declared.entry.Entry.{Entry}
 use Rattle.raft_model.specs.Logs.{term_at}
 use Rattle.raft_model.specs.Messages.{Message, Append}
 

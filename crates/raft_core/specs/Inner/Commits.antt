@@ -1,6 +1,6 @@
 -- Which entries of a leader's log are chosen, as a test.
 use Rattle.std.specs.Prelude.{ℕ, Bool, ◌==◌, ◌&&◌, List}
-use Rattle.machine.specs.declared.entry.Entry.{Entry}
+use Rattle.machine_model.specs.declared.entry.Entry.{Entry}
 use Rattle.raft_model.specs.Logs.{term_at}
 use Rattle.raft_model.specs.Quorums.{is_quorum}
 use Rattle.raft_core.specs.Commits.{holds_index}

@@ -1,6 +1,6 @@
 -- What a rule does to a server and to its frames.
 use Rattle.std.specs.Prelude.{◌≡◌, List, length, take}
-use Rattle.machine.specs.Meaning.{Meaning}
+use Rattle.machine_model.specs.Meaning.{Meaning}
 use Rattle.raft_model.specs.Servers.{Turn, crashed}
 use Rattle.wire.specs.Frames.{Frame}
 use Rattle.raft_core.specs.RaftView.{RaftView}

@@ -1,7 +1,7 @@
 //! Entries that a leader sends. (Raft, Figure 2, AppendEntries, receiver; section 5.3.)
 
 ghost use Rattle.std.specs.Prelude.{◌≡◌, ◌≢◌, ◌+◌, ◌^◌, ◌<◌, ◌≤◌, ◌||◌, nat_le, true, false, List, length, OnOk, OnErr};
-ghost use Rattle.machine.specs.declared.entry.Entry.{Entry};
+ghost use Rattle.machine_model.specs.declared.entry.Entry.{Entry};
 ghost use Rattle.raft_model.specs.Logs.{has};
 ghost use Rattle.raft_model.specs.Servers.{is_up, is_leader, met, following, follows_append};
 ghost use Rattle.raft_model.specs.Steps.{receives};

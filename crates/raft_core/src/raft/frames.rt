@@ -9,7 +9,7 @@ ghost use Rattle.raft_core.specs.Frames.{log_message};
 ghost use Rattle.raft_core.specs.Steps.{Represents, TakesMessage};
 ghost use Rattle.raft_core.specs.Inner.Turns.{TurnTaken, LackedMemory};
 ghost use Rattle.raft_core.specs.Inner.Stops.{TakesFrame, FrameStops, MessageStops};
-ghost use Rattle.raft_core.specs.Refusals.{frame_refusal, misdirected, message_fault, message_refusal, IsMessageRefused, MessageRefusalLeaves, RefusalShows};
+ghost use Rattle.raft_core.specs.Refusals.{frame_refusal, misdirected, message_fault, message_refusal, IsMessageRefused, MessageRefusalLeaves, MessageStays, RefusalShows};
 ghost use Rattle.raft_core.specs.RaftView.{KeepsAhead};
 ghost use Rattle.raft_core.specs.Watching.{SeesStep};
 
@@ -122,6 +122,7 @@ impl<M: Machine> Raft<M> {
         ensures left { IfErr result (λ cause. (s : Server M.Command) →
             Represents M.meaning self.old s →
             MessageRefusalLeaves M.meaning self.old s cause self.new) }
+        ensures stays { IfErr result (λ cause. MessageStays cause self.old self.new) }
         ensures unsent { OnErr result (outbox.new ≡ outbox.old) }
         ensures seen { OnOk result ((s next : Server M.Command) →
             Represents M.meaning self.old s → Represents M.meaning self.new next →

@@ -109,6 +109,7 @@ impl<M: Machine> Raft<M> {
         ensures taken { OnOk result ((s : Server M.Command) (sent : List Frame) →
             Represents M.meaning self.old s →
             Takes M.meaning self.old s (Own (Propose command)) self.new sent sent) }
+        ensures leads { OnOk result (is_leader self.new.server.mode ≡ true) }
         ensures refused { IfErr result (λ cause. (s : Server M.Command) →
             Represents M.meaning self.old s →
             IsRefused M.meaning self.old.size self.old.me s (Own (Propose command)) cause) }

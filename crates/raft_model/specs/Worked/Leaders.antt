@@ -1,9 +1,9 @@
 -- A leader and its followers: replies, the commit index, proposals.
 use Rattle.std.specs.Prelude.{◌≡◌, true, false, Some, None, Ok, Err, [], ◌∷◌}
 use Rattle.rows.specs.declared.refusal.Refusal.TheVariants as refusals
-use Rattle.machine.specs.Tally.{tally_meaning}
-use Rattle.machine.specs.declared.tally.TallyCommand.{TallyCommand}
-use Rattle.machine.specs.declared.tally.TallyCommand.TheVariants.{Add}
+use Rattle.machine_model.specs.Tally.{tally_meaning}
+use Rattle.machine_model.specs.declared.tally.TallyCommand.{TallyCommand}
+use Rattle.machine_model.specs.declared.tally.TallyCommand.TheVariants.{Add}
 use Rattle.raft_model.specs.Messages.{Append, AppendReply, Install}
 use Rattle.raft_model.specs.Servers.{Server, Down, Follower, Leader}
 use Rattle.raft_model.specs.Steps.{Arrives, Timeout, Beat, Propose, Crash, Restart, step}

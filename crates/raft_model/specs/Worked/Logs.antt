@@ -1,6 +1,6 @@
 -- What an Append and an Install do to the receiver's log.
 use Rattle.std.specs.Prelude.{◌≡◌, false, Some, None, Ok, [], ◌∷◌}
-use Rattle.machine.specs.Tally.{tally_meaning}
+use Rattle.machine_model.specs.Tally.{tally_meaning}
 use Rattle.raft_model.specs.Logs.{merge, install}
 use Rattle.raft_model.specs.Messages.{Append, AppendReply}
 use Rattle.raft_model.specs.Servers.{Follower}

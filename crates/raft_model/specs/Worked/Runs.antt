@@ -1,9 +1,9 @@
 -- Runs: several servers, one event after the other.
 use Rattle.std.specs.Prelude.{◌≡◌, ℕ, true, false, Some, None, Ok, List, [], ◌∷◌, ◌++◌, map, replicate, take}
-use Rattle.machine.specs.Tally.{tally_meaning}
-use Rattle.machine.specs.declared.entry.Entry.{Entry}
-use Rattle.machine.specs.declared.tally.TallyCommand.{TallyCommand}
-use Rattle.machine.specs.declared.tally.TallyCommand.TheVariants.{Add}
+use Rattle.machine_model.specs.Tally.{tally_meaning}
+use Rattle.machine_model.specs.declared.entry.Entry.{Entry}
+use Rattle.machine_model.specs.declared.tally.TallyCommand.{TallyCommand}
+use Rattle.machine_model.specs.declared.tally.TallyCommand.TheVariants.{Add}
 use Rattle.raft_model.specs.Messages.{Append, AppendReply}
 use Rattle.raft_model.specs.Servers.{Server, Follower, Leader}
 use Rattle.raft_model.specs.Steps.{Input, Arrives, step}

@@ -2,9 +2,9 @@
 -- refuses.
 use Rattle.std.specs.Prelude.{◌≡◌, true, false, Some, None, Ok, Err, [], ◌∷◌, take}
 use Rattle.rows.specs.declared.refusal.Refusal.TheVariants as refusals
-use Rattle.machine.specs.Tally.{tally_meaning}
-use Rattle.machine.specs.declared.tally.TallyCommand.{TallyCommand}
-use Rattle.machine.specs.declared.tally.TallyCommand.TheVariants.{Add}
+use Rattle.machine_model.specs.Tally.{tally_meaning}
+use Rattle.machine_model.specs.declared.tally.TallyCommand.{TallyCommand}
+use Rattle.machine_model.specs.declared.tally.TallyCommand.TheVariants.{Add}
 use Rattle.raft_model.specs.Messages.{VoteRequest, VoteReply, Append, AppendReply, Install, InstallReply}
 use Rattle.raft_model.specs.Servers.{Server, Down, Follower, Candidate, Leader, newcomer, silent}
 use Rattle.raft_model.specs.Steps.{Arrives, Timeout, Beat, Propose, Compact, Crash, step}

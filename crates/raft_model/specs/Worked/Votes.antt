@@ -1,7 +1,7 @@
 -- Votes: who gets them, and what wins.
 use Rattle.std.specs.Prelude.{◌≡◌, true, false, Some, None, Ok, Err, [], ◌∷◌}
 use Rattle.rows.specs.declared.refusal.Refusal.TheVariants as refusals
-use Rattle.machine.specs.Tally.{tally_meaning}
+use Rattle.machine_model.specs.Tally.{tally_meaning}
 use Rattle.raft_model.specs.Logs.{MAX}
 use Rattle.raft_model.specs.Messages.{VoteRequest, VoteReply}
 use Rattle.raft_model.specs.Servers.{Follower, Candidate, Leader, newcomer}

@@ -1,10 +1,10 @@
 -- Words of the worked steps.
 use Rattle.std.specs.Prelude.{ℕ, None, Result, Ok, Err, List, [], ◌∷◌}
 use Rattle.rows.specs.declared.refusal.Refusal.{Refusal}
-use Rattle.machine.specs.Tally.{tally_meaning}
-use Rattle.machine.specs.declared.entry.Entry.{Entry}
-use Rattle.machine.specs.declared.tally.TallyCommand.{TallyCommand}
-use Rattle.machine.specs.declared.tally.TallyCommand.TheVariants.{Noop, Add}
+use Rattle.machine_model.specs.Tally.{tally_meaning}
+use Rattle.machine_model.specs.declared.entry.Entry.{Entry}
+use Rattle.machine_model.specs.declared.tally.TallyCommand.{TallyCommand}
+use Rattle.machine_model.specs.declared.tally.TallyCommand.TheVariants.{Noop, Add}
 use Rattle.raft_model.specs.Messages.{Message, Body}
 use Rattle.raft_model.specs.Servers.{Server, Follower, Turn}
 use Rattle.raft_model.specs.Steps.{Input, step}

@@ -1,6 +1,6 @@
 -- The history of a run: what each server may have promised, and what each leader has written.
 use Rattle.std.specs.Prelude.{ℕ, ◌≤◌, ◌<◌, ◌≡◌, ◌≢◌, ◌⊎◌, Option, Some, None, List, length, ◌&&◌, nat_le, nat_lt}
-use Rattle.machine.specs.declared.entry.Entry.{Entry}
+use Rattle.machine_model.specs.declared.entry.Entry.{Entry}
 use Rattle.raft_model.specs.Logs.{term_at}
 use Rattle.raft_model.specs.Quorums.{Quorum}
 use Rattle.raft_model.specs.Chains.{Agree}

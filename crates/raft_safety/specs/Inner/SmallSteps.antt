@@ -1,8 +1,8 @@
 -- Each event is a few small steps of one server in a row. What a run keeps is proved for each of
 -- these.
 use Rattle.std.specs.Prelude.{◌≡◌, ℕ, ◌+◌, ◌<◌, Bool, true, false, Some, None, List, [], ◌∷◌, length, slice_get, slice_set}
-use Rattle.machine.specs.Meaning.{Meaning}
-use Rattle.machine.specs.declared.entry.Entry.{Entry}
+use Rattle.machine_model.specs.Meaning.{Meaning, IsCommandOf}
+use Rattle.machine_model.specs.declared.entry.Entry.{Entry}
 use Rattle.raft_model.specs.Logs.{MAX}
 use Rattle.raft_model.specs.Quorums.{is_quorum, marked}
 use Rattle.raft_model.specs.Messages.{Message, Body, VoteRequest, VoteReply, Append, AppendReply, Install, InstallReply, to_others}
@@ -65,7 +65,7 @@ module _ {S C : Type 0} (m : Meaning S C) (n i : ℕ) (sent : List (Message C)) 
     -- a quorum's votes
     wins : (votes : List Bool) → s.mode ≡ Candidate votes → is_quorum n (marked votes) ≡ true → t ≡ won m.noop n s → out ≡ [] → Small s t out
     -- a proposal that is admitted
-    extends : (next match : List ℕ) (command : C) → m.commands.Fits command → s.mode ≡ Leader next match → admission_refusal m s command ≡ None → t ≡ extended s command → out ≡ [] → Small s t out
+    extends : (next match : List ℕ) (command : C) → IsCommandOf m command → s.mode ≡ Leader next match → admission_refusal m s command ≡ None → t ≡ extended s command → out ≡ [] → Small s t out
     -- a message of the leader of its term
     follows : (from : ℕ) → t ≡ following s from → out ≡ [] → Small s t out
     -- entries that begin where the log is held

@@ -1,6 +1,8 @@
 -- What a run may end by: for the words of its command line, and for what it reads.
 use Rattle.std.specs.Prelude.{◌≡◌, ◌⊎◌, ℕ, List, [], ⊤}
 use Rattle.clap.specs.Words.{IsAmong, Kinds, kind_of}
+use Rattle.ending.specs.declared.fault.EndError.{EndError}
+use Rattle.ending.specs.declared.fault.EndError.TheVariants as ends
 use Rattle.runner.specs.declared.fault.Fault.{Fault}
 use Rattle.runner.specs.declared.fault.Fault.TheVariants.{CommandLine, BadScenario, BadTranscript, NoMemory, Output}
 use Rattle.transcript.specs.Transcripts.{IsFault, IsTranscript, Recorded}
@@ -10,9 +12,15 @@ abbrev pub IsFound : Kinds → Fault → Type 0
 IsFound found (CommandLine error) = IsAmong (kind_of error) found
 IsFound found _ = ⊤
 
--- a run ends by a fault of its words, or they have none
-abbrev pub MayEndBy : Kinds → Fault → Type 0
-MayEndBy found fault = (found ≡ []) ⊎ IsFound found fault
+-- it is no fault of the words
+abbrev pub IsOfRun : Fault → Type 0
+IsOfRun (CommandLine error) = ⊥
+IsOfRun _ = ⊤
+
+-- of a run of which not all last lines are told
+abbrev pub end_fault : EndError → Fault
+end_fault ends.NoMemory = NoMemory
+end_fault ends.Output = Output
 
 -- of what is read of a scenario: there is no memory, or it is none
 abbrev pub MayStopReading : Type 0 → Fault → Type 0

@@ -1,9 +1,9 @@
 -- The bytes of files.
 use Rattle.std.specs.Prelude.{ℕ, List}
 use Rattle.std.specs.Str.{IsUtf8}
-use Rattle.runner.specs.declared.scenario.Scenario.{Scenario}
-use Rattle.runner.specs.Complaints.{IsGoodText}
-use Rattle.runner.specs.Objects.{IsScenarioText}
+use Rattle.scenario_file.specs.declared.scenario.Scenario.{Scenario}
+use Rattle.scenario_file.specs.Complaints.{IsGoodText}
+use Rattle.scenario_file.specs.Objects.{IsScenarioText}
 
 -- they are UTF-8, and a scenario
 abbrev pub IsScenarioFile : List ℕ → Type 0

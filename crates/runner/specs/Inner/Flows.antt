@@ -7,9 +7,9 @@ use Rattle.lossy_net.specs.Fates.{HasFate}
 use Rattle.lossy_net.specs.Words.{Keystream, nth_word}
 use Rattle.rows.specs.declared.refusal.Refusal.{Refusal}
 use Rattle.world.specs.Events.{place_of}
+use Rattle.scenario_file.specs.declared.scenario.Order.{Order}
+use Rattle.scenario_file.specs.declared.scenario.Order.TheVariants as orders
 use Rattle.runner.specs.declared.play.Play.{Play}
-use Rattle.runner.specs.declared.scenario.Order.{Order}
-use Rattle.runner.specs.declared.scenario.Order.TheVariants as orders
 use Rattle.runner.specs.Inner.PlayEvents.{EventRefused, EventTaken}
 
 -- ---- words

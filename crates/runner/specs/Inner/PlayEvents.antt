@@ -11,7 +11,7 @@ use Rattle.server.specs.ServerViews.{ServerView, IsMember}
 use Rattle.world.specs.declared.done.Done.{Done}
 use Rattle.world.specs.GroupSteps.{IsGroupDone, RefusesGroupEvent, SameView}
 use Rattle.world.specs.GroupView.{GroupView}
-use Rattle.cluster.specs.PlanCounts.{WorkersView}
+use Rattle.workers.specs.PlanCounts.{WorkersView}
 use Rattle.runner.specs.declared.play.Play.{Play}
 use Rattle.runner.specs.Inner.Flight.{InFlight, newly_sent}
 

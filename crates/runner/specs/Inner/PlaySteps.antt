@@ -1,8 +1,8 @@
 -- What the steps of a scenario do.
 use Rattle.std.specs.Prelude.{unwrap_or}
 use Rattle.rows.specs.declared.refusal.Refusal.{Refusal}
+use Rattle.scenario_file.specs.Steps.{AnEvent, Flow, Step, Work}
 use Rattle.runner.specs.declared.play.Play.{Play}
-use Rattle.runner.specs.Steps.{AnEvent, Flow, Step, Work}
 use Rattle.runner.specs.Inner.Flows.{Flowed}
 use Rattle.runner.specs.Inner.PlayEvents.{EventRefused, EventTaken}
 use Rattle.runner.specs.Inner.PlayWork.{WorkRefused, WorkTaken}

@@ -10,10 +10,10 @@ use Rattle.group_model.specs.Worlds.{AtServer, Event}
 use Rattle.server.specs.declared.server_input.ServerInput.{ServerInput}
 use Rattle.server.specs.Handings.{handing}
 use Rattle.server.specs.ServerViews.{IsMember, ServerView}
-use Rattle.cluster.specs.declared.server_workers.Handled.{Handled}
-use Rattle.cluster.specs.declared.server_workers.Handled.TheVariants as handled
-use Rattle.cluster.specs.PlanCounts.{CountsStep, WorkersView, plans_under}
-use Rattle.cluster.specs.Working.{HandledAs, waiting_after}
+use Rattle.workers.specs.declared.server_workers.Handled.{Handled}
+use Rattle.workers.specs.declared.server_workers.Handled.TheVariants as handled
+use Rattle.workers.specs.PlanCounts.{CountsStep, WorkersView, plans_under}
+use Rattle.workers.specs.Working.{HandledAs, waiting_after}
 use Rattle.world.specs.GroupEvents.{server_input}
 use Rattle.world.specs.GroupView.{GroupView}
 use Rattle.runner.specs.declared.play.Play.{Play}

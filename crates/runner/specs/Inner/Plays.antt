@@ -2,8 +2,8 @@
 use Rattle.std.specs.Prelude.{◌≡◌, ◌≤◌, [], length, replicate}
 use Rattle.world.specs.GroupSteps.{IsNewGroup}
 use Rattle.rows.specs.GroupSizes.{IsGroup}
+use Rattle.scenario_file.specs.declared.scenario.Scenario.{Scenario}
 use Rattle.runner.specs.declared.play.Play.{Play}
-use Rattle.runner.specs.declared.scenario.Scenario.{Scenario}
 
 -- there is a group of its size
 abbrev pub MakesGroup : Scenario → Type 0

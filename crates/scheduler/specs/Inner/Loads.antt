@@ -1,40 +1,37 @@
 -- How full nodes are, as the code keeps it, and the best of them by its place in the list.
-use Rattle.std.specs.Prelude.{◌≡◌, ℕ, ◌+◌, ◌-◌, ◌^◌, ◌<◌, ◌≤◌, Bool, true, false, ◌&&◌, min, nat_eq, if◌then◌else◌, Option, Some, None, List, get_or, length}
+use Rattle.std.specs.Prelude.{◌≡◌, ℕ, ◌<◌, ◌≤◌, Bool, true, false, ◌&&◌, nat_eq, if◌then◌else◌, Option, Some, None, List, get_or, length}
 use Rattle.rows.specs.declared.size.Size.{Size}
 use Rattle.rows.specs.declared.job.Group.{Group}
 use Rattle.rows.specs.declared.node.Node.{Node}
 use Rattle.rows.specs.declared.allocation.Allocation.{Allocation}
 use Rattle.rows.specs.declared.command.AcceptedPlace.{AcceptedPlace}
 use Rattle.fsm_tables.specs.Claims.{Claim, used}
-use Rattle.cluster_model.specs.Safe.{fits}
+use Rattle.rows.specs.Sizes.{plus, plus_within, less, fits}
 use Rattle.cluster_model.specs.Admission.{may_hold}
-use Rattle.group_model.specs.Scheduling.{with_size, fullness}
+use Rattle.group_model.specs.Scheduling.{fullness}
 use Rattle.scheduler.specs.declared.load.Load.{Load}
 
 -- a node's load where so much is claimed
 abbrev pub load_of : List Claim → Node → Load
-load_of cs n = record { node = n; cpu = (used n.number cs).cpu; mem = (used n.number cs).mem }
+load_of cs n = record { node = n; used = used n.number cs }
 
 -- without what an allocation takes, if there is one
-abbrev pub less : Option Allocation → Load → Load
-less None l = l
-less (Some a) l =
+abbrev pub load_less : Option Allocation → Load → Load
+load_less None l = l
+load_less (Some a) l =
     if nat_eq a.node l.node.number
-    then (record l { cpu = l.cpu - a.size.cpu; mem = l.mem - a.size.mem })
+    then (record l { used = less l.used a.size })
     else l
 
--- with what a place takes, as far as the number goes
-abbrev pub sum_within : ℕ → ℕ → ℕ
-sum_within a b = min (a + b) (2 ^ 64 - 1)
-
+-- with what a place takes, as far as the numbers go
 abbrev pub with_load : AcceptedPlace → Load → Load
 with_load k l =
     if nat_eq k.node l.node.number
-    then (record l { cpu = sum_within l.cpu k.size.cpu; mem = sum_within l.mem k.size.mem })
+    then (record l { used = plus_within l.used k.size })
     else l
 
 abbrev pub load_with : Group → Load → Size
-load_with g l = with_size (record { cpu = l.cpu; mem = l.mem }) g.size
+load_with g l = plus l.used g.size
 
 abbrev pub takes_one_of : Group → Load → Bool
 takes_one_of g l = may_hold g l.node && fits (load_with g l) l.node.size

@@ -1,5 +1,5 @@
 -- What the parts of a step do, on a server that is up.
-use Rattle.std.specs.Prelude.{◌≡◌, ℕ, true, Option, Some, None, Result, Ok, Err}
+use Rattle.std.specs.Prelude.{◌≡◌, ℕ, true, is_some, Option, Some, None, Result, Ok, Err}
 use Rattle.rows.specs.declared.command.Command.{Command}
 use Rattle.rows.specs.declared.refusal.Refusal.{Refusal}
 use Rattle.rows.specs.declared.refusal.Refusal.TheVariants as refusals
@@ -19,43 +19,49 @@ use Rattle.group_model.specs.WorkerRequests.{serves_request, hands_out}
 use Rattle.group_model.specs.ClientRequests.{serves_client, writes}
 use Rattle.group_model.specs.Members.{Member, open_or, open_desk, at_desk, acts, done}
 use Rattle.server.specs.declared.server.Outbox.{Outbox}
-use Rattle.server.specs.ServerViews.{ServerView, SameMember, group_desk}
+use Rattle.server.specs.ServerViews.{ServerView, IsMember, SameMember}
 use Rattle.server.specs.Turns.{TakesTurn}
 use Rattle.server.specs.Refusals.{CanAppend, MayTakeMemory}
 
--- the server of the definitions that a value is
-abbrev pub member_of : ServerView → Member
-member_of view = record { raft = view.raft.server; desk = group_desk view.desk }
+-- so of each server of the definitions that a value is
+abbrev pub EachMember : ServerView → (Member → Type 0) → Type 0
+EachMember view P = (s : Member) → IsMember view s → P s
 
--- the act of the definitions is done
-abbrev pub DoesAct : ServerView → Result Act Refusal → ServerView → Outbox → Outbox → Type 0
-DoesAct old act new before after =
-    TakesTurn (done old.raft.size old.raft.me (member_of old) act) new before after
+-- it leads, and its desk is open
+pub record Serves (view : ServerView) : Type 0 where
+  pub leads : is_leader view.raft.server.mode ≡ true
+  pub is_open : is_some view.desk ≡ true
+
+-- server `me` of n does the act of the definitions
+abbrev pub DoesAct : ℕ → ℕ → Member → Result Act Refusal → ServerView → Outbox → Outbox → Type 0
+DoesAct n me s act new before after = TakesTurn (done n me s act) new before after
+
+-- each server that a value is does that act of its own
+abbrev pub EachDoes : ServerView → (Member → Result Act Refusal) → ServerView → Outbox → Outbox → Type 0
+EachDoes old act new before after =
+    EachMember old (λ s. DoesAct old.raft.size old.raft.me s (act s) new before after)
 
 -- that of an input of its own
-abbrev pub act_of : ServerView → Input → Result Act Refusal
-act_of view input = acts view.raft.size view.raft.me (member_of view) input
+abbrev pub act_of : ServerView → Input → Member → Result Act Refusal
+act_of view input s = acts view.raft.size view.raft.me s input
 
 -- that of a request of another server's workers, or of its own
-abbrev pub request_act : ServerView → ℕ → WorkerRequest → Result Act Refusal
-request_act view from request =
-    let s = member_of view in
+abbrev pub request_act : ServerView → ℕ → WorkerRequest → Member → Result Act Refusal
+request_act view from request s =
     Ok (serves_request view.raft.me s.raft from (open_desk s) s.desk request)
 
 -- that of an answer to its own workers
-abbrev pub response_act : ServerView → ℕ → WorkerResponse → Result Act Refusal
-response_act view from response = Ok (hands_out from response (member_of view).desk)
+abbrev pub response_act : ℕ → WorkerResponse → Member → Result Act Refusal
+response_act from response s = Ok (hands_out from response s.desk)
 
 -- that of a client's request
-abbrev pub client_act : ServerView → ℕ → ClientRequest → Result Act Refusal
-client_act view client request =
-    let s = member_of view in
+abbrev pub client_act : ServerView → ℕ → ClientRequest → Member → Result Act Refusal
+client_act view client request s =
     Ok (serves_client view.raft.me s.raft client (open_desk s) s.desk request)
 
 -- that of a command that a client's request asks for
-abbrev pub write_act : ServerView → ℕ → ClientRequestKind → Command → Result Act Refusal
-write_act view client kind command =
-    let s = member_of view in
+abbrev pub write_act : ServerView → ℕ → ClientRequestKind → Command → Member → Result Act Refusal
+write_act view client kind command s =
     Ok (writes view.raft.me s.raft client kind command s.desk)
 
 -- a request of its own workers, as an input
@@ -83,18 +89,18 @@ pub record DoesNothing (old new : ServerView) (before after : Outbox) : Type 0 w
 -- definitions refuse it.
 abbrev pub DeclinesOwn : ServerView → Input → Refusal → ServerView → Outbox → Outbox → Type 0
 DeclinesOwn old input refusals.NoMemory new before after =
-    MayTakeMemory old.raft.size (member_of old) input × Falters old new before after
+    EachMember old (λ s. MayTakeMemory old.raft.size s input) × Falters old new before after
 DeclinesOwn old input cause new before after =
-    (done old.raft.size old.raft.me (member_of old) (act_of old input) ≡ Err cause)
+    EachMember old (λ s. done old.raft.size old.raft.me s (act_of old input s) ≡ Err cause)
     × DoesNothing old new before after
 
 -- ---- proposals
 
--- a leader appended a command that nothing refused
-pub record IsProposed (s : Server Command) (c : Command) (new : Server Command) : Type 0 where
-  pub leads : is_leader s.mode ≡ true
-  pub admitted : raft_steps.admission_refusal cluster_meaning s c ≡ None
-  pub log : new ≡ extended s c
+-- a leader appended a command that nothing refused; its desk stays
+pub record IsProposed (s : Member) (c : Command) (new : ServerView) : Type 0 where
+  pub leads : is_leader s.raft.mode ≡ true
+  pub admitted : raft_steps.admission_refusal cluster_meaning s.raft c ≡ None
+  pub member : IsMember new (record s { raft = extended s.raft c })
 
 -- why the log refuses a command
 abbrev pub WhyNotProposed : Server Command → Command → Refusal → Type 0

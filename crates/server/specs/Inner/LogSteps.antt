@@ -10,16 +10,16 @@ use Rattle.raft_core.specs.declared.input.Input.TheVariants as raft_inputs
 use Rattle.raft_core.specs.Frames.{Means}
 use Rattle.cluster_model.specs.Words.{State}
 use Rattle.group_model.specs.Messages.{GroupMessage, Raft, Service}
-use Rattle.group_model.specs.Inputs.{Ask, AskTimeout, AskBeat, AskCrash, AskRestart, asks}
-use Rattle.group_model.specs.Members.{hears_log}
+use Rattle.group_model.specs.Inputs.{Restart, Ask, AskTimeout, AskBeat, AskCrash, AskRestart, asks}
+use Rattle.group_model.specs.Members.{Member, hears_log}
 use Rattle.group_frames.specs.GroupFrames.{service_of}
 use Rattle.leader.specs.OpenDesks.{OpenDesk}
 use Rattle.server.specs.declared.server.Outbox.{Outbox}
 use Rattle.server.specs.ServerViews.{ServerView}
-use Rattle.server.specs.Handings.{Handing}
+use Rattle.server.specs.Handings.{Handing, OwnInput}
 use Rattle.server.specs.Turns.{TakesTurn, takes_in}
 use Rattle.server.specs.Refusals.{MayLackMemory, handing_refusal, wrong_address}
-use Rattle.server.specs.Inner.Acts.{member_of, DoesAct, Falters, DoesNothing}
+use Rattle.server.specs.Inner.Acts.{EachMember, EachDoes, Falters, DoesNothing}
 
 -- a desk, closed where the server does not lead
 abbrev pub where_leads : Bool → Option OpenDesk → Option OpenDesk
@@ -34,7 +34,7 @@ DeskAfterRefusal cause old new = new ≡ old
 -- the log took a message, and the desk followed
 abbrev pub HearsLog : ServerView → Message Command → ServerView → Outbox → Outbox → Type 0
 HearsLog old said new before after =
-    TakesTurn (hears_log old.raft.size old.raft.me (member_of old) said) new before after
+    EachMember old (λ s. TakesTurn (hears_log old.raft.size old.raft.me s said) new before after)
 
 -- an input of the log's own is asked of it, and no frame
 abbrev pub log_ask : RaftInput → Option Ask
@@ -47,7 +47,7 @@ log_ask raft_inputs.Restart = Some AskRestart
 abbrev pub TakesAsk : ServerView → Option Ask → ServerView → Outbox → Outbox → Type 0
 TakesAsk old None new before after = ⊥
 TakesAsk old (Some ask) new before after =
-    DoesAct old (Ok (asks ask (member_of old).desk)) new before after
+    EachDoes old (λ s. Ok (asks ask s.desk)) new before after
 
 -- ---- messages that were read
 
@@ -56,23 +56,28 @@ abbrev pub MeansGroup : WireMessage State Command → GroupMessage → Type 0
 MeansGroup read (Raft said) = Means read said
 MeansGroup read (Service message) = service_of read ≡ Some message
 
-abbrev pub TakesRead : ServerView → WireMessage State Command → ServerView → Outbox → Outbox → Type 0
-TakesRead old read new before after =
+abbrev pub TakesRead : ServerView → Member → WireMessage State Command → ServerView → Outbox → Outbox → Type 0
+TakesRead old s read new before after =
     (message : GroupMessage) → MeansGroup read message
-    → TakesTurn (takes_in old.raft.size old.raft.me (member_of old) message) new before after
+    → TakesTurn (takes_in old.raft.size old.raft.me s message) new before after
 
 -- it is refused: for want of memory, or for its sender or receiver
 abbrev pub DeclinesRead : ServerView → WireMessage State Command → Refusal → ServerView → Outbox → Outbox → Type 0
 DeclinesRead old read refusals.NoMemory new before after = Falters old new before after
 DeclinesRead old read cause new before after =
-    (wrong_address old.raft.size old.raft.me read.from read.to ≡ Some cause)
+    EachMember old (λ s. wrong_address old.raft.size old.raft.me read.from read.to ≡ Some cause)
     × DoesNothing old new before after
 
 -- ---- what is handed in, to a server that is up
 
+-- memory was wanting, and what is handed in is no restart
+abbrev pub LosesIn : ServerView → Handing → ServerView → Outbox → Outbox → Type 0
+LosesIn old (OwnInput Restart) new before after = ⊥
+LosesIn old h new before after =
+    EachMember old (λ s. MayLackMemory old.raft.size s h) × Falters old new before after
+
 abbrev pub DeclinesHanding : ServerView → Handing → Refusal → ServerView → Outbox → Outbox → Type 0
-DeclinesHanding old h refusals.NoMemory new before after =
-    MayLackMemory old.raft.size (member_of old) h × Falters old new before after
+DeclinesHanding old h refusals.NoMemory new before after = LosesIn old h new before after
 DeclinesHanding old h cause new before after =
-    (handing_refusal old.raft.size old.raft.me (member_of old) h ≡ Some cause)
+    EachMember old (λ s. handing_refusal old.raft.size old.raft.me s h ≡ Some cause)
     × DoesNothing old new before after

@@ -1,7 +1,7 @@
 //! What a server's own workers ask another server, or their own.
 ghost use Rattle.std.specs.Prelude.{◌≡◌, true, OnOk, IfErr};
 ghost use Rattle.raft_model.specs.Servers.{is_up};
-ghost use Rattle.server.specs.Inner.Acts.{DoesAct, DeclinesOwn, act_of, asks_of};
+ghost use Rattle.server.specs.Inner.Acts.{EachDoes, DeclinesOwn, act_of, asks_of};
 
 use super::replies::send_request;
 use super::{Outbox, Server};
@@ -16,7 +16,7 @@ impl Server {
         outbox: &mut Outbox,
     ) -> Result<(), Refusal>
         requires { is_up self.now.raft.server.mode ≡ true }
-        ensures taken { OnOk result (DoesAct self.now (act_of self.now (asks_of to request))
+        ensures taken { OnOk result (EachDoes self.now (act_of self.now (asks_of to request))
             self.now outbox.old outbox.new) }
         ensures stopped { IfErr result (λ cause.
             DeclinesOwn self.now (asks_of to request) cause self.now outbox.old outbox.new) }

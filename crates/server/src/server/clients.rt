@@ -1,11 +1,14 @@
 //! Clients that ask.
 ghost use Rattle.std.specs.Prelude.{◌≡◌, true, OnOk, OnErr, IfOk};
-ghost use Rattle.raft_model.specs.Servers.{is_up, is_leader};
+ghost use Rattle.raft_model.specs.Servers.{Server as LogServer, is_up, is_leader};
+ghost use Rattle.raft_core.specs.Steps.{Represents};
+ghost use Rattle.rows.specs.declared.command.Command.{Command};
+ghost use Rattle.cluster_model.specs.ClusterMachine.{cluster_meaning};
 ghost use Rattle.raft_core.specs.RaftView.{SameServer};
 ghost use Rattle.group_model.specs.Desks.{whole_state};
 ghost use Rattle.group_model.specs.Messages.{Register, Heartbeat, Pull, ReportStates};
 ghost use Rattle.group_model.specs.ClientRequests.{is_taken_already};
-ghost use Rattle.server.specs.Inner.Acts.{DoesAct, Falters, client_act, write_act};
+ghost use Rattle.server.specs.Inner.Acts.{EachDoes, Falters, client_act, write_act};
 
 use super::idle::is_idle;
 use super::listing::listed;
@@ -32,7 +35,9 @@ fn node_of(client: ClientId) -> NodeId
 /// Whether the state after a leader's whole log admits the command, and it would change no row.
 fn is_taken_already(raft: &mut Raft<Cluster>, command: &Command) -> Result<bool, NoMemory>
     requires { is_leader raft.old.server.mode ≡ true }
-    ensures value { IfOk result (λ b. b ≡ is_taken_already (whole_state raft.old.server) command.now) }
+    ensures value { IfOk result (λ b. (s : LogServer Command) →
+        Represents cluster_meaning raft.old s →
+        b ≡ is_taken_already (whole_state s) command.now) }
     ensures same { SameServer raft.old raft.new }
 {
     match raft.projected() {
@@ -60,7 +65,7 @@ impl Server {
         requires { is_up self.old.raft.server.mode ≡ true }
         ensures same { (self.new.raft.me ≡ self.old.raft.me)
             × (self.new.raft.size ≡ self.old.raft.size) }
-        ensures taken { OnOk result (DoesAct self.old (write_act self.old client kind command)
+        ensures taken { OnOk result (EachDoes self.old (write_act self.old client kind command)
             self.new outbox.old outbox.new) }
         ensures lost { OnErr result (Falters self.old self.new outbox.old outbox.new) }
     {
@@ -99,7 +104,7 @@ impl Server {
         ensures same { (self.new.raft.me ≡ self.old.raft.me)
             × (self.new.raft.size ≡ self.old.raft.size) }
         ensures taken { OnOk result (
-            DoesAct self.old (client_act self.old client (Register class size))
+            EachDoes self.old (client_act self.old client (Register class size))
             self.new outbox.old outbox.new) }
         ensures lost { OnErr result (Falters self.old self.new outbox.old outbox.new) }
     {
@@ -124,7 +129,7 @@ impl Server {
         ensures same { (self.new.raft.me ≡ self.old.raft.me)
             × (self.new.raft.size ≡ self.old.raft.size) }
         ensures taken { OnOk result (
-            DoesAct self.old (client_act self.old client (ReportStates items))
+            EachDoes self.old (client_act self.old client (ReportStates items))
             self.new outbox.old outbox.new) }
         ensures lost { OnErr result (Falters self.old self.new outbox.old outbox.new) }
     {
@@ -146,7 +151,7 @@ impl Server {
         requires { is_up self.old.raft.server.mode ≡ true }
         ensures same { (self.new.raft.me ≡ self.old.raft.me)
             × (self.new.raft.size ≡ self.old.raft.size) }
-        ensures taken { OnOk result (DoesAct self.old (client_act self.old client Heartbeat)
+        ensures taken { OnOk result (EachDoes self.old (client_act self.old client Heartbeat)
             self.new outbox.old outbox.new) }
         ensures lost { OnErr result (Falters self.old self.new outbox.old outbox.new) }
     {
@@ -167,7 +172,7 @@ impl Server {
     /// Pull: the live allocations of the client's node, in the state that is applied, are sent.
     pub(super) fn pull(&self, client: ClientId, outbox: &mut Outbox) -> Result<(), NoMemory>
         requires { is_up self.now.raft.server.mode ≡ true }
-        ensures taken { OnOk result (DoesAct self.now (client_act self.now client Pull)
+        ensures taken { OnOk result (EachDoes self.now (client_act self.now client Pull)
             self.now outbox.old outbox.new) }
         ensures lost { OnErr result (outbox.new ≡ outbox.old) }
     {

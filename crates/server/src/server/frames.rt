@@ -13,8 +13,8 @@ ghost use Rattle.group_frames.specs.GroupFrames.{service_between};
 ghost use Rattle.server.specs.ServerViews.{IsMember};
 ghost use Rattle.server.specs.Handings.{FrameBytes, bytes_at};
 ghost use Rattle.server.specs.Turns.{TakesHanding, TakesTurn};
-ghost use Rattle.server.specs.Refusals.{handing_refusal, wrong_address, is_of_group, IsHandingRefused, HandingRefusalLeaves};
-ghost use Rattle.server.specs.Inner.Acts.{DoesAct, Falters, request_act, member_of};
+ghost use Rattle.server.specs.Refusals.{handing_refusal, wrong_address, is_of_group, IsHandingRefused, HandingRefusalLeaves, HandingStays};
+ghost use Rattle.server.specs.Inner.Acts.{EachMember, EachDoes, Falters, request_act};
 ghost use Rattle.server.specs.Inner.Sources.{source_bytes};
 ghost use Rattle.server.specs.Inner.LogSteps.{DeclinesHanding, TakesRead, DeclinesRead};
 
@@ -63,6 +63,8 @@ impl Server {
             IsHandingRefused self.old.raft.size self.old.raft.me s (FrameBytes frame.now) cause) }
         ensures left { IfErr result (λ cause. (s : Member) → IsMember self.old s →
             HandingRefusalLeaves self.old s (FrameBytes frame.now) cause self.new) }
+        ensures stays { IfErr result (λ cause.
+            HandingStays self.old (FrameBytes frame.now) cause self.new) }
         ensures unsent { OnErr result (outbox.new ≡ outbox.old) }
     {
         self.receive_from(Source::Apart(frame), outbox)
@@ -86,6 +88,8 @@ impl Server {
         ensures left { IfErr result (λ cause. (s : Member) → IsMember self.old s →
             HandingRefusalLeaves self.old s (FrameBytes (bytes_at outbox.old.frames at)) cause
             self.new) }
+        ensures stays { IfErr result (λ cause.
+            HandingStays self.old (FrameBytes (bytes_at outbox.old.frames at)) cause self.new) }
         ensures unsent { OnErr result (outbox.new ≡ outbox.old) }
     {
         self.receive_from(Source::Sent(at), outbox)
@@ -107,6 +111,8 @@ impl Server {
             (FrameBytes (source_bytes source.entry outbox.old.frames)) cause) }
         ensures left { IfErr result (λ cause. (s : Member) → IsMember self.old s →
             HandingRefusalLeaves self.old s
+            (FrameBytes (source_bytes source.entry outbox.old.frames)) cause self.new) }
+        ensures stays { IfErr result (λ cause. HandingStays self.old
             (FrameBytes (source_bytes source.entry outbox.old.frames)) cause self.new) }
         ensures unsent { OnErr result (outbox.new ≡ outbox.old) }
     {
@@ -131,12 +137,12 @@ impl Server {
         requires { is_up self.old.raft.server.mode ≡ true }
         ensures same { (self.new.raft.me ≡ self.old.raft.me)
             × (self.new.raft.size ≡ self.old.raft.size) }
-        ensures taken { OnOk result (TakesHanding self.old (member_of self.old)
+        ensures taken { OnOk result (EachMember self.old (λ s. TakesHanding self.old s
             (FrameBytes (source_bytes source.entry outbox.old.frames)) self.new outbox.old
-            outbox.new) }
-        ensures admitted { OnOk result (handing_refusal self.old.raft.size self.old.raft.me
-            (member_of self.old)
-            (FrameBytes (source_bytes source.entry outbox.old.frames)) ≡ None) }
+            outbox.new)) }
+        ensures admitted { OnOk result (EachMember self.old (λ s.
+            handing_refusal self.old.raft.size self.old.raft.me s
+            (FrameBytes (source_bytes source.entry outbox.old.frames)) ≡ None)) }
         ensures stopped { IfErr result (λ cause. DeclinesHanding self.old
             (FrameBytes (source_bytes source.entry outbox.old.frames)) cause self.new outbox.old
             outbox.new) }
@@ -157,12 +163,12 @@ impl Server {
         requires service { is_log_frame (source_bytes source outbox.old.frames) ≡ false }
         ensures same { (self.new.raft.me ≡ self.old.raft.me)
             × (self.new.raft.size ≡ self.old.raft.size) }
-        ensures taken { OnOk result (TakesHanding self.old (member_of self.old)
+        ensures taken { OnOk result (EachMember self.old (λ s. TakesHanding self.old s
             (FrameBytes (source_bytes source.entry outbox.old.frames)) self.new outbox.old
-            outbox.new) }
-        ensures admitted { OnOk result (handing_refusal self.old.raft.size self.old.raft.me
-            (member_of self.old)
-            (FrameBytes (source_bytes source.entry outbox.old.frames)) ≡ None) }
+            outbox.new)) }
+        ensures admitted { OnOk result (EachMember self.old (λ s.
+            handing_refusal self.old.raft.size self.old.raft.me s
+            (FrameBytes (source_bytes source.entry outbox.old.frames)) ≡ None)) }
         ensures stopped { IfErr result (λ cause. DeclinesHanding self.old
             (FrameBytes (source_bytes source.entry outbox.old.frames)) cause self.new outbox.old
             outbox.new) }
@@ -184,9 +190,10 @@ impl Server {
         requires goes { may_go (kind_of message.body) message.from message.to ≡ true }
         ensures same { (self.new.raft.me ≡ self.old.raft.me)
             × (self.new.raft.size ≡ self.old.raft.size) }
-        ensures taken { OnOk result (TakesRead self.old message self.new outbox.old outbox.new) }
-        ensures admitted { OnOk result (wrong_address self.old.raft.size self.old.raft.me
-            message.from message.to ≡ None) }
+        ensures taken { OnOk result (EachMember self.old (λ s.
+            TakesRead self.old s message self.new outbox.old outbox.new)) }
+        ensures admitted { OnOk result (EachMember self.old (λ s.
+            wrong_address self.old.raft.size self.old.raft.me message.from message.to ≡ None)) }
         ensures stopped { IfErr result (λ cause. DeclinesRead self.old message cause self.new
             outbox.old outbox.new) }
     {
@@ -199,9 +206,10 @@ impl Server {
         requires service { is_of_log (kind_of message.body) ≡ false }
         ensures same { (self.new.raft.me ≡ self.old.raft.me)
             × (self.new.raft.size ≡ self.old.raft.size) }
-        ensures taken { OnOk result (TakesRead self.old message self.new outbox.old outbox.new) }
-        ensures admitted { OnOk result (wrong_address self.old.raft.size self.old.raft.me
-            message.from message.to ≡ None) }
+        ensures taken { OnOk result (EachMember self.old (λ s.
+            TakesRead self.old s message self.new outbox.old outbox.new)) }
+        ensures admitted { OnOk result (EachMember self.old (λ s.
+            wrong_address self.old.raft.size self.old.raft.me message.from message.to ≡ None)) }
         ensures stopped { IfErr result (λ cause. DeclinesRead self.old message cause self.new
             outbox.old outbox.new) }
     {
@@ -261,10 +269,10 @@ impl Server {
         requires goes { may_go (kind_of body) from (actors.Server self.old.raft.me) ≡ true }
         ensures same { (self.new.raft.me ≡ self.old.raft.me)
             × (self.new.raft.size ≡ self.old.raft.size) }
-        ensures taken { OnOk result ((message : ServiceMessage) →
+        ensures taken { OnOk result (EachMember self.old (λ s. (message : ServiceMessage) →
             service_between from (actors.Server self.old.raft.me) body ≡ Some message →
-            TakesTurn (step self.old.raft.size self.old.raft.me (member_of self.old)
-            (Arrives message)) self.new outbox.old outbox.new) }
+            TakesTurn (step self.old.raft.size self.old.raft.me s (Arrives message))
+            self.new outbox.old outbox.new)) }
         ensures lost { OnErr result (Falters self.old self.new outbox.old outbox.new) }
     {
         match body {
@@ -320,7 +328,7 @@ impl Server {
         requires { is_up self.old.raft.server.mode ≡ true }
         ensures same { (self.new.raft.me ≡ self.old.raft.me)
             × (self.new.raft.size ≡ self.old.raft.size) }
-        ensures taken { OnOk result (DoesAct self.old (request_act self.old from request) self.new
+        ensures taken { OnOk result (EachDoes self.old (request_act self.old from request) self.new
             outbox.old outbox.new) }
         ensures lost { OnErr result (Falters self.old self.new outbox.old outbox.new) }
     {

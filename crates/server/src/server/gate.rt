@@ -4,7 +4,7 @@ ghost use Rattle.group_model.specs.Members.{open_desk};
 ghost use Rattle.raft_model.specs.Servers.{is_leader};
 ghost use Rattle.server.specs.Refusals.{HasOpenDesk};
 ghost use Rattle.leader.specs.OpenDesks.{if_open, on_outstanding};
-ghost use Rattle.server.specs.Inner.Acts.{member_of};
+ghost use Rattle.server.specs.Inner.Acts.{EachMember, Serves};
 ghost use Rattle.server.specs.Inner.Replies.{HasPair};
 
 use super::Server;
@@ -21,8 +21,9 @@ impl Server {
     /// That its desk is open: `NotLeader` with the leader that it knows where it does not lead,
     /// then `NotOpen`.
     pub(super) fn open_desk(&self) -> Result<(), Refusal>
-        ensures open { OnOk result (HasOpenDesk (member_of self.now)) }
-        ensures shut { IfErr result (λ e. open_desk (member_of self.now) ≡ Err e) }
+        ensures serves { OnOk result (Serves self.now) }
+        ensures open { OnOk result (EachMember self.now (λ s. HasOpenDesk s)) }
+        ensures shut { IfErr result (λ e. EachMember self.now (λ s. open_desk s ≡ Err e)) }
     {
         if !self.leads() {
             return Err(Refusal::NotLeader(Leader::new(self.raft.known_leader())));

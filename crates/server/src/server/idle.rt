@@ -5,14 +5,14 @@ ghost use Rattle.group_model.specs.ClientRequests.{is_registered, is_unmoved, is
 ghost use Rattle.server.specs.Inner.Idle.{is_unmoved_at};
 
 use fsm_state::{Cluster, after_reports};
-use rows::{Command, NodeId, NodeStatus, Report};
+use rows::{Command, NodeId, Report};
 
 /// Whether the node's row is ready.
 fn is_registered(state: &Cluster, node: NodeId) -> bool
     ensures { result ≡ is_registered node state.now }
 {
     match state.node(node) {
-        Some(row) => row.status == NodeStatus::Ready,
+        Some(row) => row.status.is_ready(),
         None => false,
     }
 }

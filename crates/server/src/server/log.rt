@@ -5,8 +5,9 @@ ghost use Rattle.raft_model.specs.Messages.{Message as MessageOf};
 ghost use Rattle.raft_model.specs.Servers.{is_leader};
 ghost use Rattle.raft_core.specs.Frames.{Means};
 ghost use Rattle.raft_core.specs.Inputs.{handed};
-ghost use Rattle.raft_core.specs.Refusals.{message_refusal, HidesNothing, IsRefused, IsMessageRefused, RefusalLeaves, MessageRefusalLeaves};
+ghost use Rattle.raft_core.specs.Refusals.{message_refusal, HidesNothing, IsRefused, IsMessageRefused, Stays, MessageStays};
 ghost use Rattle.cluster_model.specs.ClusterMachine.{cluster_meaning};
+ghost use Rattle.server.specs.Inner.Acts.{EachMember};
 ghost use Rattle.server.specs.Inner.LogSteps.{where_leads, DeskAfterRefusal, HearsLog, TakesAsk, log_ask};
 
 use super::{Outbox, Server};
@@ -37,13 +38,11 @@ impl Server {
             × (self.new.raft.size ≡ self.old.raft.size) }
         ensures taken { OnOk result ((said : MessageOf Command) → Means message said →
             HearsLog self.old said self.new outbox.old outbox.new) }
-        ensures admitted { OnOk result (
-            message_refusal self.old.raft.size self.old.raft.me self.old.raft.server message
-            ≡ None) }
-        ensures refused { IfErr result (λ cause. IsMessageRefused self.old.raft.size
-            self.old.raft.me self.old.raft.server message cause) }
-        ensures left { IfErr result (λ cause. MessageRefusalLeaves cluster_meaning self.old.raft
-            self.old.raft.server cause self.new.raft) }
+        ensures admitted { OnOk result (EachMember self.old (λ s.
+            message_refusal self.old.raft.size self.old.raft.me s.raft message ≡ None)) }
+        ensures refused { IfErr result (λ cause. EachMember self.old (λ s.
+            IsMessageRefused self.old.raft.size self.old.raft.me s.raft message cause)) }
+        ensures stays { IfErr result (λ cause. MessageStays cause self.old.raft self.new.raft) }
         ensures desk { IfErr result (λ cause. DeskAfterRefusal cause self.old.desk self.new.desk) }
         ensures unsent { OnErr result (outbox.new ≡ outbox.old) }
     {
@@ -61,12 +60,14 @@ impl Server {
             × (self.new.raft.size ≡ self.old.raft.size) }
         ensures taken { OnOk result (TakesAsk self.old (log_ask input.entry) self.new outbox.old
             outbox.new) }
-        ensures refused { IfErr result (λ cause. IsRefused cluster_meaning self.old.raft.size
-            self.old.raft.me self.old.raft.server (handed input.entry) cause) }
-        ensures unhidden { IfErr result (λ cause. HidesNothing cluster_meaning self.old.raft.size
-            self.old.raft.me self.old.raft.server (handed input.entry) cause) }
-        ensures left { IfErr result (λ cause. RefusalLeaves cluster_meaning self.old.raft
-            self.old.raft.server (handed input.entry) cause self.new.raft) }
+        ensures refused { IfErr result (λ cause. EachMember self.old (λ s.
+            IsRefused cluster_meaning self.old.raft.size self.old.raft.me s.raft
+            (handed input.entry) cause)) }
+        ensures unhidden { IfErr result (λ cause. EachMember self.old (λ s.
+            HidesNothing cluster_meaning self.old.raft.size self.old.raft.me s.raft
+            (handed input.entry) cause)) }
+        ensures stays { IfErr result (λ cause.
+            Stays (handed input.entry) cause self.old.raft self.new.raft) }
         ensures desk { IfErr result (λ cause. DeskAfterRefusal cause self.old.desk self.new.desk) }
         ensures unsent { OnErr result (outbox.new ≡ outbox.old) }
     {

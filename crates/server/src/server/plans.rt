@@ -6,8 +6,7 @@ ghost use Rattle.group_model.specs.Acceptance.{keeps_some};
 ghost use Rattle.group_model.specs.Desks.{QueuedPlan as AnyQueuedPlan};
 ghost use Rattle.plan_apply.specs.Answers.{kept_by};
 ghost use Rattle.leader.specs.Verdicts.{judged_by, IsProposal};
-ghost use Rattle.server.specs.Refusals.{HasOpenDesk};
-ghost use Rattle.server.specs.Inner.Acts.{DoesAct, Falters, member_of};
+ghost use Rattle.server.specs.Inner.Acts.{EachDoes, Falters, Serves};
 ghost use Rattle.server.specs.Inner.Plans.{settling, RefusesRising, KeptOf, kept_with, result_with};
 
 use super::replies::{send_refusal, send_response};
@@ -72,13 +71,13 @@ impl Server {
         accepted: Accepted,
         outbox: &mut Outbox,
     ) -> Result<(), NoMemory>
-        requires is_open { HasOpenDesk (member_of self.old) }
+        requires serves { Serves self.old }
         requires rises { AreRisingNodes accepted.refused }
         ensures same { (self.new.raft.me ≡ self.old.raft.me)
             × (self.new.raft.size ≡ self.old.raft.size) }
         ensures taken { let a = kept_by accepted in
             OnOk result ((w : AnyQueuedPlan) → KeptOf from accepted.plan a w →
-            DoesAct self.old (settling self.old (record { queued = w; kept = Ok a }))
+            EachDoes self.old (settling self.old (record { queued = w; kept = Ok a }))
             self.new outbox.old outbox.new) }
         ensures lost { OnErr result (Falters self.old self.new outbox.old outbox.new) }
     {
@@ -111,12 +110,12 @@ impl Server {
 
     /// What becomes of a plan that was judged.
     pub(super) fn settle(&mut self, judged: JudgedPlan, outbox: &mut Outbox) -> Result<(), NoMemory>
-        requires is_open { HasOpenDesk (member_of self.old) }
+        requires serves { Serves self.old }
         requires proposal { IsProposal judged }
         requires rises { RefusesRising (judged_by judged) }
         ensures same { (self.new.raft.me ≡ self.old.raft.me)
             × (self.new.raft.size ≡ self.old.raft.size) }
-        ensures taken { OnOk result (DoesAct self.old (settling self.old (judged_by judged))
+        ensures taken { OnOk result (EachDoes self.old (settling self.old (judged_by judged))
             self.new outbox.old outbox.new) }
         ensures lost { OnErr result (Falters self.old self.new outbox.old outbox.new) }
     {

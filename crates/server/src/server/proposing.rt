@@ -2,7 +2,7 @@
 ghost use Rattle.std.specs.Prelude.{◌≡◌, true, OnOk, OnErr, IfErr};
 ghost use Rattle.raft_model.specs.Servers.{is_up};
 ghost use Rattle.server.specs.ServerViews.{SameMember};
-ghost use Rattle.server.specs.Inner.Acts.{IsProposed, WhyNotProposed};
+ghost use Rattle.server.specs.Inner.Acts.{EachMember, IsProposed, WhyNotProposed};
 
 use super::Server;
 use rows::{Command, Refusal};
@@ -16,9 +16,9 @@ impl Server {
             × (self.new.raft.size ≡ self.old.raft.size) }
         ensures desk { self.new.desk ≡ self.old.desk }
         ensures taken { OnOk result (
-            IsProposed self.old.raft.server command self.new.raft.server) }
+            EachMember self.old (λ s. IsProposed s command self.new)) }
         ensures refused { IfErr result (λ cause.
-            WhyNotProposed self.old.raft.server command cause) }
+            EachMember self.old (λ s. WhyNotProposed s.raft command cause)) }
         ensures unchanged { OnErr result (SameMember self.old self.new) }
     {
         // How many entries are applied is known to be no more than there are.

@@ -2,10 +2,13 @@
 ghost use Rattle.std.specs.Prelude.{◌≡◌, ◌≢◌, true, Ok, Err, OnOk, OnErr, IfOk, IfErr};
 ghost use Rattle.rows.specs.declared.refusal.Refusal.TheVariants as refusals;
 ghost use Rattle.rows.specs.declared.worker.WorkerRequest.TheVariants as requests;
-ghost use Rattle.raft_model.specs.Servers.{is_up};
+ghost use Rattle.raft_model.specs.Servers.{Server as LogServer, is_up};
+ghost use Rattle.raft_core.specs.Steps.{Represents};
+ghost use Rattle.rows.specs.declared.command.Command.{Command};
+ghost use Rattle.cluster_model.specs.ClusterMachine.{cluster_meaning};
 ghost use Rattle.group_model.specs.Desks.{applied_state};
 ghost use Rattle.leader.specs.OpenDesks.{at_open, on_submit};
-ghost use Rattle.server.specs.Inner.Acts.{DoesAct, Falters, request_act, response_act};
+ghost use Rattle.server.specs.Inner.Acts.{EachDoes, Falters, request_act, response_act};
 
 use super::replies::{send_refusal, send_response};
 use super::{Outbox, Server};
@@ -21,10 +24,12 @@ use rows::{
 #[tactic(auto, using(crate::proofs::DeskCalls::not_lacking))]
 fn submit(raft: &Raft<Cluster>, desk: &mut Desk, from: ServerId, plan: Plan) -> Result<(), Refusal>
     requires { is_up raft.now.server.mode ≡ true }
-    ensures ok { let call = on_submit from (applied_state raft.now.server) plan in
-        IfOk result (λ u. at_open call desk.old ≡ Ok (u, desk.new)) }
-    ensures err { let call = on_submit from (applied_state raft.now.server) plan in
-        IfErr result (λ e. e ≢ refusals.NoMemory → at_open call desk.old ≡ Err e) }
+    ensures ok { IfOk result (λ u. (s : LogServer Command) →
+        Represents cluster_meaning raft.now s →
+        at_open (on_submit from (applied_state s) plan) desk.old ≡ Ok (u, desk.new)) }
+    ensures err { IfErr result (λ e. (s : LogServer Command) →
+        Represents cluster_meaning raft.now s → e ≢ refusals.NoMemory →
+        at_open (on_submit from (applied_state s) plan) desk.old ≡ Err e) }
     ensures left { OnErr result (desk.new ≡ desk.old) }
 {
     let Some(state) = raft.machine() else {
@@ -39,7 +44,7 @@ impl Server {
         requires { is_up self.old.raft.server.mode ≡ true }
         ensures same { (self.new.raft.me ≡ self.old.raft.me)
             × (self.new.raft.size ≡ self.old.raft.size) }
-        ensures taken { OnOk result (DoesAct self.old (request_act self.old from requests.Take)
+        ensures taken { OnOk result (EachDoes self.old (request_act self.old from requests.Take)
             self.new outbox.old outbox.new) }
         ensures lost { OnErr result (Falters self.old self.new outbox.old outbox.new) }
     {
@@ -70,7 +75,7 @@ impl Server {
         ensures same { (self.new.raft.me ≡ self.old.raft.me)
             × (self.new.raft.size ≡ self.old.raft.size) }
         ensures taken { OnOk result (
-            DoesAct self.old (request_act self.old from (requests.Submit plan))
+            EachDoes self.old (request_act self.old from (requests.Submit plan))
             self.new outbox.old outbox.new) }
         ensures lost { OnErr result (Falters self.old self.new outbox.old outbox.new) }
     {
@@ -101,7 +106,7 @@ impl Server {
         ensures same { (self.new.raft.me ≡ self.old.raft.me)
             × (self.new.raft.size ≡ self.old.raft.size) }
         ensures taken { OnOk result (
-            DoesAct self.old (request_act self.old from (requests.Finish eval token outcome))
+            EachDoes self.old (request_act self.old from (requests.Finish eval token outcome))
             self.new outbox.old outbox.new) }
         ensures lost { OnErr result (Falters self.old self.new outbox.old outbox.new) }
     {
@@ -138,7 +143,7 @@ impl Server {
         ensures same { (self.new.raft.me ≡ self.old.raft.me)
             × (self.new.raft.size ≡ self.old.raft.size) }
         ensures taken { OnOk result (
-            DoesAct self.old (request_act self.old from (requests.Nack eval token))
+            EachDoes self.old (request_act self.old from (requests.Nack eval token))
             self.new outbox.old outbox.new) }
         ensures lost { OnErr result (Falters self.old self.new outbox.old outbox.new) }
     {
@@ -164,7 +169,7 @@ impl Server {
         outbox: &mut Outbox,
     ) -> Result<(), NoMemory>
         requires { is_up self.now.raft.server.mode ≡ true }
-        ensures taken { OnOk result (DoesAct self.now (response_act self.now from response)
+        ensures taken { OnOk result (EachDoes self.now (response_act from response)
             self.now outbox.old outbox.new) }
         ensures lost { OnErr result (outbox.new ≡ outbox.old) }
     {

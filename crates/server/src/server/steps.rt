@@ -5,8 +5,8 @@ ghost use Rattle.group_model.specs.Members.{Member};
 ghost use Rattle.server.specs.ServerViews.{IsMember};
 ghost use Rattle.server.specs.Handings.{handing};
 ghost use Rattle.server.specs.Turns.{TakesHanding};
-ghost use Rattle.server.specs.Refusals.{handing_refusal, IsHandingRefused, HandingRefusalLeaves};
-ghost use Rattle.server.specs.Inner.Acts.{member_of};
+ghost use Rattle.server.specs.Refusals.{handing_refusal, IsHandingRefused, HandingRefusalLeaves, HandingStays};
+ghost use Rattle.server.specs.Inner.Acts.{EachMember};
 ghost use Rattle.server.specs.Inner.LogSteps.{DeclinesHanding};
 
 use super::frames::Source;
@@ -41,6 +41,8 @@ impl Server {
             IsHandingRefused self.old.raft.size self.old.raft.me s (handing input) cause) }
         ensures left { IfErr result (λ cause. (s : Member) → IsMember self.old s →
             HandingRefusalLeaves self.old s (handing input) cause self.new) }
+        ensures stays { IfErr result (λ cause.
+            HandingStays self.old (handing input) cause self.new) }
         ensures unsent { OnErr result (outbox.new ≡ outbox.old) }
     {
         if !self.raft.is_up() {
@@ -64,12 +66,12 @@ impl Server {
         requires { is_up self.old.raft.server.mode ≡ false }
         ensures same { (self.new.raft.me ≡ self.old.raft.me)
             × (self.new.raft.size ≡ self.old.raft.size) }
-        ensures taken { OnOk result (TakesHanding self.old (member_of self.old) (handing input)
-            self.new outbox.old outbox.new) }
-        ensures admitted { OnOk result (handing_refusal self.old.raft.size self.old.raft.me
-            (member_of self.old) (handing input) ≡ None) }
-        ensures refused { IfErr result (λ cause. IsHandingRefused self.old.raft.size
-            self.old.raft.me (member_of self.old) (handing input) cause) }
+        ensures taken { OnOk result (EachMember self.old (λ s.
+            TakesHanding self.old s (handing input) self.new outbox.old outbox.new)) }
+        ensures admitted { OnOk result (EachMember self.old (λ s.
+            handing_refusal self.old.raft.size self.old.raft.me s (handing input) ≡ None)) }
+        ensures refused { IfErr result (λ cause. EachMember self.old (λ s.
+            IsHandingRefused self.old.raft.size self.old.raft.me s (handing input) cause)) }
         ensures left { OnErr result (self.new ≡ self.old) }
         ensures unsent { OnErr result (outbox.new ≡ outbox.old) }
     {
@@ -85,10 +87,10 @@ impl Server {
         requires { is_up self.old.raft.server.mode ≡ true }
         ensures same { (self.new.raft.me ≡ self.old.raft.me)
             × (self.new.raft.size ≡ self.old.raft.size) }
-        ensures taken { OnOk result (TakesHanding self.old (member_of self.old) (handing input)
-            self.new outbox.old outbox.new) }
-        ensures admitted { OnOk result (handing_refusal self.old.raft.size self.old.raft.me
-            (member_of self.old) (handing input) ≡ None) }
+        ensures taken { OnOk result (EachMember self.old (λ s.
+            TakesHanding self.old s (handing input) self.new outbox.old outbox.new)) }
+        ensures admitted { OnOk result (EachMember self.old (λ s.
+            handing_refusal self.old.raft.size self.old.raft.me s (handing input) ≡ None)) }
         ensures stopped { IfErr result (λ cause. DeclinesHanding self.old (handing input) cause
             self.new outbox.old outbox.new) }
     {

@@ -1,6 +1,10 @@
 //! Turns of the desk.
 ghost use Rattle.std.specs.Prelude.{◌≡◌, ◌⊎◌, true, is_some, option_map, None, Ok, Err, OnOk, OnErr, IfOk, IfErr, IfSome};
-ghost use Rattle.raft_model.specs.Servers.{is_up, is_leader};
+ghost use Rattle.raft_model.specs.Servers.{Server as LogServer, is_up, is_leader};
+ghost use Rattle.raft_core.specs.Steps.{Represents};
+ghost use Rattle.rows.specs.declared.command.Command.{Command};
+ghost use Rattle.cluster_model.specs.ClusterMachine.{cluster_meaning};
+ghost use Rattle.cluster_model.specs.Words.{State};
 ghost use Rattle.raft_core.specs.RaftView.{SameServer};
 ghost use Rattle.rows.specs.Keys.{eval_id};
 ghost use Rattle.rows.specs.declared.refusal.Refusal.TheVariants as refusals;
@@ -11,7 +15,7 @@ ghost use Rattle.leader.specs.Verdicts.{judged_by, IsProposal, on_plan_turn};
 ghost use Rattle.group_model.specs.Inputs.{PlanTurn, Lapse, Expire, DrainTurn, FreeTurn, Reap};
 ghost use Rattle.server.specs.declared.server.Outbox.{Outbox as AnyOutbox};
 ghost use Rattle.server.specs.ServerViews.{group_desk};
-ghost use Rattle.server.specs.Inner.Acts.{DoesAct, DeclinesOwn, act_of, drain_at, proposes_if_any};
+ghost use Rattle.server.specs.Inner.Acts.{EachDoes, DeclinesOwn, act_of, drain_at, proposes_if_any};
 
 use super::{Outbox, Server};
 use fsm_state::Cluster;
@@ -25,8 +29,11 @@ fn judge_first(raft: &mut Raft<Cluster>, desk: &mut Desk) -> Result<Option<Judge
     requires leads { is_leader raft.old.server.mode ≡ true }
     requires is_open { is_some desk.old ≡ true }
     ensures same { SameServer raft.old raft.new }
-    ensures turn { let turn = at_open (on_plan_turn (whole_state raft.old.server)) desk.old in
-        IfOk result (λ j. turn ≡ Ok (option_map judged_by j, desk.new)) }
+    ensures turn { IfOk result (λ j. (s : LogServer Command) →
+        Represents cluster_meaning raft.old s →
+        at_open (on_plan_turn (whole_state s)) desk.old ≡ Ok (option_map judged_by j, desk.new)) }
+    ensures whole { IfOk result (λ j. (whole : State)
+        × (at_open (on_plan_turn whole) desk.old ≡ Ok (option_map judged_by j, desk.new))) }
     ensures proposal { IfOk result (λ j. IfSome j IsProposal) }
     ensures lost { OnErr result (desk.new ≡ None) }
 {
@@ -54,10 +61,11 @@ fn drain_step(
     requires leads { is_leader raft.old.server.mode ≡ true }
     requires is_open { is_some desk.now ≡ true }
     ensures same { SameServer raft.old raft.new }
-    ensures value { let d = group_desk desk.now in
-        IfOk result (λ c. drain_at raft.old.server d node ≡ Ok (proposes_if_any d c)) }
-    ensures err { let turn = drain_at raft.old.server (group_desk desk.now) node in
-        IfErr result (λ e. (e ≡ refusals.NoMemory) ⊎ (turn ≡ Err e)) }
+    ensures value { let d = group_desk desk.now in IfOk result (λ c. (s : LogServer Command) →
+        Represents cluster_meaning raft.old s → drain_at s d node ≡ Ok (proposes_if_any d c)) }
+    ensures err { let d = group_desk desk.now in IfErr result (λ e. (s : LogServer Command) →
+        Represents cluster_meaning raft.old s →
+        (e ≡ refusals.NoMemory) ⊎ (drain_at s d node ≡ Err e)) }
 {
     match raft.projected() {
         Ok(whole) => desk.drain_turn(node, whole),
@@ -68,11 +76,11 @@ fn drain_step(
 /// The evaluation that is freed first, by the state after the leader's whole log, at a desk of the
 /// applied state.
 fn first_freed(raft: &mut Raft<Cluster>, desk: &Desk) -> Result<Option<EvalId>, NoMemory>
-    requires leads { is_leader raft.old.server.mode ≡ true }
-    requires over { IsOverBlocked (applied_state raft.old.server) desk.now }
+    requires { is_leader raft.old.server.mode ≡ true }
     ensures same { SameServer raft.old raft.new }
-    ensures value { let s = raft.old.server in let due = first_due (applied_state s) (whole_state s) in
-        IfOk result (λ id. id ≡ option_map eval_id due) }
+    ensures value { IfOk result (λ id. (s : LogServer Command) →
+        Represents cluster_meaning raft.old s → IsOverBlocked (applied_state s) desk.now →
+        id ≡ option_map eval_id (first_due (applied_state s) (whole_state s))) }
 {
     match raft.projected() {
         Ok(whole) => match desk.free_turn(whole) {
@@ -88,8 +96,8 @@ fn first_reaped(raft: &mut Raft<Cluster>, desk: &Desk) -> Result<Option<EvalId>,
     requires leads { is_leader raft.old.server.mode ≡ true }
     requires is_open { is_some desk.now ≡ true }
     ensures same { SameServer raft.old raft.new }
-    ensures value { let turn = if_open (on_reap (whole_state raft.old.server)) desk.now in
-        IfOk result (λ id. turn ≡ Ok id) }
+    ensures value { IfOk result (λ id. (s : LogServer Command) →
+        Represents cluster_meaning raft.old s → if_open (on_reap (whole_state s)) desk.now ≡ Ok id) }
 {
     match raft.projected() {
         Ok(whole) => match desk.reap(whole) {
@@ -106,7 +114,7 @@ impl Server {
         requires { is_up self.old.raft.server.mode ≡ true }
         ensures same { (self.new.raft.me ≡ self.old.raft.me)
             × (self.new.raft.size ≡ self.old.raft.size) }
-        ensures taken { OnOk result (DoesAct self.old (act_of self.old PlanTurn) self.new
+        ensures taken { OnOk result (EachDoes self.old (act_of self.old PlanTurn) self.new
             outbox.old outbox.new) }
         ensures stopped { IfErr result (λ cause.
             DeclinesOwn self.old PlanTurn cause self.new outbox.old outbox.new) }
@@ -125,7 +133,7 @@ impl Server {
             × (self.new.raft.size ≡ self.old.raft.size) }
         // Whatever was sent and handed out before, nothing is.
         ensures taken { OnOk result ((out : AnyOutbox) →
-            DoesAct self.old (act_of self.old (Lapse eval)) self.new out out) }
+            EachDoes self.old (act_of self.old (Lapse eval)) self.new out out) }
         ensures stopped { IfErr result (λ cause. (out : AnyOutbox) →
             DeclinesOwn self.old (Lapse eval) cause self.new out out) }
     {
@@ -140,7 +148,7 @@ impl Server {
         ensures same { (self.new.raft.me ≡ self.old.raft.me)
             × (self.new.raft.size ≡ self.old.raft.size) }
         ensures taken { OnOk result ((out : AnyOutbox) →
-            DoesAct self.old (act_of self.old (Expire node beats)) self.new out out) }
+            EachDoes self.old (act_of self.old (Expire node beats)) self.new out out) }
         ensures stopped { IfErr result (λ cause. (out : AnyOutbox) →
             DeclinesOwn self.old (Expire node beats) cause self.new out out) }
     {
@@ -155,7 +163,7 @@ impl Server {
         ensures same { (self.new.raft.me ≡ self.old.raft.me)
             × (self.new.raft.size ≡ self.old.raft.size) }
         ensures taken { OnOk result ((out : AnyOutbox) →
-            DoesAct self.old (act_of self.old (DrainTurn node)) self.new out out) }
+            EachDoes self.old (act_of self.old (DrainTurn node)) self.new out out) }
         ensures stopped { IfErr result (λ cause. (out : AnyOutbox) →
             DeclinesOwn self.old (DrainTurn node) cause self.new out out) }
     {
@@ -172,7 +180,7 @@ impl Server {
         ensures same { (self.new.raft.me ≡ self.old.raft.me)
             × (self.new.raft.size ≡ self.old.raft.size) }
         ensures taken { OnOk result ((out : AnyOutbox) →
-            DoesAct self.old (act_of self.old FreeTurn) self.new out out) }
+            EachDoes self.old (act_of self.old FreeTurn) self.new out out) }
         ensures stopped { IfErr result (λ cause. (out : AnyOutbox) →
             DeclinesOwn self.old FreeTurn cause self.new out out) }
     {
@@ -189,7 +197,7 @@ impl Server {
         ensures same { (self.new.raft.me ≡ self.old.raft.me)
             × (self.new.raft.size ≡ self.old.raft.size) }
         ensures taken { OnOk result ((out : AnyOutbox) →
-            DoesAct self.old (act_of self.old Reap) self.new out out) }
+            EachDoes self.old (act_of self.old Reap) self.new out out) }
         ensures stopped { IfErr result (λ cause. (out : AnyOutbox) →
             DeclinesOwn self.old Reap cause self.new out out) }
     {

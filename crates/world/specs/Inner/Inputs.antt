@@ -3,7 +3,7 @@ use Rattle.std.specs.Prelude.{◌≡◌, ℕ, ◌<◌, if◌then◌else◌, Bool
 use Rattle.std.specs.List.{AllZip}
 use Rattle.rows.specs.declared.refusal.Refusal.{Refusal}
 use Rattle.rows.specs.declared.refusal.Refusal.TheVariants as refusals
-use Rattle.machine.specs.Meaning.{Meaning}
+use Rattle.machine_model.specs.Meaning.{Meaning}
 use Rattle.wire.specs.Frames.{Frame}
 use Rattle.raft_model.specs.Servers.{Server, is_up}
 use Rattle.raft_model.specs.Steps.{Timeout, Beat, Propose, Compact, Crash, Restart}
@@ -11,7 +11,7 @@ use Rattle.raft_model.specs.Worlds.{World, Event, Deliver, TimesOut, Beats, Prop
 use Rattle.raft_core.specs.Frames.{FrameCarries}
 use Rattle.raft_core.specs.RaftView.{RaftView}
 use Rattle.raft_core.specs.Inputs.{Handed, Bytes, Own}
-use Rattle.raft_core.specs.Refusals.{LackLeaves}
+use Rattle.raft_core.specs.Refusals.{LackLeaves, LackStays}
 use Rattle.server.specs.Handings.{bytes_of}
 use Rattle.world.specs.Steps.{LeftServer}
 
@@ -58,6 +58,11 @@ abbrev pub Leaves : {S C : Type 0} → Meaning S C → RaftView C → Server C �
     → Type 0
 Leaves m old s h refusals.NoMemory new = LackLeaves m old s h new
 Leaves m old s h cause new = LeftServer old new
+
+-- and of the value itself, whichever servers it is
+abbrev pub StaysOrLeft : {C : Type 0} → Handed C → Refusal → RaftView C → RaftView C → Type 0
+StaysOrLeft h refusals.NoMemory old new = LackStays h old new
+StaysOrLeft h cause old new = LeftServer old new
 
 -- what a server has committed, while it is up
 abbrev pub committed : {C : Type 0} → Server C → ℕ

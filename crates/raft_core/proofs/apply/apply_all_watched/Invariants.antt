@@ -1,5 +1,5 @@
 use Rattle.std.proofs.Common.{◌≡◌, ◌≤◌, length, take}
-use Rattle.machine.specs.After.{after_from}
+use Rattle.machine_model.specs.After.{after_from}
 use Rattle.raft_model.specs.Logs.{commands}
 use Rattle.raft_core.specs.Watching.{SeesAll}
 use Rattle.raft_core.proofs.apply.apply_all_watched.Given as goal

@@ -1,7 +1,8 @@
 use Rattle.std.proofs.Common.{inl, subst, sym}
 use Rattle.std.proofs.lemmas.Result.{IfErr-weaker, IfOk-weaker, on_ok_weaker}
-use Rattle.runner.specs.Complaints.{IsGoodText}
-use Rattle.runner.specs.Inner.Printed.{ShowsComplaints, ShowsNotes}
+use Rattle.scenario_file.specs.Complaints.{IsGoodText}
+use Rattle.runner.specs.Inner.Printed.{ShowsComplaints}
+use Rattle.runner.specs.Told.{ShowsNotes}
 use Rattle.runner.proofs.Reasons.{stops_checking}
 use Rattle.runner.proofs.checking.check_bytes.Goals as goal
 

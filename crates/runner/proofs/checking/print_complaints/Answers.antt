@@ -1,8 +1,8 @@
 use Rattle.std.proofs.Common.{◌≡◌, ◌∙◌, ◌+◌, ◌<◌, ◌++◌, ◌∷◌, List, [], IfSome, Option, ℕ, ap, length, refl, rules, sym, take}
 use Rattle.std.specs.Io.KnownBytes.{Appends}
 use Rattle.std.proofs.lemmas.List.{take_more}
+use Rattle.scenario_file.specs.declared.checking.Complaint.{Complaint}
 use Rattle.runner.specs.Inner.Printed.{ShowsEach, complaint_line}
-use Rattle.runner.specs.declared.checking.Complaint.{Complaint}
 use Rattle.runner.proofs.checking.print_complaints.Goals as goal
 
 one_more_shown : (found : List Complaint) (one : Complaint) (old mid new : Option (List ℕ)) → ShowsEach found old mid → IfSome (complaint_line one) (Appends mid new) → ShowsEach (found ++ one ∷ []) old new

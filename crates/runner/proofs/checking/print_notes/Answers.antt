@@ -4,7 +4,7 @@ use Rattle.std.specs.List.{flat_map}
 use Rattle.std.proofs.KnownBytes.{Appends-trans}
 use Rattle.std.proofs.lemmas.Grind.{flat_map-append}
 use Rattle.std.proofs.lemmas.List.{append-nil, take_more}
-use Rattle.runner.specs.Inner.Printed.{note_line}
+use Rattle.runner.specs.Told.{note_line}
 use Rattle.runner.proofs.checking.print_notes.Goals as goal
 
 written : {T E : Type 0} (r : Result T E) (P : Type 0) → IsOk r → OnOk r P → P

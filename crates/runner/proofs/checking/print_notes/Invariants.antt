@@ -1,7 +1,7 @@
 use Rattle.std.proofs.Common.{take}
 use Rattle.std.specs.Io.KnownBytes.{Appends}
 use Rattle.std.specs.List.{flat_map}
-use Rattle.runner.specs.Inner.Printed.{note_line}
+use Rattle.runner.specs.Told.{note_line}
 use Rattle.runner.proofs.checking.print_notes.Given as goal
 
 -- the lines of the notes so far

@@ -7,12 +7,12 @@ pub returns-in_default-state : goal.returns-in_default-state
 returns-in_default-state c = inl (record { cause = inl (down_in c.args.world.now c.args.server c.in-Some.member.now c.in-Some.ensures c.in_default-state.ensures); asks = refl; rest = refl })
 
 pub returns-in_default-applied : goal.returns-in_default-applied
-returns-in_default-applied c = inl (record { cause = inl (down_in c.args.world.now c.args.server c.in-Some.member.now c.in-Some.ensures c.in_default-applied.ensures); asks = refl; rest = refl })
+returns-in_default-applied c = inl (record { cause = inl (down_in c.args.world.now c.args.server c.in-Some.member.now c.in-Some.ensures c.in_default-applied.ensures.value); asks = refl; rest = refl })
 
 pub returns : goal.returns
 returns c =
     let of_state = c.in-Some-state.ensures in
-    let of_applied = c.in-Some-applied.ensures in
+    let of_applied = c.in-Some-applied.ensures.value in
     inr (record {
       work = c.in-Some-take.taken.work;
       rest = c.take.new.self.waiting;

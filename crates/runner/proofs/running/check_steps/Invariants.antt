@@ -1,6 +1,6 @@
 use Rattle.std.proofs.Common.{map, string_bytes, take}
 use Rattle.std.specs.List.{All}
-use Rattle.runner.specs.Complaints.{IsStepLine}
+use Rattle.scenario_file.specs.Complaints.{IsStepLine}
 use Rattle.runner.proofs.running.check_steps.Given as goal
 
 -- the lines so far are those of steps

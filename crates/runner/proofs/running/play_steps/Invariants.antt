@@ -1,11 +1,12 @@
 use Rattle.std.proofs.Common.{◌≡◌, ◌≤◌, map, string_bytes, take}
-use Rattle.runner.specs.Inner.Printed.{TellsSteps}
+use Rattle.runner.specs.Inner.Played.{TellsLines}
 use Rattle.runner.proofs.running.play_steps.Given as goal
 
--- what is told of the lines so far
+-- what became of the lines so far
 abbrev pub invariant-loop-line : goal.invariant-loop-line
 invariant-loop-line g l = record {
   most : l.status ≤ 1;
   quiet : l.status ≡ 0 → l.out ≡ l.fn.out;
-  told : TellsSteps (map string_bytes (take l.line-index l.scenario.steps.items)) l.status (g.W.Write.contents l.fn.out) (g.W.Write.contents l.out);
+  told : TellsLines g.S.Stage.Takes g.S.Stage.Refuses (map string_bytes (take l.line-index l.scenario.steps.items)) l.fn.stage l.stage l.status
+      (g.W.Write.contents l.fn.out) (g.W.Write.contents l.out);
 }

@@ -1,7 +1,7 @@
 use Rattle.std.proofs.Common.{subst, sym}
 use Rattle.std.proofs.lemmas.Result.{IfErr-weaker}
-use Rattle.runner.specs.declared.scenario.Scenario.{Scenario}
-use Rattle.runner.specs.Objects.{IsScenarioText}
+use Rattle.scenario_file.specs.declared.scenario.Scenario.{Scenario}
+use Rattle.scenario_file.specs.Objects.{IsScenarioText}
 use Rattle.runner.proofs.Reasons.{stops_reading}
 use Rattle.runner.proofs.running.scenario_of_bytes.Goals as goal
 

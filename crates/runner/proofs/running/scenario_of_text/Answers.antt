@@ -9,4 +9,5 @@ pub returns-in_default : goal.returns-in_default
 returns-in_default c = record {
   ok = tt;
   fault = inr (refl, λ is. either ⊥ c.in-Err.ensures.refused (λ e. c.in_default.not-NoMemory e) (λ none. none.1 is.0 is.1));
+  of_run = tt;
 }

@@ -1,7 +1,7 @@
 use Rattle.std.proofs.Common.{◌≡◌, ap, map, rules, ◌∙◌}
 use Rattle.event_book.specs.Seats.{actor_in}
-use Rattle.cluster.specs.declared.own_input.OwnInput.{OwnInput}
-use Rattle.cluster.specs.Closing.{seat_in}
+use Rattle.cells.specs.declared.own_input.OwnInput.{OwnInput}
+use Rattle.cells.specs.Groups.{seat_in}
 use Rattle.runner.proofs.Seats.{actors_of_seats, seats_of_new}
 use Rattle.runner.proofs.threads.group.Goals as goal
 

@@ -8,7 +8,7 @@ use Rattle.rows.specs.Fits.{NodeFits}
 use Rattle.rows.specs.Keys.{node_number, alloc_cmp, alloc_id}
 use Rattle.rows.specs.Rising.{is_rising}
 use Rattle.group_model.specs.Scheduling.{WantedName, PlanPart, live_of_name, claimed_by, with_stop, with_place, place_on}
-use Rattle.scheduler.specs.Inner.Loads.{load_of, less, with_load}
+use Rattle.scheduler.specs.Inner.Loads.{load_of, load_less, with_load}
 use Rattle.scheduler.specs.Inner.Growing.{part_of, fresh}
 use Rattle.scheduler.proofs.Shares.{loads_more}
 use Rattle.scheduler.proofs.Placing.{loads_without, next_nowhere, best_is, best_has_room}
@@ -69,7 +69,7 @@ returns-clause-loads c =
     let fit = subst (AllByRecursion NodeFits) c.node_table.ensures.rows c.ranges-2.ensures.fit in
     let room = best_has_room s (claimed_by s job (with_stop (live_of_name s job w) p)) w l.node fit best in
     c.in_ok-add_place.ensures.loads
-    ∙ ap (map (with_load place)) (c.in_ok-stop.ensures.loads ∙ (λ i. map (less (fresh p.stops (c.live-old.ensures i))) (c.requires i)) ∙ loads_without s job w p allocs)
+    ∙ ap (map (with_load place)) (c.in_ok-stop.ensures.loads ∙ (λ i. map (load_less (fresh p.stops (c.live-old.ensures i))) (c.requires i)) ∙ loads_without s job w p allocs)
     ∙ (λ i. map (with_load (named i)) (map (load_of (claimed_by s job (with_stop (live_of_name s job w) p))) s.nodes))
     ∙ loads_more s job (with_stop (live_of_name s job w) p) (place_on w l.node) s.nodes room
     ∙ ap (λ q. map (load_of (claimed_by s job q)) s.nodes) (sym part)

@@ -7,7 +7,7 @@ use Rattle.rows.specs.Rising.{is_rising}
 use Rattle.fsm_tables.proofs.RowLaws.{some_same}
 use Rattle.group_model.specs.Scheduling.{PlanPart, claimed_by}
 use Rattle.group_model.proofs.Subs.{at_item, one_taken}
-use Rattle.scheduler.specs.Inner.Loads.{load_of, less}
+use Rattle.scheduler.specs.Inner.Loads.{load_of, load_less}
 use Rattle.scheduler.specs.Inner.Growing.{part_of, fresh, IsLiveRow}
 use Rattle.scheduler.proofs.Found.{all_at}
 use Rattle.scheduler.proofs.Names.{unwanted_ids, unwanted_row}
@@ -40,7 +40,7 @@ loop-row-preserved c =
           ∙ c.loop-row.invariant.stops;
       places = ap (λ (q : PlanPart). q.places) part ∙ c.loop-row.invariant.places;
       loads = c.in_ok-stop.ensures.loads
-          ∙ ap (map (less (fresh ids (Some row)))) c.loop-row.invariant.loads
+          ∙ ap (map (load_less (fresh ids (Some row)))) c.loop-row.invariant.loads
           ∙ loads_less s job p (Some row) s.nodes allocs (λ a e. subst (IsLiveRow s) (some_same row a e) live)
           ∙ ap (λ q. map (load_of (claimed_by s job q)) s.nodes) (sym part);
     }

@@ -10,8 +10,8 @@ loop-node-preserved c =
     let of = load_of (claims c.args.state.now.allocs) in
     let node = c.node-item.result in
     let done = c.loop-node.loads.items in
-    let load : Load = record { node = node; cpu = c.used-used.result.cpu; mem = c.used-used.result.mem } in
-    let same : load ≡ of node = λ i. record { node = node; cpu = c.used-used.ensures.cpu i; mem = c.used-used.ensures.mem i } in
+    let load : Load = record { node = node; used = c.used.result } in
+    let same : load ≡ of node = λ i. record { node = node; used = c.used.ensures i } in
     ap (λ zs. zs ++ map of (drop (c.loop-node.node-index + 1) c.rows-nodes.result.now)) c.in_ok-push.ensures.items
     ∙ mapped_next of done load c.rows-nodes.result.now c.loop-node.node-index node (omega (arith, c.loop-node-test.true)) c.node-item.is same
     ∙ c.loop-node.invariant

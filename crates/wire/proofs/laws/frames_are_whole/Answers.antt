@@ -3,11 +3,11 @@ use Rattle.wire.proofs.laws.frames_are_whole.Goals as goal
 
 pub returns : goal.returns
 returns g c =
-    let commands = g.M.Machine.meaning.commands in
-    let law : ShortCommands commands = record { lawful = g.met.M.Machine.lawful.commands_lawful; short = g.met.M.Machine.lawful.commands_short } in
+    let meaning = g.M.Machine.meaning in
+    let law : ShortCommands meaning.commands = record { lawful = g.met.M.Machine.lawful.commands_lawful; short = g.met.M.Machine.lawful.commands_short } in
     record {
-      again = λ m fits. message_only commands law m fits;
-      found = λ bytes m fits e. message_found commands law bytes m fits e;
-      apart = λ m n x y fm fn e. frames_apart commands law m n x y fm fn e;
-      short = λ m fits. message_is_short commands law m fits;
+      again = λ m fits. message_only meaning law m fits;
+      found = λ bytes m fits e. message_found meaning law bytes m fits e;
+      apart = λ m n x y fm fn e. frames_apart meaning law m n x y fm fn e;
+      short = λ m fits. message_is_short meaning law m fits;
     }

@@ -11,7 +11,7 @@ unfolding message_at
 returns-in_err-body g c =
     let h = c.in_ok-header in
     let named = header_named holds_list c.args.bytes.now h.header h.at (λ i. omega (arith, c.type_inv.bytes i)) h.ensures.value in
-    subst (λ (b : Bool). Answers (b ≡ true) c.from_residual-in_err-body.result (message_at {S = g.row.M.Denot} g.M.Machine.meaning.commands c.args.bytes.now)) named (search rules)
+    subst (λ (b : Bool). Answers (b ≡ true) c.from_residual-in_err-body.result (message_at g.M.Machine.meaning c.args.bytes.now)) named (search rules)
 
 pub returns : goal.returns
 unfolding message_at

@@ -19,10 +19,10 @@ returns-in_err-append_said g c = record {
 
 pub put_size-requires : goal.put_size-requires
 put_size-requires g c =
-    let commands = g.M.Machine.meaning.commands in
-    let law : ShortCommands commands = record { lawful = g.met.M.Machine.lawful.commands_lawful; short = g.met.M.Machine.lawful.commands_short } in
+    let meaning = g.M.Machine.meaning in
+    let law : ShortCommands meaning.commands = record { lawful = g.met.M.Machine.lawful.commands_lawful; short = g.met.M.Machine.lawful.commands_short } in
     let behind : Behind _ _ _ _ _ _ = record { place = c.len-size_at.ensures ∙ c.args.out.now.ok.0; four_are = refl; four_came = c.in_ok-extend_from_slice.ensures.items; text_came = c.in_ok-append_said.ensures.1 } in
-    record { room = four_inside behind; short = length_fits behind (body_within commands law (said_body c.args.said.now) c.in_ok-append_said.ensures.0) }
+    record { room = four_inside behind; short = length_fits behind (body_within meaning law (said_body c.args.said.now) c.in_ok-append_said.ensures.0) }
 
 pub returns : goal.returns
 returns g c =

@@ -1,4 +1,5 @@
 use Rattle.std.proofs.Common.{◌≡◌, ◌++◌, [], length, sym, ◌∙◌, subst, append-nil}
+use Rattle.machine_model.specs.Meaning.{IsCommandOf}
 use Rattle.world.proofs.Loads.{no_fault}
 use Rattle.world.proofs.Events.{read_again}
 use Rattle.world.proofs.event.command_again.Goals as goal
@@ -10,7 +11,7 @@ returns-in-Ok g c =
     let same : c.in-Ok.again ≡ c.args.command.now =
     read_again commands c.args.command.now c.in-Ok.again c.in-Ok.field-0-1 c.deref.result.now c.new-text.result.items c.write_command.new.out.items c.new-text.ensures.items wrote.1 c.deref.ensures.value c.in-Ok.ensures
     (c.commands_are_whole.ensures.read c.args.command.now [] wrote.0) in
-    (same, subst (λ x. commands.Fits x) (sym same) wrote.0)
+    (same, subst (λ x. IsCommandOf g.M.Machine.meaning x) (sym same) wrote.0)
 
 pub unreachable-requires : goal.unreachable-requires
 unreachable-requires g c =

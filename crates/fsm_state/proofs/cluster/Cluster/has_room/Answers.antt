@@ -1,17 +1,13 @@
-use Rattle.std.proofs.Common.{[]}
-use Rattle.fsm_state.proofs.Alone.{and_then, and_else, has_room_is}
+use Rattle.std.proofs.Common.{[], ◌∙◌}
+use Rattle.std.proofs.lemmas.List.{map-id}
+use Rattle.rows.specs.Sizes.{plus, fits}
+use Rattle.fsm_state.specs.Inner.Alone.{has_room}
 use Rattle.fsm_state.proofs.cluster.Cluster.has_room.Goals as goal
 
-pub returns-then-is_enough : goal.returns-then-is_enough
-returns-then-is_enough c =
-    and_then _ _ _ _ _ c.is_enough.ensures c.is_enough-then-is_enough.ensures c.if-is_enough.true
-    (has_room_is c.args.self.now c.args.ended.now c.args.wanted.now c.args.node
-    c.room_of-room.ensures.cpu c.used-used.ensures.cpu (c.taken-more.ensures.cpu []) (c.taken-less.ensures.cpu [])
-    c.room_of-room.ensures.mem c.used-used.ensures.mem (c.taken-more.ensures.mem []) (c.taken-less.ensures.mem []))
-
-pub returns-else-is_enough : goal.returns-else-is_enough
-returns-else-is_enough c =
-    and_else _ _ _ _ c.is_enough.ensures c.if-is_enough.false
-    (has_room_is c.args.self.now c.args.ended.now c.args.wanted.now c.args.node
-    c.room_of-room.ensures.cpu c.used-used.ensures.cpu (c.taken-more.ensures.cpu []) (c.taken-less.ensures.cpu [])
-    c.room_of-room.ensures.mem c.used-used.ensures.mem (c.taken-more.ensures.mem []) (c.taken-less.ensures.mem []))
+pub returns : goal.returns
+returns c =
+    let es = c.args.ended.now in
+    let ws = c.args.wanted.now in
+    c.is_enough.ensures
+    ∙ (λ i. fits (plus (c.used-used.ensures i) (c.taken-more.ensures.value [] i)) (plus (c.room_of-room.ensures i) (c.taken-less.ensures.value [] i)))
+    ∙ (λ i. has_room c.args.self.now (map-id es i) (map-id ws i) c.args.node)

@@ -1,5 +1,5 @@
 use Rattle.std.proofs.Common.{None, arith}
-use Rattle.machine.specs.declared.entry.Entry.{Entry}
+use Rattle.machine_model.specs.declared.entry.Entry.{Entry}
 use Rattle.raft_core.specs.declared.role.Role.TheVariants as roles
 use Rattle.raft_core.proofs.Lives.{grown, reset, term_up, log_up}
 use Rattle.raft_core.proofs.raft.Raft.lead.Goals as goal

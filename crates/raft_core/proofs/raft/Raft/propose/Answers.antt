@@ -1,5 +1,5 @@
 use Rattle.std.proofs.Common.{◌+◌, ◌^◌, ◌<◌, arith, length, [], ◌∷◌, ◌++◌, sym, ap, ◌∙◌}
-use Rattle.machine.specs.declared.entry.Entry.{Entry}
+use Rattle.machine_model.specs.declared.entry.Entry.{Entry}
 use Rattle.raft_model.specs.Servers.{Server, is_leader, extended}
 use Rattle.raft_core.specs.RaftView.{RaftView, mode_of}
 use Rattle.raft_core.proofs.Lives.{grown, leader_room, second_grown, log_up, extended_by}

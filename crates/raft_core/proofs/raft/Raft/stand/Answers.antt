@@ -10,7 +10,7 @@ returns-clause-taken g c =
     let own : old.server.term ≡ i.term = rw (← c.self.view_is) (term_up i.machine _) in
     let log : old.server.log ≡ i.log.items = rw (← c.self.view_is) (log_up i.machine _) in
     let term : c.next-term.result ≡ suc old.server.term = omega (arith, c.next-term.ensures, own) in
-    let last : c.last.result ≡ length old.server.log = c.last.ensures old.server refl in
+    let last : c.last.result ≡ length old.server.log = c.last.ensures.shown in
     let last_is : c.term_of_last.result ≡ last_term old.server.log = rw (log, ← c.deref.ensures.value) c.term_of_last.ensures in
     let asked = rw (term, last, last_is, ← c.self.view_is) at c.in_ok-ask.ensures.ok in
     record { server = search rules; me = search rules; size = search rules; sent = rw (← c.self.view_is) asked }

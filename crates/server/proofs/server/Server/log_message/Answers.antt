@@ -5,7 +5,7 @@ pub returns-clause-taken : goal.returns-clause-taken
 returns-clause-taken c =
     let h = c.hear_log in
     let got = c.hear_log.ensures in
-    log_taken c.args.self.now h.new.self c.args.outbox.now h.new.outbox c.args.message c.requires.up c.requires.log c.requires.goes h.result got.admitted got.taken
+    log_taken c.args.self.now h.new.self c.args.outbox.now h.new.outbox c.args.message c.requires.up c.requires.log c.requires.goes h.result got.taken
 
 pub returns-clause-admitted : goal.returns-clause-admitted
 returns-clause-admitted c =
@@ -17,4 +17,4 @@ pub returns-clause-stopped : goal.returns-clause-stopped
 returns-clause-stopped c =
     let h = c.hear_log in
     let got = c.hear_log.ensures in
-    log_stops c.args.self.now h.new.self c.args.outbox.now h.new.outbox c.args.message c.requires.up c.requires.log c.requires.goes got.same.0 got.same.1 h.result got.refused got.left got.desk got.unsent
+    log_stops c.args.self.now h.new.self c.args.outbox.now h.new.outbox c.args.message c.requires.up c.requires.log c.requires.goes got.same.0 got.same.1 h.result got.refused got.stays got.desk got.unsent

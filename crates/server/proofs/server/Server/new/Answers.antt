@@ -7,4 +7,5 @@ pub returns-in-Ok-clause-newcomer : goal.returns-in-Ok-clause-newcomer
 returns-in-Ok-clause-newcomer c = record {
   raft = c.in-Ok.ensures.server newcomer (rw c.new.ensures (record { term = refl; vote = refl; log = refl; covered = refl }));
   desk = ap group_desk c.closed.ensures;
+  led = rw c.closed.ensures tt;
 }

@@ -1,6 +1,16 @@
-use Rattle.leader.specs.OpenDesks.{on_nack}
-use Rattle.server.proofs.DeskCalls.{still_leaders, nack_keeps}
+use Rattle.std.proofs.Common.{◌≡◌, refl, sym, subst}
+use Rattle.rows.specs.declared.worker.WorkerRequest.TheVariants as requests
+use Rattle.server.specs.ServerViews.{ServerView}
+use Rattle.server.specs.Refusals.{HasOpenDesk}
+use Rattle.server.specs.Inner.Acts.{EachMember, EachDoes, request_act}
+use Rattle.server.proofs.Requests.{nack_done}
 use Rattle.server.proofs.server.Server.serve_nack.Goals as goal
 
-pub invariant_of-self : goal.invariant_of-self
-invariant_of-self c = still_leaders (on_nack c.args.eval c.args.token) (nack_keeps c.args.eval c.args.token) _ _ c.nack.new.self c.nack.result c.nack.ensures.ok c.nack.ensures.left (rw (← c.self-inside.view_is) at c.self.invariant)
+pub returns-in-Ok-clause-taken : goal.returns-in-Ok-clause-taken
+returns-in-Ok-clause-taken c =
+    let held : ServerView = record { raft = c.self-inside.inside.0.1.0; desk = c.self-inside.inside.0.1.1.0.desk } in
+    let e : held ≡ c.args.self.now = rw (← c.self-inside.view_is) at c.self.view_is in
+    let new : ServerView = record { raft = held.raft; desk = c.nack.new.self } in
+    let h = subst (λ (v : ServerView). EachMember v (λ s. HasOpenDesk s)) (sym e) c.in_default.ensures.open in
+    subst (λ (v : ServerView). EachDoes v (request_act v c.args.from (requests.Nack c.args.eval c.args.token)) new c.args.outbox.now c.args.outbox.now) e
+    (nack_done held new c.args.outbox.now c.args.outbox.now c.args.from h (record { me = refl; size = refl; server = refl }) c.args.eval c.args.token c.in-Ok.ensures.ok refl)

@@ -1,25 +1,7 @@
-use Rattle.std.proofs.Common.{◌≡◌, None}
 use Rattle.server.specs.Handings.{handing}
-use Rattle.server.specs.Turns.{TakesHanding}
-use Rattle.server.specs.Refusals.{handing_refusal, IsHandingRefused, HandingRefusalLeaves}
-use Rattle.server.specs.Inner.Acts.{member_of}
-use Rattle.server.proofs.Handings.{for_member, ok_for_member, err_for_member, declined_parts, refused_of, left_of}
+use Rattle.server.specs.ServerViews.{ServerView}
+use Rattle.server.proofs.Handings.{declined_parts, refused_of, left_of, stays_of}
 use Rattle.server.proofs.server.Server.step.Goals as goal
-
-pub returns-then-not-is_up-clause-admitted : goal.returns-then-not-is_up-clause-admitted
-returns-then-not-is_up-clause-admitted c =
-    let old = c.args.self.now in
-    ok_for_member (λ s. handing_refusal old.raft.size old.raft.me s (handing c.args.input) ≡ None) old c.wake.result c.wake.ensures.admitted
-
-pub returns-then-not-is_up-clause-refused : goal.returns-then-not-is_up-clause-refused
-returns-then-not-is_up-clause-refused c =
-    let old = c.args.self.now in
-    err_for_member (λ cause s. IsHandingRefused old.raft.size old.raft.me s (handing c.args.input) cause) old c.wake.result c.wake.ensures.refused
-
-pub returns-in-Ok-clause-taken : goal.returns-in-Ok-clause-taken
-returns-in-Ok-clause-taken c =
-    let old = c.args.self.now in
-    for_member (λ s. TakesHanding old s (handing c.args.input) c.act.new.self c.args.outbox.now c.act.new.outbox) old c.in-Ok.ensures.taken
 
 pub returns-in_default : goal.returns-in_default
 returns-in_default c =
@@ -31,7 +13,8 @@ returns-in_default c =
       same = c.act.ensures.same;
       taken = tt;
       admitted = tt;
-      refused = for_member (λ s. IsHandingRefused old.raft.size old.raft.me s h cause) old (refused_of old.raft.size old.raft.me (member_of old) h cause c.in_default.not-NoMemory parts.0);
-      left = for_member (λ s. HandingRefusalLeaves old s h cause c.act.new.self) old (left_of old c.act.new.self (member_of old) h cause c.in_default.not-NoMemory parts.1.same);
+      refused = λ s is. refused_of old.raft.size old.raft.me s h cause c.in_default.not-NoMemory (parts.0 s is);
+      left = λ s is. left_of old c.act.new.self s h cause c.in_default.not-NoMemory parts.1.same;
+      stays = stays_of old c.act.new.self h cause c.in_default.not-NoMemory parts.1.same;
       unsent = parts.1.nothing;
     }

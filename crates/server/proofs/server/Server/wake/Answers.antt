@@ -1,19 +1,18 @@
 use Rattle.std.proofs.Common.{◌≡◌, sym, subst}
-use Rattle.std.specs.Prelude.{IfSome, OnErr}
-use Rattle.server.specs.ServerViews.{IsOfLeader}
-use Rattle.server.proofs.LogSteps.{restart_left}
+use Rattle.std.specs.Prelude.{OnErr}
+use Rattle.server.proofs.LogSteps.{IsLedBy, restart_left}
 use Rattle.server.proofs.server.Server.wake.Goals as goal
 use Rattle.server.proofs.server.Server.wake.Goals.{in-Restart, in_default}
 
 pub returns-clause-left : goal.returns-clause-left
 returns-clause-left c =
     let old = c.args.self.now in
-    let inside : IfSome old.desk (IsOfLeader old.raft) = subst (λ v. IfSome v.desk (IsOfLeader v.raft)) c.self.view_is c.self.invariant in
+    let inside : IsLedBy old.raft old.desk = subst (λ v. IsLedBy v.raft v.desk) c.self.view_is c.self.invariant in
     elim c.match-input.branch [
       | in-Restart w ↦
           let got = w.step_log.ensures in
           subst (λ r. OnErr r (c.match-input.self ≡ old)) (sym w.result-is)
           (subst (λ v. OnErr w.step_log.result (v ≡ old)) (sym w.self-is)
-          (restart_left old w.step_log.new.self w.step_log.result inside c.requires got.left got.desk))
+          (restart_left old w.step_log.new.self w.step_log.result inside c.requires got.stays got.desk))
       | in_default w ↦ subst (λ r. OnErr r (c.match-input.self ≡ old)) (sym w.result-is) w.self-is
     ]

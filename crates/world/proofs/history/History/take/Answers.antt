@@ -4,7 +4,7 @@ use Rattle.world.specs.declared.event.RaftEvent.TheVariants as events
 use Rattle.world.specs.Inner.HistoryView.{HistoryView}
 use Rattle.world.specs.Inner.Inputs.{is_restart}
 use Rattle.world.proofs.Events.{one_event_more}
-use Rattle.world.proofs.Refused.{fallen, stayed, part_refused}
+use Rattle.world.proofs.Refused.{fallen, stayed, same_raft, part_refused}
 use Rattle.world.proofs.history.History.take.Goals as goal
 
 pub returns-in-Ok-clause-done : goal.returns-in-Ok-clause-done
@@ -23,11 +23,11 @@ returns-then-is_restart-clause-done g c =
     let h = c.args.raft.now in
     let so : is_restart e ≡ true = sym c.is_restart.ensures ∙ c.if-is_restart.true in
     let lacks = rw (c.in-NoMemory.is, c.in_ok-input.ensures.0) at c.in-Err.ensures.refused in
-    let left = rw (c.in-NoMemory.is, c.in_ok-input.ensures.0) at c.in-Err.ensures.left in
+    let stays = rw (c.in-NoMemory.is, c.in_ok-input.ensures.0) at c.in-Err.ensures.stays in
     rw (← c.self.view_is) (inr (record {
       restart = so;
-      down = λ s r. (let q = stayed g.M.Machine.meaning h c.hand.new.raft sent s e so (lacks s r) (left s r) in q.0);
-      same_raft = (let q = stayed g.M.Machine.meaning h c.hand.new.raft sent h.server e so (lacks h.server refl) (left h.server refl) in q.1);
+      down = λ s r. stayed g.M.Machine.meaning h c.hand.new.raft sent s e so (lacks s r);
+      same_raft = same_raft h c.hand.new.raft sent e so stays;
       same_past = rw (c.in-Err.ensures.unsent, c.in_ok-reserve.ensures.items) refl;
     }))
 
@@ -52,8 +52,8 @@ pub returns : goal.returns
 returns g c =
     let past : HistoryView g.row.M-Command.Denot = record { sent = c.self.inside.sent; trace = world_events c.self.inside.trace.items; chain = c.self.inside.chain } in
     let refused = rw c.in_ok-input.ensures.0 at c.in-Err.ensures.refused in
-    let left = rw c.in_ok-input.ensures.0 at c.in-Err.ensures.left in
-    let p = part_refused g.M.Machine.meaning c.args.raft.now c.hand.new.raft past (world_event c.args.event) c.in-Err.refusal c.in_default.not-NoMemory refused left in
+    let stays = rw c.in_ok-input.ensures.0 at c.in-Err.ensures.stays in
+    let p = part_refused g.M.Machine.meaning c.args.raft.now c.hand.new.raft past (world_event c.args.event) c.in-Err.refusal c.in_default.not-NoMemory refused stays in
     rw (← c.self.view_is) (record {
       same = c.hand.ensures.same;
       done = (p.0, rw (c.in-Err.ensures.unsent, c.in_ok-reserve.ensures.items) refl, p.1);

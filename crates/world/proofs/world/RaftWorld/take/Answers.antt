@@ -24,7 +24,7 @@ returns-then-not-is_restart-clause-err g c = same_world c.args.self.now
 pub returns-then-not-is_restart-clause-cause : goal.returns-then-not-is_restart-clause-cause
 returns-then-not-is_restart-clause-cause g c _ =
     let acts = rw c.sent.ensures at c.in-Some.ensures.some in
-    refuses_sleeping g.M.Machine.meaning c.args.self.now (world_event c.args.event) c.in-Some.server acts c.in-Some-raft.raft.now c.role.result (sym c.in-Some-raft.ensures) c.role.ensures c.if-is_none.ensures (sym c.if-not-is_restart.ensures)
+    refuses_sleeping g.M.Machine.meaning c.args.self.now (world_event c.args.event) c.in-Some.server acts c.in-Some-raft.raft.now c.role.result (sym c.in-Some-raft.ensures) c.role.ensures.value c.if-is_none.ensures (sym c.if-not-is_restart.ensures)
 
 pub act-requires-clause-actor : goal.act-requires-clause-actor
 act-requires-clause-actor g c = rw c.sent.ensures at c.in-Some.ensures.some
@@ -39,4 +39,4 @@ act-requires-clause-awake g c =
       | else-is_none-via-then-is_none+else-not-is_restart w ↦ inr (sym w.is_restart.ensures ∙ w.if-not-is_restart.false)
       | else-is_none-via-else-is_none w ↦ inl (c.is_none.ensures ∙ ap not w.if-is_none.false)
     ] in
-    is_awake g.M.Machine.meaning c.args.self.now (world_event c.args.event) c.in-Some.server acts c.in-Some-raft.raft.now c.role.result (sym c.in-Some-raft.ensures) c.role.ensures g.met.M.Machine.lawful up
+    is_awake g.M.Machine.meaning c.args.self.now (world_event c.args.event) c.in-Some.server acts c.in-Some-raft.raft.now c.role.result (sym c.in-Some-raft.ensures) c.role.ensures.value g.met.M.Machine.lawful up

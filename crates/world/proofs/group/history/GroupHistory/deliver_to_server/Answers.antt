@@ -31,8 +31,8 @@ returns-in_default c =
     let bytes = bytes_of (slice_get c.self.inside.outbox.frames place) in
     let past : GroupHistoryView = record { outbox = c.self.inside.outbox; trace = group_events c.self.inside.trace.items; chain = c.self.inside.chain } in
     let refused = rw c.place-at.ensures at c.in-Err.ensures.refused in
-    let left = rw c.place-at.ensures at c.in-Err.ensures.left in
-    let p = server_refused c.args.server.now c.receive_sent.new.self past (FrameBytes bytes) (Deliver place) c.in-Err.cause c.in_default.not-NoMemory refused left in
+    let stays = rw c.place-at.ensures at c.in-Err.ensures.stays in
+    let p = server_refused c.args.server.now c.receive_sent.new.self past (FrameBytes bytes) (Deliver place) c.in-Err.cause c.in_default.not-NoMemory refused stays in
     rw (← c.self.view_is) (record {
       same = c.receive_sent.ensures.same;
       done = (p.0, rw (c.in-Err.ensures.unsent, c.in_ok-reserve.ensures.items) refl, p.1);

@@ -17,7 +17,7 @@ returns-in_default c =
 pub returns-then-not-is_restart : goal.returns-then-not-is_restart
 returns-then-not-is_restart c =
     refused_at_once c.args.self.now (AtServer c.args.me (server_input (handing c.args.input.value))) refusals.Down (λ e. cc)
-    (server_sleeps c.args.self.now c.args.me c.in-Some.server.now c.role.result (sym c.in-Some.ensures) c.role.ensures (handing c.args.input.value) c.if-is_none.ensures (rw c.as_ref-given.ensures at (sym c.if-not-is_restart.ensures)))
+    (server_sleeps c.args.self.now c.args.me c.in-Some.server.now c.role.result (sym c.in-Some.ensures) c.role.ensures.value (handing c.args.input.value) c.if-is_none.ensures (rw c.as_ref-given.ensures at (sym c.if-not-is_restart.ensures)))
 
 pub returns-then-is_frame : goal.returns-then-is_frame
 returns-then-is_frame c =
@@ -26,7 +26,7 @@ returns-then-is_frame c =
       | else-is_none-via-else-is_none w ↦ inl (c.is_none.ensures ∙ ap not w.if-is_none.false)
     ] in
     refused_at_once c.args.self.now (AtServer c.args.me (server_input (handing c.args.input.value))) refusals.OutOfRange (λ e. cc)
-    (frame_is_none c.args.self.now c.args.me c.in-Some.server.now c.role.result (sym c.in-Some.ensures) c.role.ensures (handing c.args.input.value) (rw c.as_ref-given.ensures at (sym c.is_frame.ensures ∙ c.if-is_frame.true)) up)
+    (frame_is_none c.args.self.now c.args.me c.in-Some.server.now c.role.result (sym c.in-Some.ensures) c.role.ensures.value (handing c.args.input.value) (rw c.as_ref-given.ensures at (sym c.is_frame.ensures ∙ c.if-is_frame.true)) up)
 
 pub hand_server-requires-clause-member : goal.hand_server-requires-clause-member
 hand_server-requires-clause-member c = get-within c.args.self.now.servers c.args.me c.in-Some.server.now (sym c.in-Some.ensures)
@@ -37,4 +37,4 @@ hand_server-requires-clause-awake c =
       | else-is_none-via-then-is_none+else-not-is_restart w ↦ inr (rw c.as_ref-given.ensures at (sym w.is_restart.ensures ∙ w.if-not-is_restart.false))
       | else-is_none-via-else-is_none w ↦ inl (c.is_none.ensures ∙ ap not w.if-is_none.false)
     ] in
-    server_awake c.args.self.now c.args.me c.in-Some.server.now c.role.result (sym c.in-Some.ensures) c.role.ensures c.args.input.value (rw c.as_ref-given.ensures at (sym c.is_frame.ensures ∙ c.if-is_frame.false)) up
+    server_awake c.args.self.now c.args.me c.in-Some.server.now c.role.result (sym c.in-Some.ensures) c.role.ensures.value c.args.input.value (rw c.as_ref-given.ensures at (sym c.is_frame.ensures ∙ c.if-is_frame.false)) up

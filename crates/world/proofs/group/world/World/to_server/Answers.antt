@@ -14,11 +14,11 @@ returns-in_default c =
 pub returns-then-is_none : goal.returns-then-is_none
 returns-then-is_none c =
     refused_at_once c.args.self.now (Deliver (place_of c.args.k)) refusals.Down (λ e. cc)
-    (receiver_sleeps c.args.self.now (place_of c.args.k) c.args.me c.requires c.in-Some.server.now c.role.result (sym c.in-Some.ensures) c.role.ensures c.if-is_none.ensures)
+    (receiver_sleeps c.args.self.now (place_of c.args.k) c.args.me c.requires c.in-Some.server.now c.role.result (sym c.in-Some.ensures) c.role.ensures.value c.if-is_none.ensures)
 
 pub bring_to_server-requires-clause-member : goal.bring_to_server-requires-clause-member
 bring_to_server-requires-clause-member c = get-within c.args.self.now.servers c.args.me c.in-Some.server.now (sym c.in-Some.ensures)
 
 pub bring_to_server-requires-clause-awake : goal.bring_to_server-requires-clause-awake
 bring_to_server-requires-clause-awake c =
-    receiver_awake c.args.self.now (place_of c.args.k) c.args.me c.requires c.in-Some.server.now c.role.result (sym c.in-Some.ensures) c.role.ensures (c.is_none.ensures ∙ ap not c.if-is_none.false)
+    receiver_awake c.args.self.now (place_of c.args.k) c.args.me c.requires c.in-Some.server.now c.role.result (sym c.in-Some.ensures) c.role.ensures.value (c.is_none.ensures ∙ ap not c.if-is_none.false)

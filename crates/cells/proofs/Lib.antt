@@ -1,0 +1,5 @@
+pub mod Answering
+pub mod Sending
+pub mod Turns
+pub mod Members
+pub mod Sent

@@ -1,0 +1,80 @@
+-- What a cell notes, and the envelopes of what its actor sent.
+use Rattle.std.specs.Prelude.{◌≡◌, ◌+◌, ℕ, List, [], ◌∷◌, ◌++◌, length, map, take}
+use Rattle.rows.specs.declared.worker.Work.{Work}
+use Rattle.event_book.specs.declared.view.EventView.{EventView}
+use Rattle.event_book.specs.declared.view.EventView.TheVariants.{Own, Delivery, Crash}
+use Rattle.event_book.specs.declared.view.Output.{Output}
+use Rattle.event_book.specs.declared.view.NotedView.{NotedView}
+use Rattle.event_book.specs.declared.view.Note.{Note}
+use Rattle.event_book.specs.declared.view.TokenView.{TokenView}
+use Rattle.event_book.specs.declared.view.SeatView.{SeatView}
+use Rattle.event_book.specs.Seats.{Names, with_note, with_taken}
+use Rattle.cells.specs.declared.own_input.OwnInput.{OwnInput}
+use Rattle.cells.specs.declared.actor.Stepped.{Stepped}
+use Rattle.cells.specs.declared.actor.Stepped.TheVariants.{Taken, Crashed}
+use Rattle.rows.specs.declared.refusal.Refusal.{Refusal}
+use Rattle.cells.specs.declared.actor.GroupActor.{GroupActor}
+use Rattle.cells.specs.Actors.{SameActor}
+use Rattle.cells.specs.Refusals.{ActorRefuses}
+use Rattle.cells.specs.Inner.Steps.{Did, RefusedAsSaid, output_of}
+use Rattle.cells.specs.Cells.{EnvelopeView, envelopes_from, crash_noted}
+
+-- the outputs of the last note, each with its token
+abbrev pub last_envelopes : List (Note OwnInput) → List EnvelopeView
+last_envelopes [] = []
+last_envelopes (note ∷ []) = envelopes_from note 0 note.noted.outputs
+last_envelopes (note ∷ next ∷ notes) = last_envelopes (next ∷ notes)
+
+-- the last note has this stamp and these outputs
+pub record EndsWith (notes : List (Note OwnInput)) (stamp : ℕ) (outputs : List Output) : Type 0 where
+  pub before : List (Note OwnInput)
+  pub note : Note OwnInput
+  pub notes_are : notes ≡ before ++ note ∷ []
+  pub stamp_is : note.stamp ≡ stamp
+  pub outputs_are : note.noted.outputs ≡ outputs
+
+-- a note of this, after a taking in
+pub record IsNoted (old : SeatView OwnInput) (event : EventView OwnInput) (tokens : List (TokenView OwnInput)) (outputs : List Output) (new : SeatView OwnInput) : Type 0 where
+  pub stamp : ℕ
+  pub seat : new ≡ with_note (record { event = event; outputs = outputs }) stamp (with_taken tokens old)
+
+-- the seat may note this once these tokens are taken in
+abbrev pub CanBeNoted : SeatView OwnInput → EventView OwnInput → List (TokenView OwnInput) → Type 0
+CanBeNoted seat (Own input) tokens = Unit {0}
+CanBeNoted seat (Delivery stamp place frame) tokens =
+    (token : TokenView OwnInput) × (tokens ≡ token ∷ []) × Names token stamp place seat.actor frame
+CanBeNoted seat Crash tokens = Unit {0}
+
+-- ---- what is noted of a step, or of a crash in its place
+
+abbrev pub noted_by : EventView OwnInput → Stepped → NotedView OwnInput
+noted_by event (Taken outbox) = record { event = event; outputs = map output_of outbox.frames }
+noted_by event Crashed = crash_noted
+
+abbrev pub tokens_by : List (TokenView OwnInput) → Stepped → List (TokenView OwnInput)
+tokens_by tokens (Taken outbox) = tokens
+tokens_by tokens Crashed = []
+
+abbrev pub work_by : Stepped → List Work
+work_by (Taken outbox) = outbox.work
+work_by Crashed = []
+
+pub record IsRecorded (old : SeatView OwnInput) (event : EventView OwnInput) (tokens : List (TokenView OwnInput)) (stepped : Stepped) (new : SeatView OwnInput) (work : List Work) (sent : List EnvelopeView) (unsent : ℕ) : Type 0 where
+  pub stamp : ℕ
+  pub seat : new ≡ with_note (noted_by event stepped) stamp (with_taken (tokens_by tokens stepped) old)
+  pub work_is : work ≡ work_by stepped
+  pub count : ℕ
+  pub are : sent ≡ take count (last_envelopes new.notes)
+  pub all : count + unsent ≡ length (noted_by event stepped).outputs
+
+-- the actor did something with what came, and the seat recorded that
+pub record IsTurn (actor : GroupActor) (seat : SeatView OwnInput) (event : EventView OwnInput) (tokens : List (TokenView OwnInput)) (work : List Work) (sent : List EnvelopeView) (unsent : ℕ) (after : GroupActor) (now : SeatView OwnInput) : Type 0 where
+  pub stepped : Stepped
+  pub did : Did actor event stepped after
+  pub recorded : IsRecorded seat event tokens stepped now work sent unsent
+
+-- the actor refused it, and the seat is as it was
+pub record IsStill (actor : GroupActor) (seat : SeatView OwnInput) (event : EventView OwnInput) (cause : Refusal) (after : GroupActor) (now : SeatView OwnInput) : Type 0 where
+  pub same : SameActor actor after
+  pub seat_is : now ≡ seat
+  pub refused : RefusedAsSaid (ActorRefuses actor event) cause

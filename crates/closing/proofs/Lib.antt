@@ -1,0 +1,14 @@
+pub mod Loops
+pub mod Slots
+pub mod Whole
+pub mod Numbers
+pub mod CellWorlds
+pub mod Merge
+pub mod Closes
+pub mod Moves
+pub mod Standing
+pub mod FirstWorlds
+pub mod Replays
+pub mod Nodes
+pub mod Joins
+pub mod Due

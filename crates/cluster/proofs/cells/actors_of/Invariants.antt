@@ -1,6 +1,0 @@
-use Rattle.std.proofs.Common.{◌≡◌, take}
-use Rattle.cluster.specs.Closing.{cell_actors}
-use Rattle.cluster.proofs.cells.actors_of.Given as goal
-
-abbrev pub invariant-loop-cell : goal.invariant-loop-cell
-invariant-loop-cell g l = l.actors.items ≡ cell_actors (take l.cell-index l.cells)

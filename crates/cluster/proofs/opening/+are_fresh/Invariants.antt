@@ -1,5 +1,0 @@
-use Rattle.std.proofs.Common.{length}
-use Rattle.cluster.proofs.opening.+are_fresh.Given as goal
-
-abbrev pub decreases-are_fresh : goal.decreases-are_fresh
-decreases-are_fresh g l = length l.cells.now

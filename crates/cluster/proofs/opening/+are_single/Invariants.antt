@@ -1,5 +1,0 @@
-use Rattle.std.proofs.Common.{length}
-use Rattle.cluster.proofs.opening.+are_single.Given as goal
-
-abbrev pub decreases-are_single : goal.decreases-are_single
-decreases-are_single g l = length l.cells.now

@@ -1,5 +1,0 @@
-use Rattle.std.proofs.Common.{length}
-use Rattle.cluster.proofs.opening.+are_unused.Given as goal
-
-abbrev pub decreases-are_unused : goal.decreases-are_unused
-decreases-are_unused g l = length l.seats.now

@@ -1,0 +1,4 @@
+pub mod Turns
+pub mod Lines
+pub mod Counts
+pub mod GivenValues

@@ -1,0 +1,21 @@
+-- Whether there is a line for what the words of a command line name.
+use Rattle.std.specs.Prelude.{Bool, false, not, ◌&&◌, ◌||◌, List, Option, Some, None, is_some, codes}
+use Rattle.std.specs.Str.{bytes_eq}
+use Rattle.clap.specs.Words.{Row, Text, first_of}
+use Rattle.command_line.specs.Words.{miscounts}
+
+-- whether a subcommand is the one of this name, and has a value for this word
+abbrev pub has_word : Text → Text → Text × List Row → Bool
+has_word name id named = bytes_eq named.0 name && is_some (first_of id named.1)
+
+-- whether there is a subcommand with a value for the word that it needs
+abbrev pub is_line : Option (Text × List Row) → Bool
+is_line None = false
+is_line (Some named) =
+    has_word (codes "run") (codes "FILE") named || (has_word (codes "threads") (codes "FILE") named
+    || (has_word (codes "replay") (codes "T") named || (has_word (codes "draw") (codes "T") named
+    || has_word (codes "check") (codes "FILE") named)))
+
+-- whether a subcommand's name with its values asks for a line
+abbrev pub is_taken : Option (Text × List Row) → Bool
+is_taken named = is_line named && not (miscounts named)

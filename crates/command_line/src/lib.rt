@@ -1,0 +1,4 @@
+//! The command line of `nomadsim`: what its words ask for, and its help.
+#![tactic(auto)]
+
+pub mod command;

@@ -1,0 +1,6 @@
+pub mod Told
+pub mod Live
+pub mod Finding
+pub mod Standing
+pub mod Places
+pub mod Whole

@@ -1,0 +1,3 @@
+pub mod WorkerTurns
+pub mod Running
+pub mod Inner

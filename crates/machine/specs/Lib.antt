@@ -1,6 +1,0 @@
-pub mod Meaning
-pub mod After
-pub mod TallyState
-pub mod Tally
-pub mod Entries
-pub mod Laws

@@ -1,0 +1,10 @@
+use Rattle.std.proofs.Common.{arith}
+use Rattle.fields_model.proofs.PlacedLaws.{placed_lawful}
+use Rattle.machine_model.proofs.EntryLaws.{entry_lawful}
+use Rattle.machine_model.proofs.laws.entries_are_lawful.Goals as goal
+
+pub returns : goal.returns
+returns g c = let m = g.M.Machine.meaning in let law = g.met.M.Machine.lawful in record {
+  lawful = entry_lawful _ (placed_lawful m.commands law.commands_lawful);
+  short = omega (arith, law.commands_short);
+}

@@ -1,0 +1,5 @@
+pub mod Meaning
+pub mod After
+pub mod TallyState
+pub mod Tally
+pub mod Entries

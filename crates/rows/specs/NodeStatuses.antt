@@ -1,0 +1,14 @@
+-- What is asked of a node's status.
+use Rattle.std.specs.Prelude.{Bool, true, false}
+use Rattle.rows.specs.declared.node.NodeStatus.{NodeStatus}
+use Rattle.rows.specs.declared.node.NodeStatus.TheVariants as statuses
+
+-- its agent reports
+abbrev pub is_ready : NodeStatus → Bool
+is_ready statuses.Ready = true
+is_ready statuses.Down = false
+
+-- it was not heard of in time
+abbrev pub is_down : NodeStatus → Bool
+is_down statuses.Ready = false
+is_down statuses.Down = true

@@ -1,0 +1,3 @@
+pub mod Objects
+pub mod EachLine
+pub mod Complaints

@@ -1,0 +1,35 @@
+use Rattle.std.proofs.Common.{Err, IfOk, List, Ok, Result, ◌⊎◌, inl, inr}
+use Rattle.scenario_file.specs.declared.checking.Complaint.{Complaint}
+use Rattle.scenario_file.specs.declared.scenario.Scenario.{Scenario}
+use Rattle.scenario_file.specs.Complaints.{AreComplaints, AreLineComplaints, AreTextComplaints}
+use Rattle.scenario_file.specs.EachLine.{OfEachLine}
+use Rattle.scenario_file.specs.Objects.{IsScenarioText, step_lines}
+use Rattle.scenario_file.proofs.Complaints.{nothing_is_good}
+use Rattle.scenario_file.proofs.checking.complaints.Goals as goal
+
+mapped : {X E : Type 0} (P Q : X → Type 0) (r : Result X E) → ((x : X) → P x → Q x) → IfOk r P → IfOk r Q
+mapped P Q (Ok x) f h = f x h
+mapped P Q (Err e) f h = tt
+
+either : {A B : Type 0} (C : Type 0) → A ⊎ B → (A → C) → (B → C) → C
+either C (inl a) f g = f a
+either C (inr b) f g = g b
+
+pub returns-in-Ok : goal.returns-in-Ok
+returns-in-Ok c =
+    let text = c.args.text.now in
+    let are : (found : List Complaint) → OfEachLine AreLineComplaints 1 (step_lines c.in-Ok.scenario) found → AreComplaints text found = λ found each. inl (c.in-Ok.scenario, c.in-Ok.ensures.ok, each) in
+    record {
+      each = mapped _ _ c.bad_steps.result (λ found each. are found.items each) c.bad_steps.ensures;
+      none = mapped _ _ c.bad_steps.result (λ found each. nothing_is_good text found.items (are found.items each)) c.bad_steps.ensures;
+    }
+
+pub returns-in_default : goal.returns-in_default
+returns-in_default c =
+    let text = c.args.text.now in
+    let none : (s : Scenario) → ¬ IsScenarioText text s = λ s is. either ⊥ c.in-Err.ensures.refused (λ e. c.in_default.not-NoMemory e) (λ h. h.1 s is) in
+    let are : (found : List Complaint) → AreTextComplaints found → AreComplaints text found = λ found one. inr (none, one) in
+    record {
+      each = mapped _ _ c.bad_text.result (λ found one. are found.items one) c.bad_text.ensures;
+      none = mapped _ _ c.bad_text.result (λ found one. nothing_is_good text found.items (are found.items one)) c.bad_text.ensures;
+    }

@@ -1,0 +1,48 @@
+-- What is wrong with the text of a scenario, and texts with which nothing is wrong.
+use Rattle.std.specs.Prelude.{◌≡◌, ◌⊎◌, ℕ, List, [], ◌∷◌, string_bytes}
+use Rattle.std.specs.List.{All}
+use Rattle.scenario_file.specs.declared.checking.Complaint.{Complaint}
+use Rattle.scenario_file.specs.declared.checking.Complaint.TheVariants as complaints
+use Rattle.scenario_file.specs.declared.scenario.Scenario.{Scenario}
+use Rattle.scenario_file.specs.EachLine.{OfEachLine}
+use Rattle.scenario_file.specs.Objects.{IsScenarioText, step_lines}
+use Rattle.scenario_file.specs.Steps.{Step, IsLine}
+
+-- the line of some step
+abbrev pub IsStepLine : List ℕ → Type 0
+IsStepLine line = (step : Step) × IsLine step line
+
+-- each step is one
+abbrev pub IsGood : Scenario → Type 0
+IsGood s = All IsStepLine (step_lines s)
+
+-- the text is a scenario, each step of which is one
+abbrev pub IsGoodText : List ℕ → Type 0
+IsGoodText text = (s : Scenario) × IsScenarioText text s × IsGood s
+
+-- it is of the step of this number, and shows its line
+abbrev pub IsStepComplaint : ℕ → List ℕ → Complaint → Type 0
+IsStepComplaint number line (complaints.Text wrong) = ⊥
+IsStepComplaint number line (complaints.Step k text form) = (k ≡ number) × (string_bytes text ≡ line)
+
+-- it is of the whole text
+abbrev pub IsTextComplaint : Complaint → Type 0
+IsTextComplaint (complaints.Text wrong) = Unit {0}
+IsTextComplaint (complaints.Step k text form) = ⊥
+
+-- what is wrong with a line: nothing where it is a step's, else one complaint
+abbrev pub AreLineComplaints : ℕ → List ℕ → List Complaint → Type 0
+AreLineComplaints number line found =
+    (IsStepLine line × (found ≡ []))
+    ⊎ ((¬ IsStepLine line) × ((one : Complaint) × (found ≡ one ∷ []) × IsStepComplaint number line one))
+
+-- one complaint, of the whole text
+abbrev pub AreTextComplaints : List Complaint → Type 0
+AreTextComplaints found = (one : Complaint) × (found ≡ one ∷ []) × IsTextComplaint one
+
+-- what is wrong with a text: of a scenario what is wrong with each line in turn, steps being counted
+-- from 1; else one complaint
+abbrev pub AreComplaints : List ℕ → List Complaint → Type 0
+AreComplaints text found =
+    ((s : Scenario) × IsScenarioText text s × OfEachLine AreLineComplaints 1 (step_lines s) found)
+    ⊎ (((s : Scenario) → ¬ IsScenarioText text s) × AreTextComplaints found)

@@ -1,0 +1,69 @@
+-- Which groups `check` notes of a scenario: those of the jobs that its steps put, at least one of
+-- each, and that no node of the scenario has room for.
+use Rattle.std.specs.Prelude.{◌≡◌, ◌⊎◌, ◌&&◌, ◌++◌, ℕ, Bool, nat_lt, List, [], Option, Some, None, codes, decimal, map}
+use Rattle.std.specs.List.{filter}
+use Rattle.std.specs.Option.{option_map_or}
+use Rattle.rows.specs.declared.job.Group.{Group}
+use Rattle.rows.specs.declared.job.JobSpec.{JobSpec}
+use Rattle.rows.specs.declared.node.NodeSpec.{NodeSpec}
+use Rattle.rows.specs.declared.request.OperatorRequest.{OperatorRequest}
+use Rattle.rows.specs.declared.request.OperatorRequest.TheVariants.{PutJob}
+use Rattle.group_model.specs.Inputs as servers
+use Rattle.group_model.specs.Worlds.{Event, AtServer}
+use Rattle.scenario_file.specs.declared.noting.TooLarge.{TooLarge}
+use Rattle.scenario_file.specs.declared.scenario.Scenario.{Scenario}
+use Rattle.scenario_file.specs.Complaints.{IsStepLine}
+use Rattle.scenario_file.specs.EachLine.{OfEachLine}
+use Rattle.scenario_file.specs.Objects.{step_lines}
+use Rattle.scenario_file.specs.Rooms.{is_too_large}
+use Rattle.scenario_file.specs.Steps.{Step, AnEvent, IsLine}
+
+-- the job that a request, an input of a server, an event and a step puts, if it puts one
+abbrev pub request_job : OperatorRequest → Option JobSpec
+request_job (PutJob job) = Some job
+request_job _ = None
+
+abbrev pub input_job : servers.Input → Option JobSpec
+input_job (servers.Request request) = request_job request
+input_job _ = None
+
+abbrev pub event_job : Event → Option JobSpec
+event_job (AtServer server input) = input_job input
+event_job _ = None
+
+abbrev pub step_job : Step → Option JobSpec
+step_job (AnEvent event) = event_job event
+step_job _ = None
+
+-- at least one of the group is put, and no node has room for one
+abbrev pub needs_note : List NodeSpec → Group → Bool
+needs_note nodes g = nat_lt 0 g.count && is_too_large nodes g
+
+-- the note of a group of the job that this step puts, steps being counted from 1
+abbrev pub note_of : ℕ → List ℕ → Group → TooLarge
+note_of number job g = record { step = number; job = job; group = g.name; class = g.class; size = g.size }
+
+-- the notes of a job that this step puts, in the order of its groups
+abbrev pub job_notes : List NodeSpec → ℕ → JobSpec → List TooLarge
+job_notes nodes number job = map (note_of number job.name) (filter (needs_note nodes) job.groups)
+
+-- the notes of a step: those of the job that it puts, if it puts one
+abbrev pub step_notes : List NodeSpec → ℕ → Step → List TooLarge
+step_notes nodes number step = option_map_or (job_notes nodes number) (step_job step) []
+
+-- the notes of a line: those of the step whose line it is, and none where it is no step's
+abbrev pub AreLineNotes : List NodeSpec → ℕ → List ℕ → List TooLarge → Type 0
+AreLineNotes nodes number line notes =
+    ((step : Step) × IsLine step line × (notes ≡ step_notes nodes number step))
+    ⊎ ((¬ IsStepLine line) × (notes ≡ []))
+
+-- the notes of a scenario: those of each of its lines in turn, steps being counted from 1
+abbrev pub AreNotes : Scenario → List TooLarge → Type 0
+AreNotes s notes = OfEachLine (AreLineNotes s.nodes.items) 1 (step_lines s) notes
+
+-- what is printed of a note
+abbrev pub note_text : TooLarge → List ℕ
+note_text n =
+    codes "note: step " ++ decimal n.step ++ codes ": group " ++ n.group ++ codes " of job " ++ n.job
+    ++ codes " takes " ++ decimal n.size.cpu ++ codes " MHz and " ++ decimal n.size.mem
+    ++ codes " MB of class " ++ n.class ++ codes "; no node has that, so nothing of it is placed"

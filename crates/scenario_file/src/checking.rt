@@ -1,0 +1,109 @@
+//! What is wrong with the text of a scenario.
+ghost use Rattle.std.specs.Prelude.{◌≡◌, ◌↔◌, [], IfOk, OnOk};
+ghost use Rattle.scenario_file.specs.Complaints.{AreComplaints, AreLineComplaints, AreTextComplaints, IsGoodText};
+ghost use Rattle.scenario_file.specs.EachLine.{OfEachLine};
+ghost use Rattle.scenario_file.specs.Inner.Grown.{GrowsByOwed};
+ghost use Rattle.scenario_file.specs.Objects.{step_lines};
+
+use crate::forms::form_of;
+use crate::reading::scenario;
+use crate::scenario::Scenario;
+use crate::step::is_step;
+use crate::wrong::{Wrong, wrong_in};
+use json::Scratch;
+use rows::{NoMemory, Refusal};
+use serde_json::Value;
+use std::alloc::Global;
+
+/// What is wrong with a scenario.
+#[derive(Drop)]
+pub enum Complaint {
+    /// The text is no scenario.
+    Text(Wrong),
+    /// This step, counted from 1, is none: its text, and what is expected of such a step.
+    Step(usize, String, &'static str),
+}
+
+/// What is wrong with a scenario's text: nothing exactly where it is a scenario and each of its
+/// steps is one; one complaint where it is no scenario, else one for each step that is none, in
+/// order.
+pub fn complaints(alloc: Global, text: &str) -> Result<Vec<Complaint>, NoMemory>
+    ensures each { IfOk result (λ found. AreComplaints text.now found.items) }
+    ensures none { IfOk result (λ found. (found.items ≡ []) ↔ IsGoodText text.now) }
+{
+    match scenario(alloc, text) {
+        Ok(scenario) => bad_steps(alloc, &scenario),
+        Err(cause) => match cause {
+            Refusal::NoMemory => Err(NoMemory),
+            _ => bad_text(alloc, text),
+        },
+    }
+}
+
+// The one complaint of a text that is no scenario.
+fn bad_text(alloc: Global, text: &str) -> Result<Vec<Complaint>, NoMemory>
+    ensures { IfOk result (λ found. AreTextComplaints found.items) }
+{
+    let mut found = Vec::new(alloc);
+    found.push(Complaint::Text(wrong_text(alloc, text)?))?;
+    Ok(found)
+}
+
+// The steps that are none.
+fn bad_steps(alloc: Global, scenario: &Scenario) -> Result<Vec<Complaint>, NoMemory>
+    ensures { IfOk result (λ found.
+        OfEachLine AreLineComplaints 1 (step_lines scenario.now) found.items) }
+{
+    let mut found = Vec::new(alloc);
+    // A step's number is at most that of all steps.
+    let _steps = scenario.steps.len();
+    let mut number = 0usize;
+    for line in &scenario.steps {
+        number += 1;
+        judge_line(alloc, number, line.as_str(), &mut found)?;
+    }
+    Ok(found)
+}
+
+// Complains of the line of the step of this number, if it is none.
+fn judge_line(
+    alloc: Global,
+    number: usize,
+    line: &str,
+    found: &mut Vec<Complaint>,
+) -> Result<(), NoMemory>
+    ensures { OnOk result (GrowsByOwed (AreLineComplaints number line.now)
+        found.old.items found.new.items) }
+{
+    if is_step(alloc, line)? {
+        return Ok(());
+    }
+    let text = String::from_str(alloc, line)?;
+    found.push(Complaint::Step(number, text, form_of(line)))?;
+    Ok(())
+}
+
+// What is wrong with a text that is no scenario.
+fn wrong_text(alloc: Global, text: &str) -> Result<Wrong, NoMemory> {
+    if text.trim_ascii().is_empty() {
+        return Ok(Wrong::Empty);
+    }
+    let value = match Value::from_str(alloc, text) {
+        Ok(value) => value,
+        Err(error) if error.is_memory() => return Err(NoMemory),
+        Err(error) => return Ok(Wrong::NoJson(error.line(), error.column())),
+    };
+    if has_key_twice(alloc, text)? {
+        return Ok(Wrong::KeyTwice);
+    }
+    wrong_in(alloc, &value)
+}
+
+fn has_key_twice(alloc: Global, text: &str) -> Result<bool, NoMemory> {
+    let mut scratch = Scratch::new(alloc);
+    match json::Value::parse_strict(alloc, text, &mut scratch) {
+        Err(json::Error::OutOfMemory) => Err(NoMemory),
+        Err(json::Error::DuplicateKey) => Ok(true),
+        _ => Ok(false),
+    }
+}

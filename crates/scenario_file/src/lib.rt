@@ -1,0 +1,10 @@
+//! Scenario files: what a scenario is, the lines of its steps, and what is wrong with one.
+#![tactic(auto)]
+
+pub mod checking;
+mod forms;
+pub mod noting;
+pub mod reading;
+pub mod scenario;
+pub mod step;
+pub mod wrong;

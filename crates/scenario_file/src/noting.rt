@@ -1,0 +1,193 @@
+//! Groups that a scenario puts, and that none of its nodes has room for.
+ghost use Rattle.std.specs.Prelude.{◌≡◌, ◌++◌, ◌∷◌, [], IfOk, OnOk, if◌then◌else◌, option_map};
+ghost use Rattle.std.specs.List.{list_any};
+ghost use Rattle.server.specs.Handings.{handing};
+ghost use Rattle.world.specs.GroupEvents.{server_input};
+ghost use Rattle.scenario_file.specs.Inner.Grown.{GrowsByOwed};
+ghost use Rattle.scenario_file.specs.Notes.{AreLineNotes, AreNotes, input_job, needs_note, job_notes, note_of, step_job, step_notes};
+ghost use Rattle.scenario_file.specs.Rooms.{can_hold, is_too_large};
+ghost use Rattle.scenario_file.specs.Steps.{played_step};
+
+use crate::scenario::Scenario;
+use crate::step::{Step, read_step};
+use rows::{
+    ClassName, Group, GroupName, JobName, JobSpec, NoMemory, NodeSpec, OperatorRequest, Size,
+};
+use server::ServerInput;
+use std::alloc::Global;
+use std::fmt;
+use world::Event;
+
+/// A group that a step puts, and that no node has room for, even with nothing else on it: its
+/// evaluation is blocked until such a node registers.
+#[derive(Clone, Copy, Debug)]
+pub struct TooLarge {
+    /// The step, counted from 1.
+    pub step: usize,
+    /// The job that it puts.
+    pub job: JobName,
+    /// The job's group.
+    pub group: GroupName,
+    /// The class of the nodes that it may run on.
+    pub class: ClassName,
+    /// What one of the group takes.
+    pub size: Size,
+}
+
+impl fmt::Display for TooLarge {
+    ghost use Rattle.std.specs.Prelude.{Some};
+    ghost use Rattle.scenario_file.specs.Notes.{note_text};
+
+    ghost output = { λ n. Some (note_text n) };
+
+    fn fmt<W: fmt::Write>(&self, f: &mut fmt::Formatter<W>) -> fmt::Result {
+        let (step, job, group) = (self.step, self.job.as_str(), self.group.as_str());
+        let (class, cpu, mem) = (
+            self.class.as_str(),
+            self.size.cpu.get(),
+            self.size.mem.get(),
+        );
+        write!(
+            f,
+            "note: step {step}: group {group} of job {job} takes {cpu} MHz and {mem} MB of class \
+             {class}; no node has that, so nothing of it is placed"
+        )
+    }
+}
+
+// Whether a node with nothing else on it has room for one of the group.
+fn can_hold(group: &Group, node: &NodeSpec) -> bool
+    ensures { result ≡ can_hold group.now node.now }
+{
+    node.class == group.class && group.size.cpu <= node.size.cpu && group.size.mem <= node.size.mem
+}
+
+// Whether some node has room for one of the group.
+fn fits_somewhere(nodes: &[NodeSpec], group: &Group) -> bool
+    ensures { result ≡ list_any (λ n. can_hold group.now n) nodes.now }
+{
+    nodes.iter().any(|node| can_hold(group, node))
+}
+
+/// Whether no node has room for one of the group.
+pub fn is_too_large(nodes: &[NodeSpec], group: &Group) -> bool
+    ensures { result ≡ is_too_large nodes.now group.now }
+{
+    !fits_somewhere(nodes, group)
+}
+
+/// The groups that the steps of a scenario put, at least one of each, and that no node has room
+/// for: each of them, in the order of the steps and of the groups of each job.
+pub fn too_large(alloc: Global, scenario: &Scenario) -> Result<Vec<TooLarge>, NoMemory>
+    ensures { IfOk result (λ notes. AreNotes scenario.now notes.items) }
+{
+    let mut found = Vec::new(alloc);
+    // A step's number is at most that of all steps.
+    let _steps = scenario.steps.len();
+    let mut number = 0usize;
+    for line in &scenario.steps {
+        number += 1;
+        note_line(alloc, number, line.as_str(), &scenario.nodes, &mut found)?;
+    }
+    Ok(found)
+}
+
+// Notes the groups that the step of a line puts.
+fn note_line(
+    alloc: Global,
+    number: usize,
+    line: &str,
+    nodes: &[NodeSpec],
+    found: &mut Vec<TooLarge>,
+) -> Result<(), NoMemory>
+    ensures { OnOk result (GrowsByOwed (AreLineNotes nodes.now number line.now)
+        found.old.items found.new.items) }
+{
+    match read_step(alloc, line)? {
+        Some(step) => note_step(number, &step, nodes, found),
+        None => Ok(()),
+    }
+}
+
+// Notes the groups that a step puts.
+fn note_step(
+    number: usize,
+    step: &Step,
+    nodes: &[NodeSpec],
+    found: &mut Vec<TooLarge>,
+) -> Result<(), NoMemory>
+    ensures { OnOk result (found.new.items
+        ≡ found.old.items ++ step_notes nodes.now number (played_step step.now)) }
+{
+    match job_of_step(step) {
+        Some(job) => note_groups(number, job, nodes, found),
+        None => Ok(()),
+    }
+}
+
+// The job that a step puts, if it puts one.
+fn job_of_step(step: &Step) -> Option<&JobSpec>
+    ensures { option_map (λ job. job.now) result ≡ step_job (played_step step.now) }
+{
+    match step {
+        Step::Event(Event::Server(_, input)) => job_of_input(input.as_ref()),
+        _ => None,
+    }
+}
+
+// The job that an input puts, if it puts one.
+fn job_of_input(input: &ServerInput) -> Option<&JobSpec>
+    ensures { option_map (λ job. job.now) result ≡ input_job (server_input (handing input.now)) }
+{
+    match input {
+        ServerInput::Request(OperatorRequest::PutJob(job)) => Some(job),
+        _ => None,
+    }
+}
+
+// Notes the groups of a job that a step puts.
+fn note_groups(
+    step: usize,
+    job: &JobSpec,
+    nodes: &[NodeSpec],
+    found: &mut Vec<TooLarge>,
+) -> Result<(), NoMemory>
+    ensures { OnOk result (found.new.items
+        ≡ found.old.items ++ job_notes nodes.now step job.now) }
+{
+    let groups = job.groups.as_slice();
+    for group in groups {
+        note_group(step, job.name, group, nodes, found)?;
+    }
+    Ok(())
+}
+
+// Notes one group of a job that a step puts.
+fn note_group(
+    step: usize,
+    job: JobName,
+    group: &Group,
+    nodes: &[NodeSpec],
+    found: &mut Vec<TooLarge>,
+) -> Result<(), NoMemory>
+    ensures { OnOk result (found.new.items ≡ found.old.items
+        ++ (if needs_note nodes.now group.now then note_of step job group.now ∷ [] else [])) }
+{
+    if is_noted(nodes, group) {
+        found.push(TooLarge {
+            step,
+            job,
+            group: group.name,
+            class: group.class,
+            size: group.size,
+        })?;
+    }
+    Ok(())
+}
+
+// Whether a group that a step puts is noted.
+fn is_noted(nodes: &[NodeSpec], group: &Group) -> bool
+    ensures { result ≡ needs_note nodes.now group.now }
+{
+    group.count.get() > 0 && is_too_large(nodes, group)
+}

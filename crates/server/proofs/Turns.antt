@@ -1,0 +1,147 @@
+-- Turns of the desk: what each server that a value is makes of them.
+use Rattle.std.proofs.Common.{◌≡◌, ◌≢◌, ◌⊎◌, inl, inr, true, Option, Some, None, Result, Ok, Err, [], refl, sym, ap, subst, ◌∙◌, if◌then◌else◌}
+use Rattle.std.proofs.Math.Seq.{take-length}
+use Rattle.std.specs.Prelude.{OnOk, OnErr, IfErr, option_map, is_some}
+use Rattle.rows.specs.Keys.{eval_id}
+use Rattle.rows.specs.declared.evaluation.EvalId.{EvalId}
+use Rattle.rows.specs.declared.evaluation.Evaluation.{Evaluation}
+use Rattle.rows.specs.declared.command.Command.{Command}
+use Rattle.rows.specs.declared.command.Command.TheVariants as commands
+use Rattle.rows.specs.declared.command.StatusChange.TheVariants as changes
+use Rattle.rows.specs.declared.refusal.Refusal.{Refusal}
+use Rattle.rows.specs.declared.refusal.Refusal.TheVariants as refusals
+use Rattle.raft_model.specs.Servers.{is_leader, crashed}
+use Rattle.raft_model.specs.Steps as raft_steps
+use Rattle.raft_core.specs.RaftView.{SameServer}
+use Rattle.cluster_model.specs.ClusterMachine.{cluster_meaning}
+use Rattle.group_model.specs.Blocked.{first_due}
+use Rattle.group_model.specs.Desks.{Desk, applied_state, whole_state}
+use Rattle.group_model.specs.Inputs.{Input, Lapse, FreeTurn, Reap, Act, AskPropose, rests, asks}
+use Rattle.group_model.specs.Members.{Member, open_desk, at_desk, done, logged}
+use Rattle.group_model.specs.Turns.{lapse, free_turn, free_turn_of, reap}
+use Rattle.group_frames.proofs.Sending.{sends_nothing}
+use Rattle.leader.specs.OpenDesks.{OpenDesk, if_open, at_open, on_lapse, on_reap}
+use Rattle.leader.specs.GroupActs.{lapse_act, status_act}
+use Rattle.leader.proofs.Acts.{lapses_by_lapse, reaps_by_reap}
+use Rattle.server.specs.declared.server.Outbox.{Outbox}
+use Rattle.server.specs.ServerViews.{ServerView, IsMember, SameMember}
+use Rattle.server.specs.Refusals.{CanAppend, HasOpenDesk, MayTakeMemory}
+use Rattle.server.specs.Inner.Acts.{EachMember, DoesAct, EachDoes, DeclinesOwn, Falters, DoesNothing, IsProposed, WhyNotProposed, act_of, proposes_if_any}
+use Rattle.server.proofs.Members.{same_is, same_then, desk_at, open_at}
+use Rattle.server.proofs.DeskCalls.{open_of, Moves, moves, lapse_keeps}
+use Rattle.server.proofs.Serving.{leader_up, act_taken, does_proposed, does_nothing}
+
+abbrev Answer : Type 0
+Answer = Result (Unit {0}) Refusal
+
+-- ---- a refusal
+
+pub same_view : (v : ServerView) → SameMember v v
+same_view v = record { raft = record { me = refl; size = refl; server = refl }; desk = refl }
+
+pub falters : (old new : ServerView) (out : Outbox) → SameMember old new → Falters old new out out
+falters old new out same = record { me = same.raft.me; size = same.raft.size; stored = ap crashed same.raft.server; front = take-length out.frames; work = refl }
+
+no_memory_or : (e : Refusal) → (e ≡ refusals.NoMemory) ⊎ (e ≢ refusals.NoMemory)
+no_memory_or refusals.NoMemory = inl refl
+no_memory_or _ = inr (λ q. absurd (cc q))
+
+module _ (old new : ServerView) (input : Input) (same : SameMember old new) (out : Outbox) where
+  pub lacks : EachMember old (λ s. MayTakeMemory old.raft.size s input) → DeclinesOwn old input refusals.NoMemory new out out
+  lacks may = (may, falters old new out same)
+
+  -- as the definitions refuse it
+  pub declines : (e : Refusal) → e ≢ refusals.NoMemory → EachMember old (λ s. act_of old input s ≡ Err e) → DeclinesOwn old input e new out out
+  declines refusals.NoMemory other why = absurd (other refl)
+  declines e other why = (λ s is. ap (done old.raft.size old.raft.me s) (why s is), record { same = same; nothing = refl })
+
+  -- or for want of memory
+  pub stops : (e : Refusal) → EachMember old (λ s. MayTakeMemory old.raft.size s input) → EachMember old (λ s. (e ≡ refusals.NoMemory) ⊎ (act_of old input s ≡ Err e)) → DeclinesOwn old input e new out out
+  stops e may why = elim (no_memory_or e) [
+    | inl none ↦ subst (λ (r : Refusal). DeclinesOwn old input r new out out) (sym none) (lacks may)
+    | inr other ↦ declines e other (λ s is. elim (why s is) [
+      | inl none ↦ absurd (other none)
+      | inr turn ↦ turn
+    ])
+  ]
+
+-- ---- a turn that proposes a command, or nothing
+
+module _ (old mid new : ServerView) (input : Input) (c : Command) (turn : EachMember old (λ s. act_of old input s ≡ Ok (asks (AskPropose c) s.desk))) (same : SameMember old mid) where
+  proposed : EachMember mid (λ s. IsProposed s c new) → (out : Outbox) → EachDoes old (act_of old input) new out out
+  proposed p out s is =
+      let one = p s (same_is old mid s same is) in
+      subst (λ (a : Result Act Refusal). DoesAct old.raft.size old.raft.me s a new out out) (sym (turn s is))
+      (does_proposed old.raft.size old.raft.me s new out out c [] s.desk one.leads one.admitted one.member (sends_nothing cluster_meaning out.frames) refl)
+
+  pub turn_taken : (r : Answer) → OnOk r (EachMember mid (λ s. IsProposed s c new)) → OnOk r ((out : Outbox) → EachDoes old (act_of old input) new out out)
+  turn_taken (Ok u) p = proposed p
+  turn_taken (Err cause) p = tt
+
+  module _ (leads : EachMember old (λ s. is_leader s.raft.mode ≡ true)) (may : EachMember old (λ s. CanAppend s.raft → MayTakeMemory old.raft.size s input)) where
+    declined : (cause : Refusal) → EachMember mid (λ s. WhyNotProposed s.raft c cause) → SameMember old new → (out : Outbox) → DeclinesOwn old input cause new out out
+    declined refusals.NoMemory why stays out = (λ s is. may s is (why s (same_is old mid s same is)), falters old new out stays)
+    declined cause why stays out = (
+      λ s is.
+          let act : Act = asks (AskPropose c) s.desk in
+          ap (done old.raft.size old.raft.me s) (turn s is)
+          ∙ ap (λ b. logged s act (if b then raft_steps.proposes cluster_meaning s.raft c else Err refusals.Down)) (leader_up s.raft.mode (leads s is))
+          ∙ ap (logged s act) (why s (same_is old mid s same is)),
+      record { same = stays; nothing = refl },
+    )
+
+    pub turn_declined : (r : Answer) → IfErr r (λ cause. EachMember mid (λ s. WhyNotProposed s.raft c cause)) → OnErr r (SameMember mid new) → IfErr r (λ cause. (out : Outbox) → DeclinesOwn old input cause new out out)
+    turn_declined (Ok u) why stays = tt
+    turn_declined (Err cause) why stays = declined cause why (same_then old mid new same stays)
+
+pub turn_rests : (old new : ServerView) (input : Input) → EachMember old (λ s. act_of old input s ≡ Ok (rests s.desk)) → SameMember old new → (out : Outbox) → EachDoes old (act_of old input) new out out
+turn_rests old new input turn same out s is =
+    subst (λ (a : Result Act Refusal). DoesAct old.raft.size old.raft.me s a new out out) (sym (turn s is))
+    (does_nothing old.raft.size old.raft.me s new out out s.desk (same_is old new s same is) refl)
+
+-- ---- Lapse
+
+pub lapse_moved : (old new : ServerView) (s : Member) (id : EvalId) → Moves (on_lapse id) s tt new → (out : Outbox) → DoesAct old.raft.size old.raft.me s (act_of old (Lapse id) s) new out out
+lapse_moved old new s id m out =
+    let o = m.before in
+    let act : act_of old (Lapse id) s ≡ Ok (rests (Some m.after.desk)) = ap (λ (d : Result Desk Refusal). at_desk d (λ d. lapse d id)) m.is_open ∙ lapses_by_lapse id o ∙ ap lapse_act m.answers in
+    subst (λ (a : Result Act Refusal). DoesAct old.raft.size old.raft.me s a new out out) (sym act) (does_nothing old.raft.size old.raft.me s new out out (Some m.after.desk) m.member refl)
+
+pub lapse_done : (old new : ServerView) (id : EvalId) → EachMember old (λ s. HasOpenDesk s) → SameServer old.raft new.raft → at_open (on_lapse id) old.desk ≡ Ok (tt, new.desk) → (out : Outbox) → EachDoes old (act_of old (Lapse id)) new out out
+lapse_done old new id h same call out s is = lapse_moved old new s id (moves (on_lapse id) (lapse_keeps id) s old new tt (h s is).leads is same call) out
+
+-- ---- Free, Reap
+
+module _ (old : ServerView) (s : Member) (is : IsMember old s) (h : HasOpenDesk s) where
+  open_one : (o : OpenDesk) × (old.desk ≡ Some o)
+  open_one = open_of old.desk (subst (λ (d : Option Desk). is_some d ≡ true) (sym is.desk) h.is_open)
+
+  abbrev one : OpenDesk
+  one = open_one.0
+
+  is_open : open_desk s ≡ Ok one.desk
+  is_open = open_at old s is one h.leads open_one.1
+
+  was : s.desk ≡ Some one.desk
+  was = desk_at old s is one open_one.1
+
+  freed_is : (d : Desk) (id : Option EvalId) (due : Option Evaluation) → id ≡ option_map eval_id due → free_turn_of d due ≡ proposes_if_any (Some d) (option_map (λ i. commands.EvalStatus i changes.Pending) id)
+  freed_is d id None e = rw e refl
+  freed_is d id (Some v) e = rw e refl
+
+  pub free_is : (id : Option EvalId) → id ≡ option_map eval_id (first_due (applied_state s.raft) (whole_state s.raft)) → act_of old FreeTurn s ≡ Ok (proposes_if_any s.desk (option_map (λ i. commands.EvalStatus i changes.Pending) id))
+  free_is id e =
+      ap (λ (d : Result Desk Refusal). at_desk d (λ d. Ok (free_turn s.raft d))) is_open
+      ∙ ap act_taken (freed_is one.desk id (first_due (applied_state s.raft) (whole_state s.raft)) e)
+      ∙ ap (λ (d : Option Desk). act_taken (proposes_if_any d (option_map (λ i. commands.EvalStatus i changes.Pending) id))) (sym was)
+
+  reaped_is : (d : Desk) (id : Option EvalId) → status_act changes.Failed d (Ok id) ≡ Ok (proposes_if_any (Some d) (option_map (λ i. commands.EvalStatus i changes.Failed) id))
+  reaped_is d None = refl
+  reaped_is d (Some id) = refl
+
+  pub reap_is : (id : Option EvalId) → if_open (on_reap (whole_state s.raft)) old.desk ≡ Ok id → act_of old Reap s ≡ Ok (proposes_if_any s.desk (option_map (λ i. commands.EvalStatus i changes.Failed) id))
+  reap_is id call =
+      let told : on_reap (whole_state s.raft) one ≡ Ok id = rw open_one.1 at call in
+      ap (λ (d : Result Desk Refusal). at_desk d (λ d. Ok (reap s.raft d))) is_open
+      ∙ sym (reaps_by_reap s.raft one) ∙ ap (status_act changes.Failed one.desk) told ∙ reaped_is one.desk id
+      ∙ ap (λ (d : Option Desk). act_taken (proposes_if_any d (option_map (λ i. commands.EvalStatus i changes.Failed) id))) (sym was)

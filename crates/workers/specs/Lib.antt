@@ -1,0 +1,2 @@
+pub mod PlanCounts
+pub mod Working
