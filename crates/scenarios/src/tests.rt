@@ -3,8 +3,8 @@
 
 mod agents;
 mod banks;
-mod cells;
 mod frames;
+mod held_cells;
 mod messages;
 mod running;
 mod servers;

@@ -5,7 +5,7 @@
 //! was written from Bernstein's paper.
 ghost use Rattle.std.specs.Prelude.{◌≡◌};
 
-use crate::tests::cells::{actor, nodes, opened};
+use crate::tests::held_cells::{actor, nodes, opened};
 use cluster::{
     Cells, Gate, GroupActor, GroupThreads, NetSettings, OpenGate, OwnInput, RunningGroup, cells_of,
     close, start, stop,
