@@ -3,11 +3,7 @@
 #![tactic(auto)]
 
 mod folder;
-mod group;
-mod lines;
-mod requests;
 mod said;
-mod snapshots;
 mod threads;
 
 use std::{env, io};
@@ -28,11 +24,5 @@ fn main(rt: HostRuntime) -> io::Result<()> {
     said::no_transcripts(&rt, rt)?;
     said::command_lines(&rt, rt)?;
     said::texts(&rt, rt)?;
-    said::outputs(&rt, rt)?;
-    requests::commands(&rt)?;
-    lines::lines(&rt)?;
-    lines::nodes(&rt)?;
-    requests::settings(&rt)?;
-    requests::states(&rt)?;
-    group::groups(&rt)
+    said::outputs(&rt, rt)
 }

@@ -3,7 +3,7 @@
 use fsm_state::Cluster;
 use machine::Machine;
 use rows::ServerId;
-use runner::reading::scenario;
+use scenario_file::reading::scenario;
 use server::ServerInput;
 use std::alloc::Global;
 use std::rt::Files;

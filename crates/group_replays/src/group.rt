@@ -6,10 +6,9 @@ use machine::Machine;
 use rows::{
     Actor, AskedRequest, Delivery, EvalId, PlanResult, ServerId, Token, Work, WorkerResponse,
 };
-use runner::reading::scenario;
-use runner::scenario::Scenario;
-use runner::step::{Step, read_step};
-use scenarios::claims::safe_state;
+use scenario_file::reading::scenario;
+use scenario_file::scenario::Scenario;
+use scenario_file::step::{Step, read_step};
 use server::Server;
 use std::alloc::Global;
 use std::rt::Files;
@@ -175,8 +174,7 @@ fn replays(alloc: Global, world: &World, played: &Scenario) -> bool {
             (Some(one), Some(other)) => are_alike(one, other) && is_same,
             _ => false,
         };
-        let (one, other) = (safe_state(world, id), safe_state(&again, id));
-        is_same = are_same(alloc, one, other) && is_same;
+        is_same = are_same(alloc, world.state(id), again.state(id)) && is_same;
     }
     is_same
 }

@@ -1,8 +1,8 @@
 //! The lines of steps, and the nodes of scenarios: which are read, whatever the program makes of
 //! them.
 use rows::NodeSpec;
-use runner::reading::scenario;
-use runner::step::read_step;
+use scenario_file::reading::scenario;
+use scenario_file::step::read_step;
 use std::rt::Files;
 use std::{fs, io};
 

@@ -1,7 +1,7 @@
 //! Copies of a server's replicated state, taken while the group goes on.
 use fsm_state::Cluster;
 use rows::{AllocId, ClientState, EntryIndex, EvalId, EvalStatus, Index, Ordinal, ServerId};
-use runner::scenario::Scenario;
+use scenario_file::scenario::Scenario;
 use std::io;
 use std::sync::Arc;
 use world::World;
