@@ -1,7 +1,8 @@
-//! Plays groups and lines by the calls of the libraries, and says what
+//! Plays groups, lines and frames by the calls of the libraries, and says what
 //! comes of each. What has to come of it stands in `stdout`.
 #![tactic(auto)]
 
+mod frames;
 mod group;
 mod lines;
 mod requests;
@@ -15,5 +16,6 @@ fn main(rt: HostRuntime) -> io::Result<()> {
     lines::nodes(&rt)?;
     requests::settings(&rt)?;
     requests::states(&rt)?;
-    group::groups(&rt)
+    group::groups(&rt)?;
+    frames::frames(&rt)
 }
