@@ -167,7 +167,7 @@ pub(crate) fn frames(rt: &HostRuntime) -> io::Result<()> {
                 cuts: 0,
                 values: 0,
             };
-        } else if play(alloc, &mut sample, line) != Some(true) {
+        } else if !matches!(play(alloc, &mut sample, line), Some(true)) {
             println!(rt; "line {} is not so: {line}", place + 1)?;
         }
     }

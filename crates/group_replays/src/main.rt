@@ -1,7 +1,8 @@
-//! Plays groups, lines and frames by the calls of the libraries, and says what
+//! Plays groups, lists of events, lines and frames by the calls of the libraries, and says what
 //! comes of each. What has to come of it stands in `stdout`.
 #![tactic(auto)]
 
+mod crashes;
 mod frames;
 mod group;
 mod lines;
@@ -17,5 +18,6 @@ fn main(rt: HostRuntime) -> io::Result<()> {
     requests::settings(&rt)?;
     requests::states(&rt)?;
     group::groups(&rt)?;
-    frames::frames(&rt)
+    frames::frames(&rt)?;
+    crashes::crashes(&rt)
 }

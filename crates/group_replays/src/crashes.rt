@@ -1,0 +1,116 @@
+//! The long worked row, and behind one of its events a crash and a restart of one actor: of every
+//! actor behind every event.
+use client_agent::ClientInput;
+use plain_check::{Fault, fault_of};
+use rows::{Actor, ClientId, NoMemory, Refusal, ServerId};
+use server::ServerInput;
+use std::alloc::Global;
+use std::rt::Files;
+use std::{fs, io};
+use transcript::{Transcript, read};
+use world::{Event, World};
+
+// So many of the row's events lead to fewer applied entries than all of them.
+const FIRST: usize = 30;
+
+// An actor goes down, and comes back.
+fn push_crash(alloc: Global, actor: &Actor, out: &mut Vec<Event>) -> Result<(), NoMemory> {
+    match actor {
+        Actor::Server(me) => {
+            out.push(Event::server(alloc, *me, ServerInput::Crash)?)?;
+            out.push(Event::server(alloc, *me, ServerInput::Restart)?)?;
+        }
+        Actor::Client(me) => {
+            out.push(Event::client(alloc, *me, ClientInput::Crash)?)?;
+            out.push(Event::client(alloc, *me, ClientInput::Restart)?)?;
+        }
+    }
+    Ok(())
+}
+
+// The row's events, and an actor's crash and restart behind the one at a place.
+fn list(alloc: Global, row: &Transcript, at: usize, actor: &Actor) -> Result<Vec<Event>, NoMemory> {
+    let mut list = Vec::new(alloc);
+    for (place, event) in row.events.iter().enumerate() {
+        list.push(event.try_clone(alloc)?)?;
+        if place == at {
+            push_crash(alloc, actor, &mut list)?;
+        }
+    }
+    Ok(list)
+}
+
+// What is wrong with the group to which such a list leads.
+fn found(
+    alloc: Global,
+    row: &Transcript,
+    at: usize,
+    actor: &Actor,
+) -> Result<Option<Fault>, Refusal> {
+    let events = list(alloc, row, at, actor)?;
+    let world = World::run(alloc, row.servers, &row.nodes, &events)?;
+    fault_of(alloc, &row.nodes, &events, &world)
+}
+
+// Says what is wrong with it; 1 where nothing is.
+fn look(rt: &HostRuntime, row: &Transcript, at: usize, actor: &Actor) -> io::Result<u64> {
+    match found(rt.alloc(), row, at, actor) {
+        Ok(None) => return Ok(1),
+        Ok(Some(fault)) => print!(rt; "{fault:?}")?,
+        Err(refusal) => print!(rt; "refused {}", refusal.number())?,
+    }
+    match actor {
+        Actor::Server(me) => print!(rt; " where server {} crashes", me.number())?,
+        Actor::Client(me) => print!(rt; " where client {} crashes", me.number())?,
+    }
+    println!(rt; " behind event {}", at.saturating_add(1))?;
+    Ok(0)
+}
+
+// Each actor crashes behind the event at a place. In how many of the lists nothing is wrong.
+fn look_at(rt: &HostRuntime, row: &Transcript, at: usize) -> io::Result<u64> {
+    let mut good: u64 = 0;
+    for place in 0..row.servers {
+        if let Some(me) = ServerId::from_place(place) {
+            good = good.saturating_add(look(rt, row, at, &Actor::Server(me))?);
+        }
+    }
+    for node in &row.nodes {
+        if let Some(me) = ClientId::from_number(node.number.number()) {
+            good = good.saturating_add(look(rt, row, at, &Actor::Client(me))?);
+        }
+    }
+    Ok(good)
+}
+
+// What is wrong with the row's group where only the first of its events are played, so that its
+// servers have states that were not there.
+fn found_of_first(alloc: Global, row: &Transcript) -> Result<Option<Fault>, Refusal> {
+    let world = World::run(alloc, row.servers, &row.nodes, &row.events)?;
+    match row.events.get(..FIRST) {
+        Some(first) => fault_of(alloc, &row.nodes, first, &world),
+        None => Ok(None),
+    }
+}
+
+/// Plays the events of `long-run.transcript`, with a crash and a restart of each actor behind each
+/// of them, and says what is wrong; and in how many of these lists nothing is. Then it says what is
+/// found of the row's group by its first events alone.
+pub(crate) fn crashes(rt: &HostRuntime) -> io::Result<()> {
+    let text = fs::read(rt, "long-run.transcript")?;
+    let Ok(row) = read(rt.alloc(), &text) else {
+        return println!(rt; "no transcript");
+    };
+    let mut good: u64 = 0;
+    for at in 0..row.events.len() {
+        good = good.saturating_add(look_at(rt, &row, at)?);
+    }
+    println!(rt;
+        "a crash behind each of {} events: {good} lists in which nothing is wrong",
+        row.events.len()
+    )?;
+    match found_of_first(rt.alloc(), &row) {
+        Ok(found) => println!(rt; "by the first {FIRST} events alone: {found:?}"),
+        Err(refusal) => println!(rt; "refused {}", refusal.number()),
+    }
+}
