@@ -11,6 +11,7 @@ use cluster::{
     close, start, stop,
 };
 use event_book::{BookId, OpenedBook};
+use plain_check::{Fault, fault_of};
 use raft_core::Role;
 use rows::{Actor, Delivery, Name, NodeSpec, Refusal, ServerId};
 use server::Server;
@@ -48,6 +49,13 @@ const TWO_JOBS: &[&str] = &[
 
 /// One more round: entries come to all servers, and a plan is judged.
 const ROUND: &[&str] = &["beat 1", "plan 1"];
+
+/// One more round of a crowd: messages of all kinds, none of which is waited for.
+const CROWD: &[&str] = &[
+    "ping 1 1", "ping 2 1", "pull 1 1", "pull 2 1", "take 2 1", "take 3 1", "beat 1", "plan 1",
+];
+
+const CROWDS: u32 = 50;
 
 /// A gate that holds the first evaluation that comes to it, until it is opened.
 #[derive(Drop)]
@@ -423,6 +431,56 @@ where
     Ok((empty, once, twice, full, world.sent().len()))
 }
 
+// Rounds of a crowd. What is refused, since what it takes was lost, is passed over.
+fn crowd<B: BookId, G: Gate + Drop, R: Wait>(
+    rt: &R,
+    alloc: Global,
+    group: &RunningGroup<B, G>,
+) -> Result<(), Refusal> {
+    for _ in 0..CROWDS {
+        for line in CROWD {
+            if matches!(give(rt, alloc, group, line), Err(Refusal::NoMemory)) {
+                return Err(Refusal::NoMemory);
+            }
+        }
+        group.flow(rt, FLOW);
+    }
+    Ok(())
+}
+
+// In a group on threads whose queues have room for one message: how many messages were lost, how
+// many entries were applied, and what a plain look finds wrong. Server 1 stands twice before
+// anybody takes a message, so the second requests find no room; and later once more, where all that
+// was kept has come.
+fn crowded<B, R>(
+    rt: R,
+    alloc: Global,
+    opened: OpenedBook<OwnInput>,
+    nodes: Vec<NodeSpec>,
+    same: &[NodeSpec],
+) -> Result<(u64, u64, Option<Fault>), Refusal>
+where
+    B: BookId + Send + Sync + 'static,
+    R: Threads + Wait + Copy + Send + 'static,
+    requires book { opened ≡ (B.table, B.actors) }
+    requires nodes { nodes.items ≡ B.nodes }
+{
+    let net = NetSettings { room: 1, ..NET };
+    let group = Arc::new(alloc, group::<B, _>(alloc, opened, nodes, net, OpenGate)?)?;
+    give(&rt, alloc, &group, "timeout 1")?;
+    give(&rt, alloc, &group, "timeout 1")?;
+    let threads = start(rt, alloc, &group, 1)?;
+    group.flow(&rt, FLOW);
+    let placed = hand_all(&rt, alloc, &group, TWO_JOBS);
+    let crowded = crowd(&rt, alloc, &group);
+    let lost = group.lost_messages();
+    let world = closed(alloc, stop(&rt, group, threads))?;
+    placed?;
+    crowded?;
+    let fault = fault_of(alloc, same, world.trace(), &world)?;
+    Ok((lost, world.chain().get(), fault))
+}
+
 #[test]
 fn a_held_worker_holds_no_other(rt: HostRuntime) -> Result<(), Fail> {
     let book = opened(rt.alloc(), &[1, 2, 3], 2)?;
@@ -464,5 +522,18 @@ fn messages_without_room_are_counted(rt: HostRuntime) -> Result<(), Fail> {
         found == (1, 0, 2, LOOKS, 4),
         "{empty} {once} {twice} {full} {sent}"
     );
+    Ok(())
+}
+
+#[test]
+fn a_group_with_full_queues_is_sound(rt: HostRuntime) -> Result<(), Fail> {
+    let book = opened(rt.alloc(), &[1, 2, 3], 2)?;
+    let given = nodes(rt.alloc(), 2)?;
+    let same = nodes(rt.alloc(), 2)?;
+    let (lost, chain, fault) = crowded::<Brand, _>(rt, rt.alloc(), book, given, &same)?;
+    assert!(rt; lost >= 2, "lost {lost}");
+    // The no-op, two nodes and two jobs at least: of two answers one finds room.
+    assert!(rt; chain >= 5, "chain {chain}");
+    assert!(rt; fault.is_none(), "{fault:?}");
     Ok(())
 }
