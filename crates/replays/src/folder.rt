@@ -6,7 +6,8 @@ use std::rt::Files;
 
 /// The files of the folder that the program runs in, and four more: `text.json` has this text, for
 /// `full.json` there is no memory, `transcript` can be written and read again, and for `full` there
-/// is no memory when it is written. No other file can be written.
+/// is no memory when it is written. What lies in a folder that is not there, and what lies on a disk
+/// that is full, is written as the real files are, which fails. No other file can be written.
 #[derive(Drop)]
 pub(crate) struct Folder<'a> {
     rt: &'a HostRuntime,
@@ -57,6 +58,9 @@ impl Shelf for Folder<'_> {
             "transcript" => {
                 self.transcript = Some(copied(self.rt, bytes)?);
                 Ok(())
+            }
+            "missing/t" | "/dev/full" => {
+                fs::write(self.rt, name, bytes).map_err(|_| ShelfFault::Failed)
             }
             _ => Err(ShelfFault::Failed),
         }
