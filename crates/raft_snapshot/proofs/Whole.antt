@@ -1,0 +1,116 @@
+-- Each whole list that a log may be, and what the log shows.
+use Rattle.std.proofs.Common.{◌≡◌, ℕ, ◌≤◌, List, [], ◌++◌, length, take, drop, sym, ap, subst, ◌∙◌, arith, length-take-le}
+use Rattle.std.proofs.Math.Seq.{drop-append_seam}
+use Rattle.std.proofs.lemmas.List.{take-append-drop}
+use Rattle.machine_model.specs.Meaning.{Meaning}
+use Rattle.machine_model.specs.declared.entry.Entry.{Entry}
+use Rattle.raft_model.specs.Logs.{term_at, last_term, has, install, state_after}
+use Rattle.raft_snapshot.specs.Bases.{Base, IsBaseOf, IsCounted, blank}
+use Rattle.raft_snapshot.specs.Filled.{refilled}
+use Rattle.raft_snapshot.specs.Kept.{Kept, kept, IsLogOf}
+use Rattle.raft_snapshot.proofs.Logs.{filled-length, filled-term, filled-last_term, filled-has, filled-grown, filled-drop, filled-take, filled-install, front_term, front_of, later}
+use Rattle.raft_snapshot.proofs.Blanks.{blank-length, last_is, shown_last, shown_size}
+
+module _ {S C : Type 0} (m : Meaning S C) (base : Base S) (tail : List (Entry C)) (log : Kept S C) (shows : kept m base tail ≡ log) (counted : IsCounted m base) where
+  base_is : base ≡ log.base
+  base_is = ap (λ (k : Kept S C). k.base) shows
+
+  entries_are : blank m base.index base.term ++ tail ≡ log.entries
+  entries_are = ap (λ (k : Kept S C). k.entries) shows
+
+  pub base_within : log.base.index ≤ length log.entries
+  base_within = omega (arith, ap (λ (b : Base S). b.index) base_is, ap length entries_are, shown_size m base.index base.term tail)
+
+  pub base_term : log.base.term ≡ term_at log.entries log.base.index
+  base_term =
+      sym (ap (λ (b : Base S). b.term) base_is)
+      ∙ shown_last m base.index base.term tail counted.none
+      ∙ ap (λ (k : Kept S C). term_at k.entries k.base.index) shows
+
+  module _ (list : List (Entry C)) (is : IsLogOf m log list) where
+    abbrev covered : List (Entry C)
+    covered = is.covered
+
+    room : length covered ≤ length log.entries
+    room = omega (arith, is.fits.index, base_within)
+
+    same : last_term covered ≡ term_at log.entries (length covered)
+    same = is.fits.term ∙ base_term ∙ ap (term_at log.entries) (sym is.fits.index)
+
+    past : (p : ℕ) → log.base.index ≤ p → length covered ≤ p
+    past p le = omega (arith, is.fits.index, le)
+
+    pub whole_length : length log.entries ≡ length list
+    whole_length = sym (ap length is.is ∙ filled-length covered log.entries room same)
+
+    pub whole_last_term : last_term log.entries ≡ last_term list
+    whole_last_term = sym (ap last_term is.is ∙ filled-last_term covered log.entries room same)
+
+    pub whole_term : (p : ℕ) → log.base.index ≤ p → term_at log.entries p ≡ term_at list p
+    whole_term p le = sym (ap (λ (l : List (Entry C)). term_at l p) is.is ∙ filled-term covered log.entries room same p (past p le))
+
+    pub whole_has : (p term : ℕ) → log.base.index ≤ p → has log.entries p term ≡ has list p term
+    whole_has p term le = sym (ap (λ (l : List (Entry C)). has l p term) is.is ∙ filled-has covered log.entries room same p term (past p le))
+
+    pub whole_drop : (p : ℕ) → log.base.index ≤ p → drop p log.entries ≡ drop p list
+    whole_drop p le = sym (ap (λ (l : List (Entry C)). drop p l) is.is ∙ filled-drop covered log.entries room same p (past p le))
+
+    -- the state after what is covered
+    pub whole_state : log.base.state ≡ state_after m (take log.base.index list)
+    whole_state = sym (ap (state_after m) (ap (λ (l : List (Entry C)). take log.base.index l) is.is ∙ ap (λ (i : ℕ). take i (refilled covered log.entries)) (sym is.fits.index) ∙ front_of covered (drop (length covered) log.entries)) ∙ is.fits.state)
+
+    module _ (new : Kept S C) (same_base : new.base ≡ log.base) where
+      fits : IsBaseOf m new.base covered
+      fits = subst (λ (b : Base S). IsBaseOf m b covered) (sym same_base) is.fits
+
+      pub whole_grown : (more : List (Entry C)) → new.entries ≡ log.entries ++ more → IsLogOf m new (list ++ more)
+      whole_grown more grown = record {
+        covered = covered;
+        fits = fits;
+        is = ap (λ (l : List (Entry C)). l ++ more) is.is ∙ filled-grown covered log.entries room same more ∙ ap (refilled covered) (sym grown);
+      }
+
+      pub whole_cut : (p : ℕ) → log.base.index ≤ p → new.entries ≡ take p log.entries → IsLogOf m new (take p list)
+      whole_cut p le cut = record {
+        covered = covered;
+        fits = fits;
+        is = ap (λ (l : List (Entry C)). take p l) is.is ∙ filled-take covered log.entries room same p (past p le) ∙ ap (refilled covered) (sym cut);
+      }
+
+      pub whole_replaced : (p : ℕ) (more : List (Entry C)) → log.base.index ≤ p → p ≤ length log.entries → new.entries ≡ take p log.entries ++ more → IsLogOf m new (take p list ++ more)
+      whole_replaced p more le within cut = record {
+        covered = covered;
+        fits = fits;
+        is =
+            ap (λ (l : List (Entry C)). take p l ++ more) is.is
+            ∙ ap (λ (l : List (Entry C)). l ++ more) (filled-take covered log.entries room same p (past p le))
+            ∙ later covered (take p log.entries) more (omega (arith, past p le, length-take-le p log.entries within))
+            ∙ ap (refilled covered) (sym cut);
+      }
+
+    -- what is covered by a later base of the same list
+    pub whole_later : (new : Kept S C) (k : ℕ) (state : S) → log.base.index ≤ k → k ≤ length log.entries → new.base ≡ record { index = k; term = term_at log.entries k; state = state } → new.entries ≡ blank m k (term_at log.entries k) ++ drop k log.entries → state_after m (take k list) ≡ state → IsLogOf m new list
+    whole_later new k state le within at shown leads =
+        let size : length (take k list) ≡ k = length-take-le k list (omega (arith, whole_length, within)) in
+        let term : last_term (take k list) ≡ term_at log.entries k = ap (term_at (take k list)) size ∙ front_term list k k (omega (arith, whole_length, within)) (omega arith) ∙ sym (whole_term k le) in
+        let base2 : Base S = record { index = k; term = term_at log.entries k; state = state } in
+        let fits2 : IsBaseOf m base2 (take k list) = record { index = size; term = term; state = leads } in
+        record {
+          covered = take k list;
+          fits = subst (λ (b : Base S). IsBaseOf m b (take k list)) (sym at) fits2;
+          is =
+              sym (take-append-drop k list)
+              ∙ ap (λ (l : List (Entry C)). take k list ++ l) (sym (whole_drop k le) ∙ sym (drop-append_seam (blank m k (term_at log.entries k)) (drop k log.entries)) ∙ ap (λ (i : ℕ). drop i (blank m k (term_at log.entries k) ++ drop k log.entries)) (blank-length m k (term_at log.entries k) [] ∙ sym size))
+              ∙ ap (refilled (take k list)) (sym shown);
+        }
+
+    -- a snapshot in place of what it covers
+    pub whole_installed : (new : Kept S C) (snapshot : Base S) → log.base.index ≤ snapshot.index → (snapshot.index ≡ 0 → snapshot.term ≡ 0) → new.base ≡ snapshot → new.entries ≡ install log.entries (blank m snapshot.index snapshot.term) → (Q : List (Entry C)) → IsBaseOf m snapshot Q → IsLogOf m new (install list Q)
+    whole_installed new snapshot le none at shown Q q = record {
+      covered = Q;
+      fits = subst (λ (b : Base S). IsBaseOf m b Q) (sym at) q;
+      is =
+          ap (λ (l : List (Entry C)). install l Q) is.is
+          ∙ filled-install covered log.entries room same Q (blank m snapshot.index snapshot.term) (blank-length m snapshot.index snapshot.term [] ∙ sym q.index) (last_is m snapshot.index snapshot.term none ∙ sym q.term) (omega (arith, q.index, past snapshot.index le))
+          ∙ ap (refilled Q) (sym shown);
+    }

@@ -1,0 +1,37 @@
+-- The first entries of a log, known by their number, the term of the last one and the state after
+-- them. (Raft, extended version 2014, section 7.)
+use Rattle.std.specs.Prelude.{◌≡◌, ℕ, List, length, drop, replicate}
+use Rattle.machine_model.specs.Meaning.{Meaning}
+use Rattle.machine_model.specs.After.{after_from}
+use Rattle.machine_model.specs.declared.entry.Entry.{Entry}
+use Rattle.raft_model.specs.Logs.{last_term, commands, state_after}
+
+-- what is known of the entries that a snapshot covers
+pub record Base (S : Type 0) : Type 0 where
+  -- how many they are, which is the index of the last one
+  pub index : ℕ
+  -- the last one's term; 0 where there is none
+  pub term : ℕ
+  -- the machine's state after them
+  pub state : S
+
+-- the base is one of these entries
+pub record IsBaseOf {S C : Type 0} (m : Meaning S C) (base : Base S) (covered : List (Entry C)) : Type 0 where
+  pub index : length covered ≡ base.index
+  pub term : last_term covered ≡ base.term
+  pub state : state_after m covered ≡ base.state
+
+-- The base's state has seen as many commands as the base covers entries. Where it covers none, it
+-- has no term.
+pub record IsCounted {S C : Type 0} (m : Meaning S C) (base : Base S) : Type 0 where
+  pub count : m.count base.state ≡ base.index
+  pub none : base.index ≡ 0 → base.term ≡ 0
+
+-- Entries that say nothing, as many as a base covers, each with the term of its last one. They
+-- stand for entries that are not known.
+abbrev pub blank : {S C : Type 0} → Meaning S C → ℕ → ℕ → List (Entry C)
+blank m index term = replicate index (record { term = term; command = m.noop })
+
+-- the state after a log of which a base covers the first entries
+abbrev pub state_from : {S C : Type 0} → Meaning S C → Base S → List (Entry C) → S
+state_from m base log = after_from m base.state (commands (drop base.index log))

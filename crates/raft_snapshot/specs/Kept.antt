@@ -1,0 +1,23 @@
+-- What a contract sees of a log whose first entries a snapshot covers, and which whole lists that
+-- may be.
+use Rattle.std.specs.Prelude.{◌≡◌, ◌++◌, List}
+use Rattle.machine_model.specs.Meaning.{Meaning}
+use Rattle.machine_model.specs.declared.entry.Entry.{Entry}
+use Rattle.raft_snapshot.specs.Bases.{Base, IsBaseOf, blank}
+use Rattle.raft_snapshot.specs.Filled.{refilled}
+
+-- its base, and all its entries, of which those that the base covers are blank
+pub record Kept (S C : Type 0) : Type 0 where
+  pub base : Base S
+  pub entries : List (Entry C)
+
+-- a base with the entries behind it
+abbrev pub kept : {S C : Type 0} → Meaning S C → Base S → List (Entry C) → Kept S C
+kept m base tail = record { base = base; entries = blank m base.index base.term ++ tail }
+
+-- The log is this whole list: its base is one of the list's first entries, and what is behind the
+-- base is the rest.
+pub record IsLogOf {S C : Type 0} (m : Meaning S C) (log : Kept S C) (list : List (Entry C)) : Type 0 where
+  pub covered : List (Entry C)
+  pub fits : IsBaseOf m log.base covered
+  pub is : list ≡ refilled covered log.entries

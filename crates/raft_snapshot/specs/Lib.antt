@@ -1,0 +1,5 @@
+pub mod Bases
+pub mod Filled
+pub mod Kept
+pub mod Shown
+pub mod Stored

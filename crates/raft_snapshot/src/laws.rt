@@ -1,0 +1,82 @@
+//! Laws of servers whose covered entries are blank, for every machine. Each function has an empty
+//! body: what it says is its contract.
+ghost use Rattle.std.specs.Prelude.{◌≡◌, ◌≤◌, ◌++◌, ℕ, List, length, take, drop, nat_le, true, if◌then◌else◌};
+ghost use Rattle.machine_model.specs.declared.entry.Entry.{Entry};
+ghost use Rattle.raft_model.specs.Logs.{last_term, state_after};
+ghost use Rattle.raft_model.specs.Messages.{Install};
+ghost use Rattle.raft_model.specs.Servers.{Server, beat_body, met, crashed, restarted, compacted};
+ghost use Rattle.raft_model.specs.Steps.{step, receives, Input};
+ghost use Rattle.raft_snapshot.specs.Bases.{Base, IsBaseOf, state_from};
+ghost use Rattle.raft_snapshot.specs.Filled.{refilled, filled, filled_turn, filled_result, MayFill, IsPlainInput, takes_snapshot};
+ghost use Rattle.raft_snapshot.specs.Shown.{IsShown, StandsFor, shown_state, turn_of, base_after, Received, compacted_base, compacted_shown};
+
+use machine::Machine;
+
+/// No rule looks at the entries of a log below its commit index but at how many there are, and at
+/// the term of the last one that is covered: with others in place of the covered ones a server
+/// takes the same step, with those in place of the covered ones. An Install and a Beat say which
+/// entries are covered, a Compact which are covered then.
+pub fn steps_are_filled<M: Machine>()
+    ensures steps { (n me : ℕ) (P : List (Entry M.Command)) (s : Server M.Command) → MayFill P s →
+        (input : Input M.Command) → IsPlainInput input →
+        step M.meaning n me (filled P s) input ≡ filled_result P (step M.meaning n me s input) }
+    ensures installs { (P Q B : List (Entry M.Command)) (n me : ℕ) (s : Server M.Command) →
+        MayFill P s → (from term : ℕ) → length B ≡ length Q → last_term B ≡ last_term Q →
+        receives M.meaning.noop n me (filled P s) from term (Install Q)
+        ≡ filled_turn (if takes_snapshot term (length Q) s then Q else P)
+        (receives M.meaning.noop n me s from term (Install B)) }
+    ensures beats { (P : List (Entry M.Command)) (s : Server M.Command) → MayFill P s →
+        s.covered ≡ length P → (next : ℕ) → beat_body (filled P s) next
+        ≡ (if nat_le next s.covered then Install P else beat_body s next) }
+    ensures compacts { (P B : List (Entry M.Command)) (s : Server M.Command) → MayFill P s →
+        s.commit ≤ length s.log → length B ≡ s.commit → compacted (filled P s)
+        ≡ filled (take s.commit (refilled P s.log))
+        (record (compacted s) { log = B ++ drop s.commit s.log }) }
+{}
+
+/// A base and a server that is shown stand, at once, for each server of the definitions that has,
+/// in place of the blank entries, some that the base covers: all of these have applied the same
+/// state, and a crash, a restart and a Compact lead from what stands for a server to what stands
+/// for the server after it.
+pub fn servers_are_shown<M: Machine>()
+    ensures state { (base : Base M) (shown s : Server M.Command) → IsShown base shown →
+        StandsFor M.meaning base shown s →
+        state_after M.meaning (take s.commit s.log) ≡ shown_state M.meaning base shown }
+    ensures whole { (base : Base M) (shown s : Server M.Command) →
+        StandsFor M.meaning base shown s →
+        state_after M.meaning s.log ≡ state_from M.meaning base shown.log }
+    ensures crash { (base : Base M) (shown s : Server M.Command) → IsShown base shown →
+        StandsFor M.meaning base shown s →
+        StandsFor M.meaning base (crashed shown) (crashed s) × IsShown base (crashed shown) }
+    ensures restart { (base : Base M) (shown s : Server M.Command) → IsShown base shown →
+        StandsFor M.meaning base shown s →
+        StandsFor M.meaning base (restarted shown) (restarted s) × IsShown base (restarted shown) }
+    ensures compact { (base : Base M) (shown s : Server M.Command) → IsShown base shown →
+        shown.commit ≤ length shown.log → StandsFor M.meaning base shown s →
+        StandsFor M.meaning (compacted_base M.meaning base shown)
+        (compacted_shown M.meaning shown) (compacted s)
+        × IsShown (compacted_base M.meaning base shown) (compacted_shown M.meaning shown) }
+{}
+
+/// A snapshot that comes in a message makes, of what stands for a server, what stands for the
+/// server after it, for each list that the message may carry (`received`). So two servers, each of
+/// which covers something, fit together: what a leader sends one that lacks covered entries is an
+/// Install of its own covered list, which its base is known by, and the other takes it as the
+/// definitions do (`sent`).
+pub fn snapshots_are_received<M: Machine>()
+    ensures received { (n me from term : ℕ) (snapshot base : Base M)
+        (shown s : Server M.Command) → IsShown base shown → StandsFor M.meaning base shown s →
+        (Q : List (Entry M.Command)) → IsBaseOf M.meaning snapshot Q →
+        Received M.meaning (base_after base shown term snapshot)
+        (turn_of M.meaning n me shown from term snapshot)
+        (receives M.meaning.noop n me (met term s) from term (Install Q)) }
+    ensures sent { (n me from term next : ℕ) (theirs base : Base M)
+        (sender x shown y : Server M.Command) →
+        IsShown theirs sender → StandsFor M.meaning theirs sender x →
+        IsShown base shown → StandsFor M.meaning base shown y →
+        nat_le next theirs.index ≡ true →
+        (Q : List (Entry M.Command)) × (beat_body x next ≡ Install Q)
+        × IsBaseOf M.meaning theirs Q × Received M.meaning (base_after base shown term theirs)
+        (turn_of M.meaning n me shown from term theirs)
+        (receives M.meaning.noop n me (met term y) from term (Install Q)) }
+{}
