@@ -41,8 +41,16 @@ module _ {S C : Type 0} (m : Meaning S C) (index term : ℕ) (tail : List (Entry
   pub shown_drop : (p : ℕ) → index ≤ p → drop (p - index) tail ≡ drop p (blank m index term ++ tail)
   shown_drop p le = let e : p ≡ length (blank m index term) + (p - index) = omega (arith, blank-length) in sym (ap (λ (i : ℕ). drop i (blank m index term ++ tail)) e ∙ drop-append-add (blank m index term) tail (p - index))
 
+  pub shown_gone : (gone : ℕ) → drop gone tail ≡ drop (index + gone) (blank m index term ++ tail)
+  shown_gone gone = sym (ap (λ (i : ℕ). drop (i + gone) (blank m index term ++ tail)) (sym blank-length) ∙ drop-append-add (blank m index term) tail gone)
+
   pub shown_take : (p : ℕ) → index ≤ p → blank m index term ++ take (p - index) tail ≡ take p (blank m index term ++ tail)
   shown_take p le = let e : p ≡ length (blank m index term) + (p - index) = omega (arith, blank-length) in sym (ap (λ (i : ℕ). take i (blank m index term ++ tail)) e ∙ take-append-add (blank m index term) tail (p - index))
+
+  pub shown_cut : (p : ℕ) → index < p → blank m index term ++ take (p - index - 1) tail ≡ take (p - 1) (blank m index term ++ tail)
+  shown_cut p low =
+      let e : p - index - 1 ≡ p - 1 - index = omega arith in
+      ap (λ (i : ℕ). blank m index term ++ take i tail) e ∙ shown_take (p - 1) (omega (arith, low))
 
   pub shown_behind : (p start size : ℕ) → index ≤ p → start ≡ min (p - index) (length tail) → size ≡ length tail → take (size - start) (drop start tail) ≡ drop p (blank m index term ++ tail)
   shown_behind p start size le at all =

@@ -34,8 +34,10 @@ module _ {S C : Type 0} (m : Meaning S C) where
   -- the state after a log of which a base covers the first entries
   pub state_filled : (base : Base S) (log P : List (Entry C)) → IsBaseOf m base P → state_from m base log ≡ state_after m (refilled P log)
   state_filled base log P fits =
-      sym (ap (after m) (commands-append P (drop (length P) log)) ∙ after_from-append m m.empty (commands P) (commands (drop (length P) log)) ∙ ap (λ (x : S). after_from m x (commands (drop (length P) log))) fits.state)
-      ∙ ap (λ (i : ℕ). after_from m base.state (commands (drop i log))) fits.index
+      sym (ap (after m) (commands-append P (drop (length P) log))
+      ∙ after_from-append m m.empty (commands P) (commands (drop (length P) log))
+      ∙ ap (λ (x : S). after_from m x (commands (drop (length P) log))) fits.state
+      ∙ ap (λ (i : ℕ). after_from m base.state (commands (drop i log))) fits.index)
 
   -- all servers that are stood for have applied one state
   pub state_shown : (base : Base S) (shown s : Server C) → IsShown base shown → StandsFor m base shown s → state_after m (take s.commit s.log) ≡ shown_state m base shown
@@ -61,7 +63,7 @@ module _ {S C : Type 0} (m : Meaning S C) where
     last : (Q : List (Entry C)) → IsBaseOf m snapshot Q → last_term B ≡ last_term Q
     last Q fits = last_is m snapshot.index snapshot.term (λ z. none Q (fits.index ∙ z) fits.term) ∙ sym fits.term where
       none : (L : List (Entry C)) → length L ≡ 0 → last_term L ≡ snapshot.term → snapshot.term ≡ 0
-      none L no is = sym is ∙ ap (term_at L) no ∙ term_at_zero L
+      none L empty is = sym is ∙ ap (term_at L) empty ∙ term_at_zero L
 
     fits_after : (base : Base S) (shown : Server C) (P Q : List (Entry C)) (b : Bool) → takes_snapshot term (length Q) (met term shown) ≡ b → takes_snapshot term snapshot.index (met term shown) ≡ b → IsBaseOf m base P → IsBaseOf m snapshot Q → IsBaseOf m (base_after base shown term snapshot) (if takes_snapshot term (length Q) (met term shown) then Q else P)
     fits_after base shown P Q true a b p q = rw (a, b) q

@@ -1,15 +1,40 @@
 -- Each whole list that a log may be, and what the log shows.
-use Rattle.std.proofs.Common.{◌≡◌, ℕ, ◌≤◌, List, [], ◌++◌, length, take, drop, sym, ap, subst, ◌∙◌, arith, length-take-le}
+use Rattle.std.proofs.Common.{◌≡◌, ℕ, ◌+◌, ◌-◌, ◌≤◌, List, [], ◌++◌, length, take, drop, refl, sym, ap, subst, ◌∙◌, arith, length-take-le}
 use Rattle.std.proofs.Math.Seq.{drop-append_seam}
-use Rattle.std.proofs.lemmas.List.{take-append-drop}
+use Rattle.std.proofs.lemmas.List.{take-append-drop, drop_all}
 use Rattle.machine_model.specs.Meaning.{Meaning}
 use Rattle.machine_model.specs.declared.entry.Entry.{Entry}
-use Rattle.raft_model.specs.Logs.{term_at, last_term, has, install, state_after}
+use Rattle.raft_model.specs.Logs.{term_at, last_term, has, install, commands, state_after}
 use Rattle.raft_snapshot.specs.Bases.{Base, IsBaseOf, IsCounted, blank}
 use Rattle.raft_snapshot.specs.Filled.{refilled}
 use Rattle.raft_snapshot.specs.Kept.{Kept, kept, IsLogOf}
-use Rattle.raft_snapshot.proofs.Logs.{filled-length, filled-term, filled-last_term, filled-has, filled-grown, filled-drop, filled-take, filled-install, front_term, front_of, later}
-use Rattle.raft_snapshot.proofs.Blanks.{blank-length, last_is, shown_last, shown_size}
+use Rattle.raft_snapshot.proofs.Logs.{term_at_zero, filled-length, filled-term, filled-last_term, filled-has, filled-grown, filled-drop, filled-take, filled-install, front_term, front_of, later}
+use Rattle.raft_snapshot.proofs.Blanks.{blank-length, last_is, shown_last, shown_size, shown_gone}
+
+-- a log of no entries is the empty list
+pub empty_whole : {S C : Type 0} (m : Meaning S C) (base : Base S) (tail : List (Entry C)) → base ≡ record { index = 0; term = 0; state = m.empty } → tail ≡ [] → IsLogOf m (kept m base tail) []
+unfolding commands
+empty_whole {S = S} {C = C} m base tail at none =
+    let first : IsLogOf m (kept m (record { index = 0; term = 0; state = m.empty }) []) [] = record {
+      covered = [];
+      fits = record { index = refl; term = term_at_zero []; state = refl };
+      is = refl;
+    } in
+    subst (λ (l : List (Entry C)). IsLogOf m (kept m base l) []) (sym none)
+      (subst (λ (b : Base S). IsLogOf m (kept m b []) []) (sym at) first)
+
+-- what is taken off the front, up to an index
+pub to_index : {S C : Type 0} (m : Meaning S C) (base : Base S) (tail : List (Entry C)) (log : Kept S C) → kept m base tail ≡ log → (p a b : ℕ) → b ≡ base.index → a ≡ p → log.base.index ≤ p → log.base.index + (a - b) ≡ p
+to_index {S = S} {C = C} m base tail log shows p a b at to le =
+    let same_index : base.index ≡ log.base.index = ap (λ (k : Kept S C). k.base.index) shows in
+    omega (arith, at, to, le, same_index)
+
+-- nothing is left behind all that the log has
+pub none_left : {S C : Type 0} (m : Meaning S C) (base : Base S) (tail : List (Entry C)) (log : Kept S C) → kept m base tail ≡ log → (n : ℕ) → n ≡ length tail → drop (log.base.index + n) log.entries ≡ []
+none_left {S = S} {C = C} m base tail log shows n all =
+    sym (ap (λ (k : Kept S C). drop (k.base.index + n) k.entries) shows)
+    ∙ sym (shown_gone m base.index base.term tail n)
+    ∙ drop_all n tail (omega (arith, all))
 
 module _ {S C : Type 0} (m : Meaning S C) (base : Base S) (tail : List (Entry C)) (log : Kept S C) (shows : kept m base tail ≡ log) (counted : IsCounted m base) where
   base_is : base ≡ log.base
@@ -89,8 +114,10 @@ module _ {S C : Type 0} (m : Meaning S C) (base : Base S) (tail : List (Entry C)
       }
 
     -- what is covered by a later base of the same list
-    pub whole_later : (new : Kept S C) (k : ℕ) (state : S) → log.base.index ≤ k → k ≤ length log.entries → new.base ≡ record { index = k; term = term_at log.entries k; state = state } → new.entries ≡ blank m k (term_at log.entries k) ++ drop k log.entries → state_after m (take k list) ≡ state → IsLogOf m new list
-    whole_later new k state le within at shown leads =
+    pub whole_later : (new : Kept S C) (k : ℕ) (state : S) → log.base.index ≤ k → k ≤ length log.entries → new ≡ kept m (record { index = k; term = term_at log.entries k; state = state }) (drop k log.entries) → state_after m (take k list) ≡ state → IsLogOf m new list
+    whole_later new k state le within same_new leads =
+        let at : new.base ≡ record { index = k; term = term_at log.entries k; state = state } = ap (λ (l : Kept S C). l.base) same_new in
+        let shown : new.entries ≡ blank m k (term_at log.entries k) ++ drop k log.entries = ap (λ (l : Kept S C). l.entries) same_new in
         let size : length (take k list) ≡ k = length-take-le k list (omega (arith, whole_length, within)) in
         let term : last_term (take k list) ≡ term_at log.entries k = ap (term_at (take k list)) size ∙ front_term list k k (omega (arith, whole_length, within)) (omega arith) ∙ sym (whole_term k le) in
         let base2 : Base S = record { index = k; term = term_at log.entries k; state = state } in

@@ -1,9 +1,9 @@
 -- What a contract sees of a log whose first entries a snapshot covers, and which whole lists that
 -- may be.
-use Rattle.std.specs.Prelude.{◌≡◌, ◌++◌, List}
+use Rattle.std.specs.Prelude.{◌≡◌, ◌+◌, ◌<◌, ◌^◌, ◌++◌, List, length}
 use Rattle.machine_model.specs.Meaning.{Meaning}
 use Rattle.machine_model.specs.declared.entry.Entry.{Entry}
-use Rattle.raft_snapshot.specs.Bases.{Base, IsBaseOf, blank}
+use Rattle.raft_snapshot.specs.Bases.{Base, IsBaseOf, IsCounted, blank}
 use Rattle.raft_snapshot.specs.Filled.{refilled}
 
 -- its base, and all its entries, of which those that the base covers are blank
@@ -14,6 +14,11 @@ pub record Kept (S C : Type 0) : Type 0 where
 -- a base with the entries behind it
 abbrev pub kept : {S C : Type 0} → Meaning S C → Base S → List (Entry C) → Kept S C
 kept m base tail = record { base = base; entries = blank m base.index base.term ++ tail }
+
+-- what a log's type keeps
+pub record IsKept {S C : Type 0} (m : Meaning S C) (base : Base S) (tail : List (Entry C)) : Type 0 where
+  pub counted : IsCounted m base
+  pub short : base.index + length tail < 2 ^ 40
 
 -- The log is this whole list: its base is one of the list's first entries, and what is behind the
 -- base is the rest.

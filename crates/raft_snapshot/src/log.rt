@@ -2,7 +2,7 @@ ghost use Rattle.std.specs.Prelude.{◌≡◌, ◌+◌, ◌-◌, ◌++◌, ◌�
 ghost use Rattle.machine_model.specs.declared.entry.Entry.{Entry};
 ghost use Rattle.raft_model.specs.Logs.{term_at, last_term, has, install, state_after};
 ghost use Rattle.raft_snapshot.specs.Bases.{IsBaseOf, IsCounted, blank};
-ghost use Rattle.raft_snapshot.specs.Kept.{IsLogOf};
+ghost use Rattle.raft_snapshot.specs.Kept.{kept, IsLogOf};
 
 use crate::snapshot::Snapshot;
 use machine::{Coded, Entry, Machine};
@@ -21,14 +21,13 @@ pub struct Log<M: Machine> {
 }
 
 impl<M: Machine> Model for Log<M> {
-    ghost use Rattle.std.specs.Prelude.{◌+◌, ◌<◌, ◌^◌, length};
-    ghost use Rattle.raft_snapshot.specs.Kept.{Kept, kept};
+    ghost use Rattle.raft_snapshot.specs.Kept.{Kept, kept, IsKept};
 
     ghost Value = { Kept M M.Command };
 
     ghost view = { λ a. kept M.meaning a.base a.tail.items };
 
-    ghost invariant = { λ a. a.base.index + length a.tail.items < 2 ^ 40 };
+    ghost invariant = { λ a. IsKept M.meaning a.base a.tail.items };
 }
 
 /// Cuts the list and puts others behind what stays, or changes nothing.
@@ -229,8 +228,8 @@ impl<M: Machine> Log<M> {
         let Some(term) = self.term_at(index.get()) else {
             unreachable!()
         };
-        drop_front(&mut self.tail, (index.get() - self.base.index().get()) as usize);
-        self.base = Snapshot::of(index, term, state);
+        let gone = (index.get() - self.base.index().get()) as usize;
+        self.rebase(Snapshot::of(index, term, state), gone);
     }
 
     /// A snapshot that covers no less takes the place of all entries up to its index. What stands
@@ -247,10 +246,23 @@ impl<M: Machine> Log<M> {
     {
         let index = snapshot.index().get();
         if self.holds(index, snapshot.term()) {
-            drop_front(&mut self.tail, (index - self.base.index().get()) as usize);
-        } else {
-            self.tail.clear();
+            let gone = (index - self.base.index().get()) as usize;
+            self.rebase(snapshot, gone);
+            return;
         }
+        let gone = self.tail.len();
+        self.rebase(snapshot, gone);
+    }
+
+    /// The snapshot takes the place of what is covered, and of the first entries behind it.
+    fn rebase(&mut self, snapshot: Snapshot<M>, gone: usize)
+        requires within { self.old.base.index + gone ≤ length self.old.entries }
+        requires short { snapshot.index + (length self.old.entries
+            - (self.old.base.index + gone)) < 2 ^ 40 }
+        ensures { self.new ≡
+            kept M.meaning snapshot (drop (self.old.base.index + gone) self.old.entries) }
+    {
+        drop_front(&mut self.tail, gone);
         self.base = snapshot;
     }
 }

@@ -46,14 +46,15 @@ impl<M: Machine> Snapshot<M> {
     /// The same, of what is known to be one.
     pub(crate) fn of(index: Index, term: Term, state: M) -> Snapshot<M>
         requires { IsCounted M.meaning (record { index = index; term = term; state = state }) }
-        ensures { result ≡ record { index = index; term = term; state = state } }
+        ensures value { result ≡ record { index = index; term = term; state = state } }
     {
         Snapshot { index, term, state }
     }
 
     /// The snapshot of no entries. It takes no memory.
     pub fn empty(alloc: Global) -> Snapshot<M>
-        ensures { result ≡ record { index = 0; term = 0; state = M.meaning.empty } }
+        ensures value { result ≡ record { index = 0; term = 0; state = M.meaning.empty } }
+        ensures counted { IsCounted M.meaning result }
     {
         Snapshot {
             index: Index::ZERO,

@@ -1,0 +1,8 @@
+use Rattle.raft_snapshot.proofs.Shown.{received, two_servers}
+use Rattle.raft_snapshot.proofs.laws.snapshots_are_received.Goals as goal
+
+pub returns-clause-received : goal.returns-clause-received
+returns-clause-received g c = λ n me from term snapshot base shown s is r Q fits. received g.M.Machine.meaning n me from term snapshot base shown s is r Q fits
+
+pub returns-clause-sent : goal.returns-clause-sent
+returns-clause-sent g c = two_servers g.M.Machine.meaning
