@@ -1,12 +1,10 @@
 -- What a log shows whose covered entries are blank.
-use Rattle.std.proofs.Common.{◌≡◌, ◌≢◌, ℕ, zero, suc, ◌+◌, ◌-◌, ◌^◌, ◌<◌, ◌≤◌, Result, Ok, Err, OnOk, ◌==◌, nat_le, inl, inr, min, true, false, ltb, List, [], ◌++◌, length, get_or, take, drop, replicate, refl, sym, ap, ◌∙◌, arith, length-append, append_assoc}
+use Rattle.std.proofs.Common.{◌≡◌, ◌≢◌, ℕ, zero, suc, ◌+◌, ◌-◌, ◌<◌, ◌≤◌, Result, Ok, Err, OnOk, min, true, false, ltb, List, [], ◌++◌, length, get_or, take, drop, replicate, refl, sym, ap, ◌∙◌, arith, length-append, append_assoc}
 use Rattle.std.proofs.Math.Seq.{drop-append-add, take-append-add}
-use Rattle.std.proofs.lemmas.List.{length-replicate, length-drop, drop_min, take_rest, append-nil}
+use Rattle.std.proofs.lemmas.List.{length-replicate, drop_min, take_rest, append-nil}
 use Rattle.machine_model.specs.Meaning.{Meaning}
 use Rattle.machine_model.specs.declared.entry.Entry.{Entry}
 use Rattle.raft_model.specs.Logs.{term_at, last_term, has, install}
-use Rattle.std.proofs.lemmas.Bool.{le-leb, eq-eqb, ne_eqb}
-use Rattle.std.proofs.lemmas.Bool.Decides.{leb_tells}
 use Rattle.raft_snapshot.specs.Bases.{blank}
 use Rattle.raft_snapshot.proofs.Logs.{term_at_zero, term_front, term_behind}
 use Rattle.raft_snapshot.proofs.Entries.{term_there, term_past}

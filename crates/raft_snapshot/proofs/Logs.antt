@@ -1,6 +1,6 @@
 -- Logs whose first entries are replaced by others of the same number and last term.
 use Rattle.std.proofs.Common.{◌≡◌, ℕ, zero, suc, ◌+◌, ◌-◌, ◌<◌, ◌≤◌, ◌||◌, nat_le, nat_lt, Bool, true, false, cond, List, [], ◌∷◌, ◌++◌, length, take, drop, refl, sym, ap, ◌∙◌, inl, inr, arith, length-append, length-take, length-take-le, append_assoc}
-use Rattle.std.proofs.Math.Seq.{drop-append_seam, take-append_seam, drop-length, take-append-add}
+use Rattle.std.proofs.Math.Seq.{drop-append_seam, drop-length, take-append-add}
 use Rattle.std.proofs.lemmas.Slice.{drop-append-drop}
 use Rattle.std.proofs.lemmas.Bool.{le-ltb}
 use Rattle.std.proofs.lemmas.Bool.Decides.{leb_tells}
@@ -34,9 +34,6 @@ term_behind (e ∷ P) X (suc (suc p)) q is = term_behind P X (suc p) q (omega ar
 pub front_term : {C : Type 0} (L : List (Entry C)) (k p : ℕ) → k ≤ length L → p ≤ k → term_at (take k L) p ≡ term_at L p
 front_term {C = C} L k p within le =
     sym (ap (λ (l : List (Entry C)). term_at l p) (sym (take-append-drop k L)) ∙ term_front (take k L) (drop k L) p (omega (arith, le, length-take-le k L within)))
-
-pub front_of : {C : Type 0} (P X : List (Entry C)) → take (length P) (P ++ X) ≡ P
-front_of P X = take-append_seam P X
 
 -- what comes behind comes behind the filled in log too
 pub later : {C : Type 0} (P L more : List (Entry C)) → length P ≤ length L → refilled P L ++ more ≡ refilled P (L ++ more)

@@ -1,15 +1,15 @@
 -- Each whole list that a log may be, and what the log shows.
-use Rattle.std.proofs.Common.{◌≡◌, ℕ, ◌+◌, ◌-◌, ◌≤◌, List, [], ◌++◌, length, take, drop, refl, sym, ap, subst, ◌∙◌, arith, length-take-le}
+use Rattle.std.proofs.Common.{◌≡◌, ℕ, ◌+◌, ◌-◌, ◌≤◌, true, false, List, [], ◌++◌, length, take, drop, refl, sym, ap, subst, ◌∙◌, arith, length-take-le}
 use Rattle.std.proofs.Math.Seq.{drop-append_seam}
 use Rattle.std.proofs.lemmas.List.{take-append-drop, drop_all}
 use Rattle.machine_model.specs.Meaning.{Meaning}
 use Rattle.machine_model.specs.declared.entry.Entry.{Entry}
 use Rattle.raft_model.specs.Logs.{term_at, last_term, has, install, commands, state_after}
-use Rattle.raft_snapshot.specs.Bases.{Base, IsBaseOf, IsCounted, blank}
+use Rattle.raft_snapshot.specs.Bases.{Base, IsBaseOf, IsSnapshot, blank}
 use Rattle.raft_snapshot.specs.Filled.{refilled}
 use Rattle.raft_snapshot.specs.Kept.{Kept, kept, IsLogOf}
-use Rattle.raft_snapshot.proofs.Logs.{term_at_zero, filled-length, filled-term, filled-last_term, filled-has, filled-grown, filled-drop, filled-take, filled-install, front_term, front_of, later}
-use Rattle.raft_snapshot.proofs.Blanks.{blank-length, last_is, shown_last, shown_size, shown_gone}
+use Rattle.raft_snapshot.proofs.Logs.{term_at_zero, filled-length, filled-term, filled-drop, filled-take, filled-install, front_term, later}
+use Rattle.raft_snapshot.proofs.Blanks.{blank-length, last_is, shown_last, shown_size, shown_gone, install_kept, install_cut}
 
 -- a log of no entries is the empty list
 pub empty_whole : {S C : Type 0} (m : Meaning S C) (base : Base S) (tail : List (Entry C)) → base ≡ record { index = 0; term = 0; state = m.empty } → tail ≡ [] → IsLogOf m (kept m base tail) []
@@ -29,6 +29,20 @@ to_index {S = S} {C = C} m base tail log shows p a b at to le =
     let same_index : base.index ≡ log.base.index = ap (λ (k : Kept S C). k.base.index) shows in
     omega (arith, at, to, le, same_index)
 
+-- what is behind a snapshot's index stays, or nothing does
+module _ {S C : Type 0} (m : Meaning S C) (log new : Kept S C) (snapshot : Base S) (n : ℕ) (is : new ≡ kept m snapshot (drop n log.entries)) (none : snapshot.index ≡ 0 → snapshot.term ≡ 0) where
+  pub installed_kept : n ≡ snapshot.index → has log.entries snapshot.index snapshot.term ≡ true → new.entries ≡ install log.entries (blank m snapshot.index snapshot.term)
+  installed_kept at there =
+      ap (λ (k : Kept S C). k.entries) is
+      ∙ ap (λ (i : ℕ). blank m snapshot.index snapshot.term ++ drop i log.entries) at
+      ∙ install_kept m log.entries snapshot.index snapshot.term none there
+
+  pub installed_cut : drop n log.entries ≡ [] → has log.entries snapshot.index snapshot.term ≡ false → new.entries ≡ install log.entries (blank m snapshot.index snapshot.term)
+  installed_cut left there =
+      ap (λ (k : Kept S C). k.entries) is
+      ∙ ap (λ (l : List (Entry C)). blank m snapshot.index snapshot.term ++ l) left
+      ∙ install_cut m log.entries snapshot.index snapshot.term none there
+
 -- nothing is left behind all that the log has
 pub none_left : {S C : Type 0} (m : Meaning S C) (base : Base S) (tail : List (Entry C)) (log : Kept S C) → kept m base tail ≡ log → (n : ℕ) → n ≡ length tail → drop (log.base.index + n) log.entries ≡ []
 none_left {S = S} {C = C} m base tail log shows n all =
@@ -36,7 +50,7 @@ none_left {S = S} {C = C} m base tail log shows n all =
     ∙ sym (shown_gone m base.index base.term tail n)
     ∙ drop_all n tail (omega (arith, all))
 
-module _ {S C : Type 0} (m : Meaning S C) (base : Base S) (tail : List (Entry C)) (log : Kept S C) (shows : kept m base tail ≡ log) (counted : IsCounted m base) where
+module _ {S C : Type 0} (m : Meaning S C) (base : Base S) (tail : List (Entry C)) (log : Kept S C) (shows : kept m base tail ≡ log) (counted : IsSnapshot m base) where
   base_is : base ≡ log.base
   base_is = ap (λ (k : Kept S C). k.base) shows
 
@@ -68,32 +82,15 @@ module _ {S C : Type 0} (m : Meaning S C) (base : Base S) (tail : List (Entry C)
     pub whole_length : length log.entries ≡ length list
     whole_length = sym (ap length is.is ∙ filled-length covered log.entries room same)
 
-    pub whole_last_term : last_term log.entries ≡ last_term list
-    whole_last_term = sym (ap last_term is.is ∙ filled-last_term covered log.entries room same)
-
     pub whole_term : (p : ℕ) → log.base.index ≤ p → term_at log.entries p ≡ term_at list p
     whole_term p le = sym (ap (λ (l : List (Entry C)). term_at l p) is.is ∙ filled-term covered log.entries room same p (past p le))
-
-    pub whole_has : (p term : ℕ) → log.base.index ≤ p → has log.entries p term ≡ has list p term
-    whole_has p term le = sym (ap (λ (l : List (Entry C)). has l p term) is.is ∙ filled-has covered log.entries room same p term (past p le))
 
     pub whole_drop : (p : ℕ) → log.base.index ≤ p → drop p log.entries ≡ drop p list
     whole_drop p le = sym (ap (λ (l : List (Entry C)). drop p l) is.is ∙ filled-drop covered log.entries room same p (past p le))
 
-    -- the state after what is covered
-    pub whole_state : log.base.state ≡ state_after m (take log.base.index list)
-    whole_state = sym (ap (state_after m) (ap (λ (l : List (Entry C)). take log.base.index l) is.is ∙ ap (λ (i : ℕ). take i (refilled covered log.entries)) (sym is.fits.index) ∙ front_of covered (drop (length covered) log.entries)) ∙ is.fits.state)
-
     module _ (new : Kept S C) (same_base : new.base ≡ log.base) where
       fits : IsBaseOf m new.base covered
       fits = subst (λ (b : Base S). IsBaseOf m b covered) (sym same_base) is.fits
-
-      pub whole_grown : (more : List (Entry C)) → new.entries ≡ log.entries ++ more → IsLogOf m new (list ++ more)
-      whole_grown more grown = record {
-        covered = covered;
-        fits = fits;
-        is = ap (λ (l : List (Entry C)). l ++ more) is.is ∙ filled-grown covered log.entries room same more ∙ ap (refilled covered) (sym grown);
-      }
 
       pub whole_cut : (p : ℕ) → log.base.index ≤ p → new.entries ≡ take p log.entries → IsLogOf m new (take p list)
       whole_cut p le cut = record {
@@ -132,10 +129,10 @@ module _ {S C : Type 0} (m : Meaning S C) (base : Base S) (tail : List (Entry C)
         }
 
     -- a snapshot in place of what it covers
-    pub whole_installed : (new : Kept S C) (snapshot : Base S) → log.base.index ≤ snapshot.index → (snapshot.index ≡ 0 → snapshot.term ≡ 0) → new.base ≡ snapshot → new.entries ≡ install log.entries (blank m snapshot.index snapshot.term) → (Q : List (Entry C)) → IsBaseOf m snapshot Q → IsLogOf m new (install list Q)
-    whole_installed new snapshot le none at shown Q q = record {
+    pub whole_installed : (new : Kept S C) (snapshot : Base S) → log.base.index ≤ snapshot.index → (snapshot.index ≡ 0 → snapshot.term ≡ 0) → (rest : List (Entry C)) → new ≡ kept m snapshot rest → new.entries ≡ install log.entries (blank m snapshot.index snapshot.term) → (Q : List (Entry C)) → IsBaseOf m snapshot Q → IsLogOf m new (install list Q)
+    whole_installed new snapshot le none rest same_new shown Q q = record {
       covered = Q;
-      fits = subst (λ (b : Base S). IsBaseOf m b Q) (sym at) q;
+      fits = subst (λ (b : Base S). IsBaseOf m b Q) (sym (ap (λ (k : Kept S C). k.base) same_new)) q;
       is =
           ap (λ (l : List (Entry C)). install l Q) is.is
           ∙ filled-install covered log.entries room same Q (blank m snapshot.index snapshot.term) (blank-length m snapshot.index snapshot.term [] ∙ sym q.index) (last_is m snapshot.index snapshot.term none ∙ sym q.term) (omega (arith, q.index, past snapshot.index le))

@@ -21,11 +21,12 @@ pub record IsBaseOf {S C : Type 0} (m : Meaning S C) (base : Base S) (covered : 
   pub term : last_term covered ≡ base.term
   pub state : state_after m covered ≡ base.state
 
--- The base's state has seen as many commands as the base covers entries. Where it covers none, it
--- has no term.
-pub record IsCounted {S C : Type 0} (m : Meaning S C) (base : Base S) : Type 0 where
+-- What every snapshot keeps: its state has seen as many commands as it covers entries, and where it
+-- covers none, it has no term, and its state is the first one.
+pub record IsSnapshot {S C : Type 0} (m : Meaning S C) (base : Base S) : Type 0 where
   pub count : m.count base.state ≡ base.index
   pub none : base.index ≡ 0 → base.term ≡ 0
+  pub first : base.index ≡ 0 → base.state ≡ m.empty
 
 -- Entries that say nothing, as many as a base covers, each with the term of its last one. They
 -- stand for entries that are not known.

@@ -3,7 +3,7 @@
 use Rattle.std.specs.Prelude.{◌≡◌, ◌+◌, ◌<◌, ◌^◌, ◌++◌, List, length}
 use Rattle.machine_model.specs.Meaning.{Meaning}
 use Rattle.machine_model.specs.declared.entry.Entry.{Entry}
-use Rattle.raft_snapshot.specs.Bases.{Base, IsBaseOf, IsCounted, blank}
+use Rattle.raft_snapshot.specs.Bases.{Base, IsBaseOf, IsSnapshot, blank}
 use Rattle.raft_snapshot.specs.Filled.{refilled}
 
 -- its base, and all its entries, of which those that the base covers are blank
@@ -17,7 +17,7 @@ kept m base tail = record { base = base; entries = blank m base.index base.term 
 
 -- what a log's type keeps
 pub record IsKept {S C : Type 0} (m : Meaning S C) (base : Base S) (tail : List (Entry C)) : Type 0 where
-  pub counted : IsCounted m base
+  pub snapshot : IsSnapshot m base
   pub short : base.index + length tail < 2 ^ 40
 
 -- The log is this whole list: its base is one of the list's first entries, and what is behind the

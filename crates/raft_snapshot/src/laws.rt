@@ -1,6 +1,6 @@
 //! Laws of servers whose covered entries are blank, for every machine. Each function has an empty
 //! body: what it says is its contract.
-ghost use Rattle.std.specs.Prelude.{◌≡◌, ◌≤◌, ◌++◌, ℕ, List, length, take, drop, nat_le, true, if◌then◌else◌};
+ghost use Rattle.std.specs.Prelude.{◌≡◌, ◌≤◌, ◌++◌, ℕ, List, length, take, drop, nat_le, true, false, if◌then◌else◌};
 ghost use Rattle.machine_model.specs.declared.entry.Entry.{Entry};
 ghost use Rattle.raft_model.specs.Logs.{last_term, state_after};
 ghost use Rattle.raft_model.specs.Messages.{Install};
@@ -62,7 +62,7 @@ pub fn servers_are_shown<M: Machine>()
 /// server after it, for each list that the message may carry (`received`). So two servers, each of
 /// which covers something, fit together: what a leader sends one that lacks covered entries is an
 /// Install of its own covered list, which its base is known by, and the other takes it as the
-/// definitions do (`sent`).
+/// definitions do (`sent`); and what it sends one that lacks none is what it shows (`appends`).
 pub fn snapshots_are_received<M: Machine>()
     ensures received { (n me from term : ℕ) (snapshot base : Base M)
         (shown s : Server M.Command) → IsShown base shown → StandsFor M.meaning base shown s →
@@ -79,4 +79,7 @@ pub fn snapshots_are_received<M: Machine>()
         × IsBaseOf M.meaning theirs Q × Received M.meaning (base_after base shown term theirs)
         (turn_of M.meaning n me shown from term theirs)
         (receives M.meaning.noop n me (met term y) from term (Install Q)) }
+    ensures appends { (base : Base M) (shown s : Server M.Command) → IsShown base shown →
+        StandsFor M.meaning base shown s → (next : ℕ) → nat_le next base.index ≡ false →
+        beat_body s next ≡ beat_body shown next }
 {}

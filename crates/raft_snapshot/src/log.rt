@@ -1,7 +1,7 @@
 ghost use Rattle.std.specs.Prelude.{◌≡◌, ◌+◌, ◌-◌, ◌++◌, ◌∷◌, [], ◌^◌, ◌<◌, ◌≤◌, ◌⊎◌, List, length, take, drop, OnOk, OnErr, IfSome, MatchOption};
 ghost use Rattle.machine_model.specs.declared.entry.Entry.{Entry};
 ghost use Rattle.raft_model.specs.Logs.{term_at, last_term, has, install, state_after};
-ghost use Rattle.raft_snapshot.specs.Bases.{IsBaseOf, IsCounted, blank};
+ghost use Rattle.raft_snapshot.specs.Bases.{IsBaseOf, IsSnapshot, blank};
 ghost use Rattle.raft_snapshot.specs.Kept.{kept, IsLogOf};
 
 use crate::snapshot::Snapshot;
@@ -191,7 +191,7 @@ impl<M: Machine> Log<M> {
         ensures value { result ≡ self.now.base.index }
         ensures within { result ≤ length self.now.entries }
         ensures term { self.now.base.term ≡ term_at self.now.entries self.now.base.index }
-        ensures counted { IsCounted M.meaning self.now.base }
+        ensures keeps { IsSnapshot M.meaning self.now.base }
     {
         self.base.index()
     }
@@ -212,12 +212,13 @@ impl<M: Machine> Log<M> {
         &self.base
     }
 
-    /// All entries up to an index are covered from now on; `state` is the state after them. It
-    /// takes no memory.
+    /// All entries up to an index are covered from now on; `state` is to be the state after them.
+    /// It takes no memory.
     pub fn compact(&mut self, index: Index, state: M)
         requires covered { self.old.base.index ≤ index }
         requires within { index ≤ length self.old.entries }
         requires counted { M.meaning.count state ≡ index }
+        requires first { index ≡ 0 → state ≡ M.meaning.empty }
         ensures base { self.new.base ≡
             record { index = index; term = term_at self.old.entries index; state = state } }
         ensures shows { self.new.entries ≡

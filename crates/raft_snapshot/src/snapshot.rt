@@ -1,5 +1,5 @@
-ghost use Rattle.std.specs.Prelude.{◌≡◌, MatchOption};
-ghost use Rattle.raft_snapshot.specs.Bases.{IsCounted};
+ghost use Rattle.std.specs.Prelude.{◌≡◌, ◌≢◌, ◌≤◌, ◌⊎◌, MatchOption};
+ghost use Rattle.raft_snapshot.specs.Bases.{IsSnapshot};
 
 use machine::Machine;
 use rows::{Index, Term};
@@ -18,26 +18,26 @@ pub struct Snapshot<M: Machine> {
 }
 
 impl<M: Machine> Model for Snapshot<M> {
-    ghost use Rattle.raft_snapshot.specs.Bases.{Base, IsCounted};
+    ghost use Rattle.raft_snapshot.specs.Bases.{Base, IsSnapshot};
 
     ghost Value = { Base M };
 
     ghost view = { λ a. record { index = a.index; term = a.term; state = a.state } };
 
-    ghost invariant = { λ a. IsCounted M.meaning (record { index = a.index; term = a.term; state = a.state }) };
+    ghost invariant = { λ a. IsSnapshot M.meaning (record { index = a.index; term = a.term; state = a.state }) };
 }
 
 impl<M: Machine> Snapshot<M> {
-    /// A snapshot of so many entries, the last of which has this term, and which lead to this
-    /// state. None where the state has seen another number of commands, or where there are no
-    /// entries but a term; what was handed in is then used up. It takes no memory.
+    /// A snapshot of so many entries, from 1, the last of which has this term, and which lead to
+    /// this state. None where the state has seen another number of commands, or where there is no
+    /// entry (that is `empty`); what was handed in is then used up. It takes no memory.
     pub fn new(index: Index, term: Term, state: M) -> Option<Snapshot<M>>
         ensures { MatchOption result
-            (IsCounted M.meaning (record { index = index; term = term; state = state }) → ⊥)
-            (λ s. IsCounted M.meaning s
+            ((index ≡ 0) ⊎ (M.meaning.count state ≢ index))
+            (λ s. (1 ≤ index) × (M.meaning.count state ≡ index)
             × (s ≡ record { index = index; term = term; state = state })) }
     {
-        if state.count() != index.get() || index.get() == 0 && term.get() != 0 {
+        if index.get() == 0 || state.count() != index.get() {
             return None;
         }
         Some(Snapshot { index, term, state })
@@ -45,7 +45,7 @@ impl<M: Machine> Snapshot<M> {
 
     /// The same, of what is known to be one.
     pub(crate) fn of(index: Index, term: Term, state: M) -> Snapshot<M>
-        requires { IsCounted M.meaning (record { index = index; term = term; state = state }) }
+        requires { IsSnapshot M.meaning (record { index = index; term = term; state = state }) }
         ensures value { result ≡ record { index = index; term = term; state = state } }
     {
         Snapshot { index, term, state }
@@ -54,7 +54,7 @@ impl<M: Machine> Snapshot<M> {
     /// The snapshot of no entries. It takes no memory.
     pub fn empty(alloc: Global) -> Snapshot<M>
         ensures value { result ≡ record { index = 0; term = 0; state = M.meaning.empty } }
-        ensures counted { IsCounted M.meaning result }
+        ensures keeps { IsSnapshot M.meaning result }
     {
         Snapshot {
             index: Index::ZERO,
@@ -66,7 +66,7 @@ impl<M: Machine> Snapshot<M> {
     /// How many entries it covers: the index of the last one.
     pub fn index(&self) -> Index
         ensures value { result ≡ self.now.index }
-        ensures counted { IsCounted M.meaning self.now }
+        ensures keeps { IsSnapshot M.meaning self.now }
     {
         self.index
     }

@@ -1,4 +1,4 @@
-use Rattle.raft_snapshot.proofs.Shown.{received, two_servers}
+use Rattle.raft_snapshot.proofs.Shown.{received, two_servers, beat_shows}
 use Rattle.raft_snapshot.proofs.laws.snapshots_are_received.Goals as goal
 
 pub returns-clause-received : goal.returns-clause-received
@@ -6,3 +6,6 @@ returns-clause-received g c = λ n me from term snapshot base shown s is r Q fit
 
 pub returns-clause-sent : goal.returns-clause-sent
 returns-clause-sent g c = two_servers g.M.Machine.meaning
+
+pub returns-clause-appends : goal.returns-clause-appends
+returns-clause-appends g c = beat_shows g.M.Machine.meaning

@@ -11,4 +11,4 @@ returns-clause-value g c =
 pub returns-clause-whole : goal.returns-clause-whole
 returns-clause-whole g c = λ L is.
     let i = c.self.inside in
-    returns-clause-value g c ∙ whole_drop g.M.Machine.meaning i.base i.tail.items c.args.self.now c.self.view_is c.self.invariant.counted L is c.args.index c.requires
+    returns-clause-value g c ∙ whole_drop g.M.Machine.meaning i.base i.tail.items c.args.self.now c.self.view_is c.self.invariant.snapshot L is c.args.index c.requires

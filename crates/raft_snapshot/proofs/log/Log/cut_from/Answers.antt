@@ -13,4 +13,4 @@ pub returns-clause-whole : goal.returns-clause-whole
 returns-clause-whole g c = λ L is.
     let i = c.self.inside in
     let m = g.M.Machine.meaning in
-    whole_cut m i.base i.tail.items c.args.self.now c.self.view_is c.self.invariant.counted L is _ (rw (← c.self.view_is) refl) (c.args.index - 1) (omega (arith, c.requires)) (returns-clause-cut g c)
+    whole_cut m i.base i.tail.items c.args.self.now c.self.view_is c.self.invariant.snapshot L is _ (rw (← c.self.view_is) refl) (c.args.index - 1) (omega (arith, c.requires)) (returns-clause-cut g c)

@@ -1,5 +1,3 @@
-use Rattle.std.proofs.Common.{[], refl, sym, ap, ◌∙◌}
-use Rattle.raft_snapshot.specs.Bases.{Base}
 use Rattle.raft_snapshot.proofs.Whole.{empty_whole}
 use Rattle.raft_snapshot.proofs.log.Log.new.Goals as goal
 

@@ -13,4 +13,4 @@ returns-clause-ok g c =
 pub returns-clause-whole : goal.returns-clause-whole
 returns-clause-whole g c =
     let i = c.self.inside in
-    on_ok c.replace_tail.result (λ ok L is. whole_replaced g.M.Machine.meaning i.base i.tail.items c.args.self.now c.self.view_is c.self.invariant.counted L is _ (rw (← c.self.view_is) refl) c.args.index c.args.more.items c.requires.covered c.requires.within ok) (returns-clause-ok g c)
+    on_ok c.replace_tail.result (λ ok L is. whole_replaced g.M.Machine.meaning i.base i.tail.items c.args.self.now c.self.view_is c.self.invariant.snapshot L is _ (rw (← c.self.view_is) refl) c.args.index c.args.more.items c.requires.covered c.requires.within ok) (returns-clause-ok g c)

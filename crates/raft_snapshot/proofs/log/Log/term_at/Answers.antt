@@ -23,7 +23,7 @@ returns-then-index-covered-2-clause-whole g c = λ L is.
     let i = c.self.inside in
     let at : c.args.index ≡ i.base.index = omega (arith, c.if-index-covered-2.true, c.get-covered.ensures.value, c.index.ensures.value) in
     let low : c.args.self.now.base.index ≤ c.args.index = rw (← c.self.view_is) (omega (arith, at)) in
-    (returns-then-index-covered-2-clause-value g c).1 ∙ whole_term g.M.Machine.meaning i.base i.tail.items c.args.self.now c.self.view_is c.self.invariant.counted L is c.args.index low
+    (returns-then-index-covered-2-clause-value g c).1 ∙ whole_term g.M.Machine.meaning i.base i.tail.items c.args.self.now c.self.view_is c.self.invariant.snapshot L is c.args.index low
 
 pub returns-in-Some-clause-value : goal.returns-in-Some-clause-value
 returns-in-Some-clause-value g c =
@@ -36,7 +36,7 @@ pub returns-in-Some-clause-whole : goal.returns-in-Some-clause-whole
 returns-in-Some-clause-whole g c = λ L is.
     let i = c.self.inside in
     let low : c.args.self.now.base.index ≤ c.args.index = rw (← c.self.view_is) (omega (arith, c.if-index-covered.false, c.get-covered.ensures.value, c.index.ensures.value)) in
-    (returns-in-Some-clause-value g c).1 ∙ whole_term g.M.Machine.meaning i.base i.tail.items c.args.self.now c.self.view_is c.self.invariant.counted L is c.args.index low
+    (returns-in-Some-clause-value g c).1 ∙ whole_term g.M.Machine.meaning i.base i.tail.items c.args.self.now c.self.view_is c.self.invariant.snapshot L is c.args.index low
 
 pub returns-in-None-clause-value : goal.returns-in-None-clause-value
 returns-in-None-clause-value g c =
@@ -49,4 +49,4 @@ pub returns-in-None-clause-whole : goal.returns-in-None-clause-whole
 returns-in-None-clause-whole g c = λ L is.
     let i = c.self.inside in
     let low : c.args.self.now.base.index ≤ c.args.index = rw (← c.self.view_is) (omega (arith, c.if-index-covered.false, c.get-covered.ensures.value, c.index.ensures.value)) in
-    (returns-in-None-clause-value g c).1 ∙ whole_term g.M.Machine.meaning i.base i.tail.items c.args.self.now c.self.view_is c.self.invariant.counted L is c.args.index low
+    (returns-in-None-clause-value g c).1 ∙ whole_term g.M.Machine.meaning i.base i.tail.items c.args.self.now c.self.view_is c.self.invariant.snapshot L is c.args.index low
