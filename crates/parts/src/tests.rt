@@ -11,6 +11,7 @@ mod fates;
 mod follows;
 mod full_tables;
 mod lines;
+mod logs;
 mod nets;
 mod plan_checks;
 mod services;

@@ -1,0 +1,268 @@
+//! Logs of which a snapshot covers the first entries: each call, with entries behind those and with
+//! none.
+use crate::tests::states::numbers;
+use machine::{Amount, Coded, Entry, Machine, Tally, TallyCommand};
+use raft_snapshot::{Log, Snapshot, Stable};
+use rows::{Index, ServerId, Term};
+use std::alloc::Global;
+
+// Each line has to hold. `add T K`: an entry of term T, which adds K, comes to the end. `cut I`:
+// the entry at I goes with all behind it. `replace I T K`: two such entries come behind I. `compact
+// I`: what is up to I is covered, by the state after it. `install I T S`: a snapshot of I entries,
+// the last of term T, with the sum S.
+//
+// `is L T C S`: the last index and its term, how many are covered, and the sum after these. `term I
+// T`: the entry at I has term T. `lost I`: its term is not known. `holds I T`, `without I T`:
+// whether there is an entry of that term. `behind I N T`: N entries are behind I, the first of term
+// T. `takes I N`, `refuses I N`: whether a snapshot of I entries has a state of N commands.
+const FROM_NOTHING: &str = "\
+is 0 0 0 0
+term 0 0
+term 1 0
+holds 0 0
+without 1 0
+behind 0 0 0
+add 1 0
+add 1 5
+add 2 6
+add 2 7
+is 4 2 0 0
+term 2 1
+term 3 2
+term 5 0
+compact 3
+is 4 2 3 11
+term 0 0
+lost 1
+lost 2
+term 3 2
+term 4 2
+term 5 0
+holds 3 2
+without 3 1
+holds 4 2
+without 5 0
+behind 3 1 2
+behind 4 0 0
+behind 9 0 0";
+
+// The snapshot covers three entries, with one behind it, and then with none.
+const CUT_AND_REPLACED: &str = "\
+add 3 1
+is 5 3 3 11
+behind 3 2 2
+behind 4 1 3
+cut 5
+is 4 2 3 11
+cut 9
+is 4 2 3 11
+replace 4 4 2
+is 6 4 3 11
+replace 3 3 4
+is 5 3 3 11
+cut 4
+is 3 2 3 11
+term 3 2
+lost 2
+add 3 4
+compact 3
+is 4 3 3 11
+compact 4
+is 4 3 4 15
+term 4 3
+term 5 0
+lost 3
+behind 4 0 0
+holds 4 3
+without 4 2
+cut 5
+is 4 3 4 15
+replace 4 4 1
+is 6 4 4 15";
+
+// What follows a snapshot is kept where the log holds its last entry, else it goes.
+const INSTALLED: &str = "\
+install 5 4 77
+is 6 4 5 77
+behind 5 1 4
+term 5 4
+lost 4
+install 6 3 80
+is 6 3 6 80
+behind 6 0 0
+add 3 1
+install 7 2 1
+is 7 2 7 1
+add 5 9
+install 9 5 33
+is 9 5 9 33
+add 6 1
+install 9 5 34
+is 10 6 9 34
+install 9 4 35
+is 9 4 9 35
+add 4 1
+install 10 4 36
+is 10 4 10 36
+takes 1 1
+refuses 0 0
+refuses 1 2
+refuses 2 1";
+
+fn tally(alloc: Global, count: usize, sum: usize) -> Option<Tally> {
+    let mut text = Vec::new(alloc);
+    if text.extend_from_slice(&(count as u64).to_be_bytes()).is_err() {
+        return None;
+    }
+    if text.extend_from_slice(&(sum as u16).to_be_bytes()).is_err() {
+        return None;
+    }
+    Tally::load(alloc, &text).ok()
+}
+
+fn snapshot(
+    alloc: Global,
+    index: usize,
+    term: usize,
+    count: usize,
+    sum: usize,
+) -> Option<Snapshot<Tally>> {
+    let state = tally(alloc, count, sum)?;
+    Snapshot::new(Index::new(index as u64)?, Term::new(term as u64)?, state)
+}
+
+fn entry(term: usize, amount: usize) -> Entry<Coded<Tally>> {
+    let amount = Amount::new(amount.min(1000) as u16).unwrap_or(Amount::ZERO);
+    Entry {
+        term: Term::new(term as u64).unwrap_or(Term::ZERO),
+        command: Coded::new(TallyCommand::Add(amount)),
+    }
+}
+
+fn appended(log: &mut Log<Tally>, term: usize, amount: usize) -> bool {
+    log.last().get() + 1 < Index::LIMIT && log.append(entry(term, amount)).is_ok()
+}
+
+fn cut(log: &mut Log<Tally>, index: usize) -> bool {
+    if index as u64 <= log.covered().get() {
+        return false;
+    }
+    log.cut_from(index as u64);
+    true
+}
+
+fn replaced(log: &mut Log<Tally>, alloc: Global, index: usize, term: usize, amount: usize) -> bool {
+    let index = index as u64;
+    let Ok(more) = vec![in alloc; entry(term, amount), entry(term, amount)] else {
+        return false;
+    };
+    index >= log.covered().get()
+        && index <= log.last().get()
+        && index + 2 < Index::LIMIT
+        && log.replace_behind(index, more).is_ok()
+}
+
+fn brought_on(state: &mut Tally, entries: &[Entry<Coded<Tally>>]) -> bool {
+    for entry in entries {
+        if state.count() > 1_000_000 || state.apply(entry.command.command()).is_err() {
+            return false;
+        }
+    }
+    true
+}
+
+fn compacted(log: &mut Log<Tally>, index: usize) -> bool {
+    let covered = log.covered().get();
+    let index = index as u64;
+    let (Ok(mut state), Some(place)) = (log.state().fork(), Index::new(index)) else {
+        return false;
+    };
+    if index == 0 || index < covered || index > log.last().get() {
+        return false;
+    }
+    let Some(part) = log.behind(covered).get(..(index - covered) as usize) else {
+        return false;
+    };
+    if !brought_on(&mut state, part) || state.count() != index {
+        return false;
+    }
+    log.compact(place, state);
+    true
+}
+
+fn installed(log: &mut Log<Tally>, alloc: Global, index: usize, term: usize, sum: usize) -> bool {
+    let Some(snapshot) = snapshot(alloc, index, term, index, sum) else {
+        return false;
+    };
+    if snapshot.index().get() < log.covered().get() {
+        return false;
+    }
+    log.install(snapshot);
+    true
+}
+
+fn is_as(log: &Log<Tally>, last: usize, term: usize, covered: usize, sum: usize) -> bool {
+    let base = log.snapshot();
+    log.last().get() == last as u64
+        && log.last_term().get() == term as u64
+        && log.covered().get() == covered as u64
+        && base.index().get() == covered as u64
+        && log.state().count() == covered as u64
+        && usize::from(base.state().sum()) == sum
+        && log.term_at(covered as u64) == Some(base.term())
+}
+
+fn holds(log: &Log<Tally>, index: usize, term: usize) -> bool {
+    match Term::new(term as u64) {
+        Some(term) => index as u64 >= log.covered().get() && log.holds(index as u64, term),
+        None => false,
+    }
+}
+
+fn is_behind(log: &Log<Tally>, index: usize, count: usize, term: usize) -> bool {
+    if (index as u64) < log.covered().get() {
+        return false;
+    }
+    let rest = log.behind(index as u64);
+    let first = match rest.first() {
+        Some(entry) => entry.term.get(),
+        None => 0,
+    };
+    rest.len() == count && first == term as u64
+}
+
+fn turn(log: &mut Log<Tally>, alloc: Global, line: &str) -> bool {
+    let (head, rest) = line.split_once(' ').unwrap_or((line, ""));
+    let [a, b, c, d] = numbers(rest);
+    match head {
+        "add" => appended(log, a, b),
+        "cut" => cut(log, a),
+        "replace" => replaced(log, alloc, a, b, c),
+        "compact" => compacted(log, a),
+        "install" => installed(log, alloc, a, b, c),
+        "is" => is_as(log, a, b, c, d),
+        "term" => log.term_at(a as u64) == Term::new(b as u64),
+        "lost" => log.term_at(a as u64).is_none(),
+        "holds" => holds(log, a, b),
+        "without" => !holds(log, a, b),
+        "behind" => is_behind(log, a, b, c),
+        "takes" => snapshot(alloc, a, 1, b, 0).is_some(),
+        "refuses" => snapshot(alloc, a, 1, b, 0).is_none(),
+        _ => false,
+    }
+}
+
+#[test]
+fn logs_are_as_they_are_played(rt: HostRuntime) {
+    let alloc = rt.alloc();
+    let (_, _, mut log) = Stable::new(alloc).into_parts();
+    for table in [FROM_NOTHING, CUT_AND_REPLACED, INSTALLED] {
+        for line in table.lines() {
+            assert!(rt; turn(&mut log, alloc, line), "{line}");
+        }
+    }
+    let vote = ServerId::new(2);
+    let stored = Stable::from_parts(Term::ZERO.next(), vote, log);
+    let (term, voted, log) = stored.into_parts();
+    assert!(rt; term.get() == 1 && voted == vote && is_as(&log, 10, 4, 10, 36));
+}
