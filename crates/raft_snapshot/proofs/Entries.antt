@@ -9,7 +9,6 @@ abbrev pub term_in : {C : Type 0} → Option (Entry C) → ℕ
 term_in None = 0
 term_in (Some e) = e.term
 
-
 term_at-suc : {C : Type 0} (log : List (Entry C)) (p : ℕ) → term_at log (suc p) ≡ term_in (slice_get log p)
 unfolding term_at
 term_at-suc [] p = refl

@@ -68,7 +68,7 @@ module _ {C : Type 0} (P : List (Entry C)) where
     advanced_in-filled n me (Candidate votes) = refl
     advanced_in-filled n me (Leader next match) =
         let same = greatest-same (is_chosen n me (filled P s) match) (is_chosen n me s match) s.commit (length s.log)
-          (λ k above. rw (filled-term P s.log may.within may.term k (omega (arith, above, may.committed))) refl) in
+        (λ k above. rw (filled-term P s.log may.within may.term k (omega (arith, above, may.committed))) refl) in
         rw (filled-length P s.log may.within may.term, same) refl
 
   pub hears_refusal-filled : (s : Server C) (may : MayFill P s) (n me j at : ℕ) (mode : Mode) → hears_refusal n me (filled P s) j at mode ≡ filled P (hears_refusal n me s j at mode)

@@ -117,9 +117,9 @@ module _ {S C : Type 0} (m : Meaning S C) where
         let P = r.covered in
         let may = may_fill base shown is P r.fits in
         let e : receives m.noop n me (met term x) from term (Install Q) ≡ filled_turn (if takes_snapshot term (length Q) (met term shown) then Q else P) (turn_of m n me shown from term snapshot) =
-          ap (λ (z : Server C). receives m.noop n me (met term z) from term (Install Q)) r.is
-          ∙ ap (λ (z : Server C). receives m.noop n me z from term (Install Q)) (met-filled P term shown)
-          ∙ received-install P m.noop n me (met term shown) (may-met P term shown may) from term Q B (each ∙ sym fits.index) (last Q fits) in
+        ap (λ (z : Server C). receives m.noop n me (met term z) from term (Install Q)) r.is
+        ∙ ap (λ (z : Server C). receives m.noop n me z from term (Install Q)) (met-filled P term shown)
+        ∙ received-install P m.noop n me (met term shown) (may-met P term shown may) from term Q B (each ∙ sym fits.index) (last Q fits) in
         let c = takes_snapshot term (length Q) (met term shown) in
         record {
           stands = record {
@@ -156,14 +156,16 @@ module _ {S C : Type 0} (m : Meaning S C) where
   -- ---- a crash, a restart and a Compact
 
   pub crash_stands : (base : Base S) (shown s : Server C) → IsShown base shown → StandsFor m base shown s → StandsFor m base (crashed shown) (crashed s) × IsShown base (crashed shown)
-  crash_stands base shown s is r =
-      (record { covered = r.covered; fits = r.fits; is = ap crashed r.is },
-      record { covered = omega (arith, is.count); within = is.within; term = is.term; count = is.count })
+  crash_stands base shown s is r = (
+    record { covered = r.covered; fits = r.fits; is = ap crashed r.is },
+    record { covered = omega (arith, is.count); within = is.within; term = is.term; count = is.count },
+  )
 
   pub restart_stands : (base : Base S) (shown s : Server C) → IsShown base shown → StandsFor m base shown s → StandsFor m base (restarted shown) (restarted s) × IsShown base (restarted shown)
-  restart_stands base shown s is r =
-      (record { covered = r.covered; fits = r.fits; is = ap restarted r.is },
-      record { covered = omega (arith, is.count); within = is.within; term = is.term; count = is.count })
+  restart_stands base shown s is r = (
+    record { covered = r.covered; fits = r.fits; is = ap restarted r.is },
+    record { covered = omega (arith, is.count); within = is.within; term = is.term; count = is.count },
+  )
 
   compact_shows : (base : Base S) (shown : Server C) → IsShown base shown → shown.commit ≤ length shown.log → IsShown (compacted_base m base shown) (compacted_shown m shown)
   compact_shows base shown is within =
@@ -175,9 +177,9 @@ module _ {S C : Type 0} (m : Meaning S C) where
         term = term_of k refl;
         count = refl;
       } where
-    term_of : (k : ℕ) → shown.commit ≡ k → term_at shown.log k ≡ term_at (blank m k (term_at shown.log k) ++ drop k shown.log) k
-    term_of zero at = term_at_zero shown.log ∙ sym (term_at_zero (drop zero shown.log))
-    term_of (suc k) at = shown_covered m (suc k) (term_at shown.log (suc k)) (drop (suc k) shown.log) (suc k) (λ z. absurd (omega (arith, z))) (omega arith)
+        term_of : (k : ℕ) → shown.commit ≡ k → term_at shown.log k ≡ term_at (blank m k (term_at shown.log k) ++ drop k shown.log) k
+        term_of zero at = term_at_zero shown.log ∙ sym (term_at_zero (drop zero shown.log))
+        term_of (suc k) at = shown_covered m (suc k) (term_at shown.log (suc k)) (drop (suc k) shown.log) (suc k) (λ z. absurd (omega (arith, z))) (omega arith)
 
   pub compact_stands : (base : Base S) (shown s : Server C) → IsShown base shown → shown.commit ≤ length shown.log → StandsFor m base shown s → StandsFor m (compacted_base m base shown) (compacted_shown m shown) (compacted s) × IsShown (compacted_base m base shown) (compacted_shown m shown)
   compact_stands base shown s is within r =
@@ -185,13 +187,15 @@ module _ {S C : Type 0} (m : Meaning S C) where
       let may = may_fill base shown is P r.fits in
       let k = shown.commit in
       let term = term_at shown.log k in
-      let size : length (take k (refilled P shown.log)) ≡ k = length-take-le k (refilled P shown.log) (omega (arith, within, filled-length P shown.log may.within may.term)) in
-      (record {
-        covered = take k (refilled P shown.log);
-        fits = record {
-          index = size;
-          term = compacted-term P shown may within;
-          state = ap (λ (x : Server C). state_after m (take x.commit x.log)) (sym r.is) ∙ state_shown base shown s is r;
-        };
-        is = ap compacted r.is ∙ compacted-filled P shown may within (blank m k term) (blank-length m k term []);
-      }, compact_shows base shown is within)
+      let size : length (take k (refilled P shown.log)) ≡ k = length-take-le k (refilled P shown.log) (omega (arith, within, filled-length P shown.log may.within may.term)) in (
+        record {
+          covered = take k (refilled P shown.log);
+          fits = record {
+            index = size;
+            term = compacted-term P shown may within;
+            state = ap (λ (x : Server C). state_after m (take x.commit x.log)) (sym r.is) ∙ state_shown base shown s is r;
+          };
+          is = ap compacted r.is ∙ compacted-filled P shown may within (blank m k term) (blank-length m k term []);
+        },
+        compact_shows base shown is within,
+      )

@@ -21,7 +21,7 @@ empty_whole {S = S} {C = C} m base tail at none =
       is = refl;
     } in
     subst (λ (l : List (Entry C)). IsLogOf m (kept m base l) []) (sym none)
-      (subst (λ (b : Base S). IsLogOf m (kept m b []) []) (sym at) first)
+    (subst (λ (b : Base S). IsLogOf m (kept m b []) []) (sym at) first)
 
 -- what is taken off the front, up to an index
 pub to_index : {S C : Type 0} (m : Meaning S C) (base : Base S) (tail : List (Entry C)) (log : Kept S C) → kept m base tail ≡ log → (p a b : ℕ) → b ≡ base.index → a ≡ p → log.base.index ≤ p → log.base.index + (a - b) ≡ p

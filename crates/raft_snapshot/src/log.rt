@@ -163,16 +163,13 @@ impl<M: Machine> Log<M> {
         ensures whole { (L : List (Entry M.Command)) → IsLogOf M.meaning self.old L →
             IsLogOf M.meaning self.new (take (index - 1) L) }
     {
-        self.tail.truncate((index - self.base.index().get()) as usize - 1);
+        self.tail
+            .truncate((index - self.base.index().get()) as usize - 1);
     }
 
     /// Other entries come in place of those behind an index that is not below what is covered.
     /// Without memory nothing changes.
-    pub fn replace_behind(
-        &mut self,
-        index: u64,
-        more: Vec<Entry<Coded<M>>>,
-    ) -> Result<(), NoMemory>
+    pub fn replace_behind(&mut self, index: u64, more: Vec<Entry<Coded<M>>>) -> Result<(), NoMemory>
         requires covered { self.old.base.index ≤ index }
         requires within { index ≤ length self.old.entries }
         requires short { index + length more.items < 2 ^ 40 }
@@ -183,7 +180,11 @@ impl<M: Machine> Log<M> {
             IsLogOf M.meaning self.old L →
             IsLogOf M.meaning self.new (take index L ++ more.items)) }
     {
-        replace_tail(&mut self.tail, (index - self.base.index().get()) as usize, more)
+        replace_tail(
+            &mut self.tail,
+            (index - self.base.index().get()) as usize,
+            more,
+        )
     }
 
     /// How many entries are covered: the index of the last one that is.

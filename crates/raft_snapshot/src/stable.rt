@@ -28,8 +28,11 @@ impl<M: Machine> Stable<M> {
     /// The stored part of a server before its first input: term 0, no vote, an empty log. It takes
     /// no memory.
     pub fn new(alloc: Global) -> Stable<M>
-        ensures { result ≡ record { term = 0; vote = None;
-            log = kept M.meaning (record { index = 0; term = 0; state = M.meaning.empty }) [] } }
+        ensures { result ≡ record {
+          term = 0;
+          vote = None;
+          log = kept M.meaning (record { index = 0; term = 0; state = M.meaning.empty }) [];
+        } }
     {
         Stable {
             term: Term::ZERO,

@@ -111,7 +111,10 @@ refuses 2 1";
 
 fn tally(alloc: Global, count: usize, sum: usize) -> Option<Tally> {
     let mut text = Vec::new(alloc);
-    if text.extend_from_slice(&(count as u64).to_be_bytes()).is_err() {
+    if text
+        .extend_from_slice(&(count as u64).to_be_bytes())
+        .is_err()
+    {
         return None;
     }
     if text.extend_from_slice(&(sum as u16).to_be_bytes()).is_err() {
