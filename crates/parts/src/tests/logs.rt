@@ -264,7 +264,7 @@ fn logs_are_as_they_are_played(rt: HostRuntime) {
             assert!(rt; turn(&mut log, alloc, line), "{line}");
         }
     }
-    let vote = ServerId::new(2);
+    let vote = ServerId::from_number(2);
     let stored = Stable::from_parts(Term::ZERO.next(), vote, log);
     let (term, voted, log) = stored.into_parts();
     assert!(rt; term.get() == 1 && voted == vote && is_as(&log, 10, 4, 10, 36));
