@@ -117,7 +117,10 @@ fn tally(alloc: Global, count: usize, sum: usize) -> Option<Tally> {
     {
         return None;
     }
-    if text.extend_from_slice(&(sum as u16).to_be_bytes()).is_err() {
+    if text
+        .extend_from_slice(&(sum.min(65535) as u16).to_be_bytes())
+        .is_err()
+    {
         return None;
     }
     Tally::load(alloc, &text).ok()
