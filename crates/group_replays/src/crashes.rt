@@ -1,7 +1,7 @@
 //! The long worked row, and behind one of its events a crash and a restart of one actor: of every
 //! actor behind every event.
 use client_agent::ClientInput;
-use plain_check::{Fault, fault_of};
+use plain_check::{Fault, Looks};
 use rows::{Actor, ClientId, NoMemory, Refusal, ServerId};
 use server::ServerInput;
 use std::alloc::Global;
@@ -40,6 +40,31 @@ fn list(alloc: Global, row: &Transcript, at: usize, actor: &Actor) -> Result<Vec
     Ok(list)
 }
 
+// What is wrong with a group of the row's servers and nodes to which events led, those that are
+// refused among them; or with it after one of them, as they are taken one by one.
+fn fault_of(
+    alloc: Global,
+    row: &Transcript,
+    events: &[Event],
+    world: &World,
+) -> Result<Option<Fault>, Refusal> {
+    let mut looks = Looks::new(alloc);
+    let mut again = World::new(alloc, row.servers, &row.nodes)?;
+    let mut found = looks.look(alloc, &again)?;
+    for event in events {
+        if matches!(again.step(event.try_clone(alloc)?), Err(Refusal::NoMemory)) {
+            return Err(Refusal::NoMemory);
+        }
+        if found.is_none() {
+            found = looks.look(alloc, &again)?;
+        }
+    }
+    if found.is_none() {
+        found = looks.look_back(alloc, world)?;
+    }
+    Ok(found)
+}
+
 // What is wrong with the group to which such a list leads.
 fn found(
     alloc: Global,
@@ -49,7 +74,7 @@ fn found(
 ) -> Result<Option<Fault>, Refusal> {
     let events = list(alloc, row, at, actor)?;
     let world = World::run(alloc, row.servers, &row.nodes, &events)?;
-    fault_of(alloc, &row.nodes, &events, &world)
+    fault_of(alloc, row, &events, &world)
 }
 
 // Says what is wrong with it; 1 where nothing is.
@@ -88,7 +113,7 @@ fn look_at(rt: &HostRuntime, row: &Transcript, at: usize) -> io::Result<u64> {
 fn found_of_first(alloc: Global, row: &Transcript) -> Result<Option<Fault>, Refusal> {
     let world = World::run(alloc, row.servers, &row.nodes, &row.events)?;
     match row.events.get(..FIRST) {
-        Some(first) => fault_of(alloc, &row.nodes, first, &world),
+        Some(first) => fault_of(alloc, row, first, &world),
         None => Ok(None),
     }
 }

@@ -3,9 +3,9 @@
 #![tactic(auto)]
 
 mod fault;
-mod played;
+mod looks;
 mod state;
 mod texts;
 
 pub use fault::Fault;
-pub use played::fault_of;
+pub use looks::Looks;

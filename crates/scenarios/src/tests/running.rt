@@ -11,7 +11,7 @@ use cluster::{
     close, start, stop,
 };
 use event_book::{BookId, OpenedBook};
-use plain_check::{Fault, fault_of};
+use plain_check::{Fault, Looks};
 use raft_core::Role;
 use rows::{Actor, Delivery, Name, NodeSpec, Refusal, ServerId};
 use server::Server;
@@ -495,6 +495,24 @@ fn crowd<B: BookId, G: Gate + Drop, R: Wait>(
     Ok(())
 }
 
+// What is wrong with the world to which a group closed, or with it after one of its events, as they
+// are taken once more.
+fn fault_of(alloc: Global, nodes: &[NodeSpec], world: &World) -> Result<Option<Fault>, Refusal> {
+    let mut looks = Looks::new(alloc);
+    let mut again = World::new(alloc, 3, nodes)?;
+    let mut found = looks.look(alloc, &again)?;
+    for event in world.trace() {
+        again.step(event.try_clone(alloc)?)?;
+        if found.is_none() {
+            found = looks.look(alloc, &again)?;
+        }
+    }
+    if found.is_none() {
+        found = looks.look_back(alloc, world)?;
+    }
+    Ok(found)
+}
+
 // In a group on threads whose queues have room for one message: whether a job is placed, how many
 // messages were lost, and what a plain look finds wrong in the end. Server 1 stands twice before
 // anybody takes a message, so the second requests find no room; and later once more, where all that
@@ -523,7 +541,7 @@ where
     let lost = group.lost_messages();
     let world = closed(alloc, stop(&rt, group, threads))?;
     crowded?;
-    Ok((placed?, lost, fault_of(alloc, same, world.trace(), &world)?))
+    Ok((placed?, lost, fault_of(alloc, same, &world)?))
 }
 
 #[test]

@@ -1,12 +1,12 @@
-//! A group, step by step.
+//! A group, moment by moment.
 use crate::fault::Fault;
 use crate::state::state_fault;
 use crate::texts::Texts;
 use client_agent::Agent;
-use rows::{NoMemory, NodeSpec, Refusal, ServerId};
+use rows::{NoMemory, ServerId};
 use server::Server;
 use std::alloc::Global;
-use world::{Event, World};
+use world::World;
 
 // A client started nothing twice.
 fn starts_once(client: &Agent) -> bool {
@@ -35,7 +35,7 @@ fn start_once(clients: &[Agent]) -> bool {
 }
 
 // What is wrong with a group's servers and clients by themselves.
-fn look(world: &World) -> Option<Fault> {
+fn alone(world: &World) -> Option<Fault> {
     for place in 0..world.size() {
         if let Some(fault) = server_fault(world, place) {
             return Some(fault);
@@ -80,33 +80,36 @@ fn has_all(alloc: Global, world: &World, texts: &Texts) -> Result<bool, NoMemory
     Ok(true)
 }
 
-/// What is wrong with a group, which has these nodes, and to which these events led, refused ones
-/// among them. They are played once more, one by one. After each, and in the group itself, the
-/// states of two servers that applied as many entries, whenever they did, are of one text; what
-/// lives on a node is no more than that has; no two that live are of one name; and no client
-/// started one twice.
-///
-/// It is refused with `OutOfRange` where no group has so many nodes, and with `NoMemory`.
-pub fn fault_of(
-    alloc: Global,
-    nodes: &[NodeSpec],
-    events: &[Event],
-    world: &World,
-) -> Result<Option<Fault>, Refusal> {
-    let mut texts = Texts::new(alloc);
-    let mut again = World::new(alloc, world.size(), nodes)?;
-    let mut is_one = take_in(alloc, &again, &mut texts)?;
-    for event in events {
-        if matches!(again.step(event.try_clone(alloc)?), Err(Refusal::NoMemory)) {
-            return Err(Refusal::NoMemory);
+/// What was seen of a group so far: the texts of its servers' states, by how many entries they had
+/// applied.
+#[derive(Drop)]
+pub struct Looks {
+    texts: Texts,
+}
+
+impl Looks {
+    /// Nothing was looked at yet.
+    pub fn new(alloc: Global) -> Looks {
+        Looks {
+            texts: Texts::new(alloc),
         }
-        if let Some(fault) = look(&again) {
-            return Ok(Some(fault));
+    }
+
+    /// What is wrong with a group as it stands: states of two texts at as many entries, here or in
+    /// what was looked at before; more on a node than that has; two that live of one name; or one
+    /// that a client started twice. Its states count as seen from now on.
+    pub fn look(&mut self, alloc: Global, world: &World) -> Result<Option<Fault>, NoMemory> {
+        if !take_in(alloc, world, &mut self.texts)? {
+            return Ok(Some(Fault::States));
         }
-        is_one = is_one && take_in(alloc, &again, &mut texts)?;
+        Ok(alone(world))
     }
-    if !is_one || !has_all(alloc, world, &texts)? {
-        return Ok(Some(Fault::States));
+
+    /// The same of a group that came to nothing new: each state was seen before.
+    pub fn look_back(&self, alloc: Global, world: &World) -> Result<Option<Fault>, NoMemory> {
+        if !has_all(alloc, world, &self.texts)? {
+            return Ok(Some(Fault::States));
+        }
+        Ok(alone(world))
     }
-    Ok(look(world))
 }
