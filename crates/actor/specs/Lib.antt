@@ -1,0 +1,5 @@
+pub mod Handed
+pub mod Refusals
+pub mod Answers
+pub mod Actors
+pub mod Inner
