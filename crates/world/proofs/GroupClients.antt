@@ -2,7 +2,6 @@
 use Rattle.std.proofs.Common.{◌≡◌, ◌≢◌, ℕ, zero, suc, Bool, true, false, cond, nat_lt, is_some, inl, inr, Option, Some, None, Result, Ok, Err, List, [], ◌∷◌, ◌++◌, length, map, append-nil, refl, sym, ap, ◌∙◌, subst, arith, ◌≤◌, slice_get, slice_set, get_or}
 use Rattle.std.proofs.lemmas.Option.{slice_get_read}
 use Rattle.std.specs.List.{AllZip}
-use Rattle.rows.specs.declared.allocation.AllocId.{AllocId}
 use Rattle.rows.specs.declared.node.NodeSpec.{NodeSpec}
 use Rattle.rows.specs.declared.refusal.Refusal.{Refusal}
 use Rattle.rows.specs.declared.refusal.Refusal.TheVariants as refusals
@@ -24,18 +23,17 @@ use Rattle.group_safety.specs.Limits as limits
 use Rattle.group_safety.proofs.Lists.{get_map, map_get, map_set, set_same}
 use Rattle.group_frames.specs.GroupFrames.{CarriesGroup, SendsGroup}
 use Rattle.client_agent.specs.declared.input.ClientInput.{ClientInput}
-use Rattle.client_agent.specs.declared.input.ClientInput.TheVariants as client_inputs
 use Rattle.client_agent.specs.AgentView.{AgentView}
-use Rattle.client_agent.specs.Refusals.{RunsIn, AgentMayLack, agent_refusal}
 use Rattle.server.specs.ServerViews.{ServerView, IsMember}
 use Rattle.server.specs.declared.server.Outbox.{Outbox}
+use Rattle.actor.specs.Refusals.{RefusedSo, ClientRefuses}
 use Rattle.world.specs.declared.done.Done.{Done}
 use Rattle.world.specs.declared.done.Done.TheVariants as done
 use Rattle.rows.specs.GroupSizes.{IsGroup}
 use Rattle.world.specs.GroupEvents.{work_of}
 use Rattle.world.specs.GroupView.{GroupView, RepresentsGroup, GroupRunsTo, IsGroupWorld, client_in, node_in, nodes_of, client_view}
 use Rattle.world.specs.GroupSteps.{GroupEventHappened, SameView, RefusesGroupEvent, IsGroupAwake}
-use Rattle.world.specs.Inner.GroupParts.{GroupHistoryView, ClientTook, ClientFell, IsClientRefused, ClientDone}
+use Rattle.world.specs.Inner.GroupParts.{GroupHistoryView, ClientTook, ClientFell, ClientDone}
 use Rattle.world.proofs.Zips.{zip_length, zip_append}
 use Rattle.world.proofs.GroupScenes.{SendersIn, ClientTakes}
 use Rattle.world.proofs.GroupHeights.{height_kept}
@@ -234,26 +232,11 @@ module _ (old new : GroupView) (f : Event) (c p : ℕ) (view after : AgentView) 
           size = subst IsGroup (sym count_kept) reached.size;
         }
 
--- ---- want of memory
+-- ---- a crash
 
 alive : (o : Option Life) → is_some o ≡ true → (l : Life) × (o ≡ Some l)
 alive None h = absurd (cc)
 alive (Some l) h = (l, refl)
-
--- one at which an allocation runs is up
-runs_up : (o : Option Life) (id : AllocId) → RunsIn o id → is_some o ≡ true
-runs_up None id h = absurd h
-runs_up (Some l) id h = refl
-
--- who may want memory is up
-lacks_up : (n : ℕ) (c : Client) (given : ClientInput) → AgentMayLack n c given → is_some c.life ≡ true
-lacks_up n c (client_inputs.Frame bytes) h = h
-lacks_up n c (client_inputs.Register server) h = h.0
-lacks_up n c (client_inputs.Ping server) h = h.0
-lacks_up n c (client_inputs.Pull server) h = h.0
-lacks_up n c (client_inputs.End id ok) h = runs_up c.life id h
-lacks_up n c client_inputs.Crash h = absurd h
-lacks_up n c client_inputs.Restart h = absurd h
 
 -- a client that is up crashes
 crashes : (w : World) (c : ℕ) (x : Client) (l : Life) → client_at w.clients c ≡ Some x → x.life ≡ Some l →
@@ -322,12 +305,12 @@ module _ (old : GroupView) (e : Event) (c : ℕ) (view : AgentView) (given : Cli
         let st = r.represents in
         subst (λ n. SendersIn n w) (zip_length IsMember old.servers w.servers st.servers) (from_members (length old.servers) (nodes_of old) old.trace past w (limited (length old.servers) (nodes_of old) old.trace past w reached.nodes r.run))
 
-    refuses : (r : Refusal) → agent_refusal view.size view.client given ≡ Some r → RefusesGroupEvent old e r
+    refuses : (r : Refusal) → ClientRefuses view given r → RefusesGroupEvent old e r
     refuses r says past w run =
         let t = s.takes w run.represents in
         t.happens ∙ ap (λ q. after_client w c q) (t.refuses (senders_in past w run) r says)
 
-    caused : (r : Refusal) → IsClientRefused view (history_of old) given e r → r ≢ refusals.NoMemory → RefusesGroupEvent old e r
+    caused : (r : Refusal) → RefusedSo (Unit {0}) (ClientRefuses view given) r → r ≢ refusals.NoMemory → RefusesGroupEvent old e r
     caused refusals.NoMemory says other = absurd (other refl)
     caused _ says other = refuses _ says
 
@@ -338,7 +321,7 @@ module _ (old : GroupView) (e : Event) (c : ℕ) (view : AgentView) (given : Cli
       taken : ClientTook view (history_of old) given e after (history_of new) → GroupActed old e (Ok done.Taken) new
       taken t =
           let move : (w : World) → RepresentsGroup old w → Moved old new e c p view after s.reached place here_at same changed w =
-          λ w st. let k = s.takes w st in let q = k.taken after old.outbox.frames new.outbox.frames t.taken in
+          λ w st. let k = s.takes w st in let q = k.taken after old.outbox.frames new.outbox.frames t.steps.taken in
           record { turn = q.turn; happens = k.happens ∙ ap (λ r. after_client w c r) q.is; client = q.client; sent = q.sent; work = k.work } in
           let happened = client_goes old new e c p view after s.reached place here_at same changed move s.fits t.work t.trace t.chain in
           record {
@@ -349,13 +332,13 @@ module _ (old : GroupView) (e : Event) (c : ℕ) (view : AgentView) (given : Cli
       fallen : ClientFell view (history_of old) given e c after (history_of new) → GroupActed old e (Ok done.Crashed) new
       fallen t =
           let crash = AtClient c clients.Crash in
-          let up = alive view.client.life (lacks_up view.size view.client given t.lacks) in
+          let up = alive view.client.life t.crashed.0 in
           let none : new.outbox.frames ≡ old.outbox.frames ++ [] = ap (λ (o : Outbox). o.frames) t.outbox ∙ sym (append-nil old.outbox.frames) in
           let move : (w : World) → RepresentsGroup old w → Moved old new crash c p view after s.reached place here_at same changed w =
           λ w st. let k = client_stands old c view s.reached s.here w st in record {
             turn = record { client = record view.client { life = None }; sent = [] };
             happens = crashes w c view.client up.0 k.at up.1;
-            client = ap (λ (a : AgentView). a.client) t.fell;
+            client = ap (λ (a : AgentView). a.client) t.crashed.1;
             sent = record { frames = []; added = none; carry = tt };
             work = refl;
           } in

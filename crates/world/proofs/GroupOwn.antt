@@ -23,9 +23,9 @@ use Rattle.server.specs.ServerViews.{ServerView}
 use Rattle.server.specs.Handings.{OwnInput, handing}
 use Rattle.server.specs.Turns.{TakesTurn}
 use Rattle.server.specs.Refusals.{MayTakeMemory, refusal_in}
+use Rattle.actor.specs.Handed.{comes_as_frame, is_client_frame, restarts_server}
 use Rattle.world.specs.GroupEvents.{server_input, client_input, input_work}
 use Rattle.world.specs.GroupSteps.{RunsThere, MayWantAt}
-use Rattle.world.specs.Inner.GroupInputs.{comes_as_frame, is_client_frame, is_restart_input}
 use Rattle.world.proofs.GroupScenes.{ServerTakes, ClientTurned, ClientTakes}
 
 refusal_is : (q : Result Turn Refusal) (r : Refusal) → refusal_in q ≡ Some r → q ≡ Err r
@@ -57,8 +57,8 @@ module _ (view : ServerView) (w : World) (i : ℕ) (s : Member) (me : view.raft.
 
   -- an input that is no arrival
   own : (input : Input) → own_input w i input ≡ takes_input w i input → (((t : Member) → slice_get w.servers i ≡ Some t → MayTakeMemory (length w.servers) t input) → MayWantAt w (AtServer i input)) →
-      (is_restart_input (OwnInput input) ≡ true → IsRestart (AtServer i input)) →
-      (is_restart_input (OwnInput input) ≡ true → is_up s.raft.mode ≡ false → (turn : Turn) × (step (length w.servers) i s input ≡ Ok turn)) → ServerTakes view (OwnInput input) w (AtServer i input) i s
+      (restarts_server (OwnInput input) ≡ true → IsRestart (AtServer i input)) →
+      (restarts_server (OwnInput input) ≡ true → is_up s.raft.mode ≡ false → (turn : Turn) × (step (length w.servers) i s input ≡ Ok turn)) → ServerTakes view (OwnInput input) w (AtServer i input) i s
   own input is wants starts rises = record {
     turns = step (length w.servers) i s input;
     happens = is ∙ ap (λ o. input_to w i input o) here;
@@ -73,7 +73,7 @@ module _ (view : ServerView) (w : World) (i : ℕ) (s : Member) (me : view.raft.
 
   -- and no restart
   plain : (input : Input) → own_input w i input ≡ takes_input w i input → (((t : Member) → slice_get w.servers i ≡ Some t → MayTakeMemory (length w.servers) t input) → MayWantAt w (AtServer i input)) →
-      is_restart_input (OwnInput input) ≡ false → ServerTakes view (OwnInput input) w (AtServer i input) i s
+      restarts_server (OwnInput input) ≡ false → ServerTakes view (OwnInput input) w (AtServer i input) i s
   plain input is wants other = own input is wants (λ so. absurd (cc)) (λ so. absurd (cc))
 
   by_input : (given : ServerInput) → comes_as_frame (handing given) ≡ false → ServerTakes view (handing given) w (AtServer i (server_input (handing given))) i s

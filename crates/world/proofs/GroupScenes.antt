@@ -20,9 +20,9 @@ use Rattle.server.specs.ServerViews.{ServerView}
 use Rattle.server.specs.Handings.{Handing}
 use Rattle.server.specs.Turns.{TakesHanding, TakesTurn}
 use Rattle.server.specs.Refusals.{MayLackMemory, handing_refusal}
+use Rattle.actor.specs.Handed.{restarts_server}
 use Rattle.world.specs.GroupEvents.{work_of, turn_work}
 use Rattle.world.specs.GroupSteps.{MayWantAt}
-use Rattle.world.specs.Inner.GroupInputs.{is_restart_input}
 
 -- all that was sent came from the group of n
 abbrev pub SendersIn : ℕ → World → Type 0
@@ -37,8 +37,8 @@ pub record ServerTakes (view : ServerView) (h : Handing) (w : World) (e : Event)
   pub crash : crash_of w e ≡ Some (AtServer i servers.Crash)
   pub wants : MayLackMemory (length w.servers) s h → MayWantAt w e
   pub refuses : SendersIn (length w.servers) w → (r : Refusal) → handing_refusal (length w.servers) i s h ≡ Some r → turns ≡ Err r
-  pub restart : is_restart_input h ≡ true → IsRestart e
-  pub wakes : is_restart_input h ≡ true → is_up s.raft.mode ≡ false → (turn : Turn) × (turns ≡ Ok turn)
+  pub restart : restarts_server h ≡ true → IsRestart e
+  pub wakes : restarts_server h ≡ true → is_up s.raft.mode ≡ false → (turn : Turn) × (turns ≡ Ok turn)
 
 -- what a client's turn made of it
 pub record ClientTurned (turns : Result clients.Turn Refusal) (new : AgentView) (before after : List Frame) : Type 0 where

@@ -34,8 +34,10 @@ use Rattle.world.specs.GroupEvents.{server_input, work_of, input_work, turn_work
 use Rattle.world.specs.GroupView.{GroupView, RepresentsGroup, GroupRunsTo, IsGroupWorld, IsSentTo, ServersKnowPlaces, ClientsKnowPlaces, nodes_of, node_in, client_in}
 use Rattle.world.specs.GroupSteps.{GroupEventHappened, SameView, RefusesGroupEvent, IsGroupAwake, MayWantAt}
 use Rattle.world.specs.Inner.Inputs.{committed}
-use Rattle.world.specs.Inner.GroupInputs.{comes_as_frame, is_restart_input}
-use Rattle.world.specs.Inner.GroupParts.{GroupHistoryView, ServerTook, ServerFell, ServerStays, IsServerRefused, ServerDone, GroupStepped}
+use Rattle.actor.specs.Handed.{comes_as_frame, restarts_server}
+use Rattle.actor.specs.Refusals.{RefusedSo, ServerRefuses}
+use Rattle.actor.specs.Answers.{ServerStays}
+use Rattle.world.specs.Inner.GroupParts.{GroupHistoryView, ServerTook, ServerFell, ServerDone, GroupStepped}
 use Rattle.world.proofs.Zips.{zip_at, zip_from, zip_length, zip_set, zip_append}
 use Rattle.world.proofs.GroupScenes.{SendersIn, ServerTakes}
 use Rattle.world.proofs.GroupOwn.{own_server}
@@ -51,7 +53,7 @@ pub record GroupActed (old : GroupView) (e : Event) (result : Result Done Refusa
   pub world : IsGroupWorld new
 
 -- a server that is down may want memory to start again
-restart_lacks : (n : ℕ) (s : Member) (h : Handing) → is_restart_input h ≡ true → is_up s.raft.mode ≡ false → MayLackMemory n s h
+restart_lacks : (n : ℕ) (s : Member) (h : Handing) → restarts_server h ≡ true → is_up s.raft.mode ≡ false → MayLackMemory n s h
 restart_lacks n s (FrameBytes bytes) so down = absurd (cc)
 restart_lacks n s (OwnInput Restart) so down = down
 restart_lacks n s (OwnInput x) so down = absurd (cc)
@@ -260,7 +262,7 @@ module _ (old : GroupView) (e : Event) (i : ℕ) (view : ServerView) (h : Handin
           λ w st.
           let f = found w st in
           let takes = f.takes in
-          let t = takes.taken after old.outbox new.outbox (p.taken f.server f.is) in
+          let t = takes.taken after old.outbox new.outbox (p.steps.taken f.server f.is) in
           record {
             before = f.server;
             turn = t.turn;
@@ -282,7 +284,7 @@ module _ (old : GroupView) (e : Event) (i : ℕ) (view : ServerView) (h : Handin
           let move : (w : World) → RepresentsGroup old w → ServerMoved old new crash i view after scene.reached scene.here servers clients w =
           λ w st.
           let f = found w st in
-          let l = p.fell f.server f.is in
+          let l = p.crashed.fell f.server f.is in
           let turn : Turn = record { member = crashed_member f.server; sent = []; work = [] } in
           let stepped : step (length w.servers) i f.server Crash ≡ Ok turn = crash_turn (length w.servers) i f.server l.0 in
           record {
@@ -332,9 +334,9 @@ module _ (old : GroupView) (e : Event) (i : ℕ) (view : ServerView) (h : Handin
         chain = ap (λ (x : GroupHistoryView). x.chain) past;
       }
 
-      stays : ServerStays view (history_of old) h e after (history_of new) → GroupActed old e (Ok done.Crashed) new
-      stays p =
-          let is : new ≡ old = as_it_was p.same_server p.same_past in
+      stays : ServerStays view h after → history_of new ≡ history_of old → GroupActed old e (Ok done.Crashed) new
+      stays p past =
+          let is : new ≡ old = as_it_was p.same past in
           let runs = scene.reached.runs in
           let first = found scene.reached.world runs.represents in
           let restart = first.takes.restart p.restart in
@@ -367,7 +369,7 @@ module _ (old : GroupView) (e : Event) (i : ℕ) (view : ServerView) (h : Handin
             subst (λ n. SendersIn n w) (zip_length IsMember old.servers w.servers st.servers) (senders (length old.servers) (nodes_of old) old.trace past w run)
 
         -- a server refuses what the definitions refuse
-        refuses : (r : Refusal) → ((s : Member) → IsMember view s → handing_refusal view.raft.size view.raft.me s h ≡ Some r) → RefusesGroupEvent old e r
+        refuses : (r : Refusal) → ServerRefuses view h r → RefusesGroupEvent old e r
         refuses r says past w run =
             let st = run.represents in
             let f = found w st in
@@ -376,18 +378,18 @@ module _ (old : GroupView) (e : Event) (i : ℕ) (view : ServerView) (h : Handin
             subst (λ (n : ℕ). handing_refusal n i f.server h ≡ Some r) (size_is w st) (subst (λ (j : ℕ). handing_refusal view.raft.size j f.server h ≡ Some r) me_is (says f.server f.is)) in
             takes.happens ∙ ap (λ q. after_turn w i q) (takes.refuses (in_group past w run) r here)
 
-        caused : (r : Refusal) → IsServerRefused view (history_of old) h e r → r ≢ refusals.NoMemory → RefusesGroupEvent old e r
+        caused : (r : Refusal) → RefusedSo (Unit {0}) (ServerRefuses view h) r → r ≢ refusals.NoMemory → RefusesGroupEvent old e r
         caused refusals.NoMemory says other = absurd (other refl)
         caused _ says other = refuses _ says
 
-        refused : (r : Refusal) → SameMember view after → history_of new ≡ history_of old → IsServerRefused view (history_of old) h e r → GroupActed old e (Err r) new
+        refused : (r : Refusal) → SameMember view after → history_of new ≡ history_of old → RefusedSo (Unit {0}) (ServerRefuses view h) r → GroupActed old e (Err r) new
         refused r is past says =
             let left : SameView old new = same_but is past in
             record { stepped = record { ok = tt; err = left; cause = caused r says; memory = λ lacks. awake }; world = same_group_reached old new left scene.reached }
 
         acted : (result : Result Done Refusal) → ServerDone view (history_of old) h e i result after (history_of new) → GroupActed old e result new
         acted (Ok done.Taken) p = taken p
-        acted (Ok done.Crashed) p = elim p [ inl c ↦ fallen c | inr s ↦ stays s ]
+        acted (Ok done.Crashed) p = elim p [ inl c ↦ fallen c | inr s ↦ stays s.0 s.1 ]
         acted (Err r) p = refused r p.0 p.1 p.2
 
   pub server_acted : ServerScene → LimitsAreKept → SendersAreMembers → IsGroupAwake old e → (new : GroupView) (after : ServerView) →

@@ -39,7 +39,7 @@ use Rattle.server.specs.Turns.{takes_in}
 use Rattle.world.specs.GroupEvents.{server_input, client_input}
 use Rattle.world.specs.GroupView.{GroupView, RepresentsGroup, IsSentTo, client_in, client_view}
 use Rattle.world.specs.GroupSteps.{RefusesGroupEvent, IsNoArrival, IsGroupAwake}
-use Rattle.world.specs.Inner.GroupInputs.{comes_as_frame, is_restart_input, is_client_frame, is_client_restart}
+use Rattle.actor.specs.Handed.{comes_as_frame, restarts_server, is_client_frame, restarts_client}
 use Rattle.world.specs.Inner.GroupParts.{GroupStepped}
 use Rattle.world.proofs.Zips.{zip_at, zip_none}
 use Rattle.world.proofs.Sleeping.{Awake, awake_is, awake_if, asleep, awake_role, up_awake}
@@ -144,7 +144,7 @@ absent_takes w i (Arrives message) gone = ap (λ o. Err (refuses_message_at o)) 
 absent_takes w i x gone = ap (λ o. input_to w i x o) gone
 
 module _ (w : World) (i : ℕ) (s : Member) (here : slice_get w.servers i ≡ Some s) where
-  sleeping : (h : Handing) → is_up s.raft.mode ≡ false → is_restart_input h ≡ false → own_input w i (server_input h) ≡ Err refusals.Down
+  sleeping : (h : Handing) → is_up s.raft.mode ≡ false → restarts_server h ≡ false → own_input w i (server_input h) ≡ Err refusals.Down
   sleeping (FrameBytes bytes) down other = ap (λ o. Err (refuses_message_at o)) here ∙ rw down refl
   sleeping (OwnInput (Arrives message)) down other = ap (λ o. Err (refuses_message_at o)) here ∙ rw down refl
   sleeping (OwnInput Restart) down other = absurd (cc)
@@ -162,7 +162,7 @@ module _ (w : World) (i : ℕ) (s : Member) (here : slice_get w.servers i ≡ So
   taken_awake : (x : Input) → Awake (step (length w.servers) i s x) → Awake (takes_input w i x)
   taken_awake x awake = subst (λ o. Awake (input_to w i x o)) (sym here) (after_awake w i (step (length w.servers) i s x) awake)
 
-  own_awake : (h : Handing) → comes_as_frame h ≡ false → (is_up s.raft.mode ≡ true) ⊎ (is_restart_input h ≡ true) → Awake (own_input w i (server_input h))
+  own_awake : (h : Handing) → comes_as_frame h ≡ false → (is_up s.raft.mode ≡ true) ⊎ (restarts_server h ≡ true) → Awake (own_input w i (server_input h))
   own_awake (FrameBytes bytes) other up = absurd (cc)
   own_awake (OwnInput (Arrives message)) other (inl up) = subst (λ o. Awake (let q : Result World Refusal = Err (refuses_message_at o) in q)) (sym here) (rw up (λ e. cc))
   own_awake (OwnInput (Arrives message)) other (inr so) = absurd (cc)
@@ -180,30 +180,30 @@ module _ (view : GroupView) (i : ℕ) where
   server_absent h gone past w r = let st = r.represents in absent_takes w i (server_input h) (zip_none IsMember view.servers w.servers i st.servers gone)
 
   module _ (here : ServerView) (role : Option Role) (at : slice_get view.servers i ≡ Some here) (says : (s : Member) → IsMember here s → role ≡ role_of s.raft.mode) where
-    pub server_sleeps : (h : Handing) → is_some role ≡ false → is_restart_input h ≡ false → RefusesGroupEvent view (AtServer i (server_input h)) refusals.Down
+    pub server_sleeps : (h : Handing) → is_some role ≡ false → restarts_server h ≡ false → RefusesGroupEvent view (AtServer i (server_input h)) refusals.Down
     server_sleeps h none other past w r =
         let st = r.represents in
         let s = zip_at IsMember view.servers w.servers i here st.servers at in
         sleeping w i s.0 s.1 h (asleep s.0.raft.mode (ap is_some (sym (says s.0 s.2)) ∙ none)) other
 
     -- what the role says of a server of the definitions
-    up_or : (h : Handing) (s : Member) → IsMember here s → (is_some role ≡ true) ⊎ (is_restart_input h ≡ true) → (is_up s.raft.mode ≡ true) ⊎ (is_restart_input h ≡ true)
+    up_or : (h : Handing) (s : Member) → IsMember here s → (is_some role ≡ true) ⊎ (restarts_server h ≡ true) → (is_up s.raft.mode ≡ true) ⊎ (restarts_server h ≡ true)
     up_or h s is (inl some) = inl (awake_role s.raft.mode (ap is_some (sym (says s is)) ∙ some))
     up_or h s is (inr so) = inr so
 
-    is_no_frame : (w : World) (s : Member) → slice_get w.servers i ≡ Some s → (h : Handing) → comes_as_frame h ≡ true → (is_up s.raft.mode ≡ true) ⊎ (is_restart_input h ≡ true) → own_input w i (server_input h) ≡ Err refusals.OutOfRange
+    is_no_frame : (w : World) (s : Member) → slice_get w.servers i ≡ Some s → (h : Handing) → comes_as_frame h ≡ true → (is_up s.raft.mode ≡ true) ⊎ (restarts_server h ≡ true) → own_input w i (server_input h) ≡ Err refusals.OutOfRange
     is_no_frame w s there h frame (inl up) = no_own w i s there h frame up
     is_no_frame w s there (FrameBytes bytes) frame (inr so) = absurd (cc)
     is_no_frame w s there (OwnInput x) frame (inr so) = absurd (cc)
 
-    pub frame_is_none : (h : Handing) → comes_as_frame h ≡ true → (is_some role ≡ true) ⊎ (is_restart_input h ≡ true) → RefusesGroupEvent view (AtServer i (server_input h)) refusals.OutOfRange
+    pub frame_is_none : (h : Handing) → comes_as_frame h ≡ true → (is_some role ≡ true) ⊎ (restarts_server h ≡ true) → RefusesGroupEvent view (AtServer i (server_input h)) refusals.OutOfRange
     frame_is_none h frame up past w r =
         let st = r.represents in
         let s = zip_at IsMember view.servers w.servers i here st.servers at in
         is_no_frame w s.0 s.1 h frame (up_or h s.0 s.2 up)
 
     -- a server that is up does not refuse for being down, nor does one that is to restart
-    pub server_awake : (given : ServerInput) → comes_as_frame (handing given) ≡ false → (is_some role ≡ true) ⊎ (is_restart_input (handing given) ≡ true) → IsGroupAwake view (AtServer i (server_input (handing given)))
+    pub server_awake : (given : ServerInput) → comes_as_frame (handing given) ≡ false → (is_some role ≡ true) ⊎ (restarts_server (handing given) ≡ true) → IsGroupAwake view (AtServer i (server_input (handing given)))
     server_awake given other up past w r =
         let h = handing given in
         let st = r.represents in
@@ -234,12 +234,12 @@ absent_client_takes : (w : World) (c : ℕ) (x : clients.Input) → client_at w.
 absent_client_takes w c (clients.Arrives from response) gone = ap (λ o. Err (refuses_response_at o)) gone
 absent_client_takes w c x gone = ap (λ o. client_input_to w c x o) gone
 
-no_life : (n : ℕ) (x : Client) (life : Option Life) (given : ClientInput) → is_some life ≡ false → is_client_restart given ≡ false → clients.step_of n x life (client_input given) ≡ Err refusals.Down
+no_life : (n : ℕ) (x : Client) (life : Option Life) (given : ClientInput) → is_some life ≡ false → restarts_client given ≡ false → clients.step_of n x life (client_input given) ≡ Err refusals.Down
 no_life n x (Some l) given down other = absurd (cc down)
 no_life n x None client_inputs.Restart down other = absurd (cc other)
 no_life n x None given down other = refl
 
-lives_awake : (n : ℕ) (x : Client) (life : Option Life) (given : ClientInput) → is_client_frame given ≡ false → (is_some life ≡ true) ⊎ (is_client_restart given ≡ true) → Awake (clients.step_of n x life (client_input given))
+lives_awake : (n : ℕ) (x : Client) (life : Option Life) (given : ClientInput) → is_client_frame given ≡ false → (is_some life ≡ true) ⊎ (restarts_client given ≡ true) → Awake (clients.step_of n x life (client_input given))
 lives_awake n x life (client_inputs.Frame bytes) other up = absurd (cc other)
 lives_awake n x (Some l) (client_inputs.Register server) other up = awake_if (nat_lt server n) _ _ tt (λ e. cc)
 lives_awake n x (Some l) (client_inputs.Ping server) other up = awake_if (nat_lt server n) _ _ tt (λ e. cc)
@@ -252,16 +252,16 @@ lives_awake n x None given other (inl up) = absurd (cc up)
 lives_awake n x None given other (inr so) = absurd (cc so)
 
 module _ (w : World) (c : ℕ) (x : Client) (here : client_at w.clients c ≡ Some x) where
-  client_sleeping : (given : ClientInput) → is_some x.life ≡ false → is_client_restart given ≡ false → own_client_input w c (client_input given) ≡ Err refusals.Down
+  client_sleeping : (given : ClientInput) → is_some x.life ≡ false → restarts_client given ≡ false → own_client_input w c (client_input given) ≡ Err refusals.Down
   client_sleeping (client_inputs.Frame bytes) down other = ap (λ o. Err (refuses_response_at o)) here ∙ rw down refl
   client_sleeping given down other = ap (λ o. client_input_to w c (client_input given) o) here ∙ ap (λ q. after_client w c q) (no_life (length w.servers) x x.life given down other)
 
-  no_own_response : (given : ClientInput) → is_client_frame given ≡ true → (is_some x.life ≡ true) ⊎ (is_client_restart given ≡ true) → own_client_input w c (client_input given) ≡ Err refusals.OutOfRange
+  no_own_response : (given : ClientInput) → is_client_frame given ≡ true → (is_some x.life ≡ true) ⊎ (restarts_client given ≡ true) → own_client_input w c (client_input given) ≡ Err refusals.OutOfRange
   no_own_response (client_inputs.Frame bytes) frame (inl up) = ap (λ o. Err (refuses_response_at o)) here ∙ rw up refl
   no_own_response (client_inputs.Frame bytes) frame (inr so) = absurd (cc so)
   no_own_response given frame up = absurd (cc frame)
 
-  own_client_awake : (given : ClientInput) → is_client_frame given ≡ false → (is_some x.life ≡ true) ⊎ (is_client_restart given ≡ true) → Awake (own_client_input w c (client_input given))
+  own_client_awake : (given : ClientInput) → is_client_frame given ≡ false → (is_some x.life ≡ true) ⊎ (restarts_client given ≡ true) → Awake (own_client_input w c (client_input given))
   own_client_awake (client_inputs.Frame bytes) other up = absurd (cc other)
   own_client_awake given other up =
       subst (λ o. Awake (client_input_to w c (client_input given) o)) (sym here) (after_client_awake w c _ (lives_awake (length w.servers) x x.life given other up))
@@ -283,13 +283,13 @@ module _ (view : GroupView) (c : ℕ) where
     client_there : (w : World) → RepresentsGroup view w → client_at w.clients c ≡ Some here.client
     client_there w st = client_of_view view w c st ∙ ap (λ o. option_map client_in o) at
 
-    pub client_sleeps : (given : ClientInput) → is_some here.client.life ≡ false → is_client_restart given ≡ false → RefusesGroupEvent view (AtClient c (client_input given)) refusals.Down
+    pub client_sleeps : (given : ClientInput) → is_some here.client.life ≡ false → restarts_client given ≡ false → RefusesGroupEvent view (AtClient c (client_input given)) refusals.Down
     client_sleeps given down other past w r = client_sleeping w c here.client (client_there w r.represents) given down other
 
-    pub response_is_none : (given : ClientInput) → is_client_frame given ≡ true → (is_some here.client.life ≡ true) ⊎ (is_client_restart given ≡ true) → RefusesGroupEvent view (AtClient c (client_input given)) refusals.OutOfRange
+    pub response_is_none : (given : ClientInput) → is_client_frame given ≡ true → (is_some here.client.life ≡ true) ⊎ (restarts_client given ≡ true) → RefusesGroupEvent view (AtClient c (client_input given)) refusals.OutOfRange
     response_is_none given frame up past w r = no_own_response w c here.client (client_there w r.represents) given frame up
 
-    pub client_awake : (given : ClientInput) → is_client_frame given ≡ false → (is_some here.client.life ≡ true) ⊎ (is_client_restart given ≡ true) → IsGroupAwake view (AtClient c (client_input given))
+    pub client_awake : (given : ClientInput) → is_client_frame given ≡ false → (is_some here.client.life ≡ true) ⊎ (restarts_client given ≡ true) → IsGroupAwake view (AtClient c (client_input given))
     client_awake given other up past w r = record {
       crash = AtClient c clients.Crash;
       actor = refl;

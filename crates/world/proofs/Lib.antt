@@ -15,7 +15,6 @@ pub mod Replays
 pub mod Same
 pub mod Loads
 pub mod GroupScenes
-pub mod GroupHistories
 pub mod GroupHeights
 pub mod GroupServers
 pub mod GroupClients

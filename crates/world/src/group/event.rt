@@ -6,7 +6,6 @@ ghost use Rattle.group_model.specs.Worlds.{AtServer, AtClient};
 ghost use Rattle.group_safety.specs.Limits.{InputFits};
 ghost use Rattle.server.specs.Handings.{handing};
 ghost use Rattle.world.specs.GroupEvents.{server_input, client_input, group_event, HasInput, IsSameEvent};
-ghost use Rattle.world.specs.Inner.GroupInputs.{comes_as_frame, is_restart_input, is_client_frame, is_client_restart};
 
 use client_agent::ClientInput;
 use rows::{ClientId, EvalOutcome, NoMemory, OperatorRequest, Ranged, ServerId};
@@ -62,34 +61,6 @@ impl Event {
             }
         }
     }
-}
-
-/// Whether it is a frame.
-pub(super) fn is_frame(input: &ServerInput) -> bool
-    ensures { result ≡ comes_as_frame (handing input.now) }
-{
-    matches!(input, ServerInput::Frame(_))
-}
-
-/// Whether a server starts again.
-pub(super) fn is_restart(input: &ServerInput) -> bool
-    ensures { result ≡ is_restart_input (handing input.now) }
-{
-    matches!(input, ServerInput::Restart)
-}
-
-/// Whether it is a frame.
-pub(super) fn is_client_frame(input: &ClientInput) -> bool
-    ensures { result ≡ is_client_frame input.now }
-{
-    matches!(input, ClientInput::Frame(_))
-}
-
-/// Whether a client starts again.
-pub(super) fn is_client_restart(input: &ClientInput) -> bool
-    ensures { result ≡ is_client_restart input.now }
-{
-    matches!(input, ClientInput::Restart)
 }
 
 /// Says that the parts of a request are within their limits; it does nothing.

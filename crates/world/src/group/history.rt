@@ -11,7 +11,8 @@ ghost use Rattle.world.specs.Inner.Inputs.{committed};
 ghost use Rattle.world.specs.Inner.GroupParts.{ServerDone, ClientDone};
 
 use crate::done::Done;
-use crate::group::event::{Event, is_restart};
+use crate::group::event::Event;
+use actor::{Stepped, bring_sent_to_server, bring_to_client, hand_client, hand_server, no_output};
 use client_agent::{Agent, ClientInput};
 use rows::{ClientId, Index, NoMemory, Refusal, Sequence, ServerId, Work};
 use server::{Outbox, Server, ServerInput};
@@ -131,10 +132,7 @@ impl GroupHistory {
     {
         GroupHistory {
             alloc,
-            outbox: Outbox {
-                frames: Frames::new(alloc),
-                work: Sequence::new(alloc),
-            },
+            outbox: no_output(alloc),
             delivered: Vec::new(alloc),
             trace: Vec::new(alloc),
             chain: Index::ZERO,
@@ -189,7 +187,7 @@ impl GroupHistory {
     /// A server takes an input of its own, and what it sends is put behind what was sent. Where it
     /// finds no memory, its crash is kept instead; where there is none to keep the event, nothing
     /// happens.
-    pub(crate) fn take_input(
+    pub(crate) fn hand_server(
         &mut self,
         server: &mut Server,
         me: ServerId,
@@ -201,24 +199,22 @@ impl GroupHistory {
             (AtServer me (server_input (handing input.value))) me result server.new self.new }
     {
         self.trace.reserve(1)?;
-        let given = input.as_ref();
-        let again = given.try_clone(self.alloc)?;
-        match server.step(again, &mut self.outbox) {
-            Ok(()) => {
+        let again = input.as_ref().try_clone(self.alloc)?;
+        match hand_server(server, again, &mut self.outbox) {
+            Ok(Stepped::Taken) => {
                 self.chain = longer(self.chain, server);
                 self.trace.push_reserved(Event::Server(me, input));
                 Ok(Done::Taken)
             }
+            Ok(Stepped::Crashed) => {
+                let mut crash = input;
+                Box::replace(&mut crash, ServerInput::Crash);
+                self.trace.push_reserved(Event::Server(me, crash));
+                Ok(Done::Crashed)
+            }
             Err(cause) => match cause {
-                Refusal::NoMemory => {
-                    if is_restart(given) {
-                        return Ok(Done::Crashed);
-                    }
-                    let mut crash = input;
-                    Box::replace(&mut crash, ServerInput::Crash);
-                    self.trace.push_reserved(Event::Server(me, crash));
-                    Ok(Done::Crashed)
-                }
+                // It found no memory to start again.
+                Refusal::NoMemory => Ok(Done::Crashed),
                 other => Err(other),
             },
         }
@@ -227,7 +223,7 @@ impl GroupHistory {
     /// A frame that was sent comes to a server. Where that finds no memory, its crash is kept
     /// instead; where there is none to keep the event, nothing happens.
     #[inline(always)]
-    pub(crate) fn deliver_to_server(
+    pub(crate) fn bring_to_server(
         &mut self,
         server: &mut Server,
         me: ServerId,
@@ -243,27 +239,25 @@ impl GroupHistory {
         self.trace.reserve(1)?;
         make_server_room(self.alloc, &mut self.server_room)?;
         let at = place(&self.outbox.frames, k);
-        match server.receive_sent(at, &mut self.outbox) {
-            Ok(()) => {
+        match bring_sent_to_server(server, at, &mut self.outbox) {
+            Ok(Stepped::Taken) => {
                 self.chain = longer(self.chain, server);
                 self.trace.push_reserved(Event::Deliver(k));
                 Ok(Done::Taken)
             }
-            Err(cause) => match cause {
-                Refusal::NoMemory => {
-                    let crash = take_room(&mut self.server_room, ServerInput::Crash);
-                    self.trace.push_reserved(Event::Server(me, crash));
-                    Ok(Done::Crashed)
-                }
-                other => Err(other),
-            },
+            Ok(Stepped::Crashed) => {
+                let crash = take_room(&mut self.server_room, ServerInput::Crash);
+                self.trace.push_reserved(Event::Server(me, crash));
+                Ok(Done::Crashed)
+            }
+            Err(cause) => Err(cause),
         }
     }
 
     /// A client takes an input of its own, and what it sends is put behind what was sent. Where it
     /// finds no memory, its crash is kept instead; where there is none to keep the event, nothing
     /// happens.
-    pub(crate) fn take_client_input(
+    pub(crate) fn hand_client(
         &mut self,
         client: &mut Agent,
         me: ClientId,
@@ -275,26 +269,24 @@ impl GroupHistory {
     {
         self.trace.reserve(1)?;
         let again = input.as_ref().try_clone(self.alloc)?;
-        match client.step(again, &mut self.outbox.frames) {
-            Ok(()) => {
+        match hand_client(client, again, &mut self.outbox.frames) {
+            Ok(Stepped::Taken) => {
                 self.trace.push_reserved(Event::Client(me, input));
                 Ok(Done::Taken)
             }
-            Err(cause) => match cause {
-                Refusal::NoMemory => {
-                    let mut crash = input;
-                    Box::replace(&mut crash, ClientInput::Crash);
-                    self.trace.push_reserved(Event::Client(me, crash));
-                    Ok(Done::Crashed)
-                }
-                other => Err(other),
-            },
+            Ok(Stepped::Crashed) => {
+                let mut crash = input;
+                Box::replace(&mut crash, ClientInput::Crash);
+                self.trace.push_reserved(Event::Client(me, crash));
+                Ok(Done::Crashed)
+            }
+            Err(cause) => Err(cause),
         }
     }
 
     /// A frame that was sent comes to a client. Where that finds no memory, its crash is kept
     /// instead; where there is none for the frame or to keep the event, nothing happens.
-    pub(crate) fn deliver_to_client(
+    pub(crate) fn bring_to_client(
         &mut self,
         client: &mut Agent,
         me: ClientId,
@@ -310,19 +302,17 @@ impl GroupHistory {
         let at = place(&self.outbox.frames, k);
         copy_frame(&self.outbox.frames, at, &mut self.delivered)?;
         make_client_room(self.alloc, &mut self.client_room)?;
-        match client.receive(&self.delivered, &mut self.outbox.frames) {
-            Ok(()) => {
+        match bring_to_client(client, &self.delivered, &mut self.outbox.frames) {
+            Ok(Stepped::Taken) => {
                 self.trace.push_reserved(Event::Deliver(k));
                 Ok(Done::Taken)
             }
-            Err(cause) => match cause {
-                Refusal::NoMemory => {
-                    let crash = take_room(&mut self.client_room, ClientInput::Crash);
-                    self.trace.push_reserved(Event::Client(me, crash));
-                    Ok(Done::Crashed)
-                }
-                other => Err(other),
-            },
+            Ok(Stepped::Crashed) => {
+                let crash = take_room(&mut self.client_room, ClientInput::Crash);
+                self.trace.push_reserved(Event::Client(me, crash));
+                Ok(Done::Crashed)
+            }
+            Err(cause) => Err(cause),
         }
     }
 }

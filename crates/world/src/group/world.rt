@@ -9,6 +9,7 @@ ghost use Rattle.group_model.specs.Clients.{agent_of};
 ghost use Rattle.group_model.specs.Worlds.{Deliver, AtServer, AtClient};
 ghost use Rattle.group_safety.specs.Limits.{NodesFit};
 ghost use Rattle.server.specs.Handings.{handing};
+ghost use Rattle.actor.specs.Handed.{comes_as_frame, is_client_frame};
 ghost use Rattle.server.specs.ServerViews.{ServerView, IsMember};
 ghost use Rattle.rows.specs.GroupSizes.{IsGroup};
 ghost use Rattle.world.specs.Events.{place_of};
@@ -16,14 +17,13 @@ ghost use Rattle.world.specs.GroupEvents.{server_input, client_input, group_even
 ghost use Rattle.world.specs.GroupView.{client_view, nodes_of, ServersKnowPlaces, ClientsKnowPlaces, IsSentTo};
 ghost use Rattle.world.specs.GroupSteps.{IsGroupDone, SameView, RefusesGroupEvent, IsGroupAwake, IsNewGroup, WhyNoGroup, GroupPlayed, GroupReplays};
 ghost use Rattle.world.specs.GroupClaims.{OneGroupList, SafeGroupStates, BackedPlans, PlacedStarts, GroupHeadline, IsGreatestEver, IsTraced};
-ghost use Rattle.world.specs.Inner.GroupInputs.{new_agents, comes_as_frame, is_client_frame};
+ghost use Rattle.world.specs.Inner.GroupInputs.{new_agents};
 ghost use Rattle.world.specs.Inner.GroupParts.{GroupStepped};
 
 use crate::done::Done;
-use crate::group::event::{
-    Event, is_client_frame, is_client_restart, is_frame, is_restart, ranges,
-};
+use crate::group::event::{Event, ranges};
 use crate::group::history::GroupHistory;
+use actor::{is_client_frame, is_client_restart, is_frame, is_restart};
 use client_agent::{Agent, ClientInput};
 use fsm_state::Cluster;
 use group_safety::{
@@ -154,7 +154,7 @@ impl World {
         senders_are_members();
         ranges(input.as_ref());
         let server = &mut self.servers[me.place()];
-        self.history.take_input(server, me, input)
+        self.history.hand_server(server, me, input)
     }
 
     /// A frame that was sent comes to a server.
@@ -170,7 +170,7 @@ impl World {
         limits_are_kept();
         senders_are_members();
         let server = &mut self.servers[me.place()];
-        self.history.deliver_to_server(server, me, k)
+        self.history.bring_to_server(server, me, k)
     }
 
     /// A client takes an input of its own.
@@ -183,7 +183,7 @@ impl World {
         limits_are_kept();
         senders_are_members();
         let client = &mut self.clients[place_of_client(me)];
-        self.history.take_client_input(client, me, input)
+        self.history.hand_client(client, me, input)
     }
 
     /// A frame that was sent comes to a client.
@@ -198,7 +198,7 @@ impl World {
         limits_are_kept();
         senders_are_members();
         let client = &mut self.clients[place_of_client(me)];
-        self.history.deliver_to_client(client, me, k)
+        self.history.bring_to_client(client, me, k)
     }
 
     /// An input of a server's own.

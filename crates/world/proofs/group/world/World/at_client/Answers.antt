@@ -1,8 +1,8 @@
 use Rattle.std.proofs.Common.{◌≡◌, ◌⊎◌, inl, inr, true, is_some, sym, ◌∙◌}
 use Rattle.rows.specs.declared.refusal.Refusal.TheVariants as refusals
 use Rattle.group_model.specs.Worlds.{AtClient}
+use Rattle.actor.specs.Handed.{restarts_client}
 use Rattle.world.specs.GroupEvents.{client_input}
-use Rattle.world.specs.Inner.GroupInputs.{is_client_restart}
 use Rattle.world.proofs.GroupSleeping.{refused_at_once, client_within, client_absent, client_sleeps, response_is_none, client_awake}
 use Rattle.world.proofs.group.world.World.at_client.Goals as goal
 use Rattle.world.proofs.group.world.World.at_client.Goals.{else-not-is_up-via-then-not-is_up+else-not-is_client_restart, else-not-is_up-via-else-not-is_up}
@@ -19,7 +19,7 @@ returns-then-not-is_client_restart c =
 
 pub returns-then-is_client_frame : goal.returns-then-is_client_frame
 returns-then-is_client_frame c =
-    let up : (is_some c.in-Some.client.now.client.life ≡ true) ⊎ (is_client_restart c.args.input.value ≡ true) = elim c.else-not-is_up.branch [
+    let up : (is_some c.in-Some.client.now.client.life ≡ true) ⊎ (restarts_client c.args.input.value ≡ true) = elim c.else-not-is_up.branch [
       | else-not-is_up-via-then-not-is_up+else-not-is_client_restart w ↦ inr (rw c.as_ref-given.ensures at (sym w.is_client_restart.ensures ∙ w.if-not-is_client_restart.false))
       | else-not-is_up-via-else-not-is_up w ↦ inl (sym c.is_up.ensures ∙ w.if-not-is_up.false)
     ] in
@@ -31,7 +31,7 @@ hand_client-requires-clause-member c = client_within c.args.self.now.clients c.a
 
 pub hand_client-requires-clause-awake : goal.hand_client-requires-clause-awake
 hand_client-requires-clause-awake c =
-    let up : (is_some c.in-Some.client.now.client.life ≡ true) ⊎ (is_client_restart c.args.input.value ≡ true) = elim c.else-not-is_up.branch [
+    let up : (is_some c.in-Some.client.now.client.life ≡ true) ⊎ (restarts_client c.args.input.value ≡ true) = elim c.else-not-is_up.branch [
       | else-not-is_up-via-then-not-is_up+else-not-is_client_restart w ↦ inr (rw c.as_ref-given.ensures at (sym w.is_client_restart.ensures ∙ w.if-not-is_client_restart.false))
       | else-not-is_up-via-else-not-is_up w ↦ inl (sym c.is_up.ensures ∙ w.if-not-is_up.false)
     ] in

@@ -3,8 +3,8 @@ use Rattle.rows.specs.declared.refusal.Refusal.TheVariants as refusals
 use Rattle.raft_safety.proofs.Places.{get-within}
 use Rattle.group_model.specs.Worlds.{AtServer}
 use Rattle.server.specs.Handings.{handing}
+use Rattle.actor.specs.Handed.{restarts_server}
 use Rattle.world.specs.GroupEvents.{server_input}
-use Rattle.world.specs.Inner.GroupInputs.{is_restart_input}
 use Rattle.world.proofs.GroupSleeping.{refused_at_once, server_absent, server_sleeps, frame_is_none, server_awake}
 use Rattle.world.proofs.group.world.World.at_server.Goals as goal
 use Rattle.world.proofs.group.world.World.at_server.Goals.{else-is_none-via-then-is_none+else-not-is_restart, else-is_none-via-else-is_none}
@@ -21,7 +21,7 @@ returns-then-not-is_restart c =
 
 pub returns-then-is_frame : goal.returns-then-is_frame
 returns-then-is_frame c =
-    let up : (is_some c.role.result ≡ true) ⊎ (is_restart_input (handing c.args.input.value) ≡ true) = elim c.else-is_none.branch [
+    let up : (is_some c.role.result ≡ true) ⊎ (restarts_server (handing c.args.input.value) ≡ true) = elim c.else-is_none.branch [
       | else-is_none-via-then-is_none+else-not-is_restart w ↦ inr (rw c.as_ref-given.ensures at (sym w.is_restart.ensures ∙ w.if-not-is_restart.false))
       | else-is_none-via-else-is_none w ↦ inl (c.is_none.ensures ∙ ap not w.if-is_none.false)
     ] in
@@ -33,7 +33,7 @@ hand_server-requires-clause-member c = get-within c.args.self.now.servers c.args
 
 pub hand_server-requires-clause-awake : goal.hand_server-requires-clause-awake
 hand_server-requires-clause-awake c =
-    let up : (is_some c.role.result ≡ true) ⊎ (is_restart_input (handing c.args.input.value) ≡ true) = elim c.else-is_none.branch [
+    let up : (is_some c.role.result ≡ true) ⊎ (restarts_server (handing c.args.input.value) ≡ true) = elim c.else-is_none.branch [
       | else-is_none-via-then-is_none+else-not-is_restart w ↦ inr (rw c.as_ref-given.ensures at (sym w.is_restart.ensures ∙ w.if-not-is_restart.false))
       | else-is_none-via-else-is_none w ↦ inl (c.is_none.ensures ∙ ap not w.if-is_none.false)
     ] in

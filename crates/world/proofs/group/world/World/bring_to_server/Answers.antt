@@ -15,12 +15,12 @@ invariant_of-self c =
     let e = Deliver k in
     let view = c.index_mut-server.result.now in
     let old : GroupView = record { servers = i.servers.items; clients = i.clients.items; outbox = i.history.outbox; trace = i.history.trace; chain = i.history.chain } in
-    let past = c.deliver_to_server.new.self in
-    let after = c.deliver_to_server.new.server in
+    let past = c.bring_to_server.new.self in
+    let after = c.bring_to_server.new.server in
     let new : GroupView = record { servers = slice_set i.servers.items c.place.result after; clients = i.clients.items; outbox = past.outbox; trace = past.trace; chain = past.chain } in
     let scene = sent_scene old c.args.self.now c.args.me c.place.result view c.self.view_is c.self.invariant c.place.ensures.value c.requires.member c.index_mut-server.ensures.value c.frames_are_whole.ensures.again k c.requires.sent in
     let r = server_acted old e c.args.me view h scene c.limits_are_kept.ensures c.senders_are_members.ensures (subst (λ (x : GroupView). IsGroupAwake x e) (sym c.self.view_is) c.requires.awake) new after
-    (ap (λ k. slice_set i.servers.items k after) c.place.ensures.value) refl c.deliver_to_server.ensures.same c.deliver_to_server.result c.deliver_to_server.ensures.done in
+    (ap (λ k. slice_set i.servers.items k after) c.place.ensures.value) refl c.bring_to_server.ensures.same c.bring_to_server.result c.bring_to_server.ensures.done in
     r.world
 
 pub returns : goal.returns
@@ -31,11 +31,11 @@ returns c =
     let e = Deliver k in
     let view = c.index_mut-server.result.now in
     let old : GroupView = record { servers = i.servers.items; clients = i.clients.items; outbox = i.history.outbox; trace = i.history.trace; chain = i.history.chain } in
-    let past = c.deliver_to_server.new.self in
-    let after = c.deliver_to_server.new.server in
+    let past = c.bring_to_server.new.self in
+    let after = c.bring_to_server.new.server in
     let new : GroupView = record { servers = slice_set i.servers.items c.place.result after; clients = i.clients.items; outbox = past.outbox; trace = past.trace; chain = past.chain } in
     let scene = sent_scene old c.args.self.now c.args.me c.place.result view c.self.view_is c.self.invariant c.place.ensures.value c.requires.member c.index_mut-server.ensures.value c.frames_are_whole.ensures.again k c.requires.sent in
     let r = server_acted old e c.args.me view h scene c.limits_are_kept.ensures c.senders_are_members.ensures (subst (λ (x : GroupView). IsGroupAwake x e) (sym c.self.view_is) c.requires.awake) new after
-    (ap (λ k. slice_set i.servers.items k after) c.place.ensures.value) refl c.deliver_to_server.ensures.same c.deliver_to_server.result c.deliver_to_server.ensures.done in
-    let q = subst (λ (x : GroupView). GroupActed x e c.deliver_to_server.result new) c.self.view_is r in
+    (ap (λ k. slice_set i.servers.items k after) c.place.ensures.value) refl c.bring_to_server.ensures.same c.bring_to_server.result c.bring_to_server.ensures.done in
+    let q = subst (λ (x : GroupView). GroupActed x e c.bring_to_server.result new) c.self.view_is r in
     q.stepped
