@@ -1,114 +1,93 @@
--- What an actor answers.
-use Rattle.std.proofs.Common.{◌≡◌, ◌≢◌, ℕ, true, false, List, [], ◌∷◌, map, refl, sym, ap, ◌∙◌, subst}
-use Rattle.std.specs.Prelude.{is_some, Option, Some, None, Result, Ok, Err}
+-- What a server or a client answers, as what its actor does with an event.
+use Rattle.std.proofs.Common.{◌≡◌, ℕ, false, List, [], ◌∷◌, map, refl, sym, ap, ◌∙◌, subst}
+use Rattle.std.specs.Prelude.{Result, Ok, Err}
 use Rattle.std.specs.declared.boxed.Box.{Box}
 use Rattle.std.specs.declared.alloc.Global.{Global}
 use Rattle.rows.specs.declared.refusal.Refusal.{Refusal}
 use Rattle.rows.specs.declared.refusal.Refusal.TheVariants as refusals
 use Rattle.wire.specs.Frames.{Frame}
-use Rattle.rows.specs.declared.allocation.AllocId.{AllocId}
-use Rattle.group_model.specs.Clients.{Client, Life}
-use Rattle.group_model.specs.Inputs.{Arrives, Timeout, Beat, Request, TakeFrom, SubmitTo, FinishAt, NackAt, PlanTurn, Lapse, Expire, DrainTurn, FreeTurn, Reap, Compact, Crash, Restart}
-use Rattle.group_model.specs.Members.{Member}
-use Rattle.client_agent.specs.AgentView.{AgentView, crashed_agent}
+use Rattle.client_agent.specs.AgentView.{AgentView}
 use Rattle.client_agent.specs.declared.input.ClientInput.{ClientInput}
 use Rattle.client_agent.specs.declared.input.ClientInput.TheVariants as client_inputs
-use Rattle.client_agent.specs.Steps.{AgentTakes}
-use Rattle.client_agent.specs.Refusals.{AgentMayLack, RunsIn, IsAgentRefused, AgentRefusalLeaves}
 use Rattle.server.specs.declared.server.Outbox.{Outbox}
-use Rattle.server.specs.ServerViews.{ServerView, IsMember, SameMember}
-use Rattle.server.specs.Handings.{Handing, FrameBytes, OwnInput, handing}
-use Rattle.server.specs.Turns.{TakesHanding}
-use Rattle.server.specs.Refusals.{IsHandingRefused, HandingRefusalLeaves, HandingStays}
-use Rattle.world.specs.Inner.GroupInputs.{comes_as_frame, is_restart_input}
-use Rattle.world.proofs.GroupHistories.{member_fell, same_server}
-use Rattle.cells.specs.Actors.{output_frame, nothing_sent, TakesInput}
-use Rattle.cells.specs.Refusals.{restarts_server, InputRefused, ServerAdmits, ServerRefuses, ServerMayLack, ClientAdmits, ClientRefuses}
 use Rattle.server.specs.declared.server_input.ServerInput.{ServerInput}
-use Rattle.event_book.specs.declared.view.EventView.TheVariants.{Own}
+use Rattle.server.specs.ServerViews.{ServerView}
+use Rattle.server.specs.Handings.{Handing, FrameBytes, OwnInput, handing}
+use Rattle.actor.specs.declared.group_actor.GroupActor.TheVariants as actors
+use Rattle.actor.specs.declared.stepped.Stepped.{Stepped}
+use Rattle.actor.specs.declared.stepped.Stepped.TheVariants.{Taken, Crashed}
+use Rattle.actor.specs.Handed.{comes_as_frame, is_client_frame}
+use Rattle.actor.specs.Refusals.{RefusedSo, ServerRefuses, ServerMayLack, ClientRefuses}
+use Rattle.actor.specs.Answers.{nothing_sent, ServerSteps, ServerStays, ServerAnswers, ClientSteps, ClientAnswers}
+use Rattle.event_book.specs.declared.view.EventView.TheVariants.{Own, Delivery}
+use Rattle.event_book.specs.declared.view.Output.{Output}
 use Rattle.cells.specs.declared.own_input.OwnInput.TheVariants as own
-use Rattle.cells.specs.declared.actor.GroupActor.TheVariants as actors
-use Rattle.cells.specs.declared.actor.Stepped.{Stepped}
-use Rattle.cells.specs.Inner.Steps.{output_of, RefusedAsSaid, ServerDid, ServerAnswered, ClientDid, DidOrRefused}
-use Rattle.cells.specs.declared.actor.Stepped.TheVariants.{Taken, Crashed}
+use Rattle.cells.specs.Actors.{output_frame, ServerTurned, TakesInput, ClientTurned, TakesClientInput}
+use Rattle.cells.specs.Refusals.{InputRefused, ClientInputRefused}
+use Rattle.cells.specs.Inner.Steps.{output_of, DidOrRefused}
 
 frames_again : (fs : List Frame) → map output_frame (map output_of fs) ≡ fs
 frames_again [] = refl
 frames_again (f ∷ fs) = ap (λ l. f ∷ l) (frames_again fs)
 
+-- here nothing is said of where memory is wanting
+said : (lack : Type 0) (says : Refusal → Type 0) (cause : Refusal) → RefusedSo lack says cause → RefusedSo (Unit {0}) says cause
+said lack says refusals.NoMemory h = tt
+said lack says _ h = h
+
 -- ---- servers
 
-same_restart : (h : Handing) → is_restart_input h ≡ restarts_server h
-same_restart (FrameBytes bytes) = refl
-same_restart (OwnInput (Arrives message)) = refl
-same_restart (OwnInput Timeout) = refl
-same_restart (OwnInput Beat) = refl
-same_restart (OwnInput (Request request)) = refl
-same_restart (OwnInput (TakeFrom to)) = refl
-same_restart (OwnInput (SubmitTo to plan)) = refl
-same_restart (OwnInput (FinishAt to eval token outcome)) = refl
-same_restart (OwnInput (NackAt to eval token)) = refl
-same_restart (OwnInput PlanTurn) = refl
-same_restart (OwnInput (Lapse eval)) = refl
-same_restart (OwnInput (Expire node beats)) = refl
-same_restart (OwnInput (DrainTurn node)) = refl
-same_restart (OwnInput FreeTurn) = refl
-same_restart (OwnInput Reap) = refl
-same_restart (OwnInput Compact) = refl
-same_restart (OwnInput Crash) = refl
-same_restart (OwnInput Restart) = refl
+module _ (old new : ServerView) (before after : Outbox) (empty : before ≡ nothing_sent) where
+  turned : (h : Handing) → ServerSteps old h new before after → ServerTurned old h (map output_of after.frames) after.work new
+  turned h t =
+      subst (λ (l : List Frame). ServerSteps old h new nothing_sent (record { frames = l; work = after.work })) (sym (frames_again after.frames))
+      (subst (λ (o : Outbox). ServerSteps old h new o after) empty t)
 
-module _ (old new : ServerView) (h : Handing) where
-  pub server_turned : (outbox : Outbox) → (new.raft.me ≡ old.raft.me) × (new.raft.size ≡ old.raft.size) → ServerAdmits old h → ((s : Member) → IsMember old s → TakesHanding old s h new nothing_sent outbox) → ServerDid old h (Taken outbox) new
-  server_turned outbox same admitted taken = record {
-    same = same;
-    admitted = admitted;
-    taken = λ s is. subst (λ (l : List Frame). TakesHanding old s h new nothing_sent (record { frames = l; work = outbox.work })) (sym (frames_again outbox.frames)) (taken s is);
-  }
+  -- a frame comes
+  pub server_brought : (stamp place : ℕ) (frame : List ℕ) (q : Result Stepped Refusal) → ServerAnswers old (FrameBytes frame) before q new after → DidOrRefused (actors.Server old) (Delivery stamp place frame) q after (actors.Server new)
+  server_brought stamp place frame (Ok Taken) a = turned (FrameBytes frame) a
+  server_brought stamp place frame (Ok Crashed) a = (a.2 ∙ empty, (refl, refl, a.0), a.1)
+  server_brought stamp place frame (Err cause) a = (a.0, said (ServerStays old (FrameBytes frame) new) (ServerRefuses old (FrameBytes frame)) cause a.1)
 
-  pub server_fell : (new.raft.me ≡ old.raft.me) × (new.raft.size ≡ old.raft.size) → restarts_server h ≡ false → ((s : Member) → IsMember old s → IsHandingRefused old.raft.size old.raft.me s h refusals.NoMemory) →
-      ((s : Member) → IsMember old s → HandingRefusalLeaves old s h refusals.NoMemory new) → ServerDid old h Crashed new
-  server_fell same other lacks left = (record { same = same; fell = λ s is. member_fell old new s h (same_restart h ∙ other) (lacks s is) (left s is) }, lacks)
-
-  pub server_stays : restarts_server h ≡ true → HandingStays old h refusals.NoMemory new → SameMember old new
-  server_stays so stays =
-      subst (λ v. SameMember old v) (sym (same_server old new h (same_restart h ∙ so) stays)) (record { raft = record { me = refl; size = refl; server = refl }; desk = refl })
-
-  pub server_refuses : (cause : Refusal) → cause ≢ refusals.NoMemory → ((s : Member) → IsMember old s → IsHandingRefused old.raft.size old.raft.me s h cause) →
-      HandingStays old h cause new → SameMember old new × RefusedAsSaid (ServerRefuses old h) cause
-  server_refuses refusals.NoMemory other refused stays = absurd (other refl)
-  server_refuses _ other refused stays = (stays, refused)
-
--- what is handed to a server by an event that is an input of its own, and no frame
-pub input_answered : (old new : ServerView) (input : Box ServerInput Global) (h : Handing) (q : Result Stepped Refusal) → handing input.value ≡ h → comes_as_frame h ≡ false →
-    ServerAnswered old h q new → DidOrRefused (actors.Server old) (Own (own.Server input)) q (actors.Server new)
-input_answered old new input (FrameBytes bytes) q is other a = absurd (cc)
-input_answered old new input (OwnInput x) (Ok (Taken outbox)) is other a = subst (λ k. TakesInput old k (map output_of outbox.frames) outbox.work new) (sym is) a
-input_answered old new input (OwnInput x) (Ok Crashed) is other a = ((refl, refl, a.0), subst (λ k. ServerMayLack old k) (sym is) a.1)
-input_answered old new input (OwnInput x) (Err cause) is other a = (a.0, subst (λ k. RefusedAsSaid (InputRefused old k) cause) (sym is) a.1)
+  -- an input of its own, which is no frame
+  pub server_handed : (input : Box ServerInput Global) (h : Handing) (q : Result Stepped Refusal) → handing input.value ≡ h → comes_as_frame h ≡ false → ServerAnswers old h before q new after → DidOrRefused (actors.Server old) (Own (own.Server input)) q after (actors.Server new)
+  server_handed input (FrameBytes bytes) q is other a = absurd (cc)
+  server_handed input (OwnInput x) (Ok Taken) is other a = subst (λ k. TakesInput old k (map output_of after.frames) after.work new) (sym is) (turned (OwnInput x) a)
+  server_handed input (OwnInput x) (Ok Crashed) is other a = (a.2 ∙ empty, (refl, refl, a.0), subst (λ k. ServerMayLack old k) (sym is) a.1)
+  server_handed input (OwnInput x) (Err cause) is other a = (a.0, subst (λ k. RefusedSo (Unit {0}) (InputRefused old k) cause) (sym is) (said (ServerStays old (OwnInput x) new) (ServerRefuses old (OwnInput x)) cause a.1))
 
 -- ---- clients
 
-runs_up : (l : Option Life) (id : AllocId) → RunsIn l id → is_some l ≡ true
-runs_up None id h = absurd h
-runs_up (Some l) id h = refl
+takes_input : (old new : AgentView) (given : ClientInput) (outs : List Output) → is_client_frame given ≡ false → ClientTurned old given outs new → TakesClientInput old given outs new
+takes_input old new (client_inputs.Frame bytes) outs other t = absurd (cc)
+takes_input old new _ outs other t = t
 
-lacks_up : (n : ℕ) (c : Client) (given : ClientInput) → AgentMayLack n c given → is_some c.life ≡ true
-lacks_up n c (client_inputs.Frame bytes) h = h
-lacks_up n c (client_inputs.Register server) h = h.0
-lacks_up n c (client_inputs.Ping server) h = h.0
-lacks_up n c (client_inputs.Pull server) h = h.0
-lacks_up n c (client_inputs.End id ok) h = runs_up c.life id h
-lacks_up n c client_inputs.Crash h = absurd h
-lacks_up n c client_inputs.Restart h = absurd h
+input_refused : (old : AgentView) (given : ClientInput) → is_client_frame given ≡ false → (r : Refusal) → ClientRefuses old given r → ClientInputRefused old given r
+input_refused old (client_inputs.Frame bytes) other r h = absurd (cc)
+input_refused old _ other r h = h
 
-module _ (old new : AgentView) (given : ClientInput) where
-  pub client_turned : (outbox : Outbox) → outbox.work ≡ [] → new.size ≡ old.size → ClientAdmits old given → AgentTakes old given new [] outbox.frames → ClientDid old given (Taken outbox) new
-  client_turned outbox none same admitted taken = (none, record { same = same; admitted = admitted; taken = subst (λ (l : List Frame). AgentTakes old given new [] l) (sym (frames_again outbox.frames)) taken })
+refused_too : (lack : Type 0) (P Q : Refusal → Type 0) → ((r : Refusal) → P r → Q r) → (cause : Refusal) → RefusedSo lack P cause → RefusedSo (Unit {0}) Q cause
+refused_too lack P Q f refusals.NoMemory h = tt
+refused_too lack P Q f _ h = f _ h
 
-  pub client_fell : AgentMayLack old.size old.client given → new ≡ crashed_agent old → ClientDid old given Crashed new
-  client_fell lacks left = (lacks_up old.size old.client given lacks, left, lacks)
+module _ (old new : AgentView) (before after : Outbox) (empty : before ≡ nothing_sent) (kept : after.work ≡ before.work) where
+  no_work : after.work ≡ []
+  no_work = kept ∙ ap (λ (o : Outbox). o.work) empty
 
-  pub client_refuses : (cause : Refusal) → cause ≢ refusals.NoMemory → IsAgentRefused old.size old.client given cause → AgentRefusalLeaves old cause new → (new ≡ old) × RefusedAsSaid (ClientRefuses old given) cause
-  client_refuses refusals.NoMemory other refused left = absurd (other refl)
-  client_refuses _ other refused left = (left, refused)
+  client_turned : (given : ClientInput) → ClientSteps old given new before.frames after.frames → ClientTurned old given (map output_of after.frames) new
+  client_turned given t =
+      subst (λ (l : List Frame). ClientSteps old given new [] l) (sym (frames_again after.frames))
+      (subst (λ (o : Outbox). ClientSteps old given new o.frames after.frames) empty t)
+
+  none_sent : after.frames ≡ before.frames → after ≡ nothing_sent
+  none_sent same = let frames = same ∙ ap (λ (o : Outbox). o.frames) empty in λ t. record { frames = frames t; work = no_work t }
+
+  pub client_brought : (stamp place : ℕ) (frame : List ℕ) (q : Result Stepped Refusal) → ClientAnswers old (client_inputs.Frame frame) before.frames q new after.frames → DidOrRefused (actors.Client old) (Delivery stamp place frame) q after (actors.Client new)
+  client_brought stamp place frame (Ok Taken) a = (no_work, client_turned (client_inputs.Frame frame) a)
+  client_brought stamp place frame (Ok Crashed) a = (none_sent a.2, (refl, (refl, a.0)), a.1)
+  client_brought stamp place frame (Err cause) a = (a.0, said ⊥ (ClientRefuses old (client_inputs.Frame frame)) cause a.1)
+
+  pub client_handed : (input : Box ClientInput Global) (q : Result Stepped Refusal) → is_client_frame input.value ≡ false → ClientAnswers old input.value before.frames q new after.frames → DidOrRefused (actors.Client old) (Own (own.Client input)) q after (actors.Client new)
+  client_handed input (Ok Taken) other a = (no_work, takes_input old new input.value (map output_of after.frames) other (client_turned input.value a))
+  client_handed input (Ok Crashed) other a = (none_sent a.2, (refl, (refl, a.0)), a.1)
+  client_handed input (Err cause) other a = (a.0, refused_too ⊥ (ClientRefuses old input.value) (ClientInputRefused old input.value) (input_refused old input.value other) cause a.1)

@@ -23,17 +23,19 @@ use Rattle.event_book.specs.declared.view.TokenView.{TokenView}
 use Rattle.event_book.specs.declared.view.SeatView.{SeatView}
 use Rattle.event_book.specs.Seats.{with_note, with_taken}
 use Rattle.cells.specs.declared.own_input.OwnInput.{OwnInput}
-use Rattle.cells.specs.declared.actor.GroupActor.{GroupActor}
-use Rattle.cells.specs.declared.actor.GroupActor.TheVariants.{Server, Client}
-use Rattle.cells.specs.declared.actor.Stepped.{Stepped}
-use Rattle.cells.specs.declared.actor.Stepped.TheVariants.{Taken, Crashed}
+use Rattle.actor.specs.declared.group_actor.GroupActor.{GroupActor}
+use Rattle.actor.specs.declared.group_actor.GroupActor.TheVariants.{Server, Client}
+use Rattle.actor.specs.declared.stepped.Stepped.{Stepped}
+use Rattle.actor.specs.declared.stepped.Stepped.TheVariants.{Taken, Crashed}
+use Rattle.actor.specs.Refusals.{RefusedSo}
+use Rattle.actor.specs.Answers.{nothing_sent}
 use Rattle.cells.specs.declared.own_input.OwnInput.TheVariants as own
-use Rattle.cells.specs.Actors.{output_frame, nothing_sent, ServerTurned, TakesInput, ServerTurns, ClientTurns, ActorTurns, BeginsAs, HasNode, IsNewActor, SameActor}
+use Rattle.cells.specs.Actors.{output_frame, ServerTurned, TakesInput, ServerTurns, ClientTurns, ActorTurns, BeginsAs, HasNode, IsNewActor, SameActor}
 use Rattle.cells.specs.Refusals.{ActorRefuses, Hears}
 use Rattle.cells.specs.Cells.{AreSent, EnvelopeView, CellView, HasNoteLeft, IsLed, IsLedCell, IsLedFrom, IsOpenedCell, IsEnvelopeRefused, Turned, crash_noted, envelopes_from, kept_in}
 use Rattle.cells.specs.declared.cell.StampedEvent.{StampedEvent}
 use Rattle.cells.specs.Turns.{CellRefuses, TookTurn}
-use Rattle.cells.specs.Inner.Steps.{Did, RefusedAsSaid, output_of}
+use Rattle.cells.specs.Inner.Steps.{Did, output_of}
 use Rattle.cells.specs.Inner.Sending.{IsRecorded, IsStill, IsTurn, last_envelopes}
 use Rattle.server.proofs.Members.{same_is}
 use Rattle.cells.proofs.Sending.{envelopes_end}
@@ -120,9 +122,9 @@ last_sent old after noted stamp tokens is =
     let note : Note OwnInput = record { stamp = stamp; actor = old.actor; noted = noted } in
     ap (λ (s : SeatView OwnInput). last_envelopes s.notes) is ∙ envelopes_end old.notes note
 
-pub turned : (old : CellView) (envelope : EnvelopeView) (stepped : Stepped) (new : GroupActor) (after : SeatView OwnInput) (work : List Work) (sent : List EnvelopeView) (unsent : ℕ) → envelope.receiver ≡ old.seat.actor → HasNoteLeft old
-    → Did old.actor envelope.event stepped new → IsRecorded old.seat envelope.event envelope.tokens stepped after work sent unsent → Turned old envelope (record { actor = new; seat = after }) work sent unsent
-turned old envelope (Taken outbox) new after work sent unsent mine room did r =
+pub turned : (old : CellView) (envelope : EnvelopeView) (stepped : Stepped) (outbox : Outbox) (new : GroupActor) (after : SeatView OwnInput) (work : List Work) (sent : List EnvelopeView) (unsent : ℕ) → envelope.receiver ≡ old.seat.actor → HasNoteLeft old
+    → Did old.actor envelope.event stepped outbox new → IsRecorded old.seat envelope.event envelope.tokens stepped outbox after work sent unsent → Turned old envelope (record { actor = new; seat = after }) work sent unsent
+turned old envelope Taken outbox new after work sent unsent mine room did r =
     let outs = map output_of outbox.frames in
     record {
       noted = record { event = envelope.event; outputs = outs };
@@ -137,19 +139,21 @@ turned old envelope (Taken outbox) new after work sent unsent mine room did r =
       are = r.are ∙ ap (take r.count) (last_sent old.seat after (record { event = envelope.event; outputs = outs }) r.stamp envelope.tokens r.seat);
       all = r.all;
     }
-turned old envelope Crashed new after work sent unsent mine room did r = record {
-  noted = crash_noted;
-  taken = [];
-  stamp = r.stamp;
-  receiver = mine;
-  room = room;
-  is_of = inr (refl, refl, did.1);
-  step = subst (λ (w : List Work). ActorTurns old.actor Crash [] w new) (sym r.work_is) did.0;
-  seat = r.seat;
-  count = r.count;
-  are = r.are ∙ ap (take r.count) (last_sent old.seat after crash_noted r.stamp [] r.seat);
-  all = r.all;
-}
+turned old envelope Crashed outbox new after work sent unsent mine room did was =
+    let r = subst (λ (o : Outbox). IsRecorded old.seat envelope.event envelope.tokens Crashed o after work sent unsent) did.0 was in
+    record {
+      noted = crash_noted;
+      taken = [];
+      stamp = r.stamp;
+      receiver = mine;
+      room = room;
+      is_of = inr (refl, refl, did.2);
+      step = subst (λ (w : List Work). ActorTurns old.actor Crash [] w new) (sym r.work_is) did.1;
+      seat = r.seat;
+      count = r.count;
+      are = r.are ∙ ap (take r.count) (last_sent old.seat after crash_noted r.stamp [] r.seat);
+      all = r.all;
+    }
 
 -- a turn leads the actor on by its note
 pub led_on : (began : Actor → GroupActor → Type 0) (old : CellView) (envelope : EnvelopeView) (new : CellView) (work : List Work) (sent : List EnvelopeView) (unsent : ℕ) → IsLedFrom began old → Turned old envelope new work sent unsent → IsLedFrom began new
@@ -169,7 +173,7 @@ pub cell_kept : {X : Type 0} (n : ℕ) (nodes : List NodeSpec) (me : Actor) (old
     → IfOk q (λ x. IsTurn old.actor old.seat envelope.event envelope.tokens (work x) (sent x) (unsent x) after now) → IfErr q (λ cause. IsStill old.actor old.seat envelope.event cause after now)
     → taken ≡ map kept_in now.notes → Kept n nodes me after taken now
 cell_kept n nodes me old envelope (Ok x) work sent unsent after now before taken was to room turn still kept =
-    let t = turned old envelope turn.stepped after now (work x) (sent x) (unsent x) (to ∙ was.0) room turn.did turn.recorded in
+    let t = turned old envelope turn.stepped turn.outbox after now (work x) (sent x) (unsent x) (to ∙ was.0) room turn.did turn.recorded in
     (was.0 ∙ sym (ap (λ (s : SeatView OwnInput). s.actor) t.seat), kept, led_on (BeginsAs n nodes) old envelope (record { actor = after; seat = now }) (work x) (sent x) (unsent x) was.2 t)
 cell_kept n nodes me old envelope (Err cause) work sent unsent after now before taken was to room turn still kept =
     (was.0 ∙ sym (ap (λ (s : SeatView OwnInput). s.actor) still.seat_is), kept, subst (λ s. IsOpenedCell n nodes (record { actor = after; seat = s })) (sym still.seat_is) (led_still n nodes old.seat old.actor after still.same was.2))
@@ -177,10 +181,10 @@ cell_kept n nodes me old envelope (Err cause) work sent unsent after now before 
 pub cell_turned : {X : Type 0} (me : Actor) (old : CellView) (envelope : EnvelopeView) (q : Result X Refusal) (work : X → List Work) (sent : X → List EnvelopeView) (unsent : X → ℕ) (after : GroupActor) (now : SeatView OwnInput)
     → me ≡ old.seat.actor → envelope.receiver ≡ me → HasNoteLeft old → IfOk q (λ x. IsTurn old.actor old.seat envelope.event envelope.tokens (work x) (sent x) (unsent x) after now)
     → IfOk q (λ x. Turned old envelope (record { actor = after; seat = now }) (work x) (sent x) (unsent x))
-cell_turned me old envelope (Ok x) work sent unsent after now mine to room turn = turned old envelope turn.stepped after now (work x) (sent x) (unsent x) (to ∙ mine) room turn.did turn.recorded
+cell_turned me old envelope (Ok x) work sent unsent after now mine to room turn = turned old envelope turn.stepped turn.outbox after now (work x) (sent x) (unsent x) (to ∙ mine) room turn.did turn.recorded
 cell_turned me old envelope (Err cause) work sent unsent after now mine to room turn = turn
 
-as_said : (says : Refusal → Type 0) (cause : Refusal) → RefusedAsSaid says cause → (cause ≡ refusals.NoMemory) ⊎ says cause
+as_said : (says : Refusal → Type 0) (cause : Refusal) → RefusedSo (Unit {0}) says cause → (cause ≡ refusals.NoMemory) ⊎ says cause
 as_said says refusals.NoMemory said = inl refl
 as_said says _ said = inr said
 

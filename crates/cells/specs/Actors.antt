@@ -1,33 +1,29 @@
 -- The actors of a group, each a server or a client, and what one step of each is.
-use Rattle.std.specs.Prelude.{◌≡◌, ℕ, suc, max, true, Some, List, [], ◌∷◌, map, is_some, slice_get}
+use Rattle.std.specs.Prelude.{◌≡◌, ℕ, suc, max, Some, List, [], ◌∷◌, map, slice_get}
 use Rattle.rows.specs.declared.actor.Actor.{Actor}
 use Rattle.rows.specs.declared.actor.Actor.TheVariants as actors
 use Rattle.rows.specs.declared.node.NodeSpec.{NodeSpec}
 use Rattle.rows.specs.declared.worker.Work.{Work}
 use Rattle.wire.specs.Frames.{Frame}
-use Rattle.raft_model.specs.Servers.{is_up}
 use Rattle.group_model.specs.Clients.{agent_of}
 use Rattle.group_model.specs.Clients as clients
 use Rattle.group_model.specs.Inputs as servers
-use Rattle.group_model.specs.Members.{Member, newcomer}
+use Rattle.group_model.specs.Members.{newcomer}
 use Rattle.group_model.specs.Worlds.{Event, AtServer, AtClient}
-use Rattle.client_agent.specs.AgentView.{AgentView, crashed_agent}
+use Rattle.client_agent.specs.AgentView.{AgentView}
 use Rattle.client_agent.specs.declared.input.ClientInput.{ClientInput}
 use Rattle.client_agent.specs.declared.input.ClientInput.TheVariants as client_inputs
-use Rattle.client_agent.specs.Steps.{AgentTakes}
-use Rattle.server.specs.declared.server.Outbox.{Outbox}
-use Rattle.server.specs.ServerViews.{ServerView, IsMember, SameMember, crashed_member}
+use Rattle.server.specs.ServerViews.{ServerView, IsMember, SameMember}
 use Rattle.server.specs.Handings.{Handing, FrameBytes, OwnInput as TakesOwn, handing}
-use Rattle.server.specs.Turns.{TakesHanding}
+use Rattle.actor.specs.declared.group_actor.GroupActor.{GroupActor}
+use Rattle.actor.specs.declared.group_actor.GroupActor.TheVariants.{Server, Client}
+use Rattle.actor.specs.Answers.{nothing_sent, ServerSteps, ServerCrashed, ClientSteps, ClientCrashed}
 use Rattle.world.specs.GroupEvents.{server_input, client_input}
 use Rattle.event_book.specs.declared.view.EventView.{EventView}
 use Rattle.event_book.specs.declared.view.EventView.TheVariants.{Own, Delivery, Crash}
 use Rattle.event_book.specs.declared.view.Output.{Output}
 use Rattle.cells.specs.declared.own_input.OwnInput.{OwnInput}
 use Rattle.cells.specs.declared.own_input.OwnInput.TheVariants as own
-use Rattle.cells.specs.declared.actor.GroupActor.{GroupActor}
-use Rattle.cells.specs.declared.actor.GroupActor.TheVariants.{Server, Client}
-use Rattle.cells.specs.Refusals.{ServerAdmits, ClientAdmits}
 
 -- ---- an actor's own inputs
 
@@ -54,23 +50,11 @@ own_event (actors.Client c) (own.Client input) = AtClient c (client_input input.
 abbrev pub output_frame : Output → Frame
 output_frame o = record { to = o.to; bytes = o.frame }
 
-abbrev pub nothing_sent : Outbox
-nothing_sent = record { frames = []; work = [] }
-
 -- ---- servers
 
--- A server takes what is handed in: whichever server of the definitions it is, the definitions do
--- not refuse it, so that a frame is a message for this server; and whichever message that is, they
--- give that turn.
-pub record ServerTurned (old : ServerView) (h : Handing) (outputs : List Output) (work : List Work) (new : ServerView) : Type 0 where
-  pub same : (new.raft.me ≡ old.raft.me) × (new.raft.size ≡ old.raft.size)
-  pub admitted : ServerAdmits old h
-  pub taken : (s : Member) → IsMember old s → TakesHanding old s h new nothing_sent (record { frames = map output_frame outputs; work = work })
-
--- it was up, and lost what it does not store
-pub record ServerCrashed (old new : ServerView) : Type 0 where
-  pub same : (new.raft.me ≡ old.raft.me) × (new.raft.size ≡ old.raft.size)
-  pub fell : (s : Member) → IsMember old s → (is_up s.raft.mode ≡ true) × IsMember new (crashed_member s)
+-- A server takes what is handed in; just this is sent, and came for workers.
+abbrev pub ServerTurned : ServerView → Handing → List Output → List Work → ServerView → Type 0
+ServerTurned old h outputs work new = ServerSteps old h new nothing_sent (record { frames = map output_frame outputs; work = work })
 
 -- an input that is no frame
 abbrev pub TakesInput : ServerView → Handing → List Output → List Work → ServerView → Type 0
@@ -85,11 +69,9 @@ ServerTurns old Crash outputs work new = (outputs ≡ []) × (work ≡ []) × Se
 
 -- ---- clients
 
--- A client takes what is handed in, which the definitions do not refuse.
-pub record ClientTurned (old : AgentView) (given : ClientInput) (outputs : List Output) (new : AgentView) : Type 0 where
-  pub same : new.size ≡ old.size
-  pub admitted : ClientAdmits old given
-  pub taken : AgentTakes old given new [] (map output_frame outputs)
+-- A client takes what is handed in, and just this is sent.
+abbrev pub ClientTurned : AgentView → ClientInput → List Output → AgentView → Type 0
+ClientTurned old given outputs new = ClientSteps old given new [] (map output_frame outputs)
 
 abbrev pub TakesClientInput : AgentView → ClientInput → List Output → AgentView → Type 0
 TakesClientInput old (client_inputs.Frame bytes) outputs new = ⊥
@@ -99,7 +81,7 @@ abbrev pub ClientTurns : AgentView → EventView OwnInput → List Output → Ag
 ClientTurns old (Own (own.Server input)) outputs new = ⊥
 ClientTurns old (Own (own.Client input)) outputs new = TakesClientInput old input.value outputs new
 ClientTurns old (Delivery stamp place frame) outputs new = ClientTurned old (client_inputs.Frame frame) outputs new
-ClientTurns old Crash outputs new = (outputs ≡ []) × (is_some old.client.life ≡ true) × (new ≡ crashed_agent old)
+ClientTurns old Crash outputs new = (outputs ≡ []) × ClientCrashed old new
 
 -- ---- both
 

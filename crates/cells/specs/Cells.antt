@@ -20,8 +20,8 @@ use Rattle.event_book.specs.declared.view.TokenView.{TokenView}
 use Rattle.event_book.specs.declared.view.SeatView.{SeatView}
 use Rattle.event_book.specs.Seats.{Names, with_note, with_taken}
 use Rattle.cells.specs.declared.own_input.OwnInput.{OwnInput}
-use Rattle.cells.specs.declared.actor.GroupActor.{GroupActor}
-use Rattle.cells.specs.declared.actor.GroupActor.TheVariants.{Server, Client}
+use Rattle.actor.specs.declared.group_actor.GroupActor.{GroupActor}
+use Rattle.actor.specs.declared.group_actor.GroupActor.TheVariants.{Server, Client}
 use Rattle.cells.specs.declared.cell.KeptEvent.{KeptEvent}
 use Rattle.cells.specs.declared.cell.KeptEvent.TheVariants as kept
 use Rattle.cells.specs.declared.cell.StampedEvent.{StampedEvent}

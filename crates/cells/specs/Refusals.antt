@@ -1,37 +1,23 @@
 -- Why an actor refuses an event.
-use Rattle.std.specs.Prelude.{◌≡◌, ◌⊎◌, true, false, Bool, Some, None, is_some}
+use Rattle.std.specs.Prelude.{◌≡◌, ◌⊎◌, true, false, Bool}
 use Rattle.rows.specs.declared.refusal.Refusal.{Refusal}
 use Rattle.rows.specs.declared.refusal.Refusal.TheVariants as refusals
-use Rattle.raft_model.specs.Servers.{is_up}
-use Rattle.group_model.specs.Inputs as servers
-use Rattle.group_model.specs.Members.{Member}
 use Rattle.client_agent.specs.AgentView.{AgentView}
 use Rattle.client_agent.specs.declared.input.ClientInput.{ClientInput}
 use Rattle.client_agent.specs.declared.input.ClientInput.TheVariants as client_inputs
-use Rattle.client_agent.specs.Refusals.{agent_refusal, AgentMayLack}
-use Rattle.server.specs.ServerViews.{ServerView, IsMember}
+use Rattle.server.specs.ServerViews.{ServerView}
 use Rattle.server.specs.Handings.{Handing, FrameBytes, OwnInput as TakesOwn, handing}
-use Rattle.server.specs.Refusals.{handing_refusal, MayLackMemory}
+use Rattle.actor.specs.declared.group_actor.GroupActor.{GroupActor}
+use Rattle.actor.specs.declared.group_actor.GroupActor.TheVariants.{Server, Client}
+use Rattle.actor.specs.Actors.{IsUpActor}
+use Rattle.actor.specs.Handed.{restarts_server, restarts_client}
+use Rattle.actor.specs.Refusals.{ServerRefuses, ServerMayLack, ClientRefuses, ClientMayLack}
 use Rattle.event_book.specs.declared.view.EventView.{EventView}
 use Rattle.event_book.specs.declared.view.EventView.TheVariants.{Own, Delivery, Crash}
 use Rattle.cells.specs.declared.own_input.OwnInput.{OwnInput}
 use Rattle.cells.specs.declared.own_input.OwnInput.TheVariants as own
-use Rattle.cells.specs.declared.actor.GroupActor.{GroupActor}
-use Rattle.cells.specs.declared.actor.GroupActor.TheVariants.{Server, Client}
 
 -- ---- up, down, restarts
-
-abbrev pub IsUpActor : GroupActor → Bool → Type 0
-IsUpActor (Server v) up = (s : Member) → IsMember v s → is_up s.raft.mode ≡ up
-IsUpActor (Client a) up = is_some a.client.life ≡ up
-
-abbrev pub restarts_server : Handing → Bool
-restarts_server (TakesOwn servers.Restart) = true
-restarts_server _ = false
-
-abbrev pub restarts_client : ClientInput → Bool
-restarts_client client_inputs.Restart = true
-restarts_client _ = false
 
 abbrev pub restarts : EventView OwnInput → Bool
 restarts (Own (own.Server input)) = restarts_server (handing input.value)
@@ -48,23 +34,10 @@ IsDeafTo actor event = IsUpActor actor false × (restarts event ≡ false)
 
 -- ---- what the definitions refuse
 
-abbrev pub ServerRefuses : ServerView → Handing → Refusal → Type 0
-ServerRefuses v h r = (s : Member) → IsMember v s → handing_refusal v.raft.size v.raft.me s h ≡ Some r
-
--- of none of the servers that it may be is this refused
-abbrev pub ServerAdmits : ServerView → Handing → Type 0
-ServerAdmits v h = (s : Member) → IsMember v s → handing_refusal v.raft.size v.raft.me s h ≡ None
-
 -- a frame is no input of an actor's own
 abbrev pub InputRefused : ServerView → Handing → Refusal → Type 0
 InputRefused v (FrameBytes bytes) r = r ≡ refusals.OutOfRange
 InputRefused v (TakesOwn input) r = ServerRefuses v (TakesOwn input) r
-
-abbrev pub ClientRefuses : AgentView → ClientInput → Refusal → Type 0
-ClientRefuses a given r = agent_refusal a.size a.client given ≡ Some r
-
-abbrev pub ClientAdmits : AgentView → ClientInput → Type 0
-ClientAdmits a given = agent_refusal a.size a.client given ≡ None
 
 abbrev pub ClientInputRefused : AgentView → ClientInput → Refusal → Type 0
 ClientInputRefused a (client_inputs.Frame bytes) r = r ≡ refusals.OutOfRange
@@ -84,9 +57,6 @@ ActorRefuses (Client a) Crash r = ⊥
 
 -- ---- want of memory
 
-abbrev pub ServerMayLack : ServerView → Handing → Type 0
-ServerMayLack v h = (s : Member) → IsMember v s → MayLackMemory v.raft.size s h
-
 -- the event may want memory at this actor
 abbrev pub ActorMayLack : GroupActor → EventView OwnInput → Type 0
 ActorMayLack (Server v) (Own (own.Server input)) = ServerMayLack v (handing input.value)
@@ -94,6 +64,6 @@ ActorMayLack (Server v) (Own (own.Client input)) = ⊥
 ActorMayLack (Server v) (Delivery stamp place frame) = ServerMayLack v (FrameBytes frame)
 ActorMayLack (Server v) Crash = ⊥
 ActorMayLack (Client a) (Own (own.Server input)) = ⊥
-ActorMayLack (Client a) (Own (own.Client input)) = AgentMayLack a.size a.client input.value
-ActorMayLack (Client a) (Delivery stamp place frame) = AgentMayLack a.size a.client (client_inputs.Frame frame)
+ActorMayLack (Client a) (Own (own.Client input)) = ClientMayLack a input.value
+ActorMayLack (Client a) (Delivery stamp place frame) = ClientMayLack a (client_inputs.Frame frame)
 ActorMayLack (Client a) Crash = ⊥

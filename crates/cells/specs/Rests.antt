@@ -1,7 +1,7 @@
 -- What is left of cells whose seats are taken out.
 use Rattle.std.specs.Prelude.{List, map}
 use Rattle.rows.specs.declared.actor.Actor.{Actor}
-use Rattle.cells.specs.declared.actor.GroupActor.{GroupActor}
+use Rattle.actor.specs.declared.group_actor.GroupActor.{GroupActor}
 use Rattle.cells.specs.declared.cell.StampedEvent.{StampedEvent}
 use Rattle.cells.specs.declared.rest.Rest.{Rest}
 use Rattle.cells.specs.Cells.{CellView, kept_in}

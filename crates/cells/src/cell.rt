@@ -11,9 +11,10 @@ ghost use Rattle.cells.specs.Inner.Steps.{IsAnEvent, output_of};
 ghost use Rattle.cells.specs.Turns.{CellHasNoState, CellHasState, CellRefuses, TookTurn};
 ghost use Rattle.cells.specs.Cells.{HasApplied, WhyNotApplied};
 
-use crate::actor::{GroupActor, Stepped};
 use crate::envelope::Envelope;
 use crate::own_input::OwnInput;
+use crate::stepping;
+use actor::{GroupActor, Stepped, no_output};
 use event_book::{ActorEvent, ActorSeat, Book, BookId, MessageToken, Noted, Outputs};
 use fsm_state::Cluster;
 use rows::{Actor, Index, NoMemory, Refusal, Sequence, Work};
@@ -246,18 +247,19 @@ fn record<B: BookId>(
     event: ActorEvent<OwnInput>,
     token: Option<MessageToken<OwnInput, B>>,
     stepped: Stepped,
+    outbox: Outbox,
 ) -> Turn<B>
     requires addressed { CanBeNoted seat.old (event_view event) (tokens_of token) }
     requires can_note { length seat.old.notes + 1 < 2 ^ 40 }
     requires room { vec_len taken.old < vec_capacity taken.old }
-    ensures recorded { IsRecorded seat.old (event_view event) (tokens_of token) stepped seat.new
-        result.work result.sent.items result.unsent }
+    ensures recorded { IsRecorded seat.old (event_view event) (tokens_of token) stepped outbox
+        seat.new result.work result.sent.items result.unsent }
     ensures kept { taken.old.items ≡ map kept_in seat.old.notes →
         taken.new.items ≡ map kept_in seat.new.notes }
 {
+    let Outbox { frames, work } = outbox;
     match stepped {
-        Stepped::Taken(outbox) => {
-            let Outbox { frames, work } = outbox;
+        Stepped::Taken => {
             let done = Done {
                 event,
                 token,
@@ -271,10 +273,9 @@ fn record<B: BookId>(
             let done = Done {
                 event: ActorEvent::Crash,
                 token: None,
-                frames: Frames::new(alloc),
+                frames,
             };
             let (sent, unsent) = keep(alloc, book, seat, taken, done);
-            let work = Sequence::new(alloc);
             Turn { work, sent, unsent }
         }
     }
@@ -308,8 +309,9 @@ fn step<B: BookId>(
     ensures kept { taken.old.items ≡ map kept_in seat.old.notes →
         taken.new.items ≡ map kept_in seat.new.notes }
 {
-    match actor.step(alloc, &event) {
-        Ok(stepped) => Ok(record(alloc, book, seat, taken, event, token, stepped)),
+    let mut outbox = no_output(alloc);
+    match stepping::step(alloc, actor, &event, &mut outbox) {
+        Ok(stepped) => Ok(record(alloc, book, seat, taken, event, token, stepped, outbox)),
         Err(cause) => {
             use_up(event, token);
             Err(cause)
@@ -426,7 +428,7 @@ impl<B: BookId> Cell<B> {
             event,
             token,
         } = envelope;
-        if !actor.hears(&event) {
+        if !stepping::hears(actor, &event) {
             return Err(Refusal::Down);
         }
         if !is_for(receiver, *me) {

@@ -2,13 +2,13 @@
 //! cells under locks, and their turns.
 #![tactic(auto)]
 
-mod actor;
 mod cell;
 mod cells;
 mod envelope;
 mod opening;
 mod own_input;
 mod rest;
+mod stepping;
 
 pub use actor::{GroupActor, Stepped};
 pub use cell::{Cell, KeptEvent, StampedEvent, Turn};

@@ -9,9 +9,9 @@ ghost use Rattle.cells.specs.Groups.{AreOfGroup, AreSeated, cell_actors, seat_in
 ghost use Rattle.cells.specs.Inner.Begun.{HasSeat, WhyNotBegun};
 ghost use Rattle.cells.specs.Opening.{AreNew, IsOfGroup, MayMakeCells, MayOpen, MayOpenCells, WhyNotOpen};
 
-use crate::actor::GroupActor;
 use crate::cell::Cell;
 use crate::own_input::OwnInput;
+use actor::GroupActor;
 use client_agent::Agent;
 use event_book::{ActorSeat, Book, BookId};
 use rows::{Actor, ClientId, NodeId, NodeSpec, Refusal, ServerId, is_group_size};

@@ -4,9 +4,9 @@ ghost use Rattle.cells.specs.Actors.{group_size};
 ghost use Rattle.cells.specs.Cells.{IsOpenedCell};
 ghost use Rattle.cells.specs.Rests.{rest_in, rest_of};
 
-use crate::actor::GroupActor;
 use crate::cell::{Cell, StampedEvent};
 use crate::own_input::OwnInput;
+use actor::GroupActor;
 use event_book::{ActorSeat, BookId};
 use rows::Actor;
 

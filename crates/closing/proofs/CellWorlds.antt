@@ -8,7 +8,7 @@ use Rattle.event_book.specs.declared.view.EventView.{EventView}
 use Rattle.event_book.specs.declared.view.EventView.TheVariants.{Own, Delivery, Crash}
 use Rattle.event_book.specs.declared.view.Output.{Output}
 use Rattle.cells.specs.declared.own_input.OwnInput.{OwnInput}
-use Rattle.cells.specs.declared.actor.GroupActor.{GroupActor}
+use Rattle.actor.specs.declared.group_actor.GroupActor.{GroupActor}
 use Rattle.cells.specs.Actors.{ActorSteps}
 use Rattle.cells.specs.Actors.{own_event}
 use Rattle.closing.specs.Closing.{crash_event}

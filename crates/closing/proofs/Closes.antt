@@ -11,7 +11,7 @@ use Rattle.event_book.specs.Seats.{actor_in, IsWhole}
 use Rattle.event_book.specs.declared.view.Note.{Note}
 use Rattle.event_book.specs.declared.view.SeatView.{SeatView}
 use Rattle.cells.specs.declared.own_input.OwnInput.{OwnInput}
-use Rattle.cells.specs.declared.actor.GroupActor.{GroupActor}
+use Rattle.actor.specs.declared.group_actor.GroupActor.{GroupActor}
 use Rattle.cells.specs.Actors.{ActorSteps}
 use Rattle.cells.specs.Cells.{CellView, IsLed, IsLedFrom}
 use Rattle.closing.specs.Closing.{noted_events}

@@ -13,8 +13,8 @@ use Rattle.group_model.specs.Worlds.{first, agents, client_at}
 use Rattle.group_frames.specs.GroupFrames.{CarriesGroup}
 use Rattle.client_agent.specs.AgentView.{AgentView}
 use Rattle.server.specs.ServerViews.{ServerView, IsMember}
-use Rattle.cells.specs.declared.actor.GroupActor.{GroupActor}
-use Rattle.cells.specs.declared.actor.GroupActor.TheVariants.{Server, Client as Agent}
+use Rattle.actor.specs.declared.group_actor.GroupActor.{GroupActor}
+use Rattle.actor.specs.declared.group_actor.GroupActor.TheVariants.{Server, Client as Agent}
 use Rattle.cells.specs.Actors.{output_frame, IsNewActor}
 use Rattle.closing.proofs.CellWorlds.{CellWorld}
 use Rattle.closing.proofs.Standing.{Stands}

@@ -18,8 +18,8 @@ use Rattle.event_book.specs.Actors.{same_actor, lists_actor}
 use Rattle.event_book.specs.declared.view.Note.{Note}
 use Rattle.event_book.proofs.Logs.{all_map}
 use Rattle.cells.specs.declared.own_input.OwnInput.{OwnInput}
-use Rattle.cells.specs.declared.actor.GroupActor.{GroupActor}
-use Rattle.cells.specs.declared.actor.GroupActor.TheVariants.{Server, Client as Agent}
+use Rattle.actor.specs.declared.group_actor.GroupActor.{GroupActor}
+use Rattle.actor.specs.declared.group_actor.GroupActor.TheVariants.{Server, Client as Agent}
 use Rattle.closing.specs.declared.closing.NamedActor.{NamedActor}
 use Rattle.cells.specs.Actors.{BeginsAs, HasNode, IsNewActor, group_size}
 use Rattle.cells.specs.Cells.{CellView, IsOpenedCell}

@@ -26,7 +26,9 @@ use Rattle.client_agent.specs.declared.input.ClientInput.{ClientInput}
 use Rattle.client_agent.specs.declared.input.ClientInput.TheVariants as client_inputs
 use Rattle.server.specs.ServerViews.{ServerView, IsMember, crashed_member}
 use Rattle.server.specs.Handings.{Handing, FrameBytes, OwnInput as TakesOwn, handing, bytes_of}
-use Rattle.world.specs.Inner.GroupInputs.{comes_as_frame, is_client_frame, IsSentTo}
+use Rattle.actor.specs.Handed.{comes_as_frame, is_client_frame}
+use Rattle.actor.specs.Answers.{nothing_sent, ServerCrashed}
+use Rattle.world.specs.Inner.GroupInputs.{IsSentTo}
 use Rattle.world.proofs.GroupScenes.{ServerTakes, ClientTakes}
 use Rattle.world.proofs.GroupOwn.{own_server, own_client}
 use Rattle.world.proofs.GroupDeliveries.{sent_to_server, sent_to_client}
@@ -35,7 +37,7 @@ use Rattle.event_book.specs.declared.view.EventView.TheVariants.{Own, Delivery, 
 use Rattle.event_book.specs.declared.view.Output.{Output}
 use Rattle.cells.specs.declared.own_input.OwnInput.{OwnInput}
 use Rattle.cells.specs.declared.own_input.OwnInput.TheVariants as own
-use Rattle.cells.specs.Actors.{output_frame, nothing_sent, ServerTurned, ServerCrashed, TakesInput, ServerTurns, ClientTurned, TakesClientInput, ClientTurns}
+use Rattle.cells.specs.Actors.{output_frame, ServerTurned, TakesInput, ServerTurns, ClientTurned, TakesClientInput, ClientTurns}
 use Rattle.closing.proofs.CellWorlds.{Brings}
 
 -- a frame is read as the message whose frame it is

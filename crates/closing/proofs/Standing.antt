@@ -24,8 +24,8 @@ use Rattle.world.proofs.GroupClients.{node_of, nodes_stay}
 use Rattle.event_book.specs.declared.view.EventView.{EventView}
 use Rattle.event_book.specs.declared.view.Output.{Output}
 use Rattle.cells.specs.declared.own_input.OwnInput.{OwnInput}
-use Rattle.cells.specs.declared.actor.GroupActor.{GroupActor}
-use Rattle.cells.specs.declared.actor.GroupActor.TheVariants.{Server, Client as Agent}
+use Rattle.actor.specs.declared.group_actor.GroupActor.{GroupActor}
+use Rattle.actor.specs.declared.group_actor.GroupActor.TheVariants.{Server, Client as Agent}
 use Rattle.cells.specs.Actors.{output_frame, ActorSteps}
 use Rattle.closing.proofs.CellWorlds.{CellWorld, put, Brings, Happened, Runs}
 use Rattle.closing.proofs.Moves.{ReadsAgain, server_moves, client_moves}

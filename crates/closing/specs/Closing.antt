@@ -14,8 +14,8 @@ use Rattle.event_book.specs.declared.view.EventView.TheVariants.{Own, Delivery, 
 use Rattle.event_book.specs.declared.view.Note.{Note}
 use Rattle.event_book.specs.Seats.{IsWhole, are_apart, lists_actor}
 use Rattle.cells.specs.declared.own_input.OwnInput.{OwnInput}
-use Rattle.cells.specs.declared.actor.GroupActor.{GroupActor}
-use Rattle.cells.specs.declared.actor.GroupActor.TheVariants.{Server, Client}
+use Rattle.actor.specs.declared.group_actor.GroupActor.{GroupActor}
+use Rattle.actor.specs.declared.group_actor.GroupActor.TheVariants.{Server, Client}
 use Rattle.cells.specs.Actors.{own_event}
 use Rattle.cells.specs.Cells.{CellView}
 use Rattle.cells.specs.Groups.{AreOfGroup, cell_actors, seat_in}

@@ -9,15 +9,17 @@ use Rattle.event_book.specs.declared.view.Note.{Note}
 use Rattle.event_book.specs.declared.view.TokenView.{TokenView}
 use Rattle.event_book.specs.declared.view.SeatView.{SeatView}
 use Rattle.event_book.specs.Seats.{Names, with_note, with_taken}
+use Rattle.server.specs.declared.server.Outbox.{Outbox}
+use Rattle.actor.specs.declared.group_actor.GroupActor.{GroupActor}
+use Rattle.actor.specs.declared.stepped.Stepped.{Stepped}
+use Rattle.actor.specs.declared.stepped.Stepped.TheVariants.{Taken, Crashed}
+use Rattle.actor.specs.Refusals.{RefusedSo}
 use Rattle.cells.specs.declared.own_input.OwnInput.{OwnInput}
-use Rattle.cells.specs.declared.actor.Stepped.{Stepped}
-use Rattle.cells.specs.declared.actor.Stepped.TheVariants.{Taken, Crashed}
 use Rattle.rows.specs.declared.refusal.Refusal.{Refusal}
-use Rattle.cells.specs.declared.actor.GroupActor.{GroupActor}
 use Rattle.cells.specs.Actors.{SameActor}
 use Rattle.cells.specs.Refusals.{ActorRefuses}
-use Rattle.cells.specs.Inner.Steps.{Did, RefusedAsSaid, output_of}
-use Rattle.cells.specs.Cells.{EnvelopeView, envelopes_from, crash_noted}
+use Rattle.cells.specs.Inner.Steps.{Did, output_of}
+use Rattle.cells.specs.Cells.{EnvelopeView, envelopes_from}
 
 -- the outputs of the last note, each with its token
 abbrev pub last_envelopes : List (Note OwnInput) → List EnvelopeView
@@ -47,34 +49,34 @@ CanBeNoted seat Crash tokens = Unit {0}
 
 -- ---- what is noted of a step, or of a crash in its place
 
-abbrev pub noted_by : EventView OwnInput → Stepped → NotedView OwnInput
-noted_by event (Taken outbox) = record { event = event; outputs = map output_of outbox.frames }
-noted_by event Crashed = crash_noted
+abbrev pub event_by : EventView OwnInput → Stepped → EventView OwnInput
+event_by event Taken = event
+event_by event Crashed = Crash
+
+abbrev pub noted_by : EventView OwnInput → Stepped → Outbox → NotedView OwnInput
+noted_by event stepped outbox = record { event = event_by event stepped; outputs = map output_of outbox.frames }
 
 abbrev pub tokens_by : List (TokenView OwnInput) → Stepped → List (TokenView OwnInput)
-tokens_by tokens (Taken outbox) = tokens
+tokens_by tokens Taken = tokens
 tokens_by tokens Crashed = []
 
-abbrev pub work_by : Stepped → List Work
-work_by (Taken outbox) = outbox.work
-work_by Crashed = []
-
-pub record IsRecorded (old : SeatView OwnInput) (event : EventView OwnInput) (tokens : List (TokenView OwnInput)) (stepped : Stepped) (new : SeatView OwnInput) (work : List Work) (sent : List EnvelopeView) (unsent : ℕ) : Type 0 where
+pub record IsRecorded (old : SeatView OwnInput) (event : EventView OwnInput) (tokens : List (TokenView OwnInput)) (stepped : Stepped) (outbox : Outbox) (new : SeatView OwnInput) (work : List Work) (sent : List EnvelopeView) (unsent : ℕ) : Type 0 where
   pub stamp : ℕ
-  pub seat : new ≡ with_note (noted_by event stepped) stamp (with_taken (tokens_by tokens stepped) old)
-  pub work_is : work ≡ work_by stepped
+  pub seat : new ≡ with_note (noted_by event stepped outbox) stamp (with_taken (tokens_by tokens stepped) old)
+  pub work_is : work ≡ outbox.work
   pub count : ℕ
   pub are : sent ≡ take count (last_envelopes new.notes)
-  pub all : count + unsent ≡ length (noted_by event stepped).outputs
+  pub all : count + unsent ≡ length (noted_by event stepped outbox).outputs
 
 -- the actor did something with what came, and the seat recorded that
 pub record IsTurn (actor : GroupActor) (seat : SeatView OwnInput) (event : EventView OwnInput) (tokens : List (TokenView OwnInput)) (work : List Work) (sent : List EnvelopeView) (unsent : ℕ) (after : GroupActor) (now : SeatView OwnInput) : Type 0 where
   pub stepped : Stepped
-  pub did : Did actor event stepped after
-  pub recorded : IsRecorded seat event tokens stepped now work sent unsent
+  pub outbox : Outbox
+  pub did : Did actor event stepped outbox after
+  pub recorded : IsRecorded seat event tokens stepped outbox now work sent unsent
 
 -- the actor refused it, and the seat is as it was
 pub record IsStill (actor : GroupActor) (seat : SeatView OwnInput) (event : EventView OwnInput) (cause : Refusal) (after : GroupActor) (now : SeatView OwnInput) : Type 0 where
   pub same : SameActor actor after
   pub seat_is : now ≡ seat
-  pub refused : RefusedAsSaid (ActorRefuses actor event) cause
+  pub refused : RefusedSo (Unit {0}) (ActorRefuses actor event) cause

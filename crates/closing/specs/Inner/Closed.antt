@@ -7,7 +7,7 @@ use Rattle.group_model.specs.Worlds.{Event}
 use Rattle.event_book.specs.declared.view.Note.{Note}
 use Rattle.event_book.specs.Seats.{IsWhole, are_apart, lists_actor}
 use Rattle.cells.specs.declared.own_input.OwnInput.{OwnInput}
-use Rattle.cells.specs.declared.actor.GroupActor.{GroupActor}
+use Rattle.actor.specs.declared.group_actor.GroupActor.{GroupActor}
 use Rattle.closing.specs.declared.closing.NamedActor.{NamedActor}
 use Rattle.cells.specs.declared.rest.Rest.{Rest}
 use Rattle.cells.specs.Actors.{group_size}

@@ -3,7 +3,7 @@ use Rattle.std.specs.Prelude.{◌≡◌, ◌≢◌, ℕ, suc, ◌<◌, Some, Lis
 use Rattle.rows.specs.declared.actor.Actor.TheVariants as actors
 use Rattle.rows.specs.declared.node.NodeSpec.{NodeSpec}
 use Rattle.client_agent.specs.AgentView.{AgentView}
-use Rattle.cells.specs.declared.actor.GroupActor.TheVariants.{Client}
+use Rattle.actor.specs.declared.group_actor.GroupActor.TheVariants.{Client}
 use Rattle.closing.specs.declared.closing.NamedActor.{NamedActor}
 
 -- the agent of client c
