@@ -12,10 +12,10 @@ ghost use Rattle.raft_snapshot.specs.Shown.{IsShown, StandsFor, shown_state, tur
 
 use machine::Machine;
 
-/// No rule looks at the entries of a log below its commit index but at how many there are, and at
-/// the term of the last one that is covered: with others in place of the covered ones a server
-/// takes the same step, with those in place of the covered ones. An Install and a Beat say which
-/// entries are covered, a Compact which are covered then.
+/// No rule looks at an entry at or below the commit index but at how many there are, and at the
+/// term of the last covered one: with other entries in place of its covered ones a server takes the
+/// same step, sends the same, and has these in their place after it. A Beat says which they are, an
+/// Install puts others in their place where it is taken over, and a Compact covers more of them.
 pub fn steps_are_filled<M: Machine>()
     ensures steps { (n me : ℕ) (P : List (Entry M.Command)) (s : Server M.Command) → MayFill P s →
         (input : Input M.Command) → IsPlainInput input →

@@ -8,8 +8,8 @@ use std::marker::Model;
 
 /// The first entries of a log, known by what is left of them: their number, which is the index of
 /// the last one, that one's term, and the machine's state after them. The state has seen as many
-/// commands as there are entries; where there are none the term is 0. (Raft, extended version 2014,
-/// Figure 13: lastIncludedIndex, lastIncludedTerm.)
+/// commands as there are entries; where there are none the term is 0, and the state the machine's
+/// first one. (Raft, extended version 2014, Figure 13: lastIncludedIndex, lastIncludedTerm.)
 #[derive(Drop)]
 pub struct Snapshot<M: Machine> {
     index: Index,
