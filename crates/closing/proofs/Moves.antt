@@ -21,13 +21,13 @@ use Rattle.group_model.specs.Clients.{Client, Life}
 use Rattle.group_model.specs.Worlds.{World, Event, Deliver, AtServer, AtClient, happens, after_turn, after_client, input_to, client_input_to, client_at}
 use Rattle.group_safety.proofs.Lists.{get_map}
 use Rattle.group_frames.specs.GroupFrames.{CarriesGroup, SendsGroup}
-use Rattle.client_agent.specs.AgentView.{AgentView, crashed_agent}
+use Rattle.client_agent.specs.AgentView.{AgentView}
 use Rattle.client_agent.specs.declared.input.ClientInput.{ClientInput}
 use Rattle.client_agent.specs.declared.input.ClientInput.TheVariants as client_inputs
 use Rattle.server.specs.ServerViews.{ServerView, IsMember, crashed_member}
 use Rattle.server.specs.Handings.{Handing, FrameBytes, OwnInput as TakesOwn, handing, bytes_of}
 use Rattle.actor.specs.Handed.{comes_as_frame, is_client_frame}
-use Rattle.actor.specs.Answers.{nothing_sent, ServerCrashed}
+use Rattle.actor.specs.Answers.{nothing_sent, ServerCrashed, ClientCrashed}
 use Rattle.world.specs.Inner.GroupInputs.{IsSentTo}
 use Rattle.world.proofs.GroupScenes.{ServerTakes, ClientTakes}
 use Rattle.world.proofs.GroupOwn.{own_server, own_client}
@@ -194,14 +194,14 @@ module _ (again : ReadsAgain) (sent : List Output) (w : World)
           sends = q.sent;
         }
 
-    client_falls : outputs ≡ [] → is_some x.life ≡ true → new ≡ crashed_agent agent →
+    client_falls : outputs ≡ [] → ClientCrashed agent new →
         ClientMoves w (AtClient k clients.Crash) k new outputs
-    client_falls none up is = record {
+    client_falls none t = record {
       turn = record { client = record x { life = None }; sent = [] };
       goes = ap (λ o. client_input_to w k clients.Crash o) here
-          ∙ ap (λ r. after_client w k r) (client_crash (length w.servers) x x.life up);
-      size = ap (λ (a : AgentView). a.size) is;
-      client = ap (λ (a : AgentView). a.client) is;
+          ∙ ap (λ r. after_client w k r) (client_crash (length w.servers) x x.life t.0);
+      size = ap (λ (a : AgentView). a.size) t.1;
+      client = ap (λ (a : AgentView). a.client) t.1;
       sends = record { frames = []; added = ap (map output_frame) none; carry = tt };
     }
 
@@ -223,4 +223,4 @@ module _ (again : ReadsAgain) (sent : List Output) (w : World)
         (sent_to sent j (actors.Client k) frame brings.2) number refl here)
         (subst (λ b. ClientTurned agent (client_inputs.Frame b) outputs new) bytes t))
     client_moves Crash e brings t =
-        subst (λ f. ClientMoves w f k new outputs) (sym brings) (client_falls t.0 t.1 t.2)
+        subst (λ f. ClientMoves w f k new outputs) (sym brings) (client_falls t.0 t.1)
