@@ -4,7 +4,7 @@ pub mod Reasons
 pub mod Refusals
 pub mod Stages
 pub mod Replays
-pub mod KeptNodes
+pub mod KeptShapes
 pub mod Tellings
 pub mod Seats
 pub mod Plays

@@ -1,11 +1,31 @@
--- What is told of a play is told of its scenario.
-use Rattle.std.proofs.Common.{◌≡◌, ◌∙◌, ℕ, List, Option}
-use Rattle.scenario_file.specs.Objects.{step_lines}
-use Rattle.runner.specs.Told.{TellsScenario}
+-- What is told of a run as a whole.
+use Rattle.std.proofs.Common.{◌≡◌, ◌⊎◌, ◌∙◌, ◌≤◌, ℕ, List, Option, IfSome, OnOk, Result, Ok, Err, arith, inl, inr, length, subst}
+use Rattle.std.proofs.lemmas.Option.{IfSome_then}
+use Rattle.clap.specs.Words.{IsAmong, Kinds}
+use Rattle.rows.specs.declared.actor.Actor.{Actor}
+use Rattle.rows.specs.declared.node.NodeSpec.{NodeSpec}
+use Rattle.world.specs.GroupView.{GroupView, nodes_of, renumbered}
+use Rattle.cells.specs.Cells.{CellView}
+use Rattle.closing.specs.Closing.{ClosesTo}
+use Rattle.transcript.specs.Transcripts.{IsTranscript, record_of}
+use Rattle.ending.specs.Endings.{TellsEnding}
+use Rattle.scenario_file.specs.declared.scenario.Scenario.{Scenario}
+use Rattle.scenario_file.specs.Complaints.{IsGood}
+use Rattle.scenario_file.specs.Objects.{IsScenarioText, step_lines}
+use Rattle.runner.specs.Faults.{AskForHelp, IsStatus}
+use Rattle.runner.specs.Told.{TellsScenario, TellsThreads}
+use Rattle.runner.specs.Inner.Closed.{TellsClosed, TellsOnThreads}
+use Rattle.runner.specs.Inner.Faults.{IsFound}
 use Rattle.runner.specs.Inner.Played.{TellsPlay}
 use Rattle.runner.specs.Inner.PlaySteps.{StepRefused, StepTaken}
-use Rattle.runner.proofs.KeptNodes.{lines_keep}
+use Rattle.runner.specs.declared.fault.Fault.{Fault}
+use Rattle.runner.specs.declared.fault.Fault.TheVariants.{CommandLine, CannotRead, CannotWrite, BadScenario, BadTranscript, NoMemory, Output}
+use Rattle.runner.proofs.KeptShapes.{nodes_stay, size_stays}
 use Rattle.runner.proofs.Stages.{each_may_refuse}
+
+-- what holds of the bytes that were read holds of those of the file, where they are known
+pub of_file : (P : List ℕ → Type 0) (file : Option (List ℕ)) (bytes : List ℕ) → IfSome file (λ known. bytes ≡ known) → P bytes → IfSome file P
+of_file P file bytes read is = IfSome_then file read (λ known same. subst P same is)
 
 pub play_is_told : (file written : Option (List ℕ)) (status : ℕ) (old new : Option (List ℕ)) → TellsPlay file written status old new → TellsScenario file written status old new
 play_is_told file written status old new is =
@@ -17,7 +37,60 @@ play_is_told file written status old new is =
       refused = is.refused;
       of_lines = each_may_refuse StepTaken StepRefused 1 lines is.first is.last is.refused is.played;
       group = is.last.world;
-      nodes = lines_keep lines is.first is.refused is.last is.played ∙ is.begun.world.nodes_are;
+      size = size_stays lines is.first is.refused is.last is.played ∙ is.begun.world.count;
+      nodes = nodes_stay lines is.first is.refused is.last is.played ∙ is.begun.world.nodes_are;
       recorded = is.recorded;
       told = is.told;
     }
+
+-- ---- threads
+
+-- where the group to which cells close is told to its end, its transcript is written before
+pub closed_told : (n : ℕ) (nodes : List NodeSpec) (all : List Actor) (cells : List CellView) (group : GroupView) (written old new : Option (List ℕ)) (r : Result (Unit {0}) Fault)
+    → ClosesTo all cells group → length group.servers ≡ n → nodes_of group ≡ renumbered 1 nodes
+    → IfSome written (λ known. OnOk r (IsTranscript (record_of group) known)) → OnOk r (TellsEnding group old new)
+    → OnOk r (TellsClosed n nodes all cells written old new)
+closed_told n nodes all cells group written old new (Ok u) closes servers clients recorded ending = record {
+  group = group;
+  closes = closes;
+  servers = servers;
+  clients = clients;
+  recorded = recorded;
+  ending = ending;
+}
+closed_told n nodes all cells group written old new (Err fault) closes servers clients recorded ending = tt
+
+pub on_threads_told : (file written : Option (List ℕ)) (s : Scenario) (status : ℕ) (old new : Option (List ℕ)) → IfSome file (λ text. IsScenarioText text s) → IsGood s
+    → TellsOnThreads s written status old new → TellsThreads file written status old new
+on_threads_told file written s status old new read good (between, all, cells, steps, closed) = (
+  record {
+    scenario = s;
+    read = read;
+    good = good;
+    refused = steps.0;
+    of_lines = steps.1;
+    group = closed.group;
+    size = closed.servers;
+    nodes = closed.clients;
+    recorded = closed.recorded;
+    told = (between, steps.2, closed.ending);
+  },
+  all,
+  cells,
+  closed.closes,
+)
+
+-- ---- help
+
+-- where a run ends by a fault with such a status, help was asked for
+pub help_is_told : (found : Kinds) (fault : Fault) (status : ℕ) → IsFound found fault → (status ≡ 2) ⊎ IsStatus fault status → status ≤ 1 → AskForHelp found × (status ≡ 0)
+help_is_told found fault status is (inl two) few = absurd (omega (arith, two, few))
+help_is_told found (CommandLine error) status is (inr (inl (inl help, zero))) few = (inl (subst (λ kind. IsAmong kind found) help is), zero)
+help_is_told found (CommandLine error) status is (inr (inl (inr version, zero))) few = (inr (subst (λ kind. IsAmong kind found) version is), zero)
+help_is_told found (CommandLine error) status is (inr (inr other)) few = absurd (omega (arith, other.1, few))
+help_is_told found (CannotRead name) status is (inr two) few = absurd (omega (arith, two, few))
+help_is_told found (CannotWrite name) status is (inr two) few = absurd (omega (arith, two, few))
+help_is_told found BadScenario status is (inr two) few = absurd (omega (arith, two, few))
+help_is_told found (BadTranscript place) status is (inr two) few = absurd (omega (arith, two, few))
+help_is_told found NoMemory status is (inr three) few = absurd (omega (arith, three, few))
+help_is_told found Output status is (inr two) few = absurd (omega (arith, two, few))

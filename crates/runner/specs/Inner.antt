@@ -10,4 +10,5 @@ pub mod PlayWork
 pub mod PlaySteps
 pub mod ThreadSteps
 pub mod Played
+pub mod Closed
 pub mod Replayed

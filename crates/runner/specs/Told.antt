@@ -2,12 +2,15 @@
 use Rattle.std.specs.Prelude.{◌≡◌, ◌⊎◌, ◌++◌, ◌∷◌, ℕ, List, [], Option, IfSome, codes, decimal, length, option_and_then, option_map}
 use Rattle.std.specs.Io.KnownBytes.{Appends}
 use Rattle.std.specs.List.{flat_map}
+use Rattle.rows.specs.declared.actor.Actor.{Actor}
 use Rattle.rows.specs.Refusals.{number_of}
 use Rattle.rows.specs.declared.refusal.Refusal.{Refusal}
 use Rattle.group_model.specs.Worlds.{Event}
 use Rattle.world.specs.declared.done.Done.{Done}
 use Rattle.world.specs.GroupSteps.{IsGroupDone, IsNewGroup, RefusesGroupEvent, SameView}
 use Rattle.world.specs.GroupView.{GroupView, nodes_of, renumbered}
+use Rattle.cells.specs.Cells.{CellView}
+use Rattle.closing.specs.Closing.{ClosesTo}
 use Rattle.transcript.specs.EventLines.{event_line}
 use Rattle.transcript.specs.Transcripts.{IsTranscript, Recorded, record_of}
 use Rattle.picture.specs.Pictures.{GrowsByPicture}
@@ -60,7 +63,8 @@ MayRefuse number line refused =
 
 -- A scenario was played, each of whose lines is a step's: that of the file, where its bytes are
 -- known. Told are the refusals of some of its lines, in order and each once at most, and the last
--- lines of a group of its nodes, of which the transcript is, where the bytes of that are known.
+-- lines of a group of its size and nodes, of which the transcript is, where the bytes of that are
+-- known.
 pub record TellsScenario (file written : Option (List ℕ)) (status : ℕ) (old new : Option (List ℕ)) : Type 0 where
   pub scenario : Scenario
   pub read : IfSome file (λ text. IsScenarioText text scenario)
@@ -68,9 +72,19 @@ pub record TellsScenario (file written : Option (List ℕ)) (status : ℕ) (old 
   pub refused : List Refused
   pub of_lines : OfEachLine MayRefuse 1 (step_lines scenario) refused
   pub group : GroupView
+  pub size : length group.servers ≡ scenario.settings.servers
   pub nodes : nodes_of group ≡ renumbered 1 scenario.nodes.items
   pub recorded : IfSome written (IsTranscript (record_of group))
   pub told : TellsRun refused group status old new
+
+-- cells close to this group: all that they noted, each event once, is what happened to it
+abbrev pub IsOfCells : GroupView → Type 0
+IsOfCells group = (all : List Actor) × (cells : List CellView) × ClosesTo all cells group
+
+-- the same on threads, where the group is one to which cells close
+abbrev pub TellsThreads : (file written : Option (List ℕ)) → ℕ → Option (List ℕ) → Option (List ℕ) → Type 0
+TellsThreads file written status old new =
+    (told : TellsScenario file written status old new) × IsOfCells told.group
 
 -- ---- transcripts
 
@@ -133,7 +147,7 @@ abbrev pub Tells : (before after : List ℕ → Option (List ℕ)) → CommandLi
 Tells before after (Run file out) status old new =
     TellsScenario (before file.now) (option_and_then after (option_map (λ t. t.now) out)) status old new
 Tells before after (Threads file workers out) status old new =
-    TellsScenario (before file.now) (option_and_then after (option_map (λ t. t.now) out)) status old new
+    TellsThreads (before file.now) (option_and_then after (option_map (λ t. t.now) out)) status old new
 Tells before after (Replay file) status old new = TellsReplay (before file.now) status old new
 Tells before after (Draw file) status old new = TellsPicture (before file.now) status old new
 Tells before after (Check file) status old new = TellsNotes (before file.now) status old new

@@ -43,6 +43,8 @@ where
     R: Threads + Wait + Copy + Send + 'static,
     ensures most { result ≤ 3 }
     ensures exit { IsExit (words_fault (map (λ w. w.now) words.entry.now)) result }
+    ensures told { result ≤ 1 → TellsFor (map (λ w. w.now) words.entry.now) (F.file shelf.old)
+        (F.file shelf.new) result (W.contents out.old) (W.contents out.new) }
     ensures quiet { result ≤ 1 → (err.new ≡ err.old)
         ⊎ AskForThreads (map (λ w. w.now) words.entry.now) }
     ensures played { result ≡ 1 → AskForPlay (map (λ w. w.now) words.entry.now) }
@@ -91,6 +93,8 @@ where
     ensures ok { IfOk result (λ status. (status ≤ 1)
         × (words_fault (map (λ w. w.now) words.entry.now) ≡ [])) }
     ensures err { IfErr result (IsFound (words_fault (map (λ w. w.now) words.entry.now))) }
+    ensures told { IfOk result (λ status. TellsFor (map (λ w. w.now) words.entry.now)
+        (F.file shelf.old) (F.file shelf.new) status (W.contents out.old) (W.contents out.new)) }
     ensures played { IfOk result (λ status. status ≡ 1
         → AskForPlay (map (λ w. w.now) words.entry.now)) }
     ensures quiet { (err.new ≡ err.old) ⊎ AskForThreads (map (λ w. w.now) words.entry.now) }
@@ -115,6 +119,8 @@ fn obey<'a, R, F: Shelf, W: Write, E: Write>(
 where
     R: Threads + Wait + Copy + Send + 'static,
     ensures ok { IfOk result (λ status. status ≤ 1) }
+    ensures told { IfOk result (λ status. Tells (F.file shelf.old) (F.file shelf.new) line.entry
+        status (W.contents out.old) (W.contents out.new)) }
     ensures played { IfOk result (λ status. status ≡ 1 → IsPlay line.entry) }
     ensures of_run { IfErr result IsOfRun }
     ensures quiet { (err.new ≡ err.old) ⊎ IsThreads line.entry }

@@ -32,6 +32,8 @@ pub(crate) fn replay_file<'a, F: Shelf, W: Write>(
     file: &'a str,
 ) -> Result<u8, Fault<'a>>
     ensures most { IfOk result (λ status. status ≤ 1) }
+    ensures told { IfOk result (λ status. TellsReplay (F.file shelf.old file.entry.now) status
+        (W.contents out.old) (W.contents out.new)) }
     ensures of_run { IfErr result IsOfRun }
 {
     let bytes = load_bytes(shelf, file)?;
@@ -51,6 +53,8 @@ pub(crate) fn draw_file<'a, F: Shelf, W: Write>(
     file: &'a str,
 ) -> Result<u8, Fault<'a>>
     ensures status { IfOk result (λ status. status ≡ 0) }
+    ensures told { IfOk result (λ status. TellsPicture (F.file shelf.old file.entry.now) status
+        (W.contents out.old) (W.contents out.new)) }
     ensures of_run { IfErr result IsOfRun }
 {
     let bytes = load_bytes(shelf, file)?;

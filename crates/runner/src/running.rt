@@ -57,6 +57,9 @@ pub(crate) fn run_file<'a, F: Shelf, W: Write>(
     transcript: Option<&'a str>,
 ) -> Result<u8, Fault<'a>>
     ensures most { IfOk result (λ status. status ≤ 1) }
+    ensures told { IfOk result (λ status. TellsPlay (F.file shelf.old file.entry.now)
+        (option_and_then (F.file shelf.new) (option_map (λ t. t.now) transcript.entry)) status
+        (W.contents out.old) (W.contents out.new)) }
     ensures of_run { IfErr result IsOfRun }
 {
     let scenario = load(alloc, shelf, file)?;

@@ -1,21 +1,21 @@
 //! A scenario's file, played on threads.
-ghost use Rattle.std.specs.Prelude.{◌≡◌, ◌≢◌, ◌≤◌, IfErr, IfNone, IfOk, IfSome, OnOk, length, option_and_then, option_map};
+ghost use Rattle.std.specs.Prelude.{◌≡◌, ◌≢◌, ◌≤◌, IfErr, IfNone, IfOk, IfSome, OnOk, length, option_and_then, option_map, take};
 ghost use Rattle.std.specs.Io.KnownBytes.{Appends};
 ghost use Rattle.cells.specs.Actors.{group_size, own_event};
 ghost use Rattle.world.specs.GroupEvents.{group_event};
-ghost use Rattle.world.specs.GroupView.{nodes_of, renumbered};
 ghost use Rattle.runner.specs.Inner.Printed.{lost_line};
+ghost use Rattle.runner.specs.Inner.Closed.{AreWhole, TellsClosed, TellsOnThreads};
 ghost use Rattle.runner.specs.Inner.Faults.{IsOfRun};
 ghost use Rattle.runner.specs.Inner.Played.{TellsSteps};
 ghost use Rattle.runner.specs.Inner.ThreadSteps.{IsDelivery, RefusedOnThreads, TakenOnThreads};
-ghost use Rattle.runner.specs.Told.{TellsScenario};
+ghost use Rattle.runner.specs.Told.{TellsThreads};
 ghost use Rattle.scenario_file.specs.Objects.{step_lines};
 ghost use Rattle.scenario_file.specs.Steps.{AnEvent};
 
 use crate::fault::Fault;
 use crate::running::{Stage, check_steps, end_run, load, play_steps};
 use crate::shelf::Shelf;
-use cells::{Cells, OwnInput, cells_of};
+use cells::{Cells, OwnInput, OwnedCells, cells_of};
 use closing::close;
 use event_book::{BookId, OpenedBook};
 use group_threads::{NetSettings, OpenGate, RunningGroup, start, stop};
@@ -28,7 +28,7 @@ use std::io::Write;
 use std::marker::Brand;
 use std::sync::{Arc, Wait};
 use std::thread::Threads;
-use world::{Event, World};
+use world::Event;
 
 // How many messages may wait for an actor at a time.
 const ROOM: usize = 1_024;
@@ -55,16 +55,17 @@ where
     E: Write,
     R: Threads + Wait + Copy + Send + 'static,
     ensures most { IfOk result (λ status. status ≤ 1) }
+    ensures told { IfOk result (λ status. TellsThreads (F.file shelf.old file.entry.now)
+        (option_and_then (F.file shelf.new) (option_map (λ t. t.now) transcript.entry)) status
+        (W.contents out.old) (W.contents out.new)) }
     ensures of_run { IfErr result IsOfRun }
 {
     let scenario = load(alloc, shelf, file)?;
     check_steps(alloc, &scenario)?;
     let book = open_book(alloc, &scenario)?;
-    let (status, world) = play_threads::<Brand, _, _, _>(
-        rt, alloc, out, err, &scenario, workers, book,
-    )?;
-    end_run(alloc, shelf, out, &world, transcript)?;
-    Ok(status)
+    run_threads::<Brand, _, _, _, _>(
+        rt, alloc, shelf, out, err, &scenario, workers, transcript, book,
+    )
 }
 
 // A group whose threads run.
@@ -182,8 +183,40 @@ fn held<B: BookId>(
     Ok(Arc::try_clone(group)?)
 }
 
-// Plays the steps while the threads run; then the threads end, and the group is closed to its
-// world.
+// Plays the steps on threads, and then says how the group stands to which the cells close.
+fn run_threads<'a, B, F, W, E, R>(
+    rt: R,
+    alloc: Global,
+    shelf: &mut F,
+    out: &mut W,
+    err: &mut E,
+    scenario: &Scenario,
+    workers: u8,
+    transcript: Option<&'a str>,
+    opened: OpenedBook<OwnInput>,
+) -> Result<u8, Fault<'a>>
+where
+    B: BookId + Send + Sync + 'static,
+    F: Shelf,
+    W: Write,
+    E: Write,
+    R: Threads + Wait + Copy + Send + 'static,
+    requires book { opened ≡ (B.table, B.actors) }
+    requires nodes { scenario.now.nodes.items ≡ B.nodes }
+    ensures most { IfOk result (λ status. status ≤ 1) }
+    ensures told { IfOk result (λ status. TellsOnThreads scenario.now
+        (option_and_then (F.file shelf.new) (option_map (λ t. t.now) transcript.entry)) status
+        (W.contents out.old) (W.contents out.new)) }
+    ensures of_run { IfErr result IsOfRun }
+{
+    let (status, cells) = play_threads::<B, _, _, _>(
+        rt, alloc, out, err, scenario, workers, opened,
+    )?;
+    end_threads(alloc, shelf, out, cells, transcript)?;
+    Ok(status)
+}
+
+// Plays the steps while the threads run; then the threads end, and the cells are given back.
 fn play_threads<'a, B, W, E, R>(
     rt: R,
     alloc: Global,
@@ -192,7 +225,7 @@ fn play_threads<'a, B, W, E, R>(
     scenario: &Scenario,
     workers: u8,
     opened: OpenedBook<OwnInput>,
-) -> Result<(u8, World), Fault<'a>>
+) -> Result<(u8, OwnedCells<B>), Fault<'a>>
 where
     B: BookId + Send + Sync + 'static,
     W: Write,
@@ -203,8 +236,11 @@ where
     ensures status { IfOk result (λ played. played.0 ≤ 1) }
     ensures told { IfOk result (λ played. TellsSteps (step_lines scenario.now) played.0
         (W.contents out.old) (W.contents out.new)) }
+    ensures whole { IfOk result (λ played. AreWhole played.1.servers played.1.clients B.actors
+        played.1.cells.items) }
+    ensures servers { IfOk result (λ played. played.1.servers ≡ scenario.now.settings.servers) }
     ensures nodes { IfOk result (λ played.
-        nodes_of played.1 ≡ renumbered 1 scenario.now.nodes.items) }
+        take played.1.clients B.nodes ≡ scenario.now.nodes.items) }
     ensures of_run { IfErr result IsOfRun }
 {
     let group = match group::<B>(alloc, scenario, opened) {
@@ -223,7 +259,27 @@ where
     let group = stop(&rt, group, threads).ok_or(Fault::NoMemory)?;
     // Where the standard error fails, the run goes on.
     let _ = tell_lost(err, group.lost_messages());
-    Ok((played?, close(alloc, group.into_cells().into_cells()?)?))
+    Ok((played?, group.into_cells().into_cells()?))
+}
+
+// Closes a group, writes the transcript of the world to which its cells close where one is asked
+// for, and then says how that stands.
+fn end_threads<'a, B: BookId, F: Shelf, W: Write>(
+    alloc: Global,
+    shelf: &mut F,
+    out: &mut W,
+    cells: OwnedCells<B>,
+    transcript: Option<&'a str>,
+) -> Result<(), Fault<'a>>
+    requires { AreWhole cells.servers cells.clients B.actors cells.cells.items }
+    ensures told { OnOk result (TellsClosed cells.servers (take cells.clients B.nodes) B.actors
+        cells.cells.items
+        (option_and_then (F.file shelf.new) (option_map (λ t. t.now) transcript.entry))
+        (W.contents out.old) (W.contents out.new)) }
+    ensures of_run { IfErr result IsOfRun }
+{
+    let world = close(alloc, cells)?;
+    end_run(alloc, shelf, out, &world, transcript)
 }
 
 // Tells the standard error how many messages were lost, where any was.
