@@ -45,9 +45,10 @@ impl<'a> From<NoMemory> for Fault<'a> {
 }
 
 impl<'a> From<EndError> for Fault<'a> {
-    ghost use Rattle.runner.specs.Inner.Faults.{IsOfRun, end_fault};
+    ghost use Rattle.runner.specs.Inner.Faults.{IsOfRun, IsPastReading, end_fault};
 
-    ghost from_gives = { λ e fault. (fault ≡ end_fault e) × IsOfRun fault };
+    ghost from_gives = { λ e fault.
+        (fault ≡ end_fault e) × IsOfRun fault × IsPastReading fault };
 
     fn from(e: EndError) -> Fault<'a> {
         match e {

@@ -1,5 +1,5 @@
 //! A transcript's file, played again or drawn.
-ghost use Rattle.std.specs.Prelude.{◌≡◌, ◌≢◌, ◌≤◌, ◌∷◌, ◌++◌, ◌==◌, ℕ, IfErr, IfOk, IsUtf8, List, OnOk, length, map};
+ghost use Rattle.std.specs.Prelude.{◌≡◌, ◌≢◌, ◌≤◌, ◌⊎◌, ◌∷◌, ◌++◌, ◌==◌, ℕ, IfErr, IfOk, IsUtf8, List, OnOk, length, map};
 ghost use Rattle.std.specs.List.{AllByRecursion, position};
 ghost use Rattle.picture.specs.Pictures.{GrowsByPicture};
 ghost use Rattle.transcript.specs.EventLines.{HasLine, event_line};
@@ -8,7 +8,7 @@ ghost use Rattle.transcript.specs.Transcripts.{IsTranscript, Recorded, lines_tex
 ghost use Rattle.world.specs.GroupEvents.{group_events};
 ghost use Rattle.world.specs.GroupSteps.{IsNewGroup};
 ghost use Rattle.runner.specs.declared.fault.Fault.TheVariants as faults;
-ghost use Rattle.runner.specs.Inner.Faults.{IsOfRun, MayStopPrinting, MayStopTranscript};
+ghost use Rattle.runner.specs.Inner.Faults.{IsOfRun, IsPastReading, MayStopPrinting, MayStopTranscript};
 ghost use Rattle.runner.specs.Inner.Replayed.{TellsEvents};
 ghost use Rattle.runner.specs.Told.{TellsPicture, TellsReplay};
 
@@ -34,6 +34,7 @@ pub(crate) fn replay_file<'a, F: Shelf, W: Write>(
     ensures most { IfOk result (λ status. status ≤ 1) }
     ensures told { IfOk result (λ status. TellsReplay (F.file shelf.old file.entry.now) status
         (W.contents out.old) (W.contents out.new)) }
+    ensures unsaid { IfErr result (λ fault. (out.new ≡ out.old) ⊎ IsPastReading fault) }
     ensures of_run { IfErr result IsOfRun }
 {
     let bytes = load_bytes(shelf, file)?;
@@ -55,6 +56,7 @@ pub(crate) fn draw_file<'a, F: Shelf, W: Write>(
     ensures status { IfOk result (λ status. status ≡ 0) }
     ensures told { IfOk result (λ status. TellsPicture (F.file shelf.old file.entry.now) status
         (W.contents out.old) (W.contents out.new)) }
+    ensures unsaid { IfErr result (λ fault. (out.new ≡ out.old) ⊎ IsPastReading fault) }
     ensures of_run { IfErr result IsOfRun }
 {
     let bytes = load_bytes(shelf, file)?;
@@ -181,6 +183,7 @@ fn play_events<'a, W: Write>(
     ensures quiet { IfOk result (λ status. status ≡ 0 → out.new ≡ out.old) }
     ensures told { IfOk result (λ status. TellsEvents (group_events events.items)
         world.old world.new status (W.contents out.old) (W.contents out.new)) }
+    ensures past { IfErr result IsPastReading }
     ensures of_run { IfErr result IsOfRun }
 {
     let mut rest = lines;

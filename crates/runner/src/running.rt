@@ -10,7 +10,7 @@ ghost use Rattle.scenario_file.specs.Complaints.{IsGood, IsStepLine};
 ghost use Rattle.scenario_file.specs.Objects.{IsScenarioText, step_lines};
 ghost use Rattle.scenario_file.specs.Steps.{IsLine, Step as AnyStep, played_step};
 ghost use Rattle.runner.specs.declared.fault.Fault.TheVariants as faults;
-ghost use Rattle.runner.specs.Inner.Faults.{IsOfRun, MayStopReading};
+ghost use Rattle.runner.specs.Inner.Faults.{IsOfRun, IsPastReading, MayStopReading};
 ghost use Rattle.runner.specs.Inner.Files.{IsScenarioFile};
 ghost use Rattle.runner.specs.Inner.Plays.{IsNewPlay, MakesGroup};
 ghost use Rattle.runner.specs.Inner.Played.{TellsLines, TellsPlay, TellsSteps};
@@ -60,6 +60,7 @@ pub(crate) fn run_file<'a, F: Shelf, W: Write>(
     ensures told { IfOk result (λ status. TellsPlay (F.file shelf.old file.entry.now)
         (option_and_then (F.file shelf.new) (option_map (λ t. t.now) transcript.entry)) status
         (W.contents out.old) (W.contents out.new)) }
+    ensures unsaid { IfErr result (λ fault. (out.new ≡ out.old) ⊎ IsPastReading fault) }
     ensures of_run { IfErr result IsOfRun }
 {
     let scenario = load(alloc, shelf, file)?;
@@ -83,6 +84,7 @@ pub(crate) fn play_steps<'a, W: Write, S: Stage>(
         stage.old stage.new status (W.contents out.old) (W.contents out.new)) }
     ensures some { IfOk result (λ status. TellsSteps (step_lines scenario.now) status
         (W.contents out.old) (W.contents out.new)) }
+    ensures past { IfErr result (λ fault. IsGood scenario.now → IsPastReading fault) }
     ensures of_run { IfErr result IsOfRun }
 {
     let mut status = 0;
@@ -109,6 +111,7 @@ pub(crate) fn end_run<'a, F: Shelf, W: Write>(
         OnOk result (IsTranscript (record_of world.now) known)) }
     ensures ending { OnOk result
         (TellsEnding world.now (W.contents out.old) (W.contents out.new)) }
+    ensures past { IfErr result IsPastReading }
     ensures of_run { IfErr result IsOfRun }
 {
     if let Some(name) = transcript {
@@ -252,6 +255,7 @@ pub(crate) fn print_refusal<'a, W: Write>(
         → fault ≡ faults.NoMemory) }
     ensures output { IfErr result (λ fault. refusal ≢ refusals.NoMemory
         → fault ≡ faults.Output) }
+    ensures past { IfErr result IsPastReading }
     ensures of_run { IfErr result IsOfRun }
 {
     if matches!(refusal, Refusal::NoMemory) {

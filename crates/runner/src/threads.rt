@@ -1,14 +1,15 @@
 //! A scenario's file, played on threads.
-ghost use Rattle.std.specs.Prelude.{◌≡◌, ◌≢◌, ◌≤◌, IfErr, IfNone, IfOk, IfSome, OnOk, length, option_and_then, option_map, take};
+ghost use Rattle.std.specs.Prelude.{◌≡◌, ◌≢◌, ◌≤◌, ◌⊎◌, IfErr, IfNone, IfOk, IfSome, OnOk, length, option_and_then, option_map, take};
 ghost use Rattle.std.specs.Io.KnownBytes.{Appends};
 ghost use Rattle.cells.specs.Actors.{group_size, own_event};
 ghost use Rattle.world.specs.GroupEvents.{group_event};
 ghost use Rattle.runner.specs.Inner.Printed.{lost_line};
 ghost use Rattle.runner.specs.Inner.Closed.{AreWhole, TellsClosed, TellsOnThreads};
-ghost use Rattle.runner.specs.Inner.Faults.{IsOfRun};
+ghost use Rattle.runner.specs.Inner.Faults.{IsOfRun, IsPastReading};
 ghost use Rattle.runner.specs.Inner.Played.{TellsSteps};
 ghost use Rattle.runner.specs.Inner.ThreadSteps.{IsDelivery, RefusedOnThreads, TakenOnThreads};
 ghost use Rattle.runner.specs.Told.{TellsThreads};
+ghost use Rattle.scenario_file.specs.Complaints.{IsGood};
 ghost use Rattle.scenario_file.specs.Objects.{step_lines};
 ghost use Rattle.scenario_file.specs.Steps.{AnEvent};
 
@@ -58,6 +59,7 @@ where
     ensures told { IfOk result (λ status. TellsThreads (F.file shelf.old file.entry.now)
         (option_and_then (F.file shelf.new) (option_map (λ t. t.now) transcript.entry)) status
         (W.contents out.old) (W.contents out.new)) }
+    ensures unsaid { IfErr result (λ fault. (out.new ≡ out.old) ⊎ IsPastReading fault) }
     ensures of_run { IfErr result IsOfRun }
 {
     let scenario = load(alloc, shelf, file)?;
@@ -139,6 +141,7 @@ fn opened(alloc: Global, scenario: &Scenario) -> Result<OpenedBook<OwnInput>, Re
 }
 
 fn open_book<'a>(alloc: Global, scenario: &Scenario) -> Result<OpenedBook<OwnInput>, Fault<'a>>
+    ensures past { IfErr result IsPastReading }
     ensures of_run { IfErr result IsOfRun }
 {
     match opened(alloc, scenario) {
@@ -207,6 +210,7 @@ where
     ensures told { IfOk result (λ status. TellsOnThreads scenario.now
         (option_and_then (F.file shelf.new) (option_map (λ t. t.now) transcript.entry)) status
         (W.contents out.old) (W.contents out.new)) }
+    ensures past { IfErr result (λ fault. IsGood scenario.now → IsPastReading fault) }
     ensures of_run { IfErr result IsOfRun }
 {
     let (status, cells) = play_threads::<B, _, _, _>(
@@ -241,6 +245,7 @@ where
     ensures servers { IfOk result (λ played. played.1.servers ≡ scenario.now.settings.servers) }
     ensures nodes { IfOk result (λ played.
         take played.1.clients B.nodes ≡ scenario.now.nodes.items) }
+    ensures past { IfErr result (λ fault. IsGood scenario.now → IsPastReading fault) }
     ensures of_run { IfErr result IsOfRun }
 {
     let group = match group::<B>(alloc, scenario, opened) {
@@ -276,6 +281,7 @@ fn end_threads<'a, B: BookId, F: Shelf, W: Write>(
         cells.cells.items
         (option_and_then (F.file shelf.new) (option_map (λ t. t.now) transcript.entry))
         (W.contents out.old) (W.contents out.new)) }
+    ensures past { IfErr result IsPastReading }
     ensures of_run { IfErr result IsOfRun }
 {
     let world = close(alloc, cells)?;

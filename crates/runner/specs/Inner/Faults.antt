@@ -4,7 +4,7 @@ use Rattle.clap.specs.Words.{IsAmong, Kinds, kind_of}
 use Rattle.ending.specs.declared.fault.EndError.{EndError}
 use Rattle.ending.specs.declared.fault.EndError.TheVariants as ends
 use Rattle.runner.specs.declared.fault.Fault.{Fault}
-use Rattle.runner.specs.declared.fault.Fault.TheVariants.{CommandLine, BadScenario, BadTranscript, NoMemory, Output}
+use Rattle.runner.specs.declared.fault.Fault.TheVariants.{CommandLine, CannotRead, BadScenario, BadTranscript, NoMemory, Output}
 use Rattle.transcript.specs.Transcripts.{IsFault, IsTranscript, Recorded}
 
 -- a fault of the words is one of those found in them
@@ -16,6 +16,13 @@ IsFound found _ = ⊤
 abbrev pub IsOfRun : Fault → Type 0
 IsOfRun (CommandLine error) = ⊥
 IsOfRun _ = ⊤
+
+-- it is no fault of what is read: of a file, or of what that has
+abbrev pub IsPastReading : Fault → Type 0
+IsPastReading (CannotRead name) = ⊥
+IsPastReading BadScenario = ⊥
+IsPastReading (BadTranscript place) = ⊥
+IsPastReading _ = ⊤
 
 -- of a run of which not all last lines are told
 abbrev pub end_fault : EndError → Fault
