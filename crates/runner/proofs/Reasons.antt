@@ -1,6 +1,6 @@
 -- Why a run ends, of what is more than was read.
 use Rattle.std.proofs.Common.{◌≡◌, ℕ, List, Option, None, Some, Result, Ok, Err, IfErr, IfOk, IfSome, OnOk, inl, inr, subst, sym}
-use Rattle.runner.specs.Inner.Faults.{MayStopChecking, MayStopReading}
+use Rattle.runner.specs.Inner.Faults.{IsPastReading, MayStopChecking, MayStopReading}
 use Rattle.runner.specs.Inner.Files.{IsGoodFile}
 use Rattle.runner.specs.declared.fault.Fault.{Fault}
 use Rattle.runner.specs.declared.fault.Fault.TheVariants.{BadScenario}
@@ -12,6 +12,11 @@ stops_reading fault f (inr bad) = inr (bad.0, λ q. bad.1 (f q))
 pub stops_checking : {P Q : Type 0} (fault : Fault) → (Q → P) → MayStopChecking P fault → MayStopChecking Q fault
 stops_checking fault f (inl other) = inl other
 stops_checking fault f (inr bad) = inr (bad.0, λ q. bad.1 (f q))
+
+-- where it is what is read
+pub past_reading : (P : Type 0) (fault : Fault) → P → MayStopReading P fault → IsPastReading fault
+past_reading P fault is (inl memory) = subst IsPastReading (sym memory) tt
+past_reading P fault is (inr bad) = absurd (bad.1 is)
 
 -- ---- of a file that is read, the bytes of which are known
 

@@ -11,9 +11,9 @@ returns-clause-told g c =
       recorded = r;
       read = of_file (IsTranscript r) _ c.in_ok-bytes.bytes.items c.in_ok-bytes.ensures.bytes (rw c.as_slice.ensures.value at c.in_ok-transcript.ensures.named);
       first = c.in_ok-world.world;
-      last = c.play_events-status.new.world;
+      last = c.play_events.new.world;
       begun = c.in_ok-world.ensures.ok;
       refused = told.0;
       played = told.1;
-      told = (contents c.play_events-status.new.out, told.2, c.in_ok-print_end.ensures.told);
+      told = (contents c.play_events.new.out, told.2, c.in_ok-print_end.ensures.told);
     }

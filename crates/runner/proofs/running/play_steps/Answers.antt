@@ -1,7 +1,9 @@
-use Rattle.std.proofs.Common.{◌<◌, ◌≤◌, arith, length, map, rules, string_bytes, subst}
+use Rattle.std.proofs.Common.{Err, ◌≡◌, ◌<◌, ◌≤◌, arith, length, map, rules, string_bytes, subst}
 use Rattle.std.proofs.lemmas.List.{take_all}
 use Rattle.scenario_file.specs.Objects.{step_lines}
 use Rattle.runner.specs.Inner.Played.{TellsLines}
+use Rattle.runner.proofs.GoodSteps.{good_at}
+use Rattle.runner.proofs.Reasons.{past_reading}
 use Rattle.runner.proofs.Stages.{lines_tell_steps, step_refused, step_taken}
 use Rattle.runner.proofs.running.play_steps.Goals as goal
 use Rattle.runner.proofs.running.play_steps.Goals.{in-Err+in_ok-print_refusal, in_default}
@@ -38,6 +40,15 @@ loop-line-preserved g c =
                 (contents c.args.out.now) (contents c.loop-line.out) (search rules) was.told;
           })
     ]
+
+pub returns-in_err-step-clause-past : goal.returns-in_err-step-clause-past
+returns-in_err-step-clause-past g c =
+    let steps = c.args.scenario.now.steps.items in
+    let i = c.loop-line.line-index in
+    let inside : i < length steps = search rules in
+    let at = rw c.deref-line-items.ensures.value at c.line-item.is in
+    let same : c.from_residual.result ≡ Err c.in_err-step.field-0.0 = search rules in
+    rw same (λ good. past_reading _ c.in_err-step.field-0.0 (good_at steps i c.line-item.result good inside at) (rw c.as_str.ensures.value at c.in_err-step.ensures.fault))
 
 pub returns-clause-some : goal.returns-clause-some
 returns-clause-some g c =

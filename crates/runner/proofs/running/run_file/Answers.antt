@@ -9,10 +9,10 @@ returns-clause-told g c =
       read = c.in_ok-scenario.ensures.read;
       good = c.in_ok-check_steps.ensures.good;
       first = c.in_ok-play.play;
-      last = c.play_steps-status.new.stage;
+      last = c.play_steps.new.stage;
       begun = c.in_ok-play.ensures.ok;
       refused = told.0;
       played = told.1;
       recorded = rw c.world.ensures at c.in_ok-end_run.ensures.written;
-      told = (contents c.play_steps-status.new.out, told.2, rw c.world.ensures at c.in_ok-end_run.ensures.ending);
+      told = (contents c.play_steps.new.out, told.2, rw c.world.ensures at c.in_ok-end_run.ensures.ending);
     }
