@@ -75,9 +75,7 @@ on_threads_told file written s status old new read good (between, all, cells, st
     recorded = closed.recorded;
     told = (between, steps.2, closed.ending);
   },
-  all,
-  cells,
-  closed.closes,
+  (all, cells, closed.closes),
 )
 
 -- ---- help
