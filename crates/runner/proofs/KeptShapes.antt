@@ -15,7 +15,7 @@ use Rattle.world.specs.GroupView.{GroupView, node_in, nodes_of}
 use Rattle.scenario_file.specs.Steps.{AnEvent, Flow, Step, Work}
 use Rattle.runner.specs.declared.play.Play.{Play}
 use Rattle.runner.specs.Told.{Refused}
-use Rattle.runner.specs.Inner.Flows.{Flowed, ManyPassed, MeetsFate, OnePassed, words_left}
+use Rattle.runner.specs.Inner.Flows.{ManyPassed, MeetsFate, OnePassed, words_left}
 use Rattle.runner.specs.Inner.PlayEvents.{EventRefused, EventTaken, fetched_at, server_of}
 use Rattle.runner.specs.Inner.PlaySteps.{StepRefused, StepTaken}
 use Rattle.runner.specs.Inner.PlayWork.{AskRefused, AskTaken, WorkRefused, WorkTaken}

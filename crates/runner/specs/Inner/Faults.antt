@@ -1,5 +1,5 @@
 -- What a run may end by: for the words of its command line, and for what it reads.
-use Rattle.std.specs.Prelude.{◌≡◌, ◌⊎◌, ℕ, List, [], ⊤}
+use Rattle.std.specs.Prelude.{◌≡◌, ◌⊎◌, ℕ, List, ⊤}
 use Rattle.clap.specs.Words.{IsAmong, Kinds, kind_of}
 use Rattle.ending.specs.declared.fault.EndError.{EndError}
 use Rattle.ending.specs.declared.fault.EndError.TheVariants as ends

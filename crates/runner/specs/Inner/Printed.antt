@@ -1,19 +1,11 @@
 -- What is printed.
-use Rattle.std.specs.Prelude.{◌≡◌, ◌⊎◌, ◌↔◌, ◌++◌, ◌∷◌, ℕ, List, [], Option, IfSome, codes, decimal, option_map, string_bytes}
+use Rattle.std.specs.Prelude.{◌≡◌, ◌⊎◌, ◌++◌, ◌∷◌, ℕ, List, [], Option, IfSome, codes, decimal, option_map, string_bytes}
 use Rattle.std.specs.Fmt.{debug_str}
 use Rattle.std.specs.Io.KnownBytes.{Appends}
-use Rattle.std.specs.List.{flat_map}
 use Rattle.std.specs.Str.{IsUtf8}
-use Rattle.rows.specs.Refusals.{number_of}
-use Rattle.rows.specs.declared.refusal.Refusal.{Refusal}
 use Rattle.scenario_file.specs.declared.checking.Complaint.{Complaint}
 use Rattle.scenario_file.specs.declared.checking.Complaint.TheVariants as complaints
-use Rattle.scenario_file.specs.declared.noting.TooLarge.{TooLarge}
-use Rattle.scenario_file.specs.declared.scenario.Scenario.{Scenario}
-use Rattle.scenario_file.specs.Notes.{AreNotes, note_text}
 use Rattle.scenario_file.specs.Complaints.{AreComplaints}
-use Rattle.scenario_file.specs.EachLine.{OfEachLine}
-use Rattle.scenario_file.specs.Objects.{IsScenarioText}
 use Rattle.scenario_file.specs.WrongTexts.{wrong_text}
 
 -- what the standard error is told of so many lost messages

@@ -1,4 +1,4 @@
-use Rattle.std.proofs.Common.{◌≡◌, ◌+◌, ◌∙◌, length, rules, sym}
+use Rattle.std.proofs.Common.{◌≡◌, ◌+◌, ◌∙◌, length, rules}
 use Rattle.transcript.specs.Transcripts.{recorded}
 use Rattle.runner.proofs.Replays.{head_and_events, head_count, head_lines, head_printable}
 use Rattle.runner.proofs.replaying.event_lines.Goals as goal
