@@ -3,6 +3,7 @@ use Rattle.std.specs.Prelude.{◌≡◌, true, false, is_some, Result, Ok, Err, 
 use Rattle.rows.specs.declared.refusal.Refusal.{Refusal}
 use Rattle.wire.specs.Frames.{Frame}
 use Rattle.raft_model.specs.Servers.{is_up}
+use Rattle.raft_core.specs.RaftView.{SamePlace}
 use Rattle.group_model.specs.Members.{Member}
 use Rattle.client_agent.specs.AgentView.{AgentView, crashed_agent}
 use Rattle.client_agent.specs.declared.input.ClientInput.{ClientInput}
@@ -25,13 +26,13 @@ nothing_sent = record { frames = []; work = [] }
 -- refuse it, so that a frame is a message for this server; and whichever message that is, they give
 -- that turn, by which the outbox goes from the one to the other.
 pub record ServerSteps (old : ServerView) (h : Handing) (new : ServerView) (before after : Outbox) : Type 0 where
-  pub same : (new.raft.me ≡ old.raft.me) × (new.raft.size ≡ old.raft.size)
+  pub same : SamePlace old.raft new.raft
   pub admitted : ServerAdmits old h
   pub taken : (s : Member) → IsMember old s → TakesHanding old s h new before after
 
 -- it was up, and lost what it does not store
 pub record ServerCrashed (old new : ServerView) : Type 0 where
-  pub same : (new.raft.me ≡ old.raft.me) × (new.raft.size ≡ old.raft.size)
+  pub same : SamePlace old.raft new.raft
   pub fell : (s : Member) → IsMember old s → (is_up s.raft.mode ≡ true) × IsMember new (crashed_member s)
 
 -- it was down, and found no memory to start again

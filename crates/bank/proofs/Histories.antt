@@ -71,7 +71,7 @@ module _ (list : List (Entry BankCommand)) (past : List (World BankCommand)) (w 
   bank_part : machine_of bank_meaning x i ≡ Some bank → IsBankOf (commands list) bank
   bank_part is = server_part (slice_get x.servers i) refl is
 
-pub one_book : (view : WorldView BankCommand) → OneListEver bank_meaning view →
+pub one_book : (view : WorldView BankState BankCommand) → OneListEver bank_meaning view →
     ((past : List (World BankCommand)) (w : World BankCommand) → RunsTo bank_meaning view past w → (k i : ℕ) (s : Server BankCommand) → At past w k i s → Admitted bank_meaning (commands s.log)) → OneBook view
 one_book view l admitted = record {
   past = l.past;
@@ -83,19 +83,19 @@ one_book view l admitted = record {
 }
 
 -- and so now
-in_book : (view : WorldView BankCommand) (i : ℕ) (bank : BankState) → ((past : List (World BankCommand)) (w : World BankCommand) → RunsTo bank_meaning view past w → Some bank ≡ machine_of bank_meaning w i) →
+in_book : (view : WorldView BankState BankCommand) (i : ℕ) (bank : BankState) → ((past : List (World BankCommand)) (w : World BankCommand) → RunsTo bank_meaning view past w → Some bank ≡ machine_of bank_meaning w i) →
     (book : OneBook view) → IsBankOf book.list bank
 in_book view i bank says book =
     book.ever book.past book.world book.runs (length book.past) book.world i bank (get-last book.past book.world) (sym (says book.past book.world book.runs))
 
-pub bank_now : (view : WorldView BankCommand) → OneBook view → (i : ℕ) (o : Option (Bor BankState)) →
+pub bank_now : (view : WorldView BankState BankCommand) → OneBook view → (i : ℕ) (o : Option (Bor BankState)) →
     ((past : List (World BankCommand)) (w : World BankCommand) → RunsTo bank_meaning view past w → option_copied o ≡ machine_of bank_meaning w i) →
     IfSome o (λ bank. (list : List BankCommand) × IsBankOf list bank.now)
 bank_now view book i None says = tt
 bank_now view book i (Some b) says = (book.list, in_book view i b.now says book)
 
 -- of each list that is the world's
-pub bank_of_each : (view : WorldView BankCommand) (i : ℕ) (o : Option (Bor BankState)) →
+pub bank_of_each : (view : WorldView BankState BankCommand) (i : ℕ) (o : Option (Bor BankState)) →
     ((past : List (World BankCommand)) (w : World BankCommand) → RunsTo bank_meaning view past w → option_copied o ≡ machine_of bank_meaning w i) →
     IfSome o (λ bank. (book : OneBook view) → IsBankOf book.list bank.now)
 bank_of_each view i None says = tt

@@ -20,7 +20,7 @@ pub record IsBankOf (list : List BankCommand) (bank : BankState) : Type 0 where
 
 -- The value has a run; and there is one list of commands, such that in each run of the value, at
 -- each of its moments, the bank of each server that is up is one of that list.
-pub record OneBook (view : WorldView BankCommand) : Type 0 where
+pub record OneBook (view : WorldView BankState BankCommand) : Type 0 where
   pub past : List (World BankCommand)
   pub world : World BankCommand
   pub runs : RunsTo bank_meaning view past world

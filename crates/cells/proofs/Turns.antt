@@ -110,7 +110,7 @@ pub opened_is_led : (n : ℕ) (nodes : List NodeSpec) (c : CellView) → IsOpene
 opened_is_led n nodes c led = led_weaker n nodes c.seat.actor (reverse c.seat.notes) c.actor led
 
 pub same_actor : (a : GroupActor) → SameActor a a
-same_actor (Server v) = record { raft = record { me = refl; size = refl; server = refl }; desk = refl }
+same_actor (Server v) = record { raft = record { me = refl; size = refl; base = refl; server = refl }; desk = refl }
 same_actor (Client a) = refl
 
 -- ---- a turn

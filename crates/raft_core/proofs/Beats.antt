@@ -1,10 +1,11 @@
 -- What a leader sends at a beat.
-use Rattle.std.proofs.Common.{◌≡◌, ℕ, zero, suc, ◌+◌, ◌-◌, ◌^◌, ◌<◌, ◌≤◌, min, Bool, true, false, nat_le, Option, Some, None, List, length, slice_index, take, drop, refl, ap, ◌∙◌, arith}
+use Rattle.std.proofs.Common.{◌≡◌, ℕ, zero, suc, ◌+◌, ◌^◌, ◌<◌, ◌≤◌, Bool, true, false, nat_le, Option, Some, None, List, length, slice_index, take, drop, refl, arith}
 use Rattle.std.proofs.lemmas.Bool.{lt-leb}
-use Rattle.std.proofs.lemmas.List.{length-take, length-drop, take_min, drop_min}
+use Rattle.std.proofs.lemmas.List.{length-take, length-drop}
 use Rattle.machine_model.specs.Meaning.{Meaning}
 use Rattle.machine_model.specs.declared.entry.Entry.{Entry}
 use Rattle.wire.specs.Frames.{Frame}
+use Rattle.raft_snapshot.specs.Bases.{Base}
 use Rattle.raft_model.specs.Messages.{Message, to_others}
 use Rattle.raft_model.specs.Quorums.{index_at}
 use Rattle.raft_model.specs.Servers.{Server, Leader, is_up, beats, beat_message}
@@ -17,12 +18,6 @@ use Rattle.raft_core.specs.Inner.Turns.{TurnTaken}
 use Rattle.raft_core.proofs.Replies.{index-at}
 
 module _ {C : Type 0} (log : List (Entry C)) where
-  -- a part of the log from an index that may be past its end
-  pub part_behind : (index start end : ℕ) → start ≡ min index (length log) → end ≡ min (start + 32) (length log) → take (end - start) (drop start log) ≡ take 32 (drop index log)
-  part_behind index start end s e =
-      let size : end - start ≡ min 32 (length (drop start log)) = omega (arith, s, e, length-drop start log) in
-      ap (λ (k : ℕ). take k (drop start log)) size ∙ take_min 32 (drop start log) ∙ ap (take 32) (ap (λ (k : ℕ). drop k log) s ∙ drop_min index log)
-
   pub few_behind : (index : ℕ) → length (take 32 (drop index log)) ≤ 32
   few_behind index = omega (arith, length-take 32 (drop index log))
 
@@ -37,19 +32,19 @@ others-same me f g (suc n) same =
     let e : f n ≡ g n = same n (omega arith) in
     let r : to_others me f n ≡ to_others me g n = others-same me f g n (λ j below. same j (omega arith)) in rw (e, r) refl
 
-module _ {C : Type 0} (me term : ℕ) (vote : Option ℕ) (log : List (Entry C)) (commit : ℕ) (known : Option ℕ) (next match : List ℕ) where
+module _ {C : Type 0} (me term : ℕ) (vote : Option ℕ) (log : List (Entry C)) (covered commit : ℕ) (none : covered ≡ 0) (known : Option ℕ) (next match : List ℕ) where
   abbrev pub sender : Server C
-  sender = record { term = term; vote = vote; log = log; covered = 0; commit = commit; known = known; mode = Leader next match }
+  sender = record { term = term; vote = vote; log = log; covered = covered; commit = commit; known = known; mode = Leader next match }
 
   -- a next index is past the snapshot, which covers nothing
   appends : (to : ℕ) → 1 ≤ index_at next to → append_from me term commit log (index_at next to) to ≡ beat_message me sender next to
-  appends to least = let past : nat_le (index_at next to) 0 ≡ false = lt-leb (index_at next to) 0 least in rw past refl
+  appends to least = let past : nat_le (index_at next to) covered ≡ false = lt-leb (index_at next to) covered (omega (arith, none, least)) in rw past refl
 
   pub all_append : (n : ℕ) → ((j : ℕ) → j < n → 1 ≤ slice_index next j) → to_others me (λ to. append_from me term commit log (index_at next to) to) n ≡ to_others me (beat_message me sender next) n
   all_append n least = others-same me (λ to. append_from me term commit log (index_at next to) to) (beat_message me sender next) n (λ j below. appends j (rw (index-at next j) (least j below)))
 
 -- what the code sends is what the leader owes
-pub beats_by : {S C : Type 0} (m : Meaning S C) (old : RaftView C) (machine : Option S) (me size term : ℕ) (vote : Option ℕ) (log : List (Entry C)) (commit : ℕ) (known : Option ℕ) (role : Role) (votes : List Bool) (next match : List ℕ) (held : Bool) (before after : List Frame) → record { me = me; size = size; server = while_up machine (record { term = term; vote = vote; log = log; covered = 0; commit = commit; known = known; mode = mode_of role votes next match }); projected = held } ≡ old → is_up old.server.mode ≡ true → role ≡ roles.Leader → length next ≡ size → ((j : ℕ) → j < size → 1 ≤ slice_index next j) → Sends m before after (to_others me (λ to. append_from me term commit log (index_at next to) to) (length next)) → TurnTaken m old old before after (record { server = old.server; sent = beats old.size old.me old.server old.server.mode })
-beats_by m old None me size term vote log commit known role votes next match held before after old-is up leads each least sent = absurd (let down : false ≡ true = rw (← old-is) at up in cc)
-beats_by m old (Some machine) me size term vote log commit known role votes next match held before after old-is up leads each least sent =
-    rw (← old-is, leads) (record { server = refl; me = refl; size = refl; sent = rw (each, all_append me term vote log commit known next match size least) at sent })
+pub beats_by : {S C : Type 0} (m : Meaning S C) (old : RaftView S C) (base : Base S) (none : base.index ≡ 0) (machine : Option S) (me size term : ℕ) (vote : Option ℕ) (log : List (Entry C)) (commit : ℕ) (known : Option ℕ) (role : Role) (votes : List Bool) (next match : List ℕ) (held : Bool) (before after : List Frame) → record { me = me; size = size; base = base; server = while_up machine (record { term = term; vote = vote; log = log; covered = base.index; commit = commit; known = known; mode = mode_of role votes next match }); projected = held } ≡ old → is_up old.server.mode ≡ true → role ≡ roles.Leader → length next ≡ size → ((j : ℕ) → j < size → 1 ≤ slice_index next j) → Sends m before after (to_others me (λ to. append_from me term commit log (index_at next to) to) (length next)) → TurnTaken m old.base old old before after (record { server = old.server; sent = beats old.size old.me old.server old.server.mode })
+beats_by m old base none None me size term vote log commit known role votes next match held before after old-is up leads each least sent = absurd (let down : false ≡ true = rw (← old-is) at up in cc)
+beats_by m old base none (Some machine) me size term vote log commit known role votes next match held before after old-is up leads each least sent =
+    rw (← old-is, leads) (record { server = refl; base = refl; me = refl; size = refl; sent = rw (each, all_append me term vote log base.index commit none known next match size least) at sent })

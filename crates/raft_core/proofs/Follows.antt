@@ -33,29 +33,29 @@ module _ {C : Type 0} (s : Server C) (term from : ℕ) (le : s.term ≤ term) wh
     | inr t ↦ let b : nat_lt s.term term ≡ true = lt-ltb s.term term t.1 in rw b refl
   ]
 
-module _ {S C : Type 0} (m : Meaning S C) (old new : RaftView C) (before after : List Frame) (from term prev prev_term commit : ℕ) (le : old.server.term ≤ term) where
+module _ {S C : Type 0} (m : Meaning S C) (old new : RaftView S C) (before after : List Frame) (from term prev prev_term commit : ℕ) (le : old.server.term ≤ term) where
   pub refuses : (nat_le prev old.server.commit || has old.server.log prev prev_term) ≡ false → new ≡ with_server old (following (met term old.server) from) →
       Sends m before after (record { from = old.me; to = from; term = term; body = AppendReply term false (min (prev - 1) (length old.server.log)) } ∷ []) →
-      (entries : List (Entry C)) → TurnTaken m old new before after (follows_append old.me (following (met term old.server) from) from prev prev_term commit entries)
+      (entries : List (Entry C)) → TurnTaken m old.base old new before after (follows_append old.me (following (met term old.server) from) from prev prev_term commit entries)
   refuses missing is sent entries =
       let s = followed old.server term from le in
       let f = follower old.server term from old.server.log old.server.commit (met term old.server).vote in
       let turn : follows_append old.me f from prev prev_term commit entries ≡ reply old.me f from (AppendReply term false (min (prev - 1) (length old.server.log))) = rw missing refl in
-      subst (λ t. TurnTaken m old new before after t) (sym (ap (λ x. follows_append old.me x from prev prev_term commit entries) s ∙ turn))
-      (record { server = ap (λ x. x.server) is ∙ s; me = ap (λ x. x.me) is; size = ap (λ x. x.size) is; sent = sent })
+      subst (λ t. TurnTaken m old.base old new before after t) (sym (ap (λ x. follows_append old.me x from prev prev_term commit entries) s ∙ turn))
+      (record { server = ap (λ x. x.server) is ∙ s; base = ap (λ x. x.base) is; me = ap (λ x. x.me) is; size = ap (λ x. x.size) is; sent = sent })
 
   pub accepts : (entries log : List (Entry C)) (risen : ℕ) (held : Bool) → (nat_le prev old.server.commit || has old.server.log prev prev_term) ≡ true → log ≡ merge old.server.commit prev old.server.log entries → risen ≡ max old.server.commit (min commit (prev + length entries)) →
       new ≡ with_server (record old { projected = held }) (following (met term (record old.server { log = log; commit = risen; mode = FollowerMode })) from) →
       Sends m before after (record { from = old.me; to = from; term = term; body = AppendReply term true (prev + length entries) } ∷ []) →
-      TurnTaken m old new before after (follows_append old.me (following (met term old.server) from) from prev prev_term commit entries)
+      TurnTaken m old.base old new before after (follows_append old.me (following (met term old.server) from) from prev prev_term commit entries)
   accepts entries log risen second held grown rises is sent =
       let s = followed old.server term from le in
       let f = follower old.server term from old.server.log old.server.commit (met term old.server).vote in
       let turn : follows_append old.me f from prev prev_term commit entries ≡ reply old.me (appended f prev commit entries) from (AppendReply term true (prev + length entries)) = rw held refl in
       let last = followed_last old.server term from le log risen in
       let taken : follower old.server term from log risen (met term old.server).vote ≡ appended f prev commit entries = rw (grown, rises) refl in
-      subst (λ t. TurnTaken m old new before after t) (sym (ap (λ x. follows_append old.me x from prev prev_term commit entries) s ∙ turn))
-      (record { server = ap (λ x. x.server) is ∙ last ∙ taken; me = ap (λ x. x.me) is; size = ap (λ x. x.size) is; sent = sent })
+      subst (λ t. TurnTaken m old.base old new before after t) (sym (ap (λ x. follows_append old.me x from prev prev_term commit entries) s ∙ turn))
+      (record { server = ap (λ x. x.server) is ∙ last ∙ taken; base = ap (λ x. x.base) is; me = ap (λ x. x.me) is; size = ap (λ x. x.size) is; sent = sent })
 
 module _ {C : Type 0} (noop : C) (n me : ℕ) (s : Server C) (from term prev prev_term commit : ℕ) (entries : List (Entry C)) where
   -- a leader is silent to one of its own term

@@ -4,5 +4,5 @@ use Rattle.raft_model.specs.Servers.{Server, is_leader}
 use Rattle.raft_core.specs.RaftView.{RaftView, KeepsAhead}
 use Rattle.raft_core.specs.Inner.Views.{with_server}
 
-pub kept_by_view : {C : Type 0} (old new : RaftView C) (s : Server C) → new ≡ with_server old s → KeepsAhead old new
-kept_by_view old new s is held = subst (λ (v : RaftView _). is_leader v.server.mode ≡ true → v.projected ≡ true) (sym is) (λ leads. rw (held, leads) refl)
+pub kept_by_view : {S C : Type 0} (old new : RaftView S C) (s : Server C) → new ≡ with_server old s → KeepsAhead old new
+kept_by_view old new s is held = subst (λ (v : RaftView _ _). is_leader v.server.mode ≡ true → v.projected ≡ true) (sym is) (λ leads. rw (held, leads) refl)

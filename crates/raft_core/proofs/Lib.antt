@@ -1,14 +1,12 @@
-pub mod Applies
 pub mod Beats
 pub mod Commits
+pub mod Fills
 pub mod Keeps
 pub mod Lives
-pub mod Logs
 pub mod Members
-pub mod Merges
+pub mod Proposals
 pub mod Quorums
 pub mod Replies
 pub mod Sends
 pub mod Stepping
-pub mod Watches
 pub mod Follows

@@ -1,9 +1,12 @@
 -- What a server that starts keeps.
-use Rattle.std.proofs.Common.{◌≡◌, ℕ, zero, suc, ◌+◌, ◌^◌, ◌<◌, ◌≤◌, lit<, Bool, true, Option, Some, None, IfSome, slice_index, replicate, List, [], ◌∷◌, ◌++◌, length, length-append, refl, sym, ap, ◌∙◌, arith}
-use Rattle.std.proofs.lemmas.List.{length-replicate, take-append-le}
+use Rattle.std.proofs.Common.{◌≡◌, ℕ, zero, suc, ◌-◌, ◌^◌, ◌<◌, ◌≤◌, lit<, Bool, true, Option, Some, None, IfSome, slice_index, replicate, take, drop, add-zero, List, [], ◌∷◌, ◌++◌, length, length-append, refl, sym, ap, ◌∙◌, arith}
+use Rattle.std.proofs.Math.Seq.{take-append_seam}
+use Rattle.std.proofs.lemmas.List.{length-replicate, take-append-le, drop-take}
 use Rattle.machine_model.specs.Meaning.{Meaning}
 use Rattle.machine_model.specs.declared.entry.Entry.{Entry}
-use Rattle.raft_model.specs.Logs.{commands, state_after}
+use Rattle.machine_model.specs.After.{after_from}
+use Rattle.raft_model.specs.Logs.{commands}
+use Rattle.raft_snapshot.specs.Bases.{Base, state_from}
 use Rattle.raft_model.specs.Servers.{Server, is_leader, extended}
 use Rattle.raft_core.specs.RaftView.{IsUpToCommit, IsAhead, HasElectionRoom, HasTerm, IsRaft, while_up, mode_of}
 use Rattle.raft_core.specs.declared.role.Role.{Role}
@@ -33,30 +36,36 @@ filled_least next n k size is some each j below =
 pub filled_most : (next : List ℕ) (n k : ℕ) → next ≡ replicate n k → k ≤ 2 ^ 40 → (j : ℕ) → slice_index next j ≤ 2 ^ 40
 filled_most next n k is most j = rw is (replicate_most n k (2 ^ 40) j most)
 
--- nothing is applied yet
-pub fresh : {S C : Type 0} (m : Meaning S C) (log : List (Entry C)) (n : ℕ) (matched : List ℕ) (s : S) → s ≡ m.empty → matched ≡ replicate n 0 → IsUpToCommit m log 0 matched s
+-- at the base nothing more is applied
+state_none : {S C : Type 0} (m : Meaning S C) (base : Base S) (log : List (Entry C)) → state_from m base (take base.index log) ≡ base.state
 unfolding commands
-fresh m log n matched s empty levels = record {
-  committed = omega arith;
-  state = empty;
+state_none m base log = ap (λ (l : List (Entry _)). after_from m base.state (commands l)) (ap (λ (i : ℕ). drop base.index (take i log)) (sym (add-zero base.index)) ∙ drop-take base.index 0 log)
+
+-- what is covered is applied
+pub fresh : {S C : Type 0} (m : Meaning S C) (base : Base S) (log : List (Entry C)) (n : ℕ) (matched : List ℕ) (s : S) → base.index ≤ length log → s ≡ base.state → matched ≡ replicate n 0 → IsUpToCommit m base log base.index matched s
+fresh m base log n matched s within is levels = record {
+  covered = omega arith;
+  committed = within;
+  state = is ∙ sym (state_none m base log);
   levels = λ j. rw levels (zero_levels n j);
 }
 
 module _ {S C : Type 0} (m : Meaning S C) where
-  live_grown : (log : List (Entry C)) (e : Entry C) (commit : ℕ) (matched : List ℕ) (machine : Option S) → IfSome machine (IsUpToCommit m log commit matched) → IfSome machine (IsUpToCommit m (log ++ e ∷ []) commit matched)
-  live_grown log e commit matched None live = tt
-  live_grown log e commit matched (Some s) live = record {
+  live_grown : (base : Base S) (log : List (Entry C)) (e : Entry C) (commit : ℕ) (matched : List ℕ) (machine : Option S) → IfSome machine (IsUpToCommit m base log commit matched) → IfSome machine (IsUpToCommit m base (log ++ e ∷ []) commit matched)
+  live_grown base log e commit matched None live = tt
+  live_grown base log e commit matched (Some s) live = record {
+    covered = live.covered;
     committed = omega (arith, live.committed, length-append log (e ∷ []));
-    state = live.state ∙ sym (ap (state_after m) (take-append-le commit log (e ∷ []) live.committed));
+    state = live.state ∙ sym (ap (state_from m base) (take-append-le commit log (e ∷ []) live.committed));
     levels = live.levels;
   }
 
   -- one more entry
-  pub grown : (me size term : ℕ) (log : List (Entry C)) (e : Entry C) (old new : Role) (commit : ℕ) (votes : List Bool) (next matched : List ℕ) (machine was is : Option S) → IsRaft m me size term log old commit votes next matched machine was → HasTerm new term → length log + 1 < 2 ^ 40 → HasElectionRoom new (log ++ e ∷ []) → IfSome is (IsAhead m (log ++ e ∷ []) new machine) → IsRaft m me size term (log ++ e ∷ []) new commit votes next matched machine is
-  grown me size term log e old new commit votes next matched machine was is kept elected short room ahead = record {
+  pub grown : (me size term : ℕ) (base : Base S) (log : List (Entry C)) (e : Entry C) (old new : Role) (commit : ℕ) (votes : List Bool) (next matched : List ℕ) (machine was is : Option S) → IsRaft m me size term base log old commit votes next matched machine was → HasTerm new term → HasElectionRoom new (log ++ e ∷ []) → IfSome is (IsAhead m base (log ++ e ∷ []) new machine) → IsRaft m me size term base (log ++ e ∷ []) new commit votes next matched machine is
+  grown me size term base log e old new commit votes next matched machine was is kept elected room ahead = record {
     number = kept.number;
     group = kept.group;
-    short = omega (arith, length-append log (e ∷ []));
+    uncovered = kept.uncovered;
     elected = elected;
     room = room;
     votes_each = kept.votes_each;
@@ -64,20 +73,20 @@ module _ {S C : Type 0} (m : Meaning S C) where
     next_least = kept.next_least;
     next_most = kept.next_most;
     matched_each = kept.matched_each;
-    live = live_grown log e commit matched machine kept.live;
+    live = live_grown base log e commit matched machine kept.live;
     second = ahead;
   }
 
-  live_reset : (log : List (Entry C)) (commit : ℕ) (matched levels : List ℕ) (n : ℕ) (machine : Option S) → levels ≡ replicate n 0 → IfSome machine (IsUpToCommit m log commit matched) → IfSome machine (IsUpToCommit m log commit levels)
-  live_reset log commit matched levels n None is live = tt
-  live_reset log commit matched levels n (Some s) is live = record { committed = live.committed; state = live.state; levels = λ j. rw is (zero_levels n j) }
+  live_reset : (base : Base S) (log : List (Entry C)) (commit : ℕ) (matched levels : List ℕ) (n : ℕ) (machine : Option S) → levels ≡ replicate n 0 → IfSome machine (IsUpToCommit m base log commit matched) → IfSome machine (IsUpToCommit m base log commit levels)
+  live_reset base log commit matched levels n None is live = tt
+  live_reset base log commit matched levels n (Some s) is live = record { covered = live.covered; committed = live.committed; state = live.state; levels = λ j. rw is (zero_levels n j) }
 
   -- nothing is known of what others hold, and no second machine is there
-  pub reset : (me size term : ℕ) (log : List (Entry C)) (role : Role) (commit : ℕ) (votes : List Bool) (old_next old_matched next matched : List ℕ) (first n k : ℕ) (machine was : Option S) → IsRaft m me size term log role commit votes old_next old_matched machine was → 1 ≤ first → first ≤ 2 ^ 40 → next ≡ replicate n first → matched ≡ replicate k 0 → length next ≡ size → length matched ≡ size → IsRaft m me size term log role commit votes next matched machine None
-  reset me size term log role commit votes old_next old_matched next matched first n k machine was is least most begins none next_each matched_each = record {
+  pub reset : (me size term : ℕ) (base : Base S) (log : List (Entry C)) (role : Role) (commit : ℕ) (votes : List Bool) (old_next old_matched next matched : List ℕ) (first n k : ℕ) (machine was : Option S) → IsRaft m me size term base log role commit votes old_next old_matched machine was → 1 ≤ first → first ≤ 2 ^ 40 → next ≡ replicate n first → matched ≡ replicate k 0 → length next ≡ size → length matched ≡ size → IsRaft m me size term base log role commit votes next matched machine None
+  reset me size term base log role commit votes old_next old_matched next matched first n k machine was is least most begins none next_each matched_each = record {
     number = is.number;
     group = is.group;
-    short = is.short;
+    uncovered = is.uncovered;
     elected = is.elected;
     room = is.room;
     votes_each = is.votes_each;
@@ -85,7 +94,7 @@ module _ {S C : Type 0} (m : Meaning S C) where
     next_least = filled_least next n first size begins least next_each;
     next_most = filled_most next n first begins most;
     matched_each = matched_each;
-    live = live_reset log commit old_matched matched k machine none is.live;
+    live = live_reset base log commit old_matched matched k machine none is.live;
     second = tt;
   }
 
@@ -97,12 +106,19 @@ leader_room (Some s) term vote log more covered commit known roles.Candidate vot
 leader_room (Some s) term vote log more covered commit known roles.Leader votes next matched leads = tt
 
 -- a server that leads is up, and a second machine in the state after its whole log is one it keeps
-pub second_grown : {S C : Type 0} (m : Meaning S C) (machine ahead : Option S) (term : ℕ) (vote : Option ℕ) (log more : List (Entry C)) (covered commit : ℕ) (known : Option ℕ) (role : Role) (votes : List Bool) (next matched : List ℕ) → is_leader (while_up machine (record { term = term; vote = vote; log = log; covered = covered; commit = commit; known = known; mode = mode_of role votes next matched })).mode ≡ true → IfSome ahead (λ s. s ≡ state_after m more) → IfSome ahead (IsAhead m more role machine)
-second_grown m machine None term vote log more covered commit known role votes next matched leads is = tt
-second_grown m None (Some a) term vote log more covered commit known role votes next matched leads is = absurd (cc leads)
-second_grown m (Some s) (Some a) term vote log more covered commit known roles.Follower votes next matched leads is = absurd (cc leads)
-second_grown m (Some s) (Some a) term vote log more covered commit known roles.Candidate votes next matched leads is = absurd (cc leads)
-second_grown m (Some s) (Some a) term vote log more covered commit known roles.Leader votes next matched leads is = record { up = refl; leads = refl; state = is }
+pub second_grown : {S C : Type 0} (m : Meaning S C) (base : Base S) (machine ahead : Option S) (term : ℕ) (vote : Option ℕ) (log more : List (Entry C)) (covered commit : ℕ) (known : Option ℕ) (role : Role) (votes : List Bool) (next matched : List ℕ) → is_leader (while_up machine (record { term = term; vote = vote; log = log; covered = covered; commit = commit; known = known; mode = mode_of role votes next matched })).mode ≡ true → IfSome ahead (λ s. s ≡ state_from m base more) → IfSome ahead (IsAhead m base more role machine)
+second_grown m base machine None term vote log more covered commit known role votes next matched leads is = tt
+second_grown m base None (Some a) term vote log more covered commit known role votes next matched leads is = absurd (cc leads)
+second_grown m base (Some s) (Some a) term vote log more covered commit known roles.Follower votes next matched leads is = absurd (cc leads)
+second_grown m base (Some s) (Some a) term vote log more covered commit known roles.Candidate votes next matched leads is = absurd (cc leads)
+second_grown m base (Some s) (Some a) term vote log more covered commit known roles.Leader votes next matched leads is = record { up = refl; leads = refl; state = is }
+
+-- a second machine is in the state before the last entry of a log that grew
+pub second_behind : {S C : Type 0} (m : Meaning S C) (base : Base S) (log : List (Entry C)) (e : Entry C) (role : Role) (machine ahead : Option S) (now : Base S) (new : List (Entry C)) → now ≡ base → new ≡ log ++ e ∷ [] → IfSome ahead (IsAhead m base log role machine) → IfSome ahead (λ s. s ≡ state_from m now (take (length new - 1) new))
+second_behind m base log e role machine None now new same is kept = tt
+second_behind m base log e role machine (Some s) now new same is kept =
+    let size : length new - 1 ≡ length log = omega (arith, ap length is, length-append log (e ∷ [])) in
+    rw (same, size, is) (kept.state ∙ ap (state_from m base) (sym (take-append_seam log (e ∷ []))))
 
 -- what is stored is seen also of a server that is down
 pub term_up : {S C : Type 0} (machine : Option S) (s : Server C) → (while_up machine s).term ≡ s.term

@@ -1,5 +1,5 @@
 -- Members of a group.
-use Rattle.std.proofs.Common.{◌≡◌, ℕ, ◌≤◌, inl, inr, arith}
+use Rattle.std.proofs.Common.{ℕ, ◌≤◌, inl, inr, arith}
 use Rattle.rows.specs.GroupSizes.{IsGroup}
 
 pub group-small : (n : ℕ) → IsGroup n → n ≤ 5

@@ -3,7 +3,7 @@ use Rattle.std.proofs.Common.{◌≡◌, ℕ, zero, suc, ◌-◌, ◌^◌, ◌<�
 use Rattle.std.proofs.Math.Seq.{take-append_seam}
 use Rattle.machine_model.specs.Meaning.{Meaning}
 use Rattle.machine_model.specs.declared.entry.Entry.{Entry}
-use Rattle.raft_model.specs.Logs.{state_after}
+use Rattle.raft_snapshot.specs.Bases.{Base, state_from}
 use Rattle.raft_model.specs.Quorums.{index_at}
 use Rattle.raft_model.specs.Servers.{Server, Leader, greatest}
 use Rattle.raft_core.specs.Inner.Commits.{is_chosen_in}
@@ -85,22 +85,22 @@ module _ {C : Type 0} (n me term : ℕ) (vote : Option ℕ) (log : List (Entry C
 pub put_back : (xs ys : List ℕ) (len : ℕ) → len ≡ length ys → take len (ys ++ drop (length ys) xs) ≡ ys
 put_back xs ys len is = ap (λ (n : ℕ). take n (ys ++ drop (length ys) xs)) is ∙ take-append_seam ys (drop (length ys) xs)
 
-live_at : {S C : Type 0} (m : Meaning S C) (log : List (Entry C)) (commit : ℕ) (match : List ℕ) (new : Option S) → IfSome new (λ s. (commit ≤ length log) × (s ≡ state_after m (take commit log))) → ((j : ℕ) → slice_index match j < 2 ^ 40) → IfSome new (IsUpToCommit m log commit match)
-live_at m log commit match None live levels = tt
-live_at m log commit match (Some s) live levels = record { committed = live.0; state = live.1; levels = levels }
+live_at : {S C : Type 0} (m : Meaning S C) (base : Base S) (log : List (Entry C)) (commit : ℕ) (match : List ℕ) (new : Option S) → IfSome new (λ s. (base.index ≤ commit) × (commit ≤ length log) × (s ≡ state_from m base (take commit log))) → ((j : ℕ) → slice_index match j < 2 ^ 40) → IfSome new (IsUpToCommit m base log commit match)
+live_at m base log commit match None live levels = tt
+live_at m base log commit match (Some s) live levels = record { covered = live.0; committed = live.1; state = live.2; levels = levels }
 
 -- a second machine is kept while the first is there
-pub second_stays : {S C : Type 0} (m : Meaning S C) (log : List (Entry C)) (role : Role) (old new ahead : Option S) → is_some new ≡ true → IfSome ahead (IsAhead m log role old) → IfSome ahead (IsAhead m log role new)
-second_stays m log role old new None up kept = tt
-second_stays m log role old new (Some s) up kept = record { up = up; leads = kept.leads; state = kept.state }
+pub second_stays : {S C : Type 0} (m : Meaning S C) (base : Base S) (log : List (Entry C)) (role : Role) (old new ahead : Option S) → is_some new ≡ true → IfSome ahead (IsAhead m base log role old) → IfSome ahead (IsAhead m base log role new)
+second_stays m base log role old new None up kept = tt
+second_stays m base log role old new (Some s) up kept = record { up = up; leads = kept.leads; state = kept.state }
 
-module _ {S C : Type 0} (m : Meaning S C) (me size term : ℕ) (log : List (Entry C)) (role : Role) (votes : List Bool) (next match : List ℕ) (i at : ℕ) where
+module _ {S C : Type 0} (m : Meaning S C) (me size term : ℕ) (base : Base S) (log : List (Entry C)) (role : Role) (votes : List Bool) (next match : List ℕ) (i at : ℕ) where
   -- a server keeps what its type asks, whatever an answer says
-  pub keeps : (ok : Bool) (before after : ℕ) (old new was is : Option S) → IsRaft m me size term log role before votes next match old was → ((j : ℕ) → slice_index match j < 2 ^ 40) → at < 2 ^ 40 → IfSome new (λ s. (after ≤ length log) × (s ≡ state_after m (take after log))) → IfSome is (IsAhead m log role new) → IsRaft m me size term log role after votes (next_after (length log) i ok at next match) (match_after (length log) i ok at match) new is
+  pub keeps : (ok : Bool) (before after : ℕ) (old new was is : Option S) → IsRaft m me size term base log role before votes next match old was → ((j : ℕ) → slice_index match j < 2 ^ 40) → at < 2 ^ 40 → IfSome new (λ s. (base.index ≤ after) × (after ≤ length log) × (s ≡ state_from m base (take after log))) → IfSome is (IsAhead m base log role new) → IsRaft m me size term base log role after votes (next_after (length log) i ok at next match) (match_after (length log) i ok at match) new is
   keeps ok before after old new was is kept levels short live ahead = record {
     number = kept.number;
     group = kept.group;
-    short = kept.short;
+    uncovered = kept.uncovered;
     elected = kept.elected;
     room = kept.room;
     votes_each = kept.votes_each;
@@ -108,12 +108,12 @@ module _ {S C : Type 0} (m : Meaning S C) (me size term : ℕ) (log : List (Entr
     next_least = next-least (length log) i at ok next match size kept.next_least;
     next_most = next-most (length log) i at ok next match short levels kept.next_most;
     matched_each = match-length (length log) i at ok match ∙ kept.matched_each;
-    live = live_at m log after (match_after (length log) i ok at match) new live (match-below (length log) i at ok match short levels);
+    live = live_at m base log after (match_after (length log) i ok at match) new live (match-below (length log) i at ok match short levels);
     second = ahead;
   }
 
 -- what the code leaves is a leader that has heard
-pub heard_by : {C : Type 0} (old : RaftView C) (me size term : ℕ) (vote : Option ℕ) (log : List (Entry C)) (commit : ℕ) (known : Option ℕ) (role : Role) (votes : List Bool) (next match new_next new_match : List ℕ) (new_commit i at : ℕ) (ok held : Bool) → record { me = me; size = size; server = record { term = term; vote = vote; log = log; covered = 0; commit = commit; known = known; mode = mode_of role votes next match }; projected = held } ≡ old → role ≡ roles.Leader → new_next ≡ next_after (length log) i ok at next match → new_match ≡ match_after (length log) i ok at match → length match ≡ size → new_commit ≡ greatest (is_chosen_in (length new_match) me term log new_match) commit (length log) → record { term = term; vote = vote; log = log; covered = 0; commit = new_commit; known = known; mode = mode_of role votes new_next new_match } ≡ hears_either old.size old.me old.server i ok at old.server.mode
-heard_by old me size term vote log commit known role votes next match new_next new_match new_commit i at ok held old-is leads next-is match-is each risen =
+pub heard_by : {S C : Type 0} (old : RaftView S C) (base : Base S) (me size term : ℕ) (vote : Option ℕ) (log : List (Entry C)) (covered commit : ℕ) (known : Option ℕ) (role : Role) (votes : List Bool) (next match new_next new_match : List ℕ) (new_commit i at : ℕ) (ok held : Bool) → record { me = me; size = size; base = base; server = record { term = term; vote = vote; log = log; covered = covered; commit = commit; known = known; mode = mode_of role votes next match }; projected = held } ≡ old → role ≡ roles.Leader → new_next ≡ next_after (length log) i ok at next match → new_match ≡ match_after (length log) i ok at match → length match ≡ size → new_commit ≡ greatest (is_chosen_in (length new_match) me term log new_match) commit (length log) → record { term = term; vote = vote; log = log; covered = covered; commit = new_commit; known = known; mode = mode_of role votes new_next new_match } ≡ hears_either old.size old.me old.server i ok at old.server.mode
+heard_by old base me size term vote log covered commit known role votes next match new_next new_match new_commit i at ok held old-is leads next-is match-is each risen =
     let n : length new_match ≡ size = ap length match-is ∙ match-length (length log) i at ok match ∙ each in
-    rw (← old-is, leads, risen, n, next-is, match-is) (sym (leader_hears size me term vote log 0 commit known next match i at ok))
+    rw (← old-is, leads, risen, n, next-is, match-is) (sym (leader_hears size me term vote log covered commit known next match i at ok))

@@ -1,32 +1,19 @@
 -- Steps of the definitions, by what the rules leave.
-use Rattle.std.proofs.Common.{◌≡◌, ℕ, ◌+◌, ◌^◌, ◌<◌, true, false, nat_lt, Ok, List, length, refl, sym, subst, arith}
+use Rattle.std.proofs.Common.{◌≡◌, ℕ, ◌+◌, ◌^◌, ◌<◌, true, false, nat_lt, Ok, List, length, refl, arith}
 use Rattle.std.proofs.lemmas.Bool.{lt-ltb}
 use Rattle.machine_model.specs.Meaning.{Meaning}
 use Rattle.wire.specs.Frames.{Frame}
 use Rattle.raft_model.specs.Logs.{MAX}
 use Rattle.raft_model.specs.Messages.{to_others}
-use Rattle.raft_model.specs.Servers.{Server, Turn, is_up, is_leader, silent, stood, vote_request_to, beats, crashed, restarted, extended}
-use Rattle.raft_model.specs.Steps.{step, Input, Timeout, Beat, Propose, Crash, Restart}
+use Rattle.raft_model.specs.Servers.{Server, Turn, is_up, is_leader, silent, stood, vote_request_to, beats, crashed, restarted}
+use Rattle.raft_model.specs.Steps.{step, Input, Timeout, Beat, Crash, Restart}
 use Rattle.raft_core.specs.RaftView.{RaftView}
-use Rattle.raft_core.specs.Inputs.{Own}
-use Rattle.raft_core.specs.Steps.{Represents, Steps, Takes}
 use Rattle.raft_core.specs.Inner.Turns.{TurnTaken}
-use Rattle.raft_core.proofs.Sends.{sends-none}
+use Rattle.raft_core.specs.Inner.Moves.{Moves}
 
 module _ {S C : Type 0} (m : Meaning S C) where
-  pub steps_by : (old new : RaftView C) (before after : List Frame) (input : Input C) (turn : Turn C) → step m old.size old.me old.server input ≡ Ok turn → TurnTaken m old new before after turn → Steps m old old.server input new before after
-  steps_by old new before after input turn is t = record { turn = turn; step = is; represents = t.server; sent = t.sent }
-
-  -- a step with an input of the server's own, as what is handed in
-  pub takes_own : (old new : RaftView C) (s : Server C) (own : Input C) (before after : List Frame) → Steps m old s own new before after → Takes m old s (Own own) new before after
-  takes_own old new s own before after t input reads = subst (λ x. Steps m old s x new before after) (sym reads) t
-
-  -- a command is appended, whatever was sent
-  pub takes_command : (old new : RaftView C) (command : C) → step m old.size old.me old.server (Propose command) ≡ Ok (silent (extended old.server command)) → new.server ≡ extended old.server command →
-      (s : Server C) (sent : List Frame) → Represents m old s → Takes m old s (Own (Propose command)) new sent sent
-  takes_command old new command is grown s sent r =
-      let at : Steps m old old.server (Propose command) new sent sent = record { turn = silent (extended old.server command); step = is; represents = grown; sent = sends-none m sent } in
-      takes_own old new s (Propose command) sent sent (subst (λ x. Steps m old x (Propose command) new sent sent) r at)
+  pub steps_by : (old new : RaftView S C) (before after : List Frame) (input : Input C) (turn : Turn C) → step m old.size old.me old.server input ≡ Ok turn → TurnTaken m old.base old new before after turn → Moves m old.base old input new before after
+  steps_by old new before after input turn is t = record { turn = turn; step = is; taken = t }
 
   module _ (n me : ℕ) (s : Server C) (up : is_up s.mode ≡ true) where
     pub leader_waits : is_leader s.mode ≡ true → step m n me s Timeout ≡ Ok (silent s)

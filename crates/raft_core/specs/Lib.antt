@@ -1,9 +1,7 @@
-pub mod Stored
 pub mod RaftView
 pub mod Frames
 pub mod Inputs
 pub mod Steps
 pub mod Refusals
 pub mod Commits
-pub mod Watching
 pub mod Inner

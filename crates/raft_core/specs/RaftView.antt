@@ -2,33 +2,50 @@
 use Rattle.std.specs.Prelude.{◌≡◌, ℕ, ◌+◌, ◌^◌, ◌<◌, ◌≤◌, Bool, ◌&&◌, true, Option, Some, None, List, length, take, slice_index, is_some, IfSome}
 use Rattle.machine_model.specs.Meaning.{Meaning}
 use Rattle.machine_model.specs.declared.entry.Entry.{Entry}
-use Rattle.raft_model.specs.Logs.{state_after}
 use Rattle.raft_model.specs.Servers.{Server, Mode, is_leader, crashed}
 use Rattle.raft_model.specs.Servers.{Follower as FollowerMode, Candidate as CandidateMode, Leader as LeaderMode}
+use Rattle.raft_snapshot.specs.Bases.{Base, state_from}
 use Rattle.raft_core.specs.declared.role.Role.{Role}
 use Rattle.raft_core.specs.declared.role.Role.TheVariants.{Follower, Candidate, Leader}
 
--- its place among the servers, how many they are, the server that it is, and whether it holds a
--- leader's machine after its whole log
-pub record RaftView (C : Type 0) : Type 0 where
+-- Its place among the servers, how many they are, what is known of the entries that its snapshot
+-- covers, the server that it is, these entries being blank, and whether it holds a leader's machine
+-- after its whole log.
+pub record RaftView (S C : Type 0) : Type 0 where
   pub me : ℕ
   pub size : ℕ
+  pub base : Base S
   pub server : Server C
   pub projected : Bool
 
+-- two values that are the server of this number in a group of this size
+abbrev pub SamePlace : {S C : Type 0} → RaftView S C → RaftView S C → Type 0
+SamePlace old new = (new.me ≡ old.me) × (new.size ≡ old.size)
+
 -- two values that are one server; one may hold the machine after the whole log, and the other not
-pub record SameServer {C : Type 0} (old new : RaftView C) : Type 0 where
+pub record SameServer {S C : Type 0} (old new : RaftView S C) : Type 0 where
   pub me : new.me ≡ old.me
   pub size : new.size ≡ old.size
+  pub base : new.base ≡ old.base
   pub server : new.server ≡ old.server
 
+-- what a crash leaves of a value: what is stored is as it was
+abbrev pub IsCrashOf : {S C : Type 0} → RaftView S C → RaftView S C → Type 0
+IsCrashOf old new = (new.server ≡ crashed old.server) × (new.base ≡ old.base)
+
 -- one that leads on keeps the machine after its whole log
-abbrev pub KeepsAhead : {C : Type 0} → RaftView C → RaftView C → Type 0
+abbrev pub KeepsAhead : {S C : Type 0} → RaftView S C → RaftView S C → Type 0
 KeepsAhead old new = old.projected ≡ true → is_leader new.server.mode ≡ true → new.projected ≡ true
 
 -- a value with a second machine, or without: only a leader's counts
-abbrev pub with_ahead : {S C : Type 0} → ℕ → ℕ → Option S → Server C → RaftView C
-with_ahead me size ahead s = record { me = me; size = size; server = s; projected = is_some ahead && is_leader s.mode }
+abbrev pub with_ahead : {S C : Type 0} → ℕ → ℕ → Base S → Option S → Server C → RaftView S C
+with_ahead me size base ahead s = record {
+  me = me;
+  size = size;
+  base = base;
+  server = s;
+  projected = is_some ahead && is_leader s.mode;
+}
 
 abbrev pub mode_of : Role → List Bool → List ℕ → List ℕ → Mode
 mode_of Follower votes next matched = FollowerMode
@@ -41,16 +58,17 @@ while_up None s = crashed s
 while_up (Some machine) s = s
 
 -- While it is up, its machine is in the state after the committed entries.
-pub record IsUpToCommit {S C : Type 0} (m : Meaning S C) (log : List (Entry C)) (commit : ℕ) (matched : List ℕ) (machine : S) : Type 0 where
+pub record IsUpToCommit {S C : Type 0} (m : Meaning S C) (base : Base S) (log : List (Entry C)) (commit : ℕ) (matched : List ℕ) (machine : S) : Type 0 where
+  pub covered : base.index ≤ commit
   pub committed : commit ≤ length log
-  pub state : machine ≡ state_after m (take commit log)
+  pub state : machine ≡ state_from m base (take commit log)
   pub levels : (j : ℕ) → slice_index matched j < 2 ^ 40
 
 -- A second machine is there only while it is up and leads, and is in the state after the whole log.
-pub record IsAhead {S C : Type 0} (m : Meaning S C) (log : List (Entry C)) (role : Role) (machine : Option S) (ahead : S) : Type 0 where
+pub record IsAhead {S C : Type 0} (m : Meaning S C) (base : Base S) (log : List (Entry C)) (role : Role) (machine : Option S) (ahead : S) : Type 0 where
   pub up : is_some machine ≡ true
   pub leads : role ≡ Leader
-  pub state : ahead ≡ state_after m log
+  pub state : ahead ≡ state_from m base log
 
 -- a candidate has room for the no-op of its election
 abbrev pub HasElectionRoom : {C : Type 0} → Role → List (Entry C) → Type 0
@@ -65,11 +83,11 @@ HasTerm Candidate term = 1 ≤ term
 HasTerm Leader term = 1 ≤ term
 
 -- Each of the lists by server number has an item for each server. A next index is one that a log
--- may grow to.
-pub record IsRaft {S C : Type 0} (m : Meaning S C) (me size term : ℕ) (log : List (Entry C)) (role : Role) (commit : ℕ) (votes : List Bool) (next matched : List ℕ) (machine ahead : Option S) : Type 0 where
+-- may grow to. No entry is covered yet.
+pub record IsRaft {S C : Type 0} (m : Meaning S C) (me size term : ℕ) (base : Base S) (log : List (Entry C)) (role : Role) (commit : ℕ) (votes : List Bool) (next matched : List ℕ) (machine ahead : Option S) : Type 0 where
   pub number : me < size
   pub group : size ≤ 5
-  pub short : length log < 2 ^ 40
+  pub uncovered : base.index ≡ 0
   pub elected : HasTerm role term
   pub room : HasElectionRoom role log
   pub votes_each : length votes ≡ size
@@ -77,5 +95,5 @@ pub record IsRaft {S C : Type 0} (m : Meaning S C) (me size term : ℕ) (log : L
   pub next_least : (j : ℕ) → j < size → 1 ≤ slice_index next j
   pub next_most : (j : ℕ) → slice_index next j ≤ 2 ^ 40
   pub matched_each : length matched ≡ size
-  pub live : IfSome machine (IsUpToCommit m log commit matched)
-  pub second : IfSome ahead (IsAhead m log role machine)
+  pub live : IfSome machine (IsUpToCommit m base log commit matched)
+  pub second : IfSome ahead (IsAhead m base log role machine)

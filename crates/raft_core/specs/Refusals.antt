@@ -12,7 +12,7 @@ use Rattle.raft_model.specs.Servers.{Server, Turn, Mode, is_up, is_leader, crash
 use Rattle.raft_model.specs.Steps.{Input, Arrives, Timeout, Beat, Propose, Compact, Crash, Restart, step}
 use Rattle.raft_core.specs.declared.no_projection.NoProjection.{NoProjection}
 use Rattle.raft_core.specs.declared.no_projection.NoProjection.TheVariants as reasons
-use Rattle.raft_core.specs.RaftView.{RaftView}
+use Rattle.raft_core.specs.RaftView.{RaftView, IsCrashOf}
 use Rattle.raft_core.specs.Inputs.{Handed, Bytes, Own}
 use Rattle.raft_core.specs.Steps.{Represents, IsGroupPlace}
 
@@ -115,36 +115,36 @@ IsMessageRefused n me s read refusals.NoMemory = message_refusal n me s read ≡
 IsMessageRefused n me s read cause = message_refusal n me s read ≡ Some cause
 
 -- want of memory in a step is a crash, but that a restart changes nothing
-abbrev pub LackLeaves : {S C : Type 0} → Meaning S C → RaftView C → Server C → Handed C → RaftView C → Type 0
+abbrev pub LackLeaves : {S C : Type 0} → Meaning S C → RaftView S C → Server C → Handed C → RaftView S C → Type 0
 LackLeaves m old s (Own Restart) new = new ≡ old
 LackLeaves m old s h new = Represents m new (crashed s)
 
 -- any other refusal of a step changes nothing
-abbrev pub RefusalLeaves : {S C : Type 0} → Meaning S C → RaftView C → Server C → Handed C → Refusal → RaftView C
+abbrev pub RefusalLeaves : {S C : Type 0} → Meaning S C → RaftView S C → Server C → Handed C → Refusal → RaftView S C
     → Type 0
 RefusalLeaves m old s h refusals.NoMemory new = LackLeaves m old s h new
 RefusalLeaves m old s h cause new = new ≡ old
 
 -- the same of a message that was read
-abbrev pub MessageRefusalLeaves : {S C : Type 0} → Meaning S C → RaftView C → Server C → Refusal
-    → RaftView C → Type 0
+abbrev pub MessageRefusalLeaves : {S C : Type 0} → Meaning S C → RaftView S C → Server C → Refusal
+    → RaftView S C → Type 0
 MessageRefusalLeaves m old s refusals.NoMemory new = Represents m new (crashed s)
 MessageRefusalLeaves m old s cause new = new ≡ old
 
 -- The same of the value itself, whichever servers it is: want of memory in a step is a crash, but
 -- that a restart, of one that is down, changes nothing.
-abbrev pub LackStays : {C : Type 0} → Handed C → RaftView C → RaftView C → Type 0
+abbrev pub LackStays : {S C : Type 0} → Handed C → RaftView S C → RaftView S C → Type 0
 LackStays (Own Restart) old new = (is_up old.server.mode ≡ false) × (new ≡ old)
-LackStays h old new = new.server ≡ crashed old.server
+LackStays h old new = IsCrashOf old new
 
 -- any other refusal of a step changes nothing
-abbrev pub Stays : {C : Type 0} → Handed C → Refusal → RaftView C → RaftView C → Type 0
+abbrev pub Stays : {S C : Type 0} → Handed C → Refusal → RaftView S C → RaftView S C → Type 0
 Stays h refusals.NoMemory old new = LackStays h old new
 Stays h cause old new = new ≡ old
 
 -- the same of a message that was read
-abbrev pub MessageStays : {C : Type 0} → Refusal → RaftView C → RaftView C → Type 0
-MessageStays refusals.NoMemory old new = new.server ≡ crashed old.server
+abbrev pub MessageStays : {S C : Type 0} → Refusal → RaftView S C → RaftView S C → Type 0
+MessageStays refusals.NoMemory old new = IsCrashOf old new
 MessageStays cause old new = new ≡ old
 
 -- any refusal but want of memory shows a watcher nothing

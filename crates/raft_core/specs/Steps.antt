@@ -10,21 +10,24 @@ use Rattle.raft_model.specs.Messages.{Message}
 use Rattle.raft_model.specs.Steps.{Input, Arrives, step}
 use Rattle.raft_core.specs.declared.role.Role.{Role}
 use Rattle.raft_core.specs.declared.role.Role.TheVariants as roles
-use Rattle.raft_core.specs.Stored.{Stored}
+use Rattle.raft_snapshot.specs.Kept.{IsLogOf}
+use Rattle.raft_snapshot.specs.Shown.{StandsFor}
+use Rattle.raft_snapshot.specs.Stored.{Stored}
 use Rattle.raft_core.specs.RaftView.{RaftView}
 use Rattle.raft_core.specs.Frames.{Means, Sends}
 use Rattle.raft_core.specs.Inputs.{Handed, Reads}
 
--- which server of the definitions a value is
-abbrev pub Represents : {S C : Type 0} → Meaning S C → RaftView C → Server C → Type 0
-Represents m view s = view.server ≡ s
+-- Which servers of the definitions a value is: each that has, in place of the blank entries, some
+-- that its snapshot covers.
+abbrev pub Represents : {S C : Type 0} → Meaning S C → RaftView S C → Server C → Type 0
+Represents m view s = StandsFor m view.base view.server s
 
 -- what is stored is what this server stores
-pub record Stores {S C : Type 0} (m : Meaning S C) (stored : Stored C) (s : Server C) : Type 0 where
+pub record Stores {S C : Type 0} (m : Meaning S C) (stored : Stored S C) (s : Server C) : Type 0 where
   pub term : stored.term ≡ s.term
   pub vote : stored.vote ≡ s.vote
-  pub log : stored.log ≡ s.log
-  pub covered : 0 ≡ s.covered
+  pub log : IsLogOf m stored.log s.log
+  pub covered : stored.log.base.index ≡ s.covered
 
 abbrev pub role_of : Mode → Option Role
 role_of DownMode = None
@@ -37,21 +40,21 @@ abbrev pub IsGroupPlace : ℕ → ℕ → Type 0
 IsGroupPlace n me = IsGroup n × (me < n)
 
 -- the input leads from the one server to one that the new value is, and its messages were sent
-pub record Steps {S C : Type 0} (m : Meaning S C) (old : RaftView C) (s : Server C) (input : Input C)
-    (new : RaftView C) (before after : List Frame) : Type 0 where
+pub record Steps {S C : Type 0} (m : Meaning S C) (old : RaftView S C) (s : Server C) (input : Input C)
+    (new : RaftView S C) (before after : List Frame) : Type 0 where
   pub turn : Turn C
   pub step : step m old.size old.me s input ≡ Ok turn
   pub represents : Represents m new turn.server
   pub sent : Sends m before after turn.sent
 
 -- so for each input that what is handed in may be
-abbrev pub Takes : {S C : Type 0} → Meaning S C → RaftView C → Server C → Handed C → RaftView C
+abbrev pub Takes : {S C : Type 0} → Meaning S C → RaftView S C → Server C → Handed C → RaftView S C
     → List Frame → List Frame → Type 0
 Takes {C = C} m old s h new before after =
     (input : Input C) → Reads m h input → Steps m old s input new before after
 
 -- and so for the arrival of each message that the one that was read is
-abbrev pub TakesMessage : {S C : Type 0} → Meaning S C → RaftView C → Server C → WireMessage S C
-    → RaftView C → List Frame → List Frame → Type 0
+abbrev pub TakesMessage : {S C : Type 0} → Meaning S C → RaftView S C → Server C → WireMessage S C
+    → RaftView S C → List Frame → List Frame → Type 0
 TakesMessage {C = C} m old s read new before after =
     (message : Message C) → Means read message → Steps m old s (Arrives message) new before after

@@ -2,17 +2,16 @@
 //! 5.4.2.)
 
 ghost use Rattle.std.specs.Prelude.{◌≡◌, ◌≢◌, ◌^◌, ◌<◌, ◌≤◌, ◌⊎◌, ℕ, Bool, List, length, take, drop, IfOk};
-ghost use Rattle.raft_model.specs.Logs.{state_after};
 ghost use Rattle.raft_model.specs.Quorums.{count, is_quorum, index_at};
 ghost use Rattle.raft_model.specs.Servers.{Server, Leader, advanced, greatest};
 ghost use Rattle.raft_core.specs.Commits.{holds_index, IsGreatest, IsRisen};
 ghost use Rattle.raft_core.specs.Inner.Commits.{is_chosen_in};
-ghost use Rattle.raft_core.specs.Watching.{SeesAll};
+ghost use Rattle.raft_snapshot.specs.Bases.{state_from};
+ghost use Rattle.raft_snapshot.specs.Watching.{SeesAll};
 
-use crate::apply::apply_range_watched;
 use crate::log::term_at;
-use crate::watch::Watch;
-use machine::{Coded, Entry, Machine};
+use machine::Machine;
+use raft_snapshot::{Log, Watch, apply_range_watched};
 use rows::{Index, LeaderTerm, NoMemory, ServerId};
 
 /// How many servers hold an index: the leader `me`, and each that is known to.
@@ -65,16 +64,19 @@ fn risen<M: Machine>(
     me: ServerId,
     commit: Index,
     term: LeaderTerm,
-    log: &[Entry<Coded<M>>],
+    log: &Log<M>,
     matched: &[u64],
 ) -> u64
     requires group { length matched.now ≤ 5 }
+    requires covered { log.now.base.index ≤ commit }
     ensures value { result ≡ greatest
-        (is_chosen_in (length matched.now) me term log.now matched.now) commit (length log.now) }
+        (is_chosen_in (length matched.now) me term log.now.entries matched.now) commit
+        (length log.now.entries) }
     ensures rises { commit ≤ result }
-    ensures within { commit ≤ length log.now → result ≤ length log.now }
+    ensures within { commit ≤ length log.now.entries → result ≤ length log.now.entries }
+    ensures short { result < 2 ^ 40 }
 {
-    let mut index = log.len() as u64;
+    let mut index = log.last().get();
     while commit.get() < index {
         if !is_quorum(me, matched, index) {
             index = next_lower(me, matched, index);
@@ -94,35 +96,31 @@ pub fn advance<M: Machine, W: Watch<M>>(
     me: ServerId,
     commit: Index,
     term: LeaderTerm,
-    log: &[Entry<Coded<M>>],
+    log: &Log<M>,
     matched: &[u64],
     watch: &mut W,
 ) -> Result<Index, NoMemory>
     requires group { length matched.now ≤ 5 }
-    requires short { length log.now < 2 ^ 40 }
-    requires committed { commit ≤ length log.now }
-    requires state { machine.old ≡ state_after M.meaning (take commit log.now) }
+    requires covered { log.now.base.index ≤ commit }
+    requires committed { commit ≤ length log.now.entries }
+    requires state { machine.old ≡ state_from M.meaning log.now.base
+        (take commit log.now.entries) }
     ensures value { IfOk result (λ n. n
-        ≡ greatest (is_chosen_in (length matched.now) me term log.now matched.now) commit
-        (length log.now)) }
-    ensures within { IfOk result (λ n. n ≤ length log.now) }
-    ensures state { IfOk result (λ n. machine.new ≡ state_after M.meaning (take n log.now)) }
+        ≡ greatest (is_chosen_in (length matched.now) me term log.now.entries matched.now) commit
+        (length log.now.entries)) }
+    ensures rises { IfOk result (λ n. commit ≤ n) }
+    ensures within { IfOk result (λ n. n ≤ length log.now.entries) }
+    ensures state { IfOk result (λ n. machine.new
+        ≡ state_from M.meaning log.now.base (take n log.now.entries)) }
     ensures seen { IfOk result (λ n. SeesAll M.meaning W.sees term
-        (state_after M.meaning (take commit log.now)) (drop commit (take n log.now)) watch.old
-        watch.new) }
+        (state_from M.meaning log.now.base (take commit log.now.entries))
+        (drop commit (take n log.now.entries)) watch.old watch.new) }
 {
     let to = risen::<M>(me, commit, term, log, matched);
     let Some(to) = Index::new(to) else {
         unreachable!()
     };
-    apply_range_watched(
-        machine,
-        term,
-        log,
-        commit.get() as usize,
-        to.get() as usize,
-        watch,
-    )?;
+    apply_range_watched(machine, term, log, commit.get(), to.get(), watch)?;
     Ok(to)
 }
 

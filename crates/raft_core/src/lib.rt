@@ -2,24 +2,18 @@
 //! each input. (Raft, extended version 2014, section 5 and Figure 2.)
 #![tactic(auto)]
 
-mod apply;
 mod commit;
 mod input;
 mod log;
-mod merge;
 mod no_projection;
-mod project;
 mod raft;
 mod release;
 mod role;
 mod sending;
-mod stable;
-mod watch;
 
 pub use commit::commit_is_greatest;
 pub use input::Input;
 pub use no_projection::NoProjection;
 pub use raft::{NotRestarted, Raft};
+pub use raft_snapshot::{Stable, Unwatched, Watch};
 pub use role::Role;
-pub use stable::Stable;
-pub use watch::{Unwatched, Watch};

@@ -13,22 +13,23 @@ ghost use Rattle.raft_core.specs.Steps.{Represents, Stores, Takes, role_of, IsGr
 ghost use Rattle.raft_core.specs.Refusals.{refusal, HidesNothing, IsRefused, RefusalLeaves, RefusalShows, Stays, WhyNot};
 ghost use Rattle.raft_core.specs.Inner.Stops.{EndsRefused};
 ghost use Rattle.raft_core.specs.Inner.Views.{with_server};
-ghost use Rattle.raft_core.specs.RaftView.{KeepsAhead};
-ghost use Rattle.raft_core.specs.Watching.{SeesStep};
+ghost use Rattle.raft_core.specs.Inner.Moves.{MovesBy};
+ghost use Rattle.raft_core.specs.RaftView.{SamePlace, IsCrashOf, KeepsAhead};
+ghost use Rattle.raft_snapshot.specs.Shown.{IsShown, shown_state};
+ghost use Rattle.raft_snapshot.specs.Watching.{SeesStep, ShowsStep};
 
 use crate::input::Input;
 use crate::release::forget;
 use crate::role::Role;
-use crate::stable::Stable;
-use crate::watch::{Unwatched, Watch};
-use machine::{Coded, Entry, Machine};
+use machine::Machine;
+use raft_snapshot::{Log, Stable, Unwatched, Watch};
 use rows::{Index, LeaderTerm, NoMemory, Refusal, ServerId, Term, is_group_size};
 use std::alloc::Global;
 use std::marker::Model;
 use wire::Frames;
 
-/// One server of a group of 3 or 5. Term, vote and log are stored; the rest is lost in a crash. It
-/// is down while it has no machine.
+/// One server of a group of 3 or 5. Term, vote and log, with the snapshot of what that covers, are
+/// stored; the rest is lost in a crash. It is down while it has no machine.
 #[derive(Drop)]
 pub struct Raft<M: Machine> {
     alloc: Global,
@@ -36,7 +37,7 @@ pub struct Raft<M: Machine> {
     size: usize,
     term: Term,
     vote: Option<ServerId>,
-    log: Vec<Entry<Coded<M>>>,
+    log: Log<M>,
     machine: Option<M>,
     role: Role,
     commit: Index,
@@ -53,11 +54,11 @@ pub struct Raft<M: Machine> {
 impl<M: Machine> Model for Raft<M> {
     ghost use Rattle.raft_core.specs.RaftView.{RaftView, with_ahead, while_up, mode_of, IsRaft};
 
-    ghost Value = { RaftView M.Command };
+    ghost Value = { RaftView M M.Command };
 
-    ghost view = { λ a. with_ahead a.me a.size a.ahead (while_up a.machine (record { term = a.term; vote = a.vote; log = a.log.items; covered = 0; commit = a.commit; known = a.known; mode = mode_of a.role a.votes.items a.next.items a.matched.items })) };
+    ghost view = { λ a. with_ahead a.me a.size a.log.base a.ahead (while_up a.machine (record { term = a.term; vote = a.vote; log = a.log.entries; covered = a.log.base.index; commit = a.commit; known = a.known; mode = mode_of a.role a.votes.items a.next.items a.matched.items })) };
 
-    ghost invariant = { λ a. IsRaft M.meaning a.me a.size a.term a.log.items a.role a.commit a.votes.items a.next.items a.matched.items a.machine a.ahead };
+    ghost invariant = { λ a. IsRaft M.meaning a.me a.size a.term a.log.base a.log.entries a.role a.commit a.votes.items a.next.items a.matched.items a.machine a.ahead };
 }
 
 /// A stored part that could not be started, and why: the number is past the group's size, or that
@@ -98,7 +99,7 @@ fn is_member(size: usize, me: ServerId) -> bool
 
 impl<M: Machine> Raft<M> {
     /// The server of this number in a group of `size` that starts with what it stored: a follower
-    /// that knows no leader.
+    /// that knows no leader, and has applied what its snapshot covers.
     ///
     /// It is refused with `OutOfRange` where `size` is not 3 or 5 or the number is past it, and
     /// with `NoMemory`; the stored part is handed back then.
@@ -108,6 +109,7 @@ impl<M: Machine> Raft<M> {
         size: usize,
         stable: Stable<M>,
     ) -> Result<Raft<M>, NotRestarted<M>>
+        requires uncovered { stable.log.base.index ≡ 0 }
         ensures member { OnOk result (IsGroupPlace size me) }
         ensures number { IfOk result (λ r. (r.me ≡ me) × (r.size ≡ size)) }
         ensures server { IfOk result (λ r. (s : Server M.Command) → Stores M.meaning stable s →
@@ -131,7 +133,14 @@ impl<M: Machine> Raft<M> {
             next,
             matched,
         } = levels;
-        let Stable { term, vote, log } = stable;
+        let (term, vote, log) = stable.into_parts();
+        let Ok(machine) = log.state().fork() else {
+            return Err(NotRestarted {
+                refusal: Refusal::NoMemory,
+                stable: Stable::from_parts(term, vote, log),
+            });
+        };
+        let commit = log.covered();
         Ok(Raft {
             alloc,
             me,
@@ -139,9 +148,9 @@ impl<M: Machine> Raft<M> {
             term,
             vote,
             log,
-            machine: Some(M::empty(alloc)),
+            machine: Some(machine),
             role: Role::Follower,
-            commit: Index::ZERO,
+            commit,
             known: None,
             votes,
             next,
@@ -152,7 +161,9 @@ impl<M: Machine> Raft<M> {
 
     /// What it stores; the rest is gone.
     pub fn into_stable(self) -> Stable<M>
-        ensures { (s : Server M.Command) → Represents M.meaning self s → Stores M.meaning result s }
+        ensures stored { (s : Server M.Command) → Represents M.meaning self s →
+            Stores M.meaning result s }
+        ensures uncovered { result.log.base.index ≡ 0 }
     {
         let Raft {
             term,
@@ -160,7 +171,7 @@ impl<M: Machine> Raft<M> {
             log,
             ..
         } = self;
-        Stable { term, vote, log }
+        Stable::from_parts(term, vote, log)
     }
 
     /// Its number.
@@ -218,10 +229,7 @@ impl<M: Machine> Raft<M> {
             result ≡ length s.log }
         ensures shown { result ≡ length self.now.server.log }
     {
-        match Index::new(self.log.len() as u64) {
-            Some(last) => last,
-            None => unreachable!(),
-        }
+        self.log.last()
     }
 
     /// How many entries are applied, while it is up: all that are committed.
@@ -247,6 +255,17 @@ impl<M: Machine> Raft<M> {
             MatchOption result (is_up s.mode ≡ false) (λ r. (is_up s.mode ≡ true)
             × (r.now ≡ state_after M.meaning (take s.commit s.log))) }
         ensures shown { is_some result ≡ is_up self.now.server.mode }
+    {
+        self.shown();
+        self.applied_machine()
+    }
+
+    /// The same, in the state that is applied by what is shown.
+    fn applied_machine(&self) -> Option<&M>
+        ensures state { MatchOption result (is_up self.now.server.mode ≡ false)
+            (λ r. (is_up self.now.server.mode ≡ true)
+            × (r.now ≡ shown_state M.meaning self.now.base self.now.server)) }
+        ensures up { is_some result ≡ is_up self.now.server.mode }
     {
         self.machine.as_ref()
     }
@@ -290,33 +309,45 @@ impl<M: Machine> Raft<M> {
 
     /// It stops: what it does not store is lost. One that is down stays so. It takes no memory.
     pub fn crash(&mut self)
-        ensures same { (self.new.me ≡ self.old.me) × (self.new.size ≡ self.old.size) }
+        ensures same { SamePlace self.old self.new }
         ensures crashed { (s : Server M.Command) → Represents M.meaning self.old s →
             Represents M.meaning self.new (crashed s) }
-        ensures shown { self.new.server ≡ crashed self.old.server }
+        ensures shown { IsCrashOf self.old self.new }
     {
         self.go_down();
     }
 
     fn go_down(&mut self)
-        ensures { self.new ≡ with_server self.old (crashed self.old.server) }
+        ensures view { self.new ≡ with_server self.old (crashed self.old.server) }
+        ensures idle { is_up self.old.server.mode ≡ false → self.new ≡ self.old }
     {
         forget(&mut self.machine);
         forget(&mut self.ahead);
     }
 
-    /// It starts again: a follower that knows no leader, with nothing applied.
+    /// It starts again: a follower that knows no leader, with what its snapshot covers applied.
     #[inline(never)]
-    fn revive(&mut self)
+    fn revive(&mut self) -> Result<(), NoMemory>
         requires { is_up self.old.server.mode ≡ false }
-        ensures { self.new ≡ with_server self.old (restarted self.old.server) }
+        ensures ok { OnOk result (self.new ≡ with_server self.old (restarted self.old.server)) }
+        ensures err { OnErr result (self.new ≡ self.old) }
     {
+        let machine = self.log.state().fork()?;
         self.role = Role::Follower;
         self.ahead = None;
-        self.commit = Index::ZERO;
+        self.commit = self.log.covered();
         self.known = None;
         self.matched.fill(0);
-        self.machine = Some(M::empty(self.alloc));
+        self.machine = Some(machine);
+        Ok(())
+    }
+
+    /// What every value shows of its base, and that it covers nothing yet.
+    fn shown(&self)
+        ensures shown { IsShown self.now.base self.now.server }
+        ensures uncovered { self.now.base.index ≡ 0 }
+    {
+        let _ = self.log.covered();
     }
 
     /// A greater term makes the server a follower of that term, without a vote or a known leader.
@@ -342,8 +373,8 @@ impl<M: Machine> Raft<M> {
         outbox: &mut Frames,
         watch: &mut W,
     ) -> Result<(), Refusal>
-        ensures same { (self.new.me ≡ self.old.me) × (self.new.size ≡ self.old.size) }
-        ensures taken { OnOk result (Takes M.meaning self.old self.old.server (handed input.entry)
+        ensures same { SamePlace self.old self.new }
+        ensures taken { OnOk result (MovesBy M.meaning self.old (handed input.entry)
             self.new outbox.old outbox.new) }
         ensures admitted { OnOk result (
             refusal M.meaning self.old.size self.old.me self.old.server (handed input.entry) ≡ None) }
@@ -352,8 +383,10 @@ impl<M: Machine> Raft<M> {
             EndsRefused M.meaning self.old (handed input.entry) cause self.new outbox.old outbox.new) }
         ensures unhidden { IfErr result (λ cause. HidesNothing M.meaning self.old.size self.old.me
             self.old.server (handed input.entry) cause) }
-        ensures seen { OnOk result
-            (SeesStep M.meaning W.sees self.old.server self.new.server watch.old watch.new) }
+        ensures led { OnOk result (is_leader self.new.server.mode ≡ true →
+            self.new.base ≡ self.old.base) }
+        ensures seen { OnOk result (ShowsStep M.meaning W.sees self.old.base self.old.server
+            self.new.server watch.old watch.new) }
         ensures unseen { IfErr result (λ cause. RefusalShows cause watch.old watch.new) }
     {
         let is_up = self.is_up();
@@ -362,7 +395,7 @@ impl<M: Machine> Raft<M> {
                 if is_up {
                     return Err(Refusal::OutOfRange);
                 }
-                self.revive();
+                self.revive()?;
                 Ok(())
             }
             Input::Crash => {
@@ -389,7 +422,7 @@ impl<M: Machine> Raft<M> {
                 if !is_up {
                     return Err(Refusal::Down);
                 }
-                self.frame(bytes, outbox, watch)
+                self.take_frame(bytes, outbox, watch)
             }
         }
     }
@@ -406,7 +439,7 @@ impl<M: Machine> Raft<M> {
     /// another refusal, but of a frame's. A leader that leads on keeps its machine after its whole
     /// log.
     pub fn step(&mut self, input: Input, outbox: &mut Frames) -> Result<(), Refusal>
-        ensures same { (self.new.me ≡ self.old.me) × (self.new.size ≡ self.old.size) }
+        ensures same { SamePlace self.old self.new }
         ensures taken { OnOk result ((s : Server M.Command) → Represents M.meaning self.old s →
             Takes M.meaning self.old s (handed input.entry) self.new outbox.old outbox.new) }
         ensures admitted { OnOk result ((s : Server M.Command) → Represents M.meaning self.old s →
@@ -438,7 +471,7 @@ impl<M: Machine> Raft<M> {
         outbox: &mut Frames,
         watch: &mut W,
     ) -> Result<(), Refusal>
-        ensures same { (self.new.me ≡ self.old.me) × (self.new.size ≡ self.old.size) }
+        ensures same { SamePlace self.old self.new }
         ensures taken { OnOk result ((s : Server M.Command) → Represents M.meaning self.old s →
             Takes M.meaning self.old s (handed input.entry) self.new outbox.old outbox.new) }
         ensures admitted { OnOk result ((s : Server M.Command) → Represents M.meaning self.old s →
@@ -462,8 +495,12 @@ impl<M: Machine> Raft<M> {
         ensures unseen { IfErr result (λ cause. RefusalShows cause watch.old watch.new) }
     {
         let before = outbox.len();
+        self.shown();
         match self.take(input, outbox, watch) {
-            Ok(()) => Ok(()),
+            Ok(()) => {
+                self.shown();
+                Ok(())
+            }
             Err(cause) => match cause {
                 Refusal::NoMemory => {
                     outbox.truncate(before);

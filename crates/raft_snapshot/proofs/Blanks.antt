@@ -1,5 +1,5 @@
 -- What a log shows whose covered entries are blank.
-use Rattle.std.proofs.Common.{◌≡◌, ◌≢◌, ℕ, zero, suc, ◌+◌, ◌-◌, ◌<◌, ◌≤◌, Result, Ok, Err, OnOk, min, true, false, ltb, List, [], ◌++◌, length, get_or, take, drop, replicate, refl, sym, ap, ◌∙◌, arith, length-append, append_assoc}
+use Rattle.std.proofs.Common.{◌≡◌, ◌≢◌, ℕ, zero, suc, ◌+◌, ◌-◌, ◌<◌, ◌≤◌, min, true, false, ltb, List, [], ◌++◌, length, get_or, take, drop, replicate, refl, sym, ap, ◌∙◌, arith, length-append, append_assoc}
 use Rattle.std.proofs.Math.Seq.{drop-append-add, take-append-add}
 use Rattle.std.proofs.lemmas.List.{length-replicate, drop_min, take_rest, append-nil}
 use Rattle.machine_model.specs.Meaning.{Meaning}
@@ -54,10 +54,6 @@ module _ {S C : Type 0} (m : Meaning S C) (index term : ℕ) (tail : List (Entry
   shown_behind p start size le at all =
       ap (λ (i : ℕ). take (i - start) (drop start tail)) all ∙ take_rest tail start ∙ ap (λ (i : ℕ). drop i tail) at ∙ drop_min (p - index) tail ∙ shown_drop p le
 
-pub on_ok : {T E P Q : Type 0} (r : Result T E) → (P → Q) → OnOk r P → OnOk r Q
-on_ok (Ok x) f h = f h
-on_ok (Err e) f h = h
-
 pub shown_replaced : {S C : Type 0} (m : Meaning S C) (index term : ℕ) (tail more all : List (Entry C)) (p : ℕ) → index ≤ p → all ≡ take (p - index) tail ++ more → blank m index term ++ all ≡ take p (blank m index term ++ tail) ++ more
 shown_replaced {C = C} m index term tail more all p le is =
     ap (λ (l : List (Entry C)). blank m index term ++ l) is ∙ sym (append_assoc (blank m index term) (take (p - index) tail) more) ∙ ap (λ (l : List (Entry C)). l ++ more) (shown_take m index term tail p le)
@@ -69,9 +65,6 @@ shown_last m (suc index) term tail none = shown_covered m (suc index) term tail 
 module _ {S C : Type 0} (m : Meaning S C) (index term : ℕ) (tail : List (Entry C)) where
   pub shown_size : length (blank m index term ++ tail) ≡ index + length tail
   shown_size = omega (arith, length-append (blank m index term) tail, blank-length m index term tail)
-
-  pub shown_later : (next t u : ℕ) (rest : List (Entry C)) → index ≤ next → t ≡ u → rest ≡ drop (next - index) tail → blank m next t ++ rest ≡ blank m next u ++ drop next (blank m index term ++ tail)
-  shown_later next t u rest le is cut = ap (λ (i : ℕ). blank m next i ++ rest) is ∙ ap (λ (l : List (Entry C)). blank m next u ++ l) (cut ∙ shown_drop m index term tail next le)
 
 -- the last blank entry has the base's term
 pub last_is : {S C : Type 0} (m : Meaning S C) (p t : ℕ) → (p ≡ 0 → t ≡ 0) → last_term (blank m p t) ≡ t

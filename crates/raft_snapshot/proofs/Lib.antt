@@ -5,4 +5,8 @@ pub mod Whole
 pub mod Servers
 pub mod Steps
 pub mod Snapshots
+pub mod Applies
+pub mod Merges
 pub mod Shown
+pub mod Watches
+pub mod Seen

@@ -1,6 +1,6 @@
 -- Servers of the definitions for which a base and a shown server stand, and what an Install, a
 -- beat, a Compact, a crash and a restart make of both.
-use Rattle.std.proofs.Common.{◌≡◌, ℕ, zero, suc, ◌≤◌, nat_lt, nat_le, not, Bool, true, false, if◌then◌else◌, List, [], ◌∷◌, ◌++◌, length, take, drop, refl, sym, ap, ◌∙◌, arith, length-take-le, length-append}
+use Rattle.std.proofs.Common.{◌≡◌, ℕ, zero, suc, ◌≤◌, nat_lt, nat_le, not, Bool, true, false, if◌then◌else◌, List, [], ◌++◌, length, take, drop, refl, sym, ap, ◌∙◌, arith, length-take-le, length-append}
 use Rattle.std.proofs.lemmas.Bool.{leb-false}
 use Rattle.machine_model.specs.Meaning.{Meaning}
 use Rattle.machine_model.specs.After.{after, after_from}
@@ -13,15 +13,11 @@ use Rattle.raft_model.specs.Steps.{receives}
 use Rattle.raft_snapshot.specs.Bases.{Base, IsBaseOf, blank, state_from}
 use Rattle.raft_snapshot.specs.Filled.{refilled, filled_turn, MayFill, takes_snapshot}
 use Rattle.raft_snapshot.specs.Shown.{IsShown, StandsFor, shown_state, turn_of, base_after, Received, compacted_base, compacted_shown}
+use Rattle.raft_snapshot.proofs.Applies.{commands-append}
 use Rattle.raft_snapshot.proofs.Logs.{term_at_zero, filled-length, filled-take}
 use Rattle.raft_snapshot.proofs.Blanks.{blank-length, last_is, shown_covered}
 use Rattle.raft_snapshot.proofs.Servers.{met-filled, may-met}
 use Rattle.raft_snapshot.proofs.Snapshots.{received-install, beat-filled, compacted-filled, compacted-term}
-
-commands-append : {C : Type 0} (xs ys : List (Entry C)) → commands (xs ++ ys) ≡ commands xs ++ commands ys
-unfolding commands
-commands-append [] ys = refl
-commands-append (e ∷ xs) ys = ap (λ (l : List _). e.command ∷ l) (commands-append xs ys)
 
 module _ {S C : Type 0} (m : Meaning S C) where
   pub may_fill : (base : Base S) (shown : Server C) → IsShown base shown → (P : List (Entry C)) → IsBaseOf m base P → MayFill P shown

@@ -3,3 +3,4 @@ pub mod Filled
 pub mod Kept
 pub mod Shown
 pub mod Stored
+pub mod Watching

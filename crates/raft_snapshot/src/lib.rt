@@ -1,14 +1,22 @@
 //! A log whose first entries may be covered by a snapshot, known by their number, the term of the
-//! last one and the state after them; and what a server stores. (Raft, extended version 2014,
-//! section 7.)
+//! last one and the state after them; what a server stores; and how a log's entries come in and are
+//! applied to a machine. (Raft, extended version 2014, section 7 and Figure 2.)
 #![tactic(auto)]
 
+mod apply;
 mod laws;
 mod log;
+mod merge;
+mod project;
 mod snapshot;
 mod stable;
+mod watch;
 
+pub use apply::{apply_range, apply_range_watched};
 pub use laws::{servers_are_shown, snapshots_are_received, steps_are_filled};
 pub use log::Log;
+pub use merge::adopt;
+pub use project::{brought_on, projection};
 pub use snapshot::Snapshot;
 pub use stable::Stable;
+pub use watch::{Unwatched, Watch};

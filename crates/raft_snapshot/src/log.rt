@@ -1,4 +1,4 @@
-ghost use Rattle.std.specs.Prelude.{◌≡◌, ◌+◌, ◌-◌, ◌++◌, ◌∷◌, [], ◌^◌, ◌<◌, ◌≤◌, ◌⊎◌, List, length, take, drop, OnOk, OnErr, IfSome, MatchOption};
+ghost use Rattle.std.specs.Prelude.{◌≡◌, ◌+◌, ◌-◌, ◌++◌, ◌∷◌, [], ◌^◌, ◌<◌, ◌≤◌, ◌⊎◌, ◌||◌, List, length, take, drop, OnOk, OnErr, IfSome, MatchOption, nat_le};
 ghost use Rattle.machine_model.specs.declared.entry.Entry.{Entry};
 ghost use Rattle.raft_model.specs.Logs.{term_at, last_term, has, install, state_after};
 ghost use Rattle.raft_snapshot.specs.Bases.{IsBaseOf, IsSnapshot, blank};
@@ -129,6 +129,15 @@ impl<M: Machine> Log<M> {
             Some(there) => there.get() == term.get(),
             None => false,
         }
+    }
+
+    /// Whether what stands at an index stays where a leader names this term there: it is committed,
+    /// or in the log with this term. Nothing is covered that is not committed.
+    pub fn stays(&self, commit: u64, index: u64, term: Term) -> bool
+        requires { self.now.base.index ≤ commit }
+        ensures { result ≡ (nat_le index commit || has self.now.entries index term) }
+    {
+        index <= commit || self.holds(index, term)
     }
 
     /// The entries behind an index that is not below what is covered; none past the last.

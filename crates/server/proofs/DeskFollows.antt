@@ -1,22 +1,22 @@
 -- The desk after a step of the log is what it makes of the entries that it sees; and it is of the
 -- applied state then.
-use Rattle.std.proofs.Common.{◌≡◌, ℕ, ◌≤◌, Bool, true, false, ◌==◌, Option, Some, None, List, [], ◌∷◌, take, drop, ◌-◌, refl, sym, ap, subst, ◌∙◌, arith}
-use Rattle.std.proofs.lemmas.List.{drop-take}
+use Rattle.std.proofs.Common.{◌≡◌, ℕ, ◌≤◌, Bool, true, false, ◌==◌, Option, Some, None, List, [], ◌∷◌, ◌++◌, take, drop, take-take, refl, sym, ap, subst, ◌∙◌}
+use Rattle.std.proofs.lemmas.List.{take-append-drop}
 use Rattle.std.specs.Prelude.{IfSome}
-use Rattle.std.specs.List.{slice_range}
 use Rattle.rows.specs.declared.command.Command.{Command}
 use Rattle.rows.specs.States.{AreTables}
-use Rattle.machine_model.specs.After.{after_from}
+use Rattle.machine_model.specs.After.{after, after_from}
 use Rattle.machine_model.specs.declared.entry.Entry.{Entry}
 use Rattle.raft_model.specs.Logs.{commands, state_after}
 use Rattle.raft_model.specs.Servers.{Server, is_leader, Candidate}
-use Rattle.raft_core.specs.Watching.{SeesAll, SeesStep}
+use Rattle.raft_snapshot.specs.Watching.{SeesAll, SeesStep}
 use Rattle.cluster_model.specs.Words.{State}
 use Rattle.cluster_model.specs.Effect.{applied}
 use Rattle.cluster_model.specs.ClusterMachine.{cluster_meaning}
 use Rattle.cluster_model.proofs.StateLaws.{empty_are_tables, applied_are_tables}
 use Rattle.group_model.specs.Desks.{after_entry, after_entries, applied_state, newly, desk_after}
-use Rattle.raft_core.proofs.Applies.{after_range}
+use Rattle.machine_model.proofs.Afters.{after_from-append}
+use Rattle.raft_snapshot.proofs.Applies.{commands-append}
 use Rattle.leader.specs.OpenDesks.{OpenDesk}
 use Rattle.leader.specs.Staying.{IsOver}
 use Rattle.leader.proofs.Staying.{opens_over}
@@ -67,9 +67,9 @@ all_entries term s (e ∷ es) w new t at h =
 
 state_on : (log : List (Entry Command)) (c d : ℕ) → c ≤ d → after_from cluster_meaning (state_after cluster_meaning (take c log)) (commands (drop c (take d log))) ≡ state_after cluster_meaning (take d log)
 state_on log c d le =
-    let range : drop c (take d log) ≡ slice_range log c d = ap (λ (n : ℕ). drop c (take n log)) (omega arith) ∙ drop-take c (d - c) log in
-    after_range cluster_meaning log c d (state_after cluster_meaning (take c log)) (after_from cluster_meaning (state_after cluster_meaning (take c log)) (commands (drop c (take d log)))) le refl
-    (ap (λ es. after_from cluster_meaning (state_after cluster_meaning (take c log)) (commands es)) range)
+    let rest = drop c (take d log) in
+    let whole : take d log ≡ take c log ++ rest = sym (take-append-drop c (take d log)) ∙ ap (λ (es : List (Entry Command)). es ++ rest) (take-take c d log le) in
+    sym (ap (state_after cluster_meaning) whole ∙ ap (after cluster_meaning) (commands-append (take c log) rest) ∙ after_from-append cluster_meaning cluster_meaning.empty (commands (take c log)) (commands rest))
 
 -- a desk is the leader's, of its term and of the state that it has applied
 abbrev IsLed : Server Command → Option OpenDesk → Type 0

@@ -1,6 +1,6 @@
 -- A turn of a node's drain is told by the answer of the desk's call.
-use Rattle.std.proofs.Common.{◌≡◌, ℕ, Option, Some, None, Result, Ok, Err, refl, sym, ap, subst, ◌∙◌, if◌then◌else◌}
-use Rattle.std.specs.Prelude.{IfOk}
+use Rattle.std.proofs.Common.{◌≡◌, ◌⊎◌, inl, inr, ℕ, Option, Some, None, Result, Ok, Err, refl, sym, ap, subst, ◌∙◌, if◌then◌else◌}
+use Rattle.std.specs.Prelude.{IfOk, IfErr}
 use Rattle.rows.specs.declared.command.Command.{Command}
 use Rattle.rows.specs.declared.refusal.Refusal.{Refusal}
 use Rattle.rows.specs.declared.refusal.Refusal.TheVariants as refusals
@@ -13,7 +13,7 @@ use Rattle.group_model.specs.Desks.{Desk, whole_state}
 use Rattle.group_model.specs.Inputs.{DrainTurn}
 use Rattle.group_model.specs.Members.{Member, open_or, at_desk}
 use Rattle.group_model.specs.Turns.{drain_turn}
-use Rattle.leader.specs.OpenDesks.{OpenDesk, if_open, on_drain_turn}
+use Rattle.leader.specs.OpenDesks.{OpenDesk, LacksMemory, if_open, on_drain_turn}
 use Rattle.leader.specs.GroupActs.{drain_act}
 use Rattle.leader.proofs.Acts.{drains_by_drain_turn}
 use Rattle.server.specs.ServerViews.{ServerView, IsMember, group_desk}
@@ -33,10 +33,28 @@ module _ (s : Server Command) (node : ℕ) where
   drain_told d (Ok c) e = told d c e
   drain_told d (Err cause) e = tt
 
-pub drain_told_each : (raft : RaftView Command) (node : ℕ) (d : Option OpenDesk) (w : State) → ((s : Server Command) → Represents cluster_meaning raft s → w ≡ whole_state s) → (r : Result (Option Command) Refusal) → IfOk r (λ c. if_open (on_drain_turn node w) d ≡ Ok c) →
+pub drain_told_each : (raft : RaftView State Command) (node : ℕ) (d : Option OpenDesk) (w : State) → ((s : Server Command) → Represents cluster_meaning raft s → w ≡ whole_state s) → (r : Result (Option Command) Refusal) → IfOk r (λ c. if_open (on_drain_turn node w) d ≡ Ok c) →
     IfOk r (λ c. (s : Server Command) → Represents cluster_meaning raft s → drain_at s (group_desk d) node ≡ Ok (proposes_if_any (group_desk d) c))
 drain_told_each raft node d w known (Ok c) e = λ s r. drain_told s node d (Ok c) (subst (λ (x : State). if_open (on_drain_turn node x) d ≡ Ok c) (known s r) e)
 drain_told_each raft node d w known (Err cause) e = tt
+
+-- so is its refusal
+module _ (s : Server Command) (node : ℕ) where
+  refused : (d : Option OpenDesk) (e : Refusal) → if_open (on_drain_turn node (whole_state s)) d ≡ Err e → drain_at s (group_desk d) node ≡ Err e
+  refused None e call = let same : refusals.NotOpen ≡ e = cc in ap (λ (r : Refusal). Err r) same
+  refused (Some o) e call = drains_by_drain_turn s node o ∙ ap (drain_act o.desk) call
+
+  refused_or : (d : Option OpenDesk) (e : Refusal) → LacksMemory d e ⊎ (if_open (on_drain_turn node (whole_state s)) d ≡ Err e) → (e ≡ refusals.NoMemory) ⊎ (drain_at s (group_desk d) node ≡ Err e)
+  refused_or d e (inl lacks) = inl (lacked d lacks) where
+    lacked : (d : Option OpenDesk) → LacksMemory d e → e ≡ refusals.NoMemory
+    lacked None h = absurd h
+    lacked (Some o) h = h
+  refused_or d e (inr call) = inr (refused d e call)
+
+pub drain_refused_each : (raft : RaftView State Command) (node : ℕ) (d : Option OpenDesk) (w : State) → ((s : Server Command) → Represents cluster_meaning raft s → w ≡ whole_state s) → (r : Result (Option Command) Refusal) → IfErr r (λ e. LacksMemory d e ⊎ (if_open (on_drain_turn node w) d ≡ Err e)) →
+    IfErr r (λ e. (s : Server Command) → Represents cluster_meaning raft s → (e ≡ refusals.NoMemory) ⊎ (drain_at s (group_desk d) node ≡ Err e))
+drain_refused_each raft node d w known (Ok c) told = tt
+drain_refused_each raft node d w known (Err e) told = λ s r. refused_or s node d e (subst (λ (x : State). LacksMemory d e ⊎ (if_open (on_drain_turn node x) d ≡ Err e)) (known s r) told)
 
 -- the turn of each server that a value is, by that of its log with the desk
 pub drain_is : (old : ServerView) (node : ℕ) (s : Member) → IsMember old s → HasOpenDesk s → act_of old (DrainTurn node) s ≡ drain_at s.raft (group_desk old.desk) node

@@ -12,14 +12,14 @@ use Rattle.rows.specs.declared.worker.WorkerRequest.TheVariants as requests
 use Rattle.rows.specs.declared.worker.WorkerResponse.{WorkerResponse}
 use Rattle.rows.specs.declared.worker.WorkerResponse.TheVariants as responses
 use Rattle.wire.specs.Messages.{Message as WireMessage, kind_of, request_kind, response_kind, is_of_log, may_go}
-use Rattle.wire.specs.Frames.{MessageFits, message_text}
+use Rattle.wire.specs.Frames.{MessageFits, message_text, message_at}
 use Rattle.wire.specs.declared.body.Body.{Body}
 use Rattle.wire.specs.declared.body.Body.TheVariants as bodies
 use Rattle.wire.specs.declared.kind.Kind.{Kind}
 use Rattle.wire.specs.declared.kind.Kind.TheVariants as kinds
 use Rattle.raft_model.specs.Messages.{Message, to_others}
 use Rattle.raft_model.specs.Logs.{MAX}
-use Rattle.raft_model.specs.Servers.{Server, Turn as RaftTurn, is_up, is_leader, crashed, silent, stood, vote_request_to}
+use Rattle.raft_model.specs.Servers.{Turn as RaftTurn, is_up, is_leader, crashed, silent, stood, vote_request_to}
 use Rattle.raft_model.specs.Steps as raft_steps
 use Rattle.raft_core.specs.Frames.{Means}
 use Rattle.raft_core.specs.Inputs.{Own}
@@ -36,9 +36,9 @@ use Rattle.server.specs.declared.server.Outbox.{Outbox}
 use Rattle.server.specs.ServerViews.{ServerView, IsMember, SameMember}
 use Rattle.server.specs.Handings.{Handing, FrameBytes, OwnInput}
 use Rattle.server.specs.Turns.{TakesTurn, TakesHanding}
-use Rattle.server.specs.Refusals.{refusal_in, wrong_address, handing_refusal, CanStand, MayTakeMemory, IsHandingRefused, HandingRefusalLeaves, HandingStays}
+use Rattle.server.specs.Refusals.{refusal_in, wrong_address, read_refusal, bytes_refusal, handing_refusal, CanStand, MayTakeMemory, IsHandingRefused, HandingRefusalLeaves, HandingStays}
 use Rattle.server.specs.Inner.Acts.{EachMember, EachDoes, act_of, Falters, DoesNothing, DeclinesOwn}
-use Rattle.server.specs.Inner.LogSteps.{DeskAfterRefusal, HearsLog, MeansGroup, TakesRead, DeclinesRead, LosesIn, DeclinesHanding}
+use Rattle.server.specs.Inner.LogSteps.{DeskAfterRefusal, HearsLog, TakesAsk, MeansGroup, TakesRead, DeclinesRead, IsRead, LosesIn, DeclinesHanding, IsTaken}
 use Rattle.server.proofs.Members.{up_of}
 
 abbrev Answer : Type 0
@@ -72,17 +72,28 @@ module _ (old new : ServerView) (before after : Outbox) (h : Handing) (input : I
 
 -- turns that send nothing
 module _ (old new : ServerView) (h : Handing) (input : Input) (is : h ≡ OwnInput input) (up : is_up old.raft.server.mode ≡ true) (o : Outbox) where
-  pub silent_taken : (r : Answer) → OnOk r ((out : Outbox) → EachDoes old (act_of old input) new out out) → OnOk r (EachMember old (λ s. TakesHanding old s h new o o))
+  silent_taken : (r : Answer) → OnOk r ((out : Outbox) → EachDoes old (act_of old input) new out out) → OnOk r (EachMember old (λ s. TakesHanding old s h new o o))
   silent_taken (Ok u) d = own_taken old new o o h input is up (Ok u) (d o)
   silent_taken (Err cause) d = tt
 
-  pub silent_admitted : (r : Answer) → OnOk r ((out : Outbox) → EachDoes old (act_of old input) new out out) → OnOk r (EachMember old (λ s. handing_refusal old.raft.size old.raft.me s h ≡ None))
+  silent_admitted : (r : Answer) → OnOk r ((out : Outbox) → EachDoes old (act_of old input) new out out) → OnOk r (EachMember old (λ s. handing_refusal old.raft.size old.raft.me s h ≡ None))
   silent_admitted (Ok u) d = own_admitted old new o o h input is up (Ok u) (d o)
   silent_admitted (Err cause) d = tt
 
-  pub silent_declined : (EachMember old (λ s. MayTakeMemory old.raft.size s input) × Falters old new o o → LosesIn old (OwnInput input) new o o) → (r : Answer) → IfErr r (λ cause. (out : Outbox) → DeclinesOwn old input cause new out out) → IfErr r (λ cause. DeclinesHanding old h cause new o o)
+  silent_declined : (EachMember old (λ s. MayTakeMemory old.raft.size s input) × Falters old new o o → LosesIn old (OwnInput input) new o o) → (r : Answer) → IfErr r (λ cause. (out : Outbox) → DeclinesOwn old input cause new out out) → IfErr r (λ cause. DeclinesHanding old h cause new o o)
   silent_declined loses (Ok u) d = tt
   silent_declined loses (Err cause) d = own_declined old new o o h input is up loses (Err cause) (d o)
+
+  pub silent_turn : (new.raft.me ≡ old.raft.me) × (new.raft.size ≡ old.raft.size)
+      → (EachMember old (λ s. MayTakeMemory old.raft.size s input) × Falters old new o o → LosesIn old (OwnInput input) new o o) → (r : Answer)
+      → OnOk r ((out : Outbox) → EachDoes old (act_of old input) new out out) → IfErr r (λ cause. (out : Outbox) → DeclinesOwn old input cause new out out)
+      → IsTaken old h r new o o
+  silent_turn same loses r does stopped = record {
+    same = same;
+    taken = silent_taken r does;
+    admitted = silent_admitted r does;
+    stopped = silent_declined loses r stopped;
+  }
 
 -- ---- messages that were read
 
@@ -149,11 +160,11 @@ module _ (old new : ServerView) (before after : Outbox) (read : WireMessage Stat
   log_read heard s is (Raft said) means = heard said means s is
   log_read heard s is (Service message) means = absurd (no_service read.from read.to read.body message log means)
 
-  pub log_taken : (r : Answer) → OnOk r ((said : Message Command) → Means read said → HearsLog old said new before after) → OnOk r (EachMember old (λ s. TakesRead old s read new before after))
+  log_taken : (r : Answer) → OnOk r ((said : Message Command) → Means read said → HearsLog old said new before after) → OnOk r (EachMember old (λ s. TakesRead old s read new before after))
   log_taken (Ok u) heard = log_read heard
   log_taken (Err cause) heard = tt
 
-  pub log_admitted : (r : Answer) → OnOk r (EachMember old (λ s. message_refusal old.raft.size old.raft.me s.raft read ≡ None)) → OnOk r (EachMember old (λ s. wrong_address old.raft.size old.raft.me read.from read.to ≡ None))
+  log_admitted : (r : Answer) → OnOk r (EachMember old (λ s. message_refusal old.raft.size old.raft.me s.raft read ≡ None)) → OnOk r (EachMember old (λ s. wrong_address old.raft.size old.raft.me read.from read.to ≡ None))
   log_admitted (Ok u) none = λ s is. sym (log_refusal s is) ∙ none s is
   log_admitted (Err cause) none = tt
 
@@ -161,16 +172,17 @@ module _ (old new : ServerView) (before after : Outbox) (read : WireMessage Stat
   log_declined me size refusals.NoMemory is left desk unsent = record {
     me = me;
     size = size;
-    stored = ap crashed left;
+    base = left.1;
+    stored = ap crashed left.0;
     front = ap (λ (o : Outbox). take (length before.frames) o.frames) unsent ∙ take-length before.frames;
     work = ap (λ (o : Outbox). o.work) unsent;
   }
   log_declined me size cause is left desk unsent = (
     λ s is_of. sym (log_refusal s is_of) ∙ is s is_of,
-    record { same = record { raft = record { me = me; size = size; server = ap (λ v. v.server) left }; desk = desk }; nothing = unsent },
+    record { same = record { raft = record { me = me; size = size; base = ap (λ v. v.base) left; server = ap (λ v. v.server) left }; desk = desk }; nothing = unsent },
   )
 
-  pub log_stops : (new.raft.me ≡ old.raft.me) → (new.raft.size ≡ old.raft.size) → (r : Answer)
+  log_stops : (new.raft.me ≡ old.raft.me) → (new.raft.size ≡ old.raft.size) → (r : Answer)
       → IfErr r (λ cause. EachMember old (λ s. IsMessageRefused old.raft.size old.raft.me s.raft read cause))
       → IfErr r (λ cause. MessageStays cause old.raft new.raft)
       → IfErr r (λ cause. DeskAfterRefusal cause old.desk new.desk)
@@ -178,6 +190,22 @@ module _ (old new : ServerView) (before after : Outbox) (read : WireMessage Stat
       → IfErr r (λ cause. DeclinesRead old read cause new before after)
   log_stops me size (Ok u) is left desk unsent = tt
   log_stops me size (Err cause) is left desk unsent = log_declined me size cause is left desk unsent
+
+  pub log_is_read : (r : Answer)
+      → (new.raft.me ≡ old.raft.me) × (new.raft.size ≡ old.raft.size)
+      → OnOk r ((said : Message Command) → Means read said → HearsLog old said new before after)
+      → OnOk r (EachMember old (λ s. message_refusal old.raft.size old.raft.me s.raft read ≡ None))
+      → IfErr r (λ cause. EachMember old (λ s. IsMessageRefused old.raft.size old.raft.me s.raft read cause))
+      → IfErr r (λ cause. MessageStays cause old.raft new.raft)
+      → IfErr r (λ cause. DeskAfterRefusal cause old.desk new.desk)
+      → OnErr r (after ≡ before)
+      → IsRead old read r new before after
+  log_is_read r same heard none is left desk unsent = record {
+    same = same;
+    taken = log_taken r heard;
+    admitted = log_admitted r none;
+    stopped = log_stops same.0 same.1 r is left desk unsent;
+  }
 
 -- ---- a timeout
 
@@ -221,17 +249,18 @@ module _ (old new : ServerView) (before after : Outbox) (up : is_up old.raft.ser
     record {
       me = me;
       size = size;
-      stored = ap crashed left;
+      base = left.1;
+      stored = ap crashed left.0;
       front = ap (λ (o : Outbox). take (length before.frames) o.frames) unsent ∙ take-length before.frames;
       work = ap (λ (o : Outbox). o.work) unsent;
     },
   )
   timeout_declined me size cause is hides left desk unsent = (
     λ s is_of. timeout_refused old.raft.size old.raft.me s (up_of old s is_of up) cause (is s is_of),
-    record { same = record { raft = record { me = me; size = size; server = ap (λ v. v.server) left }; desk = desk }; nothing = unsent },
+    record { same = record { raft = record { me = me; size = size; base = ap (λ v. v.base) left; server = ap (λ v. v.server) left }; desk = desk }; nothing = unsent },
   )
 
-  pub timeout_stopped : (new.raft.me ≡ old.raft.me) → (new.raft.size ≡ old.raft.size) → (r : Answer)
+  timeout_stopped : (new.raft.me ≡ old.raft.me) → (new.raft.size ≡ old.raft.size) → (r : Answer)
       → IfErr r (λ cause. EachMember old (λ s. IsRefused cluster_meaning old.raft.size old.raft.me s.raft (Own raft_steps.Timeout) cause))
       → IfErr r (λ cause. EachMember old (λ s. HidesNothing cluster_meaning old.raft.size old.raft.me s.raft (Own raft_steps.Timeout) cause))
       → IfErr r (λ cause. Stays (Own raft_steps.Timeout) cause old.raft new.raft)
@@ -240,6 +269,22 @@ module _ (old new : ServerView) (before after : Outbox) (up : is_up old.raft.ser
       → IfErr r (λ cause. DeclinesHanding old (OwnInput Timeout) cause new before after)
   timeout_stopped me size (Ok u) is hides left desk unsent = tt
   timeout_stopped me size (Err cause) is hides left desk unsent = timeout_declined me size cause is hides left desk unsent
+
+  pub timeout_taken : (r : Answer)
+      → (new.raft.me ≡ old.raft.me) × (new.raft.size ≡ old.raft.size)
+      → OnOk r (TakesAsk old (Some AskTimeout) new before after)
+      → IfErr r (λ cause. EachMember old (λ s. IsRefused cluster_meaning old.raft.size old.raft.me s.raft (Own raft_steps.Timeout) cause))
+      → IfErr r (λ cause. EachMember old (λ s. HidesNothing cluster_meaning old.raft.size old.raft.me s.raft (Own raft_steps.Timeout) cause))
+      → IfErr r (λ cause. Stays (Own raft_steps.Timeout) cause old.raft new.raft)
+      → IfErr r (λ cause. DeskAfterRefusal cause old.desk new.desk)
+      → OnErr r (after ≡ before)
+      → IsTaken old (OwnInput Timeout) r new before after
+  timeout_taken r same does is hides left desk unsent = record {
+    same = same;
+    taken = own_taken old new before after (OwnInput Timeout) Timeout refl up r does;
+    admitted = own_admitted old new before after (OwnInput Timeout) Timeout refl up r does;
+    stopped = timeout_stopped same.0 same.1 r is hides left desk unsent;
+  }
 
 -- ---- what a refusal leaves
 
@@ -268,6 +313,30 @@ module _ (old new : ServerView) (before after : Outbox) (bytes : List ℕ) (read
   means (Raft said) is = subst (λ (r : WireMessage State Command). Means r said) (one_text cluster_meaning cluster_lawful is.read read is.fits fits (sym is.text ∙ text)) is.means
   means (Service message) is = subst (λ (r : WireMessage State Command). service_of r ≡ Some message) (one_text cluster_meaning cluster_lawful is.read read is.fits fits (sym is.text ∙ text)) is.means
 
-  pub read_taken : (r : Answer) → OnOk r (EachMember old (λ s. TakesRead old s read new before after)) → OnOk r (EachMember old (λ s. TakesHanding old s (FrameBytes bytes) new before after))
+  read_taken : (r : Answer) → OnOk r (EachMember old (λ s. TakesRead old s read new before after)) → OnOk r (EachMember old (λ s. TakesHanding old s (FrameBytes bytes) new before after))
   read_taken (Ok u) h = λ s is_of x is. h s is_of x (means x is)
   read_taken (Err cause) h = tt
+
+  module _ (up : is_up old.raft.server.mode ≡ true) (found : message_at cluster_meaning bytes ≡ Ok read) where
+    refusal_is : (s : Member) → IsMember old s → handing_refusal old.raft.size old.raft.me s (FrameBytes bytes) ≡ wrong_address old.raft.size old.raft.me read.from read.to
+    refusal_is s is = ap (λ b. if b then bytes_refusal old.raft.size old.raft.me bytes else Some refusals.Down) (up_of old s is up) ∙ ap (read_refusal old.raft.size old.raft.me) found
+
+    read_admitted : (r : Answer) → OnOk r (EachMember old (λ s. wrong_address old.raft.size old.raft.me read.from read.to ≡ None)) → OnOk r (EachMember old (λ s. handing_refusal old.raft.size old.raft.me s (FrameBytes bytes) ≡ None))
+    read_admitted (Ok u) none = λ s is. refusal_is s is ∙ none s is
+    read_admitted (Err cause) none = tt
+
+    read_declined : (cause : Refusal) → DeclinesRead old read cause new before after → DeclinesHanding old (FrameBytes bytes) cause new before after
+    read_declined refusals.NoMemory d = (λ s is. up_of old s is up, d)
+    read_declined cause d = (λ s is. refusal_is s is ∙ d.0 s is, d.1)
+
+    read_stopped : (r : Answer) → IfErr r (λ cause. DeclinesRead old read cause new before after) → IfErr r (λ cause. DeclinesHanding old (FrameBytes bytes) cause new before after)
+    read_stopped (Ok u) d = tt
+    read_stopped (Err cause) d = read_declined cause d
+
+    pub is_taken : (r : Answer) → IsRead old read r new before after → IsTaken old (FrameBytes bytes) r new before after
+    is_taken r got = record {
+      same = got.same;
+      taken = read_taken r got.taken;
+      admitted = read_admitted r got.admitted;
+      stopped = read_stopped r got.stopped;
+    }

@@ -17,7 +17,7 @@ use Rattle.raft_core.specs.Frames.{Means}
 use Rattle.raft_core.specs.Inputs.{handed, Own}
 use Rattle.raft_core.specs.Steps.{Represents, Steps, Takes, TakesMessage}
 use Rattle.raft_core.specs.Refusals.{LackStays, Stays, MessageStays, RefusalShows}
-use Rattle.raft_core.specs.Watching.{SeesStep}
+use Rattle.raft_snapshot.specs.Watching.{SeesStep}
 use Rattle.cluster_model.specs.Words.{State}
 use Rattle.cluster_model.specs.ClusterMachine.{cluster_meaning}
 use Rattle.group_model.specs.Messages.{Raft}
@@ -65,11 +65,11 @@ module _ (old new : ServerView) (seen : Option OpenDesk) (before after : Outbox)
 
 -- ---- a refusal
 
-abbrev pub IsLedBy : RaftView Command → Option OpenDesk → Type 0
+abbrev pub IsLedBy : RaftView State Command → Option OpenDesk → Type 0
 IsLedBy raft d = IfSome d (λ (o : OpenDesk). is_leader raft.server.mode ≡ true)
 
 -- a desk of one that leads stays where the server does
-closed_stays : (raft : RaftView Command) (d : Option OpenDesk) → IsLedBy raft d → where_leads (is_leader raft.server.mode) d ≡ d
+closed_stays : (raft : RaftView State Command) (d : Option OpenDesk) → IsLedBy raft d → where_leads (is_leader raft.server.mode) d ≡ d
 closed_stays raft None h = none_stays (is_leader raft.server.mode) where
   none_stays : (b : Bool) → where_leads b None ≡ None
   none_stays true = refl
@@ -77,7 +77,7 @@ closed_stays raft None h = none_stays (is_leader raft.server.mode) where
 closed_stays raft (Some o) h = ap (λ b. where_leads b (Some o)) h
 
 -- where it leads not, the desk is closed; else it is what was seen
-pub closed_led : (raft : RaftView Command) (seen desk : Option OpenDesk) → desk ≡ where_leads (is_leader raft.server.mode) seen → IsLedBy raft desk
+pub closed_led : (raft : RaftView State Command) (seen desk : Option OpenDesk) → desk ≡ where_leads (is_leader raft.server.mode) seen → IsLedBy raft desk
 closed_led raft seen desk closed = subst (IsLedBy raft) (sym closed) (by (is_leader raft.server.mode) refl seen) where
   by : (b : Bool) → is_leader raft.server.mode ≡ b → (d : Option OpenDesk) → IsLedBy raft (where_leads b d)
   by true leads None = tt
@@ -87,14 +87,14 @@ closed_led raft seen desk closed = subst (IsLedBy raft) (sym closed) (by (is_lea
 abbrev Answer : Type 0
 Answer = Result (Unit {0}) Refusal
 
-module _ (old : ServerView) (raft : RaftView Command) (seen desk : Option OpenDesk)
+module _ (old : ServerView) (raft : RaftView State Command) (seen desk : Option OpenDesk)
     (closed : desk ≡ where_leads (is_leader raft.server.mode) seen) where
   -- it lost what it had, or nothing changed
   none_kept : is_leader raft.server.mode ≡ false → desk ≡ None
   none_kept down = closed ∙ ap (λ b. where_leads b seen) down
 
   all_kept : IsLedBy old.raft old.desk → raft ≡ old.raft → seen ≡ old.desk → desk ≡ old.desk
-  all_kept inside is same = closed ∙ (ap (λ (v : RaftView Command). where_leads (is_leader v.server.mode) seen) is ∙ (ap (where_leads (is_leader old.raft.server.mode)) same ∙ closed_stays old.raft old.desk inside))
+  all_kept inside is same = closed ∙ (ap (λ (v : RaftView State Command). where_leads (is_leader v.server.mode) seen) is ∙ (ap (where_leads (is_leader old.raft.server.mode)) same ∙ closed_stays old.raft old.desk inside))
 
   -- ---- a message of the log comes
 
@@ -114,7 +114,7 @@ module _ (old : ServerView) (raft : RaftView Command) (seen desk : Option OpenDe
       → IfErr r (λ cause. RefusalShows cause old.desk seen)
       → IfErr r (λ cause. DeskAfterRefusal cause old.desk desk)
   hear_desk (Ok u) inside stays unseen = tt
-  hear_desk (Err refusals.NoMemory) inside stays unseen = none_kept (ap (λ (t : rafts.Server Command). is_leader t.mode) stays)
+  hear_desk (Err refusals.NoMemory) inside stays unseen = none_kept (ap (λ (t : rafts.Server Command). is_leader t.mode) stays.0)
   hear_desk (Err cause) inside stays unseen = all_kept inside stays unseen
 
 -- ---- an input of the log's own
@@ -138,15 +138,15 @@ down_leads_not rafts.Follower h = absurd (cc)
 down_leads_not (rafts.Candidate votes) h = absurd (cc)
 down_leads_not (rafts.Leader next match) h = absurd (cc)
 
-lack_is_down : (old raft : RaftView Command) (input : RaftInput) → log_ask input ≢ None → LackStays (handed input) old raft → is_leader raft.server.mode ≡ false
+lack_is_down : (old raft : RaftView State Command) (input : RaftInput) → log_ask input ≢ None → LackStays (handed input) old raft → is_leader raft.server.mode ≡ false
 lack_is_down old raft (raft_inputs.Frame bytes) asked left = absurd (asked refl)
-lack_is_down old raft raft_inputs.Timeout asked left = ap (λ (t : rafts.Server Command). is_leader t.mode) left
-lack_is_down old raft raft_inputs.Beat asked left = ap (λ (t : rafts.Server Command). is_leader t.mode) left
-lack_is_down old raft raft_inputs.Crash asked left = ap (λ (t : rafts.Server Command). is_leader t.mode) left
+lack_is_down old raft raft_inputs.Timeout asked left = ap (λ (t : rafts.Server Command). is_leader t.mode) left.0
+lack_is_down old raft raft_inputs.Beat asked left = ap (λ (t : rafts.Server Command). is_leader t.mode) left.0
+lack_is_down old raft raft_inputs.Crash asked left = ap (λ (t : rafts.Server Command). is_leader t.mode) left.0
 lack_is_down old raft raft_inputs.Restart asked left =
-    ap (λ (v : RaftView Command). is_leader v.server.mode) left.1 ∙ down_leads_not old.server.mode left.0
+    ap (λ (v : RaftView State Command). is_leader v.server.mode) left.1 ∙ down_leads_not old.server.mode left.0
 
-module _ (old : ServerView) (raft : RaftView Command) (seen desk : Option OpenDesk)
+module _ (old : ServerView) (raft : RaftView State Command) (seen desk : Option OpenDesk)
     (closed : desk ≡ where_leads (is_leader raft.server.mode) seen) (input : RaftInput) (asked : log_ask input ≢ None) where
   by : IsAsked old.raft.size old.raft.me input
   by = asked_by old.raft.size old.raft.me input asked
@@ -173,7 +173,7 @@ module _ (old : ServerView) (raft : RaftView Command) (seen desk : Option OpenDe
 
 -- ---- a restart that is refused
 
-closed_where_down : (raft : RaftView Command) (d : Option OpenDesk) → is_up raft.server.mode ≡ false → IsLedBy raft d → d ≡ None
+closed_where_down : (raft : RaftView State Command) (d : Option OpenDesk) → is_up raft.server.mode ≡ false → IsLedBy raft d → d ≡ None
 closed_where_down raft None down h = refl
 closed_where_down raft (Some o) down h = absurd (let q : true ≡ false = sym h ∙ down_leads_not raft.server.mode down in cc)
 

@@ -3,8 +3,10 @@ use Rattle.std.proofs.Common.{◌≡◌, true, Option, Some, None, Ok, refl, sym
 use Rattle.std.specs.Prelude.{IfSome, is_some}
 use Rattle.rows.specs.declared.command.Command.{Command}
 use Rattle.raft_model.specs.Servers.{Server, is_up, is_leader, crashed}
-use Rattle.raft_core.specs.RaftView.{RaftView, SameServer}
+use Rattle.raft_core.specs.RaftView.{RaftView, SameServer, IsCrashOf}
 use Rattle.raft_core.specs.Steps.{Represents}
+use Rattle.raft_core.proofs.Fills.{same_fills, crash_fills}
+use Rattle.cluster_model.specs.Words.{State}
 use Rattle.cluster_model.specs.ClusterMachine.{cluster_meaning}
 use Rattle.group_model.specs.Desks.{Desk}
 use Rattle.group_model.specs.Members.{Member, open_desk}
@@ -15,14 +17,14 @@ use Rattle.server.specs.Inner.Acts.{Serves}
 
 -- ---- the only lemmas that know how a value stands for a server
 
-pub mode_is : (view : RaftView Command) (s : Server Command) → Represents cluster_meaning view s → s.mode ≡ view.server.mode
-mode_is view s r = ap (λ (x : Server Command). x.mode) (sym r)
+pub mode_is : (view : RaftView State Command) (s : Server Command) → Represents cluster_meaning view s → s.mode ≡ view.server.mode
+mode_is view s r = ap (λ (x : Server Command). x.mode) r.is
 
-pub same_server : (old new : RaftView Command) (s : Server Command) → SameServer old new → Represents cluster_meaning old s → Represents cluster_meaning new s
-same_server old new s same r = same.server ∙ r
+pub same_server : (old new : RaftView State Command) (s : Server Command) → SameServer old new → Represents cluster_meaning old s → Represents cluster_meaning new s
+same_server old new s same r = same_fills cluster_meaning old new same s r
 
-crashed_server : (old new : RaftView Command) (s : Server Command) → new.server ≡ crashed old.server → Represents cluster_meaning old s → Represents cluster_meaning new (crashed s)
-crashed_server old new s lost r = lost ∙ ap crashed r
+crashed_server : (old new : RaftView State Command) (s : Server Command) → IsCrashOf old new → Represents cluster_meaning old s → Represents cluster_meaning new (crashed s)
+crashed_server old new s lost r = crash_fills cluster_meaning old new lost s r
 
 -- ---- what a value shows of each
 
@@ -60,11 +62,11 @@ same_is old new s same is = record {
 
 pub same_then : (old mid new : ServerView) → SameMember old mid → SameMember mid new → SameMember old new
 same_then old mid new first next = record {
-  raft = record { me = next.raft.me ∙ first.raft.me; size = next.raft.size ∙ first.raft.size; server = next.raft.server ∙ first.raft.server };
+  raft = record { me = next.raft.me ∙ first.raft.me; size = next.raft.size ∙ first.raft.size; base = next.raft.base ∙ first.raft.base; server = next.raft.server ∙ first.raft.server };
   desk = next.desk ∙ first.desk;
 }
 
-pub crashed_is : (old new : ServerView) (s : Member) → new.raft.server ≡ crashed old.raft.server → new.desk ≡ None → IsMember old s → IsMember new (crashed_member s)
+pub crashed_is : (old new : ServerView) (s : Member) → IsCrashOf old.raft new.raft → new.desk ≡ None → IsMember old s → IsMember new (crashed_member s)
 crashed_is old new s lost closed is = record {
   raft = crashed_server old.raft new.raft s.raft lost is.raft;
   desk = ap group_desk closed;

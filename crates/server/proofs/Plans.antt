@@ -28,7 +28,7 @@ use Rattle.group_model.specs.Inputs.{Act, Ask, PlanTurn, input_of}
 use Rattle.group_model.specs.Members.{Member, Turn, open_desk, at_desk, asks_log, logged, done}
 use Rattle.group_model.specs.Plans.{after_accept, told_result, told_refusal, plan_command, plan_turn}
 use Rattle.group_model.specs.Queues.{first_plan}
-use Rattle.leader.specs.OpenDesks.{OpenDesk, Answered, at_open}
+use Rattle.leader.specs.OpenDesks.{OpenDesk, at_open}
 use Rattle.leader.specs.GroupActs.{judged_act}
 use Rattle.leader.proofs.Acts.{plan_turns_by_verdict}
 use Rattle.leader.specs.declared.judged.JudgedPlan.{JudgedPlan}

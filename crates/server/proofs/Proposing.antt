@@ -13,6 +13,7 @@ use Rattle.raft_core.specs.Steps.{Represents, Takes}
 use Rattle.wire.specs.Frames.{Frame}
 use Rattle.raft_core.specs.Inputs.{Own}
 use Rattle.raft_core.specs.Refusals.{HidesNothing, IsRefused, refusal_by}
+use Rattle.cluster_model.specs.Words.{State}
 use Rattle.cluster_model.specs.ClusterMachine.{cluster_meaning}
 use Rattle.group_model.specs.Desks.{applied_state}
 use Rattle.leader.specs.OpenDesks.{OpenDesk}
@@ -81,7 +82,7 @@ held_by : (s : Server Command) (r : Option ℕ) → is_up s.mode ≡ true → Ma
 held_by s None up value held = absurd (let q : true ≡ false = sym up ∙ value in cc)
 held_by s (Some n) up value held = subst (λ (k : ℕ). k ≤ length s.log) value.1 held
 
-module _ (old : ServerView) (new : RaftView Command) (c : Command) (up : is_up old.raft.server.mode ≡ true) where
+module _ (old : ServerView) (new : RaftView State Command) (c : Command) (up : is_up old.raft.server.mode ≡ true) where
   pub propose_takes : (n : Option ℕ) → ((s : Server Command) → Represents cluster_meaning old.raft s → MatchOption n (is_up s.mode ≡ false) (λ k. (is_up s.mode ≡ true) × (k ≡ s.commit))) → ((s : Server Command) → Represents cluster_meaning old.raft s → IfSome n (λ k. k ≤ length s.log))
       → (r : Answer) → OnOk r ((s : Server Command) (sent : List Frame) → Represents cluster_meaning old.raft s → Takes cluster_meaning old.raft s (Own (raft_steps.Propose c)) new sent sent)
       → OnOk r (EachMember old (λ s. IsProposed s c (record { raft = new; desk = old.desk })))
@@ -103,7 +104,7 @@ module _ (old : ServerView) (new : RaftView Command) (c : Command) (up : is_up o
   propose_declines (Err cause) h hidden = λ s is. refused old.raft.size old.raft.me s.raft c (up_of old s is up) cause (h s.raft is.raft) (hidden s.raft is.raft)
 
 -- a server that leads goes on to
-pub propose_leads : (old new : RaftView Command) (d : Option OpenDesk) → IsLedBy old d → (r : Answer) → OnOk r (is_leader new.server.mode ≡ true) → OnErr r (SameServer old new) → IsLedBy new d
+pub propose_leads : (old new : RaftView State Command) (d : Option OpenDesk) → IsLedBy old d → (r : Answer) → OnOk r (is_leader new.server.mode ≡ true) → OnErr r (SameServer old new) → IsLedBy new d
 propose_leads old new None led r leads same = tt
 propose_leads old new (Some o) led (Ok u) leads same = leads
 propose_leads old new (Some o) led (Err cause) leads same = ap (λ (s : Server Command). is_leader s.mode) same.server ∙ led

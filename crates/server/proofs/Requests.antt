@@ -21,6 +21,7 @@ use Rattle.rows.specs.Reasons.{reason_of}
 use Rattle.rows.specs.Changes.{change_of}
 use Rattle.raft_model.specs.Servers.{extended}
 use Rattle.raft_core.specs.RaftView.{RaftView, SameServer}
+use Rattle.cluster_model.specs.Words.{State}
 use Rattle.group_model.specs.Messages.{BetweenServers, Asks, Answers}
 use Rattle.group_model.specs.Brokers.{deliver, with_ack}
 use Rattle.group_model.specs.Desks.{Desk, applied_state}
@@ -79,7 +80,7 @@ module _ (old new : ServerView) (before after : Outbox) (s : Member) (from : ℕ
   finish_acked mid is p raft call nothing =
       let c = commands.EvalStatus id (change_of outcome) in
       let t : Member = record s { raft = extended s.raft c } in
-      let same : SameServer mid.raft new.raft = subst (λ (v : RaftView Command). SameServer mid.raft v) (sym raft) (record { me = refl; size = refl; server = refl }) in
+      let same : SameServer mid.raft new.raft = subst (λ (v : RaftView State Command). SameServer mid.raft v) (sym raft) (record { me = refl; size = refl; base = refl; server = refl }) in
       let m = moves (on_ack id token) (ack_keeps id token) t mid new tt p.leads p.member same call in
       let o = m.before in
       let is_open : open_desk s ≡ Ok o.desk = m.is_open in

@@ -1,5 +1,5 @@
 -- Turns of the desk: what each server that a value is makes of them.
-use Rattle.std.proofs.Common.{◌≡◌, ◌≢◌, ◌⊎◌, inl, inr, true, Option, Some, None, Result, Ok, Err, [], refl, sym, ap, subst, ◌∙◌, if◌then◌else◌}
+use Rattle.std.proofs.Common.{◌≡◌, ◌≢◌, ℕ, ◌⊎◌, inl, inr, true, Option, Some, None, Result, Ok, Err, [], refl, sym, ap, subst, ◌∙◌, if◌then◌else◌}
 use Rattle.std.proofs.Math.Seq.{take-length}
 use Rattle.std.specs.Prelude.{OnOk, OnErr, IfErr, option_map, is_some}
 use Rattle.rows.specs.Keys.{eval_id}
@@ -14,19 +14,20 @@ use Rattle.raft_model.specs.Servers.{is_leader, crashed}
 use Rattle.raft_model.specs.Steps as raft_steps
 use Rattle.raft_core.specs.RaftView.{SameServer}
 use Rattle.cluster_model.specs.ClusterMachine.{cluster_meaning}
+use Rattle.group_model.specs.BeatCounts.{expiry_refusal}
 use Rattle.group_model.specs.Blocked.{first_due}
 use Rattle.group_model.specs.Desks.{Desk, applied_state, whole_state}
-use Rattle.group_model.specs.Inputs.{Input, Lapse, FreeTurn, Reap, Act, AskPropose, rests, asks}
+use Rattle.group_model.specs.Inputs.{Input, Lapse, Expire, FreeTurn, Reap, Act, AskPropose, rests, asks}
 use Rattle.group_model.specs.Members.{Member, open_desk, at_desk, done, logged}
-use Rattle.group_model.specs.Turns.{lapse, free_turn, free_turn_of, reap}
+use Rattle.group_model.specs.Turns.{lapse, expire, free_turn, free_turn_of, reap}
 use Rattle.group_frames.proofs.Sending.{sends_nothing}
-use Rattle.leader.specs.OpenDesks.{OpenDesk, if_open, at_open, on_lapse, on_reap}
-use Rattle.leader.specs.GroupActs.{lapse_act, status_act}
-use Rattle.leader.proofs.Acts.{lapses_by_lapse, reaps_by_reap}
+use Rattle.leader.specs.OpenDesks.{OpenDesk, if_open, at_open, unless_refused, on_lapse, on_expire, on_reap}
+use Rattle.leader.specs.GroupActs.{lapse_act, expire_act, status_act}
+use Rattle.leader.proofs.Acts.{lapses_by_lapse, expires_by_expire, reaps_by_reap}
 use Rattle.server.specs.declared.server.Outbox.{Outbox}
 use Rattle.server.specs.ServerViews.{ServerView, IsMember, SameMember}
-use Rattle.server.specs.Refusals.{CanAppend, HasOpenDesk, MayTakeMemory}
-use Rattle.server.specs.Inner.Acts.{EachMember, DoesAct, EachDoes, DeclinesOwn, Falters, DoesNothing, IsProposed, WhyNotProposed, act_of, proposes_if_any}
+use Rattle.server.specs.Refusals.{CanAppend, HasOpenDesk, HeardSoOften, MayTakeMemory}
+use Rattle.server.specs.Inner.Acts.{EachMember, DoesAct, EachDoes, DeclinesOwn, Falters, IsProposed, WhyNotProposed, act_of, proposes_if_any}
 use Rattle.server.proofs.Members.{same_is, same_then, desk_at, open_at}
 use Rattle.server.proofs.DeskCalls.{open_of, Moves, moves, lapse_keeps}
 use Rattle.server.proofs.Serving.{leader_up, act_taken, does_proposed, does_nothing}
@@ -37,10 +38,10 @@ Answer = Result (Unit {0}) Refusal
 -- ---- a refusal
 
 pub same_view : (v : ServerView) → SameMember v v
-same_view v = record { raft = record { me = refl; size = refl; server = refl }; desk = refl }
+same_view v = record { raft = record { me = refl; size = refl; base = refl; server = refl }; desk = refl }
 
 pub falters : (old new : ServerView) (out : Outbox) → SameMember old new → Falters old new out out
-falters old new out same = record { me = same.raft.me; size = same.raft.size; stored = ap crashed same.raft.server; front = take-length out.frames; work = refl }
+falters old new out same = record { me = same.raft.me; size = same.raft.size; base = same.raft.base; stored = ap crashed same.raft.server; front = take-length out.frames; work = refl }
 
 no_memory_or : (e : Refusal) → (e ≡ refusals.NoMemory) ⊎ (e ≢ refusals.NoMemory)
 no_memory_or refusals.NoMemory = inl refl
@@ -54,6 +55,10 @@ module _ (old new : ServerView) (input : Input) (same : SameMember old new) (out
   pub declines : (e : Refusal) → e ≢ refusals.NoMemory → EachMember old (λ s. act_of old input s ≡ Err e) → DeclinesOwn old input e new out out
   declines refusals.NoMemory other why = absurd (other refl)
   declines e other why = (λ s is. ap (done old.raft.size old.raft.me s) (why s is), record { same = same; nothing = refl })
+
+  -- the desk is shut
+  pub shut : (turn : Member → Desk → Result Act Refusal) → ((s : Member) → act_of old input s ≡ at_desk (open_desk s) (turn s)) → (e : Refusal) → e ≢ refusals.NoMemory → EachMember old (λ s. open_desk s ≡ Err e) → DeclinesOwn old input e new out out
+  shut turn by e other closed = declines e other (λ s is. by s ∙ ap (λ d. at_desk d (turn s)) (closed s is))
 
   -- or for want of memory
   pub stops : (e : Refusal) → EachMember old (λ s. MayTakeMemory old.raft.size s input) → EachMember old (λ s. (e ≡ refusals.NoMemory) ⊎ (act_of old input s ≡ Err e)) → DeclinesOwn old input e new out out
@@ -110,7 +115,7 @@ lapse_moved old new s id m out =
 pub lapse_done : (old new : ServerView) (id : EvalId) → EachMember old (λ s. HasOpenDesk s) → SameServer old.raft new.raft → at_open (on_lapse id) old.desk ≡ Ok (tt, new.desk) → (out : Outbox) → EachDoes old (act_of old (Lapse id)) new out out
 lapse_done old new id h same call out s is = lapse_moved old new s id (moves (on_lapse id) (lapse_keeps id) s old new tt (h s is).leads is same call) out
 
--- ---- Free, Reap
+-- ---- Expire, Free, Reap
 
 module _ (old : ServerView) (s : Member) (is : IsMember old s) (h : HasOpenDesk s) where
   open_one : (o : OpenDesk) × (old.desk ≡ Some o)
@@ -124,6 +129,23 @@ module _ (old : ServerView) (s : Member) (is : IsMember old s) (h : HasOpenDesk 
 
   was : s.desk ≡ Some one.desk
   was = desk_at old s is one open_one.1
+
+  unrefused : (r : Option Refusal) → unless_refused r ≡ Ok tt → r ≡ None
+  unrefused None call = refl
+  unrefused (Some r) call = absurd (cc)
+
+  pub expire_is : (node beats : ℕ) → if_open (on_expire node beats) old.desk ≡ Ok tt → act_of old (Expire node beats) s ≡ Ok (asks (AskPropose (commands.NodeDown node)) s.desk)
+  expire_is node beats call =
+      let told : on_expire node beats one ≡ Ok tt = rw open_one.1 at call in
+      ap (λ (d : Result Desk Refusal). at_desk d (λ d. expire d node beats)) is_open
+      ∙ expires_by_expire node beats one ∙ ap (expire_act node one.desk) told
+      ∙ ap (λ (d : Option Desk). act_taken (asks (AskPropose (commands.NodeDown node)) d)) (sym was)
+
+  -- so the node was heard of so often
+  pub expire_heard : (node beats : ℕ) → if_open (on_expire node beats) old.desk ≡ Ok tt → HeardSoOften node beats s.desk
+  expire_heard node beats call =
+      let told : on_expire node beats one ≡ Ok tt = rw open_one.1 at call in
+      rw was (unrefused (expiry_refusal node beats one.desk.beat_counts) told)
 
   freed_is : (d : Desk) (id : Option EvalId) (due : Option Evaluation) → id ≡ option_map eval_id due → free_turn_of d due ≡ proposes_if_any (Some d) (option_map (λ i. commands.EvalStatus i changes.Pending) id)
   freed_is d id None e = rw e refl

@@ -5,6 +5,7 @@ use Rattle.rows.specs.declared.command.Command.{Command}
 use Rattle.raft_model.specs.Servers.{Server, is_leader, crashed}
 use Rattle.raft_core.specs.RaftView.{RaftView, SameServer}
 use Rattle.raft_core.specs.Steps.{Represents}
+use Rattle.cluster_model.specs.Words.{State}
 use Rattle.cluster_model.specs.ClusterMachine.{cluster_meaning}
 use Rattle.group_model.specs.Desks.{Desk, applied_state}
 use Rattle.group_model.specs.Members.{Member}
@@ -13,7 +14,7 @@ use Rattle.leader.specs.Staying.{IsOver}
 
 -- its part of the log, and the desk, none where that is closed
 pub record ServerView : Type 0 where
-  pub raft : RaftView Command
+  pub raft : RaftView State Command
   pub desk : Option OpenDesk
 
 -- the group's desk of one that is kept

@@ -44,30 +44,30 @@ is_a_restart m (Compacts i) h = absurd (cc)
 is_a_restart m (Crashes i) h = absurd (cc)
 is_a_restart m (Restarts i) h = tt
 
-abbrev pub history_of : {C : Type 0} → WorldView C → HistoryView C
+abbrev pub history_of : {S C : Type 0} → WorldView S C → HistoryView C
 history_of view = record { sent = view.sent; trace = view.trace; chain = view.chain }
 
 -- what became of an event, of which the world says so
-pub record Acted {S C : Type 0} (m : Meaning S C) (old : WorldView C) (e : Event C) (result : Result Done Refusal) (new : WorldView C) : Type 0 where
+pub record Acted {S C : Type 0} (m : Meaning S C) (old : WorldView S C) (e : Event C) (result : Result Done Refusal) (new : WorldView S C) : Type 0 where
   pub ok : IfOk result (λ d. WasDone m old e d new)
   pub err : OnErr result (SameWorld old new)
   pub cause : IfErr result (λ r. r ≢ refusals.NoMemory → RefusesEvent m old e r)
   pub world : IsRaftWorld m new
 
 -- the event is for server i, which is h
-pub record At {S C : Type 0} (m : Meaning S C) (old : WorldView C) (e : Event C) (i : ℕ) (h : RaftView C) : Type 0 where
+pub record At {S C : Type 0} (m : Meaning S C) (old : WorldView S C) (e : Event C) (i : ℕ) (h : RaftView S C) : Type 0 where
   pub reached : IsRaftWorld m old
   pub here : slice_get old.servers i ≡ Some h
   pub acts : ActsIn m old.sent e i
 
-pub at_actor : {S C : Type 0} (m : Meaning S C) (old now : WorldView C) (e : Event C) (i p : ℕ) (h : RaftView C) → old ≡ now → IsRaftWorld m old → p ≡ i → i < length now.servers → h ≡ get_or old.servers p h → ActsIn m now.sent e i → At m old e i h
+pub at_actor : {S C : Type 0} (m : Meaning S C) (old now : WorldView S C) (e : Event C) (i p : ℕ) (h : RaftView S C) → old ≡ now → IsRaftWorld m old → p ≡ i → i < length now.servers → h ≡ get_or old.servers p h → ActsIn m now.sent e i → At m old e i h
 at_actor m old now e i p h same reached is inside got acts = record {
   reached = reached;
-  here = slice_get_read old.servers _ i h refl (subst (λ (x : WorldView _). i < length x.servers) (sym same) inside) (subst (λ k. h ≡ get_or old.servers k h) is got);
-  acts = subst (λ (x : WorldView _). ActsIn m x.sent e i) (sym same) acts;
+  here = slice_get_read old.servers _ i h refl (subst (λ (x : WorldView _ _). i < length x.servers) (sym same) inside) (subst (λ k. h ≡ get_or old.servers k h) is got);
+  acts = subst (λ (x : WorldView _ _). ActsIn m x.sent e i) (sym same) acts;
 }
 
-module _ {S C : Type 0} (m : Meaning S C) (old : WorldView C) (e : Event C) (i : ℕ) (h : RaftView C) (a : At m old e i h) where
+module _ {S C : Type 0} (m : Meaning S C) (old : WorldView S C) (e : Event C) (i : ℕ) (h : RaftView S C) (a : At m old e i h) where
   pub size_is : h.size ≡ length old.servers
   size_is = let r = a.reached in let n = r.numbered i h a.here in n.1
 
@@ -94,7 +94,7 @@ module _ {S C : Type 0} (m : Meaning S C) (old : WorldView C) (e : Event C) (i :
       let b = c.brings in
       record { inside = omega (arith, get-within old.servers i h a.here, size_is, me_is); there = there; input = b.input; reads = b.reads }
 
-  module _ (h2 : RaftView C) (new : WorldView C) (servers : new.servers ≡ slice_set old.servers i h2) (same : (h2.me ≡ h.me) × (h2.size ≡ h.size)) where
+  module _ (h2 : RaftView S C) (new : WorldView S C) (servers : new.servers ≡ slice_set old.servers i h2) (same : (h2.me ≡ h.me) × (h2.size ≡ h.size)) where
     taken : PartTaken m h (history_of old) e h2 (history_of new) → Acted m old e (Ok done.Taken) new
     taken p =
         let move : (w : World C) → RepresentsWorld m old w → (turn : Turn C) × Moved m old new e i h h2 a.reached.numbered a.here servers w turn =
@@ -111,7 +111,7 @@ module _ {S C : Type 0} (m : Meaning S C) (old : WorldView C) (e : Event C) (i :
         λ w st. let c = scene w st in let t = crash w st in (t.turn, moved m old new (Crashes i) i h h2 a.reached.numbered a.here servers w st c.server Crash c.at refl t) in
         let happened = goes_by m old new (Crashes i) i h h2 a.reached.numbered a.here servers tt p.trace move (λ w st. omega (arith, p.chain)) in
         let lacking : (w : World C) (s : Server C) → RepresentsWorld m old w → slice_get w.servers i ≡ Some s → MayWantFor w e s =
-        λ w s st at. let c = scene w st in let b = c.brings in let is : c.server ≡ s = same_Some c.server s (sym c.at ∙ at) in (b.input, b.is, b.wants s.mode (p.lacks s (c.represents ∙ is))) in
+        λ w s st at. let c = scene w st in let b = c.brings in let is : c.server ≡ s = same_Some c.server s (sym c.at ∙ at) in (b.input, b.is, b.wants s.mode (p.lacks s (subst (λ x. Represents m h x) is c.represents))) in
         record {
           ok = inl (record { who = i; actor = λ w st. a.acts w st.sent; lacking = lacking; happened = happened });
           err = tt;

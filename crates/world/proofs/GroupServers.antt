@@ -62,7 +62,7 @@ restart_lacks n s (OwnInput x) so down = absurd (cc)
 
 same_members : (xs : List ServerView) → AllZip SameMember xs xs
 same_members [] = tt
-same_members (x ∷ xs) = (record { raft = record { me = refl; size = refl; server = refl }; desk = refl }, same_members xs)
+same_members (x ∷ xs) = (record { raft = record { me = refl; size = refl; base = refl; server = refl }; desk = refl }, same_members xs)
 
 set_same_member : (xs : List ServerView) (i : ℕ) (x y : ServerView) → slice_get xs i ≡ Some x → SameMember x y → AllZip SameMember xs (slice_set xs i y)
 set_same_member xs i x y here same = subst (λ l. AllZip SameMember l (slice_set xs i y)) (set_same xs i x here) (zip_set SameMember xs xs i x y (same_members xs) same)

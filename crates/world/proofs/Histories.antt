@@ -24,11 +24,11 @@ module _ {S C : Type 0} (m : Meaning S C) where
   running_is s None down = rw down refl
   running_is s (Some r) up = let u = up.0 in rw u (ap (λ x. Some x) up.1)
 
-  module _ (seen : WorldView C) (i : ℕ) (past : List (World C)) (w : World C) (runs : RunsTo m seen past w) where
+  module _ (seen : WorldView S C) (i : ℕ) (past : List (World C)) (w : World C) (runs : RunsTo m seen past w) where
     pub no_machine : slice_get seen.servers i ≡ None → None ≡ machine_of m w i
     no_machine gone = let st = runs.represents in let none : slice_get w.servers i ≡ None = zip_none (Represents m) seen.servers w.servers i st.servers gone in rw none refl
 
-    pub machine_is : (h : RaftView C) (o : Option (Bor S)) → slice_get seen.servers i ≡ Some h →
+    pub machine_is : (h : RaftView S C) (o : Option (Bor S)) → slice_get seen.servers i ≡ Some h →
         ((s : Server C) → Represents m h s → MatchOption o (is_up s.mode ≡ false) (λ r. (is_up s.mode ≡ true) × (r.now ≡ state_after m (take s.commit s.log)))) → option_copied o ≡ machine_of m w i
     machine_is h o here says =
         let st = runs.represents in
@@ -58,7 +58,7 @@ module _ {S C : Type 0} (m : Meaning S C) where
   part past w list chain i a None here h = absurd (cc)
   part past w list chain i a (Some s) here h = part_of past w list chain i s (is_up s.mode) a refl here h
 
-  pub machine_safe : (seen : WorldView C) → OneListEver m seen → StatesSafeEver m seen → (i : ℕ) (o : Option (Bor S)) →
+  pub machine_safe : (seen : WorldView S C) → OneListEver m seen → StatesSafeEver m seen → (i : ℕ) (o : Option (Bor S)) →
       ((past : List (World C)) (w : World C) → RunsTo m seen past w → option_copied o ≡ machine_of m w i) → IfSome o (λ a. m.safe a.now)
   machine_safe seen l s i None says = tt
   machine_safe seen l s i (Some a) says =
@@ -75,7 +75,7 @@ module _ {S C : Type 0} (m : Meaning S C) where
   pub history_of : LawfulMachine m → (list : List (Entry C)) (a b : S) → IsPart list a → IsPart list b → OneHistory m a b
   history_of law list a b p q = record { list = list; one = counted law list a p; other = counted law list b q }
 
-  pub one_history : LawfulMachine m → (seen : WorldView C) → OneListEver m seen → (i j : ℕ) (a b : S) →
+  pub one_history : LawfulMachine m → (seen : WorldView S C) → OneListEver m seen → (i j : ℕ) (a b : S) →
       ((past : List (World C)) (w : World C) → RunsTo m seen past w → Some a ≡ machine_of m w i) → ((past : List (World C)) (w : World C) → RunsTo m seen past w → Some b ≡ machine_of m w j) → OneHistory m a b
   one_history law seen l i j a b is_a is_b =
       let chain = l.ever l.past l.world l.runs in

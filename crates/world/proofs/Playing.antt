@@ -65,7 +65,7 @@ module _ {S C : Type 0} (m : Meaning S C) where
 -- ---- one event after the other
 
 module _ {S C : Type 0} (m : Meaning S C) (n : ℕ) where
-  pub play_begins : (seen : WorldView C) → IsNew m n seen → Played m n [] seen
+  pub play_begins : (seen : WorldView S C) → IsNew m n seen → Played m n [] seen
   play_begins seen begun = record {
     count = begun.count;
     outcomes = [];
@@ -77,7 +77,7 @@ module _ {S C : Type 0} (m : Meaning S C) (n : ℕ) where
   }
 
   -- an event that left the same world
-  passed_over : (handed : List (Event C)) (old new : WorldView C) (e : Event C) (r : Refusal) (p : Played m n handed old) → model.IsLeftOut m p.world e r → SameWorld old new → Played m n (handed ++ e ∷ []) new
+  passed_over : (handed : List (Event C)) (old new : WorldView S C) (e : Event C) (r : Refusal) (p : Played m n handed old) → model.IsLeftOut m p.world e r → SameWorld old new → Played m n (handed ++ e ∷ []) new
   passed_over handed old new e r p left same = record {
     count = same_count m old new same ∙ p.count;
     outcomes = p.outcomes ++ LeftOut r ∷ [];
@@ -88,7 +88,7 @@ module _ {S C : Type 0} (m : Meaning S C) (n : ℕ) where
     became = subst (λ ts. EachBecame (MayBecome m ts p.past p.world) 0 (handed ++ e ∷ []) (p.outcomes ++ LeftOut r ∷ [])) (sym same.trace) (became_more (MayBecome m old.trace p.past p.world) 0 handed p.outcomes e (LeftOut r) p.became tt);
   }
 
-  pub play_next : (handed : List (Event C)) (old new : WorldView C) (e : Event C) (result : Result Done Refusal) → IsEvent m e → Played m n handed old →
+  pub play_next : (handed : List (Event C)) (old new : WorldView S C) (e : Event C) (result : Result Done Refusal) → IsEvent m e → Played m n handed old →
       IfOk result (λ done. WasDone m old e done new) → OnErr result (SameWorld old new) → IfErr result (λ refusal. refusal ≢ refusals.NoMemory → RefusesEvent m old e refusal) → result ≢ Err refusals.NoMemory →
       Played m n (handed ++ e ∷ []) new
   play_next handed old new e (Ok Taken) is p went err cause memory =

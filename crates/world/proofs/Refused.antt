@@ -82,7 +82,7 @@ leads_up Follower h = refl
 leads_up (Candidate votes) h = refl
 leads_up (Leader next match) h = refl
 
-module _ {S C : Type 0} (m : Meaning S C) (h h2 : RaftView C) (sent : List Frame) (s : Server C) where
+module _ {S C : Type 0} (m : Meaning S C) (h h2 : RaftView S C) (sent : List Frame) (s : Server C) where
   -- want of memory is a crash
   pub fallen : (e : Event C) → is_restart e ≡ false → MayLack s.mode (handed_by sent e) → LackLeaves m h s (handed_by sent e) h2 → (is_up s.mode ≡ true) × Represents m h2 (crashed s)
   fallen (Deliver k) other may left = (may, left)
@@ -104,7 +104,7 @@ module _ {S C : Type 0} (m : Meaning S C) (h h2 : RaftView C) (sent : List Frame
   stayed (Restarts i) so may = may
 
 -- which changes nothing
-pub same_raft : {C : Type 0} (h h2 : RaftView C) (sent : List Frame) (e : Event C) → is_restart e ≡ true → LackStays (handed_by sent e) h h2 → h2 ≡ h
+pub same_raft : {S C : Type 0} (h h2 : RaftView S C) (sent : List Frame) (e : Event C) → is_restart e ≡ true → LackStays (handed_by sent e) h h2 → h2 ≡ h
 same_raft h h2 sent (Deliver k) so left = absurd (cc)
 same_raft h h2 sent (TimesOut i) so left = absurd (cc)
 same_raft h h2 sent (Beats i) so left = absurd (cc)
@@ -113,10 +113,10 @@ same_raft h h2 sent (Compacts i) so left = absurd (cc)
 same_raft h h2 sent (Crashes i) so left = absurd (cc)
 same_raft h h2 sent (Restarts i) so left = left.1
 
-pub as_is : {C : Type 0} (old new : RaftView C) → new ≡ old → LeftServer old new
-as_is old new e = (record { me = ap (λ (x : RaftView _). x.me) e; size = ap (λ (x : RaftView _). x.size) e; server = ap (λ (x : RaftView _). x.server) e }, λ h. ap (λ (x : RaftView _). x.projected) e ∙ h)
+pub as_is : {S C : Type 0} (old new : RaftView S C) → new ≡ old → LeftServer old new
+as_is old new e = (record { me = ap (λ (x : RaftView _ _). x.me) e; size = ap (λ (x : RaftView _ _). x.size) e; base = ap (λ (x : RaftView _ _). x.base) e; server = ap (λ (x : RaftView _ _). x.server) e }, λ h. ap (λ (x : RaftView _ _). x.projected) e ∙ h)
 
-module _ {S C : Type 0} (m : Meaning S C) (old : RaftView C) (h : Handed C) (new : RaftView C) where
+module _ {S C : Type 0} (m : Meaning S C) (old : RaftView S C) (h : Handed C) (new : RaftView S C) where
   leaves : (s : Server C) (cause : Refusal) → RefusalLeaves m old s h cause new → Leaves m old s h cause new
   leaves s refusals.NoMemory left = left
   leaves s _ left = as_is old new left
@@ -126,7 +126,7 @@ module _ {S C : Type 0} (m : Meaning S C) (old : RaftView C) (h : Handed C) (new
   step_leaves (Ok x) f = tt
   step_leaves (Err cause) f = λ s r. leaves s cause (f s r)
 
-module _ {C : Type 0} (old : RaftView C) (h : Handed C) (new : RaftView C) where
+module _ {S C : Type 0} (old : RaftView S C) (h : Handed C) (new : RaftView S C) where
   stays : (cause : Refusal) → Stays h cause old new → StaysOrLeft h cause old new
   stays refusals.NoMemory left = left
   stays _ left = as_is old new left
@@ -136,7 +136,7 @@ module _ {C : Type 0} (old : RaftView C) (h : Handed C) (new : RaftView C) where
   step_stays (Err cause) f = stays cause f
 
 -- any other refusal leaves the same server, and is that of what is handed in
-pub part_refused : {S C : Type 0} (m : Meaning S C) (h h2 : RaftView C) (past : HistoryView C) (e : Event C) (cause : Refusal) → cause ≢ refusals.NoMemory →
+pub part_refused : {S C : Type 0} (m : Meaning S C) (h h2 : RaftView S C) (past : HistoryView C) (e : Event C) (cause : Refusal) → cause ≢ refusals.NoMemory →
     ((s : Server C) → Represents m h s → IsRefused m h.size h.me s (handed_by past.sent e) cause) →
     StaysOrLeft (handed_by past.sent e) cause h h2 → LeftServer h h2 × IsPartRefused m h past e cause
 part_refused m h h2 past e refusals.NoMemory other refused left = absurd (other refl)

@@ -60,7 +60,7 @@ module _ {S C : Type 0} (m : Meaning S C) (n : ℕ) where
         | inr l ↦ inr (lack_on os (LeftOut r) l)
       ]
 
-  pub replays : (handed : List (Event C)) (seen : WorldView C) → Played m n handed seen → Replays m n handed seen
+  pub replays : (handed : List (Event C)) (seen : WorldView S C) → Played m n handed seen → Replays m n handed seen
   replays handed seen p old reached count is =
       let runs = reached.runs in
       let run : Run m n handed reached.past reached.world = subst (λ es. Run m n es reached.past reached.world) is (subst (λ k. Run m k old.trace reached.past reached.world) count runs.run) in

@@ -41,11 +41,11 @@ module _ {S C : Type 0} (m : Meaning S C) (n : ℕ) where
 
 module _ {S C : Type 0} (m : Meaning S C) where
   -- so all runs of a value are one
-  pub runs_are_one : (seen : WorldView C) (past past2 : List (World C)) (w w2 : World C) → RunsTo m seen past w → RunsTo m seen past2 w2 → (past ≡ past2) × (w ≡ w2)
+  pub runs_are_one : (seen : WorldView S C) (past past2 : List (World C)) (w w2 : World C) → RunsTo m seen past w → RunsTo m seen past2 w2 → (past ≡ past2) × (w ≡ w2)
   runs_are_one seen past past2 w w2 one other = run_is_one m (length seen.servers) seen.trace seen.trace past past2 w w2 refl one.run other.run
 
   -- and they have one list
-  pub one_list_ever : (seen : WorldView C) → IsRaftWorld m seen → EachRun m (λ n events past w. (list : List (Entry C)) × Chain past w list) →
+  pub one_list_ever : (seen : WorldView S C) → IsRaftWorld m seen → EachRun m (λ n events past w. (list : List (Entry C)) × Chain past w list) →
       ((past : List (World C)) (w : World C) (list : List (Entry C)) → Chain past w list → IsGreatestCommit past w (length list)) →
       ((past : List (World C)) (w : World C) (c d : ℕ) → IsGreatestCommit past w c → IsGreatestCommit past w d → c ≡ d) → OneListEver m seen
   one_list_ever seen r exists long number =

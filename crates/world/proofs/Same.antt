@@ -7,32 +7,33 @@ use Rattle.raft_model.specs.Worlds.{World, Run}
 use Rattle.raft_core.specs.RaftView.{RaftView}
 use Rattle.raft_core.specs.Frames.{FrameCarries}
 use Rattle.raft_core.specs.Steps.{Represents}
+use Rattle.raft_core.proofs.Fills.{same_fills}
 use Rattle.raft_safety.specs.Claims.{IsGreatestCommit}
 use Rattle.rows.specs.GroupSizes.{IsGroup}
 use Rattle.world.specs.WorldView.{WorldView, RunsTo, Numbered, IsRaftWorld}
 use Rattle.world.specs.Steps.{LeftServer, SameWorld}
 use Rattle.world.proofs.Zips.{zip_length, zip_set, zip_from}
 
-same_all : {C : Type 0} (xs : List (RaftView C)) → AllZip LeftServer xs xs
+same_all : {S C : Type 0} (xs : List (RaftView S C)) → AllZip LeftServer xs xs
 same_all [] = tt
-same_all (x ∷ xs) = ((record { me = refl; size = refl; server = refl }, λ h. h), same_all xs)
+same_all (x ∷ xs) = ((record { me = refl; size = refl; base = refl; server = refl }, λ h. h), same_all xs)
 
 -- one server of a list is the same
-pub same_set : {C : Type 0} (xs : List (RaftView C)) (i : ℕ) (x y : RaftView C) → slice_set xs i x ≡ xs → LeftServer x y → AllZip LeftServer xs (slice_set xs i y)
+pub same_set : {S C : Type 0} (xs : List (RaftView S C)) (i : ℕ) (x y : RaftView S C) → slice_set xs i x ≡ xs → LeftServer x y → AllZip LeftServer xs (slice_set xs i y)
 same_set xs i x y here same = subst (λ l. AllZip LeftServer l (slice_set xs i y)) here (zip_set LeftServer xs xs i x y (same_all xs) same)
 
-pub same_world : {C : Type 0} (w : WorldView C) → SameWorld w w
+pub same_world : {S C : Type 0} (w : WorldView S C) → SameWorld w w
 same_world w = record { servers = same_all w.servers; sent = refl; trace = refl; chain = refl }
 
 module _ {S C : Type 0} (m : Meaning S C) where
-  represents_on : (xs ys : List (RaftView C)) (ss : List (Server C)) → AllZip LeftServer xs ys → AllZip (Represents m) xs ss → AllZip (Represents m) ys ss
+  represents_on : (xs ys : List (RaftView S C)) (ss : List (Server C)) → AllZip LeftServer xs ys → AllZip (Represents m) xs ss → AllZip (Represents m) ys ss
   represents_on [] [] ss same r = r
   represents_on [] (y ∷ ys) ss same r = absurd same
   represents_on (x ∷ xs) [] ss same r = absurd same
   represents_on (x ∷ xs) (y ∷ ys) [] same r = absurd r
-  represents_on (x ∷ xs) (y ∷ ys) (s ∷ ss) same r = let one = same.0.0 in (one.server ∙ r.0, represents_on xs ys ss same.1 r.1)
+  represents_on (x ∷ xs) (y ∷ ys) (s ∷ ss) same r = let one = same.0.0 in (same_fills m x y one s r.0, represents_on xs ys ss same.1 r.1)
 
-  module _ (old new : WorldView C) (same : SameWorld old new) where
+  module _ (old new : WorldView S C) (same : SameWorld old new) where
     pub same_count : length new.servers ≡ length old.servers
     same_count = sym (zip_length LeftServer old.servers new.servers same.servers)
 

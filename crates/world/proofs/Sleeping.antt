@@ -86,13 +86,13 @@ awake_role Follower h = refl
 awake_role (Candidate votes) h = refl
 awake_role (Leader next match) h = refl
 
-module _ {S C : Type 0} (m : Meaning S C) (now : WorldView C) (e : Event C) (i : ℕ) (acts : ActsIn m now.sent e i) where
+module _ {S C : Type 0} (m : Meaning S C) (now : WorldView S C) (e : Event C) (i : ℕ) (acts : ActsIn m now.sent e i) where
   pub refuses_absent : slice_get now.servers i ≡ None → RefusesEvent m now e refusals.OutOfRange
   refuses_absent gone past w r =
       let st = r.represents in
       absent m now.sent w st.sent e i (acts w st.sent) (zip_none (Represents m) now.servers w.servers i st.servers gone)
 
-  module _ (h : RaftView C) (role : Option Role) (here : slice_get now.servers i ≡ Some h) (says : (s : Server C) → Represents m h s → role ≡ role_of s.mode) where
+  module _ (h : RaftView S C) (role : Option Role) (here : slice_get now.servers i ≡ Some h) (says : (s : Server C) → Represents m h s → role ≡ role_of s.mode) where
     pub refuses_sleeping : is_some role ≡ false → is_restart e ≡ false → RefusesEvent m now e refusals.Down
     refuses_sleeping none other past w r =
         let st = r.represents in

@@ -24,7 +24,7 @@ module _ {S C : Type 0} (m : Meaning S C) where
   took w i x s r here is = rw here (ap (λ q. after_turn m w i q) is)
 
 -- server i, which is h, takes the event, and is h2 then
-module _ {S C : Type 0} (m : Meaning S C) (old new : WorldView C) (e : Event C) (i : ℕ) (h h2 : RaftView C)
+module _ {S C : Type 0} (m : Meaning S C) (old new : WorldView S C) (e : Event C) (i : ℕ) (h h2 : RaftView S C)
     (numbered : Numbered old) (here : slice_get old.servers i ≡ Some h)
     (servers : new.servers ≡ slice_set old.servers i h2) where
   -- the world after the step, and that the event leads there
@@ -63,7 +63,7 @@ module _ {S C : Type 0} (m : Meaning S C) (old new : WorldView C) (e : Event C) 
   numbered_on same j a at =
       let n = numbered i h here in
       elim (get_set-cases old.servers i h2 j a (subst (λ l. slice_get l j ≡ Some a) servers at)) [
-        | inl q ↦ subst (λ (b : RaftView C). (b.me ≡ j) × (b.size ≡ length new.servers)) q.1 (same.0 ∙ n.0 ∙ sym q.0, same.1 ∙ n.1 ∙ sym count_kept)
+        | inl q ↦ subst (λ (b : RaftView S C). (b.me ≡ j) × (b.size ≡ length new.servers)) q.1 (same.0 ∙ n.0 ∙ sym q.0, same.1 ∙ n.1 ∙ sym count_kept)
         | inr q ↦ let k = numbered j a q.1 in (k.0, k.1 ∙ sym count_kept)
       ]
 
@@ -89,7 +89,7 @@ module _ {S C : Type 0} (m : Meaning S C) (old new : WorldView C) (e : Event C) 
   }
 
 -- what a value that was reached goes to is reached
-pub reached_on : {S C : Type 0} (m : Meaning S C) (old new : WorldView C) (e : Event C) → EventHappened m old e new → Numbered new → IsRaftWorld m old → IsRaftWorld m new
+pub reached_on : {S C : Type 0} (m : Meaning S C) (old new : WorldView S C) (e : Event C) → EventHappened m old e new → Numbered new → IsRaftWorld m old → IsRaftWorld m new
 reached_on m old new e g n r =
     let q = g.runs r.past r.world r.runs in
     record { past = r.past ++ r.world ∷ []; world = q.0; runs = q.2; numbered = n; size = subst (λ k. IsGroup k) (sym g.size) r.size }

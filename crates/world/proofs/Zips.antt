@@ -1,6 +1,9 @@
 -- Two lists whose items stand in a relation, place by place.
-use Rattle.std.proofs.Common.{◌≡◌, ℕ, zero, suc, Some, None, List, [], ◌∷◌, ◌++◌, length, refl, ap, subst, slice_get, slice_set}
-use Rattle.std.proofs.lemmas.Option.{same_Some}
+use Rattle.std.proofs.Common.{◌≡◌, ℕ, zero, suc, ◌<◌, ◌≤◌, Option, Some, None, List, [], ◌∷◌, ◌++◌, length, refl, sym, ap, subst, slice_get, slice_set, Bor}
+use Rattle.std.proofs.Math.ListN.{get_or}
+use Rattle.std.proofs.lemmas.Option.{same_Some, slice_get_past, slice_get_read}
+use Rattle.std.specs.Prelude.{IfSome, MatchOption}
+use Rattle.std.specs.Option.{option_copied}
 use Rattle.std.specs.List.{AllZip}
 
 module _ {A B : Type 0} (R : A → B → Type 0) where
@@ -43,3 +46,8 @@ module _ {A B : Type 0} (R : A → B → Type 0) where
   zip_none (a ∷ xs) [] i z h = refl
   zip_none (a ∷ xs) (b ∷ ys) zero z h = absurd (cc)
   zip_none (a ∷ xs) (b ∷ ys) (suc i) z h = zip_none xs ys i z.1 h
+
+-- what a look-up in a list borrows is the item at that place
+pub looked_up : {A : Type 0} (xs : List A) (i : ℕ) (P : Bor A → Type 0) (r : Option (Bor A)) → IfSome r (λ x. x.now ≡ get_or xs i x.now) → MatchOption r (length xs ≤ i) (λ x. (i < length xs) × P x) → option_copied r ≡ slice_get xs i
+looked_up xs i P None read past = sym (slice_get_past xs i past)
+looked_up xs i P (Some x) read within = sym (slice_get_read xs (length xs) i x.now refl within.0 read)

@@ -12,7 +12,7 @@ use Rattle.world.specs.WorldView.{WorldView, RunsTo}
 
 -- The value has a run, and in each of its runs no two servers ever led one term. (Raft, Figure 3,
 -- election safety.)
-pub record OneLeaderEver {S C : Type 0} (m : Meaning S C) (view : WorldView C) : Type 0 where
+pub record OneLeaderEver {S C : Type 0} (m : Meaning S C) (view : WorldView S C) : Type 0 where
   pub past : List (World C)
   pub world : World C
   pub runs : RunsTo m view past world
@@ -20,7 +20,7 @@ pub record OneLeaderEver {S C : Type 0} (m : Meaning S C) (view : WorldView C) :
 
 -- The value has a run, and in each of its runs two logs that hold an entry of one index and term,
 -- at one moment or at two, are the same up to it. (Raft, Figure 3, log matching.)
-pub record LogsMatchEver {S C : Type 0} (m : Meaning S C) (view : WorldView C) : Type 0 where
+pub record LogsMatchEver {S C : Type 0} (m : Meaning S C) (view : WorldView S C) : Type 0 where
   pub past : List (World C)
   pub world : World C
   pub runs : RunsTo m view past world
@@ -30,7 +30,7 @@ pub record LogsMatchEver {S C : Type 0} (m : Meaning S C) (view : WorldView C) :
 -- had committed is the beginning of that list, at every moment, and whoever leads a term has in its
 -- log what a server in a term up to that one had committed by then. (Raft, Figure 3, leader
 -- completeness and state machine safety.)
-pub record OneListEver {S C : Type 0} (m : Meaning S C) (view : WorldView C) : Type 0 where
+pub record OneListEver {S C : Type 0} (m : Meaning S C) (view : WorldView S C) : Type 0 where
   pub past : List (World C)
   pub world : World C
   pub runs : RunsTo m view past world
@@ -40,7 +40,7 @@ pub record OneListEver {S C : Type 0} (m : Meaning S C) (view : WorldView C) : T
 
 -- The value has a run, and in each of its runs the state after each first part of that list is
 -- safe, in the machine's sense.
-pub record StatesSafeEver {S C : Type 0} (m : Meaning S C) (view : WorldView C) : Type 0 where
+pub record StatesSafeEver {S C : Type 0} (m : Meaning S C) (view : WorldView S C) : Type 0 where
   pub past : List (World C)
   pub world : World C
   pub runs : RunsTo m view past world

@@ -18,7 +18,7 @@ use Rattle.world.specs.WorldView.{WorldView, RepresentsWorld, RunsTo, IsRaftWorl
 
 -- The event happens in each world that `old` represents, and makes it one that `new` represents.
 -- Each run of the old value goes on to one of the new value, by this event.
-pub record EventHappened {S C : Type 0} (m : Meaning S C) (old : WorldView C) (e : Event C) (new : WorldView C) : Type 0 where
+pub record EventHappened {S C : Type 0} (m : Meaning S C) (old : WorldView S C) (e : Event C) (new : WorldView S C) : Type 0 where
   pub size : length new.servers ≡ length old.servers
   pub trace : new.trace ≡ old.trace ++ e ∷ []
   pub worlds : (w : World C) → RepresentsWorld m old w →
@@ -31,7 +31,7 @@ abbrev pub MayWantFor : {C : Type 0} → World C → Event C → Server C → Ty
 MayWantFor {C} w e s = (input : Input C) × (event_input w e ≡ Some input) × MayWant s.mode input
 
 -- the event's actor found no memory, and crashes in its place
-pub record ActorCrashed {S C : Type 0} (m : Meaning S C) (old : WorldView C) (e : Event C) (new : WorldView C) : Type 0 where
+pub record ActorCrashed {S C : Type 0} (m : Meaning S C) (old : WorldView S C) (e : Event C) (new : WorldView S C) : Type 0 where
   pub who : ℕ
   pub actor : (w : World C) → RepresentsWorld m old w → acting_server m w e ≡ Some who
   pub lacking : (w : World C) (s : Server C) → RepresentsWorld m old w → slice_get w.servers who ≡ Some s →
@@ -39,30 +39,30 @@ pub record ActorCrashed {S C : Type 0} (m : Meaning S C) (old : WorldView C) (e 
   pub happened : EventHappened m old (Crashes who) new
 
 -- a restart that could be, of a server that finds no memory: it stays down
-pub record StaysDown {S C : Type 0} (m : Meaning S C) (old : WorldView C) (e : Event C) (new : WorldView C) : Type 0 where
+pub record StaysDown {S C : Type 0} (m : Meaning S C) (old : WorldView S C) (e : Event C) (new : WorldView S C) : Type 0 where
   pub restart : IsRestart m e
   pub could : (w : World C) → RepresentsWorld m old w → (next : World C) × (happens m w e ≡ Ok next)
   pub same : new ≡ old
 
 -- what became of an event that was not refused
-abbrev pub WasDone : {S C : Type 0} → Meaning S C → WorldView C → Event C → Done → WorldView C → Type 0
+abbrev pub WasDone : {S C : Type 0} → Meaning S C → WorldView S C → Event C → Done → WorldView S C → Type 0
 WasDone m old e Taken new = EventHappened m old e new
 WasDone m old e Crashed new = ActorCrashed m old e new ⊎ StaysDown m old e new
 
 -- A server as a refusal leaves it: the same one. A leader that refused a command may have made its
 -- machine after its whole log; one that held it holds it still.
-abbrev pub LeftServer : {C : Type 0} → RaftView C → RaftView C → Type 0
+abbrev pub LeftServer : {S C : Type 0} → RaftView S C → RaftView S C → Type 0
 LeftServer old new = SameServer old new × (old.projected ≡ true → new.projected ≡ true)
 
 -- Nothing happened: the same servers, as a refusal leaves them, messages, events and chain.
-pub record SameWorld {C : Type 0} (old new : WorldView C) : Type 0 where
+pub record SameWorld {S C : Type 0} (old new : WorldView S C) : Type 0 where
   pub servers : AllZip LeftServer old.servers new.servers
   pub sent : new.sent ≡ old.sent
   pub trace : new.trace ≡ old.trace
   pub chain : new.chain ≡ old.chain
 
 -- the definitions refuse the event in the same way, in each run of the value
-abbrev pub RefusesEvent : {S C : Type 0} → Meaning S C → WorldView C → Event C → Refusal → Type 0
+abbrev pub RefusesEvent : {S C : Type 0} → Meaning S C → WorldView S C → Event C → Refusal → Type 0
 RefusesEvent {S} {C} m view e r =
     (past : List (World C)) (w : World C) → RunsTo m view past w → happens m w e ≡ Err r
 
@@ -74,12 +74,12 @@ pub record ComesToServer {S C : Type 0} (m : Meaning S C) (w : World C) (e : Eve
   pub there : who < length w.servers
   pub awake : happens m w e ≢ Err refusals.Down
 
-abbrev pub IsAwake : {S C : Type 0} → Meaning S C → WorldView C → Event C → Type 0
+abbrev pub IsAwake : {S C : Type 0} → Meaning S C → WorldView S C → Event C → Type 0
 IsAwake {S} {C} m view e =
     (past : List (World C)) (w : World C) → RunsTo m view past w → ComesToServer m w e
 
 -- the group before its first event: n servers that never did anything
-pub record IsNew {S C : Type 0} (m : Meaning S C) (n : ℕ) (view : WorldView C) : Type 0 where
+pub record IsNew {S C : Type 0} (m : Meaning S C) (n : ℕ) (view : WorldView S C) : Type 0 where
   pub size : IsGroup n
   pub count : length view.servers ≡ n
   pub trace : view.trace ≡ []
@@ -122,7 +122,7 @@ EachBecame R place (e ∷ es) (o ∷ os) = R place e o × EachBecame R (next_pla
 
 -- The value's trace is that of the events handed in: each was kept, was replaced by its actor's
 -- crash, for want of memory, or was left out.
-pub record Played {S C : Type 0} (m : Meaning S C) (n : ℕ) (handed : List (Event C)) (view : WorldView C) : Type 0 where
+pub record Played {S C : Type 0} (m : Meaning S C) (n : ℕ) (handed : List (Event C)) (view : WorldView S C) : Type 0 where
   pub count : length view.servers ≡ n
   pub outcomes : List Outcome
   pub past : List (World C)
@@ -138,7 +138,7 @@ Lacked OutcomeCrashed = Unit {0}
 Lacked (LeftOut r) = r ≡ refusals.NoMemory
 
 -- the same, and memory was wanting for one of the events handed in
-pub record PlayedShort {S C : Type 0} (m : Meaning S C) (n : ℕ) (handed : List (Event C)) (view : WorldView C) : Type 0 where
+pub record PlayedShort {S C : Type 0} (m : Meaning S C) (n : ℕ) (handed : List (Event C)) (view : WorldView S C) : Type 0 where
   pub played : Played m n handed view
   pub place : ℕ
   pub outcome : Outcome
@@ -146,12 +146,12 @@ pub record PlayedShort {S C : Type 0} (m : Meaning S C) (n : ℕ) (handed : List
   pub lacked : Lacked outcome
 
 -- two values of one run: it leads to the same servers, the same messages and the same chain
-pub record SameRun {S C : Type 0} (m : Meaning S C) (one other : WorldView C) : Type 0 where
+pub record SameRun {S C : Type 0} (m : Meaning S C) (one other : WorldView S C) : Type 0 where
   pub trace : other.trace ≡ one.trace
   pub chain : other.chain ≡ one.chain
   pub runs : (past : List (World C)) (w : World C) → RunsTo m one past w → RunsTo m other past w
 
 -- A value of this trace and this many servers comes again from its trace, unless memory was wanting
 -- for one of the events.
-abbrev pub Replays : {S C : Type 0} → Meaning S C → ℕ → List (Event C) → WorldView C → Type 0
-Replays {S} {C} m n handed view = (old : WorldView C) → IsRaftWorld m old → length old.servers ≡ n → old.trace ≡ handed → SameRun m old view ⊎ PlayedShort m n handed view
+abbrev pub Replays : {S C : Type 0} → Meaning S C → ℕ → List (Event C) → WorldView S C → Type 0
+Replays {S} {C} m n handed view = (old : WorldView S C) → IsRaftWorld m old → length old.servers ≡ n → old.trace ≡ handed → SameRun m old view ⊎ PlayedShort m n handed view

@@ -35,7 +35,7 @@ pub struct RaftWorld<M: Machine> {
 impl<M: Machine> Model for RaftWorld<M> {
     ghost use Rattle.world.specs.WorldView.{WorldView, IsRaftWorld};
 
-    ghost Value = { WorldView M.Command };
+    ghost Value = { WorldView M M.Command };
 
     ghost view = { λ a. record { servers = a.servers.items; sent = a.history.sent; trace = a.history.trace; chain = a.history.chain } };
 

@@ -3,12 +3,18 @@ use Rattle.std.specs.Prelude.{◌≡◌, List, length, take}
 use Rattle.machine_model.specs.Meaning.{Meaning}
 use Rattle.raft_model.specs.Servers.{Turn, crashed}
 use Rattle.wire.specs.Frames.{Frame}
+use Rattle.raft_snapshot.specs.Bases.{Base}
 use Rattle.raft_core.specs.RaftView.{RaftView}
 use Rattle.raft_core.specs.Frames.{Sends}
 
--- the turn was taken, its messages sent
-pub record TurnTaken {S C : Type 0} (m : Meaning S C) (old new : RaftView C) (before after : List Frame) (turn : Turn C) : Type 0 where
+-- the same place, and the same snapshot
+abbrev pub SameBase : {S C : Type 0} → RaftView S C → RaftView S C → Type 0
+SameBase old new = (new.me ≡ old.me) × (new.size ≡ old.size) × (new.base ≡ old.base)
+
+-- the turn was taken, its messages sent; this is the base that it leaves
+pub record TurnTaken {S C : Type 0} (m : Meaning S C) (left : Base S) (old new : RaftView S C) (before after : List Frame) (turn : Turn C) : Type 0 where
   pub server : new.server ≡ turn.server
+  pub base : new.base ≡ left
   pub me : new.me ≡ old.me
   pub size : new.size ≡ old.size
   pub sent : Sends m before after turn.sent
@@ -18,8 +24,9 @@ abbrev pub KeepsFront : List Frame → List Frame → Type 0
 KeepsFront before after = take (length before) after ≡ before
 
 -- memory was wanting: what is stored is as it was, and nothing of what was sent before is lost
-pub record LackedMemory {C : Type 0} (old new : RaftView C) (before after : List Frame) : Type 0 where
+pub record LackedMemory {S C : Type 0} (old new : RaftView S C) (before after : List Frame) : Type 0 where
   pub server : crashed new.server ≡ crashed old.server
+  pub base : new.base ≡ old.base
   pub me : new.me ≡ old.me
   pub size : new.size ≡ old.size
   pub front : KeepsFront before after

@@ -4,5 +4,5 @@ use Rattle.raft_model.specs.Servers.{Server, is_leader}
 use Rattle.raft_core.specs.RaftView.{RaftView}
 
 -- a machine after the whole log is left only to a leader
-abbrev pub with_server : {C : Type 0} → RaftView C → Server C → RaftView C
+abbrev pub with_server : {S C : Type 0} → RaftView S C → Server C → RaftView S C
 with_server view server = record view { server = server; projected = view.projected && is_leader server.mode }

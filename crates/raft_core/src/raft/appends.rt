@@ -11,12 +11,11 @@ ghost use Rattle.raft_core.specs.Inner.Turns.{TurnTaken, LackedMemory};
 ghost use Rattle.raft_core.specs.RaftView.{KeepsAhead};
 
 use super::Raft;
-use crate::log::stays;
-use crate::merge::adopt;
 use crate::release::forget;
 use crate::role::Role;
 use crate::sending::answer;
 use machine::{Coded, Entry, Machine};
+use raft_snapshot::adopt;
 use rows::{Index, NoMemory, ServerId, Term};
 use wire::{Append, AppendHead, AppendReply, Frames};
 
@@ -45,13 +44,13 @@ impl<M: Machine> Raft<M> {
         requires missing { (nat_le head.now.prev_index self.old.server.commit || has
             self.old.server.log head.now.prev_index head.now.prev_term) ≡ false }
         ensures taken { OnOk result ((entries : List (Entry M.Command)) →
-            TurnTaken M.meaning self.old self.new outbox.old outbox.new
+            TurnTaken M.meaning self.old.base self.old self.new outbox.old outbox.new
             (follows_append self.old.me (following (met head.now.term self.old.server) from) from
             head.now.prev_index head.now.prev_term head.now.commit entries)) }
         ensures kept { OnOk result (KeepsAhead self.old self.new) }
         ensures lost { OnErr result (LackedMemory self.old self.new outbox.old outbox.new) }
     {
-        let last = self.log.len() as u64;
+        let last = self.log.last().get();
         let at = (head.prev_index.get() - 1).min(last);
         let Some(at) = Index::new(at) else {
             unreachable!()
@@ -84,7 +83,7 @@ impl<M: Machine> Raft<M> {
             self.old.server.log head.now.prev_index head.now.prev_term) ≡ true }
         requires places { head.now.prev_index + length entries.items < 2 ^ 40 }
         ensures taken { OnOk result
-            (TurnTaken M.meaning self.old self.new outbox.old outbox.new
+            (TurnTaken M.meaning self.old.base self.old self.new outbox.old outbox.new
             (follows_append self.old.me (following (met head.now.term self.old.server) from) from
             head.now.prev_index head.now.prev_term head.now.commit entries.items)) }
         ensures kept { OnOk result (KeepsAhead self.old self.new) }
@@ -137,7 +136,7 @@ impl<M: Machine> Raft<M> {
         requires up { is_up self.old.server.mode ≡ true }
         requires other { from ≢ self.old.me }
         ensures taken { OnOk result
-            (TurnTaken M.meaning self.old self.new outbox.old outbox.new
+            (TurnTaken M.meaning self.old.base self.old self.new outbox.old outbox.new
             (receives M.meaning.noop self.old.size self.old.me
             (met message.head.term self.old.server) from message.head.term
             (AppendBody message.head.prev_index message.head.prev_term message.head.commit
@@ -160,7 +159,7 @@ impl<M: Machine> Raft<M> {
             return Ok(());
         }
         let prev = head.prev_index.get();
-        if stays(&self.log, self.commit.get(), prev, head.prev_term) {
+        if self.log.stays(self.commit.get(), prev, head.prev_term) {
             self.accept_append(from, &head, entries, outbox)
         } else {
             self.refuse_append(from, &head, outbox)

@@ -14,17 +14,17 @@ use super::votes::server_at;
 use crate::log::term_at;
 use crate::role::Role;
 use machine::{Coded, Entry, Machine};
+use raft_snapshot::Log;
 use rows::{Index, NoMemory, ServerId, Term};
 use wire::{AppendHead, Frames};
 
 /// The entries behind an index, at most 32: no Append has more.
-fn entries_behind<M: Machine>(log: &[Entry<Coded<M>>], index: u64) -> &[Entry<Coded<M>>]
-    requires { index < 2 ^ 40 }
-    ensures { result.now ≡ take 32 (drop index log.now) }
+fn entries_behind<M: Machine>(log: &Log<M>, index: u64) -> &[Entry<Coded<M>>]
+    requires { log.now.base.index ≤ index }
+    ensures { result.now ≡ take 32 (drop index log.now.entries) }
 {
-    let start = (index as usize).min(log.len());
-    let end = (start + 32).min(log.len());
-    &log[start..end]
+    let all = log.behind(index);
+    &all[..all.len().min(32)]
 }
 
 /// Sends another server the entries of the log from index `next` on, at most 32.
@@ -35,15 +35,14 @@ fn send_from<M: Machine>(
     to: ServerId,
     term: Term,
     commit: Index,
-    log: &[Entry<Coded<M>>],
+    log: &Log<M>,
     next: u64,
 ) -> Result<(), NoMemory>
     requires other { me ≢ to }
-    requires least { 1 ≤ next }
+    requires behind { log.now.base.index < next }
     requires most { next ≤ 2 ^ 40 }
-    requires short { length log.now < 2 ^ 40 }
     ensures ok { OnOk result (Sends M.meaning outbox.old outbox.new
-        (append_from me term commit log.now next to ∷ [])) }
+        (append_from me term commit log.now.entries next to ∷ [])) }
     ensures err { OnErr result (outbox.new ≡ outbox.old) }
 {
     let Some(prev_index) = Index::new(next - 1) else {
@@ -55,6 +54,8 @@ fn send_from<M: Machine>(
         prev_term: term_at(log, prev_index.get()),
         commit,
     };
+    // The last index is below 2^40, and so is that of the last entry that is sent.
+    let _last = log.last().get();
     outbox.send_append(me, to, &head, entries_behind(log, prev_index.get()))
 }
 
@@ -64,15 +65,15 @@ fn send_to_others<M: Machine>(
     me: ServerId,
     term: Term,
     commit: Index,
-    log: &[Entry<Coded<M>>],
+    log: &Log<M>,
     next: &[u64],
 ) -> Result<(), NoMemory>
     requires few { length next.now ≤ 5 }
     requires least { (j : ℕ) → j < length next.now → 1 ≤ slice_index next.now j }
     requires most { (j : ℕ) → slice_index next.now j ≤ 2 ^ 40 }
-    requires short { length log.now < 2 ^ 40 }
+    requires uncovered { log.now.base.index ≡ 0 }
     ensures ok { OnOk result (Sends M.meaning outbox.old outbox.new
-        (to_others me (λ to. append_from me term commit log.now (index_at next.now to) to)
+        (to_others me (λ to. append_from me term commit log.now.entries (index_at next.now to) to)
         (length next.now))) }
     ensures err { OnErr result (KeepsFront outbox.old outbox.new) }
 {
@@ -89,7 +90,7 @@ impl<M: Machine> Raft<M> {
     pub(super) fn beat(&self, outbox: &mut Frames) -> Result<(), NoMemory>
         requires { is_up self.now.server.mode ≡ true }
         ensures taken { OnOk result
-            (TurnTaken M.meaning self.now self.now outbox.old outbox.new
+            (TurnTaken M.meaning self.now.base self.now self.now outbox.old outbox.new
             (record {
               server = self.now.server;
               sent = beats self.now.size self.now.me

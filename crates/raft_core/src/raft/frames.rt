@@ -2,27 +2,28 @@
 
 ghost use Rattle.std.specs.Prelude.{◌≡◌, ◌≢◌, ◌<◌, true, None, OnOk, OnErr, IfOk, IfErr, IfSome, Some};
 ghost use Rattle.rows.specs.declared.actor.Actor.TheVariants as actors;
-ghost use Rattle.raft_model.specs.Servers.{Server, is_up, met};
+ghost use Rattle.raft_model.specs.Servers.{Server, is_up, is_leader, met};
 ghost use Rattle.raft_model.specs.Steps.{receives};
 ghost use Rattle.wire.specs.Messages.{log_body};
 ghost use Rattle.raft_core.specs.Frames.{log_message};
 ghost use Rattle.raft_core.specs.Steps.{Represents, TakesMessage};
 ghost use Rattle.raft_core.specs.Inner.Turns.{TurnTaken, LackedMemory};
-ghost use Rattle.raft_core.specs.Inner.Stops.{TakesFrame, FrameStops, MessageStops};
+ghost use Rattle.raft_core.specs.Inner.Moves.{MovesMessage, MovesFrame};
+ghost use Rattle.raft_core.specs.Inner.Stops.{FrameStops, MessageStops};
 ghost use Rattle.raft_core.specs.Refusals.{frame_refusal, misdirected, message_fault, message_refusal, IsMessageRefused, MessageRefusalLeaves, MessageStays, RefusalShows};
-ghost use Rattle.raft_core.specs.RaftView.{KeepsAhead};
-ghost use Rattle.raft_core.specs.Watching.{SeesStep};
+ghost use Rattle.raft_core.specs.RaftView.{SamePlace, KeepsAhead};
+ghost use Rattle.raft_snapshot.specs.Watching.{SeesStep, ShowsStep};
 
 use super::Raft;
-use crate::watch::Watch;
 use machine::Machine;
+use raft_snapshot::Watch;
 use rows::{NoMemory, Refusal, ServerId};
 use wire::{Frames, LogBody, LogMessage, is_log_frame, read_log_message, read_message};
 
 impl<M: Machine> Raft<M> {
-    /// A message of another server of the group is taken.
+    /// What another server of the group says is taken.
     #[inline(always)]
-    fn receive<W: Watch<M>>(
+    fn take_body<W: Watch<M>>(
         &mut self,
         from: ServerId,
         body: LogBody<M>,
@@ -33,12 +34,14 @@ impl<M: Machine> Raft<M> {
         requires member { from < self.old.size }
         requires other { from ≢ self.old.me }
         ensures taken { OnOk result (IfSome (log_message from self.old.me (log_body body)) (λ x.
-            TurnTaken M.meaning self.old self.new outbox.old outbox.new
+            TurnTaken M.meaning self.old.base self.old self.new outbox.old outbox.new
             (receives M.meaning.noop self.old.size self.old.me (met x.term self.old.server)
             from x.term x.body))) }
         ensures kept { OnOk result (KeepsAhead self.old self.new) }
-        ensures seen { OnOk result
-            (SeesStep M.meaning W.sees self.old.server self.new.server watch.old watch.new) }
+        ensures led { OnOk result (is_leader self.new.server.mode ≡ true →
+            self.new.base ≡ self.old.base) }
+        ensures seen { OnOk result (ShowsStep M.meaning W.sees self.old.base self.old.server
+            self.new.server watch.old watch.new) }
         ensures lost { OnErr result (LackedMemory self.old self.new outbox.old outbox.new) }
     {
         match body {
@@ -71,28 +74,29 @@ impl<M: Machine> Raft<M> {
 
     /// A message comes to a server that is up.
     #[inline(always)]
-    fn message<W: Watch<M>>(
+    fn take_message<W: Watch<M>>(
         &mut self,
         message: LogMessage<M>,
         outbox: &mut Frames,
         watch: &mut W,
     ) -> Result<(), Refusal>
         requires { is_up self.old.server.mode ≡ true }
-        ensures same { (self.new.me ≡ self.old.me) × (self.new.size ≡ self.old.size) }
+        ensures same { SamePlace self.old self.new }
         ensures taken { OnOk result
-            (TakesMessage M.meaning self.old self.old.server message self.new outbox.old
-            outbox.new) }
+            (MovesMessage M.meaning self.old message self.new outbox.old outbox.new) }
         ensures admitted { OnOk result
             (message_fault self.old.size self.old.me message ≡ None) }
         ensures kept { OnOk result (KeepsAhead self.old self.new) }
         ensures stopped { IfErr result (λ cause.
             MessageStops self.old message cause self.new outbox.old outbox.new) }
-        ensures seen { OnOk result
-            (SeesStep M.meaning W.sees self.old.server self.new.server watch.old watch.new) }
+        ensures led { OnOk result (is_leader self.new.server.mode ≡ true →
+            self.new.base ≡ self.old.base) }
+        ensures seen { OnOk result (ShowsStep M.meaning W.sees self.old.base self.old.server
+            self.new.server watch.old watch.new) }
         ensures unseen { IfErr result (λ cause. RefusalShows cause watch.old watch.new) }
     {
         let from = self.sender(&message)?;
-        self.receive(from, message.into_body(), outbox, watch)?;
+        self.take_body(from, message.into_body(), outbox, watch)?;
         Ok(())
     }
 
@@ -110,7 +114,7 @@ impl<M: Machine> Raft<M> {
         outbox: &mut Frames,
         watch: &mut W,
     ) -> Result<(), Refusal>
-        ensures same { (self.new.me ≡ self.old.me) × (self.new.size ≡ self.old.size) }
+        ensures same { SamePlace self.old self.new }
         ensures taken { OnOk result ((s : Server M.Command) → Represents M.meaning self.old s →
             TakesMessage M.meaning self.old s message self.new outbox.old outbox.new) }
         ensures admitted { OnOk result ((s : Server M.Command) → Represents M.meaning self.old s →
@@ -133,8 +137,12 @@ impl<M: Machine> Raft<M> {
             return Err(Refusal::Down);
         }
         let before = outbox.len();
-        match self.message(message, outbox, watch) {
-            Ok(()) => Ok(()),
+        self.shown();
+        match self.take_message(message, outbox, watch) {
+            Ok(()) => {
+                self.shown();
+                Ok(())
+            }
             Err(cause) => match cause {
                 Refusal::NoMemory => {
                     outbox.truncate(before);
@@ -147,24 +155,25 @@ impl<M: Machine> Raft<M> {
     }
 
     /// A frame comes to a server that is up.
-    pub(super) fn frame<W: Watch<M>>(
+    pub(super) fn take_frame<W: Watch<M>>(
         &mut self,
         bytes: &[u8],
         outbox: &mut Frames,
         watch: &mut W,
     ) -> Result<(), Refusal>
         requires { is_up self.old.server.mode ≡ true }
-        ensures same { (self.new.me ≡ self.old.me) × (self.new.size ≡ self.old.size) }
+        ensures same { SamePlace self.old self.new }
         ensures taken { OnOk result
-            (TakesFrame M.meaning self.old self.old.server bytes.now self.new outbox.old
-            outbox.new) }
+            (MovesFrame M.meaning self.old bytes.now self.new outbox.old outbox.new) }
         ensures admitted { OnOk result (frame_refusal M.meaning self.old.size self.old.me bytes.now
             ≡ None) }
         ensures kept { OnOk result (KeepsAhead self.old self.new) }
         ensures stopped { IfErr result (λ cause.
             FrameStops M.meaning self.old bytes.now cause self.new outbox.old outbox.new) }
-        ensures seen { OnOk result
-            (SeesStep M.meaning W.sees self.old.server self.new.server watch.old watch.new) }
+        ensures led { OnOk result (is_leader self.new.server.mode ≡ true →
+            self.new.base ≡ self.old.base) }
+        ensures seen { OnOk result (ShowsStep M.meaning W.sees self.old.base self.old.server
+            self.new.server watch.old watch.new) }
         ensures unseen { IfErr result (λ cause. RefusalShows cause watch.old watch.new) }
     {
         if !is_log_frame(bytes) {
@@ -173,6 +182,6 @@ impl<M: Machine> Raft<M> {
             return Err(Refusal::Frame(1));
         }
         let message = read_log_message::<M>(self.alloc, bytes)?;
-        self.message(message, outbox, watch)
+        self.take_message(message, outbox, watch)
     }
 }

@@ -1,19 +1,21 @@
 //! Commands that are proposed, and a leader's machine after its whole log.
 
-ghost use Rattle.std.specs.Prelude.{◌≡◌, ◌+◌, ◌^◌, ◌<◌, true, false, List, length, Ok, OnOk, OnErr, IfOk, IfErr};
+ghost use Rattle.std.specs.Prelude.{◌≡◌, ◌+◌, ◌^◌, ◌<◌, true, false, List, length, None, OnOk, OnErr, IfOk, IfErr};
 ghost use Rattle.raft_model.specs.Logs.{state_after};
 ghost use Rattle.wire.specs.Frames.{Frame};
-ghost use Rattle.raft_model.specs.Servers.{Server, is_leader, silent, extended};
-ghost use Rattle.raft_model.specs.Steps.{step, Propose};
-ghost use Rattle.raft_core.specs.RaftView.{SameServer};
+ghost use Rattle.raft_model.specs.Servers.{Server, is_leader};
+ghost use Rattle.raft_model.specs.Steps.{Propose};
+ghost use Rattle.raft_snapshot.specs.Bases.{state_from};
+ghost use Rattle.raft_core.specs.RaftView.{SamePlace, SameServer};
+ghost use Rattle.raft_core.specs.Inner.Proposals.{shown_refusal, IsShownRefused};
 ghost use Rattle.raft_core.specs.Inputs.{Own};
 ghost use Rattle.raft_core.specs.Steps.{Represents, Takes};
 ghost use Rattle.raft_core.specs.Refusals.{HidesNothing, IsRefused, LacksProjection};
 
 use super::Raft;
 use crate::no_projection::NoProjection;
-use crate::project::{brought_on, projection};
 use machine::{Coded, Entry, Machine};
+use raft_snapshot::{brought_on, projection};
 use rows::{Index, Leader, NoMemory, Refusal};
 
 impl<M: Machine> Raft<M> {
@@ -52,7 +54,7 @@ impl<M: Machine> Raft<M> {
     /// The machine after the whole log, of one that holds it.
     fn machine_ahead(&self) -> &M
         requires { self.now.projected ≡ true }
-        ensures { result.now ≡ state_after M.meaning self.now.server.log }
+        ensures { result.now ≡ state_from M.meaning self.now.base self.now.server.log }
     {
         match &self.ahead {
             Some(ahead) => ahead,
@@ -66,15 +68,9 @@ impl<M: Machine> Raft<M> {
         ensures kept { self.old.projected ≡ true → self.new.projected ≡ true }
         ensures leads { OnOk result (is_leader self.old.server.mode ≡ true) }
         ensures room { OnOk result (length self.old.server.log + 1 < 2 ^ 40) }
-        ensures taken { OnOk result (
-            step M.meaning self.old.size self.old.me self.old.server (Propose command.now)
-            ≡ Ok (silent (extended self.old.server command.now))) }
+        ensures taken { OnOk result (shown_refusal M.meaning self.old command.now ≡ None) }
         ensures refused { IfErr result (λ cause.
-            IsRefused M.meaning self.old.size self.old.me self.old.server
-            (Own (Propose command.now)) cause) }
-        ensures unhidden { IfErr result (λ cause.
-            HidesNothing M.meaning self.old.size self.old.me self.old.server
-            (Own (Propose command.now)) cause) }
+            IsShownRefused M.meaning self.old command.now cause) }
     {
         if !self.is_up() {
             return Err(Refusal::Down);
@@ -82,7 +78,7 @@ impl<M: Machine> Raft<M> {
         if !self.is_leader() {
             return Err(Refusal::NotLeader(Leader::new(self.known)));
         }
-        if self.log.len() as u64 + 1 >= Index::LIMIT {
+        if self.log.last().get() + 1 >= Index::LIMIT {
             return Err(Refusal::Exhausted);
         }
         self.make_ahead()?;
@@ -104,7 +100,7 @@ impl<M: Machine> Raft<M> {
     /// Nothing is committed by it: a leader alone is no quorum of 3 or 5. So a watcher has nothing
     /// to see.
     pub fn propose(&mut self, command: M::Command) -> Result<(), Refusal>
-        ensures same { (self.new.me ≡ self.old.me) × (self.new.size ≡ self.old.size) }
+        ensures same { SamePlace self.old self.new }
         // Whatever was sent before, nothing is sent.
         ensures taken { OnOk result ((s : Server M.Command) (sent : List Frame) →
             Represents M.meaning self.old s →
@@ -119,13 +115,13 @@ impl<M: Machine> Raft<M> {
         ensures unchanged { OnErr result (SameServer self.old self.new) }
         ensures kept { OnErr result (self.old.projected ≡ true → self.new.projected ≡ true) }
     {
+        self.shown();
         self.weigh(&command)?;
-        self.log.reserve(1)?;
-        let ahead = self.ahead.take();
-        self.log.push_reserved(Entry {
+        self.log.append(Entry {
             term: self.term,
             command: Coded::new(command),
-        });
+        })?;
+        let ahead = self.ahead.take();
         self.ahead = brought_on(ahead, &self.log);
         Ok(())
     }

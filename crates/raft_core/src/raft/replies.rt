@@ -6,15 +6,16 @@ ghost use Rattle.raft_model.specs.Steps.{receives};
 ghost use Rattle.raft_model.specs.Messages.{AppendReply as AppendReplyBody};
 ghost use Rattle.raft_model.specs.Quorums.{index_at};
 ghost use Rattle.raft_core.specs.Inner.Replies.{hears_either, next_after, match_after};
+ghost use Rattle.raft_core.specs.Inner.Turns.{SameBase};
 ghost use Rattle.raft_core.specs.RaftView.{KeepsAhead};
-ghost use Rattle.raft_core.specs.Watching.{SeesStep};
+ghost use Rattle.raft_snapshot.specs.Watching.{ShowsStep};
 
 use super::Raft;
 use crate::commit::advance;
 use crate::release::forget;
 use crate::role::Role;
-use crate::watch::Watch;
 use machine::Machine;
+use raft_snapshot::Watch;
 use rows::{Index, LeaderTerm, NoMemory, ServerId};
 use wire::AppendReply;
 
@@ -79,12 +80,12 @@ impl<M: Machine> Raft<M> {
     ) -> Result<(), NoMemory>
         requires up { is_up self.old.server.mode ≡ true }
         requires member { from < self.old.size }
-        ensures same { (self.new.me ≡ self.old.me) × (self.new.size ≡ self.old.size) }
+        ensures same { SameBase self.old self.new }
         ensures heard { OnOk result (self.new.server
             ≡ hears_either self.old.size self.old.me self.old.server from ok at self.old.server.mode) }
         ensures kept { OnOk result (KeepsAhead self.old self.new) }
-        ensures seen { OnOk result
-            (SeesStep M.meaning W.sees self.old.server self.new.server watch.old watch.new) }
+        ensures seen { OnOk result (ShowsStep M.meaning W.sees self.old.base self.old.server
+            self.new.server watch.old watch.new) }
         ensures lost { OnErr result (crashed self.new.server ≡ crashed self.old.server) }
     {
         match self.role {
@@ -94,7 +95,7 @@ impl<M: Machine> Raft<M> {
                 let Some(term) = LeaderTerm::new(self.term.get()) else {
                     unreachable!()
                 };
-                let last = self.log.len() as u64;
+                let last = self.log.last().get();
                 learn(&mut self.next, &mut self.matched, last, from, ok, at);
                 let Some(machine) = &mut self.machine else {
                     unreachable!()
@@ -128,14 +129,14 @@ impl<M: Machine> Raft<M> {
     ) -> Result<(), NoMemory>
         requires up { is_up self.old.server.mode ≡ true }
         requires member { from < self.old.size }
-        ensures same { (self.new.me ≡ self.old.me) × (self.new.size ≡ self.old.size) }
+        ensures same { SameBase self.old self.new }
         ensures taken { OnOk result (self.new.server
             ≡ (receives M.meaning.noop self.old.size self.old.me
             (met reply.now.term self.old.server) from reply.now.term
             (AppendReplyBody reply.now.asked reply.now.ok reply.now.at)).server) }
         ensures kept { OnOk result (KeepsAhead self.old self.new) }
-        ensures seen { OnOk result
-            (SeesStep M.meaning W.sees self.old.server self.new.server watch.old watch.new) }
+        ensures seen { OnOk result (ShowsStep M.meaning W.sees self.old.base self.old.server
+            self.new.server watch.old watch.new) }
         ensures lost { OnErr result (crashed self.new.server ≡ crashed self.old.server) }
     {
         if self.term.get() < reply.term.get() {

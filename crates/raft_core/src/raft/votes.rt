@@ -7,14 +7,13 @@ ghost use Rattle.raft_model.specs.Messages.{to_others, VoteRequest as VoteReques
 ghost use Rattle.raft_model.specs.Quorums.{count, is_quorum, marked};
 ghost use Rattle.raft_core.specs.Frames.{Sends};
 ghost use Rattle.raft_core.specs.Inputs.{Own};
-ghost use Rattle.raft_core.specs.Steps.{Steps};
 ghost use Rattle.raft_core.specs.Refusals.{refusal, HidesNothing};
+ghost use Rattle.raft_core.specs.Inner.Moves.{Moves};
 ghost use Rattle.raft_core.specs.Inner.Stops.{EndsRefused};
-ghost use Rattle.raft_core.specs.Inner.Turns.{TurnTaken, LackedMemory, KeepsFront};
-ghost use Rattle.raft_core.specs.RaftView.{KeepsAhead};
+ghost use Rattle.raft_core.specs.Inner.Turns.{SameBase, TurnTaken, LackedMemory, KeepsFront};
+ghost use Rattle.raft_core.specs.RaftView.{SamePlace, KeepsAhead};
 
 use super::Raft;
-use crate::log::term_of_last;
 use crate::role::Role;
 use crate::sending::send;
 use machine::{Coded, Entry, Machine};
@@ -88,10 +87,10 @@ impl<M: Machine> Raft<M> {
         ensures { result ≡ grants (met request.now.term self.now.server) from request.now.term
             request.now.last_index request.now.last_term }
     {
-        let last_term = term_of_last(&self.log).get();
+        let last_term = self.log.last_term().get();
         let its_last_term = request.last_term.get();
         let is_up_to_date = last_term < its_last_term
-            || last_term == its_last_term && self.log.len() as u64 <= request.last_index.get();
+            || last_term == its_last_term && self.log.last().get() <= request.last_index.get();
         let is_free = match self.vote {
             None => true,
             Some(other) => other.place() == from.place(),
@@ -122,7 +121,7 @@ impl<M: Machine> Raft<M> {
         requires up { is_up self.old.server.mode ≡ true }
         requires other { from ≢ self.old.me }
         ensures taken { OnOk result
-            (TurnTaken M.meaning self.old self.new outbox.old outbox.new
+            (TurnTaken M.meaning self.old.base self.old self.new outbox.old outbox.new
             (receives M.meaning.noop self.old.size self.old.me
             (met request.now.term self.old.server) from request.now.term
             (VoteRequestBody request.now.last_index request.now.last_term))) }
@@ -151,16 +150,16 @@ impl<M: Machine> Raft<M> {
         requires up { is_up self.old.server.mode ≡ true }
         requires elected { 1 ≤ self.old.server.term }
         requires room { length self.old.server.log + 1 < 2 ^ 40 }
-        ensures same { (self.new.me ≡ self.old.me) × (self.new.size ≡ self.old.size) }
+        ensures same { SameBase self.old self.new }
         ensures won { OnOk result (self.new.server
             ≡ won M.meaning.noop self.old.size self.old.server) }
         ensures lost { OnErr result (crashed self.new.server ≡ crashed self.old.server) }
     {
         self.ahead = None;
-        let first = self.log.len() as u64 + 1;
+        let first = self.log.last().get() + 1;
         self.next.fill(first);
         self.matched.fill(0);
-        self.log.push(Entry {
+        self.log.append(Entry {
             term: self.term,
             command: Coded::new(M::noop()),
         })?;
@@ -172,7 +171,7 @@ impl<M: Machine> Raft<M> {
     fn count_vote(&mut self, from: ServerId) -> Result<(), NoMemory>
         requires up { is_up self.old.server.mode ≡ true }
         requires member { from < self.old.size }
-        ensures same { (self.new.me ≡ self.old.me) × (self.new.size ≡ self.old.size) }
+        ensures same { SameBase self.old self.new }
         ensures counted { OnOk result (self.new.server
             ≡ counted M.meaning.noop self.old.size self.old.server from self.old.server.mode) }
         ensures kept { OnOk result (KeepsAhead self.old self.new) }
@@ -196,7 +195,7 @@ impl<M: Machine> Raft<M> {
     pub(super) fn vote_reply(&mut self, from: ServerId, reply: &VoteReply) -> Result<(), NoMemory>
         requires up { is_up self.old.server.mode ≡ true }
         requires member { from < self.old.size }
-        ensures same { (self.new.me ≡ self.old.me) × (self.new.size ≡ self.old.size) }
+        ensures same { SameBase self.old self.new }
         ensures taken { OnOk result (self.new.server
             ≡ (receives M.meaning.noop self.old.size self.old.me
             (met reply.now.term self.old.server) from reply.now.term
@@ -221,7 +220,7 @@ impl<M: Machine> Raft<M> {
         requires term { self.old.server.term + 1 < 2 ^ 40 }
         requires room { length self.old.server.log + 1 < 2 ^ 40 }
         ensures taken { OnOk result
-            (TurnTaken M.meaning self.old self.new outbox.old outbox.new
+            (TurnTaken M.meaning self.old.base self.old self.new outbox.old outbox.new
             (record {
               server = stood self.old.size self.old.me self.old.server;
               sent = to_others
@@ -235,7 +234,7 @@ impl<M: Machine> Raft<M> {
         let request = VoteRequest {
             term,
             last_index: self.last(),
-            last_term: term_of_last(&self.log),
+            last_term: self.log.last_term(),
         };
         ask::<M>(self.me, self.size, &request, outbox)?;
         self.ahead = None;
@@ -251,9 +250,9 @@ impl<M: Machine> Raft<M> {
     /// It has heard of no leader: unless it leads, it stands for election.
     pub(super) fn timeout(&mut self, outbox: &mut Frames) -> Result<(), Refusal>
         requires { is_up self.old.server.mode ≡ true }
-        ensures same { (self.new.me ≡ self.old.me) × (self.new.size ≡ self.old.size) }
+        ensures same { SamePlace self.old self.new }
         ensures taken { OnOk result (
-            Steps M.meaning self.old self.old.server Timeout self.new outbox.old outbox.new) }
+            Moves M.meaning self.old.base self.old Timeout self.new outbox.old outbox.new) }
         ensures admitted { OnOk result (
             refusal M.meaning self.old.size self.old.me self.old.server (Own Timeout) ≡ None) }
         ensures kept { OnOk result (KeepsAhead self.old self.new) }
@@ -268,7 +267,7 @@ impl<M: Machine> Raft<M> {
         if self.term.get() + 1 >= Term::LIMIT {
             return Err(Refusal::Exhausted);
         }
-        if self.log.len() as u64 + 1 >= Index::LIMIT {
+        if self.log.last().get() + 1 >= Index::LIMIT {
             return Err(Refusal::Exhausted);
         }
         self.stand(outbox)?;

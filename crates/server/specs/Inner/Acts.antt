@@ -76,6 +76,7 @@ asks_of to (Nack eval token) = NackAt to eval token
 pub record Falters (old new : ServerView) (before after : Outbox) : Type 0 where
   pub me : new.raft.me ≡ old.raft.me
   pub size : new.raft.size ≡ old.raft.size
+  pub base : new.raft.base ≡ old.raft.base
   pub stored : crashed new.raft.server ≡ crashed old.raft.server
   pub front : KeepsFront before.frames after.frames
   pub work : after.work ≡ before.work

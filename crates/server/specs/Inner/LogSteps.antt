@@ -1,5 +1,5 @@
 -- What a step of the log makes of a server of the group.
-use Rattle.std.specs.Prelude.{◌≡◌, Bool, true, false, Option, Some, None, Ok}
+use Rattle.std.specs.Prelude.{◌≡◌, Bool, true, false, Option, Some, None, Result, Ok, OnOk, IfErr}
 use Rattle.rows.specs.declared.command.Command.{Command}
 use Rattle.rows.specs.declared.refusal.Refusal.{Refusal}
 use Rattle.rows.specs.declared.refusal.Refusal.TheVariants as refusals
@@ -7,6 +7,7 @@ use Rattle.wire.specs.Messages.{Message as WireMessage}
 use Rattle.raft_model.specs.Messages.{Message}
 use Rattle.raft_core.specs.declared.input.Input.{Input as RaftInput}
 use Rattle.raft_core.specs.declared.input.Input.TheVariants as raft_inputs
+use Rattle.raft_core.specs.RaftView.{SamePlace}
 use Rattle.raft_core.specs.Frames.{Means}
 use Rattle.cluster_model.specs.Words.{State}
 use Rattle.group_model.specs.Messages.{GroupMessage, Raft, Service}
@@ -17,7 +18,7 @@ use Rattle.leader.specs.OpenDesks.{OpenDesk}
 use Rattle.server.specs.declared.server.Outbox.{Outbox}
 use Rattle.server.specs.ServerViews.{ServerView}
 use Rattle.server.specs.Handings.{Handing, OwnInput}
-use Rattle.server.specs.Turns.{TakesTurn, takes_in}
+use Rattle.server.specs.Turns.{TakesTurn, TakesHanding, takes_in}
 use Rattle.server.specs.Refusals.{MayLackMemory, handing_refusal, wrong_address}
 use Rattle.server.specs.Inner.Acts.{EachMember, EachDoes, Falters, DoesNothing}
 
@@ -68,6 +69,13 @@ DeclinesRead old read cause new before after =
     EachMember old (λ s. wrong_address old.raft.size old.raft.me read.from read.to ≡ Some cause)
     × DoesNothing old new before after
 
+-- one that is up takes it, or declines it
+pub record IsRead (old : ServerView) (read : WireMessage State Command) (result : Result (Unit {0}) Refusal) (new : ServerView) (before after : Outbox) : Type 0 where
+  pub same : SamePlace old.raft new.raft
+  pub taken : OnOk result (EachMember old (λ s. TakesRead old s read new before after))
+  pub admitted : OnOk result (EachMember old (λ s. wrong_address old.raft.size old.raft.me read.from read.to ≡ None))
+  pub stopped : IfErr result (λ cause. DeclinesRead old read cause new before after)
+
 -- ---- what is handed in, to a server that is up
 
 -- memory was wanting, and what is handed in is no restart
@@ -81,3 +89,10 @@ DeclinesHanding old h refusals.NoMemory new before after = LosesIn old h new bef
 DeclinesHanding old h cause new before after =
     EachMember old (λ s. handing_refusal old.raft.size old.raft.me s h ≡ Some cause)
     × DoesNothing old new before after
+
+-- it takes it, or declines it
+pub record IsTaken (old : ServerView) (h : Handing) (result : Result (Unit {0}) Refusal) (new : ServerView) (before after : Outbox) : Type 0 where
+  pub same : SamePlace old.raft new.raft
+  pub taken : OnOk result (EachMember old (λ s. TakesHanding old s h new before after))
+  pub admitted : OnOk result (EachMember old (λ s. handing_refusal old.raft.size old.raft.me s h ≡ None))
+  pub stopped : IfErr result (λ cause. DeclinesHanding old h cause new before after)

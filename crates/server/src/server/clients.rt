@@ -4,7 +4,7 @@ ghost use Rattle.raft_model.specs.Servers.{Server as LogServer, is_up, is_leader
 ghost use Rattle.raft_core.specs.Steps.{Represents};
 ghost use Rattle.rows.specs.declared.command.Command.{Command};
 ghost use Rattle.cluster_model.specs.ClusterMachine.{cluster_meaning};
-ghost use Rattle.raft_core.specs.RaftView.{SameServer};
+ghost use Rattle.raft_core.specs.RaftView.{SamePlace, SameServer};
 ghost use Rattle.group_model.specs.Desks.{whole_state};
 ghost use Rattle.group_model.specs.Messages.{Register, Heartbeat, Pull, ReportStates};
 ghost use Rattle.group_model.specs.ClientRequests.{is_taken_already};
@@ -63,8 +63,7 @@ impl Server {
         outbox: &mut Outbox,
     ) -> Result<(), NoMemory>
         requires { is_up self.old.raft.server.mode ≡ true }
-        ensures same { (self.new.raft.me ≡ self.old.raft.me)
-            × (self.new.raft.size ≡ self.old.raft.size) }
+        ensures same { SamePlace self.old.raft self.new.raft }
         ensures taken { OnOk result (EachDoes self.old (write_act self.old client kind command)
             self.new outbox.old outbox.new) }
         ensures lost { OnErr result (Falters self.old self.new outbox.old outbox.new) }
@@ -101,8 +100,7 @@ impl Server {
         outbox: &mut Outbox,
     ) -> Result<(), NoMemory>
         requires { is_up self.old.raft.server.mode ≡ true }
-        ensures same { (self.new.raft.me ≡ self.old.raft.me)
-            × (self.new.raft.size ≡ self.old.raft.size) }
+        ensures same { SamePlace self.old.raft self.new.raft }
         ensures taken { OnOk result (
             EachDoes self.old (client_act self.old client (Register class size))
             self.new outbox.old outbox.new) }
@@ -126,8 +124,7 @@ impl Server {
         outbox: &mut Outbox,
     ) -> Result<(), NoMemory>
         requires { is_up self.old.raft.server.mode ≡ true }
-        ensures same { (self.new.raft.me ≡ self.old.raft.me)
-            × (self.new.raft.size ≡ self.old.raft.size) }
+        ensures same { SamePlace self.old.raft self.new.raft }
         ensures taken { OnOk result (
             EachDoes self.old (client_act self.old client (ReportStates items))
             self.new outbox.old outbox.new) }
@@ -149,8 +146,7 @@ impl Server {
         outbox: &mut Outbox,
     ) -> Result<(), NoMemory>
         requires { is_up self.old.raft.server.mode ≡ true }
-        ensures same { (self.new.raft.me ≡ self.old.raft.me)
-            × (self.new.raft.size ≡ self.old.raft.size) }
+        ensures same { SamePlace self.old.raft self.new.raft }
         ensures taken { OnOk result (EachDoes self.old (client_act self.old client Heartbeat)
             self.new outbox.old outbox.new) }
         ensures lost { OnErr result (Falters self.old self.new outbox.old outbox.new) }

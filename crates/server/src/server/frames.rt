@@ -1,5 +1,5 @@
 //! Frames that come.
-ghost use Rattle.std.specs.Prelude.{◌≡◌, true, false, None, Some, OnOk, OnErr, IfErr};
+ghost use Rattle.std.specs.Prelude.{◌≡◌, true, false, Some, OnOk, OnErr, IfErr};
 ghost use Rattle.rows.specs.declared.actor.Actor.TheVariants as actors;
 ghost use Rattle.rows.specs.declared.refusal.Refusal.TheVariants as refusals;
 ghost use Rattle.wire.specs.Messages.{kind_of, may_go, is_of_log};
@@ -8,15 +8,16 @@ ghost use Rattle.raft_model.specs.Servers.{is_up};
 ghost use Rattle.raft_core.specs.Refusals.{is_server_at};
 ghost use Rattle.group_model.specs.Messages.{ServiceMessage};
 ghost use Rattle.group_model.specs.Inputs.{Arrives};
-ghost use Rattle.group_model.specs.Members.{Member, step};
+ghost use Rattle.raft_core.specs.RaftView.{SamePlace};
+ghost use Rattle.group_model.specs.Members.{step};
 ghost use Rattle.group_frames.specs.GroupFrames.{service_between};
-ghost use Rattle.server.specs.ServerViews.{IsMember};
 ghost use Rattle.server.specs.Handings.{FrameBytes, bytes_at};
-ghost use Rattle.server.specs.Turns.{TakesHanding, TakesTurn};
-ghost use Rattle.server.specs.Refusals.{handing_refusal, wrong_address, is_of_group, IsHandingRefused, HandingRefusalLeaves, HandingStays};
+ghost use Rattle.server.specs.Turns.{TakesTurn};
+ghost use Rattle.server.specs.Refusals.{is_of_group};
+ghost use Rattle.server.specs.Answers.{HandedIn};
 ghost use Rattle.server.specs.Inner.Acts.{EachMember, EachDoes, Falters, request_act};
 ghost use Rattle.server.specs.Inner.Sources.{source_bytes};
-ghost use Rattle.server.specs.Inner.LogSteps.{DeclinesHanding, TakesRead, DeclinesRead};
+ghost use Rattle.server.specs.Inner.LogSteps.{IsTaken, IsRead};
 
 use super::{Outbox, Server};
 use fsm_state::Cluster;
@@ -53,19 +54,7 @@ impl Server {
     /// another. A refusal changes nothing and sends nothing. With `NoMemory` the server is down,
     /// with its stored part as it was and nothing sent.
     pub fn receive(&mut self, frame: &[u8], outbox: &mut Outbox) -> Result<(), Refusal>
-        ensures same { (self.new.raft.me ≡ self.old.raft.me)
-            × (self.new.raft.size ≡ self.old.raft.size) }
-        ensures taken { OnOk result ((s : Member) → IsMember self.old s →
-            TakesHanding self.old s (FrameBytes frame.now) self.new outbox.old outbox.new) }
-        ensures admitted { OnOk result ((s : Member) → IsMember self.old s →
-            handing_refusal self.old.raft.size self.old.raft.me s (FrameBytes frame.now) ≡ None) }
-        ensures refused { IfErr result (λ cause. (s : Member) → IsMember self.old s →
-            IsHandingRefused self.old.raft.size self.old.raft.me s (FrameBytes frame.now) cause) }
-        ensures left { IfErr result (λ cause. (s : Member) → IsMember self.old s →
-            HandingRefusalLeaves self.old s (FrameBytes frame.now) cause self.new) }
-        ensures stays { IfErr result (λ cause.
-            HandingStays self.old (FrameBytes frame.now) cause self.new) }
-        ensures unsent { OnErr result (outbox.new ≡ outbox.old) }
+        ensures { HandedIn self.old (FrameBytes frame.now) result self.new outbox.old outbox.new }
     {
         self.receive_from(Source::Apart(frame), outbox)
     }
@@ -74,23 +63,8 @@ impl Server {
     /// bytes, which are read where they stand. Where no frame stands there, no bytes come.
     #[inline(always)]
     pub fn receive_sent(&mut self, at: usize, outbox: &mut Outbox) -> Result<(), Refusal>
-        ensures same { (self.new.raft.me ≡ self.old.raft.me)
-            × (self.new.raft.size ≡ self.old.raft.size) }
-        ensures taken { OnOk result ((s : Member) → IsMember self.old s →
-            TakesHanding self.old s (FrameBytes (bytes_at outbox.old.frames at))
-            self.new outbox.old outbox.new) }
-        ensures admitted { OnOk result ((s : Member) → IsMember self.old s →
-            handing_refusal self.old.raft.size self.old.raft.me s
-            (FrameBytes (bytes_at outbox.old.frames at)) ≡ None) }
-        ensures refused { IfErr result (λ cause. (s : Member) → IsMember self.old s →
-            IsHandingRefused self.old.raft.size self.old.raft.me s
-            (FrameBytes (bytes_at outbox.old.frames at)) cause) }
-        ensures left { IfErr result (λ cause. (s : Member) → IsMember self.old s →
-            HandingRefusalLeaves self.old s (FrameBytes (bytes_at outbox.old.frames at)) cause
-            self.new) }
-        ensures stays { IfErr result (λ cause.
-            HandingStays self.old (FrameBytes (bytes_at outbox.old.frames at)) cause self.new) }
-        ensures unsent { OnErr result (outbox.new ≡ outbox.old) }
+        ensures { HandedIn self.old (FrameBytes (bytes_at outbox.old.frames at)) result self.new
+            outbox.old outbox.new }
     {
         self.receive_from(Source::Sent(at), outbox)
     }
@@ -98,29 +72,14 @@ impl Server {
     /// A frame comes.
     #[inline(always)]
     fn receive_from(&mut self, source: Source<'_>, outbox: &mut Outbox) -> Result<(), Refusal>
-        ensures same { (self.new.raft.me ≡ self.old.raft.me)
-            × (self.new.raft.size ≡ self.old.raft.size) }
-        ensures taken { OnOk result ((s : Member) → IsMember self.old s →
-            TakesHanding self.old s (FrameBytes (source_bytes source.entry outbox.old.frames))
-            self.new outbox.old outbox.new) }
-        ensures admitted { OnOk result ((s : Member) → IsMember self.old s →
-            handing_refusal self.old.raft.size self.old.raft.me s
-            (FrameBytes (source_bytes source.entry outbox.old.frames)) ≡ None) }
-        ensures refused { IfErr result (λ cause. (s : Member) → IsMember self.old s →
-            IsHandingRefused self.old.raft.size self.old.raft.me s
-            (FrameBytes (source_bytes source.entry outbox.old.frames)) cause) }
-        ensures left { IfErr result (λ cause. (s : Member) → IsMember self.old s →
-            HandingRefusalLeaves self.old s
-            (FrameBytes (source_bytes source.entry outbox.old.frames)) cause self.new) }
-        ensures stays { IfErr result (λ cause. HandingStays self.old
-            (FrameBytes (source_bytes source.entry outbox.old.frames)) cause self.new) }
-        ensures unsent { OnErr result (outbox.new ≡ outbox.old) }
+        ensures { HandedIn self.old (FrameBytes (source_bytes source.entry outbox.old.frames)) result
+            self.new outbox.old outbox.new }
     {
         if !self.raft.is_up() {
             return Err(Refusal::Down);
         }
         let sent = outbox.frames.len();
-        match self.hear(source, outbox) {
+        match self.take_frame(source, outbox) {
             Ok(()) => Ok(()),
             Err(cause) => match cause {
                 Refusal::NoMemory => {
@@ -133,54 +92,40 @@ impl Server {
     }
 
     /// A frame comes to a server that is up.
-    pub(super) fn hear(&mut self, source: Source<'_>, outbox: &mut Outbox) -> Result<(), Refusal>
+    pub(super) fn take_frame(
+        &mut self,
+        source: Source<'_>,
+        outbox: &mut Outbox,
+    ) -> Result<(), Refusal>
         requires { is_up self.old.raft.server.mode ≡ true }
-        ensures same { (self.new.raft.me ≡ self.old.raft.me)
-            × (self.new.raft.size ≡ self.old.raft.size) }
-        ensures taken { OnOk result (EachMember self.old (λ s. TakesHanding self.old s
-            (FrameBytes (source_bytes source.entry outbox.old.frames)) self.new outbox.old
-            outbox.new)) }
-        ensures admitted { OnOk result (EachMember self.old (λ s.
-            handing_refusal self.old.raft.size self.old.raft.me s
-            (FrameBytes (source_bytes source.entry outbox.old.frames)) ≡ None)) }
-        ensures stopped { IfErr result (λ cause. DeclinesHanding self.old
-            (FrameBytes (source_bytes source.entry outbox.old.frames)) cause self.new outbox.old
-            outbox.new) }
+        ensures { IsTaken self.old (FrameBytes (source_bytes source.entry outbox.old.frames)) result
+            self.new outbox.old outbox.new }
     {
         let bytes = bytes_from(source, &outbox.frames);
         if is_log_frame(bytes) {
             let message = read_log_message::<Cluster>(self.alloc, bytes)?;
-            return self.log_message(message, outbox);
+            return self.take_log_message(message, outbox);
         }
-        self.hear_service(source, outbox)
+        self.take_service_frame(source, outbox)
     }
 
     /// A frame beside the log's comes to a server that is up. What it carries is large: so this
     /// stands apart from what the frames of the log go through.
     #[inline(never)]
-    fn hear_service(&mut self, source: Source<'_>, outbox: &mut Outbox) -> Result<(), Refusal>
+    fn take_service_frame(&mut self, source: Source<'_>, outbox: &mut Outbox) -> Result<(), Refusal>
         requires up { is_up self.old.raft.server.mode ≡ true }
         requires service { is_log_frame (source_bytes source outbox.old.frames) ≡ false }
-        ensures same { (self.new.raft.me ≡ self.old.raft.me)
-            × (self.new.raft.size ≡ self.old.raft.size) }
-        ensures taken { OnOk result (EachMember self.old (λ s. TakesHanding self.old s
-            (FrameBytes (source_bytes source.entry outbox.old.frames)) self.new outbox.old
-            outbox.new)) }
-        ensures admitted { OnOk result (EachMember self.old (λ s.
-            handing_refusal self.old.raft.size self.old.raft.me s
-            (FrameBytes (source_bytes source.entry outbox.old.frames)) ≡ None)) }
-        ensures stopped { IfErr result (λ cause. DeclinesHanding self.old
-            (FrameBytes (source_bytes source.entry outbox.old.frames)) cause self.new outbox.old
-            outbox.new) }
+        ensures { IsTaken self.old (FrameBytes (source_bytes source.entry outbox.old.frames)) result
+            self.new outbox.old outbox.new }
     {
         let bytes = bytes_from(source, &outbox.frames);
         let message = read_message::<Cluster>(self.alloc, bytes)?;
-        self.message(message, outbox)
+        self.take_service_message(message, outbox)
     }
 
     /// A message of the log comes to a server that is up.
     #[inline(always)]
-    fn log_message(
+    fn take_log_message(
         &mut self,
         message: LogMessage<Cluster>,
         outbox: &mut Outbox,
@@ -188,30 +133,20 @@ impl Server {
         requires up { is_up self.old.raft.server.mode ≡ true }
         requires log { is_of_log (kind_of message.body) ≡ true }
         requires goes { may_go (kind_of message.body) message.from message.to ≡ true }
-        ensures same { (self.new.raft.me ≡ self.old.raft.me)
-            × (self.new.raft.size ≡ self.old.raft.size) }
-        ensures taken { OnOk result (EachMember self.old (λ s.
-            TakesRead self.old s message self.new outbox.old outbox.new)) }
-        ensures admitted { OnOk result (EachMember self.old (λ s.
-            wrong_address self.old.raft.size self.old.raft.me message.from message.to ≡ None)) }
-        ensures stopped { IfErr result (λ cause. DeclinesRead self.old message cause self.new
-            outbox.old outbox.new) }
+        ensures { IsRead self.old message result self.new outbox.old outbox.new }
     {
-        self.hear_log(message, outbox)
+        self.hand_to_log(message, outbox)
     }
 
     /// A message beside the log's comes to a server that is up.
-    fn message(&mut self, message: Message<Cluster>, outbox: &mut Outbox) -> Result<(), Refusal>
+    fn take_service_message(
+        &mut self,
+        message: Message<Cluster>,
+        outbox: &mut Outbox,
+    ) -> Result<(), Refusal>
         requires up { is_up self.old.raft.server.mode ≡ true }
         requires service { is_of_log (kind_of message.body) ≡ false }
-        ensures same { (self.new.raft.me ≡ self.old.raft.me)
-            × (self.new.raft.size ≡ self.old.raft.size) }
-        ensures taken { OnOk result (EachMember self.old (λ s.
-            TakesRead self.old s message self.new outbox.old outbox.new)) }
-        ensures admitted { OnOk result (EachMember self.old (λ s.
-            wrong_address self.old.raft.size self.old.raft.me message.from message.to ≡ None)) }
-        ensures stopped { IfErr result (λ cause. DeclinesRead self.old message cause self.new
-            outbox.old outbox.new) }
+        ensures { IsRead self.old message result self.new outbox.old outbox.new }
     {
         let from = message.from();
         self.check_sender(&from)?;
@@ -267,8 +202,7 @@ impl Server {
         requires member { is_of_group self.old.raft.size from ≡ true }
         requires service { is_of_log (kind_of body) ≡ false }
         requires goes { may_go (kind_of body) from (actors.Server self.old.raft.me) ≡ true }
-        ensures same { (self.new.raft.me ≡ self.old.raft.me)
-            × (self.new.raft.size ≡ self.old.raft.size) }
+        ensures same { SamePlace self.old.raft self.new.raft }
         ensures taken { OnOk result (EachMember self.old (λ s. (message : ServiceMessage) →
             service_between from (actors.Server self.old.raft.me) body ≡ Some message →
             TakesTurn (step self.old.raft.size self.old.raft.me s (Arrives message))
@@ -326,8 +260,7 @@ impl Server {
         outbox: &mut Outbox,
     ) -> Result<(), NoMemory>
         requires { is_up self.old.raft.server.mode ≡ true }
-        ensures same { (self.new.raft.me ≡ self.old.raft.me)
-            × (self.new.raft.size ≡ self.old.raft.size) }
+        ensures same { SamePlace self.old.raft self.new.raft }
         ensures taken { OnOk result (EachDoes self.old (request_act self.old from request) self.new
             outbox.old outbox.new) }
         ensures lost { OnErr result (Falters self.old self.new outbox.old outbox.new) }

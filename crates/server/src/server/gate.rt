@@ -1,5 +1,6 @@
 //! Whether the desk may be asked.
-ghost use Rattle.std.specs.Prelude.{◌≡◌, Err, OnOk, IfErr};
+ghost use Rattle.std.specs.Prelude.{◌≡◌, ◌≢◌, Err, OnOk, IfErr};
+ghost use Rattle.rows.specs.declared.refusal.Refusal.TheVariants as refusals;
 ghost use Rattle.group_model.specs.Members.{open_desk};
 ghost use Rattle.raft_model.specs.Servers.{is_leader};
 ghost use Rattle.server.specs.Refusals.{HasOpenDesk};
@@ -24,6 +25,7 @@ impl Server {
         ensures serves { OnOk result (Serves self.now) }
         ensures open { OnOk result (EachMember self.now (λ s. HasOpenDesk s)) }
         ensures shut { IfErr result (λ e. EachMember self.now (λ s. open_desk s ≡ Err e)) }
+        ensures memory { IfErr result (λ e. e ≢ refusals.NoMemory) }
     {
         if !self.leads() {
             return Err(Refusal::NotLeader(Leader::new(self.raft.known_leader())));

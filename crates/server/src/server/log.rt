@@ -1,5 +1,6 @@
 //! What comes to the server's part of the log, and the desk that follows it.
 ghost use Rattle.std.specs.Prelude.{◌≡◌, ◌≢◌, None, OnOk, OnErr, IfErr};
+ghost use Rattle.raft_core.specs.RaftView.{SamePlace};
 ghost use Rattle.rows.specs.declared.command.Command.{Command};
 ghost use Rattle.raft_model.specs.Messages.{Message as MessageOf};
 ghost use Rattle.raft_model.specs.Servers.{is_leader};
@@ -27,15 +28,14 @@ fn close_unless_leading(raft: &Raft<Cluster>, desk: &mut ServerDesk)
 }
 
 impl Server {
-    /// A message of the log comes.
+    /// A message of the log is handed to it, and the desk follows.
     #[inline(always)]
-    pub(super) fn hear_log(
+    pub(super) fn hand_to_log(
         &mut self,
         message: LogMessage<Cluster>,
         outbox: &mut Outbox,
     ) -> Result<(), Refusal>
-        ensures same { (self.new.raft.me ≡ self.old.raft.me)
-            × (self.new.raft.size ≡ self.old.raft.size) }
+        ensures same { SamePlace self.old.raft self.new.raft }
         ensures taken { OnOk result ((said : MessageOf Command) → Means message said →
             HearsLog self.old said self.new outbox.old outbox.new) }
         ensures admitted { OnOk result (EachMember self.old (λ s.
@@ -46,18 +46,17 @@ impl Server {
         ensures desk { IfErr result (λ cause. DeskAfterRefusal cause self.old.desk self.new.desk) }
         ensures unsent { OnErr result (outbox.new ≡ outbox.old) }
     {
-        let heard = self
+        let taken = self
             .raft
             .receive_message(message, &mut outbox.frames, &mut self.desk);
         close_unless_leading(&self.raft, &mut self.desk);
-        heard
+        taken
     }
 
     /// An input of the log's own: a timeout, a beat, a crash or a restart.
     pub(super) fn step_log(&mut self, input: Input<'_>, outbox: &mut Outbox) -> Result<(), Refusal>
         requires { log_ask input ≢ None }
-        ensures same { (self.new.raft.me ≡ self.old.raft.me)
-            × (self.new.raft.size ≡ self.old.raft.size) }
+        ensures same { SamePlace self.old.raft self.new.raft }
         ensures taken { OnOk result (TakesAsk self.old (log_ask input.entry) self.new outbox.old
             outbox.new) }
         ensures refused { IfErr result (λ cause. EachMember self.old (λ s.

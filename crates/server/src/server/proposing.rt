@@ -1,5 +1,6 @@
 //! Commands that the server proposes.
 ghost use Rattle.std.specs.Prelude.{◌≡◌, true, OnOk, OnErr, IfErr};
+ghost use Rattle.raft_core.specs.RaftView.{SamePlace};
 ghost use Rattle.raft_model.specs.Servers.{is_up};
 ghost use Rattle.server.specs.ServerViews.{SameMember};
 ghost use Rattle.server.specs.Inner.Acts.{EachMember, IsProposed, WhyNotProposed};
@@ -12,8 +13,7 @@ impl Server {
     /// of memory too, leaves the server as it was.
     pub(super) fn propose(&mut self, command: Command) -> Result<(), Refusal>
         requires { is_up self.old.raft.server.mode ≡ true }
-        ensures same { (self.new.raft.me ≡ self.old.raft.me)
-            × (self.new.raft.size ≡ self.old.raft.size) }
+        ensures same { SamePlace self.old.raft self.new.raft }
         ensures desk { self.new.desk ≡ self.old.desk }
         ensures taken { OnOk result (
             EachMember self.old (λ s. IsProposed s command self.new)) }

@@ -1,13 +1,13 @@
 //! One step of a server.
 ghost use Rattle.std.specs.Prelude.{◌≡◌, true, false, None, take, OnOk, OnErr, IfErr};
-ghost use Rattle.raft_model.specs.Servers.{is_up, crashed};
-ghost use Rattle.group_model.specs.Members.{Member};
-ghost use Rattle.server.specs.ServerViews.{IsMember};
+ghost use Rattle.raft_model.specs.Servers.{is_up};
+ghost use Rattle.raft_core.specs.RaftView.{SamePlace, IsCrashOf};
 ghost use Rattle.server.specs.Handings.{handing};
 ghost use Rattle.server.specs.Turns.{TakesHanding};
-ghost use Rattle.server.specs.Refusals.{handing_refusal, IsHandingRefused, HandingRefusalLeaves, HandingStays};
+ghost use Rattle.server.specs.Refusals.{handing_refusal, IsHandingRefused};
+ghost use Rattle.server.specs.Answers.{HandedIn};
 ghost use Rattle.server.specs.Inner.Acts.{EachMember};
-ghost use Rattle.server.specs.Inner.LogSteps.{DeclinesHanding};
+ghost use Rattle.server.specs.Inner.LogSteps.{IsTaken};
 
 use super::frames::Source;
 use super::{Outbox, Server};
@@ -31,19 +31,7 @@ impl Server {
     /// refuses it. A refusal changes nothing and sends nothing. With `NoMemory` the server is down,
     /// with its stored part as it was and nothing sent; a Restart changes nothing then.
     pub fn step(&mut self, input: ServerInput, outbox: &mut Outbox) -> Result<(), Refusal>
-        ensures same { (self.new.raft.me ≡ self.old.raft.me)
-            × (self.new.raft.size ≡ self.old.raft.size) }
-        ensures taken { OnOk result ((s : Member) → IsMember self.old s →
-            TakesHanding self.old s (handing input) self.new outbox.old outbox.new) }
-        ensures admitted { OnOk result ((s : Member) → IsMember self.old s →
-            handing_refusal self.old.raft.size self.old.raft.me s (handing input) ≡ None) }
-        ensures refused { IfErr result (λ cause. (s : Member) → IsMember self.old s →
-            IsHandingRefused self.old.raft.size self.old.raft.me s (handing input) cause) }
-        ensures left { IfErr result (λ cause. (s : Member) → IsMember self.old s →
-            HandingRefusalLeaves self.old s (handing input) cause self.new) }
-        ensures stays { IfErr result (λ cause.
-            HandingStays self.old (handing input) cause self.new) }
-        ensures unsent { OnErr result (outbox.new ≡ outbox.old) }
+        ensures { HandedIn self.old (handing input) result self.new outbox.old outbox.new }
     {
         if !self.raft.is_up() {
             return self.wake(input, outbox);
@@ -64,8 +52,7 @@ impl Server {
     /// One that is down takes a restart alone.
     fn wake(&mut self, input: ServerInput, outbox: &mut Outbox) -> Result<(), Refusal>
         requires { is_up self.old.raft.server.mode ≡ false }
-        ensures same { (self.new.raft.me ≡ self.old.raft.me)
-            × (self.new.raft.size ≡ self.old.raft.size) }
+        ensures same { SamePlace self.old.raft self.new.raft }
         ensures taken { OnOk result (EachMember self.old (λ s.
             TakesHanding self.old s (handing input) self.new outbox.old outbox.new)) }
         ensures admitted { OnOk result (EachMember self.old (λ s.
@@ -85,17 +72,10 @@ impl Server {
     /// One that is up takes an input. Want of memory may leave it in the middle of the step.
     fn act(&mut self, input: ServerInput, outbox: &mut Outbox) -> Result<(), Refusal>
         requires { is_up self.old.raft.server.mode ≡ true }
-        ensures same { (self.new.raft.me ≡ self.old.raft.me)
-            × (self.new.raft.size ≡ self.old.raft.size) }
-        ensures taken { OnOk result (EachMember self.old (λ s.
-            TakesHanding self.old s (handing input) self.new outbox.old outbox.new)) }
-        ensures admitted { OnOk result (EachMember self.old (λ s.
-            handing_refusal self.old.raft.size self.old.raft.me s (handing input) ≡ None)) }
-        ensures stopped { IfErr result (λ cause. DeclinesHanding self.old (handing input) cause
-            self.new outbox.old outbox.new) }
+        ensures { IsTaken self.old (handing input) result self.new outbox.old outbox.new }
     {
         match input {
-            ServerInput::Frame(bytes) => self.hear(Source::Apart(bytes.as_slice()), outbox),
+            ServerInput::Frame(bytes) => self.take_frame(Source::Apart(bytes.as_slice()), outbox),
             ServerInput::Timeout => self.step_log(Input::Timeout, outbox),
             ServerInput::Beat => self.step_log(Input::Beat, outbox),
             ServerInput::Request(request) => self.propose(request.into_command()),
@@ -121,9 +101,8 @@ impl Server {
     /// Memory was wanting in the middle of a step: the server is down, and nothing of the step was
     /// sent. It takes no memory.
     pub(super) fn collapse(&mut self, sent: usize, outbox: &mut Outbox)
-        ensures same { (self.new.raft.me ≡ self.old.raft.me)
-            × (self.new.raft.size ≡ self.old.raft.size) }
-        ensures server { self.new.raft.server ≡ crashed self.old.raft.server }
+        ensures same { SamePlace self.old.raft self.new.raft }
+        ensures raft { IsCrashOf self.old.raft self.new.raft }
         ensures desk { self.new.desk ≡ None }
         ensures frames { outbox.new.frames ≡ take sent outbox.old.frames }
         ensures work { outbox.new.work ≡ outbox.old.work }

@@ -5,7 +5,7 @@ ghost use Rattle.raft_core.specs.Steps.{Represents};
 ghost use Rattle.rows.specs.declared.command.Command.{Command};
 ghost use Rattle.cluster_model.specs.ClusterMachine.{cluster_meaning};
 ghost use Rattle.cluster_model.specs.Words.{State};
-ghost use Rattle.raft_core.specs.RaftView.{SameServer};
+ghost use Rattle.raft_core.specs.RaftView.{SamePlace, SameServer};
 ghost use Rattle.rows.specs.Keys.{eval_id};
 ghost use Rattle.rows.specs.declared.refusal.Refusal.TheVariants as refusals;
 ghost use Rattle.group_model.specs.Blocked.{first_due};
@@ -112,8 +112,7 @@ impl Server {
     /// The plan that goes first is judged, what is kept of it is proposed, and its sender is told.
     pub(super) fn plan_turn(&mut self, outbox: &mut Outbox) -> Result<(), Refusal>
         requires { is_up self.old.raft.server.mode ≡ true }
-        ensures same { (self.new.raft.me ≡ self.old.raft.me)
-            × (self.new.raft.size ≡ self.old.raft.size) }
+        ensures same { SamePlace self.old.raft self.new.raft }
         ensures taken { OnOk result (EachDoes self.old (act_of self.old PlanTurn) self.new
             outbox.old outbox.new) }
         ensures stopped { IfErr result (λ cause.
@@ -129,8 +128,7 @@ impl Server {
     /// An outstanding evaluation is free again.
     pub(super) fn lapse(&mut self, eval: EvalId) -> Result<(), Refusal>
         requires { is_up self.old.raft.server.mode ≡ true }
-        ensures same { (self.new.raft.me ≡ self.old.raft.me)
-            × (self.new.raft.size ≡ self.old.raft.size) }
+        ensures same { SamePlace self.old.raft self.new.raft }
         // Whatever was sent and handed out before, nothing is.
         ensures taken { OnOk result ((out : AnyOutbox) →
             EachDoes self.old (act_of self.old (Lapse eval)) self.new out out) }
@@ -145,8 +143,7 @@ impl Server {
     /// A node that was heard of so often, and not since, is proposed as down.
     pub(super) fn expire(&mut self, node: NodeId, beats: Index) -> Result<(), Refusal>
         requires { is_up self.old.raft.server.mode ≡ true }
-        ensures same { (self.new.raft.me ≡ self.old.raft.me)
-            × (self.new.raft.size ≡ self.old.raft.size) }
+        ensures same { SamePlace self.old.raft self.new.raft }
         ensures taken { OnOk result ((out : AnyOutbox) →
             EachDoes self.old (act_of self.old (Expire node beats)) self.new out out) }
         ensures stopped { IfErr result (λ cause. (out : AnyOutbox) →
@@ -160,8 +157,7 @@ impl Server {
     /// A node's drain is proposed as done, or its next moves are, if there are any.
     pub(super) fn drain_turn(&mut self, node: NodeId) -> Result<(), Refusal>
         requires { is_up self.old.raft.server.mode ≡ true }
-        ensures same { (self.new.raft.me ≡ self.old.raft.me)
-            × (self.new.raft.size ≡ self.old.raft.size) }
+        ensures same { SamePlace self.old.raft self.new.raft }
         ensures taken { OnOk result ((out : AnyOutbox) →
             EachDoes self.old (act_of self.old (DrainTurn node)) self.new out out) }
         ensures stopped { IfErr result (λ cause. (out : AnyOutbox) →
@@ -177,8 +173,7 @@ impl Server {
     /// The first evaluation that is due, if there is one, is proposed as pending.
     pub(super) fn free_turn(&mut self) -> Result<(), Refusal>
         requires { is_up self.old.raft.server.mode ≡ true }
-        ensures same { (self.new.raft.me ≡ self.old.raft.me)
-            × (self.new.raft.size ≡ self.old.raft.size) }
+        ensures same { SamePlace self.old.raft self.new.raft }
         ensures taken { OnOk result ((out : AnyOutbox) →
             EachDoes self.old (act_of self.old FreeTurn) self.new out out) }
         ensures stopped { IfErr result (λ cause. (out : AnyOutbox) →
@@ -194,8 +189,7 @@ impl Server {
     /// The first evaluation that was given out too often, if there is one, is proposed as failed.
     pub(super) fn reap(&mut self) -> Result<(), Refusal>
         requires { is_up self.old.raft.server.mode ≡ true }
-        ensures same { (self.new.raft.me ≡ self.old.raft.me)
-            × (self.new.raft.size ≡ self.old.raft.size) }
+        ensures same { SamePlace self.old.raft self.new.raft }
         ensures taken { OnOk result ((out : AnyOutbox) →
             EachDoes self.old (act_of self.old Reap) self.new out out) }
         ensures stopped { IfErr result (λ cause. (out : AnyOutbox) →

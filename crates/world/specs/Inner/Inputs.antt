@@ -54,13 +54,13 @@ handed_by sent (Restarts i) = Own Restart
 
 -- what a refusal leaves of a server: what a crash does where memory was wanting, else the same
 -- server
-abbrev pub Leaves : {S C : Type 0} → Meaning S C → RaftView C → Server C → Handed C → Refusal → RaftView C
+abbrev pub Leaves : {S C : Type 0} → Meaning S C → RaftView S C → Server C → Handed C → Refusal → RaftView S C
     → Type 0
 Leaves m old s h refusals.NoMemory new = LackLeaves m old s h new
 Leaves m old s h cause new = LeftServer old new
 
 -- and of the value itself, whichever servers it is
-abbrev pub StaysOrLeft : {C : Type 0} → Handed C → Refusal → RaftView C → RaftView C → Type 0
+abbrev pub StaysOrLeft : {S C : Type 0} → Handed C → Refusal → RaftView S C → RaftView S C → Type 0
 StaysOrLeft h refusals.NoMemory old new = LackStays h old new
 StaysOrLeft h cause old new = LeftServer old new
 

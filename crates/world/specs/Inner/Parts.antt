@@ -19,22 +19,22 @@ use Rattle.world.specs.Inner.Inputs.{IsSent, handed_by, is_restart, committed}
 
 -- the event is one for this server: what it delivers was sent, and what is handed in is an input of
 -- the definitions
-pub record IsForServer {S C : Type 0} (m : Meaning S C) (raft : RaftView C) (sent : List Frame) (e : Event C) : Type 0 where
+pub record IsForServer {S C : Type 0} (m : Meaning S C) (raft : RaftView S C) (sent : List Frame) (e : Event C) : Type 0 where
   pub inside : raft.me < raft.size
   pub there : IsSent sent e
   pub input : Input C
   pub reads : Reads m (handed_by sent e) input
 
-module _ {S C : Type 0} (m : Meaning S C) (raft : RaftView C) (past : HistoryView C) (e : Event C) where
+module _ {S C : Type 0} (m : Meaning S C) (raft : RaftView S C) (past : HistoryView C) (e : Event C) where
   -- the server took it
-  pub record PartTaken (after : RaftView C) (now : HistoryView C) : Type 0 where
+  pub record PartTaken (after : RaftView S C) (now : HistoryView C) : Type 0 where
     pub event : IsEvent m e
     pub taken : (s : Server C) → Represents m raft s → Takes m raft s (handed_by past.sent e) after past.sent now.sent
     pub trace : now.trace ≡ past.trace ++ e ∷ []
     pub chain : (s : Server C) → Represents m after s → now.chain ≡ max past.chain (committed s)
 
   -- it found no memory, and crashed
-  pub record PartCrashed (i : ℕ) (after : RaftView C) (now : HistoryView C) : Type 0 where
+  pub record PartCrashed (i : ℕ) (after : RaftView S C) (now : HistoryView C) : Type 0 where
     pub other : is_restart e ≡ false
     pub lacks : (s : Server C) → Represents m raft s → MayLack s.mode (handed_by past.sent e)
     pub fell : (s : Server C) → Represents m raft s → (is_up s.mode ≡ true) × Represents m after (crashed s)
@@ -43,7 +43,7 @@ module _ {S C : Type 0} (m : Meaning S C) (raft : RaftView C) (past : HistoryVie
     pub chain : now.chain ≡ past.chain
 
   -- it found no memory to start again
-  pub record PartStays (after : RaftView C) (now : HistoryView C) : Type 0 where
+  pub record PartStays (after : RaftView S C) (now : HistoryView C) : Type 0 where
     pub restart : is_restart e ≡ true
     pub down : (s : Server C) → Represents m raft s → is_up s.mode ≡ false
     pub same_raft : after ≡ raft
@@ -55,7 +55,7 @@ module _ {S C : Type 0} (m : Meaning S C) (raft : RaftView C) (past : HistoryVie
   IsPartRefused cause =
       (s : Server C) → Represents m raft s → refusal m raft.size raft.me s (handed_by past.sent e) ≡ Some cause
 
-  abbrev pub PartDone : ℕ → Result Done Refusal → RaftView C → HistoryView C → Type 0
+  abbrev pub PartDone : ℕ → Result Done Refusal → RaftView S C → HistoryView C → Type 0
   PartDone i (Ok Taken) after now = PartTaken after now
   PartDone i (Ok Crashed) after now = PartCrashed i after now ⊎ PartStays after now
   PartDone i (Err cause) after now = LeftServer raft after × (now ≡ past) × IsPartRefused cause

@@ -1,5 +1,6 @@
 //! What is kept beside the servers and clients of a group, and what one event changes.
 ghost use Rattle.std.specs.Prelude.{◌≡◌, ◌≢◌, ◌<◌, true, max, [], is_some, length, slice_get, MatchBool, OnOk};
+ghost use Rattle.raft_core.specs.RaftView.{SamePlace};
 ghost use Rattle.group_model.specs.Members.{Member};
 ghost use Rattle.group_model.specs.Worlds.{Deliver, AtServer, AtClient};
 ghost use Rattle.server.specs.Handings.{FrameBytes, bytes_of, handing};
@@ -193,8 +194,7 @@ impl GroupHistory {
         me: ServerId,
         input: Box<ServerInput>,
     ) -> Result<Done, Refusal>
-        ensures same { (server.new.raft.me ≡ server.old.raft.me)
-            × (server.new.raft.size ≡ server.old.raft.size) }
+        ensures same { SamePlace server.old.raft server.new.raft }
         ensures done { ServerDone server.old self.old (handing input.value)
             (AtServer me (server_input (handing input.value))) me result server.new self.new }
     {
@@ -230,8 +230,7 @@ impl GroupHistory {
         k: u64,
     ) -> Result<Done, Refusal>
         requires { place_of k < length self.old.outbox.frames }
-        ensures same { (server.new.raft.me ≡ server.old.raft.me)
-            × (server.new.raft.size ≡ server.old.raft.size) }
+        ensures same { SamePlace server.old.raft server.new.raft }
         ensures done { ServerDone server.old self.old
             (FrameBytes (bytes_of (slice_get self.old.outbox.frames (place_of k))))
             (Deliver (place_of k)) me result server.new self.new }

@@ -1,5 +1,5 @@
 use Rattle.event_book.specs.Noted.{event_view}
-use Rattle.cells.specs.Cells.{kept_input, tokens_of}
+use Rattle.cells.specs.Cells.{tokens_of}
 use Rattle.cells.specs.declared.cell.StampedEvent.{StampedEvent}
 use Rattle.cells.proofs.Sending.{may_note, kept_more}
 use Rattle.cells.proofs.cell.keep.Goals as goal

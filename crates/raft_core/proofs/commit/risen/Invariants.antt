@@ -5,8 +5,8 @@ use Rattle.raft_core.proofs.commit.risen.Given as goal
 
 abbrev pub invariant-loop-index : goal.invariant-loop-index
 invariant-loop-index g l = record {
-  within : l.index ≤ length l.log;
-  same : let test = is_chosen_in (length l.matched) l.me l.term l.log l.matched in greatest test l.commit (length l.log) ≡ greatest test l.commit l.index;
+  within : l.index ≤ length l.log.entries;
+  same : let test = is_chosen_in (length l.matched) l.me l.term l.log.entries l.matched in greatest test l.commit (length l.log.entries) ≡ greatest test l.commit l.index;
 }
 
 abbrev pub decreases-loop-index : goal.decreases-loop-index

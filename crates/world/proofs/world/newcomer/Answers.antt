@@ -1,6 +1,7 @@
 use Rattle.std.proofs.Common.{refl}
 use Rattle.raft_model.specs.Servers.{newcomer}
+use Rattle.raft_snapshot.proofs.Whole.{empty_whole}
 use Rattle.world.proofs.world.newcomer.Goals as goal
 
 pub returns-in-Ok-clause-server : goal.returns-in-Ok-clause-server
-returns-in-Ok-clause-server g c = c.in-Ok.ensures.server newcomer (rw c.new.ensures (record { term = refl; vote = refl; log = refl; covered = refl }))
+returns-in-Ok-clause-server g c = c.in-Ok.ensures.server newcomer (rw c.new.ensures (record { term = refl; vote = refl; log = empty_whole g.M.Machine.meaning _ _ refl refl; covered = refl }))

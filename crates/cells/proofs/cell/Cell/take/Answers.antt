@@ -1,4 +1,4 @@
-use Rattle.std.proofs.Common.{ap, ◌∙◌, subst}
+use Rattle.std.proofs.Common.{◌∙◌, subst}
 use Rattle.std.specs.Prelude.{IfErr, IfOk}
 use Rattle.event_book.specs.Noted.{event_view}
 use Rattle.cells.specs.Actors.{group_size}

@@ -13,4 +13,4 @@ returns-in-Ok-clause-taken g c =
     let sent = rw reached at c.in_ok-answer.ensures.ok in
     let risen = rw (c.max.ensures, c.min.ensures, c.get-commit.ensures.value, c.get-2.ensures.value, c.get-3.ensures.value, reached) at c.in-Some-new.ensures.some.0 in
     let grown = rw (c.get-commit.ensures.value, c.get-prev.ensures.value) at c.in-Ok.ensures.ok in
-    rw (← old-is) (accepts m _ c.follow.new.self a.outbox.now c.answer.new.outbox a.from a.head.now.term a.head.now.prev_index _ a.head.now.commit later a.entries.items _ _ false held grown risen (rw c.forget.ensures at c.follow.ensures) sent)
+    rw (← old-is) (accepts m _ c.follow.new.self a.outbox.now c.answer.new.outbox a.from a.head.now.term a.head.now.prev_index _ a.head.now.commit later a.entries.items _ _ false held grown risen (rw (c.in-Ok.ensures.base, c.forget.ensures) at c.follow.ensures) sent)

@@ -1,6 +1,6 @@
 use Rattle.std.proofs.Common.{◌≡◌, ◌≤◌, true, false, arith, refl, sym, ap, ◌∙◌}
 use Rattle.raft_model.specs.Servers.{is_leader}
-use Rattle.raft_core.proofs.Applies.{on_ok}
+use Rattle.raft_snapshot.proofs.Applies.{on_ok}
 use Rattle.raft_core.proofs.Lives.{term_up}
 use Rattle.raft_core.proofs.Sends.{sends-none}
 use Rattle.raft_core.proofs.Follows.{append_own, append_followed}
@@ -17,7 +17,7 @@ returns-then-is_leader-clause-taken g c =
     let same : s.term ≡ a.message.head.term = omega (arith, term, c.get-term.ensures.value, c.if-its_term-term-2.true, c.get-its_term.ensures.value, ap (λ h. h.term) head) in
     let leads : is_leader s.mode ≡ true = sym c.is_leader.ensures ∙ c.if-is_leader.true in
     rw (append_own m.noop a.self.now.size a.self.now.me s a.from a.message.head.term a.message.head.prev_index a.message.head.prev_term a.message.head.commit a.message.entries same leads)
-    (record { server = refl; me = refl; size = refl; sent = sends-none m a.outbox.now })
+    (record { server = refl; base = refl; me = refl; size = refl; sent = sends-none m a.outbox.now })
 
 pub returns-else-stays-clause-taken : goal.returns-else-stays-clause-taken
 returns-else-stays-clause-taken g c =

@@ -1,10 +1,35 @@
-use Rattle.std.proofs.Common.{◌+◌, ◌^◌, ◌<◌, arith, length, [], ◌∷◌, ◌++◌, sym, ap, ◌∙◌}
+use Rattle.std.proofs.Common.{rules, ◌≡◌, Err, arith, length, [], ◌∷◌, ◌++◌, ap, ◌∙◌}
+use Rattle.std.proofs.lemmas.Bool.{lt-ltb}
 use Rattle.machine_model.specs.declared.entry.Entry.{Entry}
 use Rattle.raft_model.specs.Servers.{Server, is_leader, extended}
+use Rattle.raft_model.specs.Logs.{MAX}
+use Rattle.rows.specs.declared.refusal.Refusal.TheVariants as refusals
 use Rattle.raft_core.specs.RaftView.{RaftView, mode_of}
-use Rattle.raft_core.proofs.Lives.{grown, leader_room, second_grown, log_up, extended_by}
-use Rattle.raft_core.proofs.Stepping.{takes_command}
+use Rattle.raft_core.proofs.Lives.{grown, leader_room, second_grown, second_behind, extended_by}
+use Rattle.raft_core.proofs.Proposals.{refused_each, hides_each, proposed_each}
 use Rattle.raft_core.proofs.raft.Raft.propose.Goals as goal
+
+pub returns-in_err-weigh-clause-refused : goal.returns-in_err-weigh-clause-refused
+returns-in_err-weigh-clause-refused g c =
+    let is : c.from_residual.result ≡ Err c.in_err-weigh.field-0.0 = search rules in
+    rw is (refused_each g.M.Machine.meaning c.args.self.now c.shown.ensures.shown c.args.command c.in_err-weigh.field-0.0 c.in_err-weigh.ensures.refused)
+
+pub returns-in_err-weigh-clause-unhidden : goal.returns-in_err-weigh-clause-unhidden
+returns-in_err-weigh-clause-unhidden g c =
+    let is : c.from_residual.result ≡ Err c.in_err-weigh.field-0.0 = search rules in
+    rw is (hides_each g.M.Machine.meaning c.args.self.now c.shown.ensures.shown c.args.command c.in_err-weigh.field-0.0 c.in_err-weigh.ensures.refused)
+
+pub returns-in_err-append-clause-unhidden : goal.returns-in_err-append-clause-unhidden
+returns-in_err-append-clause-unhidden g c =
+    let old = c.args.self.now in
+    let weighed = c.in_ok-weigh.ensures in
+    let is : c.from_residual-in_err-append.result ≡ Err refusals.NoMemory = search rules in
+    rw is (hides_each g.M.Machine.meaning old c.shown.ensures.shown c.args.command refusals.NoMemory (weighed.leads, lt-ltb (length old.server.log) MAX (omega (arith, weighed.room))))
+
+pub brought_on-requires-clause-state : goal.brought_on-requires-clause-state
+brought_on-requires-clause-state g c =
+    let i = c.self.inside in
+    rw c.take-ahead.ensures.value (second_behind g.M.Machine.meaning i.log.base i.log.entries _ i.role i.machine i.ahead c.append.new.self.base c.append.new.self.entries c.append.ensures.base c.in_ok-append.ensures.ok c.self.invariant.second)
 
 pub invariant_of-self-2 : goal.invariant_of-self-2
 invariant_of-self-2 g c =
@@ -12,19 +37,18 @@ invariant_of-self-2 g c =
     let i = c.self.inside in
     let weighed = c.in_ok-weigh.ensures in
     let entry : Entry g.row.M-Command.Denot = record { term = i.term; command = c.new.result } in
-    let leads = ap (λ (x : RaftView g.row.M-Command.Denot). is_leader x.server.mode) c.self.view_is ∙ ap (λ (s : Server g.row.M-Command.Denot). is_leader s.mode) weighed.same.server ∙ weighed.leads in
-    let log = sym (log_up i.machine _) ∙ ap (λ (x : RaftView g.row.M-Command.Denot). x.server.log) c.self.view_is ∙ ap (λ (s : Server g.row.M-Command.Denot). s.log) weighed.same.server in
-    let short : length i.log.items + 1 < 2 ^ 40 = omega (arith, ap length log, weighed.room) in
-    let room = leader_room i.machine _ _ i.log.items (i.log.items ++ entry ∷ []) _ _ _ i.role i.votes.items i.next.items i.matched.items leads in
-    let ahead = rw (c.deref.ensures.value, c.push_reserved.ensures.items, c.in_ok-reserve.ensures.items) at c.brought_on.ensures in
-    let second = second_grown m i.machine c.brought_on.result _ _ i.log.items (i.log.items ++ entry ∷ []) _ _ _ i.role i.votes.items i.next.items i.matched.items leads ahead in
-    rw (c.push_reserved.ensures.items, c.in_ok-reserve.ensures.items) (grown m i.me i.size i.term i.log.items entry i.role i.role i.commit i.votes.items i.next.items i.matched.items i.machine i.ahead c.brought_on.result c.self.invariant c.self.invariant.elected short room second)
+    let leads = ap (λ (x : RaftView g.row.M.Denot g.row.M-Command.Denot). is_leader x.server.mode) c.self.view_is ∙ ap (λ (s : Server g.row.M-Command.Denot). is_leader s.mode) weighed.same.server ∙ weighed.leads in
+    let room = leader_room i.machine _ _ i.log.entries (i.log.entries ++ entry ∷ []) _ _ _ i.role i.votes.items i.next.items i.matched.items leads in
+    let ahead = rw (c.append.ensures.base, c.in_ok-append.ensures.ok) at c.brought_on.ensures in
+    let second = second_grown m i.log.base i.machine c.brought_on.result _ _ i.log.entries (i.log.entries ++ entry ∷ []) _ _ _ i.role i.votes.items i.next.items i.matched.items leads ahead in
+    rw (c.append.ensures.base, c.in_ok-append.ensures.ok) (grown m i.me i.size i.term i.log.base i.log.entries entry i.role i.role i.commit i.votes.items i.next.items i.matched.items i.machine i.ahead c.brought_on.result c.self.invariant c.self.invariant.elected room second)
 
 pub returns-clause-taken : goal.returns-clause-taken
 returns-clause-taken g c =
     let i = c.self.inside in
     let weighed = c.in_ok-weigh.ensures in
-    let s : Server g.row.M-Command.Denot = record { term = i.term; vote = i.vote; log = i.log.items; covered = 0; commit = i.commit; known = i.known; mode = mode_of i.role i.votes.items i.next.items i.matched.items } in
-    let grows = rw (c.new.ensures, c.in_ok-reserve.ensures.items) at c.push_reserved.ensures.items in
-    let next = extended_by i.machine s c.args.command c.push_reserved.new.self.items grows ∙ ap (λ (x : RaftView g.row.M-Command.Denot). extended x.server c.args.command) c.self.view_is ∙ ap (λ (x : Server g.row.M-Command.Denot). extended x c.args.command) weighed.same.server in
-    takes_command g.M.Machine.meaning c.args.self.now _ c.args.command weighed.taken next
+    let x : Server g.row.M-Command.Denot = record { term = i.term; vote = i.vote; log = i.log.entries; covered = i.log.base.index; commit = i.commit; known = i.known; mode = mode_of i.role i.votes.items i.next.items i.matched.items } in
+    let grows = rw c.new.ensures at c.in_ok-append.ensures.ok in
+    let next = extended_by i.machine x c.args.command c.append.new.self.entries grows ∙ ap (λ (v : RaftView g.row.M.Denot g.row.M-Command.Denot). extended v.server c.args.command) c.self.view_is ∙ ap (λ (v : Server g.row.M-Command.Denot). extended v c.args.command) weighed.same.server in
+    let base = c.append.ensures.base ∙ ap (λ (v : RaftView g.row.M.Denot g.row.M-Command.Denot). v.base) c.self.view_is ∙ weighed.same.base in
+    proposed_each g.M.Machine.meaning c.args.self.now c.shown.ensures.shown c.args.command _ weighed.taken base (rw c.append.ensures.base next)

@@ -1,15 +1,15 @@
-use Rattle.std.proofs.Common.{arith}
+use Rattle.std.proofs.Common.{◌∙◌, arith}
 use Rattle.raft_core.proofs.Lives.{fresh}
 use Rattle.raft_core.proofs.raft.Raft.revive.Goals as goal
 
-pub invariant_of-self-2 : goal.invariant_of-self-2
-invariant_of-self-2 g c =
+pub invariant_of-self : goal.invariant_of-self
+invariant_of-self g c =
     let i = c.self.inside in
     let kept = c.self.invariant in
     record {
       number = kept.number;
       group = kept.group;
-      short = kept.short;
+      uncovered = kept.uncovered;
       elected = tt;
       room = tt;
       votes_each = kept.votes_each;
@@ -17,6 +17,6 @@ invariant_of-self-2 g c =
       next_least = kept.next_least;
       next_most = kept.next_most;
       matched_each = omega (arith, c.fill.ensures.len, kept.matched_each, i.matched.ok.0, c.fill.new.self.ok.0);
-      live = fresh g.M.Machine.meaning i.log.items _ c.fill.new.self.items c.empty.result c.empty.ensures (c.fill.ensures.items (λ y e. e));
+      live = rw c.covered-self-inside.ensures.value (fresh g.M.Machine.meaning i.log.base i.log.entries _ c.fill.new.self.items _ (omega (arith, c.covered-self-inside.ensures.value, c.covered-self-inside.ensures.within)) (c.in_ok-machine.ensures ∙ c.state.ensures.value) (c.fill.ensures.items (λ y e. e)));
       second = tt;
     }

@@ -9,7 +9,7 @@ returns-then-is_leader-clause-taken g c =
     let m = g.M.Machine.meaning in
     let old = c.args.self.now in
     let waits = leader_waits m old.size old.me old.server c.requires (sym c.is_leader.ensures ∙ c.if-is_leader.true) in
-    steps_by m old old c.args.outbox.now c.args.outbox.now Timeout _ waits (record { server = refl; me = refl; size = refl; sent = sends-none m c.args.outbox.now })
+    steps_by m old old c.args.outbox.now c.args.outbox.now Timeout _ waits (record { server = refl; base = refl; me = refl; size = refl; sent = sends-none m c.args.outbox.now })
 
 pub returns-clause-taken : goal.returns-clause-taken
 returns-clause-taken g c =

@@ -7,6 +7,6 @@ use Rattle.raft_core.proofs.raft.beats.send_to_others.Given as goal
 
 abbrev pub invariant-loop-place : goal.invariant-loop-place
 invariant-loop-place g l = record {
-  sent : Sends g.M.Machine.meaning l.initial.outbox l.outbox (to_others l.me (λ to. append_from l.me l.term l.commit l.log (index_at l.next to) to) l.place);
+  sent : Sends g.M.Machine.meaning l.initial.outbox l.outbox (to_others l.me (λ to. append_from l.me l.term l.commit l.log.entries (index_at l.next to) to) l.place);
   front : KeepsFront l.initial.outbox l.outbox;
 }

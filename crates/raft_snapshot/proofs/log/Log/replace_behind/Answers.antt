@@ -1,5 +1,6 @@
 use Rattle.std.proofs.Common.{refl}
-use Rattle.raft_snapshot.proofs.Blanks.{shown_replaced, on_ok}
+use Rattle.raft_snapshot.proofs.Applies.{on_ok}
+use Rattle.raft_snapshot.proofs.Blanks.{shown_replaced}
 use Rattle.raft_snapshot.proofs.Whole.{whole_replaced}
 use Rattle.raft_snapshot.proofs.log.Log.replace_behind.Goals as goal
 

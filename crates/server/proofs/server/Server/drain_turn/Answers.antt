@@ -1,11 +1,11 @@
-use Rattle.std.proofs.Common.{rules, ◌≡◌, ◌⊎◌, inl, inr, Some, None, Ok, Err, refl, sym, ap, subst, ◌∙◌}
-use Rattle.server.specs.ServerViews.{ServerView, SameMember}
+use Rattle.std.proofs.Common.{rules, ◌≡◌, inl, inr, Some, None, Err, refl, sym, subst, ◌∙◌}
+use Rattle.group_model.specs.Turns.{drain_turn}
+use Rattle.server.specs.ServerViews.{ServerView}
 use Rattle.server.specs.Refusals.{HasOpenDesk}
-use Rattle.server.specs.Inner.Acts.{EachMember, EachDoes, DeclinesOwn, act_of}
-use Rattle.rows.specs.declared.refusal.Refusal.TheVariants as refusals
+use Rattle.server.specs.Inner.Acts.{EachMember}
 use Rattle.group_model.specs.Inputs.{DrainTurn}
 use Rattle.server.proofs.DrainTurns.{drain_is, drain_asks}
-use Rattle.server.proofs.Turns.{turn_taken, turn_declined, turn_rests, stops}
+use Rattle.server.proofs.Turns.{turn_taken, turn_declined, turn_rests, stops, same_view, shut}
 use Rattle.server.proofs.server.Server.drain_turn.Goals as goal
 
 pub returns-in-Some-clause-taken : goal.returns-in-Some-clause-taken
@@ -48,3 +48,9 @@ returns-in_err-command-clause-stopped c =
       | inl none ↦ inl none
       | inr turn ↦ inr (drain_is held c.args.node s is_of (h s is_of) ∙ turn)
     ]))
+
+pub returns-in_err-open_desk-clause-stopped : goal.returns-in_err-open_desk-clause-stopped
+returns-in_err-open_desk-clause-stopped c =
+    let old = c.args.self.now in
+    let is : c.from_residual.result ≡ Err c.in_err-open_desk.field-0.0 = search rules in
+    rw is (λ out. shut old old (DrainTurn c.args.node) (same_view old) out (λ s d. drain_turn s.raft d c.args.node) (λ s. refl) c.in_err-open_desk.field-0.0 c.in_err-open_desk.ensures.memory c.in_err-open_desk.ensures.shut)

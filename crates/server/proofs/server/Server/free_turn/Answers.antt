@@ -1,15 +1,16 @@
-use Rattle.std.proofs.Common.{◌≡◌, true, Option, Some, None, Ok, refl, sym, ap, subst, ◌∙◌}
+use Rattle.std.proofs.Common.{◌≡◌, true, Option, Ok, refl, sym, ap, subst, ◌∙◌, rules, Err}
 use Rattle.std.specs.Prelude.{is_some, option_map}
 use Rattle.rows.specs.declared.evaluation.EvalId.{EvalId}
 use Rattle.rows.specs.declared.command.Command.TheVariants as commands
 use Rattle.rows.specs.declared.command.StatusChange.TheVariants as changes
 use Rattle.group_model.specs.Inputs.{FreeTurn}
+use Rattle.group_model.specs.Turns.{free_turn}
 use Rattle.server.specs.ServerViews.{ServerView}
 use Rattle.server.specs.Refusals.{HasOpenDesk}
 use Rattle.server.specs.Inner.Acts.{EachMember, proposes_if_any}
 use Rattle.server.proofs.DeskCalls.{over_blocked}
 use Rattle.server.proofs.Serving.{act_taken}
-use Rattle.server.proofs.Turns.{turn_taken, turn_declined, turn_rests, free_is}
+use Rattle.server.proofs.Turns.{turn_taken, turn_declined, turn_rests, free_is, same_view, shut}
 use Rattle.server.proofs.server.Server.free_turn.Goals as goal
 
 pub returns-in-Some-clause-taken : goal.returns-in-Some-clause-taken
@@ -39,3 +40,9 @@ returns-in-None-clause-taken c =
     let h = subst (λ (v : ServerView). EachMember v (λ s. HasOpenDesk s)) (sym e) c.in_ok-open_desk.ensures.open in
     let opened = subst (λ (v : ServerView). is_some v.desk ≡ true) (sym e) c.in_ok-open_desk.ensures.serves.is_open in
     rw (← e) (turn_rests held mid FreeTurn (λ s is. free_is held s is (h s is) c.in_ok-eval.field-0 (c.in_ok-eval.ensures.value s.raft is.raft (over_blocked s.raft held.desk opened is.led)) ∙ ap (λ (id : Option EvalId). act_taken (proposes_if_any s.desk (option_map (λ i. commands.EvalStatus i changes.Pending) id))) c.in-None.is) (record { raft = c.first_freed.ensures.same; desk = refl }))
+
+pub returns-in_err-open_desk-clause-stopped : goal.returns-in_err-open_desk-clause-stopped
+returns-in_err-open_desk-clause-stopped c =
+    let old = c.args.self.now in
+    let is : c.from_residual.result ≡ Err c.in_err-open_desk.field-0.0 = search rules in
+    rw is (λ out. shut old old (FreeTurn) (same_view old) out (λ s d. Ok (free_turn s.raft d)) (λ s. refl) c.in_err-open_desk.field-0.0 c.in_err-open_desk.ensures.memory c.in_err-open_desk.ensures.shut)

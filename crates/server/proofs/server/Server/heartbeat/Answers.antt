@@ -16,4 +16,4 @@ returns-in-Ok-clause-taken c =
     let h = subst (λ (v : ServerView). EachMember v (λ s. HasOpenDesk s)) (sym e) c.in_default.ensures.open in
     let call = rw c.node_of.ensures at c.in-Ok.ensures.ok in
     subst (λ (v : ServerView). OnOk c.send_told-in-Ok.result (EachDoes v (client_act v c.args.client Heartbeat) new c.args.outbox.now (record { frames = c.send_told-in-Ok.new.frames; work = c.args.outbox.now.work }))) e
-    (beat_told held new c.args.outbox.now (record { frames = c.send_told-in-Ok.new.frames; work = c.args.outbox.now.work }) c.args.client refl c.send_told-in-Ok.result h (record { me = refl; size = refl; server = refl }) call (rw me at c.send_told-in-Ok.ensures.sent))
+    (beat_told held new c.args.outbox.now (record { frames = c.send_told-in-Ok.new.frames; work = c.args.outbox.now.work }) c.args.client refl c.send_told-in-Ok.result h (record { me = refl; size = refl; base = refl; server = refl }) call (rw me at c.send_told-in-Ok.ensures.sent))

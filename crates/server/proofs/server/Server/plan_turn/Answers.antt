@@ -1,4 +1,4 @@
-use Rattle.std.proofs.Common.{◌≡◌, true, refl, sym, ap, subst, ◌∙◌}
+use Rattle.std.proofs.Common.{◌≡◌, true, sym, ap, subst, ◌∙◌}
 use Rattle.server.specs.ServerViews.{ServerView}
 use Rattle.server.specs.Refusals.{HasOpenDesk}
 use Rattle.server.specs.Inner.Acts.{EachMember, EachDoes, act_of}

@@ -1,14 +1,15 @@
-use Rattle.std.proofs.Common.{◌≡◌, true, Option, Some, None, Ok, refl, sym, ap, subst, ◌∙◌}
-use Rattle.std.specs.Prelude.{is_some, option_map}
+use Rattle.std.proofs.Common.{◌≡◌, Option, Ok, refl, sym, ap, subst, ◌∙◌, rules, Err}
+use Rattle.std.specs.Prelude.{option_map}
 use Rattle.rows.specs.declared.evaluation.EvalId.{EvalId}
 use Rattle.rows.specs.declared.command.Command.TheVariants as commands
 use Rattle.rows.specs.declared.command.StatusChange.TheVariants as changes
 use Rattle.group_model.specs.Inputs.{Reap}
+use Rattle.group_model.specs.Turns.{reap}
 use Rattle.server.specs.ServerViews.{ServerView}
 use Rattle.server.specs.Refusals.{HasOpenDesk}
 use Rattle.server.specs.Inner.Acts.{EachMember, proposes_if_any}
 use Rattle.server.proofs.Serving.{act_taken}
-use Rattle.server.proofs.Turns.{turn_taken, turn_declined, turn_rests, reap_is}
+use Rattle.server.proofs.Turns.{turn_taken, turn_declined, turn_rests, reap_is, same_view, shut}
 use Rattle.server.proofs.server.Server.reap.Goals as goal
 
 pub returns-in-Some-clause-taken : goal.returns-in-Some-clause-taken
@@ -35,3 +36,9 @@ returns-in-None-clause-taken c =
     let mid : ServerView = record { raft = c.first_reaped.new.raft; desk = held.desk } in
     let h = subst (λ (v : ServerView). EachMember v (λ s. HasOpenDesk s)) (sym e) c.in_ok-open_desk.ensures.open in
     rw (← e) (turn_rests held mid Reap (λ s is. reap_is held s is (h s is) c.in_ok-eval.field-0 (c.in_ok-eval.ensures.value s.raft is.raft) ∙ ap (λ (id : Option EvalId). act_taken (proposes_if_any s.desk (option_map (λ i. commands.EvalStatus i changes.Failed) id))) c.in-None.is) (record { raft = c.first_reaped.ensures.same; desk = refl }))
+
+pub returns-in_err-open_desk-clause-stopped : goal.returns-in_err-open_desk-clause-stopped
+returns-in_err-open_desk-clause-stopped c =
+    let old = c.args.self.now in
+    let is : c.from_residual.result ≡ Err c.in_err-open_desk.field-0.0 = search rules in
+    rw is (λ out. shut old old (Reap) (same_view old) out (λ s d. Ok (reap s.raft d)) (λ s. refl) c.in_err-open_desk.field-0.0 c.in_err-open_desk.ensures.memory c.in_err-open_desk.ensures.shut)

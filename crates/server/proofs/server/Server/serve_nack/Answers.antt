@@ -13,4 +13,4 @@ returns-in-Ok-clause-taken c =
     let new : ServerView = record { raft = held.raft; desk = c.nack.new.self } in
     let h = subst (λ (v : ServerView). EachMember v (λ s. HasOpenDesk s)) (sym e) c.in_default.ensures.open in
     subst (λ (v : ServerView). EachDoes v (request_act v c.args.from (requests.Nack c.args.eval c.args.token)) new c.args.outbox.now c.args.outbox.now) e
-    (nack_done held new c.args.outbox.now c.args.outbox.now c.args.from h (record { me = refl; size = refl; server = refl }) c.args.eval c.args.token c.in-Ok.ensures.ok refl)
+    (nack_done held new c.args.outbox.now c.args.outbox.now c.args.from h (record { me = refl; size = refl; base = refl; server = refl }) c.args.eval c.args.token c.in-Ok.ensures.ok refl)

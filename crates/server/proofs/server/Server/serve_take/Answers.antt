@@ -1,4 +1,4 @@
-use Rattle.std.proofs.Common.{◌≡◌, refl, sym, subst, ap, ◌∙◌}
+use Rattle.std.proofs.Common.{◌≡◌, refl, sym, subst}
 use Rattle.std.specs.Prelude.{OnOk}
 use Rattle.rows.specs.declared.worker.WorkerRequest.TheVariants as requests
 use Rattle.server.specs.ServerViews.{ServerView}
@@ -15,4 +15,4 @@ returns-in-Ok-clause-taken c =
     let new : ServerView = record { raft = held.raft; desk = c.deliver.new.self } in
     let h = subst (λ (v : ServerView). EachMember v (λ s. HasOpenDesk s)) (sym e) c.in_default.ensures.open in
     subst (λ (v : ServerView). OnOk c.send_response.result (EachDoes v (request_act v c.args.from requests.Take) new c.args.outbox.now (record { frames = c.send_response.new.frames; work = c.args.outbox.now.work }))) e
-    (take_sent held new c.args.outbox.now (record { frames = c.send_response.new.frames; work = c.args.outbox.now.work }) c.args.from h (record { me = refl; size = refl; server = refl }) c.last.result c.in-Ok.given c.send_response.result (λ s is. c.last.ensures.value s.raft is.raft) c.in-Ok.ensures.ok refl (rw me at c.send_response.ensures.sent))
+    (take_sent held new c.args.outbox.now (record { frames = c.send_response.new.frames; work = c.args.outbox.now.work }) c.args.from h (record { me = refl; size = refl; base = refl; server = refl }) c.last.result c.in-Ok.given c.send_response.result (λ s is. c.last.ensures.value s.raft is.raft) c.in-Ok.ensures.ok refl (rw me at c.send_response.ensures.sent))

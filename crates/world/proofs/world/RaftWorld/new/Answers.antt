@@ -3,16 +3,19 @@ use Rattle.std.proofs.lemmas.Bool.{MatchBool-at_true}
 use Rattle.world.specs.Inner.HistoryView.{HistoryView}
 use Rattle.rows.specs.GroupSizes.{IsGroup}
 use Rattle.world.specs.WorldView.{WorldView}
-use Rattle.world.proofs.Begins.{Begun, begun_next, begun_reached, begun_represents}
+use Rattle.world.proofs.Begins.{Begun, begun_none, begun_next, begun_reached, begun_represents}
 use Rattle.world.proofs.world.RaftWorld.new.Goals as goal
 
 pub invariant_of-result : goal.invariant_of-result
 invariant_of-result g c =
     let all : c.loop-place.place ≡ c.args.n = omega arith in
-    let seen : WorldView g.row.M-Command.Denot = record { servers = c.loop-place.servers.items; sent = c.new.result.sent; trace = c.new.result.trace; chain = c.new.result.chain } in
+    let seen : WorldView g.row.M.Denot g.row.M-Command.Denot = record { servers = c.loop-place.servers.items; sent = c.new.result.sent; trace = c.new.result.trace; chain = c.new.result.chain } in
     let begun : Begun g.M.Machine.meaning c.args.n c.args.n c.loop-place.servers.items = subst (λ (k : ℕ). Begun g.M.Machine.meaning c.args.n k c.loop-place.servers.items) all c.loop-place.invariant in
     let size : IsGroup c.args.n = MatchBool-at_true _ _ c.if-not-is_group_size.false c.is_group_size.ensures.both in
     begun_reached g.M.Machine.meaning c.args.n seen size begun (ap (λ (x : HistoryView g.row.M-Command.Denot). x.sent) c.new.ensures) (ap (λ (x : HistoryView g.row.M-Command.Denot). x.trace) c.new.ensures) (ap (λ (x : HistoryView g.row.M-Command.Denot). x.chain) c.new.ensures)
+
+pub loop-place-init : goal.loop-place-init
+loop-place-init g c = rw c.new-servers.ensures.items (begun_none g.M.Machine.meaning c.args.n)
 
 pub loop-place-preserved : goal.loop-place-preserved
 loop-place-preserved g c =
@@ -22,7 +25,7 @@ loop-place-preserved g c =
 pub returns-clause-ok : goal.returns-clause-ok
 returns-clause-ok g c =
     let all : c.loop-place.place ≡ c.args.n = omega arith in
-    let seen : WorldView g.row.M-Command.Denot = record { servers = c.loop-place.servers.items; sent = c.new.result.sent; trace = c.new.result.trace; chain = c.new.result.chain } in
+    let seen : WorldView g.row.M.Denot g.row.M-Command.Denot = record { servers = c.loop-place.servers.items; sent = c.new.result.sent; trace = c.new.result.trace; chain = c.new.result.chain } in
     let begun : Begun g.M.Machine.meaning c.args.n c.args.n c.loop-place.servers.items = subst (λ (k : ℕ). Begun g.M.Machine.meaning c.args.n k c.loop-place.servers.items) all c.loop-place.invariant in
     let size : IsGroup c.args.n = MatchBool-at_true _ _ c.if-not-is_group_size.false c.is_group_size.ensures.both in
     record {

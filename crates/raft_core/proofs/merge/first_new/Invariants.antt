@@ -1,9 +1,0 @@
-use Rattle.std.proofs.Common.{◌≡◌, ◌+◌, ◌≤◌, length, drop}
-use Rattle.raft_model.specs.Logs.{merge}
-use Rattle.raft_core.proofs.merge.first_new.Given as goal
-
-abbrev pub invariant-loop-i : goal.invariant-loop-i
-invariant-loop-i g l = record {
-  within : l.prev + l.i ≤ length l.log;
-  same : merge l.commit l.prev l.log l.entries ≡ merge l.commit (l.prev + l.i) l.log (drop l.i l.entries);
-}
