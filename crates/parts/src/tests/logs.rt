@@ -1,8 +1,11 @@
 //! Logs of which a snapshot covers the first entries: each call, with entries behind those and with
 //! none.
+ghost use Rattle.std.specs.Prelude.{◌≡◌, ◌≤◌, length, take, IfSome};
+ghost use Rattle.raft_snapshot.specs.Bases.{state_from};
+
 use crate::tests::states::numbers;
 use machine::{Amount, Coded, Entry, Machine, Tally, TallyCommand};
-use raft_snapshot::{Log, Snapshot, Stable};
+use raft_snapshot::{Log, Snapshot, Stable, adopt, apply_range, brought_on, projection};
 use rows::{Index, ServerId, Term};
 use std::alloc::Global;
 
@@ -15,6 +18,14 @@ use std::alloc::Global;
 // T`: the entry at I has term T. `lost I`: its term is not known. `holds I T`, `without I T`:
 // whether there is an entry of that term. `behind I N T`: N entries are behind I, the first of term
 // T. `takes I N`, `refuses I N`: whether a snapshot of I entries has a state of N commands.
+//
+// C entries are committed, those that are covered among them. `stays C I T`, `moves C I T`:
+// whether what stands at I stays where a leader names term T there. `state C S`: the machine after
+// the first C has the sum S. `project C S`: a fork of that one, brought on to the end of the log,
+// has the sum S, and the machine itself is as it was. `brought S`: the machine after all entries
+// but the last, brought on by that one, has the sum S. `adopt C R P T`: two entries of term T come
+// behind P, which add 1 and 2, and R are committed then; the machine is the one after the first R,
+// as `state` has it.
 const FROM_NOTHING: &str = "\
 is 0 0 0 0
 term 0 0
@@ -109,6 +120,141 @@ refuses 0 0
 refuses 1 2
 refuses 2 1";
 
+// Nothing is covered. Entries come into an empty log, in place of others, and late. Where entries
+// of their terms are there already, those stay, with their own amounts.
+const ADOPTED_FROM_NOTHING: &str = "\
+state 0 0
+project 0 0
+stays 0 0 5
+moves 0 1 1
+moves 0 1 0
+adopt 0 0 0 2
+is 2 2 0 0
+state 0 0
+state 1 1
+state 2 3
+project 0 3
+brought 3
+stays 1 0 9
+stays 1 1 9
+stays 1 2 2
+moves 1 2 1
+moves 1 3 2
+stays 0 1 2
+moves 0 1 9
+add 2 40
+add 3 300
+add 3 500
+state 3 43
+state 4 343
+state 5 843
+project 1 843
+brought 843
+adopt 0 3 2 4
+is 4 4 0 0
+term 2 2
+term 3 4
+state 2 3
+state 3 4
+state 4 6
+project 3 6
+brought 6
+adopt 3 4 2 4
+is 4 4 0 0
+state 4 6
+add 5 60
+add 5 200
+adopt 4 6 4 5
+is 6 5 0 0
+state 5 66
+state 6 266
+project 4 266
+project 6 266
+brought 266
+adopt 6 6 0 9
+is 6 5 0 0
+state 6 266
+cut 1
+is 0 0 0 0";
+
+// The snapshot covers twelve entries, with none behind it, and then with some. What comes for a
+// covered or a committed entry is passed over, whatever its term.
+const ADOPTED_OVER_A_BASE: &str = "\
+install 12 7 100
+is 12 7 12 100
+state 12 100
+project 12 100
+stays 12 12 1
+stays 12 5 1
+moves 12 13 7
+moves 12 13 0
+adopt 12 12 3 9
+is 12 7 12 100
+state 12 100
+adopt 12 12 10 9
+is 12 7 12 100
+state 12 100
+adopt 12 12 11 8
+is 13 8 12 100
+state 12 100
+state 13 102
+project 12 102
+brought 102
+add 8 30
+add 9 400
+add 9 300
+is 16 9 12 100
+state 14 132
+state 15 532
+state 16 832
+project 12 832
+project 13 832
+project 16 832
+brought 832
+stays 13 12 1
+stays 13 13 1
+stays 13 14 8
+moves 13 14 9
+stays 13 15 9
+moves 13 15 8
+moves 13 17 9
+moves 13 17 0
+stays 12 13 8
+moves 12 13 7
+adopt 12 13 12 8
+is 16 9 12 100
+state 13 102
+state 16 832
+adopt 13 14 13 8
+is 15 8 12 100
+state 14 132
+state 15 134
+project 14 134
+brought 134
+add 10 50
+state 16 184
+adopt 14 14 15 11
+is 17 11 12 100
+state 14 132
+state 17 137
+adopt 14 17 15 14
+is 17 14 12 100
+state 15 134
+state 16 135
+state 17 137
+project 14 137
+project 17 137
+brought 137
+add 14 5
+add 15 70
+adopt 17 19 17 14
+is 19 14 12 100
+state 18 142
+state 19 144
+adopt 19 19 4 6
+is 19 14 12 100
+state 19 144";
+
 fn tally(alloc: Global, count: usize, sum: usize) -> Option<Tally> {
     let mut text = Vec::new(alloc);
     if text
@@ -168,7 +314,7 @@ fn replaced(log: &mut Log<Tally>, alloc: Global, index: usize, term: usize, amou
         && log.replace_behind(index, more).is_ok()
 }
 
-fn brought_on(state: &mut Tally, entries: &[Entry<Coded<Tally>>]) -> bool {
+fn bring_on(state: &mut Tally, entries: &[Entry<Coded<Tally>>]) -> bool {
     for entry in entries {
         if state.count() > 1_000_000 || state.apply(entry.command.command()).is_err() {
             return false;
@@ -189,7 +335,7 @@ fn compacted(log: &mut Log<Tally>, index: usize) -> bool {
     let Some(part) = log.behind(covered).get(..(index - covered) as usize) else {
         return false;
     };
-    if !brought_on(&mut state, part) || state.count() != index {
+    if !bring_on(&mut state, part) || state.count() != index {
         return false;
     }
     log.compact(place, state);
@@ -237,6 +383,94 @@ fn is_behind(log: &Log<Tally>, index: usize, count: usize, term: usize) -> bool 
     rest.len() == count && first == term as u64
 }
 
+fn stays(log: &Log<Tally>, commit: usize, index: usize, term: usize) -> Option<bool> {
+    let term = Term::new(term as u64)?;
+    if (commit as u64) < log.covered().get() {
+        return None;
+    }
+    Some(log.stays(commit as u64, index as u64, term))
+}
+
+// The machine after so many entries; none where they are fewer than are covered, or than there are.
+fn state_at<M: Machine>(log: &Log<M>, to: u64) -> Option<M>
+    ensures covered { IfSome result (λ m. log.now.base.index ≤ to) }
+    ensures within { IfSome result (λ m. to ≤ length log.now.entries) }
+    ensures state { IfSome result (λ m. m
+        ≡ state_from M.meaning log.now.base (take to log.now.entries)) }
+{
+    let covered = log.covered().get();
+    if to < covered || to > log.last().get() {
+        return None;
+    }
+    let Ok(mut state) = log.state().fork() else {
+        return None;
+    };
+    match apply_range(&mut state, log, covered, to) {
+        Ok(()) => Some(state),
+        Err(_) => None,
+    }
+}
+
+fn has(state: &Tally, count: u64, sum: usize) -> bool {
+    state.count() == count && usize::from(state.sum()) == sum
+}
+
+fn is_at(log: &Log<Tally>, to: usize, sum: usize) -> bool {
+    match state_at(log, to as u64) {
+        Some(state) => has(&state, to as u64, sum),
+        None => false,
+    }
+}
+
+fn projects(log: &Log<Tally>, commit: usize, sum: usize) -> bool {
+    let commit = commit as u64;
+    let Some(state) = state_at(log, commit) else {
+        return false;
+    };
+    let before = usize::from(state.sum());
+    match projection(&state, commit, log) {
+        Ok(ahead) => has(&ahead, log.last().get(), sum) && has(&state, commit, before),
+        Err(_) => false,
+    }
+}
+
+fn brings(log: &Log<Tally>, sum: usize) -> bool {
+    let last = log.last().get();
+    if last <= log.covered().get() {
+        return false;
+    }
+    match brought_on(state_at(log, last - 1), log) {
+        Some(state) => has(&state, last, sum),
+        None => false,
+    }
+}
+
+fn adopted(
+    log: &mut Log<Tally>,
+    alloc: Global,
+    commit: usize,
+    risen: usize,
+    prev: usize,
+    term: usize,
+) -> bool {
+    let (commit, risen, prev) = (commit as u64, risen as u64, prev as u64);
+    let Some(mut state) = state_at(log, commit) else {
+        return false;
+    };
+    let Ok(entries) = vec![in alloc; entry(term, 1), entry(term, 2)] else {
+        return false;
+    };
+    if prev > log.last().get() || prev + 2 >= Index::LIMIT {
+        return false;
+    }
+    if risen < commit || risen > commit.max(prev + 2) {
+        return false;
+    }
+    adopt(log, &mut state, commit, risen, prev, entries).is_ok()
+        && state.count() == risen
+        && is_at(log, risen as usize, usize::from(state.sum()))
+}
+
 fn turn(log: &mut Log<Tally>, alloc: Global, line: &str) -> bool {
     let (head, rest) = line.split_once(' ').unwrap_or((line, ""));
     let [a, b, c, d] = numbers(rest);
@@ -254,6 +488,12 @@ fn turn(log: &mut Log<Tally>, alloc: Global, line: &str) -> bool {
         "behind" => is_behind(log, a, b, c),
         "takes" => snapshot(alloc, a, 1, b, 0).is_some(),
         "refuses" => snapshot(alloc, a, 1, b, 0).is_none(),
+        "stays" => stays(log, a, b, c) == Some(true),
+        "moves" => stays(log, a, b, c) == Some(false),
+        "state" => is_at(log, a, b),
+        "project" => projects(log, a, b),
+        "brought" => brings(log, a),
+        "adopt" => adopted(log, alloc, a, b, c, d),
         _ => false,
     }
 }
@@ -262,7 +502,13 @@ fn turn(log: &mut Log<Tally>, alloc: Global, line: &str) -> bool {
 fn logs_are_as_they_are_played(rt: HostRuntime) {
     let alloc = rt.alloc();
     let (_, _, mut log) = Stable::new(alloc).into_parts();
-    for table in [FROM_NOTHING, CUT_AND_REPLACED, INSTALLED] {
+    for table in [
+        ADOPTED_FROM_NOTHING,
+        FROM_NOTHING,
+        CUT_AND_REPLACED,
+        INSTALLED,
+        ADOPTED_OVER_A_BASE,
+    ] {
         for line in table.lines() {
             assert!(rt; turn(&mut log, alloc, line), "{line}");
         }
@@ -270,5 +516,5 @@ fn logs_are_as_they_are_played(rt: HostRuntime) {
     let vote = ServerId::from_number(2);
     let stored = Stable::from_parts(Term::ZERO.next(), vote, log);
     let (term, voted, log) = stored.into_parts();
-    assert!(rt; term.get() == 1 && voted == vote && is_as(&log, 10, 4, 10, 36));
+    assert!(rt; term.get() == 1 && voted == vote && is_as(&log, 19, 14, 12, 100));
 }
