@@ -72,6 +72,8 @@ The file is a JSON object with exactly these keys:
                 server S or client C stops, and keeps what it stored
     restart S, restart cC
                 server S or client C begins again from what it stored
+    compact S   server S makes a snapshot of all that it has applied, in place of
+                these entries
     flow        messages in flight come, in the order that \"order\" says, until
                 none is left or 10000 were taken; \"drop\" and \"repeat\" say
                 how many are lost or come again

@@ -1,15 +1,19 @@
 -- The frames of what servers and clients of a group send each other: of the log's messages, and of
 -- those beside them.
-use Rattle.std.specs.Prelude.{◌≡◌, ℕ, Option, Some, None, List, ◌++◌}
+use Rattle.std.specs.Prelude.{◌≡◌, ℕ, Option, Some, None, List, ◌++◌, length}
 use Rattle.std.specs.List.{AllZip}
 use Rattle.rows.specs.declared.actor.Actor.{Actor}
 use Rattle.rows.specs.declared.actor.Actor.TheVariants.{Server, Client}
 use Rattle.rows.specs.declared.command.Command.{Command}
 use Rattle.machine_model.specs.Meaning.{Meaning}
+use Rattle.machine_model.specs.declared.entry.Entry.{Entry}
 use Rattle.wire.specs.Messages.{Message as WireMessage}
 use Rattle.wire.specs.Frames.{Frame, MessageFits, IsFrame, message_text}
 use Rattle.wire.specs.declared.body.Body.{Body}
 use Rattle.wire.specs.declared.body.Body.TheVariants as bodies
+use Rattle.raft_model.specs.Logs.{last_term, state_after}
+use Rattle.raft_model.specs.Messages.{Message, Install}
+use Rattle.raft_model.specs.Messages.{Body as Said}
 use Rattle.raft_core.specs.Frames.{IsFrameOf}
 use Rattle.group_model.specs.Messages.{GroupMessage, Raft, Service, ServiceMessage, BetweenServers, ToServer, ToClient, Asks, Answers, Register, Heartbeat, Pull, ReportStates, Listing, Told}
 
@@ -65,16 +69,42 @@ pub record SendsGroup {S : Type 0} (m : Meaning S Command) (before after : List 
 
 -- ---- the laws
 
--- a frame is of one message at most
+-- Two Installs of one frame, which has of the entries that they cover the number, the last one's
+-- term and the state after them: the entries themselves may be others.
+pub record SameInstall {S C : Type 0} (m : Meaning S C) (x y : Message C) (a b : List (Entry C)) : Type 0 where
+  pub from : x.from ≡ y.from
+  pub to : x.to ≡ y.to
+  pub term : x.term ≡ y.term
+  pub index : length a ≡ length b
+  pub last : last_term a ≡ last_term b
+  pub state : state_after m a ≡ state_after m b
+
+-- two messages of the log, of these bodies, are one, but for the entries that Installs cover
+abbrev pub SameSaid : {S C : Type 0} → Meaning S C → Message C → Message C → Said C → Said C → Type 0
+SameSaid m x y (Install a) (Install b) = SameInstall m x y a b
+SameSaid m x y _ _ = x ≡ y
+
+-- two messages of the group are
+abbrev pub SameButCovered : {S : Type 0} → Meaning S Command → GroupMessage → GroupMessage → Type 0
+SameButCovered m (Raft x) (Raft y) = SameSaid m x y x.body y.body
+SameButCovered m x y = x ≡ y
+
+-- a frame is of one message at most, but for the entries that an Install covers
 abbrev pub FramesAreOfOne : {S : Type 0} → Meaning S Command → Type 0
 FramesAreOfOne m =
     (bytes : List ℕ) (x y : GroupMessage)
-    → IsGroupFrame m bytes x → IsGroupFrame m bytes y → x ≡ y
+    → IsGroupFrame m bytes x → IsGroupFrame m bytes y → SameButCovered m x y
 
--- a frame that can be read is of some message
+-- a body is not that of an Install
+abbrev pub IsNoInstall : {S C : Type 0} → Body S C → Type 0
+IsNoInstall (bodies.Install i) = ⊥
+IsNoInstall _ = Unit {0}
+
+-- A frame that can be read is of some message, but that an Install may have a state that no entries
+-- lead to: its frame is of no message.
 abbrev pub FramesAreOfSome : {S : Type 0} → Meaning S Command → Type 0
 FramesAreOfSome {S} m =
-    (bytes : List ℕ) (read : WireMessage S Command) → IsFrame m read bytes
+    (bytes : List ℕ) (read : WireMessage S Command) → IsFrame m read bytes → IsNoInstall read.body
     → (message : GroupMessage) × IsGroupFrame m bytes message
 
 -- a message has one frame at most

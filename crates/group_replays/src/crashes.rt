@@ -1,5 +1,5 @@
 //! The long worked row, and behind one of its events a crash and a restart of one actor: of every
-//! actor behind every event.
+//! actor behind every event; and of every server that compacts its log before.
 use client_agent::ClientInput;
 use plain_check::{Fault, Looks};
 use rows::{Actor, ClientId, NoMemory, Refusal, ServerId};
@@ -13,10 +13,18 @@ use world::{Event, World};
 // So many of the row's events lead to fewer applied entries than all of them.
 const FIRST: usize = 30;
 
-// An actor goes down, and comes back.
-fn push_crash(alloc: Global, actor: &Actor, out: &mut Vec<Event>) -> Result<(), NoMemory> {
+// An actor goes down, and comes back; a server may compact its log before.
+fn push_crash(
+    alloc: Global,
+    actor: &Actor,
+    compacts: bool,
+    out: &mut Vec<Event>,
+) -> Result<(), NoMemory> {
     match actor {
         Actor::Server(me) => {
+            if compacts {
+                out.push(Event::server(alloc, *me, ServerInput::Compact)?)?;
+            }
             out.push(Event::server(alloc, *me, ServerInput::Crash)?)?;
             out.push(Event::server(alloc, *me, ServerInput::Restart)?)?;
         }
@@ -29,12 +37,18 @@ fn push_crash(alloc: Global, actor: &Actor, out: &mut Vec<Event>) -> Result<(), 
 }
 
 // The row's events, and an actor's crash and restart behind the one at a place.
-fn list(alloc: Global, row: &Transcript, at: usize, actor: &Actor) -> Result<Vec<Event>, NoMemory> {
+fn list(
+    alloc: Global,
+    row: &Transcript,
+    at: usize,
+    actor: &Actor,
+    compacts: bool,
+) -> Result<Vec<Event>, NoMemory> {
     let mut list = Vec::new(alloc);
     for (place, event) in row.events.iter().enumerate() {
         list.push(event.try_clone(alloc)?)?;
         if place == at {
-            push_crash(alloc, actor, &mut list)?;
+            push_crash(alloc, actor, compacts, &mut list)?;
         }
     }
     Ok(list)
@@ -71,15 +85,22 @@ fn found(
     row: &Transcript,
     at: usize,
     actor: &Actor,
+    compacts: bool,
 ) -> Result<Option<Fault>, Refusal> {
-    let events = list(alloc, row, at, actor)?;
+    let events = list(alloc, row, at, actor, compacts)?;
     let world = World::run(alloc, row.servers, &row.nodes, &events)?;
     fault_of(alloc, row, &events, &world)
 }
 
 // Says what is wrong with it; 1 where nothing is.
-fn look(rt: &HostRuntime, row: &Transcript, at: usize, actor: &Actor) -> io::Result<u64> {
-    match found(rt.alloc(), row, at, actor) {
+fn look(
+    rt: &HostRuntime,
+    row: &Transcript,
+    at: usize,
+    actor: &Actor,
+    compacts: bool,
+) -> io::Result<u64> {
+    match found(rt.alloc(), row, at, actor, compacts) {
         Ok(None) => return Ok(1),
         Ok(Some(fault)) => print!(rt; "{fault:?}")?,
         Err(refusal) => print!(rt; "refused {}", refusal.number())?,
@@ -88,21 +109,30 @@ fn look(rt: &HostRuntime, row: &Transcript, at: usize, actor: &Actor) -> io::Res
         Actor::Server(me) => print!(rt; " where server {} crashes", me.number())?,
         Actor::Client(me) => print!(rt; " where client {} crashes", me.number())?,
     }
+    if compacts {
+        print!(rt; ", compacted,")?;
+    }
     println!(rt; " behind event {}", at.saturating_add(1))?;
     Ok(0)
 }
 
-// Each actor crashes behind the event at a place. In how many of the lists nothing is wrong.
-fn look_at(rt: &HostRuntime, row: &Transcript, at: usize) -> io::Result<u64> {
+// Each server crashes behind the event at a place. In how many of the lists nothing is wrong.
+fn servers_at(rt: &HostRuntime, row: &Transcript, at: usize, compacts: bool) -> io::Result<u64> {
     let mut good: u64 = 0;
     for place in 0..row.servers {
         if let Some(me) = ServerId::from_place(place) {
-            good = good.saturating_add(look(rt, row, at, &Actor::Server(me))?);
+            good = good.saturating_add(look(rt, row, at, &Actor::Server(me), compacts)?);
         }
     }
+    Ok(good)
+}
+
+// So does each client.
+fn clients_at(rt: &HostRuntime, row: &Transcript, at: usize) -> io::Result<u64> {
+    let mut good: u64 = 0;
     for node in &row.nodes {
         if let Some(me) = ClientId::from_number(node.number.number()) {
-            good = good.saturating_add(look(rt, row, at, &Actor::Client(me))?);
+            good = good.saturating_add(look(rt, row, at, &Actor::Client(me), false)?);
         }
     }
     Ok(good)
@@ -119,21 +149,25 @@ fn found_of_first(alloc: Global, row: &Transcript) -> Result<Option<Fault>, Refu
 }
 
 /// Plays the events of `long-run.transcript`, with a crash and a restart of each actor behind each
-/// of them, and says what is wrong; and in how many of these lists nothing is. Then it says what is
-/// found of the row's group by its first events alone.
+/// of them, and of each server once more that compacts its log before, and says what is wrong; and
+/// in how many of these lists nothing is. Then it says what is found of the row's group by its
+/// first events alone.
 pub(crate) fn crashes(rt: &HostRuntime) -> io::Result<()> {
     let text = fs::read(rt, "long-run.transcript")?;
     let Ok(row) = read(rt.alloc(), &text) else {
         return println!(rt; "no transcript");
     };
-    let mut good: u64 = 0;
+    let (mut good, mut compacted): (u64, u64) = (0, 0);
     for at in 0..row.events.len() {
-        good = good.saturating_add(look_at(rt, &row, at)?);
+        good = good.saturating_add(servers_at(rt, &row, at, false)?);
+        good = good.saturating_add(clients_at(rt, &row, at)?);
+        compacted = compacted.saturating_add(servers_at(rt, &row, at, true)?);
     }
     println!(rt;
         "a crash behind each of {} events: {good} lists in which nothing is wrong",
         row.events.len()
     )?;
+    println!(rt; "of servers that compact before: {compacted} lists in which nothing is wrong")?;
     match found_of_first(rt.alloc(), &row) {
         Ok(found) => println!(rt; "by the first {FIRST} events alone: {found:?}"),
         Err(refusal) => println!(rt; "refused {}", refusal.number()),

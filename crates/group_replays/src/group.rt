@@ -142,7 +142,7 @@ fn play(rt: &HostRuntime, world: &mut World, played: &Scenario) -> io::Result<bo
 }
 
 // Whether two servers have the same term, log's end, and number of applied entries.
-fn are_alike(one: &Server, other: &Server) -> bool {
+pub(crate) fn are_alike(one: &Server, other: &Server) -> bool {
     if one.term() != other.term() || one.last() != other.last() {
         return false;
     }
@@ -150,7 +150,7 @@ fn are_alike(one: &Server, other: &Server) -> bool {
 }
 
 // Whether two replicated states are the same, or neither is there.
-fn are_same(alloc: Global, one: Option<&Cluster>, other: Option<&Cluster>) -> bool {
+pub(crate) fn are_same(alloc: Global, one: Option<&Cluster>, other: Option<&Cluster>) -> bool {
     let (Some(one), Some(other)) = (one, other) else {
         return one.is_none() && other.is_none();
     };

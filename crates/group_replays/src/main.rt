@@ -1,13 +1,16 @@
-//! Plays groups, lists of events, lines and frames by the calls of the libraries, and says what
-//! comes of each. What has to come of it stands in `stdout`.
+//! Plays groups, lists of events, lines, frames and stored texts by the calls of the libraries, and
+//! says what comes of each. What has to come of it stands in `stdout`.
 #![tactic(auto)]
 
+mod apart;
 mod crashes;
 mod frames;
 mod group;
 mod lines;
 mod requests;
+mod samples;
 mod snapshots;
+mod stored;
 
 use std::io;
 
@@ -19,5 +22,7 @@ fn main(rt: HostRuntime) -> io::Result<()> {
     requests::states(&rt)?;
     group::groups(&rt)?;
     frames::frames(&rt)?;
+    stored::texts(&rt)?;
+    apart::servers(&rt)?;
     crashes::crashes(&rt)
 }

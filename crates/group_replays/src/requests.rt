@@ -50,6 +50,7 @@ fn event_of(alloc: Global, line: &str) -> Option<RaftEvent<Cluster>> {
     match input_of(alloc, line)? {
         (server, ServerInput::Timeout) => Some(RaftEvent::Timeout(server)),
         (server, ServerInput::Beat) => Some(RaftEvent::Beat(server)),
+        (server, ServerInput::Compact) => Some(RaftEvent::Compact(server)),
         (server, ServerInput::Crash) => Some(RaftEvent::Crash(server)),
         (server, ServerInput::Restart) => Some(RaftEvent::Restart(server)),
         (server, ServerInput::Request(request)) => {
@@ -129,6 +130,26 @@ deliver 13
 deliver 14
 deliver 15";
 
+// Server 3 was away, so the snapshot comes to it in place of the leader's entries. The leader begins
+// again with what its own covers.
+const COVERED: &str = "\
+timeout 1
+deliver 1
+deliver 2
+deliver 3
+deliver 4
+request 1 put web 50 main:2:linux:600:300
+beat 1
+deliver 5
+deliver 7
+compact 1
+beat 1
+deliver 9
+deliver 10
+compact 2
+crash 1
+restart 1";
+
 // Plays steps on a group of three; says how many entries all of it agree on, and the bytes of the
 // state of server 1; and what it then refuses: a request to server 1, and message 0.
 fn state(rt: &HostRuntime, name: &str, steps: &str) -> io::Result<()> {
@@ -165,7 +186,8 @@ fn state(rt: &HostRuntime, name: &str, steps: &str) -> io::Result<()> {
 /// Says the bytes of a server's replicated state in groups of three.
 pub(crate) fn states(rt: &HostRuntime) -> io::Result<()> {
     state(rt, "served", SERVED)?;
-    state(rt, "cut", CUT)
+    state(rt, "cut", CUT)?;
+    state(rt, "covered", COVERED)
 }
 
 /// Says the settings of a scenario as they are read, whatever the program makes of them.

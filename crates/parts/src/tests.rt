@@ -17,6 +17,7 @@ mod plan_checks;
 mod services;
 mod state_texts;
 mod states;
+mod stored;
 mod tallies;
 mod texts;
 mod values;

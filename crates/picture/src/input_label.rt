@@ -44,6 +44,7 @@ fn server_label(alloc: Global, input: &ServerInput) -> Result<String, NoMemory>
         }
         ServerInput::FreeTurn => plain(alloc, "free"),
         ServerInput::Reap => plain(alloc, "reap"),
+        ServerInput::Compact => plain(alloc, "compact"),
         ServerInput::Crash => plain(alloc, "crash"),
         ServerInput::Restart => plain(alloc, "restart"),
     }

@@ -36,6 +36,12 @@ fn body_label(alloc: Global, body: &Body<Cluster>) -> Result<String, NoMemory>
         Body::VoteReply(reply) => vote_label(alloc, reply),
         Body::Append(append) => append_label(alloc, append),
         Body::AppendReply(reply) => reply_label(alloc, reply),
+        Body::Install(install) => {
+            let head = install.head();
+            let (term, place) = (head.term, head.index);
+            Ok(format!(in alloc; "Install t{term} @{place}")?)
+        }
+        Body::InstallReply(reply) => Ok(format!(in alloc; "InstallReply @{}", reply.at)?),
         Body::Request(request) => request_label(alloc, request),
         Body::Response(response) => response_label(alloc, response),
         Body::Register(_, _) => plain(alloc, "Register"),

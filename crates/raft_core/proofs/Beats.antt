@@ -1,21 +1,23 @@
 -- What a leader sends at a beat.
-use Rattle.std.proofs.Common.{◌≡◌, ℕ, zero, suc, ◌+◌, ◌^◌, ◌<◌, ◌≤◌, Bool, true, false, nat_le, Option, Some, None, List, length, slice_index, take, drop, refl, arith}
-use Rattle.std.proofs.lemmas.Bool.{lt-leb}
+use Rattle.std.proofs.Common.{◌≡◌, ℕ, zero, suc, ◌+◌, ◌^◌, ◌<◌, ◌≤◌, Bool, true, false, nat_le, if◌then◌else◌, Option, Some, None, List, length, take, drop, refl, sym, ap, ◌∙◌, arith}
 use Rattle.std.proofs.lemmas.List.{length-take, length-drop}
 use Rattle.machine_model.specs.Meaning.{Meaning}
 use Rattle.machine_model.specs.declared.entry.Entry.{Entry}
 use Rattle.wire.specs.Frames.{Frame}
-use Rattle.raft_snapshot.specs.Bases.{Base}
-use Rattle.raft_model.specs.Messages.{Message, to_others}
+use Rattle.raft_snapshot.specs.Bases.{Base, IsBaseOf}
+use Rattle.raft_snapshot.specs.Filled.{filled}
+use Rattle.raft_snapshot.specs.Shown.{IsShown}
+use Rattle.raft_snapshot.proofs.Shown.{may_fill}
+use Rattle.raft_snapshot.proofs.Snapshots.{beat-filled}
+use Rattle.raft_model.specs.Messages.{Body, Message, Install, to_others}
 use Rattle.raft_model.specs.Quorums.{index_at}
-use Rattle.raft_model.specs.Servers.{Server, Leader, is_up, beats, beat_message}
+use Rattle.raft_model.specs.Servers.{Server, Leader, is_up, beat_body, beat_message}
 use Rattle.raft_core.specs.declared.role.Role.{Role}
 use Rattle.raft_core.specs.declared.role.Role.TheVariants as roles
-use Rattle.raft_core.specs.Inner.Beats.{append_from}
+use Rattle.raft_core.specs.Inner.Beats.{body_from, sent_from}
+use Rattle.raft_core.specs.Inner.Moves.{Beats}
 use Rattle.raft_core.specs.Frames.{Sends}
 use Rattle.raft_core.specs.RaftView.{RaftView, while_up, mode_of}
-use Rattle.raft_core.specs.Inner.Turns.{TurnTaken}
-use Rattle.raft_core.proofs.Replies.{index-at}
 
 module _ {C : Type 0} (log : List (Entry C)) where
   pub few_behind : (index : ℕ) → length (take 32 (drop index log)) ≤ 32
@@ -32,19 +34,24 @@ others-same me f g (suc n) same =
     let e : f n ≡ g n = same n (omega arith) in
     let r : to_others me f n ≡ to_others me g n = others-same me f g n (λ j below. same j (omega arith)) in rw (e, r) refl
 
-module _ {C : Type 0} (me term : ℕ) (vote : Option ℕ) (log : List (Entry C)) (covered commit : ℕ) (none : covered ≡ 0) (known : Option ℕ) (next match : List ℕ) where
-  abbrev pub sender : Server C
-  sender = record { term = term; vote = vote; log = log; covered = covered; commit = commit; known = known; mode = Leader next match }
+module _ {S C : Type 0} (m : Meaning S C) (base : Base S) (shown : Server C) (is : IsShown base shown) (covered : List (Entry C)) (fits : IsBaseOf m base covered) where
+  -- what the code sends is what the leader owes whose covered entries these are
+  owed : (me next to : ℕ) → sent_from me shown.term shown.commit covered shown.log next to ≡ record { from = me; to = to; term = shown.term; body = beat_body (filled covered shown) next }
+  owed me next to =
+      let may = may_fill m base shown is covered fits in
+      let size : shown.covered ≡ length covered = is.count ∙ sym fits.index in
+      let says = beat-filled covered shown may size next in
+      let low : nat_le next shown.covered ≡ nat_le next (length covered) = ap (nat_le next) size in
+      ap (λ (b : Body C). let x : Message C = record { from = me; to = to; term = shown.term; body = b } in x) (sym (says ∙ bodies_at next (nat_le next shown.covered) refl low)) where
+        bodies_at : (next : ℕ) (b : Bool) → nat_le next shown.covered ≡ b → nat_le next shown.covered ≡ nat_le next (length covered) → (if nat_le next shown.covered then Install covered else beat_body shown next) ≡ body_from shown.commit covered shown.log next
+        bodies_at next true low same = rw (← same, low) refl
+        bodies_at next false low same = rw (← same, low) refl
 
-  -- a next index is past the snapshot, which covers nothing
-  appends : (to : ℕ) → 1 ≤ index_at next to → append_from me term commit log (index_at next to) to ≡ beat_message me sender next to
-  appends to least = let past : nat_le (index_at next to) covered ≡ false = lt-leb (index_at next to) covered (omega (arith, none, least)) in rw past refl
+  pub all_owed : (me n : ℕ) (next : List ℕ) → to_others me (λ to. sent_from me shown.term shown.commit covered shown.log (index_at next to) to) n ≡ to_others me (beat_message me (filled covered shown) next) n
+  all_owed me n next = others-same me (λ to. sent_from me shown.term shown.commit covered shown.log (index_at next to) to) (beat_message me (filled covered shown) next) n (λ j below. owed me (index_at next j) j)
 
-  pub all_append : (n : ℕ) → ((j : ℕ) → j < n → 1 ≤ slice_index next j) → to_others me (λ to. append_from me term commit log (index_at next to) to) n ≡ to_others me (beat_message me sender next) n
-  all_append n least = others-same me (λ to. append_from me term commit log (index_at next to) to) (beat_message me sender next) n (λ j below. appends j (rw (index-at next j) (least j below)))
-
--- what the code sends is what the leader owes
-pub beats_by : {S C : Type 0} (m : Meaning S C) (old : RaftView S C) (base : Base S) (none : base.index ≡ 0) (machine : Option S) (me size term : ℕ) (vote : Option ℕ) (log : List (Entry C)) (commit : ℕ) (known : Option ℕ) (role : Role) (votes : List Bool) (next match : List ℕ) (held : Bool) (before after : List Frame) → record { me = me; size = size; base = base; server = while_up machine (record { term = term; vote = vote; log = log; covered = base.index; commit = commit; known = known; mode = mode_of role votes next match }); projected = held } ≡ old → is_up old.server.mode ≡ true → role ≡ roles.Leader → length next ≡ size → ((j : ℕ) → j < size → 1 ≤ slice_index next j) → Sends m before after (to_others me (λ to. append_from me term commit log (index_at next to) to) (length next)) → TurnTaken m old.base old old before after (record { server = old.server; sent = beats old.size old.me old.server old.server.mode })
-beats_by m old base none None me size term vote log commit known role votes next match held before after old-is up leads each least sent = absurd (let down : false ≡ true = rw (← old-is) at up in cc)
-beats_by m old base none (Some machine) me size term vote log commit known role votes next match held before after old-is up leads each least sent =
-    rw (← old-is, leads) (record { server = refl; base = refl; me = refl; size = refl; sent = rw (each, all_append me term vote log base.index commit none known next match size least) at sent })
+-- what a leader sends, for each list that its snapshot may cover
+pub beats_by : {S C : Type 0} (m : Meaning S C) (old : RaftView S C) (base : Base S) (machine : Option S) (me size term : ℕ) (vote : Option ℕ) (log : List (Entry C)) (commit : ℕ) (known : Option ℕ) (role : Role) (votes : List Bool) (next match : List ℕ) (held : Bool) (before after : List Frame) → record { me = me; size = size; base = base; server = while_up machine (record { term = term; vote = vote; log = log; covered = base.index; commit = commit; known = known; mode = mode_of role votes next match }); projected = held } ≡ old → IsShown old.base old.server → is_up old.server.mode ≡ true → role ≡ roles.Leader → length next ≡ size → ((covered : List (Entry C)) → IsBaseOf m base covered → Sends m before after (to_others me (λ to. sent_from me term commit covered log (index_at next to) to) (length next))) → Beats m old before after
+beats_by m old base None me size term vote log commit known role votes next match held before after old-is shown up leads each sent = absurd (let down : false ≡ true = rw (← old-is) at up in cc)
+beats_by m old base (Some machine) me size term vote log commit known role votes next match held before after old-is shown up leads each sent =
+    rw (← old-is) (record { up = rw (← old-is) at up; sent = λ covered fits. rw leads (rw (each, all_owed m base (record { term = term; vote = vote; log = log; covered = base.index; commit = commit; known = known; mode = Leader next match }) (rw (← old-is, leads) at shown) covered fits me size next) at (sent covered fits)) })

@@ -1,6 +1,8 @@
 -- What a step of what is shown is to each server that it stands for.
 use Rattle.std.specs.Option.{MatchOption}
-use Rattle.std.proofs.Common.{◌≡◌, ℕ, Bool, true, false, if◌then◌else◌, Result, Ok, Err, Option, Some, None, IfSome, Bor, List, [], ◌∷◌, length, take, refl, sym, ap, subst, ◌∙◌, arith}
+use Rattle.std.proofs.Common.{◌≡◌, ℕ, ◌≤◌, Bool, true, false, nat_lt, if◌then◌else◌, Result, Ok, Err, Option, Some, None, IfSome, Bor, List, [], take, refl, sym, ap, subst, ◌∙◌}
+use Rattle.rows.specs.declared.actor.Actor.{Actor}
+use Rattle.rows.specs.declared.actor.Actor.TheVariants.{Server as ServerActor}
 use Rattle.rows.specs.declared.refusal.Refusal.{Refusal}
 use Rattle.rows.specs.declared.refusal.Refusal.TheVariants as refusals
 use Rattle.machine_model.specs.Meaning.{Meaning}
@@ -10,49 +12,29 @@ use Rattle.wire.specs.Frames.{Frame}
 use Rattle.wire.specs.declared.body.Body.{Body as WireBody}
 use Rattle.wire.specs.declared.body.Body.TheVariants as bodies
 use Rattle.raft_model.specs.Messages.{Message}
-use Rattle.raft_model.specs.Servers.{Server, Turn, is_up, is_leader, crashed}
-use Rattle.raft_model.specs.Steps.{step, Input, Arrives, Timeout, Beat, Crash, Restart}
+use Rattle.raft_model.specs.Messages.{Install as InstallBody}
+use Rattle.raft_model.specs.Servers.{Server, Turn, is_up, is_leader, silent, met, beats, crashed, compacted}
+use Rattle.raft_model.specs.Steps.{step, receives, Input, Arrives, Timeout, Beat, Compact, Crash, Restart}
 use Rattle.raft_model.specs.Logs.{state_after}
-use Rattle.raft_snapshot.specs.Bases.{Base, state_from}
-use Rattle.raft_snapshot.specs.Filled.{refilled, filled, filled_turn, filled_result, IsPlain, IsPlainInput}
-use Rattle.raft_snapshot.specs.Shown.{IsShown, StandsFor, shown_state}
+use Rattle.raft_snapshot.specs.Bases.{Base, IsBaseOf, blank, state_from}
+use Rattle.raft_snapshot.specs.Filled.{filled, filled_turn, filled_result, IsPlain, IsPlainInput}
+use Rattle.raft_snapshot.specs.Shown.{IsShown, StandsFor, shown_state, turn_of, base_after}
 use Rattle.raft_snapshot.specs.Watching.{SeesStep, ShowsStep}
-use Rattle.raft_snapshot.proofs.Shown.{may_fill, state_shown, whole_shown}
+use Rattle.raft_snapshot.proofs.Shown.{may_fill, state_shown, whole_shown, received, compact_stands}
 use Rattle.raft_snapshot.proofs.Seen.{sees_filled}
 use Rattle.raft_snapshot.proofs.Steps.{step-filled}
 use Rattle.raft_core.specs.declared.input.Input.{Input as CodeInput}
 use Rattle.raft_core.specs.declared.input.Input.TheVariants as inputs
-use Rattle.raft_core.specs.Frames.{Means, log_message}
+use Rattle.raft_core.specs.Frames.{Means, Says, Sends, base_of}
 use Rattle.raft_core.specs.Inputs.{Handed, Bytes, handed}
 use Rattle.raft_core.specs.RaftView.{RaftView, SameServer, IsCrashOf}
 use Rattle.raft_core.specs.Refusals.{refusal, refusal_by, early_refusal, HidesNothing, IsRefused, RefusalLeaves, Stays}
 use Rattle.raft_core.specs.Steps.{Represents, Steps, Takes, TakesMessage}
-use Rattle.raft_core.specs.Inner.Moves.{Moves, MovesMessage, MovesBy}
+use Rattle.raft_core.specs.Inner.Moves.{Moves, MovesMessage, MovesBy, Beats, Compacts}
 use Rattle.raft_core.specs.Inner.Stops.{EndsRefused}
+use Rattle.raft_core.proofs.Sends.{sends-none}
 
 -- ---- inputs
-
-plain_of : {S C : Type 0} (from to : ℕ) (body : WireBody S C) → IfSome (log_message from to body) (λ x. IsPlain x.body)
-plain_of from to (bodies.VoteRequest v) = tt
-plain_of from to (bodies.VoteReply v) = tt
-plain_of from to (bodies.Append a) = tt
-plain_of from to (bodies.AppendReply r) = tt
-plain_of from to (bodies.Request r) = tt
-plain_of from to (bodies.Response r) = tt
-plain_of from to (bodies.Register class size) = tt
-plain_of from to bodies.Heartbeat = tt
-plain_of from to bodies.Pull = tt
-plain_of from to (bodies.List index rows) = tt
-plain_of from to (bodies.Report items) = tt
-plain_of from to (bodies.Told kind reason) = tt
-
--- no frame brings a snapshot
-means_plain : {S C : Type 0} (read : WireMessage S C) (message : Message C) → Means read message → IsPlain message.body
-means_plain {C = C} read message means = subst (λ (o : Option (Message C)). IfSome o (λ x. IsPlain x.body)) means.said (plain_of message.from message.to read.body)
-
-none_filled : {C : Type 0} (P log : List (Entry C)) → length P ≡ 0 → refilled P log ≡ log
-none_filled [] log none = refl
-none_filled (e ∷ P) log none = absurd (omega (arith, none))
 
 module _ {S C : Type 0} (m : Meaning S C) where
   fills : (old new : RaftView S C) (before after : List Frame) (input : Input C) → IsShown old.base old.server → IsPlainInput input → Moves m old.base old input new before after → (s : Server C) → Represents m old s → Steps m old s input new before after
@@ -66,40 +48,83 @@ module _ {S C : Type 0} (m : Meaning S C) where
         sent = moves.taken.sent;
       }
 
-  -- a beat sends what is covered, which is nothing yet
-  beat_fills : (old new : RaftView S C) (before after : List Frame) → old.base.index ≡ 0 → Moves m old.base old Beat new before after → (s : Server C) → Represents m old s → Steps m old s Beat new before after
-  beat_fills old new before after none moves s r =
-      let P = r.covered in
-      let no : length P ≡ 0 = r.fits.index ∙ none in
-      let is : s ≡ old.server = r.is ∙ ap (λ (l : List (Entry C)). record old.server { log = l }) (none_filled P old.server.log no) in
+  came_by : (up among : Bool) (turn taken : Turn C) → (if up then (if among then Ok turn else Err refusals.OutOfRange) else Err refusals.Down) ≡ Ok taken → (up ≡ true) × (among ≡ true) × (turn ≡ taken)
+  came_by true true turn taken is = (refl, refl, cc)
+  came_by true false turn taken is = absurd cc
+  came_by false among turn taken is = absurd cc
+
+  -- a snapshot comes, of each list that its frame may carry
+  installs : (old new : RaftView S C) (before after : List Frame) (from to term : ℕ) (snapshot : Base S) (Q : List (Entry C)) → IsShown old.base old.server → IsBaseOf m snapshot Q → Moves m (base_after old.base old.server term snapshot) old (Arrives (record { from = from; to = to; term = term; body = InstallBody (blank m snapshot.index snapshot.term) })) new before after → (s : Server C) → Represents m old s → Steps m old s (Arrives (record { from = from; to = to; term = term; body = InstallBody Q })) new before after
+  installs old new before after from to term snapshot Q shown fits moves s r =
+      let came = came_by (is_up old.server.mode) (nat_lt from old.size) (turn_of m old.size old.me old.server from term snapshot) moves.turn moves.step in
+      let got = received m old.size old.me from term snapshot old.base old.server s shown r Q fits in
+      let up : is_up s.mode ≡ true = ap (λ (x : Server C). is_up x.mode) r.is ∙ came.0 in
       record {
-        turn = moves.turn;
-        step = ap (λ (x : Server C). step m old.size old.me x Beat) is ∙ moves.step;
+        turn = receives m.noop old.size old.me (met term s) from term (InstallBody Q);
+        step = rw (up, came.1) refl;
         represents = record {
-          covered = P;
-          fits = rw moves.taken.base r.fits;
-          is = sym moves.taken.server ∙ ap (λ (l : List (Entry C)). record new.server { log = l }) (sym (none_filled P new.server.log no));
+          covered = got.stands.covered;
+          fits = rw moves.taken.base got.stands.fits;
+          is = got.stands.is ∙ ap (filled got.stands.covered) (ap (λ (t : Turn C). t.server) came.2 ∙ sym moves.taken.server);
         };
-        sent = moves.taken.sent;
+        sent = subst (λ (l : List (Message C)). Sends m before after l) (sym (ap (λ (t : Turn C). t.sent) came.2) ∙ got.sent) moves.taken.sent;
       }
 
-  pub takes_by : (input : CodeInput) (old new : RaftView S C) (before after : List Frame) → IsShown old.base old.server → old.base.index ≡ 0 → MovesBy m old (handed input) new before after → (s : Server C) → Represents m old s → Takes m old s (handed input) new before after
-  takes_by (inputs.Frame bytes) old new before after shown none moves s r = λ input reads.
+  plain_by : (o : Option (Message C)) (message : Message C) → IfSome o (λ x. IsPlain x.body) → o ≡ Some message → IsPlain message.body
+  plain_by o message plain is = subst (λ (z : Option (Message C)). IfSome z (λ x. IsPlain x.body)) is plain
+
+  arrives_by : (old new : RaftView S C) (before after : List Frame) (from to : Actor) (body : WireBody S C) (message : Message C) → IsShown old.base old.server → from ≡ ServerActor message.from → to ≡ ServerActor message.to → Says m message.from message.to body message → MovesMessage m old (record { from = from; to = to; body = body }) new before after → (s : Server C) → Represents m old s → Steps m old s (Arrives message) new before after
+  arrives_by old new before after from to (bodies.Install i) message shown f t said moves s r =
+      let sees : Message C = record { from = message.from; to = message.to; term = i.head.term; body = InstallBody (blank m i.head.index i.head.index_term) } in
+      subst (λ (x : Message C). Steps m old s (Arrives x) new before after) (sym said.2)
+      (installs old new before after message.from message.to i.head.term (base_of i) said.0 shown said.1 (moves sees (record { from = f; to = t; said = refl })) s r)
+  arrives_by old new before after from to body message shown f t said moves s r =
+      fills old new before after (Arrives message) shown (plain_by _ message tt said) (moves message (record { from = f; to = t; said = said })) s r
+
+  arrives : (old new : RaftView S C) (before after : List Frame) (read : WireMessage S C) (message : Message C) → IsShown old.base old.server → Means m read message → MovesMessage m old read new before after → (s : Server C) → Represents m old s → Steps m old s (Arrives message) new before after
+  arrives old new before after read message shown means moves s r =
+      arrives_by old new before after read.from read.to read.body message shown means.from means.to means.said (λ x shows. moves x (record { from = shows.from; to = shows.to; said = shows.said })) s r
+
+  beat_fills : (old new : RaftView S C) (before after : List Frame) → (new ≡ old) × Beats m old before after → (s : Server C) → Represents m old s → Steps m old s Beat new before after
+  beat_fills old new before after moves s r =
+      let up : is_up s.mode ≡ true = ap (λ (x : Server C). is_up x.mode) r.is ∙ moves.1.up in
+      record {
+        turn = record { server = s; sent = beats old.size old.me s s.mode };
+        step = rw up refl;
+        represents = subst (λ (v : RaftView S C). Represents m v s) (sym moves.0) r;
+        sent = subst (λ (x : Server C). Sends m before after (beats old.size old.me x x.mode)) (sym r.is) (moves.1.sent r.covered r.fits);
+      }
+
+  compact_fills : (old new : RaftView S C) (before after : List Frame) → IsShown old.base old.server → (after ≡ before) × Compacts m old new → (s : Server C) → Represents m old s → Steps m old s Compact new before after
+  compact_fills old new before after shown moves s r =
+      let up : is_up s.mode ≡ true = ap (λ (x : Server C). is_up x.mode) r.is ∙ moves.1.up in
+      let stands = (compact_stands m old.base old.server s shown moves.1.within r).0 in
+      record {
+        turn = silent (compacted s);
+        step = rw up refl;
+        represents = record { covered = stands.covered; fits = rw moves.1.base stands.fits; is = stands.is ∙ ap (filled stands.covered) (sym moves.1.server) };
+        sent = subst (λ (l : List Frame). Sends m before l []) (sym moves.0) (sends-none m before);
+      }
+
+  pub takes_by : (input : CodeInput) (old new : RaftView S C) (before after : List Frame) → IsShown old.base old.server → MovesBy m old (handed input) new before after → (s : Server C) → Represents m old s → Takes m old s (handed input) new before after
+  takes_by (inputs.Frame bytes) old new before after shown moves s r = λ input reads.
       let frame = reads.1 in
       subst (λ (i : Input C). Steps m old s i new before after) (sym reads.2)
-      (fills old new before after (Arrives reads.0) shown (means_plain frame.read reads.0 frame.means) (moves frame.read frame.fits frame.text reads.0 frame.means) s r)
-  takes_by inputs.Timeout old new before after shown none moves s r = λ input reads.
+      (arrives old new before after frame.read reads.0 shown frame.means (moves frame.read frame.fits frame.text) s r)
+  takes_by inputs.Timeout old new before after shown moves s r = λ input reads.
       subst (λ (i : Input C). Steps m old s i new before after) (sym reads) (fills old new before after Timeout shown tt moves s r)
-  takes_by inputs.Beat old new before after shown none moves s r = λ input reads.
-      subst (λ (i : Input C). Steps m old s i new before after) (sym reads) (beat_fills old new before after none moves s r)
-  takes_by inputs.Crash old new before after shown none moves s r = λ input reads.
+  takes_by inputs.Beat old new before after shown moves s r = λ input reads.
+      subst (λ (i : Input C). Steps m old s i new before after) (sym reads) (beat_fills old new before after moves s r)
+  takes_by inputs.Compact old new before after shown moves s r = λ input reads.
+      subst (λ (i : Input C). Steps m old s i new before after) (sym reads) (compact_fills old new before after shown moves s r)
+  takes_by inputs.Crash old new before after shown moves s r = λ input reads.
       subst (λ (i : Input C). Steps m old s i new before after) (sym reads) (fills old new before after Crash shown tt moves s r)
-  takes_by inputs.Restart old new before after shown none moves s r = λ input reads.
+  takes_by inputs.Restart old new before after shown moves s r = λ input reads.
       subst (λ (i : Input C). Steps m old s i new before after) (sym reads) (fills old new before after Restart shown tt moves s r)
 
   pub takes_message : (old new : RaftView S C) (before after : List Frame) (read : WireMessage S C) → IsShown old.base old.server → MovesMessage m old read new before after → (s : Server C) → Represents m old s → TakesMessage m old s read new before after
   takes_message old new before after read shown moves s r = λ message means.
-      fills old new before after (Arrives message) shown (means_plain read message means) (moves message means) s r
+      arrives old new before after read message shown means moves s r
 
   -- ---- refusals
 
@@ -121,10 +146,14 @@ module _ {S C : Type 0} (m : Meaning S C) where
     beat_refusal : refusal_by (step m n me s Beat) ≡ refusal_by (step m n me shown Beat)
     beat_refusal = ap (λ (x : Server C). refusal_by (step m n me x Beat)) r.is ∙ either_turn (is_up shown.mode) _ _
 
+    compact_refusal : refusal_by (step m n me s Compact) ≡ refusal_by (step m n me shown Compact)
+    compact_refusal = ap (λ (x : Server C). refusal_by (step m n me x Compact)) r.is ∙ either_turn (is_up shown.mode) _ _
+
     refusal_shown : (input : CodeInput) → refusal m n me s (handed input) ≡ refusal m n me shown (handed input)
     refusal_shown (inputs.Frame bytes) = ap (λ (x : Server C). refusal m n me x (Bytes bytes.now)) r.is
     refusal_shown inputs.Timeout = own_refusal Timeout tt
     refusal_shown inputs.Beat = beat_refusal
+    refusal_shown inputs.Compact = compact_refusal
     refusal_shown inputs.Crash = own_refusal Crash tt
     refusal_shown inputs.Restart = own_refusal Restart tt
 
@@ -132,6 +161,7 @@ module _ {S C : Type 0} (m : Meaning S C) where
     early_shown (inputs.Frame bytes) = ap (λ (x : Server C). early_refusal m n me x (Bytes bytes.now)) r.is
     early_shown inputs.Timeout = own_refusal Timeout tt
     early_shown inputs.Beat = beat_refusal
+    early_shown inputs.Compact = compact_refusal
     early_shown inputs.Crash = own_refusal Crash tt
     early_shown inputs.Restart = own_refusal Restart tt
 
@@ -190,6 +220,6 @@ module _ {S C : Type 0} (m : Meaning S C) where
 
   -- ---- watchers
 
-  pub seen_each : {W : Type 0} (Sees : W → ℕ → Entry C → S → W → Type 0) (old new : RaftView S C) → IsShown old.base old.server → IsShown new.base new.server → (is_leader new.server.mode ≡ true → new.base ≡ old.base) → (w v : W) → ShowsStep m Sees old.base old.server new.server w v → (s next : Server C) → Represents m old s → Represents m new next → SeesStep m Sees s next w v
+  pub seen_each : {W : Type 0} (Sees : W → ℕ → Entry C → S → W → Type 0) (old new : RaftView S C) → IsShown old.base old.server → IsShown new.base new.server → (is_leader new.server.mode ≡ true → new.base.index ≤ old.server.commit) → (w v : W) → ShowsStep m Sees old.base old.server new.server w v → (s next : Server C) → Represents m old s → Represents m new next → SeesStep m Sees s next w v
   seen_each Sees old new shown after led w v shows s next r q =
-      sees_filled m Sees old.base new.base old.server new.server shown after (λ leads. rw (led leads) shown.covered) s next r q w v shows
+      sees_filled m Sees old.base new.base old.server new.server shown after led s next r q w v shows

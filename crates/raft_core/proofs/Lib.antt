@@ -1,5 +1,6 @@
 pub mod Beats
 pub mod Commits
+pub mod Compacts
 pub mod Fills
 pub mod Keeps
 pub mod Lives
@@ -9,4 +10,5 @@ pub mod Quorums
 pub mod Replies
 pub mod Sends
 pub mod Stepping
+pub mod Stores
 pub mod Follows

@@ -7,7 +7,7 @@ use Rattle.machine_model.specs.declared.entry.Entry.{Entry}
 use Rattle.machine_model.specs.After.{after_from}
 use Rattle.raft_model.specs.Logs.{commands}
 use Rattle.raft_snapshot.specs.Bases.{Base, state_from}
-use Rattle.raft_model.specs.Servers.{Server, is_leader, extended}
+use Rattle.raft_model.specs.Servers.{Server, is_up, is_leader, extended}
 use Rattle.raft_core.specs.RaftView.{IsUpToCommit, IsAhead, HasElectionRoom, HasTerm, IsRaft, while_up, mode_of}
 use Rattle.raft_core.specs.declared.role.Role.{Role}
 use Rattle.raft_core.specs.declared.role.Role.TheVariants as roles
@@ -37,18 +37,21 @@ pub filled_most : (next : List ℕ) (n k : ℕ) → next ≡ replicate n k → k
 filled_most next n k is most j = rw is (replicate_most n k (2 ^ 40) j most)
 
 -- at the base nothing more is applied
-state_none : {S C : Type 0} (m : Meaning S C) (base : Base S) (log : List (Entry C)) → state_from m base (take base.index log) ≡ base.state
+pub state_none : {S C : Type 0} (m : Meaning S C) (base : Base S) (log : List (Entry C)) → state_from m base (take base.index log) ≡ base.state
 unfolding commands
 state_none m base log = ap (λ (l : List (Entry _)). after_from m base.state (commands l)) (ap (λ (i : ℕ). drop base.index (take i log)) (sym (add-zero base.index)) ∙ drop-take base.index 0 log)
 
--- what is covered is applied
-pub fresh : {S C : Type 0} (m : Meaning S C) (base : Base S) (log : List (Entry C)) (n : ℕ) (matched : List ℕ) (s : S) → base.index ≤ length log → s ≡ base.state → matched ≡ replicate n 0 → IsUpToCommit m base log base.index matched s
-fresh m base log n matched s within is levels = record {
+-- what is covered is applied, and nothing else
+pub begun : {S C : Type 0} (m : Meaning S C) (base : Base S) (log : List (Entry C)) (matched : List ℕ) (s : S) → base.index ≤ length log → s ≡ base.state → ((j : ℕ) → slice_index matched j < 2 ^ 40) → IsUpToCommit m base log base.index matched s
+begun m base log matched s within is levels = record {
   covered = omega arith;
   committed = within;
   state = is ∙ sym (state_none m base log);
-  levels = λ j. rw levels (zero_levels n j);
+  levels = levels;
 }
+
+pub fresh : {S C : Type 0} (m : Meaning S C) (base : Base S) (log : List (Entry C)) (n : ℕ) (matched : List ℕ) (s : S) → base.index ≤ length log → s ≡ base.state → matched ≡ replicate n 0 → IsUpToCommit m base log base.index matched s
+fresh m base log n matched s within is levels = begun m base log matched s within is (λ j. rw levels (zero_levels n j))
 
 module _ {S C : Type 0} (m : Meaning S C) where
   live_grown : (base : Base S) (log : List (Entry C)) (e : Entry C) (commit : ℕ) (matched : List ℕ) (machine : Option S) → IfSome machine (IsUpToCommit m base log commit matched) → IfSome machine (IsUpToCommit m base (log ++ e ∷ []) commit matched)
@@ -65,7 +68,6 @@ module _ {S C : Type 0} (m : Meaning S C) where
   grown me size term base log e old new commit votes next matched machine was is kept elected room ahead = record {
     number = kept.number;
     group = kept.group;
-    uncovered = kept.uncovered;
     elected = elected;
     room = room;
     votes_each = kept.votes_each;
@@ -86,7 +88,6 @@ module _ {S C : Type 0} (m : Meaning S C) where
   reset me size term base log role commit votes old_next old_matched next matched first n k machine was is least most begins none next_each matched_each = record {
     number = is.number;
     group = is.group;
-    uncovered = is.uncovered;
     elected = is.elected;
     room = is.room;
     votes_each = is.votes_each;
@@ -97,6 +98,11 @@ module _ {S C : Type 0} (m : Meaning S C) where
     live = live_reset base log commit old_matched matched k machine none is.live;
     second = tt;
   }
+
+-- what others are known to hold, of one that is up
+pub up_levels : {S C : Type 0} (m : Meaning S C) (base : Base S) (log : List (Entry C)) (commit : ℕ) (matched : List ℕ) (machine : Option S) (s : Server C) → is_up (while_up machine s).mode ≡ true → IfSome machine (IsUpToCommit m base log commit matched) → (j : ℕ) → slice_index matched j < 2 ^ 40
+up_levels m base log commit matched None s up live = absurd (cc up)
+up_levels m base log commit matched (Some machine) s up live = live.levels
 
 -- a leader needs no further room
 pub leader_room : {S C : Type 0} (machine : Option S) (term : ℕ) (vote : Option ℕ) (log more : List (Entry C)) (covered commit : ℕ) (known : Option ℕ) (role : Role) (votes : List Bool) (next matched : List ℕ) → is_leader (while_up machine (record { term = term; vote = vote; log = log; covered = covered; commit = commit; known = known; mode = mode_of role votes next matched })).mode ≡ true → HasElectionRoom role more

@@ -100,7 +100,6 @@ module _ {S C : Type 0} (m : Meaning S C) (me size term : ℕ) (base : Base S) (
   keeps ok before after old new was is kept levels short live ahead = record {
     number = kept.number;
     group = kept.group;
-    uncovered = kept.uncovered;
     elected = kept.elected;
     room = kept.room;
     votes_each = kept.votes_each;

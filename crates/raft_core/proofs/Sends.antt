@@ -1,8 +1,8 @@
 -- Frames sent one after the other.
-use Rattle.std.proofs.Common.{◌≡◌, ◌≢◌, ℕ, IfSome, suc, ◌+◌, ◌==◌, true, false, List, [], ◌∷◌, ◌++◌, refl, sym, ap, ◌∙◌, append_assoc, arith}
+use Rattle.std.proofs.Common.{◌≡◌, ◌≢◌, ℕ, ◌≤◌, IfSome, suc, ◌+◌, ◌==◌, true, false, List, [], ◌∷◌, ◌++◌, length, take, refl, sym, ap, ◌∙◌, append_assoc, arith}
 use Rattle.std.proofs.lemmas.Bool.{eq-eqb, ne_eqb}
 use Rattle.std.proofs.Math.Seq.{take-append_seam, take-length}
-use Rattle.std.proofs.lemmas.List.{append-nil}
+use Rattle.std.proofs.lemmas.List.{append-nil, length-take, take-take}
 use Rattle.std.specs.List.{AllZip}
 use Rattle.machine_model.specs.Meaning.{Meaning}
 use Rattle.raft_model.specs.Messages.{Message, to_others}
@@ -15,6 +15,7 @@ use Rattle.wire.specs.declared.body.Body.{Body}
 use Rattle.wire.specs.declared.body.Body.TheVariants as bodies
 use Rattle.raft_core.specs.Frames.{FrameCarries, Means, Sends, log_message}
 use Rattle.raft_core.specs.Inner.Turns.{KeepsFront}
+use Rattle.raft_core.specs.Inner.Moves.{is_install}
 
 module _ {S C : Type 0} (m : Meaning S C) where
   pub sends-none : (all : List Frame) → Sends m all all []
@@ -60,6 +61,12 @@ module _ {S C : Type 0} (m : Meaning S C) where
 pub sent_all : (a : List Frame) → KeepsFront a a
 sent_all a = take-length a
 
+-- what keeps what was sent, and then what keeps that
+pub front_on : (a b c : List Frame) → KeepsFront a b → KeepsFront b c → KeepsFront a c
+front_on a b c p q =
+    let size : length a ≤ length b = omega (arith, ap length p, length-take (length a) b) in
+    sym (take-take (length a) (length b) c size) ∙ ap (take (length a)) q ∙ p
+
 pub another : (from to : ℕ) → from ≢ to → is_another_server (Server from) (Server to) ≡ true
 another from to other = let e : (to == from) ≡ false = ne_eqb to from (λ q. other (sym q)) in rw e refl
 
@@ -68,6 +75,8 @@ may_go_by kinds.VoteRequest from to other log = another from to other
 may_go_by kinds.VoteReply from to other log = another from to other
 may_go_by kinds.Append from to other log = another from to other
 may_go_by kinds.AppendReply from to other log = another from to other
+may_go_by kinds.Install from to other log = another from to other
+may_go_by kinds.InstallReply from to other log = another from to other
 may_go_by kinds.Take from to other log = refl
 may_go_by kinds.Delivered from to other log = refl
 may_go_by kinds.Submit from to other log = refl
@@ -87,7 +96,7 @@ pub may_go_between : {S C : Type 0} (from to : ℕ) (body : Body S C) → from �
 may_go_between from to body other log = may_go_by (kind_of body) from to other log
 
 module _ {S C : Type 0} (m : Meaning S C) where
-  sends_said : (read : WireMessage S C) (x : Message C) (before after : List Frame) → Means read x → ListsFrame m read before after → Sends m before after (x ∷ [])
+  sends_said : (read : WireMessage S C) (x : Message C) (before after : List Frame) → Means m read x → ListsFrame m read before after → Sends m before after (x ∷ [])
   sends_said read x before after means listed = record {
     frames = frame_of m read ∷ [];
     added = listed.1;
@@ -95,16 +104,18 @@ module _ {S C : Type 0} (m : Meaning S C) where
   }
 
   -- the frame of a body carries the message that it says
-  pub sends_one : (from to : ℕ) (body : Body S C) (before after : List Frame) → ListsFrame m (record { from = Server from; to = Server to; body = body }) before after → IfSome (log_message from to body) (λ x. Sends m before after (x ∷ []))
-  sends_one from to (bodies.VoteRequest v) before after listed = sends_said _ _ before after (record { from = refl; to = refl; said = refl }) listed
-  sends_one from to (bodies.VoteReply v) before after listed = sends_said _ _ before after (record { from = refl; to = refl; said = refl }) listed
-  sends_one from to (bodies.Append a) before after listed = sends_said _ _ before after (record { from = refl; to = refl; said = refl }) listed
-  sends_one from to (bodies.AppendReply r) before after listed = sends_said _ _ before after (record { from = refl; to = refl; said = refl }) listed
-  sends_one from to (bodies.Request r) before after listed = tt
-  sends_one from to (bodies.Response r) before after listed = tt
-  sends_one from to (bodies.Register class size) before after listed = tt
-  sends_one from to bodies.Heartbeat before after listed = tt
-  sends_one from to bodies.Pull before after listed = tt
-  sends_one from to (bodies.List index rows) before after listed = tt
-  sends_one from to (bodies.Report items) before after listed = tt
-  sends_one from to (bodies.Told kind reason) before after listed = tt
+  pub sends_one : (from to : ℕ) (body : Body S C) (before after : List Frame) → ListsFrame m (record { from = Server from; to = Server to; body = body }) before after → is_install body ≡ false → IfSome (log_message m from to body) (λ x. Sends m before after (x ∷ []))
+  sends_one from to (bodies.VoteRequest v) before after listed other = sends_said _ _ before after (record { from = refl; to = refl; said = refl }) listed
+  sends_one from to (bodies.VoteReply v) before after listed other = sends_said _ _ before after (record { from = refl; to = refl; said = refl }) listed
+  sends_one from to (bodies.Append a) before after listed other = sends_said _ _ before after (record { from = refl; to = refl; said = refl }) listed
+  sends_one from to (bodies.AppendReply r) before after listed other = sends_said _ _ before after (record { from = refl; to = refl; said = refl }) listed
+  sends_one from to (bodies.Install i) before after listed other = absurd cc
+  sends_one from to (bodies.InstallReply r) before after listed other = sends_said _ _ before after (record { from = refl; to = refl; said = refl }) listed
+  sends_one from to (bodies.Request r) before after listed other = tt
+  sends_one from to (bodies.Response r) before after listed other = tt
+  sends_one from to (bodies.Register class size) before after listed other = tt
+  sends_one from to bodies.Heartbeat before after listed other = tt
+  sends_one from to bodies.Pull before after listed other = tt
+  sends_one from to (bodies.List index rows) before after listed other = tt
+  sends_one from to (bodies.Report items) before after listed other = tt
+  sends_one from to (bodies.Told kind reason) before after listed other = tt

@@ -5,8 +5,8 @@ use Rattle.machine_model.specs.Meaning.{Meaning}
 use Rattle.wire.specs.Frames.{Frame}
 use Rattle.raft_model.specs.Logs.{MAX}
 use Rattle.raft_model.specs.Messages.{to_others}
-use Rattle.raft_model.specs.Servers.{Server, Turn, is_up, is_leader, silent, stood, vote_request_to, beats, crashed, restarted}
-use Rattle.raft_model.specs.Steps.{step, Input, Timeout, Beat, Crash, Restart}
+use Rattle.raft_model.specs.Servers.{Server, Turn, is_up, is_leader, silent, stood, vote_request_to, crashed, restarted}
+use Rattle.raft_model.specs.Steps.{step, Input, Timeout, Crash, Restart}
 use Rattle.raft_core.specs.RaftView.{RaftView}
 use Rattle.raft_core.specs.Inner.Turns.{TurnTaken}
 use Rattle.raft_core.specs.Inner.Moves.{Moves}
@@ -24,9 +24,6 @@ module _ {S C : Type 0} (m : Meaning S C) where
         let below : nat_lt s.term MAX ≡ true = lt-ltb s.term MAX (omega arith) in
         let fits : nat_lt (length s.log) MAX ≡ true = lt-ltb (length s.log) MAX (omega arith) in
         rw (up, other, below, fits) refl
-
-    pub beat_taken : step m n me s Beat ≡ Ok (record { server = s; sent = beats n me s s.mode })
-    beat_taken = rw up refl
 
     pub crash_taken : step m n me s Crash ≡ Ok (silent (crashed s))
     crash_taken = rw up refl

@@ -2,7 +2,7 @@
 use Rattle.std.specs.Prelude.{◌≡◌, ℕ, List}
 use Rattle.machine_model.specs.Meaning.{Meaning}
 use Rattle.raft_model.specs.Messages.{Message}
-use Rattle.raft_model.specs.Steps.{Input, Arrives, Timeout, Beat, Crash, Restart}
+use Rattle.raft_model.specs.Steps.{Input, Arrives, Timeout, Beat, Compact, Crash, Restart}
 use Rattle.raft_core.specs.declared.input.Input.{Input as CodeInput}
 use Rattle.raft_core.specs.declared.input.Input.TheVariants as inputs
 use Rattle.raft_core.specs.Frames.{IsFrameOf}
@@ -17,6 +17,7 @@ abbrev pub handed : {C : Type 0} → CodeInput → Handed C
 handed (inputs.Frame bytes) = Bytes bytes.now
 handed inputs.Timeout = Own Timeout
 handed inputs.Beat = Own Beat
+handed inputs.Compact = Own Compact
 handed inputs.Crash = Own Crash
 handed inputs.Restart = Own Restart
 

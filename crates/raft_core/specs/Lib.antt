@@ -4,4 +4,5 @@ pub mod Inputs
 pub mod Steps
 pub mod Refusals
 pub mod Commits
+pub mod StoredParts
 pub mod Inner

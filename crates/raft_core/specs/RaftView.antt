@@ -83,11 +83,10 @@ HasTerm Candidate term = 1 ≤ term
 HasTerm Leader term = 1 ≤ term
 
 -- Each of the lists by server number has an item for each server. A next index is one that a log
--- may grow to. No entry is covered yet.
+-- may grow to.
 pub record IsRaft {S C : Type 0} (m : Meaning S C) (me size term : ℕ) (base : Base S) (log : List (Entry C)) (role : Role) (commit : ℕ) (votes : List Bool) (next matched : List ℕ) (machine ahead : Option S) : Type 0 where
   pub number : me < size
   pub group : size ≤ 5
-  pub uncovered : base.index ≡ 0
   pub elected : HasTerm role term
   pub room : HasElectionRoom role log
   pub votes_each : length votes ≡ size

@@ -57,4 +57,4 @@ Takes {C = C} m old s h new before after =
 abbrev pub TakesMessage : {S C : Type 0} → Meaning S C → RaftView S C → Server C → WireMessage S C
     → RaftView S C → List Frame → List Frame → Type 0
 TakesMessage {C = C} m old s read new before after =
-    (message : Message C) → Means read message → Steps m old s (Arrives message) new before after
+    (message : Message C) → Means m read message → Steps m old s (Arrives message) new before after

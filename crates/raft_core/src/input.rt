@@ -8,6 +8,9 @@ pub enum Input<'a> {
     /// It is time to be heard of: a leader sends to each other server the entries that it does not
     /// have yet.
     Beat,
+    /// It covers all entries that it has applied by a snapshot of the applied state, and forgets
+    /// them.
+    Compact,
     /// It stops, and loses what it does not store.
     Crash,
     /// It starts again with what it stored.

@@ -3,6 +3,8 @@ mod beats;
 mod frames;
 mod propose;
 mod replies;
+mod snapshots;
+mod storing;
 mod votes;
 
 ghost use Rattle.std.specs.Prelude.{◌≡◌, ◌≤◌, true, false, is_some, None, length, take, replicate, OnOk, OnErr, IfOk, IfErr, IfSome, MatchBool, MatchOption};
@@ -14,6 +16,7 @@ ghost use Rattle.raft_core.specs.Refusals.{refusal, HidesNothing, IsRefused, Ref
 ghost use Rattle.raft_core.specs.Inner.Stops.{EndsRefused};
 ghost use Rattle.raft_core.specs.Inner.Views.{with_server};
 ghost use Rattle.raft_core.specs.Inner.Moves.{MovesBy};
+ghost use Rattle.raft_core.specs.StoredParts.{stored_part};
 ghost use Rattle.raft_core.specs.RaftView.{SamePlace, IsCrashOf, KeepsAhead};
 ghost use Rattle.raft_snapshot.specs.Shown.{IsShown, shown_state};
 ghost use Rattle.raft_snapshot.specs.Watching.{SeesStep, ShowsStep};
@@ -109,7 +112,6 @@ impl<M: Machine> Raft<M> {
         size: usize,
         stable: Stable<M>,
     ) -> Result<Raft<M>, NotRestarted<M>>
-        requires uncovered { stable.log.base.index ≡ 0 }
         ensures member { OnOk result (IsGroupPlace size me) }
         ensures number { IfOk result (λ r. (r.me ≡ me) × (r.size ≡ size)) }
         ensures server { IfOk result (λ r. (s : Server M.Command) → Stores M.meaning stable s →
@@ -163,8 +165,9 @@ impl<M: Machine> Raft<M> {
     pub fn into_stable(self) -> Stable<M>
         ensures stored { (s : Server M.Command) → Represents M.meaning self s →
             Stores M.meaning result s }
-        ensures uncovered { result.log.base.index ≡ 0 }
+        ensures shown { result ≡ stored_part self }
     {
+        self.shown();
         let Raft {
             term,
             vote,
@@ -342,10 +345,9 @@ impl<M: Machine> Raft<M> {
         Ok(())
     }
 
-    /// What every value shows of its base, and that it covers nothing yet.
+    /// What every value shows of its base.
     fn shown(&self)
-        ensures shown { IsShown self.now.base self.now.server }
-        ensures uncovered { self.now.base.index ≡ 0 }
+        ensures { IsShown self.now.base self.now.server }
     {
         let _ = self.log.covered();
     }
@@ -384,12 +386,13 @@ impl<M: Machine> Raft<M> {
         ensures unhidden { IfErr result (λ cause. HidesNothing M.meaning self.old.size self.old.me
             self.old.server (handed input.entry) cause) }
         ensures led { OnOk result (is_leader self.new.server.mode ≡ true →
-            self.new.base ≡ self.old.base) }
+            self.new.base.index ≤ self.old.server.commit) }
         ensures seen { OnOk result (ShowsStep M.meaning W.sees self.old.base self.old.server
             self.new.server watch.old watch.new) }
         ensures unseen { IfErr result (λ cause. RefusalShows cause watch.old watch.new) }
     {
         let is_up = self.is_up();
+        self.shown();
         match input {
             Input::Restart => {
                 if is_up {
@@ -416,6 +419,13 @@ impl<M: Machine> Raft<M> {
                     return Err(Refusal::Down);
                 }
                 self.beat(outbox)?;
+                Ok(())
+            }
+            Input::Compact => {
+                if !is_up {
+                    return Err(Refusal::Down);
+                }
+                self.compact()?;
                 Ok(())
             }
             Input::Frame(bytes) => {

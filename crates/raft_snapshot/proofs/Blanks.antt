@@ -42,6 +42,12 @@ module _ {S C : Type 0} (m : Meaning S C) (index term : ℕ) (tail : List (Entry
   pub shown_gone : (gone : ℕ) → drop gone tail ≡ drop (index + gone) (blank m index term ++ tail)
   shown_gone gone = sym (ap (λ (i : ℕ). drop (i + gone) (blank m index term ++ tail)) (sym blank-length) ∙ drop-append-add (blank m index term) tail gone)
 
+  -- what is covered is blank
+  pub shown_whole : blank m index term ++ tail ≡ blank m index term ++ drop index (blank m index term ++ tail)
+  shown_whole =
+      let none : index - index ≡ 0 = omega arith in
+      ap (λ (l : List (Entry C)). blank m index term ++ l) (sym (ap (λ (i : ℕ). drop i tail) none) ∙ shown_drop index (omega arith))
+
   pub shown_take : (p : ℕ) → index ≤ p → blank m index term ++ take (p - index) tail ≡ take p (blank m index term ++ tail)
   shown_take p le = let e : p ≡ length (blank m index term) + (p - index) = omega (arith, blank-length) in sym (ap (λ (i : ℕ). take i (blank m index term ++ tail)) e ∙ take-append-add (blank m index term) tail (p - index))
 

@@ -1,4 +1,5 @@
 pub mod Logs
+mod Rereads
 pub mod Entries
 pub mod Blanks
 pub mod Whole
@@ -10,3 +11,5 @@ pub mod Merges
 pub mod Shown
 pub mod Watches
 pub mod Seen
+pub mod TextRules
+pub mod TextLaws

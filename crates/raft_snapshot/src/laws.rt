@@ -1,6 +1,7 @@
-//! Laws of servers whose covered entries are blank, for every machine. Each function has an empty
-//! body: what it says is its contract.
-ghost use Rattle.std.specs.Prelude.{◌≡◌, ◌≤◌, ◌++◌, ℕ, List, length, take, drop, nat_le, true, false, if◌then◌else◌};
+//! Laws of servers whose covered entries are blank, and of the text of what a server stores, for
+//! every machine. Each function has an empty body: what it says is its contract.
+ghost use Rattle.std.specs.Prelude.{◌≡◌, ◌≤◌, ◌++◌, ℕ, List, length, take, drop, nat_le, true, false, if◌then◌else◌, Ok};
+ghost use Rattle.fields_model.specs.Format.{IsBytes, Lawful};
 ghost use Rattle.machine_model.specs.declared.entry.Entry.{Entry};
 ghost use Rattle.raft_model.specs.Logs.{last_term, state_after};
 ghost use Rattle.raft_model.specs.Messages.{Install};
@@ -8,6 +9,8 @@ ghost use Rattle.raft_model.specs.Servers.{Server, beat_body, met, crashed, rest
 ghost use Rattle.raft_model.specs.Steps.{step, receives, Input};
 ghost use Rattle.raft_snapshot.specs.Bases.{Base, IsBaseOf, state_from};
 ghost use Rattle.raft_snapshot.specs.Filled.{refilled, filled, filled_turn, filled_result, MayFill, IsPlainInput, takes_snapshot};
+ghost use Rattle.raft_snapshot.specs.Stored.{Stored};
+ghost use Rattle.raft_snapshot.specs.Texts.{stable, stable_at, stable_text, IsStableText, StableFits};
 ghost use Rattle.raft_snapshot.specs.Shown.{IsShown, StandsFor, shown_state, turn_of, base_after, Received, compacted_base, compacted_shown};
 
 use machine::Machine;
@@ -82,4 +85,17 @@ pub fn snapshots_are_received<M: Machine>()
     ensures appends { (base : Base M) (shown s : Server M.Command) → IsShown base shown →
         StandsFor M.meaning base shown s → (next : ℕ) → nat_le next base.index ≡ false →
         beat_body s next ≡ beat_body shown next }
+{}
+
+/// What stands behind the version byte has a lawful format. The text of what a server stores is read
+/// again as that, what is read is what has just these bytes, and no text begins another.
+pub fn stable_texts_are_whole<M: Machine>()
+    ensures lawful { Lawful (stable M.meaning) }
+    ensures again { (s : Stored M M.Command) → StableFits M.meaning s
+        → stable_at M.meaning (stable_text M.meaning s) ≡ Ok s }
+    ensures found { (bytes : List ℕ) (s : Stored M M.Command) → IsBytes bytes
+        → stable_at M.meaning bytes ≡ Ok s → IsStableText M.meaning s bytes }
+    ensures apart { (s t : Stored M M.Command) (x y : List ℕ) → StableFits M.meaning s
+        → StableFits M.meaning t
+        → stable_text M.meaning s ++ x ≡ stable_text M.meaning t ++ y → s ≡ t }
 {}

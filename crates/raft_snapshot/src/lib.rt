@@ -3,20 +3,28 @@
 //! applied to a machine. (Raft, extended version 2014, section 7 and Figure 2.)
 #![tactic(auto)]
 
+mod again;
 mod apply;
 mod laws;
 mod log;
 mod merge;
 mod project;
+mod reading;
 mod snapshot;
 mod stable;
 mod watch;
+mod writing;
 
+pub use again::command_again;
 pub use apply::{apply_range, apply_range_watched};
-pub use laws::{servers_are_shown, snapshots_are_received, steps_are_filled};
+pub use laws::{
+    servers_are_shown, snapshots_are_received, stable_texts_are_whole, steps_are_filled,
+};
 pub use log::Log;
 pub use merge::adopt;
 pub use project::{brought_on, projection};
+pub use reading::read_stable;
 pub use snapshot::Snapshot;
 pub use stable::Stable;
 pub use watch::{Unwatched, Watch};
+pub use writing::write_stable;

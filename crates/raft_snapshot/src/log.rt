@@ -1,3 +1,5 @@
+mod copies;
+
 ghost use Rattle.std.specs.Prelude.{◌≡◌, ◌+◌, ◌-◌, ◌++◌, ◌∷◌, [], ◌^◌, ◌<◌, ◌≤◌, ◌⊎◌, ◌||◌, List, length, take, drop, OnOk, OnErr, IfSome, MatchOption, nat_le};
 ghost use Rattle.machine_model.specs.declared.entry.Entry.{Entry};
 ghost use Rattle.raft_model.specs.Logs.{term_at, last_term, has, install, state_after};
@@ -62,6 +64,24 @@ impl<M: Machine> Log<M> {
             base: Snapshot::empty(alloc),
             tail: Vec::new(alloc),
         }
+    }
+
+    /// The log of what a snapshot covers, and of the entries behind that.
+    pub(crate) fn of(base: Snapshot<M>, tail: Vec<Entry<Coded<M>>>) -> Log<M>
+        requires { base.index + length tail.items < 2 ^ 40 }
+        ensures { result ≡ kept M.meaning base tail.items }
+    {
+        let _index = base.index();
+        Log { base, tail }
+    }
+
+    /// The entries behind what is covered.
+    pub(crate) fn tail(&self) -> &[Entry<Coded<M>>]
+        ensures value { result.now ≡ drop self.now.base.index self.now.entries }
+        ensures shows { self.now ≡ kept M.meaning self.now.base result.now }
+        ensures short { self.now.base.index + length result.now < 2 ^ 40 }
+    {
+        &self.tail
     }
 
     /// The index of the last entry; 0 where there is none.
@@ -201,6 +221,8 @@ impl<M: Machine> Log<M> {
         ensures value { result ≡ self.now.base.index }
         ensures within { result ≤ length self.now.entries }
         ensures term { self.now.base.term ≡ term_at self.now.entries self.now.base.index }
+        ensures blank { self.now.entries ≡ blank M.meaning self.now.base.index
+            self.now.base.term ++ drop self.now.base.index self.now.entries }
         ensures keeps { IsSnapshot M.meaning self.now.base }
     {
         self.base.index()

@@ -48,6 +48,27 @@ impl<M: Machine> Stable<M> {
         Stable { term, vote, log }
     }
 
+    /// The term.
+    pub(crate) fn term(&self) -> Term
+        ensures { result ≡ self.now.term }
+    {
+        self.term
+    }
+
+    /// The vote in that term.
+    pub(crate) fn vote(&self) -> Option<ServerId>
+        ensures { result ≡ self.now.vote }
+    {
+        self.vote
+    }
+
+    /// The log.
+    pub(crate) fn log(&self) -> &Log<M>
+        ensures { result.now ≡ self.now.log }
+    {
+        &self.log
+    }
+
     /// The term, the vote in it, and the log.
     pub fn into_parts(self) -> (Term, Option<ServerId>, Log<M>)
         ensures { result ≡ (self.term, self.vote, self.log) }

@@ -20,6 +20,7 @@ fn main(rt: HostRuntime) -> io::Result<()> {
     threads::nodes(&rt, rt)?;
     threads::losses(&rt, rt)?;
     threads::refusals(&rt, rt)?;
+    threads::compactions(&rt, rt)?;
     threads::replayed(&rt, rt)?;
     said::no_transcripts(&rt, rt)?;
     said::command_lines(&rt, rt)?;

@@ -1,6 +1,6 @@
 //! What the program says of scenarios that it plays on threads.
 use crate::folder::Folder;
-use crate::said::{behind_refusals, run_words};
+use crate::said::{Printed, behind_refusals, run_words};
 use std::alloc::AllocError;
 use std::rt::Files;
 use std::sync::Wait;
@@ -67,6 +67,19 @@ const REFUSALS: &[u8] = b"refused 2 request 1 stop web
 refused 2 request 2 stop web
 ";
 
+// Server 3 is away while the first entry is committed and covered, and gets a snapshot; the leader
+// begins again with what its own snapshot covers.
+const COVERED: &[u8] = b"{ \"servers\": 3, \"nodes\": [], \"key\": 0, \"drop\": 0, \"repeat\": 0,
+  \"order\": \"sent\", \"steps\": [\"timeout 1\", \"flow\", \"crash 3\", \"beat 1\", \"flow\",
+    \"beat 1\", \"flow\", \"compact 1\", \"restart 3\", \"beat 1\", \"flow\", \"compact 2\",
+    \"crash 1\", \"restart 1\"] }";
+
+const ALL_APPLIED: &[u8] = b"server 1 follower term 1 last 1 applied 1
+server 2 follower term 1 last 1 applied 1
+server 3 follower term 1 last 1 applied 1
+events 22 messages 14
+";
+
 // How many times each is played; each time the threads may meet in another order.
 const TIMES: u32 = 20;
 
@@ -76,7 +89,7 @@ fn is_elected<R: Threads + Wait + Copy + Send + 'static>(
     words: &[&str],
 ) -> bool {
     let printed = run_words(rt, on, &mut Folder::new(rt, ELECTION), words);
-    printed.status == 0 && printed.err.is_empty() && printed.out.as_slice() == ELECTED
+    is_said(&printed, ELECTED)
 }
 
 /// Plays the first election, and says how often it came to the lines that it has to come to.
@@ -115,6 +128,33 @@ pub(crate) fn refusals<R: Threads + Wait + Copy + Send + 'static>(
         }
     }
     println!(rt; "threads of refused steps: as foreseen {count} times")
+}
+
+// Whether this was said, with status 0 and nothing on the standard error.
+fn is_said(printed: &Printed, wanted: &[u8]) -> bool {
+    printed.status == 0 && printed.err.is_empty() && printed.out.as_slice() == wanted
+}
+
+/// Plays compactions, a snapshot that is sent and a restart, and says how often they came to the
+/// lines that they have to come to, and how often the transcript, played again, did.
+pub(crate) fn compactions<R: Threads + Wait + Copy + Send + 'static>(
+    rt: &HostRuntime,
+    on: R,
+) -> io::Result<()> {
+    let words = ["nomadsim", "threads", "text.json", "--out", "transcript"];
+    let mut played: u32 = 0;
+    let mut again: u32 = 0;
+    for _ in 0..TIMES {
+        let mut folder = Folder::new(rt, COVERED);
+        if is_said(&run_words(rt, on, &mut folder, &words), ALL_APPLIED) {
+            played = played.saturating_add(1);
+        }
+        let replay = ["nomadsim", "replay", "transcript"];
+        if is_said(&run_words(rt, on, &mut folder, &replay), ALL_APPLIED) {
+            again = again.saturating_add(1);
+        }
+    }
+    println!(rt; "threads of compactions: as foreseen {played} times, again {again} times")
 }
 
 fn placing(rt: &HostRuntime) -> Result<Vec<u8>, AllocError> {

@@ -10,6 +10,7 @@ pub(crate) fn form_of(line: &str) -> &'static str {
         "plan" => "it has to be: plan S, S from 1 to 5",
         "free" => "it has to be: free S, S from 1 to 5",
         "reap" => "it has to be: reap S, S from 1 to 5",
+        "compact" => "it has to be: compact S, S from 1 to 5",
         "work" => "it has to be: work S, S from 1 to 5",
         "take" => "it has to be: take S T, S and T from 1 to 5",
         "deliver" => "it has to be: deliver K, K from 1 to 18446744073709551615",

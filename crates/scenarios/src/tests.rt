@@ -8,4 +8,5 @@ mod held_cells;
 mod messages;
 mod running;
 mod servers;
+mod snapshots;
 mod watching;

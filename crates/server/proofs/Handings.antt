@@ -103,6 +103,8 @@ server_sends n me kinds.VoteRequest (actors.Client c) to log goes = absurd (cc)
 server_sends n me kinds.VoteReply (actors.Client c) to log goes = absurd (cc)
 server_sends n me kinds.Append (actors.Client c) to log goes = absurd (cc)
 server_sends n me kinds.AppendReply (actors.Client c) to log goes = absurd (cc)
+server_sends n me kinds.Install (actors.Client c) to log goes = absurd (cc)
+server_sends n me kinds.InstallReply (actors.Client c) to log goes = absurd (cc)
 server_sends n me k (actors.Client c) to log goes = absurd (cc)
 
 no_true : false ≡ true → ⊥
@@ -148,6 +150,14 @@ no_service (actors.Server i) (actors.Server j) (bodies.AppendReply r) y log is =
 no_service (actors.Server i) (actors.Client d) (bodies.AppendReply r) y log is = no_some y is
 no_service (actors.Client c) (actors.Server j) (bodies.AppendReply r) y log is = no_some y is
 no_service (actors.Client c) (actors.Client d) (bodies.AppendReply r) y log is = no_some y is
+no_service (actors.Server i) (actors.Server j) (bodies.Install v) y log is = no_some y is
+no_service (actors.Server i) (actors.Client d) (bodies.Install v) y log is = no_some y is
+no_service (actors.Client c) (actors.Server j) (bodies.Install v) y log is = no_some y is
+no_service (actors.Client c) (actors.Client d) (bodies.Install v) y log is = no_some y is
+no_service (actors.Server i) (actors.Server j) (bodies.InstallReply r) y log is = no_some y is
+no_service (actors.Server i) (actors.Client d) (bodies.InstallReply r) y log is = no_some y is
+no_service (actors.Client c) (actors.Server j) (bodies.InstallReply r) y log is = no_some y is
+no_service (actors.Client c) (actors.Client d) (bodies.InstallReply r) y log is = no_some y is
 
 module _ (old new : ServerView) (before after : Outbox) (read : WireMessage State Command) (up : is_up old.raft.server.mode ≡ true) (log : is_of_log (kind_of read.body) ≡ true) (goes : may_go (kind_of read.body) read.from read.to ≡ true) where
   log_refusal : (s : Member) → IsMember old s → message_refusal old.raft.size old.raft.me s.raft read ≡ wrong_address old.raft.size old.raft.me read.from read.to
@@ -156,11 +166,11 @@ module _ (old new : ServerView) (before after : Outbox) (read : WireMessage Stat
       ∙ (ap (λ b. if b then misdirected old.raft.size old.raft.me read.from read.to else Some (refusals.Frame 1)) log
       ∙ server_sends old.raft.size old.raft.me (kind_of read.body) read.from read.to log goes)
 
-  log_read : ((said : Message Command) → Means read said → HearsLog old said new before after) → EachMember old (λ s. TakesRead old s read new before after)
+  log_read : ((said : Message Command) → Means cluster_meaning read said → HearsLog old said new before after) → EachMember old (λ s. TakesRead old s read new before after)
   log_read heard s is (Raft said) means = heard said means s is
   log_read heard s is (Service message) means = absurd (no_service read.from read.to read.body message log means)
 
-  log_taken : (r : Answer) → OnOk r ((said : Message Command) → Means read said → HearsLog old said new before after) → OnOk r (EachMember old (λ s. TakesRead old s read new before after))
+  log_taken : (r : Answer) → OnOk r ((said : Message Command) → Means cluster_meaning read said → HearsLog old said new before after) → OnOk r (EachMember old (λ s. TakesRead old s read new before after))
   log_taken (Ok u) heard = log_read heard
   log_taken (Err cause) heard = tt
 
@@ -193,7 +203,7 @@ module _ (old new : ServerView) (before after : Outbox) (read : WireMessage Stat
 
   pub log_is_read : (r : Answer)
       → (new.raft.me ≡ old.raft.me) × (new.raft.size ≡ old.raft.size)
-      → OnOk r ((said : Message Command) → Means read said → HearsLog old said new before after)
+      → OnOk r ((said : Message Command) → Means cluster_meaning read said → HearsLog old said new before after)
       → OnOk r (EachMember old (λ s. message_refusal old.raft.size old.raft.me s.raft read ≡ None))
       → IfErr r (λ cause. EachMember old (λ s. IsMessageRefused old.raft.size old.raft.me s.raft read cause))
       → IfErr r (λ cause. MessageStays cause old.raft new.raft)
@@ -310,7 +320,7 @@ stays_of old new h cause other is = is
 
 module _ (old new : ServerView) (before after : Outbox) (bytes : List ℕ) (read : WireMessage State Command) (fits : MessageFits cluster_meaning read) (text : bytes ≡ message_text cluster_meaning read) where
   means : (x : GroupMessage) → IsGroupFrame cluster_meaning bytes x → MeansGroup read x
-  means (Raft said) is = subst (λ (r : WireMessage State Command). Means r said) (one_text cluster_meaning cluster_lawful is.read read is.fits fits (sym is.text ∙ text)) is.means
+  means (Raft said) is = subst (λ (r : WireMessage State Command). Means cluster_meaning r said) (one_text cluster_meaning cluster_lawful is.read read is.fits fits (sym is.text ∙ text)) is.means
   means (Service message) is = subst (λ (r : WireMessage State Command). service_of r ≡ Some message) (one_text cluster_meaning cluster_lawful is.read read is.fits fits (sym is.text ∙ text)) is.means
 
   read_taken : (r : Answer) → OnOk r (EachMember old (λ s. TakesRead old s read new before after)) → OnOk r (EachMember old (λ s. TakesHanding old s (FrameBytes bytes) new before after))

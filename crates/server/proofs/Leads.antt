@@ -5,7 +5,7 @@ use Rattle.std.proofs.Common.{◌≡◌, ℕ, ◌≤◌, Bool, true, Ok, List, l
 use Rattle.machine_model.specs.Meaning.{Meaning}
 use Rattle.raft_model.specs.Messages.{Message}
 use Rattle.raft_model.specs.Servers.{Server, Turn, Candidate, is_leader, is_chosen}
-use Rattle.raft_model.specs.Steps.{Input, Arrives, Timeout, Beat, Propose, Crash, Restart, step}
+use Rattle.raft_model.specs.Steps.{Input, Arrives, Timeout, Beat, Propose, Compact, Crash, Restart, step}
 use Rattle.raft_model.proofs.Leading.{Leading, goes_on, hears, appends, wins, step_leads}
 use Rattle.raft_core.proofs.Commits.{is_greatest}
 
@@ -37,6 +37,9 @@ module _ {S C : Type 0} (m : Meaning S C) (n i : ℕ) (s : Server C) where
 
   pub beat_step : (turn : Turn C) → step m n i s Beat ≡ Ok turn → is_leader turn.server.mode ≡ true → LeadsOn s turn.server
   beat_step = steps Beat (λ command e. cc)
+
+  pub compact_step : (turn : Turn C) → step m n i s Compact ≡ Ok turn → is_leader turn.server.mode ≡ true → LeadsOn s turn.server
+  compact_step = steps Compact (λ command e. cc)
 
   pub crash_step : (turn : Turn C) → step m n i s Crash ≡ Ok turn → is_leader turn.server.mode ≡ true → LeadsOn s turn.server
   crash_step = steps Crash (λ command e. cc)

@@ -22,7 +22,7 @@ use Rattle.cluster_model.specs.Words.{State}
 use Rattle.cluster_model.specs.ClusterMachine.{cluster_meaning}
 use Rattle.group_model.specs.Messages.{Raft}
 use Rattle.group_model.specs.Desks.{desk_after}
-use Rattle.group_model.specs.Inputs.{Act, Ask, AskTimeout, AskBeat, AskCrash, AskRestart, input_of}
+use Rattle.group_model.specs.Inputs.{Act, Ask, AskTimeout, AskBeat, AskCompact, AskCrash, AskRestart, input_of}
 use Rattle.group_model.specs.Members.{Member, logged}
 use Rattle.group_frames.proofs.Sending.{sends_log}
 use Rattle.leader.specs.OpenDesks.{OpenDesk}
@@ -31,7 +31,7 @@ use Rattle.server.specs.ServerViews.{ServerView, IsMember, group_desk, IsOfLeade
 use Rattle.server.specs.Turns.{TakesTurn}
 use Rattle.server.specs.Inner.DeskWatch.{DeskSees}
 use Rattle.server.specs.Inner.LogSteps.{where_leads, DeskAfterRefusal, HearsLog, TakesAsk, log_ask}
-use Rattle.server.proofs.Leads.{LeadsOn, message_leads, timeout_step, beat_step, crash_step, restart_step}
+use Rattle.server.proofs.Leads.{LeadsOn, message_leads, timeout_step, beat_step, compact_step, crash_step, restart_step}
 use Rattle.server.proofs.DeskFollows.{goes_on}
 use Rattle.server.proofs.Members.{mode_is}
 
@@ -102,7 +102,7 @@ module _ (old : ServerView) (raft : RaftView State Command) (seen desk : Option 
       → OnOk r ((s : rafts.Server Command) → Represents cluster_meaning old.raft s → TakesMessage cluster_meaning old.raft s read raft before.frames after.frames)
       → OnOk r ((s next : rafts.Server Command) → Represents cluster_meaning old.raft s → Represents cluster_meaning raft next → SeesStep cluster_meaning DeskSees s next old.desk seen)
       → after.work ≡ before.work
-      → OnOk r ((said : Message Command) → Means read said → HearsLog old said (record { raft = raft; desk = desk }) before after)
+      → OnOk r ((said : Message Command) → Means cluster_meaning read said → HearsLog old said (record { raft = raft; desk = desk }) before after)
   hear_takes read before after (Ok u) taken sees work = λ said means s is.
       let steps = taken s.raft is.raft said means in
       log_takes old (record { raft = raft; desk = desk }) seen before after (raft_steps.Arrives said) s is steps (sees s.raft steps.turn.server is.raft steps.represents)
@@ -129,6 +129,7 @@ asked_by : (n me : ℕ) (input : RaftInput) → log_ask input ≢ None → IsAsk
 asked_by n me (raft_inputs.Frame bytes) asked = absurd (asked refl)
 asked_by n me raft_inputs.Timeout asked = record { ask = AskTimeout; is = refl; own = refl; leads = timeout_step cluster_meaning n me }
 asked_by n me raft_inputs.Beat asked = record { ask = AskBeat; is = refl; own = refl; leads = beat_step cluster_meaning n me }
+asked_by n me raft_inputs.Compact asked = record { ask = AskCompact; is = refl; own = refl; leads = compact_step cluster_meaning n me }
 asked_by n me raft_inputs.Crash asked = record { ask = AskCrash; is = refl; own = refl; leads = crash_step cluster_meaning n me }
 asked_by n me raft_inputs.Restart asked = record { ask = AskRestart; is = refl; own = refl; leads = restart_step cluster_meaning n me }
 
@@ -142,6 +143,7 @@ lack_is_down : (old raft : RaftView State Command) (input : RaftInput) → log_a
 lack_is_down old raft (raft_inputs.Frame bytes) asked left = absurd (asked refl)
 lack_is_down old raft raft_inputs.Timeout asked left = ap (λ (t : rafts.Server Command). is_leader t.mode) left.0
 lack_is_down old raft raft_inputs.Beat asked left = ap (λ (t : rafts.Server Command). is_leader t.mode) left.0
+lack_is_down old raft raft_inputs.Compact asked left = ap (λ (t : rafts.Server Command). is_leader t.mode) left.0
 lack_is_down old raft raft_inputs.Crash asked left = ap (λ (t : rafts.Server Command). is_leader t.mode) left.0
 lack_is_down old raft raft_inputs.Restart asked left =
     ap (λ (v : RaftView State Command). is_leader v.server.mode) left.1 ∙ down_leads_not old.server.mode left.0

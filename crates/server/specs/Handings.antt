@@ -1,7 +1,7 @@
 -- What is handed to a server of the group.
 use Rattle.std.specs.Prelude.{ℕ, Option, Some, None, List, [], slice_get}
 use Rattle.wire.specs.Frames.{Frame}
-use Rattle.group_model.specs.Inputs.{Input, Timeout, Beat, Request, TakeFrom, SubmitTo, FinishAt, NackAt, PlanTurn, Lapse, Expire, DrainTurn, FreeTurn, Reap, Crash, Restart}
+use Rattle.group_model.specs.Inputs.{Input, Timeout, Beat, Request, TakeFrom, SubmitTo, FinishAt, NackAt, PlanTurn, Lapse, Expire, DrainTurn, FreeTurn, Reap, Compact, Crash, Restart}
 use Rattle.server.specs.declared.server_input.ServerInput.{ServerInput}
 use Rattle.server.specs.declared.server_input.ServerInput.TheVariants as inputs
 
@@ -35,5 +35,6 @@ handing (inputs.Expire node beats) = OwnInput (Expire node beats)
 handing (inputs.DrainTurn node) = OwnInput (DrainTurn node)
 handing inputs.FreeTurn = OwnInput FreeTurn
 handing inputs.Reap = OwnInput Reap
+handing inputs.Compact = OwnInput Compact
 handing inputs.Crash = OwnInput Crash
 handing inputs.Restart = OwnInput Restart

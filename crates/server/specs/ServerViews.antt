@@ -2,7 +2,7 @@
 -- its type keeps.
 use Rattle.std.specs.Prelude.{◌≡◌, true, Option, None, option_map, IfSome}
 use Rattle.rows.specs.declared.command.Command.{Command}
-use Rattle.raft_model.specs.Servers.{Server, is_leader, crashed}
+use Rattle.raft_model.specs.Servers.{Server, is_leader, crashed, restarted}
 use Rattle.raft_core.specs.RaftView.{RaftView, SameServer}
 use Rattle.raft_core.specs.Steps.{Represents}
 use Rattle.cluster_model.specs.Words.{State}
@@ -37,6 +37,10 @@ pub record IsMember (view : ServerView) (s : Member) : Type 0 where
 pub record SameMember (old new : ServerView) : Type 0 where
   pub raft : SameServer old.raft new.raft
   pub desk : new.desk ≡ old.desk
+
+-- a server that starts with what this one stores
+abbrev pub restarted_member : Server Command → Member
+restarted_member s = record { raft = restarted s; desk = None }
 
 -- a server that lost what it does not store
 abbrev pub crashed_member : Member → Member

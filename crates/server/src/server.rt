@@ -10,6 +10,7 @@ mod proposing;
 mod replies;
 mod requests;
 mod steps;
+mod storing;
 mod turns;
 
 ghost use Rattle.std.specs.Prelude.{◌≡◌, true, false, length, IfOk, IfErr, MatchOption};
@@ -73,12 +74,8 @@ impl Server {
         ensures newcomer { IfOk result (λ s. IsMember s newcomer) }
         ensures refused { IfErr result (λ e. WhyNot size me e) }
     {
-        match Raft::restart(alloc, me, size, Stable::new(alloc)) {
-            Ok(raft) => Ok(Server {
-                alloc,
-                raft,
-                desk: ServerDesk::closed(alloc),
-            }),
+        match Server::restart(alloc, me, size, Stable::new(alloc)) {
+            Ok(server) => Ok(server),
             Err(not) => Err(not.refusal),
         }
     }

@@ -40,6 +40,9 @@ pub enum ServerInput {
     FreeTurn,
     /// A turn of the desk: an evaluation that was given out too often becomes failed.
     Reap,
+    /// A snapshot of the state takes the place of all entries of its log that are applied. (Raft,
+    /// extended version 2014, section 7.)
+    Compact,
     /// It stops, and loses what it does not store.
     Crash,
     /// It starts again with what it stored.
@@ -68,6 +71,7 @@ impl ServerInput {
             ServerInput::DrainTurn(node) => ServerInput::DrainTurn(*node),
             ServerInput::FreeTurn => ServerInput::FreeTurn,
             ServerInput::Reap => ServerInput::Reap,
+            ServerInput::Compact => ServerInput::Compact,
             ServerInput::Crash => ServerInput::Crash,
             ServerInput::Restart => ServerInput::Restart,
         })

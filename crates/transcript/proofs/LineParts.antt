@@ -29,7 +29,7 @@ server_parted server (servers.Expire node beats) has = (name_lacks 32 (codes "ex
 server_parted server (servers.DrainTurn node) has = (name_lacks 32 (codes "drain") refl refl, refl)
 server_parted server servers.FreeTurn has = (name_lacks 32 (codes "free") refl refl, refl)
 server_parted server servers.Reap has = (name_lacks 32 (codes "reap") refl refl, refl)
-server_parted server servers.Compact has = absurd has
+server_parted server servers.Compact has = (name_lacks 32 (codes "compact") refl refl, refl)
 server_parted server servers.Crash has = (name_lacks 32 (codes "crash") refl refl, refl)
 server_parted server servers.Restart has = (name_lacks 32 (codes "restart") refl refl, refl)
 

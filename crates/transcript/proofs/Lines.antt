@@ -88,7 +88,7 @@ pub one_more_node : (k : ℕ) (nodes : List NodeSpec) (node : NodeSpec) → AreN
 one_more_node k [] node are fits is = (fits, omega arith, tt)
 one_more_node k (first ∷ nodes) node are fits is = (are.0, are.1, one_more_node (suc k) nodes node are.2 fits (omega arith))
 
--- the line of a node is no event's: no event's line has an `o` as its second letter
+-- the line of a node is no event's: no event's line begins with `no`
 at_server : (server : ℕ) (input : servers.Input) (behind tail : List ℕ) → ServerInputHasLine input
     → event_line (AtServer server input) ++ behind ≡ 110 ∷ 111 ∷ tail → ⊥
 at_server server (servers.Arrives message) behind tail fits is = absurd fits
@@ -105,7 +105,7 @@ at_server server (servers.Expire node beats) behind tail fits is = apart 1 refl 
 at_server server (servers.DrainTurn node) behind tail fits is = apart 1 refl is
 at_server server servers.FreeTurn behind tail fits is = apart 1 refl is
 at_server server servers.Reap behind tail fits is = apart 1 refl is
-at_server server servers.Compact behind tail fits is = absurd fits
+at_server server servers.Compact behind tail fits is = apart 0 refl is
 at_server server servers.Crash behind tail fits is = apart 1 refl is
 at_server server servers.Restart behind tail fits is = apart 1 refl is
 

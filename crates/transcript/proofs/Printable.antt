@@ -173,7 +173,7 @@ at_server s (servers.Expire n beats) at fits = (word (codes "expire") refl, (ser
 at_server s (servers.DrainTurn n) at fits = (word (codes "drain") refl, (server s at, (node_id n fits, tt)))
 at_server s servers.FreeTurn at fits = (word (codes "free") refl, (server s at, tt))
 at_server s servers.Reap at fits = (word (codes "reap") refl, (server s at, tt))
-at_server s servers.Compact at fits = absurd fits
+at_server s servers.Compact at fits = (word (codes "compact") refl, (server s at, tt))
 at_server s servers.Crash at fits = (word (codes "crash") refl, (server s at, tt))
 at_server s servers.Restart at fits = (word (codes "restart") refl, (server s at, tt))
 

@@ -25,7 +25,7 @@ abbrev pub end_text : Bool → List ℕ
 end_text true = codes "complete"
 end_text false = codes "failed"
 
--- the words of an input of server s; no line says that a message arrives, or that a log is cut
+-- the words of an input of server s; no line says that a message arrives
 abbrev pub server_event_words : ℕ → servers.Input → List (List ℕ)
 server_event_words s (servers.Arrives message) = []
 server_event_words s servers.Timeout = codes "timeout" ∷ server_text s ∷ []
@@ -43,7 +43,7 @@ server_event_words s (servers.Expire node beats) = codes "expire" ∷ server_tex
 server_event_words s (servers.DrainTurn node) = codes "drain" ∷ server_text s ∷ decimal node ∷ []
 server_event_words s servers.FreeTurn = codes "free" ∷ server_text s ∷ []
 server_event_words s servers.Reap = codes "reap" ∷ server_text s ∷ []
-server_event_words s servers.Compact = []
+server_event_words s servers.Compact = codes "compact" ∷ server_text s ∷ []
 server_event_words s servers.Crash = codes "crash" ∷ server_text s ∷ []
 server_event_words s servers.Restart = codes "restart" ∷ server_text s ∷ []
 
@@ -63,7 +63,7 @@ event_words (Deliver place) = codes "deliver" ∷ decimal (suc place) ∷ []
 event_words (AtServer server input) = server_event_words server input
 event_words (AtClient client input) = client_event_words client input
 
--- a line says such an input: its values are within their limits, and it is no arrival and no cut
+-- a line says such an input: its values are within their limits, and it is no arrival
 abbrev pub ServerInputHasLine : servers.Input → Type 0
 ServerInputHasLine (servers.Arrives message) = ⊥
 ServerInputHasLine (servers.Request request) = RequestFits request
@@ -74,7 +74,6 @@ ServerInputHasLine (servers.NackAt to eval token) = ServerFits to × EvalIdFits 
 ServerInputHasLine (servers.Lapse eval) = EvalIdFits eval
 ServerInputHasLine (servers.Expire node beats) = NodeIdFits node × IndexFits beats
 ServerInputHasLine (servers.DrainTurn node) = NodeIdFits node
-ServerInputHasLine servers.Compact = ⊥
 ServerInputHasLine _ = Unit {0}
 
 abbrev pub ClientInputHasLine : clients.Input → Type 0

@@ -143,6 +143,7 @@ fn read_turn(verb: &str, words: &str) -> Option<Line>
         "plan" => Some(Line::Server(server, ServerInput::PlanTurn)),
         "free" => Some(Line::Server(server, ServerInput::FreeTurn)),
         "reap" => Some(Line::Server(server, ServerInput::Reap)),
+        "compact" => Some(Line::Server(server, ServerInput::Compact)),
         _ => None,
     }
 }

@@ -43,6 +43,7 @@ fn server_verb(input: &ServerInput) -> &'static str
         ServerInput::DrainTurn(_) => "drain",
         ServerInput::FreeTurn => "free",
         ServerInput::Reap => "reap",
+        ServerInput::Compact => "compact",
         ServerInput::Crash => "crash",
         ServerInput::Restart => "restart",
     }

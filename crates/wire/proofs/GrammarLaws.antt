@@ -5,8 +5,9 @@ use Rattle.fields_model.specs.Format.{Format, number, placed, Lawful, IsVariant}
 use Rattle.fields_model.specs.Fields.{actor}
 use Rattle.fields_model.proofs.FormatLaws.{number_lawful, then_lawful, depends_lawful, made_lawful, list_lawful, coded_lawful, kept_lawful, variant_lawful}
 use Rattle.fields_model.proofs.PlacedLaws.{placed_lawful}
-use Rattle.fields_model.proofs.FieldLaws.{actor_lawful}
-use Rattle.machine_model.specs.Meaning.{Meaning}
+use Rattle.fields_model.proofs.FieldLaws.{actor_lawful, term_lawful}
+use Rattle.fields_model.proofs.IdLaws.{from_one_lawful}
+use Rattle.machine_model.specs.Meaning.{Meaning, LawfulMachine}
 use Rattle.wire.specs.declared.kind.Kind.{Kind}
 use Rattle.wire.specs.declared.kind.Kind.TheVariants as kinds
 use Rattle.wire.specs.declared.vote.VoteRequest.{VoteRequest}
@@ -14,15 +15,17 @@ use Rattle.wire.specs.declared.vote.VoteReply.{VoteReply}
 use Rattle.machine_model.specs.Entries.{entry}
 use Rattle.machine_model.proofs.EntryLaws.{entry_lawful}
 use Rattle.wire.specs.declared.append.AppendReply.{AppendReply}
+use Rattle.wire.specs.declared.install.InstallReply.{InstallReply}
 use Rattle.wire.specs.Appends.{Append}
+use Rattle.wire.specs.Installs.{Install}
 use Rattle.wire.specs.declared.body.Body.{Body}
 use Rattle.wire.specs.declared.body.Body.TheVariants as bodies
 use Rattle.rows.specs.declared.worker.WorkerRequest.TheVariants as requests
 use Rattle.rows.specs.declared.worker.WorkerResponse.TheVariants as responses
 use Rattle.wire.specs.Messages.{kind_of, may_come_from, may_go}
-use Rattle.wire.specs.Grammar.{version, kind, addresses, header, append_head, most_entries, entries, append, vote_request_of, vote_reply_of, append_of, append_reply_of, body}
+use Rattle.wire.specs.Grammar.{version, kind, addresses, header, append_head, most_entries, entries, append, install_head, install, vote_request_of, vote_reply_of, append_of, append_reply_of, install_of, install_reply_of, body}
 use Rattle.wire.proofs.ServiceLaws.{take_body_lawful, delivered_body_lawful, submit_body_lawful, plan_result_body_lawful, finish_body_lawful, nack_body_lawful, refused_body_lawful, register_body_lawful, heartbeat_body_lawful, pull_body_lawful, list_body_lawful, report_body_lawful, told_body_lawful}
-use Rattle.wire.specs.Laws.GrammarLaws.{kind_lawful, vote_request_lawful, vote_reply_lawful, append_head_lawful, append_reply_lawful}
+use Rattle.wire.specs.Laws.GrammarLaws.{kind_lawful, vote_request_lawful, vote_reply_lawful, append_head_lawful, append_reply_lawful, install_reply_lawful}
 
 -- ---- the header
 
@@ -54,6 +57,12 @@ append_lawful commands lc = made_lawful _ _ _ (λ _. refl) (λ _ _. refl) (depen
     (λ h fits. entries_lawful commands (most_entries h.prev_index) (most_entries_is_few h.prev_index) lc)
     (λ h fits. entries_are_short commands (most_entries h.prev_index) (most_entries_is_few h.prev_index)))
 
+pub install_head_lawful : Lawful install_head
+install_head_lawful = made_lawful _ _ _ (λ _. refl) (λ _ _. refl) (then_lawful _ _ term_lawful (then_lawful _ _ from_one_lawful term_lawful))
+
+install_lawful : {S : Type 0} (states : Format S) → Lawful states → Lawful (install states)
+install_lawful states ls = made_lawful _ _ _ (λ _. refl) (λ _ _. refl) (then_lawful _ _ install_head_lawful (placed_lawful states ls))
+
 is_vote_request : {S C : Type 0} → IsVariant {V = Body S C} (λ v. bodies.VoteRequest v) vote_request_of
 is_vote_request {S} {C} = record { back = λ _. refl; there = λ v a e. there v a e } where
   there : (v : Body S C) (a : VoteRequest) → vote_request_of v ≡ Some a → bodies.VoteRequest a ≡ v
@@ -78,24 +87,38 @@ is_append_reply {S} {C} = record { back = λ _. refl; there = λ v a e. there v 
   there (bodies.AppendReply _) a e = cc
   there _ a e = absurd cc
 
-pub body_lawful : {S C : Type 0} (meaning : Meaning S C) → Lawful meaning.commands → (k : Kind) → Lawful (body meaning k)
-body_lawful meaning lc kinds.VoteRequest = variant_lawful _ _ _ is_vote_request vote_request_lawful
-body_lawful meaning lc kinds.VoteReply = variant_lawful _ _ _ is_vote_reply vote_reply_lawful
-body_lawful meaning lc kinds.Append = variant_lawful _ _ _ is_append (append_lawful meaning.commands lc)
-body_lawful meaning lc kinds.AppendReply = variant_lawful _ _ _ is_append_reply append_reply_lawful
-body_lawful meaning lc kinds.Take = take_body_lawful
-body_lawful meaning lc kinds.Delivered = delivered_body_lawful
-body_lawful meaning lc kinds.Submit = submit_body_lawful
-body_lawful meaning lc kinds.PlanResult = plan_result_body_lawful
-body_lawful meaning lc kinds.Finish = finish_body_lawful
-body_lawful meaning lc kinds.Nack = nack_body_lawful
-body_lawful meaning lc kinds.Refused = refused_body_lawful
-body_lawful meaning lc kinds.Register = register_body_lawful
-body_lawful meaning lc kinds.Heartbeat = heartbeat_body_lawful
-body_lawful meaning lc kinds.Pull = pull_body_lawful
-body_lawful meaning lc kinds.List = list_body_lawful
-body_lawful meaning lc kinds.Report = report_body_lawful
-body_lawful meaning lc kinds.Told = told_body_lawful
+is_install : {S C : Type 0} → IsVariant {V = Body S C} (λ v. bodies.Install v) install_of
+is_install {S} {C} = record { back = λ _. refl; there = λ v a e. there v a e } where
+  there : (v : Body S C) (a : Install S) → install_of v ≡ Some a → bodies.Install a ≡ v
+  there (bodies.Install _) a e = cc
+  there _ a e = absurd cc
+
+is_install_reply : {S C : Type 0} → IsVariant {V = Body S C} (λ v. bodies.InstallReply v) install_reply_of
+is_install_reply {S} {C} = record { back = λ _. refl; there = λ v a e. there v a e } where
+  there : (v : Body S C) (a : InstallReply) → install_reply_of v ≡ Some a → bodies.InstallReply a ≡ v
+  there (bodies.InstallReply _) a e = cc
+  there _ a e = absurd cc
+
+pub body_lawful : {S C : Type 0} (meaning : Meaning S C) → LawfulMachine meaning → (k : Kind) → Lawful (body meaning k)
+body_lawful meaning law kinds.VoteRequest = variant_lawful _ _ _ is_vote_request vote_request_lawful
+body_lawful meaning law kinds.VoteReply = variant_lawful _ _ _ is_vote_reply vote_reply_lawful
+body_lawful meaning law kinds.Append = variant_lawful _ _ _ is_append (append_lawful meaning.commands law.commands_lawful)
+body_lawful meaning law kinds.AppendReply = variant_lawful _ _ _ is_append_reply append_reply_lawful
+body_lawful meaning law kinds.Install = variant_lawful _ _ _ is_install (install_lawful meaning.states law.states_lawful)
+body_lawful meaning law kinds.InstallReply = variant_lawful _ _ _ is_install_reply install_reply_lawful
+body_lawful meaning law kinds.Take = take_body_lawful
+body_lawful meaning law kinds.Delivered = delivered_body_lawful
+body_lawful meaning law kinds.Submit = submit_body_lawful
+body_lawful meaning law kinds.PlanResult = plan_result_body_lawful
+body_lawful meaning law kinds.Finish = finish_body_lawful
+body_lawful meaning law kinds.Nack = nack_body_lawful
+body_lawful meaning law kinds.Refused = refused_body_lawful
+body_lawful meaning law kinds.Register = register_body_lawful
+body_lawful meaning law kinds.Heartbeat = heartbeat_body_lawful
+body_lawful meaning law kinds.Pull = pull_body_lawful
+body_lawful meaning law kinds.List = list_body_lawful
+body_lawful meaning law kinds.Report = report_body_lawful
+body_lawful meaning law kinds.Told = told_body_lawful
 
 -- a body is one of its own kind alone
 pub body_has_kind : {S C : Type 0} (meaning : Meaning S C) (k : Kind) (b : Body S C) → (body meaning k).Fits b → kind_of b ≡ k
@@ -103,6 +126,8 @@ body_has_kind meaning kinds.VoteRequest (bodies.VoteRequest _) fits = refl
 body_has_kind meaning kinds.VoteReply (bodies.VoteReply _) fits = refl
 body_has_kind meaning kinds.Append (bodies.Append _) fits = refl
 body_has_kind meaning kinds.AppendReply (bodies.AppendReply _) fits = refl
+body_has_kind meaning kinds.Install (bodies.Install _) fits = refl
+body_has_kind meaning kinds.InstallReply (bodies.InstallReply _) fits = refl
 body_has_kind meaning kinds.Take (bodies.Request requests.Take) fits = refl
 body_has_kind meaning kinds.Delivered (bodies.Response (responses.Delivered _)) fits = refl
 body_has_kind meaning kinds.Submit (bodies.Request (requests.Submit _)) fits = refl
@@ -120,6 +145,8 @@ body_has_kind meaning kinds.VoteRequest _ fits = absurd fits
 body_has_kind meaning kinds.VoteReply _ fits = absurd fits
 body_has_kind meaning kinds.Append _ fits = absurd fits
 body_has_kind meaning kinds.AppendReply _ fits = absurd fits
+body_has_kind meaning kinds.Install _ fits = absurd fits
+body_has_kind meaning kinds.InstallReply _ fits = absurd fits
 body_has_kind meaning kinds.Take _ fits = absurd fits
 body_has_kind meaning kinds.Delivered _ fits = absurd fits
 body_has_kind meaning kinds.Submit _ fits = absurd fits
@@ -134,22 +161,25 @@ body_has_kind meaning kinds.List _ fits = absurd fits
 body_has_kind meaning kinds.Report _ fits = absurd fits
 body_has_kind meaning kinds.Told _ fits = absurd fits
 
--- no body is longer than a frame has room for, where no command is longer than 65,536 bytes
-pub body_is_short : {S C : Type 0} (meaning : Meaning S C) → meaning.commands.most ≤ 65536 → (k : Kind) → (body meaning k).most ≤ 16777208
-body_is_short meaning short kinds.VoteRequest = omega arith
-body_is_short meaning short kinds.VoteReply = omega arith
-body_is_short meaning short kinds.Append = omega arith
-body_is_short meaning short kinds.AppendReply = omega arith
-body_is_short meaning short kinds.Take = omega arith
-body_is_short meaning short kinds.Delivered = omega arith
-body_is_short meaning short kinds.Submit = omega arith
-body_is_short meaning short kinds.PlanResult = omega arith
-body_is_short meaning short kinds.Finish = omega arith
-body_is_short meaning short kinds.Nack = omega arith
-body_is_short meaning short kinds.Refused = omega arith
-body_is_short meaning short kinds.Register = omega arith
-body_is_short meaning short kinds.Heartbeat = omega arith
-body_is_short meaning short kinds.Pull = omega arith
-body_is_short meaning short kinds.List = omega arith
-body_is_short meaning short kinds.Report = omega arith
-body_is_short meaning short kinds.Told = omega arith
+-- no body is longer than a frame has room for, since no state is longer than 16,000,000 bytes, and no
+-- command than 65,536
+pub body_is_short : {S C : Type 0} (meaning : Meaning S C) → LawfulMachine meaning → (k : Kind) → (body meaning k).most ≤ 16777208
+body_is_short meaning law kinds.VoteRequest = omega arith
+body_is_short meaning law kinds.VoteReply = omega arith
+body_is_short meaning law kinds.Append = omega (arith, law.commands_short)
+body_is_short meaning law kinds.AppendReply = omega arith
+body_is_short meaning law kinds.Install = omega (arith, law.states_short)
+body_is_short meaning law kinds.InstallReply = omega arith
+body_is_short meaning law kinds.Take = omega arith
+body_is_short meaning law kinds.Delivered = omega arith
+body_is_short meaning law kinds.Submit = omega arith
+body_is_short meaning law kinds.PlanResult = omega arith
+body_is_short meaning law kinds.Finish = omega arith
+body_is_short meaning law kinds.Nack = omega arith
+body_is_short meaning law kinds.Refused = omega arith
+body_is_short meaning law kinds.Register = omega arith
+body_is_short meaning law kinds.Heartbeat = omega arith
+body_is_short meaning law kinds.Pull = omega arith
+body_is_short meaning law kinds.List = omega arith
+body_is_short meaning law kinds.Report = omega arith
+body_is_short meaning law kinds.Told = omega arith

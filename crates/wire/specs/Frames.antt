@@ -1,11 +1,13 @@
 -- Frames: the bytes of a message, and how they are read.
-use Rattle.std.specs.Prelude.{◌≡◌, ℕ, ◌+◌, ◌^◌, Bool, false, List, [], ◌∷◌, ◌++◌, length, Result, Ok, Err, ◌&&◌, nat_eq, nat_le, if◌then◌else◌}
+use Rattle.std.specs.Prelude.{◌≡◌, ℕ, ◌+◌, ◌^◌, Bool, true, false, List, [], ◌∷◌, ◌++◌, length, Result, Ok, Err, ◌&&◌, nat_eq, nat_le, if◌then◌else◌}
 use Rattle.fields_model.specs.Format.{Reading, ◌>>=◌, Format, spelled, number_at}
 use Rattle.rows.specs.declared.actor.Actor.{Actor}
 use Rattle.machine_model.specs.Meaning.{Meaning}
 use Rattle.wire.specs.declared.kind.Kind.{Kind}
 use Rattle.wire.specs.declared.header.Header.{Header}
-use Rattle.wire.specs.Messages.{Message, kind_of, is_of_log, holds_list}
+use Rattle.wire.specs.declared.body.Body.{Body}
+use Rattle.wire.specs.declared.body.Body.TheVariants as bodies
+use Rattle.wire.specs.Messages.{Message, kind_of, is_of_log, takes_memory}
 use Rattle.wire.specs.Grammar.{kind, header, body}
 
 -- no frame is longer
@@ -41,10 +43,17 @@ header_of m = record { kind = kind_of m.body; from = m.from; to = m.to }
 abbrev pub message_text : {S C : Type 0} → Meaning S C → Message S C → List ℕ
 message_text meaning m = frame_text header (λ h. body meaning h.kind) (header_of m) m.body
 
--- which messages have a frame: each part is within its range
+-- the state of an Install has seen as many commands as its index says; of other bodies nothing is
+-- asked
+abbrev pub agrees : {S C : Type 0} → Meaning S C → Body S C → Bool
+agrees meaning (bodies.Install i) = nat_eq (meaning.count i.state) i.head.index
+agrees meaning _ = true
+
+-- which messages have a frame: each part is within its range, and the body agrees
 pub record MessageFits {S C : Type 0} (meaning : Meaning S C) (m : Message S C) : Type 0 where
   pub header_fits : header.Fits (header_of m)
   pub body_fits : (body meaning (kind_of m.body)).Fits m.body
+  pub agrees : agrees meaning m.body ≡ true
 
 -- the bytes are the frame of the message, which has one
 abbrev pub IsFrame : {S C : Type 0} → Meaning S C → Message S C → List ℕ → Type 0
@@ -54,9 +63,12 @@ IsFrame meaning m bytes = MessageFits meaning m × (bytes ≡ message_text meani
 abbrev pub AddsFrame : {S C : Type 0} → Meaning S C → Message S C → List ℕ → List ℕ → Type 0
 AddsFrame meaning m old new = MessageFits meaning m × (new ≡ old ++ message_text meaning m)
 
--- the message of a frame, or the place of its first fault
+-- the message of a frame, or the place of its first fault; where all of the bytes are read, and the
+-- body does not agree, its state is at fault, which begins at 32
 unfoldable pub message_at : {S C : Type 0} → Meaning S C → List ℕ → Result (Message S C) ℕ
-message_at meaning bytes = frame_at header (λ h. body meaning h.kind) (λ h b. record { from = h.from; to = h.to; body = b }) bytes
+message_at meaning bytes =
+    frame_at header (λ h. body meaning h.kind) (λ h b. record { from = h.from; to = h.to; body = b }) bytes
+    >>= λ m. if agrees meaning m.body then Ok m else Err 32
 
 -- what was read is one of these kinds
 abbrev pub reads_one_of : (Kind → Bool) → Reading Kind → Bool
@@ -67,9 +79,9 @@ reads_one_of kinds (Err place) = false
 abbrev pub is_log_frame : List ℕ → Bool
 is_log_frame bytes = reads_one_of is_of_log (kind.read bytes 1)
 
--- the second byte is that of a kind whose body holds a list
-abbrev pub frame_holds_list : List ℕ → Bool
-frame_holds_list bytes = reads_one_of holds_list (kind.read bytes 1)
+-- the second byte is that of a kind whose body takes memory
+abbrev pub frame_takes_memory : List ℕ → Bool
+frame_takes_memory bytes = reads_one_of takes_memory (kind.read bytes 1)
 
 -- a frame on its way: its receiver and its bytes
 pub record Frame : Type 0 where

@@ -2,6 +2,7 @@
 use Rattle.std.specs.Prelude.{ℕ, ◌-◌, ◌^◌, min, List, [], ◌∷◌, Option, Some, None}
 use Rattle.fields_model.specs.Format.{Format, number, ◌then◌, depends, made, list, placed, variant, coded, kept, numbered}
 use Rattle.fields_model.specs.Fields.{term, index, bool, actor}
+use Rattle.fields_model.specs.Ids.{from_one}
 use Rattle.rows.specs.declared.actor.Actor.{Actor}
 use Rattle.machine_model.specs.Meaning.{Meaning}
 use Rattle.machine_model.specs.declared.entry.Entry.{Entry}
@@ -13,7 +14,10 @@ use Rattle.wire.specs.declared.vote.VoteRequest.{VoteRequest}
 use Rattle.wire.specs.declared.vote.VoteReply.{VoteReply}
 use Rattle.wire.specs.declared.append.AppendHead.{AppendHead}
 use Rattle.wire.specs.declared.append.AppendReply.{AppendReply}
+use Rattle.wire.specs.declared.install.InstallHead.{InstallHead}
+use Rattle.wire.specs.declared.install.InstallReply.{InstallReply}
 use Rattle.wire.specs.Appends.{Append}
+use Rattle.wire.specs.Installs.{Install}
 use Rattle.wire.specs.declared.body.Body.{Body}
 use Rattle.wire.specs.declared.body.Body.TheVariants as bodies
 use Rattle.wire.specs.Messages.{may_come_from, may_go}
@@ -25,12 +29,14 @@ use Rattle.wire.specs.Services.{take_body, delivered_body, submit_body, plan_res
 abbrev pub version : Format (Unit {0})
 version = coded (λ _. Some tt) (λ _. 1) (number 1 1 2)
 
--- the number of a kind; 5 and 6 are none
+-- the number of a kind
 abbrev pub number_of_kind : Kind → ℕ
 number_of_kind kinds.VoteRequest = 1
 number_of_kind kinds.VoteReply = 2
 number_of_kind kinds.Append = 3
 number_of_kind kinds.AppendReply = 4
+number_of_kind kinds.Install = 5
+number_of_kind kinds.InstallReply = 6
 number_of_kind kinds.Take = 7
 number_of_kind kinds.Delivered = 8
 number_of_kind kinds.Submit = 9
@@ -47,8 +53,8 @@ number_of_kind kinds.Told = 19
 
 abbrev pub all_kinds : List Kind
 all_kinds =
-    kinds.VoteRequest ∷ kinds.VoteReply ∷ kinds.Append ∷ kinds.AppendReply ∷ kinds.Take ∷ kinds.Delivered ∷ kinds.Submit
-    ∷ kinds.PlanResult ∷ kinds.Finish ∷ kinds.Nack ∷ kinds.Refused ∷ kinds.Register ∷ kinds.Heartbeat ∷ kinds.Pull
+    kinds.VoteRequest ∷ kinds.VoteReply ∷ kinds.Append ∷ kinds.AppendReply ∷ kinds.Install ∷ kinds.InstallReply
+    ∷ kinds.Take ∷ kinds.Delivered ∷ kinds.Submit ∷ kinds.PlanResult ∷ kinds.Finish ∷ kinds.Nack ∷ kinds.Refused ∷ kinds.Register ∷ kinds.Heartbeat ∷ kinds.Pull
     ∷ kinds.List ∷ kinds.Report ∷ kinds.Told ∷ []
 
 abbrev pub kind : Format Kind
@@ -105,6 +111,26 @@ append_reply = made
     (λ v. (v.term, (v.asked, (v.ok, v.at))))
     (term then term then bool then index)
 
+-- the index is that of an entry, from 1 on
+abbrev pub install_head : Format InstallHead
+install_head = made
+    (λ p. record { term = p.0; index = p.1.0; index_term = p.1.1 })
+    (λ v. (v.term, (v.index, v.index_term)))
+    (term then from_one then term)
+
+-- and then the state
+abbrev pub install : {S : Type 0} → Format S → Format (Install S)
+install states = made
+    (λ p. record { head = p.0; state = p.1 })
+    (λ v. (v.head, v.state))
+    (install_head then placed states)
+
+abbrev pub install_reply : Format InstallReply
+install_reply = made
+    (λ p. record { term = p.0; asked = p.1.0; at = p.1.1 })
+    (λ v. (v.term, (v.asked, v.at)))
+    (term then term then index)
+
 abbrev pub vote_request_of : {S C : Type 0} → Body S C → Option VoteRequest
 vote_request_of (bodies.VoteRequest v) = Some v
 vote_request_of _ = None
@@ -121,12 +147,22 @@ abbrev pub append_reply_of : {S C : Type 0} → Body S C → Option AppendReply
 append_reply_of (bodies.AppendReply v) = Some v
 append_reply_of _ = None
 
+abbrev pub install_of : {S C : Type 0} → Body S C → Option (Install S)
+install_of (bodies.Install v) = Some v
+install_of _ = None
+
+abbrev pub install_reply_of : {S C : Type 0} → Body S C → Option InstallReply
+install_reply_of (bodies.InstallReply v) = Some v
+install_reply_of _ = None
+
 -- what stands behind the header of each kind
 abbrev pub body : {S C : Type 0} → Meaning S C → Kind → Format (Body S C)
 body meaning kinds.VoteRequest = variant (λ v. bodies.VoteRequest v) vote_request_of vote_request
 body meaning kinds.VoteReply = variant (λ v. bodies.VoteReply v) vote_reply_of vote_reply
 body meaning kinds.Append = variant (λ v. bodies.Append v) append_of (append meaning.commands)
 body meaning kinds.AppendReply = variant (λ v. bodies.AppendReply v) append_reply_of append_reply
+body meaning kinds.Install = variant (λ v. bodies.Install v) install_of (install meaning.states)
+body meaning kinds.InstallReply = variant (λ v. bodies.InstallReply v) install_reply_of install_reply
 body meaning kinds.Take = take_body
 body meaning kinds.Delivered = delivered_body
 body meaning kinds.Submit = submit_body

@@ -1,4 +1,5 @@
 pub mod Appends
+pub mod Installs
 pub mod Messages
 pub mod Services
 pub mod Grammar

@@ -11,6 +11,7 @@ use Rattle.wire.specs.declared.kind.Kind.{Kind}
 use Rattle.wire.specs.declared.kind.Kind.TheVariants as kinds
 use Rattle.wire.specs.declared.append.AppendHead.{AppendHead}
 use Rattle.wire.specs.declared.append.AppendReply.{AppendReply}
+use Rattle.wire.specs.declared.install.InstallHead.{InstallHead}
 use Rattle.wire.specs.declared.body.Body.{Body}
 use Rattle.wire.specs.declared.body.Body.TheVariants as bodies
 use Rattle.wire.specs.declared.log_message.LogBody.{LogBody}
@@ -39,6 +40,8 @@ kind_of (bodies.VoteRequest _) = kinds.VoteRequest
 kind_of (bodies.VoteReply _) = kinds.VoteReply
 kind_of (bodies.Append _) = kinds.Append
 kind_of (bodies.AppendReply _) = kinds.AppendReply
+kind_of (bodies.Install _) = kinds.Install
+kind_of (bodies.InstallReply _) = kinds.InstallReply
 kind_of (bodies.Request request) = request_kind request
 kind_of (bodies.Response response) = response_kind response
 kind_of (bodies.Register _ _) = kinds.Register
@@ -54,6 +57,8 @@ is_of_log kinds.VoteRequest = true
 is_of_log kinds.VoteReply = true
 is_of_log kinds.Append = true
 is_of_log kinds.AppendReply = true
+is_of_log kinds.Install = true
+is_of_log kinds.InstallReply = true
 is_of_log _ = false
 
 -- what a message by which servers keep one log says, as a body of any message
@@ -62,6 +67,8 @@ log_body (logs.VoteRequest v) = bodies.VoteRequest v
 log_body (logs.VoteReply v) = bodies.VoteReply v
 log_body (logs.Append v) = bodies.Append v
 log_body (logs.AppendReply v) = bodies.AppendReply v
+log_body (logs.Install v) = bodies.Install v.value
+log_body (logs.InstallReply v) = bodies.InstallReply v
 
 -- the kinds that workers and the leader's desk send each other
 abbrev pub is_of_desk : Kind → Bool
@@ -74,15 +81,16 @@ is_of_desk kinds.Nack = true
 is_of_desk kinds.Refused = true
 is_of_desk _ = false
 
--- the kinds whose bodies hold a list: reading one of them takes memory, and reading any other takes
--- none
-abbrev pub holds_list : Kind → Bool
-holds_list kinds.Append = true
-holds_list kinds.Submit = true
-holds_list kinds.PlanResult = true
-holds_list kinds.List = true
-holds_list kinds.Report = true
-holds_list _ = false
+-- the kinds whose bodies hold a list or a state: reading one of them takes memory, and reading any
+-- other takes none
+abbrev pub takes_memory : Kind → Bool
+takes_memory kinds.Append = true
+takes_memory kinds.Install = true
+takes_memory kinds.Submit = true
+takes_memory kinds.PlanResult = true
+takes_memory kinds.List = true
+takes_memory kinds.Report = true
+takes_memory _ = false
 
 -- the kinds that a node's agent sends
 abbrev pub is_of_agent : Kind → Bool
@@ -123,6 +131,8 @@ may_go kinds.VoteRequest from to = is_another_server from to
 may_go kinds.VoteReply from to = is_another_server from to
 may_go kinds.Append from to = is_another_server from to
 may_go kinds.AppendReply from to = is_another_server from to
+may_go kinds.Install from to = is_another_server from to
+may_go kinds.InstallReply from to = is_another_server from to
 may_go kinds.Register from to = is_client_to_server from to
 may_go kinds.Heartbeat from to = is_client_to_server from to
 may_go kinds.Pull from to = is_client_to_server from to
@@ -138,3 +148,7 @@ append_message from to head entries = record { from = Server from; to = Server t
 -- an answer to a leader, from one server to another
 abbrev pub answer_message : {S C : Type 0} → ℕ → ℕ → AppendReply → Message S C
 answer_message from to reply = record { from = Server from; to = Server to; body = bodies.AppendReply reply }
+
+-- an Install of these parts, from one server to another
+abbrev pub install_message : {S C : Type 0} → ℕ → ℕ → InstallHead → S → Message S C
+install_message from to head state = record { from = Server from; to = Server to; body = bodies.Install (record { head = head; state = state }) }

@@ -1,10 +1,13 @@
-ghost use Rattle.std.specs.Prelude.{◌≡◌, true, IfOk};
-ghost use Rattle.fields_model.specs.Format.{Answers, Puts};
-ghost use Rattle.wire.specs.Messages.{holds_list, kind_of};
+ghost use Rattle.std.specs.Prelude.{◌≡◌, true, IfOk, OnOk};
+ghost use Rattle.fields_model.specs.Format.{Puts};
+ghost use Rattle.wire.specs.Messages.{takes_memory, kind_of};
 ghost use Rattle.wire.specs.Grammar.{body};
-ghost use Rattle.wire.specs.Inner.Said.{said_body, HavePlaces};
+ghost use Rattle.wire.specs.Frames.{agrees};
+ghost use Rattle.wire.specs.Inner.Readings.{AnswersBody};
+ghost use Rattle.wire.specs.Inner.Said.{said_body, IsInRange};
 
 use crate::append::{Append, AppendHead, AppendReply, append_append, read_append};
+use crate::install::{Install, InstallHead, InstallReply, append_install, read_install};
 use crate::kind::Kind;
 use crate::services::{
     append_request, append_response, read_desk_body, request_kind, response_kind,
@@ -29,6 +32,10 @@ pub enum Body<M: Machine> {
     Append(Append<M>),
     /// The answer to a leader.
     AppendReply(AppendReply),
+    /// A leader sends a state.
+    Install(Install<M>),
+    /// The answer to a leader that sent a state.
+    InstallReply(InstallReply),
     /// What a server's workers ask of the leader's desk.
     Request(WorkerRequest),
     /// What the leader's desk answers.
@@ -60,6 +67,8 @@ impl<M: Machine> Body<M> {
             Body::VoteReply(_) => Kind::VoteReply,
             Body::Append(_) => Kind::Append,
             Body::AppendReply(_) => Kind::AppendReply,
+            Body::Install(_) => Kind::Install,
+            Body::InstallReply(_) => Kind::InstallReply,
             Body::Request(request) => request_kind(request),
             Body::Response(response) => response_kind(response),
             Body::Register(_, _) => Kind::Register,
@@ -72,15 +81,16 @@ impl<M: Machine> Body<M> {
     }
 }
 
-/// The body of a message of this kind, and the place after it.
+/// The body of a message of this kind, and the place after it. An Install takes the rest of the
+/// bytes.
 pub fn read_body<M: Machine>(
     alloc: Global,
     kind: Kind,
     bytes: &[u8],
     at: usize,
 ) -> Result<(Body<M>, usize), Refusal>
-    // Memory is wanted for a kind that holds a list alone.
-    ensures value { Answers (holds_list kind ≡ true) result
+    // Memory is wanted for a kind that holds a list or a state alone.
+    ensures value { AnswersBody M.meaning (takes_memory kind ≡ true) (λ b. b) bytes.now at result
         ((body M.meaning kind).read bytes.now at) }
     ensures same_kind { IfOk result (λ b. kind_of b.0 ≡ kind) }
 {
@@ -100,6 +110,14 @@ pub fn read_body<M: Machine>(
         Kind::AppendReply => {
             let (reply, end) = AppendReply::read_at(alloc, bytes, at)?;
             Ok((Body::AppendReply(reply), end))
+        }
+        Kind::Install => {
+            let (install, end) = read_install(alloc, bytes, at)?;
+            Ok((Body::Install(install), end))
+        }
+        Kind::InstallReply => {
+            let (reply, end) = InstallReply::read_at(alloc, bytes, at)?;
+            Ok((Body::InstallReply(reply), end))
         }
         Kind::Register => {
             let (class, at) = ClassName::read_at(alloc, bytes, at)?;
@@ -129,13 +147,17 @@ pub fn read_body<M: Machine>(
 /// Puts the body to the end.
 #[inline(never)]
 pub fn append_body<M: Machine>(value: &Body<M>, out: &mut Vec<u8>) -> Result<(), NoMemory>
-    ensures { Puts (body M.meaning (kind_of value.now)) value.now result out.old.items out.new.items }
+    ensures value { Puts (body M.meaning (kind_of value.now)) value.now
+        result out.old.items out.new.items }
+    ensures agrees { OnOk result (agrees M.meaning value.now ≡ true) }
 {
     match value {
         Body::VoteRequest(request) => request.append(out),
         Body::VoteReply(reply) => reply.append(out),
         Body::Append(append) => append_append(&append.head(), append.entries(), out),
         Body::AppendReply(reply) => reply.append(out),
+        Body::Install(install) => append_install(&install.head(), install.state(), out),
+        Body::InstallReply(reply) => reply.append(out),
         Body::Request(request) => append_request::<M>(request, out),
         Body::Response(response) => append_response::<M>(response, out),
         Body::Register(class, size) => {
@@ -155,7 +177,8 @@ pub fn append_body<M: Machine>(value: &Body<M>, out: &mut Vec<u8>) -> Result<(),
     }
 }
 
-/// What is to be sent: a body, or the parts of one that stay where they are, as entries in a log.
+/// What is to be sent: a body, or the parts of one that stay where they are, as entries in a log,
+/// or the state that a log begins with.
 #[derive(Drop)]
 pub enum Said<'a, M: Machine> {
     /// A body.
@@ -164,6 +187,8 @@ pub enum Said<'a, M: Machine> {
     Answer(&'a AppendReply),
     /// The parts of an `Append`.
     Entries(&'a AppendHead, &'a [Entry<Coded<M>>]),
+    /// The parts of an `Install`.
+    State(&'a InstallHead, &'a M),
 }
 
 impl<'a, M: Machine> Said<'a, M> {
@@ -175,6 +200,7 @@ impl<'a, M: Machine> Said<'a, M> {
             Said::Body(body) => body.kind(),
             Said::Answer(_) => Kind::AppendReply,
             Said::Entries(_, _) => Kind::Append,
+            Said::State(_, _) => Kind::Install,
         }
     }
 }
@@ -182,13 +208,15 @@ impl<'a, M: Machine> Said<'a, M> {
 /// Puts what is said to the end.
 #[inline(always)]
 pub fn append_said<M: Machine>(said: &Said<'_, M>, out: &mut Vec<u8>) -> Result<(), NoMemory>
-    requires { HavePlaces said.now }
-    ensures { Puts (body M.meaning (kind_of (said_body said.now))) (said_body said.now)
+    requires { IsInRange M.meaning said.now }
+    ensures value { Puts (body M.meaning (kind_of (said_body said.now))) (said_body said.now)
         result out.old.items out.new.items }
+    ensures agrees { OnOk result (agrees M.meaning (said_body said.now) ≡ true) }
 {
     match said {
         Said::Body(body) => append_body(body, out),
         Said::Answer(reply) => reply.append(out),
         Said::Entries(head, entries) => append_append(head, entries, out),
+        Said::State(head, state) => append_install(head, *state, out),
     }
 }

@@ -2,12 +2,13 @@
 ghost use Rattle.std.specs.Prelude.{◌≡◌, [], ◌+◌, ◌<◌, ◌≤◌, ◌^◌, true, length, take, slice_get, slice_range, ◌==◌, OnOk, OnErr};
 ghost use Rattle.rows.specs.declared.actor.Actor.TheVariants as actors;
 ghost use Rattle.wire.specs.declared.kind.Kind.TheVariants as kinds;
-ghost use Rattle.wire.specs.Messages.{append_message, answer_message, may_go};
+ghost use Rattle.wire.specs.Messages.{append_message, answer_message, install_message, may_go};
 ghost use Rattle.wire.specs.Frames.{ListsFrame};
 ghost use Rattle.wire.specs.Inner.Ends.{start_of};
 
 use crate::append::{AppendHead, AppendReply};
 use crate::body::Said;
+use crate::install::InstallHead;
 use crate::message::Message;
 use crate::writing::{write_frame, write_message};
 use machine::{Coded, Entry, Machine};
@@ -161,6 +162,33 @@ impl Frames {
         let (from, to) = (Actor::Server(from), Actor::Server(to));
         self.ends.reserve(1)?;
         write_frame::<M>(&from, &to, &Said::Answer(reply), &mut self.bytes)?;
+        self.ends.push_reserved(End {
+            to,
+            end: self.bytes.len(),
+        });
+        Ok(())
+    }
+
+    /// Puts the frame of an `Install` of these parts to the end, or changes nothing. The state
+    /// stays with the caller, and only its text is written: it has seen as many commands as the
+    /// index says, one at least. It goes to another server.
+    pub fn send_install<M: Machine>(
+        &mut self,
+        from: ServerId,
+        to: ServerId,
+        head: &InstallHead,
+        state: &M,
+    ) -> Result<(), NoMemory>
+        requires allowed { may_go kinds.Install (actors.Server from) (actors.Server to) ≡ true }
+        requires index { 1 ≤ head.now.index }
+        requires count { M.meaning.count state.now ≡ head.now.index }
+        ensures ok { OnOk result (ListsFrame M.meaning
+            (install_message {C = M.Command} from to head.now state.now) self.old self.new) }
+        ensures err { OnErr result (self.new ≡ self.old) }
+    {
+        let (from, to) = (Actor::Server(from), Actor::Server(to));
+        self.ends.reserve(1)?;
+        write_frame(&from, &to, &Said::State(head, state), &mut self.bytes)?;
         self.ends.push_reserved(End {
             to,
             end: self.bytes.len(),

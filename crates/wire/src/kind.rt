@@ -19,6 +19,10 @@ pub enum Kind {
     Append,
     /// 4: the answer to a leader.
     AppendReply,
+    /// 5: a leader sends a state.
+    Install,
+    /// 6: the answer to a leader that sent a state.
+    InstallReply,
     /// 7: a worker asks for an evaluation.
     Take,
     /// 8: an evaluation for a worker, or that there is none.
@@ -57,6 +61,8 @@ impl Kind {
             Kind::VoteReply => 2,
             Kind::Append => 3,
             Kind::AppendReply => 4,
+            Kind::Install => 5,
+            Kind::InstallReply => 6,
             Kind::Take => 7,
             Kind::Delivered => 8,
             Kind::Submit => 9,
@@ -77,10 +83,12 @@ impl Kind {
     pub fn is_of_log(self) -> bool
         ensures { result ≡ is_of_log self }
     {
-        matches!(
-            self,
-            Kind::VoteRequest | Kind::VoteReply | Kind::Append | Kind::AppendReply
-        )
+        match self {
+            Kind::VoteRequest | Kind::VoteReply => true,
+            Kind::Append | Kind::AppendReply => true,
+            Kind::Install | Kind::InstallReply => true,
+            _ => false,
+        }
     }
 
     /// Whether the message is one of those that workers and the leader's desk send each other.
@@ -125,6 +133,7 @@ impl Kind {
         match self {
             Kind::VoteRequest | Kind::VoteReply => is_another_server(from, to),
             Kind::Append | Kind::AppendReply => is_another_server(from, to),
+            Kind::Install | Kind::InstallReply => is_another_server(from, to),
             Kind::Register | Kind::Heartbeat => !is_server(from) && is_server(to),
             Kind::Pull | Kind::Report => !is_server(from) && is_server(to),
             Kind::List | Kind::Told => is_server(from) && !is_server(to),
@@ -158,6 +167,8 @@ impl Field for Kind {
             (2, next) => Ok((Kind::VoteReply, next)),
             (3, next) => Ok((Kind::Append, next)),
             (4, next) => Ok((Kind::AppendReply, next)),
+            (5, next) => Ok((Kind::Install, next)),
+            (6, next) => Ok((Kind::InstallReply, next)),
             (7, next) => Ok((Kind::Take, next)),
             (8, next) => Ok((Kind::Delivered, next)),
             (9, next) => Ok((Kind::Submit, next)),

@@ -4,13 +4,14 @@ ghost use Rattle.std.specs.Prelude.{◌≡◌, true, IfErr, IfOk, Ok};
 ghost use Rattle.rows.specs.declared.actor.Actor.TheVariants as actors;
 ghost use Rattle.rows.specs.declared.refusal.Refusal.TheVariants as refusals;
 ghost use Rattle.fields_model.specs.Format.{Answers, Gives};
-ghost use Rattle.wire.specs.Messages.{Message as MessageOf, holds_list, is_another_server, is_of_log, is_server, kind_of, log_body, may_go};
-ghost use Rattle.wire.specs.Frames.{IsFrame, MessageFits, frame_holds_list, is_log_frame, message_at, message_text};
+ghost use Rattle.wire.specs.Messages.{Message as MessageOf, is_another_server, is_of_log, is_server, kind_of, log_body, may_go, takes_memory};
+ghost use Rattle.wire.specs.Frames.{IsFrame, MessageFits, frame_takes_memory, is_log_frame, message_at, message_text};
 ghost use Rattle.wire.specs.Grammar.{body};
-ghost use Rattle.wire.specs.Inner.Said.{AnswersLogBody};
+ghost use Rattle.wire.specs.Inner.Readings.{AnswersBody};
 
 use crate::append::{Append, AppendReply, read_append};
 use crate::header::read_header;
+use crate::install::{Install, InstallReply, read_install};
 use crate::kind::Kind;
 use crate::reading::read_size;
 use crate::vote::{VoteReply, VoteRequest};
@@ -31,6 +32,10 @@ pub enum LogBody<M: Machine> {
     Append(Append<M>),
     /// The answer to a leader.
     AppendReply(AppendReply),
+    /// A leader sends a state. It stands apart, since it is rare, and large where the machine is.
+    Install(Box<Install<M>>),
+    /// The answer to a leader that sent a state.
+    InstallReply(InstallReply),
 }
 
 /// A message of one server to another by which they keep one log, in a group that replicates the
@@ -85,7 +90,7 @@ pub fn is_log_frame(bytes: &[u8]) -> bool
     ensures { result ≡ is_log_frame bytes.now }
 {
     match read_u8(bytes, 1) {
-        Ok((kind, _)) => 1 <= kind && kind <= 4,
+        Ok((kind, _)) => 1 <= kind && kind <= 6,
         Err(_) => false,
     }
 }
@@ -99,7 +104,7 @@ fn read_log_body<M: Machine>(
     at: usize,
 ) -> Result<(LogBody<M>, usize), Refusal>
     requires { is_of_log kind ≡ true }
-    ensures { AnswersLogBody (holds_list kind ≡ true) result
+    ensures { AnswersBody M.meaning (takes_memory kind ≡ true) (λ b. log_body b) bytes.now at result
         ((body M.meaning kind).read bytes.now at) }
 {
     match kind {
@@ -118,6 +123,14 @@ fn read_log_body<M: Machine>(
         Kind::AppendReply => {
             let (reply, end) = AppendReply::read_at(alloc, bytes, at)?;
             Ok((LogBody::AppendReply(reply), end))
+        }
+        Kind::Install => {
+            let (install, end) = read_install(alloc, bytes, at)?;
+            Ok((LogBody::Install(Box::new(alloc, install)?), end))
+        }
+        Kind::InstallReply => {
+            let (reply, end) = InstallReply::read_at(alloc, bytes, at)?;
+            Ok((LogBody::InstallReply(reply), end))
         }
         _ => unreachable!(),
     }
@@ -139,7 +152,7 @@ fn server_of(actor: &Actor) -> ServerId
 #[inline(always)]
 fn read_log_frame<M: Machine>(alloc: Global, bytes: &[u8]) -> Result<LogMessage<M>, Refusal>
     requires { is_log_frame bytes.now ≡ true }
-    ensures exact { Answers (frame_holds_list bytes.now ≡ true) result
+    ensures exact { Answers (frame_takes_memory bytes.now ≡ true) result
         (message_at M.meaning bytes.now) }
     ensures log { IfOk result (λ m. is_of_log (kind_of m.body) ≡ true) }
     ensures allowed { IfOk result (λ m. may_go (kind_of m.body) m.from m.to ≡ true) }
@@ -169,8 +182,9 @@ pub fn read_log_message<M: Machine>(alloc: Global, bytes: &[u8]) -> Result<LogMe
         → bytes.now ≡ message_text M.meaning m → Gives result (Ok m) }
     // Which field is at fault.
     ensures exact { Gives result (message_at M.meaning bytes.now) }
-    // Memory can run out only where the second byte says that there is a list.
-    ensures memory { IfErr result (λ e. e ≡ refusals.NoMemory → frame_holds_list bytes.now ≡ true) }
+    // Memory can run out only where the second byte says that there is a list or a state.
+    ensures memory { IfErr result (λ e. e ≡ refusals.NoMemory
+        → frame_takes_memory bytes.now ≡ true) }
     // It is one by which servers keep one log, and goes where such go.
     ensures log { IfOk result (λ m. is_of_log (kind_of m.body) ≡ true) }
     ensures allowed { IfOk result (λ m. may_go (kind_of m.body) m.from m.to ≡ true) }

@@ -1,10 +1,11 @@
 //! What workers and the leader's desk send each other, as bodies.
 ghost use Rattle.std.specs.Prelude.{◌≡◌, true, IfOk};
-ghost use Rattle.fields_model.specs.Format.{Answers, GivesExactly, Puts, option};
+ghost use Rattle.fields_model.specs.Format.{GivesExactly, Puts, option};
 ghost use Rattle.fields_model.specs.Ids.{delivery};
 ghost use Rattle.wire.specs.declared.body.Body.TheVariants as bodies;
-ghost use Rattle.wire.specs.Messages.{holds_list, kind_of, request_kind, response_kind, is_of_desk};
+ghost use Rattle.wire.specs.Messages.{takes_memory, kind_of, request_kind, response_kind, is_of_desk};
 ghost use Rattle.wire.specs.Grammar.{body};
+ghost use Rattle.wire.specs.Inner.Readings.{AnswersBody};
 
 use crate::body::Body;
 use crate::kind::Kind;
@@ -67,7 +68,7 @@ pub fn read_desk_body<M: Machine>(
 ) -> Result<(Body<M>, usize), Refusal>
     requires { is_of_desk kind ≡ true }
     // Memory is wanted for a kind that holds a list alone.
-    ensures value { Answers (holds_list kind ≡ true) result
+    ensures value { AnswersBody M.meaning (takes_memory kind ≡ true) (λ b. b) bytes.now at result
         ((body M.meaning kind).read bytes.now at) }
     ensures same_kind { IfOk result (λ b. kind_of b.0 ≡ kind) }
 {

@@ -2,8 +2,8 @@ ghost use Rattle.std.specs.Prelude.{◌≡◌, ◌++◌, ◌+◌, ◌<◌, ◌�
 ghost use Rattle.fields_model.specs.Format.{Grows};
 ghost use Rattle.wire.specs.Messages.{kind_of, may_go};
 ghost use Rattle.wire.specs.Grammar.{body};
-ghost use Rattle.wire.specs.Frames.{sized, AddsFrame};
-ghost use Rattle.wire.specs.Inner.Said.{said_body, HavePlaces};
+ghost use Rattle.wire.specs.Frames.{sized, agrees, AddsFrame};
+ghost use Rattle.wire.specs.Inner.Said.{said_body, IsInRange};
 ghost use Rattle.wire.specs.Inner.Sizes.{AddsSized};
 
 use crate::body::{Said, append_said};
@@ -26,9 +26,10 @@ fn put_size(out: &mut Vec<u8>, at: usize)
 /// Puts what is said to the end, behind its length.
 #[inline(always)]
 fn append_sized<M: Machine>(said: &Said<'_, M>, out: &mut Vec<u8>) -> Result<(), NoMemory>
-    requires { HavePlaces said.now }
+    requires { IsInRange M.meaning said.now }
     ensures ok { OnOk result (AddsSized (body M.meaning (kind_of (said_body said.now)))
         (said_body said.now) out.old.items out.new.items) }
+    ensures agrees { OnOk result (agrees M.meaning (said_body said.now) ≡ true) }
     ensures err { OnErr result (Grows out.old.items out.new.items) }
 {
     let size_at = out.len();
@@ -48,7 +49,7 @@ fn append_frame<M: Machine>(
     out: &mut Vec<u8>,
 ) -> Result<(), NoMemory>
     requires allowed { may_go (kind_of (said_body said.now)) from.now to.now ≡ true }
-    requires places { HavePlaces said.now }
+    requires range { IsInRange M.meaning said.now }
     ensures ok { OnOk result (AddsFrame M.meaning
         (record { from = from.now; to = to.now; body = said_body said.now }) out.old.items out.new.items) }
     ensures err { OnErr result (Grows out.old.items out.new.items) }
@@ -64,7 +65,7 @@ fn append_frame<M: Machine>(
 
 /// Puts the one frame of the message of these parts to the end, or changes nothing. Its kind goes
 /// from there to there; the entries of an `Append` are at most 32, each with a place in the log,
-/// below 2^40.
+/// below 2^40; the state of an `Install` has seen as many commands as its index says, one at least.
 #[inline(always)]
 pub fn write_frame<M: Machine>(
     from: &Actor,
@@ -73,7 +74,7 @@ pub fn write_frame<M: Machine>(
     out: &mut Vec<u8>,
 ) -> Result<(), NoMemory>
     requires allowed { may_go (kind_of (said_body said.now)) from.now to.now ≡ true }
-    requires places { HavePlaces said.now }
+    requires range { IsInRange M.meaning said.now }
     ensures ok { OnOk result (AddsFrame M.meaning
         (record { from = from.now; to = to.now; body = said_body said.now }) out.old.items out.new.items) }
     ensures err { OnErr result (out.new.items ≡ out.old.items) }

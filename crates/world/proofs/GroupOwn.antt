@@ -7,7 +7,7 @@ use Rattle.wire.specs.Frames.{Frame}
 use Rattle.raft_model.specs.Servers.{is_up, silent, restarted}
 use Rattle.raft_model.specs.Steps as raft_steps
 use Rattle.cluster_model.specs.ClusterMachine.{cluster_meaning}
-use Rattle.group_model.specs.Inputs.{Input, Timeout, Beat, Request, TakeFrom, SubmitTo, FinishAt, NackAt, PlanTurn, Lapse, Expire, DrainTurn, FreeTurn, Reap, Crash, Restart, Act, AskRestart, asks}
+use Rattle.group_model.specs.Inputs.{Input, Timeout, Beat, Request, TakeFrom, SubmitTo, FinishAt, NackAt, PlanTurn, Lapse, Expire, DrainTurn, FreeTurn, Reap, Compact, Crash, Restart, Act, AskRestart, asks}
 use Rattle.group_model.specs.Members.{Member, Turn, acts, wakes, logged, done, step}
 use Rattle.group_model.specs.Clients as clients
 use Rattle.group_model.specs.Worlds.{World, AtServer, AtClient, IsRestart, own_input, takes_input, input_to, own_client_input, client_takes, client_input_to, client_at}
@@ -91,6 +91,7 @@ module _ (view : ServerView) (w : World) (i : ℕ) (s : Member) (me : view.raft.
   by_input (inputs.DrainTurn node) other = plain (DrainTurn node) refl (λ may. may) refl
   by_input inputs.FreeTurn other = plain FreeTurn refl (λ may. may) refl
   by_input inputs.Reap other = plain Reap refl (λ may. may) refl
+  by_input inputs.Compact other = plain Compact refl (λ may. may) refl
   by_input inputs.Crash other = plain Crash refl (λ may. may) refl
   by_input inputs.Restart other = own Restart refl (λ may. may) (λ so. tt) (λ so down. woken (length w.servers) i s down)
 

@@ -13,7 +13,6 @@ pub mod Runs
 pub mod Histories
 pub mod Replays
 pub mod Same
-pub mod Loads
 pub mod GroupScenes
 pub mod GroupHeights
 pub mod GroupServers

@@ -13,7 +13,7 @@ use Rattle.raft_model.specs.Servers.{Server, Mode, Down, Follower, Candidate, Le
 use Rattle.raft_model.specs.Steps.{Input, Arrives, Timeout, Beat, Propose, Compact, Crash, Restart, step}
 use Rattle.raft_model.specs.Worlds.{Event, Deliver, TimesOut, Beats, Proposes, Compacts, Crashes, Restarts}
 use Rattle.raft_core.specs.RaftView.{RaftView}
-use Rattle.raft_core.specs.Frames.{IsFrameOf, log_message}
+use Rattle.raft_core.specs.Frames.{IsFrameOf, Says}
 use Rattle.raft_core.specs.Inputs.{Handed, Bytes, Own, Reads}
 use Rattle.raft_core.specs.Steps.{Represents}
 use Rattle.raft_core.specs.Refusals.{refusal, refusal_by, frame_refusal, MayLack, IsRefused, LackLeaves, LackStays, RefusalLeaves, Stays}
@@ -37,19 +37,21 @@ IsAddressed n me Crash = Unit {0}
 IsAddressed n me Restart = Unit {0}
 
 -- a body that says a message of the log is of such a kind
-said_kind : {S C : Type 0} (from to : ℕ) (body : Body S C) (x : Message C) → log_message from to body ≡ Some x → is_of_log (kind_of body) ≡ true
-said_kind from to (bodies.VoteRequest v) x is = refl
-said_kind from to (bodies.VoteReply v) x is = refl
-said_kind from to (bodies.Append a) x is = refl
-said_kind from to (bodies.AppendReply r) x is = refl
-said_kind from to (bodies.Request r) x is = absurd (cc is)
-said_kind from to (bodies.Response r) x is = absurd (cc is)
-said_kind from to (bodies.Register class size) x is = absurd (cc is)
-said_kind from to bodies.Heartbeat x is = absurd (cc is)
-said_kind from to bodies.Pull x is = absurd (cc is)
-said_kind from to (bodies.List index rows) x is = absurd (cc is)
-said_kind from to (bodies.Report items) x is = absurd (cc is)
-said_kind from to (bodies.Told kind reason) x is = absurd (cc is)
+said_kind : {S C : Type 0} (m : Meaning S C) (from to : ℕ) (body : Body S C) (x : Message C) → Says m from to body x → is_of_log (kind_of body) ≡ true
+said_kind m from to (bodies.VoteRequest v) x is = refl
+said_kind m from to (bodies.VoteReply v) x is = refl
+said_kind m from to (bodies.Append a) x is = refl
+said_kind m from to (bodies.AppendReply r) x is = refl
+said_kind m from to (bodies.Install i) x is = refl
+said_kind m from to (bodies.InstallReply r) x is = refl
+said_kind m from to (bodies.Request r) x is = absurd (cc is)
+said_kind m from to (bodies.Response r) x is = absurd (cc is)
+said_kind m from to (bodies.Register class size) x is = absurd (cc is)
+said_kind m from to bodies.Heartbeat x is = absurd (cc is)
+said_kind m from to bodies.Pull x is = absurd (cc is)
+said_kind m from to (bodies.List index rows) x is = absurd (cc is)
+said_kind m from to (bodies.Report items) x is = absurd (cc is)
+said_kind m from to (bodies.Told kind reason) x is = absurd (cc is)
 
 module _ {S C : Type 0} (m : Meaning S C) (n me : ℕ)
     (again : (y : WireMessage S C) → MessageFits m y → message_at m (message_text m y) ≡ Ok y) where
@@ -61,7 +63,7 @@ module _ {S C : Type 0} (m : Meaning S C) (n me : ℕ)
       let mine : (x.to == me) ≡ true = eq-eqb x.to me to in
       let f_from = f.means.from in
       let f_to = f.means.to in
-      let kind : is_of_log (kind_of f.read.body) ≡ true = said_kind x.from x.to f.read.body x f.means.said in
+      let kind : is_of_log (kind_of f.read.body) ≡ true = said_kind m x.from x.to f.read.body x f.means.said in
       rw (read, kind, f_from, f_to, inside, mine) refl
 
   frame_refused : (s : Server C) (bytes : List ℕ) (x : Message C) (r : Refusal) (up : Bool) → is_up s.mode ≡ up → IsFrameOf m bytes x → x.from < n → x.to ≡ me →

@@ -18,6 +18,7 @@ world_event (events.Deliver k) = Deliver (place_of k)
 world_event (events.Timeout i) = TimesOut i
 world_event (events.Beat i) = Beats i
 world_event (events.Propose i command) = Proposes i command.value
+world_event (events.Compact i) = Compacts i
 world_event (events.Crash i) = Crashes i
 world_event (events.Restart i) = Restarts i
 

@@ -1,11 +1,11 @@
 ghost use Rattle.std.specs.Prelude.{◌≡◌, IfOk};
-ghost use Rattle.machine_model.specs.Meaning.{IsCommandOf};
 ghost use Rattle.raft_model.specs.Worlds.{IsEvent};
 ghost use Rattle.world.specs.Events.{world_event};
 ghost use Rattle.world.specs.Inner.Inputs.{is_restart};
 
-use machine::{Machine, commands_are_whole};
-use rows::{NoMemory, Refusal, ServerId};
+use machine::Machine;
+use raft_snapshot::command_again;
+use rows::{NoMemory, ServerId};
 use std::alloc::Global;
 
 /// What can happen to a group of servers. A loss is a message that is never delivered, a repeat one
@@ -22,30 +22,12 @@ pub enum RaftEvent<M: Machine> {
     /// A command is proposed to a server. (Raft, section 5.3.) It stands apart, so that the other
     /// events cost no more than two words.
     Propose(ServerId, Box<M::Command>),
+    /// A server covers all entries that it has applied by the state after them. (Raft, section 7.)
+    Compact(ServerId),
     /// A server stops, and keeps what it stores.
     Crash(ServerId),
     /// A server that is down starts again from what it stores.
     Restart(ServerId),
-}
-
-/// The same command, read from its own text.
-pub(crate) fn command_again<M: Machine>(
-    alloc: Global,
-    command: &M::Command,
-) -> Result<M::Command, NoMemory>
-    ensures { IfOk result (λ again. (again ≡ command.now) × IsCommandOf M.meaning again) }
-{
-    let mut text = Vec::new(alloc);
-    M::write_command(command, &mut text)?;
-    commands_are_whole::<M>();
-    match M::read_command(alloc, &text) {
-        Ok((again, _)) => Ok(again),
-        Err(cause) => match cause {
-            Refusal::NoMemory => Err(NoMemory),
-            // The bytes are the command's text.
-            _ => unreachable!(),
-        },
-    }
 }
 
 impl<M: Machine> RaftEvent<M> {
@@ -62,6 +44,7 @@ impl<M: Machine> RaftEvent<M> {
                 let command = command_again::<M>(alloc, command.as_ref())?;
                 Ok(RaftEvent::Propose(*server, Box::new(alloc, command)?))
             }
+            RaftEvent::Compact(server) => Ok(RaftEvent::Compact(*server)),
             RaftEvent::Crash(server) => Ok(RaftEvent::Crash(*server)),
             RaftEvent::Restart(server) => Ok(RaftEvent::Restart(*server)),
         }
@@ -77,6 +60,7 @@ impl<M: Machine> RaftEvent<M> {
             RaftEvent::Timeout(_) => false,
             RaftEvent::Beat(_) => false,
             RaftEvent::Propose(_, _) => false,
+            RaftEvent::Compact(_) => false,
             RaftEvent::Crash(_) => false,
         }
     }

@@ -52,6 +52,7 @@ pub(crate) fn actor<M: Machine>(sent: &Frames, event: &RaftEvent<M>) -> Option<S
         RaftEvent::Timeout(server) => Some(*server),
         RaftEvent::Beat(server) => Some(*server),
         RaftEvent::Propose(server, _) => Some(*server),
+        RaftEvent::Compact(server) => Some(*server),
         RaftEvent::Crash(server) => Some(*server),
         RaftEvent::Restart(server) => Some(*server),
     }
@@ -102,6 +103,7 @@ pub(crate) fn copy_frame<M: Machine>(
         RaftEvent::Timeout(_) => Ok(()),
         RaftEvent::Beat(_) => Ok(()),
         RaftEvent::Propose(_, _) => Ok(()),
+        RaftEvent::Compact(_) => Ok(()),
         RaftEvent::Crash(_) => Ok(()),
         RaftEvent::Restart(_) => Ok(()),
     }
@@ -135,6 +137,7 @@ pub(crate) fn hand<M: Machine>(
         RaftEvent::Timeout(_) => raft.step(Input::Timeout, sent),
         RaftEvent::Beat(_) => raft.step(Input::Beat, sent),
         RaftEvent::Propose(_, command) => propose(raft, Box::into_inner(command)),
+        RaftEvent::Compact(_) => raft.step(Input::Compact, sent),
         RaftEvent::Crash(_) => raft.step(Input::Crash, sent),
         RaftEvent::Restart(_) => raft.step(Input::Restart, sent),
     }

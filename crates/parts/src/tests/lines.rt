@@ -104,7 +104,8 @@ fn put_name(out: &mut Vec<u8>, word: &str) -> bool {
     out.push(word.len().min(255) as u8).is_ok() && out.extend_from_slice(word.as_bytes()).is_ok()
 }
 
-fn put_field(out: &mut Vec<u8>, kind: char, word: &str) -> bool {
+/// Puts a field of a kind, by what stands for it in a line.
+pub(crate) fn put_field(out: &mut Vec<u8>, kind: char, word: &str) -> bool {
     match kind {
         '1' => put_number(out, word, 1),
         '2' => put_number(out, word, 2),

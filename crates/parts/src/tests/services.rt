@@ -212,8 +212,6 @@ type Change = (&'static [u8], usize, u8, usize);
 const CHANGES: &[Change] = &[
     // A kind that is none.
     (TAKE, 1, 0, 1),
-    (TAKE, 1, 5, 1),
-    (TAKE, 1, 6, 1),
     (TAKE, 1, 20, 1),
     (TAKE, 1, 255, 1),
     // The body as that of another kind, where the sender and the receiver are of its sort.
@@ -235,7 +233,10 @@ const CHANGES: &[Change] = &[
     (REPORT, 1, 15, 8),
     (REPORT, 1, 16, 8),
     (REPORT, 1, 17, 2),
-    // A sender or a receiver of the wrong sort; a server may send to itself and to others.
+    // A sender or a receiver of the wrong sort; a server may send to itself and to others, but of
+    // the kinds of the log to others alone.
+    (TAKE, 1, 5, 3),
+    (TAKE, 1, 6, 3),
     (TAKE, 2, 129, 2),
     (TAKE, 3, 129, 3),
     (TAKE, 3, 5, NONE),

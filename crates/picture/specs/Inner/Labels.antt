@@ -97,6 +97,8 @@ body_label (bodies.VoteRequest request) = codes "VoteRequest t" ++ decimal reque
 body_label (bodies.VoteReply reply) = vote_label reply
 body_label (bodies.Append append) = append_label append
 body_label (bodies.AppendReply reply) = reply_label reply
+body_label (bodies.Install install) = codes "Install t" ++ (decimal install.head.term ++ (codes " @" ++ decimal install.head.index))
+body_label (bodies.InstallReply reply) = codes "InstallReply @" ++ decimal reply.at
 body_label (bodies.Request request) = request_label request
 body_label (bodies.Response response) = response_label response
 body_label (bodies.Register node_class size) = codes "Register"
@@ -149,6 +151,7 @@ server_input_label (inputs.Expire node beats) = codes "expire " ++ (decimal node
 server_input_label (inputs.DrainTurn node) = codes "drain " ++ decimal node
 server_input_label inputs.FreeTurn = codes "free"
 server_input_label inputs.Reap = codes "reap"
+server_input_label inputs.Compact = codes "compact"
 server_input_label inputs.Crash = codes "crash"
 server_input_label inputs.Restart = codes "restart"
 

@@ -21,7 +21,7 @@ use wire::{Append, AppendHead, AppendReply, Frames};
 
 impl<M: Machine> Raft<M> {
     /// It follows the sender of an Append or of a snapshot, in the sender's term.
-    fn follow(&mut self, from: ServerId, term: Term)
+    pub(super) fn follow(&mut self, from: ServerId, term: Term)
         requires { is_up self.old.server.mode ≡ true }
         ensures { self.new ≡ with_server self.old (following (met term self.old.server) from) }
     {

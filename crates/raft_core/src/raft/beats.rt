@@ -1,13 +1,17 @@
 //! What a leader sends at a beat. (Raft, extended version 2014, section 5.3, and Figure 2,
 //! leaders.)
 
-ghost use Rattle.std.specs.Prelude.{◌≡◌, ◌≢◌, ◌-◌, ◌^◌, ◌<◌, ◌≤◌, ◌∷◌, [], true, ℕ, length, slice_index, take, drop, OnOk, OnErr};
-ghost use Rattle.raft_model.specs.Messages.{to_others};
+ghost use Rattle.std.specs.Prelude.{◌≡◌, ◌≢◌, ◌-◌, ◌^◌, ◌<◌, ◌≤◌, ◌∷◌, [], true, ℕ, List, length, slice_index, take, drop, OnOk, OnErr};
+ghost use Rattle.machine_model.specs.declared.entry.Entry.{Entry as LogEntry};
+ghost use Rattle.raft_model.specs.Logs.{term_at};
+ghost use Rattle.raft_model.specs.Messages.{to_others, Append as AppendBody, Install as InstallBody};
 ghost use Rattle.raft_model.specs.Quorums.{index_at};
-ghost use Rattle.raft_model.specs.Servers.{is_up, is_leader, beats};
-ghost use Rattle.raft_core.specs.Inner.Beats.{append_from};
+ghost use Rattle.raft_model.specs.Servers.{is_up, is_leader};
+ghost use Rattle.raft_snapshot.specs.Bases.{IsBaseOf};
+ghost use Rattle.raft_core.specs.Inner.Beats.{sent_from};
+ghost use Rattle.raft_core.specs.Inner.Moves.{Beats};
 ghost use Rattle.raft_core.specs.Frames.{Sends};
-ghost use Rattle.raft_core.specs.Inner.Turns.{TurnTaken, LackedMemory, KeepsFront};
+ghost use Rattle.raft_core.specs.Inner.Turns.{LackedMemory, KeepsFront};
 
 use super::Raft;
 use super::votes::server_at;
@@ -16,7 +20,7 @@ use crate::role::Role;
 use machine::{Coded, Entry, Machine};
 use raft_snapshot::Log;
 use rows::{Index, NoMemory, ServerId, Term};
-use wire::{AppendHead, Frames};
+use wire::{AppendHead, Frames, InstallHead};
 
 /// The entries behind an index, at most 32: no Append has more.
 fn entries_behind<M: Machine>(log: &Log<M>, index: u64) -> &[Entry<Coded<M>>]
@@ -29,7 +33,7 @@ fn entries_behind<M: Machine>(log: &Log<M>, index: u64) -> &[Entry<Coded<M>>]
 
 /// Sends another server the entries of the log from index `next` on, at most 32.
 #[tactic(auto, using(crate::proofs::Sends::another))]
-fn send_from<M: Machine>(
+fn send_entries<M: Machine>(
     outbox: &mut Frames,
     me: ServerId,
     to: ServerId,
@@ -41,8 +45,13 @@ fn send_from<M: Machine>(
     requires other { me ≢ to }
     requires behind { log.now.base.index < next }
     requires most { next ≤ 2 ^ 40 }
-    ensures ok { OnOk result (Sends M.meaning outbox.old outbox.new
-        (append_from me term commit log.now.entries next to ∷ [])) }
+    ensures ok { OnOk result (Sends M.meaning outbox.old outbox.new (record {
+      from = me;
+      to = to;
+      term = term;
+      body =
+          AppendBody (next - 1) (term_at log.now.entries (next - 1)) commit (take 32 (drop (next - 1) log.now.entries));
+    } ∷ [])) }
     ensures err { OnErr result (outbox.new ≡ outbox.old) }
 {
     let Some(prev_index) = Index::new(next - 1) else {
@@ -59,7 +68,60 @@ fn send_from<M: Machine>(
     outbox.send_append(me, to, &head, entries_behind(log, prev_index.get()))
 }
 
-/// Sends all others the entries from their next indexes on, in rising number.
+/// Sends another server what the log covers, of which there is some.
+#[tactic(auto, using(crate::proofs::Sends::another))]
+fn send_snapshot<M: Machine>(
+    outbox: &mut Frames,
+    me: ServerId,
+    to: ServerId,
+    term: Term,
+    log: &Log<M>,
+) -> Result<(), NoMemory>
+    requires other { me ≢ to }
+    requires some { 1 ≤ log.now.base.index }
+    ensures ok { OnOk result ((covered : List (LogEntry M.Command)) →
+        IsBaseOf M.meaning log.now.base covered → Sends M.meaning outbox.old outbox.new
+        (record { from = me; to = to; term = term; body = InstallBody covered } ∷ [])) }
+    ensures front { KeepsFront outbox.old outbox.new }
+    ensures err { OnErr result (outbox.new ≡ outbox.old) }
+{
+    let snapshot = log.snapshot();
+    let head = InstallHead {
+        term,
+        index: snapshot.index(),
+        index_term: snapshot.term(),
+    };
+    outbox.send_install(me, to, &head, snapshot.state())
+}
+
+/// Sends another server what it needs from index `next` on: what the log covers, where that is all
+/// that is left of it, else entries.
+fn send_from<M: Machine>(
+    outbox: &mut Frames,
+    me: ServerId,
+    to: ServerId,
+    term: Term,
+    commit: Index,
+    log: &Log<M>,
+    next: u64,
+) -> Result<(), NoMemory>
+    requires other { me ≢ to }
+    requires least { 1 ≤ next }
+    requires most { next ≤ 2 ^ 40 }
+    ensures ok { OnOk result ((covered : List (LogEntry M.Command)) →
+        IsBaseOf M.meaning log.now.base covered → Sends M.meaning outbox.old outbox.new
+        (sent_from me term commit covered log.now.entries next to ∷ [])) }
+    ensures front { KeepsFront outbox.old outbox.new }
+    ensures err { OnErr result (outbox.new ≡ outbox.old) }
+{
+    if next <= log.covered().get() {
+        send_snapshot(outbox, me, to, term, log)
+    } else {
+        send_entries(outbox, me, to, term, commit, log, next)
+    }
+}
+
+/// Sends all others what they need from their next indexes on, in rising number.
 fn send_to_others<M: Machine>(
     outbox: &mut Frames,
     me: ServerId,
@@ -71,9 +133,9 @@ fn send_to_others<M: Machine>(
     requires few { length next.now ≤ 5 }
     requires least { (j : ℕ) → j < length next.now → 1 ≤ slice_index next.now j }
     requires most { (j : ℕ) → slice_index next.now j ≤ 2 ^ 40 }
-    requires uncovered { log.now.base.index ≡ 0 }
-    ensures ok { OnOk result (Sends M.meaning outbox.old outbox.new
-        (to_others me (λ to. append_from me term commit log.now.entries (index_at next.now to) to)
+    ensures ok { OnOk result ((covered : List (LogEntry M.Command)) →
+        IsBaseOf M.meaning log.now.base covered → Sends M.meaning outbox.old outbox.new
+        (to_others me (λ to. sent_from me term commit covered log.now.entries (index_at next.now to) to)
         (length next.now))) }
     ensures err { OnErr result (KeepsFront outbox.old outbox.new) }
 {
@@ -89,16 +151,11 @@ impl<M: Machine> Raft<M> {
     /// A leader sends to each other server; others send nothing, and take no memory.
     pub(super) fn beat(&self, outbox: &mut Frames) -> Result<(), NoMemory>
         requires { is_up self.now.server.mode ≡ true }
-        ensures taken { OnOk result
-            (TurnTaken M.meaning self.now.base self.now self.now outbox.old outbox.new
-            (record {
-              server = self.now.server;
-              sent = beats self.now.size self.now.me
-                  self.now.server self.now.server.mode;
-            })) }
+        ensures taken { OnOk result (Beats M.meaning self.now outbox.old outbox.new) }
         ensures lost { OnErr result ((is_leader self.now.server.mode ≡ true)
             × LackedMemory self.now self.now outbox.old outbox.new) }
     {
+        self.shown();
         match self.role {
             Role::Follower => Ok(()),
             Role::Candidate => Ok(()),

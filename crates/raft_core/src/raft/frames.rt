@@ -8,7 +8,7 @@ ghost use Rattle.wire.specs.Messages.{log_body};
 ghost use Rattle.raft_core.specs.Frames.{log_message};
 ghost use Rattle.raft_core.specs.Steps.{Represents, TakesMessage};
 ghost use Rattle.raft_core.specs.Inner.Turns.{TurnTaken, LackedMemory};
-ghost use Rattle.raft_core.specs.Inner.Moves.{MovesMessage, MovesFrame};
+ghost use Rattle.raft_core.specs.Inner.Moves.{MovesMessage, MovesFrame, base_left};
 ghost use Rattle.raft_core.specs.Inner.Stops.{FrameStops, MessageStops};
 ghost use Rattle.raft_core.specs.Refusals.{frame_refusal, misdirected, message_fault, message_refusal, IsMessageRefused, MessageRefusalLeaves, MessageStays, RefusalShows};
 ghost use Rattle.raft_core.specs.RaftView.{SamePlace, KeepsAhead};
@@ -18,7 +18,9 @@ use super::Raft;
 use machine::Machine;
 use raft_snapshot::Watch;
 use rows::{NoMemory, Refusal, ServerId};
-use wire::{Frames, LogBody, LogMessage, is_log_frame, read_log_message, read_message};
+use wire::{
+    AppendReply, Frames, LogBody, LogMessage, is_log_frame, read_log_message, read_message,
+};
 
 impl<M: Machine> Raft<M> {
     /// What another server of the group says is taken.
@@ -33,9 +35,9 @@ impl<M: Machine> Raft<M> {
         requires up { is_up self.old.server.mode ≡ true }
         requires member { from < self.old.size }
         requires other { from ≢ self.old.me }
-        ensures taken { OnOk result (IfSome (log_message from self.old.me (log_body body)) (λ x.
-            TurnTaken M.meaning self.old.base self.old self.new outbox.old outbox.new
-            (receives M.meaning.noop self.old.size self.old.me (met x.term self.old.server)
+        ensures taken { OnOk result (IfSome (log_message M.meaning from self.old.me (log_body body)) (λ x.
+            TurnTaken M.meaning (base_left self.old (log_body body)) self.old self.new
+            outbox.old outbox.new (receives M.meaning.noop self.old.size self.old.me (met x.term self.old.server)
             from x.term x.body))) }
         ensures kept { OnOk result (KeepsAhead self.old self.new) }
         ensures led { OnOk result (is_leader self.new.server.mode ≡ true →
@@ -49,6 +51,17 @@ impl<M: Machine> Raft<M> {
             LogBody::VoteReply(reply) => self.vote_reply(from, &reply),
             LogBody::Append(append) => self.append(from, append, outbox),
             LogBody::AppendReply(reply) => self.append_reply(from, &reply, watch),
+            LogBody::Install(install) => self.install(from, Box::into_inner(install), outbox),
+            LogBody::InstallReply(reply) => {
+                // It counts as an ok.
+                let reply = AppendReply {
+                    term: reply.term,
+                    asked: reply.asked,
+                    ok: true,
+                    at: reply.at,
+                };
+                self.append_reply(from, &reply, watch)
+            }
         }
     }
 

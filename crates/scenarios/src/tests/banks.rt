@@ -1,6 +1,7 @@
 //! Three servers with a bank. They elect a leader, take commands and refuse some; server 3 loses
-//! messages and restarts, and server 2 leads after server 1 has crashed. The messages and the
-//! balances are counted by hand, from Raft, extended version 2014, section 5 and Figure 2, and from
+//! messages and restarts, and server 2 leads after server 1 has crashed. Then server 3 is away
+//! while the log is compacted, gets a snapshot, and leads. The messages and the balances are
+//! counted by hand, from Raft, extended version 2014, sections 5 and 7, Figures 2 and 13, and from
 //! the bank's rules.
 use bank::{AccountId, Bank, BankCommand, Money, bank_of};
 use machine::Machine;
@@ -14,6 +15,7 @@ enum Step {
     Deliver(u64),
     Timeout(u8),
     Beat(u8),
+    Compact(u8),
     Crash(u8),
     Restart(u8),
     // What a server is asked for.
@@ -23,7 +25,7 @@ enum Step {
     Transfer(u8, u16, u16, u64),
 }
 
-use Step::{Beat, Crash, Deliver, Deposit, Open, Restart, Timeout, Transfer, Withdraw};
+use Step::{Beat, Compact, Crash, Deliver, Deposit, Open, Restart, Timeout, Transfer, Withdraw};
 
 /// A bank: how many commands were applied, and the balances. None of a server that is down.
 type Known = Option<(u64, &'static [u64])>;
@@ -42,6 +44,12 @@ const SIX: Known = Some((6, &[70, 20]));
 
 // And after the second leader's: its no-op, and 5 paid into the second account.
 const EIGHT: Known = Some((8, &[70, 25]));
+
+// 30 more for the first account.
+const NINE: Known = Some((9, &[100, 25]));
+
+// And after the third leader's: its no-op, and 60 moved to the second account.
+const ELEVEN: Known = Some((11, &[40, 85]));
 
 const ROWS: &[Row] = &[
     // Server 1 asks for votes by messages 1 and 2. Server 2 votes by message 3; server 3 loses its.
@@ -94,12 +102,48 @@ const ROWS: &[Row] = &[
     (Beat(2), 0, &[SIX, EIGHT, SIX]),
     (Deliver(21), 0, &[SIX, EIGHT, EIGHT]),
     (Deliver(20), 0, &[EIGHT, EIGHT, EIGHT]),
+    // Those are answered by messages 22 and 23, which are lost. Messages 24 and 25 bring one more
+    // entry; server 1 says by message 26 that it has it, and server 3 is away.
+    (Crash(3), 0, &[EIGHT, EIGHT, DOWN]),
+    (Deposit(2, 0, 30), 0, &[EIGHT, EIGHT, DOWN]),
+    (Beat(2), 0, &[EIGHT, EIGHT, DOWN]),
+    (Deliver(24), 0, &[EIGHT, EIGHT, DOWN]),
+    (Deliver(26), 0, &[EIGHT, NINE, DOWN]),
+    // The leader's snapshot covers all nine, so server 3 gets it by message 28, in place of the
+    // ninth. That comes twice, and then the old message 25, and neither changes anything.
+    (Compact(2), 0, &[EIGHT, NINE, DOWN]),
+    (Compact(3), 16, &[EIGHT, NINE, DOWN]),
+    (Compact(4), 12, &[EIGHT, NINE, DOWN]),
+    (Restart(3), 0, &[EIGHT, NINE, NEW]),
+    (Beat(2), 0, &[EIGHT, NINE, NEW]),
+    (Deliver(28), 0, &[EIGHT, NINE, NINE]),
+    (Deliver(28), 0, &[EIGHT, NINE, NINE]),
+    (Deliver(25), 0, &[EIGHT, NINE, NINE]),
+    (Deliver(27), 0, &[NINE, NINE, NINE]),
+    // Message 29 is the answer to the snapshot; 30 to 32 are lost.
+    (Deliver(29), 0, &[NINE, NINE, NINE]),
+    // A server begins again with what its snapshot covers.
+    (Compact(1), 0, &[NINE, NINE, NINE]),
+    (Crash(1), 0, &[DOWN, NINE, NINE]),
+    (Restart(1), 0, &[NINE, NINE, NINE]),
+    // Server 3 asks for votes by messages 33 and 34, has server 1's by message 35, and leads from
+    // the snapshot, by whose balances it refuses and takes.
+    (Crash(2), 0, &[NINE, DOWN, NINE]),
+    (Timeout(3), 0, &[NINE, DOWN, NINE]),
+    (Deliver(33), 0, &[NINE, DOWN, NINE]),
+    (Deliver(35), 0, &[NINE, DOWN, NINE]),
+    (Transfer(3, 0, 1, 101), 12, &[NINE, DOWN, NINE]),
+    (Transfer(3, 0, 1, 60), 0, &[NINE, DOWN, NINE]),
+    // Messages 36 and 37 bring its two entries; server 1 says by message 38 that it has them.
+    (Beat(3), 0, &[NINE, DOWN, NINE]),
+    (Deliver(36), 0, &[NINE, DOWN, NINE]),
+    (Deliver(38), 0, &[NINE, DOWN, ELEVEN]),
 ];
 
-// The text of the last bank: 8 commands, and two accounts with 70 and 25.
+// The text of server 1's last bank: 9 commands, and two accounts with 100 and 25.
 const TEXT: &[u8] = &[
-    0, 0, 0, 0, 0, 0, 0, 8, 0, 0, 0, 2, //
-    0, 0, 0, 0, 0, 0, 0, 70, 0, 0, 0, 0, 0, 0, 0, 25,
+    0, 0, 0, 0, 0, 0, 0, 9, 0, 0, 0, 2, //
+    0, 0, 0, 0, 0, 0, 0, 100, 0, 0, 0, 0, 0, 0, 0, 25,
 ];
 
 fn command_of(step: Step) -> Option<BankCommand> {
@@ -125,6 +169,7 @@ fn event_of(alloc: Global, step: Step) -> Option<RaftEvent<Bank>> {
         Deliver(message) => RaftEvent::Deliver(message),
         Timeout(server) => RaftEvent::Timeout(ServerId::from_number(server)?),
         Beat(server) => RaftEvent::Beat(ServerId::from_number(server)?),
+        Compact(server) => RaftEvent::Compact(ServerId::from_number(server)?),
         Crash(server) => RaftEvent::Crash(ServerId::from_number(server)?),
         Restart(server) => RaftEvent::Restart(ServerId::from_number(server)?),
         Open(server) | Deposit(server, _, _) | Withdraw(server, _, _) | Transfer(server, _, _, _) =>
@@ -202,7 +247,7 @@ fn has_text(alloc: Global, bank: Option<&Bank>) -> bool {
     match bank {
         Some(bank) if bank.save(&mut text).is_ok() => {
             text.as_slice() == TEXT
-                && Bank::load(alloc, &text).is_ok_and(|other| is_known(Some(&other), EIGHT))
+                && Bank::load(alloc, &text).is_ok_and(|other| is_known(Some(&other), NINE))
         }
         _ => false,
     }

@@ -44,7 +44,26 @@ pub(crate) const REPLY: &[u8] = &[
     0, 0, 0, 0, 0, 0, 0, 5,
 ];
 
-const FRAMES: &[&[u8]] = &[VOTE, APPEND, GRANTED, REPLY];
+/// Server 1 sends server 2, in term 3, a snapshot of five entries, the last of term 2: five
+/// commands were applied, and they add 258.
+pub(crate) const INSTALL: &[u8] = &[
+    1, 5, 1, 2, 0, 0, 0, 34, //
+    0, 0, 0, 0, 0, 0, 0, 3, //
+    0, 0, 0, 0, 0, 0, 0, 5, //
+    0, 0, 0, 0, 0, 0, 0, 2, //
+    0, 0, 0, 0, 0, 0, 0, 5, 1, 2,
+];
+
+/// Server 2 tells server 1, in term 3, that it has a snapshot of the leader of term 2 up to place
+/// 5.
+pub(crate) const INSTALLED: &[u8] = &[
+    1, 6, 2, 1, 0, 0, 0, 24, //
+    0, 0, 0, 0, 0, 0, 0, 3, //
+    0, 0, 0, 0, 0, 0, 0, 2, //
+    0, 0, 0, 0, 0, 0, 0, 5,
+];
+
+const FRAMES: &[&[u8]] = &[VOTE, APPEND, INSTALL, GRANTED, REPLY, INSTALLED];
 
 /// Where bytes are at fault as a frame.
 fn fault_of(alloc: Global, bytes: &[u8]) -> usize {
@@ -68,24 +87,37 @@ fn fault_of(alloc: Global, bytes: &[u8]) -> usize {
 // where none does, there is no fault.
 type Rule = ((usize, usize), (usize, usize), (u8, u8), usize);
 
-const ALL: (usize, usize) = (0, 3);
+const ALL: (usize, usize) = (0, 5);
 
 const ANY: (u8, u8) = (0, 255);
 
 const RULES: &[Rule] = &[
     (ALL, (0, 0), ANY, 0),
-    // The body as that of another kind: a vote request ends at 32, a vote reply at 25, an answer to
-    // an Append at 33, and an Append has one more field in front of its count. A frame that is too
-    // short for it is cut in its last field, and 1 or 3 is no flag's place there.
-    ((0, 1), (1, 1), (2, 2), 25),
+    // The body as that of another kind: a vote request ends at 32, and so does the answer to a
+    // snapshot; a vote reply at 25, an answer to an Append at 33, and an Append has one more field
+    // in front of its count. A frame that is too short for it is cut in its last field, and 1 or 3
+    // is no flag's place there. A flag of 1 with what stands behind it is a number past 2^40.
+    ((5, 5), (1, 1), (1, 1), NONE),
+    ((1, 2), (1, 1), (1, 1), 32),
+    ((3, 4), (1, 1), (1, 1), 24),
+    ((0, 2), (1, 1), (2, 2), 25),
+    ((4, 5), (1, 1), (2, 2), 25),
     ((0, 0), (1, 1), (3, 3), 32),
+    ((5, 5), (1, 1), (3, 3), 32),
+    ((2, 2), (1, 1), (3, 3), 41),
+    ((3, 4), (1, 1), (3, 3), 24),
+    ((1, 2), (1, 1), (4, 4), 33),
     ((0, 0), (1, 1), (4, 4), 25),
-    ((1, 1), (1, 1), (1, 1), 32),
-    ((1, 1), (1, 1), (4, 4), 33),
-    ((2, 3), (1, 1), (1, 1), 24),
-    ((2, 3), (1, 1), (3, 3), 24),
-    ((2, 2), (1, 1), (4, 4), 25),
-    ((3, 3), (1, 1), (2, 2), 25),
+    ((3, 3), (1, 1), (4, 4), 25),
+    ((5, 5), (1, 1), (4, 4), 25),
+    // A snapshot has an index past 0, and its state ends at 42.
+    ((0, 0), (1, 1), (5, 5), 16),
+    ((1, 1), (1, 1), (5, 5), 42),
+    ((3, 4), (1, 1), (5, 5), 24),
+    ((5, 5), (1, 1), (5, 5), 32),
+    ((0, 0), (1, 1), (6, 6), NONE),
+    ((1, 2), (1, 1), (6, 6), 32),
+    ((3, 4), (1, 1), (6, 6), 24),
     // As that of a message of workers or the desk: nothing, or nothing behind an option's tag, is
     // left over at once; else an evaluation at 8 and a token at 18, whose term is 0 or cut, or its
     // serial at 26, stand in front of the rest. None of the frames begins with the kind of a
@@ -93,21 +125,22 @@ const RULES: &[Rule] = &[
     (ALL, (1, 1), (7, 7), 8),
     (ALL, (1, 1), (8, 8), 9),
     ((0, 0), (1, 1), (9, 12), 18),
-    ((2, 2), (1, 1), (9, 12), 18),
-    ((3, 3), (1, 1), (9, 12), 26),
-    ((1, 1), (1, 1), (9, 9), 34),
+    ((3, 3), (1, 1), (9, 12), 18),
+    ((4, 5), (1, 1), (9, 12), 26),
+    ((1, 2), (1, 1), (9, 9), 34),
     ((1, 1), (1, 1), (10, 10), 44),
-    ((1, 1), (1, 1), (11, 12), 34),
+    ((2, 2), (1, 1), (10, 10), 42),
+    ((1, 2), (1, 1), (11, 12), 34),
     (ALL, (1, 1), (13, 13), 8),
     (ALL, (1, 1), (14, 16), 2),
     (ALL, (1, 1), (18, 18), 2),
     (ALL, (1, 1), (17, 19), 3),
     (ALL, (1, 1), ANY, 1),
     // A server sends to another one.
-    ((0, 1), (2, 2), (2, 2), 3),
-    ((0, 1), (3, 3), (1, 1), 3),
-    ((2, 3), (2, 2), (1, 1), 3),
-    ((2, 3), (3, 3), (2, 2), 3),
+    ((0, 2), (2, 2), (2, 2), 3),
+    ((0, 2), (3, 3), (1, 1), 3),
+    ((3, 5), (2, 2), (1, 1), 3),
+    ((3, 5), (3, 3), (2, 2), 3),
     (ALL, (2, 3), (3, 5), NONE),
     (ALL, (2, 2), ANY, 2),
     (ALL, (3, 3), ANY, 3),
@@ -115,8 +148,9 @@ const RULES: &[Rule] = &[
     // Terms and indexes are below 2^40.
     (ALL, (8, 10), ANY, 8),
     (ALL, (16, 18), ANY, 16),
-    ((0, 1), (24, 26), ANY, 24),
-    ((1, 1), (32, 34), ANY, 32),
+    ((0, 2), (24, 26), ANY, 24),
+    ((5, 5), (24, 26), ANY, 24),
+    ((1, 2), (32, 34), ANY, 32),
     // With none or one entry the rest is left over, with more the next is cut, and there are at
     // most 32.
     ((1, 1), (40, 40), (0, 0), 41),
@@ -132,9 +166,14 @@ const RULES: &[Rule] = &[
     ((1, 1), (58, 58), ANY, 58),
     // An amount is at most 1,000.
     ((1, 1), (59, 59), (4, 255), 59),
+    // A snapshot's index is past 0, and is its state's count; what that adds is at most 1,000.
+    ((2, 2), (23, 23), (0, 0), 16),
+    ((2, 2), (19, 23), ANY, 32),
+    ((2, 2), (35, 39), ANY, 32),
+    ((2, 2), (40, 40), (4, 255), 40),
     // A flag is 0 or 1.
-    ((2, 3), (24, 24), (2, 255), 24),
-    ((3, 3), (25, 27), ANY, 25),
+    ((3, 4), (24, 24), (2, 255), 24),
+    ((4, 4), (25, 27), ANY, 25),
 ];
 
 fn fault_of_change(frame: usize, at: usize, value: u8) -> usize {

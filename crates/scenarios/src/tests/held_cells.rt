@@ -1,6 +1,7 @@
 //! Cells of a group: turns of actors one after another, what each refuses and keeps, groups for
 //! which no cells open, and the nodes of clients. What is sent, and where, is worked out by hand
-//! from Raft, extended version 2014, section 5.2; the stamps and places are counted by hand.
+//! from Raft, extended version 2014, sections 5.2, 5.3 and 7; the stamps and places are counted by
+//! hand.
 ghost use Rattle.std.specs.Prelude.{◌≡◌};
 
 use client_agent::{Agent, ClientInput};
@@ -26,6 +27,8 @@ type Number = u8;
 enum Come {
     // Inputs of a server's own.
     Timeout,
+    Beat,
+    Compact,
     Crash,
     Restart,
     // An input of a server's own that is a frame.
@@ -37,7 +40,7 @@ enum Come {
     Message,
 }
 
-use Come::{Crash, Fall, Frame, Message, Ping, Restart, Timeout};
+use Come::{Beat, Compact, Crash, Fall, Frame, Message, Ping, Restart, Timeout};
 
 /// What a cell keeps: the stamp, for a delivery the stamp and the place of its message, and how
 /// many messages were sent.
@@ -104,6 +107,119 @@ const TURNS: &[Row] = &[
     (2, (Ping, 129), 12, &[], &[VOTED, (5, Some((3, 1)), 1)]),
 ];
 
+// What server 1 keeps once it leads: the vote, a beat, and the answer of server 2.
+const HEARD_VOTE: Kept = (3, Some((1, 0)), 0);
+
+const FIRST_BEAT: Kept = (4, None, 2);
+
+const HEARD: Kept = (6, Some((5, 0)), 0);
+
+const COVERED: Kept = (7, None, 0);
+
+const NEXT_BEAT: Kept = (9, None, 2);
+
+// What servers 2 and 3 keep: server 2 takes the first entry, and server 3 is away.
+const FOLLOWED: Kept = (5, Some((4, 0)), 1);
+
+const AWAY: Kept = (2, None, 0);
+
+const BACK: Kept = (8, None, 0);
+
+// Server 3 is away while the first entry is committed and covered; what comes for it meanwhile is
+// refused. Then it gets the leader's snapshot, and its answer comes.
+const SNAPSHOT: &[Row] = &[
+    (1, (Timeout, 1), 0, &[2, 3], &[ASKED]),
+    (2, (Message, 0), 0, &[1], &[VOTED]),
+    (3, (Crash, 3), 0, &[], &[AWAY]),
+    (3, (Message, 0), 16, &[], &[AWAY]),
+    (1, (Message, 0), 0, &[], &[ASKED, HEARD_VOTE]),
+    (1, (Beat, 1), 0, &[2, 3], &[ASKED, HEARD_VOTE, FIRST_BEAT]),
+    (2, (Message, 0), 0, &[1], &[VOTED, FOLLOWED]),
+    (3, (Message, 0), 16, &[], &[AWAY]),
+    (
+        1,
+        (Message, 0),
+        0,
+        &[],
+        &[ASKED, HEARD_VOTE, FIRST_BEAT, HEARD],
+    ),
+    (
+        1,
+        (Compact, 2),
+        12,
+        &[],
+        &[ASKED, HEARD_VOTE, FIRST_BEAT, HEARD],
+    ),
+    (
+        1,
+        (Compact, 1),
+        0,
+        &[],
+        &[ASKED, HEARD_VOTE, FIRST_BEAT, HEARD, COVERED],
+    ),
+    (3, (Compact, 3), 16, &[], &[AWAY]),
+    (3, (Restart, 3), 0, &[], &[AWAY, BACK]),
+    (
+        1,
+        (Beat, 1),
+        0,
+        &[2, 3],
+        &[ASKED, HEARD_VOTE, FIRST_BEAT, HEARD, COVERED, NEXT_BEAT],
+    ),
+    (
+        2,
+        (Message, 0),
+        0,
+        &[1],
+        &[VOTED, FOLLOWED, (10, Some((9, 0)), 1)],
+    ),
+    (
+        3,
+        (Message, 0),
+        0,
+        &[1],
+        &[AWAY, BACK, (11, Some((9, 1)), 1)],
+    ),
+    (
+        2,
+        (Compact, 2),
+        0,
+        &[],
+        &[VOTED, FOLLOWED, (10, Some((9, 0)), 1), (12, None, 0)],
+    ),
+    (
+        1,
+        (Message, 0),
+        0,
+        &[],
+        &[
+            ASKED,
+            HEARD_VOTE,
+            FIRST_BEAT,
+            HEARD,
+            COVERED,
+            NEXT_BEAT,
+            (13, Some((10, 0)), 0),
+        ],
+    ),
+    (
+        1,
+        (Message, 0),
+        0,
+        &[],
+        &[
+            ASKED,
+            HEARD_VOTE,
+            FIRST_BEAT,
+            HEARD,
+            COVERED,
+            NEXT_BEAT,
+            (13, Some((10, 0)), 0),
+            (14, Some((11, 0)), 0),
+        ],
+    ),
+];
+
 /// What is done with the seats of a book, or with their cells, before these open.
 #[derive(Clone, Copy)]
 enum Seats {
@@ -164,6 +280,8 @@ fn number_of(actor: Actor) -> Number {
 fn own(alloc: Global, come: Come) -> Result<OwnInput, Refusal> {
     let input = match come {
         Timeout => ServerInput::Timeout,
+        Beat => ServerInput::Beat,
+        Compact => ServerInput::Compact,
         Crash => ServerInput::Crash,
         Restart => ServerInput::Restart,
         Frame | Message => ServerInput::Frame(Sequence::new(alloc)),
@@ -285,22 +403,30 @@ fn is_played<B: BookId, R: Wait>(
     Ok(answered == Some(row.2) && keeps(rt, cells, me, row.4))
 }
 
-// How the group stands in the end: how many events were noted and how many messages sent, and
-// whether server 3 still stands for election.
-type End = (usize, usize, bool);
+// How the group stands in the end: how many events were noted and how many messages sent; whether
+// server 3 still stands for election, and how many entries it has applied.
+type End = (usize, usize, bool, u64);
 
 // After the last turn: each of its stamps stands for one event, and the messages are those of the
 // rows. Server 2 had voted for server 1 in that term, so server 3 has its own vote alone.
-const END: End = (8, 6, true);
+const END: End = (8, 6, true, 0);
+
+// After the last of those with a snapshot, of which server 3 has its one entry.
+const SNAPSHOT_END: End = (15, 10, false, 1);
 
 fn end_of(world: &World) -> Result<End, Refusal> {
     let Actor::Server(third) = actor(3)? else {
         return Err(Refusal::OutOfRange);
     };
-    let stands = world
-        .server(third)
-        .is_some_and(|server| server.role() == Some(Role::Candidate));
-    Ok((world.trace().len(), world.sent().len(), stands))
+    let Some(server) = world.server(third) else {
+        return Err(Refusal::OutOfRange);
+    };
+    let stands = server.role() == Some(Role::Candidate);
+    let applied = match server.applied() {
+        Some(index) => index.get(),
+        None => 0,
+    };
+    Ok((world.trace().len(), world.sent().len(), stands, applied))
 }
 
 // How many of the turns go as is wanted, up to the first that does not; and how the world stands to
@@ -310,6 +436,7 @@ fn play<B: BookId, R: Wait>(
     alloc: Global,
     opened: OpenedBook<OwnInput>,
     nodes: Vec<NodeSpec>,
+    rows: &'static [Row],
     way: Way,
 ) -> Result<(usize, End), Refusal>
     requires book { opened ≡ (B.table, B.actors) }
@@ -319,8 +446,8 @@ fn play<B: BookId, R: Wait>(
     let cells = cells_of(alloc, 3, nodes.as_slice(), &book, seats)?;
     let cells = Cells::open(alloc, 3, nodes.len(), book, cells)?;
     let mut waiting = Vec::new(alloc);
-    let mut played = TURNS.len();
-    for (place, row) in TURNS.iter().enumerate() {
+    let mut played = rows.len();
+    for (place, row) in rows.iter().enumerate() {
         if !is_played(rt, alloc, &cells, row, way, &mut waiting)? {
             played = place;
             break;
@@ -490,7 +617,7 @@ fn new_ones<B: BookId>(
 fn cells_take_turns(rt: HostRuntime) -> Result<(), Fail> {
     let book = opened(rt.alloc(), &[1, 2, 3], 1)?;
     let nodes = nodes(rt.alloc(), 1)?;
-    let (played, end) = play::<Brand, _>(&rt, rt.alloc(), book, nodes, ByTurn)?;
+    let (played, end) = play::<Brand, _>(&rt, rt.alloc(), book, nodes, TURNS, ByTurn)?;
     assert!(rt; played == TURNS.len(), "turn {played}");
     assert!(rt; end == END, "events {}, messages {}", end.0, end.1);
     Ok(())
@@ -500,9 +627,19 @@ fn cells_take_turns(rt: HostRuntime) -> Result<(), Fail> {
 fn cells_in_hand_take_the_same_turns(rt: HostRuntime) -> Result<(), Fail> {
     let book = opened(rt.alloc(), &[1, 2, 3], 1)?;
     let nodes = nodes(rt.alloc(), 1)?;
-    let (played, end) = play::<Brand, _>(&rt, rt.alloc(), book, nodes, ByHand)?;
+    let (played, end) = play::<Brand, _>(&rt, rt.alloc(), book, nodes, TURNS, ByHand)?;
     assert!(rt; played == TURNS.len(), "turn {played}");
     assert!(rt; end == END, "events {}, messages {}", end.0, end.1);
+    Ok(())
+}
+
+#[test]
+fn cells_take_a_snapshot(rt: HostRuntime) -> Result<(), Fail> {
+    let book = opened(rt.alloc(), &[1, 2, 3], 0)?;
+    let nodes = nodes(rt.alloc(), 0)?;
+    let (played, end) = play::<Brand, _>(&rt, rt.alloc(), book, nodes, SNAPSHOT, ByTurn)?;
+    assert!(rt; played == SNAPSHOT.len(), "turn {played}");
+    assert!(rt; end == SNAPSHOT_END, "events {}, messages {}", end.0, end.1);
     Ok(())
 }
 

@@ -1,13 +1,14 @@
 //! Messages given as values: their frames, and what is read from these; and the outbox that keeps
 //! them.
-use crate::tests::frames::{APPEND, GRANTED, REPLY, VOTE};
+use crate::tests::frames::{APPEND, GRANTED, INSTALL, INSTALLED, REPLY, VOTE};
 use machine::{Coded, Entry, Tally, TallyCommand};
 use rows::{Actor, Index, ServerId};
 use std::alloc::Global;
-use wire::{Append, AppendHead, Body, Frames, Kind, Message, read_message};
+use wire::{Append, AppendHead, Body, Frames, Install, InstallHead, Kind, Message, read_message};
 
 /// A message: its kind, its sender and its receiver; its numbers in the order of its frame, 1 for a
-/// yes; its entries, each with its term and with what it adds, 0 for the no-op; and its frame.
+/// yes, and of a snapshot the last one what its state adds up to; its entries, each with its term
+/// and with what it adds, 0 for the no-op; and its frame.
 type Row = (Kind, u8, u8, [u64; 4], &'static [(u64, u16)], &'static [u8]);
 
 const MESSAGES: &[Row] = &[
@@ -22,16 +23,21 @@ const MESSAGES: &[Row] = &[
     ),
     (Kind::VoteReply, 2, 1, [3, 2, 1, 0], &[], GRANTED),
     (Kind::AppendReply, 2, 1, [3, 2, 1, 5], &[], REPLY),
+    (Kind::Install, 1, 2, [3, 5, 2, 258], &[], INSTALL),
+    (Kind::InstallReply, 2, 1, [3, 2, 5, 0], &[], INSTALLED),
 ];
 
-// What the outbox has at the end: the Append is sent from its parts too, and a frame that is cut
-// away again leaves its place to the last one.
+// What the outbox has at the end: the Append and the Install are sent from their parts too, and a
+// frame that is cut away again leaves its place to the last one.
 const SENT: &[(u8, &[u8])] = &[
     (2, VOTE),
     (2, APPEND),
     (2, APPEND),
     (1, GRANTED),
     (1, REPLY),
+    (2, INSTALL),
+    (2, INSTALL),
+    (1, INSTALLED),
     (2, VOTE),
     (1, REPLY),
 ];
@@ -71,6 +77,16 @@ fn numbers_of(body: &Body<Tally>) -> [u64; 4] {
                 said.at.get(),
             ]
         }
+        Body::Install(install) => {
+            let head = install.head();
+            [
+                head.term.get(),
+                head.index.get(),
+                head.index_term.get(),
+                u64::from(install.state().sum()),
+            ]
+        }
+        Body::InstallReply(said) => [said.term.get(), said.asked.get(), said.at.get(), 0],
         _ => [0; 4],
     }
 }
@@ -116,13 +132,20 @@ fn says(alloc: Global, row: &Row) -> bool {
         && numbers_of(message.body()) == numbers
 }
 
-// The body, with its `Append` put together of its parts.
+// The body, with its `Append` or its `Install` put together of its parts.
 fn put_together(body: Body<Tally>) -> Option<Body<Tally>> {
     match body {
         Body::Append(append) => {
             let (head, entries) = append.into_parts();
             match Append::new(head, entries) {
                 Some(append) => Some(Body::Append(append)),
+                None => None,
+            }
+        }
+        Body::Install(install) => {
+            let (head, state) = install.into_parts();
+            match Install::new(head, state) {
+                Some(install) => Some(Body::Install(install)),
                 None => None,
             }
         }
@@ -156,29 +179,36 @@ fn server_of(actor: Actor) -> Option<ServerId> {
     }
 }
 
-fn send_parts(outbox: &mut Frames, from: Actor, to: Actor, append: &Append<Tally>) -> bool {
-    let Some(from) = server_of(from) else {
-        return false;
-    };
-    let Some(to) = server_of(to) else {
-        return false;
-    };
+// Sends an `Append` or an `Install` from its parts, and no other message.
+fn send_parts(outbox: &mut Frames, from: ServerId, to: ServerId, body: &Body<Tally>) -> bool {
     if from == to {
         return false;
     }
-    let sent = outbox.send_append(from, to, &append.head(), append.entries());
-    sent.is_ok()
+    match body {
+        Body::Append(append) => {
+            let sent = outbox.send_append(from, to, &append.head(), append.entries());
+            sent.is_ok()
+        }
+        Body::Install(install) => {
+            let sent = outbox.send_install(from, to, &install.head(), install.state());
+            sent.is_ok()
+        }
+        _ => true,
+    }
 }
 
-/// Sends the `Append` of a frame from its parts, and no other message.
+/// Sends the `Append` or the `Install` of a frame from its parts, and no other message.
 fn sends_parts(outbox: &mut Frames, alloc: Global, frame: &[u8]) -> bool {
     let Ok(message) = read_message::<Tally>(alloc, frame) else {
         return false;
     };
-    match message.body() {
-        Body::Append(append) => send_parts(outbox, message.from(), message.to(), append),
-        _ => true,
-    }
+    let Some(from) = server_of(message.from()) else {
+        return false;
+    };
+    let Some(to) = server_of(message.to()) else {
+        return false;
+    };
+    send_parts(outbox, from, to, message.body())
 }
 
 /// Whether the entries of the frame are too many behind this index.
@@ -195,6 +225,35 @@ fn is_too_far(alloc: Global, frame: &[u8], index: u64) -> bool {
     }
 }
 
+// The body, its snapshot one of this index, if the state is of it.
+fn at_index(body: Body<Tally>, index: Index) -> Option<Body<Tally>> {
+    match body {
+        Body::Install(install) => {
+            let (head, state) = install.into_parts();
+            match Install::new(InstallHead { index, ..head }, state) {
+                Some(install) => Some(Body::Install(install)),
+                None => None,
+            }
+        }
+        other => Some(other),
+    }
+}
+
+/// Sends the snapshot of a frame as one of this index, if its state is of it.
+fn sends_at(outbox: &mut Frames, alloc: Global, frame: &[u8], index: u64) -> bool {
+    let Ok(message) = read_message::<Tally>(alloc, frame) else {
+        return false;
+    };
+    let Some(index) = Index::new(index) else {
+        return false;
+    };
+    let (from, to) = (message.from(), message.to());
+    match at_index(message.into_body(), index) {
+        Some(body) => send(outbox, from, to, body),
+        None => false,
+    }
+}
+
 fn fill(outbox: &mut Frames, alloc: Global) -> bool {
     let mut sent = true;
     for row in MESSAGES {
@@ -203,7 +262,7 @@ fn fill(outbox: &mut Frames, alloc: Global) -> bool {
             && sends_parts(outbox, alloc, row.5)
             && sends(outbox, alloc, row.5);
     }
-    sent && sends(outbox, alloc, VOTE) && sends(outbox, alloc, GRANTED) && outbox.len() == 7
+    sent && sends(outbox, alloc, VOTE) && sends(outbox, alloc, GRANTED) && outbox.len() == 10
 }
 
 fn is_filled(outbox: &Frames) -> bool {
@@ -222,9 +281,13 @@ fn is_filled(outbox: &Frames) -> bool {
 fn says_and_hears(rt: HostRuntime) {
     let mut outbox = Frames::new(rt.alloc());
     assert!(rt; fill(&mut outbox, rt.alloc()));
-    outbox.truncate(6);
+    outbox.truncate(9);
     assert!(rt; sends(&mut outbox, rt.alloc(), REPLY));
     assert!(rt; is_filled(&outbox));
     // The second entry's index would be 2^40.
     assert!(rt; is_too_far(rt.alloc(), APPEND, 1_099_511_627_774));
+    // Its state has counted five commands.
+    assert!(rt; sends_at(&mut outbox, rt.alloc(), INSTALL, 5));
+    assert!(rt; !sends_at(&mut outbox, rt.alloc(), INSTALL, 4));
+    assert!(rt; !sends_at(&mut outbox, rt.alloc(), INSTALL, 0));
 }

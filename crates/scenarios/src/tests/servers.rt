@@ -6,9 +6,9 @@ use rows::{Actor, Refusal, ServerId};
 use std::alloc::Global;
 use wire::Frames;
 
-/// A frame: its kind (1 a vote request, 2 a vote reply, 3 an Append, 4 the answer to one), its
-/// sender, its receiver and the length of its body; the numbers that the body begins with, and the
-/// bytes behind these.
+/// A frame: its kind (1 a vote request, 2 a vote reply, 3 an Append, 4 the answer to one, 5 an
+/// Install, 6 the answer to one), its sender, its receiver and the length of its body; the numbers
+/// that the body begins with, and the bytes behind these.
 #[derive(Clone, Copy)]
 pub(super) struct Frame(
     pub(super) u8,
@@ -24,6 +24,7 @@ pub(super) struct Frame(
 pub(super) enum Act {
     Timeout,
     Beat,
+    Compact,
     Crash,
     Restart,
     // A frame comes.
@@ -36,13 +37,13 @@ pub(super) enum Act {
     Reload,
 }
 
-use Act::{Ahead, Beat, Crash, Hear, Propose, Reload, Restart, Timeout};
+use Act::{Ahead, Beat, Compact, Crash, Hear, Propose, Reload, Restart, Timeout};
 
 /// An act; the number of the refusal, 0 where there is none, with the leader or the place that goes
 /// with it; and what the server is then: its role (0 down, 1 follower, 2 candidate, 3 leader), its
 /// term, its last index, how many entries are applied (99 while it is down), and the leader that it
 /// knows. And how many frames it sends, the first of them in full.
-type Turn = (Act, (u8, usize), [u64; 5], usize, &'static [Frame]);
+pub(super) type Turn = (Act, (u8, usize), [u64; 5], usize, &'static [Frame]);
 
 /// Nothing is refused.
 pub(super) const TAKEN: (u8, usize) = (0, 0);
@@ -60,22 +61,22 @@ pub(super) const OK_2: &[u8] = &[1, 0, 0, 0, 0, 0, 0, 0, 2];
 
 pub(super) const OK_3: &[u8] = &[1, 0, 0, 0, 0, 0, 0, 0, 3];
 
-const NOT_OK: &[u8] = &[0, 0, 0, 0, 0, 0, 0, 0, 0];
+pub(super) const NOT_OK: &[u8] = &[0, 0, 0, 0, 0, 0, 0, 0, 0];
 
 // Of an Append: its entries, no-ops of these terms.
-const OF_NONE: &[u8] = &[0];
+pub(super) const OF_NONE: &[u8] = &[0];
 
 pub(super) const OF_1: &[u8] = &[1, 0, 0, 0, 0, 0, 0, 0, 1, 0];
 
-const OF_2: &[u8] = &[1, 0, 0, 0, 0, 0, 0, 0, 2, 0];
+pub(super) const OF_2: &[u8] = &[1, 0, 0, 0, 0, 0, 0, 0, 2, 0];
 
 pub(super) const OF_3: &[u8] = &[1, 0, 0, 0, 0, 0, 0, 0, 3, 0];
 
-const OF_1_1: &[u8] = &[2, 0, 0, 0, 0, 0, 0, 0, 1, 0, 0, 0, 0, 0, 0, 0, 0, 1, 0];
+pub(super) const OF_1_1: &[u8] = &[2, 0, 0, 0, 0, 0, 0, 0, 1, 0, 0, 0, 0, 0, 0, 0, 0, 1, 0];
 
 const OF_1_3: &[u8] = &[2, 0, 0, 0, 0, 0, 0, 0, 1, 0, 0, 0, 0, 0, 0, 0, 0, 3, 0];
 
-const OF_2_2_2: &[u8] = &[
+pub(super) const OF_2_2_2: &[u8] = &[
     3, 0, 0, 0, 0, 0, 0, 0, 2, 0, 0, 0, 0, 0, 0, 0, 0, 2, 0, 0, 0, 0, 0, 0, 0, 0, 2, 0,
 ];
 
@@ -96,7 +97,7 @@ const VOTE_OF_3: Frame = Frame(2, 3, 1, 17, &[1, 1], YES);
 
 // Another vote is needed, and the same vote counts once. It leads in term 1, crashes, and leads
 // again in term 3.
-const LEADS: &[Turn] = &[
+pub(super) const LEADS: &[Turn] = &[
     (Timeout, TAKEN, [2, 1, 0, 0, 0], 4, &[ASKS_2, ASKS_3]),
     (Hear(VOTE_OF_2), TAKEN, [2, 1, 0, 0, 0], 0, &[]),
     (Hear(VOTE_OF_2), TAKEN, [2, 1, 0, 0, 0], 0, &[]),
@@ -136,7 +137,7 @@ const LEADS: &[Turn] = &[
 ];
 
 /// A server of this number in a group of so many, first one list of turns and then another.
-type Case = (u8, usize, &'static [Turn], &'static [Turn]);
+pub(super) type Case = (u8, usize, &'static [Turn], &'static [Turn]);
 
 const ELECTIONS: &[Case] = &[
     (
@@ -551,6 +552,7 @@ fn perform(raft: &mut Raft<Tally>, act: &Act, bytes: &[u8], sent: &mut Frames) -
     let input = match act {
         Timeout => Input::Timeout,
         Beat => Input::Beat,
+        Compact => Input::Compact,
         Crash => Input::Crash,
         Restart => Input::Restart,
         Hear(_) => Input::Frame(bytes),
@@ -645,7 +647,7 @@ fn play(
     Some(raft)
 }
 
-fn is_played(alloc: Global, case: &Case) -> Option<bool> {
+pub(super) fn is_played(alloc: Global, case: &Case) -> Option<bool> {
     let (me, size, start, more) = *case;
     let me = ServerId::from_number(me)?;
     let raft = Raft::restart(alloc, me, size, Stable::new(alloc)).ok()?;

@@ -4,7 +4,7 @@ ghost use Rattle.std.specs.Prelude.{◌≡◌, List, ℕ, ◌∷◌, [], ◌++�
 use crate::tests::servers::{
     Act, Frame, OF_1, OF_3, OK_2, OK_3, TAKEN, YES, number_of, propose, put_frame,
 };
-use Act::{Ahead, Beat, Crash, Hear, Propose, Reload, Restart, Timeout};
+use Act::{Ahead, Beat, Compact, Crash, Hear, Propose, Reload, Restart, Timeout};
 use machine::{Coded, Entry, Machine, Tally};
 use raft_core::{Input, Raft, Stable, Watch};
 use rows::{LeaderTerm, NoMemory, Refusal, ServerId};
@@ -110,6 +110,51 @@ const FOLLOWS: &[Turn] = &[
     ),
 ];
 
+const OK_10: &[u8] = &[1, 0, 0, 0, 0, 0, 0, 0, 10];
+
+// Of a snapshot: the state after nine commands, which add 33.
+const NINE_33: &[u8] = &[0, 0, 0, 0, 0, 0, 0, 9, 0, 33];
+
+// It covers what it saw, and sees nothing by that; after a crash it leads in term 2, and sees what
+// follows the snapshot alone. Then it gets a snapshot, of which it sees nothing, leads in term 4,
+// and sees its own entry.
+const COVERS: &[Turn] = &[
+    (Timeout, TAKEN, &[]),
+    VOTE,
+    (Propose(5), TAKEN, &[]),
+    (
+        Hear(Frame(4, 2, 1, 25, &[1, 1], OK_2)),
+        TAKEN,
+        &[1, 1, 1, 0, 1, 1, 2, 5],
+    ),
+    (Compact, TAKEN, &[]),
+    (Propose(7), TAKEN, &[]),
+    (
+        Hear(Frame(4, 2, 1, 25, &[1, 1], OK_3)),
+        TAKEN,
+        &[1, 1, 3, 12],
+    ),
+    (Crash, TAKEN, &[]),
+    (Compact, (16, 0), &[]),
+    (Restart, TAKEN, &[]),
+    (Timeout, TAKEN, &[]),
+    (Hear(Frame(2, 3, 1, 17, &[2, 2], YES)), TAKEN, &[]),
+    (
+        Hear(Frame(4, 3, 1, 25, &[2, 2], OK_4)),
+        TAKEN,
+        &[2, 1, 3, 12, 2, 2, 4, 12],
+    ),
+    (Hear(Frame(5, 2, 1, 34, &[3, 9, 3], NINE_33)), TAKEN, &[]),
+    (Timeout, TAKEN, &[]),
+    (Hear(Frame(2, 3, 1, 17, &[4, 4], YES)), TAKEN, &[]),
+    (
+        Hear(Frame(4, 3, 1, 25, &[4, 4], OK_10)),
+        TAKEN,
+        &[4, 4, 10, 33],
+    ),
+    (Hear(Frame(6, 3, 1, 24, &[4, 4, 9], &[])), TAKEN, &[]),
+];
+
 /// Hears what is read from a frame of the log; a frame of another kind comes as it is.
 fn hear(
     raft: &mut Raft<Tally>,
@@ -137,6 +182,7 @@ fn perform(
     let input = match act {
         Timeout => Input::Timeout,
         Beat => Input::Beat,
+        Compact => Input::Compact,
         Crash => Input::Crash,
         Restart => Input::Restart,
         Hear(_) if is_read => return number_of(hear(raft, alloc, bytes, &mut sent, diary)),
@@ -175,7 +221,7 @@ fn is_played(alloc: Global, turns: &[Turn], is_read: bool) -> Option<bool> {
 
 #[test]
 fn sees_what_a_leader_applies(rt: HostRuntime) {
-    for turns in [LEADS, FOLLOWS] {
+    for turns in [LEADS, FOLLOWS, COVERS] {
         for is_read in [false, true] {
             assert!(rt;
                 is_played(rt.alloc(), turns, is_read) == Some(true),

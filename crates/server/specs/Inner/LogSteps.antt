@@ -10,8 +10,9 @@ use Rattle.raft_core.specs.declared.input.Input.TheVariants as raft_inputs
 use Rattle.raft_core.specs.RaftView.{SamePlace}
 use Rattle.raft_core.specs.Frames.{Means}
 use Rattle.cluster_model.specs.Words.{State}
+use Rattle.cluster_model.specs.ClusterMachine.{cluster_meaning}
 use Rattle.group_model.specs.Messages.{GroupMessage, Raft, Service}
-use Rattle.group_model.specs.Inputs.{Restart, Ask, AskTimeout, AskBeat, AskCrash, AskRestart, asks}
+use Rattle.group_model.specs.Inputs.{Restart, Ask, AskTimeout, AskBeat, AskCompact, AskCrash, AskRestart, asks}
 use Rattle.group_model.specs.Members.{Member, hears_log}
 use Rattle.group_frames.specs.GroupFrames.{service_of}
 use Rattle.leader.specs.OpenDesks.{OpenDesk}
@@ -42,6 +43,7 @@ abbrev pub log_ask : RaftInput → Option Ask
 log_ask (raft_inputs.Frame bytes) = None
 log_ask raft_inputs.Timeout = Some AskTimeout
 log_ask raft_inputs.Beat = Some AskBeat
+log_ask raft_inputs.Compact = Some AskCompact
 log_ask raft_inputs.Crash = Some AskCrash
 log_ask raft_inputs.Restart = Some AskRestart
 
@@ -54,7 +56,7 @@ TakesAsk old (Some ask) new before after =
 
 -- a message that was read is this one
 abbrev pub MeansGroup : WireMessage State Command → GroupMessage → Type 0
-MeansGroup read (Raft said) = Means read said
+MeansGroup read (Raft said) = Means cluster_meaning read said
 MeansGroup read (Service message) = service_of read ≡ Some message
 
 abbrev pub TakesRead : ServerView → Member → WireMessage State Command → ServerView → Outbox → Outbox → Type 0

@@ -249,6 +249,7 @@ impl Server {
             Body::List(_, _) | Body::Told(_, _) => unreachable!(),
             Body::VoteRequest(_) | Body::VoteReply(_) => unreachable!(),
             Body::Append(_) | Body::AppendReply(_) => unreachable!(),
+            Body::Install(_) | Body::InstallReply(_) => unreachable!(),
         }
     }
 

@@ -36,7 +36,8 @@ impl Server {
         outbox: &mut Outbox,
     ) -> Result<(), Refusal>
         ensures same { SamePlace self.old.raft self.new.raft }
-        ensures taken { OnOk result ((said : MessageOf Command) → Means message said →
+        ensures taken { OnOk result ((said : MessageOf Command) →
+            Means cluster_meaning message said →
             HearsLog self.old said self.new outbox.old outbox.new) }
         ensures admitted { OnOk result (EachMember self.old (λ s.
             message_refusal self.old.raft.size self.old.raft.me s.raft message ≡ None)) }
@@ -53,7 +54,7 @@ impl Server {
         taken
     }
 
-    /// An input of the log's own: a timeout, a beat, a crash or a restart.
+    /// An input of the log's own: a timeout, a beat, a Compact, a crash or a restart.
     pub(super) fn step_log(&mut self, input: Input<'_>, outbox: &mut Outbox) -> Result<(), Refusal>
         requires { log_ask input ≢ None }
         ensures same { SamePlace self.old.raft self.new.raft }

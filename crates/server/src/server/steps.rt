@@ -93,6 +93,7 @@ impl Server {
             ServerInput::DrainTurn(node) => self.drain_turn(node),
             ServerInput::FreeTurn => self.free_turn(),
             ServerInput::Reap => self.reap(),
+            ServerInput::Compact => self.step_log(Input::Compact, outbox),
             ServerInput::Crash => self.step_log(Input::Crash, outbox),
             ServerInput::Restart => Err(Refusal::OutOfRange),
         }

@@ -40,6 +40,7 @@ IsTurnInput servers.Beat = Unit {0}
 IsTurnInput servers.PlanTurn = Unit {0}
 IsTurnInput servers.FreeTurn = Unit {0}
 IsTurnInput servers.Reap = Unit {0}
+IsTurnInput servers.Compact = Unit {0}
 IsTurnInput _ = ⊥
 
 abbrev pub IsTurnEvent : Event → Type 0

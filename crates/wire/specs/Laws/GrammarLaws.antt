@@ -3,7 +3,7 @@ use Rattle.std.proofs.Common.{refl}
 use Rattle.fields_model.specs.Format.{Lawful}
 use Rattle.fields_model.proofs.FormatLaws.{then_lawful, made_lawful, numbered_lawful}
 use Rattle.fields_model.proofs.FieldLaws.{term_lawful, index_lawful, bool_lawful}
-use Rattle.wire.specs.Grammar.{all_kinds, number_of_kind, kind, vote_request, vote_reply, append_head, append_reply}
+use Rattle.wire.specs.Grammar.{all_kinds, number_of_kind, kind, vote_request, vote_reply, append_head, append_reply, install_reply}
 
 -- ---- the kind
 
@@ -23,3 +23,6 @@ append_head_lawful = made_lawful _ _ _ (λ _. refl) (λ _ _. refl) (then_lawful 
 
 pub append_reply_lawful : Lawful append_reply
 append_reply_lawful = made_lawful _ _ _ (λ _. refl) (λ _ _. refl) (then_lawful _ _ term_lawful (then_lawful _ _ term_lawful (then_lawful _ _ bool_lawful index_lawful)))
+
+pub install_reply_lawful : Lawful install_reply
+install_reply_lawful = made_lawful _ _ _ (λ _. refl) (λ _ _. refl) (then_lawful _ _ term_lawful (then_lawful _ _ term_lawful index_lawful))

@@ -1,4 +1,4 @@
-use Rattle.raft_model.specs.Steps.{Timeout, Beat, Crash, Restart}
+use Rattle.raft_model.specs.Steps.{Timeout, Beat, Compact, Crash, Restart}
 use Rattle.raft_core.specs.Inputs.{Bytes, Own}
 use Rattle.world.proofs.Refused.{step_leaves, step_stays}
 use Rattle.world.proofs.input.hand.Goals as goal
@@ -16,6 +16,9 @@ returns-in-Beat-clause-left g c = rw c.in-Beat.is (step_leaves g.M.Machine.meani
 
 pub returns-in-Propose-clause-left : goal.returns-in-Propose-clause-left
 returns-in-Propose-clause-left g c = rw c.in-Propose.is c.propose.ensures.left
+
+pub returns-in-Compact-clause-left : goal.returns-in-Compact-clause-left
+returns-in-Compact-clause-left g c = rw c.in-Compact.is (step_leaves g.M.Machine.meaning c.args.raft.now (Own Compact) c.step-in-Compact.new.self c.step-in-Compact.result c.step-in-Compact.ensures.left)
 
 pub returns-in-Crash-clause-left : goal.returns-in-Crash-clause-left
 returns-in-Crash-clause-left g c = rw c.in-Crash.is (step_leaves g.M.Machine.meaning c.args.raft.now (Own Crash) c.step-in-Crash.new.self c.step-in-Crash.result c.step-in-Crash.ensures.left)
@@ -36,6 +39,9 @@ returns-in-Beat-clause-stays g c = rw c.in-Beat.is (step_stays c.args.raft.now (
 
 pub returns-in-Propose-clause-stays : goal.returns-in-Propose-clause-stays
 returns-in-Propose-clause-stays g c = rw c.in-Propose.is c.propose.ensures.stays
+
+pub returns-in-Compact-clause-stays : goal.returns-in-Compact-clause-stays
+returns-in-Compact-clause-stays g c = rw c.in-Compact.is (step_stays c.args.raft.now (Own Compact) c.step-in-Compact.new.self c.step-in-Compact.result c.step-in-Compact.ensures.stays)
 
 pub returns-in-Crash-clause-stays : goal.returns-in-Crash-clause-stays
 returns-in-Crash-clause-stays g c = rw c.in-Crash.is (step_stays c.args.raft.now (Own Crash) c.step-in-Crash.new.self c.step-in-Crash.result c.step-in-Crash.ensures.stays)

@@ -12,19 +12,19 @@ use Rattle.raft_core.proofs.raft.Raft.propose.Goals as goal
 pub returns-in_err-weigh-clause-refused : goal.returns-in_err-weigh-clause-refused
 returns-in_err-weigh-clause-refused g c =
     let is : c.from_residual.result ≡ Err c.in_err-weigh.field-0.0 = search rules in
-    rw is (refused_each g.M.Machine.meaning c.args.self.now c.shown.ensures.shown c.args.command c.in_err-weigh.field-0.0 c.in_err-weigh.ensures.refused)
+    rw is (refused_each g.M.Machine.meaning c.args.self.now c.shown.ensures c.args.command c.in_err-weigh.field-0.0 c.in_err-weigh.ensures.refused)
 
 pub returns-in_err-weigh-clause-unhidden : goal.returns-in_err-weigh-clause-unhidden
 returns-in_err-weigh-clause-unhidden g c =
     let is : c.from_residual.result ≡ Err c.in_err-weigh.field-0.0 = search rules in
-    rw is (hides_each g.M.Machine.meaning c.args.self.now c.shown.ensures.shown c.args.command c.in_err-weigh.field-0.0 c.in_err-weigh.ensures.refused)
+    rw is (hides_each g.M.Machine.meaning c.args.self.now c.shown.ensures c.args.command c.in_err-weigh.field-0.0 c.in_err-weigh.ensures.refused)
 
 pub returns-in_err-append-clause-unhidden : goal.returns-in_err-append-clause-unhidden
 returns-in_err-append-clause-unhidden g c =
     let old = c.args.self.now in
     let weighed = c.in_ok-weigh.ensures in
     let is : c.from_residual-in_err-append.result ≡ Err refusals.NoMemory = search rules in
-    rw is (hides_each g.M.Machine.meaning old c.shown.ensures.shown c.args.command refusals.NoMemory (weighed.leads, lt-ltb (length old.server.log) MAX (omega (arith, weighed.room))))
+    rw is (hides_each g.M.Machine.meaning old c.shown.ensures c.args.command refusals.NoMemory (weighed.leads, lt-ltb (length old.server.log) MAX (omega (arith, weighed.room))))
 
 pub brought_on-requires-clause-state : goal.brought_on-requires-clause-state
 brought_on-requires-clause-state g c =
@@ -51,4 +51,4 @@ returns-clause-taken g c =
     let grows = rw c.new.ensures at c.in_ok-append.ensures.ok in
     let next = extended_by i.machine x c.args.command c.append.new.self.entries grows ∙ ap (λ (v : RaftView g.row.M.Denot g.row.M-Command.Denot). extended v.server c.args.command) c.self.view_is ∙ ap (λ (v : Server g.row.M-Command.Denot). extended v c.args.command) weighed.same.server in
     let base = c.append.ensures.base ∙ ap (λ (v : RaftView g.row.M.Denot g.row.M-Command.Denot). v.base) c.self.view_is ∙ weighed.same.base in
-    proposed_each g.M.Machine.meaning c.args.self.now c.shown.ensures.shown c.args.command _ weighed.taken base (rw c.append.ensures.base next)
+    proposed_each g.M.Machine.meaning c.args.self.now c.shown.ensures c.args.command _ weighed.taken base (rw c.append.ensures.base next)

@@ -14,7 +14,6 @@ invariant_of-result g c =
     record {
       number = member.1;
       group = group-small size member.0;
-      uncovered = rw c.into_parts-term.ensures c.requires.uncovered;
       elected = tt;
       room = tt;
       votes_each = ap length made.votes ∙ length-replicate size _;

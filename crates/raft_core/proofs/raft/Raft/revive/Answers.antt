@@ -9,7 +9,6 @@ invariant_of-self g c =
     record {
       number = kept.number;
       group = kept.group;
-      uncovered = kept.uncovered;
       elected = tt;
       room = tt;
       votes_each = kept.votes_each;

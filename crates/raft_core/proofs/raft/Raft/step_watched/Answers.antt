@@ -3,10 +3,10 @@ use Rattle.raft_core.proofs.Fills.{takes_by, hides_shown, other_refused, other_s
 use Rattle.raft_core.proofs.raft.Raft.step_watched.Goals as goal
 
 pub returns-in-Ok-clause-taken : goal.returns-in-Ok-clause-taken
-returns-in-Ok-clause-taken g c = takes_by g.M.Machine.meaning c.args.input c.args.self.now c.take.new.self c.args.outbox.now c.take.new.outbox c.shown.ensures.shown c.shown.ensures.uncovered c.in-Ok.ensures.taken
+returns-in-Ok-clause-taken g c = takes_by g.M.Machine.meaning c.args.input c.args.self.now c.take.new.self c.args.outbox.now c.take.new.outbox c.shown.ensures c.in-Ok.ensures.taken
 
 pub returns-in-Ok-clause-seen : goal.returns-in-Ok-clause-seen
-returns-in-Ok-clause-seen g c = seen_each g.M.Machine.meaning g.W.Watch.sees c.args.self.now c.take.new.self c.shown.ensures.shown c.shown-in-Ok.ensures.shown c.in-Ok.ensures.led c.args.watch.now c.take.new.watch c.in-Ok.ensures.seen
+returns-in-Ok-clause-seen g c = seen_each g.M.Machine.meaning g.W.Watch.sees c.args.self.now c.take.new.self c.shown.ensures c.shown-in-Ok.ensures c.in-Ok.ensures.led c.args.watch.now c.take.new.watch c.in-Ok.ensures.seen
 
 pub returns-in_default : goal.returns-in_default
 returns-in_default g c =
@@ -23,8 +23,8 @@ returns-in_default g c =
       taken = tt;
       admitted = tt;
       kept = tt;
-      refused = other_refused m a.input cause old new a.outbox.now c.take.new.outbox other c.shown.ensures.shown stopped;
-      unhidden = λ s r. hides_shown m old.size old.me old.base old.server s c.shown.ensures.shown r a.input cause c.in-Err.ensures.unhidden;
+      refused = other_refused m a.input cause old new a.outbox.now c.take.new.outbox other c.shown.ensures stopped;
+      unhidden = λ s r. hides_shown m old.size old.me old.base old.server s c.shown.ensures r a.input cause c.in-Err.ensures.unhidden;
       left = λ s r. other_leaves m (handed a.input) cause old new s other same;
       stays = other_stays m (handed a.input) cause old new other same;
       unsent = other_unsent m a.input cause old new a.outbox.now c.take.new.outbox other stopped;

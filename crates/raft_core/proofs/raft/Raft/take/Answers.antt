@@ -1,7 +1,7 @@
 use Rattle.std.proofs.Common.{sym, ap, ◌∙◌}
-use Rattle.raft_model.specs.Steps.{Beat, Crash, Restart}
+use Rattle.raft_model.specs.Steps.{Crash, Restart}
 use Rattle.raft_core.proofs.Sends.{sends-none}
-use Rattle.raft_core.proofs.Stepping.{steps_by, beat_taken, crash_taken, restart_taken}
+use Rattle.raft_core.proofs.Stepping.{steps_by, crash_taken, restart_taken}
 use Rattle.raft_core.proofs.raft.Raft.take.Goals as goal
 
 pub returns-in_ok-revive-in-Restart-clause-taken : goal.returns-in_ok-revive-in-Restart-clause-taken
@@ -21,10 +21,3 @@ returns-else-not-is_up-clause-taken g c =
     let made = c.go_down.ensures.view in
     rw c.in-Crash.is (steps_by m old c.go_down.new.self c.args.outbox.now c.args.outbox.now Crash _ is
     (record { server = ap (λ x. x.server) made; base = ap (λ x. x.base) made; me = ap (λ x. x.me) made; size = ap (λ x. x.size) made; sent = sends-none m c.args.outbox.now }))
-
-pub returns-in_ok-beat-in-Beat-clause-taken : goal.returns-in_ok-beat-in-Beat-clause-taken
-returns-in_ok-beat-in-Beat-clause-taken g c =
-    let m = g.M.Machine.meaning in
-    let old = c.args.self.now in
-    let is = beat_taken m old.size old.me old.server (sym (c.is_up-is_up.ensures.shown) ∙ c.if-not-is_up-3.false) in
-    rw c.in-Beat.is (steps_by m old old c.args.outbox.now c.beat.new.outbox Beat _ is c.in_ok-beat-in-Beat.ensures.taken)

@@ -1,12 +1,15 @@
+use Rattle.std.specs.Prelude.{List}
+use Rattle.machine_model.specs.declared.entry.Entry.{Entry}
 use Rattle.raft_model.specs.Messages.{to_others}
 use Rattle.raft_model.specs.Quorums.{index_at}
-use Rattle.raft_core.specs.Inner.Beats.{append_from}
+use Rattle.raft_snapshot.specs.Bases.{IsBaseOf}
+use Rattle.raft_core.specs.Inner.Beats.{sent_from}
 use Rattle.raft_core.specs.Frames.{Sends}
 use Rattle.raft_core.specs.Inner.Turns.{KeepsFront}
 use Rattle.raft_core.proofs.raft.beats.send_to_others.Given as goal
 
 abbrev pub invariant-loop-place : goal.invariant-loop-place
 invariant-loop-place g l = record {
-  sent : Sends g.M.Machine.meaning l.initial.outbox l.outbox (to_others l.me (λ to. append_from l.me l.term l.commit l.log.entries (index_at l.next to) to) l.place);
+  sent : (covered : List (Entry _)) → IsBaseOf g.M.Machine.meaning l.log.base covered → Sends g.M.Machine.meaning l.initial.outbox l.outbox (to_others l.me (λ to. sent_from l.me l.term l.commit covered l.log.entries (index_at l.next to) to) l.place);
   front : KeepsFront l.initial.outbox l.outbox;
 }

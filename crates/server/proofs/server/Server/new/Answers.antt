@@ -1,13 +1,8 @@
-use Rattle.std.proofs.Common.{refl, ap}
+use Rattle.std.proofs.Common.{refl}
 use Rattle.raft_model.specs.Servers.{newcomer}
 use Rattle.raft_snapshot.proofs.Whole.{empty_whole}
 use Rattle.cluster_model.specs.ClusterMachine.{cluster_meaning}
-use Rattle.server.specs.ServerViews.{group_desk}
 use Rattle.server.proofs.server.Server.new.Goals as goal
 
 pub returns-in-Ok-clause-newcomer : goal.returns-in-Ok-clause-newcomer
-returns-in-Ok-clause-newcomer c = record {
-  raft = c.in-Ok.ensures.server newcomer (rw c.new.ensures (record { term = refl; vote = refl; log = empty_whole cluster_meaning _ _ refl refl; covered = refl }));
-  desk = ap group_desk c.closed.ensures;
-  led = rw c.closed.ensures tt;
-}
+returns-in-Ok-clause-newcomer c = c.in-Ok.ensures.server newcomer (rw c.new.ensures (record { term = refl; vote = refl; log = empty_whole cluster_meaning _ _ refl refl; covered = refl }))

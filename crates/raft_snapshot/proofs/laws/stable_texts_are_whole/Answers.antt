@@ -1,0 +1,13 @@
+use Rattle.raft_snapshot.proofs.TextLaws.{stable_lawful, stable_found, stable_only, stable_apart}
+use Rattle.raft_snapshot.proofs.laws.stable_texts_are_whole.Goals as goal
+
+pub returns : goal.returns
+returns g c =
+    let m = g.M.Machine.meaning in
+    let law = g.met.M.Machine.lawful in
+    record {
+      lawful = stable_lawful m law.commands_lawful law.states_lawful;
+      again = stable_only m law;
+      found = stable_found m law;
+      apart = stable_apart m law;
+    }

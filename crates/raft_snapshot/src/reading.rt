@@ -1,0 +1,229 @@
+//! What a server stores, read from bytes.
+
+ghost use Rattle.std.specs.Prelude.{◌≡◌, ◌+◌, ◌^◌, ◌<◌, ◌≤◌, Ok, length, drop, IfOk, bytes_eq};
+ghost use Rattle.fields_model.specs.Format.{Gives, GivesExactly, number_at, whole};
+ghost use Rattle.raft_snapshot.specs.Bases.{IsSnapshot};
+ghost use Rattle.raft_snapshot.specs.Stored.{Stored};
+ghost use Rattle.raft_snapshot.specs.Texts.{vote, covered, most_behind, entries, front, stored_of, agrees, stable_at, stable_text, IsStableText, StableFits};
+ghost use Rattle.raft_snapshot.specs.Inner.Faults.{moved_fault};
+
+use crate::log::Log;
+use crate::snapshot::Snapshot;
+use crate::stable::Stable;
+use fields::{read_index, read_items, read_term, read_u8, read_u64};
+use machine::{Coded, Entry, Machine};
+use rows::{Index, NoMemory, Refusal, Sequence, ServerId, Term};
+use std::alloc::Global;
+use std::marker::Model;
+
+/// The version of what is stored.
+pub(crate) const VERSION: u8 = 1;
+
+/// What stands in front of the state.
+#[derive(Drop)]
+struct Front<M: Machine> {
+    term: Term,
+    vote: Option<ServerId>,
+    index: Index,
+    index_term: Term,
+    entries: Sequence<Entry<Coded<M>>>,
+}
+
+impl<M: Machine> Model for Front<M> {
+    ghost use Rattle.std.specs.Prelude.{◌≡◌, ◌<◌, ◌+◌, ◌^◌, length};
+    ghost use Rattle.raft_snapshot.specs.Texts.{Front};
+
+    ghost Value = { Front M.Command };
+
+    ghost view = { λ f. record {
+      term = f.term;
+      vote = f.vote;
+      index = f.index;
+      index_term = f.index_term;
+      entries = f.entries;
+    } };
+
+    ghost invariant = { λ f. (f.index ≡ 0 → f.index_term ≡ 0) × (f.index + length f.entries < 2 ^ 40) };
+}
+
+/// The version: one byte, which is 1.
+fn read_version(bytes: &[u8]) -> Result<(u8, usize), Refusal>
+    ensures { GivesExactly result (number_at 1 1 2 bytes.now 0) }
+{
+    let (version, next) = read_u8(bytes, 0)?;
+    if version != VERSION {
+        return Err(Refusal::Frame(0));
+    }
+    Ok((version, next))
+}
+
+/// The vote: 0 where none was given, or the number of the server that has it.
+fn read_vote(bytes: &[u8], at: usize) -> Result<(Option<ServerId>, usize), Refusal>
+    ensures { GivesExactly result (vote.read bytes.now at) }
+{
+    let (number, next) = read_u8(bytes, at)?;
+    if number == 0 {
+        return Ok((None, next));
+    }
+    match ServerId::from_number(number) {
+        Some(server) => Ok((Some(server), next)),
+        None => Err(Refusal::Frame(at)),
+    }
+}
+
+/// How many entries are covered, and the term of the last one, which is 0 where none is.
+fn read_covered(bytes: &[u8], at: usize) -> Result<((Index, Term), usize), Refusal>
+    ensures { GivesExactly result (covered.read bytes.now at) }
+{
+    let (index, term_at) = read_index(bytes, at)?;
+    let (term, end) = read_term(bytes, term_at)?;
+    if index.get() == 0 && term.get() != 0 {
+        return Err(Refusal::Frame(term_at));
+    }
+    Ok(((index, term), end))
+}
+
+/// The count of the entries behind those that are covered, which all have places.
+fn read_count(bytes: &[u8], at: usize, index: Index) -> Result<(usize, usize), Refusal>
+    ensures { GivesExactly result (number_at 8 0 (most_behind index + 1) bytes.now at) }
+{
+    match read_u64(bytes, at)? {
+        (count, next) if count < Index::LIMIT - index.get() => Ok((count as usize, next)),
+        _ => Err(Refusal::Frame(at)),
+    }
+}
+
+/// The entries behind those that are covered.
+fn read_entries<M: Machine>(
+    alloc: Global,
+    bytes: &[u8],
+    at: usize,
+    index: Index,
+) -> Result<(Sequence<Entry<Coded<M>>>, usize), Refusal>
+    ensures { Gives result ((entries M.meaning.commands index).read bytes.now at) }
+{
+    let (count, next) = read_count(bytes, at, index)?;
+    read_items(alloc, bytes, next, count)
+}
+
+/// What stands in front of the state.
+fn read_front<M: Machine>(
+    alloc: Global,
+    bytes: &[u8],
+    at: usize,
+) -> Result<(Front<M>, usize), Refusal>
+    ensures { Gives result ((front M.meaning.commands).read bytes.now at) }
+{
+    let (term, at) = read_term(bytes, at)?;
+    let (vote, at) = read_vote(bytes, at)?;
+    let ((index, index_term), at) = read_covered(bytes, at)?;
+    let (entries, end) = read_entries(alloc, bytes, at, index)?;
+    Ok((
+        Front {
+            term,
+            vote,
+            index,
+            index_term,
+            entries,
+        },
+        end,
+    ))
+}
+
+/// What stands from a place on.
+fn rest_of(bytes: &[u8], at: usize) -> &[u8]
+    requires { at ≤ length bytes.now }
+    ensures value { result.now ≡ drop at bytes.now }
+    ensures room { at + length result.now < 2 ^ 64 }
+{
+    &bytes[at..]
+}
+
+/// The state whose text this is; it stands at a place of other bytes, which a fault names.
+fn read_state<M: Machine>(alloc: Global, text: &[u8], at: usize) -> Result<M, Refusal>
+    requires { at + length text.now < 2 ^ 64 }
+    ensures { Gives result (moved_fault at (whole M.meaning.states text.now)) }
+{
+    match M::load(alloc, text) {
+        Ok(state) => Ok(state),
+        Err(Refusal::Frame(place)) => Err(Refusal::Frame(at + place)),
+        Err(refusal) => Err(refusal),
+    }
+}
+
+/// Whether this is the text of the machine's first state.
+fn is_first_text<M: Machine>(alloc: Global, text: &[u8]) -> Result<bool, NoMemory>
+    ensures { IfOk result (λ is. is ≡ bytes_eq text.now (M.meaning.states.text M.meaning.empty)) }
+{
+    let mut first = Vec::new(alloc);
+    let state = M::empty(alloc);
+    state.save(&mut first)?;
+    Ok(text == first.as_slice())
+}
+
+/// Whether a state of this text has seen as many commands, and is the first one where that is none.
+fn agrees<M: Machine>(alloc: Global, index: Index, state: &M, text: &[u8]) -> Result<bool, NoMemory>
+    requires { text.now ≡ M.meaning.states.text state.now }
+    ensures { IfOk result (λ is. is ≡ agrees M.meaning index state.now) }
+{
+    if state.count() != index.get() {
+        return Ok(false);
+    }
+    if index.get() > 0 {
+        return Ok(true);
+    }
+    is_first_text::<M>(alloc, text)
+}
+
+/// What is stored, of what stands in front of the state, and the state.
+fn stable_of<M: Machine>(front: Front<M>, state: M) -> Stable<M>
+    requires { IsSnapshot M.meaning
+        (record { index = front.index; term = front.index_term; state = state }) }
+    ensures { result ≡ stored_of M.meaning (front, state) }
+{
+    let Front {
+        term,
+        vote,
+        index,
+        index_term,
+        entries,
+    } = front;
+    let base = Snapshot::of(index, index_term, state);
+    Stable::from_parts(term, vote, Log::of(base, entries.into_vec()))
+}
+
+/// What is stored, or the first fault.
+#[tactic(auto, unfolding(crate::specs::Texts::stable_at))]
+fn read_text<M: Machine>(alloc: Global, bytes: &[u8]) -> Result<Stable<M>, Refusal>
+    ensures { Gives result (stable_at M.meaning bytes.now) }
+{
+    let (_, at) = read_version(bytes)?;
+    let (front, at) = read_front(alloc, bytes, at)?;
+    let text = rest_of(bytes, at);
+    let state = read_state(alloc, text, at)?;
+    if !agrees(alloc, front.index, &state, text)? {
+        return Err(Refusal::Frame(at));
+    }
+    Ok(stable_of(front, state))
+}
+
+/// What a server stored, of which these bytes are the whole text (`write_stable`).
+///
+/// Bytes that are no such text are refused with the offset of the first field that is cut or out of
+/// its range: another version than 1; a count of entries of which the last has no place, below
+/// 2^40; a term of covered entries where none is covered. Then come the faults inside the state,
+/// and bytes left over, which are at fault at the first of them. Last, a state that has seen
+/// another number of commands than there are covered entries, or that is not the machine's first
+/// one where none is, is at fault at its first byte. Nothing else is asked of one field by another.
+/// It takes memory for what it reads, and never for a count that it has only read.
+pub fn read_stable<M: Machine>(alloc: Global, bytes: &[u8]) -> Result<Stable<M>, Refusal>
+    // What is read has just these bytes.
+    ensures found { IfOk result (λ s. IsStableText M.meaning s bytes.now) }
+    // What has a text is read from it, unless memory runs out.
+    ensures only { (s : Stored M M.Command) → StableFits M.meaning s
+        → bytes.now ≡ stable_text M.meaning s → Gives result (Ok s) }
+    // Which field is at fault.
+    ensures exact { Gives result (stable_at M.meaning bytes.now) }
+{
+    read_text(alloc, bytes)
+}
