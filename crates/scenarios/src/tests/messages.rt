@@ -42,6 +42,24 @@ const SENT: &[(u8, &[u8])] = &[
     (1, REPLY),
 ];
 
+fn numbers_of_append(head: &AppendHead) -> [u64; 4] {
+    [
+        head.term.get(),
+        head.prev_index.get(),
+        head.prev_term.get(),
+        head.commit.get(),
+    ]
+}
+
+fn numbers_of_install(head: &InstallHead, sum: u16) -> [u64; 4] {
+    [
+        head.term.get(),
+        head.index.get(),
+        head.index_term.get(),
+        u64::from(sum),
+    ]
+}
+
 fn numbers_of(body: &Body<Tally>) -> [u64; 4] {
     match body {
         Body::VoteRequest(said) => {
@@ -60,15 +78,7 @@ fn numbers_of(body: &Body<Tally>) -> [u64; 4] {
                 0,
             ]
         }
-        Body::Append(append) => {
-            let head = append.head();
-            [
-                head.term.get(),
-                head.prev_index.get(),
-                head.prev_term.get(),
-                head.commit.get(),
-            ]
-        }
+        Body::Append(append) => numbers_of_append(&append.head()),
         Body::AppendReply(said) => {
             [
                 said.term.get(),
@@ -77,15 +87,7 @@ fn numbers_of(body: &Body<Tally>) -> [u64; 4] {
                 said.at.get(),
             ]
         }
-        Body::Install(install) => {
-            let head = install.head();
-            [
-                head.term.get(),
-                head.index.get(),
-                head.index_term.get(),
-                u64::from(install.state().sum()),
-            ]
-        }
+        Body::Install(install) => numbers_of_install(&install.head(), install.state().sum()),
         Body::InstallReply(said) => [said.term.get(), said.asked.get(), said.at.get(), 0],
         _ => [0; 4],
     }

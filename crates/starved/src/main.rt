@@ -1,0 +1,92 @@
+//! Plays one row, where memory may be refused from outside at any request, and judges each answer
+//! and what it left. It says `holds`, whatever was refused; and else what does not hold.
+#![tactic(auto)]
+
+mod folder;
+mod group;
+mod row;
+mod said;
+mod shown;
+mod stop;
+mod turns;
+
+use std::env;
+use std::process::ExitCode;
+use std::sync::Wait;
+use std::thread::Threads;
+use stop::{Stop, unread};
+
+/// What is played: the row's events come to a group, or to its cells, or the program plays it.
+#[derive(Clone, Copy, Debug, PartialEq, Eq)]
+enum Part {
+    World,
+    Turn,
+    Program,
+}
+
+const PARTS: [Part; 3] = [Part::World, Part::Turn, Part::Program];
+
+// Where the play is: in which part, and how far.
+#[derive(Drop)]
+struct Place {
+    part: Option<Part>,
+    at: usize,
+}
+
+fn named(word: &str) -> Option<Part> {
+    match word {
+        "world" => Some(Part::World),
+        "turn" => Some(Part::Turn),
+        "program" => Some(Part::Program),
+        _ => None,
+    }
+}
+
+fn play<R: Threads + Wait + Copy + Send + 'static>(
+    rt: &HostRuntime,
+    on: R,
+    part: Part,
+    place: &mut Place,
+) -> Result<(), Stop> {
+    place.part = Some(part);
+    place.at = 0;
+    match part {
+        Part::World => group::play(rt.alloc(), &row::row(rt)?, &mut place.at),
+        Part::Turn => turns::play(&on, rt.alloc(), &row::row(rt)?, &mut place.at),
+        Part::Program => said::play(rt, on, &mut place.at),
+    }
+}
+
+// The words behind the program's name.
+fn words(rt: &HostRuntime) -> Result<Vec<String>, Stop> {
+    match env::args(rt) {
+        Ok(words) => Ok(words.skip(1).collect(rt.alloc())?),
+        Err(error) => Err(unread(&error)),
+    }
+}
+
+// Plays the part that the command line names, or all of them where it names none.
+fn play_named<R: Threads + Wait + Copy + Send + 'static>(
+    rt: &HostRuntime,
+    on: R,
+    place: &mut Place,
+) -> Result<(), Stop> {
+    let words = words(rt)?;
+    if let Some(word) = words.first() {
+        let part = named(word.as_str()).ok_or(Stop::Unread)?;
+        return play(rt, on, part, place);
+    }
+    for part in PARTS {
+        play(rt, on, part, place)?;
+    }
+    Ok(())
+}
+
+fn main(rt: HostRuntime) -> ExitCode {
+    let mut place = Place { part: None, at: 0 };
+    let said = match play_named(&rt, rt, &mut place) {
+        Ok(()) | Err(Stop::NoMemory) => println!(rt; "holds"),
+        Err(stop) => println!(rt; "{:?} {}: {stop:?}", place.part, place.at),
+    };
+    ExitCode::from(u8::from(said.is_err()))
+}

@@ -1,0 +1,59 @@
+//! The row that is played: a leader crashes while a plan is in flight, and another goes on.
+use crate::stop::{Stop, unread};
+use client_agent::ClientInput;
+use rows::{Actor, NoMemory, Refusal};
+use server::ServerInput;
+use std::alloc::Global;
+use std::fs;
+use std::rt::Files;
+use transcript::{Transcript, read};
+use world::Event;
+
+/// The row's events, as a transcript.
+pub(crate) fn row(rt: &HostRuntime) -> Result<Transcript, Stop> {
+    let bytes = file(rt, "failover-with-a-plan-in-flight.transcript")?;
+    match read(rt.alloc(), &bytes) {
+        Ok(row) => Ok(row),
+        Err(Refusal::NoMemory) => Err(Stop::NoMemory),
+        Err(_) => Err(Stop::Unread),
+    }
+}
+
+/// All bytes of a file.
+pub(crate) fn file(rt: &HostRuntime, name: &str) -> Result<Vec<u8>, Stop> {
+    match fs::read(rt, name) {
+        Ok(bytes) => Ok(bytes),
+        Err(error) => Err(unread(&error)),
+    }
+}
+
+/// What is done when an answer was judged.
+#[derive(Clone, Copy)]
+pub(crate) enum Next {
+    /// The list goes on.
+    On,
+    /// Nothing happened for want of memory: the same comes once more.
+    Again,
+    /// This actor is down for want of memory: it restarts.
+    Restart(Actor),
+}
+
+/// How often something that finds no memory is tried anew.
+pub(crate) const TRIES: usize = 4;
+
+/// An actor starts again.
+pub(crate) fn restart(alloc: Global, actor: &Actor) -> Result<Event, NoMemory> {
+    match actor {
+        Actor::Server(me) => Event::server(alloc, *me, ServerInput::Restart),
+        Actor::Client(me) => Event::client(alloc, *me, ClientInput::Restart),
+    }
+}
+
+/// Whether an actor starts again.
+pub(crate) fn is_restart(event: &Event) -> bool {
+    match event {
+        Event::Deliver(_) => false,
+        Event::Server(_, input) => matches!(input.as_ref(), ServerInput::Restart),
+        Event::Client(_, input) => matches!(input.as_ref(), ClientInput::Restart),
+    }
+}
