@@ -60,7 +60,10 @@ pub(crate) fn evals_of(
     let table = state.eval_table();
     table.ranges();
     let mut held = Vec::new(alloc);
-    for row in table.rows() {
+    for place in 0..table.len() {
+        let Some(row) = table.at(place) else {
+            unreachable!()
+        };
         if !is_blocked(row) {
             continue;
         }

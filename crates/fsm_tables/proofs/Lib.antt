@@ -1,9 +1,8 @@
 pub mod RowLaws
 pub mod SetLaws
+pub mod Places
 pub mod Sums
 pub mod Entries
-pub mod Covers
-pub mod Ranges
 pub mod Filters
 pub mod Bounds
 pub mod Listed

@@ -2,7 +2,7 @@
 ghost use Rattle.std.specs.Prelude.{◌≡◌};
 ghost use Rattle.fsm_tables.specs.Urgencies.{urgency};
 
-use pages::Row;
+use crate::table::Row;
 use rows::{EvalId, Priority, Ranged};
 use std::cmp::Reverse;
 

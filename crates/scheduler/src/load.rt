@@ -26,7 +26,8 @@ pub(crate) fn loads_of(alloc: Global, state: &Cluster) -> Result<Vec<Load>, NoMe
         IfOk result (λ loads. loads.items ≡ map load state.now.nodes) }
 {
     let mut loads = Vec::new(alloc);
-    for node in state.node_table().rows() {
+    let nodes = state.node_table().rows();
+    for node in nodes {
         loads.push(Load {
             node: *node,
             used: state.used(node.number),

@@ -83,7 +83,6 @@ used U
 live L
 dead D
 fork F
-copies E
 lists S
 is-at T
 broker B
