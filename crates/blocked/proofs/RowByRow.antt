@@ -48,25 +48,13 @@ node_before nodes at n lt e =
 
 -- ---- evaluations, from the first to the last
 
-taken_more : {X : Type 0} (xs : List X) (i : ℕ) (x : X) → Some x ≡ slice_get xs i → take (suc i) xs ≡ take i xs ++ x ∷ []
-taken_more [] i x e = absurd cc
-taken_more (y ∷ xs) zero x e = let same : x ≡ y = cc in ap (λ z. z ∷ []) (sym same)
-taken_more (y ∷ xs) (suc i) x e = ap (λ zs. y ∷ zs) (taken_more xs i x e)
-
 -- the blocked ones of a state's evaluations
 abbrev pub held_of : State → List Evaluation → List BlockedEval
 held_of s evals = map (blocked_eval s) (filter (λ (e : Evaluation). is_blocked e.status) evals)
 
-pub eval_more : (s : State) (evals : List Evaluation) (i : ℕ) (e : Evaluation) → Some e ≡ slice_get evals i →
-    held_of s (take (i + 1) evals) ≡ held_of s (take i evals) ++ cond (is_blocked e.status) (blocked_eval s e ∷ []) []
-eval_more s evals i e is =
-    let next : i + 1 ≡ suc i = omega arith in
-    ap (λ n. held_of s (take n evals)) next
-    ∙ ap (held_of s) (taken_more evals i e is)
-    ∙ ap (map (blocked_eval s)) (filter-append (λ (x : Evaluation). is_blocked x.status) (take i evals) (e ∷ []))
-    ∙ map-append (blocked_eval s) (filter (λ (x : Evaluation). is_blocked x.status) (take i evals)) (filter (λ (x : Evaluation). is_blocked x.status) (e ∷ []))
-    ∙ ap (λ zs. held_of s (take i evals) ++ zs) (by (is_blocked e.status))
-  where
-    by : (b : Bool) → map (blocked_eval s) (cond b (e ∷ []) []) ≡ cond b (blocked_eval s e ∷ []) []
-    by true = refl
-    by false = refl
+-- one of those that are left, which is blocked or not
+pub eval_passed : (s : State) (e : Evaluation) (left rest : List Evaluation) → left ≡ e ∷ rest → is_blocked e.status ≡ false → held_of s left ≡ held_of s rest
+eval_passed s e left rest is not_held = ap (held_of s) is ∙ ap (λ b. map (blocked_eval s) (cond b (e ∷ filter (λ (x : Evaluation). is_blocked x.status) rest) (filter (λ (x : Evaluation). is_blocked x.status) rest))) not_held
+
+pub eval_held : (s : State) (e : Evaluation) (left rest : List Evaluation) → left ≡ e ∷ rest → is_blocked e.status ≡ true → held_of s left ≡ blocked_eval s e ∷ held_of s rest
+eval_held s e left rest is held = ap (held_of s) is ∙ ap (λ b. map (blocked_eval s) (cond b (e ∷ filter (λ (x : Evaluation). is_blocked x.status) rest) (filter (λ (x : Evaluation). is_blocked x.status) rest))) held

@@ -10,11 +10,17 @@ pub on_err : {T E P : Type 0} (r : Result T E) → P → OnErr r P
 on_err (Ok x) p = tt
 on_err (Err e) p = p
 
--- one that stands in a list and passes
-pub passes_at : {X : Type 0} (p : X → Bool) (xs : List X) (i : ℕ) (x : X) → Some x ≡ slice_get xs i → p x ≡ true → list_any p xs ≡ true
-passes_at p xs i x e pass =
-    let there = sym e in
-    list_any_at p xs i x (slice_get_within xs i x there) (ap p (get_or_from_slice_get xs i x x there) ∙ pass)
+-- one that passes, of those that are left of some
+pub one_passes : {X : Type 0} (p : X → Bool) (left rest all : List X) (x : X) → (list_any p left ≡ true → list_any p all ≡ true) → left ≡ x ∷ rest → p x ≡ true → list_any p all ≡ true
+one_passes p left rest all x so is pass = so (ap (list_any p) is ∙ ap (λ b. b || list_any p rest) pass)
+
+-- where one behind the first passes, one of all does
+pub behind_passes : {X : Type 0} (p : X → Bool) (left rest all : List X) (x : X) → (list_any p left ≡ true → list_any p all ≡ true) → left ≡ x ∷ rest → list_any p rest ≡ true → list_any p all ≡ true
+behind_passes p left rest all x so is pass = so (ap (list_any p) is ∙ ap (λ b. p x || b) pass ∙ by (p x))
+  where
+    by : (b : Bool) → (b || true) ≡ true
+    by true = refl
+    by false = refl
 
 -- one of those of which something was made
 pub some_pass : {X Y : Type 0} (p : X → Bool) (f : X → Y) (xs : List X) → 1 ≤ length (map f (filter p xs)) → list_any p xs ≡ true

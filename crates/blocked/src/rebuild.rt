@@ -60,10 +60,7 @@ pub(crate) fn evals_of(
     let table = state.eval_table();
     table.ranges();
     let mut held = Vec::new(alloc);
-    for place in 0..table.len() {
-        let Some(row) = table.at(place) else {
-            unreachable!()
-        };
+    for row in table.rows() {
         if !is_blocked(row) {
             continue;
         }

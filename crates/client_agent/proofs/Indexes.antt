@@ -17,8 +17,8 @@ use Rattle.rows.proofs.RisingLaws.{keeps_rising}
 use Rattle.rows.proofs.KeyLaws.{alloc_cmp_total}
 use Rattle.fsm_tables.specs.Rows.{row_of, put}
 use Rattle.fsm_tables.specs.ReservedTables.{without}
-use Rattle.fsm_tables.specs.Inner.Places.{PlaceOf}
-use Rattle.fsm_tables.proofs.Places.{place_found}
+use Rattle.pages.specs.Places.{PlaceOf}
+use Rattle.pages.proofs.Places.{place_found}
 use Rattle.fsm_tables.proofs.RowLaws.{row_of-put}
 use Rattle.fsm_tables.proofs.ReservedTables.{row_of-without}
 use Rattle.cluster_model.specs.Words.{same_alloc}

@@ -2,8 +2,9 @@
 ghost use Rattle.std.specs.Prelude.{◌≡◌};
 ghost use Rattle.drain.specs.Inner.Groups.{job_group};
 
-use fsm_tables::Row;
+use fsm_tables::{CopiedRow, Row};
 use rows::{Allocation, GroupName, JobName, Ranged};
+use std::alloc::AllocError;
 
 /// A group of a job.
 #[derive(Clone, Copy, PartialEq, Eq, PartialOrd, Ord)]
@@ -45,5 +46,11 @@ impl Row for JobGroup {
 
     fn key(&self) -> &JobGroup {
         self
+    }
+}
+
+impl CopiedRow for JobGroup {
+    fn append_copies(rows: &[JobGroup], out: &mut Vec<JobGroup>) -> Result<(), AllocError> {
+        out.extend_from_slice(rows)
     }
 }

@@ -1,15 +1,10 @@
 -- The live ones of a list.
-use Rattle.std.proofs.Common.{◌≡◌, ◌≢◌, ℕ, zero, suc, ◌<◌, Bool, true, false, List, [], ◌∷◌, length, filter, get_or, arith, refl, cond, subst}
+use Rattle.std.proofs.Common.{◌≡◌, ◌≢◌, ◌<◌, Bool, true, List, [], ◌∷◌, ◌++◌, length, filter, arith, ap, sym, ◌∙◌, cond, length-append}
 
-filter_front : {X : Type 0} (p : X → Bool) (x : X) (xs : List X) → p x ≡ true → filter p (x ∷ xs) ≢ []
-filter_front p x xs is none = let some : filter p (x ∷ xs) ≡ x ∷ filter p xs = rw is refl in cc
+some_in : {X : Type 0} (done rest : List X) (x : X) → done ++ x ∷ rest ≡ [] → ⊥
+some_in done rest x e = let n = ap length e in let m = length-append done (x ∷ rest) in absurd (omega (arith, n, m))
 
-filter_behind : {X : Type 0} (p : X → Bool) (y : X) (xs : List X) (b : Bool) → filter p xs ≢ [] → cond b (y ∷ filter p xs) (filter p xs) ≢ []
-filter_behind p y xs true some none = cc
-filter_behind p y xs false some none = some none
-
--- where one of them is live, some are
-pub some_live : {X : Type 0} (p : X → Bool) (xs : List X) (i : ℕ) (x : X) → i < length xs → x ≡ get_or xs i x → p x ≡ true → filter p xs ≢ []
-some_live p [] i x within at is = absurd (omega arith)
-some_live p (y ∷ xs) zero x within at is = filter_front p y xs (subst (λ z. p z ≡ true) at is)
-some_live p (y ∷ xs) (suc i) x within at is = filter_behind p y xs (p y) (some_live p xs i x (omega arith) at is)
+-- where one of those that are left is live, some are
+pub some_live : {X : Type 0} (p : X → Bool) (done left rest all : List X) (x : X) → done ++ filter p left ≡ filter p all → left ≡ x ∷ rest → p x ≡ true → filter p all ≢ []
+some_live p done left rest all x e l is none =
+    some_in done (filter p rest) x (ap (λ b. done ++ cond b (x ∷ filter p rest) (filter p rest)) (sym is) ∙ sym (ap (λ xs. done ++ filter p xs) l) ∙ e ∙ none)

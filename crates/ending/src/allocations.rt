@@ -8,7 +8,7 @@ ghost use Rattle.ending.specs.Endings.{AreLiveRows, row_line, state_word};
 
 use crate::fault::{EndError, told};
 use fsm_state::Cluster;
-use fsm_tables::{AllocName, is_live};
+use fsm_tables::{AllocName, Table, is_live};
 use rows::{Allocation, ClientState, NoMemory};
 use std::alloc::Global;
 use std::io::Write;
@@ -18,19 +18,19 @@ pub(crate) fn live_rows(alloc: Global, state: &Cluster) -> Result<Vec<Allocation
     ensures rows { IfOk result (λ rows. AreLiveRows state.now.allocs rows.items) }
     ensures memory { OnErr result (filter is_live state.now.allocs ≢ []) }
 {
-    let mut live = live_of(alloc, state.alloc_table().rows())?;
+    let mut live = live_of(alloc, state.alloc_table())?;
     live.sort_by_key(|row| AllocName::of(row))?;
     Ok(live)
 }
 
 // The live ones of these, in their order.
 #[tactic(auto, using(crate::proofs::Live::some_live))]
-fn live_of(alloc: Global, rows: &[Allocation]) -> Result<Vec<Allocation>, NoMemory>
+fn live_of(alloc: Global, rows: &Table<Allocation>) -> Result<Vec<Allocation>, NoMemory>
     ensures live { IfOk result (λ live. live.items ≡ filter is_live rows.now) }
     ensures memory { OnErr result (filter is_live rows.now ≢ []) }
 {
     let mut live = Vec::new(alloc);
-    for row in rows {
+    for row in rows.rows() {
         if is_live(row) {
             live.push(*row)?;
         }

@@ -7,7 +7,6 @@ use Rattle.std.specs.Cmp.{nat_cmp_is}
 use Rattle.std.specs.declared.cmp.Ordering.TheVariants.{Greater}
 use Rattle.std.specs.Ordering.{nat_cmp, ordering_then, is_eq, is_lt}
 use Rattle.std.proofs.lemmas.Bool.{cases_lt}
-use Rattle.std.proofs.lemmas.List.{map-id}
 use Rattle.std.proofs.lemmas.List.Sums.{sum_by-cons, sum_by-append}
 use Rattle.rows.specs.declared.size.Size.{Size}
 use Rattle.rows.specs.declared.allocation.AllocId.{AllocId}
@@ -314,6 +313,15 @@ last_above k (a ∷ b ∷ rows) r h e = last_above k (b ∷ rows) r (second _ _ 
 
 earlier : (a b x : ℕ) → a ≤ b → (nat_lt a x && nat_lt b x) ≡ nat_lt b x
 earlier a b x le = grind arith
+
+no_last : (a : Allocation) (rows : List Allocation) → slice_get (a ∷ rows) (length (a ∷ rows) - 1) ≡ None → ⊥
+no_last a [] e = cc
+no_last a (b ∷ rows) e = no_last b rows (sym (last_behind a b rows) ∙ e)
+
+-- where there is no last one there is none
+pub dated_by_none : (x : ℕ) (rows : List Allocation) → slice_get rows (length rows - 1) ≡ None → are_dated x rows ≡ true
+dated_by_none x [] e = refl
+dated_by_none x (a ∷ rows) e = absurd (no_last a rows e)
 
 pub dated_by_last : (x : ℕ) (rows : List Allocation) (r : Allocation) → T (is_rising alloc_cmp alloc_id rows) → slice_get rows (length rows - 1) ≡ Some r → are_dated x rows ≡ nat_lt r.id.index x
 dated_by_last x [] r h e = absurd cc

@@ -1,6 +1,6 @@
 //! The effect of each command.
-ghost use Rattle.std.specs.Prelude.{◌≡◌, ◌≢◌, ◌+◌, ◌<◌, ◌^◌, None, IsOk, OnOk, OnErr};
-ghost use Rattle.cluster_model.specs.Words.{job_of, node_of};
+ghost use Rattle.std.specs.Prelude.{◌≡◌, ◌≢◌, ◌+◌, ◌<◌, ◌^◌, None, OnOk, OnErr};
+ghost use Rattle.cluster_model.specs.Words.{job_of, node_of, eval_of};
 ghost use Rattle.cluster_model.specs.Effect.{applied, touched, is_named, with_job, without_job, without_node, unheard, downed, with_drain, without_drain, migrated, with_status, planned, reported};
 ghost use Rattle.fsm_state.specs.Memory.{EffectMayLack};
 
@@ -84,7 +84,7 @@ impl Cluster {
     /// Begins to empty a node.
     fn begin_drain(&mut self, number: NodeId, force: bool) -> Result<(), NoMemory>
         ensures ok { OnOk result (self.new ≡ with_drain number force self.old) }
-        ensures memory { IsOk result }
+        ensures memory { OnErr result (node_of number self.old ≢ None) }
     {
         self.ranges();
         self.set_draining(number, force)
@@ -93,7 +93,7 @@ impl Cluster {
     /// Ends the emptying of a node.
     fn end_drain(&mut self, number: NodeId) -> Result<(), NoMemory>
         ensures ok { OnOk result (self.new ≡ without_drain number self.old) }
-        ensures memory { IsOk result }
+        ensures memory { OnErr result (node_of number self.old ≢ None) }
     {
         self.ranges();
         self.set_drained(number)
@@ -122,7 +122,7 @@ impl Cluster {
     /// Sets the status of an evaluation.
     fn eval_status(&mut self, id: EvalId, change: &StatusChange) -> Result<(), NoMemory>
         ensures ok { OnOk result (self.new ≡ with_status id change.now self.old) }
-        ensures memory { IsOk result }
+        ensures memory { OnErr result (eval_of id self.old ≢ None) }
     {
         self.ranges();
         self.settle(id, change)

@@ -4,10 +4,6 @@ ghost use Rattle.std.specs.List.{list_any};
 ghost use Rattle.fsm_tables.specs.Claims.{claim_of, claims, used, is_live};
 ghost use Rattle.fsm_tables.specs.LiveNames.{live_named};
 ghost use Rattle.fsm_tables.specs.Lookups.{lives_for, lives_on, is_active_on, GivesRows};
-ghost use Rattle.fsm_tables.specs.Rows.{makes_row};
-ghost use Rattle.std.specs.Ordering.{nat_cmp};
-ghost use Rattle.rows.specs.Keys.{eval_cmp, node_number, eval_id};
-ghost use Rattle.rows.specs.Limits.{most_nodes, most_evals};
 ghost use Rattle.fsm_tables.specs.TableRows.{TablesFit};
 ghost use Rattle.cluster_model.specs.Words.{no_rows, same_alloc, job_of, node_of, eval_of, alloc_of};
 ghost use Rattle.cluster_model.specs.Effect.{with_next_count};
@@ -100,7 +96,7 @@ impl Cluster {
         }
     }
 
-    /// The same state once more, by a copy of its tables.
+    /// The same state once more, which shares the pages of its tables.
     pub(crate) fn copied(&self) -> Result<Cluster, NoMemory>
         ensures { IfOk result (λ copy. copy ≡ self.now) }
     {
@@ -250,18 +246,14 @@ impl Cluster {
 
     /// Makes or replaces the row of the node.
     pub(crate) fn put_node(&mut self, row: Node) -> Result<(), NoMemory>
-        ensures ok { OnOk result (self.new ≡ put_node row self.old) }
-        ensures memory { OnErr result (
-            Holds (makes_row nat_cmp node_number most_nodes row self.old.nodes)) }
+        ensures { OnOk result (self.new ≡ put_node row self.old) }
     {
         self.tables.put_node(row)
     }
 
     /// Makes or replaces the row of the evaluation.
     pub(crate) fn put_eval(&mut self, row: Evaluation) -> Result<(), NoMemory>
-        ensures ok { OnOk result (self.new ≡ put_eval row self.old) }
-        ensures memory { OnErr result (
-            Holds (makes_row eval_cmp eval_id most_evals row self.old.evals)) }
+        ensures { OnOk result (self.new ≡ put_eval row self.old) }
     {
         self.tables.put_eval(row)
     }

@@ -8,13 +8,12 @@ ghost use Rattle.fsm_tables.specs.Lookups.{GivesRows};
 ghost use Rattle.rows.specs.States.{InOrder};
 
 use crate::cluster::Cluster;
-use fsm_tables::{CopiedRow, Table, Tables};
+use fsm_tables::{Table, Tables};
 use rows::{Allocation, Evaluation, Index, Job, NoMemory, Node, Sequence};
 use std::alloc::Global;
 
 impl Cluster {
-    /// The state of a count and of rows, each list within its limit and in strictly rising key: it
-    /// takes the rows as they are, without a search for each.
+    /// The state of a count and of rows, each list within its limit and in strictly rising key.
     pub(crate) fn from_rows(
         alloc: Global,
         count: Index,
@@ -36,10 +35,10 @@ impl Cluster {
         }) }
     {
         let tables = Tables::of_rows(
-            Table::of_rising(jobs.into_vec()),
-            Table::of_rising(nodes.into_vec()),
-            Table::of_rising(evals.into_vec()),
-            Table::of_rising(allocs.into_vec()),
+            Table::of_rising(jobs.into_vec())?,
+            Table::of_rising(nodes.into_vec())?,
+            Table::of_rising(evals.into_vec())?,
+            Table::of_rising(allocs.into_vec())?,
         )?;
         Ok(Cluster::of_tables(alloc, count, tables))
     }
@@ -49,7 +48,9 @@ impl Cluster {
         ensures rows { GivesRows result self.now.jobs }
         ensures rising { IfOk result (λ rows. Holds (is_rising name_cmp job_name rows)) }
     {
-        Job::all_copied(self.job_table().rows(), alloc)
+        let table = self.job_table();
+        table.ranges();
+        table.copied_rows(alloc)
     }
 
     /// All nodes, by number.
@@ -57,7 +58,9 @@ impl Cluster {
         ensures rows { GivesRows result self.now.nodes }
         ensures rising { IfOk result (λ rows. Holds (is_rising nat_cmp node_number rows)) }
     {
-        Node::all_copied(self.node_table().rows(), alloc)
+        let table = self.node_table();
+        table.ranges();
+        table.copied_rows(alloc)
     }
 
     /// All evaluations, by id.
@@ -65,7 +68,9 @@ impl Cluster {
         ensures rows { GivesRows result self.now.evals }
         ensures rising { IfOk result (λ rows. Holds (is_rising eval_cmp eval_id rows)) }
     {
-        Evaluation::all_copied(self.eval_table().rows(), alloc)
+        let table = self.eval_table();
+        table.ranges();
+        table.copied_rows(alloc)
     }
 
     /// All allocations, by id.
@@ -73,6 +78,8 @@ impl Cluster {
         ensures rows { GivesRows result self.now.allocs }
         ensures rising { IfOk result (λ rows. Holds (is_rising alloc_cmp alloc_id rows)) }
     {
-        Allocation::all_copied(self.alloc_table().rows(), alloc)
+        let table = self.alloc_table();
+        table.ranges();
+        table.copied_rows(alloc)
     }
 }

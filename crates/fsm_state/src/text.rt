@@ -1,10 +1,13 @@
 //! A state as bytes.
+ghost use Rattle.std.specs.Prelude.{◌≤◌, length};
 ghost use Rattle.fields_model.specs.Commands.{command};
+ghost use Rattle.fields_model.specs.Format.{Puts, items, list};
 ghost use Rattle.fields_model.specs.StateText.{state};
 ghost use Rattle.fields_model.proofs.StateTextLaws.{state_lawful};
 
 use crate::cluster::Cluster;
-use fields::{Field, read_long_ruled_list, write_long_counted};
+use fields::{Field, read_long_ruled_list, write_u32};
+use fsm_tables::{CopiedRow, Table};
 use rows::{Allocation, Command, Evaluation, Index, Job, NoMemory, Node, Ranged, Refusal};
 use std::alloc::Global;
 
@@ -22,6 +25,30 @@ pub(crate) fn has_text(value: &Command)
     ensures { command.Fits value.now }
 {
     value.ranges();
+}
+
+/// Puts the rows of a table to the end, in rising key. Without memory some of them may stand there.
+fn append_each<T: CopiedRow + Field>(table: &Table<T>, out: &mut Vec<u8>) -> Result<(), NoMemory>
+    ensures { Puts (items (length table.now) T.format) table.now result out.old.items out.new.items }
+{
+    for row in table.rows() {
+        row.append(out)?;
+    }
+    Ok(())
+}
+
+/// Puts the count of a table's rows in four bytes to the end, and the rows: at most `most` of them.
+/// Without memory a part of this may stand there.
+fn append_table<T: CopiedRow + Field>(
+    table: &Table<T>,
+    most: u32,
+    out: &mut Vec<u8>,
+) -> Result<(), NoMemory>
+    requires { length table.now ≤ most }
+    ensures { Puts (list 4 most T.format) table.now result out.old.items out.new.items }
+{
+    write_u32(&(table.len() as u32), out)?;
+    append_each(table, out)
 }
 
 /// The count in eight bytes, and then the rows of jobs, nodes, evaluations and allocations: each
@@ -44,9 +71,9 @@ impl Field for Cluster {
     fn append(&self, out: &mut Vec<u8>) -> Result<(), NoMemory> {
         self.fits();
         self.applied().append(out)?;
-        write_long_counted(self.job_table().rows(), 256, out)?;
-        write_long_counted(self.node_table().rows(), 64, out)?;
-        write_long_counted(self.eval_table().rows(), 65_536, out)?;
-        write_long_counted(self.alloc_table().rows(), 65_536, out)
+        append_table(self.job_table(), 256, out)?;
+        append_table(self.node_table(), 64, out)?;
+        append_table(self.eval_table(), 65_536, out)?;
+        append_table(self.alloc_table(), 65_536, out)
     }
 }

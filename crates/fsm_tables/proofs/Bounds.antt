@@ -4,10 +4,9 @@ use Rattle.std.specs.Prelude.{filter, nat_eq, bytes_eq}
 use Rattle.std.specs.List.{AllByRecursion, list_all, slice_get}
 use Rattle.std.specs.declared.cmp.Ordering.{Ordering}
 use Rattle.std.specs.declared.cmp.Ordering.TheVariants.{Less, Equal, Greater}
-use Rattle.std.specs.BTreeMap.Range.{IsLeBy}
-use Rattle.std.specs.Cmp.{IsTotalOrder, tied_itself, first_so, second_so, nat_cmp_total, bool_cmp_total, on_total, then_total}
+use Rattle.std.specs.Cmp.{IsTotalOrder, first_so, second_so, nat_cmp_total, bool_cmp_total, on_total, then_total}
 use Rattle.std.specs.Cmp.Lexicographic.{slice_cmp, nat_list_eq_equiv}
-use Rattle.std.specs.Ordering.{nat_cmp, bool_cmp, is_eq, is_gt, is_le, is_lt, ordering_then}
+use Rattle.std.specs.Ordering.{nat_cmp, bool_cmp, is_eq, is_le, is_lt, ordering_then}
 use Rattle.std.proofs.lemmas.Cmp.{nat_list_cmp_total}
 use Rattle.std.proofs.lemmas.Map.Text.{is_eq-slice_cmp}
 use Rattle.rows.specs.declared.allocation.AllocId.{AllocId}
@@ -90,17 +89,6 @@ below_zs (suc n) (b ∷ bs) le h =
     let bounds = byte_bounds b (first_so (is_name_byte b) (list_all is_name_byte bs) h) in
     let high : b ≤ 122 = bounds.1 in
     not_lt_then (nat_cmp 122 b) (slice_cmp nat_cmp (replicate n 122) bs) (grind arith) (below_zs n bs (omega arith) (second_so (is_name_byte b) (list_all is_name_byte bs) h))
-
--- ---- the bounds are in order
-
-pub forward_under : {K : Type 0} (R : K → K → Ordering) (o : IsTotalOrder R) (k : K) → IsLeBy (entry_cmp R) (first_entry k) (last_entry k)
-forward_under R o k = ap (λ r. is_gt (ordering_then r (alloc_cmp least_id greatest_id))) (tied_itself o k)
-
-pub forward_job : (j : List ℕ) → IsLeBy (entry_cmp alloc_name_cmp) (first_entry (least_name j)) (last_entry (greatest_name j))
-forward_job j = ap (λ r. is_gt (ordering_then (ordering_then r (ordering_then (name_cmp (45 ∷ []) (replicate 32 122)) (nat_cmp 0 63))) (alloc_cmp least_id greatest_id))) (tied_itself nat_list_cmp_total j)
-
-pub forward_active : (n : ℕ) → IsLeBy (entry_cmp on_node_cmp) (first_entry (record { node = n; live = false })) (last_entry (record { node = n; live = true }))
-forward_active n = ap (λ r. is_gt (ordering_then (ordering_then r (bool_cmp false true)) (alloc_cmp least_id greatest_id))) (tied_itself nat_cmp_total n)
 
 -- ---- the rows between them
 

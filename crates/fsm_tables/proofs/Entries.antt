@@ -1,27 +1,23 @@
--- The entries of an index: what a put makes of them, and which rows those between two entries are
--- of.
+-- The entries of rows, and which rows those between two entries are of.
 use Rattle.std.proofs.Common.{◌≡◌, ◌≢◌, Bool, true, false, not, cond, ◌&&◌, ◌⊎◌, inl, inr, T, List, [], ◌∷◌, Option, Some, None, refl, sym, ap, subst, ◌∙◌}
 use Rattle.std.specs.Prelude.{filter, map, ◌||◌, option_map}
 use Rattle.std.specs.Option.{option_and_then}
-use Rattle.std.specs.List.{list_any, filter_map, cons_option, slice_get, AllByRecursion}
+use Rattle.std.specs.List.{list_any, slice_get, AllByRecursion}
 use Rattle.std.specs.List.Sorted.{IsStrictlySortedBy}
 use Rattle.std.specs.declared.cmp.Ordering.{Ordering}
 use Rattle.std.specs.declared.cmp.Ordering.TheVariants.{Less, Equal, Greater}
-use Rattle.std.specs.declared.ops.Bound.TheVariants.{Included}
 use Rattle.std.specs.BTreeMap.{is_at}
-use Rattle.std.specs.BTreeMap.Range.{range_contains}
-use Rattle.std.specs.BTreeSet.{BTreeSet, contains, IsFromIterResult}
 use Rattle.std.specs.Cmp.{IsTotalOrder, tied_itself, tied_back, alike_right, on_total, then_total, both_ways}
-use Rattle.std.specs.Ordering.{eq_by_cmp, is_eq, is_le, is_lt, ordering_then, ordering_reverse}
+use Rattle.std.specs.Ordering.{is_eq, is_le, is_lt, ordering_then, ordering_reverse}
 use Rattle.rows.specs.declared.allocation.AllocId.{AllocId}
 use Rattle.rows.specs.declared.allocation.Allocation.{Allocation}
 use Rattle.rows.specs.Keys.{alloc_cmp, alloc_id}
 use Rattle.rows.proofs.KeyLaws.{alloc_cmp_total}
 use Rattle.fsm_tables.specs.declared.index.Entry.{Entry}
-use Rattle.fsm_tables.specs.Inner.Index.{entry_cmp, entry_under, entry_of, is_entry, AreIndexed, IsSame, Gains, Loses, has_id, is_entry_within, is_between, passes, entries_between, AreIdsOf}
-use Rattle.fsm_tables.specs.Rows.{row_of, put}
+use Rattle.fsm_tables.specs.Inner.Index.{entry_cmp, entry_under, entry_of, is_entry, is_in, AreIndexed, has_id, is_within, is_entry_within, is_between, passes, entries_between, AreIdsOf}
+use Rattle.fsm_tables.specs.Rows.{row_of}
 use Rattle.rows.specs.Rising.{is_rising}
-use Rattle.fsm_tables.proofs.RowLaws.{first, second, equal, none_below, below_tied, row_of-put}
+use Rattle.fsm_tables.proofs.RowLaws.{equal}
 use Rattle.fsm_tables.proofs.Filters.{exact_ids, row_found, rows_are_filtered, first_row, some_row}
 
 -- the entry of a row has its id
@@ -67,6 +63,32 @@ module _ {K : Type 0} (R : K → K → Ordering) (o : IsTotalOrder R) where
       ∙ ap (λ b. cond b false now) (sym (this_or_kept e k kept))
       ∙ ap (λ z. cond (is_entry R z k && not (is_entry R kept k)) false now) (sym is)
 
+  -- one that was not there is added
+  pub added : (e : Entry K) (more had : Option (Entry K)) (k : Entry K) (now after : Bool) → more ≡ Some e → is_entry R had e ≡ false → after ≡ cond (is_eq (entry_cmp R e k)) true now
+      → after ≡ cond (is_entry R more k && not (is_entry R had k)) true now
+  added e more had k now after is other h =
+      h ∙ on (is_eq (entry_cmp R e k)) now
+      ∙ ap (λ b. cond (is_eq (entry_cmp R e k) && not b) true now) (sym other)
+      ∙ ap (λ b. cond b true now) (sym (this_or_kept e k had))
+      ∙ ap (λ z. cond (is_entry R z k && not (is_entry R had k)) true now) (sym is)
+    where
+      on : (b c : Bool) → cond b true c ≡ cond (b && true) true c
+      on true c = refl
+      on false c = refl
+
+  -- one that was there is not
+  pub not_added : (e : Entry K) (more had : Option (Entry K)) (k : Entry K) (now : Bool) → more ≡ Some e → is_entry R had e ≡ true
+      → now ≡ cond (is_entry R more k && not (is_entry R had k)) true now
+  not_added e more had k now is same =
+      sym (none (is_eq (entry_cmp R e k)))
+      ∙ ap (λ b. cond (is_eq (entry_cmp R e k) && not b) true now) (sym same)
+      ∙ ap (λ b. cond b true now) (sym (this_or_kept e k had))
+      ∙ ap (λ z. cond (is_entry R z k && not (is_entry R had k)) true now) (sym is)
+    where
+      none : (b : Bool) → cond (b && false) true now ≡ now
+      none true = refl
+      none false = refl
+
   -- ---- a put
 
   pub then_ids : (r s : Ordering) → ordering_then r s ≡ Equal → s ≡ Equal
@@ -75,104 +97,9 @@ module _ {K : Type 0} (R : K → K → Ordering) (o : IsTotalOrder R) where
   then_ids Greater s h = absurd cc
 
   -- an entry that a row has is under the row's id
-  own_id : (a : Allocation) (z : Option K) (k : Entry K) → is_entry R (entry_under a.id z) k ≡ true → is_eq (alloc_cmp k.id a.id) ≡ true
+  pub own_id : (a : Allocation) (z : Option K) (k : Entry K) → is_entry R (entry_under a.id z) k ≡ true → is_eq (alloc_cmp k.id a.id) ≡ true
   own_id a None k h = absurd cc
   own_id a (Some x) k h = ap is_eq (tied_back alloc_cmp_total a.id k.id (then_ids (R x k.key) (alloc_cmp a.id k.id) (equal _ (subst T (sym h) tt))))
-
-  -- the new row's entry is added, and that of the row replaced is removed unless they are one
-  made : (same new old now : Bool) → (new ≡ true → same ≡ true) → (old ≡ true → same ≡ true) → (same ≡ true → now ≡ old) → cond (old && not new) false (cond new true now) ≡ cond same new now
-  made true true true now n o e = refl
-  made true true false now n o e = refl
-  made true false true now n o e = refl
-  made true false false now n o e = e refl
-  made false true old now n o e = let never : false ≡ true = n refl in absurd cc
-  made false false true now n o e = let never : false ≡ true = o refl in absurd cc
-  made false false false now n o e = refl
-
-  -- and without memory for the row its entry, if it was added, is removed, unless it was there
-  -- before
-  unmade : (same new old now : Bool) → (new ≡ true → same ≡ true) → (same ≡ true → now ≡ old) → cond (new && not old) false (cond new true now) ≡ now
-  unmade true true true now n e = sym (e refl)
-  unmade true true false now n e = sym (e refl)
-  unmade false true old now n e = let never : false ≡ true = n refl in absurd cc
-  unmade same false old now n e = refl
-
-  unmoved : (same new old now : Bool) → (new ≡ true → same ≡ true) → (same ≡ true → now ≡ old) → cond (new && not old) false now ≡ now
-  unmoved true true true now n e = refl
-  unmoved true true false now n e = sym (e refl)
-  unmoved false true old now n e = let never : false ≡ true = n refl in absurd cc
-  unmoved same false old now n e = refl
-
-  module _ (key_of : Allocation → Option K) (a : Allocation) (rows : List Allocation) where
-    abbrev new_entry : Option (Entry K)
-    new_entry = entry_of key_of (Some a)
-
-    abbrev old_entry : Option (Entry K)
-    old_entry = entry_of key_of (row_of alloc_cmp alloc_id a.id rows)
-
-    new_same : (k : Entry K) → is_entry R new_entry k ≡ true → is_eq (alloc_cmp k.id a.id) ≡ true
-    new_same k = own_id a (key_of a) k
-
-    old_by : (k : Entry K) (r : Option Allocation) → row_of alloc_cmp alloc_id a.id rows ≡ r → is_entry R (entry_of key_of r) k ≡ true → is_eq (alloc_cmp k.id a.id) ≡ true
-    old_by k None p h = absurd cc
-    old_by k (Some b) p h = ap (λ i. is_eq (alloc_cmp k.id i)) (sym (row_found a.id b rows p)) ∙ own_id b (key_of b) k h
-
-    old_same : (k : Entry K) → is_entry R old_entry k ≡ true → is_eq (alloc_cmp k.id a.id) ≡ true
-    old_same k = old_by k (row_of alloc_cmp alloc_id a.id rows) refl
-
-    now_old : (k : Entry K) → is_eq (alloc_cmp k.id a.id) ≡ true → is_entry R (entry_of key_of (row_of alloc_cmp alloc_id k.id rows)) k ≡ is_entry R old_entry k
-    now_old k h = ap (λ i. is_entry R (entry_of key_of (row_of alloc_cmp alloc_id i rows)) k) (exact_ids k.id a.id (equal _ (subst T (sym h) tt)))
-
-    entry_either : (b : Bool) (r : Option Allocation) (k : Entry K) → is_entry R (entry_of key_of (cond b (Some a) r)) k ≡ cond b (is_entry R new_entry k) (is_entry R (entry_of key_of r) k)
-    entry_either true r k = refl
-    entry_either false r k = refl
-
-    pub indexed_put : (s m n : BTreeSet (Entry K)) → AreIndexed R key_of rows s → Gains R new_entry s m → Loses R old_entry new_entry m n → AreIndexed R key_of (put alloc_cmp alloc_id a rows) n
-    indexed_put s m n was add gone k =
-        gone k
-        ∙ ap (cond (is_entry R old_entry k && not (is_entry R new_entry k)) false) (add k ∙ ap (cond (is_entry R new_entry k) true) (was k))
-        ∙ made (is_eq (alloc_cmp k.id a.id)) _ _ _ (new_same k) (old_same k) (now_old k)
-        ∙ sym (entry_either (is_eq (alloc_cmp k.id a.id)) (row_of alloc_cmp alloc_id k.id rows) k)
-        ∙ sym (ap (λ r. is_entry R (entry_of key_of r) k) (row_of-put alloc_cmp alloc_id alloc_cmp_total k.id a rows))
-
-    pub indexed_kept : (s m n : BTreeSet (Entry K)) → AreIndexed R key_of rows s → IsSame R s m ⊎ Gains R new_entry s m → Loses R new_entry old_entry m n → AreIndexed R key_of rows n
-    indexed_kept s m n was (inl same) gone k =
-        gone k
-        ∙ ap (cond (is_entry R new_entry k && not (is_entry R old_entry k)) false) (same k ∙ was k)
-        ∙ unmoved (is_eq (alloc_cmp k.id a.id)) _ _ _ (new_same k) (now_old k)
-    indexed_kept s m n was (inr add) gone k =
-        gone k
-        ∙ ap (cond (is_entry R new_entry k && not (is_entry R old_entry k)) false) (add k ∙ ap (cond (is_entry R new_entry k) true) (was k))
-        ∙ unmade (is_eq (alloc_cmp k.id a.id)) _ _ _ (new_same k) (now_old k)
-
-  pub none_indexed : (key_of : Allocation → Option K) (s : BTreeSet (Entry K)) → s.keys ≡ [] → AreIndexed R key_of [] s
-  none_indexed key_of s none k = ap (list_any (is_at (entry_cmp R k))) none
-
-  -- ---- rows in rising id, all at once
-
-  row_entry : (z : Option (Entry K)) (e : Entry K) (es : List (Entry K)) → list_any (eq_by_cmp (entry_cmp R) e) (cons_option z es) ≡ (is_entry R z e || list_any (eq_by_cmp (entry_cmp R) e) es)
-  row_entry None e es = refl
-  row_entry (Some x) e es = ap (λ b. b || list_any (eq_by_cmp (entry_cmp R) e) es) (ap is_eq (entries_total.antisymm e x) ∙ tie_reversed (entry_cmp R x e))
-
-  one_of_two : (same here there : Bool) → (here ≡ true → same ≡ true) → (same ≡ true → there ≡ false) → (here || there) ≡ cond same here there
-  one_of_two true true there h t = refl
-  one_of_two true false there h t = t refl
-  one_of_two false true there h t = let never : false ≡ true = h refl in absurd cc
-  one_of_two false false there h t = refl
-
-  module _ (key_of : Allocation → Option K) where
-    any_entry : (rows : List Allocation) (e : Entry K) → T (is_rising alloc_cmp alloc_id rows)
-        → list_any (eq_by_cmp (entry_cmp R) e) (filter_map (λ r. entry_of key_of (Some r)) rows) ≡ is_entry R (entry_of key_of (row_of alloc_cmp alloc_id e.id rows)) e
-    any_entry [] e h = refl
-    any_entry (a ∷ rows) e h =
-        row_entry (entry_of key_of (Some a)) e (filter_map (λ r. entry_of key_of (Some r)) rows)
-        ∙ ap (λ b. is_entry R (entry_of key_of (Some a)) e || b) (any_entry rows e (second _ _ h))
-        ∙ one_of_two (is_eq (alloc_cmp e.id a.id)) _ _ (own_id a (key_of a) e) (λ t.
-        ap (λ r. is_entry R (entry_of key_of r) e) (none_below alloc_cmp alloc_id alloc_cmp_total e.id rows (below_tied alloc_cmp alloc_id alloc_cmp_total e.id a.id rows (equal _ (subst T (sym t) tt)) (first _ _ h))))
-        ∙ sym (entry_either key_of a rows (is_eq (alloc_cmp e.id a.id)) (row_of alloc_cmp alloc_id e.id rows) e)
-
-    pub rows_indexed : (rows : List Allocation) (s : BTreeSet (Entry K)) → T (is_rising alloc_cmp alloc_id rows) → IsFromIterResult (entry_cmp R) (filter_map (λ r. entry_of key_of (Some r)) rows) s → AreIndexed R key_of rows s
-    rows_indexed rows s rising made e = made.0 e ∙ any_entry rows e rising
 
   -- ---- the ids between two entries
 
@@ -218,7 +145,7 @@ module _ {K : Type 0} (R : K → K → Ordering) (o : IsTotalOrder R) where
       ] refl h
 
   -- an entry that ties with another is between two others where that one is
-  pub range_tied : (lo hi e k : Entry K) → entry_cmp R e k ≡ Equal → range_contains (entry_cmp R) (Included lo) (Included hi) e ≡ range_contains (entry_cmp R) (Included lo) (Included hi) k
+  pub range_tied : (lo hi e k : Entry K) → entry_cmp R e k ≡ Equal → is_within R lo hi e ≡ is_within R lo hi k
   range_tied lo hi e k tie =
       ap (λ r. is_le r && not (is_lt (entry_cmp R hi e))) (alike_right entries_total e k lo tie)
       ∙ ap (λ r. is_le (entry_cmp R lo k) && not (is_lt r)) (alike_right entries_total e k hi tie)
@@ -228,9 +155,9 @@ module _ {K : Type 0} (R : K → K → Ordering) (o : IsTotalOrder R) where
   some_id [] some = absurd (some refl)
   some_id (e ∷ es) some = (e.id, ap (λ r. is_eq r || list_any (λ d. is_eq (alloc_cmp d.id e.id)) es) (tied_itself alloc_cmp_total e.id))
 
-  module _ (key_of : Allocation → Option K) (rows : List Allocation) (entries : BTreeSet (Entry K)) (was : AreIndexed R key_of rows entries) (lo hi : Entry K) where
+  module _ (key_of : Allocation → Option K) (rows : List Allocation) (entries : List (Entry K)) (was : AreIndexed R key_of rows entries) (lo hi : Entry K) where
     -- an entry of the set is the entry of the row of its id
-    owned : (i : AllocId) (e : Entry K) (r : Option Allocation) → row_of alloc_cmp alloc_id e.id rows ≡ r → is_entry R (entry_of key_of r) e ≡ true → range_contains (entry_cmp R) (Included lo) (Included hi) e ≡ true
+    owned : (i : AllocId) (e : Entry K) (r : Option Allocation) → row_of alloc_cmp alloc_id e.id rows ≡ r → is_entry R (entry_of key_of r) e ≡ true → is_within R lo hi e ≡ true
         → passes (is_between R key_of lo hi) r ≡ true
     owned i e None p h g = absurd cc
     owned i e (Some a) p h g =
@@ -241,7 +168,7 @@ module _ {K : Type 0} (R : K → K → Ordering) (o : IsTotalOrder R) where
 
     given : (i : AllocId) → has_id R lo hi entries i ≡ true → passes (is_between R key_of lo hi) (row_of alloc_cmp alloc_id i rows) ≡ true
     given i h =
-        let p = any_found (entry_cmp R) entries_total (λ (e : Entry K). is_eq (alloc_cmp e.id i)) (range_contains (entry_cmp R) (Included lo) (Included hi)) entries.keys h in
+        let p = any_found (entry_cmp R) entries_total (λ (e : Entry K). is_eq (alloc_cmp e.id i)) (is_within R lo hi) entries h in
         let same : p.0.id ≡ i = exact_ids p.0.id i (equal _ (subst T (sym p.1) tt)) in
         subst (λ j. passes (is_between R key_of lo hi) (row_of alloc_cmp alloc_id j rows) ≡ true) same
         (owned i p.0 (row_of alloc_cmp alloc_id p.0.id rows) refl (sym (was p.0) ∙ p.3) p.2)
@@ -251,8 +178,8 @@ module _ {K : Type 0} (R : K → K → Ordering) (o : IsTotalOrder R) where
     standing i a (Some e) p q h =
         let id : e.id ≡ a.id = entry_id a (key_of a) e q in
         let row : row_of alloc_cmp alloc_id e.id rows ≡ Some a = ap (λ j. row_of alloc_cmp alloc_id j rows) (id ∙ row_found i a rows p) ∙ p in
-        let has : contains (entry_cmp R) entries e ≡ true = was e ∙ ap (λ r. is_entry R (entry_of key_of r) e) row ∙ ap (λ x. is_entry R x e) q ∙ ap is_eq (tied_itself entries_total e) in
-        any_kept (entry_cmp R) (λ (k : Entry K). is_eq (alloc_cmp k.id i)) (range_contains (entry_cmp R) (Included lo) (Included hi)) e entries.keys
+        let has : is_in R e entries ≡ true = was e ∙ ap (λ r. is_entry R (entry_of key_of r) e) row ∙ ap (λ x. is_entry R x e) q ∙ ap is_eq (tied_itself entries_total e) in
+        any_kept (entry_cmp R) (λ (k : Entry K). is_eq (alloc_cmp k.id i)) (is_within R lo hi) e entries
         (λ k tie. (
           ap is_eq (ap (λ j. alloc_cmp k.id j) (sym (id ∙ row_found i a rows p)) ∙ tied_back alloc_cmp_total e.id k.id (then_ids (R e.key k.key) (alloc_cmp e.id k.id) tie)),
           sym (range_tied lo hi e k tie) ∙ h,
@@ -283,7 +210,7 @@ module _ {K : Type 0} (R : K → K → Ordering) (o : IsTotalOrder R) where
     ids_are i = any_turned i (entries_between R lo hi entries) ∙ ids_of_rows i
 
   -- entries between those of one key have that key
-  key_tied : (k : K) (lo hi : AllocId) (e : Entry K) → range_contains (entry_cmp R) (Included (record { key = k; id = lo })) (Included (record { key = k; id = hi })) e ≡ true → R k e.key ≡ Equal
+  key_tied : (k : K) (lo hi : AllocId) (e : Entry K) → is_within R (record { key = k; id = lo }) (record { key = k; id = hi }) e ≡ true → R k e.key ≡ Equal
   key_tied k lo hi e h = only (R k e.key) (alloc_cmp lo e.id) (alloc_cmp hi e.id) h
 
   ids_rise : (k : K) (d e : Entry K) → R k d.key ≡ Equal → R k e.key ≡ Equal → entry_cmp R d e ≡ Less → alloc_cmp d.id e.id ≡ Less
@@ -291,7 +218,7 @@ module _ {K : Type 0} (R : K → K → Ordering) (o : IsTotalOrder R) where
 
   module _ (k : K) (lo hi : AllocId) where
     abbrev within : Entry K → Bool
-    within = range_contains (entry_cmp R) (Included (record { key = k; id = lo })) (Included (record { key = k; id = hi }))
+    within = is_within R (record { key = k; id = lo }) (record { key = k; id = hi })
 
     ids_below : (d : Entry K) (es : List (Entry K)) → R k d.key ≡ Equal → AllByRecursion (λ e. entry_cmp R d e ≡ Less) es → AllByRecursion (λ i. alloc_cmp d.id i ≡ Less) (map (λ e. e.id) (filter within es))
     ids_below d [] p h = tt
@@ -310,7 +237,7 @@ module _ {K : Type 0} (R : K → K → Ordering) (o : IsTotalOrder R) where
           | false ↦ λ w. ids_sorted es h.1
         ] refl
 
-  module _ (key_of : Allocation → Option K) (rows : List Allocation) (entries : BTreeSet (Entry K)) (was : AreIndexed R key_of rows entries) (k : K) (lo hi : AllocId) where
+  module _ (key_of : Allocation → Option K) (rows : List Allocation) (entries : List (Entry K)) (was : AreIndexed R key_of rows entries) (k : K) (lo hi : AllocId) where
     abbrev first_of : Entry K
     first_of = record { key = k; id = lo }
 
@@ -322,11 +249,11 @@ module _ {K : Type 0} (R : K → K → Ordering) (o : IsTotalOrder R) where
     first_id (e ∷ es) = refl
 
     -- the row of the first entry under a key is the first of the rows that are listed under it
-    pub first_listed : T (is_rising alloc_cmp alloc_id rows) → IsStrictlySortedBy (entry_cmp R) entries.keys → (z : Option AllocId) → z ≡ option_map (λ (e : Entry K). e.id) (slice_get (entries_between R first_of last_of entries) 0)
+    pub first_listed : T (is_rising alloc_cmp alloc_id rows) → IsStrictlySortedBy (entry_cmp R) entries → (z : Option AllocId) → z ≡ option_map (λ (e : Entry K). e.id) (slice_get (entries_between R first_of last_of entries) 0)
         → option_and_then (λ i. row_of alloc_cmp alloc_id i rows) z ≡ slice_get (filter (is_between R key_of first_of last_of) rows) 0
     first_listed rising sorted z is =
         let ids = map (λ (e : Entry K). e.id) (entries_between R first_of last_of entries) in
         let has = ids_are key_of rows entries was first_of last_of in
         ap (option_and_then (λ i. row_of alloc_cmp alloc_id i rows)) (is ∙ sym (first_id (entries_between R first_of last_of entries)))
         ∙ first_row rows (is_between R key_of first_of last_of) ids has
-        ∙ ap (λ xs. slice_get xs 0) (rows_are_filtered rows (is_between R key_of first_of last_of) ids rising (ids_sorted k lo hi entries.keys sorted) has)
+        ∙ ap (λ xs. slice_get xs 0) (rows_are_filtered rows (is_between R key_of first_of last_of) ids rising (ids_sorted k lo hi entries sorted) has)

@@ -29,7 +29,7 @@ kept_if test None = None
 kept_if test (Some x) = cond (test x) (Some x) None
 
 module _ {K X : Type 0} (R : K → K → Ordering) (key : X → K) (test : X → Bool) where
-  below_filter : (k : K) (ys : List X) → T (is_below R key k ys) → T (is_below R key k (filter test ys))
+  pub below_filter : (k : K) (ys : List X) → T (is_below R key k ys) → T (is_below R key k (filter test ys))
   below_filter k [] h = tt
   below_filter k (y ∷ ys) h =
       elim (test y) as (λ b. T (is_below R key k (cond b (y ∷ filter test ys) (filter test ys)))) [
@@ -37,7 +37,7 @@ module _ {K X : Type 0} (R : K → K → Ordering) (key : X → K) (test : X →
         | false ↦ below_filter k ys (second _ _ h)
       ]
 
-  rising_filter : (ys : List X) → T (is_rising R key ys) → T (is_rising R key (filter test ys))
+  pub rising_filter : (ys : List X) → T (is_rising R key ys) → T (is_rising R key (filter test ys))
   rising_filter [] h = tt
   rising_filter (y ∷ ys) h =
       elim (test y) as (λ b. T (is_rising R key (cond b (y ∷ filter test ys) (filter test ys)))) [

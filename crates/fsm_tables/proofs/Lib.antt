@@ -1,8 +1,9 @@
 pub mod RowLaws
 pub mod SetLaws
-pub mod Places
 pub mod Sums
 pub mod Entries
+pub mod Covers
+pub mod Ranges
 pub mod Filters
 pub mod Bounds
 pub mod Listed

@@ -6,7 +6,6 @@ use Rattle.std.specs.List.Sorted.{IsStrictlySortedBy}
 use Rattle.std.specs.declared.cmp.Ordering.{Ordering}
 use Rattle.std.specs.declared.cmp.Ordering.TheVariants.{Less, Equal, Greater}
 use Rattle.std.specs.BTreeMap.{is_at}
-use Rattle.std.specs.BTreeSet.{BTreeSet}
 use Rattle.std.specs.Cmp.{IsTotalOrder, tied_itself, tied_back, both_ways}
 use Rattle.std.specs.Cmp.Lexicographic.{nat_list_eq_equiv}
 use Rattle.std.specs.Ordering.{is_eq, is_lt, ordering_then}
@@ -229,12 +228,12 @@ once_distinct (c ∷ rows) h once =
 
 -- ---- the index by name
 
-module _ (rows : List Allocation) (names : BTreeSet (Entry AllocName)) (was : AreIndexed alloc_name_cmp live_name rows names) where
+module _ (rows : List Allocation) (names : List (Entry AllocName)) (was : AreIndexed alloc_name_cmp live_name rows names) where
   -- a live row's entry
   abbrev own : Allocation → Entry AllocName
   own a = record { key = name_of a; id = a.id }
 
-  has_own : (i : AllocId) (a : Allocation) → row_of alloc_cmp alloc_id i rows ≡ Some a → is_live a ≡ true → IsIn alloc_name_cmp names_total (own a) names.keys
+  has_own : (i : AllocId) (a : Allocation) → row_of alloc_cmp alloc_id i rows ≡ Some a → is_live a ≡ true → IsIn alloc_name_cmp names_total (own a) names
   has_own i a e l =
       was (own a) ∙ ap (λ r. is_entry alloc_name_cmp (entry_of live_name r) (own a)) (ap (λ j. row_of alloc_cmp alloc_id j rows) (row_found i a rows e) ∙ e)
       ∙ ap (λ z. is_entry alloc_name_cmp (entry_under a.id (cond z (Some (name_of a)) None)) (own a)) l
@@ -251,15 +250,15 @@ module _ (rows : List Allocation) (names : BTreeSet (Entry AllocName)) (was : Ar
     | false ↦ λ l h. absurd cc
   ] refl h
 
-  owner : (e : Entry AllocName) → IsIn alloc_name_cmp names_total e names.keys → Owner e
+  owner : (e : Entry AllocName) → IsIn alloc_name_cmp names_total e names → Owner e
   owner e p = owner_by e (row_of alloc_cmp alloc_id e.id rows) refl (sym (was e) ∙ p)
 
-  once_by : T (is_rising alloc_cmp alloc_id rows) → T (is_rising alloc_name_cmp (λ (e : Entry AllocName). e.key) names.keys) → AreOnce rows
+  once_by : T (is_rising alloc_cmp alloc_id rows) → T (is_rising alloc_name_cmp (λ (e : Entry AllocName). e.key) names) → AreOnce rows
   once_by rising h i j a b p q n =
       let tie = tied_back names_total (name_of b) (name_of a) (equal _ (truth _ (called (name_of b) a ∙ n.2))) in
-      rising_apart alloc_name_cmp names_total names.keys h (own a) (own b) (has_own i a p n.0) (has_own j b q n.1) tie
+      rising_apart alloc_name_cmp names_total names h (own a) (own b) (has_own i a p n.0) (has_own j b q n.1) tie
 
-  apart_by : T (are_distinct (claims rows)) → AreApart alloc_name_cmp names_total names.keys
+  apart_by : T (are_distinct (claims rows)) → AreApart alloc_name_cmp names_total names
   apart_by h e f p q tie =
       let a = owner e p in
       let b = owner f q in
@@ -268,7 +267,7 @@ module _ (rows : List Allocation) (names : BTreeSet (Entry AllocName)) (was : Ar
       let name : same_name (claim_of a.0) (claim_of b.0) ≡ true = sym (called (name_of b.0) a.0) ∙ ap is_eq same in
       sym (row_found e.id a.0 rows a.1) ∙ distinct_once rows h e.id f.id a.0 b.0 a.1 b.1 (a.2, b.2, name) ∙ row_found f.id b.0 rows b.1
 
-  pub named_once_is : T (is_rising alloc_cmp alloc_id rows) → IsStrictlySortedBy (entry_cmp alloc_name_cmp) names.keys → is_rising alloc_name_cmp (λ (e : Entry AllocName). e.key) names.keys ≡ are_distinct (claims rows)
+  pub named_once_is : T (is_rising alloc_cmp alloc_id rows) → IsStrictlySortedBy (entry_cmp alloc_name_cmp) names → is_rising alloc_name_cmp (λ (e : Entry AllocName). e.key) names ≡ are_distinct (claims rows)
   named_once_is rising sorted = both_ways _ _
       (λ h. passed _ (once_distinct rows rising (once_by rising (truth _ h))))
-      (λ h. passed _ (apart_rising alloc_name_cmp names_total names.keys sorted (apart_by (truth _ h))))
+      (λ h. passed _ (apart_rising alloc_name_cmp names_total names sorted (apart_by (truth _ h))))

@@ -1,8 +1,8 @@
 -- How the sums change as one allocation's row is made or replaced.
-use Rattle.std.proofs.Common.{◌≡◌, ℕ, ◌+◌, ◌-◌, ◌*◌, ◌<◌, ◌≤◌, length, ◌∷◌, Bool, true, false, cond, T, List, [], Some, refl, sym, ap, replicate, ◌∙◌, ◌^◌, arith, drop, get_or}
+use Rattle.std.proofs.Common.{◌≡◌, ℕ, ◌+◌, ◌-◌, ◌*◌, ◌<◌, ◌≤◌, length, ◌∷◌, Bool, true, false, cond, T, List, [], Some, refl, sym, ap, replicate, ◌∙◌, ◌^◌, arith, get_or}
 use Rattle.std.specs.Prelude.{sum_by, nat_eq}
 use Rattle.std.specs.List.{AllByRecursion}
-use Rattle.std.proofs.lemmas.List.{drop_more, get_or-replicate}
+use Rattle.std.proofs.lemmas.List.{get_or-replicate}
 use Rattle.std.proofs.lemmas.List.Sums.{sum_by-cons}
 use Rattle.rows.specs.declared.size.Size.{Size}
 use Rattle.rows.specs.declared.allocation.Allocation.{Allocation}
@@ -96,20 +96,17 @@ AreSummedBut left rows sums = (p : Part) (n : ℕ) → n < 65 → sum_at sums n 
 pub summed_begin : (rows : List Allocation) → AreSummedBut rows rows (replicate 65 no_size)
 summed_begin rows p n lt = let none : sum_at (replicate 65 no_size) n p ≡ 0 = ap (amount p) (none_at n lt) ∙ amount_by p (λ q. 0) in omega (arith, none)
 
-pub summed_end : (left rows : List Allocation) (sums : List Size) → length left ≤ 0 → AreSummedBut left rows sums → AreSummed rows sums
-summed_end [] rows sums few s = summed_by_parts rows sums (λ p n lt. let all : sum_at sums n p + 0 ≡ sum_by (on_node n p) (claims rows) = s p n lt in omega (arith, all))
-summed_end (a ∷ left) rows sums few s = absurd (omega (arith, few))
+pub summed_end : (rows : List Allocation) (sums : List Size) → AreSummedBut [] rows sums → AreSummed rows sums
+summed_end rows sums s = summed_by_parts rows sums (λ p n lt. let all : sum_at sums n p + 0 ≡ sum_by (on_node n p) (claims rows) = s p n lt in omega (arith, all))
 
 -- one more row
-pub summed_step : (rows : List Allocation) (i : ℕ) (a : Allocation) (old new : List Size) (to : Share) → AreSummedBut (drop i rows) rows old → i < length rows → a ≡ get_or rows i a → IsShare (Some a) to
-    → AreMore to old new → AreSummedBut (drop (i + 1) rows) rows new
-summed_step rows i a old new to s lt is t more_by p n small =
+pub summed_step : (rows rest : List Allocation) (a : Allocation) (old new : List Size) (to : Share) → AreSummedBut (a ∷ rest) rows old → IsShare (Some a) to → AreMore to old new → AreSummedBut rest rows new
+summed_step rows rest a old new to s t more_by p n small =
     let w = on_node n p in
-    let before : sum_at old n p + sum_by w (claims (drop i rows)) ≡ sum_by w (claims rows) = s p n small in
+    let before : sum_at old n p + sum_by w (claims (a ∷ rest)) ≡ sum_by w (claims rows) = s p n small in
     let one : sum_at new n p ≡ sum_at old n p + share_at to n p = more_by p n small in
     let gain : share_at to n p ≡ weight w a = t.adds p n in
-    let left : sum_by w (claims (drop i rows)) ≡ weight w a + sum_by w (claims (drop (i + 1) rows)) =
-    ap (λ zs. sum_by w (claims zs)) (drop_more rows i a lt ∙ ap (λ z. z ∷ drop (i + 1) rows) (sym is)) ∙ more w (claim_of a) (is_live a) (claims (drop (i + 1) rows)) _ refl in
+    let left : sum_by w (claims (a ∷ rest)) ≡ weight w a + sum_by w (claims rest) = more w (claim_of a) (is_live a) (claims rest) _ refl in
     omega (arith, before, one, gain, left)
 
 -- and each has room for one more

@@ -6,3 +6,5 @@ pub mod Lookups
 pub mod Inner
 pub mod ReservedTables
 pub mod Urgencies
+-- walks over tables
+pub use Rattle.pages.specs.Runs

@@ -1,16 +1,12 @@
 -- Rows in strictly rising key, with room for so many; and rows that go.
-use Rattle.std.specs.Prelude.{ℕ, Bool, not, ◌||◌, nat_lt, List, length, filter}
+use Rattle.std.specs.Prelude.{ℕ, Bool, ◌||◌, nat_lt, List, length}
 use Rattle.std.specs.declared.cmp.Ordering.{Ordering}
-use Rattle.std.specs.Ordering.{is_eq}
 use Rattle.fsm_tables.specs.Rows.{has_row}
+pub use Rattle.pages.specs.Rows.{without}
 
 pub record Stock (X : Type 0) : Type 0 where
   pub rows : List X
   pub room : ℕ
-
--- the rows but that of a key
-abbrev pub without : {K X : Type 0} → (K → K → Ordering) → (X → K) → K → List X → List X
-without R key k rows = filter (λ y. not (is_eq (R k (key y)))) rows
 
 -- whether there is room for a row: one of its key is there, or there is room for one more
 abbrev pub has_space : {K X : Type 0} → (K → K → Ordering) → (X → K) → X → Stock X → Bool

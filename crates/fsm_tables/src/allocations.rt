@@ -1,16 +1,16 @@
-ghost use Rattle.std.specs.Prelude.{◌≡◌, List, [], ◌≤◌, OnOk, OnErr, IfOk, filter, option_map, length, nat_lt, ◌||◌, not, T as Holds};
-ghost use Rattle.fsm_tables.specs.Rows.{row_of, has_row, put, put_within, makes_row};
+ghost use Rattle.std.specs.Prelude.{◌≡◌, List, [], ◌≤◌, OnOk, OnErr, IfOk, filter, option_map, length, nat_lt, ◌||◌, T as Holds};
+ghost use Rattle.fsm_tables.specs.Rows.{row_of, has_row, put, put_within};
 ghost use Rattle.rows.specs.Keys.{alloc_cmp, alloc_id};
 ghost use Rattle.fsm_tables.specs.Claims.{claims, used, are_distinct};
 ghost use Rattle.fsm_tables.specs.LiveNames.{live_named};
-ghost use Rattle.fsm_tables.specs.Lookups.{lives_as, lives_for, lives_on, is_active_on, GivesRows, is_listed_anew};
+ghost use Rattle.fsm_tables.specs.Lookups.{lives_as, lives_for, lives_on, is_active_on, GivesRows};
 
 use crate::index_keys::{OnNode, first, last};
 use crate::indexes::{Indexes, put_indexed};
 use crate::listing::{first_under, rows_between};
 use crate::name::AllocName;
-use crate::table::Table;
 use crate::usage::{held_by, put_on, sums_of, take_off};
+use pages::Table;
 use rows::{AllocId, Allocation, JobName, NoMemory, NodeId, Sequence, Usage};
 use std::alloc::Global;
 use std::marker::Model;
@@ -57,13 +57,14 @@ impl Allocations {
         }
     }
 
-    /// These rows: the sums are added up in one walk, and each index is brought into order at once.
+    /// These rows: the sums are added up in one walk, and the entries of each index are put in
+    /// another.
     pub fn of_rows(rows: Table<Allocation>) -> Result<Allocations, NoMemory>
         requires { length rows ≤ 65536 }
         ensures { IfOk result (λ a. a ≡ rows) }
     {
         let sums = sums_of(&rows);
-        let indexes = Indexes::of_rows(rows.memory(), rows.rows())?;
+        let indexes = Indexes::of_rows(rows.memory(), &rows)?;
         Ok(Allocations {
             rows,
             sums,
@@ -151,7 +152,7 @@ impl Allocations {
         ensures { result ≡ are_distinct (claims self.now) }
     {
         self.rows.ranges();
-        self.indexes.names.has_keys_once()
+        self.indexes.names.has_keys_once(&self.rows)
     }
 
     /// The row of an id.
@@ -173,8 +174,6 @@ impl Allocations {
     pub fn put(&mut self, row: Allocation) -> Result<(), NoMemory>
         ensures ok { OnOk result (self.new ≡ put_within alloc_cmp alloc_id 65536 row self.old) }
         ensures err { OnErr result (self.new ≡ self.old) }
-        ensures memory { OnErr result (Holds (makes_row alloc_cmp alloc_id 65536 row self.old
-            || is_listed_anew (row_of alloc_cmp alloc_id row.id self.old) row)) }
     {
         let has_row = self.get(&row.id).is_some();
         if has_row || self.rows.len() < Allocations::MOST {
@@ -188,10 +187,8 @@ impl Allocations {
         requires { Holds (has_row alloc_cmp alloc_id row.id self.old || nat_lt (length self.old) 65536) }
         ensures ok { OnOk result (self.new ≡ put alloc_cmp alloc_id row self.old) }
         ensures err { OnErr result (self.new ≡ self.old) }
-        ensures memory { OnErr result (Holds (not (has_row alloc_cmp alloc_id row.id self.old)
-            || is_listed_anew (row_of alloc_cmp alloc_id row.id self.old) row)) }
     {
-        let _rows = self.rows.rows();
+        self.rows.ranges();
         let to = held_by(Some(&row));
         let from = held_by(self.rows.get(&row.id));
         put_indexed(&mut self.rows, &mut self.indexes, row)?;

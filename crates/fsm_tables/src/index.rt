@@ -1,15 +1,13 @@
 //! An index of allocations: an entry for each row that is listed, in the order of what it is listed
-//! by, and then of its id.
+//! by, and then of its id. It may have others, which are passed over: an entry is looked at where it
+//! is read, so that none has to be taken back where memory is wanting.
 ghost use Rattle.std.specs.Prelude.{◌≡◌, ◌≢◌, OnOk, OnErr, IfOk, option_map, [], Some, T as Holds};
-ghost use Rattle.std.specs.List.{filter_map};
-ghost use Rattle.std.specs.BTreeSet.{IsOrdered};
-ghost use Rattle.std.specs.BTreeMap.Range.{IsLeBy};
-ghost use Rattle.rows.specs.Keys.{alloc_cmp, alloc_id};
 ghost use Rattle.rows.specs.Rising.{is_above, is_rising};
 ghost use Rattle.fsm_tables.specs.declared.index.Entry.{Entry as AnyEntry};
-ghost use Rattle.fsm_tables.specs.Inner.Index.{entry_cmp, entry_of, is_entry, AreIndexed, IsSame, Gains, Loses, HasIdsBetween, entries_between, first_id, lacks};
+ghost use Rattle.fsm_tables.specs.Inner.Index.{entry_cmp, entry_of, is_entry, is_current, current, Covers, Gains, Loses, HasIdsBetween, entries_between, first_id};
 
-use rows::{AllocId, Allocation, NoMemory};
+use pages::{CopiedRow, Row, Table};
+use rows::{AllocId, Allocation, NoMemory, Ranged};
 use std::alloc::{AllocError, Global};
 use std::collections::BTreeSet;
 use std::marker::Model;
@@ -51,6 +49,31 @@ impl<K: Copy> Clone for Entry<K> {
 
 impl<K: Copy> Copy for Entry<K> {}
 
+impl<K> Ranged for Entry<K> {
+    ghost use Rattle.std.specs.Prelude.{⊤};
+
+    ghost Fits = { λ _. ⊤ };
+
+    fn ranges(&self) {}
+}
+
+/// Entries are their own keys.
+impl<K: IndexKey> Row for Entry<K> {
+    type Key = Entry<K>;
+
+    ghost key_of = { λ e. e };
+
+    fn key(&self) -> &Entry<K> {
+        self
+    }
+}
+
+impl<K: IndexKey> CopiedRow for Entry<K> {
+    fn append_copies(rows: &[Entry<K>], out: &mut Vec<Entry<K>>) -> Result<(), AllocError> {
+        out.extend_from_slice(rows)
+    }
+}
+
 /// The entry of a row, where there is a row and it is listed.
 pub(crate) fn entry_of<K: IndexKey>(row: Option<&Allocation>) -> Option<Entry<K>>
     ensures { result ≡ entry_of K.key_of (option_map (λ r. r.now) row.entry) }
@@ -58,19 +81,6 @@ pub(crate) fn entry_of<K: IndexKey>(row: Option<&Allocation>) -> Option<Entry<K>
     let row = row?;
     let key = K::of(row)?;
     Some(Entry { key, id: row.id })
-}
-
-/// The entries of rows, in the order of the rows.
-fn entries_of<K: IndexKey>(alloc: Global, rows: &[Allocation]) -> Result<Vec<Entry<K>>, NoMemory>
-    ensures { IfOk result (λ es. es.items ≡ filter_map (λ r. entry_of K.key_of (Some r)) rows.now) }
-{
-    let mut entries = Vec::new(alloc);
-    for row in rows {
-        if let Some(entry) = entry_of(Some(row)) {
-            entries.push(entry)?;
-        }
-    }
-    Ok(entries)
 }
 
 /// Whether there is an entry and it is this one.
@@ -83,6 +93,13 @@ fn is_this<K: IndexKey>(entry: &Option<Entry<K>>, other: &Entry<K>) -> bool
     }
 }
 
+/// Whether the row of an entry's id, if there is one, has this entry.
+fn is_current<K: IndexKey>(rows: &Table<Allocation>, entry: &Entry<K>) -> bool
+    ensures { result ≡ is_current K.cmp K.key_of rows.now entry.now }
+{
+    is_this(&entry_of(rows.get(&entry.id)), entry)
+}
+
 /// Whether an entry's key is above that of the last one, if there is one.
 fn is_above<K: IndexKey>(last: &Option<Entry<K>>, entry: &Entry<K>) -> bool
     ensures { result ≡ is_above K.cmp (λ (e : AnyEntry K). e.key) last.now entry.now.key }
@@ -93,17 +110,17 @@ fn is_above<K: IndexKey>(last: &Option<Entry<K>>, entry: &Entry<K>) -> bool
     }
 }
 
-/// Entries in strictly rising order. Contracts see the set of them.
+/// Entries in strictly rising order. Contracts see the list of them.
 #[derive(Drop)]
 pub(crate) struct AllocIndex<K: IndexKey> {
-    entries: BTreeSet<Entry<K>>,
+    entries: Table<Entry<K>>,
 }
 
 impl<K: IndexKey> Model for AllocIndex<K> {
-    ghost use Rattle.std.specs.BTreeSet.{BTreeSet};
+    ghost use Rattle.std.specs.Prelude.{List};
     ghost use Rattle.fsm_tables.specs.declared.index.Entry.{Entry};
 
-    ghost Value = { BTreeSet (Entry K) };
+    ghost Value = { List (Entry K) };
 
     ghost view = { λ a. a.entries };
 }
@@ -111,96 +128,128 @@ impl<K: IndexKey> Model for AllocIndex<K> {
 impl<K: IndexKey> AllocIndex<K> {
     /// The index without entries. It takes no memory.
     pub fn empty(alloc: Global) -> AllocIndex<K>
-        ensures { result.keys ≡ [] }
+        ensures { result ≡ [] }
     {
         AllocIndex {
-            entries: BTreeSet::new(alloc),
+            entries: Table::empty(alloc),
         }
     }
 
-    /// The index of rows in rising id: all entries are brought into order at once.
-    pub fn of_rows(alloc: Global, rows: &[Allocation]) -> Result<AllocIndex<K>, NoMemory>
-        requires { Holds (is_rising alloc_cmp alloc_id rows.now) }
-        ensures { IfOk result (λ index. AreIndexed K.cmp K.key_of rows.now index) }
+    /// The index of rows: the entry of each row is put in turn.
+    pub fn of_rows(alloc: Global, rows: &Table<Allocation>) -> Result<AllocIndex<K>, NoMemory>
+        ensures { IfOk result (λ index. Covers K.cmp K.key_of rows.now index) }
     {
-        let entries = BTreeSet::from_iter(alloc, entries_of::<K>(alloc, rows)?)?;
-        Ok(AllocIndex { entries })
+        rows.ranges();
+        let mut index = AllocIndex::empty(alloc);
+        for row in rows.rows() {
+            index.add_unless(&entry_of(Some(row)), &None)?;
+        }
+        Ok(index)
     }
 
-    /// The same index once more, made by a copy, in time of the entries.
+    /// The same index once more, which shares the entries.
     pub fn fork(&self) -> Result<AllocIndex<K>, NoMemory>
         ensures { IfOk result (λ copy. copy ≡ self.now) }
     {
-        let entries = self.entries.clone()?;
+        let entries = self.entries.fork()?;
         Ok(AllocIndex { entries })
     }
 
-    /// Adds an entry, if there is one.
-    pub fn add(&mut self, entry: Option<Entry<K>>) -> Result<(), NoMemory>
-        ensures ok { OnOk result (Gains K.cmp entry self.old self.new) }
-        ensures err { OnErr result (IsSame K.cmp self.old self.new) }
-        ensures memory { OnErr result (Holds (lacks K.cmp entry self.old)) }
+    /// Adds an entry, if there is one, unless it is the one that was there.
+    pub fn add_unless(
+        &mut self,
+        more: &Option<Entry<K>>,
+        had: &Option<Entry<K>>,
+    ) -> Result<(), NoMemory>
+        ensures ok { OnOk result (Gains K.cmp more.now had.now self.old self.new) }
+        ensures err { OnErr result (self.new ≡ self.old) }
     {
-        if let Some(entry) = entry {
-            self.entries.insert(entry)?;
+        if let Some(entry) = more {
+            if !is_this(had, entry) {
+                self.entries.put(*entry)?;
+            }
         }
         Ok(())
     }
 
     /// Removes an entry, if there is one, unless it is the one that is kept.
-    pub fn remove_unless(&mut self, gone: &Option<Entry<K>>, kept: &Option<Entry<K>>)
-        ensures { Loses K.cmp gone.now kept.now self.old self.new }
+    pub fn remove_unless(
+        &mut self,
+        gone: &Option<Entry<K>>,
+        kept: &Option<Entry<K>>,
+    ) -> Result<(), NoMemory>
+        ensures ok { OnOk result (Loses K.cmp gone.now kept.now self.old self.new) }
+        ensures err { OnErr result (self.new ≡ self.old) }
     {
         if let Some(entry) = gone {
             if !is_this(kept, entry) {
-                self.entries.remove(entry);
+                self.entries.cut(entry)?;
             }
         }
+        Ok(())
     }
 
-    /// Whether no two entries are of one key: in the order of the keys each is above the last one.
-    pub fn has_keys_once(&self) -> bool
-        ensures once { result ≡ is_rising K.cmp (λ (e : AnyEntry K). e.key) self.now.keys }
-        ensures ordered { IsOrdered (entry_cmp K.cmp) self.now }
+    /// Whether no two entries that are their rows' are of one key: in the order of the keys each is
+    /// above the last one.
+    pub fn has_keys_once(&self, rows: &Table<Allocation>) -> bool
+        ensures once { result ≡ is_rising K.cmp (λ (e : AnyEntry K). e.key) (current K.cmp K.key_of rows.now self.now) }
+        ensures ordered { Holds (is_rising (entry_cmp K.cmp) (λ (e : AnyEntry K). e) self.now) }
     {
-        let _count = self.entries.len();
+        self.entries.ranges();
         let mut last = None;
-        for entry in &self.entries {
-            if !is_above(&last, entry) {
-                return false;
+        for entry in self.entries.rows() {
+            if is_current(rows, entry) {
+                if !is_above(&last, entry) {
+                    return false;
+                }
+                last = Some(*entry);
             }
-            last = Some(*entry);
         }
         true
     }
 
-    /// The ids of the entries from one to another, in rising order.
+    /// The ids of the entries from one to another that are their rows', in rising order.
     pub fn ids_between(
         &self,
-        alloc: Global,
+        rows: &Table<Allocation>,
         first: Entry<K>,
         last: Entry<K>,
     ) -> Result<BTreeSet<AllocId>, NoMemory>
-        requires { IsLeBy (entry_cmp K.cmp) first last }
-        ensures ids { IfOk result (HasIdsBetween K.cmp first last self.now) }
-        ensures memory { OnErr result (entries_between K.cmp first last self.now ≢ []) }
+        ensures ids { IfOk result (HasIdsBetween K.cmp first last (current K.cmp K.key_of rows.now self.now)) }
+        ensures memory { OnErr result (entries_between K.cmp first last (current K.cmp K.key_of rows.now self.now) ≢ []) }
     {
-        let mut ids = BTreeSet::new(alloc);
-        for entry in self.entries.range(first..=last) {
-            ids.insert(entry.id)?;
+        self.entries.ranges();
+        let mut ids = BTreeSet::new(rows.memory());
+        for entry in self.entries.rows_from(&first) {
+            if last.cmp(entry).is_lt() {
+                return Ok(ids);
+            }
+            if is_current(rows, entry) {
+                ids.insert(entry.id)?;
+            }
         }
         Ok(ids)
     }
 
     /// The id of the first of these entries, if there is one.
-    pub fn first_between(&self, first: Entry<K>, last: Entry<K>) -> Option<AllocId>
-        requires { IsLeBy (entry_cmp K.cmp) first last }
-        ensures first { result ≡ first_id K.cmp first last self.now }
-        ensures rising { IsOrdered (entry_cmp K.cmp) self.now }
+    pub fn first_between(
+        &self,
+        rows: &Table<Allocation>,
+        first: Entry<K>,
+        last: Entry<K>,
+    ) -> Option<AllocId>
+        ensures first { result ≡ first_id K.cmp first last (current K.cmp K.key_of rows.now self.now) }
+        ensures rising { Holds (is_rising (entry_cmp K.cmp) (λ (e : AnyEntry K). e) self.now) }
     {
-        match self.entries.range(first..=last).next() {
-            Some(entry) => Some(entry.id),
-            None => None,
+        self.entries.ranges();
+        for entry in self.entries.rows_from(&first) {
+            if last.cmp(entry).is_lt() {
+                return None;
+            }
+            if is_current(rows, entry) {
+                return Some(entry.id);
+            }
         }
+        None
     }
 }

@@ -1,16 +1,14 @@
 //! The two indexes of the allocations' rows, and a put that keeps them.
-ghost use Rattle.std.specs.Prelude.{◌≡◌, ◌⊎◌, ◌||◌, not, [], OnOk, OnErr, IfOk, option_map, T as Holds};
+ghost use Rattle.std.specs.Prelude.{◌≡◌, [], OnOk, OnErr, IfOk, option_map};
 ghost use Rattle.rows.specs.Keys.{alloc_cmp, alloc_id};
-ghost use Rattle.rows.specs.Rising.{is_rising};
-ghost use Rattle.fsm_tables.specs.Inner.Index.{entry_of, IsSame, Gains, Loses, lacks};
+ghost use Rattle.fsm_tables.specs.Inner.Index.{entry_of, Gains, Loses, Grows, Keeps};
 ghost use Rattle.fsm_tables.specs.Inner.Keys.{alloc_name_cmp, live_name, on_node_cmp, active_on, AreRowIndexes};
-ghost use Rattle.fsm_tables.specs.Rows.{row_of, has_row, put};
-ghost use Rattle.fsm_tables.specs.Lookups.{is_listed_anew};
+ghost use Rattle.fsm_tables.specs.Rows.{put};
 
 use crate::index::{AllocIndex, Entry, entry_of};
 use crate::index_keys::OnNode;
 use crate::name::AllocName;
-use crate::table::Table;
+use pages::Table;
 use rows::{Allocation, NoMemory};
 use std::alloc::Global;
 
@@ -46,8 +44,8 @@ impl RowEntries {
 impl Indexes {
     /// No entries.
     pub fn empty(alloc: Global) -> Indexes
-        ensures names { result.names.keys ≡ [] }
-        ensures nodes { result.nodes.keys ≡ [] }
+        ensures names { result.names ≡ [] }
+        ensures nodes { result.nodes ≡ [] }
     {
         Indexes {
             names: AllocIndex::empty(alloc),
@@ -55,9 +53,8 @@ impl Indexes {
         }
     }
 
-    /// The entries of rows in rising id.
-    pub fn of_rows(alloc: Global, rows: &[Allocation]) -> Result<Indexes, NoMemory>
-        requires { Holds (is_rising alloc_cmp alloc_id rows.now) }
+    /// The entries of rows.
+    pub fn of_rows(alloc: Global, rows: &Table<Allocation>) -> Result<Indexes, NoMemory>
         ensures { IfOk result (λ indexes. AreRowIndexes rows.now indexes) }
     {
         Ok(Indexes {
@@ -76,32 +73,35 @@ impl Indexes {
         })
     }
 
-    /// Adds the entries of a row; without memory perhaps only one of them.
-    fn add(&mut self, entries: &RowEntries) -> Result<(), NoMemory>
-        ensures names { OnOk result (Gains alloc_name_cmp entries.now.name self.old.names self.new.names) }
-        ensures nodes { OnOk result (Gains on_node_cmp entries.now.node self.old.nodes self.new.nodes) }
-        ensures some { OnErr result (IsSame alloc_name_cmp self.old.names self.new.names
-            ⊎ Gains alloc_name_cmp entries.now.name self.old.names self.new.names) }
-        ensures rest { OnErr result (IsSame on_node_cmp self.old.nodes self.new.nodes) }
-        ensures memory { OnErr result (Holds (lacks alloc_name_cmp entries.now.name self.old.names
-            || lacks on_node_cmp entries.now.node self.old.nodes)) }
+    /// Adds the entries of a row, unless they are those that were there; without memory perhaps
+    /// only one of them.
+    fn add_unless(&mut self, more: &RowEntries, had: &RowEntries) -> Result<(), NoMemory>
+        ensures names { OnOk result (Gains alloc_name_cmp more.now.name had.now.name self.old.names self.new.names) }
+        ensures nodes { OnOk result (Gains on_node_cmp more.now.node had.now.node self.old.nodes self.new.nodes) }
+        ensures names_stay { OnErr result (Grows alloc_name_cmp self.old.names self.new.names) }
+        ensures nodes_stay { OnErr result (Grows on_node_cmp self.old.nodes self.new.nodes) }
     {
-        self.names.add(entries.name)?;
-        self.nodes.add(entries.node)
+        self.names.add_unless(&more.name, &had.name)?;
+        self.nodes.add_unless(&more.node, &had.node)?;
+        Ok(())
     }
 
-    /// Removes the entries of a row, unless they are those that are kept.
-    fn remove_unless(&mut self, gone: &RowEntries, kept: &RowEntries)
-        ensures names { Loses alloc_name_cmp gone.now.name kept.now.name self.old.names self.new.names }
-        ensures nodes { Loses on_node_cmp gone.now.node kept.now.node self.old.nodes self.new.nodes }
+    /// Removes the entries of a row, unless they are those that are kept; without memory perhaps
+    /// only one of them, or none.
+    fn remove_unless(&mut self, gone: &RowEntries, kept: &RowEntries) -> Result<(), NoMemory>
+        ensures names { OnOk result (Loses alloc_name_cmp gone.now.name kept.now.name self.old.names self.new.names) }
+        ensures nodes { OnOk result (Loses on_node_cmp gone.now.node kept.now.node self.old.nodes self.new.nodes) }
+        ensures names_stay { Keeps alloc_name_cmp gone.now.name kept.now.name self.old.names self.new.names }
+        ensures nodes_stay { Keeps on_node_cmp gone.now.node kept.now.node self.old.nodes self.new.nodes }
     {
-        self.names.remove_unless(&gone.name, &kept.name);
-        self.nodes.remove_unless(&gone.node, &kept.node);
+        self.names.remove_unless(&gone.name, &kept.name)?;
+        self.nodes.remove_unless(&gone.node, &kept.node)?;
+        Ok(())
     }
 }
 
 /// Makes or replaces the row of the id, and keeps the entries of the rows. Without memory no row
-/// changes.
+/// changes, and an index may have an entry more.
 pub(crate) fn put_indexed(
     rows: &mut Table<Allocation>,
     indexes: &mut Indexes,
@@ -111,18 +111,11 @@ pub(crate) fn put_indexed(
     ensures listed { AreRowIndexes rows.new indexes.new }
     ensures ok { OnOk result (rows.new ≡ put alloc_cmp alloc_id row rows.old) }
     ensures err { OnErr result (rows.new ≡ rows.old) }
-    ensures memory { OnErr result (Holds (not (has_row alloc_cmp alloc_id row.id rows.old)
-        || is_listed_anew (row_of alloc_cmp alloc_id row.id rows.old) row)) }
 {
     let new = RowEntries::of(Some(&row));
     let old = RowEntries::of(rows.get(&row.id));
-    let stored = match indexes.add(&new) {
-        Ok(()) => rows.put(row),
-        Err(error) => Err(error),
-    };
-    match stored {
-        Ok(()) => indexes.remove_unless(&old, &new),
-        Err(_) => indexes.remove_unless(&new, &old),
-    }
-    stored
+    indexes.add_unless(&new, &old)?;
+    rows.put(row)?;
+    let _ = indexes.remove_unless(&old, &new);
+    Ok(())
 }

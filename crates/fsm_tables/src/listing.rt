@@ -2,15 +2,14 @@
 ghost use Rattle.std.specs.Prelude.{◌≡◌, filter, option_map};
 ghost use Rattle.std.specs.List.{slice_get};
 ghost use Rattle.std.specs.BTreeSet.{IsOrdered};
-ghost use Rattle.std.specs.BTreeMap.Range.{IsLeBy};
 ghost use Rattle.rows.specs.Keys.{alloc_cmp};
-ghost use Rattle.fsm_tables.specs.Inner.Index.{entry_cmp, is_between, rows_at, AreIndexed};
+ghost use Rattle.fsm_tables.specs.Inner.Index.{is_between, rows_at, Covers};
 ghost use Rattle.fsm_tables.specs.Inner.Keys.{first_entry, last_entry};
 ghost use Rattle.fsm_tables.specs.Lookups.{GivesRows};
 
 use crate::index::{AllocIndex, Entry, IndexKey};
 use crate::index_keys::{first, last};
-use crate::table::Table;
+use pages::Table;
 use rows::{AllocId, Allocation, NoMemory, Sequence};
 use std::collections::BTreeSet;
 
@@ -40,12 +39,11 @@ pub(crate) fn rows_between<K: IndexKey>(
     first: Entry<K>,
     last: Entry<K>,
 ) -> Result<Sequence<Allocation>, NoMemory>
-    requires indexed { AreIndexed K.cmp K.key_of rows.now index.now }
-    requires forward { IsLeBy (entry_cmp K.cmp) first last }
+    requires { Covers K.cmp K.key_of rows.now index.now }
     ensures { GivesRows result (filter (is_between K.cmp K.key_of first last) rows.now) }
 {
     rows.ranges();
-    let ids = index.ids_between(rows.memory(), first, last)?;
+    let ids = index.ids_between(rows, first, last)?;
     rows_of(rows, &ids)
 }
 
@@ -55,12 +53,12 @@ pub(crate) fn first_under<'a, K: IndexKey>(
     index: &AllocIndex<K>,
     key: K,
 ) -> Option<&'a Allocation>
-    requires { AreIndexed K.cmp K.key_of rows.now index.now }
+    requires { Covers K.cmp K.key_of rows.now index.now }
     ensures { let listed = is_between K.cmp K.key_of (first_entry key) (last_entry key) in
         option_map (λ row. row.now) result ≡ slice_get (filter listed rows.now) 0 }
 {
     rows.ranges();
-    match index.first_between(first(key), last(key)) {
+    match index.first_between(rows, first(key), last(key)) {
         Some(id) => rows.get(&id),
         None => None,
     }

@@ -4,7 +4,7 @@ ghost use Rattle.rows.specs.Rising.{is_rising};
 ghost use Rattle.fsm_tables.specs.Rows.{row_of, put};
 ghost use Rattle.fsm_tables.specs.ReservedTables.{without, has_space};
 
-use crate::table::{Row, place};
+use pages::{Row, place};
 use rows::NoMemory;
 use std::alloc::Global;
 use std::marker::Model;

@@ -1,15 +1,15 @@
-ghost use Rattle.std.specs.Prelude.{◌≡◌, ◌≤◌, OnOk, OnErr, IfOk, filter, option_map, length, ◌||◌, T as Holds};
+ghost use Rattle.std.specs.Prelude.{◌≡◌, ◌≤◌, OnOk, OnErr, IfOk, filter, option_map, length};
 ghost use Rattle.std.specs.Ordering.{nat_cmp};
 ghost use Rattle.rows.specs.Keys.{name_cmp, eval_cmp, alloc_cmp, job_name, node_number, eval_id, alloc_id};
-ghost use Rattle.fsm_tables.specs.Rows.{row_of, put_within, makes_row};
+ghost use Rattle.fsm_tables.specs.Rows.{row_of, put_within};
 ghost use Rattle.fsm_tables.specs.Claims.{claims, used, are_distinct};
 ghost use Rattle.fsm_tables.specs.LiveNames.{live_named};
-ghost use Rattle.fsm_tables.specs.Lookups.{lives_as, lives_for, lives_on, is_active_on, GivesRows, is_listed_anew};
+ghost use Rattle.fsm_tables.specs.Lookups.{lives_as, lives_for, lives_on, is_active_on, GivesRows};
 ghost use Rattle.fsm_tables.specs.TableRows.{no_table_rows, TablesFit};
 
 use crate::allocations::Allocations;
 use crate::name::AllocName;
-use crate::table::Table;
+use pages::Table;
 use rows::{
     AllocId, Allocation, EvalId, Evaluation, Job, JobName, NoMemory, Node, NodeId, Sequence, Usage,
 };
@@ -63,7 +63,8 @@ impl Tables {
     }
 
     /// The tables of these rows. Each sum of what nodes have in use is added up in one walk, and
-    /// each index is brought into order at once. `NoMemory` where there is no memory for an index.
+    /// the entries of each index are put in another. `NoMemory` where there is no memory for an
+    /// index.
     pub fn of_rows(
         jobs: Table<Job>,
         nodes: Table<Node>,
@@ -84,8 +85,9 @@ impl Tables {
         })
     }
 
-    /// The same tables once more: each list, index and sum is copied as it is, in time of the rows
-    /// and without a search. `NoMemory` where there is no memory for them.
+    /// The same tables once more, which share their pages and those of the indexes; the sums are
+    /// copied. No row and no page is copied. `NoMemory` where there is no memory for the lists of
+    /// the greatest parts.
     pub fn fork(&self) -> Result<Tables, NoMemory>
         ensures { IfOk result (λ t. t ≡ self.now) }
     {
@@ -215,10 +217,10 @@ impl Tables {
     pub fn ranges(&self)
         ensures { TablesFit self.now }
     {
-        let _jobs = self.jobs.rows();
-        let _nodes = self.nodes.rows();
-        let _evals = self.evals.rows();
-        let _allocs = self.allocs.rows().rows();
+        self.jobs.ranges();
+        self.nodes.ranges();
+        self.evals.ranges();
+        self.allocs.rows().ranges();
     }
 
     /// Makes or replaces the row of the job, and changes no other; a new row is not made where
@@ -226,7 +228,6 @@ impl Tables {
     pub fn put_job(&mut self, row: Job) -> Result<(), NoMemory>
         ensures ok { OnOk result (self.new ≡ record self.old { jobs = put_within name_cmp job_name 256 row self.old.jobs }) }
         ensures err { OnErr result (self.new ≡ self.old) }
-        ensures memory { OnErr result (Holds (makes_row name_cmp job_name 256 row self.old.jobs)) }
     {
         self.jobs.put_within(Tables::MOST_JOBS, row)
     }
@@ -236,7 +237,6 @@ impl Tables {
     pub fn put_node(&mut self, row: Node) -> Result<(), NoMemory>
         ensures ok { OnOk result (self.new ≡ record self.old { nodes = put_within nat_cmp node_number 64 row self.old.nodes }) }
         ensures err { OnErr result (self.new ≡ self.old) }
-        ensures memory { OnErr result (Holds (makes_row nat_cmp node_number 64 row self.old.nodes)) }
     {
         self.nodes.put_within(Tables::MOST_NODES, row)
     }
@@ -246,7 +246,6 @@ impl Tables {
     pub fn put_eval(&mut self, row: Evaluation) -> Result<(), NoMemory>
         ensures ok { OnOk result (self.new ≡ record self.old { evals = put_within eval_cmp eval_id 65536 row self.old.evals }) }
         ensures err { OnErr result (self.new ≡ self.old) }
-        ensures memory { OnErr result (Holds (makes_row eval_cmp eval_id 65536 row self.old.evals)) }
     {
         self.evals.put_within(Tables::MOST_EVALS, row)
     }
@@ -256,8 +255,6 @@ impl Tables {
     pub fn put_alloc(&mut self, row: Allocation) -> Result<(), NoMemory>
         ensures ok { OnOk result (self.new ≡ record self.old { allocs = put_within alloc_cmp alloc_id 65536 row self.old.allocs }) }
         ensures err { OnErr result (self.new ≡ self.old) }
-        ensures memory { OnErr result (Holds (makes_row alloc_cmp alloc_id 65536 row self.old.allocs
-            || is_listed_anew (row_of alloc_cmp alloc_id row.id self.old.allocs) row)) }
     {
         self.allocs.put(row)
     }

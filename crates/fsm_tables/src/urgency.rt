@@ -2,7 +2,7 @@
 ghost use Rattle.std.specs.Prelude.{◌≡◌};
 ghost use Rattle.fsm_tables.specs.Urgencies.{urgency};
 
-use crate::table::Row;
+use pages::Row;
 use rows::{EvalId, Priority, Ranged};
 use std::cmp::Reverse;
 

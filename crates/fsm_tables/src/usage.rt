@@ -3,7 +3,7 @@ ghost use Rattle.rows.specs.Sizes.{Part, amount};
 ghost use Rattle.fsm_tables.specs.Claims.{is_wanted, is_active, is_live};
 ghost use Rattle.fsm_tables.specs.Inner.Sums.{AreSummed, AreMore, AreLess, IsShare, sum_at};
 
-use crate::table::Table;
+use pages::Table;
 use rows::{Allocation, ClientState, Desired, Usage};
 
 /// What one row takes of its node; of node 0, which is none, where it takes nothing of any.
@@ -93,6 +93,7 @@ pub(crate) fn sums_of(rows: &Table<Allocation>) -> [Usage; 65]
     ensures { AreSummed rows.now result }
 {
     let mut sums = [Usage::NONE; 65];
+    rows.ranges();
     for row in rows.rows() {
         put_on(&mut sums, held(row));
     }

@@ -1,6 +1,7 @@
 //! One replicated state: the room on its nodes, and the names of what lives.
 use crate::fault::Fault;
 use fsm_state::Cluster;
+use fsm_tables::Table;
 use rows::{Allocation, ClientState, Desired, Node};
 
 // It is to run, and was not heard of as ended or lost.
@@ -10,10 +11,10 @@ fn lives(row: &Allocation) -> bool {
 }
 
 // What lives on a node is no more than that has.
-fn has_room(node: &Node, rows: &[Allocation]) -> bool {
+fn has_room(node: &Node, rows: &Table<Allocation>) -> bool {
     let mut cpu: u64 = 0;
     let mut mem: u64 = 0;
-    for row in rows {
+    for row in rows.rows() {
         if lives(row) && row.node == node.number {
             cpu = cpu.saturating_add(u64::from(row.size.cpu.get()));
             mem = mem.saturating_add(u64::from(row.size.mem.get()));
@@ -22,8 +23,8 @@ fn has_room(node: &Node, rows: &[Allocation]) -> bool {
     cpu <= u64::from(node.size.cpu.get()) && mem <= u64::from(node.size.mem.get())
 }
 
-fn has_node(nodes: &[Node], row: &Allocation) -> bool {
-    for node in nodes {
+fn has_node(nodes: &Table<Node>, row: &Allocation) -> bool {
+    for node in nodes.rows() {
         if node.number == row.node {
             return true;
         }
@@ -31,13 +32,13 @@ fn has_node(nodes: &[Node], row: &Allocation) -> bool {
     false
 }
 
-fn have_room(nodes: &[Node], rows: &[Allocation]) -> bool {
-    for node in nodes {
+fn have_room(nodes: &Table<Node>, rows: &Table<Allocation>) -> bool {
+    for node in nodes.rows() {
         if !has_room(node, rows) {
             return false;
         }
     }
-    for row in rows {
+    for row in rows.rows() {
         if lives(row) && !has_node(nodes, row) {
             return false;
         }
@@ -50,9 +51,9 @@ fn has_name_of(row: &Allocation, other: &Allocation) -> bool {
 }
 
 // How many of those that live have the name of this one.
-fn count_named(rows: &[Allocation], name: &Allocation) -> usize {
+fn count_named(rows: &Table<Allocation>, name: &Allocation) -> usize {
     let mut count: usize = 0;
-    for row in rows {
+    for row in rows.rows() {
         if lives(row) && has_name_of(row, name) {
             count = count.saturating_add(1);
         }
@@ -61,8 +62,8 @@ fn count_named(rows: &[Allocation], name: &Allocation) -> usize {
 }
 
 // No two of those that live are of one name.
-fn are_named_once(rows: &[Allocation]) -> bool {
-    for row in rows {
+fn are_named_once(rows: &Table<Allocation>) -> bool {
+    for row in rows.rows() {
         if count_named(rows, row) > 1 {
             return false;
         }
@@ -72,8 +73,8 @@ fn are_named_once(rows: &[Allocation]) -> bool {
 
 /// What is wrong with a replicated state.
 pub(crate) fn state_fault(state: &Cluster) -> Option<Fault> {
-    let rows = state.alloc_table().rows();
-    if !have_room(state.node_table().rows(), rows) {
+    let rows = state.alloc_table();
+    if !have_room(state.node_table(), rows) {
         return Some(Fault::Room);
     }
     if !are_named_once(rows) {

@@ -9,7 +9,7 @@ ghost use Rattle.plan_apply.specs.Inner.Overlay.{kept_so_far};
 use crate::accepted::Kept;
 use crate::stops::has_row;
 use fsm_state::Cluster;
-use fsm_tables::{AllocName, is_live};
+use fsm_tables::{AllocName, Table, is_live};
 use rows::{AcceptedPlace, Allocation, JobName};
 
 /// Whether two places of a job are of one name.
@@ -51,10 +51,10 @@ fn keeps_name(row: &Allocation, name: &AllocName, stopped: &[Allocation]) -> boo
 }
 
 /// Whether one of the rows does.
-fn is_kept_in(rows: &[Allocation], name: &AllocName, stopped: &[Allocation]) -> bool
+fn is_kept_in(rows: &Table<Allocation>, name: &AllocName, stopped: &[Allocation]) -> bool
     ensures { result ≡ list_any (keeps_name name.now (map alloc_id stopped.now)) rows.now }
 {
-    for row in rows {
+    for row in rows.rows() {
         if keeps_name(row, name, stopped) {
             return true;
         }
@@ -72,7 +72,7 @@ fn is_kept(state: &Cluster, name: &AllocName, stopped: &[Allocation]) -> bool
         None => false,
         Some(row) if !has_row(stopped, row.id) => true,
         Some(_) if state.knows_names_distinct() => false,
-        Some(_) => is_kept_in(state.alloc_table().rows(), name, stopped),
+        Some(_) => is_kept_in(state.alloc_table(), name, stopped),
     }
 }
 

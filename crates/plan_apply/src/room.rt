@@ -24,7 +24,7 @@ pub(crate) fn has_room(
     ensures { let cs = claimed state.now job.now (kept_so_far stopped.now kept.now) in
         result ≡ is_within (cs ++ place_claims job.now more.now) node.now }
 {
-    let _rows = state.alloc_table().rows();
+    state.alloc_table().ranges();
     let used = state.used(node.number);
     let less = taken(node.number, stopped);
     let held = taken(node.number, kept.places.as_slice());

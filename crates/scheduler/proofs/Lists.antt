@@ -19,10 +19,3 @@ module _ {A : Type 0} where
   mapped_all f [] ys (suc i) le e = e
   mapped_all f (x ∷ xs) ys zero le e = absurd (omega (arith, le))
   mapped_all f (x ∷ xs) ys (suc i) le e = ap (λ zs. x ∷ zs) (mapped_all f xs (take i xs ++ map f (drop i xs)) i (omega (arith, le)) refl) ∙ e
-
--- one more of what `f` makes of the items
-pub mapped_next : {X Y : Type 0} (f : X → Y) (done : List Y) (y : Y) (xs : List X) (i : ℕ) (a : X) → i < length xs → a ≡ get_or xs i a → y ≡ f a → (done ++ y ∷ []) ++ map f (drop (i + 1) xs) ≡ done ++ map f (drop i xs)
-mapped_next f done y xs i a lt e same =
-    append_assoc done (y ∷ []) (map f (drop (i + 1) xs))
-    ∙ ap (λ z. done ++ z ∷ map f (drop (i + 1) xs)) same
-    ∙ sym (at_item (λ zs. done ++ map f zs) xs i a lt e)

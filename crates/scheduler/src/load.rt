@@ -26,8 +26,7 @@ pub(crate) fn loads_of(alloc: Global, state: &Cluster) -> Result<Vec<Load>, NoMe
         IfOk result (λ loads. loads.items ≡ map load state.now.nodes) }
 {
     let mut loads = Vec::new(alloc);
-    let nodes = state.node_table().rows();
-    for node in nodes {
+    for node in state.node_table().rows() {
         loads.push(Load {
             node: *node,
             used: state.used(node.number),

@@ -120,7 +120,7 @@ impl Cluster {
         ensures { result ≡ are_dated (self.now.count + 1) self.now.allocs }
     {
         self.ranges();
-        match self.alloc_table().rows().last() {
+        match self.alloc_table().last() {
             Some(row) => row.id.index.get() < self.applied().get() + 1,
             None => true,
         }

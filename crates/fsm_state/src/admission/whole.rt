@@ -11,7 +11,7 @@ ghost use Rattle.fsm_tables.specs.Claims.{Claim as AnyClaim};
 
 use crate::admission::claims::{Claim, add_wanted, are_distinct, claim_by, is_claimed};
 use crate::cluster::{Cluster, is_among};
-use fsm_tables::is_live;
+use fsm_tables::{Table, is_live};
 use rows::{AcceptedPlan, AllocId, Allocation, Desired, NoMemory, Node, Ranged, Sequence, Usage};
 
 /// A row after the stops of a plan.
@@ -43,10 +43,10 @@ fn is_within(node: &Node, claims: &[Claim]) -> bool
 }
 
 /// Whether what is claimed of each node is within its size.
-fn are_within(nodes: &[Node], claims: &[Claim]) -> bool
+fn are_within(nodes: &Table<Node>, claims: &[Claim]) -> bool
     ensures { result ≡ list_all (bears_node claims.now) nodes.now }
 {
-    for node in nodes {
+    for node in nodes.rows() {
         if !is_within(node, claims) {
             return false;
         }
@@ -100,7 +100,7 @@ impl Cluster {
         requires held { HeldOnce held claims.now self.now }
         ensures { result ≡ are_safe self.now.nodes claims.now }
     {
-        are_within(self.node_table().rows(), claims)
+        are_within(self.node_table(), claims)
             && self.are_placed(claims)
             && self.are_held_once(claims, held)
     }

@@ -1,5 +1,5 @@
 //! Rows of nodes that come, go down, are drained, and have room.
-ghost use Rattle.std.specs.Prelude.{◌≡◌, IsOk, OnOk, OnErr, None, false, true, option_map};
+ghost use Rattle.std.specs.Prelude.{◌≡◌, ◌≢◌, OnOk, OnErr, None, false, true, option_map};
 ghost use Rattle.cluster_model.specs.Words.{node_of};
 ghost use Rattle.cluster_model.specs.Effect.{with_node, node_row, status_row, draining_row, drained_row};
 ghost use Rattle.fsm_state.specs.Inner.Steps.{node_changed, node_has_room};
@@ -31,10 +31,9 @@ fn registered(spec: &NodeSpec, old: Option<&Node>, room: Index) -> Node
 }
 
 impl Cluster {
-    /// A node comes, or comes back. Only a node that comes takes memory.
+    /// A node comes, or comes back.
     pub(super) fn make_node(&mut self, spec: &NodeSpec) -> Result<(), NoMemory>
-        ensures ok { OnOk result (self.new ≡ with_node spec.now self.old) }
-        ensures memory { OnErr result (node_of spec.now.number self.old ≡ None) }
+        ensures { OnOk result (self.new ≡ with_node spec.now self.old) }
     {
         let row = registered(spec, self.node(spec.number), self.applied());
         self.put_node(row)
@@ -54,10 +53,10 @@ impl Cluster {
         }
     }
 
-    /// Begins to empty a node. It takes no memory.
+    /// Begins to empty a node.
     pub(super) fn set_draining(&mut self, number: NodeId, force: bool) -> Result<(), NoMemory>
         ensures ok { OnOk result (self.new ≡ node_changed (draining_row force) number self.old) }
-        ensures memory { IsOk result }
+        ensures memory { OnErr result (node_of number self.old ≢ None) }
     {
         match self.node(number) {
             Some(row) => {
@@ -74,10 +73,10 @@ impl Cluster {
         }
     }
 
-    /// Ends the emptying of a node. It takes no memory.
+    /// Ends the emptying of a node.
     pub(super) fn set_drained(&mut self, number: NodeId) -> Result<(), NoMemory>
         ensures ok { OnOk result (self.new ≡ node_changed drained_row number self.old) }
-        ensures memory { IsOk result }
+        ensures memory { OnErr result (node_of number self.old ≢ None) }
     {
         match self.node(number) {
             Some(row) => {

@@ -1,11 +1,11 @@
--- An index of allocations: one entry for each row that passes a test, in strictly rising order of
--- what the row is found by, and then of its id.
-use Rattle.std.specs.Prelude.{◌≡◌, Bool, true, false, not, if◌then◌else◌, ◌&&◌, List, Option, Some, None, option_map}
+-- An index of allocations: an entry for each row that passes a test, in strictly rising order of
+-- what the row is found by, and then of its id; and perhaps others, which are no row's.
+use Rattle.std.specs.Prelude.{◌≡◌, Bool, true, false, not, if◌then◌else◌, ◌&&◌, List, filter, Option, Some, None, option_map}
 use Rattle.std.specs.declared.cmp.Ordering.{Ordering}
 use Rattle.std.specs.declared.ops.Bound.TheVariants.{Included}
 use Rattle.std.specs.Ordering.{ordering_then, is_eq}
 use Rattle.std.specs.List.{list_any, filter_map, slice_get}
-use Rattle.std.specs.BTreeSet.{BTreeSet, contains, keys_between}
+use Rattle.std.specs.BTreeSet.{BTreeSet, contains}
 use Rattle.std.specs.BTreeMap.{is_at}
 use Rattle.std.specs.BTreeMap.Range.{range_contains}
 use Rattle.rows.specs.declared.allocation.AllocId.{AllocId}
@@ -33,47 +33,66 @@ module _ {K : Type 0} where
   is_entry R None k = false
   is_entry R (Some e) k = is_eq (entry_cmp R e k)
 
-  -- the set has the entry of each row that is listed, and no other
-  abbrev pub AreIndexed : (K → K → Ordering) → (Allocation → Option K) → List Allocation → BTreeSet (Entry K) → Type 0
-  AreIndexed R key_of rows entries = (e : Entry K) → contains (entry_cmp R) entries e ≡ is_entry R (entry_of key_of (row_of alloc_cmp alloc_id e.id rows)) e
+  -- whether an entry is one of these
+  abbrev pub is_in : (K → K → Ordering) → Entry K → List (Entry K) → Bool
+  is_in R e entries = list_any (is_at (entry_cmp R e)) entries
 
-  -- a set n has the entries of s
-  abbrev pub IsSame : (K → K → Ordering) → BTreeSet (Entry K) → BTreeSet (Entry K) → Type 0
-  IsSame R s n = (e : Entry K) → contains (entry_cmp R) n e ≡ contains (entry_cmp R) s e
+  -- whether the row of an entry's id, if there is one, has this entry
+  abbrev pub is_current : (K → K → Ordering) → (Allocation → Option K) → List Allocation → Entry K → Bool
+  is_current R key_of rows e = is_entry R (entry_of key_of (row_of alloc_cmp alloc_id e.id rows)) e
 
-  -- and one more, if there is one
-  abbrev pub Gains : (K → K → Ordering) → Option (Entry K) → BTreeSet (Entry K) → BTreeSet (Entry K) → Type 0
-  Gains R more s n = (e : Entry K) → contains (entry_cmp R) n e ≡ (if is_entry R more e then true else contains (entry_cmp R) s e)
+  -- the entries that are their rows'
+  abbrev pub current : (K → K → Ordering) → (Allocation → Option K) → List Allocation → List (Entry K) → List (Entry K)
+  current R key_of rows entries = filter (is_current R key_of rows) entries
 
-  -- or one less, if there is one, unless it is the one that is kept
-  abbrev pub Loses : (K → K → Ordering) → Option (Entry K) → Option (Entry K) → BTreeSet (Entry K) → BTreeSet (Entry K) → Type 0
-  Loses R less kept s n = (e : Entry K) → contains (entry_cmp R) n e ≡ (if is_entry R less e && not (is_entry R kept e) then false else contains (entry_cmp R) s e)
+  -- the entries have that of each row that is listed, and no other
+  abbrev pub AreIndexed : (K → K → Ordering) → (Allocation → Option K) → List Allocation → List (Entry K) → Type 0
+  AreIndexed R key_of rows entries = (e : Entry K) → is_in R e entries ≡ is_current R key_of rows e
 
-  -- whether there is an entry and the set lacks it
-  abbrev pub lacks : (K → K → Ordering) → Option (Entry K) → BTreeSet (Entry K) → Bool
-  lacks R None s = false
-  lacks R (Some e) s = not (contains (entry_cmp R) s e)
+  -- the entries have that of each row that is listed, and perhaps others
+  abbrev pub Covers : (K → K → Ordering) → (Allocation → Option K) → List Allocation → List (Entry K) → Type 0
+  Covers R key_of rows entries = (e : Entry K) → is_current R key_of rows e ≡ true → is_in R e entries ≡ true
 
-  -- the entries of a set from one to another
-  abbrev pub entries_between : (K → K → Ordering) → Entry K → Entry K → BTreeSet (Entry K) → List (Entry K)
-  entries_between R first last entries = keys_between (entry_cmp R) (Included first) (Included last) entries
+  -- n has the entries of s and one more, if there is one, unless it is the one that was there
+  abbrev pub Gains : (K → K → Ordering) → Option (Entry K) → Option (Entry K) → List (Entry K) → List (Entry K) → Type 0
+  Gains R more had s n = (e : Entry K) → is_in R e n ≡ (if is_entry R more e && not (is_entry R had e) then true else is_in R e s)
+
+  -- n has one less, if there is one, unless it is the one that is kept
+  abbrev pub Loses : (K → K → Ordering) → Option (Entry K) → Option (Entry K) → List (Entry K) → List (Entry K) → Type 0
+  Loses R less kept s n = (e : Entry K) → is_in R e n ≡ (if is_entry R less e && not (is_entry R kept e) then false else is_in R e s)
+
+  -- n has the entries of s, and perhaps others
+  abbrev pub Grows : (K → K → Ordering) → List (Entry K) → List (Entry K) → Type 0
+  Grows R s n = (e : Entry K) → is_in R e s ≡ true → is_in R e n ≡ true
+
+  -- the same, but for one, if there is one, unless it is the one that is kept
+  abbrev pub Keeps : (K → K → Ordering) → Option (Entry K) → Option (Entry K) → List (Entry K) → List (Entry K) → Type 0
+  Keeps R less kept s n = (e : Entry K) → (is_entry R less e && not (is_entry R kept e)) ≡ false → is_in R e s ≡ true → is_in R e n ≡ true
+
+  -- whether an entry is from one to another
+  abbrev pub is_within : (K → K → Ordering) → Entry K → Entry K → Entry K → Bool
+  is_within R first last e = range_contains (entry_cmp R) (Included first) (Included last) e
+
+  -- the entries from one to another
+  abbrev pub entries_between : (K → K → Ordering) → Entry K → Entry K → List (Entry K) → List (Entry K)
+  entries_between R first last entries = filter (is_within R first last) entries
 
   -- whether they have one of an id
-  abbrev pub has_id : (K → K → Ordering) → Entry K → Entry K → BTreeSet (Entry K) → AllocId → Bool
+  abbrev pub has_id : (K → K → Ordering) → Entry K → Entry K → List (Entry K) → AllocId → Bool
   has_id R first last entries i = list_any (λ e. is_eq (alloc_cmp e.id i)) (entries_between R first last entries)
 
-  -- the set has their ids and no other
-  abbrev pub HasIdsBetween : (K → K → Ordering) → Entry K → Entry K → BTreeSet (Entry K) → BTreeSet AllocId → Type 0
+  -- the ids are theirs and no other
+  abbrev pub HasIdsBetween : (K → K → Ordering) → Entry K → Entry K → List (Entry K) → BTreeSet AllocId → Type 0
   HasIdsBetween R first last entries ids = (i : AllocId) → contains alloc_cmp ids i ≡ has_id R first last entries i
 
   -- the id of the first of them, if there is one
-  abbrev pub first_id : (K → K → Ordering) → Entry K → Entry K → BTreeSet (Entry K) → Option AllocId
+  abbrev pub first_id : (K → K → Ordering) → Entry K → Entry K → List (Entry K) → Option AllocId
   first_id R first last entries = option_map (λ (e : Entry K). e.id) (slice_get (entries_between R first last entries) 0)
 
   -- whether an entry, if there is one, is one of these
   abbrev pub is_entry_within : (K → K → Ordering) → Entry K → Entry K → Option (Entry K) → Bool
   is_entry_within R first last None = false
-  is_entry_within R first last (Some e) = range_contains (entry_cmp R) (Included first) (Included last) e
+  is_entry_within R first last (Some e) = is_within R first last e
 
   -- whether a row is listed between two entries
   abbrev pub is_between : (K → K → Ordering) → (Allocation → Option K) → Entry K → Entry K → Allocation → Bool

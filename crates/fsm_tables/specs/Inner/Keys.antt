@@ -12,7 +12,7 @@ use Rattle.fsm_tables.specs.declared.index_keys.OnNode.{OnNode}
 use Rattle.fsm_tables.specs.declared.indexes.Indexes.{Indexes}
 use Rattle.fsm_tables.specs.Claims.{is_active, is_wanted, is_live}
 use Rattle.fsm_tables.specs.LiveNames.{name_of}
-use Rattle.fsm_tables.specs.Inner.Index.{AreIndexed}
+use Rattle.fsm_tables.specs.Inner.Index.{Covers}
 
 -- names by job, group and index, in this order
 abbrev pub alloc_name_cmp : AllocName → AllocName → Ordering
@@ -53,5 +53,5 @@ greatest_name job = record { job = job; group = replicate 32 122; index = 63 }
 
 -- both indexes list what they are to list
 pub record AreRowIndexes (rows : List Allocation) (x : Indexes) : Type 0 where
-  pub names : AreIndexed alloc_name_cmp live_name rows x.names
-  pub nodes : AreIndexed on_node_cmp active_on rows x.nodes
+  pub names : Covers alloc_name_cmp live_name rows x.names
+  pub nodes : Covers on_node_cmp active_on rows x.nodes

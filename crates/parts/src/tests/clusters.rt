@@ -8,12 +8,16 @@ use fields::{RuledField, read_whole, write, write_long_list};
 use fsm_state::Cluster;
 use fsm_tables::{AllocName, Tables};
 use machine::Machine;
-use rows::{AllocId, Allocation, NoMemory, NodeId, Sequence};
+use rows::{
+    AllocId, Allocation, Command, EvalId, EvalStatus, NoMemory, NodeId, Sequence, StatusChange,
+};
 use std::alloc::Global;
 
 // `counts JOBS NODES EVALUATIONS ALLOCATIONS`: so many rows. `applied N`: so many commands. `used
 // NODE CPU MEMORY`: of the node. `live ID`: the allocation is the live one of its name. `dead ID`:
-// none is live under its name. `fork`: a copy has the same text. `lists`: the lists of its rows are
+// none is live under its name. `fork`: a copy has the same text. `copies N STEP`: of so many copies
+// each has an evaluation pending that the state completed after it, each the STEPth behind the one
+// before. `lists`: the lists of its rows are
 // its text, each row is found by its key, and its one allocation is put into other tables. `accept
 // WAIT PLAN = ANSWER`: of the plan this is kept. Others are of the parts of a desk over it, and of
 // workers.
@@ -30,6 +34,7 @@ impl Played for Cluster {
                 Ok(copy) => is_same(self, &copy, alloc),
                 Err(_) => false,
             },
+            'E' => has_copies(self, alloc, first, second),
             'S' => lists(self, alloc) && finds_rows(self) && puts_allocations(self, alloc),
             'Y' => plan_checks::accepts(self, alloc, words),
             'P' | 'W' => workers::holds(self, alloc, verb, words),
@@ -80,6 +85,50 @@ fn lives(state: &Cluster, id: Option<AllocId>, wanted: bool) -> bool {
 fn is_same(state: &Cluster, copy: &Cluster, alloc: Global) -> bool {
     let mut text = Vec::new(alloc);
     state.save(&mut text).is_ok() && is_text(copy, alloc, &text)
+}
+
+// One more copy, after which the state completes an evaluation.
+fn copy_once(state: &mut Cluster, id: EvalId) -> Option<Cluster> {
+    let copy = state.fork().ok()?;
+    let complete = Command::EvalStatus(id, StatusChange::Complete);
+    if state.count() < 1_000_000 && state.apply(&complete).is_ok() {
+        Some(copy)
+    } else {
+        None
+    }
+}
+
+fn has_status(state: &Cluster, id: EvalId, status: EvalStatus) -> bool {
+    match state.eval(id) {
+        Some(row) => row.status == status,
+        None => false,
+    }
+}
+
+// Copies that are kept stay as they were, and are no more than the pages that were changed.
+fn has_copies(state: &Cluster, alloc: Global, count: usize, step: usize) -> bool {
+    let Ok(mut own) = state.fork() else {
+        return false;
+    };
+    let mut copies = Vec::new(alloc);
+    for place in 0..count {
+        let Some(row) = state.eval_table().at(place.saturating_mul(step)) else {
+            return false;
+        };
+        let Some(copy) = copy_once(&mut own, row.id) else {
+            return false;
+        };
+        if copies.push((row.id, copy)).is_err() {
+            return false;
+        }
+    }
+    let mut kept = true;
+    for (id, copy) in &copies {
+        kept = kept
+            && has_status(copy, *id, EvalStatus::Pending)
+            && has_status(&own, *id, EvalStatus::Complete);
+    }
+    kept
 }
 
 fn put_list<T: RuledField + Drop>(rows: Result<Sequence<T>, NoMemory>, out: &mut Vec<u8>) -> bool {

@@ -43,7 +43,8 @@ const LIVE: &str = "\
 = allocation 1.3 db main 0 1 1 1 run pending no 1.0";
 
 // 65,536 pending evaluations of web, and as many allocations, of which the first four are live and
-// the others complete.
+// the others complete. A thousand copies are kept of this state, each before another page changes:
+// were a table copied for each, they would take ten gigabytes.
 const EVALS: &str = "\
 = rows 65536
 any any-evaluation web 50 pending 0
@@ -55,6 +56,7 @@ any any-allocation web main 0 1 1 1 stop complete no 1.0
 many allocation 4 65535
 load
 fork
+copies 1000 65
 counts 3 3 65536 65536";
 
 // What makes one more is refused; but first what is unknown, stopped, down, not live, or not to be

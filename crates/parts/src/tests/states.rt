@@ -83,6 +83,7 @@ used U
 live L
 dead D
 fork F
+copies E
 lists S
 is-at T
 broker B

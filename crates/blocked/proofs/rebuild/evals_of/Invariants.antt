@@ -1,8 +1,13 @@
-use Rattle.std.proofs.Common.{◌≡◌, map, filter, take}
+use Rattle.std.proofs.Common.{◌≡◌, ◌++◌, true}
+use Rattle.std.specs.List.{list_any}
 use Rattle.rows.specs.declared.evaluation.Evaluation.{Evaluation}
 use Rattle.cluster_model.specs.Words.{is_blocked}
-use Rattle.group_model.specs.Blocked.{blocked_eval}
+use Rattle.fsm_tables.specs.Runs.{rows_left}
+use Rattle.blocked.proofs.RowByRow.{held_of}
 use Rattle.blocked.proofs.rebuild.evals_of.Given as goal
 
-abbrev pub invariant-loop-place : goal.invariant-loop-place
-invariant-loop-place l = l.held.items ≡ map (blocked_eval l.state) (filter (λ (e : Evaluation). is_blocked e.status) (take l.place l.state.evals))
+abbrev pub invariant-loop-row : goal.invariant-loop-row
+invariant-loop-row l = record {
+  held : l.held.items ++ held_of l.state (rows_left l.row-iterator) ≡ held_of l.state l.state.evals;
+  some : list_any (λ (e : Evaluation). is_blocked e.status) (rows_left l.row-iterator) ≡ true → list_any (λ (e : Evaluation). is_blocked e.status) l.state.evals ≡ true;
+}

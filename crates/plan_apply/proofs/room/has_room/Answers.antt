@@ -19,7 +19,7 @@ pub returns : goal.returns
 returns c =
     let n = c.args.node.now in
     let job = c.args.job.now in
-    let h = subst (λ (rows : List Allocation). T (is_rising alloc_cmp alloc_id rows)) c.alloc_table.ensures.rows c.rows-rows.ensures.rising in
+    let h = subst (λ (rows : List Allocation). T (is_rising alloc_cmp alloc_id rows)) c.alloc_table.ensures.rows c.ranges-2.ensures.rising in
     let held = c.taken-held.ensures.value job ∙ ap (λ (ks : List AcceptedPlace). used n.number (place_claims job ks)) c.as_slice.ensures in
     c.is_enough.ensures
     ∙ ap (λ z. fits (plus c.used-used.result z) (plus c.of.result c.taken-less.result)) c.add.ensures

@@ -14,7 +14,7 @@ returns-in-Some-clause-ok c =
     (λ i. put_eval (c.evaluation-eval.ensures i) s)
     ∙ (λ i. put_eval (new_eval (c.requires i) 0 job) s)
     ∙ touched_found name (Some job) s c.ranges-2.ensures.tables.jobs.rising (sym c.in-Some.ensures) in
-    turned c.put_eval.result c.put_eval.new.self _ _ e c.put_eval.ensures.ok
+    turned c.put_eval.result c.put_eval.new.self _ _ e c.put_eval.ensures
 
 pub returns-in-None-clause-ok : goal.returns-in-None-clause-ok
 returns-in-None-clause-ok c = touched_found c.args.name.now None c.args.self.now c.ranges-2.ensures.tables.jobs.rising (sym c.in-None.ensures)

@@ -2,11 +2,8 @@ use Rattle.std.proofs.Common.{◌∙◌, ap, subst, List}
 use Rattle.std.specs.Prelude.{filter}
 use Rattle.rows.specs.declared.allocation.Allocation.{Allocation}
 use Rattle.fsm_tables.specs.Lookups.{is_active_on, GivesRows}
-use Rattle.fsm_tables.proofs.Bounds.{between_active, forward_active, listed_alike}
+use Rattle.fsm_tables.proofs.Bounds.{between_active, listed_alike}
 use Rattle.fsm_tables.proofs.allocations.Allocations.active_on.Goals as goal
-
-pub rows_between-requires-clause-forward : goal.rows_between-requires-clause-forward
-rows_between-requires-clause-forward c = rw (c.first-least.ensures, c.last-greatest.ensures, c.stopping.ensures, c.live.ensures) (forward_active c.args.node)
 
 pub returns : goal.returns
 returns c =

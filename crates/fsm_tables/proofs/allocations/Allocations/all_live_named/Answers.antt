@@ -2,12 +2,8 @@ use Rattle.std.proofs.Common.{◌∙◌, ap, subst, List}
 use Rattle.std.specs.Prelude.{filter}
 use Rattle.rows.specs.declared.allocation.Allocation.{Allocation}
 use Rattle.fsm_tables.specs.Lookups.{lives_as, GivesRows}
-use Rattle.fsm_tables.specs.Inner.Keys.{alloc_name_cmp}
-use Rattle.fsm_tables.proofs.Bounds.{between_name, forward_under, listed_alike, names_total}
+use Rattle.fsm_tables.proofs.Bounds.{between_name, listed_alike}
 use Rattle.fsm_tables.proofs.allocations.Allocations.all_live_named.Goals as goal
-
-pub rows_between-requires-clause-forward : goal.rows_between-requires-clause-forward
-rows_between-requires-clause-forward c = rw (c.first-least.ensures, c.last-greatest.ensures) (forward_under alloc_name_cmp names_total c.args.name.now)
 
 pub returns : goal.returns
 returns c =

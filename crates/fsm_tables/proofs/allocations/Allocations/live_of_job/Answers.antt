@@ -2,11 +2,8 @@ use Rattle.std.proofs.Common.{◌∙◌, ap, subst, List}
 use Rattle.std.specs.Prelude.{filter}
 use Rattle.rows.specs.declared.allocation.Allocation.{Allocation}
 use Rattle.fsm_tables.specs.Lookups.{lives_for, GivesRows}
-use Rattle.fsm_tables.proofs.Bounds.{between_job, forward_job, listed_alike}
+use Rattle.fsm_tables.proofs.Bounds.{between_job, listed_alike}
 use Rattle.fsm_tables.proofs.allocations.Allocations.live_of_job.Goals as goal
-
-pub rows_between-requires-clause-forward : goal.rows_between-requires-clause-forward
-rows_between-requires-clause-forward c = rw (c.first-least.ensures, c.last-greatest.ensures, c.least_of.ensures, c.greatest_of.ensures) (forward_job c.args.job.now)
 
 pub returns : goal.returns
 returns c =

@@ -11,12 +11,12 @@ use Rattle.fsm_tables.proofs.allocations.Allocations.store.Goals as goal
 pub put_on-requires-clause-fits : goal.put_on-requires-clause-fits
 put_on-requires-clause-fits c =
     let to = c.held_by-to.ensures in
-    room c.self.inside.rows c.self.inside.sums c.held_by-to.result c.self.invariant.summed c.rows-rows.ensures.fit c.self.invariant.few to.place to.small
+    room c.self.inside.rows c.self.inside.sums c.held_by-to.result c.self.invariant.summed c.ranges-2.ensures.fit c.self.invariant.few to.place to.small
 
 pub invariant_of-self-2 : goal.invariant_of-self-2
 invariant_of-self-2 c =
     let rows = c.self.inside.rows in
-    let rising = c.rows-rows.ensures.rising in
+    let rising = c.ranges-2.ensures.rising in
     let from = subst (λ o. IsShare o c.held_by-from.result) c.get.ensures c.held_by-from.ensures in
     let place = rw (← c.self.view_is) at c.requires in
     subst (λ (new : List Allocation). record { summed : AreSummed new c.take_off.new.sums; listed : AreRowIndexes new c.put_indexed.new.indexes; few : length new ≤ 65536 }) (sym c.in_ok-put_indexed.ensures.ok) (record {

@@ -1,14 +1,19 @@
-use Rattle.std.proofs.Common.{List, subst, ◌∙◌}
-use Rattle.std.proofs.IntoIterSteps.{All-taken}
-use Rattle.std.specs.BTreeSet.{IsFromIterResult}
+use Rattle.std.proofs.Common.{List, Option, None, subst}
+use Rattle.rows.specs.declared.allocation.Allocation.{Allocation}
+use Rattle.pages.specs.Runs.{rows_left}
 use Rattle.fsm_tables.specs.declared.index.Entry.{Entry}
-use Rattle.fsm_tables.specs.Inner.Index.{entry_cmp}
-use Rattle.fsm_tables.proofs.Entries.{rows_indexed}
+use Rattle.fsm_tables.specs.Inner.Index.{Gains}
+use Rattle.fsm_tables.proofs.Covers.{CoversBut, covers_step}
 use Rattle.fsm_tables.proofs.index.AllocIndex.of_rows.Goals as goal
 
-pub returns : goal.returns
-returns g c =
+pub loop-row-preserved : goal.loop-row-preserved
+loop-row-preserved g c =
     let R = g.K.Ord.cmp in
-    let h = c.in_ok-entries.ensures.ran in
-    let all = All-taken h.0 h.1 ((h.3.2 tt).0, (h.3.0, h.3.1, (h.3.2 tt).1)) ∙ h.2.0 ∙ c.in_ok-entries_of.ensures in
-    rows_indexed R g.met.K.Ord.total g.K.IndexKey.key_of c.args.rows.now c.in_ok-entries.entries c.requires (subst (λ (es : List (Entry _)). IsFromIterResult (entry_cmp R) es c.in_ok-entries.entries) all h.4)
+    let o = g.met.K.Ord.total in
+    let key_of = g.K.IndexKey.key_of in
+    let rows = c.args.rows.now in
+    let old = c.loop-row.index in
+    let new = c.add_unless.new.self in
+    covers_step R o key_of rows (rows_left c.next.new.self) c.in-Some.row.now old new
+    (subst (λ (left : List Allocation). CoversBut R o key_of left rows old) c.in-Some.ensures.steps c.loop-row.invariant)
+    (subst (λ (z : Option (Entry _)). Gains R z None old new) c.entry_of.ensures c.in_ok-add_unless.ensures.ok)

@@ -1,6 +1,6 @@
 use Rattle.std.proofs.Common.{◌≡◌, T, subst, sym, ap, ◌∙◌, Ok, Err}
 use Rattle.rows.specs.Rising.{is_rising}
-use Rattle.fsm_tables.specs.Inner.Places.{PlaceOf}
+use Rattle.pages.specs.Places.{PlaceOf}
 use Rattle.fsm_tables.specs.ReservedTables.{Stock, without}
 use Rattle.fsm_tables.proofs.ReservedTables.{rising_without}
 use Rattle.fsm_tables.proofs.ReservedTables.{cut_found, cut_missed}

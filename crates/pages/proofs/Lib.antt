@@ -1,0 +1,10 @@
+pub mod RowLaws
+pub mod Places
+pub mod Without
+pub mod PartLaws
+pub mod Keeps
+pub mod Sublists
+pub mod Cuts
+pub mod Below
+pub mod Here
+pub mod Walks

@@ -1,0 +1,5 @@
+pub mod Rows
+pub mod Places
+pub mod Runs
+pub mod Copies
+pub mod Inner
