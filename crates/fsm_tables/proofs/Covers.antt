@@ -19,7 +19,7 @@ use Rattle.fsm_tables.specs.Rows.{row_of, has_row, put}
 use Rattle.fsm_tables.specs.Inner.Index.{entry_cmp, entry_of, is_entry, is_in, is_current, current, AreIndexed, Covers, Gains, Loses, Grows, Keeps}
 use Rattle.fsm_tables.proofs.RowLaws.{first, second, less, equal, row_of-put}
 use Rattle.fsm_tables.proofs.Filters.{exact_ids, row_found}
-use Rattle.fsm_tables.proofs.Entries.{entries_total, then_ids, own_id, tie_reversed, removed, added, not_added}
+use Rattle.fsm_tables.proofs.Entries.{entries_total, then_ids, own_id, tie_reversed, removed, added}
 
 truth : (b : Bool) → b ≡ true → T b
 truth b e = subst T (sym e) tt
@@ -52,10 +52,6 @@ module _ {K : Type 0} (R : K → K → Ordering) (o : IsTotalOrder R) where
 
   pub gained : (x : Entry K) (old new : List (Entry K)) (more had : Option (Entry K)) → more ≡ Some x → is_entry R had x ≡ false → new ≡ put (entry_cmp R) self x old → Gains R more had old new
   gained x old new more had some other is e = added R o x more had e (is_in R e old) (is_in R e new) some other (put_in x old new is e)
-
-  -- one that was there is not added
-  pub gained_none : (x : Entry K) (s : List (Entry K)) (more had : Option (Entry K)) → more ≡ Some x → is_entry R had x ≡ true → Gains R more had s s
-  gained_none x s more had some same e = not_added R o x more had e (is_in R e s) some same
 
   pub lost : (x : Entry K) (old new : List (Entry K)) (gone kept : Option (Entry K)) → gone ≡ Some x → is_entry R kept x ≡ false → new ≡ without (entry_cmp R) self x old → Loses R gone kept old new
   lost x old new gone kept was other is e =

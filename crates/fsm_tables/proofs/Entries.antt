@@ -76,19 +76,6 @@ module _ {K : Type 0} (R : K → K → Ordering) (o : IsTotalOrder R) where
       on true c = refl
       on false c = refl
 
-  -- one that was there is not
-  pub not_added : (e : Entry K) (more had : Option (Entry K)) (k : Entry K) (now : Bool) → more ≡ Some e → is_entry R had e ≡ true
-      → now ≡ cond (is_entry R more k && not (is_entry R had k)) true now
-  not_added e more had k now is same =
-      sym (none (is_eq (entry_cmp R e k)))
-      ∙ ap (λ b. cond (is_eq (entry_cmp R e k) && not b) true now) (sym same)
-      ∙ ap (λ b. cond b true now) (sym (this_or_kept e k had))
-      ∙ ap (λ z. cond (is_entry R z k && not (is_entry R had k)) true now) (sym is)
-    where
-      none : (b : Bool) → cond (b && false) true now ≡ now
-      none true = refl
-      none false = refl
-
   -- ---- a put
 
   pub then_ids : (r s : Ordering) → ordering_then r s ≡ Equal → s ≡ Equal

@@ -1,7 +1,7 @@
 use Rattle.std.proofs.Common.{◌∙◌, List, subst, sym}
 use Rattle.fsm_tables.specs.declared.index.Entry.{Entry}
 use Rattle.fsm_tables.specs.Inner.Index.{Gains}
-use Rattle.fsm_tables.proofs.Covers.{gained, gained_none}
+use Rattle.fsm_tables.proofs.Covers.{gained}
 use Rattle.fsm_tables.proofs.index.AllocIndex.add_unless.Goals as goal
 
 pub returns-in_ok-put-clause-ok : goal.returns-in_ok-put-clause-ok
