@@ -114,6 +114,7 @@ impl<M: Machine> Raft<M> {
     ) -> Result<Raft<M>, NotRestarted<M>>
         ensures member { OnOk result (IsGroupPlace size me) }
         ensures number { IfOk result (λ r. (r.me ≡ me) × (r.size ≡ size)) }
+        ensures shown { IfOk result (λ r. stored_part r ≡ stable) }
         ensures server { IfOk result (λ r. (s : Server M.Command) → Stores M.meaning stable s →
             Represents M.meaning r (restarted s)) }
         ensures refused { IfErr result (λ e. (e.stable ≡ stable) × WhyNot size me e.refusal) }

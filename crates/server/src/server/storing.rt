@@ -30,6 +30,7 @@ impl Server {
     ) -> Result<Server, NotRestarted<Cluster>>
         ensures member { OnOk result (IsGroupPlace size me) }
         ensures number { IfOk result (λ r. (r.raft.me ≡ me) × (r.raft.size ≡ size)) }
+        ensures shown { IfOk result (λ r. stored_part r.raft ≡ stable) }
         ensures server { IfOk result (λ r. (s : LogServer Command) →
             Stores cluster_meaning stable s → IsMember r (restarted_member s)) }
         ensures refused { IfErr result (λ e. (e.stable ≡ stable) × WhyNot size me e.refusal) }
