@@ -1,8 +1,8 @@
 -- A walk over the entries of an index from one to another, which passes over those that are not
 -- their rows'.
-use Rattle.std.proofs.Common.{◌≡◌, ◌≢◌, Bool, true, false, not, cond, ◌&&◌, T, List, [], ◌∷◌, Option, refl, sym, ap, subst, ◌∙◌}
+use Rattle.std.proofs.Common.{◌≡◌, ◌≢◌, Bool, true, false, not, cond, ◌&&◌, T, List, [], ◌∷◌, Option, Some, None, refl, sym, ap, subst, ◌∙◌}
 use Rattle.std.specs.Prelude.{filter, ◌||◌}
-use Rattle.std.specs.List.{list_any, AllByRecursion}
+use Rattle.std.specs.List.{list_any, slice_get, AllByRecursion}
 use Rattle.std.specs.declared.cmp.Ordering.{Ordering}
 use Rattle.std.specs.declared.cmp.Ordering.TheVariants.{Less, Equal, Greater}
 use Rattle.std.specs.Cmp.{IsTotalOrder, tied_itself}
@@ -132,6 +132,35 @@ module _ {K : Type 0} (R : K → K → Ordering) (o : IsTotalOrder R) (key_of : 
 
   pub listed_past : (e : Entry K) (es : List (Entry K)) → IsLeft (e ∷ es) → is_lt (entry_cmp R hi e) ≡ true → listed (e ∷ es) ≡ []
   listed_past e es h p = none_listed (e ∷ es) (p, all_above e es p (first _ _ h.rising))
+
+  -- ---- the first of them, by the first entry from lo on
+
+  pub none_here : (es : List (Entry K)) → None ≡ slice_get (rows_from (entry_cmp R) self lo es) 0 → listed es ≡ []
+  none_here es h = sym (listed_from es) ∙ empty (rows_from (entry_cmp R) self lo es) h
+    where
+      empty : (zs : List (Entry K)) → None ≡ slice_get zs 0 → listed zs ≡ []
+      empty [] n = refl
+      empty (z ∷ zs) n = absurd cc
+
+  same_first : (e z : Entry K) → Some e ≡ Some z → e ≡ z
+  same_first e z h = cc
+
+  pub past_here : (e : Entry K) (es : List (Entry K)) → T (is_rising (entry_cmp R) self es) → Some e ≡ slice_get (rows_from (entry_cmp R) self lo es) 0 → is_lt (entry_cmp R hi e) ≡ true → listed es ≡ []
+  past_here e es up h above = sym (listed_from es) ∙ past (rows_from (entry_cmp R) self lo es) (left_first es up) h
+    where
+      past : (zs : List (Entry K)) → IsLeft zs → Some e ≡ slice_get zs 0 → listed zs ≡ []
+      past [] l n = absurd cc
+      past (z ∷ zs) l n = listed_past z zs l (subst (λ x. is_lt (entry_cmp R hi x) ≡ true) (same_first e z n) above)
+
+  pub one_here : (e : Entry K) (es : List (Entry K)) → T (is_rising (entry_cmp R) self es) → Some e ≡ slice_get (rows_from (entry_cmp R) self lo es) 0 → is_lt (entry_cmp R hi e) ≡ false → is_current R key_of rows e ≡ true → slice_get (listed es) 0 ≡ Some e
+  one_here e es up h below is = ap (λ zs. slice_get zs 0) (sym (listed_from es)) ∙ one (rows_from (entry_cmp R) self lo es) (left_first es up) h
+    where
+      one : (zs : List (Entry K)) → IsLeft zs → Some e ≡ slice_get zs 0 → slice_get (listed zs) 0 ≡ Some e
+      one [] l n = absurd cc
+      one (z ∷ zs) l n =
+          let same = same_first e z n in
+          ap (λ xs. slice_get xs 0) (listed_next z zs (subst (λ x. is_current R key_of rows x ≡ true) same is) (is_between_them z l.from.0 (subst (λ x. is_lt (entry_cmp R hi x) ≡ false) same below)))
+          ∙ ap Some (sym same)
 
   -- ---- their ids
 

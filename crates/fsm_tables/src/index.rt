@@ -231,8 +231,33 @@ impl<K: IndexKey> AllocIndex<K> {
         Ok(ids)
     }
 
-    /// The id of the first of these entries, if there is one.
+    /// The id of the first of the entries from one to another that are their rows', if there is
+    /// one. Most often it is the first entry from there on, which takes no walk.
     pub fn first_between(
+        &self,
+        rows: &Table<Allocation>,
+        first: Entry<K>,
+        last: Entry<K>,
+    ) -> Option<AllocId>
+        ensures first { result ≡ first_id K.cmp first last (current K.cmp K.key_of rows.now self.now) }
+        ensures rising { Holds (is_rising (entry_cmp K.cmp) (λ (e : AnyEntry K). e) self.now) }
+    {
+        self.entries.ranges();
+        let Some(entry) = self.entries.first_from(&first) else {
+            return None;
+        };
+        if last.cmp(entry).is_lt() {
+            return None;
+        }
+        if is_current(rows, entry) {
+            return Some(entry.id);
+        }
+        self.next_between(rows, first, last)
+    }
+
+    /// The id of the first of the entries from one to another that are their rows', if there is
+    /// one, found by a walk.
+    fn next_between(
         &self,
         rows: &Table<Allocation>,
         first: Entry<K>,

@@ -1,13 +1,18 @@
 -- How many rows come before a key, and which come from it on.
-use Rattle.std.proofs.Common.{◌≡◌, ℕ, zero, suc, ◌+◌, ◌<◌, ◌≤◌, Bool, true, false, not, cond, T, List, [], ◌∷◌, ◌++◌, length, get_or, take, drop, refl, sym, ap, subst, ◌∙◌, arith, Result, Ok, Err, length-append, add-one}
+use Rattle.std.proofs.Common.{◌≡◌, ℕ, zero, suc, ◌+◌, ◌<◌, ◌≤◌, true, false, not, cond, T, List, [], ◌∷◌, ◌++◌, length, get_or, take, drop, refl, sym, ap, subst, ◌∙◌, arith, Ok, Err, Option, Some, None, length-append}
+use Rattle.std.specs.Prelude.{option_map, IfSome}
+use Rattle.std.specs.Option.{MatchOption}
+use Rattle.std.specs.List.{slice_get}
+use Rattle.std.proofs.lemmas.Option.{slice_get_past, slice_get_read}
+use Rattle.std.proofs.lemmas.List.Elements.{filter-append}
 use Rattle.std.specs.declared.cmp.Ordering.{Ordering}
-use Rattle.std.specs.declared.cmp.Ordering.TheVariants.{Less, Equal, Greater}
+use Rattle.std.specs.declared.cmp.Ordering.TheVariants.{Less, Equal}
 use Rattle.std.specs.Ordering.{is_lt}
 use Rattle.std.specs.Cmp.{IsTotalOrder, alike_right}
-use Rattle.pages.specs.Rows.{is_below, is_rising, rows_from}
+use Rattle.pages.specs.Rows.{is_rising, rows_from}
 use Rattle.pages.specs.Inner.Below.{count_below}
-use Rattle.pages.specs.Inner.Parts.{rows_of, are_below, are_from, AreApart, Parted, Leads, FirstsSplit}
-use Rattle.pages.proofs.RowLaws.{first, second, less}
+use Rattle.pages.specs.Inner.Parts.{rows_of, are_below, are_from, AreApart, Leads, FirstsSplit}
+use Rattle.pages.proofs.RowLaws.{first, second}
 use Rattle.pages.proofs.Places.{below_at}
 use Rattle.pages.proofs.PartLaws.{above_head, from_down, rest_below, front_is_below, next_leads}
 
@@ -84,6 +89,29 @@ module _ {K X : Type 0} (R : K → K → Ordering) (key : X → K) (o : IsTotalO
       ap (λ r. cond (is_lt r) (suc (count_below R key k ys)) (count_below R key k ys)) (s.1 0 y (omega arith))
       ∙ ap suc (count_missed k ys at (omega (arith, s.0), λ i d lt. s.1 (suc i) d (omega arith), λ i d le lt. s.2 (suc i) d (omega arith) (omega arith)))
 
+  -- the first row of two lists that stand one behind the other
+  pub first_here : (xs ys : List X) (x : X) → Some x ≡ slice_get xs 0 → Some x ≡ slice_get (xs ++ ys) 0
+  first_here [] ys x h = absurd cc
+  first_here (y ∷ xs) ys x h = h
+
+  pub first_behind : (xs ys : List X) (z : Option X) → None ≡ slice_get xs 0 → z ≡ slice_get ys 0 → z ≡ slice_get (xs ++ ys) 0
+  first_behind [] ys z none h = h
+  first_behind (x ∷ xs) ys z none h = absurd cc
+
+  -- what is read at a place
+  pub read_at : {B : Type 0} (now : B → X) (P : B → Type 0) (z : Option B) (xs : List X) (i : ℕ) → MatchOption z (length xs ≤ i) (λ x. (i < length xs) × P x) → IfSome z (λ x. now x ≡ get_or xs i (now x)) → option_map now z ≡ slice_get xs i
+  read_at now P None xs i m h = sym (slice_get_past xs i m)
+  read_at now P (Some b) xs i m h = sym (slice_get_read xs (length xs) i (now b) refl m.0 h)
+
+  -- the first row from a key on stands where those of lower keys end
+  pub first_at : (k : K) (ys : List X) → T (is_rising R key ys) → slice_get ys (count_below R key k ys) ≡ slice_get (rows_from R key k ys) 0
+  first_at k ys h = sym (first_dropped (count_below R key k ys) ys) ∙ ap (λ zs. slice_get zs 0) (from_place k ys h)
+    where
+      first_dropped : (n : ℕ) (zs : List X) → slice_get (drop n zs) 0 ≡ slice_get zs n
+      first_dropped zero zs = refl
+      first_dropped (suc n) [] = refl
+      first_dropped (suc n) (z ∷ zs) = first_dropped n zs
+
   module _ {S : Type 0} (start : S → K) (rows : S → List X) where
     pub count-parts : (k : K) (ss : List S) (at : ℕ) (d : S) → Leads R key start rows k ss at → AreApart R key start rows ss
         → count_below R key k (rows_of rows ss) ≡ length (rows_of rows (take at ss)) + count_below R key k (rows (get_or ss at d))
@@ -100,6 +128,34 @@ module _ {K X : Type 0} (R : K → K → Ordering) (key : X → K) (o : IsTotalO
         omega (arith, here, low, rest, size)
 
     -- it is no more than all
+    none_from : (k : K) (ys : List X) → T (are_below R key k ys) → rows_from R key k ys ≡ []
+    none_from k [] h = refl
+    none_from k (y ∷ ys) h =
+        elim (is_lt (R (key y) k)) as (λ b. T b → cond (not b) (y ∷ rows_from R key k ys) (rows_from R key k ys) ≡ []) [
+          | true ↦ λ n. none_from k ys (second _ _ h)
+          | false ↦ λ n. absurd n
+        ] (first _ _ h)
+
+    all_from : (k : K) (ys : List X) → T (are_from R key k ys) → rows_from R key k ys ≡ ys
+    all_from k [] h = refl
+    all_from k (y ∷ ys) h =
+        elim (is_lt (R (key y) k)) as (λ b. T (not b) → cond (not b) (y ∷ rows_from R key k ys) (rows_from R key k ys) ≡ y ∷ ys) [
+          | true ↦ λ n. absurd n
+          | false ↦ λ n. ap (λ zs. y ∷ zs) (all_from k ys (second _ _ h))
+        ] (first _ _ h)
+
+    -- the rows from a key on are those of the part that leads to it, and all behind
+    pub from-parts : (k : K) (ss : List S) (at : ℕ) (d : S) → Leads R key start rows k ss at → AreApart R key start rows ss
+        → rows_from R key k (rows_of rows ss) ≡ rows_from R key k (rows (get_or ss at d)) ++ rows_of rows (drop (suc at) ss)
+    from-parts k [] at d l h = absurd (omega (arith, l.0))
+    from-parts k (s ∷ ss) zero d l h =
+        let here = filter-append (λ y. not (is_lt (R (key y) k))) (rows s) (rows_of rows ss) in
+        here ∙ ap (λ zs. rows_from R key k (rows s) ++ zs) (all_from k (rows_of rows ss) (above_head R key o k (rows_of rows ss) (rest_below R key o start rows k s ss l h)))
+    from-parts k (s ∷ ss) (suc at) d l h =
+        let here = filter-append (λ y. not (is_lt (R (key y) k))) (rows s) (rows_of rows ss) in
+        here ∙ ap (λ zs. zs ++ rows_from R key k (rows_of rows ss)) (none_from k (rows s) (front_is_below R key o start rows k s ss at l h))
+        ∙ from-parts k ss at d (next_leads R key o start rows k s ss at l) h.2
+
     pub count_within : (k : K) (ys : List X) → count_below R key k ys ≤ length ys
     count_within k [] = omega arith
     count_within k (y ∷ ys) =

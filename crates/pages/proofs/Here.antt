@@ -32,6 +32,13 @@ module _ {X : Type 0} where
   same_head : (r z : X) (rs zs : List X) → r ∷ rs ≡ z ∷ zs → r ≡ z
   same_head r z rs zs e = cc
 
+  -- what has a row in a run from its start has rows
+  pub some_of_run : (ys run : List X) (y : X) → IsRun ys 0 run → slice_get run 0 ≡ Some y → 0 < length ys
+  some_of_run [] run y h e =
+      let none : slice_get [] 0 ≡ Some y = ap (λ (zs : List X). slice_get zs 0) (sym (h.0 ∙ take-nil (length run))) ∙ e in
+      absurd (none_some y none)
+  some_of_run (x ∷ ys) run y h e = omega arith
+
   pub head_of_run : (ys run : List X) (y : X) → IsRun ys 0 run → slice_get run 0 ≡ Some y → slice_get ys 0 ≡ Some y
   head_of_run [] run y h e = e0 ∙ e
     where

@@ -1,5 +1,6 @@
 ghost use Rattle.std.specs.Prelude.{◌≡◌, ◌<◌, ◌≤◌, ◌^◌, take, List, OnOk, OnErr, IfOk, option_map, length, not, T as Holds};
-ghost use Rattle.pages.specs.Rows.{is_rising, row_of, has_row, put, without};
+ghost use Rattle.std.specs.List.{slice_get};
+ghost use Rattle.pages.specs.Rows.{is_rising, row_of, has_row, put, without, rows_from};
 ghost use Rattle.pages.specs.Inner.Parts.{rows_of, Parted, Leads, FirstsSplit};
 ghost use Rattle.pages.specs.Runs.{IsRun};
 ghost use Rattle.pages.specs.Inner.Slots.{slot_rows, slot_first};
@@ -202,6 +203,18 @@ fn count_before<T: CopiedRow, C: Part<T>>(slots: &[Slot<T::Key, C>], at: usize) 
     count
 }
 
+/// The first row of these parts, if they have one.
+fn first_row<'a, T: CopiedRow, C: Part<T>>(slots: &'a [Slot<T::Key, C>]) -> Option<&'a T>
+    ensures { option_map (λ row. row.now) result ≡ slice_get (rows_of (slot_rows C.rows) slots.now) 0 }
+{
+    for slot in slots {
+        if let Some(row) = slot.part.run_from(0).first() {
+            return Some(row);
+        }
+    }
+    None
+}
+
 /// These parts once more, shared.
 fn level_of<T: CopiedRow, C: Part<T>>(
     alloc: Global,
@@ -257,6 +270,17 @@ impl<T: CopiedRow, C: Part<T>> Part<T> for Level<T, C> {
         let at = seek::<T, C>(&self.slots, key);
         let _all = self.len();
         count_before::<T, C>(&self.slots, at) + self.slots[at].part.count_below(key)
+    }
+
+    fn first_from(&self, key: &T::Key) -> Option<&T> {
+        if self.slots.is_empty() {
+            return None;
+        }
+        let at = seek::<T, C>(&self.slots, key);
+        match self.slots[at].part.first_from(key) {
+            Some(row) => Some(row),
+            None => first_row::<T, C>(&self.slots[at + 1..]),
+        }
     }
 
     fn run_from(&self, place: usize) -> &[T] {

@@ -1,5 +1,6 @@
 ghost use Rattle.std.specs.Prelude.{◌≡◌, ◌++◌, ◌≤◌, [], List, OnOk, OnErr, IfOk, option_map, length, T as Holds};
-ghost use Rattle.pages.specs.Rows.{is_rising, row_of, has_row, put, without};
+ghost use Rattle.std.specs.List.{slice_get};
+ghost use Rattle.pages.specs.Rows.{is_rising, row_of, has_row, put, without, rows_from};
 ghost use Rattle.pages.specs.Inner.Below.{count_below};
 
 use crate::part::Part;
@@ -80,6 +81,11 @@ impl<T: CopiedRow> Part<T> for Page<T> {
 
     fn count_below(&self, key: &T::Key) -> usize {
         count_below(&self.rows, key)
+    }
+
+    fn first_from(&self, key: &T::Key) -> Option<&T> {
+        let at = count_below(&self.rows, key);
+        self.rows.get(at)
     }
 
     fn run_from(&self, place: usize) -> &[T] {

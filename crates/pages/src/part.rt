@@ -1,6 +1,7 @@
 //! What a table is made of.
 ghost use Rattle.std.specs.Prelude.{◌≡◌, ◌++◌, [], List, OnOk, OnErr, IfOk, option_map, length, not, T as Holds};
-ghost use Rattle.pages.specs.Rows.{row_of, has_row, put, without};
+ghost use Rattle.std.specs.List.{slice_get};
+ghost use Rattle.pages.specs.Rows.{row_of, has_row, put, without, rows_from};
 ghost use Rattle.pages.specs.Runs.{IsRun};
 ghost use Rattle.pages.specs.Inner.Below.{count_below};
 
@@ -31,6 +32,10 @@ pub(crate) trait Part<T: CopiedRow>: Drop {
     /// The number of rows of lower keys.
     fn count_below(&self, key: &T::Key) -> usize
         ensures { result ≡ count_below T.Key.cmp T.key_of key.now (rows self.now) };
+
+    /// The first row whose key is not below a key, if there is one.
+    fn first_from(&self, key: &T::Key) -> Option<&T>
+        ensures { option_map (λ row. row.now) result ≡ slice_get (rows_from T.Key.cmp T.key_of key.now (rows self.now)) 0 };
 
     /// Some rows from a place on, at least one where there is one.
     fn run_from(&self, place: usize) -> &[T]

@@ -1,7 +1,7 @@
 ghost use Rattle.std.specs.Prelude.{◌≡◌, ◌≢◌, ◌≤◌, ◌-◌, [], List, OnOk, OnErr, IfOk, option_map, length, T as Holds};
 ghost use Rattle.std.specs.List.{AllByRecursion, slice_get};
 ghost use Rattle.rows.specs.Rising.{is_rising};
-ghost use Rattle.pages.specs.Rows.{row_of, has_row, put, put_within, without};
+ghost use Rattle.pages.specs.Rows.{row_of, has_row, put, put_within, without, rows_from};
 ghost use Rattle.pages.specs.Runs.{IsRun};
 ghost use Rattle.pages.specs.Inner.Below.{count_below};
 ghost use Rattle.pages.specs.Copies.{GivesRows};
@@ -101,6 +101,14 @@ impl<T: CopiedRow> Table<T> {
         ensures { IsRun self.now place result.now }
     {
         self.root.run_from(place)
+    }
+
+    /// The first row whose key is not below a key, if there is one. It takes time in the logarithm
+    /// of the table.
+    pub fn first_from(&self, key: &T::Key) -> Option<&T>
+        ensures { option_map (λ row. row.now) result ≡ slice_get (rows_from T.Key.cmp T.key_of key.now self.now) 0 }
+    {
+        self.root.first_from(key)
     }
 
     /// The number of rows of lower keys. It takes time in the logarithm of the table.

@@ -1,5 +1,4 @@
-use Rattle.std.proofs.Common.{◌≡◌, ◌+◌, ◌≤◌, ◌<◌, ◌^◌, ℕ, length, take, arith, ap, ◌∙◌, subst, rules}
-use Rattle.std.proofs.lemmas.Grind.{common_steps}
+use Rattle.std.proofs.Common.{◌≡◌, ◌<◌, length, take, arith, ap, ◌∙◌}
 use Rattle.pages.specs.Inner.Parts.{rows_of}
 use Rattle.pages.specs.Inner.Slots.{slot_rows}
 use Rattle.pages.proofs.Here.{one_part_more}

@@ -1,7 +1,7 @@
 use Rattle.std.proofs.Common.{◌≡◌}
 use Rattle.pages.specs.Runs.{rows_left}
 use Rattle.fsm_tables.proofs.Ranges.{IsLeft, listed}
-use Rattle.fsm_tables.proofs.index.AllocIndex.first_between.Given as goal
+use Rattle.fsm_tables.proofs.index.AllocIndex.next_between.Given as goal
 
 abbrev pub invariant-loop-entry : goal.invariant-loop-entry
 invariant-loop-entry g l =

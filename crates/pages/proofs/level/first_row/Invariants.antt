@@ -1,0 +1,7 @@
+use Rattle.std.proofs.Common.{◌≡◌, ◌+◌, length, take}
+use Rattle.pages.specs.Inner.Parts.{rows_of}
+use Rattle.pages.specs.Inner.Slots.{slot_rows}
+use Rattle.pages.proofs.level.first_row.Given as goal
+
+abbrev pub invariant-loop-slot : goal.invariant-loop-slot
+invariant-loop-slot g l = length (rows_of (slot_rows g.C.Part.rows) (take l.slot-index l.slots)) + 0 ≡ 0
