@@ -12,6 +12,7 @@ mod replaying;
 mod running;
 pub mod shelf;
 mod threads;
+mod waiting;
 
 pub use command_line::command;
 pub use program::nomadsim;
