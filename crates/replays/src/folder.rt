@@ -1,17 +1,20 @@
 //! Where the program reads and writes here.
-use runner::shelf::{Shelf, ShelfFault};
+use runner::shelf::{Shelf, ShelfFault, may_write};
 use std::fs;
 use std::io::{self, ErrorKind, Write};
 use std::rt::Files;
 
-/// The files of the folder that the program runs in, and four more: `text.json` has this text, for
-/// `full.json` there is no memory, `transcript` can be written and read again, and for `full` there
-/// is no memory when it is written. What lies in a folder that is not there, and what lies on a disk
-/// that is full, is written as the real files are, which fails. No other file can be written.
+/// The files of the folder that the program runs in, and three more: `text.json` has this text, for
+/// `full.json` there is no memory, and `transcript` has what was written last, under whatever name.
+/// For `full` there is no memory when it is written, and `t` cannot be written; nor can what the
+/// program's own files are not to be, the one that was read and `-`. What lies in a folder that is
+/// not there, and what lies on a disk that is full, is written as the real files are, which fails.
 #[derive(Drop)]
 pub(crate) struct Folder<'a> {
     rt: &'a HostRuntime,
     text: &'a [u8],
+    // The name of the file that was read last.
+    read: Option<String>,
     transcript: Option<Vec<u8>>,
 }
 
@@ -21,6 +24,7 @@ impl<'a> Folder<'a> {
         Folder {
             rt,
             text,
+            read: None,
             transcript: None,
         }
     }
@@ -32,6 +36,14 @@ impl<'a> Folder<'a> {
             None => None,
         }
     }
+
+    // Whether a file of this name may be written.
+    fn may_write(&self, name: &str) -> bool {
+        match &self.read {
+            Some(read) => may_write(name, Some(read.as_str())),
+            None => may_write(name, None),
+        }
+    }
 }
 
 // A copy of bytes that are in memory.
@@ -41,6 +53,8 @@ fn copied(rt: &HostRuntime, bytes: &[u8]) -> Result<Vec<u8>, ShelfFault> {
 
 impl Shelf for Folder<'_> {
     fn read(&mut self, name: &str) -> Result<Vec<u8>, ShelfFault> {
+        let named = String::from_str(self.rt.alloc(), name);
+        self.read = Some(named.map_err(|_| ShelfFault::NoMemory)?);
         match name {
             "full.json" => Err(ShelfFault::NoMemory),
             "text.json" => copied(self.rt, self.text),
@@ -53,16 +67,19 @@ impl Shelf for Folder<'_> {
     }
 
     fn write(&mut self, name: &str, bytes: &[u8]) -> Result<(), ShelfFault> {
+        if !self.may_write(name) {
+            return Err(ShelfFault::Failed);
+        }
         match name {
             "full" => Err(ShelfFault::NoMemory),
-            "transcript" => {
-                self.transcript = Some(copied(self.rt, bytes)?);
-                Ok(())
-            }
+            "t" => Err(ShelfFault::Failed),
             "missing/t" | "/dev/full" => {
                 fs::write(self.rt, name, bytes).map_err(|_| ShelfFault::Failed)
             }
-            _ => Err(ShelfFault::Failed),
+            _ => {
+                self.transcript = Some(copied(self.rt, bytes)?);
+                Ok(())
+            }
         }
     }
 }

@@ -1,5 +1,5 @@
 //! The files that a run reads and writes.
-ghost use Rattle.std.specs.Prelude.{◌≡◌, ℕ, IfOk, IfSome, List, None, OnOk, Option};
+ghost use Rattle.std.specs.Prelude.{◌≡◌, ◌≢◌, ◌↔◌, ℕ, IfOk, IfSome, IsTrue, List, None, OnOk, Option, Some, codes, option_map};
 
 /// Why a file could not be read or written.
 #[derive(Clone, Copy, Debug, PartialEq, Eq)]
@@ -24,4 +24,16 @@ pub trait Shelf {
     fn write(&mut self, name: &str, bytes: &[u8]) -> Result<(), ShelfFault>
         ensures { IfSome (file self.new name.now) (λ known.
             OnOk result (known ≡ bytes.now)) };
+}
+
+/// Whether a file of this name may be made once the one of the other name was read, if one was: not
+/// the one that was read, and none of the name `-`, which stands for the standard input.
+pub fn may_write(name: &str, read: Option<&str>) -> bool
+    ensures { IsTrue result ↔ ((name.now ≢ codes "-")
+        × (option_map (λ r. r.now) read.entry ≢ Some name.now)) }
+{
+    match read {
+        Some(read) => name != "-" && name != read,
+        None => name != "-",
+    }
 }
