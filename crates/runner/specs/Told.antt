@@ -18,7 +18,7 @@ use Rattle.ending.specs.Endings.{TellsEnding}
 use Rattle.command_line.specs.Words.{AskFor, words_fault}
 use Rattle.command_line.specs.declared.command.CommandLine.{CommandLine}
 use Rattle.command_line.specs.declared.command.CommandLine.TheVariants.{Run, Threads, Replay, Draw, Check}
-use Rattle.scenario_file.specs.declared.noting.TooLarge.{TooLarge}
+use Rattle.scenario_file.specs.declared.noting.Note.{Note}
 use Rattle.scenario_file.specs.declared.scenario.Scenario.{Scenario}
 use Rattle.scenario_file.specs.Complaints.{IsGood, IsGoodText}
 use Rattle.scenario_file.specs.EachLine.{OfEachLine}
@@ -123,14 +123,14 @@ pub record TellsPicture (file : Option (List ℕ)) (status : ℕ) (old new : Opt
 
 -- ---- notes
 
-abbrev pub note_line : TooLarge → List ℕ
+abbrev pub note_line : Note → List ℕ
 note_line note = note_text note ++ 10 ∷ []
 
 -- the output grows by a line for each note of the scenario that a text is
 abbrev pub ShowsNotes : List ℕ → Option (List ℕ) → Option (List ℕ) → Type 0
 ShowsNotes text old new =
     (s : Scenario) × IsScenarioText text s
-    × ((notes : List TooLarge) × AreNotes s notes × Appends old new (flat_map note_line notes))
+    × ((notes : List Note) × AreNotes s notes × Appends old new (flat_map note_line notes))
 
 -- nothing is wrong with a scenario, which is that of the file, where its bytes are known
 pub record TellsNotes (file : Option (List ℕ)) (status : ℕ) (old new : Option (List ℕ)) : Type 0 where

@@ -13,14 +13,14 @@ use crate::fault::{Fault, said};
 use crate::running::load_bytes;
 use crate::shelf::Shelf;
 pub use scenario_file::checking::{Complaint, complaints};
-use scenario_file::noting::{TooLarge, too_large};
+use scenario_file::noting::{Note, notes};
 use scenario_file::reading::scenario;
 use scenario_file::wrong::Wrong;
 use std::alloc::Global;
 use std::io::Write;
 
-/// Says what is wrong with a scenario's file: 0 where nothing is. Then it notes the groups that no
-/// node has room for, which is nothing wrong.
+/// Says what is wrong with a scenario's file: 0 where nothing is. Then it notes the steps that never
+/// do anything and the groups that no node has room for, which is nothing wrong.
 pub(crate) fn check_file<'a, F: Shelf, W: Write>(
     alloc: Global,
     shelf: &mut F,
@@ -76,7 +76,7 @@ fn check_text<'a, W: Write>(alloc: Global, out: &mut W, text: &str) -> Result<u8
     Err(Fault::BadScenario)
 }
 
-// Notes the groups that no node has room for.
+// Notes the steps that never do anything, and the groups that no node has room for.
 fn show_notes<'a, W: Write>(alloc: Global, out: &mut W, text: &str) -> Result<(), Fault<'a>>
     ensures notes { OnOk result (ShowsNotes text.now (W.contents out.old) (W.contents out.new)) }
     ensures fault { IfErr result MayStopPrinting }
@@ -87,11 +87,11 @@ fn show_notes<'a, W: Write>(alloc: Global, out: &mut W, text: &str) -> Result<()
         // It is a scenario, so there was no memory.
         Err(_) => return Err(Fault::NoMemory),
     };
-    let notes = too_large(alloc, &scenario)?;
+    let notes = notes(alloc, &scenario)?;
     print_notes(out, &notes)
 }
 
-fn print_notes<'a, W: Write>(out: &mut W, notes: &[TooLarge]) -> Result<(), Fault<'a>>
+fn print_notes<'a, W: Write>(out: &mut W, notes: &[Note]) -> Result<(), Fault<'a>>
     ensures lines { OnOk result (Appends (W.contents out.old) (W.contents out.new)
         (flat_map note_line notes.now)) }
     ensures fault { IfErr result (λ fault. fault ≡ faults.Output) }

@@ -16,4 +16,4 @@ mod waiting;
 
 pub use command_line::command;
 pub use program::nomadsim;
-pub use scenario_file::{noting, reading, scenario, step, wrong};
+pub use scenario_file::{forms, named, noting, reading, scenario, step, wrong};

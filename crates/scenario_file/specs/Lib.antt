@@ -3,6 +3,7 @@ pub mod Steps
 pub mod EachLine
 pub mod Complaints
 pub mod Rooms
+pub mod Named
 pub mod Notes
 pub mod WrongTexts
 pub mod Inner

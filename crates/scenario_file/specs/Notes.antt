@@ -1,6 +1,6 @@
--- Which groups `check` notes of a scenario: those of the jobs that its steps put, at least one of
--- each, and that no node of the scenario has room for.
-use Rattle.std.specs.Prelude.{◌≡◌, ◌⊎◌, ◌&&◌, ◌++◌, ℕ, Bool, nat_lt, List, [], Option, Some, None, codes, decimal, map}
+-- What `check` notes of a scenario: whom its steps name and the group lacks, and the groups of the
+-- jobs that they put, at least one of each, that no node of the scenario has room for.
+use Rattle.std.specs.Prelude.{◌≡◌, ◌⊎◌, ◌&&◌, ◌++◌, ◌∷◌, if◌then◌else◌, ℕ, Bool, nat_lt, List, [], Option, Some, None, codes, decimal, map}
 use Rattle.std.specs.List.{filter}
 use Rattle.std.specs.Option.{option_map_or}
 use Rattle.rows.specs.declared.job.Group.{Group}
@@ -10,10 +10,14 @@ use Rattle.rows.specs.declared.request.OperatorRequest.{OperatorRequest}
 use Rattle.rows.specs.declared.request.OperatorRequest.TheVariants.{PutJob}
 use Rattle.group_model.specs.Inputs as servers
 use Rattle.group_model.specs.Worlds.{Event, AtServer}
-use Rattle.scenario_file.specs.declared.noting.TooLarge.{TooLarge}
+use Rattle.scenario_file.specs.declared.named.Named.{Named}
+use Rattle.scenario_file.specs.declared.noting.Note.{Note}
+use Rattle.scenario_file.specs.declared.noting.Note.TheVariants as notes
+use Rattle.scenario_file.specs.declared.noting.TooLarge.{TooLarge as LargeGroup}
 use Rattle.scenario_file.specs.declared.scenario.Scenario.{Scenario}
 use Rattle.scenario_file.specs.Complaints.{IsStepLine}
 use Rattle.scenario_file.specs.EachLine.{OfEachLine}
+use Rattle.scenario_file.specs.Named.{is_absent, named_text, step_names, step_taker}
 use Rattle.scenario_file.specs.Objects.{step_lines}
 use Rattle.scenario_file.specs.Rooms.{is_too_large}
 use Rattle.scenario_file.specs.Steps.{Step, AnEvent, IsLine}
@@ -40,30 +44,45 @@ abbrev pub needs_note : List NodeSpec → Group → Bool
 needs_note nodes g = nat_lt 0 g.count && is_too_large nodes g
 
 -- the note of a group of the job that this step puts, steps being counted from 1
-abbrev pub note_of : ℕ → List ℕ → Group → TooLarge
-note_of number job g = record { step = number; job = job; group = g.name; class = g.class; size = g.size }
+abbrev pub note_of : ℕ → List ℕ → Group → Note
+note_of number job g =
+    notes.TooLarge (record { step = number; job = job; group = g.name; class = g.class; size = g.size })
 
 -- the notes of a job that this step puts, in the order of its groups
-abbrev pub job_notes : List NodeSpec → ℕ → JobSpec → List TooLarge
+abbrev pub job_notes : List NodeSpec → ℕ → JobSpec → List Note
 job_notes nodes number job = map (note_of number job.name) (filter (needs_note nodes) job.groups)
 
--- the notes of a step: those of the job that it puts, if it puts one
-abbrev pub step_notes : List NodeSpec → ℕ → Step → List TooLarge
-step_notes nodes number step = option_map_or (job_notes nodes number) (step_job step) []
+-- the note of one whom a step names, if anyone, where the group lacks it
+abbrev pub absence_notes : Scenario → ℕ → Option Named → List Note
+absence_notes s number None = []
+absence_notes s number (Some named) = if is_absent s named then notes.Absent number named ∷ [] else []
+
+-- the notes of a step: whose it is and whom it names, where the group lacks them, and those of the
+-- job that it puts, if it puts one
+abbrev pub step_notes : Scenario → ℕ → Step → List Note
+step_notes s number step =
+    absence_notes s number (step_taker step) ++ absence_notes s number (step_names step)
+    ++ option_map_or (job_notes s.nodes.items number) (step_job step) []
 
 -- the notes of a line: those of the step whose line it is, and none where it is no step's
-abbrev pub AreLineNotes : List NodeSpec → ℕ → List ℕ → List TooLarge → Type 0
-AreLineNotes nodes number line notes =
-    ((step : Step) × IsLine step line × (notes ≡ step_notes nodes number step))
-    ⊎ ((¬ IsStepLine line) × (notes ≡ []))
+abbrev pub AreLineNotes : Scenario → ℕ → List ℕ → List Note → Type 0
+AreLineNotes s number line all =
+    ((step : Step) × IsLine step line × (all ≡ step_notes s number step))
+    ⊎ ((¬ IsStepLine line) × (all ≡ []))
 
 -- the notes of a scenario: those of each of its lines in turn, steps being counted from 1
-abbrev pub AreNotes : Scenario → List TooLarge → Type 0
-AreNotes s notes = OfEachLine (AreLineNotes s.nodes.items) 1 (step_lines s) notes
+abbrev pub AreNotes : Scenario → List Note → Type 0
+AreNotes s all = OfEachLine (AreLineNotes s) 1 (step_lines s) all
 
 -- what is printed of a note
-abbrev pub note_text : TooLarge → List ℕ
-note_text n =
+abbrev pub group_text : LargeGroup → List ℕ
+group_text n =
     codes "note: step " ++ decimal n.step ++ codes ": group " ++ n.group ++ codes " of job " ++ n.job
     ++ codes " takes " ++ decimal n.size.cpu ++ codes " MHz and " ++ decimal n.size.mem
     ++ codes " MB of class " ++ n.class ++ codes "; no node has that, so nothing of it is placed"
+
+abbrev pub note_text : Note → List ℕ
+note_text (notes.Absent number named) =
+    codes "note: step " ++ decimal number ++ codes ": the group has no " ++ named_text named
+    ++ codes ", so the step never does anything"
+note_text (notes.TooLarge group) = group_text group

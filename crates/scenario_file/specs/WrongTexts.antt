@@ -1,19 +1,37 @@
--- What is printed of what is wrong with a text that is no scenario.
+-- What is printed of what is wrong with a text that is no scenario, and of what a line has to be
+-- that is no step's.
 use Rattle.std.specs.Prelude.{◌++◌, ◌∷◌, ℕ, List, Option, Some, codes, decimal, option_map, string_bytes}
 use Rattle.std.specs.Fmt.{debug_str}
+use Rattle.scenario_file.specs.declared.forms.Form.{Form}
+use Rattle.scenario_file.specs.declared.forms.Form.TheVariants.{Of, Meant, Unknown}
+use Rattle.scenario_file.specs.declared.wrong.Place.{Place}
 use Rattle.scenario_file.specs.declared.wrong.Wrong.{Wrong}
-use Rattle.scenario_file.specs.declared.wrong.Wrong.TheVariants.{NoText, Empty, NoJson, KeyTwice, NoObject, Missing, OtherKey, Wanted, BadNode}
+use Rattle.scenario_file.specs.declared.wrong.Wrong.TheVariants.{NoText, Empty, ByteOrderMark, NoJson, KeyTwice, NoObject, Missing, Misspelt, OtherKey, Wanted, BadNode}
+
+abbrev pub place_text : Place → List ℕ
+place_text p = codes "line " ++ (decimal p.line ++ (codes ", column " ++ decimal p.column))
 
 -- a key is shown between quotes; nothing is said of one past ASCII
 abbrev pub wrong_text : Wrong → Option (List ℕ)
 wrong_text NoText = Some (codes "it is no UTF-8")
 wrong_text Empty = Some (codes "it is empty")
-wrong_text (NoJson line column) = Some (codes "it is no JSON, at line " ++ (decimal line ++ (codes ", column " ++ decimal column)))
-wrong_text KeyTwice = Some (codes "an object in it has a key twice")
+wrong_text ByteOrderMark = Some (codes "it begins with a byte order mark")
+wrong_text (NoJson place) = Some (codes "it is no JSON, at " ++ place_text place)
+wrong_text (KeyTwice key first again) =
+    option_map (λ shown. codes "an object in it has the key " ++ (shown ++ (codes " twice, at " ++ (place_text first ++ (codes ", and at " ++ place_text again)))))
+    (debug_str (string_bytes key))
 wrong_text NoObject = Some (codes "it is no JSON object")
 wrong_text (Missing key) = Some (codes "the key \"" ++ (key.now ++ codes "\" is missing"))
+wrong_text (Misspelt key other) =
+    option_map (λ shown. codes "the key \"" ++ (key.now ++ (codes "\" is missing, and it has a key that no scenario has: " ++ shown)))
+    (debug_str (string_bytes other))
 wrong_text (OtherKey key) = option_map (λ shown. codes "it has a key that no scenario has: " ++ shown) (debug_str (string_bytes key))
 wrong_text (Wanted key what) = Some (34 ∷ key.now ++ (codes "\" has to be " ++ what.now))
 wrong_text (BadNode number) =
     Some (codes "node " ++ (decimal number
     ++ codes " has to be an object of exactly the keys \"class\", a name of 1 to 32 of a-z0-9-, \"cpu\" and \"mem\", whole numbers from 1 to 1000000"))
+
+abbrev pub form_text : Form → List ℕ
+form_text (Of form) = codes "it has to be: " ++ form.now
+form_text (Meant verb) = codes "there is no such step; " ++ (verb.now ++ codes " may be meant, and 'nomadsim run --help' has all")
+form_text Unknown = codes "there is no such step; 'nomadsim run --help' has them"

@@ -5,12 +5,12 @@ ghost use Rattle.scenario_file.specs.EachLine.{OfEachLine};
 ghost use Rattle.scenario_file.specs.Inner.Grown.{GrowsByOwed};
 ghost use Rattle.scenario_file.specs.Objects.{step_lines};
 
-use crate::forms::form_of;
+use crate::forms::{Form, form_of};
 use crate::reading::scenario;
 use crate::scenario::Scenario;
 use crate::step::is_step;
-use crate::wrong::{Wrong, wrong_in};
-use json::Scratch;
+use crate::twice::key_twice;
+use crate::wrong::{Place, Wrong, wrong_in};
 use rows::{NoMemory, Refusal};
 use serde_json::Value;
 use std::alloc::Global;
@@ -20,8 +20,8 @@ use std::alloc::Global;
 pub enum Complaint {
     /// The text is no scenario.
     Text(Wrong),
-    /// This step, counted from 1, is none: its text, and what is expected of such a step.
-    Step(usize, String, &'static str),
+    /// This step, counted from 1, is none: its text, and what it has to be.
+    Step(usize, String, Form),
 }
 
 /// What is wrong with a scenario's text: nothing exactly where it is a scenario and each of its
@@ -79,7 +79,7 @@ fn judge_line(
         return Ok(());
     }
     let text = String::from_str(alloc, line)?;
-    found.push(Complaint::Step(number, text, form_of(line)))?;
+    found.push(Complaint::Step(number, text, form_of(alloc, line)?))?;
     Ok(())
 }
 
@@ -88,22 +88,21 @@ fn wrong_text(alloc: Global, text: &str) -> Result<Wrong, NoMemory> {
     if text.trim_ascii().is_empty() {
         return Ok(Wrong::Empty);
     }
+    if text.starts_with('\u{feff}') {
+        return Ok(Wrong::ByteOrderMark);
+    }
     let value = match Value::from_str(alloc, text) {
         Ok(value) => value,
         Err(error) if error.is_memory() => return Err(NoMemory),
-        Err(error) => return Ok(Wrong::NoJson(error.line(), error.column())),
+        Err(error) => {
+            return Ok(Wrong::NoJson(Place {
+                line: error.line(),
+                column: error.column(),
+            }));
+        }
     };
-    if has_key_twice(alloc, text)? {
-        return Ok(Wrong::KeyTwice);
-    }
-    wrong_in(alloc, &value)
-}
-
-fn has_key_twice(alloc: Global, text: &str) -> Result<bool, NoMemory> {
-    let mut scratch = Scratch::new(alloc);
-    match json::Value::parse_strict(alloc, text, &mut scratch) {
-        Err(json::Error::OutOfMemory) => Err(NoMemory),
-        Err(json::Error::DuplicateKey) => Ok(true),
-        _ => Ok(false),
+    match key_twice(alloc, text)? {
+        Some(wrong) => Ok(wrong),
+        None => wrong_in(alloc, &value),
     }
 }

@@ -2,9 +2,11 @@
 #![tactic(auto)]
 
 pub mod checking;
-mod forms;
+pub mod forms;
+pub mod named;
 pub mod noting;
 pub mod reading;
 pub mod scenario;
 pub mod step;
+mod twice;
 pub mod wrong;

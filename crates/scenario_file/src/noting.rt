@@ -1,13 +1,15 @@
-//! Groups that a scenario puts, and that none of its nodes has room for.
+//! Steps of a scenario that never do anything, and groups that they put and none of its nodes has
+//! room for.
 ghost use Rattle.std.specs.Prelude.{◌≡◌, ◌++◌, ◌∷◌, [], IfOk, OnOk, if◌then◌else◌, option_map};
 ghost use Rattle.std.specs.List.{list_any};
 ghost use Rattle.server.specs.Handings.{handing};
 ghost use Rattle.world.specs.GroupEvents.{server_input};
 ghost use Rattle.scenario_file.specs.Inner.Grown.{GrowsByOwed};
-ghost use Rattle.scenario_file.specs.Notes.{AreLineNotes, AreNotes, input_job, needs_note, job_notes, note_of, step_job, step_notes};
+ghost use Rattle.scenario_file.specs.Notes.{AreLineNotes, AreNotes, absence_notes, input_job, needs_note, job_notes, note_of, step_job, step_notes};
 ghost use Rattle.scenario_file.specs.Rooms.{can_hold, is_too_large};
 ghost use Rattle.scenario_file.specs.Steps.{played_step};
 
+use crate::named::{Named, is_absent, names_of, taker_of};
 use crate::scenario::Scenario;
 use crate::step::{Step, read_step};
 use rows::{
@@ -17,6 +19,33 @@ use server::ServerInput;
 use std::alloc::Global;
 use std::fmt;
 use world::Event;
+
+/// What is noted of a scenario with which nothing is wrong.
+#[derive(Clone, Copy, Debug)]
+pub enum Note {
+    /// The step of this number, counted from 1, never does anything: it names someone whom the
+    /// group lacks.
+    Absent(usize, Named),
+    /// Nothing is placed of a group that a step puts.
+    TooLarge(TooLarge),
+}
+
+impl fmt::Display for Note {
+    ghost use Rattle.std.specs.Prelude.{Some};
+    ghost use Rattle.scenario_file.specs.Notes.{note_text};
+
+    ghost output = { λ n. Some (note_text n) };
+
+    fn fmt<W: fmt::Write>(&self, f: &mut fmt::Formatter<W>) -> fmt::Result {
+        match self {
+            Note::Absent(step, named) => write!(
+                f,
+                "note: step {step}: the group has no {named}, so the step never does anything"
+            ),
+            Note::TooLarge(group) => write!(f, "{group}"),
+        }
+    }
+}
 
 /// A group that a step puts, and that no node has room for, even with nothing else on it: its
 /// evaluation is blocked until such a node registers.
@@ -36,9 +65,9 @@ pub struct TooLarge {
 
 impl fmt::Display for TooLarge {
     ghost use Rattle.std.specs.Prelude.{Some};
-    ghost use Rattle.scenario_file.specs.Notes.{note_text};
+    ghost use Rattle.scenario_file.specs.Notes.{group_text};
 
-    ghost output = { λ n. Some (note_text n) };
+    ghost output = { λ n. Some (group_text n) };
 
     fn fmt<W: fmt::Write>(&self, f: &mut fmt::Formatter<W>) -> fmt::Result {
         let (step, job, group) = (self.step, self.job.as_str(), self.group.as_str());
@@ -76,9 +105,10 @@ pub fn is_too_large(nodes: &[NodeSpec], group: &Group) -> bool
     !fits_somewhere(nodes, group)
 }
 
-/// The groups that the steps of a scenario put, at least one of each, and that no node has room
-/// for: each of them, in the order of the steps and of the groups of each job.
-pub fn too_large(alloc: Global, scenario: &Scenario) -> Result<Vec<TooLarge>, NoMemory>
+/// What is noted of a scenario: of each of its steps, in order, whom it names and the group lacks,
+/// and then the groups of the job that it puts, at least one of each, that no node has room for, in
+/// their order.
+pub fn notes(alloc: Global, scenario: &Scenario) -> Result<Vec<Note>, NoMemory>
     ensures { IfOk result (λ notes. AreNotes scenario.now notes.items) }
 {
     let mut found = Vec::new(alloc);
@@ -87,42 +117,63 @@ pub fn too_large(alloc: Global, scenario: &Scenario) -> Result<Vec<TooLarge>, No
     let mut number = 0usize;
     for line in &scenario.steps {
         number += 1;
-        note_line(alloc, number, line.as_str(), &scenario.nodes, &mut found)?;
+        note_line(alloc, number, line.as_str(), scenario, &mut found)?;
     }
     Ok(found)
 }
 
-// Notes the groups that the step of a line puts.
+// Notes what is to be noted of the step of a line.
 fn note_line(
     alloc: Global,
     number: usize,
     line: &str,
-    nodes: &[NodeSpec],
-    found: &mut Vec<TooLarge>,
+    scenario: &Scenario,
+    found: &mut Vec<Note>,
 ) -> Result<(), NoMemory>
-    ensures { OnOk result (GrowsByOwed (AreLineNotes nodes.now number line.now)
+    ensures { OnOk result (GrowsByOwed (AreLineNotes scenario.now number line.now)
         found.old.items found.new.items) }
 {
     match read_step(alloc, line)? {
-        Some(step) => note_step(number, &step, nodes, found),
+        Some(step) => note_step(number, &step, scenario, found),
         None => Ok(()),
     }
 }
 
-// Notes the groups that a step puts.
+// Notes whom a step names and the group lacks, and the groups that it puts.
 fn note_step(
     number: usize,
     step: &Step,
-    nodes: &[NodeSpec],
-    found: &mut Vec<TooLarge>,
+    scenario: &Scenario,
+    found: &mut Vec<Note>,
 ) -> Result<(), NoMemory>
     ensures { OnOk result (found.new.items
-        ≡ found.old.items ++ step_notes nodes.now number (played_step step.now)) }
+        ≡ found.old.items ++ step_notes scenario.now number (played_step step.now)) }
 {
+    note_absence(number, taker_of(step), scenario, found)?;
+    note_absence(number, names_of(step), scenario, found)?;
     match job_of_step(step) {
-        Some(job) => note_groups(number, job, nodes, found),
+        Some(job) => note_groups(number, job, &scenario.nodes, found),
         None => Ok(()),
     }
+}
+
+// Notes the one whom a step names, if the group lacks it.
+fn note_absence(
+    number: usize,
+    named: Option<Named>,
+    scenario: &Scenario,
+    found: &mut Vec<Note>,
+) -> Result<(), NoMemory>
+    ensures { OnOk result (found.new.items
+        ≡ found.old.items ++ absence_notes scenario.now number named) }
+{
+    let Some(named) = named else {
+        return Ok(());
+    };
+    if is_absent(scenario, named) {
+        found.push(Note::Absent(number, named))?;
+    }
+    Ok(())
 }
 
 // The job that a step puts, if it puts one.
@@ -150,7 +201,7 @@ fn note_groups(
     step: usize,
     job: &JobSpec,
     nodes: &[NodeSpec],
-    found: &mut Vec<TooLarge>,
+    found: &mut Vec<Note>,
 ) -> Result<(), NoMemory>
     ensures { OnOk result (found.new.items
         ≡ found.old.items ++ job_notes nodes.now step job.now) }
@@ -168,19 +219,19 @@ fn note_group(
     job: JobName,
     group: &Group,
     nodes: &[NodeSpec],
-    found: &mut Vec<TooLarge>,
+    found: &mut Vec<Note>,
 ) -> Result<(), NoMemory>
     ensures { OnOk result (found.new.items ≡ found.old.items
         ++ (if needs_note nodes.now group.now then note_of step job group.now ∷ [] else [])) }
 {
     if is_noted(nodes, group) {
-        found.push(TooLarge {
+        found.push(Note::TooLarge(TooLarge {
             step,
             job,
             group: group.name,
             class: group.class,
             size: group.size,
-        })?;
+        }))?;
     }
     Ok(())
 }

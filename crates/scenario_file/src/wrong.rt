@@ -10,6 +10,26 @@ const KEYS: [&str; 7] = [
     "servers", "nodes", "key", "drop", "repeat", "order", "steps",
 ];
 
+/// A place in a text.
+#[derive(Clone, Copy, Debug, PartialEq, Eq)]
+pub struct Place {
+    /// The line, from 1.
+    pub line: usize,
+    /// The column, in bytes, from 1.
+    pub column: usize,
+}
+
+impl fmt::Display for Place {
+    ghost use Rattle.std.specs.Prelude.{Some};
+    ghost use Rattle.scenario_file.specs.WrongTexts.{place_text};
+
+    ghost output = { λ p. Some (place_text p) };
+
+    fn fmt<W: fmt::Write>(&self, f: &mut fmt::Formatter<W>) -> fmt::Result {
+        write!(f, "line {}, column {}", self.line, self.column)
+    }
+}
+
 /// What is wrong with a text that is no scenario: the first of these that is found.
 #[derive(Debug, Drop, PartialEq, Eq)]
 pub enum Wrong {
@@ -17,14 +37,18 @@ pub enum Wrong {
     NoText,
     /// There is nothing in it but white space.
     Empty,
-    /// It is no JSON: with the line and the column, in bytes, where it is no longer, both from 1.
-    NoJson(usize, usize),
-    /// An object in it has a key twice.
-    KeyTwice,
+    /// It begins with a byte order mark.
+    ByteOrderMark,
+    /// It is no JSON from this place on.
+    NoJson(Place),
+    /// An object in it has this key twice, at these two places.
+    KeyTwice(String, Place, Place),
     /// It is no object.
     NoObject,
     /// This key is missing.
     Missing(&'static str),
+    /// This key is missing, and it has that one, which no scenario has.
+    Misspelt(&'static str, String),
     /// It has this key, which no scenario has.
     OtherKey(String),
     /// At this key something else is wanted, namely this.
@@ -42,12 +66,20 @@ impl fmt::Display for Wrong {
         match self {
             Wrong::NoText => write!(f, "it is no UTF-8"),
             Wrong::Empty => write!(f, "it is empty"),
-            Wrong::NoJson(line, column) => {
-                write!(f, "it is no JSON, at line {line}, column {column}")
+            Wrong::ByteOrderMark => write!(f, "it begins with a byte order mark"),
+            Wrong::NoJson(place) => write!(f, "it is no JSON, at {place}"),
+            Wrong::KeyTwice(key, first, again) => {
+                write!(
+                    f,
+                    "an object in it has the key {key:?} twice, at {first}, and at {again}"
+                )
             }
-            Wrong::KeyTwice => write!(f, "an object in it has a key twice"),
             Wrong::NoObject => write!(f, "it is no JSON object"),
             Wrong::Missing(key) => write!(f, "the key \"{key}\" is missing"),
+            Wrong::Misspelt(key, other) => write!(
+                f,
+                "the key \"{key}\" is missing, and it has a key that no scenario has: {other:?}"
+            ),
             Wrong::OtherKey(key) => write!(f, "it has a key that no scenario has: {key:?}"),
             Wrong::Wanted(key, what) => write!(f, "\"{key}\" has to be {what}"),
             Wrong::BadNode(number) => write!(
@@ -64,10 +96,8 @@ pub(crate) fn wrong_in(alloc: Global, value: &Value) -> Result<Wrong, NoMemory> 
     if value.as_object().is_none() {
         return Ok(Wrong::NoObject);
     }
-    for key in KEYS {
-        if value.get(key).is_none() {
-            return Ok(Wrong::Missing(key));
-        }
+    if let Some(key) = missing_key(value) {
+        return missing(alloc, key, other_key(value));
     }
     if let Some(key) = other_key(value) {
         return Ok(Wrong::OtherKey(String::from_str(alloc, key)?));
@@ -75,6 +105,24 @@ pub(crate) fn wrong_in(alloc: Global, value: &Value) -> Result<Wrong, NoMemory> 
     match wrong_setting(value) {
         Some(wrong) => Ok(wrong),
         None => Ok(wrong_list(value)),
+    }
+}
+
+// The first key that is missing.
+fn missing_key(value: &Value) -> Option<&'static str> {
+    for key in KEYS {
+        if value.get(key).is_none() {
+            return Some(key);
+        }
+    }
+    None
+}
+
+// That a key is missing; and which one may stand there for it.
+fn missing(alloc: Global, key: &'static str, other: Option<&str>) -> Result<Wrong, NoMemory> {
+    match other {
+        Some(other) => Ok(Wrong::Misspelt(key, String::from_str(alloc, other)?)),
+        None => Ok(Wrong::Missing(key)),
     }
 }
 

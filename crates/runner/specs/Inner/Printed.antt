@@ -6,7 +6,7 @@ use Rattle.std.specs.Str.{IsUtf8}
 use Rattle.scenario_file.specs.declared.checking.Complaint.{Complaint}
 use Rattle.scenario_file.specs.declared.checking.Complaint.TheVariants as complaints
 use Rattle.scenario_file.specs.Complaints.{AreComplaints}
-use Rattle.scenario_file.specs.WrongTexts.{wrong_text}
+use Rattle.scenario_file.specs.WrongTexts.{form_text, wrong_text}
 
 -- what the standard error is told of so many lost messages
 abbrev pub lost_line : ℕ → List ℕ
@@ -16,7 +16,7 @@ lost_line lost = codes "nomadsim: lost " ++ decimal lost ++ codes " messages\n"
 abbrev pub complaint_line : Complaint → Option (List ℕ)
 complaint_line (complaints.Text wrong) = option_map (λ text. text ++ 10 ∷ []) (wrong_text wrong)
 complaint_line (complaints.Step number line form) =
-    option_map (λ shown. codes "step " ++ (decimal number ++ (32 ∷ shown ++ (codes ": " ++ (form.now ++ 10 ∷ [])))))
+    option_map (λ shown. codes "step " ++ (decimal number ++ (32 ∷ shown ++ (codes ": " ++ (form_text form ++ 10 ∷ [])))))
     (debug_str (string_bytes line))
 
 -- the output grows by the line of each complaint in turn

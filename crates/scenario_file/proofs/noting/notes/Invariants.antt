@@ -1,11 +1,11 @@
 use Rattle.std.proofs.Common.{◌≡◌, map, string_bytes, take}
 use Rattle.scenario_file.specs.EachLine.{OfEachLine}
 use Rattle.scenario_file.specs.Notes.{AreLineNotes}
-use Rattle.scenario_file.proofs.noting.too_large.Given as goal
+use Rattle.scenario_file.proofs.noting.notes.Given as goal
 
 -- the notes of the lines so far
 abbrev pub invariant-loop-line : goal.invariant-loop-line
 invariant-loop-line l = record {
   number : l.number ≡ l.line-index;
-  notes : OfEachLine (AreLineNotes l.scenario.nodes.items) 1 (map string_bytes (take l.line-index l.scenario.steps.items)) l.found.items;
+  notes : OfEachLine (AreLineNotes l.scenario) 1 (map string_bytes (take l.line-index l.scenario.steps.items)) l.found.items;
 }
