@@ -10,7 +10,7 @@ ghost use Rattle.picture.specs.Inner.Drawn.{Draws, first_texts, lifeline_name, b
 
 use crate::fault::DrawError;
 use crate::ink::{Ink, Stroke};
-use crate::layout::{Layout, Point, SLOT, Side, has_band};
+use crate::layout::{Layout, Point, SLOT, Side, distance, has_band};
 use crate::lifeline::draw_lifelines;
 use crate::record::{Record, Sending};
 use crate::row::{draw_row, sent_label};
@@ -180,9 +180,11 @@ fn draw_names(
     layout: &Layout,
 ) -> Result<(), NoMemory> {
     for column in 0..record.columns() {
-        let text = name_of(alloc, record, column)?;
-        name(alloc, shapes, layout.name_at(column), &text)?;
-        draw_bands(alloc, shapes, record, layout, column, &text)?;
+        if layout.is_shown(column) {
+            let text = name_of(alloc, record, column)?;
+            name(alloc, shapes, layout.name_at(column), &text)?;
+            draw_bands(alloc, shapes, record, layout, column, &text)?;
+        }
     }
     Ok(())
 }
@@ -256,6 +258,8 @@ fn draw_arrow_in(
     }
 }
 
+// One that passes other lifelines is bent, so that it misses what stands on these at the rows between:
+// else what one actor sends to several, who take it one after the other, would look handed on.
 fn draw_arrow(
     shapes: &mut Vec<Shape>,
     layout: &Layout,
@@ -275,7 +279,12 @@ fn draw_arrow(
         return put(shapes, Shape::Bow(from, to, far, stroke));
     }
     let side = Side::towards(sending.to, sending.from);
-    put(shapes, Shape::Line(from, to.aside(side, 4), stroke))
+    let to = to.aside(side, 4);
+    if distance(sending.from as u64, sending.to as u64) < 2 {
+        return put(shapes, Shape::Line(from, to, stroke));
+    }
+    let far = from.aside(side.other(), distance(from.x, to.x) / 4).x;
+    put(shapes, Shape::Bow(from, to, far, stroke))
 }
 
 // A short arrow with a cross for each message that never came.

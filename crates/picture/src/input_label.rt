@@ -1,6 +1,6 @@
 //! What stands beside an actor that takes an input of its own, in the words of a transcript.
 ghost use Rattle.std.specs.Prelude.{◌≡◌, IfOk, string_bytes};
-ghost use Rattle.picture.specs.Inner.Labels.{to_label, end_label, operator_label, server_input_label, client_input_label, event_label};
+ghost use Rattle.picture.specs.Inner.Labels.{to_label, end_label, operator_label, server_input_label, client_input_label, event_label, named_label};
 
 use crate::label::{eval_label, finish_label, plain, plan_label};
 use client_agent::ClientInput;
@@ -17,6 +17,18 @@ pub(crate) fn event_label(alloc: Global, event: &Event) -> Result<String, NoMemo
         Event::Deliver(_) => plain(alloc, ""),
         Event::Server(_, input) => server_label(alloc, input.as_ref()),
         Event::Client(_, input) => client_label(alloc, input.as_ref()),
+    }
+}
+
+/// The same, with the name of the actor before it, as on its lifeline.
+pub(crate) fn named_label(alloc: Global, event: &Event) -> Result<String, NoMemory>
+    ensures { IfOk result (λ label. string_bytes label ≡ named_label event.now) }
+{
+    let input = event_label(alloc, event)?;
+    match event {
+        Event::Deliver(_) => Ok(input),
+        Event::Server(server, _) => Ok(format!(in alloc; "S{server} {input}")?),
+        Event::Client(client, _) => Ok(format!(in alloc; "c{client} {input}")?),
     }
 }
 

@@ -1,15 +1,21 @@
 //! Where everything stands, in pixels from the upper left corner.
-ghost use Rattle.std.specs.Prelude.{◌≡◌, ◌<◌, ◌+◌, ◌*◌};
-ghost use Rattle.picture.specs.Inner.Places.{down_by, up_by, aside_by, side_towards, opposite, lifeline_x, row_y, point_at, slot_at, names_again};
+ghost use Rattle.std.specs.Prelude.{◌≡◌, ◌<◌, ◌≤◌, ◌+◌, ◌*◌};
+ghost use Rattle.picture.specs.Inner.Places.{down_by, up_by, aside_by, side_towards, opposite, distance, pitch, lifeline_x, column_x, row_y, point_at, slot_at, names_again, names_between};
 
 use crate::record::{Record, Sending};
 use rows::NoMemory;
 use std::alloc::Global;
 
-// Where the first lifeline stands, and how far each is from the one before it.
+// Where the first lifeline stands.
 const FIRST: u64 = 290;
 
-const COLUMN: u64 = 150;
+// How far each lifeline is from the one before it: as far as all find room in, but no farther and no
+// nearer than this.
+const ALL: u64 = 1_600;
+
+const FARTHEST: u64 = 150;
+
+const NEAREST: u64 = 32;
 
 // How much stands right of the last lifeline.
 const RIGHT: u64 = 200;
@@ -100,13 +106,30 @@ impl Side {
     }
 }
 
+/// How far each of so many lifelines stands from the one before it.
+fn pitch_of(columns: usize) -> u64
+    ensures value { result ≡ pitch columns }
+    ensures nearest { 32 ≤ result }
+    ensures farthest { result ≤ 150 }
+{
+    let each = ALL / (columns as u64).max(1);
+    each.min(FARTHEST).max(NEAREST)
+}
+
 /// Where a lifeline stands, from the left edge; of the 69 that there may be, each right of the one
 /// before it.
-pub(crate) fn x_of(column: usize) -> u64
-    ensures value { result ≡ lifeline_x column }
-    ensures apart { column < 69 → result ≡ 150 * column + 290 }
+fn x_of(pitch: u64, column: usize) -> u64
+    ensures value { result ≡ lifeline_x pitch column }
+    ensures apart { pitch ≤ 150 → column < 69 → result ≡ pitch * column + 290 }
 {
-    COLUMN.saturating_mul(column as u64).saturating_add(FIRST)
+    pitch.saturating_mul(column as u64).saturating_add(FIRST)
+}
+
+/// How far two numbers are apart.
+pub(crate) fn distance(one: u64, other: u64) -> u64
+    ensures { result ≡ distance one other }
+{
+    one.max(other) - one.min(other)
 }
 
 /// Whether the names of the lifelines stand once more above an event.
@@ -114,6 +137,13 @@ pub(crate) fn has_band(row: usize) -> bool
     ensures { result ≡ names_again row }
 {
     row > 0 && row % BAND_EVERY == 0
+}
+
+/// Whether the names of the lifelines stand once more between two events.
+pub(crate) fn is_parted(from: usize, to: usize) -> bool
+    ensures { result ≡ names_between from to }
+{
+    from / BAND_EVERY < to / BAND_EVERY
 }
 
 // The lost messages of one event, on each side of its actor.
@@ -160,7 +190,12 @@ pub(crate) struct Layout {
     slots: Vec<u64>,
     // Where the lifelines end.
     bottom: u64,
-    columns: usize,
+    // How many lifelines are drawn, and which of these each is; none is that of a client that did
+    // nothing.
+    shown: usize,
+    places: Vec<Option<usize>>,
+    // How far each lifeline is from the one before it.
+    pitch: u64,
 }
 
 impl Layout {
@@ -174,12 +209,29 @@ impl Layout {
             None => FIRST_ROW,
         };
         let deepest = depths.last().copied().unwrap_or(0);
+        let acted = acted_in(alloc, drawn)?;
+        let (places, shown) = places_of(alloc, &acted)?;
         Ok(Layout {
             tops,
             slots,
             bottom: last.saturating_add(height_of(deepest)),
-            columns: drawn.columns(),
+            shown,
+            places,
+            pitch: pitch_of(shown),
         })
+    }
+
+    /// Whether a lifeline is drawn: a server's, or that of a client that did anything.
+    pub(crate) fn is_shown(&self, column: usize) -> bool {
+        matches!(self.places.get(column), Some(Some(_)))
+    }
+
+    // Where a lifeline stands, from the left edge.
+    fn x_at(&self, column: usize) -> u64
+        ensures { result ≡ column_x self.now column }
+    {
+        let place = self.places.get(column).copied().flatten();
+        x_of(self.pitch, place.unwrap_or(column))
     }
 
     /// How far down an event stands.
@@ -194,7 +246,7 @@ impl Layout {
         ensures { result ≡ point_at self.now column row }
     {
         Point {
-            x: x_of(column),
+            x: self.x_at(column),
             y: self.y_of(row),
         }
     }
@@ -208,17 +260,17 @@ impl Layout {
 
     /// Where the lifelines begin and where they end.
     pub(crate) fn ends(&self, column: usize) -> (Point, Point) {
-        let x = x_of(column);
+        let x = self.x_at(column);
         let top = Point { x, y: HEAD };
         (top.down(6), Point { x, y: self.bottom })
     }
 
     /// The place of the name of a lifeline.
     pub(crate) fn name_at(&self, column: usize) -> Point
-        ensures { result ≡ record { x = lifeline_x column; y = 88 } }
+        ensures { result ≡ record { x = column_x self.now column; y = 88 } }
     {
         Point {
-            x: x_of(column),
+            x: self.x_at(column),
             y: HEAD,
         }
     }
@@ -232,9 +284,40 @@ impl Layout {
 
     /// The width and the height of the picture.
     pub(crate) fn size(&self) -> (u64, u64) {
-        let last = x_of(self.columns.saturating_sub(1));
+        let last = x_of(self.pitch, self.shown.saturating_sub(1));
         (last.saturating_add(RIGHT), self.bottom.saturating_add(ROW))
     }
+}
+
+// Of each lifeline whether it is drawn: a server's, or one on which an event stands.
+fn acted_in(alloc: Global, drawn: &Record) -> Result<Vec<bool>, NoMemory> {
+    let mut acted = Vec::new(alloc);
+    for column in 0..drawn.columns() {
+        acted.push(column < drawn.servers)?;
+    }
+    for step in &drawn.steps {
+        if let Some(column) = step.column
+            && let Some(has_acted) = acted.get_mut(column)
+        {
+            *has_acted = true;
+        }
+    }
+    Ok(acted)
+}
+
+// Which of those that are drawn each lifeline is, and how many these are.
+fn places_of(alloc: Global, acted: &[bool]) -> Result<(Vec<Option<usize>>, usize), NoMemory> {
+    let mut shown = 0usize;
+    let mut places = Vec::new(alloc);
+    for is_shown in acted {
+        if *is_shown {
+            places.push(Some(shown))?;
+            shown = shown.saturating_add(1);
+        } else {
+            places.push(None)?;
+        }
+    }
+    Ok((places, shown))
 }
 
 // Which of its event's lost messages on its side each message is.

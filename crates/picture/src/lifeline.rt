@@ -10,14 +10,16 @@ use crate::record::{Face, Record};
 use crate::shape::{Shape, put};
 use rows::NoMemory;
 
-/// Draws all lifelines.
+/// Draws the lifelines, but for those of clients that did nothing.
 pub(crate) fn draw_lifelines(
     shapes: &mut Vec<Shape>,
     record: &Record,
     layout: &Layout,
 ) -> Result<(), NoMemory> {
     for column in 0..record.columns() {
-        draw_lifeline(shapes, record, layout, column)?;
+        if layout.is_shown(column) {
+            draw_lifeline(shapes, record, layout, column)?;
+        }
     }
     Ok(())
 }

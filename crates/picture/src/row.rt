@@ -1,13 +1,13 @@
 //! What stands in the row of one event: its number, its mark on the lifeline, and its label.
 ghost use Rattle.std.specs.Prelude.{◌≡◌, slice_get, OnOk, IfOk, string_bytes};
 ghost use Rattle.picture.specs.Inner.Drawn.{Draws};
-ghost use Rattle.picture.specs.Inner.Labels.{event_label, refused_label, sent_label, said_ink, said_text};
-ghost use Rattle.picture.specs.Inner.Rows.{event_number, message_number, numbers_text, tick_text, mark_text, label_side, note_room};
+ghost use Rattle.picture.specs.Inner.Labels.{named_label, refused_label, sent_label, said_ink, said_text};
+ghost use Rattle.picture.specs.Inner.Rows.{event_number, message_number, origin_at, origin_number, numbers_text, tick_text, mark_text, label_side, note_room};
 
 use crate::ink::{Ink, Spot, Stroke};
-use crate::input_label::event_label;
+use crate::input_label::{event_label, named_label};
 use crate::label::message_label;
-use crate::layout::{Layout, Point, Side};
+use crate::layout::{Layout, Point, Side, is_parted};
 use crate::note::{commits, note_of};
 use crate::record::{Record, Step};
 use crate::shape::{Shape, cross, label, put, width_of};
@@ -16,10 +16,12 @@ use std::alloc::Global;
 use wire::Frames;
 use world::Event;
 
-// Where the numbers of events and of messages end.
+// Where the numbers of events and of messages end, and where that of the event of an arrow begins.
 const EVENT: u64 = 34;
 
 const MESSAGE: u64 = 70;
+
+const ORIGIN: u64 = 74;
 
 /// The label of a message that was sent, by its place among all; empty where there is none.
 pub(crate) fn sent_label(alloc: Global, sent: &Frames, place: usize) -> Result<String, NoMemory>
@@ -44,6 +46,7 @@ pub(crate) fn draw_row(
 ) -> Result<(), NoMemory> {
     let y = layout.y_of(row);
     draw_numbers(alloc, shapes, y, row, step)?;
+    draw_origin(alloc, shapes, y, origin_of(record, row, step))?;
     let side = side_of(record, step);
     let at = match step.column {
         Some(column) => layout.at(column, row),
@@ -115,6 +118,36 @@ fn draw_message_number(
     label(shapes, at.down(3), Side::Left, Ink::Number, number)
 }
 
+// The event in which a message was sent that came, where the names of the lifelines stand between.
+fn origin_of(record: &Record, row: usize, step: &Step) -> Option<usize>
+    ensures { result ≡ origin_at «record».now.sendings.items row step.now.message step.now.refusal }
+{
+    let (Some(place), None) = (step.message, step.refusal) else {
+        return None;
+    };
+    let sending = record.sendings.get(place)?;
+    if is_parted(sending.row, row) {
+        return Some(sending.row);
+    }
+    None
+}
+
+fn draw_origin(
+    alloc: Global,
+    shapes: &mut Vec<Shape>,
+    y: u64,
+    origin: Option<usize>,
+) -> Result<(), NoMemory>
+    ensures { OnOk result (Draws shapes.old.items shapes.new.items (origin_number y origin)) }
+{
+    let Some(row) = origin else {
+        return Ok(());
+    };
+    let text = format!(in alloc; "from {}", row.saturating_add(1))?;
+    let at = Point { x: ORIGIN, y };
+    label(shapes, at.down(3), Side::Right, Ink::Number, text)
+}
+
 // The side of a label: the one that the message does not come from, where no arrow of the event
 // stands above its row; else the right one.
 fn side_of(record: &Record, step: &Step) -> Side
@@ -149,12 +182,12 @@ fn said_of(
     }
 }
 
-// That an event was refused, why, and which input it was; a delivery has none.
+// That an event was refused, why, and whose input it was, and which; a delivery has none.
 fn refused_label(alloc: Global, number: u8, event: &Event) -> Result<String, NoMemory>
     ensures { IfOk result (λ label.
-        string_bytes label ≡ refused_label number (event_label event.now)) }
+        string_bytes label ≡ refused_label number (named_label event.now)) }
 {
-    let input = event_label(alloc, event)?;
+    let input = named_label(alloc, event)?;
     if input.is_empty() {
         return Ok(format!(in alloc; "refused {number}")?);
     }

@@ -11,8 +11,9 @@ use std::alloc::Global;
 
 // What a reader is told who does not see the picture, behind the counts.
 const ABOUT: &str = "\
-    A sequence diagram: a vertical lifeline for each server and client, time downward, \
-    one row an event, and an arrow for each message from where it was sent to where it came.";
+    A sequence diagram: a vertical lifeline for each server, and for each client that did \
+    anything, time downward, one row an event, and an arrow for each message from where it was \
+    sent to where it came.";
 
 // The head of an arrow.
 const HEAD: &str = "\

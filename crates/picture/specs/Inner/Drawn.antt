@@ -17,7 +17,7 @@ use Rattle.picture.specs.declared.ink.Stroke.TheVariants as strokes
 use Rattle.picture.specs.declared.ink.Anchor.{Anchor}
 use Rattle.picture.specs.declared.ink.Anchor.TheVariants as anchors
 use Rattle.picture.specs.declared.ink.Cover.TheVariants as covers
-use Rattle.picture.specs.Inner.Places.{capped, down_by, up_by, aside_by, side_towards, point_at, slot_at, names_again}
+use Rattle.picture.specs.Inner.Places.{capped, distance, down_by, up_by, aside_by, opposite, side_towards, point_at, slot_at, names_again}
 use Rattle.picture.specs.Inner.Shapes.{text_of, line_text, bow_text, white_text, words_text}
 
 -- what is written for these elements
@@ -106,6 +106,19 @@ abbrev pub way : Bool → Stroke
 way true = strokes.Again
 way false = strokes.Came
 
+-- by way of which place an arrow is bent, that ends at a point
+abbrev pub bend : Layout → Sending → Point → ℕ
+bend layout sending end =
+    (aside_by (point_at layout sending.from sending.row) (opposite (side_towards sending.to sending.from))
+    (distance (point_at layout sending.from sending.row).x end.x / 4)).x
+
+-- an arrow to another actor: bent where it passes others
+abbrev pub way_text : Layout → Sending → Point → Bool → List ℕ
+way_text layout sending end again =
+    if nat_lt (distance sending.from sending.to) 2
+    then line_text (point_at layout sending.from sending.row) end (way again)
+    else bow_text (point_at layout sending.from sending.row) end (bend layout sending end) (way again)
+
 -- The arrow of a message from the event in which it was sent to the one in which it came; a bow
 -- where its actor sent it to itself.
 abbrev pub arrow_text : Layout → Sending → ℕ → Bool → List ℕ
@@ -114,8 +127,8 @@ arrow_text layout sending row again =
     then bow_text (point_at layout sending.from sending.row)
     (aside_by (point_at layout sending.to row) Right 4)
     (aside_by (point_at layout sending.from sending.row) Right 44).x (way again)
-    else line_text (point_at layout sending.from sending.row)
-    (aside_by (point_at layout sending.to row) (side_towards sending.to sending.from) 4) (way again)
+    else way_text layout sending
+    (aside_by (point_at layout sending.to row) (side_towards sending.to sending.from) 4) again
 
 -- the arrow of a message that came with an event and was not refused
 abbrev pub arrow_of : Layout → Option Sending → ℕ → Bool → List ℕ

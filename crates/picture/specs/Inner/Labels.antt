@@ -177,7 +177,13 @@ event_label (events.Deliver number) = []
 event_label (events.Server server input) = server_input_label input.value
 event_label (events.Client client input) = client_input_label input.value
 
--- what stands beside an event that is refused: the number of the refusal, and its input
+-- with the name of the actor before it
+abbrev pub named_label : Event → List ℕ
+named_label (events.Deliver number) = []
+named_label (events.Server server input) = codes "S" ++ (decimal (server + 1) ++ (codes " " ++ server_input_label input.value))
+named_label (events.Client client input) = codes "c" ++ (decimal client ++ (codes " " ++ client_input_label input.value))
+
+-- what stands beside an event that is refused: the number of the refusal, and whose input it was
 abbrev pub refused_label : ℕ → List ℕ → List ℕ
 refused_label number input =
     if nat_eq (length input) 0 then codes "refused " ++ decimal number
@@ -186,6 +192,6 @@ refused_label number input =
 -- What stands beside an event, by the number of its refusal and by the place of the message that
 -- came.
 abbrev pub said_text : List Frame → Event → Option ℕ → Option ℕ → List ℕ
-said_text sent event (Some number) message = refused_label number (event_label event)
+said_text sent event (Some number) message = refused_label number (named_label event)
 said_text sent event None (Some place) = sent_label (slice_get sent place)
 said_text sent event None None = event_label event

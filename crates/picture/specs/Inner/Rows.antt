@@ -8,7 +8,7 @@ use Rattle.picture.specs.declared.record.Sending.{Sending}
 use Rattle.picture.specs.declared.ink.Ink.TheVariants as inks
 use Rattle.picture.specs.declared.ink.Stroke.TheVariants as strokes
 use Rattle.picture.specs.declared.ink.Spot.TheVariants as spots
-use Rattle.picture.specs.Inner.Places.{capped, down_by, aside_by, side_towards, opposite}
+use Rattle.picture.specs.Inner.Places.{capped, down_by, aside_by, side_towards, opposite, names_between}
 use Rattle.picture.specs.Inner.Shapes.{line_text, circle_text}
 use Rattle.picture.specs.Inner.Notes.{applies_more}
 use Rattle.picture.specs.Inner.Drawn.{width_in, label_text, cross_text}
@@ -27,6 +27,21 @@ event_number y row =
 -- and behind it that of the message
 abbrev pub numbers_text : ℕ → ℕ → Option ℕ → List ℕ
 numbers_text y row message = event_number y row ++ message_number y message
+
+-- the event in which a message was sent that came, where the names of the lifelines stand between
+abbrev pub origin_of_sending : ℕ → Option Sending → Option ℕ
+origin_of_sending row None = None
+origin_of_sending row (Some sending) = if names_between sending.row row then Some sending.row else None
+
+abbrev pub origin_at : List Sending → ℕ → Option ℕ → Option ℕ → Option ℕ
+origin_at sendings row None refusal = None
+origin_at sendings row (Some place) (Some number) = None
+origin_at sendings row (Some place) None = origin_of_sending row (slice_get sendings place)
+
+abbrev pub origin_number : ℕ → Option ℕ → List ℕ
+origin_number y None = []
+origin_number y (Some row) =
+    label_text (down_by (record { x = 74; y = y }) 3) Right inks.Number (codes "from " ++ decimal (capped (row + 1)))
 
 -- the side of an event's label: the one that the message does not come from; else the right one
 abbrev pub side_of_sending : ℕ → Option Sending → Side
