@@ -5,8 +5,8 @@ use Rattle.rows.specs.declared.request.OperatorRequest.TheVariants.{DrainNode}
 use Rattle.group_model.specs.Clients as clients
 use Rattle.group_model.specs.Inputs as servers
 use Rattle.group_model.specs.Worlds.{Event, AtClient, AtServer}
-use Rattle.scenario_file.specs.declared.named.Named.{Named}
-use Rattle.scenario_file.specs.declared.named.Named.TheVariants.{Server, Client, Node}
+use Rattle.scenario_file.specs.declared.noting.Named.{Named}
+use Rattle.scenario_file.specs.declared.noting.Named.TheVariants.{Server, Client, Node}
 use Rattle.scenario_file.specs.declared.scenario.Scenario.{Scenario}
 use Rattle.scenario_file.specs.Steps.{Step, AnEvent, Work}
 

@@ -10,7 +10,8 @@ use Rattle.rows.specs.declared.request.OperatorRequest.{OperatorRequest}
 use Rattle.rows.specs.declared.request.OperatorRequest.TheVariants.{PutJob}
 use Rattle.group_model.specs.Inputs as servers
 use Rattle.group_model.specs.Worlds.{Event, AtServer}
-use Rattle.scenario_file.specs.declared.named.Named.{Named}
+use Rattle.scenario_file.specs.declared.noting.Named.{Named}
+use Rattle.scenario_file.specs.declared.noting.Absence.{Absence}
 use Rattle.scenario_file.specs.declared.noting.Note.{Note}
 use Rattle.scenario_file.specs.declared.noting.Note.TheVariants as notes
 use Rattle.scenario_file.specs.declared.noting.TooLarge.{TooLarge as LargeGroup}
@@ -55,7 +56,7 @@ job_notes nodes number job = map (note_of number job.name) (filter (needs_note n
 -- the note of one whom a step names, if anyone, where the group lacks it
 abbrev pub absence_notes : Scenario → ℕ → Option Named → List Note
 absence_notes s number None = []
-absence_notes s number (Some named) = if is_absent s named then notes.Absent number named ∷ [] else []
+absence_notes s number (Some named) = if is_absent s named then notes.Absent (record { step = number; named = named }) ∷ [] else []
 
 -- the notes of a step: whose it is and whom it names, where the group lacks them, and those of the
 -- job that it puts, if it puts one
@@ -81,8 +82,11 @@ group_text n =
     ++ codes " takes " ++ decimal n.size.cpu ++ codes " MHz and " ++ decimal n.size.mem
     ++ codes " MB of class " ++ n.class ++ codes "; no node has that, so nothing of it is placed"
 
-abbrev pub note_text : Note → List ℕ
-note_text (notes.Absent number named) =
-    codes "note: step " ++ decimal number ++ codes ": the group has no " ++ named_text named
+abbrev pub absence_text : Absence → List ℕ
+absence_text a =
+    codes "note: step " ++ decimal a.step ++ codes ": the group has no " ++ named_text a.named
     ++ codes ", so the step never does anything"
+
+abbrev pub note_text : Note → List ℕ
+note_text (notes.Absent absence) = absence_text absence
 note_text (notes.TooLarge group) = group_text group

@@ -76,6 +76,19 @@ fn meant_by(alloc: Global, word: &str) -> Result<Option<&'static str>, NoMemory>
 
 // The form of the steps that begin with a word, of a request by what it asks for.
 fn form_of_step(verb: &str, words: &str) -> Option<&'static str> {
+    match verb {
+        "request" => Some(form_of_request(words)),
+        "timeout" | "beat" | "plan" | "free" | "reap" | "compact" | "work" | "take" => {
+            form_of_server_step(verb)
+        }
+        "deliver" | "flow" | "crash" | "restart" => form_of_net_step(verb),
+        "register" | "ping" | "pull" => form_of_client_step(verb),
+        _ => form_of_more(verb),
+    }
+}
+
+// The same, of steps that name servers alone.
+fn form_of_server_step(verb: &str) -> Option<&'static str> {
     Some(match verb {
         "timeout" => "timeout S, S from 1 to 5",
         "beat" => "beat S, S from 1 to 5",
@@ -85,15 +98,28 @@ fn form_of_step(verb: &str, words: &str) -> Option<&'static str> {
         "compact" => "compact S, S from 1 to 5",
         "work" => "work S, S from 1 to 5",
         "take" => "take S T, S and T from 1 to 5",
+        _ => return None,
+    })
+}
+
+// The same, of what happens to messages, and to servers and clients.
+fn form_of_net_step(verb: &str) -> Option<&'static str> {
+    Some(match verb {
         "deliver" => "deliver K, K from 1 to 18446744073709551615",
         "flow" => "flow, or flow N, N from 0 to 18446744073709551615",
         "crash" => "crash S, or crash cC, S from 1 to 5, C from 1 to 64",
         "restart" => "restart S, or restart cC, S from 1 to 5, C from 1 to 64",
+        _ => return None,
+    })
+}
+
+// The same, of steps of clients that name a server.
+fn form_of_client_step(verb: &str) -> Option<&'static str> {
+    Some(match verb {
         "register" => "register C S, C from 1 to 64, S from 1 to 5",
         "ping" => "ping C S, C from 1 to 64, S from 1 to 5",
         "pull" => "pull C S, C from 1 to 64, S from 1 to 5",
-        "request" => form_of_request(words),
-        _ => return form_of_more(verb),
+        _ => return None,
     })
 }
 

@@ -5,40 +5,13 @@ ghost use Rattle.world.specs.GroupEvents.{client_input, server_input};
 ghost use Rattle.scenario_file.specs.Named.{client_input_names, input_names, is_absent, request_names, step_names, step_taker};
 ghost use Rattle.scenario_file.specs.Steps.{played_step};
 
+use crate::noting::Named;
 use crate::scenario::Scenario;
 use crate::step::Step;
 use client_agent::ClientInput;
-use rows::{ClientId, NodeId, OperatorRequest, ServerId};
+use rows::OperatorRequest;
 use server::ServerInput;
-use std::fmt;
 use world::Event;
-
-/// A server, a client or a node that a step names.
-#[derive(Clone, Copy, Debug)]
-pub enum Named {
-    /// A server.
-    Server(ServerId),
-    /// A client.
-    Client(ClientId),
-    /// A node.
-    Node(NodeId),
-}
-
-/// The kind and the number, as `server 1`, `client 64` and `node 64`.
-impl fmt::Display for Named {
-    ghost use Rattle.std.specs.Prelude.{Some};
-    ghost use Rattle.scenario_file.specs.Named.{named_text};
-
-    ghost output = { λ n. Some (named_text n) };
-
-    fn fmt<W: fmt::Write>(&self, f: &mut fmt::Formatter<W>) -> fmt::Result {
-        match self {
-            Named::Server(server) => write!(f, "server {server}"),
-            Named::Client(client) => write!(f, "client {client}"),
-            Named::Node(node) => write!(f, "node {node}"),
-        }
-    }
-}
 
 /// Whose step it is: none where it is the net's.
 pub(crate) fn taker_of(step: &Step) -> Option<Named>
@@ -101,8 +74,8 @@ fn names_of_client_input(input: &ClientInput) -> Option<Named>
 
 /// Whether a scenario's group lacks the one that is named: it has so many servers, and as many
 /// clients as nodes.
-pub(crate) fn is_absent(scenario: &Scenario, named: Named) -> bool
-    ensures { result ≡ is_absent scenario.now named }
+pub(crate) fn is_absent(scenario: &Scenario, named: &Named) -> bool
+    ensures { result ≡ is_absent scenario.now named.now }
 {
     match named {
         Named::Server(server) => server.place() >= usize::from(scenario.settings.servers),

@@ -9,11 +9,12 @@ ghost use Rattle.scenario_file.specs.Notes.{AreLineNotes, AreNotes, absence_note
 ghost use Rattle.scenario_file.specs.Rooms.{can_hold, is_too_large};
 ghost use Rattle.scenario_file.specs.Steps.{played_step};
 
-use crate::named::{Named, is_absent, names_of, taker_of};
+use crate::named::{is_absent, names_of, taker_of};
 use crate::scenario::Scenario;
 use crate::step::{Step, read_step};
 use rows::{
-    ClassName, Group, GroupName, JobName, JobSpec, NoMemory, NodeSpec, OperatorRequest, Size,
+    ClassName, ClientId, Group, GroupName, JobName, JobSpec, NoMemory, NodeId, NodeSpec,
+    OperatorRequest, ServerId, Size,
 };
 use server::ServerInput;
 use std::alloc::Global;
@@ -23,9 +24,8 @@ use world::Event;
 /// What is noted of a scenario with which nothing is wrong.
 #[derive(Clone, Copy, Debug)]
 pub enum Note {
-    /// The step of this number, counted from 1, never does anything: it names someone whom the
-    /// group lacks.
-    Absent(usize, Named),
+    /// A step never does anything.
+    Absent(Absence),
     /// Nothing is placed of a group that a step puts.
     TooLarge(TooLarge),
 }
@@ -38,12 +38,60 @@ impl fmt::Display for Note {
 
     fn fmt<W: fmt::Write>(&self, f: &mut fmt::Formatter<W>) -> fmt::Result {
         match self {
-            Note::Absent(step, named) => write!(
-                f,
-                "note: step {step}: the group has no {named}, so the step never does anything"
-            ),
+            Note::Absent(absence) => write!(f, "{absence}"),
             Note::TooLarge(group) => write!(f, "{group}"),
         }
+    }
+}
+
+/// A server, a client or a node that a step names.
+#[derive(Clone, Copy, Debug)]
+pub enum Named {
+    /// A server.
+    Server(ServerId),
+    /// A client.
+    Client(ClientId),
+    /// A node.
+    Node(NodeId),
+}
+
+/// The kind and the number, as `server 1`, `client 64` and `node 64`.
+impl fmt::Display for Named {
+    ghost use Rattle.std.specs.Prelude.{Some};
+    ghost use Rattle.scenario_file.specs.Named.{named_text};
+
+    ghost output = { λ n. Some (named_text n) };
+
+    fn fmt<W: fmt::Write>(&self, f: &mut fmt::Formatter<W>) -> fmt::Result {
+        match self {
+            Named::Server(server) => write!(f, "server {server}"),
+            Named::Client(client) => write!(f, "client {client}"),
+            Named::Node(node) => write!(f, "node {node}"),
+        }
+    }
+}
+
+/// A step that never does anything: it names someone whom the group lacks.
+#[derive(Clone, Copy, Debug)]
+pub struct Absence {
+    /// The step, counted from 1.
+    pub step: usize,
+    /// Whom it names.
+    pub named: Named,
+}
+
+impl fmt::Display for Absence {
+    ghost use Rattle.std.specs.Prelude.{Some};
+    ghost use Rattle.scenario_file.specs.Notes.{absence_text};
+
+    ghost output = { λ a. Some (absence_text a) };
+
+    fn fmt<W: fmt::Write>(&self, f: &mut fmt::Formatter<W>) -> fmt::Result {
+        let (step, named) = (self.step, self.named);
+        write!(
+            f,
+            "note: step {step}: the group has no {named}, so the step never does anything"
+        )
     }
 }
 
@@ -170,8 +218,9 @@ fn note_absence(
     let Some(named) = named else {
         return Ok(());
     };
-    if is_absent(scenario, named) {
-        found.push(Note::Absent(number, named))?;
+    if is_absent(scenario, &named) {
+        let step = number;
+        return put(Note::Absent(Absence { step, named }), found);
     }
     Ok(())
 }
@@ -225,15 +274,36 @@ fn note_group(
         ++ (if needs_note nodes.now group.now then note_of step job group.now ∷ [] else [])) }
 {
     if is_noted(nodes, group) {
-        found.push(Note::TooLarge(TooLarge {
-            step,
-            job,
-            group: group.name,
-            class: group.class,
-            size: group.size,
-        }))?;
+        return put(note_of(step, job, group), found);
     }
     Ok(())
+}
+
+// Puts a note behind the others. It is taken apart since the borrow checker has to be told of the
+// types that it is made of.
+fn put(note: Note, found: &mut Vec<Note>) -> Result<(), NoMemory>
+    ensures { OnOk result (found.new.items ≡ found.old.items ++ note ∷ []) }
+{
+    match note {
+        Note::Absent(Absence { step, named }) => {
+            found.push(Note::Absent(Absence { step, named }))?;
+        }
+        Note::TooLarge(group) => found.push(Note::TooLarge(group))?,
+    }
+    Ok(())
+}
+
+// The note of a group of a job that a step puts.
+fn note_of(step: usize, job: JobName, group: &Group) -> Note
+    ensures { result ≡ note_of step job group.now }
+{
+    Note::TooLarge(TooLarge {
+        step,
+        job,
+        group: group.name,
+        class: group.class,
+        size: group.size,
+    })
 }
 
 // Whether a group that a step puts is noted.

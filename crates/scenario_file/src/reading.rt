@@ -10,8 +10,9 @@ use rows::Refusal;
 use serde_json::Value;
 use std::alloc::Global;
 
-// The reader of values takes a key that is written twice, and keeps the last value.
-fn refuse_doubled_keys(alloc: Global, text: &str) -> Result<(), Refusal>
+/// Refuses with 12 a text in which an object has a key twice, or which is no JSON at all; with 1
+/// where there is no memory. The reader of values takes such a key, and keeps the last value.
+pub fn refuse_doubled_keys(alloc: Global, text: &str) -> Result<(), Refusal>
     ensures ok { OnOk result (HasSingleKeys text.now) }
     ensures refused { IfErr result (λ refusal. (refusal ≡ NoMemory)
         ⊎ ((refusal ≡ OutOfRange) × ¬ HasSingleKeys text.now)) }

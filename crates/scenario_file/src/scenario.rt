@@ -52,7 +52,8 @@ pub struct Scenario {
     pub steps: Vec<String>,
 }
 
-pub(crate) fn number_of(value: &Value, key: &str) -> Option<u64>
+/// The whole number at a key of an object, below 2^64.
+pub fn number_of(value: &Value, key: &str) -> Option<u64>
     ensures { result ≡ whole_number_at key.now (view value.now) }
 {
     value.get(key).and_then(Value::as_u64)
@@ -67,7 +68,8 @@ fn text_of<'v>(value: &'v Value, key: &str) -> Option<&'v str>
     }
 }
 
-pub(crate) fn list_of<'v>(value: &'v Value, key: &str) -> Option<&'v Vec<Value>>
+/// The list at a key of an object.
+pub fn list_of<'v>(value: &'v Value, key: &str) -> Option<&'v Vec<Value>>
     ensures { option_map (λ v. items_view v.now.items) result ≡ list_at key.now (view value.now) }
 {
     match value.get(key) {
@@ -76,7 +78,8 @@ pub(crate) fn list_of<'v>(value: &'v Value, key: &str) -> Option<&'v Vec<Value>>
     }
 }
 
-fn keys_of(value: &Value) -> Option<usize>
+/// How many keys an object has.
+pub fn keys_of(value: &Value) -> Option<usize>
     ensures { result ≡ option_map members_count (as_object (view value.now)) }
 {
     match value.as_object() {
@@ -121,7 +124,8 @@ pub(crate) fn order_of(value: &Value) -> Option<Order>
     }
 }
 
-fn settings_of(value: &Value) -> Option<Settings>
+/// What an object of seven keys says beside its nodes and its steps.
+pub fn settings_of(value: &Value) -> Option<Settings>
     ensures { MatchOption result
         ((s : Settings) → ¬ HasSettings (view value.now) s) (HasSettings (view value.now)) }
 {
@@ -190,7 +194,9 @@ pub(crate) fn node_of(value: &Value, others: usize) -> Option<NodeSpec>
     })
 }
 
-fn nodes_of(alloc: Global, list: &[Value]) -> Result<Vec<NodeSpec>, Refusal>
+/// The nodes that the values of a list are, numbered from 1. Refused with 12 where one is none, or
+/// where there are more than 64; with 1 where there is no memory.
+pub fn nodes_of(alloc: Global, list: &[Value]) -> Result<Vec<NodeSpec>, Refusal>
     ensures ok { IfOk result (λ nodes. AreNodes 1 (map view list.now) nodes.items) }
     ensures refused { IfErr result (λ refusal. (refusal ≡ NoMemory)
         ⊎ ((refusal ≡ OutOfRange)

@@ -5,26 +5,30 @@ use rows::NoMemory;
 use std::alloc::Global;
 
 // A key of an object that is not ended yet, and where in the text it begins.
-#[derive(Clone, Copy)]
-struct Key<'t> {
-    name: &'t str,
+#[derive(Drop)]
+struct Key {
+    name: String,
     start: usize,
 }
 
 // The keys of the objects that are not ended, the outermost first.
 #[derive(Drop)]
-struct OpenKeys<'t> {
-    keys: Vec<Key<'t>>,
+struct OpenKeys {
+    keys: Vec<Key>,
     // Of each object how many keys stand before its own.
     objects: Vec<usize>,
 }
 
-impl<'t> OpenKeys<'t> {
-    // The key of this name that the innermost object has.
-    fn find(&self, name: &str) -> Option<Key<'t>> {
+impl OpenKeys {
+    // Where the key of this name begins that the innermost object has.
+    fn find(&self, name: &str) -> Option<usize> {
         let before = self.objects.last().copied().unwrap_or(0);
-        let own = self.keys.get(before..)?;
-        own.iter().find(|key| key.name == name).copied()
+        for key in self.keys.get(before..)? {
+            if key.name.as_str() == name {
+                return Some(key.start);
+            }
+        }
+        None
     }
 
     // An object ends, and its keys with it.
@@ -51,12 +55,12 @@ pub(crate) fn key_twice(alloc: Global, text: &str) -> Result<Option<Wrong>, NoMe
             Some(Token::EndObject) => open.end_object(),
             Some(Token::Key(name)) => {
                 let start = quote_from(text, before);
-                if let Some(first) = open.find(name) {
-                    let key = String::from_str(alloc, name)?;
-                    let places = (place_of(text, first.start), place_of(text, start));
-                    return Ok(Some(Wrong::KeyTwice(key, places.0, places.1)));
+                let key = String::from_str(alloc, name)?;
+                if let Some(first) = open.find(key.as_str()) {
+                    let (first, second) = (place_of(text, first), place_of(text, start));
+                    return Ok(Some(Wrong::KeyTwice(key, first, second)));
                 }
-                open.keys.push(Key { name, start })?;
+                open.keys.push(Key { name: key, start })?;
             }
             Some(Token::Bad) | None => return Ok(None),
             Some(_) => {}
