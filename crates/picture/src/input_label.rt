@@ -10,7 +10,7 @@ use std::alloc::Global;
 use world::Event;
 
 /// The label of an event that is no delivery; a delivery has none here.
-pub(crate) fn event_label(alloc: Global, event: &Event) -> Result<String, NoMemory>
+pub fn event_label(alloc: Global, event: &Event) -> Result<String, NoMemory>
     ensures { IfOk result (λ label. string_bytes label ≡ event_label event.now) }
 {
     match event {

@@ -11,7 +11,7 @@ use std::alloc::Global;
 use wire::{Append, AppendReply, Body, VoteReply, read_message};
 
 /// The label of a frame.
-pub(crate) fn message_label(alloc: Global, frame: &[u8]) -> Result<String, NoMemory>
+pub fn message_label(alloc: Global, frame: &[u8]) -> Result<String, NoMemory>
     ensures { IfOk result (λ label. string_bytes label ≡ frame_label frame.now) }
 {
     match read_message::<Cluster>(alloc, frame) {

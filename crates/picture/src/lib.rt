@@ -18,3 +18,5 @@ mod svg;
 
 pub use drawing::draw;
 pub use fault::DrawError;
+pub use input_label::event_label;
+pub use label::message_label;
