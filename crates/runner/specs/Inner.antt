@@ -1,6 +1,5 @@
 -- Words of private contracts.
 pub mod Flight
-pub mod Waiting
 pub mod Faults
 pub mod Files
 pub mod Printed

@@ -3,33 +3,26 @@ ghost use Rattle.std.specs.Prelude.{◌≡◌, ◌++◌, ◌∷◌, ◌+◌, ◌
 ghost use Rattle.std.specs.List.{remove};
 ghost use Rattle.runner.specs.Inner.Flight.{newly_sent};
 
-use crate::waiting::Waiting;
 use rows::NoMemory;
 use std::alloc::Global;
+use std::collections::VecDeque;
 use std::marker::Model;
 
 /// The numbers of the messages in flight: those that were sent, in that order, but for those that a
 /// flow has taken; behind them those that were put in flight again.
 #[derive(Drop)]
 pub(crate) struct Flight {
-    alloc: Global,
-    waiting: Waiting,
-    // How many these are.
-    many: usize,
+    waiting: VecDeque<u64>,
     // How many of the messages ever sent have been put in flight.
     seen: u64,
 }
 
 impl Model for Flight {
-    ghost use Rattle.std.specs.Prelude.{◌≡◌, length};
     ghost use Rattle.runner.specs.Inner.Flight.{InFlight};
-    ghost use Rattle.runner.specs.Inner.Waiting.{IsCounted, numbers};
 
     ghost Value = { InFlight };
 
-    ghost view = { λ f. record { waiting = numbers f.waiting; seen = f.seen } };
-
-    ghost invariant = { λ f. IsCounted f.waiting × (f.many ≡ length (numbers f.waiting)) };
+    ghost view = { λ f. record { waiting = f.waiting.items; seen = f.seen } };
 }
 
 impl Flight {
@@ -38,9 +31,7 @@ impl Flight {
         ensures { (result.waiting ≡ []) × (result.seen ≡ 0) }
     {
         Flight {
-            alloc,
-            waiting: Waiting::new(alloc),
-            many: 0,
+            waiting: VecDeque::new(alloc),
             seen: 0,
         }
     }
@@ -49,7 +40,7 @@ impl Flight {
     pub(crate) fn len(&self) -> usize
         ensures { result ≡ length self.now.waiting }
     {
-        self.many
+        self.waiting.len()
     }
 
     /// Puts the messages sent since the last call behind the others, `sent` being the number of all
@@ -60,7 +51,7 @@ impl Flight {
         ensures seen { OnOk result (self.new.seen ≡ max self.old.seen sent) }
     {
         for number in self.seen..sent {
-            self.put_again(number + 1)?;
+            self.waiting.push_back(number + 1)?;
         }
         self.seen = self.seen.max(sent);
         Ok(())
@@ -72,7 +63,7 @@ impl Flight {
             (λ message. self.old.waiting ≡ message ∷ self.new.waiting) }
         ensures seen { self.new.seen ≡ self.old.seen }
     {
-        self.take_at(0)
+        self.waiting.pop_front()
     }
 
     /// Takes the message at a place, the front being place 0; none where fewer are in flight. The
@@ -81,18 +72,9 @@ impl Flight {
         ensures some { IfSome result (λ message. (slice_get self.old.waiting place ≡ Some message)
             × (self.new.waiting ≡ remove self.old.waiting place)) }
         ensures none { IfNone result (length self.old.waiting < place + 1) }
-        ensures left { IfNone result (self.new ≡ self.old) }
         ensures seen { self.new.seen ≡ self.old.seen }
     {
-        if place >= self.many {
-            return None;
-        }
-        let message = self.waiting.take_at(self.alloc, place);
-        self.many -= 1;
-        if self.many == 0 {
-            self.waiting = Waiting::new(self.alloc);
-        }
-        Some(message)
+        self.waiting.remove(place)
     }
 
     /// Puts a message in flight again, behind the others. Without memory nothing changes.
@@ -101,9 +83,6 @@ impl Flight {
         ensures seen { self.new.seen ≡ self.old.seen }
         ensures left { OnErr result (self.new ≡ self.old) }
     {
-        let more = self.many.checked_add(1).ok_or(NoMemory)?;
-        self.waiting.push(self.alloc, self.many, message)?;
-        self.many = more;
-        Ok(())
+        Ok(self.waiting.push_back(message)?)
     }
 }

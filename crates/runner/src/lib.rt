@@ -12,7 +12,6 @@ mod replaying;
 mod running;
 pub mod shelf;
 mod threads;
-mod waiting;
 
 pub use command_line::command;
 pub use program::nomadsim;
