@@ -2,5 +2,3 @@
 #![tactic(auto)]
 
 pub mod command;
-mod help;
-mod numbers;

@@ -4,4 +4,3 @@ pub mod Finding
 pub mod Standing
 pub mod Places
 pub mod Whole
-pub mod Leading

@@ -1,3 +1,2 @@
 pub mod Endings
-pub mod EndNumbers
 pub mod Inner

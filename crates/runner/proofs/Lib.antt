@@ -1,3 +1,5 @@
+pub mod Numbers
+pub mod GoodSteps
 pub mod Reasons
 pub mod Refusals
 pub mod Stages
@@ -5,3 +7,4 @@ pub mod Replays
 pub mod KeptShapes
 pub mod Tellings
 pub mod Seats
+pub mod Plays

@@ -92,8 +92,8 @@ fn print_picture<'a, W: Write>(
     }
 }
 
-/// The transcript of a file's bytes.
-pub(crate) fn transcript_of<'a>(alloc: Global, bytes: &[u8]) -> Result<Transcript, Fault<'a>>
+// The transcript of a file's bytes.
+fn transcript_of<'a>(alloc: Global, bytes: &[u8]) -> Result<Transcript, Fault<'a>>
     ensures named { IfOk result (λ t. IsTranscript (recorded t) bytes.now) }
     ensures read { (r : Recorded) → IsTranscript r bytes.now
         → IfOk result (λ t. recorded t ≡ r) }

@@ -1,7 +1,0 @@
-//! Scenarios in short form, and the plain ones that they stand for.
-#![tactic(auto)]
-
-pub mod expanding;
-pub mod plain;
-pub mod short;
-mod standing;

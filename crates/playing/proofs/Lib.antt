@@ -1,4 +1,0 @@
-pub mod Numbers
-pub mod Plays
-pub mod GoodSteps
-pub mod Steps

@@ -1,7 +1,0 @@
-use Rattle.sweep.proofs.Keys.{one_more_found}
-use Rattle.sweep.proofs.sweeping.put_row.Goals as goal
-
-pub returns-then-place : goal.returns-then-place
-returns-then-place c =
-    let task = c.args.task.now in
-    one_more_found task.scenario.now task.settings task.first c.args.found.now c.args.placed.now.place c.args.placed.now.row c.requires.found c.requires.row

@@ -1,4 +1,0 @@
-pub mod Rows
-pub mod Summaries
-pub mod Tables
-pub mod Inner
