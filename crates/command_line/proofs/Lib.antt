@@ -2,3 +2,4 @@ pub mod Turns
 pub mod Lines
 pub mod Counts
 pub mod GivenValues
+pub mod Numerals

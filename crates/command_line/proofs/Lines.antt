@@ -10,7 +10,7 @@ use Rattle.clap.specs.Simple.{Shape, argument_words, built_leaf, entered, filled
 use Rattle.clap.specs.Kinds.{Kinds, check_kinds}
 use Rattle.clap.specs.Faults.{built_fault, check_fault, defaults_fault, entered_fault, level_fault, settle_fault, walk_fault}
 use Rattle.clap.specs.Takes.{is_given}
-use Rattle.command_line.specs.Words.{app_with, nomadsim_app, out_option, required_word, workers_option}
+use Rattle.command_line.specs.Words.{app_with, at_option, csv_flag, html_flag, jobs_option, json_flag, keys_option, nomadsim_app, out_option, percent_option, required_word, workers_option}
 use Rattle.command_line.specs.Inner.Lines.{is_line}
 use Rattle.command_line.proofs.GivenValues.{given_has_value, rows_are_valued}
 use Rattle.command_line.proofs.Turns.{IsNoHelp, no_first, no_second, stops_at_no_help}
@@ -34,16 +34,32 @@ abbrev replay_level : Shape
 replay_level = level (codes "replay") (codes "T") (help_flag ∷ [])
 
 abbrev draw_level : Shape
-draw_level = level (codes "draw") (codes "T") (help_flag ∷ [])
+draw_level = level (codes "draw") (codes "T") (filled html_flag ∷ help_flag ∷ [])
 
 abbrev check_level : Shape
 check_level = level (codes "check") (codes "FILE") (help_flag ∷ [])
+
+abbrev tell_level : Shape
+tell_level = level (codes "tell") (codes "T") (help_flag ∷ [])
+
+abbrev inspect_level : Shape
+inspect_level = level (codes "inspect") (codes "T") (filled at_option ∷ filled json_flag ∷ help_flag ∷ [])
+
+abbrev expand_level : Shape
+expand_level = level (codes "expand") (codes "FILE") (help_flag ∷ [])
+
+abbrev sweep_others : List Rule
+sweep_others =
+    filled keys_option ∷ filled (percent_option (codes "drop")) ∷ filled (percent_option (codes "repeat")) ∷ filled jobs_option ∷ filled csv_flag ∷ help_flag ∷ []
+
+abbrev sweep_level : Shape
+sweep_level = level (codes "sweep") (codes "FILE") sweep_others
 
 -- `built nomadsim_app`, written out
 abbrev levels : App
 levels = record {
   top = record nomadsim_app.top { rules = help_flag ∷ filled version_rule ∷ []; is_built = true };
-  subs = run_level ∷ threads_level ∷ replay_level ∷ draw_level ∷ check_level ∷ built_leaf help_shape ∷ [];
+  subs = run_level ∷ threads_level ∷ replay_level ∷ draw_level ∷ check_level ∷ tell_level ∷ inspect_level ∷ expand_level ∷ sweep_level ∷ built_leaf help_shape ∷ [];
 }
 
 -- where a level has no fault, its walk, the subcommand that it enters and its last check have none
@@ -92,23 +108,54 @@ out_apart = other_more (codes "FILE") (filled out_option) (help_flag ∷ []) ref
 workers_apart : AreOther (codes "FILE") (filled workers_option ∷ filled out_option ∷ help_flag ∷ [])
 workers_apart = other_more (codes "FILE") (filled workers_option) (filled out_option ∷ help_flag ∷ []) refl out_apart
 
+html_apart : AreOther (codes "T") (filled html_flag ∷ help_flag ∷ [])
+html_apart = other_more (codes "T") (filled html_flag) (help_flag ∷ []) refl (help_apart (codes "T") refl)
+
+json_apart : AreOther (codes "T") (filled json_flag ∷ help_flag ∷ [])
+json_apart = other_more (codes "T") (filled json_flag) (help_flag ∷ []) refl (help_apart (codes "T") refl)
+
+at_apart : AreOther (codes "T") (filled at_option ∷ filled json_flag ∷ help_flag ∷ [])
+at_apart = other_more (codes "T") (filled at_option) (filled json_flag ∷ help_flag ∷ []) refl json_apart
+
+csv_apart : AreOther (codes "FILE") (filled csv_flag ∷ help_flag ∷ [])
+csv_apart = other_more (codes "FILE") (filled csv_flag) (help_flag ∷ []) refl (help_apart (codes "FILE") refl)
+
+jobs_apart : AreOther (codes "FILE") (filled jobs_option ∷ filled csv_flag ∷ help_flag ∷ [])
+jobs_apart = other_more (codes "FILE") (filled jobs_option) (filled csv_flag ∷ help_flag ∷ []) refl csv_apart
+
+repeat_apart : AreOther (codes "FILE") (filled (percent_option (codes "repeat")) ∷ filled jobs_option ∷ filled csv_flag ∷ help_flag ∷ [])
+repeat_apart = other_more (codes "FILE") (filled (percent_option (codes "repeat"))) (filled jobs_option ∷ filled csv_flag ∷ help_flag ∷ []) refl jobs_apart
+
+drop_apart : AreOther (codes "FILE") (filled (percent_option (codes "drop")) ∷ filled (percent_option (codes "repeat")) ∷ filled jobs_option ∷ filled csv_flag ∷ help_flag ∷ [])
+drop_apart = other_more (codes "FILE") (filled (percent_option (codes "drop"))) (filled (percent_option (codes "repeat")) ∷ filled jobs_option ∷ filled csv_flag ∷ help_flag ∷ []) refl repeat_apart
+
+sweep_apart : AreOther (codes "FILE") sweep_others
+sweep_apart =
+    other_more (codes "FILE") (filled keys_option)
+    (filled (percent_option (codes "drop")) ∷ filled (percent_option (codes "repeat")) ∷ filled jobs_option ∷ filled csv_flag ∷ help_flag ∷ []) refl drop_apart
+
 -- ---- which subcommand is met
 
-abbrev met : Bool → Bool → Bool → Bool → Bool → Bool → Option Shape
-met run threads replay draw check help =
-    cond run (Some run_level) (cond threads (Some threads_level) (cond replay (Some replay_level) (cond draw (Some draw_level) (cond check (Some check_level) (cond help (Some (built_leaf help_shape)) None)))))
+abbrev met : Bool → Bool → Bool → Bool → Bool → Bool → Bool → Bool → Bool → Bool → Option Shape
+met run threads replay draw check tell inspect expand sweep help =
+    cond run (Some run_level) (cond threads (Some threads_level) (cond replay (Some replay_level) (cond draw (Some draw_level) (cond check (Some check_level)
+    (cond tell (Some tell_level) (cond inspect (Some inspect_level) (cond expand (Some expand_level) (cond sweep (Some sweep_level) (cond help (Some (built_leaf help_shape)) None)))))))))
 
-met_line : (words : List Text) (run threads replay draw check help : Bool) → help ≡ false
-    → option_map_or (λ s. level_fault s [] nothing_held words false []) (met run threads replay draw check help) [] ≡ []
-    → is_some (option_map (λ s. rows_at s words) (met run threads replay draw check help)) ≡ true
-    → is_line (option_map (λ s. rows_at s words) (met run threads replay draw check help)) ≡ true
-met_line words true threads replay draw check help no_help none some = rw (has_value (codes "run") (codes "FILE") _ out_apart words none) refl
-met_line words false true replay draw check help no_help none some = rw (has_value (codes "threads") (codes "FILE") _ workers_apart words none) refl
-met_line words false false true draw check help no_help none some = rw (has_value (codes "replay") (codes "T") _ (help_apart (codes "T") refl) words none) refl
-met_line words false false false true check help no_help none some = rw (has_value (codes "draw") (codes "T") _ (help_apart (codes "T") refl) words none) refl
-met_line words false false false false true help no_help none some = rw (has_value (codes "check") (codes "FILE") _ (help_apart (codes "FILE") refl) words none) refl
-met_line words false false false false false true no_help none some = absurd (true≢false no_help)
-met_line words false false false false false false no_help none some = some
+met_line : (words : List Text) (run threads replay draw check tell inspect expand sweep help : Bool) → help ≡ false
+    → option_map_or (λ s. level_fault s [] nothing_held words false []) (met run threads replay draw check tell inspect expand sweep help) [] ≡ []
+    → is_some (option_map (λ s. rows_at s words) (met run threads replay draw check tell inspect expand sweep help)) ≡ true
+    → is_line (option_map (λ s. rows_at s words) (met run threads replay draw check tell inspect expand sweep help)) ≡ true
+met_line words true threads replay draw check tell inspect expand sweep help no_help none some = rw (has_value (codes "run") (codes "FILE") _ out_apart words none) refl
+met_line words false true replay draw check tell inspect expand sweep help no_help none some = rw (has_value (codes "threads") (codes "FILE") _ workers_apart words none) refl
+met_line words false false true draw check tell inspect expand sweep help no_help none some = rw (has_value (codes "replay") (codes "T") _ (help_apart (codes "T") refl) words none) refl
+met_line words false false false true check tell inspect expand sweep help no_help none some = rw (has_value (codes "draw") (codes "T") _ html_apart words none) refl
+met_line words false false false false true tell inspect expand sweep help no_help none some = rw (has_value (codes "check") (codes "FILE") _ (help_apart (codes "FILE") refl) words none) refl
+met_line words false false false false false true inspect expand sweep help no_help none some = rw (has_value (codes "tell") (codes "T") _ (help_apart (codes "T") refl) words none) refl
+met_line words false false false false false false true expand sweep help no_help none some = rw (has_value (codes "inspect") (codes "T") _ at_apart words none) refl
+met_line words false false false false false false false true sweep help no_help none some = rw (has_value (codes "expand") (codes "FILE") _ (help_apart (codes "FILE") refl) words none) refl
+met_line words false false false false false false false false true help no_help none some = rw (has_value (codes "sweep") (codes "FILE") _ sweep_apart words none) refl
+met_line words false false false false false false false false false true no_help none some = absurd (true≢false no_help)
+met_line words false false false false false false false false false false no_help none some = some
 
 help_not_met : (name : Text) → bytes_eq name (codes "help") ≡ false → answers_to name (codes "help", []) ≡ false
 help_not_met name no_help = go (bytes_eq (codes "help") name) refl
@@ -121,7 +168,8 @@ line_at : (stop : Option (Text × List Text)) → IsNoHelp stop → entered_faul
 line_at None no_help none some = some
 line_at (Some (name, rest)) no_help none some =
     met_line rest (answers_to name (codes "run", [])) (answers_to name (codes "threads", [])) (answers_to name (codes "replay", [])) (answers_to name (codes "draw", []))
-    (answers_to name (codes "check", [])) (answers_to name (codes "help", [])) (help_not_met name no_help) none some
+    (answers_to name (codes "check", [])) (answers_to name (codes "tell", [])) (answers_to name (codes "inspect", [])) (answers_to name (codes "expand", [])) (answers_to name (codes "sweep", []))
+    (answers_to name (codes "help", [])) (help_not_met name no_help) none some
 
 -- a subcommand is wanted
 is_entered : (rows : List Row) (b : Bool) → check_fault levels.top rows b ≡ [] → b ≡ true

@@ -17,7 +17,7 @@ HasApplied s applied = MatchOption applied (is_up s.raft.mode ≡ false) (λ n. 
 
 module _ (servers : List Member) (seen : ℕ) (s : Member) (here : slice_get servers seen ≡ Some s) where
   -- what holds of those before and of the next one holds of those up to it
-  one_more : (P : Member → Type 0) → ((i : ℕ) (other : Member) → i < seen → slice_get servers i ≡ Some other → P other) → P s → (i : ℕ) (other : Member) → i < suc seen → slice_get servers i ≡ Some other → P other
+  pub one_more : (P : Member → Type 0) → ((i : ℕ) (other : Member) → i < seen → slice_get servers i ≡ Some other → P other) → P s → (i : ℕ) (other : Member) → i < suc seen → slice_get servers i ≡ Some other → P other
   one_more P before own i other below at = go (nat_lt i seen) refl
     where
       go : (b : Bool) → nat_lt i seen ≡ b → P other

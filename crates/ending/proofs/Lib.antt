@@ -4,3 +4,4 @@ pub mod Finding
 pub mod Standing
 pub mod Places
 pub mod Whole
+pub mod Leading

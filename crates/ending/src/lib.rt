@@ -6,7 +6,9 @@ mod clients;
 mod fault;
 mod last_lines;
 mod newest;
+mod numbers;
 mod servers;
 
 pub use fault::EndError;
 pub use last_lines::print_end;
+pub use numbers::{EndNumbers, end_numbers};

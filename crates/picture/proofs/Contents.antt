@@ -7,7 +7,7 @@ use Rattle.std.proofs.lemmas.List.Folds.{list_all-append}
 use Rattle.picture.specs.declared.svg.TheConstants.{ABOUT, HEAD}
 use Rattle.picture.specs.declared.layout.Point.{Point}
 use Rattle.picture.specs.declared.shape.Shape.{Shape}
-use Rattle.picture.specs.declared.shape.Shape.TheVariants.{Line, Bow, Circle, White, Text}
+use Rattle.picture.specs.declared.shape.Shape.TheVariants.{Line, Bow, Circle, White, Text, Tip}
 use Rattle.picture.specs.declared.ink.Ink.{Ink}
 use Rattle.picture.specs.declared.ink.Ink.TheVariants as inks
 use Rattle.picture.specs.declared.ink.Stroke.{Stroke}
@@ -20,7 +20,7 @@ use Rattle.picture.specs.declared.ink.Cover.{Cover}
 use Rattle.picture.specs.declared.ink.Cover.TheVariants as covers
 use Rattle.picture.specs.Pictures.{shown_byte, is_plain_byte, is_letter, stands_apart, IsContent, IsPicture}
 use Rattle.picture.specs.Pictures.IsContent.{line_end, text, sign, element, both}
-use Rattle.picture.specs.Inner.Shapes.{text_of, line_text, bow_text, circle_text, white_text, words_text, stroke_look, spot_look, ink_look, anchor_look, cover_look, most_of, open_text, about_text, sheet_text, svg_text}
+use Rattle.picture.specs.Inner.Shapes.{text_of, line_text, bow_text, circle_text, white_text, words_text, tip_text, stroke_look, spot_look, ink_look, anchor_look, cover_look, most_of, open_text, about_text, sheet_text, svg_text}
 
 -- ---- bytes that are plain
 
@@ -137,12 +137,22 @@ words_content at anchor ink said =
     (flat_map shown_byte (take (most_of ink) said))
     _ refl (lit< tt) refl (simp (list_all-append, plain_decimal, plain_anchor, plain_ink) refl) (text (take (most_of ink) said)) (simp append_assoc refl)
 
+tip_content : (corner : Point) (width height : ℕ) (told : List ℕ) → IsContent (tip_text corner width height told)
+tip_content corner width height told =
+    element_line (codes "rect")
+    (codes " x=\"" ++ (decimal corner.x ++ (codes "\" y=\"" ++ (decimal corner.y ++ (codes "\" width=\"" ++ (decimal width ++ (codes "\" height=\"" ++ (decimal height ++ codes "\" class=\"event\" pointer-events=\"all\""))))))))
+    (codes "<" ++ (codes "title" ++ ([] ++ (codes ">" ++ (flat_map shown_byte told ++ (codes "</" ++ (codes "title" ++ codes ">")))))))
+    _ refl (lit< tt) refl (simp (list_all-append, plain_decimal) refl)
+    (element (codes "title") [] (flat_map shown_byte told) (record { letters = refl; named = lit< tt; apart = refl; plain = refl }) (text told))
+    (simp append_assoc refl)
+
 pub shape_content : (shape : Shape) → IsContent (text_of shape)
 shape_content (Line from to stroke) = line_content from to stroke
 shape_content (Bow from to far stroke) = bow_content from to far stroke
 shape_content (Circle at spot) = circle_content at spot
 shape_content (White corner width height cover) = white_content corner width height cover
 shape_content (Text at anchor ink said) = words_content at anchor ink (string_bytes said)
+shape_content (Tip corner width height told) = tip_content corner width height (string_bytes told)
 
 shapes_content : (shapes : List Shape) → IsContent (flat_map text_of shapes)
 shapes_content [] = text []
@@ -192,7 +202,7 @@ all_inside width height shapes =
     codes "\n" ++ (about_text ++ (sheet width height ++ all_drawn shapes))
 
 abbrev xml : List ℕ
-xml = codes "<?xml version=\"1.0\" encoding=\"UTF-8\"?>\n<svg"
+xml = codes "<svg"
 
 abbrev group : List ℕ
 group = codes "<g font-family=\"sans-serif\" fill=\"none\">"

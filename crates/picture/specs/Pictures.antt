@@ -56,14 +56,17 @@ pub data IsContent : List ℕ → Type 0 where
 abbrev pub title_element : List ℕ → List ℕ
 title_element title = codes "\n<title>" ++ (flat_map shown_byte title ++ codes "</title>")
 
--- a picture of this title: one element `svg`, which begins with its title, behind the line that
--- begins a file of XML
+-- the line that begins a file of XML
+abbrev pub declaration : List ℕ
+declaration = codes "<?xml version=\"1.0\" encoding=\"UTF-8\"?>\n"
+
+-- a picture of this title: one element `svg`, which begins with its title
 pub record IsPicture (title text : List ℕ) : Type 0 where
   pub attributes : List ℕ
   pub inside : List ℕ
   pub tag : IsTag (codes "svg") attributes
   pub content : IsContent inside
-  pub whole : text ≡ codes "<?xml version=\"1.0\" encoding=\"UTF-8\"?>\n<svg" ++ (attributes ++ (codes ">" ++ (title_element title ++ (inside ++ codes "</svg>\n"))))
+  pub whole : text ≡ codes "<svg" ++ (attributes ++ (codes ">" ++ (title_element title ++ (inside ++ codes "</svg>\n"))))
 
 -- The title of a run of so many servers, clients and events, in which so many messages were sent,
 -- and so many of them never came.
@@ -80,8 +83,8 @@ pub record IsRunPicture (servers clients events : ℕ) (text : List ℕ) : Type 
   pub some : lost ≤ messages
   pub picture : IsPicture (run_title servers clients events messages lost) text
 
--- known bytes stay at the front and grow by one such picture
+-- known bytes stay at the front and grow by the line that begins a file and one such picture
 pub record GrowsByPicture (servers clients events : ℕ) (old new : Option (List ℕ)) : Type 0 where
   pub text : List ℕ
   pub picture : IsRunPicture servers clients events text
-  pub appended : Appends old new text
+  pub appended : Appends old new (declaration ++ text)

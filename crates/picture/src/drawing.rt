@@ -1,16 +1,17 @@
 //! A run as a picture: it is played again and noted, and then drawn from below to above, the
 //! lifelines first and the labels last.
-ghost use Rattle.std.specs.Prelude.{◌≡◌, ◌≢◌, length, OnOk, IfOk, IfErr, string_bytes};
+ghost use Rattle.std.specs.Prelude.{◌≡◌, ◌≢◌, ◌++◌, length, OnOk, IfOk, IfErr, string_bytes};
 ghost use Rattle.std.specs.List.{count_by};
 ghost use Rattle.std.specs.Io.KnownBytes.{Appends};
 ghost use Rattle.picture.specs.declared.fault.DrawError.TheVariants as errors;
-ghost use Rattle.picture.specs.Pictures.{MayBe, MayNotBe, IsPicture, IsRunPicture, GrowsByPicture, run_title};
+ghost use Rattle.picture.specs.Pictures.{MayBe, MayNotBe, IsPicture, IsRunPicture, GrowsByPicture, declaration, run_title};
 ghost use Rattle.picture.specs.Inner.Records.{is_lost};
-ghost use Rattle.picture.specs.Inner.Drawn.{Draws, first_texts, lifeline_name, band_in, arrow_text, arrow_in, stub_end, lost_end_text, stub_text};
+ghost use Rattle.picture.specs.Inner.Drawn.{Draws, first_texts, lifeline_name, band_in, arrow_text, arrow_in, stub_end, lost_end_text, stub_text, row_corner, tip_in};
+ghost use Rattle.picture.specs.Inner.Shapes.{tip_text};
 
 use crate::fault::DrawError;
 use crate::ink::{Ink, Stroke};
-use crate::layout::{Layout, Point, SLOT, Side, distance, has_band};
+use crate::layout::{Layout, Point, ROW, SLOT, Side, distance, has_band};
 use crate::lifeline::draw_lifelines;
 use crate::record::{Record, Sending};
 use crate::row::{draw_row, sent_label};
@@ -21,6 +22,9 @@ use std::alloc::Global;
 use std::io::Write;
 use wire::Frames;
 use world::{Event, World};
+
+// The line that begins a file of XML.
+const DECLARATION: &str = "<?xml version=\"1.0\" encoding=\"UTF-8\"?>\n";
 
 // What the signs mean: of a message, of an actor, and in a label.
 const ARROWS: &str = "\
@@ -39,7 +43,8 @@ const LETTERS: &str = "\
 /// from its beginning, and what is drawn is what it did. A refused event is drawn as refused.
 ///
 /// There is a lifeline for each server and client, an arrow for each delivery, and a short one with
-/// a cross for each message that never came. It is refused with `Group` where there is no such
+/// a cross for each message that never came. Of each event the line at its place in `told` is told
+/// where a pointer rests on its row; nothing where there is no such line. It is refused with `Group` where there is no such
 /// group and with `NoMemory`, and then nothing is written; and with `Output` where the output
 /// failed, and then the front of the picture may have been written.
 pub fn draw<W: Write>(
@@ -47,6 +52,7 @@ pub fn draw<W: Write>(
     servers: usize,
     nodes: &[NodeSpec],
     events: &[Event],
+    told: &[String],
     out: &mut W,
 ) -> Result<(), DrawError>
     // What is written is one picture, and nothing else; its title counts what is drawn.
@@ -59,10 +65,31 @@ pub fn draw<W: Write>(
     // Nothing is written but where the output failed.
     ensures left { IfErr result (λ error. error ≢ errors.Output → out.new ≡ out.old) }
 {
-    let world = group(alloc, servers, nodes)?;
-    let picture = picture_of(alloc, world, servers, nodes.len(), events)?;
-    write_out(out, picture.as_str())?;
+    let picture = picture(alloc, servers, nodes, events, told)?;
+    write_picture(alloc, out, picture.as_str())?;
     Ok(())
+}
+
+/// The picture that `draw` writes, as a text: its element `svg` alone.
+///
+/// It is refused with `Group` where there is no such group, and with `NoMemory`.
+pub fn picture(
+    alloc: Global,
+    servers: usize,
+    nodes: &[NodeSpec],
+    events: &[Event],
+    told: &[String],
+) -> Result<String, DrawError>
+    ensures picture { IfOk result (λ picture. IsRunPicture servers (length nodes.now)
+        (length events.now) (string_bytes picture)) }
+    ensures group { OnOk result (MayBe servers nodes.now) }
+    ensures fault { IfErr result (λ error. error ≢ errors.Group
+        → (error ≡ errors.NoMemory) × MayBe servers nodes.now) }
+    ensures no_group { IfErr result (λ error. error ≡ errors.Group → MayNotBe servers nodes.now) }
+{
+    let world = group(alloc, servers, nodes)?;
+    let picture = picture_of(alloc, world, servers, nodes.len(), events, told)?;
+    Ok(picture)
 }
 
 fn group(alloc: Global, servers: usize, nodes: &[NodeSpec]) -> Result<World, DrawError>
@@ -80,11 +107,30 @@ fn group(alloc: Global, servers: usize, nodes: &[NodeSpec]) -> Result<World, Dra
     }
 }
 
-fn write_out<W: Write>(out: &mut W, picture: &str) -> Result<(), DrawError>
-    ensures ok { OnOk result (Appends (W.contents out.old) (W.contents out.new) picture.now) }
+// Writes a picture as a file of XML.
+fn write_picture<W: Write>(alloc: Global, out: &mut W, picture: &str) -> Result<(), DrawError>
+    ensures ok { OnOk result (Appends (W.contents out.old) (W.contents out.new)
+        (declaration ++ picture.now)) }
+    ensures group { IfErr result (λ error. error ≢ errors.Group) }
+    ensures left { IfErr result (λ error. error ≢ errors.Output → out.new ≡ out.old) }
+{
+    let file = file_of(alloc, picture)?;
+    write_out(out, file.as_str())
+}
+
+fn file_of(alloc: Global, picture: &str) -> Result<String, NoMemory>
+    ensures { IfOk result (λ file. string_bytes file ≡ declaration ++ picture.now) }
+{
+    let mut file = String::from_str(alloc, DECLARATION)?;
+    file.push_str(picture)?;
+    Ok(file)
+}
+
+fn write_out<W: Write>(out: &mut W, file: &str) -> Result<(), DrawError>
+    ensures ok { OnOk result (Appends (W.contents out.old) (W.contents out.new) file.now) }
     ensures err { IfErr result (λ error. error ≡ errors.Output) }
 {
-    match out.write_all(picture.as_bytes()) {
+    match out.write_all(file.as_bytes()) {
         Ok(()) => match out.flush() {
             Ok(()) => Ok(()),
             Err(_) => Err(DrawError::Output),
@@ -100,6 +146,7 @@ fn picture_of(
     servers: usize,
     clients: usize,
     events: &[Event],
+    told: &[String],
 ) -> Result<String, NoMemory>
     ensures { IfOk result (λ picture.
         IsRunPicture servers clients (length events.now) (string_bytes picture)) }
@@ -109,7 +156,8 @@ fn picture_of(
     record.take_all(alloc, &mut world, events)?;
     let layout = Layout::new(alloc, &record)?;
     let title = counts(alloc, &record)?;
-    let shapes = shapes_of(alloc, &record, &layout, world.sent(), events, &title)?;
+    let mut shapes = shapes_of(alloc, &record, &layout, world.sent(), events, &title)?;
+    draw_tips(alloc, &mut shapes, &record, &layout, told)?;
     whole(alloc, layout.size(), &title, &shapes)
 }
 
@@ -361,4 +409,73 @@ fn draw_rows(
         draw_row(alloc, shapes, record, layout, sent, row, step, event)?;
     }
     Ok(())
+}
+
+// What is told of the events, above all else, so that nothing keeps a pointer off it.
+fn draw_tips(
+    alloc: Global,
+    shapes: &mut Vec<Shape>,
+    record: &Record,
+    layout: &Layout,
+    told: &[String],
+) -> Result<(), NoMemory> {
+    let (width, _height) = layout.size();
+    put_tips(alloc, shapes, layout, width, record.steps.len(), told)
+}
+
+fn put_tips(
+    alloc: Global,
+    shapes: &mut Vec<Shape>,
+    layout: &Layout,
+    width: u64,
+    events: usize,
+    told: &[String],
+) -> Result<(), NoMemory>
+    ensures { OnOk result (Draws shapes.old.items shapes.new.items
+        (first_texts (tip_in layout.now width told.now) events)) }
+{
+    for row in 0..events {
+        put_tip(alloc, shapes, layout, width, row, told)?;
+    }
+    Ok(())
+}
+
+// What is told of the event in a row, over all its row.
+fn put_tip(
+    alloc: Global,
+    shapes: &mut Vec<Shape>,
+    layout: &Layout,
+    width: u64,
+    row: usize,
+    told: &[String],
+) -> Result<(), NoMemory>
+    ensures { OnOk result (Draws shapes.old.items shapes.new.items
+        (tip_in layout.now width told.now row)) }
+{
+    match told.get(row) {
+        Some(line) => put_line_tip(alloc, shapes, corner_of(layout, row), width, line.as_str()),
+        None => Ok(()),
+    }
+}
+
+// The upper left corner of the row of an event.
+fn corner_of(layout: &Layout, row: usize) -> Point
+    ensures { result ≡ row_corner layout.now row }
+{
+    let y = layout.y_of(row);
+    Point { x: 0, y }.up(11)
+}
+
+fn put_line_tip(
+    alloc: Global,
+    shapes: &mut Vec<Shape>,
+    corner: Point,
+    width: u64,
+    line: &str,
+) -> Result<(), NoMemory>
+    ensures { OnOk result (Draws shapes.old.items shapes.new.items
+        (tip_text corner width 22 line.now)) }
+{
+    let text = String::from_str(alloc, line)?;
+    put(shapes, Shape::Tip(corner, width, ROW, text))
 }

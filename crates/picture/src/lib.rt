@@ -16,7 +16,7 @@ mod row;
 mod shape;
 mod svg;
 
-pub use drawing::draw;
+pub use drawing::{draw, picture};
 pub use fault::DrawError;
 pub use input_label::event_label;
 pub use label::message_label;

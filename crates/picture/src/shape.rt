@@ -23,6 +23,9 @@ pub(crate) enum Shape {
     White(Point, u64, u64, Cover),
     /// The front of a text, at a point of its base line.
     Text(Point, Anchor, Ink, String),
+    /// An area that is not seen, its upper left corner, its width and its height, and the text that
+    /// is told where a pointer rests on it.
+    Tip(Point, u64, u64, String),
 }
 
 /// Puts an element above these.

@@ -1,6 +1,8 @@
 //! The picture, written: each element a line of SVG 1.1.
 ghost use Rattle.std.specs.Prelude.{◌≡◌, ◌++◌, OnOk, IfOk, string_bytes};
-ghost use Rattle.picture.specs.Inner.Shapes.{text_of, head_text, open_text, title_text, about_text, sheet_text, svg_text, line_text, bow_text, circle_text, white_text, words_text};
+ghost use Rattle.std.specs.List.{flat_map};
+ghost use Rattle.picture.specs.Pictures.{shown_byte};
+ghost use Rattle.picture.specs.Inner.Shapes.{text_of, head_text, open_text, title_text, about_text, sheet_text, svg_text, line_text, bow_text, circle_text, white_text, words_text, tip_text};
 
 use crate::escape::escaped;
 use crate::ink::{Anchor, Cover, Ink, Spot, Stroke};
@@ -53,8 +55,7 @@ fn opened(alloc: Global, width: u64, height: u64) -> Result<String, NoMemory>
     ensures { IfOk result (λ svg. string_bytes svg ≡ open_text width height) }
 {
     Ok(format!(in alloc;
-        "<?xml version=\"1.0\" encoding=\"UTF-8\"?>\n\
-        <svg xmlns=\"http://www.w3.org/2000/svg\" version=\"1.1\" \
+        "<svg xmlns=\"http://www.w3.org/2000/svg\" version=\"1.1\" \
         width=\"{width}\" height=\"{height}\" viewBox=\"0 0 {width} {height}\">\n"
     )?)
 }
@@ -94,6 +95,9 @@ fn push_shape(alloc: Global, svg: &mut String, shape: &Shape) -> Result<(), NoMe
             push_white(svg, *corner, *width, *height, *cover)
         }
         Shape::Text(at, anchor, ink, text) => push_text(alloc, svg, *at, *anchor, *ink, text),
+        Shape::Tip(corner, width, height, text) => {
+            push_tip(alloc, svg, *corner, *width, *height, text)
+        }
     }
 }
 
@@ -170,4 +174,31 @@ fn push_text(
         svg,
         "<text x=\"{x}\" y=\"{y}\" {end} {look}>{said}</text>\n"
     )?)
+}
+
+fn push_tip(
+    alloc: Global,
+    svg: &mut String,
+    corner: Point,
+    width: u64,
+    height: u64,
+    text: &str,
+) -> Result<(), NoMemory>
+    ensures { OnOk result (string_bytes svg.new
+        ≡ string_bytes svg.old ++ tip_text corner width height text.now) }
+{
+    let (x, y) = (corner.x, corner.y);
+    let told = all_escaped(alloc, text)?;
+    Ok(write!(
+        svg,
+        "<rect x=\"{x}\" y=\"{y}\" width=\"{width}\" height=\"{height}\" class=\"event\" \
+        pointer-events=\"all\"><title>{told}</title></rect>\n"
+    )?)
+}
+
+// All of a text, as it stands between tags.
+fn all_escaped(alloc: Global, text: &str) -> Result<String, NoMemory>
+    ensures { IfOk result (λ told. string_bytes told ≡ flat_map shown_byte text.now) }
+{
+    escaped(alloc, text, text.len())
 }

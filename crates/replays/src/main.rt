@@ -13,8 +13,11 @@ fn main(rt: HostRuntime) -> io::Result<()> {
     for name in &names {
         said::replay(&rt, rt, name)?;
     }
+    said::shorts(&rt, rt)?;
+    said::sweeps(&rt, rt)?;
     said::transcripts(&rt, rt)?;
     said::pictures(&rt, rt)?;
+    said::looks(&rt, rt)?;
     threads::elections(&rt, rt)?;
     threads::placements(&rt, rt)?;
     threads::nodes(&rt, rt)?;

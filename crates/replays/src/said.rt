@@ -1,7 +1,7 @@
 //! What the program says: of scenario files, of command lines, of texts that are no scenarios, and
 //! where its standard output fails.
 use crate::folder::{Folder, Output};
-use runner::nomadsim;
+use runner::{Unseen, nomadsim};
 use std::io::Write;
 use std::rt::Files;
 use std::sync::Wait;
@@ -16,7 +16,7 @@ pub(crate) struct Printed {
     pub(crate) status: u8,
 }
 
-pub(crate) fn run_words<R: Threads + Wait + Copy + Send + 'static>(
+pub(crate) fn run_words<R: Threads + Wait + Copy + Send + Sync + 'static>(
     rt: &HostRuntime,
     on: R,
     folder: &mut Folder<'_>,
@@ -26,7 +26,7 @@ pub(crate) fn run_words<R: Threads + Wait + Copy + Send + 'static>(
 }
 
 // What a command line says where the standard output takes so many bytes.
-fn run_to<R: Threads + Wait + Copy + Send + 'static>(
+fn run_to<R: Threads + Wait + Copy + Send + Sync + 'static>(
     rt: &HostRuntime,
     on: R,
     folder: &mut Folder<'_>,
@@ -39,7 +39,7 @@ fn run_to<R: Threads + Wait + Copy + Send + 'static>(
         bytes: Vec::new(alloc),
     };
     let mut err = Vec::new(alloc);
-    let status = nomadsim(on, alloc, words, folder, &mut out, &mut err);
+    let status = nomadsim(on, alloc, words, folder, &mut out, &mut err, &Unseen);
     let Output { left: _, bytes } = out;
     Printed {
         out: bytes,
@@ -72,7 +72,7 @@ pub(crate) fn behind_refusals(text: &[u8]) -> &[u8] {
 /// Plays the scenario `NAME.json`, which has to print `NAME.stdout`, and nothing on the standard
 /// error; and tells its exit status. Its transcript, played again, has to print the same but for
 /// the refused steps.
-pub(crate) fn replay<R: Threads + Wait + Copy + Send + 'static>(
+pub(crate) fn replay<R: Threads + Wait + Copy + Send + Sync + 'static>(
     rt: &HostRuntime,
     on: R,
     name: &str,
@@ -99,7 +99,7 @@ pub(crate) fn replay<R: Threads + Wait + Copy + Send + 'static>(
 
 /// Plays the scenario `NAME.json` of each line of `lessons`; its transcript has to be
 /// `NAME.transcript`.
-pub(crate) fn transcripts<R: Threads + Wait + Copy + Send + 'static>(
+pub(crate) fn transcripts<R: Threads + Wait + Copy + Send + Sync + 'static>(
     rt: &HostRuntime,
     on: R,
 ) -> io::Result<()> {
@@ -117,8 +117,93 @@ pub(crate) fn transcripts<R: Threads + Wait + Copy + Send + 'static>(
     Ok(())
 }
 
+/// Expands the short scenario `NAME.short` of each line of `shorts`; what comes, played, has to print
+/// `NAME.stdout`.
+pub(crate) fn shorts<R: Threads + Wait + Copy + Send + Sync + 'static>(
+    rt: &HostRuntime,
+    on: R,
+) -> io::Result<()> {
+    let alloc = rt.alloc();
+    let names = fs::read_to_string(rt, "shorts")?;
+    for name in names.lines() {
+        let file = format!(in alloc; "{name}.short")?;
+        let wanted = fs::read(rt, &format!(in alloc; "{name}.stdout")?)?;
+        let mut folder = Folder::new(rt, b"");
+        let plain = run_words(rt, on, &mut folder, &["nomadsim", "expand", file.as_str()]);
+        let mut folder = Folder::new(rt, &plain.out);
+        let played = run_words(rt, on, &mut folder, &["nomadsim", "run", "text.json"]);
+        println!(rt;
+            "short form of {name}: {}, status {} and {}",
+            foreseen(&played, &wanted),
+            plain.status,
+            played.status
+        )?;
+    }
+    Ok(())
+}
+
+/// Sweeps `bad-net` under ten keys, on one thread and on four; each row has to have the numbers of
+/// the last line that `run` prints under its key.
+pub(crate) fn sweeps<R: Threads + Wait + Copy + Send + Sync + 'static>(
+    rt: &HostRuntime,
+    on: R,
+) -> io::Result<()> {
+    let one = swept(rt, on, "1");
+    let four = swept(rt, on, "4");
+    let text = fs::read_to_string(rt, "bad-net.json")?;
+    let mut as_run = one.status == 0;
+    for line in std::str::from_utf8(&one.out).unwrap_or("").lines().skip(1) {
+        as_run = as_run && is_as_run(rt, on, text.as_str(), line)?;
+    }
+    println!(rt;
+        "sweep of bad-net: the same on one thread and on four, {}; as run says, {as_run}",
+        one.out == four.out
+    )
+}
+
+// The rows of ten keys, on so many threads.
+fn swept<R: Threads + Wait + Copy + Send + Sync + 'static>(
+    rt: &HostRuntime,
+    on: R,
+    jobs: &str,
+) -> Printed {
+    let words = [
+        "nomadsim",
+        "sweep",
+        "bad-net.json",
+        "--keys",
+        "14..23",
+        "--csv",
+        "--jobs",
+        jobs,
+    ];
+    run_words(rt, on, &mut Folder::new(rt, b""), &words)
+}
+
+// Whether `run` says of a scenario under the key of a row what the row says.
+fn is_as_run<R: Threads + Wait + Copy + Send + Sync + 'static>(
+    rt: &HostRuntime,
+    on: R,
+    text: &str,
+    line: &str,
+) -> io::Result<bool> {
+    let alloc = rt.alloc();
+    let words: Vec<&str> = line.split(',').collect(alloc)?;
+    let [key, _, _, _, _, _, events, messages] = words.as_slice() else {
+        return Ok(false);
+    };
+    let Some((front, back)) = text.split_once("\"key\": 18") else {
+        return Ok(false);
+    };
+    let own = format!(in alloc; "{front}\"key\": {key}{back}")?;
+    let mut folder = Folder::new(rt, own.as_bytes());
+    let played = run_words(rt, on, &mut folder, &["nomadsim", "run", "text.json"]);
+    let wanted = format!(in alloc; "\nevents {events} messages {messages}\n")?;
+    Ok(played.out.ends_with(wanted.as_bytes()))
+}
+
 /// Draws the transcript of each line of `pictures`; what comes has to be `NAME.svg`.
-pub(crate) fn pictures<R: Threads + Wait + Copy + Send + 'static>(
+pub(crate) fn pictures<R: Threads + Wait + Copy + Send + Sync + 'static>(
     rt: &HostRuntime,
     on: R,
 ) -> io::Result<()> {
@@ -138,8 +223,40 @@ pub(crate) fn pictures<R: Threads + Wait + Copy + Send + 'static>(
     Ok(())
 }
 
+/// Plays each line of `looks`, the name of a file and a command line: what the program prints has to
+/// be that file.
+pub(crate) fn looks<R: Threads + Wait + Copy + Send + Sync + 'static>(
+    rt: &HostRuntime,
+    on: R,
+) -> io::Result<()> {
+    let lines = fs::read_to_string(rt, "looks")?;
+    for line in lines.lines() {
+        let Some((name, command)) = line.split_once(' ') else {
+            continue;
+        };
+        look(rt, on, name, command)?;
+    }
+    Ok(())
+}
+
+fn look<R: Threads + Wait + Copy + Send + Sync + 'static>(
+    rt: &HostRuntime,
+    on: R,
+    name: &str,
+    command: &str,
+) -> io::Result<()> {
+    let wanted = fs::read(rt, name)?;
+    let words: Vec<&str> = command.split_whitespace().collect(rt.alloc())?;
+    let printed = run_words(rt, on, &mut Folder::new(rt, b""), &words);
+    println!(rt;
+        "{command}: {}, status {}",
+        foreseen(&printed, &wanted),
+        printed.status
+    )
+}
+
 /// Plays each line of `no-transcripts`, a `/` in it being a line's end, as a transcript.
-pub(crate) fn no_transcripts<R: Threads + Wait + Copy + Send + 'static>(
+pub(crate) fn no_transcripts<R: Threads + Wait + Copy + Send + Sync + 'static>(
     rt: &HostRuntime,
     on: R,
 ) -> io::Result<()> {
@@ -156,7 +273,7 @@ pub(crate) fn no_transcripts<R: Threads + Wait + Copy + Send + 'static>(
 }
 
 // What a command line says on the standard output, then on the standard error; and its exit status.
-fn say<R: Threads + Wait + Copy + Send + 'static>(
+fn say<R: Threads + Wait + Copy + Send + Sync + 'static>(
     rt: &HostRuntime,
     on: R,
     line: &str,
@@ -171,7 +288,7 @@ fn say<R: Threads + Wait + Copy + Send + 'static>(
 }
 
 /// Plays each line of `command-lines` as a command line.
-pub(crate) fn command_lines<R: Threads + Wait + Copy + Send + 'static>(
+pub(crate) fn command_lines<R: Threads + Wait + Copy + Send + Sync + 'static>(
     rt: &HostRuntime,
     on: R,
 ) -> io::Result<()> {
@@ -185,7 +302,7 @@ pub(crate) fn command_lines<R: Threads + Wait + Copy + Send + 'static>(
 
 /// Plays each line of `no-scenarios` as a scenario's text, the first being line 1. What is behind
 /// the last line break is one too, and is empty.
-pub(crate) fn texts<R: Threads + Wait + Copy + Send + 'static>(
+pub(crate) fn texts<R: Threads + Wait + Copy + Send + Sync + 'static>(
     rt: &HostRuntime,
     on: R,
 ) -> io::Result<()> {
@@ -200,7 +317,7 @@ pub(crate) fn texts<R: Threads + Wait + Copy + Send + 'static>(
 
 // The exit status of a command line with a standard output that takes so many bytes; and what it
 // says on the standard error.
-fn fail<R: Threads + Wait + Copy + Send + 'static>(
+fn fail<R: Threads + Wait + Copy + Send + Sync + 'static>(
     rt: &HostRuntime,
     on: R,
     words: &[&str],
@@ -213,7 +330,7 @@ fn fail<R: Threads + Wait + Copy + Send + 'static>(
 
 /// Plays the scenario `one-refused`, checks `node-too-small`, which has notes, and asks for help,
 /// with a standard output that fails after each number of bytes.
-pub(crate) fn outputs<R: Threads + Wait + Copy + Send + 'static>(
+pub(crate) fn outputs<R: Threads + Wait + Copy + Send + Sync + 'static>(
     rt: &HostRuntime,
     on: R,
 ) -> io::Result<()> {
@@ -227,6 +344,11 @@ pub(crate) fn outputs<R: Threads + Wait + Copy + Send + 'static>(
     println!(rt;)?;
     for left in 0..100 {
         fail(rt, on, &["nomadsim", "--help"], left)?;
+    }
+    println!(rt;)?;
+    for left in 0..=270 {
+        let words = ["nomadsim", "inspect", "election.transcript", "--at", "0"];
+        fail(rt, on, &words, left)?;
     }
     println!(rt;)
 }

@@ -83,7 +83,7 @@ events 22 messages 14
 // How many times each is played; each time the threads may meet in another order.
 const TIMES: u32 = 20;
 
-fn is_elected<R: Threads + Wait + Copy + Send + 'static>(
+fn is_elected<R: Threads + Wait + Copy + Send + Sync + 'static>(
     rt: &HostRuntime,
     on: R,
     words: &[&str],
@@ -93,7 +93,7 @@ fn is_elected<R: Threads + Wait + Copy + Send + 'static>(
 }
 
 /// Plays the first election, and says how often it came to the lines that it has to come to.
-pub(crate) fn elections<R: Threads + Wait + Copy + Send + 'static>(
+pub(crate) fn elections<R: Threads + Wait + Copy + Send + Sync + 'static>(
     rt: &HostRuntime,
     on: R,
 ) -> io::Result<()> {
@@ -114,7 +114,7 @@ pub(crate) fn elections<R: Threads + Wait + Copy + Send + 'static>(
 
 /// Plays an election with two refused steps, and says how often it named them at once and answered
 /// that a step was refused.
-pub(crate) fn refusals<R: Threads + Wait + Copy + Send + 'static>(
+pub(crate) fn refusals<R: Threads + Wait + Copy + Send + Sync + 'static>(
     rt: &HostRuntime,
     on: R,
 ) -> io::Result<()> {
@@ -137,7 +137,7 @@ fn is_said(printed: &Printed, wanted: &[u8]) -> bool {
 
 /// Plays compactions, a snapshot that is sent and a restart, and says how often they came to the
 /// lines that they have to come to, and how often the transcript, played again, did.
-pub(crate) fn compactions<R: Threads + Wait + Copy + Send + 'static>(
+pub(crate) fn compactions<R: Threads + Wait + Copy + Send + Sync + 'static>(
     rt: &HostRuntime,
     on: R,
 ) -> io::Result<()> {
@@ -172,7 +172,7 @@ fn says(out: &[u8], line: &[u8]) -> bool {
 
 /// Plays a job's way to its nodes, of which the workers go theirs by themselves, and says how often
 /// the leader and the allocations stood as they have to.
-pub(crate) fn placements<R: Threads + Wait + Copy + Send + 'static>(
+pub(crate) fn placements<R: Threads + Wait + Copy + Send + Sync + 'static>(
     rt: &HostRuntime,
     on: R,
 ) -> io::Result<()> {
@@ -201,7 +201,7 @@ fn crowding(rt: &HostRuntime) -> Result<Vec<u8>, AllocError> {
 
 /// Plays heartbeats until some find no room, and says whether the standard error was told of that
 /// in one line, with status 0.
-pub(crate) fn losses<R: Threads + Wait + Copy + Send + 'static>(
+pub(crate) fn losses<R: Threads + Wait + Copy + Send + Sync + 'static>(
     rt: &HostRuntime,
     on: R,
 ) -> io::Result<()> {
@@ -254,7 +254,7 @@ fn on_a_bad_net(rt: &HostRuntime, name: &str) -> io::Result<Vec<u8>> {
 
 /// Plays the scenario of each line of `lessons` on a bad net; its transcript, played again, has to
 /// print the same but for the refused steps.
-pub(crate) fn replayed<R: Threads + Wait + Copy + Send + 'static>(
+pub(crate) fn replayed<R: Threads + Wait + Copy + Send + Sync + 'static>(
     rt: &HostRuntime,
     on: R,
 ) -> io::Result<()> {
@@ -275,7 +275,7 @@ pub(crate) fn replayed<R: Threads + Wait + Copy + Send + 'static>(
 
 /// Plays a group whose nodes differ, and says whether its transcript has them, each under its own
 /// number.
-pub(crate) fn nodes<R: Threads + Wait + Copy + Send + 'static>(
+pub(crate) fn nodes<R: Threads + Wait + Copy + Send + Sync + 'static>(
     rt: &HostRuntime,
     on: R,
 ) -> io::Result<()> {

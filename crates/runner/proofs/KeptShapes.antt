@@ -13,13 +13,12 @@ use Rattle.world.specs.declared.done.Done.TheVariants.{Crashed, Taken}
 use Rattle.world.specs.GroupSteps.{IsGroupDone, SameView}
 use Rattle.world.specs.GroupView.{GroupView, node_in, nodes_of}
 use Rattle.scenario_file.specs.Steps.{AnEvent, Flow, Step, Work}
-use Rattle.runner.specs.declared.play.Play.{Play}
-use Rattle.runner.specs.Told.{Refused}
-use Rattle.runner.specs.Inner.Flows.{ManyPassed, MeetsFate, OnePassed, words_left}
-use Rattle.runner.specs.Inner.PlayEvents.{EventRefused, EventTaken, fetched_at, server_of}
-use Rattle.runner.specs.Inner.PlaySteps.{StepRefused, StepTaken}
-use Rattle.runner.specs.Inner.PlayWork.{AskRefused, AskTaken, WorkRefused, WorkTaken}
-use Rattle.runner.specs.Inner.Played.{LinePlayed, LinesPlayed}
+use Rattle.playing.specs.declared.play.Play.{Play}
+use Rattle.playing.specs.Flows.{ManyPassed, MeetsFate, OnePassed, words_left}
+use Rattle.playing.specs.PlayEvents.{EventRefused, EventTaken, fetched_at, server_of}
+use Rattle.playing.specs.PlaySteps.{StepRefused, StepTaken}
+use Rattle.playing.specs.PlayWork.{AskRefused, AskTaken, WorkRefused, WorkTaken}
+use Rattle.playing.specs.Played.{LinePlayed, LinesPlayed, Refused}
 
 -- how many servers a group has, and its clients' nodes
 record Shape : Type 0 where

@@ -1,5 +1,3 @@
-pub mod Numbers
-pub mod GoodSteps
 pub mod Reasons
 pub mod Refusals
 pub mod Stages
@@ -7,4 +5,3 @@ pub mod Replays
 pub mod KeptShapes
 pub mod Tellings
 pub mod Seats
-pub mod Plays

@@ -5,7 +5,8 @@ use Rattle.std.specs.List.{flat_map}
 use Rattle.std.proofs.KnownBytes.{Appends-trans}
 use Rattle.std.proofs.lemmas.Grind.{flat_map-append}
 use Rattle.std.proofs.lemmas.List.{append-nil}
-use Rattle.runner.specs.Told.{Refused, TellsRefusals, refused_line, status_of}
+use Rattle.playing.specs.Played.{Refused}
+use Rattle.runner.specs.Told.{TellsRefusals, refused_line, status_of}
 
 one_refused : (refused : List Refused) (one : Refused) → 1 ≡ status_of (refused ++ one ∷ [])
 one_refused [] one = refl

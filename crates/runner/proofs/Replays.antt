@@ -14,7 +14,8 @@ use Rattle.transcript.specs.Inner.Printable.{IsPrintable}
 use Rattle.transcript.specs.Transcripts.{AreNumberedFrom, IsTranscript, Recorded, lines_text, node_line, servers_line}
 use Rattle.transcript.proofs.Lines.{group_printable}
 use Rattle.transcript.proofs.Printable.{node_printable}
-use Rattle.runner.specs.Told.{EventPlayed, EventsPlayed, Refused, refusal_line}
+use Rattle.playing.specs.Played.{Refused}
+use Rattle.runner.specs.Told.{EventPlayed, EventsPlayed, refusal_line}
 use Rattle.runner.specs.Inner.Replayed.{TellsEvents}
 use Rattle.runner.proofs.Refusals.{one_more_refused}
 

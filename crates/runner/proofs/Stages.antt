@@ -6,24 +6,13 @@ use Rattle.std.proofs.lemmas.List.{append-nil, map-append, take_more}
 use Rattle.rows.specs.declared.refusal.Refusal.{Refusal}
 use Rattle.scenario_file.specs.EachLine.{OfEachLine}
 use Rattle.scenario_file.specs.Steps.{IsLine, Step}
-use Rattle.runner.specs.Told.{MayRefuse, Refused, refusal_line}
-use Rattle.runner.specs.Inner.Played.{LinePlayed, LinesPlayed, TellsLines, TellsSteps}
+use Rattle.playing.specs.Played.{LinePlayed, LinesPlayed, Refused}
+use Rattle.playing.proofs.Steps.{one_more_line, one_more_played}
+use Rattle.runner.specs.Told.{MayRefuse, refusal_line}
+use Rattle.runner.specs.Inner.Played.{TellsLines, TellsSteps}
 use Rattle.runner.proofs.Refusals.{one_more_refused}
 
-one_more_line : (steps : List (String Global)) (i : ℕ) (line : String Global) → i < length steps → line ≡ get_or steps i line
-    → map string_bytes (take (i + 1) steps) ≡ map string_bytes (take i steps) ++ string_bytes line ∷ []
-one_more_line steps i line inside at =
-    let taken : take (i + 1) steps ≡ take i steps ++ line ∷ [] = take_more steps i line inside ∙ ap (λ x. take i steps ++ x ∷ []) (sym at) in
-    rw taken (map-append string_bytes (take i steps) (line ∷ []))
-
 module _ {S : Type 0} (Takes : Step → S → S → Type 0) (Refuses : Step → S → Refusal → S → Type 0) where
-  one_more_played : (lines : List (List ℕ)) (line : List ℕ) (old mid new : S) (refused own : List Refused)
-      → LinesPlayed Takes Refuses lines old refused mid → LinePlayed Takes Refuses line mid own new → LinesPlayed Takes Refuses (lines ++ line ∷ []) old (refused ++ own) new
-  one_more_played [] line old mid new refused own played is =
-      (own, [], new, ap (λ xs. xs ++ own) played.0 ∙ sym (append-nil own), subst (λ s. LinePlayed Takes Refuses line s own new) played.1 is, (refl, refl))
-  one_more_played (first ∷ lines) line old mid new refused own played is =
-      (played.0, played.1 ++ own, played.2, ap (λ xs. xs ++ own) played.3 ∙ append_assoc played.0 played.1 own, played.4, one_more_played lines line played.2 mid new played.1 own played.5 is)
-
   module _ (steps : List (String Global)) (i : ℕ) (line : String Global) (inside : i < length steps) (at : line ≡ get_or steps i line)
       (step : Step) (named : IsLine step (string_bytes line)) (old mid new : S) (status : ℕ) where
     pub step_taken : (before after : Option (List ℕ)) → Takes step mid new → TellsLines Takes Refuses (map string_bytes (take i steps)) old mid status before after
@@ -31,7 +20,7 @@ module _ {S : Type 0} (Takes : Step → S → S → Type 0) (Refuses : Step → 
     step_taken before after takes (refused, played, told) = rw (one_more_line steps i line inside at) (
       refused,
       subst (λ all. LinesPlayed Takes Refuses (map string_bytes (take i steps) ++ string_bytes line ∷ []) old all new) (append-nil refused)
-          (one_more_played _ (string_bytes line) old mid new refused [] played (record { step = step; named = named; became = inl (takes, refl) })),
+          (one_more_played Takes Refuses _ (string_bytes line) old mid new refused [] played (record { step = step; named = named; became = inl (takes, refl) })),
       told,
     )
 
@@ -41,7 +30,7 @@ module _ {S : Type 0} (Takes : Step → S → S → Type 0) (Refuses : Step → 
     step_refused refusal before between after refuses (refused, played, told) more =
         rw (one_more_line steps i line inside at) (
           refused ++ (refusal, string_bytes line) ∷ [],
-          one_more_played _ (string_bytes line) old mid new refused ((refusal, string_bytes line) ∷ []) played
+          one_more_played Takes Refuses _ (string_bytes line) old mid new refused ((refusal, string_bytes line) ∷ []) played
               (record { step = step; named = named; became = inr (refusal, refuses, refl) }),
           one_more_refused refused status (refusal, string_bytes line) before between after told more,
         )

@@ -17,9 +17,9 @@ use Rattle.runner.specs.Told.{TellsScenario, TellsThreads}
 use Rattle.runner.specs.Inner.Closed.{TellsClosed, TellsOnThreads}
 use Rattle.runner.specs.Inner.Faults.{IsFound}
 use Rattle.runner.specs.Inner.Played.{TellsPlay}
-use Rattle.runner.specs.Inner.PlaySteps.{StepRefused, StepTaken}
+use Rattle.playing.specs.PlaySteps.{StepRefused, StepTaken}
 use Rattle.runner.specs.declared.fault.Fault.{Fault}
-use Rattle.runner.specs.declared.fault.Fault.TheVariants.{CommandLine, CannotRead, CannotWrite, BadScenario, BadTranscript, NoMemory, Output}
+use Rattle.runner.specs.declared.fault.Fault.TheVariants.{CommandLine, CannotRead, CannotWrite, BadScenario, BadTranscript, NoSuchEvent, Percentages, NoMemory, Output}
 use Rattle.runner.proofs.KeptShapes.{nodes_stay, size_stays}
 use Rattle.runner.proofs.Stages.{each_may_refuse}
 
@@ -90,5 +90,7 @@ help_is_told found (CannotRead name) status is (inr two) few = absurd (omega (ar
 help_is_told found (CannotWrite name) status is (inr two) few = absurd (omega (arith, two, few))
 help_is_told found BadScenario status is (inr two) few = absurd (omega (arith, two, few))
 help_is_told found (BadTranscript place) status is (inr two) few = absurd (omega (arith, two, few))
+help_is_told found (NoSuchEvent events) status is (inr two) few = absurd (omega (arith, two, few))
+help_is_told found (Percentages lost repeated) status is (inr two) few = absurd (omega (arith, two, few))
 help_is_told found NoMemory status is (inr three) few = absurd (omega (arith, three, few))
 help_is_told found Output status is (inr two) few = absurd (omega (arith, two, few))

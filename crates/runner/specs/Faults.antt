@@ -4,7 +4,7 @@ use Rattle.clap.specs.Words.{IsAmong, Kinds, kind_of}
 use Rattle.clap.specs.declared.error.Error.{Error}
 use Rattle.clap.specs.declared.error.kind.ErrorKind.TheVariants as kinds
 use Rattle.runner.specs.declared.fault.Fault.{Fault}
-use Rattle.runner.specs.declared.fault.Fault.TheVariants.{CommandLine, CannotRead, CannotWrite, BadScenario, BadTranscript, NoMemory, Output}
+use Rattle.runner.specs.declared.fault.Fault.TheVariants.{CommandLine, CannotRead, CannotWrite, BadScenario, BadTranscript, NoSuchEvent, Percentages, NoMemory, Output}
 
 -- the words ask for help, or for the version
 abbrev pub IsHelp : Error → Type 0
@@ -16,6 +16,8 @@ IsStatus (CannotRead name) status = status ≡ 2
 IsStatus (CannotWrite name) status = status ≡ 2
 IsStatus BadScenario status = status ≡ 2
 IsStatus (BadTranscript place) status = status ≡ 2
+IsStatus (NoSuchEvent events) status = status ≡ 2
+IsStatus (Percentages lost repeated) status = status ≡ 2
 IsStatus NoMemory status = status ≡ 3
 IsStatus Output status = status ≡ 2
 

@@ -1,5 +1,5 @@
 -- What the program tells at exit status 0 and 1.
-use Rattle.std.specs.Prelude.{◌≡◌, ◌⊎◌, ◌++◌, ◌∷◌, ℕ, List, [], Option, IfSome, codes, decimal, length, option_and_then, option_map}
+use Rattle.std.specs.Prelude.{◌≡◌, ◌⊎◌, ◌++◌, ◌∷◌, ◌+◌, ◌≤◌, ℕ, Bool, true, false, List, [], Option, None, Some, IfSome, codes, decimal, length, option_and_then, option_map, unwrap_or}
 use Rattle.std.specs.Io.KnownBytes.{Appends}
 use Rattle.std.specs.List.{flat_map}
 use Rattle.rows.specs.declared.actor.Actor.{Actor}
@@ -13,17 +13,27 @@ use Rattle.cells.specs.Cells.{CellView}
 use Rattle.closing.specs.Closing.{ClosesTo}
 use Rattle.transcript.specs.EventLines.{event_line}
 use Rattle.transcript.specs.Transcripts.{IsTranscript, Recorded, record_of}
+use Rattle.page.specs.Pages.{GrowsByPage}
 use Rattle.picture.specs.Pictures.{GrowsByPicture}
+use Rattle.inspection.specs.Told.{GrowsByEventLines, GrowsByLines}
 use Rattle.ending.specs.Endings.{TellsEnding}
 use Rattle.command_line.specs.Words.{AskFor, words_fault}
 use Rattle.command_line.specs.declared.command.CommandLine.{CommandLine}
-use Rattle.command_line.specs.declared.command.CommandLine.TheVariants.{Run, Threads, Replay, Draw, Check}
+use Rattle.command_line.specs.declared.command.CommandLine.TheVariants.{Run, Threads, Replay, Draw, Check, Tell, Inspect, Expand, Sweep}
+use Rattle.command_line.specs.declared.command.SweepWords.{SweepWords}
 use Rattle.scenario_file.specs.declared.noting.Note.{Note}
 use Rattle.scenario_file.specs.declared.scenario.Scenario.{Scenario}
+use Rattle.scenario_file.specs.declared.scenario.Settings.{Settings}
 use Rattle.scenario_file.specs.Complaints.{IsGood, IsGoodText}
 use Rattle.scenario_file.specs.EachLine.{OfEachLine}
 use Rattle.scenario_file.specs.Notes.{AreNotes, note_text}
 use Rattle.scenario_file.specs.Objects.{IsScenarioText, step_lines}
+use Rattle.playing.specs.Played.{Refused}
+use Rattle.sweep.specs.declared.row.Row.{Row}
+use Rattle.sweep.specs.declared.summary.Summary.{Summary}
+use Rattle.sweep.specs.Rows.{AreRows}
+use Rattle.sweep.specs.Summaries.{IsSummary}
+use Rattle.sweep.specs.Tables.{csv_text, summary_text}
 use Rattle.runner.specs.Faults.{AskForHelp}
 
 -- ---- refusals
@@ -31,10 +41,6 @@ use Rattle.runner.specs.Faults.{AskForHelp}
 -- the line of a refusal, of the line of a step or an event
 abbrev pub refusal_line : Refusal → List ℕ → List ℕ
 refusal_line refusal line = codes "refused " ++ decimal (number_of refusal) ++ 32 ∷ line ++ 10 ∷ []
-
--- a refusal, and the line of what is refused
-abbrev pub Refused : Type 0
-Refused = Refusal × List ℕ
 
 abbrev pub refused_line : Refused → List ℕ
 refused_line refused = refusal_line refused.0 refused.1
@@ -114,11 +120,38 @@ pub record TellsReplay (file : Option (List ℕ)) (status : ℕ) (old new : Opti
   pub played : EventsPlayed recorded.events first refused last
   pub told : TellsRun refused last status old new
 
--- a transcript was drawn: that of the file, where its bytes are known
-pub record TellsPicture (file : Option (List ℕ)) (status : ℕ) (old new : Option (List ℕ)) : Type 0 where
+-- the output grows by a page of a run of so many servers, clients and events, or by a picture
+abbrev pub ShowsRun : Bool → ℕ → ℕ → ℕ → Option (List ℕ) → Option (List ℕ) → Type 0
+ShowsRun true servers clients events old new = GrowsByPage servers clients events old new
+ShowsRun false servers clients events old new = GrowsByPicture servers clients events old new
+
+-- a transcript was drawn, as a page or as a picture: that of the file, where its bytes are known
+pub record TellsPicture (file : Option (List ℕ)) (html : Bool) (status : ℕ) (old new : Option (List ℕ)) : Type 0 where
   pub recorded : Recorded
   pub read : IfSome file (IsTranscript recorded)
-  pub picture : GrowsByPicture recorded.servers (length recorded.nodes) (length recorded.events) old new
+  pub picture : ShowsRun html recorded.servers (length recorded.nodes) (length recorded.events) old new
+  pub taken : status ≡ 0
+
+-- a transcript was told event by event: that of the file, where its bytes are known
+pub record TellsEach (file : Option (List ℕ)) (status : ℕ) (old new : Option (List ℕ)) : Type 0 where
+  pub recorded : Recorded
+  pub read : IfSome file (IsTranscript recorded)
+  pub lines : GrowsByEventLines (length recorded.events) old new
+  pub taken : status ≡ 0
+
+-- after how many of so many events, by what was given: after all, where nothing was
+abbrev pub IsAfter : Option (List ℕ) → ℕ → ℕ → Type 0
+IsAfter None all after = after ≡ all
+IsAfter (Some word) all after = (word ≡ decimal after) × (after ≤ all)
+
+-- it was told how a transcript's group stands: that of the file, where its bytes are known, after as
+-- many of its events as were asked for
+pub record TellsStanding (file at : Option (List ℕ)) (status : ℕ) (old new : Option (List ℕ)) : Type 0 where
+  pub recorded : Recorded
+  pub read : IfSome file (IsTranscript recorded)
+  pub after : ℕ
+  pub asked : IsAfter at (length recorded.events) after
+  pub lines : GrowsByLines old new
   pub taken : status ≡ 0
 
 -- ---- notes
@@ -140,6 +173,44 @@ pub record TellsNotes (file : Option (List ℕ)) (status : ℕ) (old new : Optio
   pub notes : ShowsNotes text old new
   pub taken : status ≡ 0
 
+-- ---- short scenarios
+
+-- the text is a scenario, each of whose lines is a step's
+abbrev pub IsGoodPlain : List ℕ → Type 0
+IsGoodPlain text = (s : Scenario) × IsScenarioText text s × IsGood s
+
+-- the output grows by such a text
+abbrev pub TellsPlain : ℕ → Option (List ℕ) → Option (List ℕ) → Type 0
+TellsPlain status old new = (text : List ℕ) × IsGoodPlain text × Appends old new text × (status ≡ 0)
+
+-- ---- many keys
+
+-- a scenario's settings, but for what the words of a sweep say in their place
+pub record IsUnder (own : Settings) (words : SweepWords) (settings : Settings) : Type 0 where
+  pub said : settings ≡ record own { drop = unwrap_or words.drop own.drop; repeat = unwrap_or words.repeat own.repeat }
+  pub within : settings.drop + settings.repeat ≤ 100
+
+-- the output grows by a line for each of these runs; or by what they come to, of no run by nothing
+abbrev pub ShowsRows : Bool → Settings → List Row → Option (List ℕ) → Option (List ℕ) → Type 0
+ShowsRows true settings rows old new = Appends old new (csv_text rows)
+ShowsRows false settings rows old new =
+    ((rows ≡ []) × (new ≡ old))
+    ⊎ ((s : Summary) × IsSummary rows s × Appends old new (summary_text settings s))
+
+-- A scenario was played under many keys, each of whose lines is a step's: that of the file, where
+-- its bytes are known. There is a row for each key, which says how the run under that key ended; told
+-- is each of them, or what they come to.
+pub record TellsSweep (file : Option (List ℕ)) (words : SweepWords) (status : ℕ) (old new : Option (List ℕ)) : Type 0 where
+  pub scenario : Scenario
+  pub read : IfSome file (λ text. IsScenarioText text scenario)
+  pub good : IsGood scenario
+  pub settings : Settings
+  pub under : IsUnder scenario.settings words settings
+  pub rows : List Row
+  pub are : AreRows scenario settings words.keys.first words.keys.count rows
+  pub shown : ShowsRows words.csv settings rows old new
+  pub taken : status ≡ 0
+
 -- ---- the program
 
 -- what is told of what a line asks for, `before` and `after` being the known files
@@ -149,8 +220,13 @@ Tells before after (Run file out) status old new =
 Tells before after (Threads file workers out) status old new =
     TellsThreads (before file.now) (option_and_then after (option_map (λ t. t.now) out)) status old new
 Tells before after (Replay file) status old new = TellsReplay (before file.now) status old new
-Tells before after (Draw file) status old new = TellsPicture (before file.now) status old new
+Tells before after (Draw file html) status old new = TellsPicture (before file.now) html status old new
 Tells before after (Check file) status old new = TellsNotes (before file.now) status old new
+Tells before after (Tell file) status old new = TellsEach (before file.now) status old new
+Tells before after (Inspect file at json) status old new =
+    TellsStanding (before file.now) (option_map (λ k. k.now) at) status old new
+Tells before after (Expand file) status old new = TellsPlain status old new
+Tells before after (Sweep file words) status old new = TellsSweep (before file.now) words status old new
 
 -- the words ask for help, and the status is 0; or that is told for which they ask
 abbrev pub TellsFor : List (List ℕ) → (before after : List ℕ → Option (List ℕ)) → ℕ → Option (List ℕ) → Option (List ℕ) → Type 0

@@ -28,6 +28,13 @@ pub enum Fault<'a> {
     /// at fault, from 0.
     #[error("nomadsim: bad transcript at byte {0}\n")]
     BadTranscript(usize),
+    /// No number of events from 0 to that of the transcript, which this is, was given.
+    #[error("nomadsim: --at has to be a whole number from 0 to {0}\n")]
+    NoSuchEvent(usize),
+    /// So many of a hundred messages are to be lost, and so many to come again, which is more than a
+    /// hundred together.
+    #[error("nomadsim: drop {0} and repeat {1} are over 100 together\n")]
+    Percentages(u8, u8),
     /// There was no memory.
     #[error("nomadsim: no memory\n")]
     NoMemory,
@@ -72,6 +79,8 @@ impl Fault<'_> {
             Fault::CannotWrite(_) => 2,
             Fault::BadScenario => 2,
             Fault::BadTranscript(_) => 2,
+            Fault::NoSuchEvent(_) => 2,
+            Fault::Percentages(_, _) => 2,
             Fault::NoMemory => 3,
             Fault::Output => 2,
         }

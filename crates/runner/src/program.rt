@@ -8,10 +8,14 @@ ghost use Rattle.runner.specs.Inner.Faults.{IsFound, IsOfRun};
 ghost use Rattle.runner.specs.declared.fault.Fault.TheVariants.{Output};
 
 use crate::checking::check_file;
+use crate::drawing::draw_file;
+use crate::expanding::expand_file;
 use crate::fault::Fault;
-use crate::replaying::{draw_file, replay_file};
+use crate::replaying::replay_file;
 use crate::running::run_file;
+use crate::seeing::{inspect_file, tell_file};
 use crate::shelf::Shelf;
+use crate::sweeping::sweep_file;
 use crate::threads::threads_file;
 use clap::error::ErrorKind;
 use command_line::command::{CommandLine, command};
@@ -19,6 +23,7 @@ use std::alloc::Global;
 use std::io::Write;
 use std::sync::Wait;
 use std::thread::Threads;
+use sweep::sweeping::Progress;
 
 /// Runs the program on the words of its command line, of which the first is its own name, and
 /// answers its exit status: 0 where every step was taken, 1 where one was refused, 2 for a bad
@@ -30,17 +35,20 @@ use std::thread::Threads;
 /// - `quiet`: at status 0 and 1 the standard error is told nothing, but under `threads` how many
 ///   messages were lost.
 ///
+/// `sweep` tells `progress` how far it is, and nothing else does.
+///
 /// Under `threads` it starts threads and waits for them, so that its return is not claimed.
-pub fn nomadsim<'a, R, F: Shelf, W: Write, E: Write>(
+pub fn nomadsim<'a, R, F: Shelf, W: Write, E: Write, P: Progress + Sync>(
     rt: R,
     alloc: Global,
     words: &'a [&'a str],
     shelf: &mut F,
     out: &mut W,
     err: &mut E,
+    progress: &P,
 ) -> u8
 where
-    R: Threads + Wait + Copy + Send + 'static,
+    R: Threads + Wait + Copy + Send + Sync + 'static,
     ensures most { result ≤ 3 }
     ensures exit { IsExit (words_fault (map (λ w. w.now) words.entry.now)) result }
     ensures told { result ≤ 1 → TellsFor (map (λ w. w.now) words.entry.now) (F.file shelf.old)
@@ -50,7 +58,7 @@ where
     ensures played { result ≡ 1 → AskForPlay (map (λ w. w.now) words.entry.now) }
     ensures unread { words_fault (map (λ w. w.now) words.entry.now) ≢ [] → shelf.new ≡ shelf.old }
 {
-    match run(rt, alloc, words, shelf, out, err) {
+    match run(rt, alloc, words, shelf, out, err, progress) {
         Ok(status) => status,
         Err(fault) => report(&fault, out, err),
     }
@@ -80,16 +88,17 @@ fn report<W: Write, E: Write>(fault: &Fault<'_>, out: &mut W, err: &mut E) -> u8
     status
 }
 
-fn run<'a, R, F: Shelf, W: Write, E: Write>(
+fn run<'a, R, F: Shelf, W: Write, E: Write, P: Progress + Sync>(
     rt: R,
     alloc: Global,
     words: &'a [&'a str],
     shelf: &mut F,
     out: &mut W,
     err: &mut E,
+    progress: &P,
 ) -> Result<u8, Fault<'a>>
 where
-    R: Threads + Wait + Copy + Send + 'static,
+    R: Threads + Wait + Copy + Send + Sync + 'static,
     ensures ok { IfOk result (λ status. (status ≤ 1)
         × (words_fault (map (λ w. w.now) words.entry.now) ≡ [])) }
     ensures err { IfErr result (IsFound (words_fault (map (λ w. w.now) words.entry.now))) }
@@ -101,23 +110,24 @@ where
     ensures unread { words_fault (map (λ w. w.now) words.entry.now) ≢ [] → shelf.new ≡ shelf.old }
 {
     match command(alloc, words) {
-        Ok(line) => obey(rt, alloc, line, shelf, out, err),
+        Ok(line) => obey(rt, alloc, line, shelf, out, err, progress),
         Err(error) if error.kind() == ErrorKind::OutOfMemory => Err(Fault::NoMemory),
         Err(error) => Err(Fault::CommandLine(error)),
     }
 }
 
 // Does what the command line asks for.
-fn obey<'a, R, F: Shelf, W: Write, E: Write>(
+fn obey<'a, R, F: Shelf, W: Write, E: Write, P: Progress + Sync>(
     rt: R,
     alloc: Global,
     line: CommandLine<'a>,
     shelf: &mut F,
     out: &mut W,
     err: &mut E,
+    progress: &P,
 ) -> Result<u8, Fault<'a>>
 where
-    R: Threads + Wait + Copy + Send + 'static,
+    R: Threads + Wait + Copy + Send + Sync + 'static,
     ensures ok { IfOk result (λ status. status ≤ 1) }
     ensures told { IfOk result (λ status. Tells (F.file shelf.old) (F.file shelf.new) line.entry
         status (W.contents out.old) (W.contents out.new)) }
@@ -133,7 +143,15 @@ where
             out: to,
         } => threads_file(rt, alloc, shelf, out, err, file, workers, to),
         CommandLine::Replay { file } => replay_file(alloc, shelf, out, file),
-        CommandLine::Draw { file } => draw_file(alloc, shelf, out, file),
+        CommandLine::Draw { file, html } => draw_file(alloc, shelf, out, file, html),
         CommandLine::Check { file } => check_file(alloc, shelf, out, file),
+        CommandLine::Tell { file } => tell_file(alloc, shelf, out, file),
+        CommandLine::Inspect { file, at, json } => {
+            inspect_file(alloc, shelf, out, file, at, json)
+        }
+        CommandLine::Expand { file } => expand_file(alloc, shelf, out, file),
+        CommandLine::Sweep { file, words } => {
+            sweep_file(&rt, alloc, shelf, out, progress, file, words)
+        }
     }
 }

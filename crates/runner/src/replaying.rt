@@ -1,7 +1,6 @@
-//! A transcript's file, played again or drawn.
+//! A transcript's file, played again.
 ghost use Rattle.std.specs.Prelude.{◌≡◌, ◌≢◌, ◌≤◌, ◌⊎◌, ◌∷◌, ◌++◌, ◌==◌, ℕ, IfErr, IfOk, IsUtf8, List, OnOk, length, map};
 ghost use Rattle.std.specs.List.{AllByRecursion, position};
-ghost use Rattle.picture.specs.Pictures.{GrowsByPicture};
 ghost use Rattle.transcript.specs.EventLines.{HasLine, event_line};
 ghost use Rattle.transcript.specs.Inner.Printable.{IsPrintable};
 ghost use Rattle.transcript.specs.Transcripts.{IsTranscript, Recorded, lines_text, recorded};
@@ -10,13 +9,12 @@ ghost use Rattle.world.specs.GroupSteps.{IsNewGroup};
 ghost use Rattle.runner.specs.declared.fault.Fault.TheVariants as faults;
 ghost use Rattle.runner.specs.Inner.Faults.{IsOfRun, IsPastReading, MayStopPrinting, MayStopTranscript};
 ghost use Rattle.runner.specs.Inner.Replayed.{TellsEvents};
-ghost use Rattle.runner.specs.Told.{TellsPicture, TellsReplay};
+ghost use Rattle.runner.specs.Told.{TellsReplay};
 
 use crate::fault::{Fault, said};
 use crate::running::{load_bytes, print_refusal};
 use crate::shelf::Shelf;
 use ending::print_end;
-use picture::{DrawError, draw};
 use rows::Refusal;
 use std::alloc::Global;
 use std::io::Write;
@@ -46,54 +44,8 @@ pub(crate) fn replay_file<'a, F: Shelf, W: Write>(
     Ok(status)
 }
 
-/// Draws what a transcript says.
-pub(crate) fn draw_file<'a, F: Shelf, W: Write>(
-    alloc: Global,
-    shelf: &mut F,
-    out: &mut W,
-    file: &'a str,
-) -> Result<u8, Fault<'a>>
-    ensures status { IfOk result (λ status. status ≡ 0) }
-    ensures told { IfOk result (λ status. TellsPicture (F.file shelf.old file.entry.now) status
-        (W.contents out.old) (W.contents out.new)) }
-    ensures unsaid { IfErr result (λ fault. (out.new ≡ out.old) ⊎ IsPastReading fault) }
-    ensures of_run { IfErr result IsOfRun }
-{
-    let bytes = load_bytes(shelf, file)?;
-    let transcript = transcript_of(alloc, bytes.as_slice())?;
-    print_picture(alloc, &transcript, out)?;
-    Ok(0)
-}
-
-fn print_picture<'a, W: Write>(
-    alloc: Global,
-    transcript: &Transcript,
-    out: &mut W,
-) -> Result<(), Fault<'a>>
-    ensures picture { OnOk result (GrowsByPicture transcript.now.servers
-        (length transcript.now.nodes.items) (length transcript.now.events.items)
-        (W.contents out.old) (W.contents out.new)) }
-    ensures fault { IfErr result MayStopPrinting }
-    ensures of_run { IfErr result IsOfRun }
-    ensures left { IfErr result (λ fault. fault ≢ faults.Output → out.new ≡ out.old) }
-{
-    let nodes = transcript.nodes.as_slice();
-    match draw(
-        alloc,
-        transcript.servers,
-        nodes,
-        transcript.events.as_slice(),
-        out,
-    ) {
-        Ok(()) => said(out.flush()),
-        Err(DrawError::Output) => Err(Fault::Output),
-        // A group of a transcript's size is made, unless there is no memory.
-        Err(DrawError::NoMemory | DrawError::Group) => Err(Fault::NoMemory),
-    }
-}
-
-// The transcript of a file's bytes.
-fn transcript_of<'a>(alloc: Global, bytes: &[u8]) -> Result<Transcript, Fault<'a>>
+/// The transcript of a file's bytes.
+pub(crate) fn transcript_of<'a>(alloc: Global, bytes: &[u8]) -> Result<Transcript, Fault<'a>>
     ensures named { IfOk result (λ t. IsTranscript (recorded t) bytes.now) }
     ensures read { (r : Recorded) → IsTranscript r bytes.now
         → IfOk result (λ t. recorded t ≡ r) }

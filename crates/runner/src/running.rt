@@ -12,14 +12,15 @@ ghost use Rattle.scenario_file.specs.Steps.{IsLine, Step as AnyStep, played_step
 ghost use Rattle.runner.specs.declared.fault.Fault.TheVariants as faults;
 ghost use Rattle.runner.specs.Inner.Faults.{IsOfRun, IsPastReading, MayStopReading};
 ghost use Rattle.runner.specs.Inner.Files.{IsScenarioFile};
-ghost use Rattle.runner.specs.Inner.Plays.{IsNewPlay, MakesGroup};
+ghost use Rattle.playing.specs.Plays.{IsNewPlay, MakesGroup};
 ghost use Rattle.runner.specs.Inner.Played.{TellsLines, TellsPlay, TellsSteps};
 ghost use Rattle.runner.specs.Told.{refusal_line};
 
 use crate::fault::{Fault, said};
-use crate::play::Play;
 use crate::shelf::{Shelf, ShelfFault};
 use ending::print_end;
+use playing::play::Play;
+use playing::stage::Stage;
 use rows::Refusal;
 use scenario_file::reading::scenario;
 use scenario_file::scenario::Scenario;
@@ -28,24 +29,6 @@ use std::alloc::Global;
 use std::io::Write;
 use transcript::write;
 use world::World;
-
-/// Where the steps of a scenario are taken.
-pub(crate) trait Stage {
-    ghost use Rattle.rows.specs.declared.refusal.Refusal.{Refusal};
-    ghost use Rattle.scenario_file.specs.Steps.{Step};
-
-    // What a step that is taken does.
-    ghost Takes: { Step → Self → Self → Type 0 };
-
-    // What one that is refused does.
-    ghost Refuses: { Step → Self → Refusal → Self → Type 0 };
-
-    /// Takes a step, or says why it is refused.
-    fn take(&mut self, step: Step) -> Result<(), Refusal>
-        ensures taken { OnOk result (Takes (played_step step) self.old self.new) }
-        ensures refused { IfErr result (λ refusal. refusal ≢ refusals.NoMemory
-            → Refuses (played_step step) self.old refusal self.new) };
-}
 
 /// Plays a scenario: says each refused step at once, writes the transcript where one is asked for,
 /// and then says how the group stands.
@@ -67,7 +50,7 @@ pub(crate) fn run_file<'a, F: Shelf, W: Write>(
     check_steps(alloc, &scenario)?;
     let mut play = begin(alloc, &scenario)?;
     let status = play_steps(alloc, out, &mut play, &scenario)?;
-    end_run(alloc, shelf, out, play.world(), transcript)?;
+    end_run(alloc, shelf, out, &play.world, transcript)?;
     Ok(status)
 }
 
@@ -183,8 +166,8 @@ fn scenario_of_bytes<'a>(alloc: Global, bytes: &[u8]) -> Result<Scenario, Fault<
     }
 }
 
-// The scenario of a file's text.
-fn scenario_of_text<'a>(alloc: Global, text: &str) -> Result<Scenario, Fault<'a>>
+/// The scenario of a text.
+pub(crate) fn scenario_of_text<'a>(alloc: Global, text: &str) -> Result<Scenario, Fault<'a>>
     ensures ok { IfOk result (IsScenarioText text.now) }
     ensures fault { IfErr result (MayStopReading ((s : Scenario) × IsScenarioText text.now s)) }
     ensures of_run { IfErr result IsOfRun }
@@ -229,12 +212,13 @@ pub(crate) fn check_steps<'a>(alloc: Global, scenario: &Scenario) -> Result<(), 
 
 // The group of a scenario, before its first step.
 fn begin<'a>(alloc: Global, scenario: &Scenario) -> Result<Play, Fault<'a>>
-    ensures ok { IfOk result (IsNewPlay scenario.now) }
+    ensures ok { IfOk result
+        (IsNewPlay scenario.now.settings scenario.now.nodes.items) }
     ensures fault { IfErr result (λ fault. (fault ≡ faults.NoMemory)
-        ⊎ ((fault ≡ faults.BadScenario) × ¬ MakesGroup scenario.now)) }
+        ⊎ ((fault ≡ faults.BadScenario) × ¬ MakesGroup scenario.now.settings scenario.now.nodes.items)) }
     ensures of_run { IfErr result IsOfRun }
 {
-    match Play::new(alloc, scenario) {
+    match Play::new(alloc, scenario.settings, &scenario.nodes) {
         Ok(play) => Ok(play),
         Err(Refusal::NoMemory) => Err(Fault::NoMemory),
         // A group of a scenario's size is made.

@@ -14,12 +14,13 @@ ghost use Rattle.scenario_file.specs.Objects.{step_lines};
 ghost use Rattle.scenario_file.specs.Steps.{AnEvent};
 
 use crate::fault::Fault;
-use crate::running::{Stage, check_steps, end_run, load, play_steps};
+use crate::running::{check_steps, end_run, load, play_steps};
 use crate::shelf::Shelf;
 use cells::{Cells, OwnInput, OwnedCells, cells_of};
 use closing::close;
 use event_book::{BookId, OpenedBook};
 use group_threads::{NetSettings, OpenGate, RunningGroup, start, stop};
+use playing::stage::Stage;
 use rows::{Actor, ClientId, NoMemory, Refusal, ServerId};
 use scenario_file::scenario::Scenario;
 use scenario_file::step::Step;

@@ -42,7 +42,7 @@ fn named(word: &str) -> Option<Part> {
     }
 }
 
-fn play<R: Threads + Wait + Copy + Send + 'static>(
+fn play<R: Threads + Wait + Copy + Send + Sync + 'static>(
     rt: &HostRuntime,
     on: R,
     part: Part,
@@ -66,7 +66,7 @@ fn words(rt: &HostRuntime) -> Result<Vec<String>, Stop> {
 }
 
 // Plays the part that the command line names, or all of them where it names none.
-fn play_named<R: Threads + Wait + Copy + Send + 'static>(
+fn play_named<R: Threads + Wait + Copy + Send + Sync + 'static>(
     rt: &HostRuntime,
     on: R,
     place: &mut Place,

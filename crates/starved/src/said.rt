@@ -2,7 +2,7 @@
 use crate::folder::{Folder, Output};
 use crate::row::{TRIES, file};
 use crate::stop::Stop;
-use runner::nomadsim;
+use runner::{Unseen, nomadsim};
 use std::alloc::Global;
 use std::sync::Wait;
 use std::thread::Threads;
@@ -14,6 +14,12 @@ const THREADS: &[&str] = &["nomadsim", "threads", "scenario", "--out", "transcri
 const REPLAY: &[&str] = &["nomadsim", "replay", "transcript"];
 
 const DRAW: &[&str] = &["nomadsim", "draw", "transcript"];
+
+const TELL: &[&str] = &["nomadsim", "tell", "transcript"];
+
+const INSPECT: &[&str] = &["nomadsim", "inspect", "transcript"];
+
+const JSON: &[&str] = &["nomadsim", "inspect", "transcript", "--json"];
 
 const CHECK: &[&str] = &["nomadsim", "check", "scenario"];
 
@@ -58,7 +64,7 @@ fn is_quiet(words: &[&str], text: &[u8]) -> bool {
 
 // Runs a command line, and judges its status and its standard error. Status 3 is answered where no
 // memory was found, and 2 only where an output found none for what was written to it.
-fn run<R: Threads + Wait + Copy + Send + 'static>(
+fn run<R: Threads + Wait + Copy + Send + Sync + 'static>(
     on: R,
     folder: &mut Folder<'_>,
     words: &'static [&'static str],
@@ -66,7 +72,7 @@ fn run<R: Threads + Wait + Copy + Send + 'static>(
     let alloc = folder.alloc;
     let mut out = Output::new(alloc);
     let mut err = Output::new(alloc);
-    let status = nomadsim(on, alloc, words, folder, &mut out, &mut err);
+    let status = nomadsim(on, alloc, words, folder, &mut out, &mut err, &Unseen);
     if out.lacked || err.lacked {
         return Err(Stop::NoMemory);
     }
@@ -85,7 +91,7 @@ fn run<R: Threads + Wait + Copy + Send + 'static>(
 }
 
 // Runs a command line until it finds memory.
-fn settle<R: Threads + Wait + Copy + Send + 'static>(
+fn settle<R: Threads + Wait + Copy + Send + Sync + 'static>(
     on: R,
     folder: &mut Folder<'_>,
     words: &'static [&'static str],
@@ -101,7 +107,7 @@ fn settle<R: Threads + Wait + Copy + Send + 'static>(
 
 // The transcript that was written is played again: what was said of the group before is said once
 // more. So it is at one of some tries, since a run that finds no memory leads elsewhere.
-fn again<R: Threads + Wait + Copy + Send + 'static>(
+fn again<R: Threads + Wait + Copy + Send + Sync + 'static>(
     on: R,
     folder: &mut Folder<'_>,
     played: &Answer,
@@ -117,7 +123,7 @@ fn again<R: Threads + Wait + Copy + Send + 'static>(
 }
 
 // Runs a command line by which nothing may be refused.
-fn succeed<R: Threads + Wait + Copy + Send + 'static>(
+fn succeed<R: Threads + Wait + Copy + Send + Sync + 'static>(
     on: R,
     folder: &mut Folder<'_>,
     words: &'static [&'static str],
@@ -128,9 +134,9 @@ fn succeed<R: Threads + Wait + Copy + Send + 'static>(
     }
 }
 
-/// Checks the row's scenario, plays it, plays and draws its transcript, and plays it on threads;
-/// `at` counts these.
-pub(crate) fn play<R: Threads + Wait + Copy + Send + 'static>(
+/// Checks the row's scenario, plays it, plays and draws its transcript, plays it on threads, and
+/// tells and inspects what happened then; `at` counts these.
+pub(crate) fn play<R: Threads + Wait + Copy + Send + Sync + 'static>(
     rt: &HostRuntime,
     on: R,
     at: &mut usize,
@@ -152,5 +158,11 @@ pub(crate) fn play<R: Threads + Wait + Copy + Send + 'static>(
     *at = 5;
     let played = settle(on, &mut folder, THREADS)?;
     *at = 6;
-    again(on, &mut folder, &played)
+    again(on, &mut folder, &played)?;
+    *at = 7;
+    succeed(on, &mut folder, TELL)?;
+    *at = 8;
+    succeed(on, &mut folder, INSPECT)?;
+    *at = 9;
+    succeed(on, &mut folder, JSON)
 }

@@ -1,6 +1,7 @@
 -- What is written for the signs that are made of several elements.
-use Rattle.std.specs.Prelude.{◌≡◌, ℕ, zero, suc, ◌+◌, ◌*◌, ◌/◌, min, Bool, true, false, nat_eq, nat_lt, ◌-◌, if◌then◌else◌, Option, Some, None, List, [], ◌++◌, length, slice_get, decimal, codes}
+use Rattle.std.specs.Prelude.{◌≡◌, ℕ, zero, suc, ◌+◌, ◌*◌, ◌/◌, min, Bool, true, false, nat_eq, nat_lt, ◌-◌, if◌then◌else◌, Option, Some, None, List, [], ◌++◌, length, slice_get, decimal, codes, String, string_bytes}
 use Rattle.std.specs.List.{flat_map}
+use Rattle.std.specs.declared.alloc.Global.{Global}
 use Rattle.picture.specs.declared.layout.Point.{Point}
 use Rattle.picture.specs.declared.layout.Side.{Side}
 use Rattle.picture.specs.declared.layout.Side.TheVariants.{Left, Right}
@@ -17,8 +18,8 @@ use Rattle.picture.specs.declared.ink.Stroke.TheVariants as strokes
 use Rattle.picture.specs.declared.ink.Anchor.{Anchor}
 use Rattle.picture.specs.declared.ink.Anchor.TheVariants as anchors
 use Rattle.picture.specs.declared.ink.Cover.TheVariants as covers
-use Rattle.picture.specs.Inner.Places.{capped, distance, down_by, up_by, aside_by, opposite, side_towards, point_at, slot_at, names_again}
-use Rattle.picture.specs.Inner.Shapes.{text_of, line_text, bow_text, white_text, words_text}
+use Rattle.picture.specs.Inner.Places.{capped, distance, down_by, up_by, aside_by, opposite, side_towards, point_at, slot_at, row_y, names_again}
+use Rattle.picture.specs.Inner.Shapes.{text_of, line_text, bow_text, white_text, words_text, tip_text}
 
 -- what is written for these elements
 abbrev pub drawn : List Shape → List ℕ
@@ -163,3 +164,15 @@ abbrev pub stub_text : Layout → ℕ → Sending → List ℕ → List ℕ
 stub_text layout message sending text =
     line_text (point_at layout sending.from sending.row) (stub_end layout message sending) strokes.Lost
     ++ lost_end_text (stub_end layout message sending) (side_towards sending.from sending.to) text
+
+-- the upper left corner of the row of an event
+abbrev pub row_corner : Layout → ℕ → Point
+row_corner layout row = up_by (record { x = 0; y = row_y layout row }) 11
+
+-- what is told of the event in a row, over all its row
+abbrev pub tip_of : Layout → ℕ → ℕ → Option (String Global) → List ℕ
+tip_of layout width row None = []
+tip_of layout width row (Some line) = tip_text (row_corner layout row) width 22 (string_bytes line)
+
+abbrev pub tip_in : Layout → ℕ → List (String Global) → ℕ → List ℕ
+tip_in layout width told row = tip_of layout width row (slice_get told row)

@@ -4,7 +4,7 @@ use Rattle.std.specs.List.{flat_map}
 use Rattle.picture.specs.declared.svg.TheConstants.{ABOUT, HEAD}
 use Rattle.picture.specs.declared.layout.Point.{Point}
 use Rattle.picture.specs.declared.shape.Shape.{Shape}
-use Rattle.picture.specs.declared.shape.Shape.TheVariants.{Line, Bow, Circle, White, Text}
+use Rattle.picture.specs.declared.shape.Shape.TheVariants.{Line, Bow, Circle, White, Text, Tip}
 use Rattle.picture.specs.declared.ink.Ink.{Ink}
 use Rattle.picture.specs.declared.ink.Ink.TheVariants as inks
 use Rattle.picture.specs.declared.ink.Stroke.{Stroke}
@@ -77,6 +77,10 @@ white_text corner width height cover = codes "<rect x=\"" ++ (decimal corner.x +
 abbrev pub words_text : Point → Anchor → Ink → List ℕ → List ℕ
 words_text at anchor ink text = codes "<text x=\"" ++ (decimal at.x ++ (codes "\" y=\"" ++ (decimal at.y ++ (codes "\" " ++ (anchor_look anchor ++ (codes " " ++ (ink_look ink ++ (codes ">" ++ (flat_map shown_byte (take (most_of ink) text) ++ codes "</text>\n")))))))))
 
+-- an area that is not seen, with what is told where a pointer rests on it
+abbrev pub tip_text : Point → ℕ → ℕ → List ℕ → List ℕ
+tip_text corner width height told = codes "<rect x=\"" ++ (decimal corner.x ++ (codes "\" y=\"" ++ (decimal corner.y ++ (codes "\" width=\"" ++ (decimal width ++ (codes "\" height=\"" ++ (decimal height ++ (codes "\" class=\"event\" pointer-events=\"all\"><title>" ++ (flat_map shown_byte told ++ codes "</title></rect>\n")))))))))
+
 -- an element, as a line of its own
 abbrev pub text_of : Shape → List ℕ
 text_of (Line from to stroke) = line_text from to stroke
@@ -84,6 +88,7 @@ text_of (Bow from to far stroke) = bow_text from to far stroke
 text_of (Circle at spot) = circle_text at spot
 text_of (White corner width height cover) = white_text corner width height cover
 text_of (Text at anchor ink text) = words_text at anchor ink (string_bytes text)
+text_of (Tip corner width height told) = tip_text corner width height (string_bytes told)
 
 abbrev pub title_text : List ℕ → List ℕ
 title_text title = codes "<title>" ++ (flat_map shown_byte title ++ codes "</title>\n")
@@ -96,7 +101,7 @@ sheet_text width height = codes "<rect x=\"0\" y=\"0\" width=\"" ++ (decimal wid
 
 -- the front of a picture, up to its first element
 abbrev pub open_text : ℕ → ℕ → List ℕ
-open_text width height = codes "<?xml version=\"1.0\" encoding=\"UTF-8\"?>\n<svg xmlns=\"http://www.w3.org/2000/svg\" version=\"1.1\" width=\"" ++ (decimal width ++ (codes "\" height=\"" ++ (decimal height ++ (codes "\" viewBox=\"0 0 " ++ (decimal width ++ (codes " " ++ (decimal height ++ codes "\">\n")))))))
+open_text width height = codes "<svg xmlns=\"http://www.w3.org/2000/svg\" version=\"1.1\" width=\"" ++ (decimal width ++ (codes "\" height=\"" ++ (decimal height ++ (codes "\" viewBox=\"0 0 " ++ (decimal width ++ (codes " " ++ (decimal height ++ codes "\">\n")))))))
 
 abbrev pub head_text : ℕ → ℕ → List ℕ → List ℕ
 head_text width height title = ((open_text width height ++ title_text title) ++ about_text) ++ sheet_text width height

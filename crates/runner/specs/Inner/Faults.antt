@@ -4,7 +4,7 @@ use Rattle.clap.specs.Words.{IsAmong, Kinds, kind_of}
 use Rattle.ending.specs.declared.fault.EndError.{EndError}
 use Rattle.ending.specs.declared.fault.EndError.TheVariants as ends
 use Rattle.runner.specs.declared.fault.Fault.{Fault}
-use Rattle.runner.specs.declared.fault.Fault.TheVariants.{CommandLine, CannotRead, BadScenario, BadTranscript, NoMemory, Output}
+use Rattle.runner.specs.declared.fault.Fault.TheVariants.{CommandLine, CannotRead, BadScenario, BadTranscript, Percentages, NoMemory, Output}
 use Rattle.transcript.specs.Transcripts.{IsFault, IsTranscript, Recorded}
 
 -- a fault of the words is one of those found in them
@@ -22,6 +22,7 @@ abbrev pub IsPastReading : Fault → Type 0
 IsPastReading (CannotRead name) = ⊥
 IsPastReading BadScenario = ⊥
 IsPastReading (BadTranscript place) = ⊥
+IsPastReading (Percentages lost repeated) = ⊥
 IsPastReading _ = ⊤
 
 -- of a run of which not all last lines are told

@@ -6,33 +6,20 @@ use Rattle.scenario_file.specs.declared.scenario.Scenario.{Scenario}
 use Rattle.scenario_file.specs.Complaints.{IsGood}
 use Rattle.scenario_file.specs.EachLine.{OfEachLine}
 use Rattle.scenario_file.specs.Objects.{IsScenarioText, step_lines}
-use Rattle.scenario_file.specs.Steps.{IsLine, Step}
-use Rattle.runner.specs.declared.play.Play.{Play}
-use Rattle.runner.specs.Told.{MayRefuse, Refused, TellsRefusals, TellsRun}
-use Rattle.runner.specs.Inner.PlaySteps.{StepRefused, StepTaken}
-use Rattle.runner.specs.Inner.Plays.{IsNewPlay}
+use Rattle.scenario_file.specs.Steps.{Step}
+use Rattle.playing.specs.declared.play.Play.{Play}
+use Rattle.runner.specs.Told.{MayRefuse, TellsRefusals, TellsRun}
+use Rattle.playing.specs.Played.{LinesPlayed, Refused}
+use Rattle.playing.specs.PlaySteps.{StepRefused, StepTaken}
+use Rattle.playing.specs.Plays.{IsNewPlay}
 
 -- ---- on a stage, of which it is known what a step does that is taken, and what one that is refused
 
 module _ {S : Type 0} (Takes : Step → S → S → Type 0) (Refuses : Step → S → Refusal → S → Type 0) where
-  -- the step of this line is taken, and nothing is refused; or it is refused, by its line
-  pub record LinePlayed (line : List ℕ) (old : S) (refused : List Refused) (new : S) : Type 0 where
-    pub step : Step
-    pub named : IsLine step line
-    pub became : (Takes step old new × (refused ≡ []))
-        ⊎ ((refusal : Refusal) × Refuses step old refusal new × (refused ≡ (refusal, line) ∷ []))
-
-  -- each of these lines once, and in order
-  abbrev pub LinesPlayed : List (List ℕ) → S → List Refused → S → Type 0
-  LinesPlayed [] old refused new = (refused ≡ []) × (new ≡ old)
-  LinesPlayed (line ∷ lines) old refused new =
-      (own : List Refused) × (others : List Refused) × (between : S) × (refused ≡ own ++ others)
-      × LinePlayed line old own between × LinesPlayed lines between others new
-
-  -- the same, and the output grows by the lines of what is refused
+  -- what became of these lines, and the output grows by the lines of what is refused
   abbrev pub TellsLines : List (List ℕ) → S → S → ℕ → Option (List ℕ) → Option (List ℕ) → Type 0
   TellsLines lines first last status old new =
-      (refused : List Refused) × LinesPlayed lines first refused last × TellsRefusals refused status old new
+      (refused : List Refused) × LinesPlayed Takes Refuses lines first refused last × TellsRefusals refused status old new
 
 -- whatever the steps did, the output grows by the lines of what is refused of these lines
 abbrev pub TellsSteps : List (List ℕ) → ℕ → Option (List ℕ) → Option (List ℕ) → Type 0
@@ -50,7 +37,7 @@ pub record TellsPlay (file written : Option (List ℕ)) (status : ℕ) (old new 
   pub good : IsGood scenario
   pub first : Play
   pub last : Play
-  pub begun : IsNewPlay scenario first
+  pub begun : IsNewPlay scenario.settings scenario.nodes.items first
   pub refused : List Refused
   pub played : LinesPlayed StepTaken StepRefused (step_lines scenario) first refused last
   pub recorded : IfSome written (IsTranscript (record_of last.world))

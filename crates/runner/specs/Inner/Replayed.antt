@@ -2,7 +2,8 @@
 use Rattle.std.specs.Prelude.{ℕ, List, Option}
 use Rattle.group_model.specs.Worlds.{Event}
 use Rattle.world.specs.GroupView.{GroupView}
-use Rattle.runner.specs.Told.{EventsPlayed, Refused, TellsRefusals}
+use Rattle.playing.specs.Played.{Refused}
+use Rattle.runner.specs.Told.{EventsPlayed, TellsRefusals}
 
 -- they came to the group, and the output grows by the lines of what is refused
 abbrev pub TellsEvents : List Event → GroupView → GroupView → ℕ → Option (List ℕ) → Option (List ℕ) → Type 0

@@ -31,6 +31,13 @@ returns-in_err-matches-clause-faults c =
     let same : c.from_residual-in_err-matches.result ≡ Err c.in_err-matches.field-0.0 = search rules in
     rw same (found_first (fault_of nomadsim_app words) _ c.in_err-matches.field-0.0 (subst (λ (a : App). HasKind (fault_of a words) c.in_err-matches.field-0.0) made fails))
 
+-- the line is that of the subcommand that the words name
+pub returns-in-Some-clause-named : goal.returns-in-Some-clause-named
+returns-in-Some-clause-named c =
+    let words = map (λ (w : Bor (List ℕ)). w.now) c.args.words.now in
+    let read = parsed _ words c.in_ok-matches.matches c.in_ok-program.ensures.ok c.in_ok-matches.ensures.ok.2 c.in_ok-matches.ensures.kinds in
+    subst (λ named. IsNamedLine named c.in-Some.line) read.1 c.in-Some.ensures.some
+
 -- the words of a line have no fault
 pub returns-in-Some-clause-faults : goal.returns-in-Some-clause-faults
 returns-in-Some-clause-faults c =

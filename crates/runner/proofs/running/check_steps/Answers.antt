@@ -1,5 +1,5 @@
 use Rattle.std.proofs.Common.{◌≤◌, ◌<◌, IsTrue, inr, length, refl, rules}
-use Rattle.runner.proofs.GoodSteps.{all_good, good_at, one_more_good}
+use Rattle.playing.proofs.GoodSteps.{all_good, good_at, one_more_good}
 use Rattle.runner.proofs.running.check_steps.Goals as goal
 
 pub returns-then-not-branch-clause-fault : goal.returns-then-not-branch-clause-fault

@@ -2,7 +2,7 @@ use Rattle.std.proofs.Common.{Err, ◌≡◌, ◌<◌, ◌≤◌, arith, length,
 use Rattle.std.proofs.lemmas.List.{take_all}
 use Rattle.scenario_file.specs.Objects.{step_lines}
 use Rattle.runner.specs.Inner.Played.{TellsLines}
-use Rattle.runner.proofs.GoodSteps.{good_at}
+use Rattle.playing.proofs.GoodSteps.{good_at}
 use Rattle.runner.proofs.Reasons.{past_reading}
 use Rattle.runner.proofs.Stages.{lines_tell_steps, step_refused, step_taken}
 use Rattle.runner.proofs.running.play_steps.Goals as goal

@@ -13,6 +13,6 @@ returns-clause-told g c =
       begun = c.in_ok-play.ensures.ok;
       refused = told.0;
       played = told.1;
-      recorded = rw c.world.ensures at c.in_ok-end_run.ensures.written;
-      told = (contents c.play_steps.new.out, told.2, rw c.world.ensures at c.in_ok-end_run.ensures.ending);
+      recorded = c.in_ok-end_run.ensures.written;
+      told = (contents c.play_steps.new.out, told.2, c.in_ok-end_run.ensures.ending);
     }

@@ -1,0 +1,48 @@
+-- Texts and nodes that are the same, one by one.
+use Rattle.std.proofs.Common.{◌≡◌, ◌∙◌, ◌&&◌, Bool, true, false, ℕ, List, [], ◌∷◌, String, ap, ap₂, bytes_eq, eqb, map, refl, string_bytes, subst, sym, true≢false}
+use Rattle.std.specs.Bool.{Decides}
+use Rattle.std.specs.declared.alloc.Global.{Global}
+use Rattle.std.specs.Cmp.Lexicographic.{pointwise}
+use Rattle.std.proofs.lemmas.Bool.Decides.{Decides-and, Decides-eqb, Decides-like}
+use Rattle.std.proofs.lemmas.Slice.Eq.{bytes_eq-Decides}
+use Rattle.rows.specs.declared.node.NodeSpec.{NodeSpec}
+use Rattle.rows.specs.declared.size.Size.{Size}
+use Rattle.scenario_file.specs.declared.scenario.Scenario.{Scenario}
+use Rattle.scenario_file.specs.Objects.{IsScenarioText}
+
+pub same_texts : (own lines : List (String Global)) → pointwise (λ a b. bytes_eq (string_bytes a) (string_bytes b)) own lines ≡ true → map string_bytes own ≡ map string_bytes lines
+same_texts [] [] same = refl
+same_texts [] (y ∷ ys) same = absurd (true≢false (sym same))
+same_texts (x ∷ xs) [] same = absurd (true≢false (sym same))
+same_texts (x ∷ xs) (y ∷ ys) same = go (bytes_eq (string_bytes x) (string_bytes y)) refl same (λ rest. same_texts xs ys rest)
+  where
+    go : (b : Bool) → bytes_eq (string_bytes x) (string_bytes y) ≡ b → (b && pointwise (λ a c. bytes_eq (string_bytes a) (string_bytes c)) xs ys) ≡ true
+        → (pointwise (λ a c. bytes_eq (string_bytes a) (string_bytes c)) xs ys ≡ true → map string_bytes xs ≡ map string_bytes ys)
+        → string_bytes x ∷ map string_bytes xs ≡ string_bytes y ∷ map string_bytes ys
+    go true is rest others = ap₂ ◌∷◌ ((bytes_eq-Decides (string_bytes x) (string_bytes y)).0 is) (others rest)
+    go false is rest others = absurd (true≢false (sym rest))
+
+abbrev size_of : ℕ → ℕ → Size
+size_of cpu mem = record { cpu = cpu; mem = mem }
+
+abbrev node_of : ℕ → List ℕ → Size → NodeSpec
+node_of number class size = record { number = number; class = class; size = size }
+
+same_node : (a b : NodeSpec) → a.number ≡ b.number → a.class ≡ b.class → a.size.cpu ≡ b.size.cpu → a.size.mem ≡ b.size.mem → a ≡ b
+same_node a b number class cpu mem =
+    ap (λ n. node_of n a.class a.size) number
+    ∙ ap (λ c. node_of b.number c a.size) class
+    ∙ ap (λ s. node_of b.number b.class s) (ap₂ size_of cpu mem)
+
+-- two nodes are compared part by part
+pub nodes_decide : (a b : NodeSpec) → Decides (eqb a.number b.number && (bytes_eq a.class b.class && (eqb a.size.cpu b.size.cpu && eqb a.size.mem b.size.mem))) (a ≡ b)
+nodes_decide a b = Decides-like _
+    (λ all. same_node a b all.0 all.1.0 all.1.1.0 all.1.1.1)
+    (λ same. (ap (λ n. n.number) same, (ap (λ n. n.class) same, (ap (λ n. n.size.cpu) same, ap (λ n. n.size.mem) same))))
+    (Decides-and _ _ (Decides-eqb a.number b.number)
+    (Decides-and _ _ (bytes_eq-Decides a.class b.class)
+    (Decides-and _ _ (Decides-eqb a.size.cpu b.size.cpu) (Decides-eqb a.size.mem b.size.mem))))
+
+-- a text that is the same as a scenario's is that scenario's
+pub same_scenario : (own text : List ℕ) (scenario : Scenario) → own ≡ text → IsScenarioText own scenario → IsScenarioText text scenario
+same_scenario own text scenario same is = subst (λ t. IsScenarioText t scenario) same is

@@ -1,0 +1,213 @@
+//! The steps that a scenario in short form takes.
+use crate::short::{MOST, ShortStep};
+use crate::standing::{
+    Standing, differs, has_laggards, has_pending, has_unapplied, leader, standing_of,
+};
+use playing::lines::{play_line, play_lines};
+use playing::play::Play;
+use rows::{NodeSpec, Refusal, ServerId};
+use scenario_file::scenario::Settings;
+use std::alloc::Global;
+
+// How often something is done at most where a `settle` has no number.
+const ROUNDS: u64 = 1_000;
+
+// A group, and the steps that led to it from its beginning.
+#[derive(Drop)]
+struct Taken<'s> {
+    alloc: Global,
+    settings: Settings,
+    nodes: &'s [NodeSpec],
+    lines: Vec<String>,
+    play: Play,
+}
+
+/// The steps that these take on a new group of these settings and nodes: each plain one as it
+/// stands, and for a `settle` those that it takes there. Fails with 12 where a plain step is none,
+/// or where they come to more than 1,000,000; with 1 where there is no memory.
+pub fn expanded(
+    alloc: Global,
+    settings: Settings,
+    nodes: &[NodeSpec],
+    steps: &[ShortStep],
+) -> Result<Vec<String>, Refusal> {
+    let mut taken = Taken::new(alloc, settings, nodes)?;
+    for step in steps {
+        taken.take(step)?;
+    }
+    Ok(taken.into_lines())
+}
+
+impl<'s> Taken<'s> {
+    // A new group.
+    fn new(alloc: Global, settings: Settings, nodes: &'s [NodeSpec]) -> Result<Taken<'s>, Refusal> {
+        Ok(Taken {
+            alloc,
+            settings,
+            nodes,
+            lines: Vec::new(alloc),
+            play: Play::new(alloc, settings, nodes)?,
+        })
+    }
+
+    fn into_lines(self) -> Vec<String> {
+        let Taken {
+            alloc: _,
+            settings: _,
+            nodes: _,
+            lines,
+            play: _,
+        } = self;
+        lines
+    }
+
+    fn take(&mut self, step: &ShortStep) -> Result<(), Refusal> {
+        match step {
+            ShortStep::Plain(line) => self.line(line.as_str()),
+            ShortStep::Settle(count) => self.settle(count.unwrap_or(ROUNDS)),
+        }
+    }
+
+    // Takes the step of a line.
+    fn line(&mut self, line: &str) -> Result<(), Refusal> {
+        if MOST <= self.lines.len() {
+            return Err(Refusal::OutOfRange);
+        }
+        let own = String::from_str(self.alloc, line)?;
+        play_line(self.alloc, line, &mut self.play)?;
+        self.lines.push(own)?;
+        Ok(())
+    }
+
+    // Does what is left to do, up to so many times.
+    fn settle(&mut self, most: u64) -> Result<(), Refusal> {
+        for _ in 0..most {
+            if !self.round()? {
+                return Ok(());
+            }
+        }
+        Ok(())
+    }
+
+    // Does the first of what is left to do, and answers whether there was anything.
+    fn round(&mut self) -> Result<bool, Refusal> {
+        if self.play.flight.len() > 0 {
+            self.line("flow")?;
+            return Ok(true);
+        }
+        let before = standing_of(self.alloc, &self.play)?;
+        Ok(self.work(&before)? || self.lead(&before)?)
+    }
+
+    // The workers of a server go on.
+    fn work(&mut self, before: &Standing) -> Result<bool, Refusal> {
+        let mut done = false;
+        for (place, server) in before.servers.iter().enumerate() {
+            if !done && !server.is_idle {
+                done = self.work_at(before, place)?;
+            }
+        }
+        Ok(done)
+    }
+
+    fn work_at(&mut self, before: &Standing, place: usize) -> Result<bool, Refusal> {
+        let Some(server) = ServerId::from_place(place) else {
+            return Ok(false);
+        };
+        self.attempt(before, &[format!(in self.alloc; "work {server}")?], true)
+    }
+
+    // What is left to do at the leader, and with what it knows.
+    fn lead(&mut self, before: &Standing) -> Result<bool, Refusal> {
+        let Some(own) = leader(before) else {
+            return Ok(false);
+        };
+        Ok(
+            self.plan(before, own)?
+                || self.commit(before, own)?
+                || self.hand_out(before, own)?
+                || self.pull(before, own)?
+                || self.tell(before, own)?,
+        )
+    }
+
+    // A plan that waits is weighed.
+    fn plan(&mut self, before: &Standing, own: ServerId) -> Result<bool, Refusal> {
+        if !has_pending(&self.play.world, own) {
+            return Ok(false);
+        }
+        self.attempt(before, &[format!(in self.alloc; "plan {own}")?], true)
+    }
+
+    // What is not applied at the leader is sent to the others.
+    fn commit(&mut self, before: &Standing, own: ServerId) -> Result<bool, Refusal> {
+        if !has_unapplied(before, own) {
+            return Ok(false);
+        }
+        self.attempt(before, &[format!(in self.alloc; "beat {own}")?], false)
+    }
+
+    // The workers of the leader ask for an evaluation.
+    fn hand_out(&mut self, before: &Standing, own: ServerId) -> Result<bool, Refusal> {
+        if !has_pending(&self.play.world, own) {
+            return Ok(false);
+        }
+        self.attempt(
+            before,
+            &[format!(in self.alloc; "take {own} {own}")?],
+            false,
+        )
+    }
+
+    // Clients that run something else than what is listed ask for their lists.
+    fn pull(&mut self, before: &Standing, own: ServerId) -> Result<bool, Refusal> {
+        let mut lines = Vec::new(self.alloc);
+        for (place, client) in self.play.world.clients().iter().enumerate() {
+            if differs(&self.play.world, own, client)? {
+                lines.push(format!(in self.alloc; "pull {} {own}", place + 1)?)?;
+            }
+        }
+        self.attempt(before, &lines, false)
+    }
+
+    // The others are told what is committed.
+    fn tell(&mut self, before: &Standing, own: ServerId) -> Result<bool, Refusal> {
+        if !has_laggards(before, own) {
+            return Ok(false);
+        }
+        self.attempt(before, &[format!(in self.alloc; "beat {own}")?], false)
+    }
+
+    // Takes these steps, and a flow behind them where messages are in flight then. Where nothing
+    // changed by them they are taken back. With `counts` a message that was sent is a change too.
+    fn attempt(
+        &mut self,
+        before: &Standing,
+        lines: &[String],
+        counts: bool,
+    ) -> Result<bool, Refusal> {
+        let (kept, sent) = (self.lines.len(), self.play.world.sent().len());
+        for line in lines {
+            self.line(line.as_str())?;
+        }
+        if self.play.flight.len() > 0 {
+            self.line("flow")?;
+        }
+        let after = standing_of(self.alloc, &self.play)?;
+        if *before != after || (counts && sent < self.play.world.sent().len()) {
+            return Ok(true);
+        }
+        self.take_back(kept)?;
+        Ok(false)
+    }
+
+    // Takes all lines back but the first ones: those are played anew.
+    fn take_back(&mut self, kept: usize) -> Result<(), Refusal> {
+        if kept < self.lines.len() {
+            self.lines.truncate(kept);
+            self.play = Play::new(self.alloc, self.settings, self.nodes)?;
+            play_lines(self.alloc, &self.lines, &mut self.play)?;
+        }
+        Ok(())
+    }
+}

@@ -1,0 +1,7 @@
+//! Scenarios in short form, and the plain ones that they stand for.
+#![tactic(auto)]
+
+pub mod expanding;
+pub mod plain;
+pub mod short;
+mod standing;

@@ -1,0 +1,27 @@
+//! How a group stands after some of a run's events, as a text or as JSON; and what each event did,
+//! a line an event.
+#![tactic(auto)]
+
+mod changes;
+mod commands;
+mod deliveries;
+mod entries;
+mod fault;
+mod gathering;
+mod grid;
+mod group;
+mod inspecting;
+mod lines;
+mod metrics;
+mod moments;
+mod report;
+mod shown;
+mod standing;
+mod states;
+mod tables;
+mod telling;
+
+pub use fault::InspectError;
+pub use inspecting::{Form, inspect};
+pub use moments::{Moments, each_moment};
+pub use telling::{event_lines, tell};

@@ -1,0 +1,54 @@
+//! What a worker would find for the groups of an evaluation's job.
+use crate::report::{NodesReport, PlacementReport};
+use crate::shown::owned;
+use fsm_state::Cluster;
+use placement_metrics::{GroupMetrics, counts, eval_metrics};
+use rows::{EvalStatus, Evaluation, NoMemory};
+use std::alloc::Global;
+
+/// Of an evaluation that is pending or blocked, what a worker would find at this state for each
+/// group of its job; nothing of another, or where the job is stopped or has no row.
+pub(crate) fn placements(
+    alloc: Global,
+    state: &Cluster,
+    eval: &Evaluation,
+) -> Result<Vec<PlacementReport>, NoMemory> {
+    match eval.status {
+        EvalStatus::Pending | EvalStatus::Blocked => open_placements(alloc, state, eval),
+        EvalStatus::Complete | EvalStatus::Failed => Ok(Vec::new(alloc)),
+    }
+}
+
+fn open_placements(
+    alloc: Global,
+    state: &Cluster,
+    eval: &Evaluation,
+) -> Result<Vec<PlacementReport>, NoMemory> {
+    let mut reports = Vec::new(alloc);
+    for metrics in &eval_metrics(alloc, state, eval)? {
+        reports.push(placement(alloc, metrics)?)?;
+    }
+    Ok(reports)
+}
+
+fn placement(alloc: Global, metrics: &GroupMetrics) -> Result<PlacementReport, NoMemory> {
+    Ok(PlacementReport {
+        group: owned(alloc, metrics.group.name.as_str())?,
+        missing: metrics.missing,
+        placed: metrics.placed,
+        fits_on_none: metrics.fits_on_none(),
+        nodes: nodes_of(metrics),
+    })
+}
+
+fn nodes_of(metrics: &GroupMetrics) -> NodesReport {
+    let counts = counts(&metrics.verdicts);
+    NodesReport {
+        other_class: counts.other_class,
+        not_ready: counts.not_ready,
+        not_eligible: counts.not_eligible,
+        lack_cpu: counts.lack_cpu,
+        lack_memory: counts.lack_memory,
+        have_room: counts.have_room,
+    }
+}

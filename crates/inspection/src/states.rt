@@ -1,0 +1,128 @@
+//! The tables of a state.
+use crate::metrics::placements;
+use crate::report::{
+    AllocationReport, EvaluationReport, GroupReport, JobReport, NodeReport, StateReport,
+};
+use crate::shown::{
+    alloc_text, client_word, desired_word, drain_word, eval_text, name_text, node_word, owned,
+    status_word,
+};
+use fsm_state::Cluster;
+use rows::{Allocation, Evaluation, Group, Job, NoMemory, Node};
+use std::alloc::Global;
+
+/// What is reported of a state that these servers have applied.
+pub(crate) fn state_report(
+    alloc: Global,
+    state: &Cluster,
+    servers: Vec<u8>,
+) -> Result<StateReport, NoMemory> {
+    Ok(StateReport {
+        applied: state.applied().get(),
+        servers,
+        jobs: jobs(alloc, state)?,
+        nodes: nodes(alloc, state)?,
+        evaluations: evaluations(alloc, state)?,
+        allocations: allocations(alloc, state)?,
+    })
+}
+
+fn jobs(alloc: Global, state: &Cluster) -> Result<Vec<JobReport>, NoMemory> {
+    let mut reports = Vec::new(alloc);
+    for row in state.job_table().rows() {
+        reports.push(job(alloc, row)?)?;
+    }
+    Ok(reports)
+}
+
+fn job(alloc: Global, row: &Job) -> Result<JobReport, NoMemory> {
+    let mut groups = Vec::new(alloc);
+    for row in row.groups.as_slice() {
+        groups.push(group(alloc, row)?)?;
+    }
+    Ok(JobReport {
+        job: owned(alloc, row.name.as_str())?,
+        priority: row.priority.get(),
+        version: row.version.get(),
+        stopped: row.stopped,
+        groups,
+    })
+}
+
+fn group(alloc: Global, row: &Group) -> Result<GroupReport, NoMemory> {
+    Ok(GroupReport {
+        group: owned(alloc, row.name.as_str())?,
+        count: row.count.get(),
+        class: owned(alloc, row.class.as_str())?,
+        cpu: row.size.cpu.get(),
+        mem: row.size.mem.get(),
+    })
+}
+
+fn nodes(alloc: Global, state: &Cluster) -> Result<Vec<NodeReport>, NoMemory> {
+    let mut reports = Vec::new(alloc);
+    for row in state.node_table().rows() {
+        reports.push(node(alloc, state, row)?)?;
+    }
+    Ok(reports)
+}
+
+fn node(alloc: Global, state: &Cluster, row: &Node) -> Result<NodeReport, NoMemory> {
+    let used = state.used(row.number);
+    Ok(NodeReport {
+        node: row.number.number(),
+        class: owned(alloc, row.class.as_str())?,
+        status: node_word(row.status),
+        eligible: row.eligible,
+        drain: drain_word(row.drain),
+        cpu: row.size.cpu.get(),
+        cpu_used: used.cpu(),
+        mem: row.size.mem.get(),
+        mem_used: used.mem(),
+    })
+}
+
+fn evaluations(alloc: Global, state: &Cluster) -> Result<Vec<EvaluationReport>, NoMemory> {
+    let mut reports = Vec::new(alloc);
+    for row in state.eval_table().rows() {
+        reports.push(evaluation(alloc, state, row)?)?;
+    }
+    Ok(reports)
+}
+
+fn evaluation(
+    alloc: Global,
+    state: &Cluster,
+    row: &Evaluation,
+) -> Result<EvaluationReport, NoMemory> {
+    Ok(EvaluationReport {
+        evaluation: eval_text(alloc, &row.id)?,
+        job: owned(alloc, row.job.as_str())?,
+        priority: row.priority.get(),
+        status: status_word(row.status),
+        snapshot: row.snapshot.get(),
+        groups: placements(alloc, state, row)?,
+    })
+}
+
+fn allocations(alloc: Global, state: &Cluster) -> Result<Vec<AllocationReport>, NoMemory> {
+    let mut reports = Vec::new(alloc);
+    for row in state.alloc_table().rows() {
+        reports.push(allocation(alloc, row)?)?;
+    }
+    Ok(reports)
+}
+
+fn allocation(alloc: Global, row: &Allocation) -> Result<AllocationReport, NoMemory> {
+    Ok(AllocationReport {
+        allocation: alloc_text(alloc, &row.id)?,
+        name: name_text(alloc, row)?,
+        node: row.node.number(),
+        cpu: row.size.cpu.get(),
+        mem: row.size.mem.get(),
+        desired: desired_word(row.desired),
+        state: client_word(row.client),
+        migrate: row.migrate,
+        evaluation: eval_text(alloc, &row.eval)?,
+    })
+}

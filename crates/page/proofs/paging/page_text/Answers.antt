@@ -1,0 +1,13 @@
+use Rattle.std.proofs.Common.{length, subst, sym}
+use Rattle.picture.specs.Pictures.{IsRunPicture}
+use Rattle.page.proofs.paging.page_text.Goals as goal
+
+pub returns-clause-page : goal.returns-clause-page
+returns-clause-page c =
+    let drawn_as = IsRunPicture c.args.servers (length c.args.nodes.now) (length c.args.events.now) in
+    record {
+      picture = c.as_str.result.now;
+      json = c.as_str-2.result.now;
+      drawn = subst drawn_as (sym c.as_str.ensures.value) c.in_ok-drawn.ensures.picture;
+      whole = c.in_ok-text.ensures;
+    }

@@ -1,0 +1,4 @@
+pub mod Numbers
+pub mod Plays
+pub mod GoodSteps
+pub mod Steps

@@ -1,0 +1,109 @@
+//! Messages in flight.
+ghost use Rattle.std.specs.Prelude.{◌≡◌, ◌++◌, ◌∷◌, ◌+◌, ◌<◌, [], OnOk, OnErr, IfSome, IfNone, max, length, MatchOption, slice_get, Some};
+ghost use Rattle.std.specs.List.{remove};
+ghost use Rattle.playing.specs.Flight.{newly_sent};
+
+use crate::waiting::Waiting;
+use rows::NoMemory;
+use std::alloc::Global;
+use std::marker::Model;
+
+/// The numbers of the messages in flight: those that were sent, in that order, but for those that a
+/// flow has taken; behind them those that were put in flight again.
+#[derive(Drop)]
+pub struct Flight {
+    alloc: Global,
+    waiting: Waiting,
+    // How many these are.
+    many: usize,
+    // How many of the messages ever sent have been put in flight.
+    seen: u64,
+}
+
+impl Model for Flight {
+    ghost use Rattle.std.specs.Prelude.{◌≡◌, length};
+    ghost use Rattle.playing.specs.Flight.{InFlight};
+    ghost use Rattle.playing.specs.Inner.Waiting.{IsCounted, numbers};
+
+    ghost Value = { InFlight };
+
+    ghost view = { λ f. record { waiting = numbers f.waiting; seen = f.seen } };
+
+    ghost invariant = { λ f. IsCounted f.waiting × (f.many ≡ length (numbers f.waiting)) };
+}
+
+impl Flight {
+    /// No message.
+    pub fn new(alloc: Global) -> Flight
+        ensures { (result.waiting ≡ []) × (result.seen ≡ 0) }
+    {
+        Flight {
+            alloc,
+            waiting: Waiting::new(alloc),
+            many: 0,
+            seen: 0,
+        }
+    }
+
+    /// How many messages are in flight.
+    pub fn len(&self) -> usize
+        ensures { result ≡ length self.now.waiting }
+    {
+        self.many
+    }
+
+    /// Puts the messages sent since the last call behind the others, `sent` being the number of all
+    /// that were ever sent.
+    pub fn admit(&mut self, sent: u64) -> Result<(), NoMemory>
+        ensures order { OnOk result (self.new.waiting ≡ self.old.waiting
+            ++ newly_sent self.old.seen sent) }
+        ensures seen { OnOk result (self.new.seen ≡ max self.old.seen sent) }
+    {
+        for number in self.seen..sent {
+            self.put_again(number + 1)?;
+        }
+        self.seen = self.seen.max(sent);
+        Ok(())
+    }
+
+    /// Takes the message at the front; none where none is in flight.
+    pub fn take(&mut self) -> Option<u64>
+        ensures front { MatchOption result ((self.old.waiting ≡ []) × (self.new.waiting ≡ []))
+            (λ message. self.old.waiting ≡ message ∷ self.new.waiting) }
+        ensures seen { self.new.seen ≡ self.old.seen }
+    {
+        self.take_at(0)
+    }
+
+    /// Takes the message at a place, the front being place 0; none where fewer are in flight. The
+    /// others stay in their order.
+    pub fn take_at(&mut self, place: usize) -> Option<u64>
+        ensures some { IfSome result (λ message. (slice_get self.old.waiting place ≡ Some message)
+            × (self.new.waiting ≡ remove self.old.waiting place)) }
+        ensures none { IfNone result (length self.old.waiting < place + 1) }
+        ensures left { IfNone result (self.new ≡ self.old) }
+        ensures seen { self.new.seen ≡ self.old.seen }
+    {
+        if place >= self.many {
+            return None;
+        }
+        let message = self.waiting.take_at(self.alloc, place);
+        self.many -= 1;
+        if self.many == 0 {
+            self.waiting = Waiting::new(self.alloc);
+        }
+        Some(message)
+    }
+
+    /// Puts a message in flight again, behind the others. Without memory nothing changes.
+    pub fn put_again(&mut self, message: u64) -> Result<(), NoMemory>
+        ensures behind { OnOk result (self.new.waiting ≡ self.old.waiting ++ message ∷ []) }
+        ensures seen { self.new.seen ≡ self.old.seen }
+        ensures left { OnErr result (self.new ≡ self.old) }
+    {
+        let more = self.many.checked_add(1).ok_or(NoMemory)?;
+        self.waiting.push(self.alloc, self.many, message)?;
+        self.many = more;
+        Ok(())
+    }
+}

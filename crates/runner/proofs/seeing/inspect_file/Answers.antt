@@ -1,0 +1,20 @@
+use Rattle.std.proofs.Common.{◌≡◌, length, refl, rules}
+use Rattle.std.proofs.lemmas.List.{length-map}
+use Rattle.world.specs.GroupEvents.{group_event}
+use Rattle.transcript.specs.Transcripts.{IsTranscript, recorded}
+use Rattle.runner.proofs.Tellings.{of_file}
+use Rattle.runner.proofs.seeing.inspect_file.Goals as goal
+
+pub returns-clause-told : goal.returns-clause-told
+returns-clause-told g c =
+    let t = c.in_ok-transcript.transcript in
+    let r = recorded t in
+    let all_is : c.len-all.result ≡ length t.events.items = search rules in
+    record {
+      recorded = r;
+      read = of_file (IsTranscript r) _ c.in_ok-bytes.bytes.items c.in_ok-bytes.ensures.bytes (rw c.as_slice.ensures.value at c.in_ok-transcript.ensures.named);
+      after = c.in-Some.after;
+      asked = rw (length-map t.events.items group_event) (rw all_is at c.in-Some.ensures);
+      lines = c.in_ok-print_standing.ensures.lines;
+      taken = refl;
+    }

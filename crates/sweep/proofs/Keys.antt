@@ -1,0 +1,84 @@
+-- Rows by their keys.
+use Rattle.std.proofs.Common.{◌≡◌, ◌∙◌, ◌+◌, ◌<◌, ◌≤◌, ◌⊎◌, ◌++◌, ◌∷◌, ℕ, zero, suc, List, [], Option, Some, None, Result, Ok, Err, HoldsAt, MatchOption, ap, arith, inl, inr, length, map, option_copied, refl, replicate, set, slice_get, subst, sym}
+use denote.Ref.{Bor}
+use Rattle.std.specs.Prelude.{IfOk, MatchResult}
+use Rattle.std.specs.List.{All, AllZip, Contains}
+use Rattle.std.proofs.lemmas.List.Elements.{All-cons, All-nil}
+use Rattle.std.proofs.lemmas.List.FromFn.{map-range_with_len_more}
+use Rattle.std.proofs.lemmas.Option.{same_Some, slice_get-get_or}
+use Rattle.std.proofs.lemmas.Slice.Zip.{all_zipped_more}
+use Rattle.scenario_file.specs.declared.scenario.Scenario.{Scenario}
+use Rattle.scenario_file.specs.declared.scenario.Settings.{Settings}
+use Rattle.sweep.specs.declared.row.Row.{Row}
+use Rattle.sweep.specs.Inner.Found.{AreFound}
+use Rattle.sweep.specs.Rows.{IsRow, key_at, keys_from}
+
+-- ---- one key more
+
+one_more_key : (first n : ℕ) → keys_from first (n + 1) ≡ keys_from first n ++ key_at first n ∷ []
+one_more_key first n = map-range_with_len_more (key_at first) 0 n n (omega arith)
+
+module _ (s : Scenario) (settings : Settings) (first : ℕ) where
+  pub one_more_row : (n : ℕ) (rows : List Row) (row : Row) → AllZip (IsRow s settings) (keys_from first n) rows → IsRow s settings (key_at first n) row
+      → AllZip (IsRow s settings) (keys_from first (n + 1)) (rows ++ row ∷ [])
+  one_more_row n rows row are is =
+      rw (one_more_key first n) (all_zipped_more (IsRow s settings) (keys_from first n) rows (key_at first n) row are is)
+
+  -- ---- rows at their places
+
+  none_there : (n place : ℕ) (row : Row) → slice_get (replicate n None) place ≡ Some (Some row) → ⊥
+  none_there zero place row at = cc
+  none_there (suc n) zero row at = cc
+  none_there (suc n) (suc place) row at = none_there n place row at
+
+  pub none_found : (n : ℕ) → AreFound s settings first (replicate n None)
+  none_found n place row at = absurd (none_there n place row at)
+
+  set_cases : (xs : List (Option Row)) (i k : ℕ) (y z : Option Row) → slice_get (set xs i y) k ≡ Some z → ((k ≡ i) × (y ≡ z)) ⊎ (slice_get xs k ≡ Some z)
+  set_cases [] i k y z at = inr at
+  set_cases (x ∷ xs) zero zero y z at = inl (refl, same_Some y z at)
+  set_cases (x ∷ xs) zero (suc k) y z at = inr at
+  set_cases (x ∷ xs) (suc i) zero y z at = inr at
+  set_cases (x ∷ xs) (suc i) (suc k) y z at = elim (set_cases xs i k y z at) [
+    | inl same ↦ inl (ap suc same.0, same.1)
+    | inr before ↦ inr before
+  ]
+
+  pub one_more_found : (found : List (Option Row)) (place : ℕ) (row : Row) → AreFound s settings first found → IsRow s settings (key_at first place) row
+      → AreFound s settings first (set found place (Some row))
+  one_more_found found place row was is k other at = elim (set_cases found place k (Some row) (Some other) at) [
+    | inl same ↦
+        let own : IsRow s settings (key_at first place) other = subst (IsRow s settings (key_at first place)) (same_Some row other same.1) is in
+        subst (λ n. IsRow s settings (key_at first n) other) (sym same.0) own
+    | inr before ↦ was k other before
+  ]
+
+-- ---- what is read at a place
+
+pub read_at : {X : Type 0} (xs : List X) (i : ℕ) (got : Option (Bor X)) (x : X) → MatchOption got (length xs ≤ i) (λ b. (i < length xs) × HoldsAt (λ y. b.now ≡ y) xs i)
+    → option_copied got ≡ Some x
+    → slice_get xs i ≡ Some x
+read_at xs i None x at is = cc
+read_at xs i (Some b) x at is = slice_get-get_or xs i x at.0 ∙ ap Some (sym (at.1 x)) ∙ is
+
+-- ---- what each worker brings
+
+-- where each of these is Ok, and what each Ok holds has P, all of them have P
+pub all_in_oks : {T E : Type 0} (P : T → Type 0) (ys : List T) → All (λ (r : Result T E). IfOk r P) (map Ok ys) → All P ys
+all_in_oks P [] all = All-nil P
+all_in_oks {T} {E} P (y ∷ ys) all = All-cons P y ys (all 0 (Ok y) (omega arith)) (all_in_oks {E = E} P ys (λ k d lt. all (suc k) d (omega arith)))
+
+pub all_zipped : {N T : Type 0} (P : T → Type 0) (R : N → T → Type 0) → ((n : N) (x : T) → R n x → P x) → (ns : List N) (xs : List T) → AllZip R ns xs → All P xs
+all_zipped P R each [] [] zip = All-nil P
+all_zipped P R each [] (x ∷ xs) zip = absurd zip
+all_zipped P R each (n ∷ ns) [] zip = absurd zip
+all_zipped P R each (n ∷ ns) (x ∷ xs) zip = All-cons P x xs (each n x zip.0) (all_zipped P R each ns xs zip.1)
+
+-- what is gathered of these, where each of them is Ok
+pub all_gathered : {T E C : Type 0} (P : T → Type 0) (items : C → List T) (xs : List (Result T E)) (r : Result C E)
+    → All (λ x. IfOk x P) xs
+    → MatchResult r (λ c. (ys : List T) × (xs ≡ map Ok ys) × (items c ≡ ys)) (λ e. Contains xs (Err e))
+    → IfOk r (λ c. All P (items c))
+all_gathered {T} {E} P items xs (Ok c) all is =
+    rw is.2 (all_in_oks {E = E} P is.0 (subst (All (λ (x : Result T E). IfOk x P)) is.1 all))
+all_gathered P items xs (Err e) all is = tt

@@ -1,0 +1,4 @@
+pub mod Rows
+pub mod Summaries
+pub mod Tables
+pub mod Inner

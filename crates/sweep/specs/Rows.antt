@@ -1,0 +1,41 @@
+-- What the row of a key says: how the run under it ended.
+use Rattle.std.specs.Prelude.{◌≡◌, ◌+◌, ◌%◌, ◌^◌, ℕ, List, length, map}
+use Rattle.std.specs.List.{AllZip, range_with_len}
+use Rattle.scenario_file.specs.declared.scenario.Scenario.{Scenario}
+use Rattle.scenario_file.specs.declared.scenario.Settings.{Settings}
+use Rattle.scenario_file.specs.Objects.{step_lines}
+use Rattle.playing.specs.declared.play.Play.{Play}
+use Rattle.playing.specs.Played.{LinesPlayed, Refused}
+use Rattle.playing.specs.PlaySteps.{StepRefused, StepTaken}
+use Rattle.playing.specs.Plays.{IsNewPlay}
+use Rattle.ending.specs.EndNumbers.{HasNumbers}
+use Rattle.sweep.specs.declared.row.Row.{Row}
+
+-- the same settings under another key
+abbrev pub keyed : Settings → ℕ → Settings
+keyed settings key = record settings { key = key }
+
+-- The steps of the scenario came to a new group of its nodes, with these settings under this key; so
+-- many of them were refused, and the row has the numbers of the last lines of the group to which
+-- they led.
+pub record IsRow (s : Scenario) (settings : Settings) (key : ℕ) (row : Row) : Type 0 where
+  pub is_key : row.key ≡ key
+  pub first : Play
+  pub last : Play
+  pub begun : IsNewPlay (keyed settings key) s.nodes.items first
+  pub refused : List Refused
+  pub played : LinesPlayed StepTaken StepRefused (step_lines s) first refused last
+  pub counted : length refused ≡ row.refused
+  pub ended : HasNumbers last.world row.end
+
+-- the key at a place among those that begin with this one; behind the greatest comes 0
+abbrev pub key_at : ℕ → ℕ → ℕ
+key_at first place = (first + place) % 2 ^ 64
+
+-- so many keys from this one on
+abbrev pub keys_from : ℕ → ℕ → List ℕ
+keys_from first count = map (key_at first) (range_with_len 0 count)
+
+-- a row for each key, in their order
+abbrev pub AreRows : Scenario → Settings → ℕ → ℕ → List Row → Type 0
+AreRows s settings first count rows = AllZip (IsRow s settings) (keys_from first count) rows

@@ -1,0 +1,178 @@
+//! The runs under many keys, on many threads.
+ghost use Rattle.std.specs.Prelude.{◌≡◌, IfOk, length};
+ghost use Rattle.std.specs.List.{All};
+ghost use Rattle.sweep.specs.Inner.Found.{AreFound, IsPlaced};
+ghost use Rattle.sweep.specs.Rows.{AreRows, IsRow, key_at};
+
+use crate::row::{Row, row_of};
+use crate::task::Task;
+use rayon::prelude::*;
+use rows::{NoMemory, Refusal};
+use std::alloc::Global;
+use std::sync::atomic::{AtomicU64, Ordering};
+use std::thread::Threads;
+
+/// Who is told how far a sweep is.
+pub trait Progress {
+    /// So many of so many runs are over.
+    fn done(&self, done: u64, all: u64);
+}
+
+/// Nobody is told.
+#[derive(Clone, Copy)]
+pub struct Unseen;
+
+impl Progress for Unseen {
+    fn done(&self, _done: u64, _all: u64) {}
+}
+
+/// The row of the key at a place.
+#[derive(Clone, Copy)]
+pub struct Placed {
+    /// The place of its key, from 0.
+    pub place: u32,
+    /// How the run under that key ended.
+    pub row: Row,
+}
+
+/// Plays a scenario under each key of a task, on so many threads, and answers a row for each key,
+/// in their order: the same rows whatever the number of threads is. A thread takes the next key
+/// once it is done with one, so that a long run does not hold up the others. Fails with 12 where a
+/// line is no step's, and with 1 where there is no memory.
+pub fn sweep<R: Threads + Sync, P: Progress + Sync>(
+    rt: &R,
+    alloc: Global,
+    task: &Task<'_>,
+    jobs: usize,
+    progress: &P,
+) -> Result<Vec<Row>, Refusal>
+    ensures { IfOk result (λ rows. AreRows task.now.scenario.now task.now.settings
+        task.now.first task.now.count rows.items) }
+{
+    let brought = brought_by_all(rt, alloc, task, jobs, progress)?;
+    let found = found_rows(alloc, task, &brought)?;
+    in_order(alloc, task, &found)
+}
+
+// What each of so many workers brings.
+fn brought_by_all<R: Threads + Sync, P: Progress + Sync>(
+    rt: &R,
+    alloc: Global,
+    task: &Task<'_>,
+    jobs: usize,
+    progress: &P,
+) -> Result<Vec<Vec<Placed>>, Refusal>
+    ensures { IfOk result (λ brought. All (λ rows. All (IsPlaced task.now.scenario.now
+        task.now.settings task.now.first) rows.items) brought.items) }
+{
+    let (next, done) = (AtomicU64::new(0), AtomicU64::new(0));
+    (0..jobs)
+        .into_par_iter()
+        .with_min_len(1)
+        .map(
+            |_worker: usize| -> Result<Vec<Placed>, Refusal>
+                ensures { IfOk result (λ rows. All (IsPlaced task.entry.now.scenario.now
+                    task.entry.now.settings task.entry.now.first) rows.items) }
+            { brought_by_one(alloc, task, &next, &done, progress) },
+        )
+        .collect::<Result<Vec<Vec<Placed>>, Refusal>>(rt, alloc)?
+}
+
+// What one worker brings: it plays under the next key, as long as there is one.
+fn brought_by_one<P: Progress>(
+    alloc: Global,
+    task: &Task<'_>,
+    next: &AtomicU64,
+    done: &AtomicU64,
+    progress: &P,
+) -> Result<Vec<Placed>, Refusal>
+    ensures { IfOk result (λ rows. All (IsPlaced task.now.scenario.now task.now.settings
+        task.now.first) rows.items) }
+{
+    let mut rows = Vec::new(alloc);
+    for _ in 0..task.count {
+        let place = next.fetch_add(1, Ordering::SeqCst);
+        if u64::from(task.count) <= place {
+            break;
+        }
+        rows.push(placed_at(alloc, task, place as u32)?)?;
+        let before = done.fetch_add(1, Ordering::SeqCst);
+        progress.done(before.wrapping_add(1), u64::from(task.count));
+    }
+    Ok(rows)
+}
+
+// Plays under the key at a place.
+fn placed_at(alloc: Global, task: &Task<'_>, place: u32) -> Result<Placed, Refusal>
+    ensures { IfOk result (IsPlaced task.now.scenario.now task.now.settings task.now.first) }
+{
+    let row = row_of(alloc, task.scenario, task.settings, task.key(place))?;
+    Ok(Placed { place, row })
+}
+
+// By the places of their keys, the rows that were brought.
+fn found_rows(
+    alloc: Global,
+    task: &Task<'_>,
+    brought: &[Vec<Placed>],
+) -> Result<Vec<Option<Row>>, NoMemory>
+    requires { All (λ rows. All (IsPlaced task.now.scenario.now task.now.settings
+        task.now.first) rows.items) brought.now }
+    ensures { IfOk result (λ found. AreFound task.now.scenario.now task.now.settings
+        task.now.first found.items) }
+{
+    let mut found = vec![in alloc; None; task.count as usize]?;
+    for rows in brought {
+        put_rows(task, rows, &mut found);
+    }
+    Ok(found)
+}
+
+// Puts rows at their places.
+fn put_rows(task: &Task<'_>, rows: &[Placed], found: &mut [Option<Row>])
+    requires rows { All (IsPlaced task.now.scenario.now task.now.settings task.now.first)
+        rows.now }
+    requires found { AreFound task.now.scenario.now task.now.settings task.now.first found.old }
+    ensures { AreFound task.now.scenario.now task.now.settings task.now.first found.new }
+{
+    for placed in rows {
+        put_row(task, placed, found);
+    }
+}
+
+fn put_row(task: &Task<'_>, placed: &Placed, found: &mut [Option<Row>])
+    requires row { IsPlaced task.now.scenario.now task.now.settings task.now.first placed.now }
+    requires found { AreFound task.now.scenario.now task.now.settings task.now.first found.old }
+    ensures { AreFound task.now.scenario.now task.now.settings task.now.first found.new }
+{
+    let place = placed.place as usize;
+    if place < found.len() {
+        found[place] = Some(placed.row);
+    }
+}
+
+// A row for each key, in order.
+fn in_order(alloc: Global, task: &Task<'_>, found: &[Option<Row>]) -> Result<Vec<Row>, Refusal>
+    requires { AreFound task.now.scenario.now task.now.settings task.now.first found.now }
+    ensures { IfOk result (λ rows. AreRows task.now.scenario.now task.now.settings
+        task.now.first task.now.count rows.items) }
+{
+    let mut rows = Vec::new(alloc);
+    for place in 0..task.count {
+        rows.push(row_at(alloc, task, found, place)?)?;
+    }
+    Ok(rows)
+}
+
+// The row of the key at a place. One that no worker brought is played here: each is brought, which
+// no contract can tell of a number that threads share.
+fn row_at(alloc: Global, task: &Task<'_>, found: &[Option<Row>], place: u32) -> Result<Row, Refusal>
+    requires { AreFound task.now.scenario.now task.now.settings task.now.first found.now }
+    ensures { IfOk result (IsRow task.now.scenario.now task.now.settings
+        (key_at task.now.first place)) }
+{
+    match found.get(place as usize).copied() {
+        Some(Some(row)) => Ok(row),
+        _ => row_of(alloc, task.scenario, task.settings, task.key(place)),
+    }
+}
