@@ -6,23 +6,18 @@ use crate::field::Field;
 use crate::reading::read_term;
 use crate::writing::write_term;
 use machine_model::Entry;
-use rows::{NoMemory, Refusal, Version};
+use rows::{NoMemory, Refusal};
 use std::alloc::Global;
 
 /// The term in eight bytes, and then the command.
 impl<C: Field> Field for Entry<C> {
-    ghost format = { λ version. entry (C.format version) };
+    ghost format = { entry C.format };
 
-    ghost lawful = { λ version. entry_lawful (C.format version) (C.lawful version) };
+    ghost lawful = { entry_lawful C.format C.lawful };
 
-    fn read_at(
-        version: Version,
-        alloc: Global,
-        bytes: &[u8],
-        at: usize,
-    ) -> Result<(Entry<C>, usize), Refusal> {
+    fn read_at(alloc: Global, bytes: &[u8], at: usize) -> Result<(Entry<C>, usize), Refusal> {
         let (term, at) = read_term(bytes, at)?;
-        let (command, at) = C::read_at(version, alloc, bytes, at)?;
+        let (command, at) = C::read_at(alloc, bytes, at)?;
         Ok((Entry { term, command }, at))
     }
 
