@@ -1,5 +1,5 @@
 -- What becomes of the steps of a scenario, in order.
-use Rattle.std.specs.Prelude.{◌≡◌, ◌⊎◌, ◌++◌, ◌∷◌, ℕ, List, [], Option, IfSome}
+use Rattle.std.specs.Prelude.{ℕ, List, Option, IfSome}
 use Rattle.rows.specs.declared.refusal.Refusal.{Refusal}
 use Rattle.transcript.specs.Transcripts.{IsTranscript, record_of}
 use Rattle.scenario_file.specs.declared.scenario.Scenario.{Scenario}
