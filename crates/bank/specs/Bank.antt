@@ -18,8 +18,8 @@ refused c (Some balances) = None
 -- below zero is said by its type.
 abbrev pub bank_meaning : Meaning BankState BankCommand
 bank_meaning = record {
-  states = bank;
-  commands = bank_command;
+  states = λ _. bank;
+  commands = λ _. bank_command;
   safe = λ s. All (λ balance. balance ≤ MOST_MONEY) s.balances;
   empty = record { count = 0; balances = [] };
   noop = Noop;

@@ -4,7 +4,7 @@ ghost use Rattle.fields_model.specs.Fields.{u16};
 ghost use Rattle.fields_model.proofs.FieldLaws.{u16_lawful};
 
 use fields::{Field, read_u16, write_u16};
-use rows::{NoMemory, Refusal};
+use rows::{NoMemory, Refusal, Version};
 use std::alloc::Global;
 use std::marker::Model;
 
@@ -44,11 +44,16 @@ impl AccountId {
 
 /// Two bytes.
 impl Field for AccountId {
-    ghost format = { u16 };
+    ghost format = { λ _. u16 };
 
-    ghost lawful = { u16_lawful };
+    ghost lawful = { λ _. u16_lawful };
 
-    fn read_at(_alloc: Global, bytes: &[u8], at: usize) -> Result<(AccountId, usize), Refusal>
+    fn read_at(
+        _version: Version,
+        _alloc: Global,
+        bytes: &[u8],
+        at: usize,
+    ) -> Result<(AccountId, usize), Refusal>
         ensures { GivesExactly result (u16.read bytes.now at) }
     {
         let (number, next) = read_u16(bytes, at)?;

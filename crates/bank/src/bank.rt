@@ -12,7 +12,7 @@ use crate::account::AccountId;
 use crate::command::BankCommand;
 use crate::money::Money;
 use fields::{Field, read_index, read_long_list, write_index, write_long_counted};
-use rows::{Index, NoMemory, Refusal};
+use rows::{Index, NoMemory, Refusal, Version};
 use std::alloc::Global;
 use std::marker::Model;
 
@@ -198,16 +198,21 @@ impl Bank {
 
 /// The count in eight bytes, and then the balances: their number in four bytes, and each in eight.
 impl Field for Bank {
-    ghost format = { bank };
+    ghost format = { λ _. bank };
 
-    ghost lawful = { bank_text_lawful };
+    ghost lawful = { λ _. bank_text_lawful };
 
-    fn read_at(alloc: Global, bytes: &[u8], at: usize) -> Result<(Bank, usize), Refusal>
+    fn read_at(
+        version: Version,
+        alloc: Global,
+        bytes: &[u8],
+        at: usize,
+    ) -> Result<(Bank, usize), Refusal>
         // Only the list behind the count takes memory.
         ensures { Answers (IsOk (index.read bytes.now at)) result (bank.read bytes.now at) }
     {
         let (count, at) = read_index(bytes, at)?;
-        let (balances, at) = read_long_list::<Money>(alloc, bytes, at, 1000)?;
+        let (balances, at) = read_long_list::<Money>(version, alloc, bytes, at, 1000)?;
         let balances = balances.into_vec();
         Ok((
             Bank {

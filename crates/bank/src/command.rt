@@ -5,7 +5,7 @@ ghost use Rattle.bank.specs.Laws.TextLaws.{bank_command_lawful};
 use crate::account::AccountId;
 use crate::money::Money;
 use fields::{Field, read_u8, write_u8};
-use rows::{NoMemory, Refusal};
+use rows::{NoMemory, Refusal, Version};
 use std::alloc::Global;
 
 /// What moves a bank. Each command adds one to the count. A refused one, applied all the same,
@@ -49,11 +49,16 @@ impl BankCommand {
 /// A tag in one byte; then the accounts in two bytes each, and the amount in eight, as the command
 /// has them.
 impl Field for BankCommand {
-    ghost format = { bank_command };
+    ghost format = { λ _. bank_command };
 
-    ghost lawful = { bank_command_lawful };
+    ghost lawful = { λ _. bank_command_lawful };
 
-    fn read_at(alloc: Global, bytes: &[u8], at: usize) -> Result<(BankCommand, usize), Refusal>
+    fn read_at(
+        version: Version,
+        alloc: Global,
+        bytes: &[u8],
+        at: usize,
+    ) -> Result<(BankCommand, usize), Refusal>
         ensures { GivesExactly result (bank_command.read bytes.now at) }
     {
         let (tag, next) = read_u8(bytes, at)?;
@@ -61,19 +66,19 @@ impl Field for BankCommand {
             0 => Ok((BankCommand::Noop, next)),
             1 => Ok((BankCommand::Open, next)),
             2 => {
-                let (account, next) = AccountId::read_at(alloc, bytes, next)?;
-                let (amount, next) = Money::read_at(alloc, bytes, next)?;
+                let (account, next) = AccountId::read_at(version, alloc, bytes, next)?;
+                let (amount, next) = Money::read_at(version, alloc, bytes, next)?;
                 Ok((BankCommand::Deposit(account, amount), next))
             }
             3 => {
-                let (account, next) = AccountId::read_at(alloc, bytes, next)?;
-                let (amount, next) = Money::read_at(alloc, bytes, next)?;
+                let (account, next) = AccountId::read_at(version, alloc, bytes, next)?;
+                let (amount, next) = Money::read_at(version, alloc, bytes, next)?;
                 Ok((BankCommand::Withdraw(account, amount), next))
             }
             4 => {
-                let (from, next) = AccountId::read_at(alloc, bytes, next)?;
-                let (to, next) = AccountId::read_at(alloc, bytes, next)?;
-                let (amount, next) = Money::read_at(alloc, bytes, next)?;
+                let (from, next) = AccountId::read_at(version, alloc, bytes, next)?;
+                let (to, next) = AccountId::read_at(version, alloc, bytes, next)?;
+                let (amount, next) = Money::read_at(version, alloc, bytes, next)?;
                 Ok((BankCommand::Transfer(from, to, amount), next))
             }
             _ => Err(Refusal::Frame(at)),

@@ -5,7 +5,7 @@ ghost use Rattle.bank.specs.Texts.{money};
 ghost use Rattle.bank.specs.Laws.TextLaws.{money_lawful};
 
 use fields::{Field, read_u64, write_u64};
-use rows::{NoMemory, Refusal};
+use rows::{NoMemory, Refusal, Version};
 use std::alloc::Global;
 use std::marker::Model;
 
@@ -76,11 +76,16 @@ impl Money {
 
 /// The text in eight bytes, at most `MOST`.
 impl Field for Money {
-    ghost format = { money };
+    ghost format = { λ _. money };
 
-    ghost lawful = { money_lawful };
+    ghost lawful = { λ _. money_lawful };
 
-    fn read_at(_alloc: Global, bytes: &[u8], at: usize) -> Result<(Money, usize), Refusal>
+    fn read_at(
+        _version: Version,
+        _alloc: Global,
+        bytes: &[u8],
+        at: usize,
+    ) -> Result<(Money, usize), Refusal>
         ensures { GivesExactly result (money.read bytes.now at) }
     {
         let (number, next) = read_u64(bytes, at)?;

@@ -11,7 +11,7 @@ use crate::bank::Bank;
 use crate::command::BankCommand;
 use fields::{Field, write};
 use machine::Machine;
-use rows::{NoMemory, Refusal};
+use rows::{NoMemory, Refusal, Version};
 use std::alloc::Global;
 
 impl Machine for Bank {
@@ -61,11 +61,11 @@ impl Machine for Bank {
         write(self, out)
     }
 
-    fn load(alloc: Global, bytes: &[u8]) -> Result<Bank, Refusal>
+    fn load(version: Version, alloc: Global, bytes: &[u8]) -> Result<Bank, Refusal>
         // Only the balances behind the count take memory.
         ensures { Answers (IsOk (index.read bytes.now 0)) result (whole bank bytes.now) }
     {
-        let (bank, end) = Bank::read_at(alloc, bytes, 0)?;
+        let (bank, end) = Bank::read_at(version, alloc, bytes, 0)?;
         if end == bytes.len() {
             Ok(bank)
         } else {
@@ -77,9 +77,13 @@ impl Machine for Bank {
         write(command, out)
     }
 
-    fn read_command(alloc: Global, bytes: &[u8]) -> Result<(BankCommand, usize), Refusal>
+    fn read_command(
+        version: Version,
+        alloc: Global,
+        bytes: &[u8],
+    ) -> Result<(BankCommand, usize), Refusal>
         ensures { GivesExactly result (bank_command.read bytes.now 0) }
     {
-        BankCommand::read_at(alloc, bytes, 0)
+        BankCommand::read_at(version, alloc, bytes, 0)
     }
 }

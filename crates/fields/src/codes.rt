@@ -6,16 +6,21 @@ ghost use Rattle.fields_model.proofs.RowLaws.{node_status_lawful, drain_mode_law
 use crate::field::Field;
 use crate::reading::read_u8;
 use crate::writing::write_u8;
-use rows::{ClientState, Desired, DrainMode, EvalStatus, NoMemory, NodeStatus, Refusal};
+use rows::{ClientState, Desired, DrainMode, EvalStatus, NoMemory, NodeStatus, Refusal, Version};
 use std::alloc::Global;
 
 /// One byte: 0 ready, 1 down.
 impl Field for NodeStatus {
-    ghost format = { node_status };
+    ghost format = { λ _. node_status };
 
-    ghost lawful = { node_status_lawful };
+    ghost lawful = { λ _. node_status_lawful };
 
-    fn read_at(_alloc: Global, bytes: &[u8], at: usize) -> Result<(NodeStatus, usize), Refusal>
+    fn read_at(
+        _version: Version,
+        _alloc: Global,
+        bytes: &[u8],
+        at: usize,
+    ) -> Result<(NodeStatus, usize), Refusal>
         ensures { GivesExactly result (node_status.read bytes.now at) }
     {
         match read_u8(bytes, at)? {
@@ -36,11 +41,16 @@ impl Field for NodeStatus {
 
 /// One byte: 0 none, 1 slow, 2 force.
 impl Field for DrainMode {
-    ghost format = { drain_mode };
+    ghost format = { λ _. drain_mode };
 
-    ghost lawful = { drain_mode_lawful };
+    ghost lawful = { λ _. drain_mode_lawful };
 
-    fn read_at(_alloc: Global, bytes: &[u8], at: usize) -> Result<(DrainMode, usize), Refusal>
+    fn read_at(
+        _version: Version,
+        _alloc: Global,
+        bytes: &[u8],
+        at: usize,
+    ) -> Result<(DrainMode, usize), Refusal>
         ensures { GivesExactly result (drain_mode.read bytes.now at) }
     {
         match read_u8(bytes, at)? {
@@ -63,11 +73,16 @@ impl Field for DrainMode {
 
 /// One byte: 0 pending, 1 blocked, 2 complete, 3 failed.
 impl Field for EvalStatus {
-    ghost format = { eval_status };
+    ghost format = { λ _. eval_status };
 
-    ghost lawful = { eval_status_lawful };
+    ghost lawful = { λ _. eval_status_lawful };
 
-    fn read_at(_alloc: Global, bytes: &[u8], at: usize) -> Result<(EvalStatus, usize), Refusal>
+    fn read_at(
+        _version: Version,
+        _alloc: Global,
+        bytes: &[u8],
+        at: usize,
+    ) -> Result<(EvalStatus, usize), Refusal>
         ensures { GivesExactly result (eval_status.read bytes.now at) }
     {
         match read_u8(bytes, at)? {
@@ -92,11 +107,16 @@ impl Field for EvalStatus {
 
 /// One byte: 0 run, 1 stop.
 impl Field for Desired {
-    ghost format = { desired };
+    ghost format = { λ _. desired };
 
-    ghost lawful = { desired_lawful };
+    ghost lawful = { λ _. desired_lawful };
 
-    fn read_at(_alloc: Global, bytes: &[u8], at: usize) -> Result<(Desired, usize), Refusal>
+    fn read_at(
+        _version: Version,
+        _alloc: Global,
+        bytes: &[u8],
+        at: usize,
+    ) -> Result<(Desired, usize), Refusal>
         ensures { GivesExactly result (desired.read bytes.now at) }
     {
         match read_u8(bytes, at)? {
@@ -117,11 +137,16 @@ impl Field for Desired {
 
 /// One byte: 0 pending, 1 running, 2 complete, 3 failed, 4 lost.
 impl Field for ClientState {
-    ghost format = { client_state };
+    ghost format = { λ _. client_state };
 
-    ghost lawful = { client_state_lawful };
+    ghost lawful = { λ _. client_state_lawful };
 
-    fn read_at(_alloc: Global, bytes: &[u8], at: usize) -> Result<(ClientState, usize), Refusal>
+    fn read_at(
+        _version: Version,
+        _alloc: Global,
+        bytes: &[u8],
+        at: usize,
+    ) -> Result<(ClientState, usize), Refusal>
         ensures { GivesExactly result (client_state.read bytes.now at) }
     {
         match read_u8(bytes, at)? {

@@ -1,5 +1,6 @@
 //! Commands, and what a worker submits, as bytes.
 ghost use Rattle.std.specs.Prelude.{◌≡◌};
+ghost use Rattle.rows.specs.Versions.{newest};
 ghost use Rattle.fields_model.specs.Format.{Gives, GivesExactly, Puts};
 ghost use Rattle.fields_model.specs.Commands.{job_spec, node_spec, rising_ids, place, accepted_place, plan, plan_end, accepted_plan, accepted_end, reported_state, report, reports, status_change, command, bodies, later_bodies, tag_of};
 ghost use Rattle.fields_model.proofs.CommandLaws.{job_spec_lawful, node_spec_lawful, rising_ids_lawful, place_lawful, accepted_place_lawful, plan_lawful, accepted_plan_lawful, reported_state_lawful, report_lawful, reports_lawful, status_change_lawful, command_lawful};
@@ -12,7 +13,7 @@ use crate::writing::write_u8;
 use rows::{
     AcceptedPlace, AcceptedPlan, AllocId, Batch, ClassName, Command, EvalId, EvalStatus, GroupName,
     Groups, Index, JobName, JobSpec, NoMemory, NodeId, NodeSpec, Ordinal, Place, Plan, Priority,
-    Refusal, Report, ReportedState, Reports, RisingIds, Size, StatusChange, Token,
+    Refusal, Report, ReportedState, Reports, RisingIds, Size, StatusChange, Token, Version,
 };
 use std::alloc::Global;
 
@@ -22,10 +23,15 @@ impl Field for JobSpec {
 
     ghost lawful = { job_spec_lawful };
 
-    fn read_at(alloc: Global, bytes: &[u8], at: usize) -> Result<(JobSpec, usize), Refusal> {
-        let (name, at) = JobName::read_at(alloc, bytes, at)?;
-        let (priority, at) = Priority::read_at(alloc, bytes, at)?;
-        let (groups, at) = Groups::read_at(alloc, bytes, at)?;
+    fn read_at(
+        version: Version,
+        alloc: Global,
+        bytes: &[u8],
+        at: usize,
+    ) -> Result<(JobSpec, usize), Refusal> {
+        let (name, at) = JobName::read_at(version, alloc, bytes, at)?;
+        let (priority, at) = Priority::read_at(version, alloc, bytes, at)?;
+        let (groups, at) = Groups::read_at(version, alloc, bytes, at)?;
         Ok((
             JobSpec {
                 name,
@@ -49,12 +55,17 @@ impl Field for NodeSpec {
 
     ghost lawful = { node_spec_lawful };
 
-    fn read_at(alloc: Global, bytes: &[u8], at: usize) -> Result<(NodeSpec, usize), Refusal>
-        ensures { GivesExactly result (node_spec.read bytes.now at) }
+    fn read_at(
+        version: Version,
+        alloc: Global,
+        bytes: &[u8],
+        at: usize,
+    ) -> Result<(NodeSpec, usize), Refusal>
+        ensures { GivesExactly result ((node_spec version).read bytes.now at) }
     {
-        let (number, at) = NodeId::read_at(alloc, bytes, at)?;
-        let (class, at) = ClassName::read_at(alloc, bytes, at)?;
-        let (size, at) = Size::read_at(alloc, bytes, at)?;
+        let (number, at) = NodeId::read_at(version, alloc, bytes, at)?;
+        let (class, at) = ClassName::read_at(version, alloc, bytes, at)?;
+        let (size, at) = Size::read_at(version, alloc, bytes, at)?;
         Ok((
             NodeSpec {
                 number,
@@ -77,12 +88,17 @@ impl<F: Field> Field for Batch<F> {
     ghost use Rattle.fields_model.specs.Commands.{batch};
     ghost use Rattle.fields_model.proofs.BatchLaws.{batch_lawful};
 
-    ghost format = { batch F.format };
+    ghost format = { λ version. batch (F.format version) };
 
-    ghost lawful = { batch_lawful F.format F.lawful };
+    ghost lawful = { λ version. batch_lawful (F.format version) (F.lawful version) };
 
-    fn read_at(alloc: Global, bytes: &[u8], at: usize) -> Result<(Batch<F>, usize), Refusal> {
-        let (items, next) = read_list(alloc, bytes, at, 64)?;
+    fn read_at(
+        version: Version,
+        alloc: Global,
+        bytes: &[u8],
+        at: usize,
+    ) -> Result<(Batch<F>, usize), Refusal> {
+        let (items, next) = read_list(version, alloc, bytes, at, 64)?;
         match Batch::check(items) {
             Ok(batch) => Ok((batch, next)),
             Err(_) => unreachable!(),
@@ -96,12 +112,17 @@ impl<F: Field> Field for Batch<F> {
 
 /// A count of one byte, from 1 to 64, and that many ids that rise strictly.
 impl Field for RisingIds {
-    ghost format = { rising_ids };
+    ghost format = { λ _. rising_ids };
 
-    ghost lawful = { rising_ids_lawful };
+    ghost lawful = { λ _. rising_ids_lawful };
 
-    fn read_at(alloc: Global, bytes: &[u8], at: usize) -> Result<(RisingIds, usize), Refusal> {
-        let (items, next) = read_ruled_list(alloc, bytes, at, 64)?;
+    fn read_at(
+        version: Version,
+        alloc: Global,
+        bytes: &[u8],
+        at: usize,
+    ) -> Result<(RisingIds, usize), Refusal> {
+        let (items, next) = read_ruled_list(version, alloc, bytes, at, 64)?;
         match RisingIds::check(items) {
             Ok(items) => Ok((items, next)),
             Err(_) => Err(Refusal::Frame(at)),
@@ -115,16 +136,21 @@ impl Field for RisingIds {
 
 /// A place of a plan: the group, the index and the node.
 impl Field for Place {
-    ghost format = { place };
+    ghost format = { λ _. place };
 
-    ghost lawful = { place_lawful };
+    ghost lawful = { λ _. place_lawful };
 
-    fn read_at(alloc: Global, bytes: &[u8], at: usize) -> Result<(Place, usize), Refusal>
+    fn read_at(
+        version: Version,
+        alloc: Global,
+        bytes: &[u8],
+        at: usize,
+    ) -> Result<(Place, usize), Refusal>
         ensures { GivesExactly result (place.read bytes.now at) }
     {
-        let (group, at) = GroupName::read_at(alloc, bytes, at)?;
-        let (index, at) = Ordinal::read_at(alloc, bytes, at)?;
-        let (node, at) = NodeId::read_at(alloc, bytes, at)?;
+        let (group, at) = GroupName::read_at(version, alloc, bytes, at)?;
+        let (index, at) = Ordinal::read_at(version, alloc, bytes, at)?;
+        let (node, at) = NodeId::read_at(version, alloc, bytes, at)?;
         Ok((Place { group, index, node }, at))
     }
 
@@ -141,13 +167,18 @@ impl Field for AcceptedPlace {
 
     ghost lawful = { accepted_place_lawful };
 
-    fn read_at(alloc: Global, bytes: &[u8], at: usize) -> Result<(AcceptedPlace, usize), Refusal>
-        ensures { GivesExactly result (accepted_place.read bytes.now at) }
+    fn read_at(
+        version: Version,
+        alloc: Global,
+        bytes: &[u8],
+        at: usize,
+    ) -> Result<(AcceptedPlace, usize), Refusal>
+        ensures { GivesExactly result ((accepted_place version).read bytes.now at) }
     {
-        let (group, at) = GroupName::read_at(alloc, bytes, at)?;
-        let (index, at) = Ordinal::read_at(alloc, bytes, at)?;
-        let (node, at) = NodeId::read_at(alloc, bytes, at)?;
-        let (size, at) = Size::read_at(alloc, bytes, at)?;
+        let (group, at) = GroupName::read_at(version, alloc, bytes, at)?;
+        let (index, at) = Ordinal::read_at(version, alloc, bytes, at)?;
+        let (node, at) = NodeId::read_at(version, alloc, bytes, at)?;
+        let (size, at) = Size::read_at(version, alloc, bytes, at)?;
         Ok((
             AcceptedPlace {
                 group,
@@ -179,24 +210,29 @@ fn append_plan_end(plan: &Plan, out: &mut Vec<u8>) -> Result<(), NoMemory>
 
 /// What a worker submits: evaluation, token, job, version, snapshot, stops and places.
 impl Field for Plan {
-    ghost format = { plan };
+    ghost format = { λ _. plan };
 
-    ghost lawful = { plan_lawful };
+    ghost lawful = { λ _. plan_lawful };
 
-    fn read_at(alloc: Global, bytes: &[u8], at: usize) -> Result<(Plan, usize), Refusal> {
-        let (eval, at) = EvalId::read_at(alloc, bytes, at)?;
-        let (token, at) = Token::read_at(alloc, bytes, at)?;
-        let (job, at) = JobName::read_at(alloc, bytes, at)?;
-        let (version, at) = Index::read_at(alloc, bytes, at)?;
-        let (snapshot, at) = Index::read_at(alloc, bytes, at)?;
-        let (stops, at) = Batch::read_at(alloc, bytes, at)?;
-        let (places, at) = Batch::read_at(alloc, bytes, at)?;
+    fn read_at(
+        version: Version,
+        alloc: Global,
+        bytes: &[u8],
+        at: usize,
+    ) -> Result<(Plan, usize), Refusal> {
+        let (eval, at) = EvalId::read_at(version, alloc, bytes, at)?;
+        let (token, at) = Token::read_at(version, alloc, bytes, at)?;
+        let (job, at) = JobName::read_at(version, alloc, bytes, at)?;
+        let (job_version, at) = Index::read_at(version, alloc, bytes, at)?;
+        let (snapshot, at) = Index::read_at(version, alloc, bytes, at)?;
+        let (stops, at) = Batch::read_at(version, alloc, bytes, at)?;
+        let (places, at) = Batch::read_at(version, alloc, bytes, at)?;
         Ok((
             Plan {
                 eval,
                 token,
                 job,
-                version,
+                version: job_version,
                 snapshot,
                 stops,
                 places,
@@ -215,7 +251,8 @@ impl Field for Plan {
 
 /// The snapshot, the stops and the places.
 fn append_accepted_end(plan: &AcceptedPlan, out: &mut Vec<u8>) -> Result<(), NoMemory>
-    ensures { Puts accepted_end (plan.now.snapshot, (plan.now.stops, plan.now.places)) result out.old.items out.new.items }
+    ensures { Puts (accepted_end newest) (plan.now.snapshot, (plan.now.stops, plan.now.places))
+        result out.old.items out.new.items }
 {
     plan.snapshot.append(out)?;
     plan.stops.append(out)?;
@@ -228,13 +265,18 @@ impl Field for AcceptedPlan {
 
     ghost lawful = { accepted_plan_lawful };
 
-    fn read_at(alloc: Global, bytes: &[u8], at: usize) -> Result<(AcceptedPlan, usize), Refusal> {
-        let (eval, at) = EvalId::read_at(alloc, bytes, at)?;
-        let (token, at) = Token::read_at(alloc, bytes, at)?;
-        let (job, at) = JobName::read_at(alloc, bytes, at)?;
-        let (snapshot, at) = Index::read_at(alloc, bytes, at)?;
-        let (stops, at) = Batch::read_at(alloc, bytes, at)?;
-        let (places, at) = Batch::read_at(alloc, bytes, at)?;
+    fn read_at(
+        version: Version,
+        alloc: Global,
+        bytes: &[u8],
+        at: usize,
+    ) -> Result<(AcceptedPlan, usize), Refusal> {
+        let (eval, at) = EvalId::read_at(version, alloc, bytes, at)?;
+        let (token, at) = Token::read_at(version, alloc, bytes, at)?;
+        let (job, at) = JobName::read_at(version, alloc, bytes, at)?;
+        let (snapshot, at) = Index::read_at(version, alloc, bytes, at)?;
+        let (stops, at) = Batch::read_at(version, alloc, bytes, at)?;
+        let (places, at) = Batch::read_at(version, alloc, bytes, at)?;
         Ok((
             AcceptedPlan {
                 eval,
@@ -258,11 +300,16 @@ impl Field for AcceptedPlan {
 
 /// One byte: 1 running, 2 complete, 3 failed.
 impl Field for ReportedState {
-    ghost format = { reported_state };
+    ghost format = { λ _. reported_state };
 
-    ghost lawful = { reported_state_lawful };
+    ghost lawful = { λ _. reported_state_lawful };
 
-    fn read_at(_alloc: Global, bytes: &[u8], at: usize) -> Result<(ReportedState, usize), Refusal>
+    fn read_at(
+        _version: Version,
+        _alloc: Global,
+        bytes: &[u8],
+        at: usize,
+    ) -> Result<(ReportedState, usize), Refusal>
         ensures { GivesExactly result (reported_state.read bytes.now at) }
     {
         match read_u8(bytes, at)? {
@@ -285,15 +332,20 @@ impl Field for ReportedState {
 
 /// An item of a report: the allocation and its state.
 impl Field for Report {
-    ghost format = { report };
+    ghost format = { λ _. report };
 
-    ghost lawful = { report_lawful };
+    ghost lawful = { λ _. report_lawful };
 
-    fn read_at(alloc: Global, bytes: &[u8], at: usize) -> Result<(Report, usize), Refusal>
+    fn read_at(
+        version: Version,
+        alloc: Global,
+        bytes: &[u8],
+        at: usize,
+    ) -> Result<(Report, usize), Refusal>
         ensures { GivesExactly result (report.read bytes.now at) }
     {
-        let (id, at) = AllocId::read_at(alloc, bytes, at)?;
-        let (state, at) = ReportedState::read_at(alloc, bytes, at)?;
+        let (id, at) = AllocId::read_at(version, alloc, bytes, at)?;
+        let (state, at) = ReportedState::read_at(version, alloc, bytes, at)?;
         Ok((Report { id, state }, at))
     }
 
@@ -305,12 +357,17 @@ impl Field for Report {
 
 /// A count of one byte, from 1 to 64, and that many items.
 impl Field for Reports {
-    ghost format = { reports };
+    ghost format = { λ _. reports };
 
-    ghost lawful = { reports_lawful };
+    ghost lawful = { λ _. reports_lawful };
 
-    fn read_at(alloc: Global, bytes: &[u8], at: usize) -> Result<(Reports, usize), Refusal> {
-        let (items, next) = read_list(alloc, bytes, at, 64)?;
+    fn read_at(
+        version: Version,
+        alloc: Global,
+        bytes: &[u8],
+        at: usize,
+    ) -> Result<(Reports, usize), Refusal> {
+        let (items, next) = read_list(version, alloc, bytes, at, 64)?;
         match Reports::check(items) {
             Ok(items) => Ok((items, next)),
             Err(_) => Err(Refusal::Frame(at)),
@@ -325,14 +382,19 @@ impl Field for Reports {
 /// The status, and the index of the state at which an evaluation was found blocked, which is 0 for
 /// any other.
 impl Field for StatusChange {
-    ghost format = { status_change };
+    ghost format = { λ _. status_change };
 
-    ghost lawful = { status_change_lawful };
+    ghost lawful = { λ _. status_change_lawful };
 
-    fn read_at(alloc: Global, bytes: &[u8], at: usize) -> Result<(StatusChange, usize), Refusal>
+    fn read_at(
+        version: Version,
+        alloc: Global,
+        bytes: &[u8],
+        at: usize,
+    ) -> Result<(StatusChange, usize), Refusal>
         ensures { GivesExactly result (status_change.read bytes.now at) }
     {
-        let (status, at) = EvalStatus::read_at(alloc, bytes, at)?;
+        let (status, at) = EvalStatus::read_at(version, alloc, bytes, at)?;
         let change = match status {
             EvalStatus::Blocked => {
                 let (snapshot, next) = read_index(bytes, at)?;
@@ -374,74 +436,76 @@ fn tag(command: &Command) -> u8
 
 /// What follows a tag.
 fn read_body(
+    version: Version,
     alloc: Global,
     tag: usize,
     bytes: &[u8],
     at: usize,
 ) -> Result<(Command, usize), Refusal>
-    ensures { Gives result ((bodies tag).read bytes.now at) }
+    ensures { Gives result ((bodies version tag).read bytes.now at) }
 {
     match tag {
         0 => Ok((Command::Noop, at)),
         1 => {
-            let (job, at) = JobSpec::read_at(alloc, bytes, at)?;
+            let (job, at) = JobSpec::read_at(version, alloc, bytes, at)?;
             Ok((Command::JobPut(job), at))
         }
         2 => {
-            let (name, at) = JobName::read_at(alloc, bytes, at)?;
+            let (name, at) = JobName::read_at(version, alloc, bytes, at)?;
             Ok((Command::JobStop(name), at))
         }
         3 => {
-            let (node, at) = NodeSpec::read_at(alloc, bytes, at)?;
+            let (node, at) = NodeSpec::read_at(version, alloc, bytes, at)?;
             Ok((Command::NodePut(node), at))
         }
         4 => {
-            let (node, at) = NodeId::read_at(alloc, bytes, at)?;
+            let (node, at) = NodeId::read_at(version, alloc, bytes, at)?;
             Ok((Command::NodeDown(node), at))
         }
         5 => {
-            let (node, at) = NodeId::read_at(alloc, bytes, at)?;
+            let (node, at) = NodeId::read_at(version, alloc, bytes, at)?;
             let (force, at) = read_bool(bytes, at)?;
             Ok((Command::Drain(node, force), at))
         }
         6 => {
-            let (node, at) = NodeId::read_at(alloc, bytes, at)?;
+            let (node, at) = NodeId::read_at(version, alloc, bytes, at)?;
             Ok((Command::DrainDone(node), at))
         }
-        _ => read_later_body(alloc, tag, bytes, at),
+        _ => read_later_body(version, alloc, tag, bytes, at),
     }
 }
 
 /// What follows a tag from 7 on.
 fn read_later_body(
+    version: Version,
     alloc: Global,
     tag: usize,
     bytes: &[u8],
     at: usize,
 ) -> Result<(Command, usize), Refusal>
-    ensures { Gives result ((later_bodies tag).read bytes.now at) }
+    ensures { Gives result ((later_bodies version tag).read bytes.now at) }
 {
     match tag {
         7 => {
-            let (ids, at) = RisingIds::read_at(alloc, bytes, at)?;
+            let (ids, at) = RisingIds::read_at(version, alloc, bytes, at)?;
             Ok((Command::Migrate(ids), at))
         }
         8 => {
-            let (name, at) = JobName::read_at(alloc, bytes, at)?;
+            let (name, at) = JobName::read_at(version, alloc, bytes, at)?;
             Ok((Command::EvalPut(name), at))
         }
         9 => {
-            let (eval, at) = EvalId::read_at(alloc, bytes, at)?;
-            let (change, at) = StatusChange::read_at(alloc, bytes, at)?;
+            let (eval, at) = EvalId::read_at(version, alloc, bytes, at)?;
+            let (change, at) = StatusChange::read_at(version, alloc, bytes, at)?;
             Ok((Command::EvalStatus(eval, change), at))
         }
         10 => {
-            let (plan, at) = AcceptedPlan::read_at(alloc, bytes, at)?;
+            let (plan, at) = AcceptedPlan::read_at(version, alloc, bytes, at)?;
             Ok((Command::Plan(plan), at))
         }
         11 => {
-            let (node, at) = NodeId::read_at(alloc, bytes, at)?;
-            let (items, at) = Reports::read_at(alloc, bytes, at)?;
+            let (node, at) = NodeId::read_at(version, alloc, bytes, at)?;
+            let (items, at) = Reports::read_at(version, alloc, bytes, at)?;
             Ok((Command::Report(node, items), at))
         }
         _ => Err(Refusal::Frame(at)),
@@ -450,7 +514,8 @@ fn read_later_body(
 
 /// Puts what follows the tag to the end.
 fn append_body(command: &Command, out: &mut Vec<u8>) -> Result<(), NoMemory>
-    ensures { Puts (bodies (tag_of command.now)) command.now result out.old.items out.new.items }
+    ensures { Puts (bodies newest (tag_of command.now)) command.now result
+        out.old.items out.new.items }
 {
     match command {
         Command::Noop => Ok(()),
@@ -483,9 +548,14 @@ impl Field for Command {
 
     ghost lawful = { command_lawful };
 
-    fn read_at(alloc: Global, bytes: &[u8], at: usize) -> Result<(Command, usize), Refusal> {
+    fn read_at(
+        version: Version,
+        alloc: Global,
+        bytes: &[u8],
+        at: usize,
+    ) -> Result<(Command, usize), Refusal> {
         let (tag, next) = read_count(bytes, at, 11)?;
-        read_body(alloc, tag, bytes, next)
+        read_body(version, alloc, tag, bytes, next)
     }
 
     fn append(&self, out: &mut Vec<u8>) -> Result<(), NoMemory> {

@@ -6,18 +6,23 @@ use crate::field::Field;
 use crate::reading::read_term;
 use crate::writing::write_term;
 use machine_model::Entry;
-use rows::{NoMemory, Refusal};
+use rows::{NoMemory, Refusal, Version};
 use std::alloc::Global;
 
 /// The term in eight bytes, and then the command.
 impl<C: Field> Field for Entry<C> {
-    ghost format = { entry C.format };
+    ghost format = { λ version. entry (C.format version) };
 
-    ghost lawful = { entry_lawful C.format C.lawful };
+    ghost lawful = { λ version. entry_lawful (C.format version) (C.lawful version) };
 
-    fn read_at(alloc: Global, bytes: &[u8], at: usize) -> Result<(Entry<C>, usize), Refusal> {
+    fn read_at(
+        version: Version,
+        alloc: Global,
+        bytes: &[u8],
+        at: usize,
+    ) -> Result<(Entry<C>, usize), Refusal> {
         let (term, at) = read_term(bytes, at)?;
-        let (command, at) = C::read_at(alloc, bytes, at)?;
+        let (command, at) = C::read_at(version, alloc, bytes, at)?;
         Ok((Entry { term, command }, at))
     }
 

@@ -1,3 +1,5 @@
+ghost use Rattle.std.specs.Prelude.{ℕ};
+ghost use Rattle.rows.specs.Versions.{newest};
 ghost use Rattle.fields_model.specs.Format.{Format, Gives, GivesExactly, Puts, Writes, Lawful, whole};
 ghost use Rattle.fields_model.specs.Fields.{term, index, server, bool, byte, u16, u32, u64, actor};
 ghost use Rattle.fields_model.proofs.FieldLaws.{term_lawful, index_lawful, server_lawful, bool_lawful, byte_lawful, u16_lawful, u32_lawful, u64_lawful, actor_lawful};
@@ -10,36 +12,43 @@ use crate::writing::{
     take_back, write_actor, write_bool, write_index, write_server, write_term, write_u8, write_u16,
     write_u32, write_u64,
 };
-use rows::{Actor, Index, NoMemory, Refusal, ServerId, Term};
+use rows::{Actor, Index, NoMemory, Refusal, ServerId, Term, Version};
 use std::alloc::Global;
 
-/// A type with a format: how a value is read at a place, and how it is written. The format is
-/// lawful: each value has one text, and each text that is read is the text of its value.
+/// A type with a format in each version of texts: how a value is read at a place, and how it is
+/// written, which is in the newest. Each format is lawful: each value has one text, and each text
+/// that is read is the text of its value. A type that has no versions has one format in all.
 pub trait Field: Sized + Drop {
-    /// The texts of the values, and how they are read.
-    ghost format: { Format Self };
+    /// The texts of the values in each version, and how they are read.
+    ghost format: { ℕ → Format Self };
 
-    /// Reads the value whose text stands at a place, whatever follows it, with the place after it.
-    /// Where none does, `Frame` names the first byte of the first field that is cut or out of
-    /// range. Only a reader that takes memory answers `NoMemory`, and none answers another refusal.
-    fn read_at(alloc: Global, bytes: &[u8], at: usize) -> Result<(Self, usize), Refusal>
-        ensures { Gives result (format.read bytes.now at) };
+    /// Reads the value whose text of a version stands at a place, whatever follows it, with the
+    /// place after it. Where none does, `Frame` names the first byte of the first field that is cut
+    /// or out of range. Only a reader that takes memory answers `NoMemory`, and none answers
+    /// another refusal.
+    fn read_at(
+        version: Version,
+        alloc: Global,
+        bytes: &[u8],
+        at: usize,
+    ) -> Result<(Self, usize), Refusal>
+        ensures { Gives result ((format version).read bytes.now at) };
 
-    /// Puts the text to the end. After an error a part of a text may stand there: `write` takes
-    /// that back.
+    /// Puts the text of the newest version to the end. After an error a part of a text may stand
+    /// there: `write` takes that back.
     fn append(&self, out: &mut Vec<u8>) -> Result<(), NoMemory>
-        ensures { Puts format self.now result out.old.items out.new.items };
+        ensures { Puts (format newest) self.now result out.old.items out.new.items };
 
     /// What is read stands there, and what stands there is read.
-    ghost lawful: { Lawful format };
+    ghost lawful: { (version : ℕ) → Lawful (format version) };
 }
 
-/// Reads the value whose text is all of the bytes. Where some are left over, `Frame` names the
-/// first of them.
-pub fn read_whole<F: Field>(alloc: Global, bytes: &[u8]) -> Result<F, Refusal>
-    ensures { Gives result (whole F.format bytes.now) }
+/// Reads the value whose text of a version is all of the bytes. Where some are left over, `Frame`
+/// names the first of them.
+pub fn read_whole<F: Field>(version: Version, alloc: Global, bytes: &[u8]) -> Result<F, Refusal>
+    ensures { Gives result (whole (F.format version) bytes.now) }
 {
-    let (value, end) = F::read_at(alloc, bytes, 0)?;
+    let (value, end) = F::read_at(version, alloc, bytes, 0)?;
     if end == bytes.len() {
         Ok(value)
     } else {
@@ -47,9 +56,9 @@ pub fn read_whole<F: Field>(alloc: Global, bytes: &[u8]) -> Result<F, Refusal>
     }
 }
 
-/// Puts the text to the end. Without memory the buffer stays as it was.
+/// Puts the text of the newest version to the end. Without memory the buffer stays as it was.
 pub fn write<F: Field>(value: &F, out: &mut Vec<u8>) -> Result<(), NoMemory>
-    ensures { Writes F.format value.now result out.old.items out.new.items }
+    ensures { Writes (F.format newest) value.now result out.old.items out.new.items }
 {
     let start = out.len();
     let done = value.append(out);
@@ -57,11 +66,16 @@ pub fn write<F: Field>(value: &F, out: &mut Vec<u8>) -> Result<(), NoMemory>
 }
 
 impl Field for Term {
-    ghost format = { term };
+    ghost format = { λ _. term };
 
-    ghost lawful = { term_lawful };
+    ghost lawful = { λ _. term_lawful };
 
-    fn read_at(_alloc: Global, bytes: &[u8], at: usize) -> Result<(Term, usize), Refusal>
+    fn read_at(
+        _version: Version,
+        _alloc: Global,
+        bytes: &[u8],
+        at: usize,
+    ) -> Result<(Term, usize), Refusal>
         ensures { GivesExactly result (term.read bytes.now at) }
     {
         read_term(bytes, at)
@@ -73,11 +87,16 @@ impl Field for Term {
 }
 
 impl Field for Index {
-    ghost format = { index };
+    ghost format = { λ _. index };
 
-    ghost lawful = { index_lawful };
+    ghost lawful = { λ _. index_lawful };
 
-    fn read_at(_alloc: Global, bytes: &[u8], at: usize) -> Result<(Index, usize), Refusal>
+    fn read_at(
+        _version: Version,
+        _alloc: Global,
+        bytes: &[u8],
+        at: usize,
+    ) -> Result<(Index, usize), Refusal>
         ensures { GivesExactly result (index.read bytes.now at) }
     {
         read_index(bytes, at)
@@ -89,11 +108,16 @@ impl Field for Index {
 }
 
 impl Field for ServerId {
-    ghost format = { server };
+    ghost format = { λ _. server };
 
-    ghost lawful = { server_lawful };
+    ghost lawful = { λ _. server_lawful };
 
-    fn read_at(_alloc: Global, bytes: &[u8], at: usize) -> Result<(ServerId, usize), Refusal>
+    fn read_at(
+        _version: Version,
+        _alloc: Global,
+        bytes: &[u8],
+        at: usize,
+    ) -> Result<(ServerId, usize), Refusal>
         ensures { GivesExactly result (server.read bytes.now at) }
     {
         read_server(bytes, at)
@@ -105,11 +129,16 @@ impl Field for ServerId {
 }
 
 impl Field for bool {
-    ghost format = { bool };
+    ghost format = { λ _. bool };
 
-    ghost lawful = { bool_lawful };
+    ghost lawful = { λ _. bool_lawful };
 
-    fn read_at(_alloc: Global, bytes: &[u8], at: usize) -> Result<(bool, usize), Refusal>
+    fn read_at(
+        _version: Version,
+        _alloc: Global,
+        bytes: &[u8],
+        at: usize,
+    ) -> Result<(bool, usize), Refusal>
         ensures { GivesExactly result (bool.read bytes.now at) }
     {
         read_bool(bytes, at)
@@ -121,11 +150,16 @@ impl Field for bool {
 }
 
 impl Field for u8 {
-    ghost format = { byte };
+    ghost format = { λ _. byte };
 
-    ghost lawful = { byte_lawful };
+    ghost lawful = { λ _. byte_lawful };
 
-    fn read_at(_alloc: Global, bytes: &[u8], at: usize) -> Result<(u8, usize), Refusal>
+    fn read_at(
+        _version: Version,
+        _alloc: Global,
+        bytes: &[u8],
+        at: usize,
+    ) -> Result<(u8, usize), Refusal>
         ensures { GivesExactly result (byte.read bytes.now at) }
     {
         read_u8(bytes, at)
@@ -137,11 +171,16 @@ impl Field for u8 {
 }
 
 impl Field for Actor {
-    ghost format = { actor };
+    ghost format = { λ _. actor };
 
-    ghost lawful = { actor_lawful };
+    ghost lawful = { λ _. actor_lawful };
 
-    fn read_at(_alloc: Global, bytes: &[u8], at: usize) -> Result<(Actor, usize), Refusal>
+    fn read_at(
+        _version: Version,
+        _alloc: Global,
+        bytes: &[u8],
+        at: usize,
+    ) -> Result<(Actor, usize), Refusal>
         ensures { GivesExactly result (actor.read bytes.now at) }
     {
         read_actor(bytes, at)
@@ -153,11 +192,16 @@ impl Field for Actor {
 }
 
 impl Field for u16 {
-    ghost format = { u16 };
+    ghost format = { λ _. u16 };
 
-    ghost lawful = { u16_lawful };
+    ghost lawful = { λ _. u16_lawful };
 
-    fn read_at(_alloc: Global, bytes: &[u8], at: usize) -> Result<(u16, usize), Refusal>
+    fn read_at(
+        _version: Version,
+        _alloc: Global,
+        bytes: &[u8],
+        at: usize,
+    ) -> Result<(u16, usize), Refusal>
         ensures { GivesExactly result (u16.read bytes.now at) }
     {
         read_u16(bytes, at)
@@ -169,11 +213,16 @@ impl Field for u16 {
 }
 
 impl Field for u32 {
-    ghost format = { u32 };
+    ghost format = { λ _. u32 };
 
-    ghost lawful = { u32_lawful };
+    ghost lawful = { λ _. u32_lawful };
 
-    fn read_at(_alloc: Global, bytes: &[u8], at: usize) -> Result<(u32, usize), Refusal>
+    fn read_at(
+        _version: Version,
+        _alloc: Global,
+        bytes: &[u8],
+        at: usize,
+    ) -> Result<(u32, usize), Refusal>
         ensures { GivesExactly result (u32.read bytes.now at) }
     {
         read_u32(bytes, at)
@@ -185,11 +234,16 @@ impl Field for u32 {
 }
 
 impl Field for u64 {
-    ghost format = { u64 };
+    ghost format = { λ _. u64 };
 
-    ghost lawful = { u64_lawful };
+    ghost lawful = { λ _. u64_lawful };
 
-    fn read_at(_alloc: Global, bytes: &[u8], at: usize) -> Result<(u64, usize), Refusal>
+    fn read_at(
+        _version: Version,
+        _alloc: Global,
+        bytes: &[u8],
+        at: usize,
+    ) -> Result<(u64, usize), Refusal>
         ensures { GivesExactly result (u64.read bytes.now at) }
     {
         read_u64(bytes, at)

@@ -11,22 +11,23 @@ use crate::list::append_counted;
 use crate::ruled::{RuledField, read_ruled_list};
 use rows::{
     AllocId, ClassName, Group, GroupCount, GroupName, Groups, NoMemory, Refusal, Ruled, Size,
-    is_new_name,
+    Version, is_new_name,
 };
 use std::alloc::Global;
 
 /// What follows the name.
 fn read_group_of(
+    version: Version,
     alloc: Global,
     name: GroupName,
     bytes: &[u8],
     at: usize,
 ) -> Result<(Group, usize), Refusal>
-    ensures { GivesExactly result (group_of name bytes.now at) }
+    ensures { GivesExactly result (group_of version name bytes.now at) }
 {
-    let (count, at) = GroupCount::read_at(alloc, bytes, at)?;
-    let (class, at) = ClassName::read_at(alloc, bytes, at)?;
-    let (size, at) = Size::read_at(alloc, bytes, at)?;
+    let (count, at) = GroupCount::read_at(version, alloc, bytes, at)?;
+    let (class, at) = ClassName::read_at(version, alloc, bytes, at)?;
+    let (size, at) = Size::read_at(version, alloc, bytes, at)?;
     Ok((
         Group {
             name,
@@ -44,11 +45,16 @@ impl Field for Group {
 
     ghost lawful = { group_lawful };
 
-    fn read_at(alloc: Global, bytes: &[u8], at: usize) -> Result<(Group, usize), Refusal>
-        ensures { GivesExactly result (group.read bytes.now at) }
+    fn read_at(
+        version: Version,
+        alloc: Global,
+        bytes: &[u8],
+        at: usize,
+    ) -> Result<(Group, usize), Refusal>
+        ensures { GivesExactly result ((group version).read bytes.now at) }
     {
-        let (name, next) = GroupName::read_at(alloc, bytes, at)?;
-        read_group_of(alloc, name, bytes, next)
+        let (name, next) = GroupName::read_at(version, alloc, bytes, at)?;
+        read_group_of(version, alloc, name, bytes, next)
     }
 
     fn append(&self, out: &mut Vec<u8>) -> Result<(), NoMemory> {
@@ -69,16 +75,17 @@ impl RuledField for Group {
     ghost ruled = { group_is_ruled };
 
     fn read_behind(
+        version: Version,
         alloc: Global,
         bytes: &[u8],
         at: usize,
         front: &[Group],
     ) -> Result<(Group, usize), Refusal>
-        ensures { GivesExactly result ((group_behind front.now).read bytes.now at) }
+        ensures { GivesExactly result ((group_behind version front.now).read bytes.now at) }
     {
-        let (name, next) = GroupName::read_at(alloc, bytes, at)?;
+        let (name, next) = GroupName::read_at(version, alloc, bytes, at)?;
         if is_new_name(front, &name) {
-            read_group_of(alloc, name, bytes, next)
+            read_group_of(version, alloc, name, bytes, next)
         } else {
             Err(Refusal::Frame(at))
         }
@@ -91,8 +98,13 @@ impl Field for Groups {
 
     ghost lawful = { groups_lawful };
 
-    fn read_at(alloc: Global, bytes: &[u8], at: usize) -> Result<(Groups, usize), Refusal> {
-        let (items, next) = read_ruled_list(alloc, bytes, at, 8)?;
+    fn read_at(
+        version: Version,
+        alloc: Global,
+        bytes: &[u8],
+        at: usize,
+    ) -> Result<(Groups, usize), Refusal> {
+        let (items, next) = read_ruled_list(version, alloc, bytes, at, 8)?;
         match Groups::check(items) {
             Ok(groups) => Ok((groups, next)),
             Err(_) => Err(Refusal::Frame(at)),
@@ -108,11 +120,12 @@ impl Field for Groups {
 impl RuledField for AllocId {
     ghost rule = { id_rises };
 
-    ghost behind = { allocation_id_behind };
+    ghost behind = { λ _. allocation_id_behind };
 
-    ghost ruled = { allocation_id_is_ruled };
+    ghost ruled = { λ _. allocation_id_is_ruled };
 
     fn read_behind(
+        version: Version,
         alloc: Global,
         bytes: &[u8],
         at: usize,
@@ -120,7 +133,7 @@ impl RuledField for AllocId {
     ) -> Result<(AllocId, usize), Refusal>
         ensures { GivesExactly result ((allocation_id_behind front.now).read bytes.now at) }
     {
-        let (id, next) = AllocId::read_at(alloc, bytes, at)?;
+        let (id, next) = AllocId::read_at(version, alloc, bytes, at)?;
         if id.may_follow(front) {
             Ok((id, next))
         } else {

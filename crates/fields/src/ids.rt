@@ -8,18 +8,23 @@ use crate::reading::{read_name, read_u8, read_u16, read_u32, read_u64};
 use crate::writing::{write_u8, write_u16, write_u32, write_u64};
 use rows::{
     AllocId, Delivery, EntryIndex, EvalId, GroupCount, Index, LeaderTerm, Name, NoMemory, NodeId,
-    Ordinal, Priority, Quantity, Refusal, Serial, Size, Token,
+    Ordinal, Priority, Quantity, Refusal, Serial, Size, Token, Version,
 };
 use std::alloc::Global;
 
 /// One byte from 1 to 32, and that many bytes of `a` to `z`, `0` to `9` and `-`. Whatever is wrong
 /// is a fault at the first.
 impl Field for Name {
-    ghost format = { name };
+    ghost format = { λ _. name };
 
-    ghost lawful = { name_lawful };
+    ghost lawful = { λ _. name_lawful };
 
-    fn read_at(_alloc: Global, bytes: &[u8], at: usize) -> Result<(Name, usize), Refusal>
+    fn read_at(
+        _version: Version,
+        _alloc: Global,
+        bytes: &[u8],
+        at: usize,
+    ) -> Result<(Name, usize), Refusal>
         ensures { GivesExactly result (name.read bytes.now at) }
     {
         read_name(bytes, at)
@@ -35,11 +40,16 @@ impl Field for Name {
 
 /// Four bytes, from 1 to 1,000,000.
 impl Field for Quantity {
-    ghost format = { quantity };
+    ghost format = { λ _. quantity };
 
-    ghost lawful = { quantity_lawful };
+    ghost lawful = { λ _. quantity_lawful };
 
-    fn read_at(_alloc: Global, bytes: &[u8], at: usize) -> Result<(Quantity, usize), Refusal>
+    fn read_at(
+        _version: Version,
+        _alloc: Global,
+        bytes: &[u8],
+        at: usize,
+    ) -> Result<(Quantity, usize), Refusal>
         ensures { GivesExactly result (quantity.read bytes.now at) }
     {
         let (number, next) = read_u32(bytes, at)?;
@@ -56,11 +66,16 @@ impl Field for Quantity {
 
 /// One byte, from 1 to 64.
 impl Field for NodeId {
-    ghost format = { node_id };
+    ghost format = { λ _. node_id };
 
-    ghost lawful = { node_id_lawful };
+    ghost lawful = { λ _. node_id_lawful };
 
-    fn read_at(_alloc: Global, bytes: &[u8], at: usize) -> Result<(NodeId, usize), Refusal>
+    fn read_at(
+        _version: Version,
+        _alloc: Global,
+        bytes: &[u8],
+        at: usize,
+    ) -> Result<(NodeId, usize), Refusal>
         ensures { GivesExactly result (node_id.read bytes.now at) }
     {
         let (number, next) = read_u8(bytes, at)?;
@@ -77,11 +92,16 @@ impl Field for NodeId {
 
 /// One byte, at most 63.
 impl Field for Ordinal {
-    ghost format = { ordinal };
+    ghost format = { λ _. ordinal };
 
-    ghost lawful = { ordinal_lawful };
+    ghost lawful = { λ _. ordinal_lawful };
 
-    fn read_at(_alloc: Global, bytes: &[u8], at: usize) -> Result<(Ordinal, usize), Refusal>
+    fn read_at(
+        _version: Version,
+        _alloc: Global,
+        bytes: &[u8],
+        at: usize,
+    ) -> Result<(Ordinal, usize), Refusal>
         ensures { GivesExactly result (ordinal.read bytes.now at) }
     {
         let (number, next) = read_u8(bytes, at)?;
@@ -98,11 +118,16 @@ impl Field for Ordinal {
 
 /// One byte, from 1 to 100.
 impl Field for Priority {
-    ghost format = { priority };
+    ghost format = { λ _. priority };
 
-    ghost lawful = { priority_lawful };
+    ghost lawful = { λ _. priority_lawful };
 
-    fn read_at(_alloc: Global, bytes: &[u8], at: usize) -> Result<(Priority, usize), Refusal>
+    fn read_at(
+        _version: Version,
+        _alloc: Global,
+        bytes: &[u8],
+        at: usize,
+    ) -> Result<(Priority, usize), Refusal>
         ensures { GivesExactly result (priority.read bytes.now at) }
     {
         let (number, next) = read_u8(bytes, at)?;
@@ -119,11 +144,16 @@ impl Field for Priority {
 
 /// One byte, at most 64.
 impl Field for GroupCount {
-    ghost format = { group_count };
+    ghost format = { λ _. group_count };
 
-    ghost lawful = { group_count_lawful };
+    ghost lawful = { λ _. group_count_lawful };
 
-    fn read_at(_alloc: Global, bytes: &[u8], at: usize) -> Result<(GroupCount, usize), Refusal>
+    fn read_at(
+        _version: Version,
+        _alloc: Global,
+        bytes: &[u8],
+        at: usize,
+    ) -> Result<(GroupCount, usize), Refusal>
         ensures { GivesExactly result (group_count.read bytes.now at) }
     {
         let (number, next) = read_u8(bytes, at)?;
@@ -140,11 +170,16 @@ impl Field for GroupCount {
 
 /// Eight bytes, from 1 to 2^40 - 1.
 impl Field for EntryIndex {
-    ghost format = { from_one };
+    ghost format = { λ _. from_one };
 
-    ghost lawful = { from_one_lawful };
+    ghost lawful = { λ _. from_one_lawful };
 
-    fn read_at(_alloc: Global, bytes: &[u8], at: usize) -> Result<(EntryIndex, usize), Refusal>
+    fn read_at(
+        _version: Version,
+        _alloc: Global,
+        bytes: &[u8],
+        at: usize,
+    ) -> Result<(EntryIndex, usize), Refusal>
         ensures { GivesExactly result (from_one.read bytes.now at) }
     {
         let (number, next) = read_u64(bytes, at)?;
@@ -161,11 +196,16 @@ impl Field for EntryIndex {
 
 /// Eight bytes, from 1 to 2^40 - 1.
 impl Field for LeaderTerm {
-    ghost format = { from_one };
+    ghost format = { λ _. from_one };
 
-    ghost lawful = { from_one_lawful };
+    ghost lawful = { λ _. from_one_lawful };
 
-    fn read_at(_alloc: Global, bytes: &[u8], at: usize) -> Result<(LeaderTerm, usize), Refusal>
+    fn read_at(
+        _version: Version,
+        _alloc: Global,
+        bytes: &[u8],
+        at: usize,
+    ) -> Result<(LeaderTerm, usize), Refusal>
         ensures { GivesExactly result (from_one.read bytes.now at) }
     {
         let (number, next) = read_u64(bytes, at)?;
@@ -182,11 +222,16 @@ impl Field for LeaderTerm {
 
 /// Eight bytes, from 1 to 2^40 - 1.
 impl Field for Serial {
-    ghost format = { from_one };
+    ghost format = { λ _. from_one };
 
-    ghost lawful = { from_one_lawful };
+    ghost lawful = { λ _. from_one_lawful };
 
-    fn read_at(_alloc: Global, bytes: &[u8], at: usize) -> Result<(Serial, usize), Refusal>
+    fn read_at(
+        _version: Version,
+        _alloc: Global,
+        bytes: &[u8],
+        at: usize,
+    ) -> Result<(Serial, usize), Refusal>
         ensures { GivesExactly result (from_one.read bytes.now at) }
     {
         let (number, next) = read_u64(bytes, at)?;
@@ -207,11 +252,16 @@ impl Field for Size {
 
     ghost lawful = { size_lawful };
 
-    fn read_at(alloc: Global, bytes: &[u8], at: usize) -> Result<(Size, usize), Refusal>
-        ensures { GivesExactly result (size.read bytes.now at) }
+    fn read_at(
+        version: Version,
+        alloc: Global,
+        bytes: &[u8],
+        at: usize,
+    ) -> Result<(Size, usize), Refusal>
+        ensures { GivesExactly result ((size version).read bytes.now at) }
     {
-        let (cpu, at) = Quantity::read_at(alloc, bytes, at)?;
-        let (mem, at) = Quantity::read_at(alloc, bytes, at)?;
+        let (cpu, at) = Quantity::read_at(version, alloc, bytes, at)?;
+        let (mem, at) = Quantity::read_at(version, alloc, bytes, at)?;
         Ok((Size { cpu, mem }, at))
     }
 
@@ -223,14 +273,19 @@ impl Field for Size {
 
 /// The entry, and then the place in two bytes, below 256.
 impl Field for EvalId {
-    ghost format = { evaluation_id };
+    ghost format = { λ _. evaluation_id };
 
-    ghost lawful = { evaluation_id_lawful };
+    ghost lawful = { λ _. evaluation_id_lawful };
 
-    fn read_at(alloc: Global, bytes: &[u8], at: usize) -> Result<(EvalId, usize), Refusal>
+    fn read_at(
+        version: Version,
+        alloc: Global,
+        bytes: &[u8],
+        at: usize,
+    ) -> Result<(EvalId, usize), Refusal>
         ensures { GivesExactly result (evaluation_id.read bytes.now at) }
     {
-        let (index, at) = EntryIndex::read_at(alloc, bytes, at)?;
+        let (index, at) = EntryIndex::read_at(version, alloc, bytes, at)?;
         match read_u16(bytes, at)? {
             (slot, next) if slot < 256 => Ok((
                 EvalId {
@@ -251,15 +306,20 @@ impl Field for EvalId {
 
 /// The entry, and then the place in one byte.
 impl Field for AllocId {
-    ghost format = { allocation_id };
+    ghost format = { λ _. allocation_id };
 
-    ghost lawful = { allocation_id_lawful };
+    ghost lawful = { λ _. allocation_id_lawful };
 
-    fn read_at(alloc: Global, bytes: &[u8], at: usize) -> Result<(AllocId, usize), Refusal>
+    fn read_at(
+        version: Version,
+        alloc: Global,
+        bytes: &[u8],
+        at: usize,
+    ) -> Result<(AllocId, usize), Refusal>
         ensures { GivesExactly result (allocation_id.read bytes.now at) }
     {
-        let (index, at) = EntryIndex::read_at(alloc, bytes, at)?;
-        let (slot, at) = Ordinal::read_at(alloc, bytes, at)?;
+        let (index, at) = EntryIndex::read_at(version, alloc, bytes, at)?;
+        let (slot, at) = Ordinal::read_at(version, alloc, bytes, at)?;
         Ok((AllocId { index, slot }, at))
     }
 
@@ -271,15 +331,20 @@ impl Field for AllocId {
 
 /// The term, and then the serial.
 impl Field for Token {
-    ghost format = { token };
+    ghost format = { λ _. token };
 
-    ghost lawful = { token_lawful };
+    ghost lawful = { λ _. token_lawful };
 
-    fn read_at(alloc: Global, bytes: &[u8], at: usize) -> Result<(Token, usize), Refusal>
+    fn read_at(
+        version: Version,
+        alloc: Global,
+        bytes: &[u8],
+        at: usize,
+    ) -> Result<(Token, usize), Refusal>
         ensures { GivesExactly result (token.read bytes.now at) }
     {
-        let (term, at) = LeaderTerm::read_at(alloc, bytes, at)?;
-        let (serial, at) = Serial::read_at(alloc, bytes, at)?;
+        let (term, at) = LeaderTerm::read_at(version, alloc, bytes, at)?;
+        let (serial, at) = Serial::read_at(version, alloc, bytes, at)?;
         Ok((Token { term, serial }, at))
     }
 
@@ -291,16 +356,21 @@ impl Field for Token {
 
 /// The evaluation, the token, and then the index to wait for.
 impl Field for Delivery {
-    ghost format = { delivery };
+    ghost format = { λ _. delivery };
 
-    ghost lawful = { delivery_lawful };
+    ghost lawful = { λ _. delivery_lawful };
 
-    fn read_at(alloc: Global, bytes: &[u8], at: usize) -> Result<(Delivery, usize), Refusal>
+    fn read_at(
+        version: Version,
+        alloc: Global,
+        bytes: &[u8],
+        at: usize,
+    ) -> Result<(Delivery, usize), Refusal>
         ensures { GivesExactly result (delivery.read bytes.now at) }
     {
-        let (eval, at) = EvalId::read_at(alloc, bytes, at)?;
-        let (token, at) = Token::read_at(alloc, bytes, at)?;
-        let (wait, at) = Index::read_at(alloc, bytes, at)?;
+        let (eval, at) = EvalId::read_at(version, alloc, bytes, at)?;
+        let (token, at) = Token::read_at(version, alloc, bytes, at)?;
+        let (wait, at) = Index::read_at(version, alloc, bytes, at)?;
         Ok((Delivery { eval, token, wait }, at))
     }
 

@@ -1,27 +1,30 @@
-//! Lists and options of any field. A list is its count, in one byte or in four, and then its items;
-//! an option is a flag, and the value where there is one.
+//! Lists and options of any field, read in a version and written in the newest. A list is its
+//! count, in one byte or in four, and then its items; an option is a flag, and the value where
+//! there is one.
 ghost use Rattle.std.specs.Prelude.{length, ◌≤◌};
+ghost use Rattle.rows.specs.Versions.{newest};
 ghost use Rattle.fields_model.specs.Format.{Gives, Puts, Writes, items_at, items, list, option};
 
 use crate::field::Field;
 use crate::reading::{read_bool, read_count, read_long_count};
 use crate::writing::{take_back, write_bool, write_u8, write_u32};
-use rows::{NoMemory, Refusal, Sequence};
+use rows::{NoMemory, Refusal, Sequence, Version};
 use std::alloc::Global;
 
 /// So many values, one after the other. `Frame` names the first field of an item that is at fault.
 pub fn read_items<F: Field>(
+    version: Version,
     alloc: Global,
     bytes: &[u8],
     at: usize,
     count: usize,
 ) -> Result<(Sequence<F>, usize), Refusal>
-    ensures { Gives result (items_at F.format count bytes.now at) }
+    ensures { Gives result (items_at (F.format version) count bytes.now at) }
 {
     let mut items = Vec::new(alloc);
     let mut at = at;
     for _ in 0..count {
-        let (item, next) = F::read_at(alloc, bytes, at)?;
+        let (item, next) = F::read_at(version, alloc, bytes, at)?;
         items.push(item)?;
         at = next;
     }
@@ -30,42 +33,45 @@ pub fn read_items<F: Field>(
 
 /// A count of one byte, and that many values. A count of more than `most` is a fault at the count.
 pub fn read_list<F: Field>(
+    version: Version,
     alloc: Global,
     bytes: &[u8],
     at: usize,
     most: u8,
 ) -> Result<(Sequence<F>, usize), Refusal>
-    ensures { Gives result ((list 1 most F.format).read bytes.now at) }
+    ensures { Gives result ((list 1 most (F.format version)).read bytes.now at) }
 {
     let (count, next) = read_count(bytes, at, most)?;
-    read_items(alloc, bytes, next, count)
+    read_items(version, alloc, bytes, next, count)
 }
 
 /// A count of four bytes, and that many values. A count of more than `most` is a fault at the
 /// count.
 pub fn read_long_list<F: Field>(
+    version: Version,
     alloc: Global,
     bytes: &[u8],
     at: usize,
     most: u32,
 ) -> Result<(Sequence<F>, usize), Refusal>
-    ensures { Gives result ((list 4 most F.format).read bytes.now at) }
+    ensures { Gives result ((list 4 most (F.format version)).read bytes.now at) }
 {
     let (count, next) = read_long_count(bytes, at, most)?;
-    read_items(alloc, bytes, next, count)
+    read_items(version, alloc, bytes, next, count)
 }
 
 /// A flag, 0 for none or 1, and the value where there is one.
 pub fn read_option<F: Field>(
+    version: Version,
     alloc: Global,
     bytes: &[u8],
     at: usize,
 ) -> Result<(Option<F>, usize), Refusal>
-    ensures { Gives result ((option F.format).read bytes.now at) }
+    ensures { Gives result ((option (F.format version)).read bytes.now at) }
 {
     let (there, at) = read_bool(bytes, at)?;
     if there {
-        let (value, at) = F::read_at(alloc, bytes, at)?;
+        let (value, at) = F::read_at(version, alloc, bytes, at)?;
         Ok((Some(value), at))
     } else {
         Ok((None, at))
@@ -74,7 +80,8 @@ pub fn read_option<F: Field>(
 
 /// Puts the values to the end, one after the other. Without memory some of them may stand there.
 fn append_items<F: Field>(values: &[F], out: &mut Vec<u8>) -> Result<(), NoMemory>
-    ensures { Puts (items (length values.now) F.format) values.now result out.old.items out.new.items }
+    ensures { Puts (items (length values.now) (F.format newest)) values.now result
+        out.old.items out.new.items }
 {
     for value in values {
         value.append(out)?;
@@ -90,7 +97,7 @@ pub(crate) fn append_counted<F: Field>(
     out: &mut Vec<u8>,
 ) -> Result<(), NoMemory>
     requires { length values.now ≤ most }
-    ensures { Puts (list 1 most F.format) values.now result out.old.items out.new.items }
+    ensures { Puts (list 1 most (F.format newest)) values.now result out.old.items out.new.items }
 {
     write_u8(&(values.len() as u8), out)?;
     append_items(values, out)
@@ -104,7 +111,7 @@ pub(crate) fn append_long_counted<F: Field>(
     out: &mut Vec<u8>,
 ) -> Result<(), NoMemory>
     requires { length values.now ≤ most }
-    ensures { Puts (list 4 most F.format) values.now result out.old.items out.new.items }
+    ensures { Puts (list 4 most (F.format newest)) values.now result out.old.items out.new.items }
 {
     write_u32(&(values.len() as u32), out)?;
     append_items(values, out)
@@ -113,7 +120,7 @@ pub(crate) fn append_long_counted<F: Field>(
 /// Puts a flag to the end, and the value where there is one. Without memory a part of this may
 /// stand there.
 fn append_option<F: Field>(value: &Option<F>, out: &mut Vec<u8>) -> Result<(), NoMemory>
-    ensures { Puts (option F.format) value.now result out.old.items out.new.items }
+    ensures { Puts (option (F.format newest)) value.now result out.old.items out.new.items }
 {
     match value {
         None => write_bool(&false, out),
@@ -126,7 +133,8 @@ fn append_option<F: Field>(value: &Option<F>, out: &mut Vec<u8>) -> Result<(), N
 
 /// Puts the values to the end, one after the other. Without memory the buffer stays as it was.
 pub fn write_items<F: Field>(values: &[F], out: &mut Vec<u8>) -> Result<(), NoMemory>
-    ensures { Writes (items (length values.now) F.format) values.now result out.old.items out.new.items }
+    ensures { Writes (items (length values.now) (F.format newest)) values.now result
+        out.old.items out.new.items }
 {
     let start = out.len();
     let done = append_items(values, out);
@@ -137,7 +145,7 @@ pub fn write_items<F: Field>(values: &[F], out: &mut Vec<u8>) -> Result<(), NoMe
 /// Without memory the buffer stays as it was.
 pub fn write_counted<F: Field>(values: &[F], most: u8, out: &mut Vec<u8>) -> Result<(), NoMemory>
     requires { length values.now ≤ most }
-    ensures { Writes (list 1 most F.format) values.now result out.old.items out.new.items }
+    ensures { Writes (list 1 most (F.format newest)) values.now result out.old.items out.new.items }
 {
     let start = out.len();
     let done = append_counted(values, most, out);
@@ -152,7 +160,7 @@ pub fn write_list<F: Field>(
     out: &mut Vec<u8>,
 ) -> Result<(), NoMemory>
     requires { length values.now ≤ most }
-    ensures { Writes (list 1 most F.format) values.now result out.old.items out.new.items }
+    ensures { Writes (list 1 most (F.format newest)) values.now result out.old.items out.new.items }
 {
     write_counted(values.as_slice(), most, out)
 }
@@ -165,7 +173,7 @@ pub fn write_long_counted<F: Field>(
     out: &mut Vec<u8>,
 ) -> Result<(), NoMemory>
     requires { length values.now ≤ most }
-    ensures { Writes (list 4 most F.format) values.now result out.old.items out.new.items }
+    ensures { Writes (list 4 most (F.format newest)) values.now result out.old.items out.new.items }
 {
     let start = out.len();
     let done = append_long_counted(values, most, out);
@@ -180,7 +188,7 @@ pub fn write_long_list<F: Field>(
     out: &mut Vec<u8>,
 ) -> Result<(), NoMemory>
     requires { length values.now ≤ most }
-    ensures { Writes (list 4 most F.format) values.now result out.old.items out.new.items }
+    ensures { Writes (list 4 most (F.format newest)) values.now result out.old.items out.new.items }
 {
     write_long_counted(values.as_slice(), most, out)
 }
@@ -188,7 +196,7 @@ pub fn write_long_list<F: Field>(
 /// Puts a flag to the end, 0 for none or 1, and the value where there is one. Without memory the
 /// buffer stays as it was.
 pub fn write_option<F: Field>(value: &Option<F>, out: &mut Vec<u8>) -> Result<(), NoMemory>
-    ensures { Writes (option F.format) value.now result out.old.items out.new.items }
+    ensures { Writes (option (F.format newest)) value.now result out.old.items out.new.items }
 {
     let start = out.len();
     let done = append_option(value, out);

@@ -1,6 +1,7 @@
 //! The rows of the four tables as bytes.
 ghost use Rattle.std.specs.Prelude.{◌≡◌};
 ghost use Rattle.std.specs.Ordering.{nat_cmp};
+ghost use Rattle.rows.specs.Versions.{newest};
 ghost use Rattle.rows.specs.Rising.{is_behind};
 ghost use Rattle.rows.specs.Keys.{name_cmp, eval_cmp, alloc_cmp, job_name, node_number, eval_id, alloc_id};
 ghost use Rattle.fields_model.specs.Format.{Gives, GivesExactly, Puts};
@@ -13,29 +14,30 @@ use crate::ruled::RuledField;
 use rows::{
     AllocId, Allocation, ClassName, ClientState, Desired, DrainMode, EvalId, EvalStatus,
     Evaluation, GroupName, Groups, Index, Job, JobName, NoMemory, Node, NodeId, NodeStatus,
-    Ordinal, Priority, Refusal, Size,
+    Ordinal, Priority, Refusal, Size, Version,
 };
 use std::alloc::Global;
 
 /// What follows the name.
 fn read_job_of(
+    version: Version,
     alloc: Global,
     name: JobName,
     bytes: &[u8],
     at: usize,
 ) -> Result<(Job, usize), Refusal>
-    ensures { Gives result (job_behind_key name bytes.now at) }
+    ensures { Gives result (job_behind_key version name bytes.now at) }
 {
-    let (priority, at) = Priority::read_at(alloc, bytes, at)?;
-    let (stopped, at) = bool::read_at(alloc, bytes, at)?;
-    let (version, at) = Index::read_at(alloc, bytes, at)?;
-    let (groups, at) = Groups::read_at(alloc, bytes, at)?;
+    let (priority, at) = Priority::read_at(version, alloc, bytes, at)?;
+    let (stopped, at) = bool::read_at(version, alloc, bytes, at)?;
+    let (job_version, at) = Index::read_at(version, alloc, bytes, at)?;
+    let (groups, at) = Groups::read_at(version, alloc, bytes, at)?;
     Ok((
         Job {
             name,
             priority,
             stopped,
-            version,
+            version: job_version,
             groups,
         },
         at,
@@ -48,9 +50,14 @@ impl Field for Job {
 
     ghost lawful = { job_lawful };
 
-    fn read_at(alloc: Global, bytes: &[u8], at: usize) -> Result<(Job, usize), Refusal> {
-        let (name, next) = JobName::read_at(alloc, bytes, at)?;
-        read_job_of(alloc, name, bytes, next)
+    fn read_at(
+        version: Version,
+        alloc: Global,
+        bytes: &[u8],
+        at: usize,
+    ) -> Result<(Job, usize), Refusal> {
+        let (name, next) = JobName::read_at(version, alloc, bytes, at)?;
+        read_job_of(version, alloc, name, bytes, next)
     }
 
     fn append(&self, out: &mut Vec<u8>) -> Result<(), NoMemory> {
@@ -81,14 +88,15 @@ impl RuledField for Job {
     ghost ruled = { job_is_ruled };
 
     fn read_behind(
+        version: Version,
         alloc: Global,
         bytes: &[u8],
         at: usize,
         front: &[Job],
     ) -> Result<(Job, usize), Refusal> {
-        let (name, next) = JobName::read_at(alloc, bytes, at)?;
+        let (name, next) = JobName::read_at(version, alloc, bytes, at)?;
         if is_job_above(front, &name) {
-            read_job_of(alloc, name, bytes, next)
+            read_job_of(version, alloc, name, bytes, next)
         } else {
             Err(Refusal::Frame(at))
         }
@@ -97,19 +105,20 @@ impl RuledField for Job {
 
 /// What follows the number.
 fn read_node_of(
+    version: Version,
     alloc: Global,
     number: NodeId,
     bytes: &[u8],
     at: usize,
 ) -> Result<(Node, usize), Refusal>
-    ensures { GivesExactly result (node_behind_key number bytes.now at) }
+    ensures { GivesExactly result (node_behind_key version number bytes.now at) }
 {
-    let (class, at) = ClassName::read_at(alloc, bytes, at)?;
-    let (size, at) = Size::read_at(alloc, bytes, at)?;
-    let (status, at) = NodeStatus::read_at(alloc, bytes, at)?;
-    let (eligible, at) = bool::read_at(alloc, bytes, at)?;
-    let (drain, at) = DrainMode::read_at(alloc, bytes, at)?;
-    let (room, at) = Index::read_at(alloc, bytes, at)?;
+    let (class, at) = ClassName::read_at(version, alloc, bytes, at)?;
+    let (size, at) = Size::read_at(version, alloc, bytes, at)?;
+    let (status, at) = NodeStatus::read_at(version, alloc, bytes, at)?;
+    let (eligible, at) = bool::read_at(version, alloc, bytes, at)?;
+    let (drain, at) = DrainMode::read_at(version, alloc, bytes, at)?;
+    let (room, at) = Index::read_at(version, alloc, bytes, at)?;
     Ok((
         Node {
             number,
@@ -140,11 +149,16 @@ impl Field for Node {
 
     ghost lawful = { node_lawful };
 
-    fn read_at(alloc: Global, bytes: &[u8], at: usize) -> Result<(Node, usize), Refusal>
-        ensures { GivesExactly result (node.read bytes.now at) }
+    fn read_at(
+        version: Version,
+        alloc: Global,
+        bytes: &[u8],
+        at: usize,
+    ) -> Result<(Node, usize), Refusal>
+        ensures { GivesExactly result ((node version).read bytes.now at) }
     {
-        let (number, next) = NodeId::read_at(alloc, bytes, at)?;
-        read_node_of(alloc, number, bytes, next)
+        let (number, next) = NodeId::read_at(version, alloc, bytes, at)?;
+        read_node_of(version, alloc, number, bytes, next)
     }
 
     fn append(&self, out: &mut Vec<u8>) -> Result<(), NoMemory> {
@@ -174,16 +188,17 @@ impl RuledField for Node {
     ghost ruled = { node_is_ruled };
 
     fn read_behind(
+        version: Version,
         alloc: Global,
         bytes: &[u8],
         at: usize,
         front: &[Node],
     ) -> Result<(Node, usize), Refusal>
-        ensures { GivesExactly result ((node_behind front.now).read bytes.now at) }
+        ensures { GivesExactly result ((node_behind version front.now).read bytes.now at) }
     {
-        let (number, next) = NodeId::read_at(alloc, bytes, at)?;
+        let (number, next) = NodeId::read_at(version, alloc, bytes, at)?;
         if is_node_above(front, &number) {
-            read_node_of(alloc, number, bytes, next)
+            read_node_of(version, alloc, number, bytes, next)
         } else {
             Err(Refusal::Frame(at))
         }
@@ -192,6 +207,7 @@ impl RuledField for Node {
 
 /// What follows the id.
 fn read_evaluation_of(
+    version: Version,
     alloc: Global,
     id: EvalId,
     bytes: &[u8],
@@ -199,10 +215,10 @@ fn read_evaluation_of(
 ) -> Result<(Evaluation, usize), Refusal>
     ensures { GivesExactly result (evaluation_of id bytes.now at) }
 {
-    let (job, at) = JobName::read_at(alloc, bytes, at)?;
-    let (priority, at) = Priority::read_at(alloc, bytes, at)?;
-    let (status, at) = EvalStatus::read_at(alloc, bytes, at)?;
-    let (snapshot, at) = Index::read_at(alloc, bytes, at)?;
+    let (job, at) = JobName::read_at(version, alloc, bytes, at)?;
+    let (priority, at) = Priority::read_at(version, alloc, bytes, at)?;
+    let (status, at) = EvalStatus::read_at(version, alloc, bytes, at)?;
+    let (snapshot, at) = Index::read_at(version, alloc, bytes, at)?;
     Ok((
         Evaluation {
             id,
@@ -217,15 +233,20 @@ fn read_evaluation_of(
 
 /// An evaluation's row: its id, job, priority, status and snapshot.
 impl Field for Evaluation {
-    ghost format = { evaluation };
+    ghost format = { λ _. evaluation };
 
-    ghost lawful = { evaluation_lawful };
+    ghost lawful = { λ _. evaluation_lawful };
 
-    fn read_at(alloc: Global, bytes: &[u8], at: usize) -> Result<(Evaluation, usize), Refusal>
+    fn read_at(
+        version: Version,
+        alloc: Global,
+        bytes: &[u8],
+        at: usize,
+    ) -> Result<(Evaluation, usize), Refusal>
         ensures { GivesExactly result (evaluation.read bytes.now at) }
     {
-        let (id, next) = EvalId::read_at(alloc, bytes, at)?;
-        read_evaluation_of(alloc, id, bytes, next)
+        let (id, next) = EvalId::read_at(version, alloc, bytes, at)?;
+        read_evaluation_of(version, alloc, id, bytes, next)
     }
 
     fn append(&self, out: &mut Vec<u8>) -> Result<(), NoMemory> {
@@ -251,11 +272,12 @@ fn is_evaluation_above(front: &[Evaluation], id: &EvalId) -> bool
 impl RuledField for Evaluation {
     ghost rule = { λ front e. is_behind eval_cmp eval_id front e.id };
 
-    ghost behind = { evaluation_behind };
+    ghost behind = { λ _. evaluation_behind };
 
-    ghost ruled = { evaluation_is_ruled };
+    ghost ruled = { λ _. evaluation_is_ruled };
 
     fn read_behind(
+        version: Version,
         alloc: Global,
         bytes: &[u8],
         at: usize,
@@ -263,9 +285,9 @@ impl RuledField for Evaluation {
     ) -> Result<(Evaluation, usize), Refusal>
         ensures { GivesExactly result ((evaluation_behind front.now).read bytes.now at) }
     {
-        let (id, next) = EvalId::read_at(alloc, bytes, at)?;
+        let (id, next) = EvalId::read_at(version, alloc, bytes, at)?;
         if is_evaluation_above(front, &id) {
-            read_evaluation_of(alloc, id, bytes, next)
+            read_evaluation_of(version, alloc, id, bytes, next)
         } else {
             Err(Refusal::Frame(at))
         }
@@ -274,22 +296,23 @@ impl RuledField for Evaluation {
 
 /// What follows the id.
 fn read_allocation_of(
+    version: Version,
     alloc: Global,
     id: AllocId,
     bytes: &[u8],
     at: usize,
 ) -> Result<(Allocation, usize), Refusal>
-    ensures { GivesExactly result (allocation_of id bytes.now at) }
+    ensures { GivesExactly result (allocation_of version id bytes.now at) }
 {
-    let (job, at) = JobName::read_at(alloc, bytes, at)?;
-    let (group, at) = GroupName::read_at(alloc, bytes, at)?;
-    let (index, at) = Ordinal::read_at(alloc, bytes, at)?;
-    let (node, at) = NodeId::read_at(alloc, bytes, at)?;
-    let (size, at) = Size::read_at(alloc, bytes, at)?;
-    let (desired, at) = Desired::read_at(alloc, bytes, at)?;
-    let (client, at) = ClientState::read_at(alloc, bytes, at)?;
-    let (migrate, at) = bool::read_at(alloc, bytes, at)?;
-    let (eval, at) = EvalId::read_at(alloc, bytes, at)?;
+    let (job, at) = JobName::read_at(version, alloc, bytes, at)?;
+    let (group, at) = GroupName::read_at(version, alloc, bytes, at)?;
+    let (index, at) = Ordinal::read_at(version, alloc, bytes, at)?;
+    let (node, at) = NodeId::read_at(version, alloc, bytes, at)?;
+    let (size, at) = Size::read_at(version, alloc, bytes, at)?;
+    let (desired, at) = Desired::read_at(version, alloc, bytes, at)?;
+    let (client, at) = ClientState::read_at(version, alloc, bytes, at)?;
+    let (migrate, at) = bool::read_at(version, alloc, bytes, at)?;
+    let (eval, at) = EvalId::read_at(version, alloc, bytes, at)?;
     Ok((
         Allocation {
             id,
@@ -309,7 +332,9 @@ fn read_allocation_of(
 
 /// The group, the index, the node and the size.
 fn append_allocation_place(row: &Allocation, out: &mut Vec<u8>) -> Result<(), NoMemory>
-    ensures { Puts allocation_place (row.now.group, (row.now.index, (row.now.node, row.now.size))) result out.old.items out.new.items }
+    ensures { Puts (allocation_place newest)
+        (row.now.group, (row.now.index, (row.now.node, row.now.size))) result
+        out.old.items out.new.items }
 {
     row.group.append(out)?;
     row.index.append(out)?;
@@ -334,11 +359,16 @@ impl Field for Allocation {
 
     ghost lawful = { allocation_lawful };
 
-    fn read_at(alloc: Global, bytes: &[u8], at: usize) -> Result<(Allocation, usize), Refusal>
-        ensures { GivesExactly result (allocation.read bytes.now at) }
+    fn read_at(
+        version: Version,
+        alloc: Global,
+        bytes: &[u8],
+        at: usize,
+    ) -> Result<(Allocation, usize), Refusal>
+        ensures { GivesExactly result ((allocation version).read bytes.now at) }
     {
-        let (id, next) = AllocId::read_at(alloc, bytes, at)?;
-        read_allocation_of(alloc, id, bytes, next)
+        let (id, next) = AllocId::read_at(version, alloc, bytes, at)?;
+        read_allocation_of(version, alloc, id, bytes, next)
     }
 
     fn append(&self, out: &mut Vec<u8>) -> Result<(), NoMemory> {
@@ -368,16 +398,17 @@ impl RuledField for Allocation {
     ghost ruled = { allocation_is_ruled };
 
     fn read_behind(
+        version: Version,
         alloc: Global,
         bytes: &[u8],
         at: usize,
         front: &[Allocation],
     ) -> Result<(Allocation, usize), Refusal>
-        ensures { GivesExactly result ((allocation_behind front.now).read bytes.now at) }
+        ensures { GivesExactly result ((allocation_behind version front.now).read bytes.now at) }
     {
-        let (id, next) = AllocId::read_at(alloc, bytes, at)?;
+        let (id, next) = AllocId::read_at(version, alloc, bytes, at)?;
         if is_allocation_above(front, &id) {
-            read_allocation_of(alloc, id, bytes, next)
+            read_allocation_of(version, alloc, id, bytes, next)
         } else {
             Err(Refusal::Frame(at))
         }

@@ -16,18 +16,23 @@ use crate::writing::{take_back, write_u8};
 use rows::{
     AllocId, AskedRequest, ClientRequestKind, EvalId, EvalOutcome, Index, Leader, ListedAllocation,
     Listing, LiveState, NoMemory, NodeId, PlaceCount, PlanResult, Ranged, Reason, Refusal,
-    RisingNodes, Ruled, ServerId, Size, Token,
+    RisingNodes, Ruled, ServerId, Size, Token, Version,
 };
 use std::alloc::Global;
 
 /// One byte, 1 blocked, 2 complete or 3 failed, and the index of the state at which the evaluation
 /// was found blocked, which is 0 for any other.
 impl Field for EvalOutcome {
-    ghost format = { eval_outcome };
+    ghost format = { λ _. eval_outcome };
 
-    ghost lawful = { eval_outcome_lawful };
+    ghost lawful = { λ _. eval_outcome_lawful };
 
-    fn read_at(_alloc: Global, bytes: &[u8], at: usize) -> Result<(EvalOutcome, usize), Refusal>
+    fn read_at(
+        _version: Version,
+        _alloc: Global,
+        bytes: &[u8],
+        at: usize,
+    ) -> Result<(EvalOutcome, usize), Refusal>
         ensures { GivesExactly result (eval_outcome.read bytes.now at) }
     {
         match read_u8(bytes, at)? {
@@ -60,11 +65,16 @@ impl Field for EvalOutcome {
 
 /// One byte, at most 64.
 impl Field for PlaceCount {
-    ghost format = { place_count };
+    ghost format = { λ _. place_count };
 
-    ghost lawful = { place_count_lawful };
+    ghost lawful = { λ _. place_count_lawful };
 
-    fn read_at(_alloc: Global, bytes: &[u8], at: usize) -> Result<(PlaceCount, usize), Refusal>
+    fn read_at(
+        _version: Version,
+        _alloc: Global,
+        bytes: &[u8],
+        at: usize,
+    ) -> Result<(PlaceCount, usize), Refusal>
         ensures { GivesExactly result (place_count.read bytes.now at) }
     {
         let (number, next) = read_u8(bytes, at)?;
@@ -83,11 +93,12 @@ impl Field for PlaceCount {
 impl RuledField for NodeId {
     ghost rule = { node_rises };
 
-    ghost behind = { node_id_behind };
+    ghost behind = { λ _. node_id_behind };
 
-    ghost ruled = { node_id_is_ruled };
+    ghost ruled = { λ _. node_id_is_ruled };
 
     fn read_behind(
+        version: Version,
         alloc: Global,
         bytes: &[u8],
         at: usize,
@@ -95,7 +106,7 @@ impl RuledField for NodeId {
     ) -> Result<(NodeId, usize), Refusal>
         ensures { GivesExactly result ((node_id_behind front.now).read bytes.now at) }
     {
-        let (node, next) = NodeId::read_at(alloc, bytes, at)?;
+        let (node, next) = NodeId::read_at(version, alloc, bytes, at)?;
         if node.may_follow(front) {
             Ok((node, next))
         } else {
@@ -106,12 +117,17 @@ impl RuledField for NodeId {
 
 /// A count of one byte, which has no limit of its own, and that many nodes that rise strictly.
 impl Field for RisingNodes {
-    ghost format = { rising_nodes };
+    ghost format = { λ _. rising_nodes };
 
-    ghost lawful = { rising_nodes_lawful };
+    ghost lawful = { λ _. rising_nodes_lawful };
 
-    fn read_at(alloc: Global, bytes: &[u8], at: usize) -> Result<(RisingNodes, usize), Refusal> {
-        let (items, next) = read_ruled_list(alloc, bytes, at, 255)?;
+    fn read_at(
+        version: Version,
+        alloc: Global,
+        bytes: &[u8],
+        at: usize,
+    ) -> Result<(RisingNodes, usize), Refusal> {
+        let (items, next) = read_ruled_list(version, alloc, bytes, at, 255)?;
         match RisingNodes::check(items) {
             Ok(nodes) => Ok((nodes, next)),
             Err(_) => unreachable!(),
@@ -126,16 +142,21 @@ impl Field for RisingNodes {
 
 /// The evaluation, the token, the last index, how many were placed, and the nodes refused.
 impl Field for PlanResult {
-    ghost format = { plan_result };
+    ghost format = { λ _. plan_result };
 
-    ghost lawful = { plan_result_lawful };
+    ghost lawful = { λ _. plan_result_lawful };
 
-    fn read_at(alloc: Global, bytes: &[u8], at: usize) -> Result<(PlanResult, usize), Refusal> {
-        let (eval, at) = EvalId::read_at(alloc, bytes, at)?;
-        let (token, at) = Token::read_at(alloc, bytes, at)?;
-        let (last, at) = Index::read_at(alloc, bytes, at)?;
-        let (placed, at) = PlaceCount::read_at(alloc, bytes, at)?;
-        let (refused, at) = RisingNodes::read_at(alloc, bytes, at)?;
+    fn read_at(
+        version: Version,
+        alloc: Global,
+        bytes: &[u8],
+        at: usize,
+    ) -> Result<(PlanResult, usize), Refusal> {
+        let (eval, at) = EvalId::read_at(version, alloc, bytes, at)?;
+        let (token, at) = Token::read_at(version, alloc, bytes, at)?;
+        let (last, at) = Index::read_at(version, alloc, bytes, at)?;
+        let (placed, at) = PlaceCount::read_at(version, alloc, bytes, at)?;
+        let (refused, at) = RisingNodes::read_at(version, alloc, bytes, at)?;
         Ok((
             PlanResult {
                 eval,
@@ -269,11 +290,16 @@ pub fn write_told_reason(told: &Option<Reason>, out: &mut Vec<u8>) -> Result<(),
 /// A refusal's number in one byte, from 1 to 21, and the number of the leader that refusal 2 tells,
 /// 0 for any other.
 impl Field for Reason {
-    ghost format = { reason };
+    ghost format = { λ _. reason };
 
-    ghost lawful = { reason_lawful };
+    ghost lawful = { λ _. reason_lawful };
 
-    fn read_at(_alloc: Global, bytes: &[u8], at: usize) -> Result<(Reason, usize), Refusal>
+    fn read_at(
+        _version: Version,
+        _alloc: Global,
+        bytes: &[u8],
+        at: usize,
+    ) -> Result<(Reason, usize), Refusal>
         ensures { GivesExactly result (reason.read bytes.now at) }
     {
         let (told, end) = read_told(bytes, at, 1)?;
@@ -299,13 +325,18 @@ fn read_no_pair(bytes: &[u8], at: usize) -> Result<((), usize), Refusal>
 }
 
 /// The byte 1, the evaluation and the token.
-fn read_pair(alloc: Global, bytes: &[u8], at: usize) -> Result<((EvalId, Token), usize), Refusal>
+fn read_pair(
+    version: Version,
+    alloc: Global,
+    bytes: &[u8],
+    at: usize,
+) -> Result<((EvalId, Token), usize), Refusal>
     ensures { GivesExactly result (a_pair.read bytes.now at) }
 {
     match read_u8(bytes, at)? {
         (1, at) => {
-            let (eval, at) = EvalId::read_at(alloc, bytes, at)?;
-            let (token, at) = Token::read_at(alloc, bytes, at)?;
+            let (eval, at) = EvalId::read_at(version, alloc, bytes, at)?;
+            let (token, at) = Token::read_at(version, alloc, bytes, at)?;
             Ok(((eval, token), at))
         }
         _ => Err(Refusal::Frame(at)),
@@ -324,11 +355,16 @@ fn append_pair(eval: &EvalId, token: &Token, out: &mut Vec<u8>) -> Result<(), No
 /// One byte, 7 take, 9 submit, 11 finish or 12 nack, and an option of the evaluation and the token,
 /// which is none exactly for 7.
 impl Field for AskedRequest {
-    ghost format = { asked_request };
+    ghost format = { λ _. asked_request };
 
-    ghost lawful = { asked_request_lawful };
+    ghost lawful = { λ _. asked_request_lawful };
 
-    fn read_at(alloc: Global, bytes: &[u8], at: usize) -> Result<(AskedRequest, usize), Refusal>
+    fn read_at(
+        version: Version,
+        alloc: Global,
+        bytes: &[u8],
+        at: usize,
+    ) -> Result<(AskedRequest, usize), Refusal>
         ensures { GivesExactly result (asked_request.read bytes.now at) }
     {
         match read_u8(bytes, at)? {
@@ -337,15 +373,15 @@ impl Field for AskedRequest {
                 Ok((AskedRequest::Take, end))
             }
             (9, at) => {
-                let ((eval, token), end) = read_pair(alloc, bytes, at)?;
+                let ((eval, token), end) = read_pair(version, alloc, bytes, at)?;
                 Ok((AskedRequest::Submit(eval, token), end))
             }
             (11, at) => {
-                let ((eval, token), end) = read_pair(alloc, bytes, at)?;
+                let ((eval, token), end) = read_pair(version, alloc, bytes, at)?;
                 Ok((AskedRequest::Finish(eval, token), end))
             }
             (12, at) => {
-                let ((eval, token), end) = read_pair(alloc, bytes, at)?;
+                let ((eval, token), end) = read_pair(version, alloc, bytes, at)?;
                 Ok((AskedRequest::Nack(eval, token), end))
             }
             _ => Err(Refusal::Frame(at)),
@@ -376,11 +412,12 @@ impl Field for AskedRequest {
 
 /// One byte: 14 register, 15 heartbeat, 18 report.
 impl Field for ClientRequestKind {
-    ghost format = { client_request_kind };
+    ghost format = { λ _. client_request_kind };
 
-    ghost lawful = { client_request_kind_lawful };
+    ghost lawful = { λ _. client_request_kind_lawful };
 
     fn read_at(
+        _version: Version,
         _alloc: Global,
         bytes: &[u8],
         at: usize,
@@ -407,11 +444,16 @@ impl Field for ClientRequestKind {
 
 /// One byte: 0 pending, 1 running.
 impl Field for LiveState {
-    ghost format = { live_state };
+    ghost format = { λ _. live_state };
 
-    ghost lawful = { live_state_lawful };
+    ghost lawful = { λ _. live_state_lawful };
 
-    fn read_at(_alloc: Global, bytes: &[u8], at: usize) -> Result<(LiveState, usize), Refusal>
+    fn read_at(
+        _version: Version,
+        _alloc: Global,
+        bytes: &[u8],
+        at: usize,
+    ) -> Result<(LiveState, usize), Refusal>
         ensures { GivesExactly result (live_state.read bytes.now at) }
     {
         match read_u8(bytes, at)? {
@@ -430,18 +472,24 @@ impl Field for LiveState {
     }
 }
 
-/// A live allocation: its id, its size, and what is known of it.
+/// A live allocation: its id, its size, and what is known of it. It stands in frames alone, and so
+/// its size is of the newest version.
 impl Field for ListedAllocation {
-    ghost format = { listed_allocation };
+    ghost format = { λ _. listed_allocation };
 
-    ghost lawful = { listed_allocation_lawful };
+    ghost lawful = { λ _. listed_allocation_lawful };
 
-    fn read_at(alloc: Global, bytes: &[u8], at: usize) -> Result<(ListedAllocation, usize), Refusal>
+    fn read_at(
+        version: Version,
+        alloc: Global,
+        bytes: &[u8],
+        at: usize,
+    ) -> Result<(ListedAllocation, usize), Refusal>
         ensures { GivesExactly result (listed_allocation.read bytes.now at) }
     {
-        let (id, at) = AllocId::read_at(alloc, bytes, at)?;
-        let (size, at) = Size::read_at(alloc, bytes, at)?;
-        let (state, at) = LiveState::read_at(alloc, bytes, at)?;
+        let (id, at) = AllocId::read_at(version, alloc, bytes, at)?;
+        let (size, at) = Size::read_at(Version::newest(), alloc, bytes, at)?;
+        let (state, at) = LiveState::read_at(version, alloc, bytes, at)?;
         Ok((ListedAllocation { id, size, state }, at))
     }
 
@@ -466,11 +514,12 @@ fn is_listed_above(front: &[ListedAllocation], id: &AllocId) -> bool
 impl RuledField for ListedAllocation {
     ghost rule = { listed_rises };
 
-    ghost behind = { listed_allocation_behind };
+    ghost behind = { λ _. listed_allocation_behind };
 
-    ghost ruled = { listed_allocation_is_ruled };
+    ghost ruled = { λ _. listed_allocation_is_ruled };
 
     fn read_behind(
+        version: Version,
         alloc: Global,
         bytes: &[u8],
         at: usize,
@@ -478,24 +527,29 @@ impl RuledField for ListedAllocation {
     ) -> Result<(ListedAllocation, usize), Refusal>
         ensures { GivesExactly result ((listed_allocation_behind front.now).read bytes.now at) }
     {
-        let (id, next) = AllocId::read_at(alloc, bytes, at)?;
+        let (id, next) = AllocId::read_at(version, alloc, bytes, at)?;
         if !is_listed_above(front, &id) {
             return Err(Refusal::Frame(at));
         }
-        let (size, next) = Size::read_at(alloc, bytes, next)?;
-        let (state, next) = LiveState::read_at(alloc, bytes, next)?;
+        let (size, next) = Size::read_at(Version::newest(), alloc, bytes, next)?;
+        let (state, next) = LiveState::read_at(version, alloc, bytes, next)?;
         Ok((ListedAllocation { id, size, state }, next))
     }
 }
 
 /// A count of four bytes, at most 65,536, and that many allocations whose ids rise strictly.
 impl Field for Listing {
-    ghost format = { listing };
+    ghost format = { λ _. listing };
 
-    ghost lawful = { listing_lawful };
+    ghost lawful = { λ _. listing_lawful };
 
-    fn read_at(alloc: Global, bytes: &[u8], at: usize) -> Result<(Listing, usize), Refusal> {
-        let (rows, next) = read_long_ruled_list(alloc, bytes, at, 65_536)?;
+    fn read_at(
+        version: Version,
+        alloc: Global,
+        bytes: &[u8],
+        at: usize,
+    ) -> Result<(Listing, usize), Refusal> {
+        let (rows, next) = read_long_ruled_list(version, alloc, bytes, at, 65_536)?;
         match Listing::check(rows) {
             Ok(listing) => Ok((listing, next)),
             Err(_) => unreachable!(),

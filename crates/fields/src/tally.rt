@@ -7,16 +7,21 @@ use crate::field::Field;
 use crate::reading::{read_u8, read_u16};
 use crate::writing::{write_u8, write_u16};
 use machine_model::{Amount, TallyCommand};
-use rows::{NoMemory, Refusal};
+use rows::{NoMemory, Refusal, Version};
 use std::alloc::Global;
 
 /// Two bytes, at most 1,000.
 impl Field for Amount {
-    ghost format = { amount };
+    ghost format = { λ _. amount };
 
-    ghost lawful = { amount_lawful };
+    ghost lawful = { λ _. amount_lawful };
 
-    fn read_at(_alloc: Global, bytes: &[u8], at: usize) -> Result<(Amount, usize), Refusal>
+    fn read_at(
+        _version: Version,
+        _alloc: Global,
+        bytes: &[u8],
+        at: usize,
+    ) -> Result<(Amount, usize), Refusal>
         ensures { GivesExactly result (amount.read bytes.now at) }
     {
         let (number, next) = read_u16(bytes, at)?;
@@ -33,18 +38,23 @@ impl Field for Amount {
 
 /// A tag in one byte, 0 for the no-op, or 1 and then the amount in two.
 impl Field for TallyCommand {
-    ghost format = { tally_command };
+    ghost format = { λ _. tally_command };
 
-    ghost lawful = { tally_command_lawful };
+    ghost lawful = { λ _. tally_command_lawful };
 
-    fn read_at(alloc: Global, bytes: &[u8], at: usize) -> Result<(TallyCommand, usize), Refusal>
+    fn read_at(
+        version: Version,
+        alloc: Global,
+        bytes: &[u8],
+        at: usize,
+    ) -> Result<(TallyCommand, usize), Refusal>
         ensures { GivesExactly result (tally_command.read bytes.now at) }
     {
         let (tag, next) = read_u8(bytes, at)?;
         match tag {
             0 => Ok((TallyCommand::Noop, next)),
             1 => {
-                let (amount, next) = Amount::read_at(alloc, bytes, next)?;
+                let (amount, next) = Amount::read_at(version, alloc, bytes, next)?;
                 Ok((TallyCommand::Add(amount), next))
             }
             _ => Err(Refusal::Frame(at)),

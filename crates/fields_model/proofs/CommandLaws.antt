@@ -21,11 +21,11 @@ use Rattle.fields_model.specs.Rows.{eval_status}
 use Rattle.fields_model.proofs.RowLaws.{groups_lawful, eval_status_lawful, allocation_id_is_ruled}
 use Rattle.fields_model.specs.Commands.{job_spec, node_spec, stops, rising_ids, place, accepted_place, plan_end, plan, accepted_end, accepted_plan, reported_state, report, reports, snapshot_limit, change_to, change_parts, status_change, tag_of, noop_of, job_put_of, job_stop_of, node_put_of, node_down_of, drain_of, drain_done_of, migrate_of, eval_put_of, eval_status_of, plan_of, report_of, command}
 
-pub job_spec_lawful : Lawful job_spec
-job_spec_lawful = made_lawful _ _ _ (λ _. refl) (λ _ _. refl) (then_lawful _ _ name_lawful (then_lawful _ _ priority_lawful groups_lawful))
+pub job_spec_lawful : (version : ℕ) → Lawful (job_spec version)
+job_spec_lawful version = made_lawful _ _ _ (λ _. refl) (λ _ _. refl) (then_lawful _ _ name_lawful (then_lawful _ _ priority_lawful (groups_lawful version)))
 
-pub node_spec_lawful : Lawful node_spec
-node_spec_lawful = made_lawful _ _ _ (λ _. refl) (λ _ _. refl) (then_lawful _ _ node_id_lawful (then_lawful _ _ name_lawful size_lawful))
+pub node_spec_lawful : (version : ℕ) → Lawful (node_spec version)
+node_spec_lawful version = made_lawful _ _ _ (λ _. refl) (λ _ _. refl) (then_lawful _ _ node_id_lawful (then_lawful _ _ name_lawful (size_lawful version)))
 
 pub stops_lawful : Lawful stops
 stops_lawful = list_lawful 1 64 _ (omega arith) (omega arith) allocation_id_lawful
@@ -36,8 +36,8 @@ rising_ids_lawful = kept_lawful _ _ (ruled_list_lawful 1 64 _ _ _ (omega arith) 
 pub place_lawful : Lawful place
 place_lawful = made_lawful _ _ _ (λ _. refl) (λ _ _. refl) (then_lawful _ _ name_lawful (then_lawful _ _ ordinal_lawful node_id_lawful))
 
-pub accepted_place_lawful : Lawful accepted_place
-accepted_place_lawful = made_lawful _ _ _ (λ _. refl) (λ _ _. refl) (then_lawful _ _ name_lawful (then_lawful _ _ ordinal_lawful (then_lawful _ _ node_id_lawful size_lawful)))
+pub accepted_place_lawful : (version : ℕ) → Lawful (accepted_place version)
+accepted_place_lawful version = made_lawful _ _ _ (λ _. refl) (λ _ _. refl) (then_lawful _ _ name_lawful (then_lawful _ _ ordinal_lawful (then_lawful _ _ node_id_lawful (size_lawful version))))
 
 pub plan_end_lawful : Lawful plan_end
 plan_end_lawful = then_lawful _ _ index_lawful (then_lawful _ _ index_lawful (then_lawful _ _ stops_lawful (list_lawful 1 64 _ (omega arith) (omega arith) place_lawful)))
@@ -45,11 +45,11 @@ plan_end_lawful = then_lawful _ _ index_lawful (then_lawful _ _ index_lawful (th
 pub plan_lawful : Lawful plan
 plan_lawful = made_lawful _ _ _ (λ _. refl) (λ _ _. refl) (then_lawful _ _ evaluation_id_lawful (then_lawful _ _ token_lawful (then_lawful _ _ name_lawful plan_end_lawful)))
 
-pub accepted_end_lawful : Lawful accepted_end
-accepted_end_lawful = then_lawful _ _ index_lawful (then_lawful _ _ stops_lawful (list_lawful 1 64 _ (omega arith) (omega arith) accepted_place_lawful))
+pub accepted_end_lawful : (version : ℕ) → Lawful (accepted_end version)
+accepted_end_lawful version = then_lawful _ _ index_lawful (then_lawful _ _ stops_lawful (list_lawful 1 64 _ (omega arith) (omega arith) (accepted_place_lawful version)))
 
-pub accepted_plan_lawful : Lawful accepted_plan
-accepted_plan_lawful = made_lawful _ _ _ (λ _. refl) (λ _ _. refl) (then_lawful _ _ evaluation_id_lawful (then_lawful _ _ token_lawful (then_lawful _ _ name_lawful accepted_end_lawful)))
+pub accepted_plan_lawful : (version : ℕ) → Lawful (accepted_plan version)
+accepted_plan_lawful version = made_lawful _ _ _ (λ _. refl) (λ _ _. refl) (then_lawful _ _ evaluation_id_lawful (then_lawful _ _ token_lawful (then_lawful _ _ name_lawful (accepted_end_lawful version))))
 
 pub reported_state_lawful : Lawful reported_state
 reported_state_lawful = enumerated_lawful 1 (reported.Running ∷ reported.Complete ∷ reported.Failed ∷ []) _ refl
@@ -144,18 +144,18 @@ report_there : (v : Command) (a : ℕ × List Report) → report_of v ≡ Some a
 report_there (commands.Report x y) a e = ap (λ (p : ℕ × List Report). commands.Report p.0 p.1) (sym (report_is (x, y) a e))
 report_there _ a e = absurd cc
 
-pub command_lawful : Lawful command
-command_lawful = choice_lawful tag_of _ _ (number_lawful 1 0 12 (omega arith) (omega arith))
+pub command_lawful : (version : ℕ) → Lawful (command version)
+command_lawful version = choice_lawful tag_of _ _ (number_lawful 1 0 12 (omega arith) (omega arith))
     (variant_choice tag_of 0 _ _ _ _ (record { back = λ _. refl; there = noop_there }) (λ _. refl) nothing_lawful
-    (variant_choice tag_of 1 _ _ _ _ (record { back = λ _. refl; there = job_put_there }) (λ _. refl) job_spec_lawful
+    (variant_choice tag_of 1 _ _ _ _ (record { back = λ _. refl; there = job_put_there }) (λ _. refl) (job_spec_lawful version)
     (variant_choice tag_of 2 _ _ _ _ (record { back = λ _. refl; there = job_stop_there }) (λ _. refl) name_lawful
-    (variant_choice tag_of 3 _ _ _ _ (record { back = λ _. refl; there = node_put_there }) (λ _. refl) node_spec_lawful
+    (variant_choice tag_of 3 _ _ _ _ (record { back = λ _. refl; there = node_put_there }) (λ _. refl) (node_spec_lawful version)
     (variant_choice tag_of 4 _ _ _ _ (record { back = λ _. refl; there = node_down_there }) (λ _. refl) node_id_lawful
     (variant_choice tag_of 5 _ _ _ _ (record { back = λ _. refl; there = drain_there }) (λ _. refl) (then_lawful _ _ node_id_lawful bool_lawful)
     (variant_choice tag_of 6 _ _ _ _ (record { back = λ _. refl; there = drain_done_there }) (λ _. refl) node_id_lawful
     (variant_choice tag_of 7 _ _ _ _ (record { back = λ _. refl; there = migrate_there }) (λ _. refl) rising_ids_lawful
     (variant_choice tag_of 8 _ _ _ _ (record { back = λ _. refl; there = eval_put_there }) (λ _. refl) name_lawful
     (variant_choice tag_of 9 _ _ _ _ (record { back = λ _. refl; there = eval_status_there }) (λ _. refl) (then_lawful _ _ evaluation_id_lawful status_change_lawful)
-    (variant_choice tag_of 10 _ _ _ _ (record { back = λ _. refl; there = plan_there }) (λ _. refl) accepted_plan_lawful
+    (variant_choice tag_of 10 _ _ _ _ (record { back = λ _. refl; there = plan_there }) (λ _. refl) (accepted_plan_lawful version)
     (variant_choice tag_of 11 _ _ _ _ (record { back = λ _. refl; there = report_there }) (λ _. refl) (then_lawful _ _ node_id_lawful reports_lawful)
     (no_choice tag_of)))))))))))))

@@ -1,6 +1,6 @@
 -- Each way of putting formats together keeps the law: what is read stands there, what stands there
 -- is read, a fault lies within the bytes, and no text is longer than said.
-use Rattle.std.proofs.Common.{◌≡◌, ℕ, zero, suc, ◌+◌, ◌-◌, ◌^◌, ◌*◌, max, ◌<◌, ◌≤◌, Bool, true, false, cond, ltb, eqb, List, [], ◌∷◌, ◌++◌, length, map, take, drop, Option, Some, None, Result, Ok, Err, refl, sym, ap, subst, ◌⊎◌, ◌∙◌, append_assoc, arith, inl, inr, length-append, length-drop}
+use Rattle.std.proofs.Common.{◌≡◌, ℕ, zero, suc, ◌+◌, ◌-◌, ◌^◌, ◌*◌, max, ◌<◌, ◌≤◌, Bool, true, false, cond, ltb, eqb, nat_le, List, [], ◌∷◌, ◌++◌, length, map, take, drop, Option, Some, None, Result, Ok, Err, refl, sym, ap, subst, ◌⊎◌, ◌∙◌, append_assoc, arith, inl, inr, length-append, length-drop}
 use Rattle.std.specs.List.{flat_map, AllByRecursion, list_all, range_with_len}
 use Rattle.std.specs.Cmp.{first_so, second_so}
 use Rattle.std.specs.Cmp.Derive.{both_true}
@@ -10,7 +10,7 @@ use Rattle.std.proofs.lemmas.List.{drop_at, take_at, length-take, drop-drop, tak
 use Rattle.std.proofs.Math.Nat.{mul-le-mul_right, le_trans}
 use Rattle.byteorder.specs.Endian.{big_number}
 use Rattle.byteorder.specs.Numbers.{big_number-reads_back, length-bytes_high_first}
-use Rattle.fields_model.specs.Format.{Reading, ◌>>=◌, Format, spelled, number_at, number, string, nothing, ◌then◌, made, items_at, list, tagged, option_case, code_at, coded, kept, depends, keyed, keyed_behind, value_in, enumerated, with_number, numbered, ruled_at, ruled_list, IsRuled, part_text, PartFits, variant, IsVariant, never, either, choice, IsBytes, Stands, Lawful}
+use Rattle.fields_model.specs.Format.{Reading, ◌>>=◌, Format, spelled, number_at, number, string, nothing, ◌then◌, made, items_at, list, tagged, option_case, code_at, coded, absent, since, kept, known, depends, keyed, keyed_behind, value_in, enumerated, with_number, numbered, ruled_at, ruled_list, IsRuled, part_text, PartFits, variant, IsVariant, never, either, choice, IsBytes, Stands, Lawful}
 use Rattle.fields_model.proofs.NumberBytes.{bytes_again}
 
 -- ---- steps that did not fail
@@ -454,6 +454,14 @@ coded_lawful {A} {B} value code f own lf = record {
   short = λ v fits. lf.short (code v) fits.0;
 }
 
+-- a value of which nothing is said
+pub absent_lawful : {A : Type 0} (value : A) → Lawful (absent value)
+absent_lawful value = coded_lawful (λ _. Some value) (λ _. tt) nothing (λ a b fits e. refl) nothing_lawful
+
+-- what is said from a version on
+pub since_lawful : {A : Type 0} (first : ℕ) (old : A) (f : Format A) (version : ℕ) → Lawful f → Lawful (since first old f version)
+since_lawful first old f version lf = either_law f (absent old) (nat_le first version) lf (absent_lawful old)
+
 -- only the values that pass a test
 pub kept_lawful : {A : Type 0} (test : A → Bool) (f : Format A) → Lawful f → Lawful (kept test f)
 kept_lawful {A} test f lf = record {
@@ -469,6 +477,10 @@ kept_lawful {A} test f lf = record {
       (λ a fa lea ea. let p = err_in (test a.0) at a place ea in omega arith);
   short = λ v fits. lf.short v fits.0;
 }
+
+-- values that texts know each from a version on
+pub known_lawful : {A : Type 0} (first : A → ℕ) (f : Format A) (version : ℕ) → Lawful f → Lawful (known first f version)
+known_lawful first f version lf = kept_lawful (λ x. nat_le (first x) version) f lf
 
 -- ---- lists under a rule
 

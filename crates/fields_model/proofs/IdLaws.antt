@@ -1,5 +1,5 @@
 -- The laws of names, sizes, ids and tokens.
-use Rattle.std.proofs.Common.{refl, arith}
+use Rattle.std.proofs.Common.{ℕ, refl, arith}
 use Rattle.rows.specs.Names.{is_name_byte}
 use Rattle.fields_model.specs.Format.{Lawful}
 use Rattle.fields_model.proofs.FormatLaws.{number_lawful, string_lawful, made_lawful, then_lawful}
@@ -12,8 +12,8 @@ name_lawful = string_lawful 1 1 32 is_name_byte (omega arith) (omega arith)
 pub quantity_lawful : Lawful quantity
 quantity_lawful = number_lawful 4 1 1000001 (omega arith) (omega arith)
 
-pub size_lawful : Lawful size
-size_lawful = made_lawful _ _ _ (λ _. refl) (λ _ _. refl) (then_lawful _ _ quantity_lawful quantity_lawful)
+pub size_lawful : (version : ℕ) → Lawful (size version)
+size_lawful version = made_lawful _ _ _ (λ _. refl) (λ _ _. refl) (then_lawful _ _ quantity_lawful quantity_lawful)
 
 pub node_id_lawful : Lawful node_id
 node_id_lawful = number_lawful 1 1 65 (omega arith) (omega arith)

@@ -7,6 +7,7 @@ use Rattle.std.specs.Ordering.{nat_cmp}
 use Rattle.std.specs.declared.cmp.Ordering.{Ordering}
 use Rattle.std.proofs.lemmas.Bool.{lt-ltb, ltb-true}
 use Rattle.std.proofs.lemmas.Float.{T_from_true}
+use Rattle.rows.specs.Versions.{newest}
 use Rattle.rows.specs.Fits.{QuantityFits, NodeIdFits, OrdinalFits, PriorityFits, GroupCountFits, SizeFits, EvalIdFits, AllocIdFits, TokenFits, GroupFits, GroupsFit, JobSpecFits, JobFits, NodeSpecFits, NodeFits, EvaluationFits, AllocationFits, StatusChangeFits, AcceptedPlaceFits, AcceptedPlanFits, ReportFits, ReportsFit, RisingIdsFit, CommandFits}
 use Rattle.rows.proofs.KeyLaws.{eval_cmp_total, alloc_cmp_total}
 use Rattle.rows.specs.Keys.{name_cmp, eval_cmp, alloc_cmp, job_name, node_number, eval_id, alloc_id}
@@ -121,11 +122,11 @@ fits_reported_state reported.Failed = ((omega arith, omega arith), refl)
 
 -- ---- sizes, ids, tokens, groups
 
-fits_size : (z : Size) → SizeFits z → size.Fits z
+fits_size : (z : Size) → SizeFits z → (size newest).Fits z
 fits_size z h = (fits_quantity z.cpu h.0, fits_quantity z.mem h.1)
 
-size_fits : (z : Size) → size.Fits z → SizeFits z
-size_fits z h = (quantity_fits z.cpu h.0, quantity_fits z.mem h.1)
+size_fits : (version : ℕ) (z : Size) → (size version).Fits z → SizeFits z
+size_fits version z h = (quantity_fits z.cpu h.0, quantity_fits z.mem h.1)
 
 fits_eval_id : (e : EvalId) → EvalIdFits e → evaluation_id.Fits e
 fits_eval_id e h = ((h.0.0, h.0.1), (omega arith, h.1))
@@ -145,36 +146,36 @@ fits_token t h = ((h.0.0, h.0.1), (h.1.0, h.1.1))
 token_fits : (t : Token) → token.Fits t → TokenFits t
 token_fits t h = ((h.0.0, h.0.1), (h.1.0, h.1.1))
 
-fits_group : (g : Group) → GroupFits g → group.Fits g
+fits_group : (g : Group) → GroupFits g → (group newest).Fits g
 fits_group g h = (h.0, (fits_group_count g.count h.1, (h.2, fits_size g.size h.3)))
 
-group_fits : (g : Group) → group.Fits g → GroupFits g
-group_fits g h = (h.0, group_count_fits g.count h.1.0, h.1.1.0, size_fits g.size h.1.1.1)
+group_fits : (version : ℕ) (g : Group) → (group version).Fits g → GroupFits g
+group_fits version g h = (h.0, group_count_fits g.count h.1.0, h.1.1.0, size_fits version g.size h.1.1.1)
 
 -- what holds of each item for one reason holds for another
 all_by : {A : Type 0} (P Q : A → Type 0) → ((x : A) → P x → Q x) → (xs : List A) → AllByRecursion P xs → AllByRecursion Q xs
 all_by P Q f [] h = tt
 all_by P Q f (x ∷ xs) h = (f x h.0, all_by P Q f xs h.1)
 
-fits_groups : (gs : List Group) → GroupsFit gs → groups.Fits gs
-fits_groups gs h = ((h.0.1, h.0.2, all_by GroupFits group.Fits fits_group gs h.1), lt-ltb 0 (length gs) h.0.0)
+fits_groups : (gs : List Group) → GroupsFit gs → (groups newest).Fits gs
+fits_groups gs h = ((h.0.1, h.0.2, all_by GroupFits (group newest).Fits fits_group gs h.1), lt-ltb 0 (length gs) h.0.0)
 
-groups_fits : (gs : List Group) → groups.Fits gs → GroupsFit gs
-groups_fits gs h = ((ltb-true 0 (length gs) h.1, h.0.0, h.0.1), all_by group.Fits GroupFits group_fits gs h.0.2)
+groups_fits : (version : ℕ) (gs : List Group) → (groups version).Fits gs → GroupsFit gs
+groups_fits version gs h = ((ltb-true 0 (length gs) h.1, h.0.0, h.0.1), all_by (group version).Fits GroupFits (group_fits version) gs h.0.2)
 
 -- ---- rows
 
-pub fits_job : (j : Job) → JobFits j → job.Fits j
+pub fits_job : (j : Job) → JobFits j → (job newest).Fits j
 fits_job j h = (h.0, (fits_priority j.priority h.1, (fits_bool j.stopped, ((omega arith, h.2), fits_groups j.groups h.3))))
 
-pub job_fits : (j : Job) → job.Fits j → JobFits j
-job_fits j h = (h.0, priority_fits j.priority h.1.0, h.1.1.1.0.1, groups_fits j.groups h.1.1.1.1)
+pub job_fits : (version : ℕ) (j : Job) → (job version).Fits j → JobFits j
+job_fits version j h = (h.0, priority_fits j.priority h.1.0, h.1.1.1.0.1, groups_fits version j.groups h.1.1.1.1)
 
-pub fits_node : (n : Node) → NodeFits n → node.Fits n
+pub fits_node : (n : Node) → NodeFits n → (node newest).Fits n
 fits_node n h = (fits_node_id n.number h.0, (h.1, (fits_size n.size h.2, (fits_node_status n.status, (fits_bool n.eligible, (fits_drain_mode n.drain, (omega arith, h.3)))))))
 
-pub node_fits : (n : Node) → node.Fits n → NodeFits n
-node_fits n h = (node_id_fits n.number h.0, h.1.0, size_fits n.size h.1.1.0, h.1.1.1.1.1.1.1)
+pub node_fits : (version : ℕ) (n : Node) → (node version).Fits n → NodeFits n
+node_fits version n h = (node_id_fits n.number h.0, h.1.0, size_fits version n.size h.1.1.0, h.1.1.1.1.1.1.1)
 
 pub fits_evaluation : (e : Evaluation) → EvaluationFits e → evaluation.Fits e
 fits_evaluation e h = (fits_eval_id e.id h.0, (h.1, (fits_priority e.priority h.2, (fits_eval_status e.status, (omega arith, h.3)))))
@@ -182,14 +183,14 @@ fits_evaluation e h = (fits_eval_id e.id h.0, (h.1, (fits_priority e.priority h.
 pub evaluation_fits : (e : Evaluation) → evaluation.Fits e → EvaluationFits e
 evaluation_fits e h = (eval_id_fits e.id h.0, h.1.0, priority_fits e.priority h.1.1.0, h.1.1.1.1.1)
 
-pub fits_allocation : (a : Allocation) → AllocationFits a → allocation.Fits a
+pub fits_allocation : (a : Allocation) → AllocationFits a → (allocation newest).Fits a
 fits_allocation a h =
     (fits_alloc_id a.id h.0, (h.1, ((h.2, (fits_ordinal a.index h.3, (fits_node_id a.node h.4, fits_size a.size h.5))), (fits_desired a.desired, (fits_client_state a.client, (fits_bool a.migrate, fits_eval_id a.eval h.6))))))
 
-pub allocation_fits : (a : Allocation) → allocation.Fits a → AllocationFits a
-allocation_fits a h =
+pub allocation_fits : (version : ℕ) (a : Allocation) → (allocation version).Fits a → AllocationFits a
+allocation_fits version a h =
     let place = h.1.1.0 in
-    (alloc_id_fits a.id h.0, h.1.0, place.0, ordinal_fits a.index place.1.0, node_id_fits a.node place.1.1.0, size_fits a.size place.1.1.1, eval_id_fits a.eval h.1.1.1.1.1.1)
+    (alloc_id_fits a.id h.0, h.1.0, place.0, ordinal_fits a.index place.1.0, node_id_fits a.node place.1.1.0, size_fits version a.size place.1.1.1, eval_id_fits a.eval h.1.1.1.1.1.1)
 
 -- ---- tables and states
 
@@ -201,63 +202,63 @@ table_in_order : {K X : Type 0} (most : ℕ) (R : K → K → Ordering) (o : IsT
     → (ruled_list 4 most (λ front x. is_behind R key front (key x)) row behind).Fits xs → InOrder R key most xs
 table_in_order most R o key row behind xs h = record { rising = T_from_true _ (sym (keeps_rising R o key xs) ∙ h.1); few = h.0 }
 
-pub jobs_in_order : (xs : List Job) → jobs.Fits xs → InOrder name_cmp job_name 256 xs
-jobs_in_order = table_in_order 256 name_cmp nat_list_cmp_total job_name job job_behind
+pub jobs_in_order : (version : ℕ) (xs : List Job) → (jobs version).Fits xs → InOrder name_cmp job_name 256 xs
+jobs_in_order version = table_in_order 256 name_cmp nat_list_cmp_total job_name (job version) (job_behind version)
 
-pub nodes_in_order : (xs : List Node) → nodes.Fits xs → InOrder nat_cmp node_number 64 xs
-nodes_in_order = table_in_order 64 nat_cmp nat_cmp_total node_number node node_behind
+pub nodes_in_order : (version : ℕ) (xs : List Node) → (nodes version).Fits xs → InOrder nat_cmp node_number 64 xs
+nodes_in_order version = table_in_order 64 nat_cmp nat_cmp_total node_number (node version) (node_behind version)
 
 pub evaluations_in_order : (xs : List Evaluation) → evaluations.Fits xs → InOrder eval_cmp eval_id 65536 xs
 evaluations_in_order = table_in_order 65536 eval_cmp eval_cmp_total eval_id evaluation evaluation_behind
 
-pub allocations_in_order : (xs : List Allocation) → allocations.Fits xs → InOrder alloc_cmp alloc_id 65536 xs
-allocations_in_order = table_in_order 65536 alloc_cmp alloc_cmp_total alloc_id allocation allocation_behind
+pub allocations_in_order : (version : ℕ) (xs : List Allocation) → (allocations version).Fits xs → InOrder alloc_cmp alloc_id 65536 xs
+allocations_in_order version = table_in_order 65536 alloc_cmp alloc_cmp_total alloc_id (allocation version) (allocation_behind version)
 
-pub fits_state : (s : State) → IsState s → state.Fits s
+pub fits_state : (s : State) → IsState s → (state newest).Fits s
 fits_state s h = (
   (omega arith, h.count),
   (
-    fits_table 256 name_cmp nat_list_cmp_total job_name JobFits job job_behind fits_job s.jobs h.tables.jobs h.rows.jobs,
+    fits_table 256 name_cmp nat_list_cmp_total job_name JobFits (job newest) (job_behind newest) fits_job s.jobs h.tables.jobs h.rows.jobs,
     (
-      fits_table 64 nat_cmp nat_cmp_total node_number NodeFits node node_behind fits_node s.nodes h.tables.nodes h.rows.nodes,
+      fits_table 64 nat_cmp nat_cmp_total node_number NodeFits (node newest) (node_behind newest) fits_node s.nodes h.tables.nodes h.rows.nodes,
       (
         fits_table 65536 eval_cmp eval_cmp_total eval_id EvaluationFits evaluation evaluation_behind fits_evaluation s.evals h.tables.evals h.rows.evals,
-        fits_table 65536 alloc_cmp alloc_cmp_total alloc_id AllocationFits allocation allocation_behind fits_allocation s.allocs h.tables.allocs h.rows.allocs,
+        fits_table 65536 alloc_cmp alloc_cmp_total alloc_id AllocationFits (allocation newest) (allocation_behind newest) fits_allocation s.allocs h.tables.allocs h.rows.allocs,
       ),
     ),
   ),
 )
 
-pub state_fits : (s : State) → state.Fits s → IsState s
-state_fits s h = record {
+pub state_fits : (version : ℕ) (s : State) → (state version).Fits s → IsState s
+state_fits version s h = record {
   count = h.0.1;
   tables = record {
-    jobs = jobs_in_order s.jobs h.1.0;
-    nodes = nodes_in_order s.nodes h.1.1.0;
+    jobs = jobs_in_order version s.jobs h.1.0;
+    nodes = nodes_in_order version s.nodes h.1.1.0;
     evals = evaluations_in_order s.evals h.1.1.1.0;
-    allocs = allocations_in_order s.allocs h.1.1.1.1;
+    allocs = allocations_in_order version s.allocs h.1.1.1.1;
   };
   rows = record {
-    jobs = all_by job.Fits JobFits job_fits s.jobs h.1.0.2;
-    nodes = all_by node.Fits NodeFits node_fits s.nodes h.1.1.0.2;
+    jobs = all_by (job version).Fits JobFits (job_fits version) s.jobs h.1.0.2;
+    nodes = all_by (node version).Fits NodeFits (node_fits version) s.nodes h.1.1.0.2;
     evals = all_by evaluation.Fits EvaluationFits evaluation_fits s.evals h.1.1.1.0.2;
-    allocs = all_by allocation.Fits AllocationFits allocation_fits s.allocs h.1.1.1.1.2;
+    allocs = all_by (allocation version).Fits AllocationFits (allocation_fits version) s.allocs h.1.1.1.1.2;
   };
 }
 
 -- ---- commands
 
-fits_job_spec : (j : JobSpec) → JobSpecFits j → job_spec.Fits j
+fits_job_spec : (j : JobSpec) → JobSpecFits j → (job_spec newest).Fits j
 fits_job_spec j h = (h.0, (fits_priority j.priority h.1, fits_groups j.groups h.2))
 
-job_spec_fits : (j : JobSpec) → job_spec.Fits j → JobSpecFits j
-job_spec_fits j h = (h.0, priority_fits j.priority h.1.0, groups_fits j.groups h.1.1)
+job_spec_fits : (version : ℕ) (j : JobSpec) → (job_spec version).Fits j → JobSpecFits j
+job_spec_fits version j h = (h.0, priority_fits j.priority h.1.0, groups_fits version j.groups h.1.1)
 
-fits_node_spec : (n : NodeSpec) → NodeSpecFits n → node_spec.Fits n
+fits_node_spec : (n : NodeSpec) → NodeSpecFits n → (node_spec newest).Fits n
 fits_node_spec n h = (fits_node_id n.number h.0, (h.1, fits_size n.size h.2))
 
-node_spec_fits : (n : NodeSpec) → node_spec.Fits n → NodeSpecFits n
-node_spec_fits n h = (node_id_fits n.number h.0, h.1.0, size_fits n.size h.1.1)
+node_spec_fits : (version : ℕ) (n : NodeSpec) → (node_spec version).Fits n → NodeSpecFits n
+node_spec_fits version n h = (node_id_fits n.number h.0, h.1.0, size_fits version n.size h.1.1)
 
 fits_rising_ids : (ids : List AllocId) → RisingIdsFit ids → rising_ids.Fits ids
 fits_rising_ids ids h = ((h.0.1, h.0.2, all_by AllocIdFits allocation_id.Fits fits_alloc_id ids h.1), lt-ltb 0 (length ids) h.0.0)
@@ -265,20 +266,20 @@ fits_rising_ids ids h = ((h.0.1, h.0.2, all_by AllocIdFits allocation_id.Fits fi
 rising_ids_fits : (ids : List AllocId) → rising_ids.Fits ids → RisingIdsFit ids
 rising_ids_fits ids h = ((ltb-true 0 (length ids) h.1, h.0.0, h.0.1), all_by allocation_id.Fits AllocIdFits alloc_id_fits ids h.0.2)
 
-fits_accepted_place : (x : AcceptedPlace) → AcceptedPlaceFits x → accepted_place.Fits x
+fits_accepted_place : (x : AcceptedPlace) → AcceptedPlaceFits x → (accepted_place newest).Fits x
 fits_accepted_place x h = (h.0, (fits_ordinal x.index h.1, (fits_node_id x.node h.2, fits_size x.size h.3)))
 
-accepted_place_fits : (x : AcceptedPlace) → accepted_place.Fits x → AcceptedPlaceFits x
-accepted_place_fits x h = (h.0, ordinal_fits x.index h.1.0, node_id_fits x.node h.1.1.0, size_fits x.size h.1.1.1)
+accepted_place_fits : (version : ℕ) (x : AcceptedPlace) → (accepted_place version).Fits x → AcceptedPlaceFits x
+accepted_place_fits version x h = (h.0, ordinal_fits x.index h.1.0, node_id_fits x.node h.1.1.0, size_fits version x.size h.1.1.1)
 
-fits_accepted_plan : (x : AcceptedPlan) → AcceptedPlanFits x → accepted_plan.Fits x
+fits_accepted_plan : (x : AcceptedPlan) → AcceptedPlanFits x → (accepted_plan newest).Fits x
 fits_accepted_plan x h =
-    (fits_eval_id x.eval h.0, (fits_token x.token h.1, (h.2, ((omega arith, h.3), ((h.4.0, all_by AllocIdFits allocation_id.Fits fits_alloc_id x.stops h.4.1), (h.5.0, all_by AcceptedPlaceFits accepted_place.Fits fits_accepted_place x.places h.5.1))))))
+    (fits_eval_id x.eval h.0, (fits_token x.token h.1, (h.2, ((omega arith, h.3), ((h.4.0, all_by AllocIdFits allocation_id.Fits fits_alloc_id x.stops h.4.1), (h.5.0, all_by AcceptedPlaceFits (accepted_place newest).Fits fits_accepted_place x.places h.5.1))))))
 
-accepted_plan_fits : (x : AcceptedPlan) → accepted_plan.Fits x → AcceptedPlanFits x
-accepted_plan_fits x h =
+accepted_plan_fits : (version : ℕ) (x : AcceptedPlan) → (accepted_plan version).Fits x → AcceptedPlanFits x
+accepted_plan_fits version x h =
     let end = h.1.1.1 in
-    (eval_id_fits x.eval h.0, token_fits x.token h.1.0, h.1.1.0, end.0.1, (end.1.0.0, all_by allocation_id.Fits AllocIdFits alloc_id_fits x.stops end.1.0.1), (end.1.1.0, all_by accepted_place.Fits AcceptedPlaceFits accepted_place_fits x.places end.1.1.1))
+    (eval_id_fits x.eval h.0, token_fits x.token h.1.0, h.1.1.0, end.0.1, (end.1.0.0, all_by allocation_id.Fits AllocIdFits alloc_id_fits x.stops end.1.0.1), (end.1.1.0, all_by (accepted_place version).Fits AcceptedPlaceFits (accepted_place_fits version) x.places end.1.1.1))
 
 fits_report : (r : Report) → ReportFits r → report.Fits r
 fits_report r h = (fits_alloc_id r.id h, fits_reported_state r.state)
@@ -304,7 +305,7 @@ status_change_fits (changes.Blocked snapshot) h = h.1.1
 status_change_fits changes.Complete h = tt
 status_change_fits changes.Failed h = tt
 
-pub fits_command : (c : Command) → CommandFits c → command.Fits c
+pub fits_command : (c : Command) → CommandFits c → (command newest).Fits c
 fits_command commands.Noop h = ((omega arith, omega arith), tt)
 fits_command (commands.JobPut job) h = ((omega arith, omega arith), fits_job_spec job h)
 fits_command (commands.JobStop name) h = ((omega arith, omega arith), h)
@@ -318,16 +319,16 @@ fits_command (commands.EvalStatus eval change) h = ((omega arith, omega arith), 
 fits_command (commands.Plan plan) h = ((omega arith, omega arith), fits_accepted_plan plan h)
 fits_command (commands.Report node items) h = ((omega arith, omega arith), (fits_node_id node h.0, fits_reports items h.1))
 
-pub command_fits : (c : Command) → command.Fits c → CommandFits c
-command_fits commands.Noop h = tt
-command_fits (commands.JobPut job) h = job_spec_fits job h.1
-command_fits (commands.JobStop name) h = h.1
-command_fits (commands.NodePut node) h = node_spec_fits node h.1
-command_fits (commands.NodeDown node) h = node_id_fits node h.1
-command_fits (commands.Drain node force) h = node_id_fits node h.1.0
-command_fits (commands.DrainDone node) h = node_id_fits node h.1
-command_fits (commands.Migrate ids) h = rising_ids_fits ids h.1
-command_fits (commands.EvalPut name) h = h.1
-command_fits (commands.EvalStatus eval change) h = (eval_id_fits eval h.1.0, status_change_fits change h.1.1)
-command_fits (commands.Plan plan) h = accepted_plan_fits plan h.1
-command_fits (commands.Report node items) h = (node_id_fits node h.1.0, reports_fits items h.1.1)
+pub command_fits : (version : ℕ) (c : Command) → (command version).Fits c → CommandFits c
+command_fits version commands.Noop h = tt
+command_fits version (commands.JobPut job) h = job_spec_fits version job h.1
+command_fits version (commands.JobStop name) h = h.1
+command_fits version (commands.NodePut node) h = node_spec_fits version node h.1
+command_fits version (commands.NodeDown node) h = node_id_fits node h.1
+command_fits version (commands.Drain node force) h = node_id_fits node h.1.0
+command_fits version (commands.DrainDone node) h = node_id_fits node h.1
+command_fits version (commands.Migrate ids) h = rising_ids_fits ids h.1
+command_fits version (commands.EvalPut name) h = h.1
+command_fits version (commands.EvalStatus eval change) h = (eval_id_fits eval h.1.0, status_change_fits change h.1.1)
+command_fits version (commands.Plan plan) h = accepted_plan_fits version plan h.1
+command_fits version (commands.Report node items) h = (node_id_fits node h.1.0, reports_fits items h.1.1)

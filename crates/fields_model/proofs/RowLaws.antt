@@ -1,5 +1,5 @@
 -- The laws of groups and rows.
-use Rattle.std.proofs.Common.{[], ◌∷◌, refl, arith}
+use Rattle.std.proofs.Common.{ℕ, [], ◌∷◌, refl, arith}
 use Rattle.std.specs.Ordering.{nat_cmp}
 use Rattle.rows.specs.Rising.{is_behind}
 use Rattle.rows.specs.Groups.{group_is_new}
@@ -32,29 +32,29 @@ desired_lawful = enumerated_lawful 0 (desires.Run ∷ desires.Stop ∷ []) _ ref
 pub client_state_lawful : Lawful client_state
 client_state_lawful = enumerated_lawful 0 (clients.Pending ∷ clients.Running ∷ clients.Complete ∷ clients.Failed ∷ clients.Lost ∷ []) _ refl
 
-pub group_lawful : Lawful group
-group_lawful = made_lawful _ _ _ (λ _. refl) (λ _ _. refl) (then_lawful _ _ name_lawful (then_lawful _ _ group_count_lawful (then_lawful _ _ name_lawful size_lawful)))
+pub group_lawful : (version : ℕ) → Lawful (group version)
+group_lawful version = made_lawful _ _ _ (λ _. refl) (λ _ _. refl) (then_lawful _ _ name_lawful (then_lawful _ _ group_count_lawful (then_lawful _ _ name_lawful (size_lawful version))))
 
-pub group_is_ruled : IsRuled group_is_new group group_behind
-group_is_ruled = keyed_is_ruled _ _ _ _ _ (λ _. refl) (λ _. refl) name_lawful (then_lawful _ _ group_count_lawful (then_lawful _ _ name_lawful size_lawful))
+pub group_is_ruled : (version : ℕ) → IsRuled group_is_new (group version) (group_behind version)
+group_is_ruled version = keyed_is_ruled _ _ _ _ _ (λ _. refl) (λ _. refl) name_lawful (then_lawful _ _ group_count_lawful (then_lawful _ _ name_lawful (size_lawful version)))
 
-pub groups_lawful : Lawful groups
-groups_lawful = kept_lawful _ _ (ruled_list_lawful 1 8 _ _ _ (omega arith) (omega arith) group_lawful group_is_ruled)
+pub groups_lawful : (version : ℕ) → Lawful (groups version)
+groups_lawful version = kept_lawful _ _ (ruled_list_lawful 1 8 _ _ _ (omega arith) (omega arith) (group_lawful version) (group_is_ruled version))
 
 pub allocation_id_is_ruled : IsRuled id_rises allocation_id allocation_id_behind
 allocation_id_is_ruled = kept_is_ruled _ _ allocation_id_lawful
 
-pub job_lawful : Lawful job
-job_lawful = made_lawful _ _ _ (λ _. refl) (λ _ _. refl) (then_lawful _ _ name_lawful (then_lawful _ _ priority_lawful (then_lawful _ _ bool_lawful (then_lawful _ _ index_lawful groups_lawful))))
+pub job_lawful : (version : ℕ) → Lawful (job version)
+job_lawful version = made_lawful _ _ _ (λ _. refl) (λ _ _. refl) (then_lawful _ _ name_lawful (then_lawful _ _ priority_lawful (then_lawful _ _ bool_lawful (then_lawful _ _ index_lawful (groups_lawful version)))))
 
-pub job_is_ruled : IsRuled (λ front j. is_behind name_cmp job_name front j.name) job job_behind
-job_is_ruled = keyed_is_ruled _ _ _ _ _ (λ _. refl) (λ _. refl) name_lawful (then_lawful _ _ priority_lawful (then_lawful _ _ bool_lawful (then_lawful _ _ index_lawful groups_lawful)))
+pub job_is_ruled : (version : ℕ) → IsRuled (λ front j. is_behind name_cmp job_name front j.name) (job version) (job_behind version)
+job_is_ruled version = keyed_is_ruled _ _ _ _ _ (λ _. refl) (λ _. refl) name_lawful (then_lawful _ _ priority_lawful (then_lawful _ _ bool_lawful (then_lawful _ _ index_lawful (groups_lawful version))))
 
-pub node_lawful : Lawful node
-node_lawful = made_lawful _ _ _ (λ _. refl) (λ _ _. refl) (then_lawful _ _ node_id_lawful (then_lawful _ _ name_lawful (then_lawful _ _ size_lawful (then_lawful _ _ node_status_lawful (then_lawful _ _ bool_lawful (then_lawful _ _ drain_mode_lawful index_lawful))))))
+pub node_lawful : (version : ℕ) → Lawful (node version)
+node_lawful version = made_lawful _ _ _ (λ _. refl) (λ _ _. refl) (then_lawful _ _ node_id_lawful (then_lawful _ _ name_lawful (then_lawful _ _ (size_lawful version) (then_lawful _ _ node_status_lawful (then_lawful _ _ bool_lawful (then_lawful _ _ drain_mode_lawful index_lawful))))))
 
-pub node_is_ruled : IsRuled (λ front n. is_behind nat_cmp node_number front n.number) node node_behind
-node_is_ruled = keyed_is_ruled _ _ _ _ _ (λ _. refl) (λ _. refl) node_id_lawful (then_lawful _ _ name_lawful (then_lawful _ _ size_lawful (then_lawful _ _ node_status_lawful (then_lawful _ _ bool_lawful (then_lawful _ _ drain_mode_lawful index_lawful)))))
+pub node_is_ruled : (version : ℕ) → IsRuled (λ front n. is_behind nat_cmp node_number front n.number) (node version) (node_behind version)
+node_is_ruled version = keyed_is_ruled _ _ _ _ _ (λ _. refl) (λ _. refl) node_id_lawful (then_lawful _ _ name_lawful (then_lawful _ _ (size_lawful version) (then_lawful _ _ node_status_lawful (then_lawful _ _ bool_lawful (then_lawful _ _ drain_mode_lawful index_lawful)))))
 
 pub evaluation_lawful : Lawful evaluation
 evaluation_lawful = made_lawful _ _ _ (λ _. refl) (λ _ _. refl) (then_lawful _ _ evaluation_id_lawful (then_lawful _ _ name_lawful (then_lawful _ _ priority_lawful (then_lawful _ _ eval_status_lawful index_lawful))))
@@ -62,8 +62,8 @@ evaluation_lawful = made_lawful _ _ _ (λ _. refl) (λ _ _. refl) (then_lawful _
 pub evaluation_is_ruled : IsRuled (λ front e. is_behind eval_cmp eval_id front e.id) evaluation evaluation_behind
 evaluation_is_ruled = keyed_is_ruled _ _ _ _ _ (λ _. refl) (λ _. refl) evaluation_id_lawful (then_lawful _ _ name_lawful (then_lawful _ _ priority_lawful (then_lawful _ _ eval_status_lawful index_lawful)))
 
-pub allocation_lawful : Lawful allocation
-allocation_lawful = made_lawful _ _ _ (λ _. refl) (λ _ _. refl) (then_lawful _ _ allocation_id_lawful (then_lawful _ _ name_lawful (then_lawful _ _ (then_lawful _ _ name_lawful (then_lawful _ _ ordinal_lawful (then_lawful _ _ node_id_lawful size_lawful))) (then_lawful _ _ desired_lawful (then_lawful _ _ client_state_lawful (then_lawful _ _ bool_lawful evaluation_id_lawful))))))
+pub allocation_lawful : (version : ℕ) → Lawful (allocation version)
+allocation_lawful version = made_lawful _ _ _ (λ _. refl) (λ _ _. refl) (then_lawful _ _ allocation_id_lawful (then_lawful _ _ name_lawful (then_lawful _ _ (then_lawful _ _ name_lawful (then_lawful _ _ ordinal_lawful (then_lawful _ _ node_id_lawful (size_lawful version)))) (then_lawful _ _ desired_lawful (then_lawful _ _ client_state_lawful (then_lawful _ _ bool_lawful evaluation_id_lawful))))))
 
-pub allocation_is_ruled : IsRuled (λ front a. is_behind alloc_cmp alloc_id front a.id) allocation allocation_behind
-allocation_is_ruled = keyed_is_ruled _ _ _ _ _ (λ _. refl) (λ _. refl) allocation_id_lawful (then_lawful _ _ name_lawful (then_lawful _ _ (then_lawful _ _ name_lawful (then_lawful _ _ ordinal_lawful (then_lawful _ _ node_id_lawful size_lawful))) (then_lawful _ _ desired_lawful (then_lawful _ _ client_state_lawful (then_lawful _ _ bool_lawful evaluation_id_lawful)))))
+pub allocation_is_ruled : (version : ℕ) → IsRuled (λ front a. is_behind alloc_cmp alloc_id front a.id) (allocation version) (allocation_behind version)
+allocation_is_ruled version = keyed_is_ruled _ _ _ _ _ (λ _. refl) (λ _. refl) allocation_id_lawful (then_lawful _ _ name_lawful (then_lawful _ _ (then_lawful _ _ name_lawful (then_lawful _ _ ordinal_lawful (then_lawful _ _ node_id_lawful (size_lawful version)))) (then_lawful _ _ desired_lawful (then_lawful _ _ client_state_lawful (then_lawful _ _ bool_lawful evaluation_id_lawful)))))

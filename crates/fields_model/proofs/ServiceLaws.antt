@@ -3,6 +3,7 @@
 use Rattle.std.proofs.Common.{◌≡◌, ℕ, zero, suc, ◌+◌, ◌^◌, ◌≤◌, ◌<◌, Bool, true, false, nat_eq, [], ◌∷◌, Option, Some, None, refl, ap, sym, arith, if◌then◌else◌}
 use Rattle.rows.specs.Ids.{node_rises}
 use Rattle.rows.specs.Listings.{listed_rises}
+use Rattle.rows.specs.Versions.{newest}
 use Rattle.rows.specs.declared.evaluation.EvalId.{EvalId}
 use Rattle.rows.specs.declared.token.Token.{Token}
 use Rattle.rows.specs.declared.reason.Reason.{Reason}
@@ -195,10 +196,10 @@ pub live_state_lawful : Lawful live_state
 live_state_lawful = enumerated_lawful 0 (live_states.Pending ∷ live_states.Running ∷ []) _ refl
 
 pub listed_allocation_lawful : Lawful listed_allocation
-listed_allocation_lawful = made_lawful _ _ _ (λ _. refl) (λ _ _. refl) (then_lawful _ _ allocation_id_lawful (then_lawful _ _ size_lawful live_state_lawful))
+listed_allocation_lawful = made_lawful _ _ _ (λ _. refl) (λ _ _. refl) (then_lawful _ _ allocation_id_lawful (then_lawful _ _ (size_lawful newest) live_state_lawful))
 
 pub listed_allocation_is_ruled : IsRuled listed_rises listed_allocation listed_allocation_behind
-listed_allocation_is_ruled = keyed_is_ruled _ _ _ _ _ (λ _. refl) (λ _. refl) allocation_id_lawful (then_lawful _ _ size_lawful live_state_lawful)
+listed_allocation_is_ruled = keyed_is_ruled _ _ _ _ _ (λ _. refl) (λ _. refl) allocation_id_lawful (then_lawful _ _ (size_lawful newest) live_state_lawful)
 
 pub listing_lawful : Lawful listing
 listing_lawful = ruled_list_lawful 4 65536 _ _ _ (omega arith) (omega arith) listed_allocation_lawful listed_allocation_is_ruled

@@ -27,12 +27,12 @@ use Rattle.fields_model.specs.Rows.{groups, eval_status, allocation_id_behind}
 -- ---- what commands hold
 
 -- what is asked of a job: its name, priority and groups
-abbrev pub job_spec : Format JobSpec
-job_spec = made (λ p. record { name = p.0; priority = p.1.0; groups = p.1.1 }) (λ j. (j.name, (j.priority, j.groups))) (name then priority then groups)
+abbrev pub job_spec : ℕ → Format JobSpec
+job_spec version = made (λ p. record { name = p.0; priority = p.1.0; groups = p.1.1 }) (λ j. (j.name, (j.priority, j.groups))) (name then priority then (groups version))
 
 -- what a node says of itself: its number, class and size
-abbrev pub node_spec : Format NodeSpec
-node_spec = made (λ p. record { number = p.0; class = p.1.0; size = p.1.1 }) (λ n. (n.number, (n.class, n.size))) (node_id then name then size)
+abbrev pub node_spec : ℕ → Format NodeSpec
+node_spec version = made (λ p. record { number = p.0; class = p.1.0; size = p.1.1 }) (λ n. (n.number, (n.class, n.size))) (node_id then name then (size version))
 
 abbrev pub batch : {A : Type 0} → Format A → Format (List A)
 batch f = list 1 64 f
@@ -48,8 +48,8 @@ rising_ids = some (ruled_list 1 64 id_rises allocation_id allocation_id_behind)
 abbrev pub place : Format Place
 place = made (λ p. record { group = p.0; index = p.1.0; node = p.1.1 }) (λ x. (x.group, (x.index, x.node))) (name then ordinal then node_id)
 
-abbrev pub accepted_place : Format AcceptedPlace
-accepted_place = made (λ p. record { group = p.0; index = p.1.0; node = p.1.1.0; size = p.1.1.1 }) (λ x. (x.group, (x.index, (x.node, x.size)))) (name then ordinal then node_id then size)
+abbrev pub accepted_place : ℕ → Format AcceptedPlace
+accepted_place version = made (λ p. record { group = p.0; index = p.1.0; node = p.1.1.0; size = p.1.1.1 }) (λ x. (x.group, (x.index, (x.node, x.size)))) (name then ordinal then node_id then (size version))
 
 -- what a worker submits: evaluation, token, job, version, snapshot, stops and places
 abbrev pub plan_end : Format (ℕ × (ℕ × (List AllocId × List Place)))
@@ -60,12 +60,12 @@ plan = made (λ p. let end = p.1.1.1 in record { eval = p.0; token = p.1.0; job 
     (λ x. (x.eval, (x.token, (x.job, (x.version, (x.snapshot, (x.stops, x.places))))))) (evaluation_id then token then name then plan_end)
 
 -- what was accepted of one: evaluation, token, job, snapshot, stops and places
-abbrev pub accepted_end : Format (ℕ × (List AllocId × List AcceptedPlace))
-accepted_end = index then stops then list 1 64 accepted_place
+abbrev pub accepted_end : ℕ → Format (ℕ × (List AllocId × List AcceptedPlace))
+accepted_end version = index then stops then list 1 64 (accepted_place version)
 
-abbrev pub accepted_plan : Format AcceptedPlan
-accepted_plan = made (λ p. let end = p.1.1.1 in record { eval = p.0; token = p.1.0; job = p.1.1.0; snapshot = end.0; stops = end.1.0; places = end.1.1 })
-    (λ x. (x.eval, (x.token, (x.job, (x.snapshot, (x.stops, x.places)))))) (evaluation_id then token then name then accepted_end)
+abbrev pub accepted_plan : ℕ → Format AcceptedPlan
+accepted_plan version = made (λ p. let end = p.1.1.1 in record { eval = p.0; token = p.1.0; job = p.1.1.0; snapshot = end.0; stops = end.1.0; places = end.1.1 })
+    (λ x. (x.eval, (x.token, (x.job, (x.snapshot, (x.stops, x.places)))))) (evaluation_id then token then name then (accepted_end version))
 
 -- one byte: 1 running, 2 complete, 3 failed
 abbrev pub code_of_reported : ReportedState → ℕ
@@ -167,26 +167,26 @@ report_of (commands.Report x y) = Some (x, y)
 report_of _ = None
 
 -- the text after the tag, for the tags from 7 on and for all
-abbrev pub later_bodies : ℕ → Format Command
-later_bodies =
+abbrev pub later_bodies : ℕ → ℕ → Format Command
+later_bodies version =
     choice 7 (variant (λ x. commands.Migrate x) migrate_of rising_ids)
     (choice 8 (variant (λ x. commands.EvalPut x) eval_put_of name)
     (choice 9 (variant (λ x. commands.EvalStatus x.0 x.1) eval_status_of (evaluation_id then status_change))
-    (choice 10 (variant (λ x. commands.Plan x) plan_of accepted_plan)
+    (choice 10 (variant (λ x. commands.Plan x) plan_of (accepted_plan version))
     (choice 11 (variant (λ x. commands.Report x.0 x.1) report_of (node_id then reports))
     (λ _. never)))))
 
-abbrev pub bodies : ℕ → Format Command
-bodies =
+abbrev pub bodies : ℕ → ℕ → Format Command
+bodies version =
     choice 0 (variant (λ _. commands.Noop) noop_of nothing)
-    (choice 1 (variant (λ x. commands.JobPut x) job_put_of job_spec)
+    (choice 1 (variant (λ x. commands.JobPut x) job_put_of (job_spec version))
     (choice 2 (variant (λ x. commands.JobStop x) job_stop_of name)
-    (choice 3 (variant (λ x. commands.NodePut x) node_put_of node_spec)
+    (choice 3 (variant (λ x. commands.NodePut x) node_put_of (node_spec version))
     (choice 4 (variant (λ x. commands.NodeDown x) node_down_of node_id)
     (choice 5 (variant (λ x. commands.Drain x.0 x.1) drain_of (node_id then bool))
     (choice 6 (variant (λ x. commands.DrainDone x) drain_done_of node_id)
-    later_bodies))))))
+    (later_bodies version)))))))
 
 -- a command: its tag from 0 to 11, and what it holds
-abbrev pub command : Format Command
-command = tagged tag_of (number 1 0 12) bodies
+abbrev pub command : ℕ → Format Command
+command version = tagged tag_of (number 1 0 12) (bodies version)

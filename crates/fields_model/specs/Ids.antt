@@ -17,8 +17,9 @@ name = string 1 1 32 is_name_byte
 abbrev pub quantity : Format ℕ
 quantity = number 4 1 1000001
 
-abbrev pub size : Format Size
-size = made (λ p. record { cpu = p.0; mem = p.1 }) (λ z. (z.cpu, z.mem)) (quantity then quantity)
+-- processor time and memory, in each version
+abbrev pub size : ℕ → Format Size
+size version = made (λ p. record { cpu = p.0; mem = p.1 }) (λ z. (z.cpu, z.mem)) (quantity then quantity)
 
 -- one byte: a node from 1 to 64, one of at most 64 from 0 on, a priority from 1 to 100, a count of
 -- at most 64

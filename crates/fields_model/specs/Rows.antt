@@ -83,18 +83,18 @@ make_group p = record { name = p.0; count = p.1.0; class = p.1.1.0; size = p.1.1
 abbrev pub group_parts : Group → List ℕ × GroupOthers
 group_parts g = (g.name, (g.count, (g.class, g.size)))
 
-abbrev pub group_others : Format GroupOthers
-group_others = group_count then name then size
+abbrev pub group_others : ℕ → Format GroupOthers
+group_others version = group_count then name then (size version)
 
-abbrev pub group : Format Group
-group = keyed make_group group_parts name group_others
+abbrev pub group : ℕ → Format Group
+group version = keyed make_group group_parts name (group_others version)
 
-abbrev pub group_behind : List Group → Format Group
-group_behind = keyed_behind (is_new_name) make_group group_parts name group_others
+abbrev pub group_behind : ℕ → List Group → Format Group
+group_behind version = keyed_behind (is_new_name) make_group group_parts name (group_others version)
 
 -- 1 to 8 groups with distinct names
-abbrev pub groups : Format (List Group)
-groups = some (ruled_list 1 8 group_is_new group group_behind)
+abbrev pub groups : ℕ → Format (List Group)
+groups version = some (ruled_list 1 8 group_is_new (group version) (group_behind version))
 
 -- an id behind others that rise
 abbrev pub allocation_id_behind : List AllocId → Format AllocId
@@ -111,14 +111,14 @@ make_job p = record { name = p.0; priority = p.1.0; stopped = p.1.1.0; version =
 abbrev pub job_parts : Job → List ℕ × JobOthers
 job_parts j = (j.name, (j.priority, (j.stopped, (j.version, j.groups))))
 
-abbrev pub job_others : Format JobOthers
-job_others = priority then bool then index then groups
+abbrev pub job_others : ℕ → Format JobOthers
+job_others version = priority then bool then index then (groups version)
 
-abbrev pub job : Format Job
-job = keyed make_job job_parts name job_others
+abbrev pub job : ℕ → Format Job
+job version = keyed make_job job_parts name (job_others version)
 
-abbrev pub job_behind : List Job → Format Job
-job_behind = keyed_behind (is_behind name_cmp job_name) make_job job_parts name job_others
+abbrev pub job_behind : ℕ → List Job → Format Job
+job_behind version = keyed_behind (is_behind name_cmp job_name) make_job job_parts name (job_others version)
 
 -- a node: its number, class, size, status, whether it is eligible, its drain and room; in a table
 -- its number is above the last
@@ -134,14 +134,14 @@ node_parts n = (n.number, (n.class, (n.size, (n.status, (n.eligible, (n.drain, n
 abbrev pub node_end : Format (NodeStatus × (Bool × (DrainMode × ℕ)))
 node_end = node_status then bool then drain_mode then index
 
-abbrev pub node_others : Format NodeOthers
-node_others = name then size then node_end
+abbrev pub node_others : ℕ → Format NodeOthers
+node_others version = name then (size version) then node_end
 
-abbrev pub node : Format Node
-node = keyed make_node node_parts node_id node_others
+abbrev pub node : ℕ → Format Node
+node version = keyed make_node node_parts node_id (node_others version)
 
-abbrev pub node_behind : List Node → Format Node
-node_behind = keyed_behind (is_behind nat_cmp node_number) make_node node_parts node_id node_others
+abbrev pub node_behind : ℕ → List Node → Format Node
+node_behind version = keyed_behind (is_behind nat_cmp node_number) make_node node_parts node_id (node_others version)
 
 -- an evaluation: its id, job, priority, status and snapshot; in a table its id is above the last
 abbrev pub EvaluationOthers : Type 0
@@ -176,17 +176,17 @@ make_allocation p =
 abbrev pub allocation_parts : Allocation → AllocId × AllocationOthers
 allocation_parts a = (a.id, (a.job, ((a.group, (a.index, (a.node, a.size))), (a.desired, (a.client, (a.migrate, a.eval))))))
 
-abbrev pub allocation_place : Format (List ℕ × (ℕ × (ℕ × Size)))
-allocation_place = name then ordinal then node_id then size
+abbrev pub allocation_place : ℕ → Format (List ℕ × (ℕ × (ℕ × Size)))
+allocation_place version = name then ordinal then node_id then (size version)
 
 abbrev pub allocation_end : Format (Desired × (ClientState × (Bool × EvalId)))
 allocation_end = desired then client_state then bool then evaluation_id
 
-abbrev pub allocation_others : Format AllocationOthers
-allocation_others = name then allocation_place then allocation_end
+abbrev pub allocation_others : ℕ → Format AllocationOthers
+allocation_others version = name then (allocation_place version) then allocation_end
 
-abbrev pub allocation : Format Allocation
-allocation = keyed make_allocation allocation_parts allocation_id allocation_others
+abbrev pub allocation : ℕ → Format Allocation
+allocation version = keyed make_allocation allocation_parts allocation_id (allocation_others version)
 
-abbrev pub allocation_behind : List Allocation → Format Allocation
-allocation_behind = keyed_behind (is_behind alloc_cmp alloc_id) make_allocation allocation_parts allocation_id allocation_others
+abbrev pub allocation_behind : ℕ → List Allocation → Format Allocation
+allocation_behind version = keyed_behind (is_behind alloc_cmp alloc_id) make_allocation allocation_parts allocation_id (allocation_others version)

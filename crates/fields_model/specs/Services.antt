@@ -1,6 +1,7 @@
 -- What workers and the leader's desk tell each other, and what an agent is told and shown.
 use Rattle.std.specs.Prelude.{ℕ, zero, suc, ◌+◌, ◌^◌, Bool, ◌||◌, nat_eq, List, [], ◌∷◌, Option, Some, None, if◌then◌else◌}
 use Rattle.rows.specs.Rising.{is_behind}
+use Rattle.rows.specs.Versions.{newest}
 use Rattle.rows.specs.Ids.{alloc_cmp, node_rises}
 use Rattle.rows.specs.Listings.{listed_id, listed_rises}
 use Rattle.rows.specs.Reasons.{reason_number}
@@ -182,7 +183,7 @@ abbrev pub listed_parts : ListedAllocation → AllocId × (Size × LiveState)
 listed_parts r = (r.id, (r.size, r.state))
 
 abbrev pub listed_others : Format (Size × LiveState)
-listed_others = size then live_state
+listed_others = size newest then live_state
 
 abbrev pub listed_allocation : Format ListedAllocation
 listed_allocation = keyed make_listed listed_parts allocation_id listed_others

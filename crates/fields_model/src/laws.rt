@@ -1,5 +1,5 @@
 //! The laws of the formats. Each function has an empty body: what it says is its contract.
-ghost use Rattle.std.specs.Prelude.{◌≡◌, ◌≤◌};
+ghost use Rattle.std.specs.Prelude.{◌≡◌, ℕ, ◌≤◌};
 ghost use Rattle.fields_model.specs.Format.{Lawful};
 ghost use Rattle.fields_model.specs.Fields.{term, index, server, byte, u16, u32, u64, bool, actor};
 ghost use Rattle.fields_model.specs.Ids.{name, size, node_id, evaluation_id, allocation_id, token, delivery};
@@ -8,6 +8,7 @@ ghost use Rattle.fields_model.specs.Commands.{plan, reports, command};
 ghost use Rattle.fields_model.specs.Services.{eval_outcome, plan_result, asked_request, reason, client_request_kind, told_reason, listing};
 ghost use Rattle.fields_model.specs.StateText.{state};
 ghost use Rattle.rows.specs.State.{State};
+ghost use Rattle.rows.specs.Versions.{newest};
 ghost use Rattle.rows.specs.States.{IsState};
 ghost use Rattle.rows.specs.Fits.{CommandFits};
 ghost use Rattle.rows.specs.declared.command.Command.{Command};
@@ -31,25 +32,25 @@ pub fn actors_are_lawful()
 {}
 
 /// The rows, tokens, plans and commands of the replicated state have lawful formats, and so has its
-/// text: at most 65,536 bytes a command, and 10,064,216 a state.
+/// text, in each version: at most 65,536 bytes a command, and 10,064,216 a state.
 pub fn rows_are_lawful()
     ensures name { Lawful name }
-    ensures size { Lawful size }
+    ensures size { (version : ℕ) → Lawful (size version) }
     ensures node_id { Lawful node_id }
     ensures evaluation_id { Lawful evaluation_id }
     ensures allocation_id { Lawful allocation_id }
     ensures token { Lawful token }
     ensures delivery { Lawful delivery }
-    ensures job { Lawful job }
-    ensures node { Lawful node }
+    ensures job { (version : ℕ) → Lawful (job version) }
+    ensures node { (version : ℕ) → Lawful (node version) }
     ensures evaluation { Lawful evaluation }
-    ensures allocation { Lawful allocation }
+    ensures allocation { (version : ℕ) → Lawful (allocation version) }
     ensures plan { Lawful plan }
     ensures reports { Lawful reports }
-    ensures command { Lawful command }
-    ensures command_short { command.most ≤ 65536 }
-    ensures state { Lawful state }
-    ensures state_short { state.most ≡ 10064216 }
+    ensures command { (version : ℕ) → Lawful (command version) }
+    ensures command_short { (version : ℕ) → (command version).most ≤ 65536 }
+    ensures state { (version : ℕ) → Lawful (state version) }
+    ensures state_short { (version : ℕ) → (state version).most ≡ 10064216 }
 {}
 
 /// What workers and the leader's desk tell each other has lawful formats, and what an agent is told
@@ -64,12 +65,12 @@ pub fn services_are_lawful()
     ensures listing { Lawful listing }
 {}
 
-/// The states that have a text are those with each table within its limit and in strictly rising
-/// key, and each part of each row within its own; the commands that have one are those whose parts
-/// are within theirs.
+/// The states that have a text of the newest version are those with each table within its limit and
+/// in strictly rising key, and each part of each row within its own, and a text of any version is of
+/// such a state; the commands that have one are those whose parts are within theirs.
 pub fn texts_are_within_limits()
-    ensures state { (s : State) → IsState s → state.Fits s }
-    ensures only_state { (s : State) → state.Fits s → IsState s }
-    ensures command { (c : Command) → CommandFits c → command.Fits c }
-    ensures only_command { (c : Command) → command.Fits c → CommandFits c }
+    ensures state { (s : State) → IsState s → (state newest).Fits s }
+    ensures only_state { (version : ℕ) (s : State) → (state version).Fits s → IsState s }
+    ensures command { (c : Command) → CommandFits c → (command newest).Fits c }
+    ensures only_command { (version : ℕ) (c : Command) → (command version).Fits c → CommandFits c }
 {}

@@ -3,6 +3,7 @@ use Rattle.std.proofs.Common.{◌≡◌, ◌<◌, ◌^◌, ℕ, List, [], ◌∷
 use Rattle.std.specs.Prelude.{Result, IsErr}
 use Rattle.std.specs.List.{flat_map, AllByRecursion}
 use Rattle.std.proofs.lemmas.List.{append_assoc, append-nil}
+use Rattle.rows.specs.Versions.{newest}
 use Rattle.rows.specs.declared.refusal.NoMemory.{NoMemory}
 use Rattle.fields_model.specs.Format.{Format, Grows, Puts, items, list}
 use Rattle.fields_model.specs.Fields.{index}
@@ -12,7 +13,7 @@ use Rattle.fields_model.proofs.RangeLaws.{fits_state}
 use Rattle.fsm_tables.specs.TableRows.{TablesFit}
 use Rattle.cluster_model.specs.Words.{State}
 
-pub all_fit : (s : State) → s.count < 2 ^ 40 → TablesFit (record { jobs = s.jobs; nodes = s.nodes; evals = s.evals; allocs = s.allocs }) → state.Fits s
+pub all_fit : (s : State) → s.count < 2 ^ 40 → TablesFit (record { jobs = s.jobs; nodes = s.nodes; evals = s.evals; allocs = s.allocs }) → (state newest).Fits s
 all_fit s low t = fits_state s (record {
   count = low;
   tables = record {
@@ -30,14 +31,14 @@ parts o0 o1 o2 o3 o4 a b c d e p q r t =
     ap (λ (z : List ℕ). z ++ e) (t ∙ ap (λ (z : List ℕ). z ++ d) (r ∙ ap (λ (z : List ℕ). z ++ c) (q ∙ ap (λ (z : List ℕ). z ++ b) p)))
     ∙ append_assoc (((o0 ++ a) ++ b) ++ c) d e ∙ append_assoc ((o0 ++ a) ++ b) c (d ++ e) ∙ append_assoc (o0 ++ a) b (c ++ (d ++ e)) ∙ append_assoc o0 a (b ++ (c ++ (d ++ e)))
 
-pub put_state : (s : State) (r : Result (Unit {0}) NoMemory) (o0 o1 o2 o3 o4 new : List ℕ) → state.Fits s
-    → o1 ≡ o0 ++ index.text s.count → o2 ≡ o1 ++ jobs.text s.jobs → o3 ≡ o2 ++ nodes.text s.nodes → o4 ≡ o3 ++ evaluations.text s.evals
-    → Puts (list 4 65536 allocation) s.allocs r o4 new → Puts state s r o0 new
+pub put_state : (s : State) (r : Result (Unit {0}) NoMemory) (o0 o1 o2 o3 o4 new : List ℕ) → (state newest).Fits s
+    → o1 ≡ o0 ++ index.text s.count → o2 ≡ o1 ++ (jobs newest).text s.jobs → o3 ≡ o2 ++ (nodes newest).text s.nodes → o4 ≡ o3 ++ evaluations.text s.evals
+    → Puts (list 4 65536 (allocation newest)) s.allocs r o4 new → Puts (state newest) s r o0 new
 put_state s (Ok u) o0 o1 o2 o3 o4 new fits p q r t h =
-    (fits, h.1 ∙ parts o0 o1 o2 o3 o4 (index.text s.count) (jobs.text s.jobs) (nodes.text s.nodes) (evaluations.text s.evals) (allocations.text s.allocs) p q r t)
+    (fits, h.1 ∙ parts o0 o1 o2 o3 o4 (index.text s.count) ((jobs newest).text s.jobs) ((nodes newest).text s.nodes) (evaluations.text s.evals) ((allocations newest).text s.allocs) p q r t)
 put_state s (Err e) o0 o1 o2 o3 o4 new fits p q r t h = (
-  index.text s.count ++ (jobs.text s.jobs ++ (nodes.text s.nodes ++ (evaluations.text s.evals ++ h.0))),
-  h.1 ∙ parts o0 o1 o2 o3 o4 (index.text s.count) (jobs.text s.jobs) (nodes.text s.nodes) (evaluations.text s.evals) h.0 p q r t,
+  index.text s.count ++ ((jobs newest).text s.jobs ++ ((nodes newest).text s.nodes ++ (evaluations.text s.evals ++ h.0))),
+  h.1 ∙ parts o0 o1 o2 o3 o4 (index.text s.count) ((jobs newest).text s.jobs) ((nodes newest).text s.nodes) (evaluations.text s.evals) h.0 p q r t,
 )
 
 -- ---- rows written one after the other

@@ -9,7 +9,7 @@ use crate::cluster::Cluster;
 use crate::text::has_text;
 use fields::{Field, read_whole, write};
 use machine::Machine;
-use rows::{Command, NoMemory, Refusal};
+use rows::{Command, NoMemory, Refusal, Version};
 use std::alloc::Global;
 
 impl Machine for Cluster {
@@ -59,15 +59,19 @@ impl Machine for Cluster {
         write(self, out)
     }
 
-    fn load(alloc: Global, bytes: &[u8]) -> Result<Cluster, Refusal> {
-        read_whole(alloc, bytes)
+    fn load(version: Version, alloc: Global, bytes: &[u8]) -> Result<Cluster, Refusal> {
+        read_whole(version, alloc, bytes)
     }
 
     fn write_command(command: &Command, out: &mut Vec<u8>) -> Result<(), NoMemory> {
         write(command, out)
     }
 
-    fn read_command(alloc: Global, bytes: &[u8]) -> Result<(Command, usize), Refusal> {
-        Command::read_at(alloc, bytes, 0)
+    fn read_command(
+        version: Version,
+        alloc: Global,
+        bytes: &[u8],
+    ) -> Result<(Command, usize), Refusal> {
+        Command::read_at(version, alloc, bytes, 0)
     }
 }

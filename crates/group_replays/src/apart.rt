@@ -5,7 +5,7 @@ use crate::group::{are_alike, are_same};
 use fsm_state::Cluster;
 use machine::Machine;
 use raft_snapshot::{read_stable, write_stable};
-use rows::{Actor, Sequence, ServerId};
+use rows::{Actor, Sequence, ServerId, Version};
 use server::{Outbox, Server, ServerInput};
 use std::alloc::Global;
 use std::rt::Files;
@@ -217,8 +217,8 @@ const COMPLETE: &[u8] = &[9, 0, 0, 0, 0, 0, 0, 0, 4, 0, 0, 2, 0, 0, 0, 0, 0, 0, 
 // The text of the state after the first six entries, which no server of the row ever has: the last
 // three are committed at once.
 fn sixth_state(alloc: Global, row: &Transcript) -> Option<Vec<u8>> {
-    let mut state = Cluster::load(alloc, &state_at(alloc, row, 5)?).ok()?;
-    let (command, _) = Cluster::read_command(alloc, COMPLETE).ok()?;
+    let mut state = Cluster::load(Version::newest(), alloc, &state_at(alloc, row, 5)?).ok()?;
+    let (command, _) = Cluster::read_command(Version::newest(), alloc, COMPLETE).ok()?;
     if state.count() > 5 {
         return None;
     }

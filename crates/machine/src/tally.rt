@@ -5,7 +5,7 @@ ghost use Rattle.machine_model.proofs.TallyLaws.{tally_is_lawful, tally_lawful};
 
 use fields::{Field, read_index, read_whole, write, write_index};
 use machine_model::{Amount, Machine, TallyCommand};
-use rows::{Index, NoMemory, Refusal};
+use rows::{Index, NoMemory, Refusal, Version};
 use std::alloc::Global;
 use std::marker::Model;
 
@@ -40,15 +40,20 @@ impl Tally {
 
 /// The count in eight bytes, and then the sum in two.
 impl Field for Tally {
-    ghost format = { tally };
+    ghost format = { λ _. tally };
 
-    ghost lawful = { tally_is_lawful };
+    ghost lawful = { λ _. tally_is_lawful };
 
-    fn read_at(alloc: Global, bytes: &[u8], at: usize) -> Result<(Tally, usize), Refusal>
+    fn read_at(
+        version: Version,
+        alloc: Global,
+        bytes: &[u8],
+        at: usize,
+    ) -> Result<(Tally, usize), Refusal>
         ensures { GivesExactly result (tally.read bytes.now at) }
     {
         let (count, at) = read_index(bytes, at)?;
-        let (sum, at) = Amount::read_at(alloc, bytes, at)?;
+        let (sum, at) = Amount::read_at(version, alloc, bytes, at)?;
         Ok((Tally { count, sum }, at))
     }
 
@@ -114,15 +119,19 @@ impl Machine for Tally {
         write(self, out)
     }
 
-    fn load(alloc: Global, bytes: &[u8]) -> Result<Tally, Refusal> {
-        read_whole(alloc, bytes)
+    fn load(version: Version, alloc: Global, bytes: &[u8]) -> Result<Tally, Refusal> {
+        read_whole(version, alloc, bytes)
     }
 
     fn write_command(command: &TallyCommand, out: &mut Vec<u8>) -> Result<(), NoMemory> {
         write(command, out)
     }
 
-    fn read_command(alloc: Global, bytes: &[u8]) -> Result<(TallyCommand, usize), Refusal> {
-        TallyCommand::read_at(alloc, bytes, 0)
+    fn read_command(
+        version: Version,
+        alloc: Global,
+        bytes: &[u8],
+    ) -> Result<(TallyCommand, usize), Refusal> {
+        TallyCommand::read_at(version, alloc, bytes, 0)
     }
 }

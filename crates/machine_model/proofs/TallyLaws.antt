@@ -63,10 +63,12 @@ refusal_is_its_own s (Add k) r e = its_own (ltb (s.sum + k) 1001) r e
 
 pub tally_lawful : LawfulMachine tally_meaning
 tally_lawful = record {
-  states_lawful = tally_is_lawful;
-  commands_lawful = tally_command_lawful;
-  states_short = omega arith;
-  commands_short = omega arith;
+  states_lawful = λ version. tally_is_lawful;
+  commands_lawful = λ version. tally_command_lawful;
+  states_short = λ version. omega arith;
+  commands_short = λ version. omega arith;
+  states_stay = λ version s fits. fits;
+  commands_stay = λ version c fits. fits;
   empty_fits = ((omega arith, omega arith), (omega arith, omega arith));
   empty_is_safe = omega arith;
   empty_has_count = refl;

@@ -1,15 +1,17 @@
 -- What a replicated machine is: its states, its commands and what they do, all as functions of
 -- values; and the law that each such machine keeps.
 use Rattle.std.specs.Prelude.{◌≡◌, ℕ, ◌+◌, ◌^◌, ◌<◌, ◌≤◌, Option, Some, None}
+use Rattle.rows.specs.Versions.{newest}
 use Rattle.rows.specs.declared.refusal.Refusal.{Refusal}
 use Rattle.rows.specs.declared.refusal.Refusal.TheVariants as refusals
 use Rattle.fields_model.specs.Format.{Format, Lawful}
 
 -- the meaning of a machine with states S and commands C
 pub record Meaning (S C : Type 0) : Type 1 where
-  -- which states and commands there are (those that fit their format), and their texts
-  pub states : Format S
-  pub commands : Format C
+  -- the texts of states and of commands in each version; what is written is the newest, and the
+  -- states and commands that there are fit it
+  pub states : ℕ → Format S
+  pub commands : ℕ → Format C
   -- what the machine promises of a state
   pub safe : S → Type 0
   -- the state before the first command
@@ -23,12 +25,12 @@ pub record Meaning (S C : Type 0) : Type 1 where
   -- why a state refuses a command, if it does
   pub admission : S → C → Option Refusal
 
--- a state of the machine, and a command of it: those that have a text
+-- a state of the machine, and a command of it: those that have a text of the newest version
 abbrev pub IsStateOf : {S C : Type 0} → Meaning S C → S → Type 0
-IsStateOf m s = m.states.Fits s
+IsStateOf m s = (m.states newest).Fits s
 
 abbrev pub IsCommandOf : {S C : Type 0} → Meaning S C → C → Type 0
-IsCommandOf m c = m.commands.Fits c
+IsCommandOf m c = (m.commands newest).Fits c
 
 -- A refusal that a machine may give. Want of memory, not leading, services not open, terms or
 -- places used up, bytes that are no text, and a server that is down are for others to answer: a
@@ -45,13 +47,16 @@ IsMachineRefusal _ = Unit {0}
 -- The law of machines. That a command's effect and admission depend on the state and the command
 -- alone is in the meaning, where they are functions of these.
 pub record LawfulMachine {S C : Type 0} (m : Meaning S C) : Type 0 where
-  -- a state's text reads as that state and as no other, and so does a command's; neither begins
-  -- another
-  pub states_lawful : Lawful m.states
-  pub commands_lawful : Lawful m.commands
+  -- in each version a state's text reads as that state and as no other, and so does a command's;
+  -- neither begins another
+  pub states_lawful : (version : ℕ) → Lawful (m.states version)
+  pub commands_lawful : (version : ℕ) → Lawful (m.commands version)
   -- the texts are short enough for messages, in bytes
-  pub states_short : m.states.most ≤ 16000000
-  pub commands_short : m.commands.most ≤ 65536
+  pub states_short : (version : ℕ) → (m.states version).most ≤ 16000000
+  pub commands_short : (version : ℕ) → (m.commands version).most ≤ 65536
+  -- what an older version spells is a state and a command of the newest
+  pub states_stay : (version : ℕ) (s : S) → (m.states version).Fits s → IsStateOf m s
+  pub commands_stay : (version : ℕ) (c : C) → (m.commands version).Fits c → IsCommandOf m c
   -- the empty state is a safe state of the machine, with no command applied
   pub empty_fits : IsStateOf m m.empty
   pub empty_is_safe : m.safe m.empty

@@ -56,11 +56,12 @@ abbrev pub tally_admission : TallyState → TallyCommand → Option Refusal
 tally_admission s Noop = None
 tally_admission s (Add k) = if nat_lt (s.sum + k) 1001 then None else Some OutOfRange
 
--- the tally as a machine: it is safe where its sum is at most 1,000
+-- the tally as a machine: its texts are the same in each version, and it is safe where its sum is at
+-- most 1,000
 abbrev pub tally_meaning : Meaning TallyState TallyCommand
 tally_meaning = record {
-  states = tally;
-  commands = tally_command;
+  states = λ _. tally;
+  commands = λ _. tally_command;
   safe = λ s. s.sum ≤ 1000;
   empty = record { count = 0; sum = 0 };
   noop = Noop;

@@ -17,38 +17,43 @@ pub fn admitted_is_safe<M: Machine>()
     ensures count { (cs : List M.Command) → M.meaning.count (after M.meaning cs) ≡ length cs }
 {}
 
-/// A state's text loads as that state, what loads as a state is its text, no other state's text
-/// begins with it, and it has at most 16,000,000 bytes.
+/// In each version a state's text loads as that state, what loads as a state is its text and is a
+/// state of the machine, no other state's text begins with it, and it has at most 16,000,000 bytes.
 pub fn states_are_whole<M: Machine>()
-    ensures loaded { (s : M) → IsStateOf M.meaning s
-        → whole M.meaning.states (M.meaning.states.text s) ≡ Ok s }
-    ensures found { (bytes : List ℕ) (s : M) → IsBytes bytes → whole M.meaning.states bytes ≡ Ok s
-        → IsStateOf M.meaning s × (bytes ≡ M.meaning.states.text s) }
-    ensures apart { (s t : M) (x y : List ℕ) → IsStateOf M.meaning s → IsStateOf M.meaning t
-        → M.meaning.states.text s ++ x ≡ M.meaning.states.text t ++ y → s ≡ t }
-    ensures short { (s : M) → IsStateOf M.meaning s
-        → length (M.meaning.states.text s) ≤ 16000000 }
-    ensures command_short { (c : M.Command) → IsCommandOf M.meaning c
-        → length (M.meaning.commands.text c) ≤ 65536 }
+    ensures loaded { (version : ℕ) (s : M) → (M.meaning.states version).Fits s
+        → whole (M.meaning.states version) ((M.meaning.states version).text s) ≡ Ok s }
+    ensures found { (version : ℕ) (bytes : List ℕ) (s : M) → IsBytes bytes
+        → whole (M.meaning.states version) bytes ≡ Ok s
+        → IsStateOf M.meaning s × (bytes ≡ (M.meaning.states version).text s) }
+    ensures apart { (version : ℕ) (s t : M) (x y : List ℕ) → (M.meaning.states version).Fits s
+        → (M.meaning.states version).Fits t
+        → (M.meaning.states version).text s ++ x ≡ (M.meaning.states version).text t ++ y → s ≡ t }
+    ensures short { (version : ℕ) (s : M) → (M.meaning.states version).Fits s
+        → length ((M.meaning.states version).text s) ≤ 16000000 }
+    ensures command_short { (version : ℕ) (c : M.Command) → (M.meaning.commands version).Fits c
+        → length ((M.meaning.commands version).text c) ≤ 65536 }
 {}
 
-/// A command's text at the front of some bytes reads as that command, whatever follows, what reads
-/// as a command is its text, and no other command's text begins with it.
+/// In each version a command's text at the front of some bytes reads as that command, whatever
+/// follows, what reads as a command is its text and is a command of the machine, and no other
+/// command's text begins with it.
 pub fn commands_are_whole<M: Machine>()
-    ensures read { (c : M.Command) (rest : List ℕ) → IsCommandOf M.meaning c
-        → M.meaning.commands.read (M.meaning.commands.text c ++ rest) 0
-        ≡ Ok (c, length (M.meaning.commands.text c)) }
-    ensures found { (bytes : List ℕ) (c : M.Command) (size : ℕ) → IsBytes bytes
-        → M.meaning.commands.read bytes 0 ≡ Ok (c, size)
-        → Stands M.meaning.commands bytes 0 c size }
-    ensures apart { (c d : M.Command) (x y : List ℕ) → IsCommandOf M.meaning c
-        → IsCommandOf M.meaning d
-        → M.meaning.commands.text c ++ x ≡ M.meaning.commands.text d ++ y → c ≡ d }
+    ensures read { (version : ℕ) (c : M.Command) (rest : List ℕ)
+        → (M.meaning.commands version).Fits c
+        → (M.meaning.commands version).read ((M.meaning.commands version).text c ++ rest) 0
+        ≡ Ok (c, length ((M.meaning.commands version).text c)) }
+    ensures found { (version : ℕ) (bytes : List ℕ) (c : M.Command) (size : ℕ) → IsBytes bytes
+        → (M.meaning.commands version).read bytes 0 ≡ Ok (c, size)
+        → IsCommandOf M.meaning c × Stands (M.meaning.commands version) bytes 0 c size }
+    ensures apart { (version : ℕ) (c d : M.Command) (x y : List ℕ)
+        → (M.meaning.commands version).Fits c → (M.meaning.commands version).Fits d
+        → (M.meaning.commands version).text c ++ x ≡ (M.meaning.commands version).text d ++ y
+        → c ≡ d }
 {}
 
-/// The entries of every machine's log have a lawful format: the term, and then the machine's own
-/// text of the command.
+/// In each version the entries of every machine's log have a lawful format: the term, and then the
+/// machine's own text of the command.
 pub fn entries_are_lawful<M: Machine>()
-    ensures lawful { Lawful (entry (placed M.meaning.commands)) }
-    ensures short { (entry (placed M.meaning.commands)).most ≤ 65544 }
+    ensures lawful { (version : ℕ) → Lawful (entry (placed (M.meaning.commands version))) }
+    ensures short { (version : ℕ) → (entry (placed (M.meaning.commands version))).most ≤ 65544 }
 {}

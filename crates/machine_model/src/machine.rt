@@ -1,8 +1,9 @@
 ghost use Rattle.std.specs.Prelude.{◌≡◌, ◌+◌, ◌^◌, ◌<◌, IfOk, OnOk};
+ghost use Rattle.rows.specs.Versions.{newest};
 ghost use Rattle.fields_model.specs.Format.{Gives, Writes, whole};
 ghost use Rattle.machine_model.specs.Meaning.{Meaning, LawfulMachine, IsStateOf, IsCommandOf};
 
-use rows::{NoMemory, Refusal};
+use rows::{NoMemory, Refusal, Version};
 use std::alloc::Global;
 
 /// A state machine that is replicated: the same commands in the same order leave the same state.
@@ -47,30 +48,35 @@ pub trait Machine: Drop {
         ensures fits { IsStateOf meaning self.now }
         ensures command_fits { IsCommandOf meaning command.now };
 
-    /// Puts the state's text to the end, at most 16,000,000 bytes. Without memory the buffer stays
-    /// as it was.
+    /// Puts the state's text of the newest version to the end, at most 16,000,000 bytes. Without
+    /// memory the buffer stays as it was.
     fn save(&self, out: &mut Vec<u8>) -> Result<(), NoMemory>
-        ensures { Writes meaning.states self.now result out.old.items out.new.items };
+        ensures { Writes (meaning.states newest) self.now result out.old.items out.new.items };
 
-    /// The state whose text is all of the bytes. Where there is none, `Frame` names the first field
-    /// at fault, or the first byte left over; without memory the answer may be `NoMemory` instead,
-    /// and it is never another refusal.
-    fn load(alloc: Global, bytes: &[u8]) -> Result<Self, Refusal>
-        ensures { Gives result (whole meaning.states bytes.now) };
+    /// The state whose text of a version is all of the bytes. Where there is none, `Frame` names
+    /// the first field at fault, or the first byte left over; without memory the answer may be
+    /// `NoMemory` instead, and it is never another refusal.
+    fn load(version: Version, alloc: Global, bytes: &[u8]) -> Result<Self, Refusal>
+        ensures { Gives result (whole (meaning.states version) bytes.now) };
 
-    /// Puts the command's text to the end, at most 65,536 bytes. Without memory the buffer stays as
-    /// it was.
+    /// Puts the command's text of the newest version to the end, at most 65,536 bytes. Without
+    /// memory the buffer stays as it was.
     fn write_command(command: &Self::Command, out: &mut Vec<u8>) -> Result<(), NoMemory>
-        ensures { Writes meaning.commands command.now result out.old.items out.new.items };
+        ensures { Writes (meaning.commands newest) command.now result out.old.items out.new.items };
 
-    /// The command whose text stands at the front, whatever follows, and the length of that text.
-    /// Where there is none, `Frame` names the first field at fault; without memory the answer may
-    /// be `NoMemory` instead, and it is never another refusal.
-    fn read_command(alloc: Global, bytes: &[u8]) -> Result<(Self::Command, usize), Refusal>
-        ensures { Gives result (meaning.commands.read bytes.now 0) };
+    /// The command whose text of a version stands at the front, whatever follows, and the length of
+    /// that text. Where there is none, `Frame` names the first field at fault; without memory the
+    /// answer may be `NoMemory` instead, and it is never another refusal.
+    fn read_command(
+        version: Version,
+        alloc: Global,
+        bytes: &[u8],
+    ) -> Result<(Self::Command, usize), Refusal>
+        ensures { Gives result ((meaning.commands version).read bytes.now 0) };
 
-    /// What every machine keeps: lawful texts of limited lengths, a safe empty state, an admitted
-    /// no-op, one more in the count with each command, safety through each admitted command, and
-    /// refusals of its own alone.
+    /// What every machine keeps: lawful texts of limited lengths in each version, of which an older
+    /// one spells nothing that the newest does not, a safe empty state, an admitted no-op, one more
+    /// in the count with each command, safety through each admitted command, and refusals of its
+    /// own alone.
     ghost lawful: { LawfulMachine meaning };
 }

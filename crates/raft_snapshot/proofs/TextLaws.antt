@@ -5,6 +5,7 @@ use Rattle.std.proofs.lemmas.Bool.{and_parts, eqb-true, eq-eqb, lt-ltb, cases_eq
 use Rattle.std.proofs.lemmas.List.{append_cancel_left, append-nil, drop_all, drop_at, get_or-drop}
 use Rattle.std.proofs.lemmas.Slice.Eq.{bytes_eq-Decides}
 use Rattle.std.specs.Prelude.{IfOk, OnOk}
+use Rattle.rows.specs.Versions.{newest}
 use Rattle.rows.specs.declared.refusal.Refusal.{Refusal}
 use Rattle.rows.specs.declared.refusal.Refusal.TheVariants as refusals
 use Rattle.rows.specs.declared.refusal.NoMemory.{NoMemory}
@@ -83,8 +84,8 @@ parts_again {S} {C} m p =
 some_is : {A : Type 0} (a b : A) → Some a ≡ Some b → a ≡ b
 some_is a b e = cc
 
-pub stable_lawful : {S C : Type 0} (m : Meaning S C) → Lawful m.commands → Lawful m.states → Lawful (stable m)
-stable_lawful m lc ls = coded_lawful _ parts_of _ (λ p s fits e. ap parts_of (sym (some_is _ s e)) ∙ parts_again m p) (then_lawful _ _ (front_lawful m.commands lc) (placed_lawful m.states ls))
+pub stable_lawful : {S C : Type 0} (m : Meaning S C) (version : ℕ) → Lawful (m.commands version) → Lawful (m.states version) → Lawful (stable m version)
+stable_lawful m version lc ls = coded_lawful _ parts_of _ (λ p s fits e. ap parts_of (sym (some_is _ s e)) ∙ parts_again m p) (then_lawful _ _ (front_lawful (m.commands version) lc) (placed_lawful (m.states version) ls))
 
 -- ---- the state and what it is to agree with
 
@@ -93,27 +94,27 @@ pub covered_tested : (n t : ℕ) → (n ≡ 0 → t ≡ 0) → (ltb 0 n || eqb t
 covered_tested zero t none = eq-eqb _ _ (none refl)
 covered_tested (suc n) t none = rw (lt-ltb 0 (suc n) (omega arith)) refl
 
-same_text : {S C : Type 0} (m : Meaning S C) → LawfulMachine m → (state : S) → m.states.Fits state → m.states.text state ≡ m.states.text m.empty → state ≡ m.empty
-same_text m law state fits e = no_text_begins_another m.states law.states_lawful state m.empty [] [] fits law.empty_fits (ap (λ (l : List ℕ). l ++ []) e)
+same_text : {S C : Type 0} (m : Meaning S C) → LawfulMachine m → (state : S) → (m.states newest).Fits state → (m.states newest).text state ≡ (m.states newest).text m.empty → state ≡ m.empty
+same_text m law state fits e = no_text_begins_another (m.states newest) (law.states_lawful newest) state m.empty [] [] fits law.empty_fits (ap (λ (l : List ℕ). l ++ []) e)
 
-agreed : {S C : Type 0} (m : Meaning S C) → LawfulMachine m → (n : ℕ) (state : S) → m.states.Fits state → agrees m n state ≡ true → (m.count state ≡ n) × (n ≡ 0 → state ≡ m.empty)
+agreed : {S C : Type 0} (m : Meaning S C) → LawfulMachine m → (n : ℕ) (state : S) → (m.states newest).Fits state → agrees m n state ≡ true → (m.count state ≡ n) × (n ≡ 0 → state ≡ m.empty)
 agreed m law zero state fits is =
     let both = and_parts _ _ is in
-    (eqb-true _ _ both.0, λ _. same_text m law state fits ((bytes_eq-Decides (m.states.text state) (m.states.text m.empty)).0 both.1))
+    (eqb-true _ _ both.0, λ _. same_text m law state fits ((bytes_eq-Decides ((m.states newest).text state) ((m.states newest).text m.empty)).0 both.1))
 agreed m law (suc n) state fits is = (eqb-true _ _ (and_parts _ _ is).0, λ none. absurd (omega (arith, none)))
 
 agreeing : {S C : Type 0} (m : Meaning S C) (n : ℕ) (state : S) → m.count state ≡ n → (n ≡ 0 → state ≡ m.empty) → agrees m n state ≡ true
-agreeing m zero state count first = rw (eq-eqb _ _ count, (bytes_eq-Decides (m.states.text state) (m.states.text m.empty)).1 (ap m.states.text (first refl))) refl
+agreeing m zero state count first = rw (eq-eqb _ _ count, (bytes_eq-Decides ((m.states newest).text state) ((m.states newest).text m.empty)).1 (ap (m.states newest).text (first refl))) refl
 agreeing m (suc n) state count first = rw (eq-eqb _ _ count, lt-ltb 0 (suc n) (omega arith)) refl
 
 -- a state that agrees is one that a snapshot has
-pub snapshot_of : {S C : Type 0} (m : Meaning S C) → LawfulMachine m → (n t : ℕ) (state : S) → (n ≡ 0 → t ≡ 0) → m.states.Fits state → agrees m n state ≡ true → IsSnapshot m (record { index = n; term = t; state = state })
+pub snapshot_of : {S C : Type 0} (m : Meaning S C) → LawfulMachine m → (n t : ℕ) (state : S) → (n ≡ 0 → t ≡ 0) → (m.states newest).Fits state → agrees m n state ≡ true → IsSnapshot m (record { index = n; term = t; state = state })
 snapshot_of m law n t state none fits is = let a = agreed m law n state fits is in record { count = a.0; none = none; first = a.1 }
 
 -- ---- what is read has just these bytes, and what has a text is read from it
 
-version_lawful : Lawful (number 1 1 2)
-version_lawful = number_lawful 1 1 2 (omega arith) (omega arith)
+version_lawful : Lawful (number 1 newest (newest + 1))
+version_lawful = number_lawful 1 newest (newest + 1) (omega arith) (omega arith)
 
 -- past both tests, both were true
 ended : {A : Type 0} (b a : Bool) (x y : A) (p q : ℕ) → cond b (cond a (Ok x) (Err p)) (Err q) ≡ Ok y → (b ≡ true) × (a ≡ true) × (x ≡ y)
@@ -125,15 +126,15 @@ pub stable_found : {S C : Type 0} (m : Meaning S C) → LawfulMachine m → (byt
 unfolding stable_at
 stable_found {S} {C} m law bytes s fits e =
     let last : Stored S C × ℕ → Result (Stored S C) ℕ = λ (s : Stored S C × ℕ). cond (eqb s.1 (length bytes)) (cond (agrees m s.0.log.base.index s.0.log.base.state) (Ok s.0) (Err (state_place m bytes s.0.log.base.state))) (Err s.1) in
-    let v = bind_ok (number_at 1 1 2 bytes 0) (λ v. (stable m).read bytes v.1 >>= last) s e in
-    let t = bind_ok ((stable m).read bytes v.0.1) last s v.2 in
+    let v = bind_ok (number_at 1 newest (newest + 1) bytes 0) (λ v. (stable m newest).read bytes v.1 >>= last) s e in
+    let t = bind_ok ((stable m newest).read bytes v.0.1) last s v.2 in
     let stored = t.0.0 in
     let base = stored.log.base in
     let g = ended (eqb t.0.1 (length bytes)) (agrees m base.index base.state) stored s (state_place m bytes base.state) t.0.1 t.2 in
     let sv = version_lawful.found bytes 0 v.0.0 v.0.1 fits v.1 in
-    let st = (stable_lawful m law.commands_lawful law.states_lawful).found bytes v.0.1 stored t.0.1 fits t.1 in
-    let text = (stable m).text stored in
-    let one : v.0.0 ≡ 1 = omega (arith, sv.fits.0, sv.fits.1) in
+    let st = (stable_lawful m newest (law.commands_lawful newest) (law.states_lawful newest)).found bytes v.0.1 stored t.0.1 fits t.1 in
+    let text = (stable m newest).text stored in
+    let one : v.0.0 ≡ newest = omega (arith, sv.fits.0, sv.fits.1) in
     let all : t.0.1 ≡ length bytes = eqb-true _ _ g.0 in
     let none : drop t.0.1 bytes ≡ [] = drop_all t.0.1 bytes (omega (arith, all)) in
     let behind : drop v.0.1 bytes ≡ text = st.here ∙ ap (λ (r : List ℕ). text ++ r) none ∙ append-nil text in
@@ -145,21 +146,21 @@ stable_found {S} {C} m law bytes s fits e =
 pub stable_only : {S C : Type 0} (m : Meaning S C) → LawfulMachine m → (s : Stored S C) → StableFits m s → stable_at m (stable_text m s) ≡ Ok s
 unfolding stable_at
 stable_only m law s fits =
-    let text = (stable m).text s in
+    let text = (stable m newest).text s in
     let bytes = stable_text m s in
-    let first = version_lawful.only bytes 0 1 text (omega arith, omega arith) refl in
-    let here = past 0 bytes (spelled 1 1) text refl in
-    let second = (stable_lawful m law.commands_lawful law.states_lawful).only bytes (0 + length (spelled 1 1)) s [] fits.fits (here ∙ sym (append-nil text)) in
-    let all : eqb (0 + length (spelled 1 1) + length text) (length bytes) ≡ true = eq-eqb _ _ (omega (arith, length-append (spelled 1 1) text)) in
+    let first = version_lawful.only bytes 0 newest text (omega arith, omega arith) refl in
+    let here = past 0 bytes (spelled 1 newest) text refl in
+    let second = (stable_lawful m newest (law.commands_lawful newest) (law.states_lawful newest)).only bytes (0 + length (spelled 1 newest)) s [] fits.fits (here ∙ sym (append-nil text)) in
+    let all : eqb (0 + length (spelled 1 newest) + length text) (length bytes) ≡ true = eq-eqb _ _ (omega (arith, length-append (spelled 1 newest) text)) in
     let fitting = agreeing m s.log.base.index s.log.base.state fits.snapshot.count fits.snapshot.first in
     rw (first, second, all, fitting) refl
 
 pub stable_apart : {S C : Type 0} (m : Meaning S C) → LawfulMachine m → (s t : Stored S C) (x y : List ℕ) → StableFits m s → StableFits m t → stable_text m s ++ x ≡ stable_text m t ++ y → s ≡ t
 stable_apart m law s t x y fs ft e =
-    let f = stable m in
-    let front = spelled 1 1 in
+    let f = stable m newest in
+    let front = spelled 1 newest in
     let behind = append_cancel_left front (f.text s ++ x) (f.text t ++ y) (sym (append_assoc front (f.text s) x) ∙ e ∙ append_assoc front (f.text t) y) in
-    no_text_begins_another f (stable_lawful m law.commands_lawful law.states_lawful) s t x y fs.fits ft.fits behind
+    no_text_begins_another f (stable_lawful m newest (law.commands_lawful newest) (law.states_lawful newest)) s t x y fs.fits ft.fits behind
 
 pub found_of : {S C : Type 0} (m : Meaning S C) → LawfulMachine m → (bytes : List ℕ) (r : Result (Stored S C) Refusal) → IsBytes bytes → Gives r (stable_at m bytes) → IfOk r (λ s. IsStableText m s bytes)
 found_of m law bytes (Ok s) fits given = stable_found m law bytes s fits given
@@ -230,50 +231,50 @@ steps_after m f (Err place) more = refl
 -- the first byte and the front are read, and end within the bytes
 pub record ReadsFront {S C : Type 0} (m : Meaning S C) (bytes : List ℕ) (f : Front C) (at : ℕ) : Type 0 where
   pub version : ℕ × ℕ
-  pub version_read : number_at 1 1 2 bytes 0 ≡ Ok version
-  pub front_read : (front m.commands).read bytes version.1 ≡ Ok (f, at)
+  pub version_read : number_at 1 newest (newest + 1) bytes 0 ≡ Ok version
+  pub front_read : (front (m.commands newest)).read bytes version.1 ≡ Ok (f, at)
   pub fits : IsBytes bytes
 
 module _ {S C : Type 0} (m : Meaning S C) (law : LawfulMachine m) (bytes : List ℕ) (f : Front C) (at : ℕ) (is : ReadsFront m bytes f at) where
-  stands : Stands (front m.commands) bytes is.version.1 f at
-  stands = (front_lawful m.commands law.commands_lawful).found bytes is.version.1 f at is.fits is.front_read
+  stands : Stands (front (m.commands newest)) bytes is.version.1 f at
+  stands = (front_lawful (m.commands newest) (law.commands_lawful newest)).found bytes is.version.1 f at is.fits is.front_read
 
   pub within : at ≤ length bytes
   within =
       let sv = version_lawful.found bytes 0 is.version.0 is.version.1 is.fits is.version_read in
       let text = spelled 1 is.version.0 in
       let first = ap length sv.here ∙ length-append text (drop is.version.1 bytes) in
-      let here = ap length stands.here ∙ length-append ((front m.commands).text f) (drop at bytes) in
+      let here = ap length stands.here ∙ length-append ((front (m.commands newest)).text f) (drop at bytes) in
       omega (arith, sv.after, stands.after, first, here, length-drop is.version.1 bytes, length-drop at bytes)
 
   pub none_is_none : f.index ≡ 0 → f.index_term ≡ 0
   none_is_none = none_covered f.index f.index_term stands.fits.1.1.0.1.1
 
   -- what is read then is the state
-  rest : stable_at m bytes ≡ ((placed m.states).read bytes at >>= λ s. cond (eqb s.1 (length bytes)) (cond (agrees m f.index s.0) (Ok (stored_of m (f, s.0))) (Err (state_place m bytes s.0))) (Err s.1))
+  rest : stable_at m bytes ≡ ((placed (m.states newest)).read bytes at >>= λ s. cond (eqb s.1 (length bytes)) (cond (agrees m f.index s.0) (Ok (stored_of m (f, s.0))) (Err (state_place m bytes s.0))) (Err s.1))
   unfolding stable_at
-  rest = rw (is.version_read, is.front_read) (steps_after m f ((placed m.states).read bytes at) (λ (s : Stored S C × ℕ). cond (eqb s.1 (length bytes)) (cond (agrees m s.0.log.base.index s.0.log.base.state) (Ok s.0) (Err (state_place m bytes s.0.log.base.state))) (Err s.1)))
+  rest = rw (is.version_read, is.front_read) (steps_after m f ((placed (m.states newest)).read bytes at) (λ (s : Stored S C × ℕ). cond (eqb s.1 (length bytes)) (cond (agrees m s.0.log.base.index s.0.log.base.state) (Ok s.0) (Err (state_place m bytes s.0.log.base.state))) (Err s.1)))
 
   -- a fault in the state, or a byte left over, is the whole's
-  pub state_fault : (p : ℕ) → moved_fault at (whole m.states (drop at bytes)) ≡ Err p → stable_at m bytes ≡ Err p
-  state_fault p e = rest ∙ fault_whole at (length (drop at bytes)) (length bytes) (m.states.read (drop at bytes) 0) (λ (s : S × ℕ). cond (agrees m f.index s.0) (Ok (stored_of m (f, s.0))) (Err (state_place m bytes s.0))) p within (length-drop at bytes) e
+  pub state_fault : (p : ℕ) → moved_fault at (whole (m.states newest) (drop at bytes)) ≡ Err p → stable_at m bytes ≡ Err p
+  state_fault p e = rest ∙ fault_whole at (length (drop at bytes)) (length bytes) ((m.states newest).read (drop at bytes) 0) (λ (s : S × ℕ). cond (agrees m f.index s.0) (Ok (stored_of m (f, s.0))) (Err (state_place m bytes s.0))) p within (length-drop at bytes) e
 
-  pub refused_state : (e : Refusal) → Refuses (Unit {0}) e (moved_fault at (whole m.states (drop at bytes))) → Refuses (Unit {0}) e (stable_at m bytes)
+  pub refused_state : (e : Refusal) → Refuses (Unit {0}) e (moved_fault at (whole (m.states newest) (drop at bytes))) → Refuses (Unit {0}) e (stable_at m bytes)
   refused_state refusals.NoMemory given = tt
   refused_state (refusals.Frame p) given = state_fault p given
   refused_state _ given = absurd given
 
-  module _ (state : S) (e : moved_fault at (whole m.states (drop at bytes)) ≡ Ok state) where
-    found_state : m.states.Fits state × (drop at bytes ≡ m.states.text state)
-    found_state = whole_found m.states law.states_lawful (drop at bytes) state (λ i. rw get_or-drop (is.fits (at + i))) (unmoved at (whole m.states (drop at bytes)) state e)
+  module _ (state : S) (e : moved_fault at (whole (m.states newest) (drop at bytes)) ≡ Ok state) where
+    found_state : (m.states newest).Fits state × (drop at bytes ≡ (m.states newest).text state)
+    found_state = whole_found (m.states newest) (law.states_lawful newest) (drop at bytes) state (λ i. rw get_or-drop (is.fits (at + i))) (unmoved at (whole (m.states newest) (drop at bytes)) state e)
 
     -- the state's text is all that stands there
-    pub text_is : drop at bytes ≡ m.states.text state
+    pub text_is : drop at bytes ≡ (m.states newest).text state
     text_is = found_state.1
 
     tested : stable_at m bytes ≡ cond (agrees m f.index state) (Ok (stored_of m (f, state))) (Err (state_place m bytes state))
     tested =
-        let read = read_whole at (length (drop at bytes)) (length bytes) (m.states.read (drop at bytes) 0) state within (length-drop at bytes) e in
+        let read = read_whole at (length (drop at bytes)) (length bytes) ((m.states newest).read (drop at bytes) 0) state within (length-drop at bytes) e in
         let all : eqb (length bytes) (length bytes) ≡ true = eq-eqb _ _ refl in
         rest ∙ rw (read, all) refl
 
@@ -292,13 +293,13 @@ module _ {S C : Type 0} (m : Meaning S C) (law : LawfulMachine m) (bytes : List 
 
 -- behind the front comes the state, and that is the text
 pub written : {S C : Type 0} (m : Meaning S C) (s : Stored S C) (old middle new : List ℕ) (r : Result (Unit {0}) NoMemory)
-    → (front m.commands).Fits (parts_of s).0 → IsSnapshot m s.log.base → s.log ≡ kept m s.log.base (drop s.log.base.index s.log.entries)
-    → middle ≡ (old ++ spelled 1 1) ++ (front m.commands).text (parts_of s).0 → Writes m.states s.log.base.state r middle new → OnOk r (StableFits m s × (new ≡ old ++ stable_text m s))
+    → (front (m.commands newest)).Fits (parts_of s).0 → IsSnapshot m s.log.base → s.log ≡ kept m s.log.base (drop s.log.base.index s.log.entries)
+    → middle ≡ (old ++ spelled 1 newest) ++ (front (m.commands newest)).text (parts_of s).0 → Writes (m.states newest) s.log.base.state r middle new → OnOk r (StableFits m s × (new ≡ old ++ stable_text m s))
 written {S} {C} m s old middle new (Ok _) fits snapshot shows came state =
     let with_log : _ → Stored S C = λ log. record { term = s.term; vote = s.vote; log = log } in
-    let first = spelled 1 1 in
-    let text = (front m.commands).text (parts_of s).0 in
-    let last = m.states.text s.log.base.state in (
+    let first = spelled 1 newest in
+    let text = (front (m.commands newest)).text (parts_of s).0 in
+    let last = (m.states newest).text s.log.base.state in (
       record { fits = ((fits, state.0), ap (λ log. Some (with_log log)) (sym shows)); snapshot = snapshot },
       state.1 ∙ ap (λ (l : List ℕ). l ++ last) came ∙ append_assoc (old ++ first) text last ∙ append_assoc old first (text ++ last),
     )

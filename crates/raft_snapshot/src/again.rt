@@ -2,7 +2,7 @@ ghost use Rattle.std.specs.Prelude.{◌≡◌, IfOk};
 ghost use Rattle.machine_model.specs.Meaning.{IsCommandOf};
 
 use machine::{Machine, commands_are_whole};
-use rows::{NoMemory, Refusal};
+use rows::{NoMemory, Refusal, Version};
 use std::alloc::Global;
 
 /// The same command once more, read from its own text.
@@ -15,7 +15,7 @@ pub fn command_again<M: Machine>(
     let mut text = Vec::new(alloc);
     M::write_command(command, &mut text)?;
     commands_are_whole::<M>();
-    match M::read_command(alloc, &text) {
+    match M::read_command(Version::newest(), alloc, &text) {
         Ok((again, _)) => Ok(again),
         Err(cause) => match cause {
             Refusal::NoMemory => Err(NoMemory),

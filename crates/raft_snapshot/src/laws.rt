@@ -87,10 +87,11 @@ pub fn snapshots_are_received<M: Machine>()
         beat_body s next ≡ beat_body shown next }
 {}
 
-/// What stands behind the version byte has a lawful format. The text of what a server stores is read
-/// again as that, what is read is what has just these bytes, and no text begins another.
+/// What stands behind the version byte has a lawful format in each version. The text of what a
+/// server stores is read again as that, what is read is what has just these bytes, and no text
+/// begins another.
 pub fn stable_texts_are_whole<M: Machine>()
-    ensures lawful { Lawful (stable M.meaning) }
+    ensures lawful { (version : ℕ) → Lawful (stable M.meaning version) }
     ensures again { (s : Stored M M.Command) → StableFits M.meaning s
         → stable_at M.meaning (stable_text M.meaning s) ≡ Ok s }
     ensures found { (bytes : List ℕ) (s : Stored M M.Command) → IsBytes bytes

@@ -1,6 +1,7 @@
 //! What a server stores, read from bytes.
 
 ghost use Rattle.std.specs.Prelude.{◌≡◌, ◌+◌, ◌^◌, ◌<◌, ◌≤◌, Ok, length, drop, IfOk, bytes_eq};
+ghost use Rattle.rows.specs.Versions.{newest};
 ghost use Rattle.fields_model.specs.Format.{Gives, GivesExactly, number_at, whole};
 ghost use Rattle.raft_snapshot.specs.Bases.{IsSnapshot};
 ghost use Rattle.raft_snapshot.specs.Stored.{Stored};
@@ -12,12 +13,9 @@ use crate::snapshot::Snapshot;
 use crate::stable::Stable;
 use fields::{read_index, read_items, read_term, read_u8, read_u64};
 use machine::{Coded, Entry, Machine};
-use rows::{Index, NoMemory, Refusal, Sequence, ServerId, Term};
+use rows::{Index, NoMemory, Refusal, Sequence, ServerId, Term, Version};
 use std::alloc::Global;
 use std::marker::Model;
-
-/// The version of what is stored.
-pub(crate) const VERSION: u8 = 1;
 
 /// What stands in front of the state.
 #[derive(Drop)]
@@ -46,15 +44,15 @@ impl<M: Machine> Model for Front<M> {
     ghost invariant = { λ f. (f.index ≡ 0 → f.index_term ≡ 0) × (f.index + length f.entries < 2 ^ 40) };
 }
 
-/// The version: one byte, which is 1.
+/// The version: one byte, the number of the newest.
 fn read_version(bytes: &[u8]) -> Result<(u8, usize), Refusal>
-    ensures { GivesExactly result (number_at 1 1 2 bytes.now 0) }
+    ensures { GivesExactly result (number_at 1 newest (newest + 1) bytes.now 0) }
 {
-    let (version, next) = read_u8(bytes, 0)?;
-    if version != VERSION {
+    let (number, next) = read_u8(bytes, 0)?;
+    if number != Version::newest().number() {
         return Err(Refusal::Frame(0));
     }
-    Ok((version, next))
+    Ok((number, next))
 }
 
 /// The vote: 0 where none was given, or the number of the server that has it.
@@ -100,10 +98,10 @@ fn read_entries<M: Machine>(
     at: usize,
     index: Index,
 ) -> Result<(Sequence<Entry<Coded<M>>>, usize), Refusal>
-    ensures { Gives result ((entries M.meaning.commands index).read bytes.now at) }
+    ensures { Gives result ((entries (M.meaning.commands newest) index).read bytes.now at) }
 {
     let (count, next) = read_count(bytes, at, index)?;
-    read_items(alloc, bytes, next, count)
+    read_items(Version::newest(), alloc, bytes, next, count)
 }
 
 /// What stands in front of the state.
@@ -112,7 +110,7 @@ fn read_front<M: Machine>(
     bytes: &[u8],
     at: usize,
 ) -> Result<(Front<M>, usize), Refusal>
-    ensures { Gives result ((front M.meaning.commands).read bytes.now at) }
+    ensures { Gives result ((front (M.meaning.commands newest)).read bytes.now at) }
 {
     let (term, at) = read_term(bytes, at)?;
     let (vote, at) = read_vote(bytes, at)?;
@@ -142,9 +140,9 @@ fn rest_of(bytes: &[u8], at: usize) -> &[u8]
 /// The state whose text this is; it stands at a place of other bytes, which a fault names.
 fn read_state<M: Machine>(alloc: Global, text: &[u8], at: usize) -> Result<M, Refusal>
     requires { at + length text.now < 2 ^ 64 }
-    ensures { Gives result (moved_fault at (whole M.meaning.states text.now)) }
+    ensures { Gives result (moved_fault at (whole (M.meaning.states newest) text.now)) }
 {
-    match M::load(alloc, text) {
+    match M::load(Version::newest(), alloc, text) {
         Ok(state) => Ok(state),
         Err(Refusal::Frame(place)) => Err(Refusal::Frame(at + place)),
         Err(refusal) => Err(refusal),
@@ -153,7 +151,8 @@ fn read_state<M: Machine>(alloc: Global, text: &[u8], at: usize) -> Result<M, Re
 
 /// Whether this is the text of the machine's first state.
 fn is_first_text<M: Machine>(alloc: Global, text: &[u8]) -> Result<bool, NoMemory>
-    ensures { IfOk result (λ is. is ≡ bytes_eq text.now (M.meaning.states.text M.meaning.empty)) }
+    ensures { IfOk result (λ is. is
+        ≡ bytes_eq text.now ((M.meaning.states newest).text M.meaning.empty)) }
 {
     let mut first = Vec::new(alloc);
     let state = M::empty(alloc);
@@ -163,7 +162,7 @@ fn is_first_text<M: Machine>(alloc: Global, text: &[u8]) -> Result<bool, NoMemor
 
 /// Whether a state of this text has seen as many commands, and is the first one where that is none.
 fn agrees<M: Machine>(alloc: Global, index: Index, state: &M, text: &[u8]) -> Result<bool, NoMemory>
-    requires { text.now ≡ M.meaning.states.text state.now }
+    requires { text.now ≡ (M.meaning.states newest).text state.now }
     ensures { IfOk result (λ is. is ≡ agrees M.meaning index state.now) }
 {
     if state.count() != index.get() {
@@ -210,9 +209,9 @@ fn read_text<M: Machine>(alloc: Global, bytes: &[u8]) -> Result<Stable<M>, Refus
 /// What a server stored, of which these bytes are the whole text (`write_stable`).
 ///
 /// Bytes that are no such text are refused with the offset of the first field that is cut or out of
-/// its range: another version than 1; a count of entries of which the last has no place, below
-/// 2^40; a term of covered entries where none is covered. Then come the faults inside the state,
-/// and bytes left over, which are at fault at the first of them. Last, a state that has seen
+/// its range: another version than the newest; a count of entries of which the last has no place,
+/// below 2^40; a term of covered entries where none is covered. Then come the faults inside the
+/// state, and bytes left over, which are at fault at the first of them. Last, a state that has seen
 /// another number of commands than there are covered entries, or that is not the machine's first
 /// one where none is, is at fault at its first byte. Nothing else is asked of one field by another.
 /// It takes memory for what it reads, and never for a count that it has only read.

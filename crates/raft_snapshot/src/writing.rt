@@ -1,16 +1,16 @@
 //! What a server stores, written as bytes.
 
 ghost use Rattle.std.specs.Prelude.{◌≡◌, ◌+◌, ◌^◌, ◌<◌, ◌++◌, length, OnOk, OnErr};
+ghost use Rattle.rows.specs.Versions.{newest};
 ghost use Rattle.fields_model.specs.Format.{Grows, Puts};
 ghost use Rattle.fields_model.specs.Services.{leader_number};
 ghost use Rattle.raft_snapshot.specs.Texts.{vote, covered, entries, front, parts_of, stable_text, StableFits};
 
-use crate::reading::VERSION;
 use crate::snapshot::Snapshot;
 use crate::stable::Stable;
 use fields::{write_index, write_items, write_term, write_u8, write_u64};
 use machine::{Coded, Entry, Machine};
-use rows::{Index, NoMemory, ServerId};
+use rows::{Index, NoMemory, ServerId, Version};
 
 /// The number of the server that has the vote, from 1 to 5; 0 where none was given.
 fn vote_number(voted: Option<ServerId>) -> u8
@@ -46,7 +46,7 @@ fn append_entries<M: Machine>(
     out: &mut Vec<u8>,
 ) -> Result<(), NoMemory>
     requires { index + length behind.now < 2 ^ 40 }
-    ensures { Puts (entries M.meaning.commands index) behind.now result
+    ensures { Puts (entries (M.meaning.commands newest) index) behind.now result
         out.old.items out.new.items }
 {
     write_u64(&(behind.len() as u64), out)?;
@@ -56,7 +56,7 @@ fn append_entries<M: Machine>(
 /// Puts what stands in front of the state to the end.
 #[tactic(auto, using(crate::proofs::TextRules::appends))]
 fn append_front<M: Machine>(stable: &Stable<M>, out: &mut Vec<u8>) -> Result<(), NoMemory>
-    ensures { Puts (front M.meaning.commands) (parts_of stable.now).0 result
+    ensures { Puts (front (M.meaning.commands newest)) (parts_of stable.now).0 result
         out.old.items out.new.items }
 {
     let log = stable.log();
@@ -76,14 +76,14 @@ fn append_stable<M: Machine>(stable: &Stable<M>, out: &mut Vec<u8>) -> Result<()
     let log = stable.log();
     let _covered = log.covered();
     let _tail = log.tail();
-    write_u8(&VERSION, out)?;
+    write_u8(&Version::newest().number(), out)?;
     append_front(stable, out)?;
     log.state().save(out)
 }
 
-/// Puts the one text of what a server stores to the end, or changes nothing: the version, the term,
-/// the vote, how many entries are covered, the last one's term, the entries behind them, and the
-/// state after those that are covered.
+/// Puts the one text of what a server stores to the end, or changes nothing: the version, which is
+/// the newest, the term, the vote, how many entries are covered, the last one's term, the entries
+/// behind them, and the state after those that are covered.
 pub fn write_stable<M: Machine>(stable: &Stable<M>, out: &mut Vec<u8>) -> Result<(), NoMemory>
     ensures ok { OnOk result (StableFits M.meaning stable.now
         × (out.new.items ≡ out.old.items ++ stable_text M.meaning stable.now)) }

@@ -14,6 +14,7 @@ pub mod Sizes
 pub mod NodeStatuses
 pub mod State
 pub mod Limits
+pub mod Versions
 pub mod States
 pub mod Changes
 pub mod Requests

@@ -3,6 +3,7 @@ use Rattle.std.proofs.Common.{ℕ, ◌≤◌, Bool, true, false, cond, List, [],
 use Rattle.rows.specs.Keys.{alloc_cmp, alloc_id}
 use Rattle.rows.specs.Listings.{AreListed, listed_id}
 use Rattle.rows.specs.States.{InOrder}
+use Rattle.rows.specs.Versions.{newest}
 use Rattle.rows.proofs.KeyLaws.{alloc_cmp_total}
 use Rattle.rows.proofs.RisingLaws.{keeps_rising}
 use Rattle.rows.proofs.Truth.{is_true}
@@ -20,9 +21,9 @@ few_made make keep (x ∷ xs) = elim (keep x) as (λ b. length (map make (cond b
   | false ↦ omega (arith, few_made make keep xs)
 ]
 
-pub are_listed : (n : ℕ) (s : State) → state.Fits s → AreListed (listed n s)
+pub are_listed : (n : ℕ) (s : State) → (state newest).Fits s → AreListed (listed n s)
 are_listed n s fits =
-    let allocs : InOrder alloc_cmp alloc_id 65536 s.allocs = (state_fits s fits).tables.allocs in
+    let allocs : InOrder alloc_cmp alloc_id 65536 s.allocs = (state_fits newest s fits).tables.allocs in
     let few : length (listed n s) ≤ length s.allocs = few_made shown (lives_on n) s.allocs in (
       omega (arith, few, allocs.few),
       keeps_rising alloc_cmp alloc_cmp_total listed_id (listed n s)

@@ -1,5 +1,5 @@
 -- The laws of a frame's header and of its bodies.
-use Rattle.std.proofs.Common.{◌≡◌, ℕ, ◌≤◌, Some, refl, arith}
+use Rattle.std.proofs.Common.{◌≡◌, ℕ, ◌+◌, ◌≤◌, Some, refl, arith}
 use Rattle.std.proofs.Math.Nat.{le_refl, mul-le-mul_right}
 use Rattle.fields_model.specs.Format.{Format, number, placed, Lawful, IsVariant}
 use Rattle.fields_model.specs.Fields.{actor}
@@ -8,6 +8,7 @@ use Rattle.fields_model.proofs.PlacedLaws.{placed_lawful}
 use Rattle.fields_model.proofs.FieldLaws.{actor_lawful, term_lawful}
 use Rattle.fields_model.proofs.IdLaws.{from_one_lawful}
 use Rattle.machine_model.specs.Meaning.{Meaning, LawfulMachine}
+use Rattle.rows.specs.Versions.{newest}
 use Rattle.wire.specs.declared.kind.Kind.{Kind}
 use Rattle.wire.specs.declared.kind.Kind.TheVariants as kinds
 use Rattle.wire.specs.declared.vote.VoteRequest.{VoteRequest}
@@ -29,11 +30,11 @@ use Rattle.wire.specs.Laws.GrammarLaws.{kind_lawful, vote_request_lawful, vote_r
 
 -- ---- the header
 
-one_is : (a : ℕ) → (number 1 1 2).Fits a → 1 ≡ a
-one_is a fits = omega arith
+newest_is : (a : ℕ) → (number 1 newest (newest + 1)).Fits a → newest ≡ a
+newest_is a fits = omega arith
 
 version_lawful : Lawful version
-version_lawful = coded_lawful (λ _. Some tt) (λ _. 1) (number 1 1 2) (λ a b fits e. one_is a fits) (number_lawful 1 1 2 (omega arith) (omega arith))
+version_lawful = coded_lawful (λ _. Some tt) (λ _. newest) (number 1 newest (newest + 1)) (λ a b fits e. newest_is a fits) (number_lawful 1 newest (newest + 1) (omega arith) (omega arith))
 
 addresses_lawful : (k : Kind) → Lawful (addresses k)
 addresses_lawful k = depends_lawful _ _ _ (kept_lawful (may_come_from k) actor actor_lawful) (λ from fits. kept_lawful (may_go k from) actor actor_lawful) (λ from fits. le_refl 1)
@@ -102,9 +103,9 @@ is_install_reply {S} {C} = record { back = λ _. refl; there = λ v a e. there v
 pub body_lawful : {S C : Type 0} (meaning : Meaning S C) → LawfulMachine meaning → (k : Kind) → Lawful (body meaning k)
 body_lawful meaning law kinds.VoteRequest = variant_lawful _ _ _ is_vote_request vote_request_lawful
 body_lawful meaning law kinds.VoteReply = variant_lawful _ _ _ is_vote_reply vote_reply_lawful
-body_lawful meaning law kinds.Append = variant_lawful _ _ _ is_append (append_lawful meaning.commands law.commands_lawful)
+body_lawful meaning law kinds.Append = variant_lawful _ _ _ is_append (append_lawful (meaning.commands newest) (law.commands_lawful newest))
 body_lawful meaning law kinds.AppendReply = variant_lawful _ _ _ is_append_reply append_reply_lawful
-body_lawful meaning law kinds.Install = variant_lawful _ _ _ is_install (install_lawful meaning.states law.states_lawful)
+body_lawful meaning law kinds.Install = variant_lawful _ _ _ is_install (install_lawful (meaning.states newest) (law.states_lawful newest))
 body_lawful meaning law kinds.InstallReply = variant_lawful _ _ _ is_install_reply install_reply_lawful
 body_lawful meaning law kinds.Take = take_body_lawful
 body_lawful meaning law kinds.Delivered = delivered_body_lawful
@@ -166,9 +167,9 @@ body_has_kind meaning kinds.Told _ fits = absurd fits
 pub body_is_short : {S C : Type 0} (meaning : Meaning S C) → LawfulMachine meaning → (k : Kind) → (body meaning k).most ≤ 16777208
 body_is_short meaning law kinds.VoteRequest = omega arith
 body_is_short meaning law kinds.VoteReply = omega arith
-body_is_short meaning law kinds.Append = omega (arith, law.commands_short)
+body_is_short meaning law kinds.Append = omega (arith, law.commands_short newest)
 body_is_short meaning law kinds.AppendReply = omega arith
-body_is_short meaning law kinds.Install = omega (arith, law.states_short)
+body_is_short meaning law kinds.Install = omega (arith, law.states_short newest)
 body_is_short meaning law kinds.InstallReply = omega arith
 body_is_short meaning law kinds.Take = omega arith
 body_is_short meaning law kinds.Delivered = omega arith

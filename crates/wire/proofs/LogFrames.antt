@@ -2,6 +2,7 @@
 -- keep one log, and whether it takes memory.
 use Rattle.std.proofs.Common.{◌≡◌, ℕ, ◌+◌, ◌^◌, Bool, true, false, cond, eqb, leb, ◌&&◌, List, ◌++◌, length, drop, Result, Ok, Err, refl, ap, subst, ◌∙◌, append_assoc, arith}
 use Rattle.std.specs.Prelude.{IfErr, IfOk}
+use Rattle.rows.specs.Versions.{newest}
 use Rattle.rows.specs.declared.refusal.Refusal.{Refusal}
 use Rattle.rows.specs.declared.refusal.Refusal.TheVariants as refusals
 use Rattle.rows.specs.declared.actor.Actor.{Actor}
@@ -24,14 +25,14 @@ use Rattle.wire.specs.Laws.GrammarLaws.{kind_lawful}
 use Rattle.wire.proofs.GrammarLaws.{header_lawful}
 use Rattle.wire.proofs.Framing.{header_length, message_found}
 
-header_parts : (h : Header) (rest : List ℕ) → header.text h ++ rest ≡ spelled 1 1 ++ (kind.text h.kind ++ ((actor.text h.from ++ actor.text h.to) ++ rest))
+header_parts : (h : Header) (rest : List ℕ) → header.text h ++ rest ≡ spelled 1 newest ++ (kind.text h.kind ++ ((actor.text h.from ++ actor.text h.to) ++ rest))
 header_parts h rest = simp append_assoc
 
 kind_named : (kinds : Kind → Bool) (bytes : List ℕ) (h : Header) (rest : List ℕ) → header.Fits h → bytes ≡ header.text h ++ rest → kinds h.kind ≡ reads_one_of kinds (kind.read bytes 1)
 kind_named kinds bytes h rest fits text =
     let behind = (actor.text h.from ++ actor.text h.to) ++ rest in
-    let here = past 0 bytes (spelled 1 1) (kind.text h.kind ++ behind) (text ∙ header_parts h rest) in
-    let second : drop 1 bytes ≡ kind.text h.kind ++ behind = subst (λ (n : ℕ). drop (0 + n) bytes ≡ kind.text h.kind ++ behind) (length-spelled 1 1) here in
+    let here = past 0 bytes (spelled 1 newest) (kind.text h.kind ++ behind) (text ∙ header_parts h rest) in
+    let second : drop 1 bytes ≡ kind.text h.kind ++ behind = subst (λ (n : ℕ). drop (0 + n) bytes ≡ kind.text h.kind ++ behind) (length-spelled 1 newest) here in
     let read = kind_lawful.only bytes 1 h.kind behind fits.1.0 second in
     rw read refl
 

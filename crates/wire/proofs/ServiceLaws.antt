@@ -7,6 +7,7 @@ use Rattle.fields_model.proofs.OptionLaws.{option_lawful}
 use Rattle.fields_model.proofs.IdLaws.{name_lawful, size_lawful, evaluation_id_lawful, token_lawful, delivery_lawful}
 use Rattle.fields_model.proofs.CommandLaws.{plan_lawful, reports_lawful}
 use Rattle.fields_model.proofs.ServiceLaws.{eval_outcome_lawful, plan_result_lawful, asked_request_lawful, reason_lawful, client_request_kind_lawful, told_reason_lawful, listing_lawful}
+use Rattle.rows.specs.Versions.{newest}
 use Rattle.rows.specs.declared.evaluation.EvalId.{EvalId}
 use Rattle.rows.specs.declared.token.Token.{Token}
 use Rattle.rows.specs.declared.token.Delivery.{Delivery}
@@ -84,7 +85,7 @@ module _ {S C : Type 0} where
   register_there _ a e = absurd cc
 
   pub register_body_lawful : Lawful (register_body {S = S} {C = C})
-  register_body_lawful = variant_lawful _ _ _ (record { back = λ _. refl; there = register_there }) (then_lawful _ _ name_lawful size_lawful)
+  register_body_lawful = variant_lawful _ _ _ (record { back = λ _. refl; there = register_there }) (then_lawful _ _ name_lawful (size_lawful newest))
 
   heartbeat_there : (v : Body S C) (a : Unit {0}) → heartbeat_of v ≡ Some a → bodies.Heartbeat ≡ v
   heartbeat_there bodies.Heartbeat a e = refl

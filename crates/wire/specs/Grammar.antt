@@ -1,8 +1,9 @@
 -- The parts of a frame: version, kind, addresses and bodies, each by what it is made of.
-use Rattle.std.specs.Prelude.{ℕ, ◌-◌, ◌^◌, min, List, [], ◌∷◌, Option, Some, None}
+use Rattle.std.specs.Prelude.{ℕ, ◌+◌, ◌-◌, ◌^◌, min, List, [], ◌∷◌, Option, Some, None}
 use Rattle.fields_model.specs.Format.{Format, number, ◌then◌, depends, made, list, placed, variant, coded, kept, numbered}
 use Rattle.fields_model.specs.Fields.{term, index, bool, actor}
 use Rattle.fields_model.specs.Ids.{from_one}
+use Rattle.rows.specs.Versions.{newest}
 use Rattle.rows.specs.declared.actor.Actor.{Actor}
 use Rattle.machine_model.specs.Meaning.{Meaning}
 use Rattle.machine_model.specs.declared.entry.Entry.{Entry}
@@ -25,9 +26,9 @@ use Rattle.wire.specs.Services.{take_body, delivered_body, submit_body, plan_res
 
 -- ---- the header
 
--- the version is 1
+-- the version is the newest, and so is that of all texts that stand in a frame
 abbrev pub version : Format (Unit {0})
-version = coded (λ _. Some tt) (λ _. 1) (number 1 1 2)
+version = coded (λ _. Some tt) (λ _. newest) (number 1 newest (newest + 1))
 
 -- the number of a kind
 abbrev pub number_of_kind : Kind → ℕ
@@ -159,9 +160,9 @@ install_reply_of _ = None
 abbrev pub body : {S C : Type 0} → Meaning S C → Kind → Format (Body S C)
 body meaning kinds.VoteRequest = variant (λ v. bodies.VoteRequest v) vote_request_of vote_request
 body meaning kinds.VoteReply = variant (λ v. bodies.VoteReply v) vote_reply_of vote_reply
-body meaning kinds.Append = variant (λ v. bodies.Append v) append_of (append meaning.commands)
+body meaning kinds.Append = variant (λ v. bodies.Append v) append_of (append (meaning.commands newest))
 body meaning kinds.AppendReply = variant (λ v. bodies.AppendReply v) append_reply_of append_reply
-body meaning kinds.Install = variant (λ v. bodies.Install v) install_of (install meaning.states)
+body meaning kinds.Install = variant (λ v. bodies.Install v) install_of (install (meaning.states newest))
 body meaning kinds.InstallReply = variant (λ v. bodies.InstallReply v) install_reply_of install_reply
 body meaning kinds.Take = take_body
 body meaning kinds.Delivered = delivered_body

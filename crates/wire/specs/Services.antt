@@ -6,6 +6,7 @@ use Rattle.fields_model.specs.Ids.{name, size, evaluation_id, token, delivery}
 use Rattle.fields_model.specs.Fields.{index}
 use Rattle.fields_model.specs.Commands.{plan, reports}
 use Rattle.fields_model.specs.Services.{eval_outcome, plan_result, asked_request, reason, client_request_kind, told_reason, listing}
+use Rattle.rows.specs.Versions.{newest}
 use Rattle.rows.specs.declared.evaluation.EvalId.{EvalId}
 use Rattle.rows.specs.declared.token.Token.{Token}
 use Rattle.rows.specs.declared.token.Delivery.{Delivery}
@@ -101,7 +102,7 @@ abbrev pub refused_body : {S C : Type 0} → Format (Body S C)
 refused_body = variant (λ p. bodies.Response (responses.Refused p.0 p.1)) refused_of (asked_request then reason)
 
 abbrev pub register_body : {S C : Type 0} → Format (Body S C)
-register_body = variant (λ p. bodies.Register p.0 p.1) register_of (name then size)
+register_body = variant (λ p. bodies.Register p.0 p.1) register_of (name then size newest)
 
 abbrev pub heartbeat_body : {S C : Type 0} → Format (Body S C)
 heartbeat_body = variant (λ _. bodies.Heartbeat) heartbeat_of nothing

@@ -1,6 +1,7 @@
 ghost use Rattle.std.specs.Prelude.{◌≡◌, ◌<◌, ◌≤◌, ◌+◌, ◌^◌, ◌⊎◌, length, IfSome, IfNone};
+ghost use Rattle.rows.specs.Versions.{newest};
 ghost use Rattle.fields_model.specs.Format.{Gives, GivesExactly, Puts};
-ghost use Rattle.wire.specs.Grammar.{append_head, append_reply, append, most_entries};
+ghost use Rattle.wire.specs.Grammar.{append_head, append_reply, append, entries, most_entries};
 ghost use Rattle.wire.specs.Laws.GrammarLaws.{append_head_lawful, append_reply_lawful};
 
 use fields::{
@@ -8,7 +9,7 @@ use fields::{
     write_term, write_u8,
 };
 use machine::{Coded, Entry, Machine};
-use rows::{Index, NoMemory, Refusal, Sequence, Term};
+use rows::{Index, NoMemory, Refusal, Sequence, Term, Version};
 use std::alloc::Global;
 use std::marker::Model;
 
@@ -121,12 +122,17 @@ pub struct AppendReply {
 }
 
 impl Field for AppendHead {
-    ghost format = { append_head };
+    ghost format = { λ _. append_head };
 
-    ghost lawful = { append_head_lawful };
+    ghost lawful = { λ _. append_head_lawful };
 
     #[inline(always)]
-    fn read_at(_alloc: Global, bytes: &[u8], at: usize) -> Result<(AppendHead, usize), Refusal>
+    fn read_at(
+        _version: Version,
+        _alloc: Global,
+        bytes: &[u8],
+        at: usize,
+    ) -> Result<(AppendHead, usize), Refusal>
         ensures { GivesExactly result (append_head.read bytes.now at) }
     {
         let (term, at) = read_term(bytes, at)?;
@@ -154,12 +160,17 @@ impl Field for AppendHead {
 }
 
 impl Field for AppendReply {
-    ghost format = { append_reply };
+    ghost format = { λ _. append_reply };
 
-    ghost lawful = { append_reply_lawful };
+    ghost lawful = { λ _. append_reply_lawful };
 
     #[inline(always)]
-    fn read_at(_alloc: Global, bytes: &[u8], at: usize) -> Result<(AppendReply, usize), Refusal>
+    fn read_at(
+        _version: Version,
+        _alloc: Global,
+        bytes: &[u8],
+        at: usize,
+    ) -> Result<(AppendReply, usize), Refusal>
         ensures { GivesExactly result (append_reply.read bytes.now at) }
     {
         let (term, at) = read_term(bytes, at)?;
@@ -186,6 +197,19 @@ impl Field for AppendReply {
     }
 }
 
+// The entries at a place, at most `most` of them, and the place after them.
+#[inline(always)]
+fn read_entries<M: Machine>(
+    alloc: Global,
+    bytes: &[u8],
+    at: usize,
+    most: u8,
+) -> Result<(Sequence<Entry<Coded<M>>>, usize), Refusal>
+    ensures { Gives result ((entries (M.meaning.commands newest) most).read bytes.now at) }
+{
+    read_list(Version::newest(), alloc, bytes, at, most)
+}
+
 /// The `Append` at a place, and the place after it. A count of more entries than there may be is a
 /// fault at the count.
 #[inline(always)]
@@ -194,10 +218,10 @@ pub fn read_append<M: Machine>(
     bytes: &[u8],
     at: usize,
 ) -> Result<(Append<M>, usize), Refusal>
-    ensures { Gives result ((append M.meaning.commands).read bytes.now at) }
+    ensures { Gives result ((append (M.meaning.commands newest)).read bytes.now at) }
 {
-    let (head, at) = AppendHead::read_at(alloc, bytes, at)?;
-    let (entries, end) = read_list(alloc, bytes, at, most_entries(head.prev_index))?;
+    let (head, at) = AppendHead::read_at(Version::newest(), alloc, bytes, at)?;
+    let (entries, end) = read_entries(alloc, bytes, at, most_entries(head.prev_index))?;
     Ok((Append { head, entries }, end))
 }
 
@@ -211,7 +235,8 @@ pub fn append_append<M: Machine>(
 ) -> Result<(), NoMemory>
     requires few { length entries.now ≤ 32 }
     requires places { head.now.prev_index + length entries.now < 2 ^ 40 }
-    ensures { Puts (append M.meaning.commands) (record { head = head.now; entries = entries.now }) result out.old.items out.new.items }
+    ensures { Puts (append (M.meaning.commands newest))
+        (record { head = head.now; entries = entries.now }) result out.old.items out.new.items }
 {
     head.append(out)?;
     write_u8(&(entries.len() as u8), out)?;

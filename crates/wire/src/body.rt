@@ -17,7 +17,7 @@ use fields::{Field, read_told_reason, write_told_reason};
 use machine::{Coded, Entry, Machine};
 use rows::{
     ClassName, ClientRequestKind, Index, Listing, NoMemory, Reason, Refusal, Reports, Size,
-    WorkerRequest, WorkerResponse,
+    Version, WorkerRequest, WorkerResponse,
 };
 use std::alloc::Global;
 
@@ -94,13 +94,14 @@ pub fn read_body<M: Machine>(
         ((body M.meaning kind).read bytes.now at) }
     ensures same_kind { IfOk result (λ b. kind_of b.0 ≡ kind) }
 {
+    let version = Version::newest();
     match kind {
         Kind::VoteRequest => {
-            let (request, end) = VoteRequest::read_at(alloc, bytes, at)?;
+            let (request, end) = VoteRequest::read_at(version, alloc, bytes, at)?;
             Ok((Body::VoteRequest(request), end))
         }
         Kind::VoteReply => {
-            let (reply, end) = VoteReply::read_at(alloc, bytes, at)?;
+            let (reply, end) = VoteReply::read_at(version, alloc, bytes, at)?;
             Ok((Body::VoteReply(reply), end))
         }
         Kind::Append => {
@@ -108,7 +109,7 @@ pub fn read_body<M: Machine>(
             Ok((Body::Append(append), end))
         }
         Kind::AppendReply => {
-            let (reply, end) = AppendReply::read_at(alloc, bytes, at)?;
+            let (reply, end) = AppendReply::read_at(version, alloc, bytes, at)?;
             Ok((Body::AppendReply(reply), end))
         }
         Kind::Install => {
@@ -116,27 +117,27 @@ pub fn read_body<M: Machine>(
             Ok((Body::Install(install), end))
         }
         Kind::InstallReply => {
-            let (reply, end) = InstallReply::read_at(alloc, bytes, at)?;
+            let (reply, end) = InstallReply::read_at(version, alloc, bytes, at)?;
             Ok((Body::InstallReply(reply), end))
         }
         Kind::Register => {
-            let (class, at) = ClassName::read_at(alloc, bytes, at)?;
-            let (size, end) = Size::read_at(alloc, bytes, at)?;
+            let (class, at) = ClassName::read_at(version, alloc, bytes, at)?;
+            let (size, end) = Size::read_at(version, alloc, bytes, at)?;
             Ok((Body::Register(class, size), end))
         }
         Kind::Heartbeat => Ok((Body::Heartbeat, at)),
         Kind::Pull => Ok((Body::Pull, at)),
         Kind::List => {
-            let (index, at) = Index::read_at(alloc, bytes, at)?;
-            let (rows, end) = Listing::read_at(alloc, bytes, at)?;
+            let (index, at) = Index::read_at(version, alloc, bytes, at)?;
+            let (rows, end) = Listing::read_at(version, alloc, bytes, at)?;
             Ok((Body::List(index, rows), end))
         }
         Kind::Report => {
-            let (items, end) = Reports::read_at(alloc, bytes, at)?;
+            let (items, end) = Reports::read_at(version, alloc, bytes, at)?;
             Ok((Body::Report(items), end))
         }
         Kind::Told => {
-            let (asked, at) = ClientRequestKind::read_at(alloc, bytes, at)?;
+            let (asked, at) = ClientRequestKind::read_at(version, alloc, bytes, at)?;
             let (reason, end) = read_told_reason(bytes, at)?;
             Ok((Body::Told(asked, reason), end))
         }

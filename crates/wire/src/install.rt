@@ -1,4 +1,5 @@
 ghost use Rattle.std.specs.Prelude.{◌≡◌, ◌≢◌, ◌+◌, ◌^◌, ◌<◌, ◌≤◌, ◌⊎◌, length, drop, IfSome, IfNone};
+ghost use Rattle.rows.specs.Versions.{newest};
 ghost use Rattle.fields_model.specs.Format.{Gives, GivesExactly, Puts, placed};
 ghost use Rattle.wire.specs.declared.kind.Kind.TheVariants as kinds;
 ghost use Rattle.wire.specs.declared.body.Body.TheVariants as bodies;
@@ -8,7 +9,7 @@ ghost use Rattle.wire.specs.Laws.GrammarLaws.{install_reply_lawful};
 
 use fields::{Field, read_index, read_term, write_index, write_term};
 use machine::Machine;
-use rows::{EntryIndex, Index, NoMemory, Refusal, Term};
+use rows::{EntryIndex, Index, NoMemory, Refusal, Term, Version};
 use std::alloc::Global;
 use std::marker::Model;
 
@@ -99,12 +100,17 @@ pub struct InstallReply {
 }
 
 impl Field for InstallReply {
-    ghost format = { install_reply };
+    ghost format = { λ _. install_reply };
 
-    ghost lawful = { install_reply_lawful };
+    ghost lawful = { λ _. install_reply_lawful };
 
     #[inline(always)]
-    fn read_at(_alloc: Global, bytes: &[u8], at: usize) -> Result<(InstallReply, usize), Refusal>
+    fn read_at(
+        _version: Version,
+        _alloc: Global,
+        bytes: &[u8],
+        at: usize,
+    ) -> Result<(InstallReply, usize), Refusal>
         ensures { GivesExactly result (install_reply.read bytes.now at) }
     {
         let (term, at) = read_term(bytes, at)?;
@@ -137,7 +143,7 @@ fn read_install_head(
     ensures { GivesExactly result (install_head.read bytes.now at) }
 {
     let (term, at) = read_term(bytes, at)?;
-    let (index, at) = EntryIndex::read_at(alloc, bytes, at)?;
+    let (index, at) = EntryIndex::read_at(Version::newest(), alloc, bytes, at)?;
     let (index_term, at) = read_term(bytes, at)?;
     Ok((
         InstallHead {
@@ -162,9 +168,10 @@ fn rest(bytes: &[u8], at: usize) -> &[u8]
 // names are moved to where the state stands.
 fn read_state<M: Machine>(alloc: Global, bytes: &[u8], at: usize) -> Result<M, Refusal>
     requires { at ≤ length bytes.now }
-    ensures { Gives result (ended bytes.now ((placed M.meaning.states).read bytes.now at)) }
+    ensures { Gives result
+        (ended bytes.now ((placed (M.meaning.states newest)).read bytes.now at)) }
 {
-    match M::load(alloc, rest(bytes, at)) {
+    match M::load(Version::newest(), alloc, rest(bytes, at)) {
         Ok(state) => Ok(state),
         Err(Refusal::Frame(place)) => Err(Refusal::Frame(at + place)),
         Err(refusal) => Err(refusal),
@@ -199,8 +206,8 @@ pub fn append_install<M: Machine>(
     out: &mut Vec<u8>,
 ) -> Result<(), NoMemory>
     requires { 1 ≤ head.now.index }
-    ensures { Puts (install M.meaning.states) (record { head = head.now; state = state.now })
-        result out.old.items out.new.items }
+    ensures { Puts (install (M.meaning.states newest))
+        (record { head = head.now; state = state.now }) result out.old.items out.new.items }
 {
     write_term(&head.term, out)?;
     write_index(&head.index, out)?;

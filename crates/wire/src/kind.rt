@@ -5,7 +5,7 @@ ghost use Rattle.wire.specs.Grammar.{kind, number_of_kind};
 ghost use Rattle.wire.specs.Laws.GrammarLaws.{kind_lawful};
 
 use fields::{Field, read_u8, write_u8};
-use rows::{Actor, NoMemory, Refusal};
+use rows::{Actor, NoMemory, Refusal, Version};
 use std::alloc::Global;
 
 /// What a message is, as the second byte of its frame says it.
@@ -155,11 +155,16 @@ fn is_another_server(from: &Actor, to: &Actor) -> bool
 }
 
 impl Field for Kind {
-    ghost format = { kind };
+    ghost format = { λ _. kind };
 
-    ghost lawful = { kind_lawful };
+    ghost lawful = { λ _. kind_lawful };
 
-    fn read_at(_alloc: Global, bytes: &[u8], at: usize) -> Result<(Kind, usize), Refusal>
+    fn read_at(
+        _version: Version,
+        _alloc: Global,
+        bytes: &[u8],
+        at: usize,
+    ) -> Result<(Kind, usize), Refusal>
         ensures { GivesExactly result (kind.read bytes.now at) }
     {
         match read_u8(bytes, at)? {

@@ -17,7 +17,7 @@ use crate::reading::read_size;
 use crate::vote::{VoteReply, VoteRequest};
 use fields::{Field, read_u8};
 use machine::Machine;
-use rows::{Actor, Refusal, ServerId};
+use rows::{Actor, Refusal, ServerId, Version};
 use std::alloc::Global;
 use std::marker::Model;
 
@@ -107,13 +107,14 @@ fn read_log_body<M: Machine>(
     ensures { AnswersBody M.meaning (takes_memory kind ≡ true) (λ b. log_body b) bytes.now at result
         ((body M.meaning kind).read bytes.now at) }
 {
+    let version = Version::newest();
     match kind {
         Kind::VoteRequest => {
-            let (request, end) = VoteRequest::read_at(alloc, bytes, at)?;
+            let (request, end) = VoteRequest::read_at(version, alloc, bytes, at)?;
             Ok((LogBody::VoteRequest(request), end))
         }
         Kind::VoteReply => {
-            let (reply, end) = VoteReply::read_at(alloc, bytes, at)?;
+            let (reply, end) = VoteReply::read_at(version, alloc, bytes, at)?;
             Ok((LogBody::VoteReply(reply), end))
         }
         Kind::Append => {
@@ -121,7 +122,7 @@ fn read_log_body<M: Machine>(
             Ok((LogBody::Append(append), end))
         }
         Kind::AppendReply => {
-            let (reply, end) = AppendReply::read_at(alloc, bytes, at)?;
+            let (reply, end) = AppendReply::read_at(version, alloc, bytes, at)?;
             Ok((LogBody::AppendReply(reply), end))
         }
         Kind::Install => {
@@ -129,7 +130,7 @@ fn read_log_body<M: Machine>(
             Ok((LogBody::Install(Box::new(alloc, install)?), end))
         }
         Kind::InstallReply => {
-            let (reply, end) = InstallReply::read_at(alloc, bytes, at)?;
+            let (reply, end) = InstallReply::read_at(version, alloc, bytes, at)?;
             Ok((LogBody::InstallReply(reply), end))
         }
         _ => unreachable!(),

@@ -13,7 +13,7 @@ use fields::{Field, read_bool, write_option};
 use machine::Machine;
 use rows::{
     AskedRequest, Delivery, EvalId, EvalOutcome, NoMemory, Plan, PlanResult, Reason, Refusal,
-    Token, WorkerRequest, WorkerResponse,
+    Token, Version, WorkerRequest, WorkerResponse,
 };
 use std::alloc::Global;
 
@@ -51,7 +51,7 @@ fn read_delivered(
 {
     let (there, at) = read_bool(bytes, at)?;
     if there {
-        let (value, end) = Delivery::read_at(alloc, bytes, at)?;
+        let (value, end) = Delivery::read_at(Version::newest(), alloc, bytes, at)?;
         Ok((Some(value), end))
     } else {
         Ok((None, at))
@@ -72,35 +72,36 @@ pub fn read_desk_body<M: Machine>(
         ((body M.meaning kind).read bytes.now at) }
     ensures same_kind { IfOk result (λ b. kind_of b.0 ≡ kind) }
 {
+    let version = Version::newest();
     match kind {
         Kind::Delivered => {
             let (delivery, end) = read_delivered(alloc, bytes, at)?;
             Ok((Body::Response(WorkerResponse::Delivered(delivery)), end))
         }
         Kind::PlanResult => {
-            let (result, end) = PlanResult::read_at(alloc, bytes, at)?;
+            let (result, end) = PlanResult::read_at(version, alloc, bytes, at)?;
             Ok((Body::Response(WorkerResponse::PlanResult(result)), end))
         }
         Kind::Refused => {
-            let (asked, at) = AskedRequest::read_at(alloc, bytes, at)?;
-            let (reason, end) = Reason::read_at(alloc, bytes, at)?;
+            let (asked, at) = AskedRequest::read_at(version, alloc, bytes, at)?;
+            let (reason, end) = Reason::read_at(version, alloc, bytes, at)?;
             Ok((Body::Response(WorkerResponse::Refused(asked, reason)), end))
         }
         Kind::Take => Ok((Body::Request(WorkerRequest::Take), at)),
         Kind::Submit => {
-            let (plan, end) = Plan::read_at(alloc, bytes, at)?;
+            let (plan, end) = Plan::read_at(version, alloc, bytes, at)?;
             Ok((Body::Request(WorkerRequest::Submit(plan)), end))
         }
         Kind::Finish => {
-            let (eval, at) = EvalId::read_at(alloc, bytes, at)?;
-            let (token, at) = Token::read_at(alloc, bytes, at)?;
-            let (outcome, end) = EvalOutcome::read_at(alloc, bytes, at)?;
+            let (eval, at) = EvalId::read_at(version, alloc, bytes, at)?;
+            let (token, at) = Token::read_at(version, alloc, bytes, at)?;
+            let (outcome, end) = EvalOutcome::read_at(version, alloc, bytes, at)?;
             let request = WorkerRequest::Finish(eval, token, outcome);
             Ok((Body::Request(request), end))
         }
         Kind::Nack => {
-            let (eval, at) = EvalId::read_at(alloc, bytes, at)?;
-            let (token, end) = Token::read_at(alloc, bytes, at)?;
+            let (eval, at) = EvalId::read_at(version, alloc, bytes, at)?;
+            let (token, end) = Token::read_at(version, alloc, bytes, at)?;
             Ok((Body::Request(WorkerRequest::Nack(eval, token)), end))
         }
         _ => unreachable!(),

@@ -3,7 +3,7 @@ ghost use Rattle.wire.specs.Grammar.{vote_request, vote_reply};
 ghost use Rattle.wire.specs.Laws.GrammarLaws.{vote_request_lawful, vote_reply_lawful};
 
 use fields::{Field, read_bool, read_index, read_term, write_bool, write_index, write_term};
-use rows::{Index, NoMemory, Refusal, Term};
+use rows::{Index, NoMemory, Refusal, Term, Version};
 use std::alloc::Global;
 
 /// A candidate asks for a vote. (Raft, Figure 2, RequestVote.)
@@ -29,11 +29,16 @@ pub struct VoteReply {
 }
 
 impl Field for VoteRequest {
-    ghost format = { vote_request };
+    ghost format = { λ _. vote_request };
 
-    ghost lawful = { vote_request_lawful };
+    ghost lawful = { λ _. vote_request_lawful };
 
-    fn read_at(_alloc: Global, bytes: &[u8], at: usize) -> Result<(VoteRequest, usize), Refusal>
+    fn read_at(
+        _version: Version,
+        _alloc: Global,
+        bytes: &[u8],
+        at: usize,
+    ) -> Result<(VoteRequest, usize), Refusal>
         ensures { GivesExactly result (vote_request.read bytes.now at) }
     {
         let (term, at) = read_term(bytes, at)?;
@@ -57,11 +62,16 @@ impl Field for VoteRequest {
 }
 
 impl Field for VoteReply {
-    ghost format = { vote_reply };
+    ghost format = { λ _. vote_reply };
 
-    ghost lawful = { vote_reply_lawful };
+    ghost lawful = { λ _. vote_reply_lawful };
 
-    fn read_at(_alloc: Global, bytes: &[u8], at: usize) -> Result<(VoteReply, usize), Refusal>
+    fn read_at(
+        _version: Version,
+        _alloc: Global,
+        bytes: &[u8],
+        at: usize,
+    ) -> Result<(VoteReply, usize), Refusal>
         ensures { GivesExactly result (vote_reply.read bytes.now at) }
     {
         let (term, at) = read_term(bytes, at)?;

@@ -104,10 +104,12 @@ refused_own c (Some x) e same = absurd cc
 
 pub bank_lawful : LawfulMachine bank_meaning
 bank_lawful = record {
-  states_lawful = bank_text_lawful;
-  commands_lawful = bank_command_lawful;
-  states_short = omega arith;
-  commands_short = omega arith;
+  states_lawful = λ version. bank_text_lawful;
+  commands_lawful = λ version. bank_command_lawful;
+  states_short = λ version. omega arith;
+  commands_short = λ version. omega arith;
+  states_stay = λ version s fits. fits;
+  commands_stay = λ version c fits. fits;
   empty_fits = ((omega arith, omega arith), (omega arith, tt));
   empty_is_safe = All-nil (λ b. b ≤ MOST_MONEY);
   empty_has_count = refl;

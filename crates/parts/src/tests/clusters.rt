@@ -10,6 +10,7 @@ use fsm_tables::{AllocName, Tables};
 use machine::Machine;
 use rows::{
     AllocId, Allocation, Command, EvalId, EvalStatus, NoMemory, NodeId, Sequence, StatusChange,
+    Version,
 };
 use std::alloc::Global;
 
@@ -63,7 +64,7 @@ fn uses(state: &Cluster, node: usize, usage: [u64; 2]) -> bool {
 fn id_of(alloc: Global, words: &str) -> Option<AllocId> {
     let mut bytes = Vec::new(alloc);
     if put_pair(&mut bytes, words, 1) {
-        read_whole(alloc, &bytes).ok()
+        read_whole(Version::newest(), alloc, &bytes).ok()
     } else {
         None
     }

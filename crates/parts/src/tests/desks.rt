@@ -10,7 +10,7 @@ use fsm_state::Cluster;
 use plan_queue::PlanQueue;
 use rows::{
     AllocId, Batch, ClassName, Delivery, EvalId, EvalStatus, Index, JobName, LeaderTerm, NodeId,
-    Plan, Priority, Refusal, Sequence, Serial, ServerId, Token,
+    Plan, Priority, Refusal, Sequence, Serial, ServerId, Token, Version,
 };
 use std::alloc::Global;
 
@@ -74,7 +74,7 @@ pub(crate) fn holds(state: &Cluster, alloc: Global, verb: char, words: &str) -> 
 pub(crate) fn eval_of(alloc: Global, word: &str) -> Option<EvalId> {
     let mut bytes = Vec::new(alloc);
     if put_pair(&mut bytes, word, 2) {
-        read_whole(alloc, &bytes).ok()
+        read_whole(Version::newest(), alloc, &bytes).ok()
     } else {
         None
     }

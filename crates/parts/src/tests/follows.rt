@@ -8,7 +8,7 @@ use expiry::Expiry;
 use fsm_state::Cluster;
 use leader::{Desk, DeskError, follow};
 use machine::Machine;
-use rows::{Command, EvalId, Index, LeaderTerm, NodeId, Refusal};
+use rows::{Command, EvalId, Index, LeaderTerm, NodeId, Refusal, Version};
 use std::alloc::Global;
 
 // Each line is a command, which is admitted, applied and followed; or says what is found then.
@@ -175,7 +175,7 @@ fn takes(parts: &mut Followed, alloc: Global, line: &str) -> bool {
     if !put_line(&mut bytes, line) {
         return false;
     }
-    match Cluster::read_command(alloc, &bytes) {
+    match Cluster::read_command(Version::newest(), alloc, &bytes) {
         Ok((command, _)) => changes(parts, alloc, &command),
         Err(_) => false,
     }

@@ -6,7 +6,7 @@ ghost use Rattle.raft_snapshot.specs.Bases.{state_from};
 use crate::tests::states::numbers;
 use machine::{Amount, Coded, Entry, Machine, Tally, TallyCommand};
 use raft_snapshot::{Log, Snapshot, Stable, adopt, apply_range, brought_on, projection};
-use rows::{Index, ServerId, Term};
+use rows::{Index, ServerId, Term, Version};
 use std::alloc::Global;
 
 // Each line has to hold. `add T K`: an entry of term T, which adds K, comes to the end. `cut I`:
@@ -269,7 +269,7 @@ fn tally(alloc: Global, count: usize, sum: usize) -> Option<Tally> {
     {
         return None;
     }
-    Tally::load(alloc, &text).ok()
+    Tally::load(Version::newest(), alloc, &text).ok()
 }
 
 fn snapshot(

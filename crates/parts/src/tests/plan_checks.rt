@@ -4,7 +4,7 @@ use crate::tests::lines::put_line;
 use fields::{read_whole, write};
 use fsm_state::Cluster;
 use plan_apply::{Accepted, accept};
-use rows::{Delivery, Index, Plan};
+use rows::{Delivery, Index, Plan, Version};
 use std::alloc::Global;
 
 // 5.0 lives on node 1 as main[0] of web, and of node 2 so much is in use: 400. Its move to node 2
@@ -159,7 +159,7 @@ pub(crate) fn accepts(state: &Cluster, alloc: Global, words: &str) -> bool {
     if !put_line(&mut bytes, line) {
         return false;
     }
-    match read_whole(alloc, &bytes) {
+    match read_whole(Version::newest(), alloc, &bytes) {
         Ok(plan) => answers(state, alloc, &plan, wait, answer),
         Err(_) => false,
     }

@@ -1,7 +1,7 @@
 //! Tables of what is done to a machine and of what it answers then, played line by line.
 use crate::tests::lines::{look_up, put_line, put_many};
 use machine::Machine;
-use rows::Refusal;
+use rows::{Refusal, Version};
 use std::alloc::Global;
 use std::process::Abort;
 
@@ -142,7 +142,7 @@ fn weigh<M: Machine>(state: &M, command: &M::Command) -> u8 {
 }
 
 fn answer<M: Machine>(bench: &Bench<M>) -> u8 {
-    match M::read_command(bench.alloc, &bench.bytes) {
+    match M::read_command(Version::newest(), bench.alloc, &bench.bytes) {
         Ok((command, _)) => weigh(&bench.state, &command),
         Err(_) => 254,
     }
@@ -150,7 +150,7 @@ fn answer<M: Machine>(bench: &Bench<M>) -> u8 {
 
 // It is written as it was read, and applied, where it is admitted or in any case.
 fn apply<M: Machine>(state: &mut M, alloc: Global, bytes: &[u8], any: bool) -> bool {
-    match M::read_command(alloc, bytes) {
+    match M::read_command(Version::newest(), alloc, bytes) {
         Ok((command, size)) => {
             size < bytes.len()
                 && is_written::<M>(&command, alloc, &bytes[..size])
@@ -167,7 +167,7 @@ fn takes<M: Machine>(bench: &mut Bench<M>, line: &str, any: bool) -> bool {
 }
 
 fn restore<M: Machine>(state: &mut M, alloc: Global, text: &[u8]) -> bool {
-    match M::load(alloc, text) {
+    match M::load(Version::newest(), alloc, text) {
         Ok(read) => {
             *state = read;
             true
@@ -276,7 +276,7 @@ fn set(text: &mut [u8], place: usize, value: usize) -> usize {
 
 // Where the text of a machine is at fault, and the greatest number where it is not.
 fn fault_of<M: Machine>(alloc: Global, text: &[u8]) -> usize {
-    match M::load(alloc, text) {
+    match M::load(Version::newest(), alloc, text) {
         Err(Refusal::Frame(place)) => place,
         _ => usize::MAX,
     }
@@ -285,7 +285,7 @@ fn fault_of<M: Machine>(alloc: Global, text: &[u8]) -> usize {
 // How many bytes the command has that a text begins with, which is written so again; or where the
 // text is at fault.
 fn command_of<M: Machine>(alloc: Global, text: &[u8], is_bad: bool) -> usize {
-    match M::read_command(alloc, text) {
+    match M::read_command(Version::newest(), alloc, text) {
         Ok((command, size)) if !is_bad => {
             match text.get(..size) {
                 Some(part) if is_written::<M>(&command, alloc, part) => size,

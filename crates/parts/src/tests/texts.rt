@@ -2,7 +2,9 @@
 //! written so again, and where the others are at fault.
 use fields::Field;
 use machine::{Amount, Coded, Entry, Tally, TallyCommand};
-use rows::{Actor, AllocId, Delivery, EvalId, Index, Name, NodeId, Refusal, ServerId, Size, Term};
+use rows::{
+    Actor, AllocId, Delivery, EvalId, Index, Name, NodeId, Refusal, ServerId, Size, Term, Version,
+};
 use std::alloc::Global;
 
 /// No fault: the bytes are the text of the value that is read.
@@ -38,7 +40,7 @@ enum Of {
 /// Where the bytes from a place on are at fault, as a field; the first byte behind its text where
 /// some are left over.
 fn fault_of<F: Field>(alloc: Global, bytes: &[u8], at: usize) -> usize {
-    match F::read_at(alloc, bytes, at) {
+    match F::read_at(Version::newest(), alloc, bytes, at) {
         Err(Refusal::Frame(place)) => place,
         Err(_) => WRONG,
         Ok((value, end)) => {

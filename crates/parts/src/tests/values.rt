@@ -7,7 +7,7 @@ use fields::{
 use machine::{Amount, Coded, Entry, Tally, TallyCommand};
 use rows::{
     Actor, AllocId, ClientId, Evaluation, Index, Leader, Name, Refusal, Sequence, ServerId, Size,
-    Term,
+    Term, Version,
 };
 use std::alloc::Global;
 use std::fmt::Display;
@@ -110,7 +110,7 @@ fn are_lists_written(alloc: Global) -> bool {
 
 // Whether the entry that is read has term 1 and adds this.
 fn is_entry(alloc: Global, bytes: &[u8], added: u16) -> bool {
-    match read_whole::<Entry<Coded<Tally>>>(alloc, bytes) {
+    match read_whole::<Entry<Coded<Tally>>>(Version::newest(), alloc, bytes) {
         Ok(entry) => {
             entry.term.get() == 1
                 && added_by(entry.command.command()) == added
@@ -257,15 +257,18 @@ fn extent_of<T: Drop>(read: Result<(Sequence<T>, usize), Refusal>) -> (usize, us
 fn extent(alloc: Global, row: &Row) -> (usize, usize) {
     let (list, at, most, bytes, _) = *row;
     let long = u32::from(most);
+    let version = Version::newest();
     match list {
-        List::Amounts => extent_of(read_list::<Amount>(alloc, bytes, at, most)),
-        List::LongAmounts => extent_of(read_long_list::<Amount>(alloc, bytes, at, long)),
-        List::Ids => extent_of(read_ruled_list::<AllocId>(alloc, bytes, at, most)),
-        List::LongIds => extent_of(read_long_ruled_list::<AllocId>(alloc, bytes, at, long)),
+        List::Amounts => extent_of(read_list::<Amount>(version, alloc, bytes, at, most)),
+        List::LongAmounts => extent_of(read_long_list::<Amount>(version, alloc, bytes, at, long)),
+        List::Ids => extent_of(read_ruled_list::<AllocId>(version, alloc, bytes, at, most)),
+        List::LongIds => extent_of(read_long_ruled_list::<AllocId>(
+            version, alloc, bytes, at, long,
+        )),
         List::Evaluations => {
-            extent_of(read_long_ruled_list::<Evaluation>(alloc, bytes, at, long))
+            extent_of(read_long_ruled_list::<Evaluation>(version, alloc, bytes, at, long))
         }
-        List::OneAmount => match read_option::<Amount>(alloc, bytes, at) {
+        List::OneAmount => match read_option::<Amount>(version, alloc, bytes, at) {
             Ok((Some(amount), end)) => (amount.get() as usize, end),
             Ok((None, end)) => (0, end),
             Err(_) => (99, at),

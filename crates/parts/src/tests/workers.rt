@@ -5,7 +5,7 @@ use fields::{read_whole, write};
 use fsm_state::Cluster;
 use rows::{
     AskedRequest, Delivery, EvalId, EvalOutcome, Index, Leader, LeaderTerm, NoMemory, PlaceCount,
-    PlanResult, Reason, Refusal, RisingNodes, Sequence, Serial, Token, WorkerRequest,
+    PlanResult, Reason, Refusal, RisingNodes, Sequence, Serial, Token, Version, WorkerRequest,
     WorkerResponse,
 };
 use scheduler::{WorkerStep, next_step, plan};
@@ -120,7 +120,7 @@ pub(crate) fn holds(state: &Cluster, alloc: Global, verb: char, words: &str) -> 
 fn eval_of(alloc: Global, word: &str) -> Option<EvalId> {
     let mut bytes = Vec::new(alloc);
     if put_pair(&mut bytes, word, 2) {
-        read_whole(alloc, &bytes).ok()
+        read_whole(Version::newest(), alloc, &bytes).ok()
     } else {
         None
     }

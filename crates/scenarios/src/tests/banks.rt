@@ -5,7 +5,7 @@
 //! the bank's rules.
 use bank::{AccountId, Bank, BankCommand, Money, bank_of};
 use machine::Machine;
-use rows::{Refusal, ServerId};
+use rows::{Refusal, ServerId, Version};
 use std::alloc::Global;
 use world::{Done, RaftEvent, RaftWorld};
 
@@ -246,8 +246,8 @@ fn has_text(alloc: Global, bank: Option<&Bank>) -> bool {
     let mut text = Vec::new(alloc);
     match bank {
         Some(bank) if bank.save(&mut text).is_ok() => {
-            text.as_slice() == TEXT
-                && Bank::load(alloc, &text).is_ok_and(|other| is_known(Some(&other), NINE))
+            let loaded = Bank::load(Version::newest(), alloc, &text);
+            text.as_slice() == TEXT && loaded.is_ok_and(|other| is_known(Some(&other), NINE))
         }
         _ => false,
     }

@@ -8,7 +8,7 @@ returns g c =
     let lf = g.met.F.Field.lawful in
     let is = g.met.F.RuledField.ruled in
     record {
-      asked = λ most rule lt. ruled_list_lawful 1 most rule f _ (omega arith) lt lf (kept_is_ruled rule f lf);
-      short_list = λ most lt. ruled_list_lawful 1 most _ f _ (omega arith) lt lf is;
-      long_list = λ most lt. ruled_list_lawful 4 most _ f _ (omega arith) lt lf is;
+      asked = λ version most rule lt. ruled_list_lawful 1 most rule (f version) _ (omega arith) lt (lf version) (kept_is_ruled rule (f version) (lf version));
+      short_list = λ version most lt. ruled_list_lawful 1 most _ (f version) _ (omega arith) lt (lf version) (is version);
+      long_list = λ version most lt. ruled_list_lawful 4 most _ (f version) _ (omega arith) lt (lf version) (is version);
     }

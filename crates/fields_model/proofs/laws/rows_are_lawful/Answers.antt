@@ -21,7 +21,7 @@ returns c = record {
   plan = plan_lawful;
   reports = reports_lawful;
   command = command_lawful;
-  command_short = omega arith;
+  command_short = λ version. omega arith;
   state = state_lawful;
   state_short = state_most;
 }

@@ -5,6 +5,6 @@ use Rattle.machine_model.proofs.laws.entries_are_lawful.Goals as goal
 
 pub returns : goal.returns
 returns g c = let m = g.M.Machine.meaning in let law = g.met.M.Machine.lawful in record {
-  lawful = entry_lawful _ (placed_lawful m.commands law.commands_lawful);
-  short = omega (arith, law.commands_short);
+  lawful = λ version. entry_lawful _ (placed_lawful (m.commands version) (law.commands_lawful version));
+  short = λ version. let few = law.commands_short version in omega (arith, few);
 }

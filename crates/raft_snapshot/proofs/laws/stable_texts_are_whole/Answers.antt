@@ -6,7 +6,7 @@ returns g c =
     let m = g.M.Machine.meaning in
     let law = g.met.M.Machine.lawful in
     record {
-      lawful = stable_lawful m law.commands_lawful law.states_lawful;
+      lawful = λ version. stable_lawful m version (law.commands_lawful version) (law.states_lawful version);
       again = stable_only m law;
       found = stable_found m law;
       apart = stable_apart m law;
