@@ -213,8 +213,10 @@ taken, all without --at, and then it is printed how the group stands:
   the servers, with their roles, terms, votes, the last entries of their logs, and
   how many entries their snapshots cover and they have applied;
   the entries of their logs, and which servers have them;
-  the desk of each server that leads: whether it is open, and which pending
-  evaluations it gave out, to whose workers, under which token;
+  the desk of each server that leads: whether it is open, which pending evaluations
+  it gave out, to whose workers, under which token, and what became of them, which
+  plans wait for a turn, which evaluations are blocked, and since when, and how
+  often each ready node was heard of;
   the clients, with what they run and what they ever started;
   each state that is applied: jobs, nodes with what is in use of them,
   evaluations and allocations.

@@ -1,5 +1,5 @@
 -- What a broker answers: outstanding pairs, refusals, and those given out too often, in order.
-use Rattle.std.specs.Prelude.{◌≡◌, ℕ, true, Option, Some, None, Err, is_ok, List, map}
+use Rattle.std.specs.Prelude.{◌≡◌, ℕ, Bool, true, false, Option, Some, None, Err, is_ok, List, map}
 use Rattle.rows.specs.declared.evaluation.EvalId.{EvalId}
 use Rattle.rows.specs.declared.token.Token.{Token}
 use Rattle.rows.specs.declared.refusal.Refusal.{Refusal}
@@ -20,6 +20,15 @@ pair_of_mark Acked = None
 abbrev pub pair_of : Option Task → Option (Token × ℕ)
 pair_of None = None
 pair_of (Some t) = pair_of_mark t.mark
+
+-- whether an evaluation's work is done, and its row is to change
+abbrev pub is_acked : Mark → Bool
+is_acked Acked = true
+is_acked _ = false
+
+abbrev pub is_task_acked : Option Task → Bool
+is_task_acked None = false
+is_task_acked (Some t) = is_acked t.mark
 
 -- the refusal that an answer stands for
 abbrev pub refusal_of : PairError → Refusal

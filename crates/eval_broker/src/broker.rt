@@ -1,10 +1,10 @@
 //! The broker.
-ghost use Rattle.std.specs.Prelude.{◌≡◌, ◌+◌, ◌<◌, ◌^◌, None, true, false, nat_lt, IfOk, IfErr, IfSome, IfNone, OnOk, OnErr, Ok};
+ghost use Rattle.std.specs.Prelude.{◌≡◌, ◌+◌, ◌<◌, ◌^◌, None, true, false, nat_lt, option_map, IfOk, IfErr, IfSome, IfNone, OnOk, OnErr, Ok};
 ghost use Rattle.raft_model.specs.Logs.{MAX};
 ghost use Rattle.cluster_model.specs.Words.{is_pending};
 ghost use Rattle.group_model.specs.Brokers.{Nothing, UsedUp, Gives, no_tasks, task_of, broker_over, broker_with, deliver};
 ghost use Rattle.group_model.specs.Brokers.{outstanding, with_ack, with_nack};
-ghost use Rattle.eval_broker.specs.Answers.{pair_of, IsPair, RefusesPair, failed_in_order};
+ghost use Rattle.eval_broker.specs.Answers.{pair_of, is_task_acked, IsPair, RefusesPair, failed_in_order};
 
 use crate::answers::{PairError, SerialsUsedUp};
 use crate::task::Task;
@@ -161,6 +161,26 @@ impl Broker {
         ensures { result ≡ pair_of (task_of eval self.now.tasks) }
     {
         self.tasks.get(&eval)?.pair()
+    }
+
+    /// How often an evaluation was given out, from 0 to 3; none where it is not pending.
+    pub fn deliveries(&self, eval: EvalId) -> Option<u8>
+        ensures { result ≡ option_map (λ t. t.deliveries) (task_of eval self.now.tasks) }
+    {
+        match self.tasks.get(&eval) {
+            Some(task) => Some(task.deliveries()),
+            None => None,
+        }
+    }
+
+    /// Whether an evaluation's work is done, and its row is to change.
+    pub fn is_acked(&self, eval: EvalId) -> bool
+        ensures { result ≡ is_task_acked (task_of eval self.now.tasks) }
+    {
+        match self.tasks.get(&eval) {
+            Some(task) => task.is_acked(),
+            None => false,
+        }
     }
 
     /// The evaluations that were given out three times and are neither out nor acked: the higher

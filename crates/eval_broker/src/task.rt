@@ -1,7 +1,7 @@
 //! A pending evaluation as the broker keeps it.
 ghost use Rattle.std.specs.Prelude.{◌≡◌, ◌<◌, Some, None};
 ghost use Rattle.group_model.specs.Brokers.{Free, Acked, MOST, is_free, carry, goes_out, set_mark};
-ghost use Rattle.eval_broker.specs.Answers.{pair_of_mark, urgency_of};
+ghost use Rattle.eval_broker.specs.Answers.{pair_of_mark, is_acked, urgency_of};
 ghost use Rattle.eval_broker.specs.Inner.Lists.{rank_of, head_for, is_spent, is_failed};
 
 use crate::ranks::{Head, Rank};
@@ -155,6 +155,23 @@ impl Task {
         match self.mark {
             Mark::Out(token, wait) => Some((token, wait)),
             _ => None,
+        }
+    }
+
+    /// How often it was given out, from 0 to 3.
+    pub fn deliveries(&self) -> u8
+        ensures { result ≡ self.now.deliveries }
+    {
+        self.deliveries
+    }
+
+    /// Whether its work is done, and its row is to change.
+    pub fn is_acked(&self) -> bool
+        ensures { result ≡ is_acked self.now.mark }
+    {
+        match self.mark {
+            Mark::Acked => true,
+            _ => false,
         }
     }
 

@@ -1,50 +1,25 @@
-//! The desk of a server that leads, as far as its state and its messages tell.
-use crate::report::{DeliveryReport, DeskReport};
-use crate::shown::{eval_text, token_text};
+//! The deliveries that a server sent, as its messages tell.
 use fsm_state::Cluster;
-use raft_core::Role;
-use rows::{Actor, Delivery, EvalStatus, Evaluation, NoMemory, Refusal, WorkerResponse};
+use rows::{Actor, Delivery, EvalId, NoMemory, Refusal, WorkerResponse};
 use server::Server;
 use std::alloc::Global;
 use wire::{Body, Frames, read_message};
 
 /// A delivery that a message told of, and the number of the server to which it was sent.
 #[derive(Clone, Copy)]
-struct Sent {
-    delivery: Delivery,
-    to: u8,
+pub(crate) struct Sent {
+    /// The delivery.
+    pub delivery: Delivery,
+    /// The server's number.
+    pub to: u8,
 }
 
-/// The desk of a server, if that leads.
-pub(crate) fn desk_report(
+/// The deliveries that a server sent in its term, in order.
+pub(crate) fn sent_deliveries(
     alloc: Global,
     server: &Server,
     sent: &Frames,
-) -> Result<Option<DeskReport>, NoMemory> {
-    let (Some(Role::Leader), Some(state)) = (server.role(), server.state()) else {
-        return Ok(None);
-    };
-    let deliveries = deliveries(alloc, server, sent)?;
-    Ok(Some(DeskReport {
-        server: server.me().number(),
-        term: server.term().get(),
-        open: is_open(server)?,
-        given_out: given_out(alloc, state, &deliveries)?,
-    }))
-}
-
-// Whether a server has applied an entry of its term.
-fn is_open(server: &Server) -> Result<bool, NoMemory> {
-    let (term, _vote, log) = server.stable()?.into_parts();
-    let applied = match server.applied() {
-        Some(applied) => applied.get(),
-        None => 0,
-    };
-    Ok(log.term_at(applied) == Some(term))
-}
-
-// The deliveries that a server sent in its term, in order.
-fn deliveries(alloc: Global, server: &Server, sent: &Frames) -> Result<Vec<Sent>, NoMemory> {
+) -> Result<Vec<Sent>, NoMemory> {
     let mut found = Vec::new(alloc);
     for place in 0..sent.len() {
         if let Some(delivery) = delivery_at(alloc, server, sent, place)? {
@@ -82,45 +57,13 @@ fn delivery_at(
     Ok(None)
 }
 
-// The pending evaluations of a state that were given out.
-fn given_out(
-    alloc: Global,
-    state: &Cluster,
-    deliveries: &[Sent],
-) -> Result<Vec<DeliveryReport>, NoMemory> {
-    let mut reports = Vec::new(alloc);
-    for row in state.eval_table().rows() {
-        if let Some(report) = last_of(alloc, row, deliveries)? {
-            reports.push(report)?;
-        }
-    }
-    Ok(reports)
-}
-
-// The last delivery of an evaluation, if it is pending and was given out.
-fn last_of(
-    alloc: Global,
-    row: &Evaluation,
-    deliveries: &[Sent],
-) -> Result<Option<DeliveryReport>, NoMemory> {
-    if row.status != EvalStatus::Pending {
-        return Ok(None);
-    }
+/// The last delivery of an evaluation among these.
+pub(crate) fn last_of(eval: EvalId, sent: &[Sent]) -> Option<Sent> {
     let mut last = None;
-    let mut times = 0usize;
-    for sent in deliveries {
-        if sent.delivery.eval == row.id {
-            last = Some(*sent);
-            times = times.saturating_add(1);
+    for one in sent {
+        if one.delivery.eval == eval {
+            last = Some(*one);
         }
     }
-    match last {
-        Some(sent) => Ok(Some(DeliveryReport {
-            evaluation: eval_text(alloc, &row.id)?,
-            token: token_text(alloc, &sent.delivery.token)?,
-            to: format!(in alloc; "S{}", sent.to)?,
-            times,
-        })),
-        None => Ok(None),
-    }
+    last
 }

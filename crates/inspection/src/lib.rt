@@ -5,6 +5,7 @@
 mod changes;
 mod commands;
 mod deliveries;
+mod desk;
 mod entries;
 mod fault;
 mod gathering;

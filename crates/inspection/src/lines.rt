@@ -5,8 +5,8 @@ use crate::report::{
 };
 use crate::shown::owned;
 use crate::tables::{
-    allocations_table, clients_table, desk_table, entries_table, evaluations_table, jobs_table,
-    nodes_table, servers_table,
+    allocations_table, beats_table, blocked_table, clients_table, entries_table,
+    evaluations_table, given_table, jobs_table, nodes_table, plans_table, servers_table,
 };
 use rows::NoMemory;
 use std::alloc::Global;
@@ -45,7 +45,10 @@ fn put_desk(alloc: Global, lines: &mut Vec<String>, desk: &DeskReport) -> Result
     let state = if desk.open { "open" } else { "not open yet" };
     lines.push(String::new(alloc))?;
     lines.push(format!(in alloc; "desk of S{server} in term {term}: {state}")?)?;
-    put_table(alloc, lines, &desk_table(alloc, desk)?)
+    put_table(alloc, lines, &given_table(alloc, &desk.given_out)?)?;
+    put_table(alloc, lines, &plans_table(alloc, &desk.plans)?)?;
+    put_table(alloc, lines, &blocked_table(alloc, &desk.blocked)?)?;
+    put_table(alloc, lines, &beats_table(alloc, &desk.beats)?)
 }
 
 fn put_state(alloc: Global, lines: &mut Vec<String>, state: &StateReport) -> Result<(), NoMemory> {

@@ -52,17 +52,23 @@ pub(crate) struct EntryReport {
     pub command: String,
 }
 
-/// The desk of a server that leads, as far as its state and its messages tell.
+/// The desk of a server that leads.
 #[derive(Drop, Serialize)]
 pub(crate) struct DeskReport {
     /// The server that leads.
     pub server: u8,
     /// Its term.
     pub term: u64,
-    /// Whether it has applied an entry of its term.
+    /// Whether it has applied an entry of its term. A desk that is not open holds nothing.
     pub open: bool,
-    /// The pending evaluations that it gave out in its term, each with its last delivery.
+    /// The pending evaluations that it gave out, by id, each with its last delivery.
     pub given_out: Vec<DeliveryReport>,
+    /// The plans that wait for a turn, in the order of arrival.
+    pub plans: Vec<PlanReport>,
+    /// The blocked evaluations, by id.
+    pub blocked: Vec<BlockedReport>,
+    /// The ready nodes, by number.
+    pub beats: Vec<BeatReport>,
 }
 
 /// A delivery of an evaluation.
@@ -74,8 +80,48 @@ pub(crate) struct DeliveryReport {
     pub token: String,
     /// The server to whose workers it was sent.
     pub to: String,
-    /// How often the evaluation was given out.
-    pub times: usize,
+    /// How often the evaluation was given out, from 1 to 3.
+    pub times: u8,
+    /// `out`, `back` where it was given back or lapsed, `failed` where that was the third time, or
+    /// `done` where its work is done and its row is to change.
+    pub now: &'static str,
+}
+
+/// A plan that waits.
+#[derive(Drop, Serialize)]
+pub(crate) struct PlanReport {
+    /// Its evaluation.
+    pub evaluation: String,
+    /// The token under which it was submitted.
+    pub token: String,
+    /// The priority of the evaluation.
+    pub priority: u8,
+    /// The server whose worker submitted it.
+    pub from: String,
+    /// How many allocations it stops.
+    pub stops: usize,
+    /// How many it places.
+    pub places: usize,
+}
+
+/// A blocked evaluation.
+#[derive(Drop, Serialize)]
+pub(crate) struct BlockedReport {
+    /// The evaluation.
+    pub evaluation: String,
+    /// The index of the state from which it was found blocked.
+    pub snapshot: u64,
+    /// Whether a node that its job can use got room since.
+    pub due: bool,
+}
+
+/// How often a node was heard of.
+#[derive(Drop, Serialize)]
+pub(crate) struct BeatReport {
+    /// The node.
+    pub node: u8,
+    /// How often, since the desk opened or the node came.
+    pub beats: u64,
 }
 
 /// A client.

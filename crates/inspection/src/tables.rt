@@ -1,8 +1,8 @@
 //! The tables of a report.
 use crate::grid::Grid;
 use crate::report::{
-    AllocationReport, ClientReport, DeskReport, EntryReport, EvaluationReport, JobReport,
-    NodeReport, ServerReport,
+    AllocationReport, BeatReport, BlockedReport, ClientReport, DeliveryReport, EntryReport,
+    EvaluationReport, JobReport, NodeReport, PlanReport, ServerReport,
 };
 use crate::shown::owned;
 use rows::NoMemory;
@@ -163,14 +163,58 @@ fn entry_row(
 }
 
 /// What a desk gave out.
-pub(crate) fn desk_table(alloc: Global, desk: &DeskReport) -> Result<Grid, NoMemory> {
-    let mut grid = headed(alloc, &["given out", "to", "token", "times"])?;
-    for delivery in &desk.given_out {
+pub(crate) fn given_table(alloc: Global, given: &[DeliveryReport]) -> Result<Grid, NoMemory> {
+    let mut grid = headed(alloc, &["given out", "to", "token", "times", "now"])?;
+    for delivery in given {
         let eval = owned(alloc, &delivery.evaluation)?;
         let to = owned(alloc, &delivery.to)?;
         let token = owned(alloc, &delivery.token)?;
         let times = number(alloc, delivery.times as u64)?;
-        grid.rows.push(vec![in alloc; eval, to, token, times]?)?;
+        let now = owned(alloc, delivery.now)?;
+        grid.rows.push(vec![in alloc; eval, to, token, times, now]?)?;
+    }
+    Ok(grid)
+}
+
+/// The plans that wait at a desk.
+pub(crate) fn plans_table(alloc: Global, plans: &[PlanReport]) -> Result<Grid, NoMemory> {
+    let heads = ["plan of", "token", "priority", "from", "stops", "places"];
+    let mut grid = headed(alloc, &heads)?;
+    for plan in plans {
+        grid.rows.push(plan_row(alloc, plan)?)?;
+    }
+    Ok(grid)
+}
+
+fn plan_row(alloc: Global, plan: &PlanReport) -> Result<Vec<String>, NoMemory> {
+    let eval = owned(alloc, &plan.evaluation)?;
+    let token = owned(alloc, &plan.token)?;
+    let priority = number(alloc, plan.priority as u64)?;
+    let from = owned(alloc, &plan.from)?;
+    let stops = number(alloc, plan.stops as u64)?;
+    let places = number(alloc, plan.places as u64)?;
+    Ok(vec![in alloc; eval, token, priority, from, stops, places]?)
+}
+
+/// The blocked evaluations that a desk keeps.
+pub(crate) fn blocked_table(alloc: Global, blocked: &[BlockedReport]) -> Result<Grid, NoMemory> {
+    let mut grid = headed(alloc, &["blocked", "since", "due"])?;
+    for one in blocked {
+        let eval = owned(alloc, &one.evaluation)?;
+        let since = number(alloc, one.snapshot)?;
+        let due = yes_or_no(alloc, one.due)?;
+        grid.rows.push(vec![in alloc; eval, since, due]?)?;
+    }
+    Ok(grid)
+}
+
+/// How often a desk heard of its nodes.
+pub(crate) fn beats_table(alloc: Global, beats: &[BeatReport]) -> Result<Grid, NoMemory> {
+    let mut grid = headed(alloc, &["node", "beats"])?;
+    for one in beats {
+        let node = number(alloc, one.node as u64)?;
+        let beats = number(alloc, one.beats)?;
+        grid.rows.push(vec![in alloc; node, beats]?)?;
     }
     Ok(grid)
 }

@@ -14,7 +14,11 @@ use crate::desk_error::DeskError;
 use crate::drains::drain_command;
 use crate::judged::JudgedPlan;
 use crate::open_desk::OpenDesk;
+use blocked::Blocked;
+use eval_broker::Broker;
+use expiry::Expiry;
 use fsm_state::Cluster;
+use plan_queue::PlanQueue;
 use rows::{
     Command, Delivery, EvalId, Index, LeaderTerm, NoMemory, NodeId, Plan, Refusal, ServerId, Token,
 };
@@ -55,6 +59,46 @@ impl Desk {
         ensures { result ≡ is_some self.now }
     {
         self.opened.is_some()
+    }
+
+    /// Its broker, while it is open.
+    pub fn broker(&self) -> Option<&Broker>
+        ensures { option_map (λ b. b.now) result ≡ option_map (λ o. o.desk.broker) self.now }
+    {
+        match &self.opened {
+            Some(desk) => Some(desk.broker()),
+            None => None,
+        }
+    }
+
+    /// The blocked evaluations that it keeps, while it is open.
+    pub fn blocked(&self) -> Option<&Blocked>
+        ensures { option_map (λ b. b.now) result ≡ option_map (λ o. o.blocked) self.now }
+    {
+        match &self.opened {
+            Some(desk) => Some(desk.blocked()),
+            None => None,
+        }
+    }
+
+    /// The plans that wait for a turn, while it is open.
+    pub fn plans(&self) -> Option<&PlanQueue>
+        ensures { option_map (λ q. q.now) result ≡ option_map (λ o. o.desk.plans) self.now }
+    {
+        match &self.opened {
+            Some(desk) => Some(desk.plans()),
+            None => None,
+        }
+    }
+
+    /// How often the ready nodes were heard of, while it is open.
+    pub fn expiry(&self) -> Option<&Expiry>
+        ensures { option_map (λ e. e.now) result ≡ option_map (λ o. o.desk.beat_counts) self.now }
+    {
+        match &self.opened {
+            Some(desk) => Some(desk.expiry()),
+            None => None,
+        }
     }
 
     /// Opens anew over a state, in a leader's term: nothing of what it held before stays. Without

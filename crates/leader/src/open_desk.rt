@@ -45,6 +45,34 @@ impl Model for OpenDesk {
 }
 
 impl OpenDesk {
+    /// Its broker.
+    pub fn broker(&self) -> &Broker
+        ensures { result.now ≡ self.now.desk.broker }
+    {
+        &self.broker
+    }
+
+    /// The blocked evaluations that it keeps.
+    pub fn blocked(&self) -> &Blocked
+        ensures { result.now ≡ self.now.blocked }
+    {
+        &self.blocked
+    }
+
+    /// The plans that wait for a turn.
+    pub fn plans(&self) -> &PlanQueue
+        ensures { result.now ≡ self.now.desk.plans }
+    {
+        &self.plans
+    }
+
+    /// How often the ready nodes were heard of.
+    pub fn expiry(&self) -> &Expiry
+        ensures { result.now ≡ self.now.desk.beat_counts }
+    {
+        &self.expiry
+    }
+
     /// A desk that opens over a state, in a leader's term.
     pub fn over(alloc: Global, state: &Cluster, term: LeaderTerm) -> Result<OpenDesk, NoMemory>
         ensures { IfOk result (λ o. IsOpened state.now term o) }

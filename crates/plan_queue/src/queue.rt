@@ -47,6 +47,13 @@ impl PlanQueue {
         self.plans.len()
     }
 
+    /// The plans that wait, in the order of arrival.
+    pub fn plans(&self) -> &[QueuedPlan]
+        ensures { result.now ≡ self.now }
+    {
+        self.plans.as_slice()
+    }
+
     /// A plan joins those that wait, with its evaluation's priority and the server that is told
     /// what becomes of it. `QueueFull` where 256 wait, and `NoMemory` only where fewer do. Refused,
     /// it leaves the queue as it was, and the plan is let go.

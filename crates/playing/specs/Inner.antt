@@ -1,2 +1,3 @@
 -- Words of private contracts.
 pub mod Waiting
+pub mod Lines

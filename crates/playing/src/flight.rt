@@ -2,18 +2,40 @@
 ghost use Rattle.std.specs.Prelude.{◌≡◌, ◌++◌, ◌∷◌, ◌+◌, ◌<◌, [], OnOk, OnErr, IfSome, IfNone, max, length, MatchOption, slice_get, Some};
 ghost use Rattle.std.specs.List.{remove};
 ghost use Rattle.playing.specs.Flight.{newly_sent};
+ghost use Rattle.playing.specs.Inner.Lines.{standing, StandCounted};
 
 use crate::waiting::Waiting;
 use rows::NoMemory;
+use scenario_file::scenario::Order;
 use std::alloc::Global;
+use std::collections::VecDeque;
 use std::marker::Model;
+
+/// Numbers in a row: a queue where they are taken at its front, and a tree that counts them where
+/// they are taken at any place.
+#[derive(Drop)]
+enum Line {
+    Queue(VecDeque<u64>),
+    Tree(Waiting),
+}
+
+/// No number, of a line that is taken from in this order.
+fn line_for(alloc: Global, order: Order) -> Line
+    ensures none { standing result ≡ [] }
+    ensures counted { StandCounted result }
+{
+    match order {
+        Order::Sent => Line::Queue(VecDeque::new(alloc)),
+        Order::Any => Line::Tree(Waiting::new(alloc)),
+    }
+}
 
 /// The numbers of the messages in flight: those that were sent, in that order, but for those that a
 /// flow has taken; behind them those that were put in flight again.
 #[derive(Drop)]
 pub struct Flight {
     alloc: Global,
-    waiting: Waiting,
+    line: Line,
     // How many these are.
     many: usize,
     // How many of the messages ever sent have been put in flight.
@@ -23,23 +45,24 @@ pub struct Flight {
 impl Model for Flight {
     ghost use Rattle.std.specs.Prelude.{◌≡◌, length};
     ghost use Rattle.playing.specs.Flight.{InFlight};
-    ghost use Rattle.playing.specs.Inner.Waiting.{IsCounted, numbers};
+    ghost use Rattle.playing.specs.Inner.Lines.{standing, StandCounted};
 
     ghost Value = { InFlight };
 
-    ghost view = { λ f. record { waiting = numbers f.waiting; seen = f.seen } };
+    ghost view = { λ f. record { waiting = standing f.line; seen = f.seen } };
 
-    ghost invariant = { λ f. IsCounted f.waiting × (f.many ≡ length (numbers f.waiting)) };
+    ghost invariant = { λ f. StandCounted f.line × (f.many ≡ length (standing f.line)) };
 }
 
 impl Flight {
-    /// No message.
-    pub fn new(alloc: Global) -> Flight
+    /// No message. What a call costs goes by the order in which they will be taken, what it does
+    /// does not.
+    pub fn new(alloc: Global, order: Order) -> Flight
         ensures { (result.waiting ≡ []) × (result.seen ≡ 0) }
     {
         Flight {
             alloc,
-            waiting: Waiting::new(alloc),
+            line: line_for(alloc, order),
             many: 0,
             seen: 0,
         }
@@ -72,6 +95,11 @@ impl Flight {
             (λ message. self.old.waiting ≡ message ∷ self.new.waiting) }
         ensures seen { self.new.seen ≡ self.old.seen }
     {
+        if let Line::Queue(queue) = &mut self.line {
+            let message = queue.pop_front()?;
+            self.many -= 1;
+            return Some(message);
+        }
         self.take_at(0)
     }
 
@@ -87,12 +115,17 @@ impl Flight {
         if place >= self.many {
             return None;
         }
-        let message = self.waiting.take_at(self.alloc, place);
         self.many -= 1;
-        if self.many == 0 {
-            self.waiting = Waiting::new(self.alloc);
+        match &mut self.line {
+            Line::Queue(queue) => queue.remove(place),
+            Line::Tree(tree) => {
+                let message = tree.take_at(self.alloc, place);
+                if self.many == 0 {
+                    *tree = Waiting::new(self.alloc);
+                }
+                Some(message)
+            }
         }
-        Some(message)
     }
 
     /// Puts a message in flight again, behind the others. Without memory nothing changes.
@@ -102,7 +135,10 @@ impl Flight {
         ensures left { OnErr result (self.new ≡ self.old) }
     {
         let more = self.many.checked_add(1).ok_or(NoMemory)?;
-        self.waiting.push(self.alloc, self.many, message)?;
+        match &mut self.line {
+            Line::Queue(queue) => queue.push_back(message)?,
+            Line::Tree(tree) => tree.push(self.alloc, self.many, message)?,
+        }
         self.many = more;
         Ok(())
     }

@@ -116,7 +116,7 @@ impl Play {
         Ok(Play {
             alloc,
             world: World::new(alloc, servers, nodes)?,
-            flight: Flight::new(alloc),
+            flight: Flight::new(alloc, settings.order),
             workers: [
                 ServerWorkers::new(alloc),
                 ServerWorkers::new(alloc),

@@ -1,7 +1,9 @@
 //! A transcript's file, drawn.
-ghost use Rattle.std.specs.Prelude.{◌≡◌, ◌⊎◌, IfErr, IfOk, OnOk, length};
+ghost use Rattle.std.specs.Prelude.{◌≡◌, ◌≢◌, ◌⊎◌, IfErr, IfOk, OnOk, length};
 ghost use Rattle.page.specs.Pages.{GrowsByPage};
 ghost use Rattle.picture.specs.Pictures.{GrowsByPicture};
+ghost use Rattle.picture.specs.declared.fault.DrawError.TheVariants as errors;
+ghost use Rattle.runner.specs.declared.fault.Fault.TheVariants as faults;
 ghost use Rattle.runner.specs.Inner.Faults.{IsOfRun, IsPastReading, MayStopPrinting};
 ghost use Rattle.runner.specs.Told.{ShowsRun, TellsPicture};
 
@@ -28,6 +30,7 @@ pub(crate) fn draw_file<'a, F: Shelf, W: Write>(
     ensures told { IfOk result (λ status. TellsPicture (F.file shelf.old file.entry.now) html
         status (W.contents out.old) (W.contents out.new)) }
     ensures unsaid { IfErr result (λ fault. (out.new ≡ out.old) ⊎ IsPastReading fault) }
+    ensures left { IfErr result (λ fault. fault ≢ faults.Output → out.new ≡ out.old) }
     ensures of_run { IfErr result IsOfRun }
 {
     let bytes = load_bytes(shelf, file)?;
@@ -45,6 +48,7 @@ fn print_drawn<'a, W: Write>(
     ensures drawn { OnOk result (ShowsRun html transcript.now.servers
         (length transcript.now.nodes.items) (length transcript.now.events.items)
         (W.contents out.old) (W.contents out.new)) }
+    ensures left { IfErr result (λ fault. fault ≢ faults.Output → out.new ≡ out.old) }
     ensures fault { IfErr result MayStopPrinting }
     ensures of_run { IfErr result IsOfRun }
 {
@@ -63,6 +67,7 @@ fn print_page<'a, W: Write>(
     ensures page { OnOk result (GrowsByPage transcript.now.servers
         (length transcript.now.nodes.items) (length transcript.now.events.items)
         (W.contents out.old) (W.contents out.new)) }
+    ensures left { IfErr result (λ fault. fault ≢ faults.Output → out.new ≡ out.old) }
     ensures fault { IfErr result MayStopPrinting }
     ensures of_run { IfErr result IsOfRun }
 {
@@ -82,6 +87,7 @@ fn print_picture<'a, W: Write>(
     ensures picture { OnOk result (GrowsByPicture transcript.now.servers
         (length transcript.now.nodes.items) (length transcript.now.events.items)
         (W.contents out.old) (W.contents out.new)) }
+    ensures left { IfErr result (λ fault. fault ≢ faults.Output → out.new ≡ out.old) }
     ensures fault { IfErr result MayStopPrinting }
     ensures of_run { IfErr result IsOfRun }
 {
@@ -110,6 +116,7 @@ fn told_of<'a>(alloc: Global, transcript: &Transcript) -> Result<Vec<String>, Fa
 
 // A group of a transcript's size is made, unless there is no memory.
 fn fault_of<'a>(error: DrawError) -> Fault<'a>
+    ensures output { error ≡ errors.Output → result ≡ faults.Output }
     ensures fault { MayStopPrinting result }
     ensures of_run { IsOfRun result }
 {

@@ -1,6 +1,7 @@
 //! A transcript's file, told event by event, or how its group stands after some of them.
 ghost use Rattle.std.specs.Prelude.{◌≡◌, ◌≢◌, ◌≤◌, ◌⊎◌, IfErr, IfNone, IfOk, IfSome, OnOk, length, option_map};
 ghost use Rattle.inspection.specs.Told.{GrowsByEventLines, GrowsByLines};
+ghost use Rattle.inspection.specs.declared.fault.InspectError.TheVariants as errors;
 ghost use Rattle.runner.specs.declared.fault.Fault.TheVariants as faults;
 ghost use Rattle.runner.specs.Inner.Faults.{IsOfRun, IsPastReading};
 ghost use Rattle.runner.specs.Told.{IsAfter, TellsEach, TellsStanding};
@@ -25,6 +26,7 @@ pub(crate) fn tell_file<'a, F: Shelf, W: Write>(
     ensures told { IfOk result (λ status. TellsEach (F.file shelf.old file.entry.now) status
         (W.contents out.old) (W.contents out.new)) }
     ensures unsaid { IfErr result (λ fault. (out.new ≡ out.old) ⊎ IsPastReading fault) }
+    ensures left { IfErr result (λ fault. fault ≢ faults.Output → out.new ≡ out.old) }
     ensures of_run { IfErr result IsOfRun }
 {
     let bytes = load_bytes(shelf, file)?;
@@ -47,6 +49,7 @@ pub(crate) fn inspect_file<'a, F: Shelf, W: Write>(
     ensures told { IfOk result (λ status. TellsStanding (F.file shelf.old file.entry.now)
         (option_map (λ k. k.now) at.entry) status (W.contents out.old) (W.contents out.new)) }
     ensures unsaid { IfErr result (λ fault. (out.new ≡ out.old) ⊎ IsPastReading fault) }
+    ensures left { IfErr result (λ fault. fault ≢ faults.Output → out.new ≡ out.old) }
     ensures of_run { IfErr result IsOfRun }
 {
     let bytes = load_bytes(shelf, file)?;
@@ -85,6 +88,7 @@ fn print_events<'a, W: Write>(
 ) -> Result<(), Fault<'a>>
     ensures lines { OnOk result (GrowsByEventLines (length transcript.now.events.items)
         (W.contents out.old) (W.contents out.new)) }
+    ensures left { IfErr result (λ fault. fault ≢ faults.Output → out.new ≡ out.old) }
     ensures of_run { IfErr result IsOfRun }
     ensures past { IfErr result IsPastReading }
 {
@@ -104,6 +108,7 @@ fn print_standing<'a, W: Write>(
     out: &mut W,
 ) -> Result<(), Fault<'a>>
     ensures lines { OnOk result (GrowsByLines (W.contents out.old) (W.contents out.new)) }
+    ensures left { IfErr result (λ fault. fault ≢ faults.Output → out.new ≡ out.old) }
     ensures of_run { IfErr result IsOfRun }
     ensures past { IfErr result IsPastReading }
 {
@@ -117,6 +122,7 @@ fn print_standing<'a, W: Write>(
 
 // A group of a transcript's size is made, unless there is no memory.
 fn fault_of<'a>(error: InspectError, events: usize) -> Fault<'a>
+    ensures output { error ≡ errors.Output → result ≡ faults.Output }
     ensures of_run { IsOfRun result }
     ensures past { IsPastReading result }
 {

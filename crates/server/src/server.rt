@@ -25,6 +25,7 @@ ghost use Rattle.server.specs.Refusals.{WhyNoSnapshot};
 
 use crate::server_desk::ServerDesk;
 use fsm_state::Cluster;
+use leader::Desk;
 use machine::Machine;
 use raft_core::{Raft, Role, Stable};
 use rows::{Index, Refusal, Sequence, ServerId, Term, Work};
@@ -130,6 +131,14 @@ impl Server {
             × (r.now ≡ applied_state s.raft)) }
     {
         self.raft.machine()
+    }
+
+    /// The leader's desk, which is closed where the server does not lead, or has not applied an
+    /// entry of its term.
+    pub fn desk(&self) -> &Desk
+        ensures { result.now ≡ self.now.desk }
+    {
+        &self.desk.desk
     }
 
     /// A copy of the replicated state after the committed entries, and how many those are.
