@@ -128,11 +128,7 @@ fn blocked(alloc: Global, desk: &Desk, state: &Cluster) -> Result<Vec<BlockedRep
     Ok(reports)
 }
 
-fn blocked_one(
-    alloc: Global,
-    row: &Evaluation,
-    due: &[EvalId],
-) -> Result<BlockedReport, NoMemory> {
+fn blocked_one(alloc: Global, row: &Evaluation, due: &[EvalId]) -> Result<BlockedReport, NoMemory> {
     Ok(BlockedReport {
         evaluation: eval_text(alloc, &row.id)?,
         snapshot: row.snapshot.get(),

@@ -5,8 +5,8 @@ use crate::report::{
 };
 use crate::shown::owned;
 use crate::tables::{
-    allocations_table, beats_table, blocked_table, clients_table, entries_table,
-    evaluations_table, given_table, jobs_table, nodes_table, plans_table, servers_table,
+    allocations_table, beats_table, blocked_table, clients_table, entries_table, evaluations_table,
+    given_table, jobs_table, nodes_table, plans_table, servers_table,
 };
 use rows::NoMemory;
 use std::alloc::Global;

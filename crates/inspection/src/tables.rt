@@ -171,7 +171,8 @@ pub(crate) fn given_table(alloc: Global, given: &[DeliveryReport]) -> Result<Gri
         let token = owned(alloc, &delivery.token)?;
         let times = number(alloc, delivery.times as u64)?;
         let now = owned(alloc, delivery.now)?;
-        grid.rows.push(vec![in alloc; eval, to, token, times, now]?)?;
+        grid.rows
+            .push(vec![in alloc; eval, to, token, times, now]?)?;
     }
     Ok(grid)
 }
