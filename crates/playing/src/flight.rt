@@ -30,6 +30,49 @@ fn line_for(alloc: Global, order: Order) -> Line
     }
 }
 
+/// Takes out the number at a place, the first being place 0. The others stay in their order.
+fn take_from(alloc: Global, line: &mut Line, place: usize) -> u64
+    requires counted { StandCounted line.old }
+    requires within { place < length (standing line.old) }
+    ensures taken { slice_get (standing line.old) place ≡ Some result }
+    ensures others { standing line.new ≡ remove (standing line.old) place }
+    ensures counted { StandCounted line.new }
+{
+    match line {
+        Line::Queue(queue) => match queue.remove(place) {
+            Some(number) => number,
+            None => unreachable!(),
+        },
+        Line::Tree(tree) => tree.take_at(alloc, place),
+    }
+}
+
+/// Puts a number behind the others, of which there are so many. Without memory nothing changes.
+fn put_behind(alloc: Global, line: &mut Line, many: usize, number: u64) -> Result<(), NoMemory>
+    requires counted { StandCounted line.old }
+    requires many { many ≡ length (standing line.old) }
+    ensures behind { OnOk result (standing line.new ≡ standing line.old ++ number ∷ []) }
+    ensures left { OnErr result (standing line.new ≡ standing line.old) }
+    ensures counted { StandCounted line.new }
+{
+    match line {
+        Line::Queue(queue) => Ok(queue.push_back(number)?),
+        Line::Tree(tree) => tree.push(alloc, many, number),
+    }
+}
+
+/// Makes a tree without numbers as small as it began.
+fn begin_anew(alloc: Global, line: &mut Line)
+    requires none { standing line.old ≡ [] }
+    requires counted { StandCounted line.old }
+    ensures none { standing line.new ≡ [] }
+    ensures counted { StandCounted line.new }
+{
+    if let Line::Tree(tree) = line {
+        *tree = Waiting::new(alloc);
+    }
+}
+
 /// The numbers of the messages in flight: those that were sent, in that order, but for those that a
 /// flow has taken; behind them those that were put in flight again.
 #[derive(Drop)]
@@ -115,17 +158,12 @@ impl Flight {
         if place >= self.many {
             return None;
         }
+        let message = take_from(self.alloc, &mut self.line, place);
         self.many -= 1;
-        match &mut self.line {
-            Line::Queue(queue) => queue.remove(place),
-            Line::Tree(tree) => {
-                let message = tree.take_at(self.alloc, place);
-                if self.many == 0 {
-                    *tree = Waiting::new(self.alloc);
-                }
-                Some(message)
-            }
+        if self.many == 0 {
+            begin_anew(self.alloc, &mut self.line);
         }
+        Some(message)
     }
 
     /// Puts a message in flight again, behind the others. Without memory nothing changes.
@@ -135,10 +173,7 @@ impl Flight {
         ensures left { OnErr result (self.new ≡ self.old) }
     {
         let more = self.many.checked_add(1).ok_or(NoMemory)?;
-        match &mut self.line {
-            Line::Queue(queue) => queue.push_back(message)?,
-            Line::Tree(tree) => tree.push(self.alloc, self.many, message)?,
-        }
+        put_behind(self.alloc, &mut self.line, self.many, message)?;
         self.many = more;
         Ok(())
     }
