@@ -73,20 +73,18 @@ fn delivery(
         token: token_text(alloc, &last.delivery.token)?,
         to: format!(in alloc; "S{to}")?,
         times,
-        now: now(broker, eval, times),
+        now: now(broker, &eval, times),
     }))
 }
 
 // What became of an evaluation that was given out so often.
-fn now(broker: &Broker, eval: EvalId, times: u8) -> &'static str {
-    if broker.outstanding(eval).is_some() {
-        "out"
-    } else if broker.is_acked(eval) {
-        "done"
-    } else if times >= 3 {
-        "failed"
-    } else {
-        "back"
+fn now(broker: &Broker, eval: &EvalId, times: u8) -> &'static str {
+    if broker.is_acked(*eval) {
+        return "done";
+    }
+    match broker.outstanding(*eval) {
+        Some(_) => "out",
+        None => { if times >= 3 { "failed" } else { "back" } }
     }
 }
 
