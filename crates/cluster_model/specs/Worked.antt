@@ -3,4 +3,5 @@ pub mod Losses
 pub mod Moves
 pub mod Drains
 pub mod Refusals
+pub mod Disks
 pub mod Ends

@@ -49,8 +49,9 @@ pub(crate) const STEPS: &str = "\
 The file is a JSON object with exactly these keys:
   \"servers\"  3 or 5
   \"nodes\"    a list of at most 64 objects of exactly the keys \"class\", \"cpu\"
-             (MHz) and \"mem\" (MB), each number from 1 to 1000000; client C is
-             the agent of the C-th node, the first being 1
+             (MHz) and \"mem\" (MB), each number from 1 to 1000000, and \"disk\"
+             (MB), from 0 to 1000000, which may be left out where it is 0;
+             client C is the agent of the C-th node, the first being 1
   \"key\"      0 to 18446744073709551615
   \"drop\"     0 to 100, the percentage of messages that are lost
   \"repeat\"   0 to 100, the percentage of messages that are delivered and put in
@@ -82,10 +83,11 @@ The file is a JSON object with exactly these keys:
                 is from 1 to 1099511627775, SLOT from 0 to 63
     request S put NAME PRIORITY GROUPS
                 a job is put to server S; its priority is from 1 to 100; GROUPS
-                are 1 to 8 of GROUP:COUNT:CLASS:CPU:MEMORY, joined by commas,
-                each GROUP once, with a COUNT from 0 to 64, CPU in MHz and
-                MEMORY in MB, both from 1 to 1000000; names of jobs, groups and
-                classes are 1 to 32 of a-z0-9-
+                are 1 to 8 of GROUP:COUNT:CLASS:CPU:MEMORY:DISK, joined by
+                commas, each GROUP once, with a COUNT from 0 to 64, CPU in MHz
+                and MEMORY in MB, both from 1 to 1000000, DISK in MB, from 0 to
+                1000000; names of jobs, groups and classes are 1 to 32 of
+                a-z0-9-
     request S stop NAME
                 nothing of the job is to run any more
     request S eval NAME
@@ -223,7 +225,8 @@ taken, all without --at, and then it is printed how the group stands:
 For each evaluation that is pending or blocked a line for each group of its job
 says how many allocations are missing, how many of these a plan places now, and
 how many nodes there are of another class, down, drained, short of cpu, short of
-memory, and with room: each node is counted once, under the first of these.
+memory, short of disk, and with room: each node is counted once, under the first
+of these.
 'fits on none' says that a plan places none of the missing ones.
 
 With --json all of it is one JSON object in one line, the form of which is in

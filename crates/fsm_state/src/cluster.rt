@@ -176,8 +176,8 @@ impl Cluster {
         self.tables.active_on(node)
     }
 
-    /// What the live allocations on a node take of it: the sums of their processor time and of
-    /// their memory.
+    /// What the live allocations on a node take of it: the sums of their processor time, of
+    /// their memory and of their disk.
     pub fn used(&self, node: NodeId) -> Usage
         ensures { result ≡ used node (claims self.now.allocs) }
     {

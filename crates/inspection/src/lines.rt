@@ -129,6 +129,7 @@ fn push_reasons(line: &mut String, nodes: &NodesReport) -> Result<(), NoMemory> 
     push_count(line, &mut any, nodes.not_eligible, "drained")?;
     push_count(line, &mut any, nodes.lack_cpu, "short of cpu")?;
     push_count(line, &mut any, nodes.lack_memory, "short of memory")?;
+    push_count(line, &mut any, nodes.lack_disk, "short of disk")?;
     push_count(line, &mut any, nodes.have_room, "with room")?;
     if !any {
         line.push_str(" none is registered")?;

@@ -184,6 +184,8 @@ pub(crate) struct GroupReport {
     pub cpu: u32,
     /// The memory that each takes, in MB.
     pub mem: u32,
+    /// The disk that each takes, in MB.
+    pub disk: u32,
 }
 
 /// A node.
@@ -207,6 +209,10 @@ pub(crate) struct NodeReport {
     pub mem: u32,
     /// How much of it live allocations take.
     pub mem_used: u64,
+    /// Its disk, in MB.
+    pub disk: u32,
+    /// How much of it live allocations take.
+    pub disk_used: u64,
 }
 
 /// An evaluation.
@@ -254,6 +260,8 @@ pub(crate) struct NodesReport {
     pub lack_cpu: usize,
     /// Those that lack memory.
     pub lack_memory: usize,
+    /// Those that lack disk.
+    pub lack_disk: usize,
     /// Those that have room.
     pub have_room: usize,
 }
@@ -271,6 +279,8 @@ pub(crate) struct AllocationReport {
     pub cpu: u32,
     /// The memory that it takes, in MB.
     pub mem: u32,
+    /// The disk that it takes, in MB.
+    pub disk: u32,
     /// `run` or `stop`.
     pub desired: &'static str,
     /// `pending`, `running`, `complete`, `failed` or `lost`.

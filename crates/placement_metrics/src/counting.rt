@@ -18,6 +18,8 @@ pub struct NodeCounts {
     pub lack_cpu: usize,
     /// Of the others, those that lack memory.
     pub lack_memory: usize,
+    /// Of the others, those that lack disk.
+    pub lack_disk: usize,
     /// The others: those that have room.
     pub have_room: usize,
 }
@@ -54,6 +56,7 @@ pub fn counts(verdicts: &[Verdict]) -> NodeCounts
         not_eligible: count_of(verdicts, Verdict::NotEligible),
         lack_cpu: count_of(verdicts, Verdict::LacksCpu),
         lack_memory: count_of(verdicts, Verdict::LacksMemory),
+        lack_disk: count_of(verdicts, Verdict::LacksDisk),
         have_room: count_of(verdicts, Verdict::HasRoom),
     }
 }

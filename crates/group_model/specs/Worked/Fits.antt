@@ -12,7 +12,7 @@ use Rattle.rows.specs.declared.plan.Place.{Place}
 use Rattle.rows.specs.declared.command.Command.TheVariants as commands
 use Rattle.cluster_model.specs.Words.{State}
 use Rattle.cluster_model.specs.Effect.{applied}
-use Rattle.cluster_model.specs.Worked.Words.{linux, web, api, main, size, alloc_id, mains}
+use Rattle.cluster_model.specs.Worked.Words.{linux, web, api, main, size, size_with_disk, alloc_id, mains, runs}
 use Rattle.group_model.specs.Acceptance.{Accepted, accept, keeps_some}
 use Rattle.group_model.specs.Drains.{moves_of}
 use Rattle.group_model.specs.Scheduling.{WantedName, missing_names}
@@ -80,7 +80,7 @@ StopIsSome = keeps_some stop_alone ≡ true
 abbrev pub NothingIsNone : Type 0
 NothingIsNone = keeps_some (record stop_alone { stops = [] }) ≡ false
 
--- ---- what an agent of 1000 cpu and 1000 memory is listed
+-- ---- what an agent of 1000 cpu and 1000 memory, and of no disk, is listed
 
 abbrev pub lists_of : Size → agents.Input
 lists_of z = agents.Arrives 0 (Listing 9 (record { id = alloc_id 8 0; size = z; state = live_states.Pending } ∷ []))
@@ -94,6 +94,9 @@ TooMuchCpu = said (agents.step 3 agent (lists_of (size 1001 1000))) ≡ []
 
 abbrev pub TooMuchMemory : Type 0
 TooMuchMemory = said (agents.step 3 agent (lists_of (size 1000 1001))) ≡ []
+
+abbrev pub TooMuchDisk : Type 0
+TooMuchDisk = said (agents.step 3 agent (lists_of (size_with_disk 1000 1000 1))) ≡ []
 
 -- of two that do not fit together the first starts
 abbrev pub FirstOfTwo : Type 0
@@ -141,6 +144,9 @@ MarkedIsMissing = missing_in (applied both_live (commands.Migrate (alloc_id 5 1 
 
 abbrev pub OfOtherSize : Type 0
 OfOtherSize = missing_in (asks_for_one 700) ≡ 0 ∷ []
+
+abbrev pub OfOtherDisk : Type 0
+OfOtherDisk = missing_in (applied both_live (runs web 2 (size_with_disk 600 300 1))) ≡ 0 ∷ 1 ∷ []
 
 abbrev pub OfOtherClass : Type 0
 OfOtherClass = missing_in (record both_live { nodes = map (λ (n : Node). record n { class = api }) both_live.nodes }) ≡ 0 ∷ 1 ∷ []

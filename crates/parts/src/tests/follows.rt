@@ -16,14 +16,14 @@ use std::alloc::Global;
 // `held N`, `lost N`: heartbeats of the node are counted, or not.
 const RUN: &str = "\
 noop
-join 1 linux 2000 2000
+join 1 linux 2000 2000 0
 held 1
-put a 50 main:2:linux:600:300
-put b 70 main:1:linux:600:300,side:1:arm:300:300
+put a 50 main:2:linux:600:300:0
+put b 70 main:1:linux:600:300:0,side:1:arm:300:300:0
 gives 4.0
 gives 3.0
-plan 3.0 1.2 a 4 - main:0:1:600:300
-plan 4.0 1.1 b 4 - main:0:1:600:300
+plan 3.0 1.2 a 4 - main:0:1:600:300:0
+plan 4.0 1.1 b 4 - main:0:1:600:300:0
 status 4.0 complete 0
 status 3.0 blocked 7
 gives -
@@ -31,16 +31,16 @@ due -
 report 1 5.0:complete
 due 3.0
 gives 9.0
-put a 50 main:1:arm:600:300
+put a 50 main:1:arm:600:300:0
 due -
-join 2 arm 1000 1000
+join 2 arm 1000 1000 0
 held 2
 due 3.0
 status 3.0 pending 0
 due -
 status 9.0 complete 0
 gives 3.0
-plan 3.0 1.4 a 13 - main:0:2:600:300
+plan 3.0 1.4 a 13 - main:0:2:600:300:0
 status 3.0 complete 0
 gives 10.0
 status 10.0 complete 0
@@ -48,9 +48,9 @@ lose 1
 lost 1
 held 2
 gives 17.0
-join 1 linux 2000 2000
+join 1 linux 2000 2000 0
 held 1
-plan 17.0 1.6 b 18 - side:0:2:300:300
+plan 17.0 1.6 b 18 - side:0:2:300:300:0
 status 17.0 complete 0
 lose 2
 lost 2
@@ -65,8 +65,8 @@ const HEARD: &str = "\
 noop
 beat 1 3
 expire 1 0 3
-join 1 linux 1000 1000
-join 2 arm 1000 1000
+join 1 linux 1000 1000 0
+join 2 arm 1000 1000 0
 beat 1 3
 expire 1 0 3
 open
@@ -82,9 +82,9 @@ expire 1 2 19
 expire 1 1099511627775 19
 expire 2 1 19
 expire 2 0 0
-put a 50 main:1:linux:600:300
+put a 50 main:1:linux:600:300:0
 expire 1 1 0
-join 1 linux 1000 1000
+join 1 linux 1000 1000 0
 expire 1 1 0
 drain 1 slow
 expire 1 1 0
@@ -98,7 +98,7 @@ beat 1 9
 expire 1 2 9
 expire 1 0 9
 expire 2 1 0
-join 1 linux 1000 1000
+join 1 linux 1000 1000 0
 expire 1 2 19
 expire 1 0 0
 beat 1 0
@@ -117,10 +117,10 @@ expire 1 1 3";
 // `turned NODE N`: it is refused with N.
 const DRAINED: &str = "\
 noop
-join 1 linux 1000 1000
-join 2 linux 1000 1000
-put web 50 main:2:linux:400:300
-plan 4.0 1.1 web 4 - main:0:1:400:300,main:1:1:400:300
+join 1 linux 1000 1000 0
+join 2 linux 1000 1000 0
+put web 50 main:2:linux:400:300:0
+plan 4.0 1.1 web 4 - main:0:1:400:300:0,main:1:1:400:300:0
 turned 1 3
 open
 turned 1 20

@@ -12,54 +12,66 @@ use std::alloc::Global;
 // often it stands behind a star (`.` where none follows); the count and the sum of the state; and a
 // byte more, where there is one.
 const TEXTS: &str = "\
-- 1 0 0 0 0 0 . 0 0
-- 1 3 2 0 0 3 1,3:5,3:1000 0 0
-- 1 9 5 4 2 0 . 4 0
-- 1 9 1 4 2 1 3:7 4 700
-- 1 1 0 4 9 2 3,2 4 1000
-- 1 0 0 1099511627775 0 0 . 1099511627775 1
-- 1 1099511627775 3 1099511627774 1099511627775 1 7 1099511627774 1
-- 1 8 0 5 3 20000 7*20000 5 1";
+- 2 0 0 0 0 0 . 0 0
+- 2 3 2 0 0 3 1,3:5,3:1000 0 0
+- 2 9 5 4 2 0 . 4 0
+- 2 9 1 4 2 1 3:7 4 700
+- 2 1 0 4 9 2 3,2 4 1000
+- 2 0 0 1099511627775 0 0 . 1099511627775 1
+- 2 1099511627775 3 1099511627774 1099511627775 1 7 1099511627774 1
+- 2 8 0 5 3 20000 7*20000 5 1";
 
 const FAULTS: &str = "\
 0 0 0 0 0 0 0 . 0 0
-0 2 0 0 0 0 0 . 0 0
-1 1 1099511627776 0 0 0 0 . 0 0
-9 1 0 6 0 0 0 . 0 0
-10 1 0 0 1099511627776 0 0 . 0 0
-18 1 0 0 4 1099511627776 0 . 4 0
-26 1 0 0 4 1 18446744073709551615 . 4 0
-43 1 0 0 4 1 2 . 4 1
-34 1 0 0 4 1 1 1099511627776 4 0
-43 1 0 0 4 1 1 5:1001 4 0
-42 1 0 0 4 1 0 . 4 1001
-44 1 0 0 4 1 0 . 4 0 0";
+0 3 0 0 0 0 0 . 0 0
+0 255 0 0 0 0 0 . 0 0
+1 2 1099511627776 0 0 0 0 . 0 0
+9 2 0 6 0 0 0 . 0 0
+10 2 0 0 1099511627776 0 0 . 0 0
+18 2 0 0 4 1099511627776 0 . 4 0
+26 2 0 0 4 1 18446744073709551615 . 4 0
+43 2 0 0 4 1 2 . 4 1
+34 2 0 0 4 1 1 1099511627776 4 0
+43 2 0 0 4 1 1 5:1001 4 0
+42 2 0 0 4 1 0 . 4 1001
+44 2 0 0 4 1 0 . 4 0 0";
 
 // Where nothing is covered the term is 0, and the state the first one.
 const FIRST: &str = "\
-18 1 0 0 0 1 0 . 0 0
-18 1 7 0 0 7 1 7 0 0
-34 1 0 0 0 0 0 . 0 1
-34 1 0 0 0 0 0 . 1 0
-45 1 0 0 0 0 1 3:7 0 1
-42 1 0 0 0 0 0 . 0 1001
-44 1 0 0 0 0 0 . 0 1 0";
+18 2 0 0 0 1 0 . 0 0
+18 2 7 0 0 7 1 7 0 0
+34 2 0 0 0 0 0 . 0 1
+34 2 0 0 0 0 0 . 1 0
+45 2 0 0 0 0 1 3:7 0 1
+42 2 0 0 0 0 0 . 0 1001
+44 2 0 0 0 0 0 . 0 1 0";
 
 // The state has seen as many commands as entries are covered.
 const COUNTS: &str = "\
-34 1 0 0 4 1 0 . 0 0
-34 1 0 0 4 1 0 . 3 5
-34 1 0 0 4 1 0 . 5 5
-52 1 0 0 4 1 2 3,4 5 5
-44 1 0 0 4 1 0 . 5 5 0";
+34 2 0 0 4 1 0 . 0 0
+34 2 0 0 4 1 0 . 3 5
+34 2 0 0 4 1 0 . 5 5
+52 2 0 0 4 1 2 3,4 5 5
+44 2 0 0 4 1 0 . 5 5 0";
 
 // Each entry has a place below 2^40. A count that has none is at fault before an entry is.
 const PLACES: &str = "\
-26 1 0 0 1099511627775 1 1 . 1099511627775 0
-26 1 0 0 1 1 1099511627775 . 1 0
-43 1 0 0 1 1 1099511627774 . 1 0
-43 1 0 0 0 0 1099511627775 . 0 0
-26 1 0 0 0 0 1099511627776 . 0 0";
+26 2 0 0 1099511627775 1 1 . 1099511627775 0
+26 2 0 0 1 1 1099511627775 . 1 0
+43 2 0 0 1 1 1099511627774 . 1 0
+43 2 0 0 0 0 1099511627775 . 0 0
+26 2 0 0 0 0 1099511627776 . 0 0";
+
+// The first version of such texts: the tally's are as today's, and what is read is written as
+// today.
+const OLD: &str = "\
+- 1 0 0 0 0 0 . 0 0
+- 1 3 2 0 0 3 1,3:5,3:1000 0 0
+- 1 1 0 4 9 2 3,2 4 1000
+9 1 0 6 0 0 0 . 0 0
+42 1 0 0 4 1 0 . 4 1001
+44 1 0 0 4 1 0 . 4 0 0
+34 1 0 0 4 1 0 . 3 5";
 
 fn put_entry(out: &mut Vec<u8>, words: &str) -> bool {
     match words.split_once(':') {
@@ -96,7 +108,7 @@ fn put_text(out: &mut Vec<u8>, words: &str) -> bool {
     put
 }
 
-// What is read is written behind another byte.
+// What is read is written behind another byte, in the newest version, which is 2.
 fn is_as_said(alloc: Global, bytes: &[u8], place: &str) -> bool {
     match read_stable::<Tally>(alloc, bytes) {
         Err(Refusal::Frame(at)) => place.parse() == Ok(at),
@@ -107,7 +119,8 @@ fn is_as_said(alloc: Global, bytes: &[u8], place: &str) -> bool {
                 && again.push(9).is_ok()
                 && write_stable(&stable, &mut again).is_ok()
                 && again.first() == Some(&9)
-                && again.get(1..) == Some(bytes)
+                && again.get(1) == Some(&2)
+                && again.get(2..) == bytes.get(1..)
         }
     }
 }
@@ -121,7 +134,7 @@ fn is_so(alloc: Global, line: &str) -> bool {
 #[test]
 fn stored_texts_are_as_they_are_said(rt: HostRuntime) {
     let alloc = rt.alloc();
-    for table in [TEXTS, FAULTS, FIRST, COUNTS, PLACES] {
+    for table in [TEXTS, FAULTS, FIRST, COUNTS, PLACES, OLD] {
         for line in table.lines() {
             assert!(rt; is_so(alloc, line), "{line}");
         }
