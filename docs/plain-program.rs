@@ -312,7 +312,7 @@ fn read_step(line: &str) -> Option<Step> {
 // ---- Messages and frames ----
 
 const LIMIT: u64 = 1 << 40;
-const VERSION: u8 = 2;
+const VERSION: u8 = 3;
 const MOST_ENTRIES: usize = 32;
 const FRAME_LIMIT: usize = 16_777_216;
 

@@ -62,6 +62,7 @@ old_commands_have_none (commands.JobPut spec) h = ask_for_none spec.groups h.1.1
 old_commands_have_none (commands.JobStop name) h = tt
 old_commands_have_none (commands.NodePut spec) h = no_disk spec.size h.1.1.1
 old_commands_have_none (commands.NodeDown n) h = tt
+old_commands_have_none (commands.Disconnect n) h = tt
 old_commands_have_none (commands.Drain n force) h = tt
 old_commands_have_none (commands.DrainDone n) h = tt
 old_commands_have_none (commands.Migrate ids) h = tt

@@ -5,3 +5,4 @@ pub mod Drains
 pub mod Refusals
 pub mod Disks
 pub mod Ends
+pub mod Absences

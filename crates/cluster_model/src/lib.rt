@@ -12,5 +12,6 @@ pub use laws::{
     plans_are_decided, safety_is_decided,
 };
 pub use worked::{
-    worked_disks, worked_drain, worked_ends, worked_loss, worked_move, worked_refusals,
+    worked_absence, worked_disks, worked_drain, worked_ends, worked_loss, worked_move,
+    worked_refusals,
 };

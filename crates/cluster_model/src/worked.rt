@@ -6,6 +6,7 @@ ghost use Rattle.cluster_model.specs.Worked.Drains.{RisingNames, DownAlready, Co
 ghost use Rattle.cluster_model.specs.Worked.Refusals.{ComesAgain, OtherCpu, OtherMemory, OtherDisk, OtherClass, NoNodeIsDown, NoNodeDrains, NoNodeIsDrained, NodeIsDown, NodeDrains, NodeIsDrained, DoesNotDrain, NoJobStops, StopPasses, NoJobIsAsked, StopsOnce, StoppedIsAsked, NoEvaluation, EvaluationEnds, PendingAlready, PlacePasses, OtherGroup, LessCpu, LessMemory, MoreDisk, PastTheCount, NowhereToRun, NotEligible, NotReady, NotOfTheClass, StoppedIsNotPlaced, StoppedIsPlanned, EvaluationFirst, ThenTheJob, ThenTheStops, ThenWhetherStopped, NoneMoves, OneMoves, NoNodeReports, NoneIsReported, OtherNodeReports, EndIsReported};
 ghost use Rattle.cluster_model.specs.Worked.Disks.{OnePasses, TwoAreTooMany, TooLargeForTheOther, TwoPass, AllDiskInUse, OneDiskTooMany, OneEachPasses};
 ghost use Rattle.cluster_model.specs.Worked.Ends.{JobStops, StopTouches, PutAgain, Ended, EndGivesRoom, EndTouches, ReportsInOrder, OtherNodesReport, StoppingIsLost, StoppingTouchesNone, DrainsByForce, StaysDrained, LostIsNotMarked};
+ghost use Rattle.cluster_model.specs.Worked.Absences.{NodeAway, AwayPasses, StoppingIsUnknown, HoldsItsRoom, HoldsItsName, NotReadyAway, NoNodeIsAway, AwayAlready, DownIsNotAway, AwayWithoutRow, LostStaysLost, RunsAllAlong, RunsAllAlongPasses, EndedMeanwhile, BackAgain, LostThen, LostThenPasses, LateAfterLoss, NameIsFree};
 
 /// Two nodes run a job of two; one node goes down, what it reports late changes nothing, and its
 /// allocation's name is placed again where there is just room for it.
@@ -120,4 +121,28 @@ pub fn worked_ends()
     ensures drains_by_force { DrainsByForce }
     ensures stays_drained { StaysDrained }
     ensures lost_is_not_marked { LostIsNotMarked }
+{}
+
+/// A node that is disconnected: what is unknown on it holds room and name, may be reported, and is
+/// lost where the node is.
+pub fn worked_absence()
+    ensures node_away { NodeAway }
+    ensures away_passes { AwayPasses }
+    ensures stopping_is_unknown { StoppingIsUnknown }
+    ensures holds_its_room { HoldsItsRoom }
+    ensures holds_its_name { HoldsItsName }
+    ensures not_ready_away { NotReadyAway }
+    ensures no_node_is_away { NoNodeIsAway }
+    ensures away_already { AwayAlready }
+    ensures down_is_not_away { DownIsNotAway }
+    ensures away_without_row { AwayWithoutRow }
+    ensures lost_stays_lost { LostStaysLost }
+    ensures runs_all_along { RunsAllAlong }
+    ensures runs_all_along_passes { RunsAllAlongPasses }
+    ensures ended_meanwhile { EndedMeanwhile }
+    ensures back_again { BackAgain }
+    ensures lost_then { LostThen }
+    ensures lost_then_passes { LostThenPasses }
+    ensures late_after_loss { LateAfterLoss }
+    ensures name_is_free { NameIsFree }
 {}

@@ -114,7 +114,8 @@ The file is a JSON object with exactly these keys:
     lapse S E   at server S, if it leads, the work on E has lasted too long
     expire S NODE BEAT
                 at server S, if it leads, node NODE, 1 to 64, was heard of BEAT
-                times, 0 to 1099511627775, and not heard of since for too long
+                times, 0 to 1099511627775, and not heard of since for too long:
+                a ready node is disconnected, a disconnected one goes down
     drain S NODE
                 at server S, if it leads, a turn of the drain of node NODE, 1 to
                 64: its next allocations are marked to move, or its drain ends
@@ -218,15 +219,15 @@ taken, all without --at, and then it is printed how the group stands:
   the desk of each server that leads: whether it is open, which pending evaluations
   it gave out, to whose workers, under which token, and what became of them, which
   plans wait for a turn, which evaluations are blocked, and since when, and how
-  often each ready node was heard of;
+  often each node was heard of that is not down;
   the clients, with what they run and what they ever started;
   each state that is applied: jobs, nodes with what is in use of them,
   evaluations and allocations.
 For each evaluation that is pending or blocked a line for each group of its job
 says how many allocations are missing, how many of these a plan places now, and
-how many nodes there are of another class, down, drained, short of cpu, short of
-memory, short of disk, and with room: each node is counted once, under the first
-of these.
+how many nodes there are of another class, not ready, drained, short of cpu,
+short of memory, short of disk, and with room: each node is counted once, under
+the first of these. One that is disconnected or down is not ready.
 'fits on none' says that a plan places none of the missing ones.
 
 With --json all of it is one JSON object in one line, the form of which is in

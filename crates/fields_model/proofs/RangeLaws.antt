@@ -90,9 +90,10 @@ fits_bool : (b : Bool) → bool.Fits b
 fits_bool true = ((omega arith, omega arith), refl)
 fits_bool false = ((omega arith, omega arith), refl)
 
-fits_node_status : (v : NodeStatus) → node_status.Fits v
-fits_node_status node_statuses.Ready = ((omega arith, omega arith), refl)
-fits_node_status node_statuses.Down = ((omega arith, omega arith), refl)
+fits_node_status : (v : NodeStatus) → (node_status newest).Fits v
+fits_node_status node_statuses.Ready = (((omega arith, omega arith), refl), refl)
+fits_node_status node_statuses.Down = (((omega arith, omega arith), refl), refl)
+fits_node_status node_statuses.Disconnected = (((omega arith, omega arith), refl), refl)
 
 fits_drain_mode : (v : DrainMode) → drain_mode.Fits v
 fits_drain_mode drains.Off = ((omega arith, omega arith), refl)
@@ -109,12 +110,13 @@ fits_desired : (v : Desired) → desired.Fits v
 fits_desired desires.Run = ((omega arith, omega arith), refl)
 fits_desired desires.Stop = ((omega arith, omega arith), refl)
 
-fits_client_state : (v : ClientState) → client_state.Fits v
-fits_client_state clients.Pending = ((omega arith, omega arith), refl)
-fits_client_state clients.Running = ((omega arith, omega arith), refl)
-fits_client_state clients.Complete = ((omega arith, omega arith), refl)
-fits_client_state clients.Failed = ((omega arith, omega arith), refl)
-fits_client_state clients.Lost = ((omega arith, omega arith), refl)
+fits_client_state : (v : ClientState) → (client_state newest).Fits v
+fits_client_state clients.Pending = (((omega arith, omega arith), refl), refl)
+fits_client_state clients.Running = (((omega arith, omega arith), refl), refl)
+fits_client_state clients.Complete = (((omega arith, omega arith), refl), refl)
+fits_client_state clients.Failed = (((omega arith, omega arith), refl), refl)
+fits_client_state clients.Lost = (((omega arith, omega arith), refl), refl)
+fits_client_state clients.Unknown = (((omega arith, omega arith), refl), refl)
 
 fits_reported_state : (v : ReportedState) → reported_state.Fits v
 fits_reported_state reported.Running = ((omega arith, omega arith), refl)
@@ -319,6 +321,7 @@ fits_command (commands.JobPut job) h = ((omega arith, omega arith), fits_job_spe
 fits_command (commands.JobStop name) h = ((omega arith, omega arith), h)
 fits_command (commands.NodePut node) h = ((omega arith, omega arith), fits_node_spec node h)
 fits_command (commands.NodeDown node) h = ((omega arith, omega arith), fits_node_id node h)
+fits_command (commands.Disconnect node) h = ((omega arith, omega arith), fits_node_id node h)
 fits_command (commands.Drain node force) h = ((omega arith, omega arith), (fits_node_id node h, fits_bool force))
 fits_command (commands.DrainDone node) h = ((omega arith, omega arith), fits_node_id node h)
 fits_command (commands.Migrate ids) h = ((omega arith, omega arith), fits_rising_ids ids h)
@@ -333,6 +336,7 @@ command_fits version (commands.JobPut job) h = job_spec_fits version job h.1
 command_fits version (commands.JobStop name) h = h.1
 command_fits version (commands.NodePut node) h = node_spec_fits version node h.1
 command_fits version (commands.NodeDown node) h = node_id_fits node h.1
+command_fits version (commands.Disconnect node) h = node_id_fits node h.1
 command_fits version (commands.Drain node force) h = node_id_fits node h.1.0
 command_fits version (commands.DrainDone node) h = node_id_fits node h.1
 command_fits version (commands.Migrate ids) h = rising_ids_fits ids h.1

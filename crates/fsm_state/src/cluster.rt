@@ -167,8 +167,8 @@ impl Cluster {
         self.tables.live_on(node)
     }
 
-    /// The allocations on a node that are pending or running, in rising id. It takes time in the
-    /// logarithm of the table, and so much again for each of them. `NoMemory` where there is no
+    /// The allocations on a node that are pending, running or unknown, in rising id. It takes time in
+    /// the logarithm of the table, and so much again for each of them. `NoMemory` where there is no
     /// memory for them.
     pub fn active_on(&self, node: NodeId) -> Result<Sequence<Allocation>, NoMemory>
         ensures { GivesRows result (filter (is_active_on node) self.now.allocs) }

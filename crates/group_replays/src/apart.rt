@@ -14,6 +14,9 @@ use transcript::{Transcript, read};
 use wire::Frames;
 use world::{Done, Event, World};
 
+/// The version that frames have, and their first byte.
+pub(crate) const V: u8 = 3;
+
 // Where server 1 of the long row crashes at its end: with its snapshot, without one, and with one
 // behind which an entry stands.
 const STORED: [&str; 3] = ["compacted", "whole", "behind-a-snapshot"];
@@ -231,7 +234,7 @@ fn sixth_state(alloc: Global, row: &Transcript) -> Option<Vec<u8>> {
 fn frame_of(alloc: Global, index: u64, state: &[u8]) -> Option<Vec<u8>> {
     let size = u32::try_from(state.len()).ok()?.checked_add(24)?;
     let mut frame = Vec::new(alloc);
-    frame.extend_from_slice(&[2, 5, 1, 2]).ok()?;
+    frame.extend_from_slice(&[V, 5, 1, 2]).ok()?;
     frame.extend_from_slice(&size.to_be_bytes()).ok()?;
     for number in [1, index, 1] {
         frame.extend_from_slice(&number.to_be_bytes()).ok()?;

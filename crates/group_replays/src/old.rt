@@ -1,5 +1,5 @@
 //! A server that goes on from what it stored in the first version, which says nothing of disk.
-use crate::apart::{answer_of, no_output};
+use crate::apart::{V, answer_of, no_output};
 use crate::samples::Sample;
 use fsm_state::Cluster;
 use raft_snapshot::read_stable;
@@ -11,21 +11,21 @@ use std::{fs, io};
 
 // Server 2 gives server 1 its vote in term 2; and then has its entries up to the ninth.
 const VOTES: &[u8] = &[
-    2, 2, 2, 1, 0, 0, 0, 17, 0, 0, 0, 0, 0, 0, 0, 2, 0, 0, 0, 0, 0, 0, 0, 2, 1,
+    V, 2, 2, 1, 0, 0, 0, 17, 0, 0, 0, 0, 0, 0, 0, 2, 0, 0, 0, 0, 0, 0, 0, 2, 1,
 ];
 
 const HAS_NINE: &[u8] = &[
-    2, 4, 2, 1, 0, 0, 0, 25, 0, 0, 0, 0, 0, 0, 0, 2, 0, 0, 0, 0, 0, 0, 0, 2, 1, 0, 0, 0, 0, 0, 0,
+    V, 4, 2, 1, 0, 0, 0, 25, 0, 0, 0, 0, 0, 0, 0, 2, 0, 0, 0, 0, 0, 0, 0, 2, 1, 0, 0, 0, 0, 0, 0,
     0, 9,
 ];
 
 // Client 1 registers with server 1: node 1, `linux` 1000 1000, with disk 1; and with none.
 const WITH_DISK: &[u8] = &[
-    2, 14, 129, 1, 0, 0, 0, 18, 5, 108, 105, 110, 117, 120, 0, 0, 3, 232, 0, 0, 3, 232, 0, 0, 0, 1,
+    V, 14, 129, 1, 0, 0, 0, 18, 5, 108, 105, 110, 117, 120, 0, 0, 3, 232, 0, 0, 3, 232, 0, 0, 0, 1,
 ];
 
 const WITHOUT_DISK: &[u8] = &[
-    2, 14, 129, 1, 0, 0, 0, 18, 5, 108, 105, 110, 117, 120, 0, 0, 3, 232, 0, 0, 3, 232, 0, 0, 0, 0,
+    V, 14, 129, 1, 0, 0, 0, 18, 5, 108, 105, 110, 117, 120, 0, 0, 3, 232, 0, 0, 3, 232, 0, 0, 0, 0,
 ];
 
 // Server 1 of three, from what it stored.

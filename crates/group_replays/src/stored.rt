@@ -1,5 +1,5 @@
-//! Texts of what a server stores, of today's version and of the first: each as it is, each cut of
-//! it, and each of its bytes at each value, by what a file says of it.
+//! Texts of what a server stores, of each version: each as it is, each cut of it, and each of its
+//! bytes at each value, by what a file says of it.
 use crate::samples::{Reads, Sample, play};
 use fsm_state::Cluster;
 use raft_snapshot::{read_stable, write_stable};
@@ -21,15 +21,23 @@ fn stores(alloc: Global, bytes: &[u8], said: Option<usize>, text: &[u8]) -> bool
     }
 }
 
-// The file of the texts of the first version.
+// The files of the texts of the first version, and of the second.
 const OLD: &str = "stored-v1";
 
-// The reader of what a server stores.
+const SECOND: &str = "stored-v2";
+
+// The version that is written today.
+const V: u8 = 3;
+
+// The reader of what a server stores, today or in the second version, which has the same fields.
 struct TextReader;
 
 impl Reads for TextReader {
     fn is_said(alloc: Global, bytes: &[u8], said: Option<usize>) -> bool {
-        stores(alloc, bytes, said, bytes)
+        match today(alloc, bytes, &[]) {
+            Ok(text) => stores(alloc, bytes, said, &text),
+            Err(_) => false,
+        }
     }
 }
 
@@ -38,7 +46,7 @@ struct OldReader;
 
 impl Reads for OldReader {
     fn is_said(alloc: Global, bytes: &[u8], said: Option<usize>) -> bool {
-        match with_disk(alloc, bytes) {
+        match today(alloc, bytes, &disk_places(bytes.len())) {
             Ok(text) => stores(alloc, bytes, said, &text),
             Err(_) => false,
         }
@@ -55,15 +63,15 @@ fn disk_places(length: usize) -> [usize; 5] {
     }
 }
 
-// The text of today that stores what such a text does: with 0 for each disk.
-fn with_disk(alloc: Global, bytes: &[u8]) -> Result<Vec<u8>, AllocError> {
-    let places = disk_places(bytes.len());
+// The text of today that stores what such a text does: with 0 for the disk in front of each of
+// these places.
+fn today(alloc: Global, bytes: &[u8], places: &[usize]) -> Result<Vec<u8>, AllocError> {
     let mut text = Vec::new(alloc);
     for (at, byte) in bytes.iter().enumerate() {
         if places.contains(&at) {
             text.extend_from_slice(&[0; 4])?;
         }
-        let own = if at == 0 { 2 } else { *byte };
+        let own = if at == 0 { V } else { *byte };
         text.push(own)?;
     }
     Ok(text)
@@ -103,14 +111,16 @@ fn play_file<R: Reads>(rt: &HostRuntime, file: &str) -> io::Result<()> {
     say(rt, file, number, &sample)
 }
 
-// Whether a line is of the byte that says a text's version, in a file of the first version: with
+// Whether a line is of the byte that says a text's version, in a file of an older version: with
 // another value there it is a text of another version, of which `stored` speaks.
 fn picks_version(file: &str, line: &str) -> bool {
-    file == OLD && line.starts_with("byte 0 ")
+    (file == OLD || file == SECOND) && line.starts_with("byte 0 ")
 }
 
-/// Plays the lines of `stored`, and those of `stored-v1`, whose texts are of the first version.
+/// Plays the lines of `stored`, and those of `stored-v2` and `stored-v1`, whose texts are of the
+/// second version and of the first.
 pub(crate) fn texts(rt: &HostRuntime) -> io::Result<()> {
     play_file::<TextReader>(rt, "stored")?;
+    play_file::<TextReader>(rt, SECOND)?;
     play_file::<OldReader>(rt, OLD)
 }

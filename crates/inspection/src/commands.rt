@@ -15,6 +15,7 @@ pub(crate) fn command_text(alloc: Global, command: &Command) -> Result<String, N
         Command::EvalPut(name) => Ok(format!(in alloc; "eval {name}")?),
         Command::NodePut(node) => node_text(alloc, node),
         Command::NodeDown(node) => Ok(format!(in alloc; "node {node} down")?),
+        Command::Disconnect(node) => Ok(format!(in alloc; "node {node} disconnected")?),
         Command::Drain(node, true) => Ok(format!(in alloc; "drain {node} force")?),
         Command::Drain(node, false) => Ok(format!(in alloc; "drain {node} slow")?),
         Command::DrainDone(node) => Ok(format!(in alloc; "node {node} drained")?),

@@ -1,4 +1,5 @@
-//! What is reported of a group after some events. The schema of its JSON is `docs/inspect.schema.json`.
+//! What is reported of a group after some events. The schema of its JSON is
+//! `docs/inspect.schema.json`.
 use serde::Serialize;
 
 /// A group after some events of a run.
@@ -67,7 +68,7 @@ pub(crate) struct DeskReport {
     pub plans: Vec<PlanReport>,
     /// The blocked evaluations, by id.
     pub blocked: Vec<BlockedReport>,
-    /// The ready nodes, by number.
+    /// The nodes that are not down, by number.
     pub beats: Vec<BeatReport>,
 }
 
@@ -195,7 +196,7 @@ pub(crate) struct NodeReport {
     pub node: u8,
     /// Its class.
     pub class: String,
-    /// `ready` or `down`.
+    /// `ready`, `disconnected` or `down`.
     pub status: &'static str,
     /// Whether allocations may be placed on it.
     pub eligible: bool,
@@ -252,7 +253,7 @@ pub(crate) struct PlacementReport {
 pub(crate) struct NodesReport {
     /// Those of another class.
     pub other_class: usize,
-    /// Those that are down.
+    /// Those that are not ready: disconnected or down.
     pub not_ready: usize,
     /// Those on which nothing may be placed.
     pub not_eligible: usize,
@@ -283,7 +284,7 @@ pub(crate) struct AllocationReport {
     pub disk: u32,
     /// `run` or `stop`.
     pub desired: &'static str,
-    /// `pending`, `running`, `complete`, `failed` or `lost`.
+    /// `pending`, `running`, `unknown`, `complete`, `failed` or `lost`.
     pub state: &'static str,
     /// Whether it is to move off its node.
     pub migrate: bool,

@@ -10,7 +10,7 @@ use crate::verdict::Verdict;
 pub struct NodeCounts {
     /// Those of another class.
     pub other_class: usize,
-    /// Of the others, those that are down.
+    /// Of the others, those that are not ready: disconnected or down.
     pub not_ready: usize,
     /// Of the others, those on which nothing may be placed.
     pub not_eligible: usize,

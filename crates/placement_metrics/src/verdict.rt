@@ -12,7 +12,7 @@ use rows::{Group, Node, Usage};
 pub enum Verdict {
     /// It is of another class.
     OtherClass,
-    /// It is down.
+    /// It is not ready: disconnected or down.
     NotReady,
     /// Nothing may be placed on it: it is drained, or was.
     NotEligible,

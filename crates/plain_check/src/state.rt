@@ -4,10 +4,14 @@ use fsm_state::Cluster;
 use fsm_tables::Table;
 use rows::{Allocation, ClientState, Desired, Node};
 
-// It is to run, and was not heard of as ended or lost.
+// It is to run, and is not known to have ended, nor given up as lost.
 fn lives(row: &Allocation) -> bool {
     let is_wanted = matches!(row.desired, Desired::Run);
-    is_wanted && matches!(row.client, ClientState::Pending | ClientState::Running)
+    is_wanted
+        && matches!(
+            row.client,
+            ClientState::Pending | ClientState::Running | ClientState::Unknown
+        )
 }
 
 // What lives on a node is no more than that has.

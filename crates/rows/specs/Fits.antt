@@ -142,6 +142,7 @@ CommandFits (commands.JobPut job) = JobSpecFits job
 CommandFits (commands.JobStop name) = NameFits name
 CommandFits (commands.NodePut node) = NodeSpecFits node
 CommandFits (commands.NodeDown node) = NodeIdFits node
+CommandFits (commands.Disconnect node) = NodeIdFits node
 CommandFits (commands.Drain node force) = NodeIdFits node
 CommandFits (commands.DrainDone node) = NodeIdFits node
 CommandFits (commands.Migrate ids) = RisingIdsFit ids

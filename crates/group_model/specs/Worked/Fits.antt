@@ -43,7 +43,7 @@ PastTheCount = accept roomy (record (moves_it 4) { places = at_two main 1 }) 6 �
 abbrev pub OtherGroup : Type 0
 OtherGroup = accept roomy (record (moves_it 4) { places = at_two api 0 }) 6 ≡ Ok stop_alone
 
--- a node that is not eligible; one that is down; one of another class
+-- a node that is not eligible; one that is down, or disconnected; one of another class
 abbrev pub with_two : (Node → Node) → State
 with_two f = record roomy { nodes = map f roomy.nodes }
 
@@ -52,6 +52,9 @@ NotEligible = accept (with_two (λ n. record n { eligible = false })) (moves_it 
 
 abbrev pub NotReady : Type 0
 NotReady = accept (with_two (λ n. record n { status = statuses.Down })) (moves_it 4) 6 ≡ Ok stop_alone
+
+abbrev pub IsAway : Type 0
+IsAway = accept (with_two (λ n. record n { status = statuses.Disconnected })) (moves_it 4) 6 ≡ Ok stop_alone
 
 abbrev pub NotOfTheClass : Type 0
 NotOfTheClass = accept (with_two (λ n. record n { class = api })) (moves_it 4) 6 ≡ Ok stop_alone
@@ -105,6 +108,13 @@ FirstOfTwo = said (agents.step 3 agent (agents.Arrives 0 (Listing 9 (
     ∷ record { id = alloc_id 9 0; size = size 500 300; state = live_states.Pending }
     ∷ [])))) ≡ runs_eight
 
+-- what is listed as unknown starts as any other, and is reported where it runs
+abbrev pub UnknownStarts : Type 0
+UnknownStarts = said (agents.step 3 agent (lists 9 8 live_states.Unknown)) ≡ runs_eight
+
+abbrev pub UnknownIsSaid : Type 0
+UnknownIsSaid = said (agents.step 3 after_nine (lists 9 8 live_states.Unknown)) ≡ runs_eight
+
 -- what the list says already is not reported; what is not listed runs no more
 abbrev pub KnownIsNotSaid : Type 0
 KnownIsNotSaid = said (agents.step 3 after_nine (lists 9 8 live_states.Running)) ≡ []
@@ -151,9 +161,15 @@ OfOtherDisk = missing_in (applied both_live (runs web 2 (size_with_disk 600 300 
 abbrev pub OfOtherClass : Type 0
 OfOtherClass = missing_in (record both_live { nodes = map (λ (n : Node). record n { class = api }) both_live.nodes }) ≡ 0 ∷ 1 ∷ []
 
--- what is lost with its node is missing too
+-- what is unknown on a disconnected node is not missing; what is lost with its node is
+abbrev pub UnknownIsThere : Type 0
+UnknownIsThere = missing_in (applied both_live (commands.Disconnect 1)) ≡ []
+
 abbrev pub LostIsMissing : Type 0
 LostIsMissing = missing_in (applied both_live (commands.NodeDown 1)) ≡ 0 ∷ []
+
+abbrev pub LostFromUnknown : Type 0
+LostFromUnknown = missing_in (applied (applied both_live (commands.Disconnect 1)) (commands.NodeDown 1)) ≡ 0 ∷ []
 
 -- ---- plans of one delivery
 

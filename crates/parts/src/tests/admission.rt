@@ -55,6 +55,45 @@ take lose 1
 take join 1 linux 1000 1000 0
 0 lose 1";
 
+// A ready node is disconnected, and no other; one that is disconnected is lost, and one that is
+// ready is too. Meanwhile it takes nothing; what is unknown on it holds its name, and is stopped,
+// moved and reported as what runs.
+const AWAY: &str = "\
+again
+take join 4 linux 1000 1000 0
+9 disconnect 5
+0 disconnect 1
+0 disconnect 4
+take disconnect 1
+19 disconnect 1
+0 lose 1
+0 join 1 linux 1000 1000 0
+10 join 1 linux 1000 1000 1
+0 drain 1 slow
+20 drained 1
+20 migrate 7.0
+12 plan 5.0 1.1 api 0 - one:0:1:400:300:0
+12 plan 4.0 1.1 web 0 - main:0:4:600:300:0
+0 plan 4.0 1.1 web 0 7.0 main:0:4:600:300:0
+0 plan 4.0 1.1 web 0 - main:2:4:600:300:0
+0 report 1 7.0:running
+0 report 1 7.0:complete,7.0:failed
+21 report 1 7.1:running
+9 report 5 7.0:running
+take drain 1 slow
+20 drained 1
+0 migrate 7.0
+take lose 1
+19 disconnect 1
+19 lose 1
+20 migrate 7.0
+0 drained 1
+12 plan 4.0 1.1 web 0 - main:0:1:600:300:0
+0 plan 4.0 1.1 web 0 - main:0:4:600:300:0
+take join 1 linux 1000 1000 0
+0 disconnect 1
+0 lose 1";
+
 // A node that is emptied is drained, and nothing on it is live.
 const DRAINS: &str = "\
 again
@@ -280,6 +319,7 @@ pub(crate) const PLAYS: &[&str] = &[
     BASE,
     JOBS,
     NODES,
+    AWAY,
     DRAINS,
     MOVES,
     PLANS,

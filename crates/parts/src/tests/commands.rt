@@ -46,7 +46,15 @@ command 64
 = report 2 3.0:complete
 is raw 11 2 1 0 0 0 0 0 0 0 3 0 2
 = raw 255
-command 13";
+command 13
+= lose 64
+is raw 4 64
+= raw 255
+command 2
+= disconnect 64
+is raw 12 64
+= raw 255
+command 2";
 
 // Disk is at most 1,000,000, and stands behind memory.
 const DISK: &str = "\
@@ -69,27 +77,67 @@ bad 51";
 const OLD: &str = "\
 = raw 1 3 119 101 98 50 1 4 109 97 105 110 2 5 108 105 110 117 120 0 0 2 88 0 0 1 44
 = raw 255
-old-command put web 50 main:2:linux:600:300:0
+old-command 1 put web 50 main:2:linux:600:300:0
 = raw 1 1 48 100 2 3 98 45 50 0 1 120 0 0 0 1 0 15 66 64 1 97 64 1 121 0 15 66 64 0 0 0 1
 = raw 255
-old-command put 0 100 b-2:0:x:1:1000000:0,a:64:y:1000000:1:0
+old-command 1 put 0 100 b-2:0:x:1:1000000:0,a:64:y:1000000:1:0
 = raw 3 1 5 108 105 110 117 120 0 0 3 232 0 0 3 232
 = raw 255
-old-command join 1 linux 1000 1000 0
+old-command 1 join 1 linux 1000 1000 0
 = raw 10 0 0 0 0 0 0 0 4 0 0 0 0 0 0 0 0 0 1 0 0 0 0 0 0 0 1 1 119 0 0 0 0 0 0 0 0 1 0 0 0 0 0 0 0 3 63 1 1 103 63 64 0 0 0 1 0 0 0 2
 = raw 255
-old-command plan 4.0 1.1 w 0 3.63 g:63:64:1:2:0
+old-command 1 plan 4.0 1.1 w 0 3.63 g:63:64:1:2:0
 = raw 8 1 48
 = raw 255
-old-command eval 0
+old-command 1 eval 0
 = raw 0 255
-old-command noop";
+old-command 1 noop
+= raw 4 9 255
+old-command 1 lose 9";
 
-// The least command, and a tag of none.
+// Commands of the second version, which are as they are today. Neither it nor the first has a node
+// that is disconnected: the tag is at fault, also where what follows is cut, and a greater one.
+const SECOND: &str = "\
+= put web 50 main:2:linux:600:300:7
+= raw 255
+old-command 2 put web 50 main:2:linux:600:300:7
+= join 1 linux 1000 1000 1000000
+= raw 255
+old-command 2 join 1 linux 1000 1000 1000000
+= raw 4 9 255
+old-command 2 lose 9
+= raw 11 2 1 0 0 0 0 0 0 0 3 0 2 255
+old-command 2 report 2 3.0:complete
+= raw 12 9 255
+old-bad 2 0
+= raw 12 9 255
+old-bad 1 0
+= raw 12
+old-bad 2 0
+= raw 12
+old-bad 1 0
+= raw 13 9 255
+old-bad 2 0
+= raw 12 9 255
+old-command 3 disconnect 9
+= raw 12 0
+old-bad 3 1";
+
+// The least command, the greatest tag and its node, and tags of none.
 const TAGS: &str = "\
 = raw 0
 command 1
+= raw 12 1
+command 2
 = raw 12
+bad 1
+= raw 12 0
+bad 1
+= raw 12 65
+bad 1
+= raw 13 1
+bad 0
+= raw 255
 bad 0";
 
 // Job web of priority 50 with the group main, of 2 on linux, cpu 600, mem 300 and
@@ -143,5 +191,5 @@ bad 12";
 
 /// The plays of commands.
 pub(crate) const PLAYS: &[&str] = &[
-    WORDS, DISK, OLD, TAGS, ROWS, NO_GROUPS, SAME_GROUP, SNAPSHOTS, IDS, REPORTS,
+    WORDS, DISK, OLD, SECOND, TAGS, ROWS, NO_GROUPS, SAME_GROUP, SNAPSHOTS, IDS, REPORTS,
 ];

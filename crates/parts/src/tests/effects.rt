@@ -29,6 +29,120 @@ counts 1 2 2 2
 used 1 0 0 0
 has node 1 linux 1000 1000 0 down yes none 1";
 
+// A node that is not heard of is disconnected: what waits or runs on it is unknown, holds its name
+// and its room, and no job is touched. What ended stays as it ended. A report that it runs makes it
+// so again, and the node stays as it is.
+const AWAY: &str = "\
+take report 1 4.0:running
+take disconnect 1
+has node 1 linux 1000 1000 0 disconnected yes none 1
+has node 2 linux 1000 1000 0 ready yes none 2
+has allocation 4.0 web main 0 1 600 300 0 run unknown no 3.0
+has allocation 4.1 web main 1 2 600 300 0 run pending no 3.0
+has evaluation 3.0 web 50 pending 0
+counts 1 2 1 2
+used 1 600 300 0
+live 4.0
+take report 1 4.0:running
+has allocation 4.0 web main 0 1 600 300 0 run running no 3.0
+has node 1 linux 1000 1000 0 disconnected yes none 1
+counts 1 2 1 2
+used 1 600 300 0
+live 4.0
+take report 2 4.1:failed
+take disconnect 2
+has allocation 4.1 web main 1 2 600 300 0 run failed no 3.0
+has node 2 linux 1000 1000 0 disconnected yes none 8
+counts 1 2 2 2
+used 2 0 0 0";
+
+// What is unknown ends as what runs does: it gives room, and touches its job.
+const UNKNOWN_ENDS: &str = "\
+take disconnect 1
+has allocation 4.0 web main 0 1 600 300 0 run unknown no 3.0
+take report 1 4.0:complete
+has allocation 4.0 web main 0 1 600 300 0 run complete no 3.0
+has node 1 linux 1000 1000 0 disconnected yes none 6
+has evaluation 6.0 web 50 pending 0
+counts 1 2 2 2
+used 1 0 0 0
+dead 4.0
+take lose 1
+has allocation 4.0 web main 0 1 600 300 0 run complete no 3.0
+has node 1 linux 1000 1000 0 down yes none 6
+counts 1 2 2 2";
+
+// A disconnected node's loss: what was unknown is lost, its job is touched, and a late report that
+// it runs changes nothing.
+const UNKNOWN_LOST: &str = "\
+take report 1 4.0:running
+take disconnect 1
+take lose 1
+has allocation 4.0 web main 0 1 600 300 0 run lost no 3.0
+has node 1 linux 1000 1000 0 down yes none 1
+has evaluation 7.0 web 50 pending 0
+counts 1 2 2 2
+used 1 0 0 0
+dead 4.0
+take report 1 4.0:running
+has allocation 4.0 web main 0 1 600 300 0 run lost no 3.0
+has node 1 linux 1000 1000 0 down yes none 1
+counts 1 2 2 2
+force disconnect 1
+has allocation 4.0 web main 0 1 600 300 0 run lost no 3.0
+has node 1 linux 1000 1000 0 disconnected yes none 1
+counts 1 2 2 2
+used 1 0 0 0";
+
+// A node that comes back from being away is ready and has room; what is unknown stays so until it
+// is reported. A second time is as the first.
+const BACK_FROM_AWAY: &str = "\
+take disconnect 1
+take drain 1 slow
+has node 1 linux 1000 1000 0 disconnected no slow 1
+take join 1 linux 1000 1000 0
+has node 1 linux 1000 1000 0 ready no slow 7
+has allocation 4.0 web main 0 1 600 300 0 run unknown no 3.0
+used 1 600 300 0
+live 4.0
+counts 1 2 1 2
+take disconnect 1
+has node 1 linux 1000 1000 0 disconnected no slow 7
+has allocation 4.0 web main 0 1 600 300 0 run unknown no 3.0
+take join 1 linux 1000 1000 0
+take report 1 4.0:running
+has node 1 linux 1000 1000 0 ready no slow 9
+has allocation 4.0 web main 0 1 600 300 0 run running no 3.0
+counts 1 2 1 2";
+
+// What is to stop is unknown too; it holds nothing, and gives nothing when it ends or is lost. What
+// is unknown is stopped, and moved, as what runs is.
+const STOPPED_AWAY: &str = "\
+take plan 3.0 1.1 web 0 4.0 -
+take disconnect 1
+has allocation 4.0 web main 0 1 600 300 0 stop unknown no 3.0
+has node 1 linux 1000 1000 0 disconnected yes none 5
+used 1 0 0 0
+dead 4.0
+counts 1 2 1 2
+take lose 1
+has allocation 4.0 web main 0 1 600 300 0 stop lost no 3.0
+counts 1 2 1 2
+take drain 2 slow
+take disconnect 2
+take migrate 4.1
+has allocation 4.1 web main 1 2 600 300 0 run unknown yes 3.0
+has evaluation 10.0 web 50 pending 0
+has node 2 linux 1000 1000 0 disconnected no slow 2
+take plan 3.0 1.1 web 0 4.1 -
+has allocation 4.1 web main 1 2 600 300 0 stop unknown yes 3.0
+has node 2 linux 1000 1000 0 disconnected no slow 11
+used 2 0 0 0
+take report 2 4.1:complete
+has allocation 4.1 web main 1 2 600 300 0 stop complete yes 3.0
+has node 2 linux 1000 1000 0 disconnected no slow 11
+counts 1 2 2 2";
+
 // A report of running changes the state of the client alone; one of an end gives room, and touches
 // the job; one behind the end changes nothing.
 const ENDS: &str = "\
@@ -189,7 +303,7 @@ used 1 0 0 0
 has node 1 x 10 10 100 down yes none 4";
 
 // The loss of a node that has no row changes nothing but the count, even where an allocation names
-// it.
+// it; nor does it when such a node is disconnected.
 const NO_SUCH_NODE: &str = "\
 = state 7
 = rows 1
@@ -214,11 +328,29 @@ force lose 9
 = rows 2
 = allocation 3.0 web main 0 9 600 300 0 run running no 2.0
 = allocation 3.1 web main 1 1 600 300 0 run pending no 2.0
+same
+9 disconnect 9
+force disconnect 9
+= state 9
+= rows 1
+= job web 50 no 2 main:2:linux:600:300:0
+= rows 1
+= node 1 linux 1000 1000 0 ready yes none 1
+= rows 1
+= evaluation 2.0 web 50 pending 0
+= rows 2
+= allocation 3.0 web main 0 9 600 300 0 run running no 2.0
+= allocation 3.1 web main 1 1 600 300 0 run pending no 2.0
 same";
 
 /// The plays of effects, each from the empty state.
 pub(crate) const PLAYS: &[&[&str]] = &[
     &[TWO_NODES, LOSS],
+    &[TWO_NODES, AWAY],
+    &[TWO_NODES, UNKNOWN_ENDS],
+    &[TWO_NODES, UNKNOWN_LOST],
+    &[TWO_NODES, BACK_FROM_AWAY],
+    &[TWO_NODES, STOPPED_AWAY],
     &[TWO_NODES, ENDS],
     &[TWO_NODES, SAME_TWICE],
     &[TWO_NODES, STOPPED_ONES],

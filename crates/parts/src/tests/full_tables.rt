@@ -59,7 +59,7 @@ fork
 copies 1000 65
 counts 3 3 65536 65536";
 
-// What makes one more is refused; but first what is unknown, stopped, down, not live, or not to be
+// What makes one more is refused, and what makes none is not; but first what is unknown, stopped, down, not live, or not to be
 // moved; and only then a plan for a stopped job, or with a bad place.
 const FULL: &str = "\
 0 noop
@@ -73,6 +73,10 @@ const FULL: &str = "\
 9 lose 4
 19 lose 2
 13 lose 3
+9 disconnect 4
+19 disconnect 2
+0 disconnect 3
+0 disconnect 1
 0 drain 1 slow
 20 drained 3
 21 migrate 1.0,2000.0

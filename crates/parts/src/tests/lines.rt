@@ -19,6 +19,7 @@ eval 8 n
 status 9 es8
 plan 10 etn8AP
 report 11 1R
+disconnect 12 1
 offer - etn88AL
 kept - etn8APN
 state - 8
@@ -43,7 +44,7 @@ raw - 1111111111111111111111111111111111111111111111111111111111111111\
 
 // The words of fields of few values: yes or no (y), how a node is drained (f, and m in its row),
 // the statuses of evaluations (s), of reports (r) and of clients (c), what is desired (d), and
-// whether a node is up (u). Behind each field its number there.
+// a node's status (u). Behind each field its number there.
 const CHOICES: &str = "\
 no y0
 yes y1
@@ -56,10 +57,12 @@ complete s2r2c2
 failed s3r3c3
 running r1c1
 lost c4
+unknown c5
 run d0
 stop d1
 ready u0
-down u1";
+down u1
+disconnected u2";
 
 /// What stands behind a word and a space in a line of a table.
 pub(crate) fn look_up(table: &'static str, word: &str) -> Option<&'static str> {

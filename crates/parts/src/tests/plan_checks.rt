@@ -147,6 +147,24 @@ again
 take lose 2
 accept 9 offer 5.0 1.1 web 5 9 - side:0:2,side:1:1 = kept 5.0 1.1 web 9 - side:1:1:100:100:0 2";
 
+// A node that is disconnected takes nothing, and what is unknown on it holds its name until it is
+// stopped.
+const AWAY: &str = "\
+again
+take disconnect 1
+accept 9 offer 5.0 1.1 web 5 9 - side:0:2,side:1:1 = kept 5.0 1.1 web 9 - side:0:2:100:100:0 1
+accept 9 offer 5.0 1.1 web 5 9 - main:0:2 = kept 5.0 1.1 web 9 - - 2
+accept 9 offer 5.0 1.1 web 5 9 7.0 main:0:2 = kept 5.0 1.1 web 9 7.0 main:0:2:600:300:0 -
+accept 9 offer 5.0 1.1 web 5 9 7.0 main:0:1 = kept 5.0 1.1 web 9 7.0 - 1
+take lose 1
+accept 10 offer 5.0 1.1 web 5 10 7.0 main:0:2 = kept 5.0 1.1 web 10 - main:0:2:600:300:0 -
+take join 1 linux 1000 1000 0
+take disconnect 2
+accept 12 offer 5.0 1.1 web 5 12 - side:0:1,side:1:2 = kept 5.0 1.1 web 12 - side:0:1:100:100:0 2
+take join 2 linux 1000 1000 0
+accept 13 offer 5.0 1.1 web 5 13 - main:1:2,side:1:2 = kept 5.0 1.1 web 13 - - 2
+accept 13 offer 5.0 1.1 web 5 13 - main:1:2 = kept 5.0 1.1 web 13 - main:1:2:600:300:0 -";
+
 // A name that is live twice, and a node past its size: states that no log makes.
 const UNSAFE: &str = "\
 again
@@ -165,7 +183,7 @@ pub(crate) const PLAYS: &[&[&str]] = &[
     &[FULL_USE],
     &[ONE_MORE_IN_USE],
     &[DISK],
-    &[BASE, REFUSALS, STOPS, NAMES, ROOM, NODES, UNSAFE],
+    &[BASE, REFUSALS, STOPS, NAMES, ROOM, NODES, AWAY, UNSAFE],
 ];
 
 /// Whether this is kept of a plan, behind the least index that its delivery allows and the plan's

@@ -13,7 +13,7 @@ use std::alloc::Global;
 use wire::{Body, Kind, Message, read_message, write_message};
 
 /// The version that frames have, and their first byte.
-const V: u8 = 2;
+const V: u8 = 3;
 
 /// What is no fault of the bytes: memory was wanting, or the message that is read is written
 /// otherwise.
@@ -37,6 +37,7 @@ enum Of {
     Pull,
     List,
     NoneListed,
+    UnknownListed,
     Report,
     Taken,
     ReportRefused,
@@ -120,6 +121,12 @@ const NONE_LISTED: &[u8] = &[
     V, 17, 5, 192, 0, 0, 0, 12, 0, 0, 0, 0, 0, 0, 0, 0, 0, 0, 0, 0,
 ];
 
+// 8.1 of 600, 300 and disk 0 is unknown.
+const UNKNOWN_LISTED: &[u8] = &[
+    V, 17, 1, 129, 0, 0, 0, 34, 0, 0, 0, 0, 0, 0, 0, 9, 0, 0, 0, 1, //
+    0, 0, 0, 0, 0, 0, 0, 8, 1, 0, 0, 2, 88, 0, 0, 1, 44, 0, 0, 0, 0, 2,
+];
+
 // So many are said to be listed as are allowed, and none is there.
 const MOST_LISTED: &[u8] = &[
     V, 17, 1, 129, 0, 0, 0, 12, 0, 0, 0, 0, 0, 0, 0, 0, 0, 1, 0, 0,
@@ -199,6 +206,12 @@ const ROWS: &[Row] = &[
         &[8, 16, 20, 28, 29, 33, 37, 41, 42, 50, 51, 55, 59, 63],
     ),
     (Of::NoneListed, Kind::List, NONE_LISTED, &[8, 16]),
+    (
+        Of::UnknownListed,
+        Kind::List,
+        UNKNOWN_LISTED,
+        &[8, 16, 20, 28, 29, 33, 37, 41],
+    ),
     (
         Of::Report,
         Kind::Report,
@@ -288,10 +301,11 @@ const CHANGES: &[Change] = &[
     (HEARTBEAT, 0, 0, 0),
     (HEARTBEAT, 7, 1, 4),
     (PULL, 0, 1, 0),
+    (PULL, 0, 2, 0),
     (PULL, 4, 1, 4),
     (LIST, 0, 4, 0),
     (LIST, 7, 55, 4),
-    (REPORT, 0, 1, 0),
+    (REPORT, 0, 2, 0),
     (REPORT, 7, 32, 4),
     // An evaluation for a worker: the option's tag, the evaluation, the token, the index.
     (DELIVERED, 8, 2, 8),
@@ -425,7 +439,8 @@ const CHANGES: &[Change] = &[
     (LIST, 37, 1, 37),
     (LIST, 40, 1, NONE),
     (LIST, 41, 1, NONE),
-    (LIST, 41, 2, 41),
+    (LIST, 41, 2, NONE),
+    (LIST, 41, 3, 41),
     (LIST, 44, 1, 42),
     (LIST, 49, 0, 42),
     (LIST, 49, 7, 42),
@@ -439,9 +454,14 @@ const CHANGES: &[Change] = &[
     (LIST, 62, 63, NONE),
     (LIST, 62, 65, 59),
     (LIST, 63, 0, NONE),
-    (LIST, 63, 2, 63),
+    (LIST, 63, 2, NONE),
+    (LIST, 63, 3, 63),
     (LIST, 63, 255, 63),
     (NONE_LISTED, 19, 1, 20),
+    (UNKNOWN_LISTED, 41, 0, NONE),
+    (UNKNOWN_LISTED, 41, 1, NONE),
+    (UNKNOWN_LISTED, 41, 3, 41),
+    (UNKNOWN_LISTED, 41, 5, 41),
     // What an agent reports: 1 to 64 items.
     (REPORT, 8, 0, 8),
     (REPORT, 8, 1, 19),
@@ -616,6 +636,13 @@ fn listing_of(alloc: Global) -> Option<Listing> {
     Listing::check(rows).ok()
 }
 
+fn unknown_of(alloc: Global) -> Option<Listing> {
+    let mut rows = Sequence::new(alloc);
+    rows.push(row_of(1, (600, 300, 0), LiveState::Unknown)?)
+        .ok()?;
+    Listing::check(rows).ok()
+}
+
 fn reports_of(alloc: Global) -> Option<Reports> {
     let mut items = Sequence::new(alloc);
     for (slot, state) in [
@@ -637,6 +664,7 @@ fn agent_body(alloc: Global, of: Of) -> Option<Body<Tally>> {
             let rows = Listing::check(Sequence::new(alloc)).ok()?;
             Some(Body::List(Index::ZERO, rows))
         }
+        Of::UnknownListed => Some(Body::List(Index::new(9)?, unknown_of(alloc)?)),
         Of::Report => Some(Body::Report(reports_of(alloc)?)),
         _ => None,
     }
@@ -657,7 +685,7 @@ fn body_of(alloc: Global, of: Of) -> Option<Body<Tally>> {
         }
         Of::Heartbeat => Some(Body::Heartbeat),
         Of::Pull => Some(Body::Pull),
-        Of::List | Of::NoneListed | Of::Report => agent_body(alloc, of),
+        Of::List | Of::NoneListed | Of::UnknownListed | Of::Report => agent_body(alloc, of),
         Of::Taken => Some(Body::Told(ClientRequestKind::Register, None)),
         Of::ReportRefused => {
             let why = Reason::NotLeader(Leader::new(None));
@@ -767,7 +795,7 @@ fn is_longest_read(alloc: Global) -> bool {
         && bytes.len() == 1_441_812
         && fault_of(alloc, &bytes) == NONE;
     if let Some(byte) = bytes.get_mut(1_441_811) {
-        *byte = 2;
+        *byte = 3;
     }
     whole && fault_of(alloc, &bytes) == 1_441_811
 }

@@ -1,6 +1,6 @@
 //! Texts of the replicated state, put together by hand from the format: an empty one, a small one,
-//! and one of greatest values; and texts of the first version. And each call of it that may lack
-//! memory, with enough of it.
+//! one of a node that is away, and one of greatest values; and texts of older versions. And each
+//! call of it that may lack memory, with enough of it.
 
 // The empty state, as both calls make it.
 const EMPTY: &str = "\
@@ -54,6 +54,73 @@ fork
 used 1 600 300 50
 live 3.0
 lists";
+
+// A state whose one node is disconnected, so that what was to run on it is unknown; and that text,
+// read.
+const AWAY: &str = "\
+take join 1 x 1000 2000 100
+take put w 50 g:2:x:600:300:50
+take plan 2.0 1.1 w 0 - g:0:1:600:300:50
+take disconnect 1
+= raw 0 0 0 0 0 0 0 4
+= raw 0 0 0 1
+= raw 1 119 50 0 0 0 0 0 0 0 0 2 1 1 103 2 1 120 0 0 2 88 0 0 1 44 0 0 0 50
+= raw 0 0 0 1
+= raw 1 1 120 0 0 3 232 0 0 7 208 0 0 0 100 2 1 0 0 0 0 0 0 0 0 1
+= raw 0 0 0 1
+= raw 0 0 0 0 0 0 0 2 0 0 1 119 50 0 0 0 0 0 0 0 0 0
+= raw 0 0 0 1
+= raw 0 0 0 0 0 0 0 3 0 1 119 1 103 0 1 0 0 2 88 0 0 1 44 0 0 0 50 0 5 0 0 0 0 0 0 0 0 2 0 0
+same
+= state 4
+= rows 1
+= job w 50 no 2 g:2:x:600:300:50
+= rows 1
+= node 1 x 1000 2000 100 disconnected yes none 1
+= rows 1
+= evaluation 2.0 w 50 pending 0
+= rows 1
+= allocation 3.0 w g 0 1 600 300 50 run unknown no 2.0
+load
+fork
+used 1 600 300 50
+live 3.0
+lists";
+
+// In the second version, whose texts have the same fields, no node is disconnected and no
+// allocation is unknown: its text is at fault at the first of them. Without them it is read, and is
+// the same today.
+const SECOND: &str = "\
+= state 4
+= rows 1
+= job w 50 no 2 g:2:x:600:300:50
+= rows 1
+= node 1 x 1000 2000 100 disconnected yes none 1
+= rows 1
+= evaluation 2.0 w 50 pending 0
+= rows 1
+= allocation 3.0 w g 0 1 600 300 50 run unknown no 2.0
+length 142
+old-fault 2 61
+set 61 3
+old-fault 2 61
+set 61 1
+old-fault 2 130
+set 130 6
+old-fault 2 130
+set 130 4
+old-load 2
+used 1 0 0 0
+= state 4
+= rows 1
+= job w 50 no 2 g:2:x:600:300:50
+= rows 1
+= node 1 x 1000 2000 100 down yes none 1
+= rows 1
+= evaluation 2.0 w 50 pending 0
+= rows 1
+= allocation 3.0 w g 0 1 600 300 50 run lost no 2.0
+same";
 
 // A state of the greatest values of its fields, none of whose rows names another: nodes,
 // evaluations and allocations.
@@ -110,7 +177,7 @@ byte 44 1 42
 byte 46 0 46
 byte 46 65 46
 byte 57 1 57
-byte 61 2 61
+byte 61 3 61
 byte 62 2 62
 byte 63 3 63
 byte 66 1 64
@@ -129,13 +196,13 @@ byte 116 0 116
 byte 117 1 117
 byte 125 1 125
 byte 129 2 129
-byte 130 5 130
+byte 130 6 130
 byte 131 2 131
 byte 140 1 140
 clear";
 
 // The small state in the first version, which says nothing of disk: each disk is 0. Cut, it is
-// refused at the field that is cut.
+// refused at the field that is cut. Nor is a node disconnected there, or an allocation unknown.
 const OLD: &str = "\
 = raw 0 0 0 0 0 0 0 5
 = raw 0 0 0 1
@@ -147,7 +214,7 @@ const OLD: &str = "\
 = raw 0 0 0 1
 = raw 0 0 0 0 0 0 0 3 0 1 119 1 103 0 1 0 0 2 88 0 0 1 44 0 1 0 0 0 0 0 0 0 0 2 0 0
 length 130
-old-load
+old-load 1
 applied 5
 used 1 600 300 0
 = state 5
@@ -163,8 +230,23 @@ same
 = raw 0 0 0 0 0 0 0 5
 = raw 0 0 0 1
 = raw 1 119 50 0 0 0 0 0 0 0 0 2 1 1 103 2 1 120 0 0 2 88 0 0 1
-old-fault 34
-clear";
+old-fault 1 34
+clear
+= raw 0 0 0 0 0 0 0 5
+= raw 0 0 0 1
+= raw 1 119 50 0 0 0 0 0 0 0 0 2 1 1 103 2 1 120 0 0 2 88 0 0 1 44
+= raw 0 0 0 1
+= raw 1 1 120 0 0 3 232 0 0 7 208 2 1 0 0 0 0 0 0 0 0 1
+= raw 0 0 0 1
+= raw 0 0 0 0 0 0 0 2 0 0 1 119 50 0 0 0 0 0 0 0 0 0
+= raw 0 0 0 1
+= raw 0 0 0 0 0 0 0 3 0 1 119 1 103 0 1 0 0 2 88 0 0 1 44 0 5 0 0 0 0 0 0 0 0 2 0 0
+old-fault 1 53
+set 53 0
+old-fault 1 118
+set 118 1
+old-load 1
+used 1 600 300 0";
 
 // In a text of the first version bytes of disk are the next fields, and the last bytes are left
 // over. Without them a text of today is cut.
@@ -175,7 +257,7 @@ const OLD_WITH_DISK: &str = "\
 = rows 0
 = rows 0
 = rows 0
-old-fault 50
+old-fault 1 50
 load
 = state 1
 = rows 1
@@ -184,7 +266,7 @@ load
 = rows 0
 = rows 0
 fault 50
-old-load
+old-load 1
 = state 1
 = rows 1
 = job w 50 no 1 g:2:x:600:300:0
@@ -287,6 +369,8 @@ pub(crate) const PLAYS: &[&[&str]] = &[
     &[EMPTY],
     &[SMALL],
     &[SMALL_READ],
+    &[AWAY],
+    &[SECOND],
     &[GREAT],
     &[SMALL_TEXT, ORDERS, LONGER_TABLES],
     &[OLD, OLD_WITH_DISK],

@@ -36,8 +36,9 @@ struct Bench<M: Machine> {
 /// `cuts N N ..`: cut anywhere between two neighbours it is refused at the first. `command N`: it
 /// begins with a command of N bytes. `bad N`: it begins with none, and is at fault at byte N.
 ///
-/// As a text of the first version: `old-load`: the state is that of the text. `old-fault N`: it is
-/// refused at byte N. `old-command LINE`: it is, but for its last byte, the command of the line.
+/// As a text of an older version V: `old-load V`: the state is that of the text. `old-fault V N`:
+/// it is refused at byte N. `old-command V LINE`: it is, but for its last byte, the command of the
+/// line. `old-bad V N`: it begins with none, and is at fault at byte N.
 ///
 /// Other lines are of the machine's own, as `Played::holds` says.
 pub(crate) fn play<M: Played>(rt: &impl Abort, alloc: Global, state: M, tables: &[&str]) {
@@ -92,6 +93,7 @@ is-at T
 old-load x
 old-fault g
 old-command v
+old-bad j
 broker B
 blocked Z
 heartbeats H
@@ -124,7 +126,7 @@ fn turn<M: Played>(bench: &mut Bench<M>, line: &str) -> bool {
             &bench.kept,
         ),
         'l' => load(bench),
-        'x' => load_old(bench),
+        'x' => load_old(bench, rest),
         's' => is_same(bench),
         'h' => has(bench, rest),
         't' | 'f' => takes(bench, rest, verb == 'f'),
@@ -209,8 +211,13 @@ fn load<M: Machine>(bench: &mut Bench<M>) -> bool {
     ) && is_same(bench)
 }
 
-fn load_old<M: Machine>(bench: &mut Bench<M>) -> bool {
-    let is_read = match Version::new(1) {
+// The version of a number.
+fn version_of(word: &str) -> Option<Version> {
+    Version::new(word.parse::<u8>().unwrap_or(0))
+}
+
+fn load_old<M: Machine>(bench: &mut Bench<M>, word: &str) -> bool {
+    let is_read = match version_of(word) {
         Some(version) => restore(&mut bench.state, version, bench.alloc, &bench.text),
         None => false,
     };
@@ -261,8 +268,9 @@ fn texts<M: Played>(bench: &mut Bench<M>, verb: char, words: &str) -> bool {
         'n' => bench.text.len() == first,
         'p' => set(&mut bench.text, first, second) < 256,
         'w' => fault_of::<M>(Version::newest(), bench.alloc, &bench.text) == first,
-        'g' => old_fault_of::<M>(bench.alloc, &bench.text) == Some(first),
+        'g' => is_old_fault::<M>(bench.alloc, &bench.text, words),
         'v' => is_old_command(bench, words),
+        'j' => is_old_bad(bench, words),
         'b' => {
             let old = set(&mut bench.text, first, second);
             fault_of::<M>(Version::newest(), bench.alloc, &bench.text) == third
@@ -270,7 +278,7 @@ fn texts<M: Played>(bench: &mut Bench<M>, verb: char, words: &str) -> bool {
         }
         'e' => is_refused_cut(bench, words),
         'o' | 'd' => {
-            let found = command_of::<M>(bench.alloc, &bench.text, verb == 'd');
+            let found = command_of::<M>(Version::newest(), bench.alloc, &bench.text, verb == 'd');
             bench.text.clear();
             found == first
         }
@@ -310,15 +318,32 @@ fn fault_of<M: Machine>(version: Version, alloc: Global, text: &[u8]) -> usize {
     }
 }
 
-// Where it is at fault as a text of the first version.
-fn old_fault_of<M: Machine>(alloc: Global, text: &[u8]) -> Option<usize> {
-    Some(fault_of::<M>(Version::new(1)?, alloc, text))
+// Whether it is at fault at a place as a text of an older version; the words say which, and where.
+fn is_old_fault<M: Machine>(alloc: Global, text: &[u8], words: &str) -> bool {
+    let (number, place) = words.split_once(' ').unwrap_or((words, ""));
+    match version_of(number) {
+        Some(version) => place.parse() == Ok(fault_of::<M>(version, alloc, text)),
+        None => false,
+    }
+}
+
+// Whether it begins with no command of an older version, and is at fault at a place.
+fn is_old_bad<M: Machine>(bench: &mut Bench<M>, words: &str) -> bool {
+    let (number, place) = words.split_once(' ').unwrap_or((words, ""));
+    let is_it = match version_of(number) {
+        Some(version) => {
+            place.parse() == Ok(command_of::<M>(version, bench.alloc, &bench.text, true))
+        }
+        None => false,
+    };
+    bench.text.clear();
+    is_it
 }
 
 // How many bytes the command has that a text begins with, which is written so again; or where the
 // text is at fault.
-fn command_of<M: Machine>(alloc: Global, text: &[u8], is_bad: bool) -> usize {
-    match M::read_command(Version::newest(), alloc, text) {
+fn command_of<M: Machine>(version: Version, alloc: Global, text: &[u8], is_bad: bool) -> usize {
+    match M::read_command(version, alloc, text) {
         Ok((command, size)) if !is_bad => {
             match text.get(..size) {
                 Some(part) if is_written::<M>(&command, alloc, part) => size,
@@ -330,11 +355,12 @@ fn command_of<M: Machine>(alloc: Global, text: &[u8], is_bad: bool) -> usize {
     }
 }
 
-// Whether the text, but for its last byte, is a command of the first version, and is written as the
-// line's.
-fn is_old_command<M: Machine>(bench: &mut Bench<M>, line: &str) -> bool {
+// Whether the text, but for its last byte, is a command of an older version, and is written as the
+// line's; the words say which version, and the line.
+fn is_old_command<M: Machine>(bench: &mut Bench<M>, words: &str) -> bool {
+    let (number, line) = words.split_once(' ').unwrap_or((words, ""));
     bench.bytes.clear();
-    let Some(version) = Version::new(1) else {
+    let Some(version) = version_of(number) else {
         return false;
     };
     if !put_line(&mut bench.bytes, line) {

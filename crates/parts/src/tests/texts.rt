@@ -178,7 +178,7 @@ fn is_read(alloc: Global, text: &Text) -> bool {
         && (at != 1 || place != NONE || is_refused_cut(alloc, of, bytes))
 }
 
-/// What is read as of the first version.
+/// What is read as of an older version.
 #[derive(Clone, Copy)]
 enum Old {
     Size,
@@ -193,7 +193,7 @@ enum Old {
 }
 
 /// What is read as of the first version, its bytes there, and those of the same value today: each
-/// size says nothing of disk there, and has disk 0.
+/// size says nothing of disk there, and has disk 0. They are its bytes in the second version too.
 type OldText = (Old, &'static [u8], &'static [u8]);
 
 const OLD: &[OldText] = &[
@@ -262,9 +262,80 @@ const OLD: &[OldText] = &[
     ),
 ];
 
-/// Whether these are the bytes of a value in the first version, and the others those of today.
-fn is_same<F: Field>(alloc: Global, bytes: &[u8], newest: &[u8]) -> bool {
-    let Some(version) = Version::new(1) else {
+/// What is read as of a version, its number, the bytes, and where they are at fault.
+type NewText = (Old, u8, &'static [u8], usize);
+
+// No node is disconnected, no allocation is unknown and no command is the last one before the third
+// version: a text that says so is at fault there, also where what follows is cut.
+const NEW: &[NewText] = &[
+    (Old::Node, 1, AWAY_IN_FIRST, 11),
+    (Old::Node, 2, AWAY, 15),
+    (Old::Node, 3, AWAY, NONE),
+    (Old::Allocation, 1, UNKNOWN_IN_FIRST, 24),
+    (Old::Allocation, 2, UNKNOWN, 28),
+    (Old::Allocation, 3, UNKNOWN, NONE),
+    (Old::Command, 1, &[12, 9], 0),
+    (Old::Command, 2, &[12, 9], 0),
+    (Old::Command, 2, &[12], 0),
+    (Old::Command, 3, &[12, 9], NONE),
+    (Old::Command, 3, &[12], 1),
+    (Old::Command, 3, &[13], 0),
+];
+
+// Node 1 of class x, 1000 and 2000, which is disconnected, in the first version and today.
+const AWAY_IN_FIRST: &[u8] = &[
+    1, 1, 120, 0, 0, 3, 232, 0, 0, 7, 208, 2, 1, 0, 0, 0, 0, 0, 0, 0, 0, 1,
+];
+
+const AWAY: &[u8] = &[
+    1, 1, 120, 0, 0, 3, 232, 0, 0, 7, 208, 0, 0, 0, 0, 2, 1, 0, 0, 0, 0, 0, 0, 0, 0, 1,
+];
+
+// Allocation 3.0 on it, which is unknown, in the first version and today.
+const UNKNOWN_IN_FIRST: &[u8] = &[
+    0, 0, 0, 0, 0, 0, 0, 3, 0, 1, 119, 1, 103, 0, 1, 0, 0, 2, 88, 0, 0, 1, 44, 0, 5, 0, 0, 0, 0, 0,
+    0, 0, 0, 2, 0, 0,
+];
+
+const UNKNOWN: &[u8] = &[
+    0, 0, 0, 0, 0, 0, 0, 3, 0, 1, 119, 1, 103, 0, 1, 0, 0, 2, 88, 0, 0, 1, 44, 0, 0, 0, 0, 0, 5, 0,
+    0, 0, 0, 0, 0, 0, 0, 2, 0, 0,
+];
+
+/// Where bytes are at fault as a field of a version; nowhere where the value that is read is
+/// written as these bytes.
+fn fault_in<F: Field>(version: u8, alloc: Global, bytes: &[u8]) -> usize {
+    let Some(version) = Version::new(version) else {
+        return WRONG;
+    };
+    match F::read_at(version, alloc, bytes, 0) {
+        Err(Refusal::Frame(place)) => place,
+        Err(_) => WRONG,
+        Ok((value, end)) => {
+            let mut again = Vec::new(alloc);
+            let written = fields::write(&value, &mut again);
+            if written.is_ok() && end == bytes.len() && again.as_slice() == bytes {
+                NONE
+            } else {
+                WRONG
+            }
+        }
+    }
+}
+
+fn is_new(alloc: Global, text: &NewText) -> bool {
+    let (of, version, bytes, place) = *text;
+    match of {
+        Old::Node => fault_in::<Node>(version, alloc, bytes) == place,
+        Old::Allocation => fault_in::<Allocation>(version, alloc, bytes) == place,
+        Old::Command => fault_in::<Command>(version, alloc, bytes) == place,
+        _ => false,
+    }
+}
+
+/// Whether these are the bytes of a value in a version, and the others those of today.
+fn is_read_in<F: Field>(version: u8, alloc: Global, bytes: &[u8], newest: &[u8]) -> bool {
+    let Some(version) = Version::new(version) else {
         return false;
     };
     match F::read_at(version, alloc, bytes, 0) {
@@ -275,6 +346,12 @@ fn is_same<F: Field>(alloc: Global, bytes: &[u8], newest: &[u8]) -> bool {
         }
         Err(_) => false,
     }
+}
+
+/// Whether these are the bytes of a value in the first version, and the others those of the second
+/// and of today.
+fn is_same<F: Field>(alloc: Global, bytes: &[u8], newest: &[u8]) -> bool {
+    is_read_in::<F>(1, alloc, bytes, newest) && is_read_in::<F>(2, alloc, newest, newest)
 }
 
 fn is_old(alloc: Global, text: &OldText) -> bool {
@@ -299,5 +376,8 @@ fn reads_texts(rt: HostRuntime) {
     }
     for (number, text) in OLD.iter().enumerate() {
         assert!(rt; is_old(rt.alloc(), text), "old text {number}");
+    }
+    for (number, text) in NEW.iter().enumerate() {
+        assert!(rt; is_new(rt.alloc(), text), "new text {number}");
     }
 }

@@ -49,6 +49,43 @@ again
 take lose 1
 plans 6.0 6 : planned - - 4 6 no";
 
+// What is unknown is current: while its node is disconnected nothing of it is placed elsewhere, and
+// nothing new on that node. When the node is lost, it is; when the node is back, it takes more.
+const AWAY: &str = "\
+take noop
+take join 1 linux 1000 1000 0
+take join 2 linux 1000 1000 0
+take put web 50 main:2:linux:400:300:0
+take plan 4.0 1.1 web 4 - main:0:1:400:300:0,main:1:1:400:300:0
+take report 1 5.0:running
+take disconnect 1
+plans 4.0 7 : planned - - 4 7 yes
+work 7 1 placed 4.0 5 : finish 4.0 1.1 complete 0
+keep
+take put web 50 main:3:linux:400:300:0
+plans 8.0 8 : planned - main:2:2 8 8 yes
+again
+take put web 50 main:1:linux:400:300:0
+plans 8.0 8 : planned 5.1 - 8 8 yes
+again
+take put web 50 main:2:linux:500:300:0
+plans 8.0 8 : planned 5.0,5.1 main:0:2,main:1:2 8 8 yes
+again
+take put web 50 main:2:linux:501:300:0
+plans 8.0 8 : planned 5.0 main:0:2 8 8 no
+again
+take lose 1
+plans 8.0 8 : planned - main:0:2,main:1:2 4 8 yes
+again
+take join 1 linux 1000 1000 0
+take put web 50 main:4:linux:100:100:0
+plans 9.0 9 : planned 5.0,5.1 main:0:1,main:1:1,main:2:1,main:3:1 9 9 yes
+again
+take disconnect 2
+take put api 50 main:1:linux:1:1:0
+plans 9.0 9 : planned - - 9 9 no
+work 9 0 delivered 9.0 9 : finish 9.0 1.1 blocked 9";
+
 // Which node: the one that gets fullest by cpu and memory, then the lower number.
 const BEST: &str = "\
 take noop
@@ -129,7 +166,7 @@ work 0 0 refused finish 6 : nothing
 work 0 0 refused nack 7 : nothing
 work 0 0 refused take 17 : nothing";
 
-pub(crate) const PLAYS: &[&[&str]] = &[&[REPLACED], &[BEST], &[DISK], &[STEPS]];
+pub(crate) const PLAYS: &[&[&str]] = &[&[REPLACED], &[AWAY], &[BEST], &[DISK], &[STEPS]];
 
 /// Whether what the words say of a worker over the state holds, behind the word of this letter.
 pub(crate) fn holds(state: &Cluster, alloc: Global, verb: char, words: &str) -> bool {

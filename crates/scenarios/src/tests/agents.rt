@@ -113,6 +113,17 @@ const LIST_11: &[u8] = &[
     0, 0, 0, 0, 0, 0, 0, 8, 0, 0, 0, 2, 88, 0, 0, 1, 44, 0, 0, 0, 0, 0,
 ];
 
+// Of server 1, index 9 and 10: 8.0 is unknown.
+const LIST_9_UNKNOWN: &[u8] = &[
+    V, 17, 1, 129, 0, 0, 0, 34, 0, 0, 0, 0, 0, 0, 0, 9, 0, 0, 0, 1, //
+    0, 0, 0, 0, 0, 0, 0, 8, 0, 0, 0, 2, 88, 0, 0, 1, 44, 0, 0, 0, 0, 2,
+];
+
+const LIST_10_UNKNOWN: &[u8] = &[
+    V, 17, 1, 129, 0, 0, 0, 34, 0, 0, 0, 0, 0, 0, 0, 10, 0, 0, 0, 1, //
+    0, 0, 0, 0, 0, 0, 0, 8, 0, 0, 0, 2, 88, 0, 0, 1, 44, 0, 0, 0, 0, 2,
+];
+
 // The first of them by server 4, for client 2, without its last byte, and with 8.0 twice.
 const LIST_OF_4: &[u8] = &[
     V, 17, 4, 129, 0, 0, 0, 34, 0, 0, 0, 0, 0, 0, 0, 9, 0, 0, 0, 1, //
@@ -282,6 +293,20 @@ const STARTS_ONCE: &[Turn] = &[
     ),
 ];
 
+// What is listed as unknown is as any other: it starts once, runs on, and is reported as what it
+// is.
+const UNKNOWN_ONES: &[Turn] = &[
+    (Hear(LIST_9_UNKNOWN), TAKEN, RUNS, HAS_8),
+    (Hear(LIST_9_OF_3), TAKEN, NONE, HAS_8),
+    (Hear(LIST_9_UNKNOWN), TAKEN, RUNS, HAS_8),
+    (End((8, 0), true), TAKEN, NONE, (Some((9, &[])), &[(8, 0)])),
+    (Hear(LIST_10_UNKNOWN), TAKEN, IS_COMPLETE, HAD_8),
+    (Hear(LIST_9_UNKNOWN), TAKEN, NONE, HAD_8),
+    (Crash, TAKEN, NONE, (None, &[(8, 0)])),
+    (Restart, TAKEN, NONE, (Some((0, &[])), &[(8, 0)])),
+    (Hear(LIST_10_UNKNOWN), TAKEN, HAS_FAILED, HAD_8),
+];
+
 // What is not listed any more stops, and does not start again.
 const STOPS: &[Turn] = &[
     (Hear(LIST_OF_FOUR), TAKEN, TWO_RUN, BOTH_RUN),
@@ -396,6 +421,7 @@ const FILLS_ITS_DISK: &[Turn] = &[
 const PLAYS: &[((u32, u32), &[Turn])] = &[
     ((2000, 7), ASKS_AND_HEARS),
     ((1000, 0), STARTS_ONCE),
+    ((1000, 0), UNKNOWN_ONES),
     ((1000, 0), STOPS),
     ((1000, 0), ENDS),
     ((1000, 100), FILLS_ITS_DISK),

@@ -5,7 +5,7 @@ use std::alloc::Global;
 use wire::{read_message, write_message};
 
 /// The version that frames have, and their first byte.
-pub(crate) const V: u8 = 2;
+pub(crate) const V: u8 = 3;
 
 /// No fault: the bytes are the frame of the message that is read.
 const NONE: usize = usize::MAX;

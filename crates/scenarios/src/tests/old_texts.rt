@@ -1,8 +1,9 @@
-//! A state that was stored in the first version, which says nothing of disk, as it is read today.
+//! A state that was stored in the first version, which says nothing of disk, as it is read today;
+//! and in the second, in which no node is disconnected.
 use cluster_model::{old_commands_have_no_disk, old_states_stay_safe};
 use fsm_state::Cluster;
 use machine::Machine;
-use rows::{AllocId, Command, EntryIndex, NodeId, Ordinal, Version};
+use rows::{AllocId, Command, EntryIndex, NodeId, Ordinal, Refusal, Version};
 use std::alloc::Global;
 
 /// The state of server 1 where the compacted long row ends, in the first version, as another
@@ -21,6 +22,14 @@ const STATE: &[u8] = &[
 
 /// The command of that row's second entry in the first version: node 1, `linux` 1000 1000.
 const JOINS: &[u8] = &[3, 1, 5, 108, 105, 110, 117, 120, 0, 0, 3, 232, 0, 0, 3, 232];
+
+/// The same in the second version, with disk 0; and the command of a later row: node 1 is
+/// disconnected.
+const JOINS_IN_SECOND: &[u8] = &[
+    3, 1, 5, 108, 105, 110, 117, 120, 0, 0, 3, 232, 0, 0, 3, 232, 0, 0, 0, 0,
+];
+
+const DISCONNECTS: &[u8] = &[12, 1];
 
 // What lives on a node takes 600 of it and 300, and no disk.
 fn is_used(state: &Cluster, number: u8) -> bool {
@@ -61,11 +70,44 @@ fn is_command_read(alloc: Global, version: Version) -> Option<bool> {
     }
 }
 
+// A state of the second version is the same today, where node 1 may be disconnected, as it says at
+// byte 74: there it may not.
+fn is_second_read(alloc: Global, first: Version, second: Version) -> Option<bool> {
+    let state = Cluster::load(first, alloc, STATE).ok()?;
+    let (mut text, mut again) = (Vec::new(alloc), Vec::new(alloc));
+    state.save(&mut text).ok()?;
+    let same = Cluster::load(second, alloc, &text).ok()?;
+    same.save(&mut again).ok()?;
+    *text.get_mut(74)? = 2;
+    let is_away = match Cluster::load(Version::newest(), alloc, &text) {
+        Ok(state) => is_used(&state, 1) && is_used(&state, 2),
+        Err(_) => false,
+    };
+    let is_refused = Cluster::load(second, alloc, &text).err() == Some(Refusal::Frame(74));
+    *text.get_mut(74)? = 0;
+    Some(again == text && is_away && is_refused)
+}
+
+fn are_second_commands_read(alloc: Global, second: Version) -> Option<bool> {
+    let (command, size) = Cluster::read_command(second, alloc, JOINS_IN_SECOND).ok()?;
+    let is_join = matches!(command, Command::NodePut(_)) && size == JOINS_IN_SECOND.len();
+    let is_refused = Cluster::read_command(second, alloc, DISCONNECTS).err()
+        == Some(Refusal::Frame(0));
+    let (command, size) = Cluster::read_command(Version::newest(), alloc, DISCONNECTS).ok()?;
+    let is_known = match command {
+        Command::Disconnect(node) => node.number() == 1 && size == 2,
+        _ => false,
+    };
+    Some(is_join && is_refused && is_known)
+}
+
 #[test]
 fn an_old_state_is_read(rt: HostRuntime) {
-    let Some(version) = Version::new(1) else {
+    let (Some(first), Some(second)) = (Version::new(1), Version::new(2)) else {
         panic!(rt; "no such version")
     };
-    assert!(rt; is_read(rt.alloc(), version) == Some(true));
-    assert!(rt; is_command_read(rt.alloc(), version) == Some(true));
+    assert!(rt; is_read(rt.alloc(), first) == Some(true));
+    assert!(rt; is_command_read(rt.alloc(), first) == Some(true));
+    assert!(rt; is_second_read(rt.alloc(), first, second) == Some(true));
+    assert!(rt; are_second_commands_read(rt.alloc(), second) == Some(true));
 }
