@@ -9,4 +9,3 @@ pub mod NameLaws
 pub mod PlanLaws
 pub mod AfterLaws
 pub mod ClusterMachine
-mod OldTexts

@@ -4,6 +4,5 @@ pub mod SafeFacts
 pub mod Effect
 pub mod Admission
 pub mod Plans
-pub mod OldTexts
 pub mod ClusterMachine
 pub mod Worked

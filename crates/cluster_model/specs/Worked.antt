@@ -3,6 +3,4 @@ pub mod Losses
 pub mod Moves
 pub mod Drains
 pub mod Refusals
-pub mod Disks
 pub mod Ends
-pub mod Absences

@@ -14,9 +14,6 @@ use transcript::{Transcript, read};
 use wire::Frames;
 use world::{Done, Event, World};
 
-/// The version that frames have, and their first byte.
-pub(crate) const V: u8 = 3;
-
 // Where server 1 of the long row crashes at its end: with its snapshot, without one, and with one
 // behind which an entry stands.
 const STORED: [&str; 3] = ["compacted", "whole", "behind-a-snapshot"];
@@ -31,8 +28,7 @@ struct Apart {
     text: Vec<u8>,
 }
 
-/// Nothing is sent yet.
-pub(crate) fn no_output(alloc: Global) -> Outbox {
+fn no_output(alloc: Global) -> Outbox {
     Outbox {
         frames: Frames::new(alloc),
         work: Sequence::new(alloc),
@@ -234,7 +230,7 @@ fn sixth_state(alloc: Global, row: &Transcript) -> Option<Vec<u8>> {
 fn frame_of(alloc: Global, index: u64, state: &[u8]) -> Option<Vec<u8>> {
     let size = u32::try_from(state.len()).ok()?.checked_add(24)?;
     let mut frame = Vec::new(alloc);
-    frame.extend_from_slice(&[V, 5, 1, 2]).ok()?;
+    frame.extend_from_slice(&[1, 5, 1, 2]).ok()?;
     frame.extend_from_slice(&size.to_be_bytes()).ok()?;
     for number in [1, index, 1] {
         frame.extend_from_slice(&number.to_be_bytes()).ok()?;
@@ -254,17 +250,13 @@ fn say_server(rt: &HostRuntime, apart: &Apart) -> io::Result<()> {
     }
 }
 
-/// A frame comes to a server; what is answered, or none where it is refused.
-pub(crate) fn answer_of(server: &mut Server, alloc: Global, frame: &[u8]) -> Option<Vec<u8>> {
+// The frame comes; what is answered, or none where it is refused.
+fn answer(apart: &mut Apart, alloc: Global, frame: &[u8]) -> Option<Vec<u8>> {
     let mut sent = no_output(alloc);
-    server.receive(frame, &mut sent).ok()?;
+    apart.server.as_mut()?.receive(frame, &mut sent).ok()?;
     let mut bytes = Vec::new(alloc);
     bytes.extend_from_slice(sent.frames.get(0)?.bytes()).ok()?;
     Some(bytes)
-}
-
-fn answer(apart: &mut Apart, alloc: Global, frame: &[u8]) -> Option<Vec<u8>> {
-    answer_of(apart.server.as_mut()?, alloc, frame)
 }
 
 // It goes down, and starts again.

@@ -7,7 +7,6 @@ mod crashes;
 mod frames;
 mod group;
 mod lines;
-mod old;
 mod requests;
 mod samples;
 mod snapshots;
@@ -25,6 +24,5 @@ fn main(rt: HostRuntime) -> io::Result<()> {
     frames::frames(&rt)?;
     stored::texts(&rt)?;
     apart::servers(&rt)?;
-    old::starts(&rt)?;
     crashes::crashes(&rt)
 }

@@ -9,15 +9,15 @@ use Rattle.cluster_model.specs.Words.{State}
 use Rattle.cluster_model.specs.Effect.{applied}
 use Rattle.group_model.specs.Brokers.{Broker, HoldsPending}
 use Rattle.group_model.specs.Blocked.{BlockedEvals, blocked_over}
-use Rattle.group_model.specs.Expiry.{BeatCount, HoldsHeld}
+use Rattle.group_model.specs.Expiry.{BeatCount, HoldsReady}
 
 -- the broker holds the pending evaluations of this state, the blocked ones are its own, and the
--- heartbeats that are counted are those of its nodes that are not down
+-- heartbeats that are counted are those of its ready nodes
 pub record AreOf (s : State) (broker : Broker) (held : BlockedEvals)
     (counts : List BeatCount) : Type 0 where
   pub pending : HoldsPending s.evals broker.tasks
   pub blocked : held ≡ blocked_over s
-  pub heard : HoldsHeld s.nodes counts
+  pub ready : HoldsReady s.nodes counts
 
 -- a command left this state, and these were of the state before it, whose tables were in order
 pub record WereOf (c : Command) (after : State) (broker : Broker) (held : BlockedEvals)

@@ -5,7 +5,6 @@
 mod desk;
 mod desk_error;
 mod drains;
-mod expiring;
 mod following;
 mod judged;
 mod laws;

@@ -2,24 +2,22 @@
 use Rattle.std.specs.Prelude.{ℕ, ◌+◌, ◌-◌, ◌^◌, Bool, ◌&&◌, List, nat_le, nat_eq, min, sum_by}
 use Rattle.rows.specs.declared.size.Size.{Size}
 
--- processor time, memory and disk
+-- processor time, and memory
 pub data Part : Type 0 where
   Cpu : Part
   Mem : Part
-  Disk : Part
 
 abbrev pub amount : Part → Size → ℕ
 amount Cpu z = z.cpu
 amount Mem z = z.mem
-amount Disk z = z.disk
 
 -- the size of these parts
 abbrev pub by_parts : (Part → ℕ) → Size
-by_parts f = record { cpu = f Cpu; mem = f Mem; disk = f Disk }
+by_parts f = record { cpu = f Cpu; mem = f Mem }
 
 -- whether each part passes
 abbrev pub in_each_part : (Part → Bool) → Bool
-in_each_part f = f Cpu && f Mem && f Disk
+in_each_part f = f Cpu && f Mem
 
 -- ---- sums
 

@@ -62,8 +62,6 @@ pub enum ClientState {
     Failed,
     /// Its node went down.
     Lost,
-    /// Its node was disconnected, and nothing was reported of it since.
-    Unknown,
 }
 
 /// An allocation's row.

@@ -90,10 +90,8 @@ impl Ruled for NodeId {
 pub enum NodeStatus {
     /// Its agent reports.
     Ready,
-    /// It was not heard of in time, and its work is lost.
+    /// It was not heard of in time.
     Down,
-    /// It was not heard of in time, and its work is unknown.
-    Disconnected,
 }
 
 impl NodeStatus {
@@ -103,16 +101,16 @@ impl NodeStatus {
     {
         match self {
             NodeStatus::Ready => true,
-            NodeStatus::Down | NodeStatus::Disconnected => false,
+            NodeStatus::Down => false,
         }
     }
 
-    /// Whether it was not heard of in time, and its work is lost.
+    /// Whether it was not heard of in time.
     pub fn is_down(self) -> bool
         ensures { result ≡ is_down self }
     {
         match self {
-            NodeStatus::Ready | NodeStatus::Disconnected => false,
+            NodeStatus::Ready => false,
             NodeStatus::Down => true,
         }
     }

@@ -5,13 +5,12 @@ ghost use Rattle.rows.specs.Sizes.{Part, amount, plus, plus_within, less, fits};
 use crate::size::Size;
 use std::marker::Model;
 
-/// So much processor time, in MHz, and memory and disk, in MB: what some values take together, or
-/// what is left of a size. Contracts see a `Size`, whose parts may be 0, and are below 2^64.
+/// So much processor time, in MHz, and memory, in MB: what some values take together, or what is
+/// left of a size. Contracts see a `Size`, whose parts may be 0, and are below 2^64.
 #[derive(Clone, Copy, Debug, PartialEq, Eq)]
 pub struct Usage {
     cpu: u64,
     mem: u64,
-    disk: u64,
 }
 
 impl Model for Usage {
@@ -19,18 +18,14 @@ impl Model for Usage {
 
     ghost Value = { Size };
 
-    ghost view = { λ u. record { cpu = u.cpu; mem = u.mem; disk = u.disk } };
+    ghost view = { λ u. record { cpu = u.cpu; mem = u.mem } };
 
-    ghost inverse = { λ z. record { cpu = z.cpu; mem = z.mem; disk = z.disk } };
+    ghost inverse = { λ z. record { cpu = z.cpu; mem = z.mem } };
 }
 
 impl Usage {
     /// Nothing.
-    pub const NONE: Usage = Usage {
-        cpu: 0,
-        mem: 0,
-        disk: 0,
-    };
+    pub const NONE: Usage = Usage { cpu: 0, mem: 0 };
 
     /// What a size says.
     pub fn of(size: Size) -> Usage
@@ -40,7 +35,6 @@ impl Usage {
         Usage {
             cpu: size.cpu.get() as u64,
             mem: size.mem.get() as u64,
-            disk: size.disk.get() as u64,
         }
     }
 
@@ -58,13 +52,6 @@ impl Usage {
         self.mem
     }
 
-    /// Its disk, in MB.
-    pub fn disk(self) -> u64
-        ensures { result ≡ self.disk }
-    {
-        self.disk
-    }
-
     /// With some more.
     pub fn add(self, more: Usage) -> Usage
         requires { (p : Part) → amount p self + amount p more < 2 ^ 64 }
@@ -73,7 +60,6 @@ impl Usage {
         Usage {
             cpu: self.cpu + more.cpu,
             mem: self.mem + more.mem,
-            disk: self.disk + more.disk,
         }
     }
 
@@ -84,7 +70,6 @@ impl Usage {
         Usage {
             cpu: self.cpu.saturating_add(more.cpu),
             mem: self.mem.saturating_add(more.mem),
-            disk: self.disk.saturating_add(more.disk),
         }
     }
 
@@ -95,7 +80,6 @@ impl Usage {
         Usage {
             cpu: self.cpu.saturating_sub(part.cpu),
             mem: self.mem.saturating_sub(part.mem),
-            disk: self.disk.saturating_sub(part.disk),
         }
     }
 
@@ -103,7 +87,7 @@ impl Usage {
     pub fn is_within(self, room: Usage) -> bool
         ensures { result ≡ fits self room }
     {
-        self.cpu <= room.cpu && self.mem <= room.mem && self.disk <= room.disk
+        self.cpu <= room.cpu && self.mem <= room.mem
     }
 
     /// Whether a room bears what is used of it and some more, once some is given back.
@@ -112,7 +96,6 @@ impl Usage {
     {
         is_part_enough(room.cpu, used.cpu, more.cpu, less.cpu)
             && is_part_enough(room.mem, used.mem, more.mem, less.mem)
-            && is_part_enough(room.disk, used.disk, more.disk, less.disk)
     }
 }
 

@@ -15,7 +15,6 @@ fn listed_state(state: ClientState) -> LiveState
 {
     match state {
         ClientState::Running => LiveState::Running,
-        ClientState::Unknown => LiveState::Unknown,
         _ => LiveState::Pending,
     }
 }

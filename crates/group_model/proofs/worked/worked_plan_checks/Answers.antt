@@ -12,6 +12,4 @@ returns g = record {
   stop_alone = refl;
   other_version = refl;
   old_snapshot = refl;
-  disk_for_both = refl;
-  no_disk_for_both = refl;
 }
