@@ -312,6 +312,7 @@ fn read_step(line: &str) -> Option<Step> {
 // ---- Messages and frames ----
 
 const LIMIT: u64 = 1 << 40;
+const VERSION: u8 = 3;
 const MOST_ENTRIES: usize = 32;
 const FRAME_LIMIT: usize = 16_777_216;
 
@@ -368,7 +369,7 @@ struct Frames {
 impl Frames {
     fn begin(&mut self, kind: u8, from: ServerId, to: ServerId) -> usize {
         let size_at = self.bytes.len() + 4;
-        self.bytes.extend_from_slice(&[1, kind, from.0, to.0, 0, 0, 0, 0]);
+        self.bytes.extend_from_slice(&[VERSION, kind, from.0, to.0, 0, 0, 0, 0]);
         size_at
     }
 
@@ -599,7 +600,7 @@ impl Reader<'_> {
 
 fn read_message(bytes: &[u8]) -> Result<Message, Refusal> {
     let mut reader = Reader { bytes, at: 0 };
-    if reader.u8()? != 1 {
+    if reader.u8()? != VERSION {
         return Err(Refusal::Frame(0));
     }
     let kind = reader.u8()?;

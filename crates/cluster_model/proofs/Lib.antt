@@ -9,3 +9,4 @@ pub mod NameLaws
 pub mod PlanLaws
 pub mod AfterLaws
 pub mod ClusterMachine
+mod OldTexts

@@ -7,12 +7,14 @@ use Rattle.std.specs.declared.cmp.Ordering.{Ordering}
 use Rattle.rows.specs.declared.job.Job.{Job}
 use Rattle.rows.specs.declared.node.Node.{Node}
 use Rattle.rows.specs.declared.node.NodeSpec.{NodeSpec}
+use Rattle.rows.specs.declared.node.NodeStatus.{NodeStatus}
 use Rattle.rows.specs.declared.node.NodeStatus.TheVariants as statuses
 use Rattle.rows.specs.declared.node.DrainMode.TheVariants as drains
 use Rattle.rows.specs.declared.evaluation.EvalId.{EvalId}
 use Rattle.rows.specs.declared.evaluation.Evaluation.{Evaluation}
 use Rattle.rows.specs.declared.allocation.Allocation.{Allocation}
 use Rattle.rows.specs.declared.allocation.Desired.TheVariants as desires
+use Rattle.rows.specs.declared.allocation.ClientState.{ClientState}
 use Rattle.rows.specs.declared.allocation.ClientState.TheVariants as clients
 use Rattle.rows.specs.declared.command.AcceptedPlace.{AcceptedPlace}
 use Rattle.rows.specs.declared.command.AcceptedPlan.{AcceptedPlan}
@@ -29,7 +31,7 @@ use Rattle.fsm_tables.proofs.RowLaws.{all_put}
 use Rattle.fsm_tables.specs.Claims.{is_active, is_wanted}
 use Rattle.fsm_tables.specs.Lookups.{lives_on}
 use Rattle.cluster_model.specs.Words.{State, no_rows, same_eval, same_alloc, node_of, no_node, is_open}
-use Rattle.cluster_model.specs.Effect.{applied, with_next_count, new_eval, with_evals, touched, is_named, owns, with_job, job_row, stop_job, without_job, node_row, down, draining, drained, lost, moves, with_migrate_mark, set_status, stop, is_ended_by, frees, with_room, altered, alloc_row, with_places, client_state_of, told, told_all, downed}
+use Rattle.cluster_model.specs.Effect.{applied, with_next_count, new_eval, with_evals, touched, is_named, owns, with_job, job_row, stop_job, without_job, node_row, marked_as, draining, drained, left_as, unheard, moves, with_migrate_mark, set_status, stop, is_ended_by, frees, with_room, altered, alloc_row, with_places, client_state_of, told, told_all, downed, disconnected}
 use Rattle.rows.specs.States.{AreTables, AllFit, IsState}
 use Rattle.cluster_model.proofs.StateLaws.{either, applied_has_count, applied_are_tables, empty_are_tables}
 
@@ -105,12 +107,27 @@ few_places p f = let few = f.5.0 in omega (arith, few)
 
 -- ---- the commands
 
+-- a node of another status, and what was active on it in another client state
+marks_fit : (status : NodeStatus) (n : ℕ) (nodes : List Node) → AllByRecursion NodeFits nodes → AllByRecursion NodeFits (map (marked_as status n) nodes)
+marks_fit status n nodes h = all_mapped NodeFits (marked_as status n) (λ r g. either NodeFits (nat_eq r.number n) (record r { status = status }) r g g) nodes h
+
+left_fit : (client : ClientState) (n : ℕ) (rows : List Allocation) → AllByRecursion AllocationFits rows → AllByRecursion AllocationFits (map (left_as client n) rows)
+left_fit client n rows h = all_mapped AllocationFits (left_as client n) (λ a g. either AllocationFits (nat_eq a.node n && is_active a.client) (record a { client = client }) a g g) rows h
+
 downed_fit : (n : ℕ) (s : State) → FromOneFits s.count → length s.jobs ≤ 256 → AllFit s → AllFit (downed n s)
 downed_fit n s fx few h = record {
   jobs = h.jobs;
-  nodes = all_mapped NodeFits (down n) (λ r g. either NodeFits (nat_eq r.number n) (record r { status = statuses.Down }) r g g) s.nodes h.nodes;
-  evals = touch_fits (owns (lives_on n) s.allocs) (record s { nodes = map (down n) s.nodes; allocs = map (lost n) s.allocs }) fx few h.jobs h.evals;
-  allocs = all_mapped AllocationFits (lost n) (λ a g. either AllocationFits (nat_eq a.node n && is_active a.client) (record a { client = clients.Lost }) a g g) s.allocs h.allocs;
+  nodes = marks_fit statuses.Down n s.nodes h.nodes;
+  evals = touch_fits (owns (lives_on n) s.allocs) (unheard statuses.Down clients.Lost n s) fx few h.jobs h.evals;
+  allocs = left_fit clients.Lost n s.allocs h.allocs;
+}
+
+disconnected_fit : (n : ℕ) (s : State) → AllFit s → AllFit (disconnected n s)
+disconnected_fit n s h = record {
+  jobs = h.jobs;
+  nodes = marks_fit statuses.Disconnected n s.nodes h.nodes;
+  evals = h.evals;
+  allocs = left_fit clients.Unknown n s.allocs h.allocs;
 }
 
 counted_fit : (s : State) → AllFit s → AllFit (with_next_count s)
@@ -133,6 +150,9 @@ applied_fit s (commands.NodePut n) t h f below =
 applied_fit s (commands.NodeDown n) t h f below =
     let before = counted_fit s h in
     either AllFit (no_node n s) (with_next_count s) (downed n (with_next_count s)) before (downed_fit n (with_next_count s) (omega arith, below) t.jobs.few before)
+applied_fit s (commands.Disconnect n) t h f below =
+    let before = counted_fit s h in
+    either AllFit (no_node n s) (with_next_count s) (disconnected n (with_next_count s)) before (disconnected_fit n (with_next_count s) before)
 applied_fit s (commands.Drain n force) t h f below =
     record { jobs = h.jobs; nodes = all_mapped NodeFits (draining n force) (λ r g. either NodeFits (nat_eq r.number n) (record r { eligible = false; drain = cond force drains.Force drains.Slow }) r g g) s.nodes h.nodes; evals = h.evals; allocs = h.allocs }
 applied_fit s (commands.DrainDone n) t h f below =

@@ -9,6 +9,7 @@ use Rattle.std.proofs.lemmas.List.Sums.{sum_by-cons}
 use Rattle.rows.specs.declared.size.Size.{Size}
 use Rattle.rows.specs.declared.node.Node.{Node}
 use Rattle.rows.specs.declared.node.NodeSpec.{NodeSpec}
+use Rattle.rows.specs.declared.node.NodeStatus.{NodeStatus}
 use Rattle.rows.specs.declared.node.NodeStatus.TheVariants as statuses
 use Rattle.rows.specs.declared.node.DrainMode.TheVariants as drains
 use Rattle.rows.specs.declared.allocation.Desired.{Desired}
@@ -31,7 +32,7 @@ use Rattle.rows.specs.Sizes.{fits}
 use Rattle.cluster_model.specs.Safe.{is_within, is_placed, same_name, are_distinct, are_safe, is_safe}
 use Rattle.cluster_model.specs.SafeFacts.{Safe}
 use Rattle.cluster_model.proofs.SafeFacts.{safe_by_test, test_by_safe}
-use Rattle.cluster_model.specs.Effect.{applied, with_next_count, node_row, with_node, down, draining, drained, lost, moves, with_migrate_mark, stop, client_state_of, told, told_all, frees, with_room, downed}
+use Rattle.cluster_model.specs.Effect.{applied, with_next_count, node_row, with_node, marked_as, draining, drained, left_as, moves, with_migrate_mark, stop, client_state_of, told, told_all, frees, with_room, downed, disconnected}
 use Rattle.cluster_model.specs.Admission.{first_of, admission, tests}
 use Rattle.cluster_model.proofs.StateLaws.{either}
 
@@ -118,14 +119,18 @@ pub released : (f : Allocation → Allocation) → Releases f → (rows : List A
 released f r [] = nothing
 released f r (a ∷ rows) = fewer_head (claim_of (f a)) (claim_of a) (is_live (f a)) (is_live a) _ _ (r.same_claim a) (r.lives a) (released f r rows)
 
-no_longer_active : (d : Desired) → T (is_wanted d && is_active clients.Lost) → ⊥
-no_longer_active desires.Run h = h
-no_longer_active desires.Stop h = h
+was_active : (d : Desired) (to from : ClientState) → T (is_active from) → T (is_wanted d && is_active to) → T (is_wanted d && is_active from)
+was_active desires.Run to from p h = p
+was_active desires.Stop to from p h = h
 
-pub lost_releases : (n : ℕ) → Releases (lost n)
-lost_releases n = record {
-  same_claim = λ a. elim (nat_eq a.node n && is_active a.client) as (λ b. claim_of (cond b (record a { client = clients.Lost }) a) ≡ claim_of a) [ true ↦ refl | false ↦ refl ];
-  lives = λ a. elim (nat_eq a.node n && is_active a.client) as (λ b. T (is_live (cond b (record a { client = clients.Lost }) a)) → T (is_live a)) [ true ↦ λ h. absurd (no_longer_active a.desired h) | false ↦ λ h. h ];
+-- what was active comes into another client state
+left_releases : (client : ClientState) (n : ℕ) → Releases (left_as client n)
+left_releases client n = record {
+  same_claim = λ a. elim (nat_eq a.node n && is_active a.client) as (λ b. claim_of (cond b (record a { client = client }) a) ≡ claim_of a) [ true ↦ refl | false ↦ refl ];
+  lives = λ a. elim (nat_eq a.node n && is_active a.client) as (λ b. (nat_eq a.node n && is_active a.client) ≡ b → T (is_live (cond b (record a { client = client }) a)) → T (is_live a)) [
+    | true ↦ λ e h. was_active a.desired client a.client (second (nat_eq a.node n) (is_active a.client) (subst T (sym e) tt)) h
+    | false ↦ λ e h. h
+  ] refl;
 }
 
 pub stop_releases : (ids : List AllocId) → Releases (stop ids)
@@ -139,10 +144,6 @@ marked_releases ids = record {
   same_claim = λ a. elim (moves ids a) as (λ b. claim_of (cond b (record a { migrate = true }) a) ≡ claim_of a) [ true ↦ refl | false ↦ refl ];
   lives = λ a. elim (moves ids a) as (λ b. T (is_live (cond b (record a { migrate = true }) a)) → T (is_live a)) [ true ↦ λ h. h | false ↦ λ h. h ];
 }
-
-was_active : (d : Desired) (to from : ClientState) → T (is_active from) → T (is_wanted d && is_active to) → T (is_wanted d && is_active from)
-was_active desires.Run to from p h = p
-was_active desires.Stop to from p h = h
 
 pub told_releases : (n : ℕ) (r : Report) → Releases (told n r)
 told_releases n r = record {
@@ -188,10 +189,11 @@ kept_safe g k nodes cs h = from_parts (map g nodes) cs
     (all_by (is_placed nodes) (is_placed (map g nodes)) cs (λ c. kept_row g k c.node nodes) (placed_of nodes cs h))
     (distinct_of nodes cs h)
 
-pub down_keeps : (n : ℕ) → KeepsSize (down n)
-down_keeps n = record {
-  number = λ r. elim (nat_eq r.number n) as (λ b. (cond b (record r { status = statuses.Down }) r).number ≡ r.number) [ true ↦ refl | false ↦ refl ];
-  size = λ r. elim (nat_eq r.number n) as (λ b. (cond b (record r { status = statuses.Down }) r).size ≡ r.size) [ true ↦ refl | false ↦ refl ];
+-- a node of another status is of the number and the size that it was
+marked_keeps : (status : NodeStatus) (n : ℕ) → KeepsSize (marked_as status n)
+marked_keeps status n = record {
+  number = λ r. elim (nat_eq r.number n) as (λ b. (cond b (record r { status = status }) r).number ≡ r.number) [ true ↦ refl | false ↦ refl ];
+  size = λ r. elim (nat_eq r.number n) as (λ b. (cond b (record r { status = status }) r).size ≡ r.size) [ true ↦ refl | false ↦ refl ];
 }
 
 -- ---- one node's row
@@ -295,14 +297,20 @@ true_by false e = absurd cc
 released_safe : (f : Allocation → Allocation) → Releases f → (nodes : List Node) (rows : List Allocation) → T (are_safe nodes (claims rows)) → T (are_safe nodes (claims (map f rows)))
 released_safe f r nodes rows h = fewer_safe nodes (claims (map f rows)) (claims rows) (released f r rows) h
 
+-- a node that is not heard of
+unheard_safe : (status : NodeStatus) (client : ClientState) (n : ℕ) (s : State) → T (is_safe s) → T (are_safe (map (marked_as status n) s.nodes) (claims (map (left_as client n) s.allocs)))
+unheard_safe status client n s h = kept_safe (marked_as status n) (marked_keeps status n) s.nodes (claims (map (left_as client n) s.allocs))
+    (released_safe (left_as client n) (left_releases client n) s.nodes s.allocs h)
+
 pub admitted_is_safe : (s : State) (c : Command) → T (is_safe s) → admission s c ≡ None → T (is_safe (applied s c))
 admitted_is_safe s commands.Noop h e = h
 admitted_is_safe s (commands.JobPut j) h e = h
 admitted_is_safe s (commands.JobStop name) h e = h
 admitted_is_safe s (commands.NodePut n) h e = with_node_safe n (with_next_count s) h
 admitted_is_safe s (commands.NodeDown n) h e =
-    let lost_safe = released_safe (lost n) (lost_releases n) s.nodes s.allocs h in
-    either (λ (t : State). T (is_safe t)) (no_node n s) (with_next_count s) (downed n (with_next_count s)) h (kept_safe (down n) (down_keeps n) s.nodes (claims (map (lost n) s.allocs)) lost_safe)
+    either (λ (t : State). T (is_safe t)) (no_node n s) (with_next_count s) (downed n (with_next_count s)) h (unheard_safe statuses.Down clients.Lost n s h)
+admitted_is_safe s (commands.Disconnect n) h e =
+    either (λ (t : State). T (is_safe t)) (no_node n s) (with_next_count s) (disconnected n (with_next_count s)) h (unheard_safe statuses.Disconnected clients.Unknown n s h)
 admitted_is_safe s (commands.Drain n force) h e = kept_safe (draining n force) (draining_keeps n force) s.nodes (claims s.allocs) h
 admitted_is_safe s (commands.DrainDone n) h e = kept_safe (drained n) (drained_keeps n) s.nodes (claims s.allocs) h
 admitted_is_safe s (commands.Migrate ids) h e = released_safe (with_migrate_mark ids) (marked_releases ids) s.nodes s.allocs h

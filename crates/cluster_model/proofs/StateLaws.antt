@@ -10,8 +10,11 @@ use Rattle.std.specs.declared.cmp.Ordering.{Ordering}
 use Rattle.rows.specs.declared.job.Job.{Job}
 use Rattle.rows.specs.declared.evaluation.Evaluation.{Evaluation}
 use Rattle.rows.specs.declared.allocation.Allocation.{Allocation}
+use Rattle.rows.specs.declared.node.Node.{Node}
+use Rattle.rows.specs.declared.node.NodeStatus.{NodeStatus}
 use Rattle.rows.specs.declared.node.NodeStatus.TheVariants as statuses
 use Rattle.rows.specs.declared.node.DrainMode.TheVariants as drains
+use Rattle.rows.specs.declared.allocation.ClientState.{ClientState}
 use Rattle.rows.specs.declared.allocation.ClientState.TheVariants as clients
 use Rattle.rows.specs.declared.allocation.Desired.TheVariants as desires
 use Rattle.rows.specs.declared.command.AcceptedPlace.{AcceptedPlace}
@@ -29,7 +32,7 @@ use Rattle.fsm_tables.proofs.RowLaws.{rising_put_within, few_put_within, rising_
 use Rattle.fsm_tables.specs.Claims.{is_active, is_wanted}
 use Rattle.fsm_tables.specs.Lookups.{lives_on}
 use Rattle.cluster_model.specs.Words.{State, no_rows, same_eval, same_alloc, node_of, no_node, is_open}
-use Rattle.cluster_model.specs.Effect.{applied, with_next_count, new_eval, with_evals, touched, is_named, owns, with_job, job_row, stop_job, without_job, node_row, down, draining, drained, lost, moves, with_migrate_mark, set_status, stop, is_ended_by, frees, with_room, altered, alloc_row, with_places, client_state_of, told, told_all, downed}
+use Rattle.cluster_model.specs.Effect.{applied, with_next_count, new_eval, with_evals, touched, is_named, owns, with_job, job_row, stop_job, without_job, node_row, marked_as, draining, drained, left_as, unheard, moves, with_migrate_mark, set_status, stop, is_ended_by, frees, with_room, altered, alloc_row, with_places, client_state_of, told, told_all, downed, disconnected}
 use Rattle.cluster_model.specs.Admission.{first_of, tests, admission}
 use Rattle.rows.specs.States.{InOrder, AreTables}
 
@@ -44,6 +47,7 @@ applied_has_count s (commands.JobPut j) = refl
 applied_has_count s (commands.JobStop name) = refl
 applied_has_count s (commands.NodePut n) = refl
 applied_has_count s (commands.NodeDown n) = either (λ (t : State). t.count ≡ s.count + 1) (no_node n s) (with_next_count s) (downed n (with_next_count s)) refl refl
+applied_has_count s (commands.Disconnect n) = either (λ (t : State). t.count ≡ s.count + 1) (no_node n s) (with_next_count s) (disconnected n (with_next_count s)) refl refl
 applied_has_count s (commands.Drain n force) = refl
 applied_has_count s (commands.DrainDone n) = refl
 applied_has_count s (commands.Migrate ids) = refl
@@ -97,12 +101,27 @@ told_all_keeps n (r ∷ rs) a = told_all_keeps n rs (told n r a) ∙ told_keeps 
 rooms_in_order : (freed : ℕ → Bool) (x : ℕ) (s : State) → AreTables s → InOrder nat_cmp node_number 64 (map (with_room freed x) s.nodes)
 rooms_in_order freed x s h = map_in_order nat_cmp node_number 64 (with_room freed x) (kept_where node_number (λ r. freed r.number) (λ r. record r { room = x }) (λ r. refl)) s.nodes h.nodes
 
+-- a node of another status, and what was active on it in another client state
+marks_in_order : (status : NodeStatus) (n : ℕ) (nodes : List Node) → InOrder nat_cmp node_number 64 nodes → InOrder nat_cmp node_number 64 (map (marked_as status n) nodes)
+marks_in_order status n nodes h = map_in_order nat_cmp node_number 64 (marked_as status n) (kept_where node_number (λ r. nat_eq r.number n) (λ r. record r { status = status }) (λ r. refl)) nodes h
+
+left_in_order : (client : ClientState) (n : ℕ) (rows : List Allocation) → InOrder alloc_cmp alloc_id 65536 rows → InOrder alloc_cmp alloc_id 65536 (map (left_as client n) rows)
+left_in_order client n rows h = map_in_order alloc_cmp alloc_id 65536 (left_as client n) (kept_where alloc_id (λ a. nat_eq a.node n && is_active a.client) (λ a. record a { client = client }) (λ a. refl)) rows h
+
 downed_are_tables : (n : ℕ) (s : State) → AreTables s → AreTables (downed n s)
 downed_are_tables n s h = record {
   jobs = h.jobs;
-  nodes = map_in_order nat_cmp node_number 64 (down n) (kept_where node_number (λ r. nat_eq r.number n) (λ r. record r { status = statuses.Down }) (λ r. refl)) s.nodes h.nodes;
-  evals = touch_in_order (owns (lives_on n) s.allocs) (record s { nodes = map (down n) s.nodes; allocs = map (lost n) s.allocs }) h.evals;
-  allocs = map_in_order alloc_cmp alloc_id 65536 (lost n) (kept_where alloc_id (λ a. nat_eq a.node n && is_active a.client) (λ a. record a { client = clients.Lost }) (λ a. refl)) s.allocs h.allocs;
+  nodes = marks_in_order statuses.Down n s.nodes h.nodes;
+  evals = touch_in_order (owns (lives_on n) s.allocs) (unheard statuses.Down clients.Lost n s) h.evals;
+  allocs = left_in_order clients.Lost n s.allocs h.allocs;
+}
+
+disconnected_are_tables : (n : ℕ) (s : State) → AreTables s → AreTables (disconnected n s)
+disconnected_are_tables n s h = record {
+  jobs = h.jobs;
+  nodes = marks_in_order statuses.Disconnected n s.nodes h.nodes;
+  evals = h.evals;
+  allocs = left_in_order clients.Unknown n s.allocs h.allocs;
 }
 
 counted_are_tables : (s : State) → AreTables s → AreTables (with_next_count s)
@@ -116,6 +135,9 @@ applied_are_tables s (commands.NodePut n) h = record { jobs = h.jobs; nodes = pu
 applied_are_tables s (commands.NodeDown n) h =
     let before = counted_are_tables s h in
     either AreTables (no_node n s) (with_next_count s) (downed n (with_next_count s)) before (downed_are_tables n (with_next_count s) before)
+applied_are_tables s (commands.Disconnect n) h =
+    let before = counted_are_tables s h in
+    either AreTables (no_node n s) (with_next_count s) (disconnected n (with_next_count s)) before (disconnected_are_tables n (with_next_count s) before)
 applied_are_tables s (commands.Drain n force) h = record { jobs = h.jobs; nodes = map_in_order nat_cmp node_number 64 (draining n force) (kept_where node_number (λ r. nat_eq r.number n) (λ r. record r { eligible = false; drain = cond force drains.Force drains.Slow }) (λ r. refl)) s.nodes h.nodes; evals = h.evals; allocs = h.allocs }
 applied_are_tables s (commands.DrainDone n) h = record { jobs = h.jobs; nodes = map_in_order nat_cmp node_number 64 (drained n) (kept_where node_number (λ r. nat_eq r.number n) (λ r. record r { drain = drains.Off }) (λ r. refl)) s.nodes h.nodes; evals = h.evals; allocs = h.allocs }
 applied_are_tables s (commands.Migrate ids) h = record {
@@ -164,6 +186,7 @@ all_own s (commands.JobPut j) = (tt, tt)
 all_own s (commands.JobStop name) = (tt, (tt, (tt, tt)))
 all_own s (commands.NodePut n) = (tt, tt)
 all_own s (commands.NodeDown n) = (tt, (tt, (tt, tt)))
+all_own s (commands.Disconnect n) = (tt, (tt, tt))
 all_own s (commands.Drain n force) = (tt, tt)
 all_own s (commands.DrainDone n) = (tt, (tt, tt))
 all_own s (commands.Migrate ids) = (tt, (tt, (tt, tt)))

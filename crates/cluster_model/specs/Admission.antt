@@ -105,6 +105,10 @@ tests s (commands.NodeDown n) =
     ∷ (is_some_and (λ r. is_down r.status) (node_of n s), refusals.StaleExpiry)
     ∷ (touch_passes (owns (lives_on n) s.allocs) s, refusals.TableFull)
     ∷ []
+tests s (commands.Disconnect n) =
+    (no_node n s, refusals.UnknownNode)
+    ∷ (is_some_and (λ r. not (is_ready r.status)) (node_of n s), refusals.StaleExpiry)
+    ∷ []
 tests s (commands.Drain n force) =
     (no_node n s, refusals.UnknownNode)
     ∷ []

@@ -148,15 +148,6 @@ abbrev pub unheard : NodeStatus → ClientState → ℕ → State → State
 unheard status client n s =
     record s { nodes = map (marked_as status n) s.nodes; allocs = map (left_as client n) s.allocs }
 
-abbrev pub down_row : Node → Node
-down_row = status_row statuses.Down
-
-abbrev pub down : ℕ → Node → Node
-down = marked_as statuses.Down
-
-abbrev pub lost : ℕ → Allocation → Allocation
-lost = left_as clients.Lost
-
 -- A node that has a row is down: what was not final on it is lost, and the jobs of what was live
 -- are touched.
 abbrev pub downed : ℕ → State → State
@@ -166,6 +157,15 @@ downed n s =
 -- A node's loss. Without a row of the node nothing changes, also where allocations name it.
 abbrev pub without_node : ℕ → State → State
 without_node n s = if no_node n s then s else downed n s
+
+-- A node that has a row is disconnected: what was not final on it is unknown. No job is touched.
+abbrev pub disconnected : ℕ → State → State
+disconnected n s = unheard statuses.Disconnected clients.Unknown n s
+
+-- A node goes out of sight. Without a row of the node nothing changes, also where allocations name
+-- it.
+abbrev pub without_word : ℕ → State → State
+without_word n s = if no_node n s then s else disconnected n s
 
 -- ---- allocations that are to move
 
@@ -271,6 +271,7 @@ applied s (commands.JobPut j) = touched (is_named j.name) (with_job j (with_next
 applied s (commands.JobStop name) = touched (is_named name) (without_job name (with_next_count s))
 applied s (commands.NodePut n) = with_node n (with_next_count s)
 applied s (commands.NodeDown n) = without_node n (with_next_count s)
+applied s (commands.Disconnect n) = without_word n (with_next_count s)
 applied s (commands.Drain n force) = with_drain n force (with_next_count s)
 applied s (commands.DrainDone n) = without_drain n (with_next_count s)
 applied s (commands.Migrate ids) = migrated ids (with_next_count s)

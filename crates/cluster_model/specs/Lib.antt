@@ -4,5 +4,6 @@ pub mod SafeFacts
 pub mod Effect
 pub mod Admission
 pub mod Plans
+pub mod OldTexts
 pub mod ClusterMachine
 pub mod Worked

@@ -17,6 +17,9 @@ ghost use Rattle.rows.specs.Fits.{CommandFits};
 ghost use Rattle.machine_model.specs.Meaning.{IsMachineRefusal};
 ghost use Rattle.rows.specs.States.{AreTables};
 ghost use Rattle.rows.specs.States.{IsState};
+ghost use Rattle.fields_model.specs.StateText.{state};
+ghost use Rattle.fields_model.specs.Commands.{command};
+ghost use Rattle.cluster_model.specs.OldTexts.{IsStateWithoutDisk, IsWithoutDisk, SafeOfTwo};
 
 /// The empty state is safe, its count is 0, its tables are in order, with every row in its ranges,
 /// and each state admits the no-op.
@@ -65,4 +68,16 @@ pub fn plans_are_decided()
     ensures uses { (w : Claim → ℕ) (p : AnyPlan) (s : State)
         → sum_by w (kept_claims p s ++ wanted p) + sum_by w (ended (stop p.stops) s.allocs)
         ≡ sum_by w (claims s.allocs) + sum_by w (wanted p) }
+{}
+
+/// A state that has a text of version 1 is without disk; so it is safe as soon as it is safe by the
+/// two sums that there were then, of processor time and of memory.
+pub fn old_states_stay_safe()
+    ensures without_disk { (s : State) → (state 1).Fits s → IsStateWithoutDisk s }
+    ensures safe { (s : State) → (state 1).Fits s → SafeOfTwo s → Safe s }
+{}
+
+/// A command that has a text of version 1 is without disk.
+pub fn old_commands_have_no_disk()
+    ensures { (c : AnyCommand) → (command 1).Fits c → IsWithoutDisk c }
 {}

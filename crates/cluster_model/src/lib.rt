@@ -7,5 +7,11 @@
 mod laws;
 mod worked;
 
-pub use laws::{commands_are_lawful, empty_is_lawful, plans_are_decided, safety_is_decided};
-pub use worked::{worked_drain, worked_ends, worked_loss, worked_move, worked_refusals};
+pub use laws::{
+    commands_are_lawful, empty_is_lawful, old_commands_have_no_disk, old_states_stay_safe,
+    plans_are_decided, safety_is_decided,
+};
+pub use worked::{
+    worked_absence, worked_disks, worked_drain, worked_ends, worked_loss, worked_move,
+    worked_refusals,
+};

@@ -3,8 +3,10 @@
 ghost use Rattle.cluster_model.specs.Worked.Losses.{TwoRun, NodeLost, StaysWithoutRow, LateReport, LateReportPasses, PlacedAgain, AllInUse, LastPasses, OneTooMany};
 ghost use Rattle.cluster_model.specs.Worked.Moves.{NameMoves, RoomWhereStopped, MovePasses, MoveTooLarge, NameTwice, OtherJob};
 ghost use Rattle.cluster_model.specs.Worked.Drains.{RisingNames, DownAlready, ComesBack, Marked, MarkTouches, NotDrained, NotEmpty, Drained, Blocked, FinalStays, BlockedComesBack};
-ghost use Rattle.cluster_model.specs.Worked.Refusals.{ComesAgain, OtherCpu, OtherMemory, OtherClass, NoNodeIsDown, NoNodeDrains, NoNodeIsDrained, NodeIsDown, NodeDrains, NodeIsDrained, DoesNotDrain, NoJobStops, StopPasses, NoJobIsAsked, StopsOnce, StoppedIsAsked, NoEvaluation, EvaluationEnds, PendingAlready, PlacePasses, OtherGroup, LessCpu, LessMemory, PastTheCount, NowhereToRun, NotEligible, NotReady, NotOfTheClass, StoppedIsNotPlaced, StoppedIsPlanned, EvaluationFirst, ThenTheJob, ThenTheStops, ThenWhetherStopped, NoneMoves, OneMoves, NoNodeReports, NoneIsReported, OtherNodeReports, EndIsReported};
+ghost use Rattle.cluster_model.specs.Worked.Refusals.{ComesAgain, OtherCpu, OtherMemory, OtherDisk, OtherClass, NoNodeIsDown, NoNodeDrains, NoNodeIsDrained, NodeIsDown, NodeDrains, NodeIsDrained, DoesNotDrain, NoJobStops, StopPasses, NoJobIsAsked, StopsOnce, StoppedIsAsked, NoEvaluation, EvaluationEnds, PendingAlready, PlacePasses, OtherGroup, LessCpu, LessMemory, MoreDisk, PastTheCount, NowhereToRun, NotEligible, NotReady, NotOfTheClass, StoppedIsNotPlaced, StoppedIsPlanned, EvaluationFirst, ThenTheJob, ThenTheStops, ThenWhetherStopped, NoneMoves, OneMoves, NoNodeReports, NoneIsReported, OtherNodeReports, EndIsReported};
+ghost use Rattle.cluster_model.specs.Worked.Disks.{OnePasses, TwoAreTooMany, TooLargeForTheOther, TwoPass, AllDiskInUse, OneDiskTooMany, OneEachPasses};
 ghost use Rattle.cluster_model.specs.Worked.Ends.{JobStops, StopTouches, PutAgain, Ended, EndGivesRoom, EndTouches, ReportsInOrder, OtherNodesReport, StoppingIsLost, StoppingTouchesNone, DrainsByForce, StaysDrained, LostIsNotMarked};
+ghost use Rattle.cluster_model.specs.Worked.Absences.{NodeAway, AwayPasses, StoppingIsUnknown, HoldsItsRoom, HoldsItsName, NotReadyAway, NoNodeIsAway, AwayAlready, DownIsNotAway, AwayWithoutRow, LostStaysLost, RunsAllAlong, RunsAllAlongPasses, EndedMeanwhile, BackAgain, LostThen, LostThenPasses, LateAfterLoss, NameIsFree};
 
 /// Two nodes run a job of two; one node goes down, what it reports late changes nothing, and its
 /// allocation's name is placed again where there is just room for it.
@@ -51,6 +53,7 @@ pub fn worked_refusals()
     ensures comes_again { ComesAgain }
     ensures other_cpu { OtherCpu }
     ensures other_memory { OtherMemory }
+    ensures other_disk { OtherDisk }
     ensures other_class { OtherClass }
     ensures no_node_is_down { NoNodeIsDown }
     ensures no_node_drains { NoNodeDrains }
@@ -71,6 +74,7 @@ pub fn worked_refusals()
     ensures other_group { OtherGroup }
     ensures less_cpu { LessCpu }
     ensures less_memory { LessMemory }
+    ensures more_disk { MoreDisk }
     ensures past_the_count { PastTheCount }
     ensures nowhere_to_run { NowhereToRun }
     ensures not_eligible { NotEligible }
@@ -90,6 +94,17 @@ pub fn worked_refusals()
     ensures end_is_reported { EndIsReported }
 {}
 
+/// Plans of two places that fit by processor time and memory: whether they pass is for their disk.
+pub fn worked_disks()
+    ensures one_passes { OnePasses }
+    ensures two_are_too_many { TwoAreTooMany }
+    ensures too_large_for_the_other { TooLargeForTheOther }
+    ensures two_pass { TwoPass }
+    ensures all_disk_in_use { AllDiskInUse }
+    ensures one_too_many { OneDiskTooMany }
+    ensures one_each_passes { OneEachPasses }
+{}
+
 /// A job that stops, allocations that end, one that is to stop on a node that is lost, and a node
 /// that comes back while it drains.
 pub fn worked_ends()
@@ -106,4 +121,28 @@ pub fn worked_ends()
     ensures drains_by_force { DrainsByForce }
     ensures stays_drained { StaysDrained }
     ensures lost_is_not_marked { LostIsNotMarked }
+{}
+
+/// A node that is disconnected: what is unknown on it holds room and name, may be reported, and is
+/// lost where the node is.
+pub fn worked_absence()
+    ensures node_away { NodeAway }
+    ensures away_passes { AwayPasses }
+    ensures stopping_is_unknown { StoppingIsUnknown }
+    ensures holds_its_room { HoldsItsRoom }
+    ensures holds_its_name { HoldsItsName }
+    ensures not_ready_away { NotReadyAway }
+    ensures no_node_is_away { NoNodeIsAway }
+    ensures away_already { AwayAlready }
+    ensures down_is_not_away { DownIsNotAway }
+    ensures away_without_row { AwayWithoutRow }
+    ensures lost_stays_lost { LostStaysLost }
+    ensures runs_all_along { RunsAllAlong }
+    ensures runs_all_along_passes { RunsAllAlongPasses }
+    ensures ended_meanwhile { EndedMeanwhile }
+    ensures back_again { BackAgain }
+    ensures lost_then { LostThen }
+    ensures lost_then_passes { LostThenPasses }
+    ensures late_after_loss { LateAfterLoss }
+    ensures name_is_free { NameIsFree }
 {}

@@ -49,8 +49,9 @@ pub(crate) const STEPS: &str = "\
 The file is a JSON object with exactly these keys:
   \"servers\"  3 or 5
   \"nodes\"    a list of at most 64 objects of exactly the keys \"class\", \"cpu\"
-             (MHz) and \"mem\" (MB), each number from 1 to 1000000; client C is
-             the agent of the C-th node, the first being 1
+             (MHz) and \"mem\" (MB), each number from 1 to 1000000, and \"disk\"
+             (MB), from 0 to 1000000, which may be left out where it is 0;
+             client C is the agent of the C-th node, the first being 1
   \"key\"      0 to 18446744073709551615
   \"drop\"     0 to 100, the percentage of messages that are lost
   \"repeat\"   0 to 100, the percentage of messages that are delivered and put in
@@ -82,10 +83,11 @@ The file is a JSON object with exactly these keys:
                 is from 1 to 1099511627775, SLOT from 0 to 63
     request S put NAME PRIORITY GROUPS
                 a job is put to server S; its priority is from 1 to 100; GROUPS
-                are 1 to 8 of GROUP:COUNT:CLASS:CPU:MEMORY, joined by commas,
-                each GROUP once, with a COUNT from 0 to 64, CPU in MHz and
-                MEMORY in MB, both from 1 to 1000000; names of jobs, groups and
-                classes are 1 to 32 of a-z0-9-
+                are 1 to 8 of GROUP:COUNT:CLASS:CPU:MEMORY:DISK, joined by
+                commas, each GROUP once, with a COUNT from 0 to 64, CPU in MHz
+                and MEMORY in MB, both from 1 to 1000000, DISK in MB, from 0 to
+                1000000; names of jobs, groups and classes are 1 to 32 of
+                a-z0-9-
     request S stop NAME
                 nothing of the job is to run any more
     request S eval NAME
@@ -112,7 +114,8 @@ The file is a JSON object with exactly these keys:
     lapse S E   at server S, if it leads, the work on E has lasted too long
     expire S NODE BEAT
                 at server S, if it leads, node NODE, 1 to 64, was heard of BEAT
-                times, 0 to 1099511627775, and not heard of since for too long
+                times, 0 to 1099511627775, and not heard of since for too long:
+                a ready node is disconnected, a disconnected one goes down
     drain S NODE
                 at server S, if it leads, a turn of the drain of node NODE, 1 to
                 64: its next allocations are marked to move, or its drain ends
@@ -216,14 +219,15 @@ taken, all without --at, and then it is printed how the group stands:
   the desk of each server that leads: whether it is open, which pending evaluations
   it gave out, to whose workers, under which token, and what became of them, which
   plans wait for a turn, which evaluations are blocked, and since when, and how
-  often each ready node was heard of;
+  often each node was heard of that is not down;
   the clients, with what they run and what they ever started;
   each state that is applied: jobs, nodes with what is in use of them,
   evaluations and allocations.
 For each evaluation that is pending or blocked a line for each group of its job
 says how many allocations are missing, how many of these a plan places now, and
-how many nodes there are of another class, down, drained, short of cpu, short of
-memory, and with room: each node is counted once, under the first of these.
+how many nodes there are of another class, not ready, drained, short of cpu,
+short of memory, short of disk, and with room: each node is counted once, under
+the first of these. One that is disconnected or down is not ready.
 'fits on none' says that a plan places none of the missing ones.
 
 With --json all of it is one JSON object in one line, the form of which is in

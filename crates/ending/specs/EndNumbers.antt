@@ -2,7 +2,7 @@
 use Rattle.std.specs.Prelude.{◌≡◌, ◌==◌, ◌&&◌, ◌<◌, ℕ, Bool, true, false, List, Option, None, Some, nat_lt, count_by, fold, length, slice_get, if◌then◌else◌}
 use Rattle.rows.specs.declared.allocation.Allocation.{Allocation}
 use Rattle.rows.specs.declared.allocation.ClientState.{ClientState}
-use Rattle.rows.specs.declared.allocation.ClientState.TheVariants.{Pending, Running, Complete, Failed, Lost}
+use Rattle.rows.specs.declared.allocation.ClientState.TheVariants.{Pending, Running, Complete, Failed, Lost, Unknown}
 use Rattle.raft_model.specs.Servers.{Mode, Down, Follower, Candidate, Leader}
 use Rattle.group_model.specs.Members.{Member}
 use Rattle.group_model.specs.Worlds.{World}
@@ -43,6 +43,7 @@ client_runs Running = true
 client_runs Complete = false
 client_runs Failed = false
 client_runs Lost = false
+client_runs Unknown = false
 
 abbrev pub is_running : Allocation → Bool
 is_running a = client_runs a.client

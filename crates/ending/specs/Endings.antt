@@ -10,7 +10,7 @@ use Rattle.rows.specs.Keys.{name_cmp}
 use Rattle.rows.specs.declared.allocation.AllocId.{AllocId}
 use Rattle.rows.specs.declared.allocation.Allocation.{Allocation}
 use Rattle.rows.specs.declared.allocation.ClientState.{ClientState}
-use Rattle.rows.specs.declared.allocation.ClientState.TheVariants.{Pending, Running as RunningState, Complete, Failed, Lost}
+use Rattle.rows.specs.declared.allocation.ClientState.TheVariants.{Pending, Running as RunningState, Complete, Failed, Lost, Unknown}
 use Rattle.fsm_tables.specs.Claims.{is_live}
 use Rattle.raft_model.specs.Servers.{Mode, Down, Follower, Candidate, Leader, is_up}
 use Rattle.group_model.specs.Clients.{Client, Life, Running}
@@ -56,6 +56,7 @@ state_word RunningState = codes "running"
 state_word Complete = codes "complete"
 state_word Failed = codes "failed"
 state_word Lost = codes "lost"
+state_word Unknown = codes "unknown"
 
 -- `alloc JOB.GROUP[K] id X.Y node N STATE`
 abbrev pub row_line : Allocation → List ℕ

@@ -22,26 +22,27 @@ same_texts (x ∷ xs) (y ∷ ys) same = go (bytes_eq (string_bytes x) (string_by
     go true is rest others = ap₂ ◌∷◌ ((bytes_eq-Decides (string_bytes x) (string_bytes y)).0 is) (others rest)
     go false is rest others = absurd (true≢false (sym rest))
 
-abbrev size_of : ℕ → ℕ → Size
-size_of cpu mem = record { cpu = cpu; mem = mem }
+abbrev size_of : ℕ → ℕ → ℕ → Size
+size_of cpu mem disk = record { cpu = cpu; mem = mem; disk = disk }
 
 abbrev node_of : ℕ → List ℕ → Size → NodeSpec
 node_of number class size = record { number = number; class = class; size = size }
 
-same_node : (a b : NodeSpec) → a.number ≡ b.number → a.class ≡ b.class → a.size.cpu ≡ b.size.cpu → a.size.mem ≡ b.size.mem → a ≡ b
-same_node a b number class cpu mem =
+same_node : (a b : NodeSpec) → a.number ≡ b.number → a.class ≡ b.class → a.size.cpu ≡ b.size.cpu → a.size.mem ≡ b.size.mem → a.size.disk ≡ b.size.disk → a ≡ b
+same_node a b number class cpu mem disk =
     ap (λ n. node_of n a.class a.size) number
     ∙ ap (λ c. node_of b.number c a.size) class
-    ∙ ap (λ s. node_of b.number b.class s) (ap₂ size_of cpu mem)
+    ∙ ap (λ s. node_of b.number b.class s) (ap₂ (λ c m. size_of c m a.size.disk) cpu mem ∙ ap (size_of b.size.cpu b.size.mem) disk)
 
 -- two nodes are compared part by part
-pub nodes_decide : (a b : NodeSpec) → Decides (eqb a.number b.number && (bytes_eq a.class b.class && (eqb a.size.cpu b.size.cpu && eqb a.size.mem b.size.mem))) (a ≡ b)
+pub nodes_decide : (a b : NodeSpec) → Decides (eqb a.number b.number && (bytes_eq a.class b.class && (eqb a.size.cpu b.size.cpu && (eqb a.size.mem b.size.mem && eqb a.size.disk b.size.disk)))) (a ≡ b)
 nodes_decide a b = Decides-like _
-    (λ all. same_node a b all.0 all.1.0 all.1.1.0 all.1.1.1)
-    (λ same. (ap (λ n. n.number) same, (ap (λ n. n.class) same, (ap (λ n. n.size.cpu) same, ap (λ n. n.size.mem) same))))
+    (λ all. same_node a b all.0 all.1.0 all.1.1.0 all.1.1.1.0 all.1.1.1.1)
+    (λ same. (ap (λ n. n.number) same, (ap (λ n. n.class) same, (ap (λ n. n.size.cpu) same, (ap (λ n. n.size.mem) same, ap (λ n. n.size.disk) same)))))
     (Decides-and _ _ (Decides-eqb a.number b.number)
     (Decides-and _ _ (bytes_eq-Decides a.class b.class)
-    (Decides-and _ _ (Decides-eqb a.size.cpu b.size.cpu) (Decides-eqb a.size.mem b.size.mem))))
+    (Decides-and _ _ (Decides-eqb a.size.cpu b.size.cpu)
+    (Decides-and _ _ (Decides-eqb a.size.mem b.size.mem) (Decides-eqb a.size.disk b.size.disk)))))
 
 -- a text that is the same as a scenario's is that scenario's
 pub same_scenario : (own text : List ℕ) (scenario : Scenario) → own ≡ text → IsScenarioText own scenario → IsScenarioText text scenario

@@ -94,12 +94,18 @@ fn put_nodes(nodes: &[NodeSpec], text: &mut String) -> Result<(), AllocError> {
     text.push_str("\n  ")
 }
 
+// A node that has no disk says nothing of it.
 fn put_node(between: &str, node: &NodeSpec, text: &mut String) -> Result<(), AllocError> {
     let (class, cpu, mem) = (node.class, node.size.cpu.get(), node.size.mem.get());
     write!(
         text,
-        "{between}\n    {{\"class\": \"{class}\", \"cpu\": {cpu}, \"mem\": {mem}}}"
-    )
+        "{between}\n    {{\"class\": \"{class}\", \"cpu\": {cpu}, \"mem\": {mem}"
+    )?;
+    let disk = node.size.disk.get();
+    if disk != 0 {
+        write!(text, ", \"disk\": {disk}")?;
+    }
+    text.push('}')
 }
 
 // Each step stands between quotes as it is: the line of a step has none, and nothing that is to be

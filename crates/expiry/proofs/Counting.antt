@@ -9,18 +9,17 @@ use Rattle.rows.specs.Keys.{node_number}
 use Rattle.rows.specs.Rising.{is_below, is_rising}
 use Rattle.fsm_tables.specs.Rows.{has_row, put}
 use Rattle.fsm_tables.proofs.RowLaws.{first, second}
-use Rattle.rows.specs.NodeStatuses.{is_ready}
 use Rattle.cluster_model.proofs.Keys.{at_number}
 use Rattle.cluster_model.proofs.Lists.{maps_same, rest_from}
 use Rattle.fsm_state.proofs.StepLaws.{put_only}
-use Rattle.group_model.specs.Expiry.{BeatCount, count_node, counted_node, beat_count_of, beat_counts_over, one_beat_more, with_beat}
+use Rattle.group_model.specs.Expiry.{BeatCount, is_held, count_node, counted_node, beat_count_of, beat_counts_over, one_beat_more, with_beat}
 use Rattle.group_model.proofs.KeptRows.{put_front, below_kept}
 
 -- a node that is below the others comes in front of them
 pub put_first : (n : Node) (nodes : List Node) → T (is_below nat_cmp node_number n.number nodes) → put nat_cmp count_node (counted_node n None) (beat_counts_over nodes []) ≡ counted_node n None ∷ beat_counts_over nodes []
 put_first n nodes h =
     put_front nat_cmp count_node (counted_node n None) (beat_counts_over nodes [])
-    (below_kept nat_cmp node_number count_node (λ x. counted_node x (beat_count_of x.number [])) (λ x. refl) (λ x. is_ready x.status) n.number nodes h)
+    (below_kept nat_cmp node_number count_node (λ x. counted_node x (beat_count_of x.number [])) (λ x. refl) (λ x. is_held x.status) n.number nodes h)
 
 -- ---- from the last node to the first
 
@@ -34,17 +33,17 @@ rest_before nodes at n lt e =
     let next : suc (at - 1) ≡ at = omega arith in
     rest_from nodes (at - 1) n e ∙ ap (λ i. n ∷ drop i nodes) next
 
--- a ready node comes in front of the ready ones behind it
-pub ready_before : (nodes : List Node) (at : ℕ) (n : Node) → T (is_rising nat_cmp node_number nodes) → 0 < at → Some n ≡ slice_get nodes (at - 1) →
+-- a node comes in front of the held ones behind it
+pub before_the_others : (nodes : List Node) (at : ℕ) (n : Node) → T (is_rising nat_cmp node_number nodes) → 0 < at → Some n ≡ slice_get nodes (at - 1) →
     put nat_cmp count_node (counted_node n None) (beat_counts_over (drop at nodes) []) ≡ counted_node n None ∷ beat_counts_over (drop at nodes) []
-ready_before nodes at n rising lt e =
+before_the_others nodes at n rising lt e =
     put_first n (drop at nodes) (first _ _ (subst (λ ns. T (is_rising nat_cmp node_number ns)) (rest_before nodes at n lt e) (rest_rises (at - 1) nodes rising)))
 
 -- what one node more makes of the counts
 pub over_before : (nodes : List Node) (at : ℕ) (n : Node) → 0 < at → Some n ≡ slice_get nodes (at - 1) →
-    beat_counts_over (drop (at - 1) nodes) [] ≡ cond (is_ready n.status) (counted_node n None ∷ beat_counts_over (drop at nodes) []) (beat_counts_over (drop at nodes) [])
-over_before nodes at n lt e = ap (λ ns. beat_counts_over ns []) (rest_before nodes at n lt e) ∙ by (is_ready n.status) where
-  by : (b : Bool) → map (λ (x : Node). counted_node x None) (cond b (n ∷ filter (λ (x : Node). is_ready x.status) (drop at nodes)) (filter (λ (x : Node). is_ready x.status) (drop at nodes)))
+    beat_counts_over (drop (at - 1) nodes) [] ≡ cond (is_held n.status) (counted_node n None ∷ beat_counts_over (drop at nodes) []) (beat_counts_over (drop at nodes) [])
+over_before nodes at n lt e = ap (λ ns. beat_counts_over ns []) (rest_before nodes at n lt e) ∙ by (is_held n.status) where
+  by : (b : Bool) → map (λ (x : Node). counted_node x None) (cond b (n ∷ filter (λ (x : Node). is_held x.status) (drop at nodes)) (filter (λ (x : Node). is_held x.status) (drop at nodes)))
       ≡ cond b (counted_node n None ∷ beat_counts_over (drop at nodes) []) (beat_counts_over (drop at nodes) [])
   by true = refl
   by false = refl

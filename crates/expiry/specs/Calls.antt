@@ -6,7 +6,7 @@ use Rattle.rows.specs.Keys.{node_number}
 use Rattle.rows.specs.Rising.{is_rising}
 use Rattle.fsm_tables.specs.Rows.{put}
 use Rattle.cluster_model.specs.Words.{State}
-use Rattle.group_model.specs.Expiry.{BeatCount, HoldsReady, beat_counts_over, beat_counts_with, with_beat}
+use Rattle.group_model.specs.Expiry.{BeatCount, HoldsHeld, beat_counts_over, beat_counts_with, with_beat}
 
 -- a call that changes counts: they are rebuilt over a state, whose nodes are in order; a node's row
 -- was made or replaced; a node was heard of
@@ -26,7 +26,7 @@ counts_after (Rebuild s rising) counts = beat_counts_over s.nodes []
 counts_after (Changed row) counts = beat_counts_with row counts
 counts_after (Beat node) counts = with_beat node counts
 
--- after these calls the ready ones of the nodes are held
+-- after these calls those of the nodes are held that are not down
 abbrev pub HoldsAfter : List Node → List BeatCount → List Call → Type 0
-HoldsAfter nodes counts [] = HoldsReady nodes counts
+HoldsAfter nodes counts [] = HoldsHeld nodes counts
 HoldsAfter nodes counts (c ∷ calls) = HoldsAfter (nodes_after c nodes) (counts_after c counts) calls

@@ -1,4 +1,4 @@
--- Worked heartbeats: nodes 1 and 2 are ready, and node 1 is heard of once.
+-- Worked heartbeats: node 1 is ready and node 2 disconnected, and node 1 is heard of once.
 use Rattle.std.specs.Prelude.{◌≡◌, ℕ, Some, None, Ok, Err, List, [], ◌∷◌}
 use Rattle.rows.specs.declared.refusal.Refusal.TheVariants as refusals
 use Rattle.rows.specs.declared.node.Node.{Node}
@@ -10,9 +10,12 @@ use Rattle.group_model.specs.Worked.Words.{node_row}
 abbrev pub down_node : ℕ → Node
 down_node n = record (node_row n) { status = statuses.Down }
 
+abbrev pub away_node : ℕ → Node
+away_node n = record (node_row n) { status = statuses.Disconnected }
+
 -- node 3 is down
 abbrev pub begin : List BeatCount
-begin = beat_counts_over (node_row 1 ∷ node_row 2 ∷ down_node 3 ∷ []) []
+begin = beat_counts_over (node_row 1 ∷ away_node 2 ∷ down_node 3 ∷ []) []
 
 abbrev pub count : ℕ → ℕ → BeatCount
 count node beats = record { node = node; beats = beats }
@@ -37,9 +40,19 @@ Stale = expiry_refusal 1 0 once ≡ Some refusals.StaleExpiry
 abbrev pub InTime : Type 0
 InTime = expiry_refusal 1 1 once ≡ None
 
--- another row of a node that is held changes nothing
+-- another row of a node that is held changes nothing, nor that it is disconnected or comes back
 abbrev pub StaysReady : Type 0
 StaysReady = beat_counts_with (record (node_row 1) { room = 9 }) once ≡ once
+
+abbrev pub StaysAway : Type 0
+StaysAway = beat_counts_with (away_node 1) once ≡ once
+
+abbrev pub StaysAsItComes : Type 0
+StaysAsItComes = beat_counts_with (node_row 2) once ≡ once
+
+-- one that is disconnected is heard of too
+abbrev pub HeardAway : Type 0
+HeardAway = beat_heard 2 once ≡ Ok (count 1 1 ∷ count 2 1 ∷ [])
 
 abbrev pub gone : List BeatCount
 gone = beat_counts_with (down_node 1) once

@@ -5,7 +5,7 @@ use fsm_tables::Row;
 use rows::{Index, NodeId, Ranged};
 use std::marker::Model;
 
-/// How often a ready node was heard of, up to 2^40 - 1 times.
+/// How often a node that is not down was heard of, up to 2^40 - 1 times.
 #[derive(Clone, Copy)]
 pub(crate) struct BeatCount {
     /// The node.

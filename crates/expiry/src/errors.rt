@@ -10,7 +10,7 @@ use rows::Refusal;
 #[derive(Clone, Copy, Debug, PartialEq, Eq)]
 pub struct UnknownNode;
 
-/// Why a node may not be said to be lost. `?` makes it the refusal of that number.
+/// Why a node does not expire. `?` makes it the refusal of that number.
 #[derive(Clone, Copy, Debug, PartialEq, Eq)]
 pub enum ExpiryError {
     /// 9: the node is not held.

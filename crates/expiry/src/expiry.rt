@@ -3,8 +3,7 @@ ghost use Rattle.std.specs.Prelude.{OnOk, OnErr, IfOk, IfErr};
 ghost use Rattle.rows.specs.declared.refusal.Refusal.TheVariants as refusals;
 ghost use Rattle.std.specs.Ordering.{nat_cmp};
 ghost use Rattle.fsm_tables.specs.ReservedTables.{has_space};
-ghost use Rattle.rows.specs.NodeStatuses.{is_ready};
-ghost use Rattle.group_model.specs.Expiry.{count_node, beat_count_of, beat_counts_over, beat_counts_with};
+ghost use Rattle.group_model.specs.Expiry.{is_held, count_node, beat_count_of, beat_counts_over, beat_counts_with};
 ghost use Rattle.group_model.specs.BeatCounts.{beat_heard, expiry_refusal};
 ghost use Rattle.expiry.specs.Errors.{refusal_of};
 
@@ -12,14 +11,14 @@ use crate::beat_count::BeatCount;
 use crate::errors::{ExpiryError, UnknownNode};
 use fsm_state::Cluster;
 use fsm_tables::{ReservedTable, Table};
-use rows::{Index, NoMemory, Node, NodeId};
+use rows::{Index, NoMemory, Node, NodeId, NodeStatus};
 use std::alloc::Global;
 use std::marker::Model;
 
-/// The ready nodes, each with the number of its heartbeats since the desk opened, or since the node
-/// came back. Contracts see the list of them in rising node. (Nomad documentation, "server" block
-/// of the agent configuration: heartbeats of clients; a count in place of a timer is this project's
-/// own.)
+/// The nodes that are not down, each with the number of its heartbeats since the desk opened, or
+/// since the node came or was down. Contracts see the list of them in rising node. (Nomad
+/// documentation, "server" block of the agent configuration: heartbeats of clients; a count in
+/// place of a timer is this project's own.)
 #[derive(Drop)]
 pub struct Expiry {
     counts: ReservedTable<BeatCount>,
@@ -34,7 +33,14 @@ impl Model for Expiry {
     ghost view = { λ e. e.counts.rows };
 }
 
-/// The ready ones of the nodes, none of which was heard of yet.
+/// Whether heartbeats of a node of this status are counted: it is ready or disconnected.
+fn is_held(status: NodeStatus) -> bool
+    ensures { result ≡ is_held status }
+{
+    !status.is_down()
+}
+
+/// Those of the nodes that are held, none of which was heard of yet.
 fn counts_over(alloc: Global, nodes: &Table<Node>) -> Result<ReservedTable<BeatCount>, NoMemory>
     ensures ok { IfOk result (λ counts. counts.rows ≡ beat_counts_over nodes.now []) }
     ensures memory { OnErr result (1 ≤ length nodes.now) }
@@ -48,7 +54,7 @@ fn counts_over(alloc: Global, nodes: &Table<Node>) -> Result<ReservedTable<BeatC
         let Some(row) = nodes.at(at) else {
             unreachable!()
         };
-        if row.status.is_ready() {
+        if is_held(row.status) {
             counts.put(BeatCount {
                 node: row.number,
                 beats: Index::ZERO,
@@ -81,8 +87,8 @@ impl Expiry {
         }
     }
 
-    /// The ready nodes of a state, none of which was heard of yet. A state without nodes takes no
-    /// memory.
+    /// The nodes of a state that are not down, none of which was heard of yet. A state without
+    /// nodes takes no memory.
     pub fn rebuild(alloc: Global, state: &Cluster) -> Result<Expiry, NoMemory>
         ensures ok { IfOk result (λ e. e ≡ beat_counts_over state.now.nodes []) }
         ensures memory { OnErr result (1 ≤ length state.now.nodes) }
@@ -101,16 +107,16 @@ impl Expiry {
         }
     }
 
-    /// A node's row was made or replaced: a ready node that is not held comes in with 0, one that
-    /// is held keeps its number, and one that is down goes. Only a node that comes in takes memory;
-    /// without it nothing changes.
+    /// A node's row was made or replaced: one that is not down and not held comes in with 0, one
+    /// that is held keeps its number, also where it goes from ready to disconnected or back, and
+    /// one that is down goes. Only a node that comes in takes memory; without it nothing changes.
     pub fn changed(&mut self, row: &Node) -> Result<(), NoMemory>
         ensures ok { OnOk result (self.new ≡ beat_counts_with row.now self.old) }
         ensures err { OnErr result (self.new ≡ self.old) }
         ensures memory { let old = beat_count_of row.now.number self.old in
-            OnErr result ((is_ready row.now.status ≡ true) × (old ≡ None)) }
+            OnErr result ((is_held row.now.status ≡ true) × (old ≡ None)) }
     {
-        if !row.status.is_ready() {
+        if !is_held(row.status) {
             self.counts.cut(&row.number);
             return Ok(());
         }
@@ -140,9 +146,8 @@ impl Expiry {
         Ok(())
     }
 
-    /// Whether a node may be said to be lost, which was heard of so often and not since.
-    /// `UnknownNode` where it is not held; `StaleExpiry` where its number is another. It takes no
-    /// memory.
+    /// Whether a node expires, which was heard of so often and not since. `UnknownNode` where it is
+    /// not held; `StaleExpiry` where its number is another. It takes no memory.
     pub fn expire(&self, node: NodeId, beats: Index) -> Result<(), ExpiryError>
         ensures ok { OnOk result (expiry_refusal node beats self.now ≡ None) }
         ensures err { IfErr result

@@ -3,9 +3,9 @@ ghost use Rattle.std.specs.Prelude.{List, []};
 ghost use Rattle.group_model.specs.BeatCounts.{BeatsByCounts, ExpiresByCounts};
 ghost use Rattle.expiry.specs.Calls.{Call, HoldsAfter};
 
-/// After every list of calls the nodes that are held are the ready ones of the state by then, which
-/// are those that `rebuild` would give.
-pub fn ready_nodes_are_held()
+/// After every list of calls the nodes whose heartbeats are counted are those of the state by then
+/// that are not down, which are those that `rebuild` would give.
+pub fn others_than_down_are_held()
     ensures { (calls : List Call) → HoldsAfter [] [] calls }
 {}
 

@@ -1,4 +1,4 @@
-//! Which nodes are ready, and how often they were heard of.
+//! Which nodes are not down, and how often they were heard of.
 #![tactic(auto)]
 
 mod beat_count;
@@ -9,5 +9,5 @@ mod worked;
 
 pub use errors::{ExpiryError, UnknownNode};
 pub use expiry::Expiry;
-pub use laws::{desks_go_by_counts, ready_nodes_are_held};
+pub use laws::{desks_go_by_counts, others_than_down_are_held};
 pub use worked::worked_heartbeats;

@@ -1,8 +1,10 @@
 //! Worked heartbeats, each a law by computation.
 ghost use Rattle.expiry.specs.Worked.{BeginAtNone, HeardOnce, OtherNode, Stale, InTime};
-ghost use Rattle.expiry.specs.Worked.{StaysReady, Gone, BackAtNone, AtTheGreatest};
+ghost use Rattle.expiry.specs.Worked.{StaysReady, StaysAway, StaysAsItComes, HeardAway};
+ghost use Rattle.expiry.specs.Worked.{Gone, BackAtNone, AtTheGreatest};
 
-/// Nodes 1 and 2 are ready, and node 1 is heard of once; then it goes down, and comes back.
+/// Node 1 is ready and node 2 disconnected, and node 1 is heard of once. Node 1 is disconnected,
+/// node 2 comes back or is heard of; or node 1 goes down, and comes back.
 pub fn worked_heartbeats()
     ensures begin { BeginAtNone }
     ensures heard { HeardOnce }
@@ -10,6 +12,9 @@ pub fn worked_heartbeats()
     ensures stale { Stale }
     ensures in_time { InTime }
     ensures stays { StaysReady }
+    ensures stays_away { StaysAway }
+    ensures stays_as_it_comes { StaysAsItComes }
+    ensures heard_away { HeardAway }
     ensures gone { Gone }
     ensures back { BackAtNone }
     ensures greatest { AtTheGreatest }

@@ -9,23 +9,25 @@ use crate::writing::write_u8;
 use rows::{ClientState, Desired, DrainMode, EvalStatus, NoMemory, NodeStatus, Refusal, Version};
 use std::alloc::Global;
 
-/// One byte: 0 ready, 1 down.
+/// One byte: 0 ready, 1 down, and from version 3 on 2 disconnected.
 impl Field for NodeStatus {
-    ghost format = { λ _. node_status };
+    ghost format = { node_status };
 
-    ghost lawful = { λ _. node_status_lawful };
+    ghost lawful = { node_status_lawful };
 
     fn read_at(
-        _version: Version,
+        version: Version,
         _alloc: Global,
         bytes: &[u8],
         at: usize,
     ) -> Result<(NodeStatus, usize), Refusal>
-        ensures { GivesExactly result (node_status.read bytes.now at) }
+        ensures { GivesExactly result ((node_status version).read bytes.now at) }
     {
+        let number = version.number();
         match read_u8(bytes, at)? {
             (0, next) => Ok((NodeStatus::Ready, next)),
             (1, next) => Ok((NodeStatus::Down, next)),
+            (2, next) if number >= 3 => Ok((NodeStatus::Disconnected, next)),
             _ => Err(Refusal::Frame(at)),
         }
     }
@@ -34,6 +36,7 @@ impl Field for NodeStatus {
         let code = match self {
             NodeStatus::Ready => 0,
             NodeStatus::Down => 1,
+            NodeStatus::Disconnected => 2,
         };
         write_u8(&code, out)
     }
@@ -135,26 +138,28 @@ impl Field for Desired {
     }
 }
 
-/// One byte: 0 pending, 1 running, 2 complete, 3 failed, 4 lost.
+/// One byte: 0 pending, 1 running, 2 complete, 3 failed, 4 lost, and from version 3 on 5 unknown.
 impl Field for ClientState {
-    ghost format = { λ _. client_state };
+    ghost format = { client_state };
 
-    ghost lawful = { λ _. client_state_lawful };
+    ghost lawful = { client_state_lawful };
 
     fn read_at(
-        _version: Version,
+        version: Version,
         _alloc: Global,
         bytes: &[u8],
         at: usize,
     ) -> Result<(ClientState, usize), Refusal>
-        ensures { GivesExactly result (client_state.read bytes.now at) }
+        ensures { GivesExactly result ((client_state version).read bytes.now at) }
     {
+        let number = version.number();
         match read_u8(bytes, at)? {
             (0, next) => Ok((ClientState::Pending, next)),
             (1, next) => Ok((ClientState::Running, next)),
             (2, next) => Ok((ClientState::Complete, next)),
             (3, next) => Ok((ClientState::Failed, next)),
             (4, next) => Ok((ClientState::Lost, next)),
+            (5, next) if number >= 3 => Ok((ClientState::Unknown, next)),
             _ => Err(Refusal::Frame(at)),
         }
     }
@@ -166,6 +171,7 @@ impl Field for ClientState {
             ClientState::Complete => 2,
             ClientState::Failed => 3,
             ClientState::Lost => 4,
+            ClientState::Unknown => 5,
         };
         write_u8(&code, out)
     }

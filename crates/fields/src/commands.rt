@@ -1,8 +1,8 @@
 //! Commands, and what a worker submits, as bytes.
 ghost use Rattle.std.specs.Prelude.{◌≡◌};
 ghost use Rattle.rows.specs.Versions.{newest};
-ghost use Rattle.fields_model.specs.Format.{Gives, GivesExactly, Puts};
-ghost use Rattle.fields_model.specs.Commands.{job_spec, node_spec, rising_ids, place, accepted_place, plan, plan_end, accepted_plan, accepted_end, reported_state, report, reports, status_change, command, bodies, later_bodies, tag_of};
+ghost use Rattle.fields_model.specs.Format.{Gives, GivesExactly, Puts, number};
+ghost use Rattle.fields_model.specs.Commands.{job_spec, node_spec, rising_ids, place, accepted_place, plan, plan_end, accepted_plan, accepted_end, reported_state, report, reports, status_change, command, bodies, later_bodies, tag_of, tags_in};
 ghost use Rattle.fields_model.proofs.CommandLaws.{job_spec_lawful, node_spec_lawful, rising_ids_lawful, place_lawful, accepted_place_lawful, plan_lawful, accepted_plan_lawful, reported_state_lawful, report_lawful, reports_lawful, status_change_lawful, command_lawful};
 
 use crate::field::Field;
@@ -414,7 +414,7 @@ impl Field for StatusChange {
     }
 }
 
-/// The tag of a command, from 0 to 11.
+/// The tag of a command, from 0 to 12.
 fn tag(command: &Command) -> u8
     ensures { result ≡ tag_of command.now }
 {
@@ -431,6 +431,19 @@ fn tag(command: &Command) -> u8
         Command::EvalStatus(_, _) => 9,
         Command::Plan(_) => 10,
         Command::Report(_, _) => 11,
+        Command::Disconnect(_) => 12,
+    }
+}
+
+/// The tag of a command, of those that there are in a version. `Frame` names it where it is cut or
+/// none of them.
+fn read_tag(version: Version, bytes: &[u8], at: usize) -> Result<(usize, usize), Refusal>
+    ensures { GivesExactly result ((number 1 0 (tags_in version)).read bytes.now at) }
+{
+    if version.number() >= 3 {
+        read_count(bytes, at, 12)
+    } else {
+        read_count(bytes, at, 11)
     }
 }
 
@@ -508,6 +521,10 @@ fn read_later_body(
             let (items, at) = Reports::read_at(version, alloc, bytes, at)?;
             Ok((Command::Report(node, items), at))
         }
+        12 => {
+            let (node, at) = NodeId::read_at(version, alloc, bytes, at)?;
+            Ok((Command::Disconnect(node), at))
+        }
         _ => Err(Refusal::Frame(at)),
     }
 }
@@ -523,6 +540,7 @@ fn append_body(command: &Command, out: &mut Vec<u8>) -> Result<(), NoMemory>
         Command::JobStop(name) => name.append(out),
         Command::NodePut(node) => node.append(out),
         Command::NodeDown(node) => node.append(out),
+        Command::Disconnect(node) => node.append(out),
         Command::Drain(node, force) => {
             node.append(out)?;
             force.append(out)
@@ -542,7 +560,7 @@ fn append_body(command: &Command, out: &mut Vec<u8>) -> Result<(), NoMemory>
     }
 }
 
-/// A tag in one byte, from 0 to 11, and then what it says.
+/// A tag in one byte, from 0 to 11, and from version 3 on to 12, and then what it says.
 impl Field for Command {
     ghost format = { command };
 
@@ -554,7 +572,7 @@ impl Field for Command {
         bytes: &[u8],
         at: usize,
     ) -> Result<(Command, usize), Refusal> {
-        let (tag, next) = read_count(bytes, at, 11)?;
+        let (tag, next) = read_tag(version, bytes, at)?;
         read_body(version, alloc, tag, bytes, next)
     }
 

@@ -1,14 +1,14 @@
 //! Names, sizes, ids and tokens as bytes.
 ghost use Rattle.fields_model.specs.Format.{GivesExactly};
-ghost use Rattle.fields_model.specs.Ids.{name, quantity, size, node_id, ordinal, priority, group_count, from_one, evaluation_id, allocation_id, token, delivery};
-ghost use Rattle.fields_model.proofs.IdLaws.{name_lawful, quantity_lawful, size_lawful, node_id_lawful, ordinal_lawful, priority_lawful, group_count_lawful, from_one_lawful, evaluation_id_lawful, allocation_id_lawful, token_lawful, delivery_lawful};
+ghost use Rattle.fields_model.specs.Ids.{name, quantity, space, size, node_id, ordinal, priority, group_count, from_one, evaluation_id, allocation_id, token, delivery};
+ghost use Rattle.fields_model.proofs.IdLaws.{name_lawful, quantity_lawful, space_lawful, size_lawful, node_id_lawful, ordinal_lawful, priority_lawful, group_count_lawful, from_one_lawful, evaluation_id_lawful, allocation_id_lawful, token_lawful, delivery_lawful};
 
 use crate::field::Field;
 use crate::reading::{read_name, read_u8, read_u16, read_u32, read_u64};
 use crate::writing::{write_u8, write_u16, write_u32, write_u64};
 use rows::{
     AllocId, Delivery, EntryIndex, EvalId, GroupCount, Index, LeaderTerm, Name, NoMemory, NodeId,
-    Ordinal, Priority, Quantity, Refusal, Serial, Size, Token, Version,
+    Ordinal, Priority, Quantity, Refusal, Serial, Size, Space, Token, Version,
 };
 use std::alloc::Global;
 
@@ -246,7 +246,34 @@ impl Field for Serial {
     }
 }
 
-/// The processor time, and then the memory.
+/// Four bytes, at most 1,000,000.
+impl Field for Space {
+    ghost format = { λ _. space };
+
+    ghost lawful = { λ _. space_lawful };
+
+    fn read_at(
+        _version: Version,
+        _alloc: Global,
+        bytes: &[u8],
+        at: usize,
+    ) -> Result<(Space, usize), Refusal>
+        ensures { GivesExactly result (space.read bytes.now at) }
+    {
+        let (number, next) = read_u32(bytes, at)?;
+        match Space::new(number) {
+            Some(value) => Ok((value, next)),
+            None => Err(Refusal::Frame(at)),
+        }
+    }
+
+    fn append(&self, out: &mut Vec<u8>) -> Result<(), NoMemory> {
+        write_u32(&self.get(), out)
+    }
+}
+
+/// The processor time, then the memory, and, from version 2 on, the disk, of which there was none
+/// before.
 impl Field for Size {
     ghost format = { size };
 
@@ -262,12 +289,19 @@ impl Field for Size {
     {
         let (cpu, at) = Quantity::read_at(version, alloc, bytes, at)?;
         let (mem, at) = Quantity::read_at(version, alloc, bytes, at)?;
-        Ok((Size { cpu, mem }, at))
+        if version.number() >= 2 {
+            let (disk, at) = Space::read_at(version, alloc, bytes, at)?;
+            Ok((Size { cpu, mem, disk }, at))
+        } else {
+            let disk = Space::NONE;
+            Ok((Size { cpu, mem, disk }, at))
+        }
     }
 
     fn append(&self, out: &mut Vec<u8>) -> Result<(), NoMemory> {
         self.cpu.append(out)?;
-        self.mem.append(out)
+        self.mem.append(out)?;
+        self.disk.append(out)
     }
 }
 

@@ -135,7 +135,7 @@ fn read_node_of(
 
 /// Whether a node is heard of, whether it is eligible, its drain and its room.
 fn append_node_end(node: &Node, out: &mut Vec<u8>) -> Result<(), NoMemory>
-    ensures { Puts node_end (node.now.status, (node.now.eligible, (node.now.drain, node.now.room))) result out.old.items out.new.items }
+    ensures { Puts (node_end newest) (node.now.status, (node.now.eligible, (node.now.drain, node.now.room))) result out.old.items out.new.items }
 {
     node.status.append(out)?;
     node.eligible.append(out)?;
@@ -344,7 +344,7 @@ fn append_allocation_place(row: &Allocation, out: &mut Vec<u8>) -> Result<(), No
 
 /// What is wanted and known, whether it is to move, and the evaluation.
 fn append_allocation_end(row: &Allocation, out: &mut Vec<u8>) -> Result<(), NoMemory>
-    ensures { Puts allocation_end (row.now.desired, (row.now.client, (row.now.migrate, row.now.eval))) result out.old.items out.new.items }
+    ensures { Puts (allocation_end newest) (row.now.desired, (row.now.client, (row.now.migrate, row.now.eval))) result out.old.items out.new.items }
 {
     row.desired.append(out)?;
     row.client.append(out)?;

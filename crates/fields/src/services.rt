@@ -442,7 +442,7 @@ impl Field for ClientRequestKind {
     }
 }
 
-/// One byte: 0 pending, 1 running.
+/// One byte: 0 pending, 1 running, 2 unknown.
 impl Field for LiveState {
     ghost format = { λ _. live_state };
 
@@ -459,6 +459,7 @@ impl Field for LiveState {
         match read_u8(bytes, at)? {
             (0, next) => Ok((LiveState::Pending, next)),
             (1, next) => Ok((LiveState::Running, next)),
+            (2, next) => Ok((LiveState::Unknown, next)),
             _ => Err(Refusal::Frame(at)),
         }
     }
@@ -467,6 +468,7 @@ impl Field for LiveState {
         let code = match self {
             LiveState::Pending => 0,
             LiveState::Running => 1,
+            LiveState::Unknown => 2,
         };
         write_u8(&code, out)
     }

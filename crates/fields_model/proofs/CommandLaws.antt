@@ -1,5 +1,5 @@
 -- The laws of commands.
-use Rattle.std.proofs.Common.{◌≡◌, ℕ, ◌^◌, ◌≤◌, ◌<◌, Bool, List, [], ◌∷◌, Some, refl, ap, sym, arith}
+use Rattle.std.proofs.Common.{◌≡◌, nat_lt, cond, true, false, ℕ, ◌^◌, ◌≤◌, ◌<◌, Bool, List, [], ◌∷◌, Some, refl, ap, sym, arith}
 use Rattle.rows.specs.declared.allocation.AllocId.{AllocId}
 use Rattle.rows.specs.declared.evaluation.EvalId.{EvalId}
 use Rattle.rows.specs.declared.evaluation.EvalStatus.{EvalStatus}
@@ -19,7 +19,7 @@ use Rattle.fields_model.proofs.FieldLaws.{index_lawful, bool_lawful}
 use Rattle.fields_model.proofs.IdLaws.{name_lawful, size_lawful, node_id_lawful, ordinal_lawful, priority_lawful, evaluation_id_lawful, allocation_id_lawful, token_lawful}
 use Rattle.fields_model.specs.Rows.{eval_status}
 use Rattle.fields_model.proofs.RowLaws.{groups_lawful, eval_status_lawful, allocation_id_is_ruled}
-use Rattle.fields_model.specs.Commands.{job_spec, node_spec, stops, rising_ids, place, accepted_place, plan_end, plan, accepted_end, accepted_plan, reported_state, report, reports, snapshot_limit, change_to, change_parts, status_change, tag_of, noop_of, job_put_of, job_stop_of, node_put_of, node_down_of, drain_of, drain_done_of, migrate_of, eval_put_of, eval_status_of, plan_of, report_of, command}
+use Rattle.fields_model.specs.Commands.{job_spec, node_spec, stops, rising_ids, place, accepted_place, plan_end, plan, accepted_end, accepted_plan, reported_state, report, reports, snapshot_limit, change_to, change_parts, status_change, tag_of, tags_in, disconnect_of, noop_of, job_put_of, job_stop_of, node_put_of, node_down_of, drain_of, drain_done_of, migrate_of, eval_put_of, eval_status_of, plan_of, report_of, command}
 
 pub job_spec_lawful : (version : ℕ) → Lawful (job_spec version)
 job_spec_lawful version = made_lawful _ _ _ (λ _. refl) (λ _ _. refl) (then_lawful _ _ name_lawful (then_lawful _ _ priority_lawful (groups_lawful version)))
@@ -107,6 +107,14 @@ node_down_there : (v : Command) (a : ℕ) → node_down_of v ≡ Some a → comm
 node_down_there (commands.NodeDown x) a e = cc
 node_down_there _ a e = absurd cc
 
+disconnect_there : (v : Command) (a : ℕ) → disconnect_of v ≡ Some a → commands.Disconnect a ≡ v
+disconnect_there (commands.Disconnect x) a e = cc
+disconnect_there _ a e = absurd cc
+
+tags_few : (b : Bool) → cond b 12 13 ≤ 256
+tags_few true = omega arith
+tags_few false = omega arith
+
 drain_is : (p q : ℕ × Bool) → Some p ≡ Some q → p ≡ q
 drain_is p q e = cc
 
@@ -145,7 +153,7 @@ report_there (commands.Report x y) a e = ap (λ (p : ℕ × List Report). comman
 report_there _ a e = absurd cc
 
 pub command_lawful : (version : ℕ) → Lawful (command version)
-command_lawful version = choice_lawful tag_of _ _ (number_lawful 1 0 12 (omega arith) (omega arith))
+command_lawful version = choice_lawful tag_of _ _ (number_lawful 1 0 (tags_in version) (omega arith) (tags_few (nat_lt version 3)))
     (variant_choice tag_of 0 _ _ _ _ (record { back = λ _. refl; there = noop_there }) (λ _. refl) nothing_lawful
     (variant_choice tag_of 1 _ _ _ _ (record { back = λ _. refl; there = job_put_there }) (λ _. refl) (job_spec_lawful version)
     (variant_choice tag_of 2 _ _ _ _ (record { back = λ _. refl; there = job_stop_there }) (λ _. refl) name_lawful
@@ -158,4 +166,5 @@ command_lawful version = choice_lawful tag_of _ _ (number_lawful 1 0 12 (omega a
     (variant_choice tag_of 9 _ _ _ _ (record { back = λ _. refl; there = eval_status_there }) (λ _. refl) (then_lawful _ _ evaluation_id_lawful status_change_lawful)
     (variant_choice tag_of 10 _ _ _ _ (record { back = λ _. refl; there = plan_there }) (λ _. refl) (accepted_plan_lawful version)
     (variant_choice tag_of 11 _ _ _ _ (record { back = λ _. refl; there = report_there }) (λ _. refl) (then_lawful _ _ node_id_lawful reports_lawful)
-    (no_choice tag_of)))))))))))))
+    (variant_choice tag_of 12 _ _ _ _ (record { back = λ _. refl; there = disconnect_there }) (λ _. refl) node_id_lawful
+    (no_choice tag_of))))))))))))))

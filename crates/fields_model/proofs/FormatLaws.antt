@@ -462,6 +462,11 @@ absent_lawful value = coded_lawful (λ _. Some value) (λ _. tt) nothing (λ a b
 pub since_lawful : {A : Type 0} (first : ℕ) (old : A) (f : Format A) (version : ℕ) → Lawful f → Lawful (since first old f version)
 since_lawful first old f version lf = either_law f (absent old) (nat_le first version) lf (absent_lawful old)
 
+-- a value of one of two formats is one of the first or of the second
+pub either_fits : {V : Type 0} (f g : Format V) (b : Bool) (v : V) (P : Type 0) → (f.Fits v → P) → (g.Fits v → P) → (either f g b).Fits v → P
+either_fits f g true v P one other h = one h
+either_fits f g false v P one other h = other h
+
 -- only the values that pass a test
 pub kept_lawful : {A : Type 0} (test : A → Bool) (f : Format A) → Lawful f → Lawful (kept test f)
 kept_lawful {A} test f lf = record {

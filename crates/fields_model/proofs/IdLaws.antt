@@ -2,9 +2,9 @@
 use Rattle.std.proofs.Common.{ℕ, refl, arith}
 use Rattle.rows.specs.Names.{is_name_byte}
 use Rattle.fields_model.specs.Format.{Lawful}
-use Rattle.fields_model.proofs.FormatLaws.{number_lawful, string_lawful, made_lawful, then_lawful}
+use Rattle.fields_model.proofs.FormatLaws.{number_lawful, string_lawful, made_lawful, then_lawful, since_lawful}
 use Rattle.fields_model.proofs.FieldLaws.{index_lawful}
-use Rattle.fields_model.specs.Ids.{name, quantity, size, node_id, ordinal, priority, group_count, from_one, evaluation_id, allocation_id, token, delivery}
+use Rattle.fields_model.specs.Ids.{name, quantity, space, size, node_id, ordinal, priority, group_count, from_one, evaluation_id, allocation_id, token, delivery}
 
 pub name_lawful : Lawful name
 name_lawful = string_lawful 1 1 32 is_name_byte (omega arith) (omega arith)
@@ -12,8 +12,11 @@ name_lawful = string_lawful 1 1 32 is_name_byte (omega arith) (omega arith)
 pub quantity_lawful : Lawful quantity
 quantity_lawful = number_lawful 4 1 1000001 (omega arith) (omega arith)
 
+pub space_lawful : Lawful space
+space_lawful = number_lawful 4 0 1000001 (omega arith) (omega arith)
+
 pub size_lawful : (version : ℕ) → Lawful (size version)
-size_lawful version = made_lawful _ _ _ (λ _. refl) (λ _ _. refl) (then_lawful _ _ quantity_lawful quantity_lawful)
+size_lawful version = made_lawful _ _ _ (λ _. refl) (λ _ _. refl) (then_lawful _ _ quantity_lawful (then_lawful _ _ quantity_lawful (since_lawful 2 0 space version space_lawful)))
 
 pub node_id_lawful : Lawful node_id
 node_id_lawful = number_lawful 1 1 65 (omega arith) (omega arith)

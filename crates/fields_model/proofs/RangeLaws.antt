@@ -1,5 +1,5 @@
 -- The values that have a text are those whose parts are within their limits: both ways.
-use Rattle.std.proofs.Common.{ℕ, Bool, true, false, List, [], ◌∷◌, length, refl, sym, ◌∙◌, arith}
+use Rattle.std.proofs.Common.{ℕ, ◌≡◌, nat_le, Some, Bool, true, false, List, [], ◌∷◌, length, refl, sym, ◌∙◌, arith}
 use Rattle.std.specs.Cmp.{IsTotalOrder, nat_cmp_total}
 use Rattle.std.specs.Cmp.Lexicographic.{nat_list_cmp_total}
 use Rattle.std.specs.List.{AllByRecursion}
@@ -8,7 +8,7 @@ use Rattle.std.specs.declared.cmp.Ordering.{Ordering}
 use Rattle.std.proofs.lemmas.Bool.{lt-ltb, ltb-true}
 use Rattle.std.proofs.lemmas.Float.{T_from_true}
 use Rattle.rows.specs.Versions.{newest}
-use Rattle.rows.specs.Fits.{QuantityFits, NodeIdFits, OrdinalFits, PriorityFits, GroupCountFits, SizeFits, EvalIdFits, AllocIdFits, TokenFits, GroupFits, GroupsFit, JobSpecFits, JobFits, NodeSpecFits, NodeFits, EvaluationFits, AllocationFits, StatusChangeFits, AcceptedPlaceFits, AcceptedPlanFits, ReportFits, ReportsFit, RisingIdsFit, CommandFits}
+use Rattle.rows.specs.Fits.{QuantityFits, SpaceFits, NodeIdFits, OrdinalFits, PriorityFits, GroupCountFits, SizeFits, EvalIdFits, AllocIdFits, TokenFits, GroupFits, GroupsFit, JobSpecFits, JobFits, NodeSpecFits, NodeFits, EvaluationFits, AllocationFits, StatusChangeFits, AcceptedPlaceFits, AcceptedPlanFits, ReportFits, ReportsFit, RisingIdsFit, CommandFits}
 use Rattle.rows.proofs.KeyLaws.{eval_cmp_total, alloc_cmp_total}
 use Rattle.rows.specs.Keys.{name_cmp, eval_cmp, alloc_cmp, job_name, node_number, eval_id, alloc_id}
 use Rattle.rows.specs.Rising.{is_behind}
@@ -46,9 +46,10 @@ use Rattle.rows.specs.declared.node.NodeStatus.{NodeStatus}
 use Rattle.rows.specs.declared.node.NodeStatus.TheVariants as node_statuses
 use Rattle.rows.specs.declared.size.Size.{Size}
 use Rattle.rows.specs.declared.token.Token.{Token}
-use Rattle.fields_model.specs.Format.{Format, ruled_list}
+use Rattle.fields_model.specs.Format.{Format, absent, since, ruled_list}
+use Rattle.fields_model.proofs.FormatLaws.{either_fits}
 use Rattle.fields_model.specs.Fields.{bool}
-use Rattle.fields_model.specs.Ids.{quantity, size, node_id, ordinal, priority, group_count, evaluation_id, allocation_id, token}
+use Rattle.fields_model.specs.Ids.{quantity, space, size, node_id, ordinal, priority, group_count, evaluation_id, allocation_id, token}
 use Rattle.fields_model.specs.Rows.{node_status, drain_mode, eval_status, desired, client_state, group, groups, job, job_behind, node, node_behind, evaluation, evaluation_behind, allocation, allocation_behind}
 use Rattle.fields_model.specs.Commands.{job_spec, node_spec, rising_ids, accepted_place, accepted_plan, reported_state, report, reports, status_change, command}
 use Rattle.fields_model.specs.StateText.{jobs, nodes, evaluations, allocations, state}
@@ -89,9 +90,10 @@ fits_bool : (b : Bool) → bool.Fits b
 fits_bool true = ((omega arith, omega arith), refl)
 fits_bool false = ((omega arith, omega arith), refl)
 
-fits_node_status : (v : NodeStatus) → node_status.Fits v
-fits_node_status node_statuses.Ready = ((omega arith, omega arith), refl)
-fits_node_status node_statuses.Down = ((omega arith, omega arith), refl)
+fits_node_status : (v : NodeStatus) → (node_status newest).Fits v
+fits_node_status node_statuses.Ready = (((omega arith, omega arith), refl), refl)
+fits_node_status node_statuses.Down = (((omega arith, omega arith), refl), refl)
+fits_node_status node_statuses.Disconnected = (((omega arith, omega arith), refl), refl)
 
 fits_drain_mode : (v : DrainMode) → drain_mode.Fits v
 fits_drain_mode drains.Off = ((omega arith, omega arith), refl)
@@ -108,12 +110,13 @@ fits_desired : (v : Desired) → desired.Fits v
 fits_desired desires.Run = ((omega arith, omega arith), refl)
 fits_desired desires.Stop = ((omega arith, omega arith), refl)
 
-fits_client_state : (v : ClientState) → client_state.Fits v
-fits_client_state clients.Pending = ((omega arith, omega arith), refl)
-fits_client_state clients.Running = ((omega arith, omega arith), refl)
-fits_client_state clients.Complete = ((omega arith, omega arith), refl)
-fits_client_state clients.Failed = ((omega arith, omega arith), refl)
-fits_client_state clients.Lost = ((omega arith, omega arith), refl)
+fits_client_state : (v : ClientState) → (client_state newest).Fits v
+fits_client_state clients.Pending = (((omega arith, omega arith), refl), refl)
+fits_client_state clients.Running = (((omega arith, omega arith), refl), refl)
+fits_client_state clients.Complete = (((omega arith, omega arith), refl), refl)
+fits_client_state clients.Failed = (((omega arith, omega arith), refl), refl)
+fits_client_state clients.Lost = (((omega arith, omega arith), refl), refl)
+fits_client_state clients.Unknown = (((omega arith, omega arith), refl), refl)
 
 fits_reported_state : (v : ReportedState) → reported_state.Fits v
 fits_reported_state reported.Running = ((omega arith, omega arith), refl)
@@ -122,11 +125,18 @@ fits_reported_state reported.Failed = ((omega arith, omega arith), refl)
 
 -- ---- sizes, ids, tokens, groups
 
+some_is : (a b : ℕ) → Some a ≡ Some b → a ≡ b
+some_is a b e = cc
+
+space_fits : (version n : ℕ) → (since 2 0 space version).Fits n → SpaceFits n
+space_fits version n h =
+    either_fits space (absent 0) (nat_le 2 version) n (SpaceFits n) (λ fits. omega (arith, fits.1)) (λ none. rw (sym (some_is 0 n none.1)) (omega arith)) h
+
 fits_size : (z : Size) → SizeFits z → (size newest).Fits z
-fits_size z h = (fits_quantity z.cpu h.0, fits_quantity z.mem h.1)
+fits_size z h = (fits_quantity z.cpu h.0, (fits_quantity z.mem h.1, (omega arith, omega (arith, h.2))))
 
 size_fits : (version : ℕ) (z : Size) → (size version).Fits z → SizeFits z
-size_fits version z h = (quantity_fits z.cpu h.0, quantity_fits z.mem h.1)
+size_fits version z h = (quantity_fits z.cpu h.0, quantity_fits z.mem h.1.0, space_fits version z.disk h.1.1)
 
 fits_eval_id : (e : EvalId) → EvalIdFits e → evaluation_id.Fits e
 fits_eval_id e h = ((h.0.0, h.0.1), (omega arith, h.1))
@@ -311,6 +321,7 @@ fits_command (commands.JobPut job) h = ((omega arith, omega arith), fits_job_spe
 fits_command (commands.JobStop name) h = ((omega arith, omega arith), h)
 fits_command (commands.NodePut node) h = ((omega arith, omega arith), fits_node_spec node h)
 fits_command (commands.NodeDown node) h = ((omega arith, omega arith), fits_node_id node h)
+fits_command (commands.Disconnect node) h = ((omega arith, omega arith), fits_node_id node h)
 fits_command (commands.Drain node force) h = ((omega arith, omega arith), (fits_node_id node h, fits_bool force))
 fits_command (commands.DrainDone node) h = ((omega arith, omega arith), fits_node_id node h)
 fits_command (commands.Migrate ids) h = ((omega arith, omega arith), fits_rising_ids ids h)
@@ -325,6 +336,7 @@ command_fits version (commands.JobPut job) h = job_spec_fits version job h.1
 command_fits version (commands.JobStop name) h = h.1
 command_fits version (commands.NodePut node) h = node_spec_fits version node h.1
 command_fits version (commands.NodeDown node) h = node_id_fits node h.1
+command_fits version (commands.Disconnect node) h = node_id_fits node h.1
 command_fits version (commands.Drain node force) h = node_id_fits node h.1.0
 command_fits version (commands.DrainDone node) h = node_id_fits node h.1
 command_fits version (commands.Migrate ids) h = rising_ids_fits ids h.1

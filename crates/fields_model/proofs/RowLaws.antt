@@ -17,8 +17,8 @@ use Rattle.fields_model.specs.Ids.{allocation_id}
 use Rattle.fields_model.proofs.IdLaws.{name_lawful, size_lawful, node_id_lawful, ordinal_lawful, priority_lawful, group_count_lawful, evaluation_id_lawful, allocation_id_lawful}
 use Rattle.fields_model.specs.Rows.{node_status, drain_mode, eval_status, desired, client_state, group, group_behind, groups, allocation_id_behind, job, job_behind, node, node_behind, evaluation, evaluation_behind, allocation, allocation_behind}
 
-pub node_status_lawful : Lawful node_status
-node_status_lawful = enumerated_lawful 0 (node_statuses.Ready ∷ node_statuses.Down ∷ []) _ refl
+pub node_status_lawful : (version : ℕ) → Lawful (node_status version)
+node_status_lawful version = kept_lawful _ _ (enumerated_lawful 0 (node_statuses.Ready ∷ node_statuses.Down ∷ node_statuses.Disconnected ∷ []) _ refl)
 
 pub drain_mode_lawful : Lawful drain_mode
 drain_mode_lawful = enumerated_lawful 0 (drains.Off ∷ drains.Slow ∷ drains.Force ∷ []) _ refl
@@ -29,8 +29,8 @@ eval_status_lawful = enumerated_lawful 0 (eval_statuses.Pending ∷ eval_statuse
 pub desired_lawful : Lawful desired
 desired_lawful = enumerated_lawful 0 (desires.Run ∷ desires.Stop ∷ []) _ refl
 
-pub client_state_lawful : Lawful client_state
-client_state_lawful = enumerated_lawful 0 (clients.Pending ∷ clients.Running ∷ clients.Complete ∷ clients.Failed ∷ clients.Lost ∷ []) _ refl
+pub client_state_lawful : (version : ℕ) → Lawful (client_state version)
+client_state_lawful version = kept_lawful _ _ (enumerated_lawful 0 (clients.Pending ∷ clients.Running ∷ clients.Complete ∷ clients.Failed ∷ clients.Lost ∷ clients.Unknown ∷ []) _ refl)
 
 pub group_lawful : (version : ℕ) → Lawful (group version)
 group_lawful version = made_lawful _ _ _ (λ _. refl) (λ _ _. refl) (then_lawful _ _ name_lawful (then_lawful _ _ group_count_lawful (then_lawful _ _ name_lawful (size_lawful version))))
@@ -51,10 +51,10 @@ pub job_is_ruled : (version : ℕ) → IsRuled (λ front j. is_behind name_cmp j
 job_is_ruled version = keyed_is_ruled _ _ _ _ _ (λ _. refl) (λ _. refl) name_lawful (then_lawful _ _ priority_lawful (then_lawful _ _ bool_lawful (then_lawful _ _ index_lawful (groups_lawful version))))
 
 pub node_lawful : (version : ℕ) → Lawful (node version)
-node_lawful version = made_lawful _ _ _ (λ _. refl) (λ _ _. refl) (then_lawful _ _ node_id_lawful (then_lawful _ _ name_lawful (then_lawful _ _ (size_lawful version) (then_lawful _ _ node_status_lawful (then_lawful _ _ bool_lawful (then_lawful _ _ drain_mode_lawful index_lawful))))))
+node_lawful version = made_lawful _ _ _ (λ _. refl) (λ _ _. refl) (then_lawful _ _ node_id_lawful (then_lawful _ _ name_lawful (then_lawful _ _ (size_lawful version) (then_lawful _ _ (node_status_lawful version) (then_lawful _ _ bool_lawful (then_lawful _ _ drain_mode_lawful index_lawful))))))
 
 pub node_is_ruled : (version : ℕ) → IsRuled (λ front n. is_behind nat_cmp node_number front n.number) (node version) (node_behind version)
-node_is_ruled version = keyed_is_ruled _ _ _ _ _ (λ _. refl) (λ _. refl) node_id_lawful (then_lawful _ _ name_lawful (then_lawful _ _ (size_lawful version) (then_lawful _ _ node_status_lawful (then_lawful _ _ bool_lawful (then_lawful _ _ drain_mode_lawful index_lawful)))))
+node_is_ruled version = keyed_is_ruled _ _ _ _ _ (λ _. refl) (λ _. refl) node_id_lawful (then_lawful _ _ name_lawful (then_lawful _ _ (size_lawful version) (then_lawful _ _ (node_status_lawful version) (then_lawful _ _ bool_lawful (then_lawful _ _ drain_mode_lawful index_lawful)))))
 
 pub evaluation_lawful : Lawful evaluation
 evaluation_lawful = made_lawful _ _ _ (λ _. refl) (λ _ _. refl) (then_lawful _ _ evaluation_id_lawful (then_lawful _ _ name_lawful (then_lawful _ _ priority_lawful (then_lawful _ _ eval_status_lawful index_lawful))))
@@ -63,7 +63,7 @@ pub evaluation_is_ruled : IsRuled (λ front e. is_behind eval_cmp eval_id front 
 evaluation_is_ruled = keyed_is_ruled _ _ _ _ _ (λ _. refl) (λ _. refl) evaluation_id_lawful (then_lawful _ _ name_lawful (then_lawful _ _ priority_lawful (then_lawful _ _ eval_status_lawful index_lawful)))
 
 pub allocation_lawful : (version : ℕ) → Lawful (allocation version)
-allocation_lawful version = made_lawful _ _ _ (λ _. refl) (λ _ _. refl) (then_lawful _ _ allocation_id_lawful (then_lawful _ _ name_lawful (then_lawful _ _ (then_lawful _ _ name_lawful (then_lawful _ _ ordinal_lawful (then_lawful _ _ node_id_lawful (size_lawful version)))) (then_lawful _ _ desired_lawful (then_lawful _ _ client_state_lawful (then_lawful _ _ bool_lawful evaluation_id_lawful))))))
+allocation_lawful version = made_lawful _ _ _ (λ _. refl) (λ _ _. refl) (then_lawful _ _ allocation_id_lawful (then_lawful _ _ name_lawful (then_lawful _ _ (then_lawful _ _ name_lawful (then_lawful _ _ ordinal_lawful (then_lawful _ _ node_id_lawful (size_lawful version)))) (then_lawful _ _ desired_lawful (then_lawful _ _ (client_state_lawful version) (then_lawful _ _ bool_lawful evaluation_id_lawful))))))
 
 pub allocation_is_ruled : (version : ℕ) → IsRuled (λ front a. is_behind alloc_cmp alloc_id front a.id) (allocation version) (allocation_behind version)
-allocation_is_ruled version = keyed_is_ruled _ _ _ _ _ (λ _. refl) (λ _. refl) allocation_id_lawful (then_lawful _ _ name_lawful (then_lawful _ _ (then_lawful _ _ name_lawful (then_lawful _ _ ordinal_lawful (then_lawful _ _ node_id_lawful (size_lawful version)))) (then_lawful _ _ desired_lawful (then_lawful _ _ client_state_lawful (then_lawful _ _ bool_lawful evaluation_id_lawful)))))
+allocation_is_ruled version = keyed_is_ruled _ _ _ _ _ (λ _. refl) (λ _. refl) allocation_id_lawful (then_lawful _ _ name_lawful (then_lawful _ _ (then_lawful _ _ name_lawful (then_lawful _ _ ordinal_lawful (then_lawful _ _ node_id_lawful (size_lawful version)))) (then_lawful _ _ desired_lawful (then_lawful _ _ (client_state_lawful version) (then_lawful _ _ bool_lawful evaluation_id_lawful)))))

@@ -193,7 +193,7 @@ client_request_kind_lawful = numbered_lawful (client_requests.Register ∷ clien
 -- ---- the live allocations of a node
 
 pub live_state_lawful : Lawful live_state
-live_state_lawful = enumerated_lawful 0 (live_states.Pending ∷ live_states.Running ∷ []) _ refl
+live_state_lawful = enumerated_lawful 0 (live_states.Pending ∷ live_states.Running ∷ live_states.Unknown ∷ []) _ refl
 
 pub listed_allocation_lawful : Lawful listed_allocation
 listed_allocation_lawful = made_lawful _ _ _ (λ _. refl) (λ _ _. refl) (then_lawful _ _ allocation_id_lawful (then_lawful _ _ (size_lawful newest) live_state_lawful))

@@ -25,5 +25,5 @@ pub state_lawful : (version : ℕ) → Lawful (state version)
 state_lawful version = made_lawful _ _ _ (λ _. refl) (λ _ _. refl) (then_lawful _ _ index_lawful (tables_lawful version))
 
 -- the greatest length of a state's text, in bytes
-pub state_most : (version : ℕ) → (state version).most ≡ 10064216
+pub state_most : (version : ℕ) → (state version).most ≡ 10334808
 state_most version = refl

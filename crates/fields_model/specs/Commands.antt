@@ -1,5 +1,5 @@
 -- Commands of the replicated state, and what a worker submits.
-use Rattle.std.specs.Prelude.{ℕ, ◌^◌, Bool, List, [], ◌∷◌, Option, Some, None}
+use Rattle.std.specs.Prelude.{ℕ, nat_lt, if◌then◌else◌, ◌^◌, Bool, List, [], ◌∷◌, Option, Some, None}
 use Rattle.rows.specs.Ids.{id_rises}
 use Rattle.rows.specs.Changes.{status_of, snapshot_of}
 use Rattle.rows.specs.declared.allocation.AllocId.{AllocId}
@@ -116,6 +116,11 @@ tag_of (commands.EvalPut _) = 8
 tag_of (commands.EvalStatus _ _) = 9
 tag_of (commands.Plan _) = 10
 tag_of (commands.Report _ _) = 11
+tag_of (commands.Disconnect _) = 12
+
+-- how many tags there are in a version
+abbrev pub tags_in : ℕ → ℕ
+tags_in version = if nat_lt version 3 then 12 else 13
 
 -- what a command of each kind holds
 abbrev pub noop_of : Command → Option (Unit {0})
@@ -137,6 +142,10 @@ node_put_of _ = None
 abbrev pub node_down_of : Command → Option (ℕ)
 node_down_of (commands.NodeDown x) = Some x
 node_down_of _ = None
+
+abbrev pub disconnect_of : Command → Option (ℕ)
+disconnect_of (commands.Disconnect x) = Some x
+disconnect_of _ = None
 
 abbrev pub drain_of : Command → Option (ℕ × Bool)
 drain_of (commands.Drain x y) = Some (x, y)
@@ -174,7 +183,8 @@ later_bodies version =
     (choice 9 (variant (λ x. commands.EvalStatus x.0 x.1) eval_status_of (evaluation_id then status_change))
     (choice 10 (variant (λ x. commands.Plan x) plan_of (accepted_plan version))
     (choice 11 (variant (λ x. commands.Report x.0 x.1) report_of (node_id then reports))
-    (λ _. never)))))
+    (choice 12 (variant (λ x. commands.Disconnect x) disconnect_of node_id)
+    (λ _. never))))))
 
 abbrev pub bodies : ℕ → ℕ → Format Command
 bodies version =
@@ -187,6 +197,6 @@ bodies version =
     (choice 6 (variant (λ x. commands.DrainDone x) drain_done_of node_id)
     (later_bodies version)))))))
 
--- a command: its tag from 0 to 11, and what it holds
+-- a command: its tag from 0 to 11, and from version 3 on to 12, and what it holds
 abbrev pub command : ℕ → Format Command
-command version = tagged tag_of (number 1 0 12) (bodies version)
+command version = tagged tag_of (number 1 0 (tags_in version)) (bodies version)

@@ -6,7 +6,7 @@ use Rattle.rows.specs.declared.evaluation.EvalId.{EvalId}
 use Rattle.rows.specs.declared.allocation.AllocId.{AllocId}
 use Rattle.rows.specs.declared.token.Token.{Token}
 use Rattle.rows.specs.declared.token.Delivery.{Delivery}
-use Rattle.fields_model.specs.Format.{Format, number, string, made, ◌then◌}
+use Rattle.fields_model.specs.Format.{Format, number, string, made, since, ◌then◌}
 use Rattle.fields_model.specs.Fields.{index}
 
 -- a length of one byte, from 1 to 32, and that many small letters, digits and dashes; one field
@@ -17,9 +17,13 @@ name = string 1 1 32 is_name_byte
 abbrev pub quantity : Format ℕ
 quantity = number 4 1 1000001
 
--- processor time and memory, in each version
+-- four bytes, at most 1,000,000
+abbrev pub space : Format ℕ
+space = number 4 0 1000001
+
+-- processor time, memory and, from version 2 on, disk, of which a size had none before
 abbrev pub size : ℕ → Format Size
-size version = made (λ p. record { cpu = p.0; mem = p.1 }) (λ z. (z.cpu, z.mem)) (quantity then quantity)
+size version = made (λ p. record { cpu = p.0; mem = p.1.0; disk = p.1.1 }) (λ z. (z.cpu, (z.mem, z.disk))) (quantity then quantity then since 2 0 space version)
 
 -- one byte: a node from 1 to 64, one of at most 64 from 0 on, a priority from 1 to 100, a count of
 -- at most 64

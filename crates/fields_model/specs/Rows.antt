@@ -23,17 +23,22 @@ use Rattle.rows.specs.declared.node.Node.{Node}
 use Rattle.rows.specs.declared.node.NodeStatus.{NodeStatus}
 use Rattle.rows.specs.declared.node.NodeStatus.TheVariants as node_statuses
 use Rattle.rows.specs.declared.size.Size.{Size}
-use Rattle.fields_model.specs.Format.{Format, enumerated, keyed, keyed_behind, kept, ◌then◌, ruled_list, some}
+use Rattle.fields_model.specs.Format.{Format, enumerated, known, keyed, keyed_behind, kept, ◌then◌, ruled_list, some}
 use Rattle.fields_model.specs.Fields.{index, bool}
 use Rattle.fields_model.specs.Ids.{name, size, node_id, ordinal, priority, group_count, evaluation_id, allocation_id}
 
--- one byte: 0 ready, 1 down
+-- one byte: 0 ready, 1 down, and from version 3 on 2 disconnected
 abbrev pub code_of_node_status : NodeStatus → ℕ
 code_of_node_status node_statuses.Ready = 0
 code_of_node_status node_statuses.Down = 1
+code_of_node_status node_statuses.Disconnected = 2
 
-abbrev pub node_status : Format NodeStatus
-node_status = enumerated 0 (node_statuses.Ready ∷ node_statuses.Down ∷ []) code_of_node_status
+abbrev pub first_of_node_status : NodeStatus → ℕ
+first_of_node_status node_statuses.Disconnected = 3
+first_of_node_status _ = 1
+
+abbrev pub node_status : ℕ → Format NodeStatus
+node_status version = known first_of_node_status (enumerated 0 (node_statuses.Ready ∷ node_statuses.Down ∷ node_statuses.Disconnected ∷ []) code_of_node_status) version
 
 -- one byte: 0 none, 1 slow, 2 force
 abbrev pub code_of_drain_mode : DrainMode → ℕ
@@ -69,9 +74,14 @@ code_of_client_state clients.Running = 1
 code_of_client_state clients.Complete = 2
 code_of_client_state clients.Failed = 3
 code_of_client_state clients.Lost = 4
+code_of_client_state clients.Unknown = 5
 
-abbrev pub client_state : Format ClientState
-client_state = enumerated 0 (clients.Pending ∷ clients.Running ∷ clients.Complete ∷ clients.Failed ∷ clients.Lost ∷ []) code_of_client_state
+abbrev pub first_of_client_state : ClientState → ℕ
+first_of_client_state clients.Unknown = 3
+first_of_client_state _ = 1
+
+abbrev pub client_state : ℕ → Format ClientState
+client_state version = known first_of_client_state (enumerated 0 (clients.Pending ∷ clients.Running ∷ clients.Complete ∷ clients.Failed ∷ clients.Lost ∷ clients.Unknown ∷ []) code_of_client_state) version
 
 -- a group: its name, count, class and size; among others its name is new
 abbrev pub GroupOthers : Type 0
@@ -131,11 +141,11 @@ make_node p = record { number = p.0; class = p.1.0; size = p.1.1.0; status = p.1
 abbrev pub node_parts : Node → ℕ × NodeOthers
 node_parts n = (n.number, (n.class, (n.size, (n.status, (n.eligible, (n.drain, n.room))))))
 
-abbrev pub node_end : Format (NodeStatus × (Bool × (DrainMode × ℕ)))
-node_end = node_status then bool then drain_mode then index
+abbrev pub node_end : ℕ → Format (NodeStatus × (Bool × (DrainMode × ℕ)))
+node_end version = node_status version then bool then drain_mode then index
 
 abbrev pub node_others : ℕ → Format NodeOthers
-node_others version = name then (size version) then node_end
+node_others version = name then (size version) then node_end version
 
 abbrev pub node : ℕ → Format Node
 node version = keyed make_node node_parts node_id (node_others version)
@@ -179,11 +189,11 @@ allocation_parts a = (a.id, (a.job, ((a.group, (a.index, (a.node, a.size))), (a.
 abbrev pub allocation_place : ℕ → Format (List ℕ × (ℕ × (ℕ × Size)))
 allocation_place version = name then ordinal then node_id then (size version)
 
-abbrev pub allocation_end : Format (Desired × (ClientState × (Bool × EvalId)))
-allocation_end = desired then client_state then bool then evaluation_id
+abbrev pub allocation_end : ℕ → Format (Desired × (ClientState × (Bool × EvalId)))
+allocation_end version = desired then client_state version then bool then evaluation_id
 
 abbrev pub allocation_others : ℕ → Format AllocationOthers
-allocation_others version = name then (allocation_place version) then allocation_end
+allocation_others version = name then (allocation_place version) then allocation_end version
 
 abbrev pub allocation : ℕ → Format Allocation
 allocation version = keyed make_allocation allocation_parts allocation_id (allocation_others version)

@@ -167,13 +167,14 @@ client_request_kind = numbered (client_requests.Register ∷ client_requests.Hea
 
 -- ---- the live allocations of a node
 
--- one byte: 0 pending, 1 running
+-- one byte: 0 pending, 1 running, 2 unknown
 abbrev pub code_of_live_state : LiveState → ℕ
 code_of_live_state live_states.Pending = 0
 code_of_live_state live_states.Running = 1
+code_of_live_state live_states.Unknown = 2
 
 abbrev pub live_state : Format LiveState
-live_state = enumerated 0 (live_states.Pending ∷ live_states.Running ∷ []) code_of_live_state
+live_state = enumerated 0 (live_states.Pending ∷ live_states.Running ∷ live_states.Unknown ∷ []) code_of_live_state
 
 -- an allocation: its id, size and state; in a list its id is above the last
 abbrev pub make_listed : AllocId × (Size × LiveState) → ListedAllocation

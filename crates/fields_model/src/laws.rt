@@ -32,7 +32,7 @@ pub fn actors_are_lawful()
 {}
 
 /// The rows, tokens, plans and commands of the replicated state have lawful formats, and so has its
-/// text, in each version: at most 65,536 bytes a command, and 10,064,216 a state.
+/// text, in each version: at most 65,536 bytes a command, and 10,334,808 a state.
 pub fn rows_are_lawful()
     ensures name { Lawful name }
     ensures size { (version : ℕ) → Lawful (size version) }
@@ -50,7 +50,7 @@ pub fn rows_are_lawful()
     ensures command { (version : ℕ) → Lawful (command version) }
     ensures command_short { (version : ℕ) → (command version).most ≤ 65536 }
     ensures state { (version : ℕ) → Lawful (state version) }
-    ensures state_short { (version : ℕ) → (state version).most ≡ 10064216 }
+    ensures state_short { (version : ℕ) → (state version).most ≡ 10334808 }
 {}
 
 /// What workers and the leader's desk tell each other has lawful formats, and what an agent is told

@@ -20,6 +20,7 @@ EffectMayLack s (commands.JobPut job) = Unit {0}
 EffectMayLack s (commands.JobStop name) = job_of name s ≢ None
 EffectMayLack s (commands.NodePut node) = Unit {0}
 EffectMayLack s (commands.NodeDown node) = node_of node s ≢ None
+EffectMayLack s (commands.Disconnect node) = node_of node s ≢ None
 EffectMayLack s (commands.Drain node force) = node_of node s ≢ None
 EffectMayLack s (commands.DrainDone node) = node_of node s ≢ None
 EffectMayLack s (commands.Migrate ids) = Unit {0}

@@ -126,6 +126,17 @@ impl Cluster {
         }
     }
 
+    /// Why a node may not be disconnected.
+    fn disconnect_refusal(&self, node: NodeId) -> Option<Refusal>
+        ensures { result ≡ admission self.now (commands.Disconnect node) }
+    {
+        match self.node(node) {
+            None => Some(Refusal::UnknownNode),
+            Some(row) if !row.status.is_ready() => Some(Refusal::StaleExpiry),
+            Some(_) => None,
+        }
+    }
+
     /// Why a node may not be drained.
     fn drain_refusal(&self, node: NodeId, force: bool) -> Option<Refusal>
         ensures { result ≡ admission self.now (commands.Drain node force) }
@@ -176,6 +187,7 @@ impl Cluster {
             Command::JobStop(name) => Ok(self.job_stop_refusal(name)),
             Command::NodePut(spec) => Ok(self.node_put_refusal(spec)),
             Command::NodeDown(number) => self.node_down_refusal(*number),
+            Command::Disconnect(number) => Ok(self.disconnect_refusal(*number)),
             Command::Drain(number, force) => Ok(self.drain_refusal(*number, *force)),
             Command::DrainDone(number) => Ok(self.drain_done_refusal(*number)),
             Command::Migrate(ids) => self.migrate_refusal(ids),

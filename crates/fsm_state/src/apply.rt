@@ -1,7 +1,7 @@
 //! The effect of each command.
 ghost use Rattle.std.specs.Prelude.{◌≡◌, ◌≢◌, ◌+◌, ◌<◌, ◌^◌, None, OnOk, OnErr};
 ghost use Rattle.cluster_model.specs.Words.{job_of, node_of, eval_of};
-ghost use Rattle.cluster_model.specs.Effect.{applied, touched, is_named, with_job, without_job, without_node, unheard, downed, with_drain, without_drain, migrated, with_status, planned, reported};
+ghost use Rattle.cluster_model.specs.Effect.{applied, touched, is_named, with_job, without_job, without_node, without_word, unheard, downed, with_drain, without_drain, migrated, with_status, planned, reported};
 ghost use Rattle.fsm_state.specs.Memory.{EffectMayLack};
 
 mod allocs;
@@ -42,8 +42,8 @@ impl Cluster {
         self.touch(entry, name)
     }
 
-    /// A node is not heard of: its row is of this status, and what waits or runs on it in this
-    /// client state.
+    /// A node is not heard of: its row is of this status, and what is pending, running or unknown
+    /// on it in this client state.
     fn set_unheard(
         &mut self,
         number: NodeId,
@@ -57,8 +57,8 @@ impl Cluster {
         self.leave(number, client)
     }
 
-    /// A node that has a row is down: what waits or runs on it is lost, and the jobs of what was
-    /// live are touched.
+    /// A node that has a row is down: what is pending, running or unknown on it is lost, and the
+    /// jobs of what was live are touched.
     fn take_down(&mut self, entry: EntryIndex, number: NodeId) -> Result<(), NoMemory>
         requires { entry ≡ self.old.count }
         ensures { OnOk result (self.new ≡ downed number self.old) }
@@ -79,6 +79,18 @@ impl Cluster {
             return Ok(());
         }
         self.take_down(entry, number)
+    }
+
+    /// A node is disconnected: what is pending or running on it is unknown, and no job is touched.
+    /// Without a row of the node nothing changes.
+    fn disconnect(&mut self, number: NodeId) -> Result<(), NoMemory>
+        ensures ok { OnOk result (self.new ≡ without_word number self.old) }
+        ensures memory { OnErr result (node_of number self.old ≢ None) }
+    {
+        match self.node(number) {
+            None => Ok(()),
+            Some(_) => self.set_unheard(number, NodeStatus::Disconnected, ClientState::Unknown),
+        }
     }
 
     /// Begins to empty a node.
@@ -167,6 +179,7 @@ impl Cluster {
             Command::JobStop(name) => self.job_stop(entry, name),
             Command::NodePut(spec) => self.make_node(spec),
             Command::NodeDown(number) => self.node_down(entry, *number),
+            Command::Disconnect(number) => self.disconnect(*number),
             Command::Drain(number, force) => self.begin_drain(*number, *force),
             Command::DrainDone(number) => self.end_drain(*number),
             Command::Migrate(ids) => self.migrate(entry, ids.as_slice()),

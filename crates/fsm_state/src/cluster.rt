@@ -167,17 +167,17 @@ impl Cluster {
         self.tables.live_on(node)
     }
 
-    /// The allocations on a node that are pending or running, in rising id. It takes time in the
-    /// logarithm of the table, and so much again for each of them. `NoMemory` where there is no
-    /// memory for them.
+    /// The allocations on a node that are pending, running or unknown, in rising id. It takes time
+    /// in the logarithm of the table, and so much again for each of them. `NoMemory` where there is
+    /// no memory for them.
     pub fn active_on(&self, node: NodeId) -> Result<Sequence<Allocation>, NoMemory>
         ensures { GivesRows result (filter (is_active_on node) self.now.allocs) }
     {
         self.tables.active_on(node)
     }
 
-    /// What the live allocations on a node take of it: the sums of their processor time and of
-    /// their memory.
+    /// What the live allocations on a node take of it: the sums of their processor time, of
+    /// their memory and of their disk.
     pub fn used(&self, node: NodeId) -> Usage
         ensures { result ≡ used node (claims self.now.allocs) }
     {

@@ -51,7 +51,7 @@ impl TakesRoom for AcceptedPlace {
 }
 
 /// What these take of a node together: at most 64 of them, so at most 64,000,000 MHz and as many
-/// MB.
+/// MB of memory and of disk.
 pub fn taken<T: TakesRoom>(node: NodeId, takers: &[T]) -> Usage
     requires { length takers.now ≤ 64 }
     ensures value { (job : List ℕ) → result ≡ used node (map (T.claim job) takers.now) }

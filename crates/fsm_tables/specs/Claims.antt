@@ -13,13 +13,15 @@ abbrev pub is_wanted : Desired → Bool
 is_wanted desires.Run = true
 is_wanted desires.Stop = false
 
--- whether the client has it still to start, or runs it
+-- whether the client has it still to start, or runs it, or may do so out of sight
 abbrev pub is_active : ClientState → Bool
 is_active clients.Pending = true
 is_active clients.Running = true
+is_active clients.Unknown = true
 is_active _ = false
 
--- an allocation is live where its desired status is run and its client state is pending or running
+-- an allocation is live where its desired status is run and its client state is pending, running or
+-- unknown
 abbrev pub is_live : Allocation → Bool
 is_live a = is_wanted a.desired && is_active a.client
 

@@ -137,7 +137,7 @@ impl Allocations {
         rows_between(&self.rows, &self.indexes.nodes, least, greatest)
     }
 
-    /// The allocations on a node that are pending or running.
+    /// The allocations on a node that are pending, running or unknown.
     pub fn active_on(&self, node: NodeId) -> Result<Sequence<Allocation>, NoMemory>
         ensures { GivesRows result (filter (is_active_on node) self.now) }
     {

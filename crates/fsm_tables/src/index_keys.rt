@@ -1,5 +1,5 @@
-//! What the two indexes list allocations by: the live ones by name, those that are pending or
-//! running by node.
+//! What the two indexes list allocations by: the live ones by name, those that are pending, running
+//! or unknown by node.
 ghost use Rattle.std.specs.Prelude.{◌≡◌, true, false};
 ghost use Rattle.fsm_tables.specs.Inner.Keys.{live_name, active_on, least_id, greatest_id, first_entry, last_entry};
 
@@ -23,7 +23,7 @@ impl IndexKey for AllocName {
     }
 }
 
-/// Where an allocation that is pending or running is, and whether it is live.
+/// Where an allocation that is pending, running or unknown is, and whether it is live.
 #[derive(Clone, Copy, PartialEq, Eq, PartialOrd, Ord)]
 pub(crate) struct OnNode {
     /// The node.
@@ -48,7 +48,8 @@ impl OnNode {
     }
 }
 
-/// Allocations that are pending or running by node; on a node first those that are to stop.
+/// Allocations that are pending, running or unknown by node; on a node first those that are to
+/// stop.
 impl IndexKey for OnNode {
     ghost use Rattle.fsm_tables.specs.Inner.Keys.{active_on};
 

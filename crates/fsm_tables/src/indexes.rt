@@ -17,7 +17,7 @@ use std::alloc::Global;
 pub(crate) struct Indexes {
     /// The live ones, by name and then by id.
     pub names: AllocIndex<AllocName>,
-    /// Those that are pending or running, by node, whether they are live, and id.
+    /// Those that are pending, running or unknown, by node, whether they are live, and id.
     pub nodes: AllocIndex<OnNode>,
 }
 

@@ -176,8 +176,8 @@ impl Tables {
         self.allocs.are_named_once()
     }
 
-    /// What the live allocations on a node take of it: the sums of their processor time and of
-    /// their memory. It takes one step.
+    /// What the live allocations on a node take of it: the sums of their processor time, of
+    /// their memory and of their disk. It takes one step.
     pub fn used(&self, node: NodeId) -> Usage
         ensures { result ≡ used node (claims self.now.allocs) }
     {

@@ -25,20 +25,20 @@ pub(crate) fn is_wanted(desired: Desired) -> bool
     }
 }
 
-/// Whether an allocation's node has still to start it, or runs it. (Nomad documentation,
-/// "Allocations": client status.)
+/// Whether an allocation's node has still to start it, or runs it, or may do so while it is not
+/// heard of. (Nomad documentation, "Allocations": client status.)
 pub fn is_active(state: ClientState) -> bool
     ensures { result ≡ is_active state }
 {
     match state {
-        ClientState::Pending | ClientState::Running => true,
+        ClientState::Pending | ClientState::Running | ClientState::Unknown => true,
         ClientState::Complete | ClientState::Failed | ClientState::Lost => false,
     }
 }
 
-/// Whether an allocation is live: it is to run, and its node says that it waits or runs. Only live
-/// ones hold room and a name. (Nomad documentation, "Allocations": desired status and client
-/// status.)
+/// Whether an allocation is live: it is to run, and is pending, running or unknown at its node.
+/// Only live ones hold room and a name. (Nomad documentation, "Allocations": desired status and
+/// client status.)
 pub fn is_live(row: &Allocation) -> bool
     ensures { result ≡ is_live row.now }
 {

@@ -2,9 +2,9 @@
 use Rattle.std.proofs.Common.{List, [], ◌∷◌, refl, inl, inr}
 use Rattle.rows.specs.declared.allocation.AllocId.{AllocId}
 use Rattle.rows.specs.declared.command.AcceptedPlace.{AcceptedPlace}
-use Rattle.cluster_model.specs.Worked.Words.{size, alloc_id, place, node_row}
+use Rattle.cluster_model.specs.Worked.Words.{size, size_with_disk, alloc_id, place, node_row}
 use Rattle.group_model.specs.Scheduling.{PlanPart}
-use Rattle.group_model.specs.Worked.Scheduling.{Replaced, StaysAsItIs, AllStops, NothingThere, Apart, Together, SmallerFirst, FitsOnce, NothingMore}
+use Rattle.group_model.specs.Worked.Scheduling.{Replaced, StaysAsItIs, AllStops, NothingThere, Apart, Together, SmallerFirst, DiskForOne, DiskForTwo, FitsOnce, NothingMore}
 
 abbrev part : List AllocId → List AcceptedPlace → PlanPart
 part stops places = record { stops = stops; places = places }
@@ -86,6 +86,30 @@ pub smaller_first : SmallerFirst
 smaller_first = record {
   whole = part [] (place 0 2 (size 600 300) ∷ place 1 1 (size 600 300) ∷ []);
   goes_on = inr (refl, (part [] (place 0 2 (size 600 300) ∷ []), inr (node_row 2 (size 1000 1000) 3, record { there = refl; fits = refl; best = refl }, refl), inr (refl, (part [] (place 0 2 (size 600 300) ∷ place 1 1 (size 600 300) ∷ []), inr (node_row 1 (size 1200 1000) 2, record { there = refl; fits = refl; best = refl }, refl), refl))));
+  stops = refl;
+  places = refl;
+  version = refl;
+  snapshot = refl;
+  all_placed = refl;
+}
+
+-- the first alone, for want of disk
+pub disk_for_one : DiskForOne
+disk_for_one = record {
+  whole = part [] (place 0 1 (size_with_disk 100 100 60) ∷ []);
+  goes_on = inr (refl, (part [] (place 0 1 (size_with_disk 100 100 60) ∷ []), inr (node_row 1 (size_with_disk 1000 1000 100) 2, record { there = refl; fits = refl; best = refl }, refl), inr (refl, (part [] (place 0 1 (size_with_disk 100 100 60) ∷ []), inl (refl, refl), refl))));
+  stops = refl;
+  places = refl;
+  version = refl;
+  snapshot = refl;
+  all_placed = refl;
+}
+
+-- both
+pub disk_for_two : DiskForTwo
+disk_for_two = record {
+  whole = part [] (place 0 1 (size_with_disk 100 100 50) ∷ place 1 1 (size_with_disk 100 100 50) ∷ []);
+  goes_on = inr (refl, (part [] (place 0 1 (size_with_disk 100 100 50) ∷ []), inr (node_row 1 (size_with_disk 1000 1000 100) 2, record { there = refl; fits = refl; best = refl }, refl), inr (refl, (part [] (place 0 1 (size_with_disk 100 100 50) ∷ place 1 1 (size_with_disk 100 100 50) ∷ []), inr (node_row 1 (size_with_disk 1000 1000 100) 2, record { there = refl; fits = refl; best = refl }, refl), refl))));
   stops = refl;
   places = refl;
   version = refl;

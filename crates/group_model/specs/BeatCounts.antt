@@ -1,15 +1,16 @@
--- The counts of heartbeats by themselves: one heartbeat more, and whether a node may be said to be
--- lost; and what a desk makes of that.
+-- The counts of heartbeats by themselves: one heartbeat more, and whether a node expires for want
+-- of them; and what a desk makes of that.
 use Rattle.std.specs.Prelude.{◌≡◌, ℕ, if◌then◌else◌, nat_eq, Option, Some, None, Result, Ok, Err, List}
 use Rattle.rows.specs.declared.refusal.Refusal.{Refusal}
 use Rattle.rows.specs.declared.refusal.Refusal.TheVariants as refusals
-use Rattle.rows.specs.declared.command.Command.TheVariants as commands
+use Rattle.rows.specs.declared.command.Command.{Command}
 use Rattle.group_model.specs.Expiry.{BeatCount, beat_count_of, with_beat}
-use Rattle.group_model.specs.Desks.{Desk}
+use Rattle.raft_model.specs.Servers.{Server}
+use Rattle.group_model.specs.Desks.{Desk, applied_state}
 use Rattle.group_model.specs.Inputs.{Act, AskPropose, asks}
 use Rattle.rows.specs.declared.worker.ClientRequestKind.TheVariants as kinds
 use Rattle.group_model.specs.ClientRequests.{answers, beats_at}
-use Rattle.group_model.specs.Turns.{expire}
+use Rattle.group_model.specs.Turns.{expiry_command, expire}
 
 -- one heartbeat more of a node that is held
 abbrev pub beat_heard_of : ℕ → List BeatCount → Option BeatCount → Result (List BeatCount) Refusal
@@ -19,7 +20,7 @@ beat_heard_of n counts (Some c) = Ok (with_beat n counts)
 abbrev pub beat_heard : ℕ → List BeatCount → Result (List BeatCount) Refusal
 beat_heard n counts = beat_heard_of n counts (beat_count_of n counts)
 
--- why a node may not go down for want of heartbeats since this one, if it may not
+-- why a node does not expire for want of heartbeats since this one, if it does not
 abbrev pub expiry_refusal_of : ℕ → Option BeatCount → Option Refusal
 expiry_refusal_of beats None = Some refusals.UnknownNode
 expiry_refusal_of beats (Some c) = if nat_eq c.beats beats then None else Some refusals.StaleExpiry
@@ -37,10 +38,11 @@ answers_beat me c d (Err r) = answers me c kinds.Heartbeat (Some r) (Some d)
 abbrev pub BeatsByCounts : Type 0
 BeatsByCounts = (me c : ℕ) (d : Desk) → beats_at me c d (beat_count_of c d.beat_counts) ≡ answers_beat me c d (beat_heard c d.beat_counts)
 
-abbrev pub expires_unless : Desk → ℕ → Option Refusal → Result Act Refusal
-expires_unless d n None = Ok (asks (AskPropose (commands.NodeDown n)) (Some d))
-expires_unless d n (Some r) = Err r
+abbrev pub expires_unless : Desk → Command → Option Refusal → Result Act Refusal
+expires_unless d command None = Ok (asks (AskPropose command) (Some d))
+expires_unless d command (Some r) = Err r
 
--- an expiry at a desk is one of its counts
+-- an expiry at a desk is one of its counts; what is proposed goes by the applied state
 abbrev pub ExpiresByCounts : Type 0
-ExpiresByCounts = (d : Desk) (n beats : ℕ) → expire d n beats ≡ expires_unless d n (expiry_refusal n beats d.beat_counts)
+ExpiresByCounts = (s : Server Command) (d : Desk) (n beats : ℕ) →
+    expire s d n beats ≡ expires_unless d (expiry_command (applied_state s) n) (expiry_refusal n beats d.beat_counts)

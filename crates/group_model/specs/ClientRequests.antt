@@ -50,6 +50,7 @@ same_state clients.Running clients.Running = true
 same_state clients.Complete clients.Complete = true
 same_state clients.Failed clients.Failed = true
 same_state clients.Lost clients.Lost = true
+same_state clients.Unknown clients.Unknown = true
 same_state _ _ = false
 
 abbrev pub is_unmoved : ℕ → List Report → Allocation → Bool
@@ -97,6 +98,7 @@ takes_heartbeat me c (Ok o) d = beats_at me c o (beat_count_of c o.beat_counts)
 -- what is known of a live one
 abbrev pub listed_state : ClientState → LiveState
 listed_state clients.Running = live_states.Running
+listed_state clients.Unknown = live_states.Unknown
 listed_state _ = live_states.Pending
 
 abbrev pub shown : Allocation → ListedAllocation

@@ -1,16 +1,21 @@
--- How often the ready nodes were heard of since the desk opened, or since they came. (Nomad
--- documentation, "server" block of the agent configuration: heartbeats of clients; a count in place
--- of a timer is this project's own.)
-use Rattle.std.specs.Prelude.{◌≡◌, ℕ, suc, if◌then◌else◌, nat_eq, nat_lt, Option, Some, None, List, map, filter}
+-- How often the nodes that are not down were heard of since the desk opened, or since they came.
+-- (Nomad documentation, "server" block of the agent configuration: heartbeats of clients; a count
+-- in place of a timer is this project's own.)
+use Rattle.std.specs.Prelude.{◌≡◌, ℕ, suc, Bool, not, if◌then◌else◌, nat_eq, nat_lt, Option, Some, None, List, map, filter}
 use Rattle.std.specs.Ordering.{nat_cmp}
 use Rattle.rows.specs.declared.node.Node.{Node}
+use Rattle.rows.specs.declared.node.NodeStatus.{NodeStatus}
 use Rattle.rows.specs.Keys.{node_number}
 use Rattle.raft_model.specs.Logs.{MAX}
 use Rattle.fsm_tables.specs.Rows.{row_of, put}
-use Rattle.rows.specs.NodeStatuses.{is_ready}
+use Rattle.rows.specs.NodeStatuses.{is_down}
 use Rattle.fsm_tables.specs.ReservedTables.{without}
 
--- a ready node with its number of heartbeats
+-- whether heartbeats of a node of this status are counted: it is ready or disconnected
+abbrev pub is_held : NodeStatus → Bool
+is_held status = not (is_down status)
+
+-- a node that is held with its number of heartbeats
 pub record BeatCount : Type 0 where
   pub node : ℕ
   pub beats : ℕ
@@ -29,18 +34,18 @@ beats_of (Some c) = c.beats
 abbrev pub counted_node : Node → Option BeatCount → BeatCount
 counted_node n old = record { node = n.number; beats = beats_of old }
 
--- over these nodes: those that are ready
+-- over these nodes: those that are held
 abbrev pub beat_counts_over : List Node → List BeatCount → List BeatCount
-beat_counts_over nodes old = map (λ n. counted_node n (beat_count_of n.number old)) (filter (λ n. is_ready n.status) nodes)
+beat_counts_over nodes old = map (λ n. counted_node n (beat_count_of n.number old)) (filter (λ n. is_held n.status) nodes)
 
--- the counts are those of the ready ones of these nodes, in their order
-abbrev pub HoldsReady : List Node → List BeatCount → Type 0
-HoldsReady nodes counts = map count_node counts ≡ map node_number (filter (λ (n : Node). is_ready n.status) nodes)
+-- the counts are those of the nodes among these that are held, in their order
+abbrev pub HoldsHeld : List Node → List BeatCount → Type 0
+HoldsHeld nodes counts = map count_node counts ≡ map node_number (filter (λ (n : Node). is_held n.status) nodes)
 
 -- Over rows of which one alone was made or replaced since: it comes in, stays or goes.
 abbrev pub beat_counts_with : Node → List BeatCount → List BeatCount
 beat_counts_with n old =
-    if is_ready n.status
+    if is_held n.status
     then put nat_cmp count_node (counted_node n (beat_count_of n.number old)) old
     else without nat_cmp count_node n.number old
 

@@ -11,7 +11,7 @@ use Rattle.fsm_tables.specs.Rows.{put}
 use Rattle.cluster_model.specs.Words.{State}
 use Rattle.cluster_model.specs.Words.{node_of, is_blocked}
 use Rattle.group_model.specs.Brokers.{Broker, HoldsPending, broker_over, broker_with}
-use Rattle.group_model.specs.Expiry.{BeatCount, HoldsReady, beat_counts_over, beat_counts_with}
+use Rattle.group_model.specs.Expiry.{BeatCount, HoldsHeld, beat_counts_over, beat_counts_with}
 use Rattle.group_model.specs.Blocked.{is_due, is_due_by, room_over, blocked_eval, blocked_over, blocked_with_eval, blocked_with_node, blocked_with_job}
 
 -- the broker, at a row put among evaluations of which it holds the pending ones
@@ -19,9 +19,9 @@ abbrev pub BrokerFollows : Type 0
 BrokerFollows = (evals : List Evaluation) (e : Evaluation) (b : Broker) → T (is_rising eval_cmp eval_id evals) → HoldsPending evals b.tasks →
     broker_over (put eval_cmp eval_id e evals) b ≡ broker_with e b
 
--- the counts of heartbeats, at a row put among nodes of which they are the ready ones
+-- the counts of heartbeats, at a row put among nodes of which they are of those held
 abbrev pub CountsFollow : Type 0
-CountsFollow = (nodes : List Node) (n : Node) (counts : List BeatCount) → T (is_rising nat_cmp node_number nodes) → HoldsReady nodes counts →
+CountsFollow = (nodes : List Node) (n : Node) (counts : List BeatCount) → T (is_rising nat_cmp node_number nodes) → HoldsHeld nodes counts →
     beat_counts_over (put nat_cmp node_number n nodes) counts ≡ beat_counts_with n counts
 
 -- the blocked evaluations, at a row put among a state's evaluations

@@ -16,7 +16,7 @@ pub fn reasons_are_numbered()
 /// Where one row of a state is made or replaced, one row's change of what a desk keeps is what
 /// all rows would give.
 /// - `broker`: of a broker that held the pending evaluations.
-/// - `counts`: of the numbers of heartbeats of the ready nodes.
+/// - `counts`: of the numbers of heartbeats of the nodes that are not down.
 pub fn one_row_follows()
     ensures broker { BrokerFollows }
     ensures counts { CountsFollow }

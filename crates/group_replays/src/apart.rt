@@ -14,6 +14,9 @@ use transcript::{Transcript, read};
 use wire::Frames;
 use world::{Done, Event, World};
 
+/// The version that frames have, and their first byte.
+pub(crate) const V: u8 = 3;
+
 // Where server 1 of the long row crashes at its end: with its snapshot, without one, and with one
 // behind which an entry stands.
 const STORED: [&str; 3] = ["compacted", "whole", "behind-a-snapshot"];
@@ -28,7 +31,8 @@ struct Apart {
     text: Vec<u8>,
 }
 
-fn no_output(alloc: Global) -> Outbox {
+/// Nothing is sent yet.
+pub(crate) fn no_output(alloc: Global) -> Outbox {
     Outbox {
         frames: Frames::new(alloc),
         work: Sequence::new(alloc),
@@ -230,7 +234,7 @@ fn sixth_state(alloc: Global, row: &Transcript) -> Option<Vec<u8>> {
 fn frame_of(alloc: Global, index: u64, state: &[u8]) -> Option<Vec<u8>> {
     let size = u32::try_from(state.len()).ok()?.checked_add(24)?;
     let mut frame = Vec::new(alloc);
-    frame.extend_from_slice(&[1, 5, 1, 2]).ok()?;
+    frame.extend_from_slice(&[V, 5, 1, 2]).ok()?;
     frame.extend_from_slice(&size.to_be_bytes()).ok()?;
     for number in [1, index, 1] {
         frame.extend_from_slice(&number.to_be_bytes()).ok()?;
@@ -250,13 +254,17 @@ fn say_server(rt: &HostRuntime, apart: &Apart) -> io::Result<()> {
     }
 }
 
-// The frame comes; what is answered, or none where it is refused.
-fn answer(apart: &mut Apart, alloc: Global, frame: &[u8]) -> Option<Vec<u8>> {
+/// A frame comes to a server; what is answered, or none where it is refused.
+pub(crate) fn answer_of(server: &mut Server, alloc: Global, frame: &[u8]) -> Option<Vec<u8>> {
     let mut sent = no_output(alloc);
-    apart.server.as_mut()?.receive(frame, &mut sent).ok()?;
+    server.receive(frame, &mut sent).ok()?;
     let mut bytes = Vec::new(alloc);
     bytes.extend_from_slice(sent.frames.get(0)?.bytes()).ok()?;
     Some(bytes)
+}
+
+fn answer(apart: &mut Apart, alloc: Global, frame: &[u8]) -> Option<Vec<u8>> {
+    answer_of(apart.server.as_mut()?, alloc, frame)
 }
 
 // It goes down, and starts again.

@@ -18,11 +18,12 @@ use world::{Done, Event, World};
 // The one of which copies of a state are taken.
 const COPIED: &str = "lists-and-reports";
 
-const GROUPS: [&str; 9] = [
+const GROUPS: [&str; 10] = [
     "each-turn",
     "finish-of-another-token",
     "lines-of-workers",
     COPIED,
+    "lost-and-placed-anew",
     "plan-survives-its-leader",
     "take-before-the-desk-is-open",
     "three-lapses",

@@ -19,7 +19,8 @@ pub(crate) fn lines(rt: &HostRuntime) -> io::Result<()> {
 fn say_nodes(rt: &HostRuntime, nodes: &[NodeSpec]) -> io::Result<()> {
     for node in nodes {
         let (cpu, mem) = (node.size.cpu.get(), node.size.mem.get());
-        print!(rt; " {} {} {cpu} {mem}", node.number, node.class)?;
+        let disk = node.size.disk.get();
+        print!(rt; " {} {} {cpu} {mem} {disk}", node.number, node.class)?;
     }
     println!(rt;)
 }

@@ -7,6 +7,7 @@ mod crashes;
 mod frames;
 mod group;
 mod lines;
+mod old;
 mod requests;
 mod samples;
 mod snapshots;
@@ -24,5 +25,6 @@ fn main(rt: HostRuntime) -> io::Result<()> {
     frames::frames(&rt)?;
     stored::texts(&rt)?;
     apart::servers(&rt)?;
+    old::starts(&rt)?;
     crashes::crashes(&rt)
 }

@@ -96,7 +96,7 @@ deliver 1
 deliver 2
 deliver 3
 deliver 4
-request 1 put web 50 main:2:linux:600:300
+request 1 put web 50 main:2:linux:600:300:0
 request 1 stop web
 beat 1
 deliver 5
@@ -112,12 +112,12 @@ deliver 1
 deliver 2
 deliver 3
 deliver 4
-request 1 put web 50 a:1:x:1:1
+request 1 put web 50 a:1:x:1:1:0
 crash 1
 timeout 2
 deliver 6
 deliver 7
-request 2 put api 50 a:1:x:1:1
+request 2 put api 50 a:1:x:1:1:0
 restart 1
 beat 2
 deliver 8
@@ -138,7 +138,7 @@ deliver 1
 deliver 2
 deliver 3
 deliver 4
-request 1 put web 50 main:2:linux:600:300
+request 1 put web 50 main:2:linux:600:300:0
 beat 1
 deliver 5
 deliver 7

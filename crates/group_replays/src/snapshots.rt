@@ -22,6 +22,7 @@ fn state_word(state: ClientState) -> &'static str {
         ClientState::Complete => "complete",
         ClientState::Failed => "failed",
         ClientState::Lost => "lost",
+        ClientState::Unknown => "unknown",
     }
 }
 

@@ -1,55 +1,126 @@
-//! Texts of what a server stores: each cut of them, and each of their bytes at each value, by what
-//! `stored` says of it.
+//! Texts of what a server stores, of each version: each as it is, each cut of it, and each of its
+//! bytes at each value, by what a file says of it.
 use crate::samples::{Reads, Sample, play};
 use fsm_state::Cluster;
 use raft_snapshot::{read_stable, write_stable};
 use rows::Refusal;
-use std::alloc::Global;
+use std::alloc::{AllocError, Global};
 use std::rt::Files;
 use std::{fs, io};
 
-// The reader of what a server stores.
+// Whether bytes are at fault at a place, or, where none is said, store what has this text today.
+fn stores(alloc: Global, bytes: &[u8], said: Option<usize>, text: &[u8]) -> bool {
+    match read_stable::<Cluster>(alloc, bytes) {
+        Err(Refusal::Frame(at)) => said == Some(at),
+        Err(_) => false,
+        Ok(stable) => {
+            let mut again = Vec::new(alloc);
+            let is_written = write_stable(&stable, &mut again).is_ok();
+            is_written && again.as_slice() == text && said.is_none()
+        }
+    }
+}
+
+// The files of the texts of the first version, and of the second.
+const OLD: &str = "stored-v1";
+
+const SECOND: &str = "stored-v2";
+
+// The version that is written today.
+const V: u8 = 3;
+
+// The reader of what a server stores, today or in the second version, which has the same fields.
 struct TextReader;
 
 impl Reads for TextReader {
     fn is_said(alloc: Global, bytes: &[u8], said: Option<usize>) -> bool {
-        match read_stable::<Cluster>(alloc, bytes) {
-            Err(Refusal::Frame(at)) => said == Some(at),
+        match today(alloc, bytes, &[]) {
+            Ok(text) => stores(alloc, bytes, said, &text),
             Err(_) => false,
-            Ok(stable) => {
-                let mut again = Vec::new(alloc);
-                let is_written = write_stable(&stable, &mut again).is_ok();
-                is_written && again.as_slice() == bytes && said.is_none()
-            }
         }
     }
 }
 
-fn say(rt: &HostRuntime, number: u8, sample: &Sample) -> io::Result<()> {
+// The reader of what a server stored in the first version.
+struct OldReader;
+
+impl Reads for OldReader {
+    fn is_said(alloc: Global, bytes: &[u8], said: Option<usize>) -> bool {
+        match today(alloc, bytes, &disk_places(bytes.len())) {
+            Ok(text) => stores(alloc, bytes, said, &text),
+            Err(_) => false,
+        }
+    }
+}
+
+// In front of which bytes disk stands today: behind the memory of each size, in the text of the
+// first version with this length, `compacted` or `whole`.
+fn disk_places(length: usize) -> [usize; 5] {
+    match length {
+        251 => [81, 100, 126, 197, 238],
+        299 => [67, 91, 126, 190, 205],
+        _ => [0; 5],
+    }
+}
+
+// The text of today that stores what such a text does: with 0 for the disk in front of each of
+// these places.
+fn today(alloc: Global, bytes: &[u8], places: &[usize]) -> Result<Vec<u8>, AllocError> {
+    let mut text = Vec::new(alloc);
+    for (at, byte) in bytes.iter().enumerate() {
+        if places.contains(&at) {
+            text.extend_from_slice(&[0; 4])?;
+        }
+        let own = if at == 0 { V } else { *byte };
+        text.push(own)?;
+    }
+    Ok(text)
+}
+
+fn say(rt: &HostRuntime, file: &str, number: u8, sample: &Sample) -> io::Result<()> {
     if number == 0 {
         return Ok(());
     }
     let (length, cuts, values) = (sample.bytes.len(), sample.cuts, sample.values);
-    println!(rt; "stored text {number}: {length} bytes, {cuts} cuts, {values} values")
+    println!(rt; "{file}, text {number}: {length} bytes, {cuts} cuts, {values} values")
 }
 
-/// Plays each line of `stored`: the text of what a server stores, the place at which a cut of it is
-/// at fault, or those at which it is, or is not, where one byte is at some values. Says what is not
-/// so; and of each text how much of it was played.
-pub(crate) fn texts(rt: &HostRuntime) -> io::Result<()> {
+// Plays each line of a file: a text, which is read as it is; the place at which a cut of it is at
+// fault, or those at which it is, or is not, where one byte is at some values. Says what is not so;
+// and of each text how much of it was played.
+fn play_file<R: Reads>(rt: &HostRuntime, file: &str) -> io::Result<()> {
     let alloc = rt.alloc();
-    let text = fs::read_to_string(rt, "stored")?;
+    let text = fs::read_to_string(rt, file)?;
     let mut number: u8 = 0;
     let mut sample = Sample::of(alloc, "")?;
     for (place, line) in text.lines().enumerate() {
+        let mut is_so = true;
         if let Some(words) = line.strip_prefix("text ") {
-            say(rt, number, &sample)?;
+            say(rt, file, number, &sample)?;
             number = number.saturating_add(1);
             let (_name, digits) = words.split_once(' ').unwrap_or(("", words));
             sample = Sample::of(alloc, digits)?;
-        } else if !matches!(play::<TextReader>(alloc, &mut sample, line), Some(true)) {
-            println!(rt; "line {} is not so: {line}", place + 1)?;
+            is_so = R::is_said(alloc, &sample.bytes, None);
+        } else if !picks_version(file, line) {
+            is_so = matches!(play::<R>(alloc, &mut sample, line), Some(true));
+        }
+        if !is_so {
+            println!(rt; "{file}, line {} is not so: {line}", place + 1)?;
         }
     }
-    say(rt, number, &sample)
+    say(rt, file, number, &sample)
+}
+
+// Whether a line is of the byte that says a text's version, in a file of an older version: with
+// another value there it is a text of another version, of which `stored` speaks.
+fn picks_version(file: &str, line: &str) -> bool {
+    (file == OLD || file == SECOND) && line.starts_with("byte 0 ")
+}
+
+/// Plays the lines of `stored`, and those of `stored-v2` and `stored-v1`, whose texts are of the
+/// second version and of the first.
+pub(crate) fn texts(rt: &HostRuntime) -> io::Result<()> {
+    play_file::<TextReader>(rt, "stored")?;
+    play_file::<TextReader>(rt, SECOND)?;
+    play_file::<OldReader>(rt, OLD)
 }

@@ -33,9 +33,9 @@ use Rattle.group_model.specs.Drains.{is_done, next_moves_of}
 use Rattle.group_model.specs.Desks.{Desk, QueuedPlan, applied_state, whole_state}
 use Rattle.group_model.specs.Inputs.{Act, Ask, AskPropose}
 use Rattle.group_model.specs.Plans.{plan_command, plan_turn, turn_of, judged, after_accept, proposes_plan, submitted}
-use Rattle.group_model.specs.Turns.{lapse, expire_of, expire, migrates, drains_by, drain_turn_of, drain_turn, free_turn_of, free_turn, reap_of, reap}
+use Rattle.group_model.specs.Turns.{lapse, expiry_command, expire_of, expire, migrates, drains_by, drain_turn_of, drain_turn, free_turn_of, free_turn, reap_of, reap}
 use Rattle.group_model.specs.WorkerRequests.{takes_given, submits_of, finishes_by, finishes_of, nacks_of, serves_request, serves_worker}
-use Rattle.group_model.specs.ClientRequests.{is_taken_already, proposes_for, writes, beats_at, serves_client, listed}
+use Rattle.group_model.specs.ClientRequests.{is_registered, is_taken_already, proposes_for, writes, beats_at, serves_client, listed}
 
 -- a plan is proposed
 abbrev pub AsksPlan : Option Ask → AcceptedPlan → Type 0
@@ -133,12 +133,16 @@ module _ (me : ℕ) (s : Server Command) where
   pub sober_lapses : (d : Desk) (id : EvalId) → SoberResult me s (lapse d id)
   sober_lapses d id = sober_result _ (Ok _) (Err refusals.NotOutstanding) (record { no_plan = λ p h. cc; honest = tt }) tt
 
-  sober_expires_of : (d : Desk) (n beats : ℕ) (p : Option BeatCount) → SoberResult me s (expire_of d n beats p)
-  sober_expires_of d n beats None = tt
-  sober_expires_of d n beats (Some q) = sober_result _ (Ok _) (Err refusals.StaleExpiry) (record { no_plan = λ p h. cc; honest = tt }) tt
+  sober_expires_of : (d : Desk) (command : Command) → ((p : AcceptedPlan) → command ≡ commands.Plan p → ⊥) → (beats : ℕ) (p : Option BeatCount) → SoberResult me s (expire_of d command beats p)
+  sober_expires_of d command other beats None = tt
+  sober_expires_of d command other beats (Some q) = sober_result _ (Ok _) (Err refusals.StaleExpiry) (record { no_plan = λ p h. other p (cc); honest = tt }) tt
 
-  pub sober_expires : (d : Desk) (n beats : ℕ) → SoberResult me s (expire d n beats)
-  sober_expires d n beats = sober_expires_of d n beats (beat_count_of n d.beat_counts)
+  expires_no_plan : (b : Bool) (n : ℕ) (p : AcceptedPlan) → cond b (commands.Disconnect n) (commands.NodeDown n) ≡ commands.Plan p → ⊥
+  expires_no_plan true n p h = cc
+  expires_no_plan false n p h = cc
+
+  pub sober_expires : (d : Desk) (n beats : ℕ) → SoberResult me s (expire s d n beats)
+  sober_expires d n beats = sober_expires_of d (expiry_command (applied_state s) n) (expires_no_plan (is_registered n (applied_state s)) n) beats (beat_count_of n d.beat_counts)
 
   sober_moves : (d : Desk) (ids : List AllocId) → Sober me s (migrates d ids)
   sober_moves d [] = record { no_plan = λ p h. cc; honest = tt }

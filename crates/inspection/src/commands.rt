@@ -15,6 +15,7 @@ pub(crate) fn command_text(alloc: Global, command: &Command) -> Result<String, N
         Command::EvalPut(name) => Ok(format!(in alloc; "eval {name}")?),
         Command::NodePut(node) => node_text(alloc, node),
         Command::NodeDown(node) => Ok(format!(in alloc; "node {node} down")?),
+        Command::Disconnect(node) => Ok(format!(in alloc; "node {node} disconnected")?),
         Command::Drain(node, true) => Ok(format!(in alloc; "drain {node} force")?),
         Command::Drain(node, false) => Ok(format!(in alloc; "drain {node} slow")?),
         Command::DrainDone(node) => Ok(format!(in alloc; "node {node} drained")?),
@@ -37,15 +38,20 @@ fn job_text(alloc: Global, job: &JobSpec) -> Result<String, NoMemory> {
     for group in job.groups.as_slice() {
         let (name, count, class) = (group.name, group.count.get(), group.class);
         let (cpu, mem) = (group.size.cpu.get(), group.size.mem.get());
-        write!(words, " {name}:{count}:{class}:{cpu}:{mem}")?;
+        let disk = group.size.disk.get();
+        write!(words, " {name}:{count}:{class}:{cpu}:{mem}:{disk}")?;
     }
     Ok(words)
 }
 
 fn node_text(alloc: Global, node: &NodeSpec) -> Result<String, NoMemory> {
     let (number, class) = (node.number, node.class);
-    let (cpu, mem) = (node.size.cpu.get(), node.size.mem.get());
-    Ok(format!(in alloc; "node {number} {class} {cpu} {mem}")?)
+    let (cpu, mem, disk) = (
+        node.size.cpu.get(),
+        node.size.mem.get(),
+        node.size.disk.get(),
+    );
+    Ok(format!(in alloc; "node {number} {class} {cpu} {mem} {disk}")?)
 }
 
 fn push_id(words: &mut String, id: &AllocId) -> Result<(), NoMemory> {

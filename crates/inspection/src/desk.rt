@@ -143,7 +143,7 @@ fn is_among(eval: EvalId, ids: &[EvalId]) -> bool {
     false
 }
 
-// How often the desk heard of each ready node of a state.
+// How often the desk heard of each node of a state that is not down.
 fn beats(alloc: Global, desk: &Desk, state: &Cluster) -> Result<Vec<BeatReport>, NoMemory> {
     let mut reports = Vec::new(alloc);
     let Some(expiry) = desk.expiry() else {

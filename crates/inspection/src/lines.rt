@@ -125,10 +125,11 @@ fn push_finding(line: &mut String, group: &PlacementReport) -> Result<(), NoMemo
 fn push_reasons(line: &mut String, nodes: &NodesReport) -> Result<(), NoMemory> {
     let mut any = false;
     push_count(line, &mut any, nodes.other_class, "of another class")?;
-    push_count(line, &mut any, nodes.not_ready, "down")?;
+    push_count(line, &mut any, nodes.not_ready, "not ready")?;
     push_count(line, &mut any, nodes.not_eligible, "drained")?;
     push_count(line, &mut any, nodes.lack_cpu, "short of cpu")?;
     push_count(line, &mut any, nodes.lack_memory, "short of memory")?;
+    push_count(line, &mut any, nodes.lack_disk, "short of disk")?;
     push_count(line, &mut any, nodes.have_room, "with room")?;
     if !any {
         line.push_str(" none is registered")?;

@@ -49,6 +49,7 @@ fn nodes_of(metrics: &GroupMetrics) -> NodesReport {
         not_eligible: counts.not_eligible,
         lack_cpu: counts.lack_cpu,
         lack_memory: counts.lack_memory,
+        lack_disk: counts.lack_disk,
         have_room: counts.have_room,
     }
 }

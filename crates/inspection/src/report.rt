@@ -1,4 +1,5 @@
-//! What is reported of a group after some events. The schema of its JSON is `docs/inspect.schema.json`.
+//! What is reported of a group after some events. The schema of its JSON is
+//! `docs/inspect.schema.json`.
 use serde::Serialize;
 
 /// A group after some events of a run.
@@ -67,7 +68,7 @@ pub(crate) struct DeskReport {
     pub plans: Vec<PlanReport>,
     /// The blocked evaluations, by id.
     pub blocked: Vec<BlockedReport>,
-    /// The ready nodes, by number.
+    /// The nodes that are not down, by number.
     pub beats: Vec<BeatReport>,
 }
 
@@ -184,6 +185,8 @@ pub(crate) struct GroupReport {
     pub cpu: u32,
     /// The memory that each takes, in MB.
     pub mem: u32,
+    /// The disk that each takes, in MB.
+    pub disk: u32,
 }
 
 /// A node.
@@ -193,7 +196,7 @@ pub(crate) struct NodeReport {
     pub node: u8,
     /// Its class.
     pub class: String,
-    /// `ready` or `down`.
+    /// `ready`, `disconnected` or `down`.
     pub status: &'static str,
     /// Whether allocations may be placed on it.
     pub eligible: bool,
@@ -207,6 +210,10 @@ pub(crate) struct NodeReport {
     pub mem: u32,
     /// How much of it live allocations take.
     pub mem_used: u64,
+    /// Its disk, in MB.
+    pub disk: u32,
+    /// How much of it live allocations take.
+    pub disk_used: u64,
 }
 
 /// An evaluation.
@@ -246,7 +253,7 @@ pub(crate) struct PlacementReport {
 pub(crate) struct NodesReport {
     /// Those of another class.
     pub other_class: usize,
-    /// Those that are down.
+    /// Those that are not ready: disconnected or down.
     pub not_ready: usize,
     /// Those on which nothing may be placed.
     pub not_eligible: usize,
@@ -254,6 +261,8 @@ pub(crate) struct NodesReport {
     pub lack_cpu: usize,
     /// Those that lack memory.
     pub lack_memory: usize,
+    /// Those that lack disk.
+    pub lack_disk: usize,
     /// Those that have room.
     pub have_room: usize,
 }
@@ -271,9 +280,11 @@ pub(crate) struct AllocationReport {
     pub cpu: u32,
     /// The memory that it takes, in MB.
     pub mem: u32,
+    /// The disk that it takes, in MB.
+    pub disk: u32,
     /// `run` or `stop`.
     pub desired: &'static str,
-    /// `pending`, `running`, `complete`, `failed` or `lost`.
+    /// `pending`, `running`, `unknown`, `complete`, `failed` or `lost`.
     pub state: &'static str,
     /// Whether it is to move off its node.
     pub migrate: bool,

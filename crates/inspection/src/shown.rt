@@ -58,6 +58,7 @@ pub(crate) fn node_word(status: NodeStatus) -> &'static str {
     match status {
         NodeStatus::Ready => "ready",
         NodeStatus::Down => "down",
+        NodeStatus::Disconnected => "disconnected",
     }
 }
 
@@ -96,5 +97,6 @@ pub(crate) fn client_word(state: ClientState) -> &'static str {
         ClientState::Complete => "complete",
         ClientState::Failed => "failed",
         ClientState::Lost => "lost",
+        ClientState::Unknown => "unknown",
     }
 }

@@ -56,6 +56,7 @@ fn group(alloc: Global, row: &Group) -> Result<GroupReport, NoMemory> {
         class: owned(alloc, row.class.as_str())?,
         cpu: row.size.cpu.get(),
         mem: row.size.mem.get(),
+        disk: row.size.disk.get(),
     })
 }
 
@@ -79,6 +80,8 @@ fn node(alloc: Global, state: &Cluster, row: &Node) -> Result<NodeReport, NoMemo
         cpu_used: used.cpu(),
         mem: row.size.mem.get(),
         mem_used: used.mem(),
+        disk: row.size.disk.get(),
+        disk_used: used.disk(),
     })
 }
 
@@ -120,6 +123,7 @@ fn allocation(alloc: Global, row: &Allocation) -> Result<AllocationReport, NoMem
         node: row.node.number(),
         cpu: row.size.cpu.get(),
         mem: row.size.mem.get(),
+        disk: row.size.disk.get(),
         desired: desired_word(row.desired),
         state: client_word(row.client),
         migrate: row.migrate,

@@ -242,7 +242,7 @@ fn client_row(alloc: Global, client: &ClientReport) -> Result<Vec<String>, NoMem
 /// The jobs, a row for each group.
 pub(crate) fn jobs_table(alloc: Global, jobs: &[JobReport]) -> Result<Grid, NoMemory> {
     let heads = [
-        "job", "priority", "version", "state", "group", "count", "class", "cpu", "mem",
+        "job", "priority", "version", "state", "group", "count", "class", "cpu", "mem", "disk",
     ];
     let mut grid = headed(alloc, &heads)?;
     for job in jobs {
@@ -262,7 +262,10 @@ fn add_groups(alloc: Global, grid: &mut Grid, job: &JobReport) -> Result<(), NoM
         let class = owned(alloc, &group.class)?;
         let cpu = number(alloc, group.cpu as u64)?;
         let mem = number(alloc, group.mem as u64)?;
-        let row = vec![in alloc; name, priority, version, state, own, count, class, cpu, mem]?;
+        let disk = number(alloc, group.disk as u64)?;
+        let row = vec![in alloc;
+            name, priority, version, state, own, count, class, cpu, mem, disk,
+        ]?;
         grid.rows.push(row)?;
     }
     Ok(())
@@ -271,7 +274,17 @@ fn add_groups(alloc: Global, grid: &mut Grid, job: &JobReport) -> Result<(), NoM
 /// The nodes, with what is in use of each.
 pub(crate) fn nodes_table(alloc: Global, nodes: &[NodeReport]) -> Result<Grid, NoMemory> {
     let heads = [
-        "node", "class", "status", "eligible", "drain", "cpu used", "of", "mem used", "of",
+        "node",
+        "class",
+        "status",
+        "eligible",
+        "drain",
+        "cpu used",
+        "of",
+        "mem used",
+        "of",
+        "disk used",
+        "of",
     ];
     let mut grid = headed(alloc, &heads)?;
     for node in nodes {
@@ -290,8 +303,10 @@ fn node_row(alloc: Global, node: &NodeReport) -> Result<Vec<String>, NoMemory> {
     let cpu = number(alloc, node.cpu as u64)?;
     let mem_used = number(alloc, node.mem_used)?;
     let mem = number(alloc, node.mem as u64)?;
+    let disk_used = number(alloc, node.disk_used)?;
+    let disk = number(alloc, node.disk as u64)?;
     Ok(vec![in alloc;
-        name, class, status, eligible, drain, cpu_used, cpu, mem_used, mem,
+        name, class, status, eligible, drain, cpu_used, cpu, mem_used, mem, disk_used, disk,
     ]?)
 }
 
@@ -328,6 +343,7 @@ pub(crate) fn allocations_table(
         "node",
         "cpu",
         "mem",
+        "disk",
         "desired",
         "state",
         "to move",
@@ -346,9 +362,12 @@ fn allocation_row(alloc: Global, row: &AllocationReport) -> Result<Vec<String>, 
     let node = number(alloc, row.node as u64)?;
     let cpu = number(alloc, row.cpu as u64)?;
     let mem = number(alloc, row.mem as u64)?;
+    let disk = number(alloc, row.disk as u64)?;
     let desired = owned(alloc, row.desired)?;
     let state = owned(alloc, row.state)?;
     let migrate = yes_or_no(alloc, row.migrate)?;
     let eval = owned(alloc, &row.evaluation)?;
-    Ok(vec![in alloc; id, name, node, cpu, mem, desired, state, migrate, eval]?)
+    Ok(vec![in alloc;
+        id, name, node, cpu, mem, disk, desired, state, migrate, eval,
+    ]?)
 }

@@ -26,7 +26,7 @@ use Rattle.group_model.specs.Desks.{Desk, QueuedPlan, applied_state, whole_state
 use Rattle.group_model.specs.Inputs.{AskPropose, rests, asks}
 use Rattle.group_model.specs.Plans.{submitted, judged, turn_of, after_accept}
 use Rattle.group_model.specs.Queues.{first_plan}
-use Rattle.group_model.specs.Turns.{expire_of, migrates, drains_by, drain_turn_of, free_turn_of, reap_of}
+use Rattle.group_model.specs.Turns.{expiry_command, expire_of, migrates, drains_by, drain_turn_of, free_turn_of, reap_of}
 use Rattle.group_model.specs.ClientRequests.{beats_at}
 use Rattle.group_model.specs.WorkerRequests.{refuses, takes_given, submits_of, finishes_of, finishes_by, nacks_of}
 use Rattle.leader.specs.OpenDesks.{OpenDesk, with_broker, once_given, once_submitted, once_outstanding, once_heard, unless_refused, migrate_if_any, drain_command_of}
@@ -109,13 +109,16 @@ heartbeats_by_beat me client d o = by (beat_count_of client o.desk.beat_counts) 
   by (Some c) = refl
 
 pub expires_by_expire : ExpiresByExpire
-expires_by_expire node beats o = by (beat_count_of node o.desk.beat_counts) where
-  at : (b : Bool) → cond b (Ok (asks (AskPropose (commands.NodeDown node)) (Some o.desk))) (Err refusals.StaleExpiry)
-      ≡ expire_act node o.desk (unless_refused (cond b None (Some refusals.StaleExpiry)))
+expires_by_expire s node beats o = by (beat_count_of node o.desk.beat_counts) where
+  command : Command
+  command = expiry_command (applied_state s) node
+
+  at : (b : Bool) → cond b (Ok (asks (AskPropose command) (Some o.desk))) (Err refusals.StaleExpiry)
+      ≡ expire_act o.desk (unless_refused command (cond b None (Some refusals.StaleExpiry)))
   at true = refl
   at false = refl
 
-  by : (c : Option BeatCount) → expire_of o.desk node beats c ≡ expire_act node o.desk (unless_refused (expiry_refusal_of beats c))
+  by : (c : Option BeatCount) → expire_of o.desk command beats c ≡ expire_act o.desk (unless_refused command (expiry_refusal_of beats c))
   by None = refl
   by (Some c) = at (nat_eq c.beats beats)
 

@@ -9,6 +9,8 @@ use Rattle.std.specs.Cmp.Lexicographic.{nat_list_cmp_total}
 use Rattle.rows.specs.declared.job.Job.{Job}
 use Rattle.rows.specs.declared.node.Node.{Node}
 use Rattle.rows.specs.declared.node.NodeSpec.{NodeSpec}
+use Rattle.rows.specs.declared.node.NodeStatus.{NodeStatus}
+use Rattle.rows.specs.declared.node.NodeStatus.TheVariants as statuses
 use Rattle.rows.specs.declared.evaluation.EvalId.{EvalId}
 use Rattle.rows.specs.declared.evaluation.Evaluation.{Evaluation}
 use Rattle.rows.specs.declared.command.StatusChange.{StatusChange}
@@ -25,13 +27,12 @@ use Rattle.fsm_tables.proofs.ReservedTables.{found_tied}
 use Rattle.fsm_state.proofs.StepLaws.{put_only, row_tied}
 use Rattle.rows.specs.Limits.{most_jobs, most_nodes}
 use Rattle.rows.specs.States.{AreTables}
-use Rattle.rows.specs.NodeStatuses.{is_ready}
 use Rattle.cluster_model.specs.Words.{State, is_open, is_blocked, same_eval, no_node, job_of, node_of}
-use Rattle.cluster_model.specs.Effect.{applied, with_next_count, with_evals, is_named, owns, job_row, stopped_row, stop_job, node_row, down_row, down, downed, draining_row, draining, drained_row, drained, moves, set_status, with_room, frees, stop, told_all, is_ended_by}
+use Rattle.cluster_model.specs.Effect.{applied, with_next_count, with_evals, is_named, owns, job_row, stopped_row, stop_job, node_row, status_row, marked_as, downed, disconnected, draining_row, draining, drained_row, drained, moves, set_status, with_room, frees, stop, told_all, is_ended_by}
 use Rattle.cluster_model.proofs.Keys.{at_eval, at_number}
 use Rattle.cluster_model.proofs.Lists.{maps_same}
 use Rattle.cluster_model.proofs.StateLaws.{applied_are_tables}
-use Rattle.group_model.specs.Expiry.{BeatCount, counted_node, beats_of, beat_count_of, beat_counts_over, HoldsReady}
+use Rattle.group_model.specs.Expiry.{BeatCount, is_held, counted_node, beats_of, beat_count_of, beat_counts_over, HoldsHeld}
 use Rattle.group_model.specs.Blocked.{room_over, classes_of, blocked_eval, blocked_over}
 use Rattle.group_model.proofs.Following.{counts_follow, counts_stay}
 use Rattle.group_model.proofs.BlockedRows.{blocked_follow_jobs}
@@ -115,6 +116,11 @@ evals_told s (commands.NodeDown n) rows h told =
       | true ↦ λ told. told [] s.evals (omega arith) (omega arith) h.evals.rising refl
       | false ↦ λ told. told (filter (owns (lives_on n) s.allocs) s.jobs) s.evals (omega arith) (few_filtered (owns (lives_on n) s.allocs) s.jobs most_jobs h.jobs.few) h.evals.rising refl
     ] told
+evals_told s (commands.Disconnect n) rows h told =
+    elim (no_node n s) as (λ b. AreChanges rows s.evals (cond b (with_next_count s) (disconnected n (with_next_count s))).evals) [
+      | true ↦ unchanged s.evals rows told
+      | false ↦ unchanged s.evals rows told
+    ]
 evals_told s (commands.Drain n force) rows h told = unchanged s.evals rows told
 evals_told s (commands.DrainDone n) rows h told = unchanged s.evals rows told
 evals_told s (commands.Migrate ids) rows h told = touch_is s (commands.Migrate ids) rows h told (owns (moves ids) s.allocs) refl (omega arith)
@@ -150,6 +156,7 @@ job_told s (commands.JobPut j) =
 job_told s (commands.JobStop name) = stopped_classes s (s.count + 1) name
 job_told s (commands.NodePut n) = refl
 job_told s (commands.NodeDown n) = elim (no_node n s) as (λ b. blocked_over s ≡ blocked_over (record s { jobs = (cond b (with_next_count s) (downed n (with_next_count s))).jobs })) [ true ↦ refl | false ↦ refl ]
+job_told s (commands.Disconnect n) = elim (no_node n s) as (λ b. blocked_over s ≡ blocked_over (record s { jobs = (cond b (with_next_count s) (disconnected n (with_next_count s))).jobs })) [ true ↦ refl | false ↦ refl ]
 job_told s (commands.Drain n force) = refl
 job_told s (commands.DrainDone n) = refl
 job_told s (commands.Migrate ids) = refl
@@ -161,25 +168,25 @@ job_told s (commands.Report n rs) = refl
 -- ---- nodes
 
 module _ (counts : List BeatCount) where
-  -- a change that keeps numbers and statuses
-  mapped_counts : (f : Node → Node) → ((n : Node) → (node_number (f n) ≡ n.number) × (is_ready (f n).status ≡ is_ready n.status)) → (nodes : List Node) → beat_counts_over (map f nodes) counts ≡ beat_counts_over nodes counts
+  -- a change that keeps numbers, and which nodes are held
+  mapped_counts : (f : Node → Node) → ((n : Node) → (node_number (f n) ≡ n.number) × (is_held (f n).status ≡ is_held n.status)) → (nodes : List Node) → beat_counts_over (map f nodes) counts ≡ beat_counts_over nodes counts
   mapped_counts f keeps [] = refl
   mapped_counts f keeps (n ∷ nodes) =
-      ap (λ b. map (λ (n : Node). counted_node n (beat_count_of n.number counts)) (cond b (f n ∷ filter (λ (n : Node). is_ready n.status) (map f nodes)) (filter (λ (n : Node). is_ready n.status) (map f nodes)))) (keeps n).1
-      ∙ elim (is_ready n.status) as (λ b. map (λ (n : Node). counted_node n (beat_count_of n.number counts)) (cond b (f n ∷ filter (λ (n : Node). is_ready n.status) (map f nodes)) (filter (λ (n : Node). is_ready n.status) (map f nodes)))
-      ≡ map (λ (n : Node). counted_node n (beat_count_of n.number counts)) (cond b (n ∷ filter (λ (n : Node). is_ready n.status) nodes) (filter (λ (n : Node). is_ready n.status) nodes))) [
+      ap (λ b. map (λ (n : Node). counted_node n (beat_count_of n.number counts)) (cond b (f n ∷ filter (λ (n : Node). is_held n.status) (map f nodes)) (filter (λ (n : Node). is_held n.status) (map f nodes)))) (keeps n).1
+      ∙ elim (is_held n.status) as (λ b. map (λ (n : Node). counted_node n (beat_count_of n.number counts)) (cond b (f n ∷ filter (λ (n : Node). is_held n.status) (map f nodes)) (filter (λ (n : Node). is_held n.status) (map f nodes)))
+      ≡ map (λ (n : Node). counted_node n (beat_count_of n.number counts)) (cond b (n ∷ filter (λ (n : Node). is_held n.status) nodes) (filter (λ (n : Node). is_held n.status) nodes))) [
         | true ↦ λ i. (let c : BeatCount = record { node = (keeps n).0 i; beats = beats_of (beat_count_of ((keeps n).0 i) counts) } in c) ∷ mapped_counts f keeps nodes i
         | false ↦ mapped_counts f keeps nodes
       ]
 
-room_keeps : (freed : ℕ → Bool) (x : ℕ) (n : Node) → (node_number (with_room freed x n) ≡ n.number) × (is_ready (with_room freed x n).status ≡ is_ready n.status)
-room_keeps freed x n = elim (freed n.number) as (λ b. let r = cond b (record n { room = x }) n in (node_number r ≡ n.number) × (is_ready r.status ≡ is_ready n.status)) [ true ↦ (refl, refl) | false ↦ (refl, refl) ]
+room_keeps : (freed : ℕ → Bool) (x : ℕ) (n : Node) → (node_number (with_room freed x n) ≡ n.number) × (is_held (with_room freed x n).status ≡ is_held n.status)
+room_keeps freed x n = elim (freed n.number) as (λ b. let r = cond b (record n { room = x }) n in (node_number r ≡ n.number) × (is_held r.status ≡ is_held n.status)) [ true ↦ (refl, refl) | false ↦ (refl, refl) ]
 
-draining_keeps : (k : ℕ) (force : Bool) (n : Node) → (node_number (draining k force n) ≡ n.number) × (is_ready (draining k force n).status ≡ is_ready n.status)
-draining_keeps k force n = elim (nat_eq n.number k) as (λ b. let r = cond b (draining_row force n) n in (node_number r ≡ n.number) × (is_ready r.status ≡ is_ready n.status)) [ true ↦ (refl, refl) | false ↦ (refl, refl) ]
+draining_keeps : (k : ℕ) (force : Bool) (n : Node) → (node_number (draining k force n) ≡ n.number) × (is_held (draining k force n).status ≡ is_held n.status)
+draining_keeps k force n = elim (nat_eq n.number k) as (λ b. let r = cond b (draining_row force n) n in (node_number r ≡ n.number) × (is_held r.status ≡ is_held n.status)) [ true ↦ (refl, refl) | false ↦ (refl, refl) ]
 
-drained_keeps : (k : ℕ) (n : Node) → (node_number (drained k n) ≡ n.number) × (is_ready (drained k n).status ≡ is_ready n.status)
-drained_keeps k n = elim (nat_eq n.number k) as (λ b. let r = cond b (drained_row n) n in (node_number r ≡ n.number) × (is_ready r.status ≡ is_ready n.status)) [ true ↦ (refl, refl) | false ↦ (refl, refl) ]
+drained_keeps : (k : ℕ) (n : Node) → (node_number (drained k n) ≡ n.number) × (is_held (drained k n).status ≡ is_held n.status)
+drained_keeps k n = elim (nat_eq n.number k) as (λ b. let r = cond b (drained_row n) n in (node_number r ≡ n.number) × (is_held r.status ≡ is_held n.status)) [ true ↦ (refl, refl) | false ↦ (refl, refl) ]
 
 same_number : (n m : ℕ) → nat_cmp n m ≡ Equal → m ≡ n
 same_number n m e = let yes : is_eq (nat_cmp n m) ≡ true = ap is_eq e in grind arith
@@ -189,17 +196,17 @@ put_number : (x : ℕ) (n : NodeSpec) (nodes : List Node) (m : Option Node) → 
 put_number x n nodes None e = refl
 put_number x n nodes (Some old) e = same_number n.number old.number (found_tied nat_cmp node_number nat_cmp_total n.number nodes old e)
 
--- a node that is down is one that is put
-down_is_put : (n : ℕ) (r : Node) (nodes : List Node) → T (is_rising nat_cmp node_number nodes) → row_of nat_cmp node_number n nodes ≡ Some r → put nat_cmp node_number (down_row r) nodes ≡ map (down n) nodes
-down_is_put n r nodes h e =
-    put_only nat_cmp node_number nat_cmp_total down_row (λ r. refl) n r nodes h e
-    ∙ maps_same _ (down n) (λ y. ap (λ b. cond b (down_row y) y) (at_number n y.number)) nodes
+-- a node of another status is one that is put
+marked_is_put : (status : NodeStatus) (n : ℕ) (r : Node) (nodes : List Node) → T (is_rising nat_cmp node_number nodes) → row_of nat_cmp node_number n nodes ≡ Some r → put nat_cmp node_number (status_row status r) nodes ≡ map (marked_as status n) nodes
+marked_is_put status n r nodes h e =
+    put_only nat_cmp node_number nat_cmp_total (status_row status) (λ r. refl) n r nodes h e
+    ∙ maps_same _ (marked_as status n) (λ y. ap (λ b. cond b (status_row status y) y) (at_number n y.number)) nodes
 
-module _ (s : State) (counts : List BeatCount) (rising : T (is_rising nat_cmp node_number s.nodes)) (of : HoldsReady s.nodes counts) where
+module _ (s : State) (counts : List BeatCount) (rising : T (is_rising nat_cmp node_number s.nodes)) (of : HoldsHeld s.nodes counts) where
   stays : counts ≡ beat_counts_over s.nodes counts
   stays = sym (counts_stay s.nodes counts rising of)
 
-  mapped : (f : Node → Node) → ((n : Node) → (node_number (f n) ≡ n.number) × (is_ready (f n).status ≡ is_ready n.status)) → counts ≡ beat_counts_over (map f s.nodes) counts
+  mapped : (f : Node → Node) → ((n : Node) → (node_number (f n) ≡ n.number) × (is_held (f n).status ≡ is_held n.status)) → counts ≡ beat_counts_over (map f s.nodes) counts
   mapped f keeps = stays ∙ sym (mapped_counts counts f keeps s.nodes)
 
   came : (n : NodeSpec) → tell_node (commands.NodePut n) (applied s (commands.NodePut n)) counts ≡ beat_counts_over (applied s (commands.NodePut n)).nodes counts
@@ -209,16 +216,23 @@ module _ (s : State) (counts : List BeatCount) (rising : T (is_rising nat_cmp no
       ap (λ (k : ℕ). at_node (row_of nat_cmp node_number k after) counts) (sym (put_number (s.count + 1) n s.nodes (node_of n.number s) refl))
       ∙ put_or_none nat_cmp node_number nat_cmp_total most_nodes row s.nodes (λ m nodes. at_node m counts ≡ beat_counts_over nodes counts) (sym (counts_follow s.nodes row counts rising of)) stays
 
+  marked : (status : NodeStatus) (n : ℕ) (r : Node) → node_of n s ≡ Some r → at_node (row_of nat_cmp node_number n (map (marked_as status n) s.nodes)) counts ≡ beat_counts_over (map (marked_as status n) s.nodes) counts
+  marked status n r e =
+      let is = marked_is_put status n r s.nodes rising e in
+      let there : row_of nat_cmp node_number n (map (marked_as status n) s.nodes) ≡ Some (status_row status r) =
+      ap (row_of nat_cmp node_number n) (sym is) ∙ row_of-put nat_cmp node_number nat_cmp_total n (status_row status r) s.nodes
+      ∙ ap (λ o. cond (is_eq o) (Some (status_row status r)) (node_of n s)) (found_tied nat_cmp node_number nat_cmp_total n s.nodes r e) in
+      ap (λ (m : Option Node). at_node m counts) there
+      ∙ sym (counts_follow s.nodes (status_row status r) counts rising of)
+      ∙ ap (λ nodes. beat_counts_over nodes counts) is
+
   went : (n : ℕ) (m : Option Node) → node_of n s ≡ m → at_node (node_of n (cond (is_none m) (with_next_count s) (downed n (with_next_count s)))) counts ≡ beat_counts_over (cond (is_none m) (with_next_count s) (downed n (with_next_count s))).nodes counts
   went n None e = ap (λ (m : Option Node). at_node m counts) e ∙ stays
-  went n (Some r) e =
-      let is = down_is_put n r s.nodes rising e in
-      let there : row_of nat_cmp node_number n (map (down n) s.nodes) ≡ Some (down_row r) =
-      ap (row_of nat_cmp node_number n) (sym is) ∙ row_of-put nat_cmp node_number nat_cmp_total n (down_row r) s.nodes
-      ∙ ap (λ o. cond (is_eq o) (Some (down_row r)) (node_of n s)) (found_tied nat_cmp node_number nat_cmp_total n s.nodes r e) in
-      ap (λ (m : Option Node). at_node m counts) there
-      ∙ sym (counts_follow s.nodes (down_row r) counts rising of)
-      ∙ ap (λ nodes. beat_counts_over nodes counts) is
+  went n (Some r) e = marked statuses.Down n r e
+
+  is_away : (n : ℕ) (m : Option Node) → node_of n s ≡ m → at_node (node_of n (cond (is_none m) (with_next_count s) (disconnected n (with_next_count s)))) counts ≡ beat_counts_over (cond (is_none m) (with_next_count s) (disconnected n (with_next_count s))).nodes counts
+  is_away n None e = ap (λ (m : Option Node). at_node m counts) e ∙ stays
+  is_away n (Some r) e = marked statuses.Disconnected n r e
 
   pub node_told : (c : Command) → tell_node c (applied s c) counts ≡ beat_counts_over (applied s c).nodes counts
   node_told commands.Noop = stays
@@ -226,6 +240,7 @@ module _ (s : State) (counts : List BeatCount) (rising : T (is_rising nat_cmp no
   node_told (commands.JobStop name) = stays
   node_told (commands.NodePut n) = came n
   node_told (commands.NodeDown n) = went n (node_of n s) refl
+  node_told (commands.Disconnect n) = is_away n (node_of n s) refl
   node_told (commands.Drain n force) = mapped (draining n force) (draining_keeps n force)
   node_told (commands.DrainDone n) = mapped (drained n) (drained_keeps n)
   node_told (commands.Migrate ids) = stays
@@ -262,8 +277,8 @@ no_room freed x (n ∷ nodes) e =
     rest true b e = absurd cc
     rest false b e = e
 
-down_rooms : (k : ℕ) (n : Node) → ((down k n).class ≡ n.class) × ((down k n).room ≡ n.room)
-down_rooms k n = elim (nat_eq n.number k) as (λ b. let r = cond b (down_row n) n in (r.class ≡ n.class) × (r.room ≡ n.room)) [ true ↦ (refl, refl) | false ↦ (refl, refl) ]
+marked_rooms : (status : NodeStatus) (k : ℕ) (n : Node) → ((marked_as status k n).class ≡ n.class) × ((marked_as status k n).room ≡ n.room)
+marked_rooms status k n = elim (nat_eq n.number k) as (λ b. let r = cond b (status_row status n) n in (r.class ≡ n.class) × (r.room ≡ n.room)) [ true ↦ (refl, refl) | false ↦ (refl, refl) ]
 
 draining_rooms : (k : ℕ) (force : Bool) (n : Node) → ((draining k force n).class ≡ n.class) × ((draining k force n).room ≡ n.room)
 draining_rooms k force n = elim (nat_eq n.number k) as (λ b. let r = cond b (draining_row force n) n in (r.class ≡ n.class) × (r.room ≡ n.room)) [ true ↦ (refl, refl) | false ↦ (refl, refl) ]
@@ -295,7 +310,12 @@ rooms_told s (commands.NodePut n) = refl
 rooms_told s (commands.NodeDown n) =
     elim (no_node n s) as (λ b. let t = cond b (with_next_count s) (downed n (with_next_count s)) in blocked_over (record t { nodes = s.nodes }) ≡ blocked_over t) [
       | true ↦ refl
-      | false ↦ same_rooms (downed n (with_next_count s)) s.nodes (mapped_rooms (down n) (down_rooms n) s.nodes)
+      | false ↦ same_rooms (downed n (with_next_count s)) s.nodes (mapped_rooms (marked_as statuses.Down n) (marked_rooms statuses.Down n) s.nodes)
+    ]
+rooms_told s (commands.Disconnect n) =
+    elim (no_node n s) as (λ b. let t = cond b (with_next_count s) (disconnected n (with_next_count s)) in blocked_over (record t { nodes = s.nodes }) ≡ blocked_over t) [
+      | true ↦ refl
+      | false ↦ same_rooms (disconnected n (with_next_count s)) s.nodes (mapped_rooms (marked_as statuses.Disconnected n) (marked_rooms statuses.Disconnected n) s.nodes)
     ]
 rooms_told s (commands.Drain n force) = same_rooms (applied s (commands.Drain n force)) s.nodes (mapped_rooms (draining n force) (draining_rooms n force) s.nodes)
 rooms_told s (commands.DrainDone n) = same_rooms (applied s (commands.DrainDone n)) s.nodes (mapped_rooms (drained n) (drained_rooms n) s.nodes)

@@ -7,13 +7,12 @@ use Rattle.rows.specs.declared.evaluation.Evaluation.{Evaluation}
 use Rattle.rows.specs.declared.command.Command.{Command}
 use Rattle.rows.specs.declared.command.Command.TheVariants as commands
 use Rattle.rows.specs.Keys.{node_number}
-use Rattle.rows.specs.NodeStatuses.{is_ready}
 use Rattle.cluster_model.specs.Words.{State}
 use Rattle.cluster_model.specs.Effect.{applied}
 use Rattle.cluster_model.proofs.StateLaws.{applied_are_tables}
 use Rattle.group_model.specs.Brokers.{Broker, broker_over, HoldsPending}
 use Rattle.group_model.specs.Blocked.{BlockedEvals, blocked_over}
-use Rattle.group_model.specs.Expiry.{BeatCount, count_node, counted_node, beat_count_of, beat_counts_over, HoldsReady}
+use Rattle.group_model.specs.Expiry.{BeatCount, is_held, count_node, counted_node, beat_count_of, beat_counts_over, HoldsHeld}
 use Rattle.leader.specs.Following.{AreOf, WereOf, tells_desk}
 use Rattle.leader.specs.Inner.Changes.{TellsEvals, broker_after, blocked_after, tell_job, tell_node, tell_rooms}
 use Rattle.leader.proofs.Holding.{of_rows}
@@ -48,15 +47,15 @@ module _ (c : Command) (t : State) (rows : List Evaluation) (broker : Broker) (h
       let s = w.before in
       let is = w.left in
       ap (λ (t : State). tell_node c t counts) is
-      ∙ node_told s counts w.tables.nodes.rising w.of.ready c
+      ∙ node_told s counts w.tables.nodes.rising w.of.heard c
       ∙ ap (λ (t : State). beat_counts_over t.nodes counts) (sym is)
 
   pub again : WereOf c t broker held counts → AreOf t (broker_after rows broker) (tell_rooms c t (blocked_after t rows (tell_job c t held))) (tell_node c t counts)
   again w = record {
     pending = subst (λ (b : Broker). HoldsPending t.evals b.tasks) (sym (broker_follows w)) (over_holds t.evals broker);
     blocked = blocked_follows w;
-    ready = subst (λ (cs : List BeatCount). HoldsReady t.nodes cs) (sym (counts_follow w))
-        (of_rows nat_cmp node_number count_node (λ k. k) node_number count_node (λ n. refl) (λ x. refl) (λ (n : Node). is_ready n.status) nat_cmp_total counted_node (λ n m. refl) (λ n. beat_count_of n.number counts) t.nodes);
+    heard = subst (λ (cs : List BeatCount). HoldsHeld t.nodes cs) (sym (counts_follow w))
+        (of_rows nat_cmp node_number count_node (λ k. k) node_number count_node (λ n. refl) (λ x. refl) (λ (n : Node). is_held n.status) nat_cmp_total counted_node (λ n m. refl) (λ n. beat_count_of n.number counts) t.nodes);
   }
 
 -- where there are evaluations to tell of, a desk is to be told
@@ -71,6 +70,7 @@ told_some c s rows told some = by c told where
   by (commands.JobStop name) told = refl
   by (commands.NodePut n) told = refl
   by (commands.NodeDown n) told = refl
+  by (commands.Disconnect n) told = refl
   by (commands.Drain n force) told = absurd (none told)
   by (commands.DrainDone n) told = absurd (none told)
   by (commands.Migrate ids) told = refl

@@ -21,7 +21,7 @@ abbrev pub pair_refused : PairError → DeskError
 pair_refused pair_errors.NotOutstanding = desk_errors.NotOutstanding
 pair_refused pair_errors.TokenDiffers = desk_errors.TokenDiffers
 
--- of a node that may not be said to be lost
+-- of a node that does not expire
 abbrev pub expiry_refused : ExpiryError → DeskError
 expiry_refused expiry_errors.UnknownNode = desk_errors.UnknownNode
 expiry_refused expiry_errors.StaleExpiry = desk_errors.StaleExpiry

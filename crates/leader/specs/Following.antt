@@ -9,15 +9,15 @@ use Rattle.cluster_model.specs.Words.{State}
 use Rattle.cluster_model.specs.Effect.{applied}
 use Rattle.group_model.specs.Brokers.{Broker, HoldsPending}
 use Rattle.group_model.specs.Blocked.{BlockedEvals, blocked_over}
-use Rattle.group_model.specs.Expiry.{BeatCount, HoldsReady}
+use Rattle.group_model.specs.Expiry.{BeatCount, HoldsHeld}
 
 -- the broker holds the pending evaluations of this state, the blocked ones are its own, and the
--- heartbeats that are counted are those of its ready nodes
+-- heartbeats that are counted are those of its nodes that are not down
 pub record AreOf (s : State) (broker : Broker) (held : BlockedEvals)
     (counts : List BeatCount) : Type 0 where
   pub pending : HoldsPending s.evals broker.tasks
   pub blocked : held ≡ blocked_over s
-  pub ready : HoldsReady s.nodes counts
+  pub heard : HoldsHeld s.nodes counts
 
 -- a command left this state, and these were of the state before it, whose tables were in order
 pub record WereOf (c : Command) (after : State) (broker : Broker) (held : BlockedEvals)

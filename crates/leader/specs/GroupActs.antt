@@ -102,14 +102,14 @@ lapse_act (Ok q) = Ok (rests (Some q.1.desk))
 abbrev pub LapsesByLapse : Type 0
 LapsesByLapse = (id : EvalId) (o : OpenDesk) → lapse o.desk id ≡ lapse_act (on_lapse id o)
 
--- that the node is down is proposed
-abbrev pub expire_act : ℕ → Desk → Result (Unit {0}) Refusal → Result Act Refusal
-expire_act node d (Err r) = Err r
-expire_act node d (Ok u) = Ok (asks (AskPropose (commands.NodeDown node)) (Some d))
+-- the command is proposed
+abbrev pub expire_act : Desk → Result Command Refusal → Result Act Refusal
+expire_act d (Err r) = Err r
+expire_act d (Ok c) = Ok (asks (AskPropose c) (Some d))
 
 abbrev pub ExpiresByExpire : Type 0
-ExpiresByExpire = (node beats : ℕ) (o : OpenDesk)
-    → expire o.desk node beats ≡ expire_act node o.desk (on_expire node beats o)
+ExpiresByExpire = (s : Server Command) (node beats : ℕ) (o : OpenDesk)
+    → expire s o.desk node beats ≡ expire_act o.desk (on_expire node beats (applied_state s) o)
 
 -- the command, if there is one, is proposed
 abbrev pub drain_act : Desk → Result (Option Command) Refusal → Result Act Refusal

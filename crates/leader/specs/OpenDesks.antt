@@ -21,7 +21,7 @@ use Rattle.group_model.specs.BeatCounts.{beat_heard, expiry_refusal}
 use Rattle.group_model.specs.Drains.{is_done, next_moves}
 use Rattle.group_model.specs.Desks.{Desk, opened}
 use Rattle.group_model.specs.Plans.{submitted}
-use Rattle.group_model.specs.Turns.{is_still_pending}
+use Rattle.group_model.specs.Turns.{expiry_command, is_still_pending}
 use Rattle.blocked.specs.Rooms.{BlockedRows, blocked_of, some_due}
 
 -- the group's desk, what is kept of the blocked evaluations, and the leader's term
@@ -150,13 +150,15 @@ once_heard o (Ok counts) = Ok (tt, with_beat_counts counts o)
 abbrev pub on_beat : ℕ → OpenDesk → Answered (Unit {0})
 on_beat node o = once_heard o (beat_heard node o.desk.beat_counts)
 
--- Expire: whether a node may be said to be lost, which was heard of so often and not since.
-abbrev pub unless_refused : Option Refusal → Result (Unit {0}) Refusal
-unless_refused None = Ok tt
-unless_refused (Some r) = Err r
+-- Expire: what is proposed, by the applied state, of a node that was heard of so often and not
+-- since.
+abbrev pub unless_refused : Command → Option Refusal → Result Command Refusal
+unless_refused c None = Ok c
+unless_refused c (Some r) = Err r
 
-abbrev pub on_expire : ℕ → ℕ → OpenDesk → Result (Unit {0}) Refusal
-on_expire node beats o = unless_refused (expiry_refusal node beats o.desk.beat_counts)
+abbrev pub on_expire : ℕ → ℕ → State → OpenDesk → Result Command Refusal
+on_expire node beats applied o =
+    unless_refused (expiry_command applied node) (expiry_refusal node beats o.desk.beat_counts)
 
 -- Drain: what is proposed of a node's drain by the state after the whole log, if anything is: that
 -- it is done where nothing lives on the node, else that its next moves are made.

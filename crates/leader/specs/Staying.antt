@@ -12,7 +12,7 @@ use Rattle.leader.specs.OpenDesks.{OpenDesk, Answered, IsOpened, on_deliver, on_
 use Rattle.leader.specs.OpenDesks.{on_lapse, on_submit, on_beat}
 use Rattle.leader.specs.Verdicts.{on_plan_turn}
 
--- it has the pending evaluations of the state, the blocked ones, and the ready nodes
+-- it has the pending evaluations of the state, the blocked ones, and the nodes that are not down
 abbrev pub IsOver : State → OpenDesk → Type 0
 IsOver s o = AreOf s o.desk.broker (blocked_of o.blocked) o.desk.beat_counts
 

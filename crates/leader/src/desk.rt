@@ -91,7 +91,7 @@ impl Desk {
         }
     }
 
-    /// How often the ready nodes were heard of, while it is open.
+    /// How often the nodes that are not down were heard of, while it is open.
     pub fn expiry(&self) -> Option<&Expiry>
         ensures { option_map (λ e. e.now) result ≡ option_map (λ o. o.desk.beat_counts) self.now }
     {
@@ -277,9 +277,9 @@ impl Desk {
     }
 
     /// A node was heard of once more: the number of its heartbeats rises by one; the greatest,
-    /// 2^40 - 1, stays. `UnknownNode` where it is not ready, since no heartbeats of it are counted.
-    /// It takes no memory, and refused it changes nothing. (Nomad documentation, "server" block of
-    /// the agent configuration: heartbeats of clients.)
+    /// 2^40 - 1, stays. `UnknownNode` where it is neither ready nor disconnected, since no
+    /// heartbeats of it are counted. It takes no memory, and refused it changes nothing. (Nomad
+    /// documentation, "server" block of the agent configuration: heartbeats of clients.)
     pub fn beat(&mut self, node: NodeId) -> Result<(), DeskError>
         ensures ok { IfOk result (λ u. at_open (on_beat node) self.old ≡ Ok (u, self.new)) }
         ensures err { IfErr result (λ e. at_open (on_beat node) self.old ≡ Err (desk_refusal e)) }
@@ -291,19 +291,27 @@ impl Desk {
         }
     }
 
-    /// Whether a node may be said to be lost, which was heard of `beats` times and not since; the
-    /// caller proposes `NodeDown` then. `UnknownNode` where it is not ready, `StaleExpiry` where it
-    /// was heard of another number of times. It takes no memory, and changes nothing.
-    pub fn expire(&self, node: NodeId, beats: Index) -> Result<(), DeskError>
-        ensures ok { IfOk result (λ u. if_open (on_expire node beats) self.now ≡ Ok u) }
-        ensures err { IfErr result
-            (λ e. if_open (on_expire node beats) self.now ≡ Err (desk_refusal e)) }
+    /// What is proposed of a node that was heard of `beats` times and not since, by `applied`, the
+    /// applied state: `Disconnect` where it is ready there, else `NodeDown`. `UnknownNode` where
+    /// its heartbeats are not counted, which are those of ready and disconnected nodes;
+    /// `StaleExpiry` where it was heard of another number of times. It takes no memory, and changes
+    /// nothing. (Nomad documentation, "disconnect" block of a group.)
+    pub fn expire(
+        &self,
+        node: NodeId,
+        beats: Index,
+        applied: &Cluster,
+    ) -> Result<Command, DeskError>
+        ensures ok { IfOk result (λ c. if_open (on_expire node beats applied.now) self.now ≡ Ok c) }
+        ensures err { let call = on_expire node beats applied.now in
+            IfErr result (λ e. if_open call self.now ≡ Err (desk_refusal e)) }
     {
         match &self.opened {
-            Some(desk) => desk.expire(node, beats),
+            Some(desk) => desk.expire(node, beats, applied),
             None => Err(DeskError::NotOpen),
         }
     }
+
     /// What is proposed at a turn of a node's drain by `whole`, the state after the whole log:
     /// `DrainDone` where nothing lives on the node, else `Migrate` of the allocations that move
     /// next; none where there is nothing to do. `UnknownNode` where there is no such node,

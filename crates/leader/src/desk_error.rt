@@ -17,7 +17,7 @@ pub enum DeskError {
     NotOutstanding,
     /// 5: it is outstanding under another token.
     TokenDiffers,
-    /// 9: the node is not ready, so no heartbeats of it are counted.
+    /// 9: the node is neither ready nor disconnected, so no heartbeats of it are counted.
     UnknownNode,
     /// 14: there is an evaluation to give out, and no serial is left.
     Exhausted,

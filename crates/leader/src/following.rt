@@ -99,7 +99,7 @@ fn tell_row(expiry: &mut Expiry, number: NodeId, state: &Cluster) -> Result<(), 
     }
 }
 
-/// Tells of a node that a command made ready, or took down.
+/// Tells of a node that a command made ready, disconnected, or took down.
 fn tell_node(expiry: &mut Expiry, command: &Command, state: &Cluster) -> Result<(), NoMemory>
     ensures ok { OnOk result (expiry.new ≡ tell_node command.now state.now expiry.old) }
     ensures memory { OnErr result (tells_desk command.now state.now ≡ true) }
@@ -107,6 +107,7 @@ fn tell_node(expiry: &mut Expiry, command: &Command, state: &Cluster) -> Result<
     match command {
         Command::NodePut(spec) => tell_row(expiry, spec.number, state),
         Command::NodeDown(number) => tell_row(expiry, *number, state),
+        Command::Disconnect(number) => tell_row(expiry, *number, state),
         _ => Ok(()),
     }
 }

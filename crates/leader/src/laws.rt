@@ -11,7 +11,7 @@ ghost use Rattle.leader.specs.Staying.{OpensOver, DeliverStays, AckStays, NackSt
 /// - `heartbeat`: by `beat`.
 /// - `lapse`, `plan_turn`, `reap`: by the call of the name, on the state after the whole log.
 /// - `free_turn`: the same, where what is kept of blocked evaluations is of the applied state.
-/// - `expire`: by the call of the name; where it is not refused, `NodeDown` is proposed.
+/// - `expire`: by the call of the name, on the applied state: its command is proposed.
 /// - `drain_turn`: by the call of the name, on the state after the whole log: its command, if it
 ///   has one, is proposed.
 pub fn calls_are_of_the_group()
@@ -28,8 +28,8 @@ pub fn calls_are_of_the_group()
     ensures drain_turn { DrainsByDrainTurn }
 {}
 
-/// A desk that opens over a state has its pending and its blocked evaluations and its ready nodes;
-/// and a call that changes the desk, but for `changed`, leaves it so.
+/// A desk that opens over a state has its pending and its blocked evaluations and its nodes that
+/// are not down; and a call that changes the desk, but for `changed`, leaves it so.
 pub fn calls_stay_over_the_state()
     ensures opened { OpensOver }
     ensures deliver { DeliverStays }

@@ -5,6 +5,7 @@
 mod desk;
 mod desk_error;
 mod drains;
+mod expiring;
 mod following;
 mod judged;
 mod laws;

@@ -57,6 +57,7 @@ pub(crate) fn changed_evals(
         }
         Command::Noop
         | Command::NodePut(_)
+        | Command::Disconnect(_)
         | Command::Drain(_, _)
         | Command::DrainDone(_)
         | Command::Plan(_) => Ok(Sequence::new(alloc)),

@@ -8,6 +8,7 @@ ghost use Rattle.leader.specs.Verdicts.{judged_by, IsProposal, on_plan_turn, fir
 ghost use Rattle.leader.specs.OpenDesks.{IsOpened, has_due, on_deliver, on_outstanding, on_ack, on_nack, on_lapse, on_submit, on_free_turn, on_reap, on_beat, on_expire};
 
 use crate::desk_error::DeskError;
+use crate::expiring::expiry_command;
 use crate::following::follow;
 use crate::judged::{JudgedPlan, judge};
 use crate::turns::{first_blocked, first_pending};
@@ -66,7 +67,7 @@ impl OpenDesk {
         &self.plans
     }
 
-    /// How often the ready nodes were heard of.
+    /// How often the nodes that are not down were heard of.
     pub fn expiry(&self) -> &Expiry
         ensures { result.now ≡ self.now.desk.beat_counts }
     {
@@ -197,12 +198,19 @@ impl OpenDesk {
         Ok(self.expiry.beat(node)?)
     }
 
-    /// Whether a node may be said to be lost, which was heard of so often and not since.
-    pub fn expire(&self, node: NodeId, beats: Index) -> Result<(), DeskError>
-        ensures ok { IfOk result (λ u. on_expire node beats self.now ≡ Ok u) }
-        ensures err { IfErr result (λ e. on_expire node beats self.now ≡ Err (desk_refusal e)) }
+    /// What is proposed, by the applied state, of a node that was heard of so often and not since.
+    pub fn expire(
+        &self,
+        node: NodeId,
+        beats: Index,
+        applied: &Cluster,
+    ) -> Result<Command, DeskError>
+        ensures ok { IfOk result (λ c. on_expire node beats applied.now self.now ≡ Ok c) }
+        ensures err { IfErr result
+            (λ e. on_expire node beats applied.now self.now ≡ Err (desk_refusal e)) }
     {
-        Ok(self.expiry.expire(node, beats)?)
+        self.expiry.expire(node, beats)?;
+        Ok(expiry_command(applied, node))
     }
 
     /// Takes the plan that goes first out of the queue, and judges it. Without memory the desk is

@@ -12,21 +12,24 @@ use Rattle.placement_metrics.specs.Verdicts.{first_reason, is_verdict, verdict}
 use Rattle.placement_metrics.specs.declared.verdict.Verdict.{Verdict}
 use Rattle.placement_metrics.specs.declared.verdict.Verdict.TheVariants.{HasRoom}
 
-all_pass : (of_class ready eligible cpu memory : Bool) → is_verdict HasRoom (first_reason of_class ready eligible cpu memory) ≡ (((ready && eligible) && of_class) && (cpu && memory))
-all_pass true true true true true = refl
-all_pass true true true true false = refl
-all_pass true true true false memory = refl
-all_pass true true false cpu memory = refl
-all_pass true false eligible cpu memory = refl
-all_pass false true true cpu memory = refl
-all_pass false true false cpu memory = refl
-all_pass false false eligible cpu memory = refl
+all_pass : (of_class ready eligible cpu memory disk : Bool)
+    → is_verdict HasRoom (first_reason of_class ready eligible cpu memory disk) ≡ (((ready && eligible) && of_class) && ((cpu && memory) && disk))
+all_pass true true true true true true = refl
+all_pass true true true true true false = refl
+all_pass true true true true false disk = refl
+all_pass true true true false memory disk = refl
+all_pass true true false cpu memory disk = refl
+all_pass true false eligible cpu memory disk = refl
+all_pass false true true cpu memory disk = refl
+all_pass false true false cpu memory disk = refl
+all_pass false false eligible cpu memory disk = refl
 
 -- a node has room exactly where the definition finds room on it
 pub room_is : (cs : List Claim) (g : Group) (n : Node) → is_verdict HasRoom (verdict cs g n) ≡ has_room_for cs g n
 room_is cs g n =
     let load = used n.number cs in
     all_pass (bytes_eq n.class g.class) (is_ready n.status) n.eligible (nat_le (load.cpu + g.size.cpu) n.size.cpu) (nat_le (load.mem + g.size.mem) n.size.mem)
+    (nat_le (load.disk + g.size.disk) n.size.disk)
 
 module _ (cs : List Claim) (g : Group) where
   pub rooms_are : (ns : List Node) → map (is_verdict HasRoom) (map (verdict cs g) ns) ≡ map (has_room_for cs g) ns

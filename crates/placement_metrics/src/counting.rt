@@ -10,7 +10,7 @@ use crate::verdict::Verdict;
 pub struct NodeCounts {
     /// Those of another class.
     pub other_class: usize,
-    /// Of the others, those that are down.
+    /// Of the others, those that are not ready: disconnected or down.
     pub not_ready: usize,
     /// Of the others, those on which nothing may be placed.
     pub not_eligible: usize,
@@ -18,6 +18,8 @@ pub struct NodeCounts {
     pub lack_cpu: usize,
     /// Of the others, those that lack memory.
     pub lack_memory: usize,
+    /// Of the others, those that lack disk.
+    pub lack_disk: usize,
     /// The others: those that have room.
     pub have_room: usize,
 }
@@ -54,6 +56,7 @@ pub fn counts(verdicts: &[Verdict]) -> NodeCounts
         not_eligible: count_of(verdicts, Verdict::NotEligible),
         lack_cpu: count_of(verdicts, Verdict::LacksCpu),
         lack_memory: count_of(verdicts, Verdict::LacksMemory),
+        lack_disk: count_of(verdicts, Verdict::LacksDisk),
         have_room: count_of(verdicts, Verdict::HasRoom),
     }
 }

@@ -12,7 +12,7 @@ use rows::{Group, Node, Usage};
 pub enum Verdict {
     /// It is of another class.
     OtherClass,
-    /// It is down.
+    /// It is not ready: disconnected or down.
     NotReady,
     /// Nothing may be placed on it: it is drained, or was.
     NotEligible,
@@ -20,6 +20,8 @@ pub enum Verdict {
     LacksCpu,
     /// It lacks memory.
     LacksMemory,
+    /// It lacks disk.
+    LacksDisk,
     /// It has room.
     HasRoom,
 }
@@ -35,7 +37,8 @@ impl Verdict {
             Verdict::NotEligible => 2,
             Verdict::LacksCpu => 3,
             Verdict::LacksMemory => 4,
-            Verdict::HasRoom => 5,
+            Verdict::LacksDisk => 5,
+            Verdict::HasRoom => 6,
         }
     }
 }
@@ -65,6 +68,9 @@ fn verdict_with(used: Usage, group: &Group, node: &Node) -> Verdict
     }
     if !bears(node.size.mem.get(), used.mem(), group.size.mem.get()) {
         return Verdict::LacksMemory;
+    }
+    if !bears(node.size.disk.get(), used.disk(), group.size.disk.get()) {
+        return Verdict::LacksDisk;
     }
     Verdict::HasRoom
 }

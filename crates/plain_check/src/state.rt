@@ -4,23 +4,31 @@ use fsm_state::Cluster;
 use fsm_tables::Table;
 use rows::{Allocation, ClientState, Desired, Node};
 
-// It is to run, and was not heard of as ended or lost.
+// It is to run, and is not known to have ended, nor given up as lost.
 fn lives(row: &Allocation) -> bool {
     let is_wanted = matches!(row.desired, Desired::Run);
-    is_wanted && matches!(row.client, ClientState::Pending | ClientState::Running)
+    is_wanted
+        && matches!(
+            row.client,
+            ClientState::Pending | ClientState::Running | ClientState::Unknown
+        )
 }
 
 // What lives on a node is no more than that has.
 fn has_room(node: &Node, rows: &Table<Allocation>) -> bool {
     let mut cpu: u64 = 0;
     let mut mem: u64 = 0;
+    let mut disk: u64 = 0;
     for row in rows.rows() {
         if lives(row) && row.node == node.number {
             cpu = cpu.saturating_add(u64::from(row.size.cpu.get()));
             mem = mem.saturating_add(u64::from(row.size.mem.get()));
+            disk = disk.saturating_add(u64::from(row.size.disk.get()));
         }
     }
-    cpu <= u64::from(node.size.cpu.get()) && mem <= u64::from(node.size.mem.get())
+    cpu <= u64::from(node.size.cpu.get())
+        && mem <= u64::from(node.size.mem.get())
+        && disk <= u64::from(node.size.disk.get())
 }
 
 fn has_node(nodes: &Table<Node>, row: &Allocation) -> bool {

@@ -105,7 +105,7 @@ counted_itself k (l ∷ ks) (suc i) e =
 
 same_job : (job : List ℕ) (k l : AcceptedPlace) → same_name (claim_at job k) (claim_at job l) ≡ same_place k l
 same_job job k l =
-    let is : bytes_eq job job ≡ true = is_true (bytes_eq job job) (first (bytes_eq job job) (bytes_eq [] []) (first (bytes_eq job job && bytes_eq [] []) (nat_eq 0 0) (itself (record { job = job; group = []; index = 0; node = 0; size = record { cpu = 0; mem = 0 } })))) in
+    let is : bytes_eq job job ≡ true = is_true (bytes_eq job job) (first (bytes_eq job job) (bytes_eq [] []) (first (bytes_eq job job && bytes_eq [] []) (nat_eq 0 0) (itself (record { job = job; group = []; index = 0; node = 0; size = record { cpu = 0; mem = 0; disk = 0 } })))) in
     ap (λ b. b && bytes_eq k.group l.group && nat_eq k.index l.index) is
 
 same_count : (job : List ℕ) (k : AcceptedPlace) (ks : List AcceptedPlace) → length (filter (same_name (claim_at job k)) (place_claims job ks)) ≡ length (filter (same_place k) ks)

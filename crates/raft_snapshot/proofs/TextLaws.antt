@@ -113,8 +113,8 @@ snapshot_of m law n t state none fits is = let a = agreed m law n state fits is 
 
 -- ---- what is read has just these bytes, and what has a text is read from it
 
-version_lawful : Lawful (number 1 newest (newest + 1))
-version_lawful = number_lawful 1 newest (newest + 1) (omega arith) (omega arith)
+version_lawful : Lawful (number 1 1 (newest + 1))
+version_lawful = number_lawful 1 1 (newest + 1) (omega arith) (omega arith)
 
 -- past both tests, both were true
 ended : {A : Type 0} (b a : Bool) (x y : A) (p q : ℕ) → cond b (cond a (Ok x) (Err p)) (Err q) ≡ Ok y → (b ≡ true) × (a ≡ true) × (x ≡ y)
@@ -125,42 +125,55 @@ ended false a x y p q e = absurd cc
 pub stable_found : {S C : Type 0} (m : Meaning S C) → LawfulMachine m → (bytes : List ℕ) (s : Stored S C) → IsBytes bytes → stable_at m bytes ≡ Ok s → IsStableText m s bytes
 unfolding stable_at
 stable_found {S} {C} m law bytes s fits e =
-    let last : Stored S C × ℕ → Result (Stored S C) ℕ = λ (s : Stored S C × ℕ). cond (eqb s.1 (length bytes)) (cond (agrees m s.0.log.base.index s.0.log.base.state) (Ok s.0) (Err (state_place m bytes s.0.log.base.state))) (Err s.1) in
-    let v = bind_ok (number_at 1 newest (newest + 1) bytes 0) (λ v. (stable m newest).read bytes v.1 >>= last) s e in
-    let t = bind_ok ((stable m newest).read bytes v.0.1) last s v.2 in
+    let last : ℕ → Stored S C × ℕ → Result (Stored S C) ℕ = λ (k : ℕ) (s : Stored S C × ℕ). cond (eqb s.1 (length bytes)) (cond (agrees m s.0.log.base.index s.0.log.base.state) (Ok s.0) (Err (state_place m k bytes s.0.log.base.state))) (Err s.1) in
+    let v = bind_ok (number_at 1 1 (newest + 1) bytes 0) (λ v. (stable m v.0).read bytes v.1 >>= last v.0) s e in
+    let version = v.0.0 in
+    let t = bind_ok ((stable m version).read bytes v.0.1) (last version) s v.2 in
     let stored = t.0.0 in
     let base = stored.log.base in
-    let g = ended (eqb t.0.1 (length bytes)) (agrees m base.index base.state) stored s (state_place m bytes base.state) t.0.1 t.2 in
-    let sv = version_lawful.found bytes 0 v.0.0 v.0.1 fits v.1 in
-    let st = (stable_lawful m newest (law.commands_lawful newest) (law.states_lawful newest)).found bytes v.0.1 stored t.0.1 fits t.1 in
-    let text = (stable m newest).text stored in
-    let one : v.0.0 ≡ newest = omega (arith, sv.fits.0, sv.fits.1) in
+    let g = ended (eqb t.0.1 (length bytes)) (agrees m base.index base.state) stored s (state_place m version bytes base.state) t.0.1 t.2 in
+    let sv = version_lawful.found bytes 0 version v.0.1 fits v.1 in
+    let st = (stable_lawful m version (law.commands_lawful version) (law.states_lawful version)).found bytes v.0.1 stored t.0.1 fits t.1 in
+    let text = (stable m version).text stored in
+    let known : version ≤ newest = omega (arith, sv.fits.1) in
     let all : t.0.1 ≡ length bytes = eqb-true _ _ g.0 in
     let none : drop t.0.1 bytes ≡ [] = drop_all t.0.1 bytes (omega (arith, all)) in
     let behind : drop v.0.1 bytes ≡ text = st.here ∙ ap (λ (r : List ℕ). text ++ r) none ∙ append-nil text in
-    let whole : bytes ≡ stable_text m stored = sv.here ∙ ap (λ (r : List ℕ). spelled 1 v.0.0 ++ r) behind ∙ ap (λ (k : ℕ). spelled 1 k ++ text) one in
+    let whole : bytes ≡ stable_text m version stored = sv.here ∙ ap (λ (r : List ℕ). spelled 1 version ++ r) behind in
     let at_base = st.fits.0.0.1.1.0 in
-    let snapshot = snapshot_of m law base.index base.term base.state (none_covered base.index base.term at_base.1.1) st.fits.0.1 g.1 in
-    subst (λ (s : Stored S C). IsStableText m s bytes) g.2 (record { fits = st.fits; snapshot = snapshot }, whole)
+    let snapshot = snapshot_of m law base.index base.term base.state (none_covered base.index base.term at_base.1.1) (law.states_stay version base.state st.fits.0.1) g.1 in
+    subst (λ (s : Stored S C). IsStableText m s bytes) g.2 (version, record { known = (sv.fits.0, known); fits = st.fits; snapshot = snapshot }, whole)
 
-pub stable_only : {S C : Type 0} (m : Meaning S C) → LawfulMachine m → (s : Stored S C) → StableFits m s → stable_at m (stable_text m s) ≡ Ok s
+-- a version that is there is one that a text begins with
+begins_with : (version : ℕ) → (1 ≤ version) × (version ≤ newest) → (number 1 1 (newest + 1)).Fits version
+begins_with version known = (known.0, omega (arith, known.1))
+
+pub stable_only : {S C : Type 0} (m : Meaning S C) → LawfulMachine m → (version : ℕ) (s : Stored S C) → StableFits m version s → stable_at m (stable_text m version s) ≡ Ok s
 unfolding stable_at
-stable_only m law s fits =
-    let text = (stable m newest).text s in
-    let bytes = stable_text m s in
-    let first = version_lawful.only bytes 0 newest text (omega arith, omega arith) refl in
-    let here = past 0 bytes (spelled 1 newest) text refl in
-    let second = (stable_lawful m newest (law.commands_lawful newest) (law.states_lawful newest)).only bytes (0 + length (spelled 1 newest)) s [] fits.fits (here ∙ sym (append-nil text)) in
-    let all : eqb (0 + length (spelled 1 newest) + length text) (length bytes) ≡ true = eq-eqb _ _ (omega (arith, length-append (spelled 1 newest) text)) in
+stable_only m law version s fits =
+    let text = (stable m version).text s in
+    let bytes = stable_text m version s in
+    let first = version_lawful.only bytes 0 version text (begins_with version fits.known) refl in
+    let here = past 0 bytes (spelled 1 version) text refl in
+    let second = (stable_lawful m version (law.commands_lawful version) (law.states_lawful version)).only bytes (0 + length (spelled 1 version)) s [] fits.fits (here ∙ sym (append-nil text)) in
+    let all : eqb (0 + length (spelled 1 version) + length text) (length bytes) ≡ true = eq-eqb _ _ (omega (arith, length-append (spelled 1 version) text)) in
     let fitting = agreeing m s.log.base.index s.log.base.state fits.snapshot.count fits.snapshot.first in
     rw (first, second, all, fitting) refl
 
-pub stable_apart : {S C : Type 0} (m : Meaning S C) → LawfulMachine m → (s t : Stored S C) (x y : List ℕ) → StableFits m s → StableFits m t → stable_text m s ++ x ≡ stable_text m t ++ y → s ≡ t
-stable_apart m law s t x y fs ft e =
-    let f = stable m newest in
-    let front = spelled 1 newest in
+apart_in_one : {S C : Type 0} (m : Meaning S C) → LawfulMachine m → (version : ℕ) (s t : Stored S C) (x y : List ℕ) → StableFits m version s → StableFits m version t → stable_text m version s ++ x ≡ stable_text m version t ++ y → s ≡ t
+apart_in_one m law version s t x y fs ft e =
+    let f = stable m version in
+    let front = spelled 1 version in
     let behind = append_cancel_left front (f.text s ++ x) (f.text t ++ y) (sym (append_assoc front (f.text s) x) ∙ e ∙ append_assoc front (f.text t) y) in
-    no_text_begins_another f (stable_lawful m newest (law.commands_lawful newest) (law.states_lawful newest)) s t x y fs.fits ft.fits behind
+    no_text_begins_another f (stable_lawful m version (law.commands_lawful version) (law.states_lawful version)) s t x y fs.fits ft.fits behind
+
+pub stable_apart : {S C : Type 0} (m : Meaning S C) → LawfulMachine m → (v w : ℕ) (s t : Stored S C) (x y : List ℕ) → StableFits m v s → StableFits m w t → stable_text m v s ++ x ≡ stable_text m w t ++ y → (v ≡ w) × (s ≡ t)
+stable_apart {S} {C} m law v w s t x y fs ft e =
+    let one = (stable m v).text s in
+    let other = (stable m w).text t in
+    let behind : spelled 1 v ++ (one ++ x) ≡ spelled 1 w ++ (other ++ y) = sym (append_assoc (spelled 1 v) one x) ∙ e ∙ append_assoc (spelled 1 w) other y in
+    let same : v ≡ w = no_text_begins_another (number 1 1 (newest + 1)) version_lawful v w (one ++ x) (other ++ y) (begins_with v fs.known) (begins_with w ft.known) behind in
+    (same, apart_in_one m law w s t x y (subst (λ (k : ℕ). StableFits m k s) same fs) ft (subst (λ (k : ℕ). stable_text m k s ++ x ≡ stable_text m w t ++ y) same e))
 
 pub found_of : {S C : Type 0} (m : Meaning S C) → LawfulMachine m → (bytes : List ℕ) (r : Result (Stored S C) Refusal) → IsBytes bytes → Gives r (stable_at m bytes) → IfOk r (λ s. IsStableText m s bytes)
 found_of m law bytes (Ok s) fits given = stable_found m law bytes s fits given
@@ -231,50 +244,50 @@ steps_after m f (Err place) more = refl
 -- the first byte and the front are read, and end within the bytes
 pub record ReadsFront {S C : Type 0} (m : Meaning S C) (bytes : List ℕ) (f : Front C) (at : ℕ) : Type 0 where
   pub version : ℕ × ℕ
-  pub version_read : number_at 1 newest (newest + 1) bytes 0 ≡ Ok version
-  pub front_read : (front (m.commands newest)).read bytes version.1 ≡ Ok (f, at)
+  pub version_read : number_at 1 1 (newest + 1) bytes 0 ≡ Ok version
+  pub front_read : (front (m.commands version.0)).read bytes version.1 ≡ Ok (f, at)
   pub fits : IsBytes bytes
 
 module _ {S C : Type 0} (m : Meaning S C) (law : LawfulMachine m) (bytes : List ℕ) (f : Front C) (at : ℕ) (is : ReadsFront m bytes f at) where
-  stands : Stands (front (m.commands newest)) bytes is.version.1 f at
-  stands = (front_lawful (m.commands newest) (law.commands_lawful newest)).found bytes is.version.1 f at is.fits is.front_read
+  abbrev version : ℕ
+  version = is.version.0
+
+  stands : Stands (front (m.commands version)) bytes is.version.1 f at
+  stands = (front_lawful (m.commands version) (law.commands_lawful version)).found bytes is.version.1 f at is.fits is.front_read
 
   pub within : at ≤ length bytes
   within =
-      let sv = version_lawful.found bytes 0 is.version.0 is.version.1 is.fits is.version_read in
-      let text = spelled 1 is.version.0 in
+      let sv = version_lawful.found bytes 0 version is.version.1 is.fits is.version_read in
+      let text = spelled 1 version in
       let first = ap length sv.here ∙ length-append text (drop is.version.1 bytes) in
-      let here = ap length stands.here ∙ length-append ((front (m.commands newest)).text f) (drop at bytes) in
+      let here = ap length stands.here ∙ length-append ((front (m.commands version)).text f) (drop at bytes) in
       omega (arith, sv.after, stands.after, first, here, length-drop is.version.1 bytes, length-drop at bytes)
 
   pub none_is_none : f.index ≡ 0 → f.index_term ≡ 0
   none_is_none = none_covered f.index f.index_term stands.fits.1.1.0.1.1
 
   -- what is read then is the state
-  rest : stable_at m bytes ≡ ((placed (m.states newest)).read bytes at >>= λ s. cond (eqb s.1 (length bytes)) (cond (agrees m f.index s.0) (Ok (stored_of m (f, s.0))) (Err (state_place m bytes s.0))) (Err s.1))
+  rest : stable_at m bytes ≡ ((placed (m.states version)).read bytes at >>= λ s. cond (eqb s.1 (length bytes)) (cond (agrees m f.index s.0) (Ok (stored_of m (f, s.0))) (Err (state_place m version bytes s.0))) (Err s.1))
   unfolding stable_at
-  rest = rw (is.version_read, is.front_read) (steps_after m f ((placed (m.states newest)).read bytes at) (λ (s : Stored S C × ℕ). cond (eqb s.1 (length bytes)) (cond (agrees m s.0.log.base.index s.0.log.base.state) (Ok s.0) (Err (state_place m bytes s.0.log.base.state))) (Err s.1)))
+  rest = rw (is.version_read, is.front_read) (steps_after m f ((placed (m.states version)).read bytes at) (λ (s : Stored S C × ℕ). cond (eqb s.1 (length bytes)) (cond (agrees m s.0.log.base.index s.0.log.base.state) (Ok s.0) (Err (state_place m version bytes s.0.log.base.state))) (Err s.1)))
 
   -- a fault in the state, or a byte left over, is the whole's
-  pub state_fault : (p : ℕ) → moved_fault at (whole (m.states newest) (drop at bytes)) ≡ Err p → stable_at m bytes ≡ Err p
-  state_fault p e = rest ∙ fault_whole at (length (drop at bytes)) (length bytes) ((m.states newest).read (drop at bytes) 0) (λ (s : S × ℕ). cond (agrees m f.index s.0) (Ok (stored_of m (f, s.0))) (Err (state_place m bytes s.0))) p within (length-drop at bytes) e
+  pub state_fault : (p : ℕ) → moved_fault at (whole (m.states version) (drop at bytes)) ≡ Err p → stable_at m bytes ≡ Err p
+  state_fault p e = rest ∙ fault_whole at (length (drop at bytes)) (length bytes) ((m.states version).read (drop at bytes) 0) (λ (s : S × ℕ). cond (agrees m f.index s.0) (Ok (stored_of m (f, s.0))) (Err (state_place m version bytes s.0))) p within (length-drop at bytes) e
 
-  pub refused_state : (e : Refusal) → Refuses (Unit {0}) e (moved_fault at (whole (m.states newest) (drop at bytes))) → Refuses (Unit {0}) e (stable_at m bytes)
+  pub refused_state : (e : Refusal) → Refuses (Unit {0}) e (moved_fault at (whole (m.states version) (drop at bytes))) → Refuses (Unit {0}) e (stable_at m bytes)
   refused_state refusals.NoMemory given = tt
   refused_state (refusals.Frame p) given = state_fault p given
   refused_state _ given = absurd given
 
-  module _ (state : S) (e : moved_fault at (whole (m.states newest) (drop at bytes)) ≡ Ok state) where
-    found_state : (m.states newest).Fits state × (drop at bytes ≡ (m.states newest).text state)
-    found_state = whole_found (m.states newest) (law.states_lawful newest) (drop at bytes) state (λ i. rw get_or-drop (is.fits (at + i))) (unmoved at (whole (m.states newest) (drop at bytes)) state e)
-
+  module _ (state : S) (e : moved_fault at (whole (m.states version) (drop at bytes)) ≡ Ok state) where
     -- the state's text is all that stands there
-    pub text_is : drop at bytes ≡ (m.states newest).text state
-    text_is = found_state.1
+    found_state : (m.states version).Fits state × (drop at bytes ≡ (m.states version).text state)
+    found_state = whole_found (m.states version) (law.states_lawful version) (drop at bytes) state (λ i. rw get_or-drop (is.fits (at + i))) (unmoved at (whole (m.states version) (drop at bytes)) state e)
 
-    tested : stable_at m bytes ≡ cond (agrees m f.index state) (Ok (stored_of m (f, state))) (Err (state_place m bytes state))
+    tested : stable_at m bytes ≡ cond (agrees m f.index state) (Ok (stored_of m (f, state))) (Err (state_place m version bytes state))
     tested =
-        let read = read_whole at (length (drop at bytes)) (length bytes) ((m.states newest).read (drop at bytes) 0) state within (length-drop at bytes) e in
+        let read = read_whole at (length (drop at bytes)) (length bytes) ((m.states version).read (drop at bytes) 0) state within (length-drop at bytes) e in
         let all : eqb (length bytes) (length bytes) ≡ true = eq-eqb _ _ refl in
         rest ∙ rw (read, all) refl
 
@@ -283,24 +296,24 @@ module _ {S C : Type 0} (m : Meaning S C) (law : LawfulMachine m) (bytes : List 
 
     pub disagreeing_read : agrees m f.index state ≡ false → stable_at m bytes ≡ Err at
     disagreeing_read so =
-        let here : state_place m bytes state ≡ at = omega (arith, within, ap length text_is, length-drop at bytes) in
+        let here : state_place m version bytes state ≡ at = omega (arith, within, ap length found_state.1, length-drop at bytes) in
         tested ∙ rw (so, here) refl
 
     pub snapshot_read : agrees m f.index state ≡ true → IsSnapshot m (record { index = f.index; term = f.index_term; state = state })
-    snapshot_read so = snapshot_of m law f.index f.index_term state none_is_none found_state.0 so
+    snapshot_read so = snapshot_of m law f.index f.index_term state none_is_none (law.states_stay version state found_state.0) so
 
 -- ---- writing
 
 -- behind the front comes the state, and that is the text
 pub written : {S C : Type 0} (m : Meaning S C) (s : Stored S C) (old middle new : List ℕ) (r : Result (Unit {0}) NoMemory)
     → (front (m.commands newest)).Fits (parts_of s).0 → IsSnapshot m s.log.base → s.log ≡ kept m s.log.base (drop s.log.base.index s.log.entries)
-    → middle ≡ (old ++ spelled 1 newest) ++ (front (m.commands newest)).text (parts_of s).0 → Writes (m.states newest) s.log.base.state r middle new → OnOk r (StableFits m s × (new ≡ old ++ stable_text m s))
+    → middle ≡ (old ++ spelled 1 newest) ++ (front (m.commands newest)).text (parts_of s).0 → Writes (m.states newest) s.log.base.state r middle new → OnOk r (StableFits m newest s × (new ≡ old ++ stable_text m newest s))
 written {S} {C} m s old middle new (Ok _) fits snapshot shows came state =
     let with_log : _ → Stored S C = λ log. record { term = s.term; vote = s.vote; log = log } in
     let first = spelled 1 newest in
     let text = (front (m.commands newest)).text (parts_of s).0 in
     let last = (m.states newest).text s.log.base.state in (
-      record { fits = ((fits, state.0), ap (λ log. Some (with_log log)) (sym shows)); snapshot = snapshot },
+      record { known = (omega arith, omega arith); fits = ((fits, state.0), ap (λ log. Some (with_log log)) (sym shows)); snapshot = snapshot },
       state.1 ∙ ap (λ (l : List ℕ). l ++ last) came ∙ append_assoc (old ++ first) text last ∙ append_assoc old first (text ++ last),
     )
 written m s old middle new (Err _) fits snapshot shows came state = tt

@@ -1,6 +1,6 @@
--- What a server stores, as bytes: the grammar, and how bytes are read by it. All that stands behind
--- the version byte is one format.
-use Rattle.std.specs.Prelude.{◌≡◌, ℕ, ◌+◌, ◌-◌, ◌^◌, Bool, ◌&&◌, ◌||◌, nat_eq, nat_lt, bytes_eq, if◌then◌else◌, List, ◌++◌, length, drop, Option, Some, Result, Ok, Err}
+-- What a server stores, as bytes: the grammar of each version, and how bytes are read by it. All
+-- that stands behind the version byte is one format in each.
+use Rattle.std.specs.Prelude.{◌≡◌, ◌≤◌, ℕ, ◌+◌, ◌-◌, ◌^◌, Bool, ◌&&◌, ◌||◌, nat_eq, nat_lt, bytes_eq, if◌then◌else◌, List, ◌++◌, length, drop, Option, Some, Result, Ok, Err}
 use Rattle.rows.specs.Versions.{newest}
 use Rattle.fields_model.specs.Format.{◌>>=◌, Format, spelled, number_at, number, ◌then◌, depends, made, list, coded, placed, kept as passing}
 use Rattle.fields_model.specs.Fields.{term, index}
@@ -68,37 +68,39 @@ parts_of s = (
 abbrev pub stable : {S C : Type 0} → Meaning S C → ℕ → Format (Stored S C)
 stable m version = coded (λ p. Some (stored_of m p)) parts_of (front (m.commands version) then placed (m.states version))
 
--- the one text of what is stored: its version is the newest
-abbrev pub stable_text : {S C : Type 0} → Meaning S C → Stored S C → List ℕ
-stable_text m s = spelled 1 newest ++ (stable m newest).text s
+-- the one text of what is stored in a version: the version, and what it says
+abbrev pub stable_text : {S C : Type 0} → Meaning S C → ℕ → Stored S C → List ℕ
+stable_text m version s = spelled 1 version ++ (stable m version).text s
 
--- what has a text: each part is within its range, the covered entries are blank, and the base is
--- one that a snapshot has
-pub record StableFits {S C : Type 0} (m : Meaning S C) (s : Stored S C) : Type 0 where
-  pub fits : (stable m newest).Fits s
+-- what has a text of a version, which is there: each part is within its range, the covered entries
+-- are blank, and the base is one that a snapshot has
+pub record StableFits {S C : Type 0} (m : Meaning S C) (version : ℕ) (s : Stored S C) : Type 0 where
+  pub known : (1 ≤ version) × (version ≤ newest)
+  pub fits : (stable m version).Fits s
   pub snapshot : IsSnapshot m s.log.base
 
--- the bytes are the text of what is stored, which has one
+-- the bytes are the text of what is stored, which has one, in some version
 abbrev pub IsStableText : {S C : Type 0} → Meaning S C → Stored S C → List ℕ → Type 0
-IsStableText m s bytes = StableFits m s × (bytes ≡ stable_text m s)
+IsStableText m s bytes = (version : ℕ) × StableFits m version s × (bytes ≡ stable_text m version s)
 
 -- ---- reading
 
 -- the state has seen as many commands as entries are covered, and where none is, it is the first
--- one: it has that one's text
+-- one: it has that one's text, as it is written
 abbrev pub agrees : {S C : Type 0} → Meaning S C → ℕ → S → Bool
 agrees m n state = nat_eq (m.count state) n && (nat_lt 0 n || bytes_eq ((m.states newest).text state) ((m.states newest).text m.empty))
 
--- where the state's text begins, which ends the bytes
-abbrev pub state_place : {S C : Type 0} → Meaning S C → List ℕ → S → ℕ
-state_place m bytes state = length bytes - length ((m.states newest).text state)
+-- where the state's text of a version begins, which ends the bytes
+abbrev pub state_place : {S C : Type 0} → Meaning S C → ℕ → List ℕ → S → ℕ
+state_place m version bytes state = length bytes - length ((m.states version).text state)
 
--- What is stored, of which these bytes are the text, or the place of their first fault. Bytes left
--- over come before a state that does not agree, which is at fault where it begins.
+-- What is stored, of which these bytes are the text in the version that the first of them names, or
+-- the place of their first fault. Bytes left over come before a state that does not agree, which is
+-- at fault where it begins.
 unfoldable pub stable_at : {S C : Type 0} → Meaning S C → List ℕ → Result (Stored S C) ℕ
 stable_at m bytes =
-    number_at 1 newest (newest + 1) bytes 0 >>= λ version.
-    (stable m newest).read bytes version.1 >>= λ s.
+    number_at 1 1 (newest + 1) bytes 0 >>= λ version.
+    (stable m version.0).read bytes version.1 >>= λ s.
     if nat_eq s.1 (length bytes) then
-    (if agrees m s.0.log.base.index s.0.log.base.state then Ok s.0 else Err (state_place m bytes s.0.log.base.state))
+    (if agrees m s.0.log.base.index s.0.log.base.state then Ok s.0 else Err (state_place m version.0 bytes s.0.log.base.state))
     else Err s.1

@@ -87,16 +87,16 @@ pub fn snapshots_are_received<M: Machine>()
         beat_body s next ≡ beat_body shown next }
 {}
 
-/// What stands behind the version byte has a lawful format in each version. The text of what a
-/// server stores is read again as that, what is read is what has just these bytes, and no text
-/// begins another.
+/// What stands behind the version byte has a lawful format in each version. Each text of what a
+/// server stores, of whichever version, is read again as that, what is read is what has just these
+/// bytes in some version, and no text begins another, also none of another version.
 pub fn stable_texts_are_whole<M: Machine>()
     ensures lawful { (version : ℕ) → Lawful (stable M.meaning version) }
-    ensures again { (s : Stored M M.Command) → StableFits M.meaning s
-        → stable_at M.meaning (stable_text M.meaning s) ≡ Ok s }
+    ensures again { (version : ℕ) (s : Stored M M.Command) → StableFits M.meaning version s
+        → stable_at M.meaning (stable_text M.meaning version s) ≡ Ok s }
     ensures found { (bytes : List ℕ) (s : Stored M M.Command) → IsBytes bytes
         → stable_at M.meaning bytes ≡ Ok s → IsStableText M.meaning s bytes }
-    ensures apart { (s t : Stored M M.Command) (x y : List ℕ) → StableFits M.meaning s
-        → StableFits M.meaning t
-        → stable_text M.meaning s ++ x ≡ stable_text M.meaning t ++ y → s ≡ t }
+    ensures apart { (v w : ℕ) (s t : Stored M M.Command) (x y : List ℕ)
+        → StableFits M.meaning v s → StableFits M.meaning w t
+        → stable_text M.meaning v s ++ x ≡ stable_text M.meaning w t ++ y → (v ≡ w) × (s ≡ t) }
 {}

@@ -1,6 +1,6 @@
 //! What a server stores, read from bytes.
 
-ghost use Rattle.std.specs.Prelude.{◌≡◌, ◌+◌, ◌^◌, ◌<◌, ◌≤◌, Ok, length, drop, IfOk, bytes_eq};
+ghost use Rattle.std.specs.Prelude.{◌≡◌, ◌+◌, ◌^◌, ◌<◌, ◌≤◌, ℕ, Ok, length, drop, IfOk, bytes_eq};
 ghost use Rattle.rows.specs.Versions.{newest};
 ghost use Rattle.fields_model.specs.Format.{Gives, GivesExactly, number_at, whole};
 ghost use Rattle.raft_snapshot.specs.Bases.{IsSnapshot};
@@ -44,15 +44,15 @@ impl<M: Machine> Model for Front<M> {
     ghost invariant = { λ f. (f.index ≡ 0 → f.index_term ≡ 0) × (f.index + length f.entries < 2 ^ 40) };
 }
 
-/// The version: one byte, the number of the newest.
-fn read_version(bytes: &[u8]) -> Result<(u8, usize), Refusal>
-    ensures { GivesExactly result (number_at 1 newest (newest + 1) bytes.now 0) }
+/// The version: one byte, its number.
+fn read_version(bytes: &[u8]) -> Result<(Version, usize), Refusal>
+    ensures { GivesExactly result (number_at 1 1 (newest + 1) bytes.now 0) }
 {
     let (number, next) = read_u8(bytes, 0)?;
-    if number != Version::newest().number() {
-        return Err(Refusal::Frame(0));
+    match Version::new(number) {
+        Some(version) => Ok((version, next)),
+        None => Err(Refusal::Frame(0)),
     }
-    Ok((number, next))
 }
 
 /// The vote: 0 where none was given, or the number of the server that has it.
@@ -93,29 +93,31 @@ fn read_count(bytes: &[u8], at: usize, index: Index) -> Result<(usize, usize), R
 
 /// The entries behind those that are covered.
 fn read_entries<M: Machine>(
+    version: Version,
     alloc: Global,
     bytes: &[u8],
     at: usize,
     index: Index,
 ) -> Result<(Sequence<Entry<Coded<M>>>, usize), Refusal>
-    ensures { Gives result ((entries (M.meaning.commands newest) index).read bytes.now at) }
+    ensures { Gives result ((entries (M.meaning.commands version) index).read bytes.now at) }
 {
     let (count, next) = read_count(bytes, at, index)?;
-    read_items(Version::newest(), alloc, bytes, next, count)
+    read_items(version, alloc, bytes, next, count)
 }
 
 /// What stands in front of the state.
 fn read_front<M: Machine>(
+    version: Version,
     alloc: Global,
     bytes: &[u8],
     at: usize,
 ) -> Result<(Front<M>, usize), Refusal>
-    ensures { Gives result ((front (M.meaning.commands newest)).read bytes.now at) }
+    ensures { Gives result ((front (M.meaning.commands version)).read bytes.now at) }
 {
     let (term, at) = read_term(bytes, at)?;
     let (vote, at) = read_vote(bytes, at)?;
     let ((index, index_term), at) = read_covered(bytes, at)?;
-    let (entries, end) = read_entries(alloc, bytes, at, index)?;
+    let (entries, end) = read_entries(version, alloc, bytes, at, index)?;
     Ok((
         Front {
             term,
@@ -138,31 +140,38 @@ fn rest_of(bytes: &[u8], at: usize) -> &[u8]
 }
 
 /// The state whose text this is; it stands at a place of other bytes, which a fault names.
-fn read_state<M: Machine>(alloc: Global, text: &[u8], at: usize) -> Result<M, Refusal>
+fn read_state<M: Machine>(
+    version: Version,
+    alloc: Global,
+    text: &[u8],
+    at: usize,
+) -> Result<M, Refusal>
     requires { at + length text.now < 2 ^ 64 }
-    ensures { Gives result (moved_fault at (whole (M.meaning.states newest) text.now)) }
+    ensures { Gives result (moved_fault at (whole (M.meaning.states version) text.now)) }
 {
-    match M::load(Version::newest(), alloc, text) {
+    match M::load(version, alloc, text) {
         Ok(state) => Ok(state),
         Err(Refusal::Frame(place)) => Err(Refusal::Frame(at + place)),
         Err(refusal) => Err(refusal),
     }
 }
 
-/// Whether this is the text of the machine's first state.
-fn is_first_text<M: Machine>(alloc: Global, text: &[u8]) -> Result<bool, NoMemory>
+/// Whether this is the machine's first state: it is written as that one is.
+fn is_first<M: Machine>(alloc: Global, state: &M) -> Result<bool, NoMemory>
     ensures { IfOk result (λ is. is
-        ≡ bytes_eq text.now ((M.meaning.states newest).text M.meaning.empty)) }
+        ≡ bytes_eq ((M.meaning.states newest).text state.now)
+        ((M.meaning.states newest).text M.meaning.empty)) }
 {
+    let mut text = Vec::new(alloc);
+    state.save(&mut text)?;
     let mut first = Vec::new(alloc);
-    let state = M::empty(alloc);
-    state.save(&mut first)?;
-    Ok(text == first.as_slice())
+    let empty = M::empty(alloc);
+    empty.save(&mut first)?;
+    Ok(text.as_slice() == first.as_slice())
 }
 
-/// Whether a state of this text has seen as many commands, and is the first one where that is none.
-fn agrees<M: Machine>(alloc: Global, index: Index, state: &M, text: &[u8]) -> Result<bool, NoMemory>
-    requires { text.now ≡ (M.meaning.states newest).text state.now }
+/// Whether a state has seen as many commands, and is the first one where that is none.
+fn agrees<M: Machine>(alloc: Global, index: Index, state: &M) -> Result<bool, NoMemory>
     ensures { IfOk result (λ is. is ≡ agrees M.meaning index state.now) }
 {
     if state.count() != index.get() {
@@ -171,7 +180,7 @@ fn agrees<M: Machine>(alloc: Global, index: Index, state: &M, text: &[u8]) -> Re
     if index.get() > 0 {
         return Ok(true);
     }
-    is_first_text::<M>(alloc, text)
+    is_first(alloc, state)
 }
 
 /// What is stored, of what stands in front of the state, and the state.
@@ -196,31 +205,33 @@ fn stable_of<M: Machine>(front: Front<M>, state: M) -> Stable<M>
 fn read_text<M: Machine>(alloc: Global, bytes: &[u8]) -> Result<Stable<M>, Refusal>
     ensures { Gives result (stable_at M.meaning bytes.now) }
 {
-    let (_, at) = read_version(bytes)?;
-    let (front, at) = read_front(alloc, bytes, at)?;
+    let (version, at) = read_version(bytes)?;
+    let (front, at) = read_front(version, alloc, bytes, at)?;
     let text = rest_of(bytes, at);
-    let state = read_state(alloc, text, at)?;
-    if !agrees(alloc, front.index, &state, text)? {
+    let state = read_state(version, alloc, text, at)?;
+    if !agrees(alloc, front.index, &state)? {
         return Err(Refusal::Frame(at));
     }
     Ok(stable_of(front, state))
 }
 
-/// What a server stored, of which these bytes are the whole text (`write_stable`).
+/// What a server stored, of which these bytes are the whole text, in the version that their first
+/// byte names: the newest, as `write_stable` puts it, or an older one, where what that one does not
+/// say is nothing.
 ///
 /// Bytes that are no such text are refused with the offset of the first field that is cut or out of
-/// its range: another version than the newest; a count of entries of which the last has no place,
+/// its range: a version that is not there; a count of entries of which the last has no place,
 /// below 2^40; a term of covered entries where none is covered. Then come the faults inside the
 /// state, and bytes left over, which are at fault at the first of them. Last, a state that has seen
 /// another number of commands than there are covered entries, or that is not the machine's first
 /// one where none is, is at fault at its first byte. Nothing else is asked of one field by another.
 /// It takes memory for what it reads, and never for a count that it has only read.
 pub fn read_stable<M: Machine>(alloc: Global, bytes: &[u8]) -> Result<Stable<M>, Refusal>
-    // What is read has just these bytes.
+    // What is read has just these bytes, in some version.
     ensures found { IfOk result (λ s. IsStableText M.meaning s bytes.now) }
-    // What has a text is read from it, unless memory runs out.
-    ensures only { (s : Stored M M.Command) → StableFits M.meaning s
-        → bytes.now ≡ stable_text M.meaning s → Gives result (Ok s) }
+    // What has a text in a version is read from it, unless memory runs out.
+    ensures only { (version : ℕ) (s : Stored M M.Command) → StableFits M.meaning version s
+        → bytes.now ≡ stable_text M.meaning version s → Gives result (Ok s) }
     // Which field is at fault.
     ensures exact { Gives result (stable_at M.meaning bytes.now) }
 {

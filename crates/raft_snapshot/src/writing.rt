@@ -69,8 +69,8 @@ fn append_front<M: Machine>(stable: &Stable<M>, out: &mut Vec<u8>) -> Result<(),
 /// Puts what is stored to the end; after an error a part of it may stand there.
 #[tactic(auto, using(crate::proofs::TextRules::appends))]
 fn append_stable<M: Machine>(stable: &Stable<M>, out: &mut Vec<u8>) -> Result<(), NoMemory>
-    ensures ok { OnOk result (StableFits M.meaning stable.now
-        × (out.new.items ≡ out.old.items ++ stable_text M.meaning stable.now)) }
+    ensures ok { OnOk result (StableFits M.meaning newest stable.now
+        × (out.new.items ≡ out.old.items ++ stable_text M.meaning newest stable.now)) }
     ensures err { OnErr result (Grows out.old.items out.new.items) }
 {
     let log = stable.log();
@@ -85,8 +85,8 @@ fn append_stable<M: Machine>(stable: &Stable<M>, out: &mut Vec<u8>) -> Result<()
 /// the newest, the term, the vote, how many entries are covered, the last one's term, the entries
 /// behind them, and the state after those that are covered.
 pub fn write_stable<M: Machine>(stable: &Stable<M>, out: &mut Vec<u8>) -> Result<(), NoMemory>
-    ensures ok { OnOk result (StableFits M.meaning stable.now
-        × (out.new.items ≡ out.old.items ++ stable_text M.meaning stable.now)) }
+    ensures ok { OnOk result (StableFits M.meaning newest stable.now
+        × (out.new.items ≡ out.old.items ++ stable_text M.meaning newest stable.now)) }
     ensures err { OnErr result (out.new.items ≡ out.old.items) }
 {
     let start = out.len();

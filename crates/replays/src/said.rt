@@ -341,7 +341,7 @@ pub(crate) fn outputs<R: Threads + Wait + Copy + Send + Sync + 'static>(
         fail(rt, on, &["nomadsim", "run", "one-refused.json"], left)?;
     }
     println!(rt;)?;
-    for left in 0..=366 {
+    for left in 0..=408 {
         fail(rt, on, &["nomadsim", "check", "node-too-small.json"], left)?;
     }
     println!(rt;)?;

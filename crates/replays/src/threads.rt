@@ -23,7 +23,7 @@ const PLACED: &[u8] = b"{ \"servers\": 3, \"nodes\": [
     {\"class\": \"linux\", \"cpu\": 1000, \"mem\": 1000}],
   \"key\": 0, \"drop\": 0, \"repeat\": 0, \"order\": \"sent\", \"steps\": [
     \"timeout 1\", \"flow\", \"beat 1\", \"flow\", \"register 1 1\", \"register 2 1\", \"flow\",
-    \"request 1 put web 50 main:2:linux:600:300\", \"beat 1\", \"flow\", \"take 2 1\", \"flow\"";
+    \"request 1 put web 50 main:2:linux:600:300:0\", \"beat 1\", \"flow\", \"take 2 1\", \"flow\"";
 
 const ROUND: &[u8] = b",
     \"beat 1\", \"flow\", \"plan 1\", \"flow\", \"pull 1 1\", \"flow\", \"pull 2 1\", \"flow\"";
@@ -34,14 +34,14 @@ const ROUNDS: u32 = 1_000;
 const DIFFERENT: &[u8] = b"{ \"servers\": 3, \"nodes\": [
     {\"class\": \"linux\", \"cpu\": 1000, \"mem\": 2000},
     {\"class\": \"linux\", \"cpu\": 3000, \"mem\": 4000},
-    {\"class\": \"metal\", \"cpu\": 1000, \"mem\": 4000}],
+    {\"class\": \"metal\", \"cpu\": 1000, \"mem\": 4000, \"disk\": 500}],
   \"key\": 0, \"drop\": 0, \"repeat\": 0, \"order\": \"sent\",
   \"steps\": [\"timeout 1\", \"flow\"] }";
 
 const NODE_LINES: &[u8] = b"servers 3
-node 1 linux 1000 2000
-node 2 linux 3000 4000
-node 3 metal 1000 4000
+node 1 linux 1000 2000 0
+node 2 linux 3000 4000 0
+node 3 metal 1000 4000 500
 timeout 1
 ";
 

@@ -1,8 +1,8 @@
 -- What holds of each part of a size holds of the size.
-use Rattle.std.proofs.Common.{ℕ, ◌≤◌, ◌≡◌, ◌+◌, ◌-◌, Bool, true, false, ◌&&◌, T, List, refl, arith}
+use Rattle.std.proofs.Common.{ℕ, ◌≤◌, ◌≡◌, ◌+◌, ◌-◌, Bool, true, false, ◌&&◌, T, List, refl, ap, ◌∙◌, arith}
 use Rattle.std.specs.Prelude.{nat_le, nat_eq, sum_by}
 use Rattle.rows.specs.declared.size.Size.{Size}
-use Rattle.rows.specs.Sizes.{Part, Cpu, Mem, amount, by_parts, in_each_part, no_size, plus, less, total, fits, same_size}
+use Rattle.rows.specs.Sizes.{Part, Cpu, Mem, Disk, amount, by_parts, in_each_part, no_size, plus, less, total, fits, same_size}
 use Rattle.rows.specs.Fits.{SizeFits}
 
 -- ---- sizes
@@ -10,9 +10,10 @@ use Rattle.rows.specs.Fits.{SizeFits}
 pub amount_by : (p : Part) (f : Part → ℕ) → amount p (by_parts f) ≡ f p
 amount_by Cpu f = refl
 amount_by Mem f = refl
+amount_by Disk f = refl
 
 pub size_by : (a b : Size) → ((p : Part) → amount p a ≡ amount p b) → a ≡ b
-size_by a b h = λ i. record { cpu = h Cpu i; mem = h Mem i }
+size_by a b h = λ i. record { cpu = h Cpu i; mem = h Mem i; disk = h Disk i }
 
 pub amount_of_total : {A : Type 0} (p : Part) (f : A → Size) (xs : List A) → amount p (total f xs) ≡ sum_by (λ x. amount p (f x)) xs
 amount_of_total p f xs = amount_by p (λ q. sum_by (λ x. amount q (f x)) xs)
@@ -42,14 +43,15 @@ second true b h = h
 second false b h = absurd h
 
 pub each_part : (f : Part → Bool) → ((p : Part) → T (f p)) → T (in_each_part f)
-each_part f h = both (f Cpu) (f Mem) (h Cpu) (h Mem)
+each_part f h = both (f Cpu && f Mem) (f Disk) (both (f Cpu) (f Mem) (h Cpu) (h Mem)) (h Disk)
 
 pub of_each_part : (f : Part → Bool) → T (in_each_part f) → (p : Part) → T (f p)
-of_each_part f h Cpu = first (f Cpu) (f Mem) h
-of_each_part f h Mem = second (f Cpu) (f Mem) h
+of_each_part f h Cpu = first (f Cpu) (f Mem) (first (f Cpu && f Mem) (f Disk) h)
+of_each_part f h Mem = second (f Cpu) (f Mem) (first (f Cpu && f Mem) (f Disk) h)
+of_each_part f h Disk = second (f Cpu && f Mem) (f Disk) h
 
 pub same_in_each : (f g : Part → Bool) → ((p : Part) → f p ≡ g p) → in_each_part f ≡ in_each_part g
-same_in_each f g h = λ i. h Cpu i && h Mem i
+same_in_each f g h = λ i. h Cpu i && h Mem i && h Disk i
 
 four : (a b c d : Bool) → (a && b && (c && d)) ≡ ((a && c) && (b && d))
 four true true true d = refl
@@ -59,7 +61,7 @@ four true false false d = refl
 four false b c d = refl
 
 pub both_in_each : (f g : Part → Bool) → (in_each_part f && in_each_part g) ≡ in_each_part (λ p. f p && g p)
-both_in_each f g = four (f Cpu) (f Mem) (g Cpu) (g Mem)
+both_in_each f g = four (f Cpu && f Mem) (f Disk) (g Cpu && g Mem) (g Disk) ∙ ap (λ two. two && (f Disk && g Disk)) (four (f Cpu) (f Mem) (g Cpu) (g Mem))
 
 T-le : (a b : ℕ) → T (nat_le a b) → a ≤ b
 T-le a b h = grind arith
@@ -87,3 +89,4 @@ size_itself a = each_part (λ p. nat_eq (amount p a) (amount p a)) (λ p. number
 pub size_small : (z : Size) → SizeFits z → (p : Part) → amount p z ≤ 1000000
 size_small z h Cpu = h.0.1
 size_small z h Mem = h.1.1
+size_small z h Disk = h.2

@@ -41,6 +41,9 @@ FromOneFits n = (1 ≤ n) × (n < 2 ^ 40)
 abbrev pub QuantityFits : ℕ → Type 0
 QuantityFits n = (1 ≤ n) × (n ≤ 1000000)
 
+abbrev pub SpaceFits : ℕ → Type 0
+SpaceFits n = n ≤ 1000000
+
 abbrev pub NodeIdFits : ℕ → Type 0
 NodeIdFits n = (1 ≤ n) × (n ≤ 64)
 
@@ -56,7 +59,7 @@ GroupCountFits n = n ≤ 64
 -- ---- sizes, ids, tokens
 
 abbrev pub SizeFits : Size → Type 0
-SizeFits z = QuantityFits z.cpu × QuantityFits z.mem
+SizeFits z = QuantityFits z.cpu × QuantityFits z.mem × SpaceFits z.disk
 
 abbrev pub EvalIdFits : EvalId → Type 0
 EvalIdFits e = FromOneFits e.index × (e.slot < 256)
@@ -139,6 +142,7 @@ CommandFits (commands.JobPut job) = JobSpecFits job
 CommandFits (commands.JobStop name) = NameFits name
 CommandFits (commands.NodePut node) = NodeSpecFits node
 CommandFits (commands.NodeDown node) = NodeIdFits node
+CommandFits (commands.Disconnect node) = NodeIdFits node
 CommandFits (commands.Drain node force) = NodeIdFits node
 CommandFits (commands.DrainDone node) = NodeIdFits node
 CommandFits (commands.Migrate ids) = RisingIdsFit ids

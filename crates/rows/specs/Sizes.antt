@@ -2,22 +2,24 @@
 use Rattle.std.specs.Prelude.{ℕ, ◌+◌, ◌-◌, ◌^◌, Bool, ◌&&◌, List, nat_le, nat_eq, min, sum_by}
 use Rattle.rows.specs.declared.size.Size.{Size}
 
--- processor time, and memory
+-- processor time, memory and disk
 pub data Part : Type 0 where
   Cpu : Part
   Mem : Part
+  Disk : Part
 
 abbrev pub amount : Part → Size → ℕ
 amount Cpu z = z.cpu
 amount Mem z = z.mem
+amount Disk z = z.disk
 
 -- the size of these parts
 abbrev pub by_parts : (Part → ℕ) → Size
-by_parts f = record { cpu = f Cpu; mem = f Mem }
+by_parts f = record { cpu = f Cpu; mem = f Mem; disk = f Disk }
 
 -- whether each part passes
 abbrev pub in_each_part : (Part → Bool) → Bool
-in_each_part f = f Cpu && f Mem
+in_each_part f = f Cpu && f Mem && f Disk
 
 -- ---- sums
 

@@ -3,4 +3,4 @@ use Rattle.std.specs.Prelude.{ℕ}
 
 -- the newest version, which alone is written, and which every frame has
 abbrev pub newest : ℕ
-newest = 1
+newest = 3

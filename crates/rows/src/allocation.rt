@@ -62,6 +62,8 @@ pub enum ClientState {
     Failed,
     /// Its node went down.
     Lost,
+    /// Its node was disconnected, and nothing was reported of it since.
+    Unknown,
 }
 
 /// An allocation's row.

@@ -269,8 +269,10 @@ pub enum Command {
     JobStop(JobName),
     /// A node registers, or comes back.
     NodePut(NodeSpec),
-    /// A node was not heard of in time.
+    /// A node was not heard of in time: what waited or ran on it is lost.
     NodeDown(NodeId),
+    /// A node was not heard of in time: what waits or runs on it is unknown.
+    Disconnect(NodeId),
     /// A node is to be emptied, at once where the flag is set.
     Drain(NodeId, bool),
     /// A node was emptied.
@@ -300,7 +302,10 @@ impl Ranged for Command {
                 let _name = name.as_bytes();
             }
             Command::NodePut(node) => node.ranges(),
-            Command::NodeDown(node) | Command::Drain(node, _) | Command::DrainDone(node) => {
+            Command::NodeDown(node)
+            | Command::Disconnect(node)
+            | Command::Drain(node, _)
+            | Command::DrainDone(node) => {
                 let _node = node.number();
             }
             Command::Migrate(ids) => ids.ranges(),

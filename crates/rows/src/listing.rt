@@ -17,6 +17,8 @@ pub enum LiveState {
     Pending,
     /// It runs.
     Running,
+    /// Its node was disconnected, and nothing was reported of it since.
+    Unknown,
 }
 
 /// A live allocation, as the agent of its node is shown it.

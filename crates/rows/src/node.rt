@@ -90,8 +90,10 @@ impl Ruled for NodeId {
 pub enum NodeStatus {
     /// Its agent reports.
     Ready,
-    /// It was not heard of in time.
+    /// It was not heard of in time, and its work is lost.
     Down,
+    /// It was not heard of in time, and its work is unknown.
+    Disconnected,
 }
 
 impl NodeStatus {
@@ -101,16 +103,16 @@ impl NodeStatus {
     {
         match self {
             NodeStatus::Ready => true,
-            NodeStatus::Down => false,
+            NodeStatus::Down | NodeStatus::Disconnected => false,
         }
     }
 
-    /// Whether it was not heard of in time.
+    /// Whether it was not heard of in time, and its work is lost.
     pub fn is_down(self) -> bool
         ensures { result ≡ is_down self }
     {
         match self {
-            NodeStatus::Ready => false,
+            NodeStatus::Ready | NodeStatus::Disconnected => false,
             NodeStatus::Down => true,
         }
     }

@@ -5,12 +5,13 @@ ghost use Rattle.rows.specs.Sizes.{Part, amount, plus, plus_within, less, fits};
 use crate::size::Size;
 use std::marker::Model;
 
-/// So much processor time, in MHz, and memory, in MB: what some values take together, or what is
-/// left of a size. Contracts see a `Size`, whose parts may be 0, and are below 2^64.
+/// So much processor time, in MHz, and memory and disk, in MB: what some values take together, or
+/// what is left of a size. Contracts see a `Size`, whose parts may be 0, and are below 2^64.
 #[derive(Clone, Copy, Debug, PartialEq, Eq)]
 pub struct Usage {
     cpu: u64,
     mem: u64,
+    disk: u64,
 }
 
 impl Model for Usage {
@@ -18,14 +19,18 @@ impl Model for Usage {
 
     ghost Value = { Size };
 
-    ghost view = { λ u. record { cpu = u.cpu; mem = u.mem } };
+    ghost view = { λ u. record { cpu = u.cpu; mem = u.mem; disk = u.disk } };
 
-    ghost inverse = { λ z. record { cpu = z.cpu; mem = z.mem } };
+    ghost inverse = { λ z. record { cpu = z.cpu; mem = z.mem; disk = z.disk } };
 }
 
 impl Usage {
     /// Nothing.
-    pub const NONE: Usage = Usage { cpu: 0, mem: 0 };
+    pub const NONE: Usage = Usage {
+        cpu: 0,
+        mem: 0,
+        disk: 0,
+    };
 
     /// What a size says.
     pub fn of(size: Size) -> Usage
@@ -35,6 +40,7 @@ impl Usage {
         Usage {
             cpu: size.cpu.get() as u64,
             mem: size.mem.get() as u64,
+            disk: size.disk.get() as u64,
         }
     }
 
@@ -52,6 +58,13 @@ impl Usage {
         self.mem
     }
 
+    /// Its disk, in MB.
+    pub fn disk(self) -> u64
+        ensures { result ≡ self.disk }
+    {
+        self.disk
+    }
+
     /// With some more.
     pub fn add(self, more: Usage) -> Usage
         requires { (p : Part) → amount p self + amount p more < 2 ^ 64 }
@@ -60,6 +73,7 @@ impl Usage {
         Usage {
             cpu: self.cpu + more.cpu,
             mem: self.mem + more.mem,
+            disk: self.disk + more.disk,
         }
     }
 
@@ -70,6 +84,7 @@ impl Usage {
         Usage {
             cpu: self.cpu.saturating_add(more.cpu),
             mem: self.mem.saturating_add(more.mem),
+            disk: self.disk.saturating_add(more.disk),
         }
     }
 
@@ -80,6 +95,7 @@ impl Usage {
         Usage {
             cpu: self.cpu.saturating_sub(part.cpu),
             mem: self.mem.saturating_sub(part.mem),
+            disk: self.disk.saturating_sub(part.disk),
         }
     }
 
@@ -87,7 +103,7 @@ impl Usage {
     pub fn is_within(self, room: Usage) -> bool
         ensures { result ≡ fits self room }
     {
-        self.cpu <= room.cpu && self.mem <= room.mem
+        self.cpu <= room.cpu && self.mem <= room.mem && self.disk <= room.disk
     }
 
     /// Whether a room bears what is used of it and some more, once some is given back.
@@ -96,6 +112,7 @@ impl Usage {
     {
         is_part_enough(room.cpu, used.cpu, more.cpu, less.cpu)
             && is_part_enough(room.mem, used.mem, more.mem, less.mem)
+            && is_part_enough(room.disk, used.disk, more.disk, less.disk)
     }
 }
 

@@ -23,7 +23,7 @@ impl Model for Version {
 
 impl Version {
     /// The number of the newest.
-    const MOST: u8 = 1;
+    const MOST: u8 = 3;
 
     /// The newest, which alone is written, and which every frame has.
     pub fn newest() -> Version

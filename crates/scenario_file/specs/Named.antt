@@ -22,7 +22,7 @@ step_taker (AnEvent event) = event_taker event
 step_taker (Work server) = Some (Server server)
 step_taker _ = None
 
--- ---- whom it names besides: the server that is asked, or the node that goes down or is drained
+-- ---- whom it names besides: the server that is asked, or the node that expires or is drained
 
 abbrev pub request_names : OperatorRequest → Option Named
 request_names (DrainNode node force) = Some (Node node)

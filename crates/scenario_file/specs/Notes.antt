@@ -79,8 +79,9 @@ AreNotes s all = OfEachLine (AreLineNotes s) 1 (step_lines s) all
 abbrev pub group_text : LargeGroup → List ℕ
 group_text n =
     codes "note: step " ++ decimal n.step ++ codes ": group " ++ n.group ++ codes " of job " ++ n.job
-    ++ codes " takes " ++ decimal n.size.cpu ++ codes " MHz and " ++ decimal n.size.mem
-    ++ codes " MB of class " ++ n.class ++ codes "; no node has that, so nothing of it is placed"
+    ++ codes " takes " ++ decimal n.size.cpu ++ codes " MHz, " ++ decimal n.size.mem
+    ++ codes " MB and " ++ decimal n.size.disk ++ codes " MB of disk of class " ++ n.class
+    ++ codes "; no node has that, so nothing of it is placed"
 
 abbrev pub absence_text : Absence → List ℕ
 absence_text a =

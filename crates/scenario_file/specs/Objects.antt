@@ -1,5 +1,5 @@
 -- Which text is a scenario.
-use Rattle.std.specs.Prelude.{◌≡◌, ◌+◌, ◌≤◌, ℕ, suc, List, [], ◌∷◌, Option, Some, codes, map, option_and_then, string_bytes}
+use Rattle.std.specs.Prelude.{◌≡◌, ◌+◌, ◌≤◌, ◌⊎◌, ℕ, suc, List, [], ◌∷◌, Option, Some, codes, map, option_and_then, string_bytes}
 use Rattle.rows.specs.Fits.{NodeIdFits, SizeFits}
 use Rattle.rows.specs.Names.{NameFits}
 use Rattle.rows.specs.declared.node.NodeSpec.{NodeSpec}
@@ -53,14 +53,20 @@ pub record HasSettings (d : Data) (s : Settings) : Type 0 where
   pub percent : s.drop + s.repeat ≤ 100
   pub order : text_at (codes "order") d ≡ Some (order_text s.order)
 
+-- the disk of an object that has the three other keys of a node: 0 where it has no more, else it
+-- has one more and this is the number at it
+abbrev pub HasDisk : Data → ℕ → Type 0
+HasDisk d disk = (HasKeys 3 d × (disk ≡ 0)) ⊎ (HasKeys 4 d × (whole_number_at (codes "disk") d ≡ Some disk))
+
 pub record HasSize (d : Data) (size : Size) : Type 0 where
   pub cpu : whole_number_at (codes "cpu") d ≡ Some size.cpu
   pub mem : whole_number_at (codes "mem") d ≡ Some size.mem
+  pub disk : HasDisk d size.disk
   pub fits : SizeFits size
 
--- an object of exactly the three keys, with a node's values; no node has a number past 64
+-- an object of exactly the keys of a node, of which that of its disk may be left out, with the
+-- node's values; no node has a number past 64
 pub record IsNode (d : Data) (node : NodeSpec) : Type 0 where
-  pub keys : HasKeys 3 d
   pub number : NodeIdFits node.number
   pub class : text_at (codes "class") d ≡ Some node.class
   pub name : NameFits node.class

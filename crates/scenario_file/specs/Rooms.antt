@@ -8,6 +8,7 @@ use Rattle.rows.specs.declared.node.NodeSpec.{NodeSpec}
 abbrev pub can_hold : Group → NodeSpec → Bool
 can_hold g n =
     bytes_eq n.class g.class && nat_le g.size.cpu n.size.cpu && nat_le g.size.mem n.size.mem
+    && nat_le g.size.disk n.size.disk
 
 abbrev pub is_too_large : List NodeSpec → Group → Bool
 is_too_large nodes g = not (list_any (can_hold g) nodes)

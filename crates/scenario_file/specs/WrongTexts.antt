@@ -29,7 +29,7 @@ wrong_text (OtherKey key) = option_map (λ shown. codes "it has a key that no sc
 wrong_text (Wanted key what) = Some (34 ∷ key.now ++ (codes "\" has to be " ++ what.now))
 wrong_text (BadNode number) =
     Some (codes "node " ++ (decimal number
-    ++ codes " has to be an object of exactly the keys \"class\", a name of 1 to 32 of a-z0-9-, \"cpu\" and \"mem\", whole numbers from 1 to 1000000"))
+    ++ codes " has to be an object of exactly the keys \"class\", a name of 1 to 32 of a-z0-9-, \"cpu\" and \"mem\", whole numbers from 1 to 1000000, and \"disk\", one from 0 to 1000000, which may be left out"))
 
 abbrev pub form_text : Form → List ℕ
 form_text (Of form) = codes "it has to be: " ++ form.now

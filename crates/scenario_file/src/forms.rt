@@ -174,9 +174,9 @@ fn form_of_request(words: &str) -> &'static str {
     match parted(parted(words).1).0 {
         "put" => {
             "request S put NAME PRIORITY GROUPS, S from 1 to 5, NAME of 1 to 32 of \
-             a-z0-9-, PRIORITY from 1 to 100, GROUPS 1 to 8 of GROUP:COUNT:CLASS:CPU:MEMORY with \
-             commas between, GROUP a name that no other has, COUNT from 0 to 64, CLASS a name, CPU \
-             and MEMORY from 1 to 1000000"
+             a-z0-9-, PRIORITY from 1 to 100, GROUPS 1 to 8 of GROUP:COUNT:CLASS:CPU:MEMORY:DISK \
+             with commas between, GROUP a name that no other has, COUNT from 0 to 64, CLASS a name, \
+             CPU and MEMORY from 1 to 1000000, DISK from 0 to 1000000"
         }
         "stop" => "request S stop NAME, S from 1 to 5, NAME of 1 to 32 of a-z0-9-",
         "eval" => "request S eval NAME, S from 1 to 5, NAME of 1 to 32 of a-z0-9-",

@@ -119,15 +119,16 @@ impl fmt::Display for TooLarge {
 
     fn fmt<W: fmt::Write>(&self, f: &mut fmt::Formatter<W>) -> fmt::Result {
         let (step, job, group) = (self.step, self.job.as_str(), self.group.as_str());
-        let (class, cpu, mem) = (
+        let (class, cpu, mem, disk) = (
             self.class.as_str(),
             self.size.cpu.get(),
             self.size.mem.get(),
+            self.size.disk.get(),
         );
         write!(
             f,
-            "note: step {step}: group {group} of job {job} takes {cpu} MHz and {mem} MB of class \
-             {class}; no node has that, so nothing of it is placed"
+            "note: step {step}: group {group} of job {job} takes {cpu} MHz, {mem} MB and {disk} MB \
+             of disk of class {class}; no node has that, so nothing of it is placed"
         )
     }
 }
@@ -136,7 +137,10 @@ impl fmt::Display for TooLarge {
 fn can_hold(group: &Group, node: &NodeSpec) -> bool
     ensures { result ≡ can_hold group.now node.now }
 {
-    node.class == group.class && group.size.cpu <= node.size.cpu && group.size.mem <= node.size.mem
+    node.class == group.class
+        && group.size.cpu <= node.size.cpu
+        && group.size.mem <= node.size.mem
+        && group.size.disk <= node.size.disk
 }
 
 // Whether some node has room for one of the group.

@@ -1,6 +1,6 @@
 //! Scenario files.
 ghost use Rattle.std.specs.Prelude.{◌≡◌, ◌≢◌, ◌+◌, ◌≤◌, ◌<◌, ◌⊎◌, ℕ, List, Some, IfOk, IfErr, MatchOption, codes, map, option_map, string_bytes};
-ghost use Rattle.rows.specs.Fits.{QuantityFits};
+ghost use Rattle.rows.specs.Fits.{QuantityFits, SpaceFits};
 ghost use Rattle.rows.specs.Names.{NameFits};
 ghost use Rattle.rows.specs.declared.node.NodeSpec.{NodeSpec};
 ghost use Rattle.rows.specs.declared.size.Size.{Size};
@@ -11,9 +11,9 @@ ghost use Rattle.rows.specs.GroupSizes.{IsGroup};
 ghost use Rattle.scenario_file.specs.declared.scenario.Order.{Order};
 ghost use Rattle.scenario_file.specs.declared.scenario.Settings.{Settings};
 ghost use Rattle.scenario_file.specs.declared.scenario.Scenario.{Scenario};
-ghost use Rattle.scenario_file.specs.Objects.{AreNodes, HasSettings, HasSize, IsNode, IsScenario, list_at, members_count, whole_number_at, order_text, strings, text_at};
+ghost use Rattle.scenario_file.specs.Objects.{AreNodes, HasDisk, HasSettings, HasSize, IsNode, IsScenario, list_at, members_count, whole_number_at, order_text, strings, text_at};
 
-use rows::{ClassName, Name, NodeId, NodeSpec, Quantity, Refusal, Size, is_group_size};
+use rows::{ClassName, Name, NodeId, NodeSpec, Quantity, Refusal, Size, Space, is_group_size};
 use serde_json::Value;
 use std::alloc::Global;
 
@@ -166,13 +166,36 @@ fn quantity_of(value: &Value, key: &str) -> Option<Quantity>
     Quantity::new(u32::try_from(number).ok()?)
 }
 
+fn space_of(value: &Value, key: &str) -> Option<Space>
+    ensures { MatchOption result
+        ((n : ℕ) → whole_number_at key.now (view value.now) ≡ Some n → ¬ SpaceFits n)
+        (λ n. (whole_number_at key.now (view value.now) ≡ Some n) × SpaceFits n) }
+{
+    let number = number_of(value, key)?;
+    Space::new(u32::try_from(number).ok()?)
+}
+
+// The disk of a node: none where its object has the three other keys alone.
+fn disk_of(value: &Value) -> Option<Space>
+    ensures { MatchOption result
+        ((n : ℕ) → SpaceFits n → ¬ HasDisk (view value.now) n)
+        (λ n. HasDisk (view value.now) n × SpaceFits n) }
+{
+    match keys_of(value)? {
+        3 => Some(Space::NONE),
+        4 => space_of(value, "disk"),
+        _ => None,
+    }
+}
+
 fn size_of(value: &Value) -> Option<Size>
     ensures { MatchOption result
         ((z : Size) → ¬ HasSize (view value.now) z) (HasSize (view value.now)) }
 {
     let cpu = quantity_of(value, "cpu")?;
     let mem = quantity_of(value, "mem")?;
-    Some(Size { cpu, mem })
+    let disk = disk_of(value)?;
+    Some(Size { cpu, mem, disk })
 }
 
 // The node behind so many others.
@@ -181,7 +204,7 @@ pub(crate) fn node_of(value: &Value, others: usize) -> Option<NodeSpec>
         ((n : NodeSpec) → n.number ≡ others + 1 → ¬ IsNode (view value.now) n)
         (λ n. (n.number ≡ others + 1) × IsNode (view value.now) n) }
 {
-    if keys_of(value)? != 3 || 64 <= others {
+    if 64 <= others {
         return None;
     }
     let number = NodeId::from_number(others as u8 + 1)?;

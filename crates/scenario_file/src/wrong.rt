@@ -85,7 +85,8 @@ impl fmt::Display for Wrong {
             Wrong::BadNode(number) => write!(
                 f,
                 "node {number} has to be an object of exactly the keys \"class\", a name of 1 to \
-                 32 of a-z0-9-, \"cpu\" and \"mem\", whole numbers from 1 to 1000000"
+                 32 of a-z0-9-, \"cpu\" and \"mem\", whole numbers from 1 to 1000000, and \
+                 \"disk\", one from 0 to 1000000, which may be left out"
             ),
         }
     }

@@ -6,6 +6,7 @@ mod banks;
 mod frames;
 mod held_cells;
 mod messages;
+mod old_texts;
 mod running;
 mod servers;
 mod snapshots;

@@ -1,7 +1,7 @@
 -- Turns of the desk: what each server that a value is makes of them.
-use Rattle.std.proofs.Common.{◌≡◌, ◌≢◌, ℕ, ◌⊎◌, inl, inr, true, Option, Some, None, Result, Ok, Err, [], refl, sym, ap, subst, ◌∙◌, if◌then◌else◌}
+use Rattle.std.proofs.Common.{◌≡◌, ◌≢◌, ℕ, ◌⊎◌, inl, inr, Bool, true, false, cond, Option, Some, None, Result, Ok, Err, [], refl, sym, ap, subst, ◌∙◌, if◌then◌else◌}
 use Rattle.std.proofs.Math.Seq.{take-length}
-use Rattle.std.specs.Prelude.{OnOk, OnErr, IfErr, option_map, is_some}
+use Rattle.std.specs.Prelude.{OnOk, OnErr, IfErr, option_map, is_some, nat_eq}
 use Rattle.rows.specs.Keys.{eval_id}
 use Rattle.rows.specs.declared.evaluation.EvalId.{EvalId}
 use Rattle.rows.specs.declared.evaluation.Evaluation.{Evaluation}
@@ -13,13 +13,15 @@ use Rattle.rows.specs.declared.refusal.Refusal.TheVariants as refusals
 use Rattle.raft_model.specs.Servers.{is_leader, crashed}
 use Rattle.raft_model.specs.Steps as raft_steps
 use Rattle.raft_core.specs.RaftView.{SameServer}
+use Rattle.cluster_model.specs.Words.{State}
 use Rattle.cluster_model.specs.ClusterMachine.{cluster_meaning}
-use Rattle.group_model.specs.BeatCounts.{expiry_refusal}
+use Rattle.group_model.specs.BeatCounts.{expiry_refusal, expiry_refusal_of}
 use Rattle.group_model.specs.Blocked.{first_due}
+use Rattle.group_model.specs.Expiry.{BeatCount, beat_count_of}
 use Rattle.group_model.specs.Desks.{Desk, applied_state, whole_state}
 use Rattle.group_model.specs.Inputs.{Input, Lapse, Expire, FreeTurn, Reap, Act, AskPropose, rests, asks}
 use Rattle.group_model.specs.Members.{Member, open_desk, at_desk, done, logged}
-use Rattle.group_model.specs.Turns.{lapse, expire, free_turn, free_turn_of, reap}
+use Rattle.group_model.specs.Turns.{lapse, expiry_command, expire, free_turn, free_turn_of, reap}
 use Rattle.group_frames.proofs.Sending.{sends_nothing}
 use Rattle.leader.specs.OpenDesks.{OpenDesk, if_open, at_open, unless_refused, on_lapse, on_expire, on_reap}
 use Rattle.leader.specs.GroupActs.{lapse_act, expire_act, status_act}
@@ -117,6 +119,18 @@ lapse_done old new id h same call out s is = lapse_moved old new s id (moves (on
 
 -- ---- Expire, Free, Reap
 
+-- an expiry is never refused for want of memory
+expiry_memory_of : (c : Command) (beats : ℕ) (m : Option BeatCount) (e : Refusal) → unless_refused c (expiry_refusal_of beats m) ≡ Err e → e ≢ refusals.NoMemory
+expiry_memory_of c beats None e h = λ q. cc
+expiry_memory_of c beats (Some p) e h = by (nat_eq p.beats beats) h where
+  by : (b : Bool) → unless_refused c (cond b None (Some refusals.StaleExpiry)) ≡ Err e → e ≢ refusals.NoMemory
+  by true h = λ q. cc
+  by false h = λ q. cc
+
+expiry_memory : (node beats : ℕ) (applied : State) (d : Option OpenDesk) (e : Refusal) → if_open (on_expire node beats applied) d ≡ Err e → e ≢ refusals.NoMemory
+expiry_memory node beats applied None e h = λ q. cc
+expiry_memory node beats applied (Some o) e h = expiry_memory_of (expiry_command applied node) beats (beat_count_of node o.desk.beat_counts) e h
+
 module _ (old : ServerView) (s : Member) (is : IsMember old s) (h : HasOpenDesk s) where
   open_one : (o : OpenDesk) × (old.desk ≡ Some o)
   open_one = open_of old.desk (subst (λ (d : Option Desk). is_some d ≡ true) (sym is.desk) h.is_open)
@@ -130,22 +144,28 @@ module _ (old : ServerView) (s : Member) (is : IsMember old s) (h : HasOpenDesk 
   was : s.desk ≡ Some one.desk
   was = desk_at old s is one open_one.1
 
-  unrefused : (r : Option Refusal) → unless_refused r ≡ Ok tt → r ≡ None
-  unrefused None call = refl
-  unrefused (Some r) call = absurd (cc)
+  unrefused : (command c : Command) (r : Option Refusal) → unless_refused command r ≡ Ok c → r ≡ None
+  unrefused command c None call = refl
+  unrefused command c (Some r) call = absurd (cc)
 
-  pub expire_is : (node beats : ℕ) → if_open (on_expire node beats) old.desk ≡ Ok tt → act_of old (Expire node beats) s ≡ Ok (asks (AskPropose (commands.NodeDown node)) s.desk)
-  expire_is node beats call =
-      let told : on_expire node beats one ≡ Ok tt = rw open_one.1 at call in
-      ap (λ (d : Result Desk Refusal). at_desk d (λ d. expire d node beats)) is_open
-      ∙ expires_by_expire node beats one ∙ ap (expire_act node one.desk) told
-      ∙ ap (λ (d : Option Desk). act_taken (asks (AskPropose (commands.NodeDown node)) d)) (sym was)
+  pub expire_is : (node beats : ℕ) (c : Command) → if_open (on_expire node beats (applied_state s.raft)) old.desk ≡ Ok c → act_of old (Expire node beats) s ≡ Ok (asks (AskPropose c) s.desk)
+  expire_is node beats c call =
+      let told : on_expire node beats (applied_state s.raft) one ≡ Ok c = rw open_one.1 at call in
+      ap (λ (d : Result Desk Refusal). at_desk d (λ d. expire s.raft d node beats)) is_open
+      ∙ expires_by_expire s.raft node beats one ∙ ap (expire_act one.desk) told
+      ∙ ap (λ (d : Option Desk). act_taken (asks (AskPropose c) d)) (sym was)
 
   -- so the node was heard of so often
-  pub expire_heard : (node beats : ℕ) → if_open (on_expire node beats) old.desk ≡ Ok tt → HeardSoOften node beats s.desk
-  expire_heard node beats call =
-      let told : on_expire node beats one ≡ Ok tt = rw open_one.1 at call in
-      rw was (unrefused (expiry_refusal node beats one.desk.beat_counts) told)
+  pub expire_heard : (node beats : ℕ) (c : Command) → if_open (on_expire node beats (applied_state s.raft)) old.desk ≡ Ok c → HeardSoOften node beats s.desk
+  expire_heard node beats c call =
+      let told : on_expire node beats (applied_state s.raft) one ≡ Ok c = rw open_one.1 at call in
+      rw was (unrefused (expiry_command (applied_state s.raft) node) c (expiry_refusal node beats one.desk.beat_counts) told)
+
+  expire_refused : (node beats : ℕ) (e : Refusal) → if_open (on_expire node beats (applied_state s.raft)) old.desk ≡ Err e → act_of old (Expire node beats) s ≡ Err e
+  expire_refused node beats e call =
+      let told : on_expire node beats (applied_state s.raft) one ≡ Err e = rw open_one.1 at call in
+      ap (λ (d : Result Desk Refusal). at_desk d (λ d. expire s.raft d node beats)) is_open
+      ∙ expires_by_expire s.raft node beats one ∙ ap (expire_act one.desk) told
 
   freed_is : (d : Desk) (id : Option EvalId) (due : Option Evaluation) → id ≡ option_map eval_id due → free_turn_of d due ≡ proposes_if_any (Some d) (option_map (λ i. commands.EvalStatus i changes.Pending) id)
   freed_is d id None e = rw e refl
@@ -167,3 +187,10 @@ module _ (old : ServerView) (s : Member) (is : IsMember old s) (h : HasOpenDesk 
       ap (λ (d : Result Desk Refusal). at_desk d (λ d. Ok (reap s.raft d))) is_open
       ∙ sym (reaps_by_reap s.raft one) ∙ ap (status_act changes.Failed one.desk) told ∙ reaped_is one.desk id
       ∙ ap (λ (d : Option Desk). act_taken (proposes_if_any d (option_map (λ i. commands.EvalStatus i changes.Failed) id))) (sym was)
+
+-- an expiry is refused as the desk refuses it
+pub expire_declines : (old : ServerView) (node beats : ℕ) (e : Refusal) → EachMember old (λ s. HasOpenDesk s) → EachMember old (λ s. if_open (on_expire node beats (applied_state s.raft)) old.desk ≡ Err e) → (out : Outbox) → DeclinesOwn old (Expire node beats) e old out out
+expire_declines old node beats e h call out = elim (no_memory_or e) [
+  | inl none ↦ subst (λ (r : Refusal). DeclinesOwn old (Expire node beats) r old out out) (sym none) (lacks old old (Expire node beats) (same_view old) out (λ s is. absurd (expiry_memory node beats (applied_state s.raft) old.desk e (call s is) none)))
+  | inr other ↦ declines old old (Expire node beats) (same_view old) out e other (λ s is. expire_refused old s is (h s is) node beats e (call s is))
+]

@@ -19,6 +19,7 @@ same_itself clients.Running = refl
 same_itself clients.Complete = refl
 same_itself clients.Failed = refl
 same_itself clients.Lost = refl
+same_itself clients.Unknown = refl
 
 -- a row that moves is told
 abbrev moves : ℕ → List Report → Allocation → Bool

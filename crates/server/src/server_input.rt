@@ -30,8 +30,9 @@ pub enum ServerInput {
     PlanTurn,
     /// The worker of an evaluation was not heard of for too long.
     Lapse(EvalId),
-    /// A node that was heard of so often was not heard of since for too long: it goes down. (Nomad
-    /// documentation, "server" block of the agent configuration: heartbeat_grace.)
+    /// A node that was heard of so often was not heard of since for too long: it is disconnected
+    /// where it is ready in the applied state, else it goes down. (Nomad documentation, "server"
+    /// block of the agent configuration: heartbeat_grace; "disconnect" block of a group.)
     Expire(NodeId, Index),
     /// A turn of a node's drain: it is done where nothing lives on the node, else the allocations
     /// that move off it next are marked. (Nomad documentation, "node drain" command.)

@@ -122,8 +122,8 @@ place p fits =
 
 group : (g : Group) → GroupFits g → IsPrintable (group_text g)
 group g fits =
-    joined 58 (g.name ∷ decimal g.count ∷ g.class ∷ decimal g.size.cpu ∷ decimal g.size.mem ∷ []) (omega arith) (omega arith)
-    (name_printable g.name fits.0, (number g.count (omega arith), (name_printable g.class fits.2, (number g.size.cpu (omega arith), (number g.size.mem (omega arith), tt)))))
+    joined 58 (g.name ∷ decimal g.count ∷ g.class ∷ decimal g.size.cpu ∷ decimal g.size.mem ∷ decimal g.size.disk ∷ []) (omega arith) (omega arith)
+    (name_printable g.name fits.0, (number g.count (omega arith), (name_printable g.class fits.2, (number g.size.cpu (omega arith), (number g.size.mem (omega arith), (number g.size.disk (omega arith), tt))))))
 
 job : (j : JobSpec) → JobSpecFits j → IsPrintable (job_text j)
 job j fits =
@@ -196,5 +196,5 @@ event_printable event fits = words (event_words event) (event_words_printable ev
 
 pub node_printable : (node : NodeSpec) → NodeSpecFits node → IsPrintable (node_line node)
 node_printable node fits =
-    words (codes "node" ∷ decimal node.number ∷ node.class ∷ decimal node.size.cpu ∷ decimal node.size.mem ∷ [])
-    (word (codes "node") refl, (node_id node.number fits.0, (name_printable node.class fits.1, (number node.size.cpu (omega arith), (number node.size.mem (omega arith), tt)))))
+    words (codes "node" ∷ decimal node.number ∷ node.class ∷ decimal node.size.cpu ∷ decimal node.size.mem ∷ decimal node.size.disk ∷ [])
+    (word (codes "node") refl, (node_id node.number fits.0, (name_printable node.class fits.1, (number node.size.cpu (omega arith), (number node.size.mem (omega arith), (number node.size.disk (omega arith), tt))))))

@@ -8,9 +8,9 @@ use Rattle.rows.specs.declared.job.JobSpec.{JobSpec}
 use Rattle.rows.specs.declared.request.OperatorRequest.{OperatorRequest}
 use Rattle.rows.specs.declared.request.OperatorRequest.TheVariants.{PutJob, StopJob, PutEval, DrainNode}
 
--- a group's name, count, class, processor time and memory, with colons between
+-- a group's name, count, class, processor time, memory and disk, with colons between
 abbrev pub group_text : Group → List ℕ
-group_text g = join_with_byte 58 (g.name ∷ decimal g.count ∷ g.class ∷ decimal g.size.cpu ∷ decimal g.size.mem ∷ [])
+group_text g = join_with_byte 58 (g.name ∷ decimal g.count ∷ g.class ∷ decimal g.size.cpu ∷ decimal g.size.mem ∷ decimal g.size.disk ∷ [])
 
 -- groups with commas between
 abbrev pub groups_text : List Group → List ℕ

@@ -15,7 +15,7 @@ servers_line n = join_with_byte 32 (codes "servers" ∷ decimal n ∷ [])
 
 abbrev pub node_line : NodeSpec → List ℕ
 node_line node =
-    join_with_byte 32 (codes "node" ∷ decimal node.number ∷ node.class ∷ decimal node.size.cpu ∷ decimal node.size.mem ∷ [])
+    join_with_byte 32 (codes "node" ∷ decimal node.number ∷ node.class ∷ decimal node.size.cpu ∷ decimal node.size.mem ∷ decimal node.size.disk ∷ [])
 
 -- lines, each ended by a newline
 abbrev pub lines_text : List (List ℕ) → List ℕ

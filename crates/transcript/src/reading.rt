@@ -13,7 +13,7 @@ ghost use Rattle.transcript.specs.Inner.Printable.{IsPrintable};
 
 use crate::event::read_event;
 use crate::transcript::Transcript;
-use crate::word::{cut, read_name, read_node, read_quantity};
+use crate::word::{cut, read_name, read_node, read_quantity, read_space};
 use rows::{NoMemory, NodeSpec, Refusal, Size};
 use std::alloc::Global;
 use world::Event;
@@ -62,13 +62,15 @@ fn read_node_line(line: &str) -> Option<NodeSpec>
     let words = line.strip_prefix("node ")?;
     let (number, words) = cut(words, ' ')?;
     let (class, words) = cut(words, ' ')?;
-    let (cpu, mem) = cut(words, ' ')?;
+    let (cpu, words) = cut(words, ' ')?;
+    let (mem, disk) = cut(words, ' ')?;
     Some(NodeSpec {
         number: read_node(number)?,
         class: read_name(class)?,
         size: Size {
             cpu: read_quantity(cpu)?,
             mem: read_quantity(mem)?,
+            disk: read_space(disk)?,
         },
     })
 }

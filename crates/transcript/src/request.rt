@@ -13,15 +13,16 @@ ghost use Rattle.transcript.specs.Inner.Plain.{IsRequestText};
 use crate::list::{append_items, read_items};
 use crate::spelled::{Spelled, append_word};
 use crate::word::{
-    append_next, append_text, cut, read_count, read_name, read_node, read_priority, read_quantity,
+    append_next, append_size, append_text, cut, read_count, read_name, read_node, read_priority,
+    read_quantity, read_space,
 };
 use rows::{Group, Groups, JobName, JobSpec, NoMemory, OperatorRequest, Priority, Size};
 use std::alloc::Global;
 
 /// Reads the text of a request: `put NAME PRIORITY GROUPS`, `stop NAME`, `eval NAME`, and
-/// `drain NODE slow` or `drain NODE force`. A group is written as `NAME:COUNT:CLASS:CPU:MEMORY`,
-/// with commas between groups. It reads exactly the one text of each request, with one space
-/// between words and numbers in decimal without leading zeros.
+/// `drain NODE slow` or `drain NODE force`. A group is written as
+/// `NAME:COUNT:CLASS:CPU:MEMORY:DISK`, with commas between groups. It reads exactly the one text of
+/// each request, with one space between words and numbers in decimal without leading zeros.
 pub(crate) fn read_request(alloc: Global, text: &str) -> Result<Option<OperatorRequest>, NoMemory>
     ensures named { IfOk result (λ read. IfSome read (λ request. IsRequestText request text.now)) }
     ensures read { (request : OperatorRequest) → RequestFits request
@@ -121,7 +122,7 @@ fn read_groups(alloc: Global, text: &str) -> Result<Option<Groups>, NoMemory>
     Ok(Groups::check(groups).ok())
 }
 
-/// One group, as `NAME:COUNT:CLASS:CPU:MEMORY`.
+/// One group, as `NAME:COUNT:CLASS:CPU:MEMORY:DISK`.
 pub(crate) fn read_group(text: &str) -> Option<Group>
     ensures named { IfSome result (λ group. GroupFits group × (text.now ≡ group_text group)) }
     ensures read { (group : Group) → GroupFits group → text.now ≡ group_text group
@@ -130,7 +131,8 @@ pub(crate) fn read_group(text: &str) -> Option<Group>
     let (name, rest) = cut(text, ':')?;
     let (count, rest) = cut(rest, ':')?;
     let (class, rest) = cut(rest, ':')?;
-    let (cpu, mem) = cut(rest, ':')?;
+    let (cpu, rest) = cut(rest, ':')?;
+    let (mem, disk) = cut(rest, ':')?;
     Some(Group {
         name: read_name(name)?,
         count: read_count(count)?,
@@ -138,11 +140,12 @@ pub(crate) fn read_group(text: &str) -> Option<Group>
         size: Size {
             cpu: read_quantity(cpu)?,
             mem: read_quantity(mem)?,
+            disk: read_space(disk)?,
         },
     })
 }
 
-/// Puts a group to the end, as `NAME:COUNT:CLASS:CPU:MEMORY`.
+/// Puts a group to the end, as `NAME:COUNT:CLASS:CPU:MEMORY:DISK`.
 pub(crate) fn append_group(group: &Group, out: &mut Vec<u8>) -> Result<(), NoMemory>
     ensures { OnOk result (GroupFits group.now
         × (out.new.items ≡ out.old.items ++ group_text group.now)) }
@@ -151,8 +154,7 @@ pub(crate) fn append_group(group: &Group, out: &mut Vec<u8>) -> Result<(), NoMem
     append_next(b':', group.count.get() as u64, out)?;
     out.push(b':')?;
     group.class.append(out)?;
-    append_next(b':', group.size.cpu.get() as u64, out)?;
-    append_next(b':', group.size.mem.get() as u64, out)
+    append_size(b':', group.size, out)
 }
 
 // What stands behind `put`.

@@ -7,7 +7,7 @@ ghost use Rattle.transcript.specs.EventLines.{HasLine, event_line};
 ghost use Rattle.transcript.specs.Transcripts.{IsTranscript, lines_text, node_line, record_of};
 ghost use Rattle.transcript.specs.Inner.Lines.{IsSayable};
 
-use crate::word::{append_next, append_text};
+use crate::word::{append_next, append_size, append_text};
 use crate::writing::push_event;
 use client_agent::Agent;
 use rows::{NoMemory, NodeSpec};
@@ -33,8 +33,7 @@ fn append_node(node: &NodeSpec, out: &mut Vec<u8>) -> Result<(), NoMemory>
     append_next(b' ', u64::from(node.number.number()), out)?;
     out.push(b' ')?;
     append_text(node.class.as_str(), out)?;
-    append_next(b' ', u64::from(node.size.cpu.get()), out)?;
-    append_next(b' ', u64::from(node.size.mem.get()), out)?;
+    append_size(b' ', node.size, out)?;
     out.push(b'\n')?;
     Ok(())
 }

@@ -1,13 +1,14 @@
 //! The words of a line: names, numbers, and where a line is cut.
 ghost use Rattle.std.specs.Prelude.{◌≡◌, ◌<◌, ◌+◌, ◌^◌, ◌++◌, ◌∷◌, [], ℕ, List, Some, IfSome, IsSomeAnd, OnOk, decimal};
-ghost use Rattle.rows.specs.Fits.{FromOneFits, GroupCountFits, IndexFits, NodeIdFits, OrdinalFits, PriorityFits, QuantityFits};
+ghost use Rattle.std.specs.List.{join_with_byte};
+ghost use Rattle.rows.specs.Fits.{FromOneFits, GroupCountFits, IndexFits, NodeIdFits, OrdinalFits, PriorityFits, QuantityFits, SizeFits, SpaceFits};
 ghost use Rattle.rows.specs.Names.{NameFits};
 ghost use Rattle.transcript.specs.Inner.Plain.{IsWithout};
 
 use itoa::Buffer;
 use rows::{
     ClientId, GroupCount, Index, Name, NoMemory, NodeId, Ordinal, Priority, Quantity, Serial,
-    ServerId,
+    ServerId, Size, Space,
 };
 
 /// What stands before the first `separator`, and what behind it; none where the text has no
@@ -112,6 +113,16 @@ pub(crate) fn read_quantity(text: &str) -> Option<Quantity>
     Quantity::new(number)
 }
 
+/// How much disk, from 0 to 1,000,000.
+pub(crate) fn read_space(text: &str) -> Option<Space>
+    ensures named { IfSome result (λ space. SpaceFits space × (text.now ≡ decimal space)) }
+    ensures read { (space : ℕ) → SpaceFits space → text.now ≡ decimal space
+        → result ≡ Some space }
+{
+    let number = u32::try_from(read_number(text)?).ok()?;
+    Space::new(number)
+}
+
 /// A client's number, from 1 to 64.
 pub(crate) fn read_client(text: &str) -> Option<ClientId>
     ensures named { IfSome result (λ client. NodeIdFits client × (text.now ≡ decimal client)) }
@@ -182,4 +193,14 @@ pub(crate) fn append_next(separator: u8, number: u64, out: &mut Vec<u8>) -> Resu
 {
     out.push(separator)?;
     append_number(number, out)
+}
+
+/// Puts the parts of a size to the end, each behind a separator.
+pub(crate) fn append_size(separator: u8, size: Size, out: &mut Vec<u8>) -> Result<(), NoMemory>
+    ensures { OnOk result (SizeFits size × (out.new.items ≡ out.old.items ++ separator
+        ∷ join_with_byte separator (decimal size.cpu ∷ decimal size.mem ∷ decimal size.disk ∷ []))) }
+{
+    append_next(separator, size.cpu.get() as u64, out)?;
+    append_next(separator, size.mem.get() as u64, out)?;
+    append_next(separator, size.disk.get() as u64, out)
 }

@@ -20,9 +20,9 @@ use Rattle.group_model.specs.Messages.{GroupMessage, Raft, Service, ServiceMessa
 use Rattle.group_model.specs.Drains.{is_done, next_moves_of}
 use Rattle.group_model.specs.Brokers.{is_outstanding}
 use Rattle.group_model.specs.Expiry.{BeatCount, beat_count_of}
-use Rattle.group_model.specs.Desks.{Desk, whole_state}
+use Rattle.group_model.specs.Desks.{Desk, applied_state, whole_state}
 use Rattle.group_model.specs.Inputs.{Input, Arrives, Timeout, Beat, Request, TakeFrom, SubmitTo, FinishAt, NackAt, PlanTurn, Lapse, Expire, DrainTurn, FreeTurn, Reap, Compact, Crash, Restart, Act, Ask, rests, input_of}
-use Rattle.group_model.specs.Turns.{expire_of, drains_by, drain_turn_of}
+use Rattle.group_model.specs.Turns.{expiry_command, expire_of, drains_by, drain_turn_of}
 use Rattle.group_model.specs.Members.{Member, Turn, open_or, open_desk, at_desk, takes_message, acts, logged, asks_log, done, step}
 use Rattle.group_model.specs.Clients as clients
 use Rattle.group_model.specs.Clients.{Client, Life}
@@ -67,9 +67,9 @@ desk_awake : (q : Result Desk Refusal) (turn : Desk → Result Act Refusal) → 
 desk_awake (Ok d) turn f g = g d
 desk_awake (Err r) turn f g = f
 
-expire_awake : (d : Desk) (n beats : ℕ) (o : Option BeatCount) → Awake (expire_of d n beats o)
-expire_awake d n beats None = λ e. cc
-expire_awake d n beats (Some c) = awake_if (nat_eq c.beats beats) _ _ tt (λ e. cc)
+expire_awake : (d : Desk) (command : Command) (beats : ℕ) (o : Option BeatCount) → Awake (expire_of d command beats o)
+expire_awake d command beats None = λ e. cc
+expire_awake d command beats (Some c) = awake_if (nat_eq c.beats beats) _ _ tt (λ e. cc)
 
 moves_awake : (s : State) (n : Node) → Awake (next_moves_of s (Some n))
 moves_awake s n = awake_if (is_draining n.drain) _ _ tt (λ e. cc)
@@ -102,7 +102,7 @@ module _ (n me : ℕ) (s : Member) where
   acts_awake (NackAt to eval token) = awake_if (nat_lt to n) _ _ tt (λ e. cc)
   acts_awake PlanTurn = desk_awake (open_desk s) _ desk (λ d. tt)
   acts_awake (Lapse eval) = desk_awake (open_desk s) _ desk (λ d. awake_if (is_outstanding eval d.broker) _ _ tt (λ e. cc))
-  acts_awake (Expire node beats) = desk_awake (open_desk s) _ desk (λ d. expire_awake d node beats (beat_count_of node d.beat_counts))
+  acts_awake (Expire node beats) = desk_awake (open_desk s) _ desk (λ d. expire_awake d (expiry_command (applied_state s.raft) node) beats (beat_count_of node d.beat_counts))
   acts_awake (DrainTurn node) = desk_awake (open_desk s) _ desk (λ d. drain_awake d (whole_state s.raft) (node_of node (whole_state s.raft)))
   acts_awake FreeTurn = desk_awake (open_desk s) _ desk (λ d. tt)
   acts_awake Reap = desk_awake (open_desk s) _ desk (λ d. tt)

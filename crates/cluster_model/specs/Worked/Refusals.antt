@@ -12,7 +12,7 @@ use Rattle.rows.specs.declared.command.Command.TheVariants as commands
 use Rattle.cluster_model.specs.Words.{State, no_rows}
 use Rattle.cluster_model.specs.Effect.{applied}
 use Rattle.cluster_model.specs.Admission.{admission}
-use Rattle.cluster_model.specs.Worked.Words.{linux, web, api, size, eval_id, alloc_id, comes, runs, place, plans, after_all}
+use Rattle.cluster_model.specs.Worked.Words.{linux, web, api, size, size_with_disk, eval_id, alloc_id, comes, runs, place, plans, after_all}
 
 -- ---- nodes
 
@@ -32,6 +32,9 @@ OtherCpu = admission one_job (comes_as linux (size 1001 1000)) ≡ Some refusals
 
 abbrev pub OtherMemory : Type 0
 OtherMemory = admission one_job (comes_as linux (size 1000 999)) ≡ Some refusals.NodeDiffers
+
+abbrev pub OtherDisk : Type 0
+OtherDisk = admission one_job (comes_as linux (size_with_disk 1000 1000 1)) ≡ Some refusals.NodeDiffers
 
 abbrev pub OtherClass : Type 0
 OtherClass = admission one_job (comes_as web (size 1000 1000)) ≡ Some refusals.NodeDiffers
@@ -110,6 +113,9 @@ LessCpu = admission one_job (plan_of (place 0 1 (size 599 300))) ≡ Some refusa
 
 abbrev pub LessMemory : Type 0
 LessMemory = admission one_job (plan_of (place 0 1 (size 600 299))) ≡ Some refusals.OutOfRange
+
+abbrev pub MoreDisk : Type 0
+MoreDisk = admission one_job (plan_of (place 0 1 (size_with_disk 600 300 1))) ≡ Some refusals.OutOfRange
 
 abbrev pub PastTheCount : Type 0
 PastTheCount = admission one_job (plan_of (place 1 1 (size 600 300))) ≡ Some refusals.OutOfRange

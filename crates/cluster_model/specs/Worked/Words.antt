@@ -32,8 +32,12 @@ api = 97 ∷ 112 ∷ 105 ∷ []
 abbrev pub main : List ℕ
 main = 109 ∷ 97 ∷ 105 ∷ 110 ∷ []
 
+abbrev pub size_with_disk : ℕ → ℕ → ℕ → Size
+size_with_disk cpu mem disk = record { cpu = cpu; mem = mem; disk = disk }
+
+-- without disk
 abbrev pub size : ℕ → ℕ → Size
-size cpu mem = record { cpu = cpu; mem = mem }
+size cpu mem = size_with_disk cpu mem 0
 
 abbrev pub eval_id : ℕ → ℕ → EvalId
 eval_id index slot = record { index = index; slot = slot }

@@ -33,8 +33,8 @@ impl Cluster {
         Ok(names)
     }
 
-    /// What waits or runs on a node comes into this client state. It takes time in the logarithm of
-    /// the table, and so much again for each of them.
+    /// What is pending, running or unknown on a node comes into this client state. It takes time in
+    /// the logarithm of the table, and so much again for each of them.
     pub(super) fn leave(&mut self, node: NodeId, client: ClientState) -> Result<(), NoMemory>
         ensures { OnOk result (self.new ≡ all_left client node self.old) }
     {

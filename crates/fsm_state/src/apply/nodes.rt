@@ -1,4 +1,4 @@
-//! Rows of nodes that come, go down, are drained, and have room.
+//! Rows of nodes that come, are not heard of, are drained, and have room.
 ghost use Rattle.std.specs.Prelude.{◌≡◌, ◌≢◌, OnOk, OnErr, None, false, true, option_map};
 ghost use Rattle.cluster_model.specs.Words.{node_of};
 ghost use Rattle.cluster_model.specs.Effect.{with_node, node_row, status_row, draining_row, drained_row};

@@ -1,5 +1,5 @@
--- What the two indexes list allocations by: the live ones by name, those that are pending or
--- running by their node.
+-- What the two indexes list allocations by: the live ones by name, those that are pending, running
+-- or unknown by their node.
 use Rattle.std.specs.Prelude.{ℕ, if◌then◌else◌, List, [], ◌∷◌, replicate, Option, Some, None}
 use Rattle.std.specs.declared.cmp.Ordering.{Ordering}
 use Rattle.std.specs.Ordering.{nat_cmp, bool_cmp, ordering_then}
@@ -26,7 +26,7 @@ live_name a = if is_live a then Some (name_of a) else None
 abbrev pub on_node_cmp : OnNode → OnNode → Ordering
 on_node_cmp a b = ordering_then (nat_cmp a.node b.node) (bool_cmp a.live b.live)
 
--- the node of a row that is pending or running, and whether it is to run
+-- the node of a row that is pending, running or unknown, and whether it is to run
 abbrev pub active_on : Allocation → Option OnNode
 active_on a = if is_active a.client then Some (record { node = a.node; live = is_wanted a.desired }) else None
 

@@ -12,7 +12,7 @@ use Rattle.rows.specs.declared.plan.Place.{Place}
 use Rattle.rows.specs.declared.command.Command.TheVariants as commands
 use Rattle.cluster_model.specs.Words.{State}
 use Rattle.cluster_model.specs.Effect.{applied}
-use Rattle.cluster_model.specs.Worked.Words.{linux, web, api, main, size, alloc_id, mains}
+use Rattle.cluster_model.specs.Worked.Words.{linux, web, api, main, size, size_with_disk, alloc_id, mains, runs}
 use Rattle.group_model.specs.Acceptance.{Accepted, accept, keeps_some}
 use Rattle.group_model.specs.Drains.{moves_of}
 use Rattle.group_model.specs.Scheduling.{WantedName, missing_names}
@@ -43,7 +43,7 @@ PastTheCount = accept roomy (record (moves_it 4) { places = at_two main 1 }) 6 �
 abbrev pub OtherGroup : Type 0
 OtherGroup = accept roomy (record (moves_it 4) { places = at_two api 0 }) 6 ≡ Ok stop_alone
 
--- a node that is not eligible; one that is down; one of another class
+-- a node that is not eligible; one that is down, or disconnected; one of another class
 abbrev pub with_two : (Node → Node) → State
 with_two f = record roomy { nodes = map f roomy.nodes }
 
@@ -52,6 +52,9 @@ NotEligible = accept (with_two (λ n. record n { eligible = false })) (moves_it 
 
 abbrev pub NotReady : Type 0
 NotReady = accept (with_two (λ n. record n { status = statuses.Down })) (moves_it 4) 6 ≡ Ok stop_alone
+
+abbrev pub IsAway : Type 0
+IsAway = accept (with_two (λ n. record n { status = statuses.Disconnected })) (moves_it 4) 6 ≡ Ok stop_alone
 
 abbrev pub NotOfTheClass : Type 0
 NotOfTheClass = accept (with_two (λ n. record n { class = api })) (moves_it 4) 6 ≡ Ok stop_alone
@@ -80,7 +83,7 @@ StopIsSome = keeps_some stop_alone ≡ true
 abbrev pub NothingIsNone : Type 0
 NothingIsNone = keeps_some (record stop_alone { stops = [] }) ≡ false
 
--- ---- what an agent of 1000 cpu and 1000 memory is listed
+-- ---- what an agent of 1000 cpu and 1000 memory, and of no disk, is listed
 
 abbrev pub lists_of : Size → agents.Input
 lists_of z = agents.Arrives 0 (Listing 9 (record { id = alloc_id 8 0; size = z; state = live_states.Pending } ∷ []))
@@ -95,12 +98,22 @@ TooMuchCpu = said (agents.step 3 agent (lists_of (size 1001 1000))) ≡ []
 abbrev pub TooMuchMemory : Type 0
 TooMuchMemory = said (agents.step 3 agent (lists_of (size 1000 1001))) ≡ []
 
+abbrev pub TooMuchDisk : Type 0
+TooMuchDisk = said (agents.step 3 agent (lists_of (size_with_disk 1000 1000 1))) ≡ []
+
 -- of two that do not fit together the first starts
 abbrev pub FirstOfTwo : Type 0
 FirstOfTwo = said (agents.step 3 agent (agents.Arrives 0 (Listing 9 (
     record { id = alloc_id 8 0; size = size 600 300; state = live_states.Pending }
     ∷ record { id = alloc_id 9 0; size = size 500 300; state = live_states.Pending }
     ∷ [])))) ≡ runs_eight
+
+-- what is listed as unknown starts as any other, and is reported where it runs
+abbrev pub UnknownStarts : Type 0
+UnknownStarts = said (agents.step 3 agent (lists 9 8 live_states.Unknown)) ≡ runs_eight
+
+abbrev pub UnknownIsSaid : Type 0
+UnknownIsSaid = said (agents.step 3 after_nine (lists 9 8 live_states.Unknown)) ≡ runs_eight
 
 -- what the list says already is not reported; what is not listed runs no more
 abbrev pub KnownIsNotSaid : Type 0
@@ -142,12 +155,21 @@ MarkedIsMissing = missing_in (applied both_live (commands.Migrate (alloc_id 5 1 
 abbrev pub OfOtherSize : Type 0
 OfOtherSize = missing_in (asks_for_one 700) ≡ 0 ∷ []
 
+abbrev pub OfOtherDisk : Type 0
+OfOtherDisk = missing_in (applied both_live (runs web 2 (size_with_disk 600 300 1))) ≡ 0 ∷ 1 ∷ []
+
 abbrev pub OfOtherClass : Type 0
 OfOtherClass = missing_in (record both_live { nodes = map (λ (n : Node). record n { class = api }) both_live.nodes }) ≡ 0 ∷ 1 ∷ []
 
--- what is lost with its node is missing too
+-- what is unknown on a disconnected node is not missing; what is lost with its node is
+abbrev pub UnknownIsThere : Type 0
+UnknownIsThere = missing_in (applied both_live (commands.Disconnect 1)) ≡ []
+
 abbrev pub LostIsMissing : Type 0
 LostIsMissing = missing_in (applied both_live (commands.NodeDown 1)) ≡ 0 ∷ []
+
+abbrev pub LostFromUnknown : Type 0
+LostFromUnknown = missing_in (applied (applied both_live (commands.Disconnect 1)) (commands.NodeDown 1)) ≡ 0 ∷ []
 
 -- ---- plans of one delivery
 

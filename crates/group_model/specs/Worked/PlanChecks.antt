@@ -3,9 +3,9 @@ use Rattle.std.specs.Prelude.{◌≡◌, ℕ, Ok, Err, [], ◌∷◌}
 use Rattle.rows.specs.declared.refusal.Refusal.TheVariants as refusals
 use Rattle.rows.specs.declared.plan.Plan.{Plan}
 use Rattle.rows.specs.declared.command.AcceptedPlace.{AcceptedPlace}
-use Rattle.cluster_model.specs.Worked.Words.{web, main, size, eval_id, alloc_id}
+use Rattle.cluster_model.specs.Worked.Words.{web, main, size, size_with_disk, eval_id, alloc_id}
 use Rattle.group_model.specs.Acceptance.{accept}
-use Rattle.group_model.specs.Worked.Words.{token, one_runs}
+use Rattle.group_model.specs.Worked.Words.{token, one_runs, on_disks}
 
 abbrev pub moves_it : ℕ → Plan
 moves_it version = record {
@@ -36,3 +36,26 @@ OtherVersion = accept (one_runs (size 400 100)) (moves_it 3) 6 ≡ Err refusals.
 
 abbrev pub OldSnapshot : Type 0
 OldSnapshot = accept (one_runs (size 400 100)) (moves_it 3) 7 ≡ Err refusals.SnapshotTooOld
+
+-- ---- disk decides: `main[0]` and `main[1]` on node 1, whose disk is 100
+
+abbrev pub both_on_one : Plan
+both_on_one = record {
+  eval = eval_id 4 0;
+  token = token 1 1;
+  job = web;
+  version = 4;
+  snapshot = 4;
+  stops = [];
+  places = record { group = main; index = 0; node = 1 } ∷ record { group = main; index = 1; node = 1 } ∷ [];
+}
+
+abbrev pub on_one : ℕ → ℕ → AcceptedPlace
+on_one disk index = record { group = main; index = index; node = 1; size = size_with_disk 100 100 disk }
+
+-- it bears two of 50, and not two of 60
+abbrev pub DiskForBoth : Type 0
+DiskForBoth = accept (on_disks 50) both_on_one 4 ≡ Ok (record { stops = []; places = on_one 50 0 ∷ on_one 50 1 ∷ []; refused = [] })
+
+abbrev pub NoDiskForBoth : Type 0
+NoDiskForBoth = accept (on_disks 60) both_on_one 4 ≡ Ok (record { stops = []; places = []; refused = 1 ∷ [] })

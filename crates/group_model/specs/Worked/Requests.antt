@@ -1,12 +1,14 @@
 -- What a client is listed, and what is appended of its requests.
 use Rattle.std.specs.Prelude.{◌≡◌, ℕ, Option, Some, None, List, [], ◌∷◌, ◌++◌}
 use Rattle.rows.specs.declared.size.Size.{Size}
+use Rattle.rows.specs.declared.listing.LiveState.{LiveState}
 use Rattle.rows.specs.declared.listing.LiveState.TheVariants as live_states
+use Rattle.rows.specs.declared.listing.ListedAllocation.{ListedAllocation}
 use Rattle.rows.specs.declared.command.ReportedState.TheVariants as reported
 use Rattle.rows.specs.declared.command.Command.{Command}
 use Rattle.rows.specs.declared.command.Command.TheVariants as commands
 use Rattle.machine_model.specs.declared.entry.Entry.{Entry}
-use Rattle.cluster_model.specs.Worked.Words.{linux, api, main, size, eval_id, alloc_id}
+use Rattle.cluster_model.specs.Worked.Words.{linux, api, main, size, eval_id, alloc_id, comes}
 use Rattle.group_model.specs.Inputs as inputs
 use Rattle.group_model.specs.Members as members
 use Rattle.group_model.specs.Members.{Member}
@@ -29,14 +31,33 @@ placed_log = narrow ++ entry 1 (commands.Plan (record {
   places = record { group = main; index = 0; node = 1; size = size 600 100 } ∷ record { group = api; index = 0; node = 2; size = size 1 1 } ∷ [];
 })) ∷ []
 
-abbrev pub pulls : ℕ → List GroupMessage
-pulls commit = sent_by (members.step 3 0 (leads placed_log commit None) (inputs.Arrives (ToServer 1 0 Pull)))
+abbrev pub pulls : List (Entry Command) → ℕ → List GroupMessage
+pulls log commit = sent_by (members.step 3 0 (leads log commit None) (inputs.Arrives (ToServer 1 0 Pull)))
+
+abbrev pub list_sent : ℕ → List ListedAllocation → List GroupMessage
+list_sent index rows = Service (ToClient 0 1 (Listing index rows)) ∷ []
+
+abbrev pub five_is : LiveState → List ListedAllocation
+five_is state = record { id = alloc_id 5 0; size = size 600 100; state = state } ∷ []
 
 abbrev pub Listed : Type 0
-Listed = pulls 5 ≡ Service (ToClient 0 1 (Listing 5 (record { id = alloc_id 5 0; size = size 600 100; state = live_states.Pending } ∷ []))) ∷ []
+Listed = pulls placed_log 5 ≡ list_sent 5 (five_is live_states.Pending)
 
 abbrev pub NotAppliedYet : Type 0
-NotAppliedYet = pulls 4 ≡ Service (ToClient 0 1 (Listing 4 [])) ∷ []
+NotAppliedYet = pulls placed_log 4 ≡ list_sent 4 []
+
+-- What is unknown is listed, and what is lost is not.
+abbrev pub placed_away : List (Entry Command)
+placed_away = placed_log ++ entry 1 (commands.Disconnect 1) ∷ []
+
+abbrev pub placed_lost : List (Entry Command)
+placed_lost = placed_away ++ entry 1 (commands.NodeDown 1) ∷ []
+
+abbrev pub UnknownListed : Type 0
+UnknownListed = pulls placed_away 6 ≡ list_sent 6 (five_is live_states.Unknown)
+
+abbrev pub LostNotListed : Type 0
+LostNotListed = pulls placed_lost 7 ≡ list_sent 7 []
 
 -- ---- what is appended
 
@@ -53,8 +74,11 @@ abbrev pub at_placed : Member
 at_placed = leads placed_log 5 None
 
 -- A report is appended; the same one once more changes no row, and is not.
+abbrev pub five_runs : Entry Command
+five_runs = entry 1 (commands.Report 1 (record { id = alloc_id 5 0; state = reported.Running } ∷ []))
+
 abbrev pub ReportTaken : Type 0
-ReportTaken = (after_inputs at_placed (runs_five ∷ [])).raft.log ≡ placed_log ++ entry 1 (commands.Report 1 (record { id = alloc_id 5 0; state = reported.Running } ∷ [])) ∷ []
+ReportTaken = (after_inputs at_placed (runs_five ∷ [])).raft.log ≡ placed_log ++ five_runs ∷ []
 
 abbrev pub ReportedTwice : Type 0
 ReportedTwice = (after_inputs at_placed (runs_five ∷ runs_five ∷ [])).raft.log ≡ (after_inputs at_placed (runs_five ∷ [])).raft.log
@@ -62,10 +86,20 @@ ReportedTwice = (after_inputs at_placed (runs_five ∷ runs_five ∷ [])).raft.l
 abbrev pub ToldBothTimes : Type 0
 ToldBothTimes = sent_by (members.step 3 0 (after_inputs at_placed (runs_five ∷ [])) runs_five) ≡ told kinds.Report None
 
--- So is a node that is ready; one of another size is refused, and so is all at a server that does
--- not lead.
+-- A report of what is unknown is appended, and one of what is lost is not.
+abbrev pub UnknownReported : Type 0
+UnknownReported = (after_inputs (leads placed_away 6 None) (runs_five ∷ [])).raft.log ≡ placed_away ++ five_runs ∷ []
+
+abbrev pub LostReported : Type 0
+LostReported = (after_inputs (leads placed_lost 7 None) (runs_five ∷ [])).raft.log ≡ placed_lost
+
+-- A node that registers and is ready is not appended; one that is disconnected is. One of another
+-- size is refused, and so is all at a server that does not lead.
 abbrev pub SameNode : Type 0
 SameNode = (after_inputs at_placed (registers (size 1000 1000) ∷ [])).raft.log ≡ placed_log
+
+abbrev pub NodeBack : Type 0
+NodeBack = (after_inputs (leads placed_away 6 None) (registers (size 1000 1000) ∷ [])).raft.log ≡ placed_away ++ entry 1 (comes 1 (size 1000 1000)) ∷ []
 
 abbrev pub OtherSize : Type 0
 OtherSize = sent_by (members.step 3 0 at_placed (registers (size 1000 999))) ≡ told kinds.Register (Some reasons.NodeDiffers)

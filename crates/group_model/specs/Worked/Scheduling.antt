@@ -9,6 +9,7 @@ use Rattle.cluster_model.specs.Words.{State, no_rows}
 use Rattle.cluster_model.specs.Effect.{applied}
 use Rattle.cluster_model.specs.Worked.Words.{web, main, size, eval_id, alloc_id, comes, runs, place, plans, eval_row, after_all}
 use Rattle.group_model.specs.Scheduling.{WorkerPlan, IsPlanFor}
+use Rattle.group_model.specs.Worked.Words.{on_disks}
 
 -- an evaluation of `web`
 abbrev pub of_web : ℕ → Evaluation
@@ -85,6 +86,16 @@ Together = IsPlanFor (new_web 1000 1000 400) (of_web 4) 4
 abbrev pub SmallerFirst : Type 0
 SmallerFirst = IsPlanFor (new_web 1200 1000 600) (of_web 4) 4
     (plan 4 4 [] (on_node 0 2 ∷ on_node 1 1 ∷ []) true)
+
+-- of 60 MB of disk each, the first fits on node 1 alone, and the second then on none
+abbrev pub DiskForOne : Type 0
+DiskForOne = IsPlanFor (on_disks 60) (of_web 4) 4 (plan 4 4 [] (on_node 0 1 ∷ []) false)
+
+-- of 50 MB both fit on node 1: the first fills either node as much, by processor time and memory,
+-- and so goes to the lower number, which the second then fills more
+abbrev pub DiskForTwo : Type 0
+DiskForTwo = IsPlanFor (on_disks 50) (of_web 4) 4
+    (plan 4 4 [] (on_node 0 1 ∷ on_node 1 1 ∷ []) true)
 
 -- one node, on which one of two fits
 abbrev pub one_node : State

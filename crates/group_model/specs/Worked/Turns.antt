@@ -166,4 +166,4 @@ PingsNoStranger = client_refusal (agents.step 3 agent (agents.Ping 3)) ≡ Some 
 
 -- A heartbeat is its own node's alone.
 abbrev pub OneHeartbeat : Type 0
-OneHeartbeat = (after_inputs leader (inputs.Arrives (ToServer 1 0 Heartbeat) ∷ inputs.Expire 2 0 ∷ [])).raft.log ≡ log ++ entry 1 (commands.NodeDown 2) ∷ []
+OneHeartbeat = (after_inputs leader (inputs.Arrives (ToServer 1 0 Heartbeat) ∷ inputs.Expire 2 0 ∷ [])).raft.log ≡ log ++ entry 1 (commands.Disconnect 2) ∷ []

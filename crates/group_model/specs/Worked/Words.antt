@@ -18,7 +18,7 @@ use Rattle.machine_model.specs.declared.entry.Entry.{Entry}
 use Rattle.raft_model.specs.Servers as rafts
 use Rattle.cluster_model.specs.Words.{State}
 use Rattle.cluster_model.specs.Words.{no_rows}
-use Rattle.cluster_model.specs.Worked.Words.{linux, web, api, main, size, eval_id, alloc_id, comes, mains, runs}
+use Rattle.cluster_model.specs.Worked.Words.{linux, web, api, main, size, size_with_disk, eval_id, alloc_id, comes, mains, runs, after_all}
 use Rattle.group_model.specs.Desks.{Desk, after_entries}
 use Rattle.group_model.specs.Inputs as inputs
 use Rattle.group_model.specs.Members as members
@@ -85,6 +85,17 @@ one_runs used = record {
   evals = record { id = eval_id 4 0; job = web; priority = 50; status = eval_statuses.Pending; snapshot = 0 } ∷ [];
   allocs = alloc_row (alloc_id 5 0) web 0 1 (size 600 300) ∷ alloc_row (alloc_id 6 0) api 0 2 used ∷ [];
 }
+
+-- ---- two nodes, with 100 and 50 MB of disk, and `web` of two allocations that each take so much
+-- of it, and a tenth of the nodes' processor time and memory
+
+abbrev pub on_disks : ℕ → State
+on_disks disk = after_all no_rows (
+    commands.Noop
+    ∷ comes 1 (size_with_disk 1000 1000 100)
+    ∷ comes 2 (size_with_disk 1000 1000 50)
+    ∷ runs web 2 (size_with_disk 100 100 disk)
+    ∷ [])
 
 -- ---- a leader of term 1 with one node and two jobs that each want 600 of its 1000, all applied
 

@@ -52,6 +52,7 @@ TellsEvals (commands.JobPut j) s rows = TouchChanged s rows
 TellsEvals (commands.JobStop name) s rows = TouchChanged s rows
 TellsEvals (commands.NodePut n) s rows = rows ≡ []
 TellsEvals (commands.NodeDown n) s rows = TouchChanged s rows
+TellsEvals (commands.Disconnect n) s rows = rows ≡ []
 TellsEvals (commands.Drain n force) s rows = rows ≡ []
 TellsEvals (commands.DrainDone n) s rows = rows ≡ []
 TellsEvals (commands.Migrate ids) s rows = TouchChanged s rows
@@ -85,10 +86,11 @@ abbrev pub at_node : Option Node → List BeatCount → List BeatCount
 at_node None counts = counts
 at_node (Some n) counts = beat_counts_with n counts
 
--- a node that comes, and one that is down
+-- a node that comes, and one that is down or disconnected
 abbrev pub tell_node : Command → State → List BeatCount → List BeatCount
 tell_node (commands.NodePut n) s counts = at_node (node_of n.number s) counts
 tell_node (commands.NodeDown n) s counts = at_node (node_of n s) counts
+tell_node (commands.Disconnect n) s counts = at_node (node_of n s) counts
 tell_node _ s counts = counts
 
 -- nodes that have room from this command on: one that comes, and those on which allocations end

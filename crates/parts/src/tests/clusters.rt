@@ -15,20 +15,19 @@ use rows::{
 use std::alloc::Global;
 
 // `counts JOBS NODES EVALUATIONS ALLOCATIONS`: so many rows. `applied N`: so many commands. `used
-// NODE CPU MEMORY`: of the node. `live ID`: the allocation is the live one of its name. `dead ID`:
-// none is live under its name. `fork`: a copy has the same text. `copies N STEP`: of so many copies
-// each has an evaluation pending that the state completed after it, each the STEPth behind the one
-// before. `lists`: the lists of its rows are
-// its text, each row is found by its key, and its one allocation is put into other tables. `accept
-// WAIT PLAN = ANSWER`: of the plan this is kept. Others are of the parts of a desk over it, and of
-// workers.
+// NODE CPU MEMORY DISK`: of the node. `live ID`: the allocation is the live one of its name. `dead
+// ID`: none is live under its name. `fork`: a copy has the same text. `copies N STEP`: of so many
+// copies each has an evaluation pending that the state completed after it, each the STEPth behind
+// the one before. `lists`: the lists of its rows are its text, each row is found by its key, and
+// its one allocation is put into other tables. `accept WAIT PLAN = ANSWER`: of the plan this is
+// kept. Others are of the parts of a desk over it, and of workers.
 impl Played for Cluster {
     fn holds(&self, alloc: Global, verb: char, words: &str) -> bool {
         let [first, second, third, fourth] = numbers(words);
         match verb {
             'C' => has_counts(self, [first, second, third, fourth]),
             'A' => self.count() == first as u64 && self.applied().get() == first as u64,
-            'U' => uses(self, first, [second as u64, third as u64]),
+            'U' => uses(self, first, [second as u64, third as u64, fourth as u64]),
             'L' => lives(self, id_of(alloc, words), true),
             'D' => lives(self, id_of(alloc, words), false),
             'F' => match self.fork() {
@@ -54,9 +53,12 @@ fn has_counts(state: &Cluster, counts: [usize; 4]) -> bool {
     found == counts
 }
 
-fn uses(state: &Cluster, node: usize, usage: [u64; 2]) -> bool {
+fn uses(state: &Cluster, node: usize, usage: [u64; 3]) -> bool {
     match NodeId::from_number(node.min(255) as u8) {
-        Some(node) => [state.used(node).cpu(), state.used(node).mem()] == usage,
+        Some(node) => {
+            let used = state.used(node);
+            [used.cpu(), used.mem(), used.disk()] == usage
+        }
         None => false,
     }
 }
@@ -184,6 +186,7 @@ fn finds_alone(tables: &Tables, row: &Allocation) -> bool {
         && is_alone(tables.active_on(row.node), row.id)
         && usage.cpu() == 600
         && usage.mem() == 300
+        && usage.disk() == 50
         && tables.allocs().len() == 1
 }
 

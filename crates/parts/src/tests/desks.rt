@@ -17,8 +17,8 @@ use std::alloc::Global;
 // Entries 2 to 5: two jobs, whose evaluations are 2.0 and 3.0, and one more of each.
 const TWO_JOBS: &str = "\
 take noop
-take put a 50 main:1:linux:1:1
-take put b 70 main:1:linux:1:1
+take put a 50 main:1:linux:1:1:0
+take put b 70 main:1:linux:1:1:0
 take eval b
 take eval a
 broker";
@@ -26,7 +26,7 @@ broker";
 // Evaluation 2.0 found no room in the state of index 5.
 const NO_ROOM: &str = "\
 take noop
-take put a 50 main:1:linux:1:1
+take put a 50 main:1:linux:1:1:0
 take noop
 take noop
 take noop
@@ -36,10 +36,10 @@ blocked";
 // 5.0 and 5.1 live on node 1, which is drained slow, and then by force.
 const DRAINED: &str = "\
 take noop
-take join 1 linux 2000 2000
-take put web 50 main:2:linux:600:300
+take join 1 linux 2000 2000 0
+take put web 50 main:2:linux:600:300:0
 take noop
-take plan 3.0 1.1 web 3 - main:0:1:600:300,main:1:1:600:300
+take plan 3.0 1.1 web 3 - main:0:1:600:300:0,main:1:1:600:300:0
 keep
 moves 1 20
 moves 2 9

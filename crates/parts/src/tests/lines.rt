@@ -10,7 +10,7 @@ add 1 2
 tally - 82
 put 1 n1G
 stop 2 n
-join 3 1n44
+join 3 1n444
 lose 4 1
 drain 5 1f
 drained 6 1
@@ -19,18 +19,19 @@ eval 8 n
 status 9 es8
 plan 10 etn8AP
 report 11 1R
+disconnect 12 1
 offer - etn88AL
 kept - etn8APN
 state - 8
 rows - 4
 job - n1y8G
-node - 1n44uym8
+node - 1n444uym8
 evaluation - en1s8
-allocation - ann1144dcye
+allocation - ann11444dcye
 any-job - 1y8G
-any-node - n44uym8
+any-node - n444uym8
 any-evaluation - n1s8
-any-allocation - nn1144dcye
+any-allocation - nn11444dcye
 planned - AL88y
 later 90 -
 nothing 91 -
@@ -38,11 +39,12 @@ submit 92 etn88AL
 finish 93 ets8
 nack 94 et
 raw - 1111111111111111111111111111111111111111111111111111111111111111\
+1111111111111111111111111111111111111111111111111111111111111111\
 1111111111111111111111111111111111111111111111111111111111111111";
 
 // The words of fields of few values: yes or no (y), how a node is drained (f, and m in its row),
 // the statuses of evaluations (s), of reports (r) and of clients (c), what is desired (d), and
-// whether a node is up (u). Behind each field its number there.
+// a node's status (u). Behind each field its number there.
 const CHOICES: &str = "\
 no y0
 yes y1
@@ -55,10 +57,12 @@ complete s2r2c2
 failed s3r3c3
 running r1c1
 lost c4
+unknown c5
 run d0
 stop d1
 ready u0
-down u1";
+down u1
+disconnected u2";
 
 /// What stands behind a word and a space in a line of a table.
 pub(crate) fn look_up(table: &'static str, word: &str) -> Option<&'static str> {
@@ -137,11 +141,11 @@ fn put_list(out: &mut Vec<u8>, kinds: &str, words: &str) -> bool {
 fn put_word(out: &mut Vec<u8>, kind: char, word: &str) -> bool {
     let items = match kind {
         'A' => "a",
-        'P' => "n1144",
+        'P' => "n11444",
         'L' => "n11",
         'N' => "1",
         'R' => "ar",
-        'G' => "n1n44",
+        'G' => "n1n444",
         _ => return put_field(out, kind, word),
     };
     put_list(out, items, word)

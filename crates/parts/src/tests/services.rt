@@ -12,6 +12,9 @@ use rows::{
 use std::alloc::Global;
 use wire::{Body, Kind, Message, read_message, write_message};
 
+/// The version that frames have, and their first byte.
+const V: u8 = 3;
+
 /// What is no fault of the bytes: memory was wanting, or the message that is read is written
 /// otherwise.
 const WRONG: usize = usize::MAX - 1;
@@ -34,24 +37,25 @@ enum Of {
     Pull,
     List,
     NoneListed,
+    UnknownListed,
     Report,
     Taken,
     ReportRefused,
 }
 
-const TAKE: &[u8] = &[1, 7, 1, 1, 0, 0, 0, 0];
+const TAKE: &[u8] = &[V, 7, 1, 1, 0, 0, 0, 0];
 
 const DELIVERED: &[u8] = &[
-    1, 8, 1, 2, 0, 0, 0, 35, 1, //
+    V, 8, 1, 2, 0, 0, 0, 35, 1, //
     0, 0, 0, 0, 0, 0, 0, 4, 0, 0, //
     0, 0, 0, 0, 0, 0, 0, 1, 0, 0, 0, 0, 0, 0, 0, 1, //
     0, 0, 0, 0, 0, 0, 0, 4,
 ];
 
-const NOTHING: &[u8] = &[1, 8, 2, 2, 0, 0, 0, 1, 0];
+const NOTHING: &[u8] = &[V, 8, 2, 2, 0, 0, 0, 1, 0];
 
 const SUBMIT: &[u8] = &[
-    1, 9, 2, 1, 0, 0, 0, 61, //
+    V, 9, 2, 1, 0, 0, 0, 61, //
     0, 0, 0, 0, 0, 0, 0, 4, 0, 1, //
     0, 0, 0, 0, 0, 0, 0, 1, 0, 0, 0, 0, 0, 0, 0, 3, //
     3, 119, 101, 98, //
@@ -61,86 +65,92 @@ const SUBMIT: &[u8] = &[
 ];
 
 const RESULT: &[u8] = &[
-    1, 10, 1, 2, 0, 0, 0, 38, //
+    V, 10, 1, 2, 0, 0, 0, 38, //
     0, 0, 0, 0, 0, 0, 0, 4, 0, 1, //
     0, 0, 0, 0, 0, 0, 0, 1, 0, 0, 0, 0, 0, 0, 0, 3, //
     0, 0, 0, 0, 0, 0, 0, 9, 64, 2, 3, 64,
 ];
 
 const BLOCKED: &[u8] = &[
-    1, 11, 2, 1, 0, 0, 0, 35, //
+    V, 11, 2, 1, 0, 0, 0, 35, //
     0, 0, 0, 0, 0, 0, 0, 4, 0, 1, //
     0, 0, 0, 0, 0, 0, 0, 1, 0, 0, 0, 0, 0, 0, 0, 3, //
     1, 0, 0, 0, 0, 0, 0, 0, 5,
 ];
 
 const COMPLETE: &[u8] = &[
-    1, 11, 2, 1, 0, 0, 0, 35, //
+    V, 11, 2, 1, 0, 0, 0, 35, //
     0, 0, 0, 0, 0, 0, 0, 4, 0, 1, //
     0, 0, 0, 0, 0, 0, 0, 1, 0, 0, 0, 0, 0, 0, 0, 3, //
     2, 0, 0, 0, 0, 0, 0, 0, 0,
 ];
 
 const NACK: &[u8] = &[
-    1, 12, 2, 1, 0, 0, 0, 26, //
+    V, 12, 2, 1, 0, 0, 0, 26, //
     0, 0, 0, 0, 0, 0, 0, 4, 0, 1, //
     0, 0, 0, 0, 0, 0, 0, 1, 0, 0, 0, 0, 0, 0, 0, 3,
 ];
 
-const TAKE_REFUSED: &[u8] = &[1, 13, 1, 2, 0, 0, 0, 4, 7, 0, 2, 3];
+const TAKE_REFUSED: &[u8] = &[V, 13, 1, 2, 0, 0, 0, 4, 7, 0, 2, 3];
 
 const SUBMIT_REFUSED: &[u8] = &[
-    1, 13, 1, 2, 0, 0, 0, 30, 9, 1, //
+    V, 13, 1, 2, 0, 0, 0, 30, 9, 1, //
     0, 0, 0, 0, 0, 0, 0, 4, 0, 1, //
     0, 0, 0, 0, 0, 0, 0, 1, 0, 0, 0, 0, 0, 0, 0, 3, //
     5, 0,
 ];
 
 const REGISTER: &[u8] = &[
-    1, 14, 129, 1, 0, 0, 0, 14, //
-    5, 108, 105, 110, 117, 120, 0, 0, 3, 232, 0, 0, 3, 232,
+    V, 14, 129, 1, 0, 0, 0, 18, //
+    5, 108, 105, 110, 117, 120, 0, 0, 3, 232, 0, 0, 3, 232, 0, 0, 0, 5,
 ];
 
-const HEARTBEAT: &[u8] = &[1, 15, 129, 1, 0, 0, 0, 0];
+const HEARTBEAT: &[u8] = &[V, 15, 129, 1, 0, 0, 0, 0];
 
-const PULL: &[u8] = &[1, 16, 192, 5, 0, 0, 0, 0];
+const PULL: &[u8] = &[V, 16, 192, 5, 0, 0, 0, 0];
 
-// 8.0 of 600 and 300 is pending, 8.63 of 1 and 1,000,000 runs.
+// 8.0 of 600, 300 and disk 0 is pending, 8.63 of 1 and twice 1,000,000 runs.
 const LIST: &[u8] = &[
-    1, 17, 1, 129, 0, 0, 0, 48, //
+    V, 17, 1, 129, 0, 0, 0, 56, //
     0, 0, 0, 0, 0, 0, 0, 9, 0, 0, 0, 2, //
-    0, 0, 0, 0, 0, 0, 0, 8, 0, 0, 0, 2, 88, 0, 0, 1, 44, 0, //
-    0, 0, 0, 0, 0, 0, 0, 8, 63, 0, 0, 0, 1, 0, 15, 66, 64, 1,
+    0, 0, 0, 0, 0, 0, 0, 8, 0, 0, 0, 2, 88, 0, 0, 1, 44, 0, 0, 0, 0, 0, //
+    0, 0, 0, 0, 0, 0, 0, 8, 63, 0, 0, 0, 1, 0, 15, 66, 64, 0, 15, 66, 64, 1,
 ];
 
 const NONE_LISTED: &[u8] = &[
-    1, 17, 5, 192, 0, 0, 0, 12, 0, 0, 0, 0, 0, 0, 0, 0, 0, 0, 0, 0,
+    V, 17, 5, 192, 0, 0, 0, 12, 0, 0, 0, 0, 0, 0, 0, 0, 0, 0, 0, 0,
+];
+
+// 8.1 of 600, 300 and disk 0 is unknown.
+const UNKNOWN_LISTED: &[u8] = &[
+    V, 17, 1, 129, 0, 0, 0, 34, 0, 0, 0, 0, 0, 0, 0, 9, 0, 0, 0, 1, //
+    0, 0, 0, 0, 0, 0, 0, 8, 1, 0, 0, 2, 88, 0, 0, 1, 44, 0, 0, 0, 0, 2,
 ];
 
 // So many are said to be listed as are allowed, and none is there.
 const MOST_LISTED: &[u8] = &[
-    1, 17, 1, 129, 0, 0, 0, 12, 0, 0, 0, 0, 0, 0, 0, 0, 0, 1, 0, 0,
+    V, 17, 1, 129, 0, 0, 0, 12, 0, 0, 0, 0, 0, 0, 0, 0, 0, 1, 0, 0,
 ];
 
 // The front of the frame of a list of 65,536 allocations, in the state of index 1,024; and what
-// stands behind the id of each: 600, 300, and that it runs.
+// stands behind the id of each: 600, 300, disk 7, and that it runs.
 const LONGEST: &[u8] = &[
-    1, 17, 1, 129, 0, 18, 0, 12, 0, 0, 0, 0, 0, 0, 4, 0, 0, 1, 0, 0,
+    V, 17, 1, 129, 0, 22, 0, 12, 0, 0, 0, 0, 0, 0, 4, 0, 0, 1, 0, 0,
 ];
 
-const EACH: &[u8] = &[0, 0, 2, 88, 0, 0, 1, 44, 1];
+const EACH: &[u8] = &[0, 0, 2, 88, 0, 0, 1, 44, 0, 0, 0, 7, 1];
 
 // 8.1 completed, 8.63 failed, 8.1 runs: in any order, and also twice.
 const REPORT: &[u8] = &[
-    1, 18, 129, 1, 0, 0, 0, 31, 3, //
+    V, 18, 129, 1, 0, 0, 0, 31, 3, //
     0, 0, 0, 0, 0, 0, 0, 8, 1, 2, //
     0, 0, 0, 0, 0, 0, 0, 8, 63, 3, //
     0, 0, 0, 0, 0, 0, 0, 8, 1, 1,
 ];
 
-const TAKEN: &[u8] = &[1, 19, 1, 129, 0, 0, 0, 3, 14, 0, 0];
+const TAKEN: &[u8] = &[V, 19, 1, 129, 0, 0, 0, 3, 14, 0, 0];
 
-const REPORT_REFUSED: &[u8] = &[1, 19, 5, 192, 0, 0, 0, 3, 18, 2, 0];
+const REPORT_REFUSED: &[u8] = &[V, 19, 5, 192, 0, 0, 0, 3, 18, 2, 0];
 
 /// A message, its kind, its frame, and where the fields of its body begin.
 type Row = (Of, Kind, &'static [u8], &'static [usize]);
@@ -186,16 +196,22 @@ const ROWS: &[Row] = &[
         SUBMIT_REFUSED,
         &[8, 9, 10, 18, 20, 28, 36, 37],
     ),
-    (Of::Register, Kind::Register, REGISTER, &[8, 14, 18]),
+    (Of::Register, Kind::Register, REGISTER, &[8, 14, 18, 22]),
     (Of::Heartbeat, Kind::Heartbeat, HEARTBEAT, &[]),
     (Of::Pull, Kind::Pull, PULL, &[]),
     (
         Of::List,
         Kind::List,
         LIST,
-        &[8, 16, 20, 28, 29, 33, 37, 38, 46, 47, 51, 55],
+        &[8, 16, 20, 28, 29, 33, 37, 41, 42, 50, 51, 55, 59, 63],
     ),
     (Of::NoneListed, Kind::List, NONE_LISTED, &[8, 16]),
+    (
+        Of::UnknownListed,
+        Kind::List,
+        UNKNOWN_LISTED,
+        &[8, 16, 20, 28, 29, 33, 37, 41],
+    ),
     (
         Of::Report,
         Kind::Report,
@@ -284,10 +300,11 @@ const CHANGES: &[Change] = &[
     // The version, and the length of the body.
     (HEARTBEAT, 0, 0, 0),
     (HEARTBEAT, 7, 1, 4),
+    (PULL, 0, 1, 0),
     (PULL, 0, 2, 0),
     (PULL, 4, 1, 4),
-    (LIST, 0, 2, 0),
-    (LIST, 7, 47, 4),
+    (LIST, 0, 4, 0),
+    (LIST, 7, 55, 4),
     (REPORT, 0, 2, 0),
     (REPORT, 7, 32, 4),
     // An evaluation for a worker: the option's tag, the evaluation, the token, the index.
@@ -395,6 +412,8 @@ const CHANGES: &[Change] = &[
     (REGISTER, 9, 76, 8),
     (REGISTER, 14, 1, 14),
     (REGISTER, 18, 1, 18),
+    (REGISTER, 22, 1, 22),
+    (REGISTER, 25, 0, NONE),
     // What an agent is shown: at most 65,536 allocations, whose ids rise strictly, and of each what
     // is known.
     (LIST, 8, 1, 8),
@@ -403,36 +422,46 @@ const CHANGES: &[Change] = &[
     (LIST, 15, 0, NONE),
     (LIST, 16, 1, 16),
     (LIST, 17, 1, 16),
-    (LIST, 18, 1, 56),
+    (LIST, 18, 1, 64),
     (LIST, 19, 0, 20),
-    (LIST, 19, 1, 38),
-    (LIST, 19, 3, 56),
+    (LIST, 19, 1, 42),
+    (LIST, 19, 3, 64),
     (MOST_LISTED, 19, 0, 20),
     (MOST_LISTED, 19, 1, 16),
     (LIST, 22, 1, 20),
     (LIST, 27, 0, 20),
-    (LIST, 27, 9, 38),
+    (LIST, 27, 9, 42),
     (LIST, 28, 62, NONE),
-    (LIST, 28, 63, 38),
+    (LIST, 28, 63, 42),
     (LIST, 28, 64, 28),
     (LIST, 29, 1, 29),
     (LIST, 33, 1, 33),
-    (LIST, 37, 1, NONE),
-    (LIST, 37, 2, 37),
-    (LIST, 40, 1, 38),
-    (LIST, 45, 0, 38),
-    (LIST, 45, 7, 38),
-    (LIST, 45, 9, NONE),
-    (LIST, 46, 0, 38),
-    (LIST, 46, 1, NONE),
-    (LIST, 46, 64, 46),
-    (LIST, 50, 0, 47),
-    (LIST, 54, 63, NONE),
-    (LIST, 54, 65, 51),
-    (LIST, 55, 0, NONE),
-    (LIST, 55, 2, 55),
-    (LIST, 55, 255, 55),
+    (LIST, 37, 1, 37),
+    (LIST, 40, 1, NONE),
+    (LIST, 41, 1, NONE),
+    (LIST, 41, 2, NONE),
+    (LIST, 41, 3, 41),
+    (LIST, 44, 1, 42),
+    (LIST, 49, 0, 42),
+    (LIST, 49, 7, 42),
+    (LIST, 49, 9, NONE),
+    (LIST, 50, 0, 42),
+    (LIST, 50, 1, NONE),
+    (LIST, 50, 64, 50),
+    (LIST, 54, 0, 51),
+    (LIST, 58, 63, NONE),
+    (LIST, 58, 65, 55),
+    (LIST, 62, 63, NONE),
+    (LIST, 62, 65, 59),
+    (LIST, 63, 0, NONE),
+    (LIST, 63, 2, NONE),
+    (LIST, 63, 3, 63),
+    (LIST, 63, 255, 63),
     (NONE_LISTED, 19, 1, 20),
+    (UNKNOWN_LISTED, 41, 0, NONE),
+    (UNKNOWN_LISTED, 41, 1, NONE),
+    (UNKNOWN_LISTED, 41, 3, 41),
+    (UNKNOWN_LISTED, 41, 5, 41),
     // What an agent reports: 1 to 64 items.
     (REPORT, 8, 0, 8),
     (REPORT, 8, 1, 19),
@@ -592,16 +621,24 @@ fn id_of(slot: u8) -> Option<AllocId> {
     Some(AllocId { index, slot })
 }
 
-fn row_of(slot: u8, size: (u32, u32), state: LiveState) -> Option<ListedAllocation> {
+fn row_of(slot: u8, size: (u32, u32, u32), state: LiveState) -> Option<ListedAllocation> {
     let id = id_of(slot)?;
-    let size = Size::check(size.0, size.1).ok()?;
+    let size = Size::check(size.0, size.1, size.2).ok()?;
     Some(ListedAllocation { id, size, state })
 }
 
 fn listing_of(alloc: Global) -> Option<Listing> {
     let mut rows = Sequence::new(alloc);
-    rows.push(row_of(0, (600, 300), LiveState::Pending)?).ok()?;
-    rows.push(row_of(63, (1, 1_000_000), LiveState::Running)?)
+    rows.push(row_of(0, (600, 300, 0), LiveState::Pending)?)
+        .ok()?;
+    rows.push(row_of(63, (1, 1_000_000, 1_000_000), LiveState::Running)?)
+        .ok()?;
+    Listing::check(rows).ok()
+}
+
+fn unknown_of(alloc: Global) -> Option<Listing> {
+    let mut rows = Sequence::new(alloc);
+    rows.push(row_of(1, (600, 300, 0), LiveState::Unknown)?)
         .ok()?;
     Listing::check(rows).ok()
 }
@@ -627,6 +664,7 @@ fn agent_body(alloc: Global, of: Of) -> Option<Body<Tally>> {
             let rows = Listing::check(Sequence::new(alloc)).ok()?;
             Some(Body::List(Index::ZERO, rows))
         }
+        Of::UnknownListed => Some(Body::List(Index::new(9)?, unknown_of(alloc)?)),
         Of::Report => Some(Body::Report(reports_of(alloc)?)),
         _ => None,
     }
@@ -642,12 +680,12 @@ fn body_of(alloc: Global, of: Of) -> Option<Body<Tally>> {
         Of::None => response(WorkerResponse::Delivered(None)),
         Of::Register => {
             let class = Name::from_bytes(b"linux")?;
-            let size = Size::check(1000, 1000).ok()?;
+            let size = Size::check(1000, 1000, 5).ok()?;
             Some(Body::Register(class, size))
         }
         Of::Heartbeat => Some(Body::Heartbeat),
         Of::Pull => Some(Body::Pull),
-        Of::List | Of::NoneListed | Of::Report => agent_body(alloc, of),
+        Of::List | Of::NoneListed | Of::UnknownListed | Of::Report => agent_body(alloc, of),
         Of::Taken => Some(Body::Told(ClientRequestKind::Register, None)),
         Of::ReportRefused => {
             let why = Reason::NotLeader(Leader::new(None));
@@ -754,12 +792,12 @@ fn is_longest_read(alloc: Global) -> bool {
     let mut bytes = Vec::new(alloc);
     let whole = bytes.extend_from_slice(LONGEST).is_ok()
         && put_many(&mut bytes, "allocation", 0, 65535, EACH)
-        && bytes.len() == 1_179_668
+        && bytes.len() == 1_441_812
         && fault_of(alloc, &bytes) == NONE;
-    if let Some(byte) = bytes.get_mut(1_179_667) {
-        *byte = 2;
+    if let Some(byte) = bytes.get_mut(1_441_811) {
+        *byte = 3;
     }
-    whole && fault_of(alloc, &bytes) == 1_179_667
+    whole && fault_of(alloc, &bytes) == 1_441_811
 }
 
 #[test]

@@ -36,6 +36,10 @@ struct Bench<M: Machine> {
 /// `cuts N N ..`: cut anywhere between two neighbours it is refused at the first. `command N`: it
 /// begins with a command of N bytes. `bad N`: it begins with none, and is at fault at byte N.
 ///
+/// As a text of an older version V: `old-load V`: the state is that of the text. `old-fault V N`:
+/// it is refused at byte N. `old-command V LINE`: it is, but for its last byte, the command of the
+/// line. `old-bad V N`: it begins with none, and is at fault at byte N.
+///
 /// Other lines are of the machine's own, as `Played::holds` says.
 pub(crate) fn play<M: Played>(rt: &impl Abort, alloc: Global, state: M, tables: &[&str]) {
     let mut bench = Bench {
@@ -86,6 +90,10 @@ fork F
 copies E
 lists S
 is-at T
+old-load x
+old-fault g
+old-command v
+old-bad j
 broker B
 blocked Z
 heartbeats H
@@ -111,8 +119,14 @@ fn turn<M: Played>(bench: &mut Bench<M>, line: &str) -> bool {
             bench.kept.clear();
             bench.state.save(&mut bench.kept).is_ok()
         }
-        'a' => restore(&mut bench.state, bench.alloc, &bench.kept),
+        'a' => restore(
+            &mut bench.state,
+            Version::newest(),
+            bench.alloc,
+            &bench.kept,
+        ),
         'l' => load(bench),
+        'x' => load_old(bench, rest),
         's' => is_same(bench),
         'h' => has(bench, rest),
         't' | 'f' => takes(bench, rest, verb == 'f'),
@@ -166,8 +180,8 @@ fn takes<M: Machine>(bench: &mut Bench<M>, line: &str, any: bool) -> bool {
     read(bench, line) && apply(&mut bench.state, bench.alloc, &bench.bytes, any)
 }
 
-fn restore<M: Machine>(state: &mut M, alloc: Global, text: &[u8]) -> bool {
-    match M::load(Version::newest(), alloc, text) {
+fn restore<M: Machine>(state: &mut M, version: Version, alloc: Global, text: &[u8]) -> bool {
+    match M::load(version, alloc, text) {
         Ok(read) => {
             *state = read;
             true
@@ -189,7 +203,26 @@ fn is_same<M: Machine>(bench: &mut Bench<M>) -> bool {
 }
 
 fn load<M: Machine>(bench: &mut Bench<M>) -> bool {
-    restore(&mut bench.state, bench.alloc, &bench.text) && is_same(bench)
+    restore(
+        &mut bench.state,
+        Version::newest(),
+        bench.alloc,
+        &bench.text,
+    ) && is_same(bench)
+}
+
+// The version of a number.
+fn version_of(word: &str) -> Option<Version> {
+    Version::new(word.parse::<u8>().unwrap_or(0))
+}
+
+fn load_old<M: Machine>(bench: &mut Bench<M>, word: &str) -> bool {
+    let is_read = match version_of(word) {
+        Some(version) => restore(&mut bench.state, version, bench.alloc, &bench.text),
+        None => false,
+    };
+    bench.text.clear();
+    is_read
 }
 
 fn has<M: Machine>(bench: &mut Bench<M>, line: &str) -> bool {
@@ -234,15 +267,18 @@ fn texts<M: Played>(bench: &mut Bench<M>, verb: char, words: &str) -> bool {
         }
         'n' => bench.text.len() == first,
         'p' => set(&mut bench.text, first, second) < 256,
-        'w' => fault_of::<M>(bench.alloc, &bench.text) == first,
+        'w' => fault_of::<M>(Version::newest(), bench.alloc, &bench.text) == first,
+        'g' => is_old_fault::<M>(bench.alloc, &bench.text, words),
+        'v' => is_old_command(bench, words),
+        'j' => is_old_bad(bench, words),
         'b' => {
             let old = set(&mut bench.text, first, second);
-            fault_of::<M>(bench.alloc, &bench.text) == third
+            fault_of::<M>(Version::newest(), bench.alloc, &bench.text) == third
                 && set(&mut bench.text, first, old) == second
         }
         'e' => is_refused_cut(bench, words),
         'o' | 'd' => {
-            let found = command_of::<M>(bench.alloc, &bench.text, verb == 'd');
+            let found = command_of::<M>(Version::newest(), bench.alloc, &bench.text, verb == 'd');
             bench.text.clear();
             found == first
         }
@@ -275,17 +311,39 @@ fn set(text: &mut [u8], place: usize, value: usize) -> usize {
 }
 
 // Where the text of a machine is at fault, and the greatest number where it is not.
-fn fault_of<M: Machine>(alloc: Global, text: &[u8]) -> usize {
-    match M::load(Version::newest(), alloc, text) {
+fn fault_of<M: Machine>(version: Version, alloc: Global, text: &[u8]) -> usize {
+    match M::load(version, alloc, text) {
         Err(Refusal::Frame(place)) => place,
         _ => usize::MAX,
     }
 }
 
+// Whether it is at fault at a place as a text of an older version; the words say which, and where.
+fn is_old_fault<M: Machine>(alloc: Global, text: &[u8], words: &str) -> bool {
+    let (number, place) = words.split_once(' ').unwrap_or((words, ""));
+    match version_of(number) {
+        Some(version) => place.parse() == Ok(fault_of::<M>(version, alloc, text)),
+        None => false,
+    }
+}
+
+// Whether it begins with no command of an older version, and is at fault at a place.
+fn is_old_bad<M: Machine>(bench: &mut Bench<M>, words: &str) -> bool {
+    let (number, place) = words.split_once(' ').unwrap_or((words, ""));
+    let is_it = match version_of(number) {
+        Some(version) => {
+            place.parse() == Ok(command_of::<M>(version, bench.alloc, &bench.text, true))
+        }
+        None => false,
+    };
+    bench.text.clear();
+    is_it
+}
+
 // How many bytes the command has that a text begins with, which is written so again; or where the
 // text is at fault.
-fn command_of<M: Machine>(alloc: Global, text: &[u8], is_bad: bool) -> usize {
-    match M::read_command(Version::newest(), alloc, text) {
+fn command_of<M: Machine>(version: Version, alloc: Global, text: &[u8], is_bad: bool) -> usize {
+    match M::read_command(version, alloc, text) {
         Ok((command, size)) if !is_bad => {
             match text.get(..size) {
                 Some(part) if is_written::<M>(&command, alloc, part) => size,
@@ -297,14 +355,37 @@ fn command_of<M: Machine>(alloc: Global, text: &[u8], is_bad: bool) -> usize {
     }
 }
 
+// Whether the text, but for its last byte, is a command of an older version, and is written as the
+// line's; the words say which version, and the line.
+fn is_old_command<M: Machine>(bench: &mut Bench<M>, words: &str) -> bool {
+    let (number, line) = words.split_once(' ').unwrap_or((words, ""));
+    bench.bytes.clear();
+    let Some(version) = version_of(number) else {
+        return false;
+    };
+    if !put_line(&mut bench.bytes, line) {
+        return false;
+    }
+    let is_it = match M::read_command(version, bench.alloc, &bench.text) {
+        Ok((command, size)) => {
+            size < bench.text.len()
+                && size + 1 == bench.text.len()
+                && is_written::<M>(&command, bench.alloc, &bench.bytes)
+        }
+        Err(_) => false,
+    };
+    bench.text.clear();
+    is_it
+}
+
 fn is_refused_cut<M: Machine>(bench: &Bench<M>, places: &str) -> bool {
     let mut first = usize::MAX;
     let mut holds = true;
     for place in places.split(' ') {
         let last = place.parse().unwrap_or(0);
         for cut in first..last {
-            holds = holds
-                && fault_of::<M>(bench.alloc, bench.text.get(..cut).unwrap_or(&[])) == first;
+            let part = bench.text.get(..cut).unwrap_or(&[]);
+            holds = holds && fault_of::<M>(Version::newest(), bench.alloc, part) == first;
         }
         first = last;
     }

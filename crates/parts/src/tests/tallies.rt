@@ -31,7 +31,8 @@ is-at 4 1000
 = raw 0 0 0 0 0 0 0 4 3 232
 same";
 
-// The text of the tally of one command that adds 1,000; with a byte more; and cut.
+// The text of the tally of one command that adds 1,000; with a byte more; and cut. That of the
+// first version is as today's.
 const TEXTS: &str = "\
 take add 1000
 is-at 1 1000
@@ -46,16 +47,26 @@ fault 10
 clear
 = raw 0 0 0 0 0 0 0 1 3 232
 cuts 0 8 10
+clear
+take noop
+= raw 0 0 0 0 0 0 0 1 3 232
+old-load
+is-at 1 1000
+= raw 0 0 0 0 0 0 0 1 3 232 0
+old-fault 10
 clear";
 
-// Commands, whatever follows: one that adds 1,000, the no-op, and one that would add 1,001.
+// Commands, whatever follows: one that adds 1,000, the no-op, and one that would add 1,001. Those
+// of the first version are as today's.
 const COMMANDS: &str = "\
 = raw 1 3 232 9
 command 3
 = raw 0 9
 command 1
 = raw 1 3 233
-bad 1";
+bad 1
+= raw 1 3 232 9
+old-command add 1000";
 
 #[test]
 fn tallies_are_as_they_are_played(rt: HostRuntime) {

@@ -3,7 +3,8 @@
 use fields::Field;
 use machine::{Amount, Coded, Entry, Tally, TallyCommand};
 use rows::{
-    Actor, AllocId, Delivery, EvalId, Index, Name, NodeId, Refusal, ServerId, Size, Term, Version,
+    AcceptedPlace, Actor, AllocId, Allocation, Command, Delivery, EvalId, Group, Index, Job,
+    ListedAllocation, Name, Node, NodeId, NodeSpec, Refusal, ServerId, Size, Space, Term, Version,
 };
 use std::alloc::Global;
 
@@ -27,6 +28,7 @@ enum Of {
     Server,
     Actor,
     Name,
+    Space,
     Size,
     Delivery,
     Eval,
@@ -69,6 +71,7 @@ fn fault(alloc: Global, of: Of, bytes: &[u8], at: usize) -> usize {
         Of::Server => fault_of::<ServerId>(alloc, bytes, at),
         Of::Actor => fault_of::<Actor>(alloc, bytes, at),
         Of::Name => fault_of::<Name>(alloc, bytes, at),
+        Of::Space => fault_of::<Space>(alloc, bytes, at),
         Of::Size => fault_of::<Size>(alloc, bytes, at),
         Of::Delivery => fault_of::<Delivery>(alloc, bytes, at),
         Of::Eval => fault_of::<EvalId>(alloc, bytes, at),
@@ -115,8 +118,30 @@ const TEXTS: &[Text] = &[
     (Of::Name, 0, b"\x05Linux", 0),
     (Of::Name, 0, b"\x05linu", 0),
     (Of::Name, 0, b"\x00", 0),
-    (Of::Size, 0, &[0, 0, 3, 232, 0, 15, 66, 64], NONE),
-    (Of::Size, 0, &[0, 0, 3, 232, 0, 15, 66, 65], 4),
+    (Of::Space, 1, &[9, 0, 15, 66, 64], NONE),
+    (Of::Space, 0, &[0, 0, 0, 0], NONE),
+    (Of::Space, 1, &[9, 0, 15, 66, 65], 1),
+    (
+        Of::Size,
+        0,
+        &[0, 0, 3, 232, 0, 15, 66, 64, 0, 15, 66, 64],
+        NONE,
+    ),
+    (
+        Of::Size,
+        0,
+        &[0, 0, 3, 232, 0, 15, 66, 64, 0, 0, 0, 0],
+        NONE,
+    ),
+    (Of::Size, 0, &[0, 0, 3, 232, 0, 15, 66, 65, 0, 0, 0, 0], 4),
+    (
+        Of::Size,
+        0,
+        &[0, 0, 3, 232, 0, 15, 66, 64, 0, 15, 66, 65],
+        8,
+    ),
+    (Of::Size, 0, &[0, 0, 3, 232, 0, 15, 66, 64, 0, 15, 66], 8),
+    (Of::Size, 0, &[0, 0, 3, 232, 0, 15, 66, 64], 8),
     (
         Of::Delivery,
         0,
@@ -153,9 +178,206 @@ fn is_read(alloc: Global, text: &Text) -> bool {
         && (at != 1 || place != NONE || is_refused_cut(alloc, of, bytes))
 }
 
+/// What is read as of an older version.
+#[derive(Clone, Copy)]
+enum Old {
+    Size,
+    Group,
+    NodeSpec,
+    Node,
+    Job,
+    AcceptedPlace,
+    Allocation,
+    ListedAllocation,
+    Command,
+}
+
+/// What is read as of the first version, its bytes there, and those of the same value today: each
+/// size says nothing of disk there, and has disk 0. They are its bytes in the second version too.
+type OldText = (Old, &'static [u8], &'static [u8]);
+
+const OLD: &[OldText] = &[
+    (
+        Old::Size,
+        &[0, 0, 2, 88, 0, 0, 1, 44],
+        &[0, 0, 2, 88, 0, 0, 1, 44, 0, 0, 0, 0],
+    ),
+    (
+        Old::Group,
+        &[1, 103, 2, 1, 120, 0, 0, 2, 88, 0, 0, 1, 44],
+        &[1, 103, 2, 1, 120, 0, 0, 2, 88, 0, 0, 1, 44, 0, 0, 0, 0],
+    ),
+    (
+        Old::NodeSpec,
+        &[1, 1, 120, 0, 0, 3, 232, 0, 0, 7, 208],
+        &[1, 1, 120, 0, 0, 3, 232, 0, 0, 7, 208, 0, 0, 0, 0],
+    ),
+    (
+        Old::Node,
+        &[
+            1, 1, 120, 0, 0, 3, 232, 0, 0, 7, 208, 0, 1, 0, 0, 0, 0, 0, 0, 0, 0, 1,
+        ],
+        &[
+            1, 1, 120, 0, 0, 3, 232, 0, 0, 7, 208, 0, 0, 0, 0, 0, 1, 0, 0, 0, 0, 0, 0, 0, 0, 1,
+        ],
+    ),
+    (
+        Old::Job,
+        &[
+            1, 119, 50, 0, 0, 0, 0, 0, 0, 0, 0, 2, 2, 1, 103, 2, 1, 120, 0, 0, 2, 88, 0, 0, 1, 44,
+            1, 104, 0, 1, 120, 0, 0, 0, 1, 0, 0, 0, 1,
+        ],
+        &[
+            1, 119, 50, 0, 0, 0, 0, 0, 0, 0, 0, 2, 2, 1, 103, 2, 1, 120, 0, 0, 2, 88, 0, 0, 1, 44,
+            0, 0, 0, 0, 1, 104, 0, 1, 120, 0, 0, 0, 1, 0, 0, 0, 1, 0, 0, 0, 0,
+        ],
+    ),
+    (
+        Old::AcceptedPlace,
+        &[1, 103, 63, 64, 0, 0, 0, 1, 0, 0, 0, 2],
+        &[1, 103, 63, 64, 0, 0, 0, 1, 0, 0, 0, 2, 0, 0, 0, 0],
+    ),
+    (
+        Old::Allocation,
+        &[
+            0, 0, 0, 0, 0, 0, 0, 3, 0, 1, 119, 1, 103, 0, 1, 0, 0, 2, 88, 0, 0, 1, 44, 0, 1, 0, 0,
+            0, 0, 0, 0, 0, 0, 2, 0, 0,
+        ],
+        &[
+            0, 0, 0, 0, 0, 0, 0, 3, 0, 1, 119, 1, 103, 0, 1, 0, 0, 2, 88, 0, 0, 1, 44, 0, 0, 0, 0,
+            0, 1, 0, 0, 0, 0, 0, 0, 0, 0, 2, 0, 0,
+        ],
+    ),
+    (
+        Old::ListedAllocation,
+        &[0, 0, 0, 0, 0, 0, 0, 8, 0, 0, 0, 2, 88, 0, 0, 1, 44, 0],
+        &[
+            0, 0, 0, 0, 0, 0, 0, 8, 0, 0, 0, 2, 88, 0, 0, 1, 44, 0, 0, 0, 0, 0,
+        ],
+    ),
+    (
+        Old::Command,
+        &[3, 1, 1, 120, 0, 0, 3, 232, 0, 0, 7, 208],
+        &[3, 1, 1, 120, 0, 0, 3, 232, 0, 0, 7, 208, 0, 0, 0, 0],
+    ),
+];
+
+/// What is read as of a version, its number, the bytes, and where they are at fault.
+type NewText = (Old, u8, &'static [u8], usize);
+
+// No node is disconnected, no allocation is unknown and no command is the last one before the third
+// version: a text that says so is at fault there, also where what follows is cut.
+const NEW: &[NewText] = &[
+    (Old::Node, 1, AWAY_IN_FIRST, 11),
+    (Old::Node, 2, AWAY, 15),
+    (Old::Node, 3, AWAY, NONE),
+    (Old::Allocation, 1, UNKNOWN_IN_FIRST, 24),
+    (Old::Allocation, 2, UNKNOWN, 28),
+    (Old::Allocation, 3, UNKNOWN, NONE),
+    (Old::Command, 1, &[12, 9], 0),
+    (Old::Command, 2, &[12, 9], 0),
+    (Old::Command, 2, &[12], 0),
+    (Old::Command, 3, &[12, 9], NONE),
+    (Old::Command, 3, &[12], 1),
+    (Old::Command, 3, &[13], 0),
+];
+
+// Node 1 of class x, 1000 and 2000, which is disconnected, in the first version and today.
+const AWAY_IN_FIRST: &[u8] = &[
+    1, 1, 120, 0, 0, 3, 232, 0, 0, 7, 208, 2, 1, 0, 0, 0, 0, 0, 0, 0, 0, 1,
+];
+
+const AWAY: &[u8] = &[
+    1, 1, 120, 0, 0, 3, 232, 0, 0, 7, 208, 0, 0, 0, 0, 2, 1, 0, 0, 0, 0, 0, 0, 0, 0, 1,
+];
+
+// Allocation 3.0 on it, which is unknown, in the first version and today.
+const UNKNOWN_IN_FIRST: &[u8] = &[
+    0, 0, 0, 0, 0, 0, 0, 3, 0, 1, 119, 1, 103, 0, 1, 0, 0, 2, 88, 0, 0, 1, 44, 0, 5, 0, 0, 0, 0, 0,
+    0, 0, 0, 2, 0, 0,
+];
+
+const UNKNOWN: &[u8] = &[
+    0, 0, 0, 0, 0, 0, 0, 3, 0, 1, 119, 1, 103, 0, 1, 0, 0, 2, 88, 0, 0, 1, 44, 0, 0, 0, 0, 0, 5, 0,
+    0, 0, 0, 0, 0, 0, 0, 2, 0, 0,
+];
+
+/// Where bytes are at fault as a field of a version; nowhere where the value that is read is
+/// written as these bytes.
+fn fault_in<F: Field>(version: u8, alloc: Global, bytes: &[u8]) -> usize {
+    let Some(version) = Version::new(version) else {
+        return WRONG;
+    };
+    match F::read_at(version, alloc, bytes, 0) {
+        Err(Refusal::Frame(place)) => place,
+        Err(_) => WRONG,
+        Ok((value, end)) => {
+            let mut again = Vec::new(alloc);
+            let written = fields::write(&value, &mut again);
+            if written.is_ok() && end == bytes.len() && again.as_slice() == bytes {
+                NONE
+            } else {
+                WRONG
+            }
+        }
+    }
+}
+
+fn is_new(alloc: Global, text: &NewText) -> bool {
+    let (of, version, bytes, place) = *text;
+    match of {
+        Old::Node => fault_in::<Node>(version, alloc, bytes) == place,
+        Old::Allocation => fault_in::<Allocation>(version, alloc, bytes) == place,
+        Old::Command => fault_in::<Command>(version, alloc, bytes) == place,
+        _ => false,
+    }
+}
+
+/// Whether these are the bytes of a value in a version, and the others those of today.
+fn is_read_in<F: Field>(version: u8, alloc: Global, bytes: &[u8], newest: &[u8]) -> bool {
+    let Some(version) = Version::new(version) else {
+        return false;
+    };
+    match F::read_at(version, alloc, bytes, 0) {
+        Ok((value, end)) => {
+            let mut again = Vec::new(alloc);
+            let written = fields::write(&value, &mut again);
+            written.is_ok() && end == bytes.len() && again.as_slice() == newest
+        }
+        Err(_) => false,
+    }
+}
+
+/// Whether these are the bytes of a value in the first version, and the others those of the second
+/// and of today.
+fn is_same<F: Field>(alloc: Global, bytes: &[u8], newest: &[u8]) -> bool {
+    is_read_in::<F>(1, alloc, bytes, newest) && is_read_in::<F>(2, alloc, newest, newest)
+}
+
+fn is_old(alloc: Global, text: &OldText) -> bool {
+    let (of, bytes, newest) = *text;
+    match of {
+        Old::Size => is_same::<Size>(alloc, bytes, newest),
+        Old::Group => is_same::<Group>(alloc, bytes, newest),
+        Old::NodeSpec => is_same::<NodeSpec>(alloc, bytes, newest),
+        Old::Node => is_same::<Node>(alloc, bytes, newest),
+        Old::Job => is_same::<Job>(alloc, bytes, newest),
+        Old::AcceptedPlace => is_same::<AcceptedPlace>(alloc, bytes, newest),
+        Old::Allocation => is_same::<Allocation>(alloc, bytes, newest),
+        Old::ListedAllocation => is_same::<ListedAllocation>(alloc, bytes, newest),
+        Old::Command => is_same::<Command>(alloc, bytes, newest),
+    }
+}
+
 #[test]
 fn reads_texts(rt: HostRuntime) {
     for (number, text) in TEXTS.iter().enumerate() {
         assert!(rt; is_read(rt.alloc(), text), "text {number}");
+    }
+    for (number, text) in OLD.iter().enumerate() {
+        assert!(rt; is_old(rt.alloc(), text), "old text {number}");
+    }
+    for (number, text) in NEW.iter().enumerate() {
+        assert!(rt; is_new(rt.alloc(), text), "new text {number}");
     }
 }

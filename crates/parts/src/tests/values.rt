@@ -142,7 +142,11 @@ fn reads_names() -> bool {
         && name_fault("") == 11
         && name_fault("a-name-of-33-bytes-is-one-too-many") == 11
         && Name::read("a").ok() < Name::read("ab").ok()
-        && Size::check(1000, 0) == Err(Refusal::OutOfRange)
+        && Size::check(1000, 0, 0) == Err(Refusal::OutOfRange)
+        && Size::check(0, 1000, 0) == Err(Refusal::OutOfRange)
+        && Size::check(1000, 1000, 1_000_001) == Err(Refusal::OutOfRange)
+        && Size::check(1, 1, 0).is_ok()
+        && Size::check(1_000_000, 1_000_000, 1_000_000).is_ok()
 }
 
 fn says<T: Display>(alloc: Global, value: &T, words: &str) -> bool {

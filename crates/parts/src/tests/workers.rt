@@ -19,50 +19,87 @@ use std::alloc::Global;
 // Two nodes run a job of two, which then asks for one of another size.
 const REPLACED: &str = "\
 take noop
-take join 1 linux 1000 1000
-take join 2 linux 1000 1000
-take put web 50 main:2:linux:600:300
+take join 1 linux 1000 1000 0
+take join 2 linux 1000 1000 0
+take put web 50 main:2:linux:600:300:0
 plans 4.0 4 : planned - main:0:1,main:1:2 4 4 yes
-take plan 4.0 1.1 web 4 - main:0:1:600:300,main:1:2:600:300
+take plan 4.0 1.1 web 4 - main:0:1:600:300:0,main:1:2:600:300:0
 plans 4.0 5 : planned - - 4 5 yes
 work 5 1 placed 4.0 5 : finish 4.0 1.1 complete 0
 keep
-take put web 50 main:1:linux:700:300
+take put web 50 main:1:linux:700:300:0
 plans 6.0 6 : planned 5.1,5.0 main:0:1 6 6 yes
 again
-take put web 50 main:1:linux:1100:300
+take put web 50 main:1:linux:1100:300:0
 plans 6.0 6 : planned 5.1 - 6 6 no
 work 6 0 delivered 6.0 6 : submit 6.0 1.1 web 6 6 5.1 -
 again
 take stop web
 plans 6.0 6 : planned 5.0,5.1 - 6 6 yes
 again
-take put web 50 main:1:arm:600:300,side:1:linux:400:300
+take put web 50 main:1:arm:600:300:0,side:1:linux:400:300:0
 plans 6.0 6 : planned 5.1 side:0:1 6 6 no
 again
 take drain 1 slow
 take migrate 5.0
 plans 7.0 7 : planned - - 4 7 no
-take join 3 linux 700 1000
+take join 3 linux 700 1000 0
 plans 7.0 8 : planned 5.0 main:0:3 4 8 yes
 again
 take lose 1
 plans 6.0 6 : planned - - 4 6 no";
 
+// What is unknown is current: while its node is disconnected nothing of it is placed elsewhere, and
+// nothing new on that node. When the node is lost, it is; when the node is back, it takes more.
+const AWAY: &str = "\
+take noop
+take join 1 linux 1000 1000 0
+take join 2 linux 1000 1000 0
+take put web 50 main:2:linux:400:300:0
+take plan 4.0 1.1 web 4 - main:0:1:400:300:0,main:1:1:400:300:0
+take report 1 5.0:running
+take disconnect 1
+plans 4.0 7 : planned - - 4 7 yes
+work 7 1 placed 4.0 5 : finish 4.0 1.1 complete 0
+keep
+take put web 50 main:3:linux:400:300:0
+plans 8.0 8 : planned - main:2:2 8 8 yes
+again
+take put web 50 main:1:linux:400:300:0
+plans 8.0 8 : planned 5.1 - 8 8 yes
+again
+take put web 50 main:2:linux:500:300:0
+plans 8.0 8 : planned 5.0,5.1 main:0:2,main:1:2 8 8 yes
+again
+take put web 50 main:2:linux:501:300:0
+plans 8.0 8 : planned 5.0 main:0:2 8 8 no
+again
+take lose 1
+plans 8.0 8 : planned - main:0:2,main:1:2 4 8 yes
+again
+take join 1 linux 1000 1000 0
+take put web 50 main:4:linux:100:100:0
+plans 9.0 9 : planned 5.0,5.1 main:0:1,main:1:1,main:2:1,main:3:1 9 9 yes
+again
+take disconnect 2
+take put api 50 main:1:linux:1:1:0
+plans 9.0 9 : planned - - 9 9 no
+work 9 0 delivered 9.0 9 : finish 9.0 1.1 blocked 9";
+
 // Which node: the one that gets fullest by cpu and memory, then the lower number.
 const BEST: &str = "\
 take noop
-take join 1 linux 1200 1000
-take join 2 linux 1000 1000
-take join 3 linux 1000 1000
-take join 4 arm 600 300
-take put web 50 main:3:linux:600:300
+take join 1 linux 1200 1000 0
+take join 2 linux 1000 1000 0
+take join 3 linux 1000 1000 0
+take join 4 arm 600 300 0
+take put web 50 main:3:linux:600:300:0
 plans 6.0 6 : planned - main:0:2,main:1:3,main:2:1 6 6 yes
-take put web 50 main:3:linux:400:300
+take put web 50 main:3:linux:400:300:0
 plans 7.0 7 : planned - main:0:2,main:1:2,main:2:3 7 7 yes
-take put web 50 main:1:linux:1000:1000,side:1:linux:1:1
+take put web 50 main:1:linux:1000:1000:0,side:1:linux:1:1:0
 plans 8.0 8 : planned - main:0:2,side:0:3 8 8 yes
-take put web 50 main:64:arm:9:3,side:1:linux:1:1
+take put web 50 main:64:arm:9:3:0,side:1:linux:1:1:0
 plans 9.0 9 : planned - main:0:4,main:1:4,main:2:4,main:3:4,main:4:4,main:5:4,main:6:4,\
 main:7:4,main:8:4,main:9:4,main:10:4,main:11:4,main:12:4,main:13:4,main:14:4,main:15:4,\
 main:16:4,main:17:4,main:18:4,main:19:4,main:20:4,main:21:4,main:22:4,main:23:4,main:24:4,\
@@ -72,12 +109,35 @@ main:43:4,main:44:4,main:45:4,main:46:4,main:47:4,main:48:4,main:49:4,main:50:4,
 main:52:4,main:53:4,main:54:4,main:55:4,main:56:4,main:57:4,main:58:4,main:59:4,main:60:4,\
 main:61:4,main:62:4,main:63:4 9 9 no";
 
+// Disk alone decides, and does not count for what is fullest. Of two places of 60 one fits on node
+// 1, which has 100, and none on node 2, which has 50. Of 50 the first goes to node 1, the lower
+// number, and so does the second: node 1 gets fuller, and has room. What has another disk than its
+// group is not current.
+const DISK: &str = "\
+take noop
+take join 1 linux 1000 1000 100
+take join 2 linux 1000 1000 50
+take put web 50 main:2:linux:100:100:60
+plans 4.0 4 : planned - main:0:1 4 4 no
+take put web 50 main:2:linux:100:100:50
+plans 5.0 5 : planned - main:0:1,main:1:1 5 5 yes
+take plan 5.0 1.1 web 5 - main:0:1:100:100:50,main:1:1:100:100:50
+used 1 200 200 100
+used 2 0 0 0
+plans 5.0 6 : planned - - 5 6 yes
+take put web 50 main:3:linux:100:100:50
+plans 7.0 7 : planned - main:2:2 7 7 yes
+take put web 50 main:2:linux:100:100:40
+plans 8.0 8 : planned 6.0,6.1 main:0:1,main:1:1 8 8 yes
+take put web 50 main:2:linux:100:100:101
+plans 9.0 9 : planned - - 9 9 no";
+
 // One of two fits on the one node; the evaluation is then blocked. Each other step, and with two
 // that would apply the first.
 const STEPS: &str = "\
 take noop
-take join 1 linux 1000 1000
-take put web 50 main:2:linux:600:300
+take join 1 linux 1000 1000 0
+take put web 50 main:2:linux:600:300:0
 take noop
 work 4 0 delivered 3.0 4 : submit 3.0 1.1 web 3 4 - main:0:1
 work 4 15 delivered 3.0 4 : submit 3.0 1.1 web 3 4 - main:0:1
@@ -88,7 +148,7 @@ work 4 0 delivered 4.0 5 : later
 work 4 0 delivered 4.0 4 : nothing
 work 4 16 delivered 4.0 4 : nothing
 work 4 0 none - 0 : nothing
-take plan 3.0 1.1 web 4 - main:0:1:600:300
+take plan 3.0 1.1 web 4 - main:0:1:600:300:0
 work 5 1 placed 3.0 5 : finish 3.0 1.1 blocked 5
 work 9 1 placed 3.0 5 : finish 3.0 1.1 blocked 9
 work 5 16 placed 3.0 5 : nack 3.0 1.1
@@ -106,7 +166,7 @@ work 0 0 refused finish 6 : nothing
 work 0 0 refused nack 7 : nothing
 work 0 0 refused take 17 : nothing";
 
-pub(crate) const PLAYS: &[&[&str]] = &[&[REPLACED], &[BEST], &[STEPS]];
+pub(crate) const PLAYS: &[&[&str]] = &[&[REPLACED], &[AWAY], &[BEST], &[DISK], &[STEPS]];
 
 /// Whether what the words say of a worker over the state holds, behind the word of this letter.
 pub(crate) fn holds(state: &Cluster, alloc: Global, verb: char, words: &str) -> bool {

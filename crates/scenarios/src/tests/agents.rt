@@ -1,6 +1,7 @@
 //! One client: what its agent does with its inputs, one after another. The refusals and what it
 //! runs are worked out by hand from the rules of clients, and the frames put together from the
 //! format.
+use crate::tests::frames::V;
 use crate::tests::servers::{TAKEN, number_of};
 use client_agent::{Agent, ClientInput, RunningAllocation};
 use rows::{Actor, AllocId, EntryIndex, Name, NodeId, NodeSpec, Ordinal, Sequence, ServerId, Size};
@@ -28,9 +29,12 @@ use Act::{Crash, End, Hear, Ping, Pull, Register, Restart};
 /// An allocation's id.
 type Id = (u64, u8);
 
-/// What is known of the client: while it is up the index of its last list, and what runs, each with
-/// its cpu and its memory; and what it ever started.
-type Known = (Option<(u64, &'static [(Id, u32, u32)])>, &'static [Id]);
+/// The id of what runs, its cpu, its memory and its disk.
+type Run = (Id, u32, u32, u32);
+
+/// What is known of the client: while it is up the index of its last list, and what runs; and what
+/// it ever started.
+type Known = (Option<(u64, &'static [Run])>, &'static [Id]);
 
 /// An act; the number of the refusal, 0 where there is none, with the place that goes with it; the
 /// one frame that is sent, empty where none is; and what is known of the client then.
@@ -44,103 +48,115 @@ const UP: Known = (Some((0, &[])), &[]);
 
 const DOWN: Known = (None, &[]);
 
-// Client 1 registers with server 2, a node of class `linux`, 1000 and 2000; and so with server 1.
+// Client 1 registers with server 2, a node of class `linux`, 1000, 2000 and 7 of disk; and so with
+// server 1.
 const REGISTERS: &[u8] = &[
-    1, 14, 129, 2, 0, 0, 0, 14, //
-    5, 108, 105, 110, 117, 120, 0, 0, 3, 232, 0, 0, 7, 208,
+    V, 14, 129, 2, 0, 0, 0, 18, //
+    5, 108, 105, 110, 117, 120, 0, 0, 3, 232, 0, 0, 7, 208, 0, 0, 0, 7,
 ];
 
 const REGISTERS_AGAIN: &[u8] = &[
-    1, 14, 129, 1, 0, 0, 0, 14, //
-    5, 108, 105, 110, 117, 120, 0, 0, 3, 232, 0, 0, 7, 208,
+    V, 14, 129, 1, 0, 0, 0, 18, //
+    5, 108, 105, 110, 117, 120, 0, 0, 3, 232, 0, 0, 7, 208, 0, 0, 0, 7,
 ];
 
 // It sends server 3 a heartbeat, and asks server 1 for its list.
-const PINGS: &[u8] = &[1, 15, 129, 3, 0, 0, 0, 0];
+const PINGS: &[u8] = &[V, 15, 129, 3, 0, 0, 0, 0];
 
-const PULLS: &[u8] = &[1, 16, 129, 1, 0, 0, 0, 0];
+const PULLS: &[u8] = &[V, 16, 129, 1, 0, 0, 0, 0];
 
 // Server 1 tells client 1 that its Register is taken; server 4 does; it tells client 2; and the
 // first of these without its last byte.
-const TELLS: &[u8] = &[1, 19, 1, 129, 0, 0, 0, 3, 14, 0, 0];
+const TELLS: &[u8] = &[V, 19, 1, 129, 0, 0, 0, 3, 14, 0, 0];
 
-const FOURTH_TELLS: &[u8] = &[1, 19, 4, 129, 0, 0, 0, 3, 14, 0, 0];
+const FOURTH_TELLS: &[u8] = &[V, 19, 4, 129, 0, 0, 0, 3, 14, 0, 0];
 
-const TELLS_SECOND: &[u8] = &[1, 19, 1, 130, 0, 0, 0, 3, 14, 0, 0];
+const TELLS_SECOND: &[u8] = &[V, 19, 1, 130, 0, 0, 0, 3, 14, 0, 0];
 
-const CUT: &[u8] = &[1, 19, 1, 129, 0, 0, 0, 3, 14, 0];
+const CUT: &[u8] = &[V, 19, 1, 129, 0, 0, 0, 3, 14, 0];
 
 // Server 4 tells client 2; server 1 asks itself for an evaluation.
-const FOURTH_TELLS_SECOND: &[u8] = &[1, 19, 4, 130, 0, 0, 0, 3, 14, 0, 0];
+const FOURTH_TELLS_SECOND: &[u8] = &[V, 19, 4, 130, 0, 0, 0, 3, 14, 0, 0];
 
-const ASKS: &[u8] = &[1, 7, 1, 1, 0, 0, 0, 0];
+const ASKS: &[u8] = &[V, 7, 1, 1, 0, 0, 0, 0];
 
 // Lists for client 1: of server 1 in the state of index 9, 8.0 of 600 and 300 is pending; the same
 // of server 2; it runs there, by server 3. By server 2, index 7: 5.0 of 100 and 100.
 const LIST_9: &[u8] = &[
-    1, 17, 1, 129, 0, 0, 0, 30, 0, 0, 0, 0, 0, 0, 0, 9, 0, 0, 0, 1, //
-    0, 0, 0, 0, 0, 0, 0, 8, 0, 0, 0, 2, 88, 0, 0, 1, 44, 0,
+    V, 17, 1, 129, 0, 0, 0, 34, 0, 0, 0, 0, 0, 0, 0, 9, 0, 0, 0, 1, //
+    0, 0, 0, 0, 0, 0, 0, 8, 0, 0, 0, 2, 88, 0, 0, 1, 44, 0, 0, 0, 0, 0,
 ];
 
 const LIST_9_OF_2: &[u8] = &[
-    1, 17, 2, 129, 0, 0, 0, 30, 0, 0, 0, 0, 0, 0, 0, 9, 0, 0, 0, 1, //
-    0, 0, 0, 0, 0, 0, 0, 8, 0, 0, 0, 2, 88, 0, 0, 1, 44, 0,
+    V, 17, 2, 129, 0, 0, 0, 34, 0, 0, 0, 0, 0, 0, 0, 9, 0, 0, 0, 1, //
+    0, 0, 0, 0, 0, 0, 0, 8, 0, 0, 0, 2, 88, 0, 0, 1, 44, 0, 0, 0, 0, 0,
 ];
 
 const LIST_9_OF_3: &[u8] = &[
-    1, 17, 3, 129, 0, 0, 0, 30, 0, 0, 0, 0, 0, 0, 0, 9, 0, 0, 0, 1, //
-    0, 0, 0, 0, 0, 0, 0, 8, 0, 0, 0, 2, 88, 0, 0, 1, 44, 1,
+    V, 17, 3, 129, 0, 0, 0, 34, 0, 0, 0, 0, 0, 0, 0, 9, 0, 0, 0, 1, //
+    0, 0, 0, 0, 0, 0, 0, 8, 0, 0, 0, 2, 88, 0, 0, 1, 44, 0, 0, 0, 0, 1,
 ];
 
 const LIST_7: &[u8] = &[
-    1, 17, 2, 129, 0, 0, 0, 30, 0, 0, 0, 0, 0, 0, 0, 7, 0, 0, 0, 1, //
-    0, 0, 0, 0, 0, 0, 0, 5, 0, 0, 0, 0, 100, 0, 0, 0, 100, 0,
+    V, 17, 2, 129, 0, 0, 0, 34, 0, 0, 0, 0, 0, 0, 0, 7, 0, 0, 0, 1, //
+    0, 0, 0, 0, 0, 0, 0, 5, 0, 0, 0, 0, 100, 0, 0, 0, 100, 0, 0, 0, 0, 0,
 ];
 
 // Of server 1, index 10: 8.0 runs. Index 11: 8.0 is pending.
 const LIST_10: &[u8] = &[
-    1, 17, 1, 129, 0, 0, 0, 30, 0, 0, 0, 0, 0, 0, 0, 10, 0, 0, 0, 1, //
-    0, 0, 0, 0, 0, 0, 0, 8, 0, 0, 0, 2, 88, 0, 0, 1, 44, 1,
+    V, 17, 1, 129, 0, 0, 0, 34, 0, 0, 0, 0, 0, 0, 0, 10, 0, 0, 0, 1, //
+    0, 0, 0, 0, 0, 0, 0, 8, 0, 0, 0, 2, 88, 0, 0, 1, 44, 0, 0, 0, 0, 1,
 ];
 
 const LIST_11: &[u8] = &[
-    1, 17, 1, 129, 0, 0, 0, 30, 0, 0, 0, 0, 0, 0, 0, 11, 0, 0, 0, 1, //
-    0, 0, 0, 0, 0, 0, 0, 8, 0, 0, 0, 2, 88, 0, 0, 1, 44, 0,
+    V, 17, 1, 129, 0, 0, 0, 34, 0, 0, 0, 0, 0, 0, 0, 11, 0, 0, 0, 1, //
+    0, 0, 0, 0, 0, 0, 0, 8, 0, 0, 0, 2, 88, 0, 0, 1, 44, 0, 0, 0, 0, 0,
+];
+
+// Of server 1, index 9 and 10: 8.0 is unknown.
+const LIST_9_UNKNOWN: &[u8] = &[
+    V, 17, 1, 129, 0, 0, 0, 34, 0, 0, 0, 0, 0, 0, 0, 9, 0, 0, 0, 1, //
+    0, 0, 0, 0, 0, 0, 0, 8, 0, 0, 0, 2, 88, 0, 0, 1, 44, 0, 0, 0, 0, 2,
+];
+
+const LIST_10_UNKNOWN: &[u8] = &[
+    V, 17, 1, 129, 0, 0, 0, 34, 0, 0, 0, 0, 0, 0, 0, 10, 0, 0, 0, 1, //
+    0, 0, 0, 0, 0, 0, 0, 8, 0, 0, 0, 2, 88, 0, 0, 1, 44, 0, 0, 0, 0, 2,
 ];
 
 // The first of them by server 4, for client 2, without its last byte, and with 8.0 twice.
 const LIST_OF_4: &[u8] = &[
-    1, 17, 4, 129, 0, 0, 0, 30, 0, 0, 0, 0, 0, 0, 0, 9, 0, 0, 0, 1, //
-    0, 0, 0, 0, 0, 0, 0, 8, 0, 0, 0, 2, 88, 0, 0, 1, 44, 0,
+    V, 17, 4, 129, 0, 0, 0, 34, 0, 0, 0, 0, 0, 0, 0, 9, 0, 0, 0, 1, //
+    0, 0, 0, 0, 0, 0, 0, 8, 0, 0, 0, 2, 88, 0, 0, 1, 44, 0, 0, 0, 0, 0,
 ];
 
 const LIST_FOR_2: &[u8] = &[
-    1, 17, 1, 130, 0, 0, 0, 30, 0, 0, 0, 0, 0, 0, 0, 9, 0, 0, 0, 1, //
-    0, 0, 0, 0, 0, 0, 0, 8, 0, 0, 0, 2, 88, 0, 0, 1, 44, 0,
+    V, 17, 1, 130, 0, 0, 0, 34, 0, 0, 0, 0, 0, 0, 0, 9, 0, 0, 0, 1, //
+    0, 0, 0, 0, 0, 0, 0, 8, 0, 0, 0, 2, 88, 0, 0, 1, 44, 0, 0, 0, 0, 0,
 ];
 
 const CUT_LIST: &[u8] = &[
-    1, 17, 1, 129, 0, 0, 0, 30, 0, 0, 0, 0, 0, 0, 0, 9, 0, 0, 0, 1, //
-    0, 0, 0, 0, 0, 0, 0, 8, 0, 0, 0, 2, 88, 0, 0, 1, 44,
+    V, 17, 1, 129, 0, 0, 0, 34, 0, 0, 0, 0, 0, 0, 0, 9, 0, 0, 0, 1, //
+    0, 0, 0, 0, 0, 0, 0, 8, 0, 0, 0, 2, 88, 0, 0, 1, 44, 0, 0, 0, 0,
 ];
 
 const DOUBLE: &[u8] = &[
-    1, 17, 1, 129, 0, 0, 0, 48, 0, 0, 0, 0, 0, 0, 0, 9, 0, 0, 0, 2, //
-    0, 0, 0, 0, 0, 0, 0, 8, 0, 0, 0, 2, 88, 0, 0, 1, 44, 0, //
-    0, 0, 0, 0, 0, 0, 0, 8, 0, 0, 0, 2, 88, 0, 0, 1, 44, 0,
+    V, 17, 1, 129, 0, 0, 0, 56, 0, 0, 0, 0, 0, 0, 0, 9, 0, 0, 0, 2, //
+    0, 0, 0, 0, 0, 0, 0, 8, 0, 0, 0, 2, 88, 0, 0, 1, 44, 0, 0, 0, 0, 0, //
+    0, 0, 0, 0, 0, 0, 0, 8, 0, 0, 0, 2, 88, 0, 0, 1, 44, 0, 0, 0, 0, 0,
 ];
 
 // Client 1 reports to server 1 that 8.0 runs, and to server 2; that it is complete; that it failed.
-const RUNS: &[u8] = &[1, 18, 129, 1, 0, 0, 0, 11, 1, 0, 0, 0, 0, 0, 0, 0, 8, 0, 1];
+const RUNS: &[u8] = &[V, 18, 129, 1, 0, 0, 0, 11, 1, 0, 0, 0, 0, 0, 0, 0, 8, 0, 1];
 
-const RUNS_FOR_2: &[u8] = &[1, 18, 129, 2, 0, 0, 0, 11, 1, 0, 0, 0, 0, 0, 0, 0, 8, 0, 1];
+const RUNS_FOR_2: &[u8] = &[V, 18, 129, 2, 0, 0, 0, 11, 1, 0, 0, 0, 0, 0, 0, 0, 8, 0, 1];
 
-const IS_COMPLETE: &[u8] = &[1, 18, 129, 1, 0, 0, 0, 11, 1, 0, 0, 0, 0, 0, 0, 0, 8, 0, 2];
+const IS_COMPLETE: &[u8] = &[V, 18, 129, 1, 0, 0, 0, 11, 1, 0, 0, 0, 0, 0, 0, 0, 8, 0, 2];
 
-const HAS_FAILED: &[u8] = &[1, 18, 129, 1, 0, 0, 0, 11, 1, 0, 0, 0, 0, 0, 0, 0, 8, 0, 3];
+const HAS_FAILED: &[u8] = &[V, 18, 129, 1, 0, 0, 0, 11, 1, 0, 0, 0, 0, 0, 0, 0, 8, 0, 3];
 
 // What is known of the client while 8.0 runs, and when the second list was taken and it does not.
-const RUNS_8: &[(Id, u32, u32)] = &[((8, 0), 600, 300)];
+const RUNS_8: &[Run] = &[((8, 0), 600, 300, 0)];
 
 const HAS_8: Known = (Some((9, RUNS_8)), &[(8, 0)]);
 
@@ -149,28 +165,28 @@ const HAD_8: Known = (Some((10, &[])), &[(8, 0)]);
 // Four are pending in the state of index 9: 8.0 of 600 and 300; 8.1 of 401 and 1, and 8.2 of 1 and
 // 701, which do not fit beside it; and 8.3 of 400 and 700, which just does.
 const LIST_OF_FOUR: &[u8] = &[
-    1, 17, 1, 129, 0, 0, 0, 84, 0, 0, 0, 0, 0, 0, 0, 9, 0, 0, 0, 4, //
-    0, 0, 0, 0, 0, 0, 0, 8, 0, 0, 0, 2, 88, 0, 0, 1, 44, 0, //
-    0, 0, 0, 0, 0, 0, 0, 8, 1, 0, 0, 1, 145, 0, 0, 0, 1, 0, //
-    0, 0, 0, 0, 0, 0, 0, 8, 2, 0, 0, 0, 1, 0, 0, 2, 189, 0, //
-    0, 0, 0, 0, 0, 0, 0, 8, 3, 0, 0, 1, 144, 0, 0, 2, 188, 0,
+    V, 17, 1, 129, 0, 0, 0, 100, 0, 0, 0, 0, 0, 0, 0, 9, 0, 0, 0, 4, //
+    0, 0, 0, 0, 0, 0, 0, 8, 0, 0, 0, 2, 88, 0, 0, 1, 44, 0, 0, 0, 0, 0, //
+    0, 0, 0, 0, 0, 0, 0, 8, 1, 0, 0, 1, 145, 0, 0, 0, 1, 0, 0, 0, 0, 0, //
+    0, 0, 0, 0, 0, 0, 0, 8, 2, 0, 0, 0, 1, 0, 0, 2, 189, 0, 0, 0, 0, 0, //
+    0, 0, 0, 0, 0, 0, 0, 8, 3, 0, 0, 1, 144, 0, 0, 2, 188, 0, 0, 0, 0, 0,
 ];
 
 const TWO_RUN: &[u8] = &[
-    1, 18, 129, 1, 0, 0, 0, 21, 2, 0, 0, 0, 0, 0, 0, 0, 8, 0, 1, //
+    V, 18, 129, 1, 0, 0, 0, 21, 2, 0, 0, 0, 0, 0, 0, 0, 8, 0, 1, //
     0, 0, 0, 0, 0, 0, 0, 8, 3, 1,
 ];
 
 // When 8.0 is complete and 8.3 failed, 8.1 and 8.2 run. Later all four count as failed.
 const OTHERS_RUN: &[u8] = &[
-    1, 18, 129, 1, 0, 0, 0, 41, 4, 0, 0, 0, 0, 0, 0, 0, 8, 0, 2, //
+    V, 18, 129, 1, 0, 0, 0, 41, 4, 0, 0, 0, 0, 0, 0, 0, 8, 0, 2, //
     0, 0, 0, 0, 0, 0, 0, 8, 1, 1, //
     0, 0, 0, 0, 0, 0, 0, 8, 2, 1, //
     0, 0, 0, 0, 0, 0, 0, 8, 3, 3,
 ];
 
 const ALL_FAILED: &[u8] = &[
-    1, 18, 129, 1, 0, 0, 0, 41, 4, 0, 0, 0, 0, 0, 0, 0, 8, 0, 3, //
+    V, 18, 129, 1, 0, 0, 0, 41, 4, 0, 0, 0, 0, 0, 0, 0, 8, 0, 3, //
     0, 0, 0, 0, 0, 0, 0, 8, 1, 3, //
     0, 0, 0, 0, 0, 0, 0, 8, 2, 3, //
     0, 0, 0, 0, 0, 0, 0, 8, 3, 3,
@@ -178,26 +194,26 @@ const ALL_FAILED: &[u8] = &[
 
 // Index 12: 8.1 is pending and 8.3 runs. Index 13: 8.0 is pending. Index 14: none is live.
 const LIST_12: &[u8] = &[
-    1, 17, 1, 129, 0, 0, 0, 48, 0, 0, 0, 0, 0, 0, 0, 12, 0, 0, 0, 2, //
-    0, 0, 0, 0, 0, 0, 0, 8, 1, 0, 0, 1, 145, 0, 0, 0, 1, 0, //
-    0, 0, 0, 0, 0, 0, 0, 8, 3, 0, 0, 1, 144, 0, 0, 2, 188, 1,
+    V, 17, 1, 129, 0, 0, 0, 56, 0, 0, 0, 0, 0, 0, 0, 12, 0, 0, 0, 2, //
+    0, 0, 0, 0, 0, 0, 0, 8, 1, 0, 0, 1, 145, 0, 0, 0, 1, 0, 0, 0, 0, 0, //
+    0, 0, 0, 0, 0, 0, 0, 8, 3, 0, 0, 1, 144, 0, 0, 2, 188, 0, 0, 0, 0, 1,
 ];
 
-const SECOND_RUNS: &[u8] = &[1, 18, 129, 1, 0, 0, 0, 11, 1, 0, 0, 0, 0, 0, 0, 0, 8, 1, 1];
+const SECOND_RUNS: &[u8] = &[V, 18, 129, 1, 0, 0, 0, 11, 1, 0, 0, 0, 0, 0, 0, 0, 8, 1, 1];
 
 const LIST_13: &[u8] = &[
-    1, 17, 1, 129, 0, 0, 0, 30, 0, 0, 0, 0, 0, 0, 0, 13, 0, 0, 0, 1, //
-    0, 0, 0, 0, 0, 0, 0, 8, 0, 0, 0, 2, 88, 0, 0, 1, 44, 0,
+    V, 17, 1, 129, 0, 0, 0, 34, 0, 0, 0, 0, 0, 0, 0, 13, 0, 0, 0, 1, //
+    0, 0, 0, 0, 0, 0, 0, 8, 0, 0, 0, 2, 88, 0, 0, 1, 44, 0, 0, 0, 0, 0,
 ];
 
 const LIST_14: &[u8] = &[
-    1, 17, 1, 129, 0, 0, 0, 12, 0, 0, 0, 0, 0, 0, 0, 14, 0, 0, 0, 0,
+    V, 17, 1, 129, 0, 0, 0, 12, 0, 0, 0, 0, 0, 0, 0, 14, 0, 0, 0, 0,
 ];
 
-const RUNS_8_3: (Id, u32, u32) = ((8, 3), 400, 700);
+const RUNS_8_3: Run = ((8, 3), 400, 700, 0);
 
 const BOTH_RUN: Known = (
-    Some((9, &[((8, 0), 600, 300), RUNS_8_3])),
+    Some((9, &[((8, 0), 600, 300, 0), RUNS_8_3])),
     &[(8, 0), (8, 3)],
 );
 
@@ -246,7 +262,7 @@ const STARTS_ONCE: &[Turn] = &[
     (Hear(LIST_OF_4), (15, 2), NONE, UP),
     (Hear(LIST_FOR_2), (15, 3), NONE, UP),
     (Hear(CUT_LIST), (15, 4), NONE, UP),
-    (Hear(DOUBLE), (15, 38), NONE, UP),
+    (Hear(DOUBLE), (15, 42), NONE, UP),
     (Hear(LIST_9), TAKEN, RUNS, HAS_8),
     (Hear(LIST_7), TAKEN, NONE, HAS_8),
     (Hear(LIST_9), TAKEN, RUNS, HAS_8),
@@ -277,6 +293,20 @@ const STARTS_ONCE: &[Turn] = &[
     ),
 ];
 
+// What is listed as unknown is as any other: it starts once, runs on, and is reported as what it
+// is.
+const UNKNOWN_ONES: &[Turn] = &[
+    (Hear(LIST_9_UNKNOWN), TAKEN, RUNS, HAS_8),
+    (Hear(LIST_9_OF_3), TAKEN, NONE, HAS_8),
+    (Hear(LIST_9_UNKNOWN), TAKEN, RUNS, HAS_8),
+    (End((8, 0), true), TAKEN, NONE, (Some((9, &[])), &[(8, 0)])),
+    (Hear(LIST_10_UNKNOWN), TAKEN, IS_COMPLETE, HAD_8),
+    (Hear(LIST_9_UNKNOWN), TAKEN, NONE, HAD_8),
+    (Crash, TAKEN, NONE, (None, &[(8, 0)])),
+    (Restart, TAKEN, NONE, (Some((0, &[])), &[(8, 0)])),
+    (Hear(LIST_10_UNKNOWN), TAKEN, HAS_FAILED, HAD_8),
+];
+
 // What is not listed any more stops, and does not start again.
 const STOPS: &[Turn] = &[
     (Hear(LIST_OF_FOUR), TAKEN, TWO_RUN, BOTH_RUN),
@@ -285,7 +315,7 @@ const STOPS: &[Turn] = &[
         Hear(LIST_12),
         TAKEN,
         SECOND_RUNS,
-        (Some((12, &[RUNS_8_3, ((8, 1), 401, 1)])), THREE),
+        (Some((12, &[RUNS_8_3, ((8, 1), 401, 1, 0)])), THREE),
     ),
     (Hear(LIST_13), TAKEN, HAS_FAILED, (Some((13, &[])), THREE)),
     (Hear(LIST_14), TAKEN, NONE, (Some((14, &[])), THREE)),
@@ -316,7 +346,7 @@ const ENDS: &[Turn] = &[
         Hear(LIST_OF_FOUR),
         TAKEN,
         OTHERS_RUN,
-        (Some((9, &[((8, 1), 401, 1), ((8, 2), 1, 701)])), FOUR),
+        (Some((9, &[((8, 1), 401, 1, 0), ((8, 2), 1, 701, 0)])), FOUR),
     ),
     (Crash, TAKEN, NONE, (None, FOUR)),
     (Restart, TAKEN, NONE, (Some((0, &[])), FOUR)),
@@ -328,29 +358,90 @@ const ENDS: &[Turn] = &[
     ),
 ];
 
-/// The memory of the client's node, and what is done with the client.
-const PLAYS: &[(u32, &[Turn])] = &[
-    (2000, ASKS_AND_HEARS),
-    (1000, STARTS_ONCE),
-    (1000, STOPS),
-    (1000, ENDS),
+// Four are pending in the state of index 9, on a node of disk 100: 8.0 of 60; 8.1 of 41, which does
+// not fit beside it; 8.2 of 40, which just does; and 8.3 of none.
+const LIST_ON_DISK: &[u8] = &[
+    V, 17, 1, 129, 0, 0, 0, 100, 0, 0, 0, 0, 0, 0, 0, 9, 0, 0, 0, 4, //
+    0, 0, 0, 0, 0, 0, 0, 8, 0, 0, 0, 0, 1, 0, 0, 0, 1, 0, 0, 0, 60, 0, //
+    0, 0, 0, 0, 0, 0, 0, 8, 1, 0, 0, 0, 1, 0, 0, 0, 1, 0, 0, 0, 41, 0, //
+    0, 0, 0, 0, 0, 0, 0, 8, 2, 0, 0, 0, 1, 0, 0, 0, 1, 0, 0, 0, 40, 0, //
+    0, 0, 0, 0, 0, 0, 0, 8, 3, 0, 0, 0, 1, 0, 0, 0, 1, 0, 0, 0, 0, 0,
+];
+
+const THREE_RUN: &[u8] = &[
+    V, 18, 129, 1, 0, 0, 0, 31, 3, 0, 0, 0, 0, 0, 0, 0, 8, 0, 1, //
+    0, 0, 0, 0, 0, 0, 0, 8, 2, 1, //
+    0, 0, 0, 0, 0, 0, 0, 8, 3, 1,
+];
+
+// When 8.0 is complete 8.1 runs too.
+const LAST_RUNS: &[u8] = &[
+    V, 18, 129, 1, 0, 0, 0, 41, 4, 0, 0, 0, 0, 0, 0, 0, 8, 0, 2, //
+    0, 0, 0, 0, 0, 0, 0, 8, 1, 1, //
+    0, 0, 0, 0, 0, 0, 0, 8, 2, 1, //
+    0, 0, 0, 0, 0, 0, 0, 8, 3, 1,
+];
+
+const ON_DISK_2: Run = ((8, 2), 1, 1, 40);
+
+const ON_DISK_3: Run = ((8, 3), 1, 1, 0);
+
+const THREE_ON_DISK: &[Id] = &[(8, 0), (8, 2), (8, 3)];
+
+// What does not fit on what is left of the node's disk is not started, and starts when that is
+// free.
+const FILLS_ITS_DISK: &[Turn] = &[
+    (
+        Hear(LIST_ON_DISK),
+        TAKEN,
+        THREE_RUN,
+        (
+            Some((9, &[((8, 0), 1, 1, 60), ON_DISK_2, ON_DISK_3])),
+            THREE_ON_DISK,
+        ),
+    ),
+    (
+        End((8, 0), true),
+        TAKEN,
+        NONE,
+        (Some((9, &[ON_DISK_2, ON_DISK_3])), THREE_ON_DISK),
+    ),
+    (
+        Hear(LIST_ON_DISK),
+        TAKEN,
+        LAST_RUNS,
+        (
+            Some((9, &[ON_DISK_2, ON_DISK_3, ((8, 1), 1, 1, 41)])),
+            &[(8, 0), (8, 2), (8, 3), (8, 1)],
+        ),
+    ),
+];
+
+/// The memory and the disk of the client's node, and what is done with the client.
+const PLAYS: &[((u32, u32), &[Turn])] = &[
+    ((2000, 7), ASKS_AND_HEARS),
+    ((1000, 0), STARTS_ONCE),
+    ((1000, 0), UNKNOWN_ONES),
+    ((1000, 0), STOPS),
+    ((1000, 0), ENDS),
+    ((1000, 100), FILLS_ITS_DISK),
 ];
 
 // The front of the frame of a list of 70 allocations, of one of 65,536, and of a report of 64; and
-// what stands behind the id of each in the list: 1 and 1, and that it is pending, or runs.
+// what stands behind the id of each in the list: 1, 1 and 0, and that it is pending, or runs.
 const LIST_OF_70: &[u8] = &[
-    1, 17, 1, 129, 0, 0, 4, 248, 0, 0, 0, 0, 0, 0, 0, 9, 0, 0, 0, 70,
+    V, 17, 1, 129, 0, 0, 6, 16, 0, 0, 0, 0, 0, 0, 0, 9, 0, 0, 0, 70,
 ];
 
 const LIST_OF_MOST: &[u8] = &[
-    1, 17, 1, 129, 0, 18, 0, 12, 0, 0, 0, 0, 0, 0, 4, 0, 0, 1, 0, 0,
+    V, 17, 1, 129, 0, 22, 0, 12, 0, 0, 0, 0, 0, 0, 4, 0, 0, 1, 0, 0,
 ];
 
-const REPORT_OF_64: &[u8] = &[1, 18, 129, 1, 0, 0, 2, 129, 64];
+const REPORT_OF_64: &[u8] = &[V, 18, 129, 1, 0, 0, 2, 129, 64];
 
-const IS_PENDING: &[u8] = &[0, 0, 0, 1, 0, 0, 0, 1, 0];
+const IS_PENDING: &[u8] = &[0, 0, 0, 1, 0, 0, 0, 1, 0, 0, 0, 0, 0];
 
-const IS_RUNNING: &[u8] = &[0, 0, 0, 1, 0, 0, 0, 1, 1];
+const IS_RUNNING: &[u8] = &[0, 0, 0, 1, 0, 0, 0, 1, 0, 0, 0, 0, 1];
 
 /// A list of many: the front of its frame, how many are listed, and how many of them, first in the
 /// list, as running.
@@ -435,13 +526,14 @@ fn are_ids(ids: &[AllocId], wanted: &[Id]) -> bool {
     same
 }
 
-fn are_running(all: &[RunningAllocation], wanted: &[(Id, u32, u32)]) -> bool {
+fn are_running(all: &[RunningAllocation], wanted: &[Run]) -> bool {
     let mut same = all.len() == wanted.len();
-    for (one, (id, cpu, mem)) in all.iter().zip(wanted) {
+    for (one, (id, cpu, mem, disk)) in all.iter().zip(wanted) {
         same = same
             && is_id(one.id, *id)
             && one.size.cpu.get() == *cpu
-            && one.size.mem.get() == *mem;
+            && one.size.mem.get() == *mem
+            && one.size.disk.get() == *disk;
     }
     same
 }
@@ -466,16 +558,17 @@ fn holds(agent: &mut Agent, alloc: Global, turn: &Turn, is_received: bool) -> bo
         && is_known(agent, known)
 }
 
-fn node_of(cpu: u32, mem: u32) -> Option<NodeSpec> {
+fn node_of(cpu: u32, mem: u32, disk: u32) -> Option<NodeSpec> {
     Some(NodeSpec {
         number: NodeId::from_number(1)?,
         class: Name::from_bytes(b"linux")?,
-        size: Size::check(cpu, mem).ok()?,
+        size: Size::check(cpu, mem, disk).ok()?,
     })
 }
 
-fn is_played(alloc: Global, mem: u32, turns: &[Turn], is_received: bool) -> Option<bool> {
-    let node = node_of(1000, mem)?;
+fn is_played(alloc: Global, room: (u32, u32), turns: &[Turn], is_received: bool) -> Option<bool> {
+    let (mem, disk) = room;
+    let node = node_of(1000, mem, disk)?;
     let mut agent = Agent::new(alloc, node, 3).ok()?;
     for turn in turns {
         if !holds(&mut agent, alloc, turn, is_received) {
@@ -518,7 +611,7 @@ fn are_first_reported(agent: &mut Agent, alloc: Global, many: &Many) -> bool {
 }
 
 fn are_many_reported(alloc: Global, size: u32, lists: &[Many]) -> Option<bool> {
-    let mut agent = Agent::new(alloc, node_of(size, size)?, 3).ok()?;
+    let mut agent = Agent::new(alloc, node_of(size, size, 0)?, 3).ok()?;
     let mut reported = true;
     for many in lists {
         reported = reported && are_first_reported(&mut agent, alloc, many);
@@ -528,10 +621,10 @@ fn are_many_reported(alloc: Global, size: u32, lists: &[Many]) -> Option<bool> {
 
 #[test]
 fn acts_as_a_client(rt: HostRuntime) {
-    for (number, (mem, turns)) in PLAYS.iter().enumerate() {
+    for (number, (room, turns)) in PLAYS.iter().enumerate() {
         for is_received in [false, true] {
             assert!(rt;
-                is_played(rt.alloc(), *mem, turns, is_received) == Some(true),
+                is_played(rt.alloc(), *room, turns, is_received) == Some(true),
                 "play {number}, received {is_received}"
             );
         }

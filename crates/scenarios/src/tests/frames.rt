@@ -4,6 +4,9 @@ use rows::Refusal;
 use std::alloc::Global;
 use wire::{read_message, write_message};
 
+/// The version that frames have, and their first byte.
+pub(crate) const V: u8 = 3;
+
 /// No fault: the bytes are the frame of the message that is read.
 const NONE: usize = usize::MAX;
 
@@ -13,13 +16,13 @@ const WRONG: usize = usize::MAX - 1;
 
 /// The published frame of a vote request from server 1 to server 2, of term 1 and an empty log.
 pub(crate) const VOTE: &[u8] = &[
-    1, 1, 1, 2, 0, 0, 0, 24, 0, 0, 0, 0, 0, 0, 0, 1, 0, 0, 0, 0, 0, 0, 0, 0, 0, 0, 0, 0, 0, 0, 0, 0,
+    V, 1, 1, 2, 0, 0, 0, 24, 0, 0, 0, 0, 0, 0, 0, 1, 0, 0, 0, 0, 0, 0, 0, 0, 0, 0, 0, 0, 0, 0, 0, 0,
 ];
 
 /// Server 1 sends server 2, in term 3, two entries behind place 4 of term 2, with commit index 4:
 /// the no-op of term 2, and in term 3 the command that adds 258.
 pub(crate) const APPEND: &[u8] = &[
-    1, 3, 1, 2, 0, 0, 0, 53, //
+    V, 3, 1, 2, 0, 0, 0, 53, //
     0, 0, 0, 0, 0, 0, 0, 3, //
     0, 0, 0, 0, 0, 0, 0, 4, //
     0, 0, 0, 0, 0, 0, 0, 2, //
@@ -31,13 +34,13 @@ pub(crate) const APPEND: &[u8] = &[
 
 /// Server 2 tells server 1, in term 3, that it has its vote, which was asked for in term 2.
 pub(crate) const GRANTED: &[u8] = &[
-    1, 2, 2, 1, 0, 0, 0, 17, 0, 0, 0, 0, 0, 0, 0, 3, 0, 0, 0, 0, 0, 0, 0, 2, 1,
+    V, 2, 2, 1, 0, 0, 0, 17, 0, 0, 0, 0, 0, 0, 0, 3, 0, 0, 0, 0, 0, 0, 0, 2, 1,
 ];
 
 /// Server 2 tells server 1, in term 3, that it has the entries of the leader of term 2 up to place
 /// 5.
 pub(crate) const REPLY: &[u8] = &[
-    1, 4, 2, 1, 0, 0, 0, 25, //
+    V, 4, 2, 1, 0, 0, 0, 25, //
     0, 0, 0, 0, 0, 0, 0, 3, //
     0, 0, 0, 0, 0, 0, 0, 2, //
     1, //
@@ -47,7 +50,7 @@ pub(crate) const REPLY: &[u8] = &[
 /// Server 1 sends server 2, in term 3, a snapshot of five entries, the last of term 2: five
 /// commands were applied, and they add 258.
 pub(crate) const INSTALL: &[u8] = &[
-    1, 5, 1, 2, 0, 0, 0, 34, //
+    V, 5, 1, 2, 0, 0, 0, 34, //
     0, 0, 0, 0, 0, 0, 0, 3, //
     0, 0, 0, 0, 0, 0, 0, 5, //
     0, 0, 0, 0, 0, 0, 0, 2, //
@@ -57,7 +60,7 @@ pub(crate) const INSTALL: &[u8] = &[
 /// Server 2 tells server 1, in term 3, that it has a snapshot of the leader of term 2 up to place
 /// 5.
 pub(crate) const INSTALLED: &[u8] = &[
-    1, 6, 2, 1, 0, 0, 0, 24, //
+    V, 6, 2, 1, 0, 0, 0, 24, //
     0, 0, 0, 0, 0, 0, 0, 3, //
     0, 0, 0, 0, 0, 0, 0, 2, //
     0, 0, 0, 0, 0, 0, 0, 5,
@@ -244,7 +247,7 @@ fn put_append(out: &mut Vec<u8>, prev_index: u64, count: u8) -> bool {
     let mut put = true;
     out.clear();
     for part in [
-        &[1, 3, 1, 2][..],
+        &[V, 3, 1, 2][..],
         &size.to_be_bytes(),
         &[0, 0, 0, 0, 0, 0, 0, 1],
         &prev_index.to_be_bytes(),

@@ -474,7 +474,7 @@ fn node(place: usize) -> Result<NodeSpec, Refusal> {
     Ok(NodeSpec {
         number: NodeId::from_number(1).ok_or(Refusal::OutOfRange)?,
         class: Name::read("linux")?,
-        size: Size::check(1000, 2000 + place.min(1000) as u32)?,
+        size: Size::check(1000, 2000 + place.min(1000) as u32, 0)?,
     })
 }
 

@@ -1,5 +1,6 @@
 //! Single servers: what each does with its inputs, one after another. (Raft, extended version 2014,
 //! section 5 and Figure 2.)
+use crate::tests::frames::V;
 use machine::{Amount, Machine, Tally, TallyCommand};
 use raft_core::{Input, NoProjection, Raft, Role, Stable};
 use rows::{Actor, Refusal, ServerId};
@@ -507,7 +508,7 @@ pub(super) fn put_frame(bytes: &mut Vec<u8>, frame: &Frame) -> bool {
     let Frame(kind, from, to, size, numbers, rest) = *frame;
     bytes.clear();
     let mut put = bytes
-        .extend_from_slice(&[1, kind, from, to, 0, 0, 0, size])
+        .extend_from_slice(&[V, kind, from, to, 0, 0, 0, size])
         .is_ok();
     for number in numbers {
         put = put && bytes.extend_from_slice(&number.to_be_bytes()).is_ok();

@@ -15,6 +15,7 @@ fn listed_state(state: ClientState) -> LiveState
 {
     match state {
         ClientState::Running => LiveState::Running,
+        ClientState::Unknown => LiveState::Unknown,
         _ => LiveState::Pending,
     }
 }

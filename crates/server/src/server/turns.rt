@@ -10,7 +10,7 @@ ghost use Rattle.rows.specs.Keys.{eval_id};
 ghost use Rattle.rows.specs.declared.refusal.Refusal.TheVariants as refusals;
 ghost use Rattle.group_model.specs.Blocked.{first_due};
 ghost use Rattle.group_model.specs.Desks.{applied_state, whole_state};
-ghost use Rattle.leader.specs.OpenDesks.{IsOverBlocked, if_open, at_open, on_reap};
+ghost use Rattle.leader.specs.OpenDesks.{IsOverBlocked, if_open, at_open, on_expire, on_reap};
 ghost use Rattle.leader.specs.Verdicts.{judged_by, IsProposal, on_plan_turn};
 ghost use Rattle.group_model.specs.Inputs.{PlanTurn, Lapse, Expire, DrainTurn, FreeTurn, Reap};
 ghost use Rattle.server.specs.declared.server.Outbox.{Outbox as AnyOutbox};
@@ -50,6 +50,28 @@ fn judge_first(raft: &mut Raft<Cluster>, desk: &mut Desk) -> Result<Option<Judge
             Err(NoMemory)
         }
     }
+}
+
+/// What is proposed of a node that was heard of so often and not since, by the state that is
+/// applied.
+fn expire_step(
+    raft: &Raft<Cluster>,
+    desk: &Desk,
+    node: NodeId,
+    beats: Index,
+) -> Result<Command, Refusal>
+    requires { is_up raft.now.server.mode ≡ true }
+    ensures value { IfOk result (λ c. (s : LogServer Command) →
+        Represents cluster_meaning raft.now s →
+        if_open (on_expire node beats (applied_state s)) desk.now ≡ Ok c) }
+    ensures err { IfErr result (λ e. (s : LogServer Command) →
+        Represents cluster_meaning raft.now s →
+        if_open (on_expire node beats (applied_state s)) desk.now ≡ Err e) }
+{
+    let Some(applied) = raft.machine() else {
+        unreachable!()
+    };
+    Ok(desk.expire(node, beats, applied)?)
 }
 
 /// What is proposed of a node's drain, if anything is, by the state after the leader's whole log.
@@ -140,7 +162,8 @@ impl Server {
         Ok(())
     }
 
-    /// A node that was heard of so often, and not since, is proposed as down.
+    /// A node that was heard of so often, and not since, is proposed as disconnected where it is
+    /// ready in the applied state, else as down.
     pub(super) fn expire(&mut self, node: NodeId, beats: Index) -> Result<(), Refusal>
         requires { is_up self.old.raft.server.mode ≡ true }
         ensures same { SamePlace self.old.raft self.new.raft }
@@ -150,8 +173,8 @@ impl Server {
             DeclinesOwn self.old (Expire node beats) cause self.new out out) }
     {
         self.open_desk()?;
-        self.desk.desk.expire(node, beats)?;
-        self.propose(Command::NodeDown(node))
+        let command = expire_step(&self.raft, &self.desk.desk, node, beats)?;
+        self.propose(command)
     }
 
     /// A node's drain is proposed as done, or its next moves are, if there are any.

@@ -87,4 +87,5 @@ group_plain g fits =
     colon g.name _ (name_plain g.name fits.0)
     (colon (decimal g.count) _ (number_plain g.count (omega arith))
     (colon g.class _ (name_plain g.class fits.2)
-    (colon (decimal g.size.cpu) _ (number_plain g.size.cpu (omega arith)) (number_plain g.size.mem (omega arith)))))
+    (colon (decimal g.size.cpu) _ (number_plain g.size.cpu (omega arith))
+    (colon (decimal g.size.mem) _ (number_plain g.size.mem (omega arith)) (number_plain g.size.disk (omega arith))))))

@@ -9,6 +9,10 @@ pub returns : goal.returns
 unfolding to_others term_at is_quorum count greatest commands merge
 returns g = record {
   too_early = refl;
+  is_disconnected = refl;
+  expired_already = refl;
+  earlier_number = refl;
   goes_down = refl;
-  down_already = refl;
+  heard_away = refl;
+  down_as_it_comes = refl;
 }

@@ -12,4 +12,6 @@ returns g = record {
   stop_alone = refl;
   other_version = refl;
   old_snapshot = refl;
+  disk_for_both = refl;
+  no_disk_for_both = refl;
 }

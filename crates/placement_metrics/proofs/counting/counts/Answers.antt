@@ -11,5 +11,6 @@ returns-clause-once c = omega (
   c.count_of-4.ensures,
   c.count_of-5.ensures,
   c.count_of-6.ensures,
+  c.count_of-7.ensures,
   counted_once c.args.verdicts.now,
 )

@@ -10,4 +10,4 @@ returns-clause-found g c = found_of g.M.Machine.meaning g.met.M.Machine.lawful c
 pub returns-clause-only : goal.returns-clause-only
 returns-clause-only g c =
     let m = g.M.Machine.meaning in
-    λ s fits e. subst (λ f. Gives c.read_text.result f) (ap (stable_at m) e ∙ stable_only m g.met.M.Machine.lawful s fits) c.read_text.ensures
+    λ version s fits e. subst (λ f. Gives c.read_text.result f) (ap (stable_at m) e ∙ stable_only m g.met.M.Machine.lawful version s fits) c.read_text.ensures

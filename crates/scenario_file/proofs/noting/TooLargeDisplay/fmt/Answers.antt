@@ -8,5 +8,6 @@ returns-clause-writes g c =
     let class = c.as_str-class.ensures in
     let cpu = c.get-cpu.ensures.value in
     let mem = c.get-mem.ensures.value in
-    let written = simp (job, group, class, cpu, mem, append_assoc) at c.write.ensures.writes in
+    let disk = c.get-disk.ensures.value in
+    let written = simp (job, group, class, cpu, mem, disk, append_assoc) at c.write.ensures.writes in
     simp append_assoc written

@@ -1,0 +1,30 @@
+-- A heartbeat and an expiry at a desk are those of its counts.
+use Rattle.std.proofs.Common.{◌≡◌, Bool, true, false, cond, Option, Some, None, Ok, Err, refl}
+use Rattle.std.specs.Prelude.{nat_eq}
+use Rattle.rows.specs.declared.command.Command.{Command}
+use Rattle.rows.specs.declared.refusal.Refusal.TheVariants as refusals
+use Rattle.group_model.specs.Expiry.{BeatCount, beat_count_of}
+use Rattle.group_model.specs.Desks.{applied_state}
+use Rattle.group_model.specs.Inputs.{AskPropose, asks}
+use Rattle.group_model.specs.ClientRequests.{beats_at}
+use Rattle.group_model.specs.Turns.{expiry_command, expire_of}
+use Rattle.group_model.specs.BeatCounts.{BeatsByCounts, ExpiresByCounts, answers_beat, beat_heard_of, expires_unless, expiry_refusal_of}
+
+pub beats_by_counts : BeatsByCounts
+beats_by_counts me c d = by (beat_count_of c d.beat_counts) where
+  by : (m : Option BeatCount) → beats_at me c d m ≡ answers_beat me c d (beat_heard_of c d.beat_counts m)
+  by None = refl
+  by (Some p) = refl
+
+pub expires_by_counts : ExpiresByCounts
+expires_by_counts s d n beats = by (beat_count_of n d.beat_counts) where
+  command : Command
+  command = expiry_command (applied_state s) n
+
+  at : (b : Bool) → cond b (Ok (asks (AskPropose command) (Some d))) (Err refusals.StaleExpiry) ≡ expires_unless d command (cond b None (Some refusals.StaleExpiry))
+  at true = refl
+  at false = refl
+
+  by : (m : Option BeatCount) → expire_of d command beats m ≡ expires_unless d command (expiry_refusal_of beats m)
+  by None = refl
+  by (Some p) = at (nat_eq p.beats beats)
