@@ -166,9 +166,9 @@ pub(crate) const NO_NUMBER: &str = "a number has no sign and no zero in front";
 
 pub(crate) const REPLAYS: &str = "\
 T, '-' for the standard input, is a transcript, as 'nomadsim run FILE --out T'
-writes it: a line 'servers N', a line 'node C CLASS CPU MEM' for each client C,
-and a line for each event: one of the steps of 'nomadsim run --help' other than
-'flow' and 'work'.
+writes it: a line 'servers N', a line 'node C CLASS CPU MEM DISK' for each client
+C, and a line for each event: one of the steps of 'nomadsim run --help' other
+than 'flow' and 'work'.
 
 The events are taken once more, and the lines are printed with which a run ends.
 For each event that is refused a line says so, and the exit status is 1. Where T
@@ -286,8 +286,8 @@ newest state runs, and there is one; and in how many a step was refused. Of the
 greatest terms, of the messages and of the events it says the least, the median
 and the greatest; and the key of the worst run, which 'nomadsim run' shows under
 that key: the first of those without a leader, else of those in which not each
-allocation runs, else of those with a refused step; of more than one the one
-with most refused steps, then events, then messages.
+allocation runs, else of those with a refused step; of more than one the first
+of those with most events.
 
 With --csv there is a line for each key instead, behind one of their names: the
 key, the leader, the greatest term, how many steps were refused, how many
