@@ -406,6 +406,10 @@ const CHANGES: &[Change] = &[
     (SUBMIT_REFUSED, 36, 21, NONE),
     (SUBMIT_REFUSED, 36, 22, 36),
     (SUBMIT_REFUSED, 37, 1, 37),
+];
+
+/// The same of what clients and servers tell each other, in the body of a frame.
+const CLIENT_CHANGES: &[Change] = &[
     // A node that registers: its class and size.
     (REGISTER, 8, 0, 8),
     (REGISTER, 8, 33, 8),
@@ -814,5 +818,11 @@ fn reads_and_writes_service_messages(rt: HostRuntime) {
 fn names_faults_of_service_messages(rt: HostRuntime) {
     for (number, change) in CHANGES.iter().enumerate() {
         assert!(rt; is_changed(rt.alloc(), change), "change {number}");
+    }
+    for (number, change) in CLIENT_CHANGES.iter().enumerate() {
+        assert!(rt;
+            is_changed(rt.alloc(), change),
+            "change {number} of a client's"
+        );
     }
 }

@@ -31,8 +31,8 @@ is-at 4 1000
 = raw 0 0 0 0 0 0 0 4 3 232
 same";
 
-// The text of the tally of one command that adds 1,000; with a byte more; and cut. That of the
-// first version is as today's.
+// The text of the tally of one command that adds 1,000; with a byte more; and cut. Those of older
+// versions are as today's.
 const TEXTS: &str = "\
 take add 1000
 is-at 1 1000
@@ -50,14 +50,19 @@ cuts 0 8 10
 clear
 take noop
 = raw 0 0 0 0 0 0 0 1 3 232
-old-load
+old-load 1
+is-at 1 1000
+take noop
+= raw 0 0 0 0 0 0 0 1 3 232
+old-load 2
 is-at 1 1000
 = raw 0 0 0 0 0 0 0 1 3 232 0
-old-fault 10
+old-fault 1 10
+old-fault 2 10
 clear";
 
 // Commands, whatever follows: one that adds 1,000, the no-op, and one that would add 1,001. Those
-// of the first version are as today's.
+// of older versions are as today's.
 const COMMANDS: &str = "\
 = raw 1 3 232 9
 command 3
@@ -66,7 +71,9 @@ command 1
 = raw 1 3 233
 bad 1
 = raw 1 3 232 9
-old-command add 1000";
+old-command 1 add 1000
+= raw 1 3 232 9
+old-command 2 add 1000";
 
 #[test]
 fn tallies_are_as_they_are_played(rt: HostRuntime) {

@@ -194,6 +194,7 @@ enum Old {
 
 /// What is read as of the first version, its bytes there, and those of the same value today: each
 /// size says nothing of disk there, and has disk 0. They are its bytes in the second version too.
+/// What is listed stands in frames alone, and is read as today in each version.
 type OldText = (Old, &'static [u8], &'static [u8]);
 
 const OLD: &[OldText] = &[
@@ -250,7 +251,9 @@ const OLD: &[OldText] = &[
     ),
     (
         Old::ListedAllocation,
-        &[0, 0, 0, 0, 0, 0, 0, 8, 0, 0, 0, 2, 88, 0, 0, 1, 44, 0],
+        &[
+            0, 0, 0, 0, 0, 0, 0, 8, 0, 0, 0, 2, 88, 0, 0, 1, 44, 0, 0, 0, 0, 0,
+        ],
         &[
             0, 0, 0, 0, 0, 0, 0, 8, 0, 0, 0, 2, 88, 0, 0, 1, 44, 0, 0, 0, 0, 0,
         ],

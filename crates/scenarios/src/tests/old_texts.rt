@@ -64,7 +64,7 @@ fn is_read(alloc: Global, version: Version) -> Option<bool> {
 fn is_command_read(alloc: Global, version: Version) -> Option<bool> {
     old_commands_have_no_disk();
     let (command, size) = Cluster::read_command(version, alloc, JOINS).ok()?;
-    match command {
+    match &command {
         Command::NodePut(node) => Some(size == JOINS.len() && node.size.disk.get() == 0),
         _ => Some(false),
     }
