@@ -318,7 +318,8 @@ fn hand<M: Machine>(
     match proposal(item) {
         Some(text) => {
             let command = read_command::<M>(alloc, text)?;
-            server.propose(command)
+            server.propose(command)?;
+            Ok(())
         }
         None => server.step(input_of::<M>(item), frames),
     }

@@ -17,6 +17,7 @@ ghost use Rattle.raft_core.specs.Inner.Stops.{EndsRefused};
 ghost use Rattle.raft_core.specs.Inner.Views.{with_server};
 ghost use Rattle.raft_core.specs.Inner.Moves.{MovesBy};
 ghost use Rattle.raft_core.specs.StoredParts.{stored_part};
+ghost use Rattle.raft_core.specs.Tickets.{HasTermAt, HasNoTermAt, standing_of};
 ghost use Rattle.raft_core.specs.RaftView.{SamePlace, IsCrashOf, KeepsAhead};
 ghost use Rattle.raft_snapshot.specs.Shown.{IsShown, shown_state};
 ghost use Rattle.raft_snapshot.specs.Watching.{SeesStep, ShowsStep};
@@ -24,6 +25,7 @@ ghost use Rattle.raft_snapshot.specs.Watching.{SeesStep, ShowsStep};
 use crate::input::Input;
 use crate::release::forget;
 use crate::role::Role;
+use crate::ticket::{Standing, Ticket};
 use machine::Machine;
 use raft_snapshot::{Log, Stable, Unwatched, Watch};
 use rows::{Index, LeaderTerm, NoMemory, Refusal, ServerId, Term, is_group_size};
@@ -234,6 +236,45 @@ impl<M: Machine> Raft<M> {
         ensures shown { result ≡ length self.now.server.log }
     {
         self.log.last()
+    }
+
+    /// The term of the entry at an index, also while it is down; none where its snapshot covers that
+    /// entry, and where there is none.
+    pub fn term_at(&self, index: Index) -> Option<Term>
+        ensures value { (s : Server M.Command) → Represents M.meaning self.now s →
+            MatchOption result (HasNoTermAt s index) (λ t. HasTermAt s index t) }
+        ensures shown { let s = self.now.server in
+            MatchOption result (HasNoTermAt s index) (λ t. HasTermAt s index t) }
+    {
+        self.shown();
+        self.shown_term_at(index)
+    }
+
+    /// The same, by what is shown.
+    fn shown_term_at(&self, index: Index) -> Option<Term>
+        ensures { let s = self.now.server in
+            MatchOption result (HasNoTermAt s index) (λ t. HasTermAt s index t) }
+    {
+        if index.get() <= self.log.covered().get() || index.get() > self.log.last().get() {
+            return None;
+        }
+        self.log.term_at(index.get())
+    }
+
+    /// What it knows of a command by its ticket, while it is up.
+    pub fn standing(&self, ticket: Ticket) -> Option<Standing>
+        ensures value { (s : Server M.Command) → Represents M.meaning self.now s →
+            result ≡ standing_of s ticket.index ticket.term }
+    {
+        let applied = self.applied()?;
+        if applied.get() < ticket.index.get() {
+            return Some(Standing::Open);
+        }
+        match self.term_at(ticket.index) {
+            None => Some(Standing::Covered),
+            Some(term) if term.get() == ticket.term.get() => Some(Standing::Settled),
+            Some(_) => Some(Standing::Lost),
+        }
     }
 
     /// How many entries are applied, while it is up: all that are committed.

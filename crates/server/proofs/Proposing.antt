@@ -1,14 +1,14 @@
 -- A command that is proposed.
 use Rattle.std.proofs.Common.{◌≡◌, ℕ, ◌≤◌, Bool, true, false, nat_lt, Option, Some, None, Result, Ok, Err, List, [], ◌∷◌, length, refl, sym, ap, subst, ◌∙◌, if◌then◌else◌}
 use Rattle.std.proofs.lemmas.List.{take-append-le}
-use Rattle.std.specs.Prelude.{IfSome, IfErr, OnOk, OnErr, MatchOption}
+use Rattle.std.specs.Prelude.{IfSome, IfErr, OnOk, MatchOption}
 use Rattle.rows.specs.declared.command.Command.{Command}
 use Rattle.rows.specs.declared.refusal.Refusal.{Refusal}
 use Rattle.rows.specs.declared.refusal.Refusal.TheVariants as refusals
 use Rattle.raft_model.specs.Logs.{MAX, state_after}
 use Rattle.raft_model.specs.Servers.{Server, Turn, is_up, is_leader, silent, extended}
 use Rattle.raft_model.specs.Steps as raft_steps
-use Rattle.raft_core.specs.RaftView.{RaftView, SameServer}
+use Rattle.raft_core.specs.RaftView.{RaftView}
 use Rattle.raft_core.specs.Steps.{Represents, Takes}
 use Rattle.wire.specs.Frames.{Frame}
 use Rattle.raft_core.specs.Inputs.{Own}
@@ -21,7 +21,6 @@ use Rattle.leader.specs.Staying.{IsOver}
 use Rattle.server.specs.ServerViews.{ServerView, IsOfLeader}
 use Rattle.server.specs.Inner.Acts.{EachMember, IsProposed, WhyNotProposed}
 use Rattle.server.proofs.Members.{up_of}
-use Rattle.server.proofs.LogSteps.{IsLedBy}
 
 -- a leader's log is longer by a command that nothing refused
 pub record IsAppended (s : Server Command) (c : Command) (new : Server Command) : Type 0 where
@@ -102,9 +101,3 @@ module _ (old : ServerView) (new : RaftView State Command) (c : Command) (up : i
       IfErr r (λ cause. (s : Server Command) → Represents cluster_meaning old.raft s → HidesNothing cluster_meaning old.raft.size old.raft.me s (Own (raft_steps.Propose c)) cause) → IfErr r (λ cause. EachMember old (λ s. WhyNotProposed s.raft c cause))
   propose_declines (Ok u) h hidden = tt
   propose_declines (Err cause) h hidden = λ s is. refused old.raft.size old.raft.me s.raft c (up_of old s is up) cause (h s.raft is.raft) (hidden s.raft is.raft)
-
--- a server that leads goes on to
-pub propose_leads : (old new : RaftView State Command) (d : Option OpenDesk) → IsLedBy old d → (r : Answer) → OnOk r (is_leader new.server.mode ≡ true) → OnErr r (SameServer old new) → IsLedBy new d
-propose_leads old new None led r leads same = tt
-propose_leads old new (Some o) led (Ok u) leads same = leads
-propose_leads old new (Some o) led (Err cause) leads same = ap (λ (s : Server Command). is_leader s.mode) same.server ∙ led

@@ -18,6 +18,7 @@ ghost use Rattle.std.specs.Arc.{arc_value};
 ghost use Rattle.raft_model.specs.Servers.{is_up};
 ghost use Rattle.raft_core.specs.Steps.{role_of};
 ghost use Rattle.raft_core.specs.Refusals.{WhyNot};
+ghost use Rattle.raft_core.specs.Tickets.{standing_of};
 ghost use Rattle.group_model.specs.Desks.{applied_state};
 ghost use Rattle.group_model.specs.Members.{Member, newcomer};
 ghost use Rattle.server.specs.ServerViews.{IsMember};
@@ -27,7 +28,7 @@ use crate::server_desk::ServerDesk;
 use fsm_state::Cluster;
 use leader::Desk;
 use machine::Machine;
-use raft_core::{Raft, Role, Stable};
+use raft_core::{Raft, Role, Stable, Standing, Ticket};
 use rows::{Index, Refusal, Sequence, ServerId, Term, Work};
 use std::alloc::Global;
 use std::marker::Model;
@@ -122,6 +123,14 @@ impl Server {
             × (n ≡ s.commit)) }
     {
         self.raft.applied()
+    }
+
+    /// What it knows of a command by its ticket, while it is up.
+    pub fn standing(&self, ticket: Ticket) -> Option<Standing>
+        ensures { (s : Member) → IsMember self.now s →
+            result ≡ standing_of s.raft ticket.index ticket.term }
+    {
+        self.raft.standing(ticket)
     }
 
     /// The replicated state after the committed entries, while it is up.

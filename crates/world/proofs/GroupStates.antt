@@ -18,7 +18,7 @@ use Rattle.world.specs.GroupClaims.{OneGroupList, SafeGroupStates, state_of}
 use Rattle.world.proofs.Histories.{IsPart, running_is, part, history_of}
 use Rattle.world.proofs.Zips.{zip_at, zip_none}
 
-get_map_none : {A B : Type 0} (f : A → B) (xs : List A) (i : ℕ) → slice_get xs i ≡ None → slice_get (map f xs) i ≡ None
+pub get_map_none : {A B : Type 0} (f : A → B) (xs : List A) (i : ℕ) → slice_get xs i ≡ None → slice_get (map f xs) i ≡ None
 get_map_none f [] i h = refl
 get_map_none f (x ∷ xs) zero h = absurd (cc)
 get_map_none f (x ∷ xs) (suc i) h = get_map_none f xs i h

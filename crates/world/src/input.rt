@@ -58,7 +58,8 @@ pub(crate) fn actor<M: Machine>(sent: &Frames, event: &RaftEvent<M>) -> Option<S
     }
 }
 
-/// A command is proposed to a server, which crashes where it finds no memory.
+/// A command is proposed to a server, which crashes where it finds no memory. Where it stands is
+/// read off the server later.
 fn propose<M: Machine>(raft: &mut Raft<M>, command: M::Command) -> Result<(), Refusal>
     ensures same { (raft.new.me ≡ raft.old.me) × (raft.new.size ≡ raft.old.size) }
     ensures taken { OnOk result ((s : Server M.Command) (sent : List Frame) →
@@ -73,7 +74,7 @@ fn propose<M: Machine>(raft: &mut Raft<M>, command: M::Command) -> Result<(), Re
         StaysOrLeft (Own (Propose command)) cause raft.old raft.new) }
 {
     match raft.propose(command) {
-        Ok(()) => Ok(()),
+        Ok(_) => Ok(()),
         Err(refusal) => match refusal {
             Refusal::NoMemory => {
                 raft.crash();

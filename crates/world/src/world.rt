@@ -1,4 +1,4 @@
-ghost use Rattle.std.specs.Prelude.{◌≡◌, ◌≢◌, ◌<◌, length, slice_get, true, Err, List, MatchBool, IfOk, OnErr, IfErr};
+ghost use Rattle.std.specs.Prelude.{◌≡◌, ◌≢◌, ◌<◌, ℕ, length, slice_get, true, Err, List, MatchBool, IfOk, OnErr, IfErr};
 ghost use Rattle.std.specs.Option.{option_copied};
 ghost use Rattle.rows.specs.declared.refusal.Refusal.TheVariants as refusals;
 ghost use Rattle.raft_model.specs.Servers.{newcomer};
@@ -10,6 +10,7 @@ ghost use Rattle.rows.specs.GroupSizes.{IsGroup};
 ghost use Rattle.world.specs.WorldView.{RunsTo};
 ghost use Rattle.world.specs.Steps.{WasDone, SameWorld, RefusesEvent, IsAwake, IsNew, IsNoGroup, Played, Replays};
 ghost use Rattle.world.specs.Claims.{OneLeaderEver, LogsMatchEver, OneListEver, StatesSafeEver};
+ghost use Rattle.world.specs.Tickets.{StoodEver};
 ghost use Rattle.world.specs.Inner.Inputs.{ActsIn, IsSent};
 
 use crate::done::Done;
@@ -143,6 +144,10 @@ impl<M: Machine> RaftWorld<M> {
         ensures one_list { OneListEver M.meaning self.new }
         ensures safe_states { StatesSafeEver M.meaning self.new }
         ensures size { IsGroup (length self.new.servers) }
+        // What stood under a ticket stood there.
+        ensures stood { (index term : ℕ) (command : M.Command) →
+            StoodEver M.meaning self.old index term command →
+            StoodEver M.meaning self.new index term command }
     {
         let done = self.take(event);
         self.group_size();

@@ -11,9 +11,11 @@ ghost use Rattle.raft_core.specs.Inner.Proposals.{shown_refusal, IsShownRefused}
 ghost use Rattle.raft_core.specs.Inputs.{Own};
 ghost use Rattle.raft_core.specs.Steps.{Represents, Takes};
 ghost use Rattle.raft_core.specs.Refusals.{HidesNothing, IsRefused, LacksProjection};
+ghost use Rattle.raft_core.specs.Tickets.{IsTicket};
 
 use super::Raft;
 use crate::no_projection::NoProjection;
+use crate::ticket::Ticket;
 use machine::{Coded, Entry, Machine};
 use raft_snapshot::{brought_on, projection};
 use rows::{Index, Leader, NoMemory, Refusal};
@@ -88,7 +90,9 @@ impl<M: Machine> Raft<M> {
         }
     }
 
-    /// A leader appends a command that its machine admits after its whole log, committed or not.
+    /// A leader appends a command that its machine admits after its whole log, committed or not, and
+    /// answers where it stands. Whether it stays there is for later: `standing` tells, of this
+    /// server or another.
     ///
     /// One that is down refuses with `Down`, one that does not lead with `NotLeader` and the leader
     /// that it knows, one whose last index is 2^40 - 1 with `Exhausted`; else the machine may
@@ -99,13 +103,16 @@ impl<M: Machine> Raft<M> {
     ///
     /// Nothing is committed by it: a leader alone is no quorum of 3 or 5. So a watcher has nothing
     /// to see.
-    pub fn propose(&mut self, command: M::Command) -> Result<(), Refusal>
+    pub fn propose(&mut self, command: M::Command) -> Result<Ticket, Refusal>
         ensures same { SamePlace self.old self.new }
         // Whatever was sent before, nothing is sent.
         ensures taken { OnOk result ((s : Server M.Command) (sent : List Frame) →
             Represents M.meaning self.old s →
             Takes M.meaning self.old s (Own (Propose command)) self.new sent sent) }
         ensures leads { OnOk result (is_leader self.new.server.mode ≡ true) }
+        // It is the last entry of the log, in the leader's own term.
+        ensures ticket { IfOk result (λ t. (s : Server M.Command) →
+            Represents M.meaning self.new s → IsTicket s command t.index t.term) }
         ensures refused { IfErr result (λ cause. (s : Server M.Command) →
             Represents M.meaning self.old s →
             IsRefused M.meaning self.old.size self.old.me s (Own (Propose command)) cause) }
@@ -117,13 +124,17 @@ impl<M: Machine> Raft<M> {
     {
         self.shown();
         self.weigh(&command)?;
+        let term = self.term;
         self.log.append(Entry {
             term: self.term,
             command: Coded::new(command),
         })?;
         let ahead = self.ahead.take();
         self.ahead = brought_on(ahead, &self.log);
-        Ok(())
+        Ok(Ticket {
+            index: self.log.last(),
+            term,
+        })
     }
 
     /// A leader's machine after its whole log, committed or not. It is made where it holds none,

@@ -543,7 +543,11 @@ fn ahead(raft: &mut Raft<Tally>, count: u64, sum: u16) -> (u8, usize) {
 
 pub(super) fn propose(raft: &mut Raft<Tally>, number: u16) -> (u8, usize) {
     match Amount::new(number) {
-        Some(amount) => number_of(raft.propose(TallyCommand::Add(amount))),
+        Some(amount) => match raft.propose(TallyCommand::Add(amount)) {
+            Ok(ticket) if ticket.index == raft.last() && ticket.term == raft.term() => TAKEN,
+            Ok(_) => (98, 0),
+            Err(refusal) => number_of(Err(refusal)),
+        },
         None => (99, 0),
     }
 }

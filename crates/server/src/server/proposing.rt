@@ -10,7 +10,8 @@ use rows::{Command, Refusal};
 
 impl Server {
     /// A leader appends a command that nothing refuses; its desk stays as it is. Any refusal, want
-    /// of memory too, leaves the server as it was.
+    /// of memory too, leaves the server as it was. The ticket is dropped: who submits a plan is told
+    /// the index by its PlanResult, and nobody else of the group asks where a command stands.
     pub(super) fn propose(&mut self, command: Command) -> Result<(), Refusal>
         requires { is_up self.old.raft.server.mode ≡ true }
         ensures same { SamePlace self.old.raft self.new.raft }
@@ -23,6 +24,7 @@ impl Server {
     {
         // How many entries are applied is known to be no more than there are.
         let _applied = self.raft.applied();
-        self.raft.propose(command)
+        self.raft.propose(command)?;
+        Ok(())
     }
 }

@@ -1,12 +1,13 @@
-use Rattle.std.proofs.Common.{rules, ◌≡◌, Err, arith, length, [], ◌∷◌, ◌++◌, ap, ◌∙◌}
+use Rattle.std.proofs.Common.{rules, ◌≡◌, suc, Err, arith, length, length-append, [], ◌∷◌, ◌++◌, sym, ap, ◌∙◌}
 use Rattle.std.proofs.lemmas.Bool.{lt-ltb}
 use Rattle.machine_model.specs.declared.entry.Entry.{Entry}
 use Rattle.raft_model.specs.Servers.{Server, is_leader, extended}
 use Rattle.raft_model.specs.Logs.{MAX}
 use Rattle.rows.specs.declared.refusal.Refusal.TheVariants as refusals
 use Rattle.raft_core.specs.RaftView.{RaftView, mode_of}
-use Rattle.raft_core.proofs.Lives.{grown, leader_room, second_grown, second_behind, extended_by}
+use Rattle.raft_core.proofs.Lives.{grown, leader_room, second_grown, second_behind, extended_by, term_up, log_up}
 use Rattle.raft_core.proofs.Proposals.{refused_each, hides_each, proposed_each}
+use Rattle.raft_core.proofs.Tickets.{ticket_each}
 use Rattle.raft_core.proofs.raft.Raft.propose.Goals as goal
 
 pub returns-in_err-weigh-clause-refused : goal.returns-in_err-weigh-clause-refused
@@ -52,3 +53,19 @@ returns-clause-taken g c =
     let next = extended_by i.machine x c.args.command c.append.new.self.entries grows ∙ ap (λ (v : RaftView g.row.M.Denot g.row.M-Command.Denot). extended v.server c.args.command) c.self.view_is ∙ ap (λ (v : Server g.row.M-Command.Denot). extended v c.args.command) weighed.same.server in
     let base = c.append.ensures.base ∙ ap (λ (v : RaftView g.row.M.Denot g.row.M-Command.Denot). v.base) c.self.view_is ∙ weighed.same.base in
     proposed_each g.M.Machine.meaning c.args.self.now c.shown.ensures c.args.command _ weighed.taken base (rw c.append.ensures.base next)
+
+pub returns-clause-ticket : goal.returns-clause-ticket
+returns-clause-ticket g c =
+    let i = c.self.inside in
+    let old = c.args.self.now in
+    let weighed = c.in_ok-weigh.ensures in
+    let x : Server g.row.M-Command.Denot = record { term = i.term; vote = i.vote; log = i.log.entries; covered = i.log.base.index; commit = i.commit; known = i.known; mode = mode_of i.role i.votes.items i.next.items i.matched.items } in
+    let entry : Entry g.row.M-Command.Denot = record { term = i.term; command = c.args.command } in
+    let grows : c.append.new.self.entries ≡ i.log.entries ++ entry ∷ [] = rw c.new.ensures at c.in_ok-append.ensures.ok in
+    let kept = ap (λ (v : RaftView g.row.M.Denot g.row.M-Command.Denot). v.server) c.self.view_is ∙ weighed.same.server in
+    let next = extended_by i.machine x c.args.command c.append.new.self.entries grows ∙ ap (λ (v : Server g.row.M-Command.Denot). extended v c.args.command) kept in
+    let base = c.append.ensures.base ∙ ap (λ (v : RaftView g.row.M.Denot g.row.M-Command.Denot). v.base) c.self.view_is ∙ weighed.same.base in
+    let size : length i.log.entries ≡ length old.server.log = ap length (sym (log_up i.machine x)) ∙ ap (λ (v : Server g.row.M-Command.Denot). length v.log) kept in
+    let place : c.last.result ≡ suc (length old.server.log) = omega (arith, c.last.ensures.value, ap length grows, length-append i.log.entries (entry ∷ []), size) in
+    let own : i.term ≡ old.server.term = sym (term_up i.machine x) ∙ ap (λ (v : Server g.row.M-Command.Denot). v.term) kept in
+    ticket_each g.M.Machine.meaning old c.shown.ensures _ _ c.args.command c.last.result i.term base (rw c.append.ensures.base next) place own
