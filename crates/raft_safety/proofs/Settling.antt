@@ -3,7 +3,7 @@ use Rattle.std.proofs.Common.{◌≡◌, ℕ, zero, suc, ◌-◌, ◌<◌, ◌�
 use Rattle.std.proofs.lemmas.Option.{same_Some}
 use Rattle.machine_model.specs.declared.entry.Entry.{Entry}
 use Rattle.raft_model.specs.Logs.{term_at}
-use Rattle.raft_model.specs.Servers.{Server}
+use Rattle.raft_model.specs.Rafts.{Raft}
 use Rattle.raft_model.specs.Worlds.{World}
 use Rattle.raft_model.specs.Chains.{Agree, At, Chain}
 use Rattle.raft_safety.specs.Claims.{LogMatching}
@@ -31,7 +31,7 @@ module _ {C : Type 0} where
   get_term (x ∷ A) (suc p) e at = get_term A p e at
 
   -- a server of a run is one of each run that goes on from it
-  pub at_later : (past : List (World C)) (w : World C) (later : List (World C)) (last : World C) → GoesOn past w later last → (k i : ℕ) (s : Server C) → At past w k i s → At later last k i s
+  pub at_later : (past : List (World C)) (w : World C) (later : List (World C)) (last : World C) → GoesOn past w later last → (k i : ℕ) (s : Raft C) → At past w k i s → At later last k i s
   at_later past w later last on k i s a =
       let front = get-more (past ++ w ∷ []) on.rest k a.world a.world_is in
       let all : later ++ last ∷ [] ≡ (past ++ w ∷ []) ++ on.rest = on.worlds ∙ sym (append_assoc past (w ∷ []) on.rest) in
@@ -43,7 +43,7 @@ module _ {C : Type 0} where
       record { moment = s.moment; who = s.who; server = s.server; at = at_later past w later last on s.moment s.who s.server s.at; one = s.one; there = s.there }
 
   module _ (past : List (World C)) (w : World C) (match : LogMatching past w) (list : List (Entry C)) (chain : Chain past w list)
-      (k i index : ℕ) (s : Server C) (a : At past w k i s) (one : 1 ≤ index) (le : index ≤ s.commit) where
+      (k i index : ℕ) (s : Raft C) (a : At past w k i s) (one : 1 ≤ index) (le : index ≤ s.commit) where
     agrees : Agree s.commit s.log list
     agrees = chain.agrees k i s a
 

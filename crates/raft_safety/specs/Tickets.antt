@@ -3,7 +3,7 @@
 use Rattle.std.specs.Prelude.{◌≡◌, ℕ, ◌-◌, ◌≤◌, Some, List, [], ◌∷◌, ◌++◌, slice_get}
 use Rattle.machine_model.specs.declared.entry.Entry.{Entry}
 use Rattle.raft_model.specs.Logs.{term_at}
-use Rattle.raft_model.specs.Servers.{Server}
+use Rattle.raft_model.specs.Rafts.{Raft}
 use Rattle.raft_model.specs.Worlds.{World}
 use Rattle.raft_model.specs.Chains.{At, Chain}
 
@@ -11,7 +11,7 @@ use Rattle.raft_model.specs.Chains.{At, Chain}
 pub record Stood {C : Type 0} (past : List (World C)) (w : World C) (index term : ℕ) (command : C) : Type 0 where
   pub moment : ℕ
   pub who : ℕ
-  pub server : Server C
+  pub server : Raft C
   pub at : At past w moment who server
   pub one : 1 ≤ index
   pub there : slice_get server.log (index - 1) ≡ Some (record { term = term; command = command })
@@ -38,5 +38,5 @@ pub record IsSettledIn {C : Type 0} (past : List (World C)) (w : World C) (list 
 
 -- whatever a server has committed, at any moment, is settled, in the term that it has there
 abbrev pub CommittedIsSettled : {C : Type 0} → List (World C) → World C → List (Entry C) → Type 0
-CommittedIsSettled {C} past w list = (k i index : ℕ) (s : Server C) → At past w k i s → 1 ≤ index → index ≤ s.commit →
+CommittedIsSettled {C} past w list = (k i index : ℕ) (s : Raft C) → At past w k i s → 1 ≤ index → index ≤ s.commit →
     IsSettledIn past w list index (term_at s.log index)

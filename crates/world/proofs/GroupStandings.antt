@@ -5,12 +5,12 @@ use Rattle.raft_core.specs.declared.ticket.Standing.{Standing}
 use Rattle.raft_core.specs.Tickets.{standing_of}
 use Rattle.raft_safety.specs.Tickets.{Settled, CommittedIsSettled}
 use Rattle.raft_safety.proofs.Places.{get-last}
-use Rattle.group_model.specs.Members.{Member}
+use Rattle.group_model.specs.Servers.{Server}
 use Rattle.group_model.specs.Worlds.{World, raft_of, raft_part}
 use Rattle.group_safety.specs.Claims.{OfTheList, logs}
 use Rattle.group_safety.specs.Limits.{NodesFit, LimitsAreKept}
 use Rattle.group_safety.proofs.Lists.{get_map}
-use Rattle.server.specs.ServerViews.{ServerView, IsMember}
+use Rattle.server.specs.ServerViews.{ServerView, IsServer}
 use Rattle.world.specs.GroupView.{GroupView, GroupRunsTo, nodes_of}
 use Rattle.world.specs.GroupClaims.{OneGroupList}
 use Rattle.world.specs.Tickets.{running_standing, standing_in}
@@ -22,12 +22,12 @@ use Rattle.world.proofs.Zips.{zip_at, zip_none}
 
 module _ (view : GroupView) (i index term : ℕ) (past : List World) (w : World) (runs : GroupRunsTo view past w) where
   pub no_standing : slice_get view.servers i ≡ None → None ≡ standing_in (raft_of w) i index term
-  no_standing gone = let st = runs.represents in let none : slice_get w.servers i ≡ None = zip_none IsMember view.servers w.servers i st.servers gone in rw (get_map_none raft_part w.servers i none) refl
+  no_standing gone = let st = runs.represents in let none : slice_get w.servers i ≡ None = zip_none IsServer view.servers w.servers i st.servers gone in rw (get_map_none raft_part w.servers i none) refl
 
-  pub standing_is : (h : ServerView) (r : Option Standing) → slice_get view.servers i ≡ Some h → ((s : Member) → IsMember h s → r ≡ standing_of s.raft index term) → r ≡ standing_in (raft_of w) i index term
+  pub standing_is : (h : ServerView) (r : Option Standing) → slice_get view.servers i ≡ Some h → ((s : Server) → IsServer h s → r ≡ standing_of s.raft index term) → r ≡ standing_in (raft_of w) i index term
   standing_is h r here says =
       let st = runs.represents in
-      let s = zip_at IsMember view.servers w.servers i h st.servers here in
+      let s = zip_at IsServer view.servers w.servers i h st.servers here in
       says s.0 s.2 ∙ ap (running_standing index term) (sym (get_map raft_part w.servers i s.0 s.1))
 
 -- what a server has applied is settled

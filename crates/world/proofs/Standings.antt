@@ -8,7 +8,7 @@ use Rattle.rows.specs.declared.refusal.Refusal.TheVariants as refusals
 use Rattle.machine_model.specs.Meaning.{Meaning}
 use Rattle.machine_model.specs.declared.entry.Entry.{Entry}
 use Rattle.raft_model.specs.Logs.{term_at}
-use Rattle.raft_model.specs.Servers.{Server, Turn, is_up, is_leader, silent, extended}
+use Rattle.raft_model.specs.Rafts.{Raft, RaftTurn, is_up, is_leader, silent, extended}
 use Rattle.raft_model.specs.Steps.{Propose, unless, admission_refusal, step}
 use Rattle.raft_model.specs.Worlds.{World, Event, Proposes, Run, start, more, happens, input_to, after_turn}
 use Rattle.raft_model.specs.Chains.{At, Chain}
@@ -58,12 +58,12 @@ covered_by true true covered same h = absurd (cc)
 covered_by true false covered same h = refl
 
 -- a server has applied the entry at this index, and its term there is such
-pub record Applies {C : Type 0} (s : Server C) (index : ℕ) (IsSuch : ℕ → Type 0) : Type 0 where
+pub record Applies {C : Type 0} (s : Raft C) (index : ℕ) (IsSuch : ℕ → Type 0) : Type 0 where
   pub one : 1 ≤ index
   pub applied : index ≤ s.commit
   pub such : IsSuch (term_at s.log index)
 
-module _ {C : Type 0} (s : Server C) (index term : ℕ) where
+module _ {C : Type 0} (s : Raft C) (index term : ℕ) where
   settled_applies : standing_of s index term ≡ Some Settled → Applies s index (λ t. t ≡ term)
   settled_applies h =
       let q = settled_by (is_up s.mode) (nat_lt s.commit index) (nat_le index s.covered) (term_at s.log index == term) h in
@@ -81,18 +81,18 @@ module _ {C : Type 0} (s : Server C) (index term : ℕ) where
 
 -- a server that is there, and applies
 abbrev pub AppliesIn : {C : Type 0} → World C → ℕ → ℕ → (ℕ → Type 0) → Type 0
-AppliesIn {C} w i index IsSuch = (s : Server C) × (slice_get w.servers i ≡ Some s) × Applies s index IsSuch
+AppliesIn {C} w i index IsSuch = (s : Raft C) × (slice_get w.servers i ≡ Some s) × Applies s index IsSuch
 
 module _ {C : Type 0} (index term : ℕ) where
-  settled_running : (o : Option (Server C)) → running_standing index term o ≡ Some Settled → (s : Server C) × (o ≡ Some s) × Applies s index (λ t. t ≡ term)
+  settled_running : (o : Option (Raft C)) → running_standing index term o ≡ Some Settled → (s : Raft C) × (o ≡ Some s) × Applies s index (λ t. t ≡ term)
   settled_running None h = absurd (cc)
   settled_running (Some s) h = (s, refl, settled_applies s index term h)
 
-  lost_running : (o : Option (Server C)) → running_standing index term o ≡ Some Lost → (s : Server C) × (o ≡ Some s) × Applies s index (λ t. t ≢ term)
+  lost_running : (o : Option (Raft C)) → running_standing index term o ≡ Some Lost → (s : Raft C) × (o ≡ Some s) × Applies s index (λ t. t ≢ term)
   lost_running None h = absurd (cc)
   lost_running (Some s) h = (s, refl, lost_applies s index term h)
 
-  covered_running : 1 ≤ index → (o : Option (Server C)) → running_standing index term o ≡ Some Covered → (s : Server C) × (o ≡ Some s) × Applies s index (λ t. Unit {0})
+  covered_running : 1 ≤ index → (o : Option (Raft C)) → running_standing index term o ≡ Some Covered → (s : Raft C) × (o ≡ Some s) × Applies s index (λ t. Unit {0})
   covered_running one None h = absurd (cc)
   covered_running one (Some s) h = (s, refl, covered_applies s index term one h)
 
@@ -112,7 +112,7 @@ module _ {S C : Type 0} (m : Meaning S C) where
     pub no_standing : slice_get seen.servers i ≡ None → None ≡ standing_in w i index term
     no_standing gone = let st = runs.represents in let none : slice_get w.servers i ≡ None = zip_none (Represents m) seen.servers w.servers i st.servers gone in rw none refl
 
-    pub standing_is : (h : RaftView S C) (r : Option Standing) → slice_get seen.servers i ≡ Some h → ((s : Server C) → Represents m h s → r ≡ standing_of s index term) → r ≡ standing_in w i index term
+    pub standing_is : (h : RaftView S C) (r : Option Standing) → slice_get seen.servers i ≡ Some h → ((s : Raft C) → Represents m h s → r ≡ standing_of s index term) → r ≡ standing_in w i index term
     standing_is h r here says =
         let st = runs.represents in
         let s = zip_at (Represents m) seen.servers w.servers i h st.servers here in
@@ -143,7 +143,7 @@ module _ {S C : Type 0} (m : Meaning S C) where
 
   -- ---- a proposal
 
-  turn_is : (up leads : Bool) (a : Option Refusal) (known : Option ℕ) (turn t : Turn C) →
+  turn_is : (up leads : Bool) (a : Option Refusal) (known : Option ℕ) (turn t : RaftTurn C) →
       (if up then (if leads then unless a turn else Err (refusals.NotLeader known)) else Err refusals.Down) ≡ Ok t → turn ≡ t
   turn_is false leads a known turn t h = absurd (cc)
   turn_is true false a known turn t h = absurd (cc)
@@ -152,16 +152,16 @@ module _ {S C : Type 0} (m : Meaning S C) where
 
   module _ (i : ℕ) (command : C) where
     -- the server that took it is longer by the command
-    turned : (prev w : World C) (s : Server C) → slice_get prev.servers i ≡ Some s → (r : Result (Turn C) Refusal) → step m (length prev.servers) i s (Propose command) ≡ r → after_turn m prev i r ≡ Ok w →
+    turned : (prev w : World C) (s : Raft C) → slice_get prev.servers i ≡ Some s → (r : Result (RaftTurn C) Refusal) → step m (length prev.servers) i s (Propose command) ≡ r → after_turn m prev i r ≡ Ok w →
         slice_get w.servers i ≡ Some (extended s command)
     turned prev w s here (Err cause) is h = absurd (cc)
     turned prev w s here (Ok t) is h =
         let turn = turn_is (is_up s.mode) (is_leader s.mode) (admission_refusal m s command) s.known (silent (extended s command)) t is in
         let next = same_ok _ _ h in
         ap (λ (x : World C). slice_get x.servers i) (sym next)
-        ∙ (get_set-same prev.servers i t.server (get-within prev.servers i s here) ∙ ap (λ (x : Turn C). Some x.server) (sym turn))
+        ∙ (get_set-same prev.servers i t.server (get-within prev.servers i s here) ∙ ap (λ (x : RaftTurn C). Some x.server) (sym turn))
 
-    taken_by : (prev w : World C) (o : Option (Server C)) → slice_get prev.servers i ≡ o → input_to m prev i (Propose command) o ≡ Ok w → (s : Server C) × (slice_get w.servers i ≡ Some (extended s command))
+    taken_by : (prev w : World C) (o : Option (Raft C)) → slice_get prev.servers i ≡ o → input_to m prev i (Propose command) o ≡ Ok w → (s : Raft C) × (slice_get w.servers i ≡ Some (extended s command))
     taken_by prev w None here h = absurd (cc)
     taken_by prev w (Some s) here h = (s, turned prev w s here (step m (length prev.servers) i s (Propose command)) refl h)
 
@@ -183,21 +183,21 @@ module _ {S C : Type 0} (m : Meaning S C) where
         let both = sym q.1 ∙ none in cc
 
     module _ (old new : WorldView S C) (happened : EventHappened m old (Proposes i command) new) (view : RaftView S C) (here : slice_get new.servers i ≡ Some view) (index term : ℕ)
-        (last : (s : Server C) → Represents m view s → index ≡ length s.log) (own : (s : Server C) → Represents m view s → term ≡ s.term) where
-      ticket_in : (past : List (World C)) (w : World C) → RunsTo m new past w → (s : Server C) × (slice_get w.servers i ≡ Some s) × IsTicket s command index term
+        (last : (s : Raft C) → Represents m view s → index ≡ length s.log) (own : (s : Raft C) → Represents m view s → term ≡ s.term) where
+      ticket_in : (past : List (World C)) (w : World C) → RunsTo m new past w → (s : Raft C) × (slice_get w.servers i ≡ Some s) × IsTicket s command index term
       ticket_in past w runs =
           let st = runs.represents in
           let t = zip_at (Represents m) new.servers w.servers i view st.servers here in
           let p = last_step (length new.servers) new.trace past w runs.run old.trace (Proposes i command) happened.trace in
           let q = taken_by p.0 w (slice_get p.0.servers i) refl p.1 in
           let is : t.0 ≡ extended q.0 command = same_Some t.0 (extended q.0 command) (sym t.1 ∙ q.1) in
-          let term_is : term ≡ q.0.term = own t.0 t.2 ∙ ap (λ (x : Server C). x.term) is in
-          let size : index ≡ suc (length q.0.log) = last t.0 t.2 ∙ (ap (λ (x : Server C). length x.log) is ∙ push_length q.0.log _) in (
+          let term_is : term ≡ q.0.term = own t.0 t.2 ∙ ap (λ (x : Raft C). x.term) is in
+          let size : index ≡ suc (length q.0.log) = last t.0 t.2 ∙ (ap (λ (x : Raft C). length x.log) is ∙ push_length q.0.log _) in (
             t.0,
             t.1,
             record {
               before = q.0.log;
-              log = ap (λ (x : Server C). x.log) is ∙ ap (λ (k : ℕ). let e : Entry C = record { term = k; command = command } in q.0.log ++ e ∷ []) (sym term_is);
+              log = ap (λ (x : Raft C). x.log) is ∙ ap (λ (k : ℕ). let e : Entry C = record { term = k; command = command } in q.0.log ++ e ∷ []) (sym term_is);
               place = size;
               own = own t.0 t.2;
             },

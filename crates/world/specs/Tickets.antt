@@ -3,7 +3,7 @@
 use Rattle.std.specs.Prelude.{◌≡◌, ℕ, Option, Some, None, List, length, slice_get}
 use Rattle.machine_model.specs.Meaning.{Meaning}
 use Rattle.machine_model.specs.declared.entry.Entry.{Entry}
-use Rattle.raft_model.specs.Servers.{Server}
+use Rattle.raft_model.specs.Rafts.{Raft}
 use Rattle.raft_model.specs.Worlds.{World}
 use Rattle.raft_model.specs.Chains.{Chain}
 use Rattle.raft_core.specs.declared.ticket.Standing.{Standing}
@@ -18,7 +18,7 @@ abbrev pub done_by : {A : Type 0} → Option A → Done
 done_by None = Crashed
 done_by (Some ticket) = Taken
 
-abbrev pub running_standing : {C : Type 0} → ℕ → ℕ → Option (Server C) → Option Standing
+abbrev pub running_standing : {C : Type 0} → ℕ → ℕ → Option (Raft C) → Option Standing
 running_standing index term None = None
 running_standing index term (Some s) = standing_of s index term
 
@@ -34,7 +34,7 @@ pub record TicketNow {S C : Type 0} (m : Meaning S C) (view : WorldView S C) (i 
   pub world : World C
   pub runs : RunsTo m view past world
   pub ever : (past : List (World C)) (w : World C) → RunsTo m view past w →
-      (s : Server C) × (slice_get w.servers i ≡ Some s) × IsTicket s command index term
+      (s : Raft C) × (slice_get w.servers i ≡ Some s) × IsTicket s command index term
 
 -- The value has a run, and in each of its runs some server's log had this command at some moment at
 -- this index, in this term.

@@ -256,8 +256,8 @@ fn is_known(bank: Option<&Bank>, known: Known) -> bool {
 }
 
 fn are_known(world: &RaftWorld<Bank>, banks: &[Known]) -> bool {
-    for (place, known) in banks.iter().enumerate() {
-        let Some(server) = ServerId::from_place(place) else {
+    for (position, known) in banks.iter().enumerate() {
+        let Some(server) = ServerId::from_position(position) else {
             return false;
         };
         if !is_known(bank_of(world, server), *known) {

@@ -8,8 +8,8 @@ use Rattle.cluster_model.specs.Words.{State}
 use Rattle.cluster_model.specs.Effect.{touched}
 use Rattle.fsm_state.specs.Inner.Steps.{is_named_in}
 
-pub turned : {A E : Type 0} (r : Result A E) (x y z : State) → y ≡ z → OnOk r (x ≡ y) → OnOk r (x ≡ z)
-turned r x y z e h = subst (λ (w : State). OnOk r (x ≡ w)) e h
+pub retold : {A E : Type 0} (r : Result A E) (x y z : State) → y ≡ z → OnOk r (x ≡ y) → OnOk r (x ≡ z)
+retold r x y z e h = subst (λ (w : State). OnOk r (x ≡ w)) e h
 
 pub touched_both : (those : Job → Bool) (names : BTreeSet (List ℕ)) (s t : State) → ((j : Job) → those j ≡ is_named_in names j) → s ≡ t → touched (is_named_in names) s ≡ touched those t
 touched_both those names s t h e = λ i. touched (λ j. sym (h j) i) (e i)

@@ -1,6 +1,6 @@
 use Rattle.std.proofs.Common.{ℕ, ◌<◌, ◌≤◌, length, get_or}
 use Rattle.group_model.specs.Desks.{QueuedPlan}
-use Rattle.plan_queue.proofs.queue.first_place.Given as goal
+use Rattle.plan_queue.proofs.queue.first_position.Given as goal
 
 abbrev pub invariant-loop-at : goal.invariant-loop-at
 invariant-loop-at l = record {

@@ -4,35 +4,35 @@ use Rattle.std.proofs.lemmas.Bool.Decides.{leb_tells}
 use Rattle.machine_model.specs.declared.entry.Entry.{Entry}
 use Rattle.raft_model.specs.Messages.{Body, VoteRequest, VoteReply, Append, AppendReply, Install, InstallReply}
 use Rattle.raft_model.specs.Quorums.{is_quorum, marked, index_at}
-use Rattle.raft_model.specs.Servers.{Server, Turn, Mode, Down, Follower, Candidate, Leader, is_leader, silent, reply, met, grants, granted, won, counted, following, is_held, appended, follows_append, match_raised, backed_off, is_chosen, advanced_in, advanced, hears_ok, hears_refusal}
+use Rattle.raft_model.specs.Rafts.{Raft, RaftTurn, Mode, Down, Follower, Candidate, Leader, is_leader, silent, reply, met, grants, granted, won, counted, following, is_held, appended, follows_append, match_raised, backed_off, is_chosen, advanced_in, advanced, hears_ok, hears_refusal}
 use Rattle.raft_model.specs.Steps.{receives}
 use Rattle.raft_snapshot.specs.Filled.{refilled, filled, filled_turn, MayFill, IsPlain}
 use Rattle.raft_snapshot.proofs.Logs.{filled-length, filled-term, filled-last_term, filled-has, filled-grown, filled-merge, greatest-same}
 
 module _ {C : Type 0} (P : List (Entry C)) where
-  met_at : (term : ℕ) (s : Server C) (b : Bool) → nat_lt s.term term ≡ b → met term (filled P s) ≡ filled P (met term s)
+  met_at : (term : ℕ) (s : Raft C) (b : Bool) → nat_lt s.term term ≡ b → met term (filled P s) ≡ filled P (met term s)
   met_at term s true is = rw is refl
   met_at term s false is = rw is refl
 
-  pub met-filled : (term : ℕ) (s : Server C) → met term (filled P s) ≡ filled P (met term s)
+  pub met-filled : (term : ℕ) (s : Raft C) → met term (filled P s) ≡ filled P (met term s)
   met-filled term s = met_at term s (nat_lt s.term term) refl
 
-  may_met_at : (term : ℕ) (s : Server C) (b : Bool) → nat_lt s.term term ≡ b → MayFill P s → MayFill P (met term s)
+  may_met_at : (term : ℕ) (s : Raft C) (b : Bool) → nat_lt s.term term ≡ b → MayFill P s → MayFill P (met term s)
   may_met_at term s true is may = rw is (record { within = may.within; term = may.term; committed = may.committed })
   may_met_at term s false is may = rw is may
 
-  pub may-met : (term : ℕ) (s : Server C) → MayFill P s → MayFill P (met term s)
+  pub may-met : (term : ℕ) (s : Raft C) → MayFill P s → MayFill P (met term s)
   may-met term s may = may_met_at term s (nat_lt s.term term) refl may
 
-  either : (t : Bool) (a b x y : Server C) → a ≡ filled P x → b ≡ filled P y → (if t then a else b) ≡ filled P (if t then x else y)
+  either : (t : Bool) (a b x y : Raft C) → a ≡ filled P x → b ≡ filled P y → (if t then a else b) ≡ filled P (if t then x else y)
   either true a b x y p q = p
   either false a b x y p q = q
 
-  either_turn : (t : Bool) (a b x y : Turn C) → a ≡ filled_turn P x → b ≡ filled_turn P y → (if t then a else b) ≡ filled_turn P (if t then x else y)
+  either_turn : (t : Bool) (a b x y : RaftTurn C) → a ≡ filled_turn P x → b ≡ filled_turn P y → (if t then a else b) ≡ filled_turn P (if t then x else y)
   either_turn true a b x y p q = p
   either_turn false a b x y p q = q
 
-  module _ (s : Server C) (may : MayFill P s) where
+  module _ (s : Raft C) (may : MayFill P s) where
     grants-filled : (from term index its_last : ℕ) → grants (filled P s) from term index its_last ≡ grants s from term index its_last
     grants-filled from term index its_last = rw (filled-last_term P s.log may.within may.term, filled-length P s.log may.within may.term) refl
 
@@ -71,23 +71,23 @@ module _ {C : Type 0} (P : List (Entry C)) where
         (λ k above. rw (filled-term P s.log may.within may.term k (omega (arith, above, may.committed))) refl) in
         rw (filled-length P s.log may.within may.term, same) refl
 
-  pub hears_refusal-filled : (s : Server C) (may : MayFill P s) (n me j at : ℕ) (mode : Mode) → hears_refusal n me (filled P s) j at mode ≡ filled P (hears_refusal n me s j at mode)
+  pub hears_refusal-filled : (s : Raft C) (may : MayFill P s) (n me j at : ℕ) (mode : Mode) → hears_refusal n me (filled P s) j at mode ≡ filled P (hears_refusal n me s j at mode)
   hears_refusal-filled s may n me j at Down = refl
   hears_refusal-filled s may n me j at Follower = refl
   hears_refusal-filled s may n me j at (Candidate votes) = refl
   hears_refusal-filled s may n me j at (Leader next match) = advanced_in-filled (backed_off s j at next match) (record { within = may.within; term = may.term; committed = may.committed }) n me (backed_off s j at next match).mode
 
-  acked_at : (s : Server C) (may : MayFill P s) (n me j at : ℕ) (next match : List ℕ) (b : Bool) → nat_le at (length s.log) ≡ b → nat_le at (length (refilled P s.log)) ≡ b → advanced n me (match_raised (filled P s) j at next match) ≡ filled P (advanced n me (match_raised s j at next match))
+  acked_at : (s : Raft C) (may : MayFill P s) (n me j at : ℕ) (next match : List ℕ) (b : Bool) → nat_le at (length s.log) ≡ b → nat_le at (length (refilled P s.log)) ≡ b → advanced n me (match_raised (filled P s) j at next match) ≡ filled P (advanced n me (match_raised s j at next match))
   acked_at s may n me j at next match true is also = rw (is, also) (let after = Leader (slice_set next j (suc (max (index_at match j) at))) (slice_set match j (max (index_at match j) at)) in advanced_in-filled (record s { mode = after }) (record { within = may.within; term = may.term; committed = may.committed }) n me after)
   acked_at s may n me j at next match false is also = rw (is, also) (advanced_in-filled s may n me s.mode)
 
-  pub hears_ok-filled : (s : Server C) (may : MayFill P s) (n me j at : ℕ) (mode : Mode) → hears_ok n me (filled P s) j at mode ≡ filled P (hears_ok n me s j at mode)
+  pub hears_ok-filled : (s : Raft C) (may : MayFill P s) (n me j at : ℕ) (mode : Mode) → hears_ok n me (filled P s) j at mode ≡ filled P (hears_ok n me s j at mode)
   hears_ok-filled s may n me j at Down = refl
   hears_ok-filled s may n me j at Follower = refl
   hears_ok-filled s may n me j at (Candidate votes) = refl
   hears_ok-filled s may n me j at (Leader next match) = acked_at s may n me j at next match (nat_le at (length s.log)) refl (ap (nat_le at) (filled-length P s.log may.within may.term))
 
-  received : (noop : C) (n me : ℕ) (s : Server C) → MayFill P s → (from term : ℕ) (body : Body C) → IsPlain body → receives noop n me (filled P s) from term body ≡ filled_turn P (receives noop n me s from term body)
+  received : (noop : C) (n me : ℕ) (s : Raft C) → MayFill P s → (from term : ℕ) (body : Body C) → IsPlain body → receives noop n me (filled P s) from term body ≡ filled_turn P (receives noop n me s from term body)
   received noop n me s may from term (VoteRequest index its_last) plain = rw (grants-filled s may from term index its_last) (voted s may me from term (grants s from term index its_last))
   received noop n me s may from term (VoteReply asked granting) plain = ap silent (either ((asked == s.term) && granting) _ _ _ _ (counted-filled s may noop n from s.mode) refl)
   received noop n me s may from term (Append prev prev_term commit entries) plain =
@@ -98,5 +98,5 @@ module _ {C : Type 0} (P : List (Entry C)) where
   received noop n me s may from term (InstallReply asked at) plain = ap silent (either (asked == s.term) _ _ _ _ (hears_ok-filled s may n me from at s.mode) refl)
   received noop n me s may from term (Install Q) plain = absurd plain
 
-  pub receives-filled : (noop : C) (n me : ℕ) (s : Server C) → MayFill P s → (from term : ℕ) (body : Body C) → IsPlain body → receives noop n me (met term (filled P s)) from term body ≡ filled_turn P (receives noop n me (met term s) from term body)
-  receives-filled noop n me s may from term body plain = ap (λ (x : Server C). receives noop n me x from term body) (met-filled term s) ∙ received noop n me (met term s) (may-met term s may) from term body plain
+  pub receives-filled : (noop : C) (n me : ℕ) (s : Raft C) → MayFill P s → (from term : ℕ) (body : Body C) → IsPlain body → receives noop n me (met term (filled P s)) from term body ≡ filled_turn P (receives noop n me (met term s) from term body)
+  receives-filled noop n me s may from term body plain = ap (λ (x : Raft C). receives noop n me x from term body) (met-filled term s) ∙ received noop n me (met term s) (may-met term s may) from term body plain

@@ -42,12 +42,12 @@ abbrev pub lifeline_x : ℕ → ℕ → ℕ
 lifeline_x by column = capped (capped (by * column) + 290)
 
 -- which of those that are drawn a lifeline is, and where it stands
-abbrev pub place_of : ℕ → Option (Option ℕ) → ℕ
-place_of column (Some (Some place)) = place
-place_of column _ = column
+abbrev pub position_of : ℕ → Option (Option ℕ) → ℕ
+position_of column (Some (Some place)) = place
+position_of column _ = column
 
 abbrev pub column_x : Layout → ℕ → ℕ
-column_x layout column = lifeline_x layout.pitch (place_of column (slice_get layout.places.items column))
+column_x layout column = lifeline_x layout.pitch (position_of column (slice_get layout.places.items column))
 
 -- how far down an event stands
 abbrev pub row_y : Layout → ℕ → ℕ

@@ -8,7 +8,7 @@ use Rattle.std.specs.declared.cmp.Ordering.TheVariants.{Less, Equal, Greater}
 use Rattle.std.specs.Ordering.{is_eq, ordering_reverse, ordering_index}
 use Rattle.std.specs.Cmp.{IsTotalOrder}
 use Rattle.pages.specs.Rows.{by_order, is_below, is_rising, row_of, put}
-use Rattle.pages.specs.Places.{PlaceOf}
+use Rattle.pages.specs.Positions.{PositionOf}
 use Rattle.pages.specs.Inner.Parts.{FirstsSplit}
 use Rattle.pages.proofs.RowLaws.{first, second, less, none_below, below_less}
 
@@ -90,13 +90,13 @@ module _ {K X : Type 0} (R : K → K → Ordering) (key : X → K) (o : IsTotalO
       let p = s (answers_rise k ys h) in
       (le, λ i d lt. p.0 i d (omega arith) lt, λ i d le lt. p.1 i d le lt)
 
-  pub place_found : (k : K) (ys : List X) (r : Result ℕ ℕ) → T (is_rising R key ys) → IsSearchInRange r (length ys) → IsBinarySearchResult (λ y. R (key y) k) ys r → PlaceOf R key k ys r
-  place_found k ys (Ok at) h lt s = (
+  pub position_found : (k : K) (ys : List X) (r : Result ℕ ℕ) → T (is_rising R key ys) → IsSearchInRange r (length ys) → IsBinarySearchResult (λ y. R (key y) k) ys r → PositionOf R key k ys r
+  position_found k ys (Ok at) h lt s = (
     lt,
     λ d. found_row k ys at d h lt (s d),
     λ x e. found_put x ys at x h lt (ap (λ q. R (key (get_or ys at x)) q) e ∙ s x),
   )
-  place_found k ys (Err at) h le s =
+  position_found k ys (Err at) h le s =
       let p = s (answers_rise k ys h) in
       let splits : Splits k ys at = (λ i d lt. p.0 i d (omega arith) lt, λ i d le lt. p.1 i d le lt) in
       (le, missing_row k ys at h le splits, λ x e. missing_put x ys at h le (subst (λ q. Splits q ys at) (sym e) splits))
