@@ -1,11 +1,11 @@
 -- What a contract sees of a client.
 use Rattle.std.specs.Prelude.{ℕ, None}
-use Rattle.group_model.specs.Agents.{Agent}
+use Rattle.group_model.specs.Clients.{Client}
 
 -- how many servers its group has, and the client that it is
 pub record AgentView : Type 0 where
   pub size : ℕ
-  pub client : Agent
+  pub client : Client
 
 -- what a crash leaves
 abbrev pub crashed_agent : AgentView → AgentView

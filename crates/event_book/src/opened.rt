@@ -46,7 +46,7 @@ fn known(actor: Actor)
 {
     match actor {
         Actor::Server(server) => {
-            server.position();
+            server.place();
         }
         Actor::Client(client) => {
             client.number();

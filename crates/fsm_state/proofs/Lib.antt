@@ -1,6 +1,6 @@
 pub mod Touching
 pub mod Losses
-pub mod Retold
+pub mod Turns
 pub mod Admitting
 pub mod StateTexts
 pub mod Alone

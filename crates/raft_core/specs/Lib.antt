@@ -5,5 +5,4 @@ pub mod Steps
 pub mod Refusals
 pub mod Commits
 pub mod StoredParts
-pub mod Tickets
 pub mod Inner

@@ -1,4 +1,4 @@
-pub mod Servers
+pub mod Members
 pub mod DeskCalls
 pub mod Serving
 pub mod Requests

@@ -28,7 +28,7 @@ const PARTS: [Part; 3] = [Part::World, Part::Turn, Part::Program];
 
 // Where the play is: in which part, and how far.
 #[derive(Drop)]
-struct Progress {
+struct Place {
     part: Option<Part>,
     at: usize,
 }
@@ -46,14 +46,14 @@ fn play<R: Threads + Wait + Copy + Send + Sync + 'static>(
     rt: &HostRuntime,
     on: R,
     part: Part,
-    progress: &mut Progress,
+    place: &mut Place,
 ) -> Result<(), Stop> {
-    progress.part = Some(part);
-    progress.at = 0;
+    place.part = Some(part);
+    place.at = 0;
     match part {
-        Part::World => group::play(rt.alloc(), &row::row(rt)?, &mut progress.at),
-        Part::Turn => turns::play(&on, rt.alloc(), &row::row(rt)?, &mut progress.at),
-        Part::Program => said::play(rt, on, &mut progress.at),
+        Part::World => group::play(rt.alloc(), &row::row(rt)?, &mut place.at),
+        Part::Turn => turns::play(&on, rt.alloc(), &row::row(rt)?, &mut place.at),
+        Part::Program => said::play(rt, on, &mut place.at),
     }
 }
 
@@ -69,24 +69,24 @@ fn words(rt: &HostRuntime) -> Result<Vec<String>, Stop> {
 fn play_named<R: Threads + Wait + Copy + Send + Sync + 'static>(
     rt: &HostRuntime,
     on: R,
-    progress: &mut Progress,
+    place: &mut Place,
 ) -> Result<(), Stop> {
     let words = words(rt)?;
     if let Some(word) = words.first() {
         let part = named(word.as_str()).ok_or(Stop::Unread)?;
-        return play(rt, on, part, progress);
+        return play(rt, on, part, place);
     }
     for part in PARTS {
-        play(rt, on, part, progress)?;
+        play(rt, on, part, place)?;
     }
     Ok(())
 }
 
 fn main(rt: HostRuntime) -> ExitCode {
-    let mut progress = Progress { part: None, at: 0 };
-    let said = match play_named(&rt, rt, &mut progress) {
+    let mut place = Place { part: None, at: 0 };
+    let said = match play_named(&rt, rt, &mut place) {
         Ok(()) | Err(Stop::NoMemory) => println!(rt; "holds"),
-        Err(stop) => println!(rt; "{:?} {}: {stop:?}", progress.part, progress.at),
+        Err(stop) => println!(rt; "{:?} {}: {stop:?}", place.part, place.at),
     };
     ExitCode::from(u8::from(said.is_err()))
 }

@@ -8,7 +8,6 @@ mod group;
 mod history;
 mod input;
 mod machines;
-mod tickets;
 mod world;
 
 pub use done::Done;
