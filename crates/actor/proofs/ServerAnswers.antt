@@ -2,11 +2,11 @@
 use Rattle.std.proofs.Common.{◌≡◌, ℕ, Bool, true, false, Result, Ok, Err, refl, subst, sym}
 use Rattle.rows.specs.declared.refusal.Refusal.{Refusal}
 use Rattle.rows.specs.declared.refusal.Refusal.TheVariants as refusals
-use Rattle.raft_model.specs.Servers.{is_up}
+use Rattle.raft_model.specs.Rafts.{is_up}
 use Rattle.group_model.specs.Inputs.{Arrives, Timeout, Beat, Request, TakeFrom, SubmitTo, FinishAt, NackAt, PlanTurn, Lapse, Expire, DrainTurn, FreeTurn, Reap, Compact, Crash, Restart}
-use Rattle.group_model.specs.Members.{Member}
+use Rattle.group_model.specs.Servers.{Server}
 use Rattle.server.specs.declared.server.Outbox.{Outbox}
-use Rattle.server.specs.ServerViews.{ServerView, IsMember, SameMember, crashed_member}
+use Rattle.server.specs.ServerViews.{ServerView, IsServer, SameServer, crashed_server}
 use Rattle.server.specs.Handings.{Handing, FrameBytes, OwnInput}
 use Rattle.server.specs.Refusals.{MayLackMemory, NoMemoryLeaves}
 use Rattle.server.specs.Answers.{HandedIn}
@@ -15,11 +15,11 @@ use Rattle.actor.specs.Answers.{ServerAnswers}
 use Rattle.actor.specs.Handed.{restarts_server}
 use Rattle.actor.specs.Inner.Outcomes.{outcome, without_memory}
 
-same_member : (old new : ServerView) → new ≡ old → SameMember old new
-same_member old new e = subst (λ (v : ServerView). SameMember old v) (sym e) (record { raft = record { me = refl; size = refl; base = refl; server = refl }; desk = refl })
+same_server : (old new : ServerView) → new ≡ old → SameServer old new
+same_server old new e = subst (λ (v : ServerView). SameServer old v) (sym e) (record { raft = record { me = refl; size = refl; base = refl; server = refl }; desk = refl })
 
 -- one that may lack memory, and is not to start again, is up
-lacks_up : (n : ℕ) (s : Member) (h : Handing) → restarts_server h ≡ false → MayLackMemory n s h → is_up s.raft.mode ≡ true
+lacks_up : (n : ℕ) (s : Server) (h : Handing) → restarts_server h ≡ false → MayLackMemory n s h → is_up s.raft.mode ≡ true
 lacks_up n s (FrameBytes bytes) other may = may
 lacks_up n s (OwnInput (Arrives message)) other may = may
 lacks_up n s (OwnInput Timeout) other may = may.up
@@ -39,7 +39,7 @@ lacks_up n s (OwnInput Compact) other may = may
 lacks_up n s (OwnInput Crash) other may = absurd may
 lacks_up n s (OwnInput Restart) other may = absurd (cc)
 
-crashes : (old new : ServerView) (s : Member) (h : Handing) → restarts_server h ≡ false → NoMemoryLeaves old s h new → IsMember new (crashed_member s)
+crashes : (old new : ServerView) (s : Server) (h : Handing) → restarts_server h ≡ false → NoMemoryLeaves old s h new → IsServer new (crashed_server s)
 crashes old new s (FrameBytes bytes) other left = left
 crashes old new s (OwnInput Restart) other left = absurd (cc)
 crashes old new s (OwnInput input) other left = left
@@ -55,7 +55,7 @@ module _ (old new : ServerView) (before after : Outbox) where
         got.refused,
         got.unsent,
       )
-  lacks (OwnInput Restart) true same got = (same_member old new got.stays, record { restart = refl; down = got.refused; same = got.stays }, got.unsent)
+  lacks (OwnInput Restart) true same got = (same_server old new got.stays, record { restart = refl; down = got.refused; same = got.stays }, got.unsent)
   lacks h true same got = absurd (cc)
 
   refuses : (h : Handing) (again : Bool) → again ≡ restarts_server h → (cause : Refusal) → HandedIn old h (Err cause) new before after → ServerAnswers old h before (outcome again (let r : Result (Unit {0}) Refusal = Err cause in r)) new after

@@ -1,11 +1,11 @@
 -- One actor of a group.
 use Rattle.std.specs.Prelude.{◌≡◌, Bool, is_some}
-use Rattle.raft_model.specs.Servers.{is_up}
-use Rattle.group_model.specs.Members.{Member}
-use Rattle.server.specs.ServerViews.{IsMember}
+use Rattle.raft_model.specs.Rafts.{is_up}
+use Rattle.group_model.specs.Servers.{Server}
+use Rattle.server.specs.ServerViews.{IsServer}
 use Rattle.actor.specs.declared.group_actor.GroupActor.{GroupActor}
-use Rattle.actor.specs.declared.group_actor.GroupActor.TheVariants.{Server, Client}
+use Rattle.actor.specs.declared.group_actor.GroupActor.TheVariants as group_actors
 
 abbrev pub IsUpActor : GroupActor → Bool → Type 0
-IsUpActor (Server v) up = (s : Member) → IsMember v s → is_up s.raft.mode ≡ up
-IsUpActor (Client a) up = is_some a.client.life ≡ up
+IsUpActor (group_actors.Server v) up = (s : Server) → IsServer v s → is_up s.raft.mode ≡ up
+IsUpActor (group_actors.Client a) up = is_some a.client.life ≡ up

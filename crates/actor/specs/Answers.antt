@@ -2,16 +2,16 @@
 use Rattle.std.specs.Prelude.{◌≡◌, true, false, is_some, Result, Ok, Err, List, []}
 use Rattle.rows.specs.declared.refusal.Refusal.{Refusal}
 use Rattle.wire.specs.Frames.{Frame}
-use Rattle.raft_model.specs.Servers.{is_up}
-use Rattle.raft_core.specs.RaftView.{SamePlace}
-use Rattle.group_model.specs.Members.{Member}
+use Rattle.raft_model.specs.Rafts.{is_up}
+use Rattle.raft_core.specs.RaftView.{SameNumber}
+use Rattle.group_model.specs.Servers.{Server}
 use Rattle.client_agent.specs.AgentView.{AgentView, crashed_agent}
 use Rattle.client_agent.specs.declared.input.ClientInput.{ClientInput}
 use Rattle.client_agent.specs.Steps.{AgentTakes}
 use Rattle.server.specs.declared.server.Outbox.{Outbox}
-use Rattle.server.specs.ServerViews.{ServerView, IsMember, SameMember, crashed_member}
+use Rattle.server.specs.ServerViews.{ServerView, IsServer, SameServer, crashed_server}
 use Rattle.server.specs.Handings.{Handing}
-use Rattle.server.specs.Turns.{TakesHanding}
+use Rattle.server.specs.Steps.{TakesHanding}
 use Rattle.actor.specs.declared.stepped.Stepped.{Stepped}
 use Rattle.actor.specs.declared.stepped.Stepped.TheVariants.{Taken, Crashed}
 use Rattle.actor.specs.Handed.{restarts_server}
@@ -26,19 +26,19 @@ nothing_sent = record { frames = []; work = [] }
 -- refuse it, so that a frame is a message for this server; and whichever message that is, they give
 -- that turn, by which the outbox goes from the one to the other.
 pub record ServerSteps (old : ServerView) (h : Handing) (new : ServerView) (before after : Outbox) : Type 0 where
-  pub same : SamePlace old.raft new.raft
+  pub same : SameNumber old.raft new.raft
   pub admitted : ServerAdmits old h
-  pub taken : (s : Member) → IsMember old s → TakesHanding old s h new before after
+  pub taken : (s : Server) → IsServer old s → TakesHanding old s h new before after
 
 -- it was up, and lost what it does not store
 pub record ServerCrashed (old new : ServerView) : Type 0 where
-  pub same : SamePlace old.raft new.raft
-  pub fell : (s : Member) → IsMember old s → (is_up s.raft.mode ≡ true) × IsMember new (crashed_member s)
+  pub same : SameNumber old.raft new.raft
+  pub fell : (s : Server) → IsServer old s → (is_up s.raft.mode ≡ true) × IsServer new (crashed_server s)
 
 -- it was down, and found no memory to start again
 pub record ServerStays (old : ServerView) (h : Handing) (new : ServerView) : Type 0 where
   pub restart : restarts_server h ≡ true
-  pub down : (s : Member) → IsMember old s → is_up s.raft.mode ≡ false
+  pub down : (s : Server) → IsServer old s → is_up s.raft.mode ≡ false
   pub same : new ≡ old
 
 -- A step, or a crash where memory may be wanting, or a refusal that leaves the same server. All but
@@ -46,7 +46,7 @@ pub record ServerStays (old : ServerView) (h : Handing) (new : ServerView) : Typ
 abbrev pub ServerAnswers : ServerView → Handing → Outbox → Result Stepped Refusal → ServerView → Outbox → Type 0
 ServerAnswers old h before (Ok Taken) new after = ServerSteps old h new before after
 ServerAnswers old h before (Ok Crashed) new after = ServerCrashed old new × ServerMayLack old h × (after ≡ before)
-ServerAnswers old h before (Err cause) new after = SameMember old new × RefusedSo (ServerStays old h new) (ServerRefuses old h) cause × (after ≡ before)
+ServerAnswers old h before (Err cause) new after = SameServer old new × RefusedSo (ServerStays old h new) (ServerRefuses old h) cause × (after ≡ before)
 
 -- ---- a client
 

@@ -7,7 +7,7 @@ use Rattle.machine_model.specs.After.{after, Admitted}
 use Rattle.machine_model.specs.declared.entry.Entry.{Entry}
 use Rattle.machine_model.proofs.Afters.{after-count, after_good, Admitted-front}
 use Rattle.raft_model.specs.Logs.{commands, state_after}
-use Rattle.raft_model.specs.Servers.{Server, is_up}
+use Rattle.raft_model.specs.Rafts.{Raft, is_up}
 use Rattle.raft_model.specs.Worlds.{World, moment}
 use Rattle.raft_model.specs.Chains.{Agree, At, Chain}
 use Rattle.raft_safety.proofs.Places.{get-last}
@@ -55,16 +55,16 @@ part_is list log k bank agree admitted is =
 
 -- each running server's bank, at each moment
 module _ (list : List (Entry BankCommand)) (past : List (World BankCommand)) (w : World BankCommand) (chain : Chain past w list)
-    (admitted : (k i : ℕ) (s : Server BankCommand) → At past w k i s → Admitted bank_meaning (commands s.log))
+    (admitted : (k i : ℕ) (s : Raft BankCommand) → At past w k i s → Admitted bank_meaning (commands s.log))
     (k : ℕ) (x : World BankCommand) (here : moment past w k ≡ Some x) (i : ℕ) (bank : BankState) where
-  up_part : (s : Server BankCommand) (up : Bool) → is_up s.mode ≡ up → slice_get x.servers i ≡ Some s →
+  up_part : (s : Raft BankCommand) (up : Bool) → is_up s.mode ≡ up → slice_get x.servers i ≡ Some s →
       (if up then Some (state_after bank_meaning (take s.commit s.log)) else None) ≡ Some bank → IsBankOf (commands list) bank
   up_part s false down there is = absurd (cc)
   up_part s true up there is =
       let at : At past w k i s = record { world = x; world_is = here; here = there } in
       part_is list s.log s.commit bank (chain.agrees k i s at) (admitted k i s at) (sym (same_Some (state_after bank_meaning (take s.commit s.log)) bank is))
 
-  server_part : (o : Option (Server BankCommand)) → slice_get x.servers i ≡ o → running_state bank_meaning o ≡ Some bank → IsBankOf (commands list) bank
+  server_part : (o : Option (Raft BankCommand)) → slice_get x.servers i ≡ o → running_state bank_meaning o ≡ Some bank → IsBankOf (commands list) bank
   server_part None there is = absurd (cc)
   server_part (Some s) there is = up_part s (is_up s.mode) refl there is
 
@@ -72,7 +72,7 @@ module _ (list : List (Entry BankCommand)) (past : List (World BankCommand)) (w 
   bank_part is = server_part (slice_get x.servers i) refl is
 
 pub one_book : (view : WorldView BankState BankCommand) → OneListEver bank_meaning view →
-    ((past : List (World BankCommand)) (w : World BankCommand) → RunsTo bank_meaning view past w → (k i : ℕ) (s : Server BankCommand) → At past w k i s → Admitted bank_meaning (commands s.log)) → OneBook view
+    ((past : List (World BankCommand)) (w : World BankCommand) → RunsTo bank_meaning view past w → (k i : ℕ) (s : Raft BankCommand) → At past w k i s → Admitted bank_meaning (commands s.log)) → OneBook view
 one_book view l admitted = record {
   past = l.past;
   world = l.world;

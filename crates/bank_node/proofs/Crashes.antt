@@ -5,10 +5,10 @@ use Rattle.std.proofs.lemmas.Slice.Eq.{bytes_eq-Decides}
 use Rattle.machine_model.specs.Meaning.{Meaning}
 use Rattle.rows.specs.Versions.{newest}
 use Rattle.wire.specs.Frames.{Frame, sized}
-use Rattle.raft_model.specs.Servers.{Server}
+use Rattle.raft_model.specs.Rafts.{Raft}
 use Rattle.raft_snapshot.specs.Bases.{Base}
 use Rattle.raft_snapshot.specs.Texts.{stable_text}
-use Rattle.raft_core.specs.RaftView.{RaftView, SameServer}
+use Rattle.raft_core.specs.RaftView.{RaftView, SameRaft}
 use Rattle.bank_node.specs.Deeds.{Deed, Stores, Sends, Tells}
 use Rattle.bank_node.specs.Turns.{Turn, taken, refused, shown, Runs, changes, sends, text_of}
 use Rattle.bank_node.specs.Lines.{refused_line}
@@ -55,10 +55,10 @@ ends_first (x ∷ xs) ys (u ∷ us) vs is =
     longer x u xs ys us vs same (ends_first xs ys us vs rest)
 
 module _ {S C : Type 0} (m : Meaning S C) (words : S → List ℕ) where
-  abbrev text_from : Base S → Server C → List ℕ
+  abbrev text_from : Base S → Raft C → List ℕ
   text_from base server = stable_text m newest (record { term = server.term; vote = server.vote; log = record { base = base; entries = server.log } })
 
-  pub same_text : (old new : RaftView S C) → SameServer old new → text_of m new ≡ text_of m old
+  pub same_text : (old new : RaftView S C) → SameRaft old new → text_of m new ≡ text_of m old
   same_text old new same = ap (λ b. text_from b new.server) same.base ∙ ap (text_from old.base) same.server
 
   -- after a change the store has the new text

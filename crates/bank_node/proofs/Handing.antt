@@ -7,16 +7,16 @@ use Rattle.rows.specs.declared.refusal.Refusal.TheVariants as refusals
 use Rattle.fields_model.specs.Format.{◌>>=◌, Refuses, whole}
 use Rattle.machine_model.specs.Meaning.{Meaning}
 use Rattle.wire.specs.Frames.{Frame}
-use Rattle.raft_model.specs.Servers.{Server}
+use Rattle.raft_model.specs.Rafts.{Raft}
 use Rattle.raft_model.specs.Steps.{Propose}
 use Rattle.raft_core.specs.Inputs.{Handed, Own}
-use Rattle.raft_core.specs.RaftView.{RaftView, SameServer}
+use Rattle.raft_core.specs.RaftView.{RaftView, SameRaft}
 use Rattle.raft_core.specs.Refusals.{IsRefused, Stays}
 use Rattle.raft_core.specs.Steps.{Represents, Takes}
 use Rattle.bank_node.specs.Items.{asked, input_of, is_proposal}
 use Rattle.bank_node.specs.Turns.{IsDeclined, IsTaken, MayRefuse, at_fault, by_server}
 
-same_view : {S C : Type 0} (old new : RaftView S C) → new ≡ old → SameServer old new
+same_view : {S C : Type 0} (old new : RaftView S C) → new ≡ old → SameRaft old new
 same_view old new same = record { me = ap (λ v. v.me) same; size = ap (λ v. v.size) same; base = ap (λ v. v.base) same; server = ap (λ v. v.server) same }
 
 module _ {S C : Type 0} (m : Meaning S C) (item : List ℕ) where
@@ -43,7 +43,7 @@ module _ {S C : Type 0} (m : Meaning S C) (item : List ℕ) where
   read_declined text view _ is behind why = absurd why
 
   module _ (text : List ℕ) (command : C) (old new : RaftView S C) (is : is_proposal item ≡ true) (behind : text ≡ drop 1 item) (read : whole (m.commands newest) text ≡ Ok command) where
-    pub proposal_taken : (frames : List Frame) → frames ≡ [] → ((s : Server C) (sent : List Frame) → Represents m old s → Takes m old s (Own (Propose command)) new sent sent)
+    pub proposal_taken : (frames : List Frame) → frames ≡ [] → ((s : Raft C) (sent : List Frame) → Represents m old s → Takes m old s (Own (Propose command)) new sent sent)
         → IsTaken m item old new frames
     proposal_taken frames none takes =
         record {
@@ -52,12 +52,12 @@ module _ {S C : Type 0} (m : Meaning S C) (item : List ℕ) where
           step = λ s r. subst (Takes m old s (Own (Propose command)) new []) (sym none) (takes s [] r);
         }
 
-    proposal_refused : (cause : Refusal) → SameServer old new → ((s : Server C) → Represents m old s → IsRefused m old.size old.me s (Own (Propose command)) cause) → IsDeclined m item old new cause
+    proposal_refused : (cause : Refusal) → SameRaft old new → ((s : Raft C) → Represents m old s → IsRefused m old.size old.me s (Own (Propose command)) cause) → IsDeclined m item old new cause
     proposal_refused refusals.NoMemory same why = tt
     proposal_refused _ same why = (same, by_server (Own (Propose command)) (proposal_asks text (Ok command) is behind read) why)
 
-    pub proposal_declined : {T : Type 0} (r : Result T Refusal) → OnErr r (SameServer old new)
-        → IfErr r (λ cause. (s : Server C) → Represents m old s → IsRefused m old.size old.me s (Own (Propose command)) cause) → IfErr r (IsDeclined m item old new)
+    pub proposal_declined : {T : Type 0} (r : Result T Refusal) → OnErr r (SameRaft old new)
+        → IfErr r (λ cause. (s : Raft C) → Represents m old s → IsRefused m old.size old.me s (Own (Propose command)) cause) → IfErr r (IsDeclined m item old new)
     proposal_declined (Ok x) same why = tt
     proposal_declined (Err cause) same why = proposal_refused cause same why
 
@@ -67,15 +67,15 @@ module _ {S C : Type 0} (m : Meaning S C) (item : List ℕ) where
     asks : asked m item ≡ Ok h
     asks = other_asks is ∙ ap Ok (sym of)
 
-    pub step_taken : (before after : List Frame) → before ≡ [] → ((s : Server C) → Represents m old s → Takes m old s h new before after) → IsTaken m item old new after
+    pub step_taken : (before after : List Frame) → before ≡ [] → ((s : Raft C) → Represents m old s → Takes m old s h new before after) → IsTaken m item old new after
     step_taken before after none takes =
         record { handed = h; is = asks; step = λ s r. subst (λ l. Takes m old s h new l after) none (takes s r) }
 
-    step_refused : (cause : Refusal) → Stays h cause old new → ((s : Server C) → Represents m old s → IsRefused m old.size old.me s h cause) → IsDeclined m item old new cause
+    step_refused : (cause : Refusal) → Stays h cause old new → ((s : Raft C) → Represents m old s → IsRefused m old.size old.me s h cause) → IsDeclined m item old new cause
     step_refused refusals.NoMemory same why = tt
     step_refused _ same why = (same_view old new same, by_server h asks why)
 
     pub step_declined : {T : Type 0} (r : Result T Refusal) → IfErr r (λ cause. Stays h cause old new)
-        → IfErr r (λ cause. (s : Server C) → Represents m old s → IsRefused m old.size old.me s h cause) → IfErr r (IsDeclined m item old new)
+        → IfErr r (λ cause. (s : Raft C) → Represents m old s → IsRefused m old.size old.me s h cause) → IfErr r (IsDeclined m item old new)
     step_declined (Ok x) same why = tt
     step_declined (Err cause) same why = step_refused cause same why

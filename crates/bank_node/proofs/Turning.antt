@@ -5,7 +5,7 @@ use Rattle.rows.specs.declared.refusal.Refusal.{Refusal}
 use Rattle.rows.specs.declared.refusal.Refusal.TheVariants as refusals
 use Rattle.machine_model.specs.Meaning.{Meaning}
 use Rattle.wire.specs.Frames.{Frame}
-use Rattle.raft_core.specs.RaftView.{RaftView, SameServer}
+use Rattle.raft_core.specs.RaftView.{RaftView, SameRaft}
 use Rattle.bank_node.specs.Deeds.{Deed, Tells, Does, MayDo, Begins}
 use Rattle.bank_node.specs.Inner.Refusals.{is_memory}
 use Rattle.bank_node.specs.Lines.{Shows, refused_line}
@@ -40,7 +40,7 @@ module _ {S C : Type 0} (m : Meaning S C) (words : S → List ℕ) (item : List 
     taken_halts begun = within new (changes kept text ++ sends frames) (taken frames is same_deeds) begun
 
   module _ (old new : RaftView S C) where
-    parts : (cause : Refusal) → cause ≢ refusals.NoMemory → IsDeclined m item old new cause → SameServer old new × MayRefuse m item old cause
+    parts : (cause : Refusal) → cause ≢ refusals.NoMemory → IsDeclined m item old new cause → SameRaft old new × MayRefuse m item old cause
     parts refusals.NoMemory other why = absurd (other refl)
     parts _ other why = why
 

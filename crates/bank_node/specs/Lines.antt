@@ -6,7 +6,7 @@ use Rattle.rows.specs.Words.{refusal_words}
 use Rattle.rows.specs.declared.refusal.Refusal.{Refusal}
 use Rattle.machine_model.specs.Meaning.{Meaning}
 use Rattle.raft_model.specs.Logs.{state_after}
-use Rattle.raft_model.specs.Servers.{Server, is_up}
+use Rattle.raft_model.specs.Rafts.{Raft, is_up}
 use Rattle.raft_core.specs.declared.role.Role.{Role}
 use Rattle.raft_core.specs.declared.role.Role.TheVariants as roles
 use Rattle.raft_core.specs.RaftView.{RaftView}
@@ -46,7 +46,7 @@ bank_words s = codes " balances" ++ flat_map balance_text s.balances
 pub data ShowsState {S C : Type 0} (m : Meaning S C) (words : S → List ℕ) (view : RaftView S C) (told : List ℕ) : Type 0 where
   down : is_up view.server.mode ≡ false → told ≡ [] → ShowsState m words view told
   up : (state : S) → is_up view.server.mode ≡ true
-      → ((s : Server C) → Represents m view s → state ≡ state_after m (take s.commit s.log))
+      → ((s : Raft C) → Represents m view s → state ≡ state_after m (take s.commit s.log))
       → told ≡ applied_text view.server.commit ++ words state → ShowsState m words view told
 
 -- The line of a server: what it does, its term, how long its log is, and its state.

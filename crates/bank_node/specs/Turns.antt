@@ -7,12 +7,12 @@ use Rattle.rows.specs.declared.refusal.Refusal.{Refusal}
 use Rattle.rows.specs.declared.refusal.Refusal.TheVariants as refusals
 use Rattle.machine_model.specs.Meaning.{Meaning}
 use Rattle.wire.specs.Frames.{Frame, sized}
-use Rattle.raft_model.specs.Servers.{Server}
+use Rattle.raft_model.specs.Rafts.{Raft}
 use Rattle.raft_snapshot.specs.Kept.{kept}
 use Rattle.raft_snapshot.specs.Stored.{Stored}
 use Rattle.raft_snapshot.specs.Texts.{stable_text, IsStableText, stable_at}
 use Rattle.raft_core.specs.Inputs.{Handed}
-use Rattle.raft_core.specs.RaftView.{RaftView, SameServer}
+use Rattle.raft_core.specs.RaftView.{RaftView, SameRaft}
 use Rattle.raft_core.specs.Refusals.{IsRefused}
 use Rattle.raft_core.specs.Steps.{Represents, Takes}
 use Rattle.raft_core.specs.StoredParts.{stored_part}
@@ -51,27 +51,27 @@ module _ {S C : Type 0} (m : Meaning S C) where
   pub record IsTaken (item : List ℕ) (old new : RaftView S C) (frames : List Frame) : Type 0 where
     pub handed : Handed C
     pub is : asked m item ≡ Ok handed
-    pub step : (s : Server C) → Represents m old s → Takes m old s handed new [] frames
+    pub step : (s : Raft C) → Represents m old s → Takes m old s handed new [] frames
 
   -- why an item is refused: the command of a proposal is at fault, or the server refuses what it
   -- asks
   pub data MayRefuse (item : List ℕ) (view : RaftView S C) (cause : Refusal) : Type 0 where
     at_fault : (place : ℕ) → asked m item ≡ Err place → cause ≡ refusals.Frame place → MayRefuse item view cause
     by_server : (handed : Handed C) → asked m item ≡ Ok handed
-        → ((s : Server C) → Represents m view s → IsRefused m view.size view.me s handed cause)
+        → ((s : Raft C) → Represents m view s → IsRefused m view.size view.me s handed cause)
         → MayRefuse item view cause
 
   -- the same server, which may refuse the item so; of want of memory nothing is said
   abbrev pub IsDeclined : List ℕ → RaftView S C → RaftView S C → Refusal → Type 0
   IsDeclined item old new refusals.NoMemory = ⊤
-  IsDeclined item old new cause = SameServer old new × MayRefuse item old cause
+  IsDeclined item old new cause = SameRaft old new × MayRefuse item old cause
 
   -- One item. What the server takes is stored before its frames leave; what is refused is told, and
   -- the server stays as it was, as it does where it is shown.
   pub data Turn (words : S → List ℕ) (item : List ℕ) (old new : RaftView S C) (deeds : List Deed) : Type 0 where
     taken : (frames : List Frame) → IsTaken item old new frames
         → deeds ≡ changes (text_of old) (text_of new) ++ sends frames → Turn words item old new deeds
-    refused : (cause : Refusal) → SameServer old new → cause ≢ refusals.NoMemory → MayRefuse item old cause
+    refused : (cause : Refusal) → SameRaft old new → cause ≢ refusals.NoMemory → MayRefuse item old cause
         → deeds ≡ Tells (refused_line cause) ∷ [] → Turn words item old new deeds
     shown : (line : List ℕ) → item ≡ codes "S" → new ≡ old → Shows m words old line
         → deeds ≡ Tells line ∷ [] → Turn words item old new deeds

@@ -4,7 +4,7 @@ ghost use Rattle.rows.specs.Versions.{newest};
 ghost use Rattle.fields_model.specs.Format.{Gives, whole};
 ghost use Rattle.raft_core.specs.StoredParts.{stored_part};
 ghost use Rattle.raft_core.specs.Inputs.{handed};
-ghost use Rattle.raft_core.specs.Steps.{IsGroupPlace};
+ghost use Rattle.raft_core.specs.Steps.{IsGroupMember};
 ghost use Rattle.bank_node.specs.Deeds.{Deed, Stores, Sends, Tells, Does, MayDo, Begins};
 ghost use Rattle.bank_node.specs.Items.{input_of, is_proposal};
 ghost use Rattle.wire.specs.Frames.{sized};
@@ -59,7 +59,7 @@ pub fn begin<M: Machine>(
     ensures place { IfOk result (λ server. (server.me ≡ me) × (server.size ≡ size)) }
     ensures stored { IfOk result (λ server. IsStored M.meaning
         (option_map (λ text. text.now) stored.entry) (stored_part server)) }
-    ensures usage { IfErr result (λ fault. fault ≡ faults.Usage → IsGroupPlace size me → ⊥) }
+    ensures usage { IfErr result (λ fault. fault ≡ faults.Usage → IsGroupMember size me → ⊥) }
     ensures fault { IfErr result (λ fault. (place : ℕ) → fault ≡ faults.BadStore place →
         IsBadStore M.meaning (option_map (λ text. text.now) stored.entry) place) }
 {
@@ -318,7 +318,8 @@ fn hand<M: Machine>(
     match proposal(item) {
         Some(text) => {
             let command = read_command::<M>(alloc, text)?;
-            server.propose(command)
+            server.propose(command)?;
+            Ok(())
         }
         None => server.step(input_of::<M>(item), frames),
     }

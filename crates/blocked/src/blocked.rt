@@ -180,5 +180,5 @@ fn make_space(evals: &mut ReservedTable<BlockedEval>, held: &BlockedEval) -> Res
         return Ok(());
     }
     let count = evals.rows().len() + 1;
-    evals.make_room(count)
+    evals.reserve_rows(count)
 }

@@ -95,7 +95,7 @@ impl Rooms {
     {
         let room = self.with(class, index, class);
         let count = self.rows.rows().len() + 1;
-        self.rows.make_room(count)?;
+        self.rows.reserve_rows(count)?;
         self.rows.put(ClassRoom {
             class: *class,
             room,

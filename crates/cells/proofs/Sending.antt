@@ -8,7 +8,7 @@ use Rattle.event_book.specs.declared.view.EventView.{EventView}
 use Rattle.event_book.specs.declared.view.EventView.TheVariants.{Own, Delivery, Crash}
 use Rattle.event_book.specs.declared.view.Output.{Output}
 use Rattle.event_book.specs.declared.view.Note.{Note}
-use Rattle.event_book.specs.declared.view.TokenView.{TokenView}
+use Rattle.event_book.specs.declared.view.MessageTokenView.{MessageTokenView}
 use Rattle.event_book.specs.declared.view.SeatView.{SeatView}
 use Rattle.event_book.specs.Seats.{HasOutput, last_token, Names, MayNote, with_note, with_taken}
 use Rattle.cells.specs.declared.own_input.OwnInput.{OwnInput}
@@ -52,14 +52,14 @@ module _ (notes : List (Note OwnInput)) (stamp place : ℕ) (fs : List Frame) (f
   pub has_output : HasOutput place notes
   has_output = subst (HasOutput place) (sym ends.notes_are) (output_end place ends.before ends.note (slice_get_within ends.note.noted.outputs place (output_of f) sent_there))
 
-  module _ (token : TokenView OwnInput) (given : last_token place notes ≡ token ∷ []) where
+  module _ (token : MessageTokenView OwnInput) (given : last_token place notes ≡ token ∷ []) where
     token_is : token ≡ record { note = ends.note; place = place }
     token_is =
         let q : token ∷ [] ≡ record { note = ends.note; place = place } ∷ [] = sym given ∙ ap (last_token place) ends.notes_are ∙ token_end place ends.before ends.note in
         cc
 
     pub names_output : Names token stamp place f.to f.bytes
-    names_output = subst (λ (t : TokenView OwnInput). Names t stamp place f.to f.bytes) (sym token_is) (ends.stamp_is, refl, sent_there)
+    names_output = subst (λ (t : MessageTokenView OwnInput). Names t stamp place f.to f.bytes) (sym token_is) (ends.stamp_is, refl, sent_there)
 
     pub is_envelope : slice_get (last_envelopes notes) place ≡ Some (record { receiver = f.to; event = Delivery stamp place f.bytes; tokens = token ∷ [] })
     is_envelope =
@@ -81,12 +81,12 @@ one_envelope_more xs was now k x so more there =
 
 -- ---- what is noted
 
-taken_there : (xs : List (TokenView OwnInput)) (t : TokenView OwnInput) → slice_get (xs ++ t ∷ []) (length xs) ≡ Some t
+taken_there : (xs : List (MessageTokenView OwnInput)) (t : MessageTokenView OwnInput) → slice_get (xs ++ t ∷ []) (length xs) ≡ Some t
 taken_there [] t = refl
 taken_there (x ∷ xs) t = taken_there xs t
 
 -- what can be noted may be, once its token is taken in
-pub may_note : (old new : SeatView OwnInput) (event : EventView OwnInput) (tokens : List (TokenView OwnInput)) → new ≡ with_taken tokens old → CanBeNoted old event tokens → MayNote new event
+pub may_note : (old new : SeatView OwnInput) (event : EventView OwnInput) (tokens : List (MessageTokenView OwnInput)) → new ≡ with_taken tokens old → CanBeNoted old event tokens → MayNote new event
 may_note old new (Own input) tokens is can = tt
 may_note old new (Delivery stamp place frame) tokens is can =
     let t = can.0 in
@@ -96,7 +96,7 @@ may_note old new (Delivery stamp place frame) tokens is can =
 may_note old new Crash tokens is can = tt
 
 -- what is kept is what was noted
-pub kept_more : (old mid new last : SeatView OwnInput) (taken now : List StampedEvent) (e : StampedEvent) (tokens : List (TokenView OwnInput)) (event : EventView OwnInput) (fs : List Frame) (stamp : ℕ)
+pub kept_more : (old mid new last : SeatView OwnInput) (taken now : List StampedEvent) (e : StampedEvent) (tokens : List (MessageTokenView OwnInput)) (event : EventView OwnInput) (fs : List Frame) (stamp : ℕ)
     → mid ≡ with_taken tokens old → new ≡ with_note (record { event = event; outputs = map output_of fs }) stamp mid → last ≡ new → now ≡ taken ++ e ∷ []
     → e ≡ record { stamp = stamp; event = kept_input event; sent = length fs } → taken ≡ map kept_in old.notes → now ≡ map kept_in last.notes
 kept_more old mid new last taken now e tokens event fs stamp took noted stays more is same =

@@ -8,48 +8,48 @@ use Rattle.rows.specs.declared.actor.Actor.{Actor}
 use Rattle.rows.specs.declared.actor.Actor.TheVariants as actors
 use Rattle.rows.specs.declared.node.NodeSpec.{NodeSpec}
 use Rattle.rows.specs.declared.worker.Work.{Work}
-use Rattle.group_model.specs.Members.{Member, Turn, newcomer, step}
+use Rattle.group_model.specs.Servers.{Server, ServerTurn, newcomer, step}
 use Rattle.client_agent.specs.AgentView.{AgentView}
 use Rattle.server.specs.declared.server.Outbox.{Outbox}
-use Rattle.server.specs.ServerViews.{ServerView, SameMember, crashed_member}
+use Rattle.server.specs.ServerViews.{ServerView, SameServer, crashed_server}
 use Rattle.server.specs.Handings.{Handing, FrameBytes, OwnInput as TakesOwn, handing}
-use Rattle.server.specs.Turns.{TakesHanding, TakesTurn, takes_in}
+use Rattle.server.specs.Steps.{TakesHanding, TakesTurn, takes_in}
 use Rattle.event_book.specs.declared.view.EventView.{EventView}
 use Rattle.event_book.specs.declared.view.EventView.TheVariants.{Own, Delivery, Crash}
 use Rattle.event_book.specs.declared.view.Output.{Output}
 use Rattle.event_book.specs.declared.view.NotedView.{NotedView}
 use Rattle.event_book.specs.declared.view.Note.{Note}
-use Rattle.event_book.specs.declared.view.TokenView.{TokenView}
+use Rattle.event_book.specs.declared.view.MessageTokenView.{MessageTokenView}
 use Rattle.event_book.specs.declared.view.SeatView.{SeatView}
 use Rattle.event_book.specs.Seats.{with_note, with_taken}
 use Rattle.cells.specs.declared.own_input.OwnInput.{OwnInput}
 use Rattle.actor.specs.declared.group_actor.GroupActor.{GroupActor}
-use Rattle.actor.specs.declared.group_actor.GroupActor.TheVariants.{Server, Client}
+use Rattle.actor.specs.declared.group_actor.GroupActor.TheVariants as group_actors
 use Rattle.actor.specs.declared.stepped.Stepped.{Stepped}
 use Rattle.actor.specs.declared.stepped.Stepped.TheVariants.{Taken, Crashed}
 use Rattle.actor.specs.Refusals.{RefusedSo}
 use Rattle.actor.specs.Answers.{nothing_sent}
 use Rattle.cells.specs.declared.own_input.OwnInput.TheVariants as own
 use Rattle.cells.specs.Actors.{output_frame, ServerTurned, TakesInput, ServerTurns, ClientTurns, ActorTurns, BeginsAs, HasNode, IsNewActor, SameActor}
-use Rattle.cells.specs.Refusals.{ActorRefuses, Hears}
+use Rattle.cells.specs.Refusals.{ActorRefuses, TakesUp}
 use Rattle.cells.specs.Cells.{AreSent, EnvelopeView, CellView, HasNoteLeft, IsLed, IsLedCell, IsLedFrom, IsOpenedCell, IsEnvelopeRefused, Turned, crash_noted, envelopes_from, kept_in}
 use Rattle.cells.specs.declared.cell.StampedEvent.{StampedEvent}
 use Rattle.cells.specs.Turns.{CellRefuses, TookTurn}
 use Rattle.cells.specs.Inner.Steps.{Did, output_of}
 use Rattle.cells.specs.Inner.Sending.{IsRecorded, IsStill, IsTurn, last_envelopes}
-use Rattle.server.proofs.Members.{same_is}
+use Rattle.server.proofs.Servers.{same_is}
 use Rattle.cells.proofs.Sending.{envelopes_end}
 
 -- ---- one value in place of another that is the same actor
 
-same_places : (v w x : ServerView) → SameMember v w → (v.raft.me ≡ x.raft.me) × (v.raft.size ≡ x.raft.size) → (w.raft.me ≡ x.raft.me) × (w.raft.size ≡ x.raft.size)
+same_places : (v w x : ServerView) → SameServer v w → (v.raft.me ≡ x.raft.me) × (v.raft.size ≡ x.raft.size) → (w.raft.me ≡ x.raft.me) × (w.raft.size ≡ x.raft.size)
 same_places v w x same at = let raft = same.raft in (raft.me ∙ at.0, raft.size ∙ at.1)
 
-module _ (x v w : ServerView) (same : SameMember v w) where
-  same_turn : (q : Result Turn Refusal) (before after : Outbox) → TakesTurn q v before after → TakesTurn q w before after
-  same_turn q before after t = let turn = t.turn in record { turn = turn; is = t.is; member = same_is v w turn.member same t.member; sent = t.sent; work = t.work }
+module _ (x v w : ServerView) (same : SameServer v w) where
+  same_turn : (q : Result ServerTurn Refusal) (before after : Outbox) → TakesTurn q v before after → TakesTurn q w before after
+  same_turn q before after t = let turn = t.turn in record { turn = turn; is = t.is; server = same_is v w turn.server same t.server; sent = t.sent; work = t.work }
 
-  same_takes : (s : Member) (h : Handing) (before after : Outbox) → TakesHanding x s h v before after → TakesHanding x s h w before after
+  same_takes : (s : Server) (h : Handing) (before after : Outbox) → TakesHanding x s h v before after → TakesHanding x s h w before after
   same_takes s (FrameBytes bytes) before after t = λ message frame. same_turn (takes_in x.raft.size x.raft.me s message) before after (t message frame)
   same_takes s (TakesOwn input) before after t = same_turn (step x.raft.size x.raft.me s input) before after t
 
@@ -66,29 +66,29 @@ module _ (x v w : ServerView) (same : SameMember v w) where
   same_server_turns (Delivery stamp place frame) outs work t = same_turned (FrameBytes frame) outs work t
   same_server_turns Crash outs work t =
       let c = t.2 in
-      (t.0, t.1, record { same = same_places v w x same c.same; fell = λ s is. let f = c.fell s is in (f.0, same_is v w (crashed_member s) same f.1) })
+      (t.0, t.1, record { same = same_places v w x same c.same; fell = λ s is. let f = c.fell s is in (f.0, same_is v w (crashed_server s) same f.1) })
 
 same_turns : (old a b : GroupActor) (event : EventView OwnInput) (outs : List Output) (work : List Work) → SameActor a b → ActorTurns old event outs work a → ActorTurns old event outs work b
-same_turns (Server x) (Server v) (Server w) event outs work same t = same_server_turns x v w same event outs work t
-same_turns (Server x) (Server v) (Client w) event outs work same t = absurd same
-same_turns (Server x) (Client v) b event outs work same t = absurd t
-same_turns (Client x) (Server v) b event outs work same t = absurd t
-same_turns (Client x) (Client v) (Server w) event outs work same t = absurd same
-same_turns (Client x) (Client v) (Client w) event outs work same t = (t.0, subst (λ (y : AgentView). ClientTurns x event outs y) (sym same) t.1)
+same_turns (group_actors.Server x) (group_actors.Server v) (group_actors.Server w) event outs work same t = same_server_turns x v w same event outs work t
+same_turns (group_actors.Server x) (group_actors.Server v) (group_actors.Client w) event outs work same t = absurd same
+same_turns (group_actors.Server x) (group_actors.Client v) b event outs work same t = absurd t
+same_turns (group_actors.Client x) (group_actors.Server v) b event outs work same t = absurd t
+same_turns (group_actors.Client x) (group_actors.Client v) (group_actors.Server w) event outs work same t = absurd same
+same_turns (group_actors.Client x) (group_actors.Client v) (group_actors.Client w) event outs work same t = (t.0, subst (λ (y : AgentView). ClientTurns x event outs y) (sym same) t.1)
 
 same_new : (n : ℕ) (me : Actor) (a b : GroupActor) → SameActor a b → IsNewActor n me a → IsNewActor n me b
-same_new n (actors.Server i) (Server v) (Server w) same new = let raft = same.raft in (raft.me ∙ new.0, raft.size ∙ new.1, same_is v w newcomer same new.2)
-same_new n (actors.Server i) (Server v) (Client w) same new = absurd same
-same_new n (actors.Server i) (Client v) b same new = absurd new
-same_new n (actors.Client c) (Server v) b same new = absurd new
-same_new n (actors.Client c) (Client v) (Server w) same new = absurd same
-same_new n (actors.Client c) (Client v) (Client w) same new = subst (λ (y : AgentView). IsNewActor n (actors.Client c) (Client y)) (sym same) new
+same_new n (actors.Server i) (group_actors.Server v) (group_actors.Server w) same new = let raft = same.raft in (raft.me ∙ new.0, raft.size ∙ new.1, same_is v w newcomer same new.2)
+same_new n (actors.Server i) (group_actors.Server v) (group_actors.Client w) same new = absurd same
+same_new n (actors.Server i) (group_actors.Client v) b same new = absurd new
+same_new n (actors.Client c) (group_actors.Server v) b same new = absurd new
+same_new n (actors.Client c) (group_actors.Client v) (group_actors.Server w) same new = absurd same
+same_new n (actors.Client c) (group_actors.Client v) (group_actors.Client w) same new = subst (λ (y : AgentView). IsNewActor n (actors.Client c) (group_actors.Client y)) (sym same) new
 
 same_node : (nodes : List NodeSpec) (me : Actor) (a b : GroupActor) → SameActor a b → HasNode nodes me a → HasNode nodes me b
 same_node nodes (actors.Server i) a b same has = tt
-same_node nodes (actors.Client c) (Server v) b same has = absurd has
-same_node nodes (actors.Client c) (Client v) (Server w) same has = absurd same
-same_node nodes (actors.Client c) (Client v) (Client w) same has = subst (λ (y : AgentView). HasNode nodes (actors.Client c) (Client y)) (sym same) has
+same_node nodes (actors.Client c) (group_actors.Server v) b same has = absurd has
+same_node nodes (actors.Client c) (group_actors.Client v) (group_actors.Server w) same has = absurd same
+same_node nodes (actors.Client c) (group_actors.Client v) (group_actors.Client w) same has = subst (λ (y : AgentView). HasNode nodes (actors.Client c) (group_actors.Client y)) (sym same) has
 
 same_begins : (n : ℕ) (nodes : List NodeSpec) (me : Actor) (a b : GroupActor) → SameActor a b → BeginsAs n nodes me a → BeginsAs n nodes me b
 same_begins n nodes me a b same begins = (same_new n me a b same begins.0, same_node nodes me a b same begins.1)
@@ -110,13 +110,13 @@ pub opened_is_led : (n : ℕ) (nodes : List NodeSpec) (c : CellView) → IsOpene
 opened_is_led n nodes c led = led_weaker n nodes c.seat.actor (reverse c.seat.notes) c.actor led
 
 pub same_actor : (a : GroupActor) → SameActor a a
-same_actor (Server v) = record { raft = record { me = refl; size = refl; base = refl; server = refl }; desk = refl }
-same_actor (Client a) = refl
+same_actor (group_actors.Server v) = record { raft = record { me = refl; size = refl; base = refl; server = refl }; desk = refl }
+same_actor (group_actors.Client a) = refl
 
 -- ---- a turn
 
 -- the last note's outputs are those of what was noted
-last_sent : (old after : SeatView OwnInput) (noted : NotedView OwnInput) (stamp : ℕ) (tokens : List (TokenView OwnInput)) → after ≡ with_note noted stamp (with_taken tokens old)
+last_sent : (old after : SeatView OwnInput) (noted : NotedView OwnInput) (stamp : ℕ) (tokens : List (MessageTokenView OwnInput)) → after ≡ with_note noted stamp (with_taken tokens old)
     → last_envelopes after.notes ≡ envelopes_from (record { stamp = stamp; actor = old.actor; noted = noted }) 0 noted.outputs
 last_sent old after noted stamp tokens is =
     let note : Note OwnInput = record { stamp = stamp; actor = old.actor; noted = noted } in
@@ -189,10 +189,10 @@ as_said says refusals.NoMemory said = inl refl
 as_said says _ said = inr said
 
 pub cell_refused : {X : Type 0} (me : Actor) (old : CellView) (envelope : EnvelopeView) (q : Result X Refusal) (after : GroupActor) (now : SeatView OwnInput)
-    → me ≡ old.seat.actor → Hears old.actor envelope.event → envelope.receiver ≡ me → HasNoteLeft old → IfErr q (λ cause. IsStill old.actor old.seat envelope.event cause after now)
+    → me ≡ old.seat.actor → TakesUp old.actor envelope.event → envelope.receiver ≡ me → HasNoteLeft old → IfErr q (λ cause. IsStill old.actor old.seat envelope.event cause after now)
     → IfErr q (λ cause. IsEnvelopeRefused old envelope cause)
-cell_refused me old envelope (Ok x) after now mine hears to room still = still
-cell_refused me old envelope (Err cause) after now mine hears to room still = inr (hears, inr (to ∙ mine, inr (room, as_said (ActorRefuses old.actor envelope.event) cause still.refused)))
+cell_refused me old envelope (Ok x) after now mine takes_up to room still = still
+cell_refused me old envelope (Err cause) after now mine takes_up to room still = inr (takes_up, inr (to ∙ mine, inr (room, as_said (ActorRefuses old.actor envelope.event) cause still.refused)))
 
 -- ---- a turn as an actor's
 

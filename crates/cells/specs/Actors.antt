@@ -5,15 +5,15 @@ use Rattle.rows.specs.declared.actor.Actor.TheVariants as actors
 use Rattle.rows.specs.declared.node.NodeSpec.{NodeSpec}
 use Rattle.rows.specs.declared.worker.Work.{Work}
 use Rattle.wire.specs.Frames.{Frame}
-use Rattle.group_model.specs.Clients.{agent_of}
-use Rattle.group_model.specs.Clients as clients
-use Rattle.group_model.specs.Inputs as servers
-use Rattle.group_model.specs.Members.{newcomer}
+use Rattle.group_model.specs.Agents.{agent_of}
+use Rattle.group_model.specs.Agents as agents
+use Rattle.group_model.specs.Inputs as inputs
+use Rattle.group_model.specs.Servers.{newcomer}
 use Rattle.group_model.specs.Worlds.{Event, AtServer, AtClient}
 use Rattle.client_agent.specs.AgentView.{AgentView}
 use Rattle.client_agent.specs.declared.input.ClientInput.{ClientInput}
 use Rattle.client_agent.specs.declared.input.ClientInput.TheVariants as client_inputs
-use Rattle.server.specs.ServerViews.{ServerView, IsMember, SameMember}
+use Rattle.server.specs.ServerViews.{ServerView, IsServer, SameServer}
 use Rattle.server.specs.Handings.{Handing, FrameBytes, OwnInput as TakesOwn, handing}
 use Rattle.actor.specs.declared.group_actor.GroupActor.{GroupActor}
 use Rattle.actor.specs.declared.group_actor.GroupActor.TheVariants.{Server, Client}
@@ -41,8 +41,8 @@ IsClientInput (own.Client input) given = input.value ≡ given
 -- stands for it
 abbrev pub own_event : Actor → OwnInput → Event
 own_event (actors.Server i) (own.Server input) = AtServer i (server_input (handing input.value))
-own_event (actors.Server i) (own.Client input) = AtServer i servers.Crash
-own_event (actors.Client c) (own.Server input) = AtClient c clients.Crash
+own_event (actors.Server i) (own.Client input) = AtServer i inputs.Crash
+own_event (actors.Client c) (own.Server input) = AtClient c agents.Crash
 own_event (actors.Client c) (own.Client input) = AtClient c (client_input input.value)
 
 -- ---- what is sent
@@ -97,7 +97,7 @@ ActorSteps old event outputs new = (work : List Work) × ActorTurns old event ou
 
 -- the actor before its first input, in a group of n servers
 abbrev pub IsNewActor : ℕ → Actor → GroupActor → Type 0
-IsNewActor n (actors.Server i) (Server v) = (v.raft.me ≡ i) × (v.raft.size ≡ n) × IsMember v newcomer
+IsNewActor n (actors.Server i) (Server v) = (v.raft.me ≡ i) × (v.raft.size ≡ n) × IsServer v newcomer
 IsNewActor n (actors.Server i) (Client a) = ⊥
 IsNewActor n (actors.Client c) (Server v) = ⊥
 IsNewActor n (actors.Client c) (Client a) = (a.size ≡ n) × (a.client ≡ agent_of a.client.node) × (a.client.node.number ≡ c)
@@ -116,7 +116,7 @@ BeginsAs n nodes me actor = IsNewActor n me actor × HasNode nodes me actor
 
 -- two values that are one actor
 abbrev pub SameActor : GroupActor → GroupActor → Type 0
-SameActor (Server old) (Server new) = SameMember old new
+SameActor (Server old) (Server new) = SameServer old new
 SameActor (Server old) (Client new) = ⊥
 SameActor (Client old) (Server new) = ⊥
 SameActor (Client old) (Client new) = new ≡ old

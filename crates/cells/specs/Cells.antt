@@ -6,27 +6,27 @@ use Rattle.rows.specs.declared.refusal.Refusal.{Refusal}
 use Rattle.rows.specs.declared.refusal.Refusal.TheVariants as refusals
 use Rattle.rows.specs.declared.worker.Work.{Work}
 use Rattle.cluster_model.specs.Words.{State}
-use Rattle.raft_model.specs.Servers.{is_up}
+use Rattle.raft_model.specs.Rafts.{is_up}
 use Rattle.group_model.specs.Desks.{applied_state}
-use Rattle.group_model.specs.Members.{Member}
+use Rattle.group_model.specs.Servers.{Server}
 use Rattle.server.specs.Refusals.{WhyNoSnapshot}
-use Rattle.server.specs.ServerViews.{IsMember}
+use Rattle.server.specs.ServerViews.{IsServer}
 use Rattle.event_book.specs.declared.view.EventView.{EventView}
 use Rattle.event_book.specs.declared.view.EventView.TheVariants.{Own, Delivery, Crash}
 use Rattle.event_book.specs.declared.view.Output.{Output}
 use Rattle.event_book.specs.declared.view.NotedView.{NotedView}
 use Rattle.event_book.specs.declared.view.Note.{Note}
-use Rattle.event_book.specs.declared.view.TokenView.{TokenView}
+use Rattle.event_book.specs.declared.view.MessageTokenView.{MessageTokenView}
 use Rattle.event_book.specs.declared.view.SeatView.{SeatView}
 use Rattle.event_book.specs.Seats.{Names, with_note, with_taken}
 use Rattle.cells.specs.declared.own_input.OwnInput.{OwnInput}
 use Rattle.actor.specs.declared.group_actor.GroupActor.{GroupActor}
-use Rattle.actor.specs.declared.group_actor.GroupActor.TheVariants.{Server, Client}
+use Rattle.actor.specs.declared.group_actor.GroupActor.TheVariants as group_actors
 use Rattle.cells.specs.declared.cell.KeptEvent.{KeptEvent}
 use Rattle.cells.specs.declared.cell.KeptEvent.TheVariants as kept
 use Rattle.cells.specs.declared.cell.StampedEvent.{StampedEvent}
 use Rattle.cells.specs.Actors.{ActorTurns, ActorSteps, BeginsAs, IsNewActor, SameActor}
-use Rattle.cells.specs.Refusals.{Hears, IsDeafTo, ActorRefuses, ActorMayLack}
+use Rattle.cells.specs.Refusals.{TakesUp, IsDeafTo, ActorRefuses, ActorMayLack}
 
 -- ---- envelopes
 
@@ -34,9 +34,9 @@ use Rattle.cells.specs.Refusals.{Hears, IsDeafTo, ActorRefuses, ActorMayLack}
 pub record EnvelopeView : Type 0 where
   pub receiver : Actor
   pub event : EventView OwnInput
-  pub tokens : List (TokenView OwnInput)
+  pub tokens : List (MessageTokenView OwnInput)
 
-abbrev pub tokens_of : Option (TokenView OwnInput) → List (TokenView OwnInput)
+abbrev pub tokens_of : Option (MessageTokenView OwnInput) → List (MessageTokenView OwnInput)
 tokens_of None = []
 tokens_of (Some token) = token ∷ []
 
@@ -45,7 +45,7 @@ tokens_of (Some token) = token ∷ []
 abbrev pub IsAddressed : EnvelopeView → EventView OwnInput → Type 0
 IsAddressed e (Own input) = e.tokens ≡ []
 IsAddressed e (Delivery stamp place frame) =
-    (token : TokenView OwnInput) × (e.tokens ≡ token ∷ []) × Names token stamp place e.receiver frame
+    (token : MessageTokenView OwnInput) × (e.tokens ≡ token ∷ []) × Names token stamp place e.receiver frame
 IsAddressed e Crash = ⊥
 
 -- the output at a place of a note, with its token
@@ -114,7 +114,7 @@ crash_noted = record { event = Crash; outputs = [] }
 
 -- what was noted: the event that the envelope is, with its token taken in; or a crash in its place,
 -- where it may want memory
-abbrev pub IsNoteOf : CellView → EnvelopeView → NotedView OwnInput → List (TokenView OwnInput) → Type 0
+abbrev pub IsNoteOf : CellView → EnvelopeView → NotedView OwnInput → List (MessageTokenView OwnInput) → Type 0
 IsNoteOf old envelope noted taken =
     (noted.event ≡ envelope.event) × (taken ≡ envelope.tokens)
     ⊎ (noted ≡ crash_noted) × (taken ≡ []) × ActorMayLack old.actor envelope.event
@@ -127,7 +127,7 @@ HasNoteLeft c = length c.seat.notes + 1 < 2 ^ 40
 -- their tokens, all but as many as are unsent.
 pub record Turned (old : CellView) (envelope : EnvelopeView) (new : CellView) (work : List Work) (sent : List EnvelopeView) (unsent : ℕ) : Type 0 where
   pub noted : NotedView OwnInput
-  pub taken : List (TokenView OwnInput)
+  pub taken : List (MessageTokenView OwnInput)
   pub stamp : ℕ
   pub receiver : envelope.receiver ≡ old.seat.actor
   pub room : HasNoteLeft old
@@ -138,34 +138,35 @@ pub record Turned (old : CellView) (envelope : EnvelopeView) (new : CellView) (w
   pub are : sent ≡ take count (envelopes_from (record { stamp = stamp; actor = old.seat.actor; noted = noted }) 0 noted.outputs)
   pub all : count + unsent ≡ length noted.outputs
 
--- why an actor's own envelope is refused, where it hears it: the seat is full, or else there is no
--- memory, or the actor refuses it
+-- why an actor's own envelope is refused, where it takes it up: the seat is full, or else there is
+-- no memory, or the actor refuses it
 abbrev pub WhyNotTaken : CellView → EnvelopeView → Refusal → Type 0
 WhyNotTaken old envelope r =
     (r ≡ refusals.Exhausted) × (2 ^ 40 ≤ length old.seat.notes + 1)
     ⊎ HasNoteLeft old × ((r ≡ refusals.NoMemory) ⊎ ActorRefuses old.actor envelope.event r)
 
--- why an envelope is refused at an actor that hears it: it is for another actor, or else as above
+-- why an envelope is refused at an actor that takes it up: it is for another actor, or else as
+-- above
 abbrev pub WhyRefused : CellView → EnvelopeView → Refusal → Type 0
 WhyRefused old envelope r =
     (r ≡ refusals.OutOfRange) × (envelope.receiver ≢ old.seat.actor)
     ⊎ (envelope.receiver ≡ old.seat.actor) × WhyNotTaken old envelope r
 
--- one that does not hear it refuses with `Down`
+-- one that does not take it up refuses with `Down`
 abbrev pub IsEnvelopeRefused : CellView → EnvelopeView → Refusal → Type 0
 IsEnvelopeRefused old envelope r =
     (r ≡ refusals.Down) × IsDeafTo old.actor envelope.event
-    ⊎ Hears old.actor envelope.event × WhyRefused old envelope r
+    ⊎ TakesUp old.actor envelope.event × WhyRefused old envelope r
 
 -- ---- the state of a server
 
 -- this is the replicated state of a server that is up, after so many entries
 abbrev pub HasApplied : GroupActor → State → ℕ → Type 0
-HasApplied (Server v) state count = (s : Member) → IsMember v s →
+HasApplied (group_actors.Server v) state count = (s : Server) → IsServer v s →
     (is_up s.raft.mode ≡ true) × (state ≡ applied_state s.raft) × (count ≡ s.raft.commit)
-HasApplied (Client a) state count = ⊥
+HasApplied (group_actors.Client a) state count = ⊥
 
 -- why there is no such state: the server is down, there is no memory, or it is a client
 abbrev pub WhyNotApplied : GroupActor → Refusal → Type 0
-WhyNotApplied (Server v) r = (s : Member) → IsMember v s → WhyNoSnapshot s r
-WhyNotApplied (Client a) r = r ≡ refusals.OutOfRange
+WhyNotApplied (group_actors.Server v) r = (s : Server) → IsServer v s → WhyNoSnapshot s r
+WhyNotApplied (group_actors.Client a) r = r ≡ refusals.OutOfRange

@@ -25,9 +25,9 @@ restarts (Own (own.Client input)) = restarts_client input.value
 restarts (Delivery stamp place frame) = false
 restarts Crash = false
 
--- one that is down hears a restart alone
-abbrev pub Hears : GroupActor → EventView OwnInput → Type 0
-Hears actor event = IsUpActor actor true ⊎ (restarts event ≡ true)
+-- one that is down takes up a restart alone
+abbrev pub TakesUp : GroupActor → EventView OwnInput → Type 0
+TakesUp actor event = IsUpActor actor true ⊎ (restarts event ≡ true)
 
 abbrev pub IsDeafTo : GroupActor → EventView OwnInput → Type 0
 IsDeafTo actor event = IsUpActor actor false × (restarts event ≡ false)

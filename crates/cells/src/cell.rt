@@ -81,7 +81,7 @@ impl<B: BookId> Model for Cell<B> {
 
 /// What a turn of an actor gives.
 #[derive(Drop)]
-pub struct Turn<B: BookId> {
+pub struct CellTurn<B: BookId> {
     /// What came for the workers of the server; none at a client.
     pub work: Sequence<Work>,
     /// What the actor sent, each with its token.
@@ -248,7 +248,7 @@ fn record<B: BookId>(
     token: Option<MessageToken<OwnInput, B>>,
     stepped: Stepped,
     outbox: Outbox,
-) -> Turn<B>
+) -> CellTurn<B>
     requires addressed { CanBeNoted seat.old (event_view event) (tokens_of token) }
     requires can_note { length seat.old.notes + 1 < 2 ^ 40 }
     requires room { vec_len taken.old < vec_capacity taken.old }
@@ -266,7 +266,7 @@ fn record<B: BookId>(
                 frames,
             };
             let (sent, unsent) = keep(alloc, book, seat, taken, done);
-            Turn { work, sent, unsent }
+            CellTurn { work, sent, unsent }
         }
         Stepped::Crashed => {
             use_up(event, token);
@@ -276,7 +276,7 @@ fn record<B: BookId>(
                 frames,
             };
             let (sent, unsent) = keep(alloc, book, seat, taken, done);
-            Turn { work, sent, unsent }
+            CellTurn { work, sent, unsent }
         }
     }
 }
@@ -297,7 +297,7 @@ fn step<B: BookId>(
     taken: &mut Vec<StampedEvent>,
     event: ActorEvent<OwnInput>,
     token: Option<MessageToken<OwnInput, B>>,
-) -> Result<Turn<B>, Refusal>
+) -> Result<CellTurn<B>, Refusal>
     requires addressed { CanBeNoted seat.old (event_view event) (tokens_of token) }
     requires event { IsAnEvent (event_view event) }
     requires can_note { length seat.old.notes + 1 < 2 ^ 40 }
@@ -408,7 +408,7 @@ impl<B: BookId> Cell<B> {
         alloc: Global,
         book: &Book<OwnInput, B>,
         envelope: Envelope<B>,
-    ) -> Result<Turn<B>, Refusal>
+    ) -> Result<CellTurn<B>, Refusal>
         ensures ok { IfOk result (λ turn.
             Turned self.old envelope self.new turn.work turn.sent.items turn.unsent) }
         ensures led { IsLedCell (group_size B.actors) self.old }
@@ -428,7 +428,7 @@ impl<B: BookId> Cell<B> {
             event,
             token,
         } = envelope;
-        if !stepping::hears(actor, &event) {
+        if !stepping::takes_up(actor, &event) {
             return Err(Refusal::Down);
         }
         if !is_for(receiver, *me) {
@@ -450,7 +450,7 @@ impl<B: BookId> Cell<B> {
         alloc: Global,
         book: &Book<OwnInput, B>,
         envelope: Envelope<B>,
-    ) -> Result<Turn<B>, Refusal>
+    ) -> Result<CellTurn<B>, Refusal>
         ensures ok { IfOk result (λ turn.
             TookTurn (group_size B.actors) envelope turn.work turn.sent.items turn.unsent) }
         ensures sent { IfOk result (λ turn. AreSent envelope.receiver turn.sent.items) }

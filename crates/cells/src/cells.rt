@@ -9,7 +9,7 @@ ghost use Rattle.cells.specs.Opening.{MayOpenCells, WhyNotOpen};
 ghost use Rattle.cells.specs.Actors.{group_size};
 ghost use Rattle.cells.specs.Turns.{TookTurn, WhyNoTurn};
 
-use crate::cell::{Cell, Turn};
+use crate::cell::{Cell, CellTurn};
 use crate::envelope::Envelope;
 use crate::opening::may_open;
 use crate::own_input::OwnInput;
@@ -105,13 +105,13 @@ fn actors_of<B: BookId>(alloc: Global, cells: &[Cell<B>]) -> Result<Vec<Actor>, 
 /// The index of an actor: the servers come first.
 fn index_of(actor: Actor) -> usize {
     match actor {
-        Actor::Server(server) => server.place(),
+        Actor::Server(server) => server.position(),
         Actor::Client(client) => 4 + usize::from(client.number()),
     }
 }
 
 /// The place of each of these actors, by its index.
-fn places_of(actors: &[Actor]) -> [u8; ACTORS] {
+fn positions_of(actors: &[Actor]) -> [u8; ACTORS] {
     let mut places = [0; ACTORS];
     let mut place = 0u8;
     for actor in actors {
@@ -124,7 +124,7 @@ fn places_of(actors: &[Actor]) -> [u8; ACTORS] {
 }
 
 /// The place of an actor among these; none where it is none of them.
-fn place_among(actors: &[Actor], actor: &Actor) -> Option<usize>
+fn position_among(actors: &[Actor], actor: &Actor) -> Option<usize>
     ensures some { IfSome result (λ place.
         (place < length actors.now) × (lists_actor actors.now actor.now ≡ true)) }
     ensures none { IfNone result (lists_actor actors.now actor.now ≡ false) }
@@ -133,7 +133,7 @@ fn place_among(actors: &[Actor], actor: &Actor) -> Option<usize>
     if *first == *actor {
         return Some(0);
     }
-    Some(place_among(rest, actor)? + 1)
+    Some(position_among(rest, actor)? + 1)
 }
 
 impl<B: BookId> Cells<B> {
@@ -161,7 +161,7 @@ impl<B: BookId> Cells<B> {
             return Err(Refusal::OutOfRange);
         }
         let actors = actors_of(alloc, cells.as_slice())?;
-        let places = places_of(actors.as_slice());
+        let places = positions_of(actors.as_slice());
         let cells = locked(alloc, cells)?;
         Ok(Cells {
             alloc,
@@ -201,7 +201,7 @@ impl<B: BookId> Cells<B> {
     }
 
     /// The place of an actor among those of the group; none where it is none of them.
-    pub(crate) fn place_of(&self, actor: Actor) -> Option<usize>
+    pub(crate) fn position_of(&self, actor: Actor) -> Option<usize>
         ensures some { IfSome result (λ place. (place < length self.now.actors)
             × (lists_actor self.now.actors actor ≡ true)) }
         ensures none { IfNone result (lists_actor self.now.actors actor ≡ false) }
@@ -214,7 +214,7 @@ impl<B: BookId> Cells<B> {
             return Some(usize::from(*place));
         }
         // No actor of the group comes here.
-        place_among(actors, &actor)
+        position_among(actors, &actor)
     }
 
     /// Two envelopes of one, for a message that is delivered twice: `Envelope::again`.
@@ -233,7 +233,7 @@ impl<B: BookId> Cells<B> {
         ensures some { OnSome result (lists_actor self.now.actors actor ≡ true) }
         ensures none { IfNone result (lists_actor self.now.actors actor ≡ false) }
     {
-        let place = self.place_of(actor)?;
+        let place = self.position_of(actor)?;
         Some(self.cells[place].lock(rt))
     }
 
@@ -283,7 +283,7 @@ pub fn turn<B: BookId, R: Wait>(
     cells: &Cells<B>,
     actor: Actor,
     envelope: Envelope<B>,
-) -> Result<Turn<B>, Refusal>
+) -> Result<CellTurn<B>, Refusal>
     ensures ok { IfOk result (λ turn.
         TookTurn (group_size B.actors) envelope turn.work turn.sent.items turn.unsent) }
     ensures sent { IfOk result (λ turn. AreSent envelope.receiver turn.sent.items) }

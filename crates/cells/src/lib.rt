@@ -11,7 +11,7 @@ mod rest;
 mod stepping;
 
 pub use actor::{GroupActor, Stepped};
-pub use cell::{Cell, KeptEvent, StampedEvent, Turn};
+pub use cell::{Cell, CellTurn, KeptEvent, StampedEvent};
 pub use cells::{Cells, OwnedCells, turn};
 pub use envelope::Envelope;
 pub use opening::cells_of;

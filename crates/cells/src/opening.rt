@@ -26,8 +26,8 @@ fn has_servers(n: usize, all: &[Actor]) -> bool
     ensures no { result ≡ false →
         (i : ℕ) × (i < n) × (lists_actor all.now (actors.Server i) ≡ false) }
 {
-    for place in 0..n {
-        let Some(server) = ServerId::from_place(place) else {
+    for position in 0..n {
+        let Some(server) = ServerId::from_position(position) else {
             unreachable!()
         };
         if !all.contains(&Actor::Server(server)) {
@@ -61,7 +61,7 @@ fn is_of_group(n: usize, m: usize, actor: Actor) -> bool
     ensures { MatchBool result (IsOfGroup n m actor) (IsOfGroup n m actor → ⊥) }
 {
     match actor {
-        Actor::Server(server) => server.place() < n,
+        Actor::Server(server) => server.position() < n,
         Actor::Client(client) => usize::from(client.number()) <= m,
     }
 }
@@ -203,7 +203,7 @@ fn begin(alloc: Global, n: usize, nodes: &[NodeSpec], actor: Actor) -> Result<Gr
 {
     match actor {
         Actor::Server(server) => {
-            if server.place() >= n {
+            if server.position() >= n {
                 return Err(Refusal::OutOfRange);
             }
             Ok(GroupActor::Server(Server::new(alloc, server, n)?))

@@ -4,7 +4,7 @@ ghost use Rattle.event_book.specs.declared.view.EventView.TheVariants.{Own};
 ghost use Rattle.event_book.specs.Noted.{event_view};
 ghost use Rattle.actor.specs.declared.group_actor.GroupActor.TheVariants as actors;
 ghost use Rattle.actor.specs.Answers.{nothing_sent};
-ghost use Rattle.cells.specs.Refusals.{Hears, IsDeafTo, restarts};
+ghost use Rattle.cells.specs.Refusals.{TakesUp, IsDeafTo, restarts};
 ghost use Rattle.cells.specs.Inner.Steps.{DidOrRefused, IsAnEvent};
 
 use crate::own_input::OwnInput;
@@ -29,9 +29,9 @@ fn restarts(event: &ActorEvent<OwnInput>) -> bool
     }
 }
 
-/// Whether an actor takes the event up: one that is down hears a restart alone.
-pub(crate) fn hears(actor: &GroupActor, event: &ActorEvent<OwnInput>) -> bool
-    ensures { MatchBool result (Hears actor.now (event_view event.now))
+/// Whether an actor takes the event up: one that is down takes up a restart alone.
+pub(crate) fn takes_up(actor: &GroupActor, event: &ActorEvent<OwnInput>) -> bool
+    ensures { MatchBool result (TakesUp actor.now (event_view event.now))
         (IsDeafTo actor.now (event_view event.now)) }
 {
     actor.is_up() || restarts(event)

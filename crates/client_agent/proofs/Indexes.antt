@@ -17,13 +17,13 @@ use Rattle.rows.proofs.RisingLaws.{keeps_rising}
 use Rattle.rows.proofs.KeyLaws.{alloc_cmp_total}
 use Rattle.fsm_tables.specs.Rows.{row_of, put}
 use Rattle.fsm_tables.specs.ReservedTables.{without}
-use Rattle.pages.specs.Places.{PlaceOf}
-use Rattle.pages.proofs.Places.{place_found}
+use Rattle.pages.specs.Positions.{PositionOf}
+use Rattle.pages.proofs.Positions.{position_found}
 use Rattle.fsm_tables.proofs.RowLaws.{row_of-put}
 use Rattle.fsm_tables.proofs.ReservedTables.{row_of-without}
 use Rattle.cluster_model.specs.Words.{same_alloc}
 use Rattle.cluster_model.proofs.Keys.{at_number}
-use Rattle.group_model.specs.Clients.{Ended, is_shown, ended_how}
+use Rattle.group_model.specs.Agents.{Ended, is_shown, ended_how}
 use Rattle.client_agent.specs.declared.ids.IdRow.{IdRow}
 use Rattle.client_agent.specs.Capacity.{AreDistinct}
 use Rattle.client_agent.specs.Inner.Ends.{ended_row}
@@ -104,11 +104,11 @@ row_shown (r ∷ rows) id =
 -- what a search over the rising ids finds
 pub shown_by_place : (rows : List ListedAllocation) (id : AllocId) (r : Result ℕ ℕ) → AreListed rows → IsSearchInRange r (length rows) →
     IsBinarySearchResult (λ (y : ListedAllocation). alloc_cmp y.id id) rows r → is_ok r ≡ is_shown rows id
-shown_by_place rows id r listed bound position = of rows r (place_found alloc_cmp listed_id alloc_cmp_total id rows r rising bound position) ∙ row_shown rows id where
+shown_by_place rows id r listed bound position = of rows r (position_found alloc_cmp listed_id alloc_cmp_total id rows r rising bound position) ∙ row_shown rows id where
   rising : T (is_rising alloc_cmp listed_id rows)
   rising = subst T (sym listed.1 ∙ keeps_rising alloc_cmp alloc_cmp_total listed_id rows) tt
 
-  of : (rows : List ListedAllocation) (r : Result ℕ ℕ) → PlaceOf alloc_cmp listed_id id rows r → is_ok r ≡ is_some (row_of alloc_cmp listed_id id rows)
+  of : (rows : List ListedAllocation) (r : Result ℕ ℕ) → PositionOf alloc_cmp listed_id id rows r → is_ok r ≡ is_some (row_of alloc_cmp listed_id id rows)
   of [] (Ok at) place = absurd (omega (arith, place.0))
   of (x ∷ xs) (Ok at) place = sym (ap is_some (place.1 x))
   of rows (Err at) place = sym (ap is_some place.1)

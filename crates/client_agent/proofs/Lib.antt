@@ -4,4 +4,4 @@ pub mod Told
 pub mod Fits
 pub mod Sending
 pub mod Taking
-pub mod Hearing
+pub mod Receiving

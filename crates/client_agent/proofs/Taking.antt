@@ -7,7 +7,7 @@ use Rattle.rows.specs.declared.reason.Reason.{Reason}
 use Rattle.wire.specs.Frames.{Frame}
 use Rattle.cluster_model.specs.ClusterMachine.{cluster_meaning}
 use Rattle.group_model.specs.Messages.{ToServer, Listing, Told, Service}
-use Rattle.group_model.specs.Clients.{Client, Life, Started, Input, Arrives, RegisterAt, Ping, PullFrom, End, Crash, Restart, Turn, step, lives, new_life, runs, news, report_messages, with_end, with_started}
+use Rattle.group_model.specs.Agents.{Agent, Life, Started, Input, Arrives, RegisterAt, Ping, PullFrom, End, Crash, Restart, AgentTurn, step, lives, new_life, runs, news, report_messages, with_end, with_started}
 use Rattle.group_frames.specs.GroupFrames.{SendsGroup}
 use Rattle.group_frames.proofs.Sending.{sends_nothing}
 use Rattle.client_agent.specs.declared.input.ClientInput.TheVariants as inputs
@@ -19,12 +19,12 @@ use Rattle.client_agent.specs.Inner.Asking.{request_of, handing_of}
 use Rattle.client_agent.specs.Inner.Runs.{followed}
 
 -- the turn of an input is a step
-steps_by : (old new : AgentView) (input : Input) (before after : List Frame) (turn : Turn) → step old.size old.client input ≡ Ok turn → new.client ≡ turn.client →
+steps_by : (old new : AgentView) (input : Input) (before after : List Frame) (turn : AgentTurn) → step old.size old.client input ≡ Ok turn → new.client ≡ turn.client →
     SendsGroup cluster_meaning before after (map Service turn.sent) → AgentSteps old input new before after
 steps_by old new input before after turn is client sent = record { turn = turn; step = is; client = client; sent = sent }
 
 -- the definitions' step of a client that is up, or down
-up_step : (n : ℕ) (c : Client) (l : Life) (input : Input) → c.life ≡ Some l → step n c input ≡ lives n c l input
+up_step : (n : ℕ) (c : Agent) (l : Life) (input : Input) → c.life ≡ Some l → step n c input ≡ lives n c l input
 up_step n c l input up = rw up refl
 
 life_of : (o : Option Life) → is_some o ≡ true → (l : Life) × (o ≡ Some l)
@@ -100,6 +100,6 @@ crashed_by old new all up made input is =
 pub restarted_by : (old new : AgentView) (all : List Frame) → is_some old.client.life ≡ false → new.client ≡ record old.client { life = Some new_life } → AgentTakes old inputs.Restart new all all
 restarted_by old new all down made input is =
     let c = old.client in
-    let turn : Turn = record { client = record c { life = Some new_life }; sent = [] } in
+    let turn : AgentTurn = record { client = record c { life = Some new_life }; sent = [] } in
     let taken : step old.size c Restart ≡ Ok turn = rw (no_life c.life down) refl in
     rw is (steps_by old new Restart all all turn taken made (sends_nothing cluster_meaning all))

@@ -4,7 +4,7 @@ use Rattle.std.proofs.lemmas.List.{length-take, append_assoc, length_push, at_dr
 use Rattle.std.specs.List.{filter_map, cons_option}
 use Rattle.rows.specs.declared.listing.ListedAllocation.{ListedAllocation}
 use Rattle.rows.specs.declared.command.Report.{Report}
-use Rattle.group_model.specs.Clients.{Started, Ended, news_of, news, state_to_report}
+use Rattle.group_model.specs.Agents.{Started, Ended, news_of, news, state_to_report}
 
 -- all of it, however much that is
 abbrev pub told_of : Started → List Ended → List ListedAllocation → List Report

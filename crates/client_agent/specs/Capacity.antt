@@ -5,7 +5,7 @@ use Rattle.rows.specs.declared.size.Size.{Size}
 use Rattle.rows.specs.Sizes.{total, fits}
 use Rattle.rows.specs.declared.allocation.AllocId.{AllocId}
 use Rattle.cluster_model.specs.Words.{same_alloc}
-use Rattle.group_model.specs.Clients.{Running}
+use Rattle.group_model.specs.Agents.{Running}
 
 -- all of them together take no more than a node of this size has
 abbrev pub FitTogether : Size → List Running → Type 0

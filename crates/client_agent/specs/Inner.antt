@@ -3,4 +3,4 @@ pub mod Ids
 pub mod Rooms
 pub mod Runs
 pub mod Asking
-pub mod Heard
+pub mod Received

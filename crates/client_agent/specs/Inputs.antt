@@ -2,7 +2,7 @@
 use Rattle.std.specs.Prelude.{◌≡◌, ℕ}
 use Rattle.cluster_model.specs.ClusterMachine.{cluster_meaning}
 use Rattle.group_model.specs.Messages.{ClientResponse, ToClient}
-use Rattle.group_model.specs.Clients.{Input, Arrives, RegisterAt, Ping, PullFrom, End, Crash, Restart}
+use Rattle.group_model.specs.Agents.{Input, Arrives, RegisterAt, Ping, PullFrom, End, Crash, Restart}
 use Rattle.group_frames.specs.GroupFrames.{IsServiceFrame}
 use Rattle.client_agent.specs.declared.input.ClientInput.{ClientInput}
 use Rattle.client_agent.specs.declared.input.ClientInput.TheVariants as inputs

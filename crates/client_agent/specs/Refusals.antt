@@ -10,7 +10,7 @@ use Rattle.wire.specs.Messages.{Message as WireMessage}
 use Rattle.wire.specs.Frames.{message_at}
 use Rattle.cluster_model.specs.ClusterMachine.{cluster_meaning}
 use Rattle.cluster_model.specs.Words.{State}
-use Rattle.group_model.specs.Clients.{Client, Life, RegisterAt, Ping, PullFrom, End, Crash, Restart, runs, step}
+use Rattle.group_model.specs.Agents.{Agent, Life, RegisterAt, Ping, PullFrom, End, Crash, Restart, runs, step}
 use Rattle.raft_core.specs.Refusals.{is_server_of}
 use Rattle.client_agent.specs.declared.input.ClientInput.{ClientInput}
 use Rattle.client_agent.specs.declared.input.ClientInput.TheVariants as inputs
@@ -46,7 +46,7 @@ client_frame_refusal n me bytes =
 
 -- Why a client in a group of n servers refuses what is handed in, if it does: it is down; bytes are
 -- no frame, or one for another; else as the definitions say.
-abbrev pub agent_refusal : ℕ → Client → ClientInput → Option Refusal
+abbrev pub agent_refusal : ℕ → Agent → ClientInput → Option Refusal
 agent_refusal n c (inputs.Frame bytes) =
     if is_some c.life then client_frame_refusal n c.node.number bytes else Some refusals.Down
 agent_refusal n c (inputs.Register server) = result_err (step n c (RegisterAt server))
@@ -65,7 +65,7 @@ RunsIn (Some l) id = runs l.running id ≡ true
 
 -- When an input may want memory: a frame, and a message to a server of the group, while the client
 -- is up; and the end of an allocation that runs. A crash takes none, nor does a restart.
-abbrev pub AgentMayLack : ℕ → Client → ClientInput → Type 0
+abbrev pub AgentMayLack : ℕ → Agent → ClientInput → Type 0
 AgentMayLack n c (inputs.Frame bytes) = is_some c.life ≡ true
 AgentMayLack n c (inputs.Register server) = (is_some c.life ≡ true) × (server < n)
 AgentMayLack n c (inputs.Ping server) = (is_some c.life ≡ true) × (server < n)
@@ -78,7 +78,7 @@ AgentMayLack n c inputs.Restart = ⊥
 
 -- this refusal may be answered: want of memory where some may be wanted, any other where it is the
 -- one above
-abbrev pub IsAgentRefused : ℕ → Client → ClientInput → Refusal → Type 0
+abbrev pub IsAgentRefused : ℕ → Agent → ClientInput → Refusal → Type 0
 IsAgentRefused n c given refusals.NoMemory = AgentMayLack n c given
 IsAgentRefused n c given cause = agent_refusal n c given ≡ Some cause
 

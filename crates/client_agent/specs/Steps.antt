@@ -3,7 +3,7 @@ use Rattle.std.specs.Prelude.{◌≡◌, Ok, List, map}
 use Rattle.wire.specs.Frames.{Frame}
 use Rattle.cluster_model.specs.ClusterMachine.{cluster_meaning}
 use Rattle.group_model.specs.Messages.{Service}
-use Rattle.group_model.specs.Clients.{Input, Turn, step}
+use Rattle.group_model.specs.Agents.{Input, AgentTurn, step}
 use Rattle.group_frames.specs.GroupFrames.{SendsGroup}
 use Rattle.client_agent.specs.declared.input.ClientInput.{ClientInput}
 use Rattle.client_agent.specs.AgentView.{AgentView}
@@ -11,7 +11,7 @@ use Rattle.client_agent.specs.Inputs.{AgentReads}
 
 -- the input leads from the one client to the other, and its messages were sent
 pub record AgentSteps (old : AgentView) (input : Input) (new : AgentView) (before after : List Frame) : Type 0 where
-  pub turn : Turn
+  pub turn : AgentTurn
   pub step : step old.size old.client input ≡ Ok turn
   pub client : new.client ≡ turn.client
   pub sent : SendsGroup cluster_meaning before after (map Service turn.sent)

@@ -5,19 +5,19 @@ ghost use Rattle.rows.specs.GroupSizes.{IsGroup};
 ghost use Rattle.rows.specs.Listings.{AreListed};
 ghost use Rattle.wire.specs.Frames.{Frame};
 ghost use Rattle.group_model.specs.Messages.{Listing};
-ghost use Rattle.group_model.specs.Clients.{Arrives, agent_of};
+ghost use Rattle.group_model.specs.Agents.{Arrives, agent_of};
 ghost use Rattle.client_agent.specs.declared.input.ClientInput.TheVariants as inputs;
 ghost use Rattle.client_agent.specs.Capacity.{FitTogether, AreDistinct};
 ghost use Rattle.client_agent.specs.AgentView.{crashed_agent};
 ghost use Rattle.client_agent.specs.Steps.{AgentSteps, AgentTakes};
 ghost use Rattle.client_agent.specs.Refusals.{client_frame_refusal, misdirected_to_client, agent_refusal, IsAgentRefused, AgentRefusalLeaves};
 ghost use Rattle.client_agent.specs.Inner.Asking.{handing_of};
-ghost use Rattle.client_agent.specs.Inner.Heard.{IsHeard, TakesHeard};
+ghost use Rattle.client_agent.specs.Inner.Received.{IsReceived, TakesReceived};
 
 use crate::asking::{Asked, client_of, send_asked};
 use crate::input::ClientInput;
 use crate::life::Life;
-use crate::listing::{Heard, Shown, take_shown};
+use crate::listing::{Received, Shown, take_shown};
 use crate::running::RunningAllocation;
 use crate::started::Started;
 use fsm_state::Cluster;
@@ -41,7 +41,7 @@ pub struct Agent {
 
 impl Model for Agent {
     ghost use Rattle.std.specs.Prelude.{IfSome};
-    ghost use Rattle.group_model.specs.Clients.{Life as AnyLife};
+    ghost use Rattle.group_model.specs.Agents.{Life as AnyLife};
     ghost use Rattle.client_agent.specs.AgentView.{AgentView};
     ghost use Rattle.client_agent.specs.Capacity.{FitTogether};
 
@@ -138,7 +138,7 @@ impl Agent {
         let Actor::Server(from) = from else {
             return Err(Refusal::Frame(3));
         };
-        if from.place() >= self.size {
+        if from.position() >= self.size {
             return Err(Refusal::Frame(2));
         }
         let Actor::Client(to) = to else {
@@ -151,8 +151,8 @@ impl Agent {
     }
 
     /// What a frame says, which is from a server of the group and for this client.
-    fn read(&self, frame: &[u8]) -> Result<Heard, Refusal>
-        ensures heard { IfOk result (IsHeard self.now.client.node.number frame.now) }
+    fn read(&self, frame: &[u8]) -> Result<Received, Refusal>
+        ensures received { IfOk result (IsReceived self.now.client.node.number frame.now) }
         ensures admitted { OnOk result
             (client_frame_refusal self.now.size self.now.client.node.number frame.now ≡ None) }
         ensures refused { IfErr result (λ cause. cause ≢ refusals.NoMemory →
@@ -161,7 +161,7 @@ impl Agent {
     {
         let message = read_message::<Cluster>(self.alloc, frame)?;
         let from = self.sender(message.from(), message.to())?;
-        Ok(Heard {
+        Ok(Received {
             from,
             body: message.into_body(),
         })
@@ -207,15 +207,15 @@ impl Agent {
     }
 
     /// What a server says comes to a client that is up: of what it says, only a list changes it.
-    fn take(&mut self, heard: Heard, outbox: &mut Frames) -> Result<(), NoMemory>
+    fn take(&mut self, received: Received, outbox: &mut Frames) -> Result<(), NoMemory>
         requires { is_some self.old.client.life ≡ true }
         ensures same { self.new.size ≡ self.old.size }
         ensures taken { OnOk result
-            (TakesHeard self.old heard self.new outbox.old outbox.new) }
+            (TakesReceived self.old received self.new outbox.old outbox.new) }
         ensures lost { OnErr result (self.new ≡ crashed_agent self.old) }
         ensures unsent { OnErr result (outbox.new ≡ outbox.old) }
     {
-        let Heard { from, body } = heard;
+        let Received { from, body } = received;
         match body {
             Body::List(index, listing) => {
                 let rows = listing.as_slice();
@@ -246,7 +246,7 @@ impl Agent {
             return Err(Refusal::Down);
         }
         match self.read(frame) {
-            Ok(heard) => match self.take(heard, outbox) {
+            Ok(received) => match self.take(received, outbox) {
                 Ok(()) => Ok(()),
                 Err(_) => Err(Refusal::NoMemory),
             },
@@ -274,7 +274,7 @@ impl Agent {
         if !self.is_up() {
             return Err(Refusal::Down);
         }
-        if server.place() >= self.size {
+        if server.position() >= self.size {
             return Err(Refusal::OutOfRange);
         }
         match send_asked(&self.node, what, server, outbox) {

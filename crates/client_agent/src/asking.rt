@@ -4,7 +4,7 @@ ghost use Rattle.rows.specs.declared.actor.Actor.TheVariants as actors;
 ghost use Rattle.wire.specs.Messages.{kind_of, may_go};
 ghost use Rattle.cluster_model.specs.ClusterMachine.{cluster_meaning};
 ghost use Rattle.group_model.specs.Messages.{ClientRequest, Service, ToServer};
-ghost use Rattle.group_model.specs.Clients.{report_messages};
+ghost use Rattle.group_model.specs.Agents.{report_messages};
 ghost use Rattle.group_frames.specs.GroupFrames.{SendsGroup, service_between};
 ghost use Rattle.client_agent.specs.Inner.Asking.{request_of};
 

@@ -1,6 +1,6 @@
 //! The allocations that ended on a node while its agent was up.
 ghost use Rattle.std.specs.Prelude.{◌≡◌, [], ◌∷◌, ◌++◌, OnOk};
-ghost use Rattle.group_model.specs.Clients.{Ended as AnyEnded, ended_how};
+ghost use Rattle.group_model.specs.Agents.{Ended as AnyEnded, ended_how};
 ghost use Rattle.client_agent.specs.Inner.Ends.{ended_row};
 
 use fsm_tables::{ReservedTable, Row};
@@ -18,7 +18,7 @@ pub(crate) struct EndedAllocation {
 }
 
 impl Model for EndedAllocation {
-    ghost use Rattle.group_model.specs.Clients.{Ended as AnyEnded};
+    ghost use Rattle.group_model.specs.Agents.{Ended as AnyEnded};
 
     ghost Value = { AnyEnded };
 
@@ -58,7 +58,7 @@ pub(crate) struct Ended {
 
 impl Model for Ended {
     ghost use Rattle.std.specs.Prelude.{List};
-    ghost use Rattle.group_model.specs.Clients.{Ended as AnyEnded};
+    ghost use Rattle.group_model.specs.Agents.{Ended as AnyEnded};
     ghost use Rattle.client_agent.specs.Inner.Ids.{AreEnds};
 
     ghost Value = { List AnyEnded };
@@ -94,7 +94,7 @@ impl Ended {
         ensures { OnOk result (self.new ≡ self.old ++ ended_row id.now ok ∷ []) }
     {
         let count = self.firsts.rows().len() + 1;
-        self.firsts.make_room(count)?;
+        self.firsts.reserve_rows(count)?;
         self.all.push(EndedAllocation { id: *id, ok })?;
         if self.firsts.get(id).is_none() {
             self.firsts.put(EndedAllocation { id: *id, ok });

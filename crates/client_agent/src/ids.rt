@@ -76,7 +76,7 @@ impl Ids {
         ensures err { OnErr result (self.new ≡ self.old) }
     {
         let count = self.rows.rows().len() + 1;
-        self.rows.make_room(count)?;
+        self.rows.reserve_rows(count)?;
         self.rows.put(IdRow { id });
         Ok(())
     }

@@ -1,7 +1,7 @@
 //! What an agent knows while it is up.
 ghost use Rattle.std.specs.Prelude.{◌≡◌, OnOk, IfOk};
 ghost use Rattle.rows.specs.Listings.{AreListed};
-ghost use Rattle.group_model.specs.Clients.{new_life, runs, with_end, news};
+ghost use Rattle.group_model.specs.Agents.{new_life, runs, with_end, news};
 ghost use Rattle.client_agent.specs.Capacity.{FitTogether};
 ghost use Rattle.client_agent.specs.Inner.Runs.{runs_of, followed, MoreIds};
 
@@ -24,7 +24,7 @@ pub(crate) struct Life {
 }
 
 impl Model for Life {
-    ghost use Rattle.group_model.specs.Clients.{Life as AnyLife};
+    ghost use Rattle.group_model.specs.Agents.{Life as AnyLife};
 
     ghost Value = { AnyLife };
 

@@ -3,7 +3,7 @@ ghost use Rattle.std.specs.Prelude.{◌≡◌, map, OnOk, OnErr};
 ghost use Rattle.rows.specs.Listings.{AreListed};
 ghost use Rattle.cluster_model.specs.ClusterMachine.{cluster_meaning};
 ghost use Rattle.group_model.specs.Messages.{Service};
-ghost use Rattle.group_model.specs.Clients.{report_messages, news};
+ghost use Rattle.group_model.specs.Agents.{report_messages, news};
 ghost use Rattle.group_frames.specs.GroupFrames.{SendsGroup};
 ghost use Rattle.client_agent.specs.Capacity.{FitTogether};
 ghost use Rattle.client_agent.specs.Inner.Runs.{followed, MoreIds};
@@ -18,7 +18,7 @@ use wire::{Body, Frames};
 
 /// What a server of the group says to this client.
 #[derive(Drop)]
-pub(crate) struct Heard {
+pub(crate) struct Received {
     /// The server.
     pub from: ServerId,
     /// What it says.

@@ -1,6 +1,6 @@
 //! What an agent reports of the allocations that it is shown.
 ghost use Rattle.std.specs.Prelude.{◌≡◌, List, IfOk};
-ghost use Rattle.group_model.specs.Clients.{Running, state_to_report, news_of, news, is_known};
+ghost use Rattle.group_model.specs.Agents.{Running, state_to_report, news_of, news, is_known};
 ghost use Rattle.client_agent.specs.Inner.Ids.{AreRunning};
 ghost use Rattle.client_agent.specs.Inner.Runs.{runs_of};
 

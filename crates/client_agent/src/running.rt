@@ -2,7 +2,7 @@
 ghost use Rattle.std.specs.Prelude.{◌≡◌, not, filter, IfOk};
 ghost use Rattle.rows.specs.Listings.{AreListed};
 ghost use Rattle.cluster_model.specs.Words.{same_alloc};
-ghost use Rattle.group_model.specs.Clients.{Running, is_shown, runs};
+ghost use Rattle.group_model.specs.Agents.{Running, is_shown, runs};
 ghost use Rattle.client_agent.specs.Inner.Ids.{AreRunning};
 
 use crate::ids::Ids;
@@ -20,7 +20,7 @@ pub struct RunningAllocation {
 }
 
 impl Model for RunningAllocation {
-    ghost use Rattle.group_model.specs.Clients.{Running};
+    ghost use Rattle.group_model.specs.Agents.{Running};
 
     ghost Value = { Running };
 

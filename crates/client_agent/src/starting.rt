@@ -1,7 +1,7 @@
 //! What is listed and was never started is started, if it fits.
 ghost use Rattle.std.specs.Prelude.{◌≡◌, OnOk};
 ghost use Rattle.rows.specs.Sizes.{fits};
-ghost use Rattle.group_model.specs.Clients.{starts, starts_one};
+ghost use Rattle.group_model.specs.Agents.{starts, starts_one};
 ghost use Rattle.client_agent.specs.Capacity.{FitTogether};
 ghost use Rattle.client_agent.specs.Inner.Rooms.{IsLeftBeside};
 ghost use Rattle.client_agent.specs.Inner.Runs.{runs_of, MoreIds};

@@ -12,7 +12,7 @@ use Rattle.event_book.specs.declared.view.Note.{Note}
 use Rattle.event_book.specs.Histories.{IsDueEvent, IsDueNote, IsLegal}
 use Rattle.event_book.proofs.Logs.{all_at}
 use Rattle.cells.specs.declared.own_input.OwnInput.{OwnInput}
-use Rattle.closing.specs.declared.merging.Placed.{Placed}
+use Rattle.closing.specs.declared.merging.TracedEvent.{TracedEvent}
 use Rattle.world.specs.declared.group.event.Event.{Event as GroupEvent}
 use Rattle.cells.specs.declared.cell.KeptEvent.{KeptEvent}
 use Rattle.cells.specs.declared.cell.KeptEvent.TheVariants as kept
@@ -66,15 +66,15 @@ falls log done made offsets total (kept.Delivery stamp place) so due =
 falls log done made offsets total kept.Crash so due = tt
 
 -- the next of the events that are numbered
-pub falls_next : (all seen left rest : List Placed) (p : Placed) (made : List GroupEvent) (offsets : List ℕ) (total : ℕ) → seen ++ left ≡ all → left ≡ p ∷ rest
+pub falls_next : (all seen left rest : List TracedEvent) (p : TracedEvent) (made : List GroupEvent) (offsets : List ℕ) (total : ℕ) → seen ++ left ≡ all → left ≡ p ∷ rest
     → AreDue (map taken_event_in all) → NumberedSoFar (map taken_event_in all) (map taken_event_in seen) made offsets total → FallsWithin offsets total p.event
 falls_next all seen left rest p made offsets total next is due so =
     falls (map taken_event_in all) (map taken_event_in seen) made offsets total p.event so
     (due (length (map taken_event_in seen)) (taken_event_in p) (at_seen seen rest p all (ap (λ l. seen ++ l) (sym is) ∙ next)))
   where
-    at_end : (seen rest : List Placed) (p : Placed) → slice_get (map taken_event_in (seen ++ p ∷ rest)) (length (map taken_event_in seen)) ≡ Some (taken_event_in p)
+    at_end : (seen rest : List TracedEvent) (p : TracedEvent) → slice_get (map taken_event_in (seen ++ p ∷ rest)) (length (map taken_event_in seen)) ≡ Some (taken_event_in p)
     at_end [] rest p = refl
     at_end (q ∷ qs) rest p = at_end qs rest p
 
-    at_seen : (seen rest : List Placed) (p : Placed) (all : List Placed) → seen ++ p ∷ rest ≡ all → slice_get (map taken_event_in all) (length (map taken_event_in seen)) ≡ Some (taken_event_in p)
+    at_seen : (seen rest : List TracedEvent) (p : TracedEvent) (all : List TracedEvent) → seen ++ p ∷ rest ≡ all → slice_get (map taken_event_in all) (length (map taken_event_in seen)) ≡ Some (taken_event_in p)
     at_seen seen rest p all is = subst (λ l. slice_get (map taken_event_in l) (length (map taken_event_in seen)) ≡ Some (taken_event_in p)) is (at_end seen rest p)

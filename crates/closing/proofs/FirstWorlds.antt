@@ -7,14 +7,14 @@ use Rattle.rows.specs.declared.actor.Actor.TheVariants as actors
 use Rattle.rows.specs.declared.node.NodeSpec.{NodeSpec}
 use Rattle.raft_safety.proofs.Places.{get-some, replicate-get}
 use Rattle.cluster_model.specs.ClusterMachine.{cluster_meaning}
-use Rattle.group_model.specs.Members.{newcomer}
-use Rattle.group_model.specs.Clients.{Client, agent_of}
-use Rattle.group_model.specs.Worlds.{first, agents, client_at}
+use Rattle.group_model.specs.Servers.{newcomer}
+use Rattle.group_model.specs.Agents.{Agent, agent_of}
+use Rattle.group_model.specs.Worlds.{first, agents_from, client_at}
 use Rattle.group_frames.specs.GroupFrames.{CarriesGroup}
 use Rattle.client_agent.specs.AgentView.{AgentView}
-use Rattle.server.specs.ServerViews.{ServerView, IsMember}
+use Rattle.server.specs.ServerViews.{ServerView, IsServer}
 use Rattle.actor.specs.declared.group_actor.GroupActor.{GroupActor}
-use Rattle.actor.specs.declared.group_actor.GroupActor.TheVariants.{Server, Client as Agent}
+use Rattle.actor.specs.declared.group_actor.GroupActor.TheVariants.{Server, Client}
 use Rattle.cells.specs.Actors.{output_frame, IsNewActor}
 use Rattle.closing.proofs.CellWorlds.{CellWorld}
 use Rattle.closing.proofs.Standing.{Stands}
@@ -27,15 +27,15 @@ pub record IsFirst (n : ℕ) (nodes : List NodeSpec) (c : CellWorld) : Type 0 wh
       (v : ServerView) × (c.at (actors.Server i) ≡ Some (Server v))
       × IsNewActor n (actors.Server i) (Server v)
   pub clients : (k : ℕ) → k < length nodes →
-      (a : AgentView) × (c.at (actors.Client (suc k)) ≡ Some (Agent a))
-      × IsNewActor n (actors.Client (suc k)) (Agent a) × (slice_get nodes k ≡ Some a.client.node)
+      (a : AgentView) × (c.at (actors.Client (suc k)) ≡ Some (Client a))
+      × IsNewActor n (actors.Client (suc k)) (Client a) × (slice_get nodes k ≡ Some a.client.node)
   pub no_more_servers : (i : ℕ) (a : GroupActor) → c.at (actors.Server i) ≡ Some a → i < n
   pub no_more_clients : (k : ℕ) (a : GroupActor) → c.at (actors.Client k) ≡ Some a →
       (p : ℕ) × (k ≡ suc p) × (p < length nodes)
 
 -- the client of a node stands at its place
-agent_at : (k : ℕ) (nodes : List NodeSpec) (p : ℕ) (x : Client) →
-    slice_get (agents k nodes) p ≡ Some x →
+agent_at : (k : ℕ) (nodes : List NodeSpec) (p : ℕ) (x : Agent) →
+    slice_get (agents_from k nodes) p ≡ Some x →
     (node : NodeSpec) × (slice_get nodes p ≡ Some node)
     × (x ≡ agent_of (record node { number = k + p }))
 agent_at k [] p x h = absurd (cc)
@@ -47,13 +47,13 @@ agent_at k (node ∷ nodes) (suc p) x h =
     let place : suc k + p ≡ k + suc p = omega arith in
     (r.0, r.1, r.2 ∙ ap (λ j. agent_of (record r.0 { number = j })) place)
 
-pub agents_length : (k : ℕ) (nodes : List NodeSpec) → length (agents k nodes) ≡ length nodes
+pub agents_length : (k : ℕ) (nodes : List NodeSpec) → length (agents_from k nodes) ≡ length nodes
 agents_length k [] = refl
 agents_length k (node ∷ nodes) = ap suc (agents_length (suc k) nodes)
 
 module _ (n : ℕ) (nodes : List NodeSpec) (c : CellWorld) (f : IsFirst n nodes c) where
-  first_client : (k : ℕ) (x : Client) → client_at (agents 1 nodes) k ≡ Some x →
-      (c.at (actors.Client k) ≡ Some (Agent (record { size = n; client = x })))
+  first_client : (k : ℕ) (x : Agent) → client_at (agents_from 1 nodes) k ≡ Some x →
+      (c.at (actors.Client k) ≡ Some (Client (record { size = n; client = x })))
       × (x.node.number ≡ k)
   first_client zero x at = absurd (cc)
   first_client (suc p) x at =
@@ -67,14 +67,14 @@ module _ (n : ℕ) (nodes : List NodeSpec) (c : CellWorld) (f : IsFirst n nodes 
       let is : x ≡ a.0.client = q.2 ∙ ap agent_of same ∙ sym new.1 in
       let whole : a.0 ≡ record { size = n; client = x } =
       λ t. record { size = new.0 t; client = (sym is) t } in
-      (a.1 ∙ ap (λ b. Some (Agent b)) whole, ap (λ (y : Client). y.node.number) is ∙ new.2)
+      (a.1 ∙ ap (λ b. Some (Client b)) whole, ap (λ (y : Agent). y.node.number) is ∙ new.2)
 
   first_client_there : (k : ℕ) (a : GroupActor) → c.at (actors.Client k) ≡ Some a →
-      (x : Client) × (client_at (agents 1 nodes) k ≡ Some x)
+      (x : Agent) × (client_at (agents_from 1 nodes) k ≡ Some x)
   first_client_there k a at =
       let p = f.no_more_clients k a at in
-      let x = get-some (agents 1 nodes) p.0 (omega (arith, p.2, agents_length 1 nodes)) in
-      (x.0, ap (λ j. client_at (agents 1 nodes) j) p.1 ∙ x.1)
+      let x = get-some (agents_from 1 nodes) p.0 (omega (arith, p.2, agents_length 1 nodes)) in
+      (x.0, ap (λ j. client_at (agents_from 1 nodes) j) p.1 ∙ x.1)
 
 pub stands_first : (n : ℕ) (nodes : List NodeSpec) (c : CellWorld) → IsFirst n nodes c →
     Stands c (first n nodes)
@@ -93,11 +93,11 @@ stands_first n nodes c f =
             s.1,
             new.0,
             new.1 ∙ count,
-            subst (λ x. IsMember s.0 x) (replicate-get n newcomer i m at) new.2,
+            subst (λ x. IsServer s.0 x) (replicate-get n newcomer i m at) new.2,
           );
       clients = λ k x at.
           let q = first_client n nodes c f k x at in
-          (q.0 ∙ ap (λ j. Some (Agent (record { size = j; client = x }))) count, q.1);
+          (q.0 ∙ ap (λ j. Some (Client (record { size = j; client = x }))) count, q.1);
       server_there =
           λ i a at. get-some (replicate n newcomer) i
           (omega (arith, f.no_more_servers i a at, length-replicate n newcomer));

@@ -5,13 +5,13 @@ use Rattle.std.specs.List.{AllByRecursion}
 use Rattle.rows.specs.declared.actor.Actor.{Actor}
 use Rattle.rows.specs.declared.actor.Actor.TheVariants as actors
 use Rattle.rows.specs.declared.node.NodeSpec.{NodeSpec}
-use Rattle.group_model.specs.Clients.{Client, agent_of}
-use Rattle.group_model.specs.Members.{Member}
-use Rattle.group_model.specs.Worlds.{World, Event, first, agents, client_at}
+use Rattle.group_model.specs.Agents.{Agent, agent_of}
+use Rattle.group_model.specs.Servers.{Server}
+use Rattle.group_model.specs.Worlds.{World, Event, first, agents_from, client_at}
 use Rattle.group_safety.proofs.Lists.{get_map, map_get, map_length}
 use Rattle.client_agent.specs.AgentView.{AgentView}
-use Rattle.server.specs.ServerViews.{ServerView, IsMember}
-use Rattle.world.specs.GroupView.{GroupView, RepresentsGroup, ClientsKnowPlaces, nodes_of, node_in, client_in, client_view, renumbered}
+use Rattle.server.specs.ServerViews.{ServerView, IsServer}
+use Rattle.world.specs.GroupView.{GroupView, RepresentsGroup, ClientsKnowNumbers, nodes_of, node_in, client_in, client_view, renumbered}
 use Rattle.world.proofs.GroupClients.{node_of, nodes_stay}
 use Rattle.world.proofs.Zips.{zip_length, zip_from}
 use Rattle.event_book.specs.Actors.{same_actor, lists_actor}
@@ -19,7 +19,7 @@ use Rattle.event_book.specs.declared.view.Note.{Note}
 use Rattle.event_book.proofs.Logs.{all_map}
 use Rattle.cells.specs.declared.own_input.OwnInput.{OwnInput}
 use Rattle.actor.specs.declared.group_actor.GroupActor.{GroupActor}
-use Rattle.actor.specs.declared.group_actor.GroupActor.TheVariants.{Server, Client as Agent}
+use Rattle.actor.specs.declared.group_actor.GroupActor.TheVariants as group_actors
 use Rattle.closing.specs.declared.closing.NamedActor.{NamedActor}
 use Rattle.cells.specs.Actors.{BeginsAs, HasNode, IsNewActor, group_size}
 use Rattle.cells.specs.Cells.{CellView, IsOpenedCell}
@@ -61,14 +61,14 @@ module _ {A : Type 0} where
         at = in_front P m x.0 r.list x.1 r.at;
       }
 
-  same_by_places : (xs ys : List A) → length xs ≡ length ys →
+  same_by_positions : (xs ys : List A) → length xs ≡ length ys →
       ((k : ℕ) (x : A) → slice_get xs k ≡ Some x → slice_get ys k ≡ Some x) → xs ≡ ys
-  same_by_places [] [] count h = refl
-  same_by_places [] (y ∷ ys) count h = absurd (omega arith)
-  same_by_places (x ∷ xs) [] count h = absurd (omega arith)
-  same_by_places (x ∷ xs) (y ∷ ys) count h =
+  same_by_positions [] [] count h = refl
+  same_by_positions [] (y ∷ ys) count h = absurd (omega arith)
+  same_by_positions (x ∷ xs) [] count h = absurd (omega arith)
+  same_by_positions (x ∷ xs) (y ∷ ys) count h =
       let is : y ≡ x = same_Some y x (h 0 x refl) in
-      let rest = same_by_places xs ys (omega arith) (λ k z at. h (suc k) z at) in
+      let rest = same_by_positions xs ys (omega arith) (λ k z at. h (suc k) z at) in
       λ i. (sym is) i ∷ rest i
 
   all_at : (P : A → Type 0) (xs : List A) (k : ℕ) (x : A) → AllByRecursion P xs →
@@ -79,13 +79,13 @@ module _ {A : Type 0} where
 
 -- ---- nodes
 
-agents_again : (k : ℕ) (nodes : List NodeSpec) → agents k (renumbered k nodes) ≡ agents k nodes
+agents_again : (k : ℕ) (nodes : List NodeSpec) → agents_from k (renumbered k nodes) ≡ agents_from k nodes
 agents_again k [] = refl
 agents_again k (node ∷ nodes) =
     ap (λ l. agent_of (record node { number = k }) ∷ l) (agents_again (suc k) nodes)
 
 agents_nodes : (k : ℕ) (nodes : List NodeSpec) →
-    map node_of (agents k nodes) ≡ renumbered k nodes
+    map node_of (agents_from k nodes) ≡ renumbered k nodes
 agents_nodes k [] = refl
 agents_nodes k (node ∷ nodes) =
     ap (λ l. record node { number = k } ∷ l) (agents_nodes (suc k) nodes)
@@ -97,12 +97,12 @@ renumbered_again k (node ∷ nodes) =
     ap (λ l. record node { number = k } ∷ l) (renumbered_again (suc k) nodes)
 
 -- each is the one at its place among these, renumbered
-abbrev AreAtPlaces : ℕ → List NodeSpec → List NodeSpec → Type 0
-AreAtPlaces k nodes given =
+abbrev AreAtPositions : ℕ → List NodeSpec → List NodeSpec → Type 0
+AreAtPositions k nodes given =
     (j : ℕ) (x : NodeSpec) → slice_get nodes j ≡ Some x →
     (y : NodeSpec) × (slice_get given j ≡ Some y) × (x ≡ record y { number = k + j })
 
-first_given : (k : ℕ) (nodes given : List NodeSpec) → AreAtPlaces k nodes given →
+first_given : (k : ℕ) (nodes given : List NodeSpec) → AreAtPositions k nodes given →
     renumbered k nodes ≡ renumbered k (take (length nodes) given)
 first_given k [] given h = refl
 first_given k (x ∷ nodes) [] h = let q = h 0 x refl in absurd (none-some q.0 q.1)
@@ -139,30 +139,30 @@ lead_nodes w last (e ∷ es) lead =
 
 -- ---- the actors at first
 
-record NewClient (n k : ℕ) (given : List NodeSpec) (c : CellWorld) (node : NodeSpec) : Type 0 where
+record NewAgent (n k : ℕ) (given : List NodeSpec) (c : CellWorld) (node : NodeSpec) : Type 0 where
   agent : AgentView
-  here : c.at (actors.Client (suc k)) ≡ Some (Agent agent)
-  new : IsNewActor n (actors.Client (suc k)) (Agent agent)
+  here : c.at (actors.Client (suc k)) ≡ Some (group_actors.Client agent)
+  new : IsNewActor n (actors.Client (suc k)) (group_actors.Client agent)
   its : node ≡ agent.client.node
-  has : HasNode given (actors.Client (suc k)) (Agent agent)
+  has : HasNode given (actors.Client (suc k)) (group_actors.Client agent)
 
 record NewServer (n i : ℕ) (c : CellWorld) : Type 0 where
   server : ServerView
-  here : c.at (actors.Server i) ≡ Some (Server server)
-  new : IsNewActor n (actors.Server i) (Server server)
+  here : c.at (actors.Server i) ≡ Some (group_actors.Server server)
+  new : IsNewActor n (actors.Server i) (group_actors.Server server)
 
 module _ (n m : ℕ) (given : List NodeSpec) (all : List Actor) (log : List (Note OwnInput))
     (cells : List CellView) (r : ClosedRun (BeginsAs n given) all log cells) (g : AreOfGroup n m all) where
   new_server : (i : ℕ) (s : GroupActor) → r.first.at (actors.Server i) ≡ Some s →
       BeginsAs n given (actors.Server i) s → NewServer n i r.first
-  new_server i (Server v) here new = record { server = v; here = here; new = new.0 }
-  new_server i (Agent a) here new = absurd new.0
+  new_server i (group_actors.Server v) here new = record { server = v; here = here; new = new.0 }
+  new_server i (group_actors.Client a) here new = absurd new.0
 
   new_client : (k : ℕ) (s : GroupActor) → r.first.at (actors.Client (suc k)) ≡ Some s →
       BeginsAs n given (actors.Client (suc k)) s →
-      (node : NodeSpec) × NewClient n k given r.first node
-  new_client k (Server v) here new = absurd new.0
-  new_client k (Agent a) here new =
+      (node : NodeSpec) × NewAgent n k given r.first node
+  new_client k (group_actors.Server v) here new = absurd new.0
+  new_client k (group_actors.Client a) here new =
       (a.client.node, record { agent = a; here = here; new = new.0; its = refl; has = new.1 })
 
   -- whatever is there is one of the book's actors
@@ -171,12 +171,12 @@ module _ (n m : ℕ) (given : List NodeSpec) (all : List Actor) (log : List (Not
   is_there a s here true e = e
   is_there a s here false e = absurd (none-some s (sym (r.outside a e) ∙ here))
 
-  first_nodes : Chosen (λ k node. NewClient n k given r.first node) m
-  first_nodes = chosen (λ k node. NewClient n k given r.first node) m
+  first_nodes : Chosen (λ k node. NewAgent n k given r.first node) m
+  first_nodes = chosen (λ k node. NewAgent n k given r.first node) m
       (λ k less.
       let s = r.opens.1 (actors.Client (suc k)) (g.clients k less) in new_client k s.0 s.1 s.2)
 
-  is_first : (c : Chosen (λ k node. NewClient n k given r.first node) m) → IsFirst n c.list r.first
+  is_first : (c : Chosen (λ k node. NewAgent n k given r.first node) m) → IsFirst n c.list r.first
   is_first c = record {
     sent = r.opens.0;
     servers = λ i less.
@@ -185,7 +185,7 @@ module _ (n m : ℕ) (given : List NodeSpec) (all : List Actor) (log : List (Not
         (v.server, v.here, v.new);
     clients = λ k less.
         let q = c.at k (omega (arith, less, c.count)) in
-        let a : NewClient n k given r.first q.0 = q.2 in
+        let a : NewAgent n k given r.first q.0 = q.2 in
         (a.agent, a.here, a.new, q.1 ∙ ap Some a.its);
     no_more_servers = λ i a at.
         g.no_more_servers i (is_there (actors.Server i) a at (lists_actor all (actors.Server i)) refl);
@@ -195,11 +195,11 @@ module _ (n m : ℕ) (given : List NodeSpec) (all : List Actor) (log : List (Not
         (p.0, p.1, omega (arith, p.2, c.count));
   }
 
-  are_at_places : (c : Chosen (λ k node. NewClient n k given r.first node) m) →
-      AreAtPlaces 1 c.list given
-  are_at_places c j x at =
+  are_at_positions : (c : Chosen (λ k node. NewAgent n k given r.first node) m) →
+      AreAtPositions 1 c.list given
+  are_at_positions c j x at =
       let q = c.at j (omega (arith, slice_get_within c.list j x at, c.count)) in
-      let a : NewClient n j given r.first q.0 = q.2 in
+      let a : NewAgent n j given r.first q.0 = q.2 in
       let h = a.has in
       let spec : NodeSpec = h.1 in
       let place : h.0 ≡ j = omega (arith, h.2) in
@@ -236,7 +236,7 @@ stands_at_last again n m given all log cells closed g size =
     record {
       nodes = c.list;
       count = c.count;
-      given_are = first_given 1 c.list given (are_at_places n m given all log cells r g c)
+      given_are = first_given 1 c.list given (are_at_positions n m given all log cells r g c)
           ∙ ap (λ k. renumbered 1 (take k given)) c.count;
       last = r.last;
       world = q.0;
@@ -281,65 +281,65 @@ module _ (at : Actor → Option GroupActor) (a : Actor) where
       one_of c cs ends.0 (cell_of cs ends.1) (same_actor c.seat.actor a) refl inn
 
 -- a client's actor is the client of the world
-record IsClient (w : World) (c : ℕ) (s : GroupActor) : Type 0 where
-  client : Client
+record IsAgentOf (w : World) (c : ℕ) (s : GroupActor) : Type 0 where
+  client : Agent
   there : client_at w.clients c ≡ Some client
-  is : s ≡ Agent (record { size = length w.servers; client = client })
+  is : s ≡ group_actors.Client (record { size = length w.servers; client = client })
 
-record IsServer (w : World) (i : ℕ) (s : GroupActor) : Type 0 where
-  member : Member
-  there : slice_get w.servers i ≡ Some member
+record IsServerOf (w : World) (i : ℕ) (s : GroupActor) : Type 0 where
+  server : Server
+  there : slice_get w.servers i ≡ Some server
   view : ServerView
-  is : s ≡ Server view
-  represents : IsMember view member
+  is : s ≡ group_actors.Server view
+  represents : IsServer view server
 
 module _ (c : CellWorld) (w : World) (st : Stands c w) where
-  is_client : (k : ℕ) (s : GroupActor) → c.at (actors.Client k) ≡ Some s → IsClient w k s
+  is_client : (k : ℕ) (s : GroupActor) → c.at (actors.Client k) ≡ Some s → IsAgentOf w k s
   is_client k s at =
       let x = st.client_there k s at in
       let q = st.clients k x.0 x.1 in
       record { client = x.0; there = x.1; is = same_Some s _ (sym at ∙ q.0) }
 
-  is_server : (i : ℕ) (s : GroupActor) → c.at (actors.Server i) ≡ Some s → IsServer w i s
+  is_server : (i : ℕ) (s : GroupActor) → c.at (actors.Server i) ≡ Some s → IsServerOf w i s
   is_server i s at =
       let m = st.server_there i s at in
       let q = st.servers i m.0 m.1 in
       record {
-        member = m.0;
+        server = m.0;
         there = m.1;
         view = q.0;
         is = same_Some s _ (sym at ∙ q.1);
         represents = q.4;
       }
 
-agent_is : (a b : AgentView) → Agent a ≡ Agent b → a ≡ b
+agent_is : (a b : AgentView) → group_actors.Client a ≡ group_actors.Client b → a ≡ b
 agent_is a b e = cc
 
-server_is : (v x : ServerView) → Server v ≡ Server x → v ≡ x
+server_is : (v x : ServerView) → group_actors.Server v ≡ group_actors.Server x → v ≡ x
 server_is v x e = cc
 
 -- ---- the world has the actors of the cells
 
 module _ (view : GroupView) (c : CellWorld) (w : World) (st : Stands c w)
-    (rep : RepresentsGroup view w) (places : ClientsKnowPlaces view) where
-  has_client : (k : ℕ) (x : Client) → client_at w.clients k ≡ Some x →
+    (rep : RepresentsGroup view w) (places : ClientsKnowNumbers view) where
+  has_client : (k : ℕ) (x : Agent) → client_at w.clients k ≡ Some x →
       client_view view.clients k ≡ Some (record { size = length w.servers; client = x })
   has_client zero x at = absurd (none-some x at)
   has_client (suc k) x at =
       let b = map_get client_in view.clients k x (ap (λ l. slice_get l k) rep.clients ∙ at) in
-      let size = (places k b.0 b.1).1 ∙ zip_length IsMember view.servers w.servers rep.servers in
+      let size = (places k b.0 b.1).1 ∙ zip_length IsServer view.servers w.servers rep.servers in
       b.1 ∙ (λ i. Some (record { size = size i; client = b.2 i }))
 
   has_actor : (a : Actor) (s : GroupActor) → c.at a ≡ Some s → ShowsActor view a s
-  has_actor (actors.Server i) (Server v) at =
-      let q = is_server c w st i (Server v) at in
-      let x = zip_from IsMember view.servers w.servers i q.member rep.servers q.there in
+  has_actor (actors.Server i) (group_actors.Server v) at =
+      let q = is_server c w st i (group_actors.Server v) at in
+      let x = zip_from IsServer view.servers w.servers i q.server rep.servers q.there in
       let same = sym (server_is v q.view q.is) in
-      (x.0, q.member, x.1, subst (λ y. IsMember y q.member) same q.represents, x.2)
-  has_actor (actors.Server i) (Agent a) at = let q = is_server c w st i (Agent a) at in absurd (cc)
-  has_actor (actors.Client k) (Server v) at = let q = is_client c w st k (Server v) at in absurd (cc)
-  has_actor (actors.Client k) (Agent a) at =
-      let q = is_client c w st k (Agent a) at in
+      (x.0, q.server, x.1, subst (λ y. IsServer y q.server) same q.represents, x.2)
+  has_actor (actors.Server i) (group_actors.Client a) at = let q = is_server c w st i (group_actors.Client a) at in absurd (cc)
+  has_actor (actors.Client k) (group_actors.Server v) at = let q = is_client c w st k (group_actors.Server v) at in absurd (cc)
+  has_actor (actors.Client k) (group_actors.Client a) at =
+      let q = is_client c w st k (group_actors.Client a) at in
       has_client k q.client q.there ∙ ap Some (sym (agent_is a _ q.is))
 
 -- ---- what joining the cells asks for and gives
@@ -372,7 +372,7 @@ module _ (n m : ℕ) (given : List NodeSpec) (all : List Actor) (log : List (Not
         c.0 at.ends c.1 in
         let there = ap (λ (x : NamedActor). at.last.at x.me) (sym c.2) ∙ end
         ∙ ap (λ (x : NamedActor). Some x.actor) c.2 in
-        let q = is_client at.last at.world at.stands (suc k) (Agent its.0) there in
+        let q = is_client at.last at.world at.stands (suc k) (group_actors.Client its.0) there in
         get_map node_of at.world.clients k q.client q.there
         ∙ ap (λ (a : AgentView). Some a.client.node) (sym (agent_is its.0 _ q.is))
         ∙ ap Some (sym its.2)
@@ -380,7 +380,7 @@ module _ (n m : ℕ) (given : List NodeSpec) (all : List Actor) (log : List (Not
     nodes_are : nodes ≡ renumbered 1 at.nodes
     nodes_are =
         let length_is = ap length world_nodes ∙ renumbered_length 1 at.nodes ∙ at.count in
-        same_by_places nodes (map node_of at.world.clients) (are.count ∙ sym length_is) node_is
+        same_by_positions nodes (map node_of at.world.clients) (are.count ∙ sym length_is) node_is
         ∙ world_nodes
 
     pub group_leads : GroupLeads n nodes (noted_events log log) at.world
@@ -396,7 +396,7 @@ module _ (n m : ℕ) (given : List NodeSpec) (all : List Actor) (log : List (Not
 
     -- a value that played what the cells noted is the world that they close to
     pub closes_to : (view : GroupView) → view.trace ≡ noted_events log log → length view.servers ≡ n →
-        nodes_of view ≡ renumbered 1 nodes → ClientsKnowPlaces view →
+        nodes_of view ≡ renumbered 1 nodes → ClientsKnowNumbers view →
         RepresentsLast n nodes (noted_events log log) view → ClosesTo all cells view
     closes_to view trace count nodes_is places last =
         let rep = last at.world group_leads in

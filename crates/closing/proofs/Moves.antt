@@ -8,23 +8,23 @@ use Rattle.rows.specs.declared.command.Command.{Command}
 use Rattle.rows.specs.declared.worker.Work.{Work}
 use Rattle.wire.specs.Messages.{Message as WireMessage}
 use Rattle.wire.specs.Frames.{MessageFits, message_at, message_text}
-use Rattle.raft_model.specs.Servers.{is_up, silent, crashed}
+use Rattle.raft_model.specs.Rafts.{is_up, silent, crashed}
 use Rattle.raft_model.specs.Steps.{Crash as LogCrash, step as log_step}
 use Rattle.cluster_model.specs.Words.{State}
 use Rattle.cluster_model.specs.ClusterMachine.{cluster_meaning}
 use Rattle.group_model.specs.Messages.{Service}
-use Rattle.group_model.specs.Inputs as servers
-use Rattle.group_model.specs.Members as members
-use Rattle.group_model.specs.Members.{Member}
-use Rattle.group_model.specs.Clients as clients
-use Rattle.group_model.specs.Clients.{Client, Life}
+use Rattle.group_model.specs.Inputs as inputs
+use Rattle.group_model.specs.Servers as servers
+use Rattle.group_model.specs.Servers.{Server}
+use Rattle.group_model.specs.Agents as agents
+use Rattle.group_model.specs.Agents.{Agent, Life}
 use Rattle.group_model.specs.Worlds.{World, Event, Deliver, AtServer, AtClient, happens, after_turn, after_client, input_to, client_input_to, client_at}
 use Rattle.group_safety.proofs.Lists.{get_map}
 use Rattle.group_frames.specs.GroupFrames.{CarriesGroup, SendsGroup}
 use Rattle.client_agent.specs.AgentView.{AgentView}
 use Rattle.client_agent.specs.declared.input.ClientInput.{ClientInput}
 use Rattle.client_agent.specs.declared.input.ClientInput.TheVariants as client_inputs
-use Rattle.server.specs.ServerViews.{ServerView, IsMember, crashed_member}
+use Rattle.server.specs.ServerViews.{ServerView, IsServer, crashed_server}
 use Rattle.server.specs.Handings.{Handing, FrameBytes, OwnInput as TakesOwn, handing, bytes_of}
 use Rattle.actor.specs.Handed.{comes_as_frame, is_client_frame}
 use Rattle.actor.specs.Answers.{nothing_sent, ServerCrashed, ClientCrashed}
@@ -64,18 +64,18 @@ bytes_are sent k to frame at = sym (ap bytes_of (get_map output_frame sent k _ a
 
 -- ---- crashes
 
-server_crash : (n i : ℕ) (m : Member) → is_up m.raft.mode ≡ true →
-    members.step n i m servers.Crash
-    ≡ Ok (record { member = crashed_member m; sent = []; work = [] })
+server_crash : (n i : ℕ) (m : Server) → is_up m.raft.mode ≡ true →
+    servers.step n i m inputs.Crash
+    ≡ Ok (record { server = crashed_server m; sent = []; work = [] })
 server_crash n i m up =
     let crash : log_step cluster_meaning n i m.raft LogCrash ≡ Ok (silent (crashed m.raft)) =
     rw up refl in
-    ap (λ b. members.done n i m
-    (if b then members.acts n i m servers.Crash else members.wakes m servers.Crash)) up
-    ∙ ap (λ r. members.logged m (servers.asks servers.AskCrash m.desk) r) crash
+    ap (λ b. servers.done n i m
+    (if b then servers.acts n i m inputs.Crash else servers.wakes m inputs.Crash)) up
+    ∙ ap (λ r. servers.logged m (inputs.asks inputs.AskCrash m.desk) r) crash
 
-client_crash : (n : ℕ) (x : Client) (o : Option Life) → is_some o ≡ true →
-    clients.step_of n x o clients.Crash
+client_crash : (n : ℕ) (x : Agent) (o : Option Life) → is_some o ≡ true →
+    agents.step_of n x o agents.Crash
     ≡ Ok (record { client = record x { life = None }; sent = [] })
 client_crash n x None up = absurd (cc)
 client_crash n x (Some l) up = refl
@@ -85,11 +85,11 @@ client_crash n x (Some l) up = refl
 -- server i takes a turn, which sends these outputs, and has the view `new` then
 pub record ServerMoves (w : World) (e : Event) (i : ℕ) (new : ServerView) (outputs : List Output)
     : Type 0 where
-  pub turn : members.Turn
+  pub turn : servers.ServerTurn
   pub goes : happens w e ≡ after_turn w i (Ok turn)
   pub me : new.raft.me ≡ i
   pub size : new.raft.size ≡ length w.servers
-  pub member : IsMember new turn.member
+  pub server : IsServer new turn.server
   pub sends : SendsGroup cluster_meaning [] (map output_frame outputs) turn.sent
 
 -- an input of its own that is taken is no frame
@@ -103,7 +103,7 @@ input_is old (TakesOwn input) outputs work new t = (refl, t)
 -- so does client k
 pub record ClientMoves (w : World) (e : Event) (k : ℕ) (new : AgentView) (outputs : List Output)
     : Type 0 where
-  pub turn : clients.Turn
+  pub turn : agents.AgentTurn
   pub goes : happens w e ≡ after_client w k (Ok turn)
   pub size : new.size ≡ length w.servers
   pub client : new.client ≡ turn.client
@@ -125,8 +125,8 @@ client_input_is old client_inputs.Restart outputs new t = (refl, t)
 
 module _ (again : ReadsAgain) (sent : List Output) (w : World)
     (z : AllZip (CarriesGroup cluster_meaning) (map output_frame sent) w.sent) where
-  module _ (i : ℕ) (m : Member) (old : ServerView) (here : slice_get w.servers i ≡ Some m)
-      (me : old.raft.me ≡ i) (size : old.raft.size ≡ length w.servers) (is : IsMember old m)
+  module _ (i : ℕ) (m : Server) (old : ServerView) (here : slice_get w.servers i ≡ Some m)
+      (me : old.raft.me ≡ i) (size : old.raft.size ≡ length w.servers) (is : IsServer old m)
       (new : ServerView) (outputs : List Output) where
     takes_handing : (e : Event) (h : Handing) (work : List Work) → ServerTakes old h w e i m →
         ServerTurned old h outputs work new → ServerMoves w e i new outputs
@@ -138,21 +138,21 @@ module _ (again : ReadsAgain) (sent : List Output) (w : World)
           goes = takes.happens ∙ ap (λ r. after_turn w i r) q.is;
           me = t.same.0 ∙ me;
           size = t.same.1 ∙ size;
-          member = q.member;
+          server = q.server;
           sends = q.sent;
         }
 
     falls : outputs ≡ [] → ServerCrashed old new →
-        ServerMoves w (AtServer i servers.Crash) i new outputs
+        ServerMoves w (AtServer i inputs.Crash) i new outputs
     falls none t =
         let f = t.fell m is in
         record {
-          turn = record { member = crashed_member m; sent = []; work = [] };
-          goes = ap (λ o. input_to w i servers.Crash o) here
+          turn = record { server = crashed_server m; sent = []; work = [] };
+          goes = ap (λ o. input_to w i inputs.Crash o) here
               ∙ ap (λ r. after_turn w i r) (server_crash (length w.servers) i m f.0);
           me = t.same.0 ∙ me;
           size = t.same.1 ∙ size;
-          member = f.1;
+          server = f.1;
           sends = record { frames = []; added = ap (map output_frame) none; carry = tt };
         }
 
@@ -177,7 +177,7 @@ module _ (again : ReadsAgain) (sent : List Output) (w : World)
     server_moves Crash work e brings t =
         subst (λ f. ServerMoves w f i new outputs) (sym brings) (falls t.0 t.2)
 
-  module _ (k : ℕ) (x : Client) (here : client_at w.clients k ≡ Some x) (number : x.node.number ≡ k)
+  module _ (k : ℕ) (x : Agent) (here : client_at w.clients k ≡ Some x) (number : x.node.number ≡ k)
       (new : AgentView) (outputs : List Output) where
     abbrev agent : AgentView
     agent = record { size = length w.servers; client = x }
@@ -195,10 +195,10 @@ module _ (again : ReadsAgain) (sent : List Output) (w : World)
         }
 
     client_falls : outputs ≡ [] → ClientCrashed agent new →
-        ClientMoves w (AtClient k clients.Crash) k new outputs
+        ClientMoves w (AtClient k agents.Crash) k new outputs
     client_falls none t = record {
       turn = record { client = record x { life = None }; sent = [] };
-      goes = ap (λ o. client_input_to w k clients.Crash o) here
+      goes = ap (λ o. client_input_to w k agents.Crash o) here
           ∙ ap (λ r. after_client w k r) (client_crash (length w.servers) x x.life t.0);
       size = ap (λ (a : AgentView). a.size) t.1;
       client = ap (λ (a : AgentView). a.client) t.1;

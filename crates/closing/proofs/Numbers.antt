@@ -11,7 +11,7 @@ use Rattle.event_book.specs.declared.view.EventView.TheVariants.{Own, Delivery, 
 use Rattle.event_book.specs.declared.view.Note.{Note}
 use Rattle.cells.specs.Cells.{kept_input}
 use Rattle.cells.specs.declared.own_input.OwnInput.{OwnInput}
-use Rattle.closing.specs.declared.merging.Placed.{Placed}
+use Rattle.closing.specs.declared.merging.TracedEvent.{TracedEvent}
 use Rattle.closing.specs.Closing.{noted_event, noted_events, sent_before}
 use Rattle.closing.specs.Inner.Merged.{TakenEvent, taken_event_in, taken_event_of}
 use Rattle.closing.specs.Inner.Numbers.{AreOffsets, entry_event, outputs_before, NumberedSoFar, entry_events}
@@ -47,7 +47,7 @@ numbered_next log done rest x events event offsets total next is so new sum = re
       sum ∙ ap (λ n. n + x.sent) so.total ∙ sym step ∙ ap (outputs_before log) long;
 }
 
-pub numbered_more : (all seen left rest : List Placed) (p : Placed) (events more : List GroupEvent) (event : GroupEvent) (offsets longer : List ℕ) (total next : ℕ)
+pub numbered_more : (all seen left rest : List TracedEvent) (p : TracedEvent) (events more : List GroupEvent) (event : GroupEvent) (offsets longer : List ℕ) (total next : ℕ)
     → seen ++ left ≡ all → left ≡ p ∷ rest → NumberedSoFar (map taken_event_in all) (map taken_event_in seen) events offsets total → more ≡ events ++ event ∷ [] → longer ≡ offsets ++ total ∷ [] → next ≡ total + p.sent
     → (AreOffsets (map taken_event_in all) offsets → group_event event ≡ entry_event p.actor p.event (map taken_event_in all))
     → NumberedSoFar (map taken_event_in all) (map taken_event_in (seen ++ p ∷ [])) more longer next

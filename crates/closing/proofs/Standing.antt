@@ -10,22 +10,22 @@ use Rattle.rows.specs.declared.node.NodeSpec.{NodeSpec}
 use Rattle.raft_safety.proofs.Places.{get_set-cases, set-length, get-some}
 use Rattle.cluster_model.specs.ClusterMachine.{cluster_meaning}
 use Rattle.group_model.specs.Messages.{GroupMessage, Service}
-use Rattle.group_model.specs.Members as members
-use Rattle.group_model.specs.Members.{Member}
-use Rattle.group_model.specs.Clients as clients
-use Rattle.group_model.specs.Clients.{Client}
+use Rattle.group_model.specs.Servers as servers
+use Rattle.group_model.specs.Servers.{Server}
+use Rattle.group_model.specs.Agents as agents
+use Rattle.group_model.specs.Agents.{Agent}
 use Rattle.group_model.specs.Worlds.{World, Event, happens, after_client, client_at, with_client}
 use Rattle.group_safety.proofs.Lists.{get_map, map_get, map_append}
 use Rattle.group_frames.specs.GroupFrames.{CarriesGroup, SendsGroup}
 use Rattle.client_agent.specs.AgentView.{AgentView}
-use Rattle.server.specs.ServerViews.{ServerView, IsMember}
+use Rattle.server.specs.ServerViews.{ServerView, IsServer}
 use Rattle.world.proofs.Zips.{zip_append}
 use Rattle.world.proofs.GroupClients.{node_of, nodes_stay}
 use Rattle.event_book.specs.declared.view.EventView.{EventView}
 use Rattle.event_book.specs.declared.view.Output.{Output}
 use Rattle.cells.specs.declared.own_input.OwnInput.{OwnInput}
 use Rattle.actor.specs.declared.group_actor.GroupActor.{GroupActor}
-use Rattle.actor.specs.declared.group_actor.GroupActor.TheVariants.{Server, Client as Agent}
+use Rattle.actor.specs.declared.group_actor.GroupActor.TheVariants as group_actors
 use Rattle.cells.specs.Actors.{output_frame, ActorSteps}
 use Rattle.closing.proofs.CellWorlds.{CellWorld, put, Brings, Happened, Runs}
 use Rattle.closing.proofs.Moves.{ReadsAgain, server_moves, client_moves}
@@ -33,16 +33,16 @@ use Rattle.closing.proofs.Moves.{ReadsAgain, server_moves, client_moves}
 -- The actors and what they sent are those of the world: server i is the server at place i there,
 -- each client has its number, and there are no others.
 pub record Stands (c : CellWorld) (w : World) : Type 0 where
-  pub servers : (i : ℕ) (m : Member) → slice_get w.servers i ≡ Some m →
-      (v : ServerView) × (c.at (actors.Server i) ≡ Some (Server v)) × (v.raft.me ≡ i)
-      × (v.raft.size ≡ length w.servers) × IsMember v m
-  pub clients : (k : ℕ) (x : Client) → client_at w.clients k ≡ Some x →
-      (c.at (actors.Client k) ≡ Some (Agent (record { size = length w.servers; client = x })))
+  pub servers : (i : ℕ) (m : Server) → slice_get w.servers i ≡ Some m →
+      (v : ServerView) × (c.at (actors.Server i) ≡ Some (group_actors.Server v)) × (v.raft.me ≡ i)
+      × (v.raft.size ≡ length w.servers) × IsServer v m
+  pub clients : (k : ℕ) (x : Agent) → client_at w.clients k ≡ Some x →
+      (c.at (actors.Client k) ≡ Some (group_actors.Client (record { size = length w.servers; client = x })))
       × (x.node.number ≡ k)
   pub server_there : (i : ℕ) (a : GroupActor) → c.at (actors.Server i) ≡ Some a →
-      (m : Member) × (slice_get w.servers i ≡ Some m)
+      (m : Server) × (slice_get w.servers i ≡ Some m)
   pub client_there : (k : ℕ) (a : GroupActor) → c.at (actors.Client k) ≡ Some a →
-      (x : Client) × (client_at w.clients k ≡ Some x)
+      (x : Agent) × (client_at w.clients k ≡ Some x)
   pub sent : AllZip (CarriesGroup cluster_meaning) (map output_frame c.sent) w.sent
 
 -- the world after an event of the cells' actors
@@ -68,13 +68,13 @@ still_there : {A : Type 0} (xs : List A) (i : ℕ) (x : A) (j : ℕ) (y : A) →
 still_there xs i x j y h =
     get-some (slice_set xs i x) j (omega (arith, slice_get_within xs j y h, set-length xs i x))
 
-client_still_there : (cs : List Client) (c : ℕ) (x : Client) (k : ℕ) (y : Client) →
-    client_at cs k ≡ Some y → (z : Client) × (client_at (with_client cs c x) k ≡ Some z)
+client_still_there : (cs : List Agent) (c : ℕ) (x : Agent) (k : ℕ) (y : Agent) →
+    client_at cs k ≡ Some y → (z : Agent) × (client_at (with_client cs c x) k ≡ Some z)
 client_still_there cs c x zero y h = absurd (cc)
 client_still_there cs zero x (suc k) y h = (y, h)
 client_still_there cs (suc c) x (suc k) y h = still_there cs c x k y h
 
-client_set_cases : (cs : List Client) (c : ℕ) (x : Client) (k : ℕ) (y : Client) →
+client_set_cases : (cs : List Agent) (c : ℕ) (x : Agent) (k : ℕ) (y : Agent) →
     client_at (with_client cs c x) k ≡ Some y →
     ((k ≡ c) × (x ≡ y)) ⊎ ((k ≢ c) × (client_at cs k ≡ Some y))
 client_set_cases cs c x zero y h = absurd (cc)
@@ -94,27 +94,27 @@ was false o t a h = inr h
 module _ (c : CellWorld) (w : World) (st : Stands c w) where
   server_stands
       : (i : ℕ) (old : GroupActor) (new : ServerView) (outputs : List Output)
-      (turn : members.Turn) → c.at (actors.Server i) ≡ Some old → new.raft.me ≡ i →
-      new.raft.size ≡ length w.servers → IsMember new turn.member →
+      (turn : servers.ServerTurn) → c.at (actors.Server i) ≡ Some old → new.raft.me ≡ i →
+      new.raft.size ≡ length w.servers → IsServer new turn.server →
       SendsGroup cluster_meaning [] (map output_frame outputs) turn.sent →
-      Stands (put c (actors.Server i) (Server new) outputs)
-      (record w { servers = slice_set w.servers i turn.member; sent = w.sent ++ turn.sent })
-  server_stands i old new outputs turn here me size member sends =
-      let count : length (slice_set w.servers i turn.member) ≡ length w.servers =
-      set-length w.servers i turn.member in
+      Stands (put c (actors.Server i) (group_actors.Server new) outputs)
+      (record w { servers = slice_set w.servers i turn.server; sent = w.sent ++ turn.sent })
+  server_stands i old new outputs turn here me size server sends =
+      let count : length (slice_set w.servers i turn.server) ≡ length w.servers =
+      set-length w.servers i turn.server in
       record {
-        servers = λ j m at. elim (get_set-cases w.servers i turn.member j m at) [
+        servers = λ j m at. elim (get_set-cases w.servers i turn.server j m at) [
           | inl q ↦ (
             new,
-            ap (λ b. if b then Some (Server new) else c.at (actors.Server j)) (eq-eqb j i q.0),
+            ap (λ b. if b then Some (group_actors.Server new) else c.at (actors.Server j)) (eq-eqb j i q.0),
             me ∙ sym q.0,
             size ∙ sym count,
-            subst (λ x. IsMember new x) q.1 member,
+            subst (λ x. IsServer new x) q.1 server,
           )
           | inr q ↦
               let s = st.servers j m q.1 in (
                 s.0,
-                ap (λ b. if b then Some (Server new) else c.at (actors.Server j))
+                ap (λ b. if b then Some (group_actors.Server new) else c.at (actors.Server j))
                     (false_from_ne_true (j == i) (λ e. q.0 (eqb-true j i e))) ∙ s.1,
                 s.2,
                 s.3 ∙ sym count,
@@ -122,15 +122,15 @@ module _ (c : CellWorld) (w : World) (st : Stands c w) where
               )
         ];
         clients = λ k x at. let s = st.clients k x at in
-            (s.0 ∙ ap (λ n. Some (Agent (record { size = n; client = x }))) (sym count), s.1);
+            (s.0 ∙ ap (λ n. Some (group_actors.Client (record { size = n; client = x }))) (sym count), s.1);
         server_there = λ j a at.
-            let before : (m : Member) × (slice_get w.servers j ≡ Some m) =
-            elim (was (j == i) (c.at (actors.Server j)) (Server new) a at) [
+            let before : (m : Server) × (slice_get w.servers j ≡ Some m) =
+            elim (was (j == i) (c.at (actors.Server j)) (group_actors.Server new) a at) [
               | inl e ↦ let m = st.server_there i old here in
                   (m.0, ap (λ k. slice_get w.servers k) (eqb-true j i e) ∙ m.1)
               | inr h ↦ st.server_there j a h
             ] in
-            still_there w.servers i turn.member j before.0 before.1;
+            still_there w.servers i turn.server j before.0 before.1;
         client_there = λ k a at. st.client_there k a at;
         sent = sent_more c.sent outputs w.sent turn.sent st.sent sends;
       }
@@ -140,26 +140,26 @@ module _ (c : CellWorld) (w : World) (st : Stands c w) where
       (event : EventView OwnInput) (outputs : List Output) → c.at (actors.Server i) ≡ Some old →
       Brings c.sent (actors.Server i) event e → ActorSteps old event outputs new →
       d ≡ put c (actors.Server i) new outputs → GoesOn d w e
-  server_next again d e i old (Agent new) event outputs here brings step after =
+  server_next again d e i old (group_actors.Client new) event outputs here brings step after =
       let m = st.server_there i old here in
       let s = st.servers i m.0 m.1 in
-      absurd ((subst (λ a. ActorSteps a event outputs (Agent new))
-      (same_Some old (Server s.0) (sym here ∙ s.1)) step).1)
-  server_next again d e i old (Server new) event outputs here brings step after =
+      absurd ((subst (λ a. ActorSteps a event outputs (group_actors.Client new))
+      (same_Some old (group_actors.Server s.0) (sym here ∙ s.1)) step).1)
+  server_next again d e i old (group_actors.Server new) event outputs here brings step after =
       let m = st.server_there i old here in
       let s = st.servers i m.0 m.1 in
-      let t = subst (λ a. ActorSteps a event outputs (Server new))
-      (same_Some old (Server s.0) (sym here ∙ s.1)) step in
+      let t = subst (λ a. ActorSteps a event outputs (group_actors.Server new))
+      (same_Some old (group_actors.Server s.0) (sym here ∙ s.1)) step in
       let q = server_moves again c.sent w st.sent i m.0 s.0 m.1 s.2 s.3 s.4 new outputs event t.0 e
       brings t.1 in
       let turn = q.turn in
       let next : World =
-      record w { servers = slice_set w.servers i turn.member; sent = w.sent ++ turn.sent } in
+      record w { servers = slice_set w.servers i turn.server; sent = w.sent ++ turn.sent } in
       subst (λ x. GoesOn x w e) (sym after)
-      (next, q.goes, server_stands i old new outputs q.turn here q.me q.size q.member q.sends)
+      (next, q.goes, server_stands i old new outputs q.turn here q.me q.size q.server q.sends)
 
   -- after an event each client is numbered as before
-  numbers_stay : (e : Event) (next : World) → happens w e ≡ Ok next → (k : ℕ) (x : Client) →
+  numbers_stay : (e : Event) (next : World) → happens w e ≡ Ok next → (k : ℕ) (x : Agent) →
       client_at next.clients k ≡ Some x → x.node.number ≡ k
   numbers_stay e next goes zero x at = absurd (cc)
   numbers_stay e next goes (suc p) x at =
@@ -171,11 +171,11 @@ module _ (c : CellWorld) (w : World) (st : Stands c w) where
 
   client_stands
       : (e : Event) (k : ℕ) (old : GroupActor) (new : AgentView) (outputs : List Output)
-      (turn : clients.Turn) → c.at (actors.Client k) ≡ Some old →
+      (turn : agents.AgentTurn) → c.at (actors.Client k) ≡ Some old →
       happens w e ≡ after_client w k (Ok turn) → new.size ≡ length w.servers →
       new.client ≡ turn.client →
       SendsGroup cluster_meaning [] (map output_frame outputs) (map Service turn.sent) →
-      Stands (put c (actors.Client k) (Agent new) outputs)
+      Stands (put c (actors.Client k) (group_actors.Client new) outputs)
       (record w {
         clients = with_client w.clients k turn.client;
         sent = w.sent ++ map Service turn.sent;
@@ -192,21 +192,21 @@ module _ (c : CellWorld) (w : World) (st : Stands c w) where
           | inl q ↦
               let is : new ≡ record { size = length w.servers; client = x } =
               λ t. record { size = size t; client = (client ∙ q.1) t } in (
-                ap (λ b. if b then Some (Agent new) else c.at (actors.Client j)) (eq-eqb j k q.0)
-                    ∙ ap (λ a. Some (Agent a)) is,
+                ap (λ b. if b then Some (group_actors.Client new) else c.at (actors.Client j)) (eq-eqb j k q.0)
+                    ∙ ap (λ a. Some (group_actors.Client a)) is,
                 numbers_stay e next goes j x at,
               )
           | inr q ↦
               let s = st.clients j x q.1 in (
-                ap (λ b. if b then Some (Agent new) else c.at (actors.Client j))
+                ap (λ b. if b then Some (group_actors.Client new) else c.at (actors.Client j))
                     (false_from_ne_true (j == k) (λ e. q.0 (eqb-true j k e))) ∙ s.0,
                 s.1,
               )
         ];
         server_there = λ i a at. st.server_there i a at;
         client_there = λ j a at.
-            let before : (x : Client) × (client_at w.clients j ≡ Some x) =
-            elim (was (j == k) (c.at (actors.Client j)) (Agent new) a at) [
+            let before : (x : Agent) × (client_at w.clients j ≡ Some x) =
+            elim (was (j == k) (c.at (actors.Client j)) (group_actors.Client new) a at) [
               | inl e ↦ let x = st.client_there k old here in
                   (x.0, ap (λ i. client_at w.clients i) (eqb-true j k e) ∙ x.1)
               | inr h ↦ st.client_there j a h
@@ -220,15 +220,15 @@ module _ (c : CellWorld) (w : World) (st : Stands c w) where
       (event : EventView OwnInput) (outputs : List Output) → c.at (actors.Client k) ≡ Some old →
       Brings c.sent (actors.Client k) event e → ActorSteps old event outputs new →
       d ≡ put c (actors.Client k) new outputs → GoesOn d w e
-  client_next again d e k old (Server new) event outputs here brings step after =
+  client_next again d e k old (group_actors.Server new) event outputs here brings step after =
       let x = st.client_there k old here in
       let s = st.clients k x.0 x.1 in
-      absurd ((subst (λ a. ActorSteps a event outputs (Server new))
+      absurd ((subst (λ a. ActorSteps a event outputs (group_actors.Server new))
       (same_Some old _ (sym here ∙ s.0)) step).1)
-  client_next again d e k old (Agent new) event outputs here brings step after =
+  client_next again d e k old (group_actors.Client new) event outputs here brings step after =
       let x = st.client_there k old here in
       let s = st.clients k x.0 x.1 in
-      let t = subst (λ a. ActorSteps a event outputs (Agent new))
+      let t = subst (λ a. ActorSteps a event outputs (group_actors.Client new))
       (same_Some old _ (sym here ∙ s.0)) step in
       let q = client_moves again c.sent w st.sent k x.0 x.1 s.1 new outputs event e brings t.1.1 in
       let turn = q.turn in

@@ -3,11 +3,11 @@ use Rattle.std.specs.Prelude.{◌≡◌, ℕ, suc, ◌+◌, zero, true, List, []
 use Rattle.std.specs.List.{AllByRecursion}
 use Rattle.rows.specs.declared.actor.Actor.{Actor}
 use Rattle.rows.specs.declared.actor.Actor.TheVariants as actors
-use Rattle.group_model.specs.Inputs as servers
-use Rattle.group_model.specs.Clients as clients
-use Rattle.group_model.specs.Members.{Member}
+use Rattle.group_model.specs.Inputs as inputs
+use Rattle.group_model.specs.Agents as agents
+use Rattle.group_model.specs.Servers.{Server}
 use Rattle.group_model.specs.Worlds.{Event, Deliver, AtServer, AtClient}
-use Rattle.server.specs.ServerViews.{ServerView, IsMember}
+use Rattle.server.specs.ServerViews.{ServerView, IsServer}
 use Rattle.world.specs.GroupView.{GroupView, client_view}
 use Rattle.event_book.specs.declared.view.EventView.{EventView}
 use Rattle.event_book.specs.declared.view.EventView.TheVariants.{Own, Delivery, Crash}
@@ -15,7 +15,7 @@ use Rattle.event_book.specs.declared.view.Note.{Note}
 use Rattle.event_book.specs.Seats.{IsWhole, are_apart, lists_actor}
 use Rattle.cells.specs.declared.own_input.OwnInput.{OwnInput}
 use Rattle.actor.specs.declared.group_actor.GroupActor.{GroupActor}
-use Rattle.actor.specs.declared.group_actor.GroupActor.TheVariants.{Server, Client}
+use Rattle.actor.specs.declared.group_actor.GroupActor.TheVariants as group_actors
 use Rattle.cells.specs.Actors.{own_event}
 use Rattle.cells.specs.Cells.{CellView}
 use Rattle.cells.specs.Groups.{AreOfGroup, cell_actors, seat_in}
@@ -29,8 +29,8 @@ sent_before (e ∷ es) zero = 0
 sent_before (e ∷ es) (suc k) = length e.noted.outputs + sent_before es k
 
 abbrev pub crash_event : Actor → Event
-crash_event (actors.Server i) = AtServer i servers.Crash
-crash_event (actors.Client c) = AtClient c clients.Crash
+crash_event (actors.Server i) = AtServer i inputs.Crash
+crash_event (actors.Client c) = AtClient c agents.Crash
 
 -- the event that an actor's noted event is; a delivery is that of the message at its place among
 -- all that were ever sent, by stamp and then by place
@@ -48,11 +48,11 @@ noted_events log (e ∷ es) = noted_event log e.actor e.noted.event ∷ noted_ev
 
 -- the world has this actor: the same client, or a server that is the same one of the definitions
 abbrev pub ShowsActor : GroupView → Actor → GroupActor → Type 0
-ShowsActor view (actors.Server i) (Server v) =
-    (x : ServerView) × (s : Member) × (slice_get view.servers i ≡ Some x) × IsMember v s × IsMember x s
-ShowsActor view (actors.Server i) (Client a) = ⊥
-ShowsActor view (actors.Client c) (Server v) = ⊥
-ShowsActor view (actors.Client c) (Client a) = client_view view.clients c ≡ Some a
+ShowsActor view (actors.Server i) (group_actors.Server v) =
+    (x : ServerView) × (s : Server) × (slice_get view.servers i ≡ Some x) × IsServer v s × IsServer x s
+ShowsActor view (actors.Server i) (group_actors.Client a) = ⊥
+ShowsActor view (actors.Client c) (group_actors.Server v) = ⊥
+ShowsActor view (actors.Client c) (group_actors.Client a) = client_view view.clients c ≡ Some a
 
 abbrev pub HasCell : GroupView → CellView → Type 0
 HasCell view c = ShowsActor view c.seat.actor c.actor

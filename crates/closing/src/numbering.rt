@@ -6,7 +6,7 @@ ghost use Rattle.cells.specs.Actors.{own_event};
 ghost use Rattle.closing.specs.Inner.Merged.{taken_event_in};
 ghost use Rattle.closing.specs.Inner.Numbers.{AreDue, AreEventsOf, FallsWithin, FitsOffsets, IsNoDelivery, delivered_event, entry_event};
 
-use crate::merging::Placed;
+use crate::merging::TracedEvent;
 use cells::{KeptEvent, OwnInput};
 use client_agent::ClientInput;
 use rows::{Actor, NoMemory};
@@ -89,7 +89,7 @@ fn event_at(
 /// the order of the events and then of their places. It asks that each delivery be of an output of
 /// an event that comes before it. `NoMemory` is the answer for want of memory, and where there are
 /// 2^64 outputs or more: no memory has room for a world in which so much was sent.
-pub(crate) fn number(alloc: Global, merged: Vec<Placed>) -> Result<Vec<Event>, NoMemory>
+pub(crate) fn number(alloc: Global, merged: Vec<TracedEvent>) -> Result<Vec<Event>, NoMemory>
     requires { AreDue (map taken_event_in merged.items) }
     ensures { IfOk result (λ r. AreEventsOf merged.items r.items) }
 {
@@ -97,7 +97,7 @@ pub(crate) fn number(alloc: Global, merged: Vec<Placed>) -> Result<Vec<Event>, N
     let mut events = Vec::new(alloc);
     let mut total = 0u64;
     for placed in merged {
-        let Placed { actor, event, sent } = placed;
+        let TracedEvent { actor, event, sent } = placed;
         events.push(event_at(alloc, &offsets, total, actor, event)?)?;
         offsets.push(total)?;
         total = sum(total, sent as u64)?;

@@ -2,7 +2,7 @@
 ghost use Rattle.std.specs.Prelude.{◌≡◌, ◌≤◌, length, IfOk, OnOk};
 ghost use Rattle.rows.specs.GroupSizes.{IsGroup};
 ghost use Rattle.world.specs.GroupEvents.{group_event, group_events};
-ghost use Rattle.world.specs.GroupView.{nodes_of, renumbered, ClientsKnowPlaces};
+ghost use Rattle.world.specs.GroupView.{nodes_of, renumbered, ClientsKnowNumbers};
 ghost use Rattle.world.specs.GroupSteps.{IsNewGroup, GroupEventHappened};
 ghost use Rattle.closing.specs.Inner.Runs.{AllHappen, CanHappen, RepresentsLast};
 
@@ -60,7 +60,7 @@ pub(crate) fn replay(
     ensures trace { IfOk result (λ w. w.trace ≡ group_events events.items) }
     ensures size { IfOk result (λ w. length w.servers ≡ n) }
     ensures nodes { IfOk result (λ w. nodes_of w ≡ renumbered 1 nodes.now) }
-    ensures clients { IfOk result (λ w. ClientsKnowPlaces w) }
+    ensures clients { IfOk result (λ w. ClientsKnowNumbers w) }
     ensures last { IfOk result (λ w. RepresentsLast n nodes.now (group_events events.items) w) }
 {
     let mut world = begin(alloc, n, nodes)?;

@@ -4,8 +4,8 @@
 #![tactic(auto)]
 
 pub use cells::{
-    Cell, Cells, Envelope, GroupActor, KeptEvent, OwnInput, OwnedCells, StampedEvent, Stepped,
-    Turn, cells_of, turn,
+    Cell, CellTurn, Cells, Envelope, GroupActor, KeptEvent, OwnInput, OwnedCells, StampedEvent,
+    Stepped, cells_of, turn,
 };
 pub use closing::close;
 pub use group_threads::{

@@ -31,7 +31,7 @@ use Rattle.fsm_tables.proofs.RowLaws.{all_put}
 use Rattle.fsm_tables.specs.Claims.{is_active, is_wanted}
 use Rattle.fsm_tables.specs.Lookups.{lives_on}
 use Rattle.cluster_model.specs.Words.{State, no_rows, same_eval, same_alloc, node_of, no_node, is_open}
-use Rattle.cluster_model.specs.Effect.{applied, with_next_count, new_eval, with_evals, touched, is_named, owns, with_job, job_row, stop_job, without_job, node_row, marked_as, draining, drained, left_as, unheard, moves, with_migrate_mark, set_status, stop, is_ended_by, frees, with_room, altered, alloc_row, with_places, client_state_of, told, told_all, downed, disconnected}
+use Rattle.cluster_model.specs.Effect.{applied, with_next_count, new_eval, with_evals, touched, is_named, owns, with_job, job_row, stop_job, without_job, node_row, marked_as, draining, drained, left_as, unreached, moves, with_migrate_mark, set_status, stop, is_ended_by, frees, with_room, altered, alloc_row, with_places, client_state_of, told, told_all, downed, disconnected}
 use Rattle.rows.specs.States.{AreTables, AllFit, IsState}
 use Rattle.cluster_model.proofs.StateLaws.{either, applied_has_count, applied_are_tables, empty_are_tables}
 
@@ -118,7 +118,7 @@ downed_fit : (n : ℕ) (s : State) → FromOneFits s.count → length s.jobs ≤
 downed_fit n s fx few h = record {
   jobs = h.jobs;
   nodes = marks_fit statuses.Down n s.nodes h.nodes;
-  evals = touch_fits (owns (lives_on n) s.allocs) (unheard statuses.Down clients.Lost n s) fx few h.jobs h.evals;
+  evals = touch_fits (owns (lives_on n) s.allocs) (unreached statuses.Down clients.Lost n s) fx few h.jobs h.evals;
   allocs = left_fit clients.Lost n s.allocs h.allocs;
 }
 

@@ -298,8 +298,8 @@ released_safe : (f : Allocation → Allocation) → Releases f → (nodes : List
 released_safe f r nodes rows h = fewer_safe nodes (claims (map f rows)) (claims rows) (released f r rows) h
 
 -- a node that is not heard of
-unheard_safe : (status : NodeStatus) (client : ClientState) (n : ℕ) (s : State) → T (is_safe s) → T (are_safe (map (marked_as status n) s.nodes) (claims (map (left_as client n) s.allocs)))
-unheard_safe status client n s h = kept_safe (marked_as status n) (marked_keeps status n) s.nodes (claims (map (left_as client n) s.allocs))
+unreached_safe : (status : NodeStatus) (client : ClientState) (n : ℕ) (s : State) → T (is_safe s) → T (are_safe (map (marked_as status n) s.nodes) (claims (map (left_as client n) s.allocs)))
+unreached_safe status client n s h = kept_safe (marked_as status n) (marked_keeps status n) s.nodes (claims (map (left_as client n) s.allocs))
     (released_safe (left_as client n) (left_releases client n) s.nodes s.allocs h)
 
 pub admitted_is_safe : (s : State) (c : Command) → T (is_safe s) → admission s c ≡ None → T (is_safe (applied s c))
@@ -308,9 +308,9 @@ admitted_is_safe s (commands.JobPut j) h e = h
 admitted_is_safe s (commands.JobStop name) h e = h
 admitted_is_safe s (commands.NodePut n) h e = with_node_safe n (with_next_count s) h
 admitted_is_safe s (commands.NodeDown n) h e =
-    either (λ (t : State). T (is_safe t)) (no_node n s) (with_next_count s) (downed n (with_next_count s)) h (unheard_safe statuses.Down clients.Lost n s h)
+    either (λ (t : State). T (is_safe t)) (no_node n s) (with_next_count s) (downed n (with_next_count s)) h (unreached_safe statuses.Down clients.Lost n s h)
 admitted_is_safe s (commands.Disconnect n) h e =
-    either (λ (t : State). T (is_safe t)) (no_node n s) (with_next_count s) (disconnected n (with_next_count s)) h (unheard_safe statuses.Disconnected clients.Unknown n s h)
+    either (λ (t : State). T (is_safe t)) (no_node n s) (with_next_count s) (disconnected n (with_next_count s)) h (unreached_safe statuses.Disconnected clients.Unknown n s h)
 admitted_is_safe s (commands.Drain n force) h e = kept_safe (draining n force) (draining_keeps n force) s.nodes (claims s.allocs) h
 admitted_is_safe s (commands.DrainDone n) h e = kept_safe (drained n) (drained_keeps n) s.nodes (claims s.allocs) h
 admitted_is_safe s (commands.Migrate ids) h e = released_safe (with_migrate_mark ids) (marked_releases ids) s.nodes s.allocs h

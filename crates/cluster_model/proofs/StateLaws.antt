@@ -32,7 +32,7 @@ use Rattle.fsm_tables.proofs.RowLaws.{rising_put_within, few_put_within, rising_
 use Rattle.fsm_tables.specs.Claims.{is_active, is_wanted}
 use Rattle.fsm_tables.specs.Lookups.{lives_on}
 use Rattle.cluster_model.specs.Words.{State, no_rows, same_eval, same_alloc, node_of, no_node, is_open}
-use Rattle.cluster_model.specs.Effect.{applied, with_next_count, new_eval, with_evals, touched, is_named, owns, with_job, job_row, stop_job, without_job, node_row, marked_as, draining, drained, left_as, unheard, moves, with_migrate_mark, set_status, stop, is_ended_by, frees, with_room, altered, alloc_row, with_places, client_state_of, told, told_all, downed, disconnected}
+use Rattle.cluster_model.specs.Effect.{applied, with_next_count, new_eval, with_evals, touched, is_named, owns, with_job, job_row, stop_job, without_job, node_row, marked_as, draining, drained, left_as, unreached, moves, with_migrate_mark, set_status, stop, is_ended_by, frees, with_room, altered, alloc_row, with_places, client_state_of, told, told_all, downed, disconnected}
 use Rattle.cluster_model.specs.Admission.{first_of, tests, admission}
 use Rattle.rows.specs.States.{InOrder, AreTables}
 
@@ -112,7 +112,7 @@ downed_are_tables : (n : ℕ) (s : State) → AreTables s → AreTables (downed 
 downed_are_tables n s h = record {
   jobs = h.jobs;
   nodes = marks_in_order statuses.Down n s.nodes h.nodes;
-  evals = touch_in_order (owns (lives_on n) s.allocs) (unheard statuses.Down clients.Lost n s) h.evals;
+  evals = touch_in_order (owns (lives_on n) s.allocs) (unreached statuses.Down clients.Lost n s) h.evals;
   allocs = left_in_order clients.Lost n s.allocs h.allocs;
 }
 

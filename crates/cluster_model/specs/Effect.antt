@@ -144,15 +144,15 @@ left_as client n a = if is_active_on n a then client_row client a else a
 
 -- A node is not heard of: its row is of this status, and what was not final on it in this client
 -- state.
-abbrev pub unheard : NodeStatus → ClientState → ℕ → State → State
-unheard status client n s =
+abbrev pub unreached : NodeStatus → ClientState → ℕ → State → State
+unreached status client n s =
     record s { nodes = map (marked_as status n) s.nodes; allocs = map (left_as client n) s.allocs }
 
 -- A node that has a row is down: what was not final on it is lost, and the jobs of what was live
 -- are touched.
 abbrev pub downed : ℕ → State → State
 downed n s =
-    touched (owns (lives_on n) s.allocs) (unheard statuses.Down clients.Lost n s)
+    touched (owns (lives_on n) s.allocs) (unreached statuses.Down clients.Lost n s)
 
 -- A node's loss. Without a row of the node nothing changes, also where allocations name it.
 abbrev pub without_node : ℕ → State → State
@@ -160,7 +160,7 @@ without_node n s = if no_node n s then s else downed n s
 
 -- A node that has a row is disconnected: what was not final on it is unknown. No job is touched.
 abbrev pub disconnected : ℕ → State → State
-disconnected n s = unheard statuses.Disconnected clients.Unknown n s
+disconnected n s = unreached statuses.Disconnected clients.Unknown n s
 
 -- A node goes out of sight. Without a row of the node nothing changes, also where allocations name
 -- it.

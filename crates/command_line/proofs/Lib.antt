@@ -1,4 +1,4 @@
-pub mod Turns
+pub mod Rounds
 pub mod Lines
 pub mod Counts
 pub mod GivenValues

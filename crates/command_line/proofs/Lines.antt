@@ -13,7 +13,7 @@ use Rattle.clap.specs.Takes.{is_given}
 use Rattle.command_line.specs.Words.{app_with, at_option, csv_flag, html_flag, jobs_option, json_flag, keys_option, nomadsim_app, out_option, percent_option, required_word, workers_option}
 use Rattle.command_line.specs.Inner.Lines.{is_line}
 use Rattle.command_line.proofs.GivenValues.{given_has_value, rows_are_valued}
-use Rattle.command_line.proofs.Turns.{IsNoHelp, no_first, no_second, stops_at_no_help}
+use Rattle.command_line.proofs.Rounds.{IsNoHelp, no_first, no_second, stops_at_no_help}
 
 -- ---- the levels of the command, as clap builds them
 

@@ -4,20 +4,20 @@ use Rattle.std.proofs.lemmas.Bool.Decides.{nat_tests}
 use Rattle.std.proofs.lemmas.Option.{same_Some, slice_get_within}
 use Rattle.std.specs.Prelude.{MatchOption}
 use Rattle.cluster_model.specs.Words.{State}
-use Rattle.raft_model.specs.Servers.{is_up}
+use Rattle.raft_model.specs.Rafts.{is_up}
 use Rattle.group_model.specs.Desks.{applied_state}
-use Rattle.group_model.specs.Members.{Member}
+use Rattle.group_model.specs.Servers.{Server}
 use Rattle.ending.specs.Endings.{IsNewest, NoneIsUp}
 use Rattle.ending.specs.Inner.Newest.{IsFound, IsNewestState, newer}
 use Rattle.ending.specs.declared.newest.Newest.{Newest}
 
 -- what is known of how much a server has applied
-abbrev pub HasApplied : Member → Option ℕ → Type 0
+abbrev pub HasApplied : Server → Option ℕ → Type 0
 HasApplied s applied = MatchOption applied (is_up s.raft.mode ≡ false) (λ n. (is_up s.raft.mode ≡ true) × (n ≡ s.raft.commit))
 
-module _ (servers : List Member) (seen : ℕ) (s : Member) (here : slice_get servers seen ≡ Some s) where
+module _ (servers : List Server) (seen : ℕ) (s : Server) (here : slice_get servers seen ≡ Some s) where
   -- what holds of those before and of the next one holds of those up to it
-  pub one_more : (P : Member → Type 0) → ((i : ℕ) (other : Member) → i < seen → slice_get servers i ≡ Some other → P other) → P s → (i : ℕ) (other : Member) → i < suc seen → slice_get servers i ≡ Some other → P other
+  pub one_more : (P : Server → Type 0) → ((i : ℕ) (other : Server) → i < seen → slice_get servers i ≡ Some other → P other) → P s → (i : ℕ) (other : Server) → i < suc seen → slice_get servers i ≡ Some other → P other
   one_more P before own i other below at = go (nat_lt i seen) refl
     where
       go : (b : Bool) → nat_lt i seen ≡ b → P other
@@ -33,7 +33,7 @@ module _ (servers : List Member) (seen : ℕ) (s : Member) (here : slice_get ser
   found_stays found before less =
       (before.0, before.1, before.2, before.3, one_more (λ other. is_up other.raft.mode ≡ true → other.raft.commit ≤ found.applied) before.4 less)
 
-  found_anew : (applied : ℕ) → is_up s.raft.mode ≡ true → applied ≡ s.raft.commit → ((i : ℕ) (other : Member) → i < seen → slice_get servers i ≡ Some other → is_up other.raft.mode ≡ true → other.raft.commit ≤ applied) → IsFound servers (suc seen) (Some (record { place = seen; applied = applied }))
+  found_anew : (applied : ℕ) → is_up s.raft.mode ≡ true → applied ≡ s.raft.commit → ((i : ℕ) (other : Server) → i < seen → slice_get servers i ≡ Some other → is_up other.raft.mode ≡ true → other.raft.commit ≤ applied) → IsFound servers (suc seen) (Some (record { place = seen; applied = applied }))
   found_anew applied up is before =
       (s, here, up, sym is, one_more (λ other. is_up other.raft.mode ≡ true → other.raft.commit ≤ applied) before (λ awake. omega arith))
 
@@ -51,14 +51,14 @@ module _ (servers : List Member) (seen : ℕ) (s : Member) (here : slice_get ser
           let most : applied ≤ found.applied = grind (arith, nat_tests) in
           found_stays found before (λ awake. omega (arith, up.1))
 
-module _ (servers : List Member) where
-  all_seen : (P : Member → Type 0) (seen : ℕ) → seen ≡ length servers → ((i : ℕ) (s : Member) → i < seen → slice_get servers i ≡ Some s → P s) → (i : ℕ) (s : Member) → slice_get servers i ≡ Some s → P s
+module _ (servers : List Server) where
+  all_seen : (P : Server → Type 0) (seen : ℕ) → seen ≡ length servers → ((i : ℕ) (s : Server) → i < seen → slice_get servers i ≡ Some s → P s) → (i : ℕ) (s : Server) → slice_get servers i ≡ Some s → P s
   all_seen P seen all each i s at = let within : i < length servers = slice_get_within servers i s at in each i s (omega arith) at
 
   pub none_found : (seen : ℕ) → seen ≡ length servers → IsFound servers seen None → NoneIsUp servers
   none_found seen all none = all_seen (λ s. is_up s.raft.mode ≡ false) seen all none
 
-  pub newest_found : (seen : ℕ) → seen ≡ length servers → (found : Newest) → IsFound servers seen (Some found) → (s : Member) × (slice_get servers found.place ≡ Some s) × IsNewest servers s
+  pub newest_found : (seen : ℕ) → seen ≡ length servers → (found : Newest) → IsFound servers seen (Some found) → (s : Server) × (slice_get servers found.place ≡ Some s) × IsNewest servers s
   newest_found seen all found is =
       let s = is.0 in (
         s,
@@ -73,7 +73,7 @@ module _ (servers : List Member) where
 
   -- the state of the one that was found, which is up
   pub newest_state_is : (seen : ℕ) → seen ≡ length servers → (found : Newest) → IsFound servers seen (Some found) → (state : Option (Bor State))
-      → ((s : Member) → slice_get servers found.place ≡ Some s → MatchOption state (is_up s.raft.mode ≡ false) (λ r. (is_up s.raft.mode ≡ true) × (r.now ≡ applied_state s.raft)))
+      → ((s : Server) → slice_get servers found.place ≡ Some s → MatchOption state (is_up s.raft.mode ≡ false) (λ r. (is_up s.raft.mode ≡ true) × (r.now ≡ applied_state s.raft)))
       → MatchOption state (NoneIsUp servers) (λ r. IsNewestState servers r.now)
   newest_state_is seen all found is None says = absurd (true≢false (sym is.2 ∙ says is.0 is.1))
   newest_state_is seen all found is (Some r) says = let newest = newest_found seen all found is in (newest.0, newest.2, (says newest.0 newest.1).1)

@@ -5,31 +5,31 @@ use Rattle.std.proofs.lemmas.Option.{get_or_from_slice_get, same_Some, slice_get
 use Rattle.std.specs.Prelude.{IfSome, MatchOption}
 use Rattle.std.specs.Io.KnownBytes.{Appends}
 use Rattle.cluster_model.specs.Words.{State}
-use Rattle.raft_model.specs.Servers.{is_up}
+use Rattle.raft_model.specs.Rafts.{is_up}
 use Rattle.group_model.specs.Desks.{applied_state}
-use Rattle.group_model.specs.Members.{Member}
-use Rattle.server.specs.ServerViews.{ServerView, IsMember}
+use Rattle.group_model.specs.Servers.{Server}
+use Rattle.server.specs.ServerViews.{ServerView, IsServer}
 use Rattle.world.proofs.Zips.{zip_at, zip_length}
 use Rattle.ending.specs.Endings.{NoneIsUp, numbered_lines, server_line}
 use Rattle.ending.specs.Inner.Newest.{IsFound, IsNewestState, newer}
-use Rattle.ending.specs.Inner.Tells.{OfMembers, TellsServers}
+use Rattle.ending.specs.Inner.Tells.{OfServers, TellsServers}
 use Rattle.ending.specs.declared.newest.Newest.{Newest}
 use Rattle.ending.proofs.Finding.{HasApplied, newer_is_found, newest_state_is, none_found}
 use Rattle.ending.proofs.Told.{numbered_more}
 
 module _ (views : List ServerView) (i : ℕ) (view : ServerView) (here : slice_get views i ≡ Some view) where
   -- the line of one more
-  pub servers_more : (old mid new : Option (List ℕ)) → OfMembers views (λ servers. Appends old mid (numbered_lines server_line 1 (take i servers)))
-      → ((s : Member) → IsMember view s → Appends mid new (server_line (i + 1) s)) → OfMembers views (λ servers. Appends old new (numbered_lines server_line 1 (take (i + 1) servers)))
+  pub servers_more : (old mid new : Option (List ℕ)) → OfServers views (λ servers. Appends old mid (numbered_lines server_line 1 (take i servers)))
+      → ((s : Server) → IsServer view s → Appends mid new (server_line (i + 1) s)) → OfServers views (λ servers. Appends old new (numbered_lines server_line 1 (take (i + 1) servers)))
   servers_more old mid new before own servers are =
-      let s = zip_at IsMember views servers i view are here in
+      let s = zip_at IsServer views servers i view are here in
       numbered_more servers i s.0 (slice_get_within servers i s.0 s.1) (sym (get_or_from_slice_get servers i s.0 s.0 s.1)) server_line old mid new (before servers are) (own s.0 s.2)
 
   -- the newest with one more
-  pub found_more : (found : Option Newest) (applied : Option ℕ) (after : Option Newest) → OfMembers views (λ servers. IsFound servers i found) → ((s : Member) → IsMember view s → HasApplied s applied)
-      → after ≡ newer found i applied → OfMembers views (λ servers. IsFound servers (i + 1) after)
+  pub found_more : (found : Option Newest) (applied : Option ℕ) (after : Option Newest) → OfServers views (λ servers. IsFound servers i found) → ((s : Server) → IsServer view s → HasApplied s applied)
+      → after ≡ newer found i applied → OfServers views (λ servers. IsFound servers (i + 1) after)
   found_more found applied after before own is servers are =
-      let s = zip_at IsMember views servers i view are here in
+      let s = zip_at IsServer views servers i view are here in
       rw (is, add-one) (newer_is_found servers i s.0 s.1 found applied (before servers are) (own s.0 s.2))
 
 pub within_more : (found : Option Newest) (i : ℕ) (applied : Option ℕ) (after : Option Newest) → IfSome found (λ f. f.place < i) → after ≡ newer found i applied → IfSome after (λ f. f.place < i + 1)
@@ -46,20 +46,20 @@ within_more found i applied after before is = rw is (go found applied before)
     go (Some f) (Some n) within = chosen f n (nat_lt f.applied n) within
 
 module _ (views : List ServerView) where
-  pub none_found_up : OfMembers views (λ servers. IsFound servers (length views) None) → OfMembers views NoneIsUp
-  none_found_up found servers are = none_found servers (length views) (zip_length IsMember views servers are) (found servers are)
+  pub none_found_up : OfServers views (λ servers. IsFound servers (length views) None) → OfServers views NoneIsUp
+  none_found_up found servers are = none_found servers (length views) (zip_length IsServer views servers are) (found servers are)
 
   -- the state of the one that was found
-  pub found_state : (found : Newest) (view : ServerView) → slice_get views found.place ≡ Some view → OfMembers views (λ servers. IsFound servers (length views) (Some found)) → (state : Option (Bor State))
-      → ((s : Member) → IsMember view s → MatchOption state (is_up s.raft.mode ≡ false) (λ r. (is_up s.raft.mode ≡ true) × (r.now ≡ applied_state s.raft)))
-      → OfMembers views (λ servers. MatchOption state (NoneIsUp servers) (λ r. IsNewestState servers r.now))
+  pub found_state : (found : Newest) (view : ServerView) → slice_get views found.place ≡ Some view → OfServers views (λ servers. IsFound servers (length views) (Some found)) → (state : Option (Bor State))
+      → ((s : Server) → IsServer view s → MatchOption state (is_up s.raft.mode ≡ false) (λ r. (is_up s.raft.mode ≡ true) × (r.now ≡ applied_state s.raft)))
+      → OfServers views (λ servers. MatchOption state (NoneIsUp servers) (λ r. IsNewestState servers r.now))
   found_state found view here is state says servers are =
-      let s = zip_at IsMember views servers found.place view are here in
-      newest_state_is servers (length views) (zip_length IsMember views servers are) found (is servers are) state (λ other at. says other (subst (λ (x : Member). IsMember view x) (same_Some s.0 other (sym s.1 ∙ at)) s.2))
+      let s = zip_at IsServer views servers found.place view are here in
+      newest_state_is servers (length views) (zip_length IsServer views servers are) found (is servers are) state (λ other at. says other (subst (λ (x : Server). IsServer view x) (same_Some s.0 other (sym s.1 ∙ at)) s.2))
 
   -- the lines of all
-  pub servers_all : (seen : ℕ) → length views ≤ seen → (old new : Option (List ℕ)) → OfMembers views (λ servers. Appends old new (numbered_lines server_line 1 (take seen servers))) → OfMembers views (TellsServers old new)
+  pub servers_all : (seen : ℕ) → length views ≤ seen → (old new : Option (List ℕ)) → OfServers views (λ servers. Appends old new (numbered_lines server_line 1 (take seen servers))) → OfServers views (TellsServers old new)
   servers_all seen all old new lines servers are =
-      let many = zip_length IsMember views servers are in
+      let many = zip_length IsServer views servers are in
       let whole : take seen servers ≡ servers = take_all seen servers (omega (arith, many)) in
       rw whole at (lines servers are)

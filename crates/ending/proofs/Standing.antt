@@ -3,8 +3,8 @@ use Rattle.std.proofs.Common.{◌≡◌, ℕ, false, Some, None, List, ◌++◌,
 use Rattle.raft_core.specs.Steps.{role_of}
 use Rattle.raft_core.specs.declared.role.Role.{Role}
 use Rattle.raft_core.specs.declared.role.Role.TheVariants as roles
-use Rattle.raft_model.specs.Servers.{Mode, Down, Follower, Candidate, Leader, is_up}
-use Rattle.group_model.specs.Members.{Member}
+use Rattle.raft_model.specs.Rafts.{Mode, Down, Follower, Candidate, Leader, is_up}
+use Rattle.group_model.specs.Servers.{Server}
 use Rattle.ending.specs.Endings.{applied_words, mode_word, server_line}
 use Rattle.ending.specs.Inner.Tells.{down_line, up_line}
 
@@ -31,7 +31,7 @@ no_role_down Follower is = absurd (cc)
 no_role_down (Candidate votes) is = absurd (cc)
 no_role_down (Leader next match) is = absurd (cc)
 
-module _ (k : ℕ) (s : Member) (term last : ℕ) (is_term : term ≡ s.raft.term) (is_last : last ≡ length s.raft.log) where
+module _ (k : ℕ) (s : Server) (term last : ℕ) (is_term : term ≡ s.raft.term) (is_last : last ≡ length s.raft.log) where
   pub down_is : is_up s.raft.mode ≡ false → down_line k term last ≡ server_line k s
   down_is down = rw (is_term, is_last) (line_down k s.raft.mode s.raft.term (length s.raft.log) s.raft.commit down)
 

@@ -8,28 +8,28 @@ use Rattle.fsm_tables.specs.Claims.{is_live}
 use Rattle.cluster_model.specs.ClusterMachine.{cluster_meaning}
 use Rattle.cluster_model.specs.Words.{State}
 use Rattle.group_frames.specs.GroupFrames.{CarriesGroup}
-use Rattle.group_model.specs.Clients.{Client}
+use Rattle.group_model.specs.Agents.{Agent}
 use Rattle.server.specs.ServerViews.{ServerView}
 use Rattle.world.proofs.Zips.{zip_length}
 use Rattle.world.specs.GroupClaims.{OneGroupList}
 use Rattle.world.specs.GroupView.{GroupView, client_in}
 use Rattle.ending.specs.Endings.{AreLiveRows, HasRows, NoneIsUp, StopsAtRows, TellsEnding, client_line, numbered_lines, of_newest, of_none, row_line, total_line}
 use Rattle.ending.specs.Inner.Newest.{IsNewestState}
-use Rattle.ending.specs.Inner.Tells.{OfMembers, TellsRows, TellsServers, agent_line}
+use Rattle.ending.specs.Inner.Tells.{OfServers, TellsRows, TellsServers, agent_line}
 use Rattle.ending.proofs.Told.{numbered-map}
 
 -- ---- allocations
 
-pub none_told : (views : List ServerView) (old : Option (List ℕ)) → OfMembers views NoneIsUp → OfMembers views (TellsRows old old)
+pub none_told : (views : List ServerView) (old : Option (List ℕ)) → OfServers views NoneIsUp → OfServers views (TellsRows old old)
 none_told views old none servers are = ([], of_none (none servers are), Appends-nil old)
 
-module _ (views : List ServerView) (state : State) (newest : OfMembers views (λ servers. IsNewestState servers state)) where
-  pub rows_told : (rows : List Allocation) (old new : Option (List ℕ)) → AreLiveRows state.allocs rows → Appends old new (flat_map row_line rows) → OfMembers views (TellsRows old new)
+module _ (views : List ServerView) (state : State) (newest : OfServers views (λ servers. IsNewestState servers state)) where
+  pub rows_told : (rows : List Allocation) (old new : Option (List ℕ)) → AreLiveRows state.allocs rows → Appends old new (flat_map row_line rows) → OfServers views (TellsRows old new)
   rows_told rows old new live lines servers are =
       let s = newest servers are in
       (rows, of_newest s.0 rows s.1 (subst (λ (x : State). AreLiveRows x.allocs rows) s.2 live), lines)
 
-  pub rows_there : filter is_live state.allocs ≢ [] → OfMembers views HasRows
+  pub rows_there : filter is_live state.allocs ≢ [] → OfServers views HasRows
   rows_there some servers are =
       let s = newest servers are in
       record { server = s.0; newest = s.1; some = subst (λ (x : State). filter is_live x.allocs ≢ []) s.2 some }
@@ -37,7 +37,7 @@ module _ (views : List ServerView) (state : State) (newest : OfMembers views (λ
 -- ---- the whole
 
 module _ (view : GroupView) (group : OneGroupList view) where
-  pub ending_told : (a b c d e : Option (List ℕ)) → OfMembers view.servers (TellsServers a b) → OfMembers view.servers (TellsRows b c) → Appends c d (numbered_lines agent_line 1 view.clients)
+  pub ending_told : (a b c d e : Option (List ℕ)) → OfServers view.servers (TellsServers a b) → OfServers view.servers (TellsRows b c) → Appends c d (numbered_lines agent_line 1 view.clients)
       → Appends d e (total_line (length view.trace) (length view.outbox.frames)) → TellsEnding view a e
   ending_told a b c d e servers rows clients total = record {
     past = group.past;
@@ -48,13 +48,13 @@ module _ (view : GroupView) (group : OneGroupList view) where
         let front = servers w.servers r.servers in
         let told = rows w.servers r.servers in
         let known : Appends c d (numbered_lines client_line 1 w.clients) =
-        subst (λ (all : List Client). Appends c d (numbered_lines client_line 1 all)) r.clients (rw (numbered-map client_line client_in 1 view.clients) at clients) in
+        subst (λ (all : List Agent). Appends c d (numbered_lines client_line 1 all)) r.clients (rw (numbered-map client_line client_in 1 view.clients) at clients) in
         let counted : Appends d e (total_line (length view.trace) (length w.sent)) =
         subst (λ (n : ℕ). Appends d e (total_line (length view.trace) n)) (zip_length (CarriesGroup cluster_meaning) view.outbox.frames w.sent r.sent) total in
         (_, record { rows = told.0; told = told.1; are = refl }, Appends-trans a b e _ _ front (Appends-trans b c e _ _ told.2 (Appends-trans c d e _ _ known counted)));
   }
 
-  pub stopped_at_rows : (a b : Option (List ℕ)) → OfMembers view.servers (TellsServers a b) → OfMembers view.servers HasRows → StopsAtRows view a b
+  pub stopped_at_rows : (a b : Option (List ℕ)) → OfServers view.servers (TellsServers a b) → OfServers view.servers HasRows → StopsAtRows view a b
   stopped_at_rows a b servers rows = record {
     past = group.past;
     world = group.world;

@@ -3,8 +3,8 @@ use Rattle.std.specs.Prelude.{◌≡◌, ◌==◌, ◌&&◌, ◌<◌, ℕ, Bool,
 use Rattle.rows.specs.declared.allocation.Allocation.{Allocation}
 use Rattle.rows.specs.declared.allocation.ClientState.{ClientState}
 use Rattle.rows.specs.declared.allocation.ClientState.TheVariants.{Pending, Running, Complete, Failed, Lost, Unknown}
-use Rattle.raft_model.specs.Servers.{Mode, Down, Follower, Candidate, Leader}
-use Rattle.group_model.specs.Members.{Member}
+use Rattle.raft_model.specs.Rafts.{Mode, Down, Follower, Candidate, Leader}
+use Rattle.group_model.specs.Servers.{Server}
 use Rattle.group_model.specs.Worlds.{World}
 use Rattle.world.specs.GroupView.{GroupView}
 use Rattle.ending.specs.declared.numbers.EndNumbers.{EndNumbers}
@@ -14,8 +14,8 @@ abbrev pub later : ℕ → ℕ → ℕ
 later one other = if nat_lt one other then other else one
 
 -- the greatest term of these servers
-abbrev pub greatest_term : List Member → ℕ
-greatest_term servers = fold (λ term (s : Member). later term s.raft.term) 0 servers
+abbrev pub greatest_term : List Server → ℕ
+greatest_term servers = fold (λ term (s : Server). later term s.raft.term) 0 servers
 
 abbrev pub is_leader : Mode → Bool
 is_leader Down = false
@@ -23,19 +23,19 @@ is_leader Follower = false
 is_leader (Candidate votes) = false
 is_leader (Leader next match) = true
 
-abbrev pub leads_in : ℕ → Member → Bool
+abbrev pub leads_in : ℕ → Server → Bool
 leads_in term s = is_leader s.raft.mode && (s.raft.term == term)
 
 -- none of these leads in this term before the place
-abbrev pub NoneLeads : ℕ → List Member → ℕ → Type 0
+abbrev pub NoneLeads : ℕ → List Server → ℕ → Type 0
 NoneLeads term servers place =
-    (i : ℕ) (s : Member) → i < place → slice_get servers i ≡ Some s → leads_in term s ≡ false
+    (i : ℕ) (s : Server) → i < place → slice_get servers i ≡ Some s → leads_in term s ≡ false
 
 -- the first of them that leads in this term, by its place; none where none leads in it
-abbrev pub IsFirstLeader : ℕ → List Member → Option ℕ → Type 0
+abbrev pub IsFirstLeader : ℕ → List Server → Option ℕ → Type 0
 IsFirstLeader term servers None = NoneLeads term servers (length servers)
 IsFirstLeader term servers (Some place) =
-    ((s : Member) × (slice_get servers place ≡ Some s) × (leads_in term s ≡ true)) × NoneLeads term servers place
+    ((s : Server) × (slice_get servers place ≡ Some s) × (leads_in term s ≡ true)) × NoneLeads term servers place
 
 abbrev pub client_runs : ClientState → Bool
 client_runs Pending = false
@@ -49,7 +49,7 @@ abbrev pub is_running : Allocation → Bool
 is_running a = client_runs a.client
 
 -- so many allocations are told of these servers, and so many of them run
-abbrev pub RowNumbers : ℕ → ℕ → List Member → Type 0
+abbrev pub RowNumbers : ℕ → ℕ → List Server → Type 0
 RowNumbers live running servers =
     (rows : List Allocation) × AreTold servers rows × (live ≡ length rows) × (running ≡ count_by is_running rows)
 

@@ -12,10 +12,10 @@ use Rattle.rows.specs.declared.allocation.Allocation.{Allocation}
 use Rattle.rows.specs.declared.allocation.ClientState.{ClientState}
 use Rattle.rows.specs.declared.allocation.ClientState.TheVariants.{Pending, Running as RunningState, Complete, Failed, Lost, Unknown}
 use Rattle.fsm_tables.specs.Claims.{is_live}
-use Rattle.raft_model.specs.Servers.{Mode, Down, Follower, Candidate, Leader, is_up}
-use Rattle.group_model.specs.Clients.{Client, Life, Running}
+use Rattle.raft_model.specs.Rafts.{Mode, Down, Follower, Candidate, Leader, is_up}
+use Rattle.group_model.specs.Agents.{Agent, Life, Running}
 use Rattle.group_model.specs.Desks.{applied_state}
-use Rattle.group_model.specs.Members.{Member}
+use Rattle.group_model.specs.Servers.{Server}
 use Rattle.group_model.specs.Worlds.{World}
 use Rattle.world.specs.GroupView.{GroupView, GroupRunsTo}
 
@@ -39,7 +39,7 @@ applied_words Down commit = []
 applied_words _ commit = codes " applied " ++ decimal commit
 
 -- `server K MODE term T last L`, and `applied A` behind it
-abbrev pub server_line : ℕ → Member → List ℕ
+abbrev pub server_line : ℕ → Server → List ℕ
 server_line k s =
     codes "server " ++ (decimal k ++ (codes " " ++ (mode_word s.raft.mode ++ (codes " term " ++ (decimal s.raft.term
     ++ (codes " last " ++ (decimal (length s.raft.log) ++ (applied_words s.raft.mode s.raft.commit ++ codes "\n"))))))))
@@ -75,20 +75,20 @@ pub record AreLiveRows (all rows : List Allocation) : Type 0 where
   pub ordered : IsSorted row_cmp rows
 
 -- a server that is up, and that none that is up has applied more than
-pub record IsNewest (servers : List Member) (s : Member) : Type 0 where
+pub record IsNewest (servers : List Server) (s : Server) : Type 0 where
   pub place : ℕ
   pub at : slice_get servers place ≡ Some s
   pub up : is_up s.raft.mode ≡ true
-  pub most : (i : ℕ) (other : Member) → slice_get servers i ≡ Some other → is_up other.raft.mode ≡ true → other.raft.commit ≤ s.raft.commit
+  pub most : (i : ℕ) (other : Server) → slice_get servers i ≡ Some other → is_up other.raft.mode ≡ true → other.raft.commit ≤ s.raft.commit
 
-abbrev pub NoneIsUp : List Member → Type 0
-NoneIsUp servers = (i : ℕ) (s : Member) → slice_get servers i ≡ Some s → is_up s.raft.mode ≡ false
+abbrev pub NoneIsUp : List Server → Type 0
+NoneIsUp servers = (i : ℕ) (s : Server) → slice_get servers i ≡ Some s → is_up s.raft.mode ≡ false
 
 -- The allocations that are told: the live ones of the state that such a server has applied; none
 -- where none is up.
-pub data AreTold (servers : List Member) : List Allocation → Type 0 where
+pub data AreTold (servers : List Server) : List Allocation → Type 0 where
   of_none : NoneIsUp servers → AreTold servers []
-  of_newest : (s : Member) (rows : List Allocation) → IsNewest servers s → AreLiveRows (applied_state s.raft).allocs rows → AreTold servers rows
+  of_newest : (s : Server) (rows : List Allocation) → IsNewest servers s → AreLiveRows (applied_state s.raft).allocs rows → AreTold servers rows
 
 -- ---- clients
 
@@ -103,7 +103,7 @@ life_words None = codes "down"
 life_words (Some life) = codes "up seen " ++ (decimal life.seen ++ (codes " running " ++ running_words life.running))
 
 -- `client C up seen X running IDS`, or `client C down`
-abbrev pub client_line : ℕ → Client → List ℕ
+abbrev pub client_line : ℕ → Agent → List ℕ
 client_line k c = codes "client " ++ (decimal k ++ (codes " " ++ (life_words c.life ++ codes "\n")))
 
 -- ---- the whole
@@ -131,8 +131,8 @@ TellsEnding view old new =
     InEachRun view (λ w. (lines : List ℕ) × IsEnding w (length view.trace) lines × Appends old new lines)
 
 -- Some server is up, and the state of the newest has a live allocation.
-pub record HasRows (servers : List Member) : Type 0 where
-  pub server : Member
+pub record HasRows (servers : List Server) : Type 0 where
+  pub server : Server
   pub newest : IsNewest servers server
   pub some : filter is_live (applied_state server.raft).allocs ≢ []
 

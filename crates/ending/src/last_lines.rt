@@ -3,7 +3,7 @@ ghost use Rattle.std.specs.Prelude.{◌≡◌, length, IfErr, OnOk};
 ghost use Rattle.std.specs.Io.KnownBytes.{Appends};
 ghost use Rattle.ending.specs.declared.fault.EndError.TheVariants as errors;
 ghost use Rattle.ending.specs.Endings.{HasRows, StopsAtRows, TellsEnding, total_line};
-ghost use Rattle.ending.specs.Inner.Tells.{OfMembers, TellsRows};
+ghost use Rattle.ending.specs.Inner.Tells.{OfServers, TellsRows};
 
 use crate::allocations::{live_rows, print_rows};
 use crate::clients::print_clients;
@@ -36,10 +36,10 @@ pub fn print_end<W: Write>(alloc: Global, out: &mut W, world: &World) -> Result<
 
 // Tells the live allocations of the state of the server that has applied most.
 fn print_allocations<W: Write>(alloc: Global, out: &mut W, world: &World) -> Result<(), EndError>
-    ensures lines { OnOk result (OfMembers world.now.servers
+    ensures lines { OnOk result (OfServers world.now.servers
         (TellsRows (W.contents out.old) (W.contents out.new))) }
     ensures memory { IfErr result (λ fault. fault ≡ errors.NoMemory
-        → (out.new ≡ out.old) × OfMembers world.now.servers HasRows) }
+        → (out.new ≡ out.old) × OfServers world.now.servers HasRows) }
 {
     let Some(state) = newest_state(world) else {
         return Ok(());

@@ -2,7 +2,7 @@
 ghost use Rattle.std.specs.Prelude.{◌≡◌, ◌<◌, length, IfSome, MatchOption};
 ghost use Rattle.ending.specs.Endings.{NoneIsUp};
 ghost use Rattle.ending.specs.Inner.Newest.{IsFound, IsNewestState, newer};
-ghost use Rattle.ending.specs.Inner.Tells.{OfMembers};
+ghost use Rattle.ending.specs.Inner.Tells.{OfServers};
 
 use crate::servers::server_at;
 use fsm_state::Cluster;
@@ -21,7 +21,7 @@ pub(crate) struct Newest {
 /// The state of the first server that is up and that none that is up has applied more than; none
 /// where none is up.
 pub(crate) fn newest_state(world: &World) -> Option<&Cluster>
-    ensures { OfMembers world.now.servers (λ servers.
+    ensures { OfServers world.now.servers (λ servers.
         MatchOption result (NoneIsUp servers) (λ state. IsNewestState servers state.now)) }
 {
     let newest = find_newest(world)?;
@@ -30,7 +30,7 @@ pub(crate) fn newest_state(world: &World) -> Option<&Cluster>
 
 // The first such server.
 fn find_newest(world: &World) -> Option<Newest>
-    ensures found { OfMembers world.now.servers (λ servers.
+    ensures found { OfServers world.now.servers (λ servers.
         IsFound servers (length world.now.servers) result) }
     ensures within { IfSome result (λ found. found.place < length world.now.servers) }
 {

@@ -1,9 +1,9 @@
 //! The numbers of the last lines of a run.
 ghost use Rattle.std.specs.Prelude.{◌≡◌, IfOk};
-ghost use Rattle.group_model.specs.Members.{Member};
-ghost use Rattle.server.specs.ServerViews.{IsMember};
+ghost use Rattle.group_model.specs.Servers.{Server as AnyServer};
+ghost use Rattle.server.specs.ServerViews.{IsServer};
 ghost use Rattle.ending.specs.EndNumbers.{HasNumbers, IsFirstLeader, RowNumbers, greatest_term, is_running, later, leads_in};
-ghost use Rattle.ending.specs.Inner.Tells.{OfMembers};
+ghost use Rattle.ending.specs.Inner.Tells.{OfServers};
 
 use crate::allocations::live_rows;
 use crate::newest::newest_state;
@@ -53,7 +53,7 @@ pub fn end_numbers(alloc: Global, world: &World) -> Result<EndNumbers, NoMemory>
 
 // The greatest term of a server.
 fn greatest_term(world: &World) -> Term
-    ensures { OfMembers world.now.servers (λ servers. result ≡ greatest_term servers) }
+    ensures { OfServers world.now.servers (λ servers. result ≡ greatest_term servers) }
 {
     let mut term = Term::ZERO;
     for place in 0..world.size() {
@@ -71,11 +71,11 @@ fn later(one: Term, other: Term) -> Term
 
 // The first server that leads in a term.
 fn leader_in(world: &World, term: Term) -> Option<ServerId>
-    ensures { OfMembers world.now.servers (λ servers. IsFirstLeader term servers result) }
+    ensures { OfServers world.now.servers (λ servers. IsFirstLeader term servers result) }
 {
-    for place in 0..world.size() {
-        if leads_in(server_at(world, place), term) {
-            return ServerId::from_place(place);
+    for position in 0..world.size() {
+        if leads_in(server_at(world, position), term) {
+            return ServerId::from_position(position);
         }
     }
     None
@@ -83,7 +83,7 @@ fn leader_in(world: &World, term: Term) -> Option<ServerId>
 
 // Whether a server leads in a term.
 fn leads_in(server: &Server, term: Term) -> bool
-    ensures { (s : Member) → IsMember server.now s → result ≡ leads_in term s }
+    ensures { (s : AnyServer) → IsServer server.now s → result ≡ leads_in term s }
 {
     match server.role() {
         Some(Role::Leader) => server.term() == term,
@@ -93,7 +93,7 @@ fn leads_in(server: &Server, term: Term) -> bool
 
 // How many allocations are told, and how many of them run.
 fn row_numbers(alloc: Global, world: &World) -> Result<(usize, usize), NoMemory>
-    ensures { IfOk result (λ counts. OfMembers world.now.servers
+    ensures { IfOk result (λ counts. OfServers world.now.servers
         (RowNumbers counts.0 counts.1)) }
 {
     let Some(state) = newest_state(world) else {

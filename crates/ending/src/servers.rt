@@ -1,11 +1,11 @@
 //! The lines of servers.
 ghost use Rattle.std.specs.Prelude.{◌≡◌, ◌<◌, Some, length, slice_get, IfErr, OnOk};
 ghost use Rattle.std.specs.Io.KnownBytes.{Appends};
-ghost use Rattle.group_model.specs.Members.{Member};
-ghost use Rattle.server.specs.ServerViews.{IsMember};
+ghost use Rattle.group_model.specs.Servers.{Server as AnyServer};
+ghost use Rattle.server.specs.ServerViews.{IsServer};
 ghost use Rattle.ending.specs.declared.fault.EndError.TheVariants as errors;
 ghost use Rattle.ending.specs.Endings.{server_line};
-ghost use Rattle.ending.specs.Inner.Tells.{OfMembers, TellsServers, down_line, role_words, up_line};
+ghost use Rattle.ending.specs.Inner.Tells.{OfServers, TellsServers, down_line, role_words, up_line};
 
 use crate::fault::{EndError, told};
 use raft_core::Role;
@@ -15,13 +15,13 @@ use std::io::Write;
 use world::World;
 
 /// The server at a place, from 0.
-pub(crate) fn server_at(world: &World, place: usize) -> &Server
-    requires { place < length world.now.servers }
-    ensures { slice_get world.now.servers place ≡ Some result.now }
+pub(crate) fn server_at(world: &World, position: usize) -> &Server
+    requires { position < length world.now.servers }
+    ensures { slice_get world.now.servers position ≡ Some result.now }
 {
     // There are at most five.
     world.group_size();
-    let Some(id) = ServerId::from_place(place) else {
+    let Some(id) = ServerId::from_position(position) else {
         unreachable!()
     };
     let Some(server) = world.server(id) else {
@@ -32,7 +32,7 @@ pub(crate) fn server_at(world: &World, place: usize) -> &Server
 
 /// Tells how each server stands.
 pub(crate) fn print_servers<W: Write>(out: &mut W, world: &World) -> Result<(), EndError>
-    ensures lines { OnOk result (OfMembers world.now.servers
+    ensures lines { OnOk result (OfServers world.now.servers
         (TellsServers (W.contents out.old) (W.contents out.new))) }
     ensures fault { IfErr result (λ fault. fault ≡ errors.Output) }
 {
@@ -43,7 +43,7 @@ pub(crate) fn print_servers<W: Write>(out: &mut W, world: &World) -> Result<(), 
 }
 
 fn print_server<W: Write>(out: &mut W, number: usize, server: &Server) -> Result<(), EndError>
-    ensures line { OnOk result ((s : Member) → IsMember server.now s
+    ensures line { OnOk result ((s : AnyServer) → IsServer server.now s
         → Appends (W.contents out.old) (W.contents out.new) (server_line number s)) }
     ensures fault { IfErr result (λ fault. fault ≡ errors.Output) }
 {

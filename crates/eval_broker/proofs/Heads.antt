@@ -186,12 +186,12 @@ head_listed ts ps l q h = first (row_of name_cmp rank_job q.job ps) refl h where
   first (Some p) is e = at p (p.is_free && not p.is_spent) is e
 
 -- so there is room for the head that comes
-pub head_room : (job : List ℕ) (ts : List Task) (ps : List Rank) (hs : List Head) (room : ℕ) → length ts ≤ room → IsListing rank_cmp rank_id rank_of is_any ts ps → AreHeadsBut job ps hs
-    → IfSome (head_of job ps) (λ h. T (has_row head_cmp (λ t. t) h hs || nat_lt (length hs) room))
-head_room job ts ps hs room le l but = by (head_of job ps) refl where
-  by : (m : Option Head) → head_of job ps ≡ m → IfSome m (λ h. T (has_row head_cmp (λ t. t) h hs || nat_lt (length hs) room))
+pub head_capacity : (job : List ℕ) (ts : List Task) (ps : List Rank) (hs : List Head) (capacity : ℕ) → length ts ≤ capacity → IsListing rank_cmp rank_id rank_of is_any ts ps → AreHeadsBut job ps hs
+    → IfSome (head_of job ps) (λ h. T (has_row head_cmp (λ t. t) h hs || nat_lt (length hs) capacity))
+head_capacity job ts ps hs capacity le l but = by (head_of job ps) refl where
+  by : (m : Option Head) → head_of job ps ≡ m → IfSome m (λ h. T (has_row head_cmp (λ t. t) h hs || nat_lt (length hs) capacity))
   by None e = tt
   by (Some h) e =
       let heads = head_added job ps hs (Some h) e but in
       let few : length (put head_cmp (λ t. t) h hs) ≤ length ts = no_longer head_cmp head_total head_id head_for is_any (put head_cmp (λ t. t) h hs) ts heads.rising (λ q there. head_listed ts ps l q (sym (heads.exact q) ∙ there)) in
-      room_left head_cmp (λ t. t) head_total h hs room but.rising (omega (arith, le, few))
+      room_left head_cmp (λ t. t) head_total h hs capacity but.rising (omega (arith, le, few))

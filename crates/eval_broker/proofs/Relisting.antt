@@ -118,8 +118,8 @@ module _ (id : EvalId) (ts : List Task) (t : Task) (rising : T (is_rising eval_c
       by false e = listing_past urgency_cmp urgency_cmp_total urgency_id urgency_of is_failed urgency_ties (λ t. refl) t (without eval_cmp task_id id ts) fs not_left e l
 
   -- there is room for one more
-  spare : {X : Type 0} (R : X → X → Ordering) (key : X → X) (x : X) (xs : List X) (room : ℕ) → length xs ≤ length (without eval_cmp task_id id ts) → length ts ≤ room → T (has_row R key x xs || nat_lt (length xs) room)
-  spare R key x xs room few le = either (has_row R key x xs) (nat_lt (length xs) room) (below (length xs) room (omega (arith, few, le, one_less id ts t found))) where
+  spare : {X : Type 0} (R : X → X → Ordering) (key : X → X) (x : X) (xs : List X) (capacity : ℕ) → length xs ≤ length (without eval_cmp task_id id ts) → length ts ≤ capacity → T (has_row R key x xs || nat_lt (length xs) capacity)
+  spare R key x xs capacity few le = either (has_row R key x xs) (nat_lt (length xs) capacity) (below (length xs) capacity (omega (arith, few, le, one_less id ts t found))) where
     either : (a b : Bool) → T b → T (a || b)
     either true b h = tt
     either false b h = h
@@ -127,13 +127,13 @@ module _ (id : EvalId) (ts : List Task) (t : Task) (rising : T (is_rising eval_c
     below : (n m : ℕ) → n < m → T (nat_lt n m)
     below n m lt = grind arith
 
-  pub rank_spare : (p : Rank) (ps : List Rank) (room : ℕ) → IsListing rank_cmp rank_id rank_of is_any (without eval_cmp task_id id ts) ps → length ts ≤ room → T (has_row rank_cmp (λ x. x) p ps || nat_lt (length ps) room)
-  rank_spare p ps room l le =
-      spare rank_cmp (λ x. x) p ps room (no_longer rank_cmp rank_total rank_id rank_of is_any ps (without eval_cmp task_id id ts) l.rising (λ q h. sym (l.exact q) ∙ h)) le
+  pub rank_spare : (p : Rank) (ps : List Rank) (capacity : ℕ) → IsListing rank_cmp rank_id rank_of is_any (without eval_cmp task_id id ts) ps → length ts ≤ capacity → T (has_row rank_cmp (λ x. x) p ps || nat_lt (length ps) capacity)
+  rank_spare p ps capacity l le =
+      spare rank_cmp (λ x. x) p ps capacity (no_longer rank_cmp rank_total rank_id rank_of is_any ps (without eval_cmp task_id id ts) l.rising (λ q h. sym (l.exact q) ∙ h)) le
 
-  pub failed_spare : (u : Urgency) (fs : List Urgency) (room : ℕ) → IsListing urgency_cmp urgency_id urgency_of is_failed (without eval_cmp task_id id ts) fs → length ts ≤ room → T (has_row urgency_cmp (λ x. x) u fs || nat_lt (length fs) room)
-  failed_spare u fs room l le =
-      spare urgency_cmp (λ x. x) u fs room (no_longer urgency_cmp urgency_cmp_total urgency_id urgency_of is_failed fs (without eval_cmp task_id id ts) l.rising (λ q h. sym (l.exact q) ∙ h)) le
+  pub failed_spare : (u : Urgency) (fs : List Urgency) (capacity : ℕ) → IsListing urgency_cmp urgency_id urgency_of is_failed (without eval_cmp task_id id ts) fs → length ts ≤ capacity → T (has_row urgency_cmp (λ x. x) u fs || nat_lt (length fs) capacity)
+  failed_spare u fs capacity l le =
+      spare urgency_cmp (λ x. x) u fs capacity (no_longer urgency_cmp urgency_cmp_total urgency_id urgency_of is_failed fs (without eval_cmp task_id id ts) l.rising (λ q h. sym (l.exact q) ∙ h)) le
 
 -- ---- the three lists
 

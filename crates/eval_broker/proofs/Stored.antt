@@ -17,7 +17,7 @@ use Rattle.cluster_model.specs.Words.{same_eval}
 use Rattle.raft_model.specs.Logs.{MAX}
 use Rattle.group_model.specs.Brokers.{Broker, Task, Gives, UsedUp, task_id, task_of, with_task, goes_out, next_token, next, delivery_of, given, gives, deliver}
 use Rattle.eval_broker.specs.declared.lists.Lists.{Lists}
-use Rattle.eval_broker.specs.Inner.Lists.{HaveRoom, KeepRoom}
+use Rattle.eval_broker.specs.Inner.Lists.{HaveCapacity, KeepCapacity}
 use Rattle.eval_broker.proofs.Orders.{none_some}
 
 -- what is put goes with its id
@@ -36,14 +36,14 @@ put_without t ts rising =
 
 -- ---- room
 
-pub room_kept : (n m : ℕ) (old mid new : Lists) → m ≤ n → HaveRoom n old → KeepRoom old mid → KeepRoom mid new → HaveRoom m new
-room_kept n m old mid new le room one two = record {
-  ranks = omega (arith, le, room.ranks, one.ranks, two.ranks);
-  heads = omega (arith, le, room.heads, one.heads, two.heads);
-  failed = omega (arith, le, room.failed, one.failed, two.failed);
+pub capacity_kept : (n m : ℕ) (old mid new : Lists) → m ≤ n → HaveCapacity n old → KeepCapacity old mid → KeepCapacity mid new → HaveCapacity m new
+capacity_kept n m old mid new le capacity one two = record {
+  ranks = omega (arith, le, capacity.ranks, one.ranks, two.ranks);
+  heads = omega (arith, le, capacity.heads, one.heads, two.heads);
+  failed = omega (arith, le, capacity.failed, one.failed, two.failed);
 }
 
-pub no_loss : (l : Lists) → KeepRoom l l
+pub no_loss : (l : Lists) → KeepCapacity l l
 no_loss l = record { ranks = omega arith; heads = omega arith; failed = omega arith }
 
 -- a task that is there leaves as many
@@ -111,15 +111,15 @@ module _ (ts : List Task) (t new : Task) (rising : T (is_rising eval_cmp task_id
   there : task_of new.id ts ≡ Some t
   there = ap (λ k. task_of k ts) same ∙ found
 
-  pub has_space : (room : ℕ) → T (has_row eval_cmp task_id new.id ts || nat_lt (length ts) room)
-  has_space room = subst (λ (m : Option Task). T (is_some m || nat_lt (length ts) room)) (sym there) tt
+  pub has_space : (capacity : ℕ) → T (has_row eval_cmp task_id new.id ts || nat_lt (length ts) capacity)
+  has_space capacity = subst (λ (m : Option Task). T (is_some m || nat_lt (length ts) capacity)) (sym there) tt
 
-  pub has_room : (l : Lists) → HaveRoom (length ts) l → HaveRoom (length (put eval_cmp task_id new ts)) l
-  has_room l room = subst (λ (n : ℕ). HaveRoom n l) (sym (as_many new ts t rising there)) room
+  pub has_room : (l : Lists) → HaveCapacity (length ts) l → HaveCapacity (length (put eval_cmp task_id new ts)) l
+  has_room l capacity = subst (λ (n : ℕ). HaveCapacity n l) (sym (as_many new ts t rising there)) capacity
 
 -- one that comes in
-pub new_room : (new : Task) (ts : List Task) (l : Lists) → T (is_rising eval_cmp task_id ts) → HaveRoom (length ts + 1) l → HaveRoom (length (put eval_cmp task_id new ts)) l
-new_room new ts l rising room = room_kept (length ts + 1) (length (put eval_cmp task_id new ts)) l l l (one_more new ts rising) room (no_loss l) (no_loss l)
+pub new_capacity : (new : Task) (ts : List Task) (l : Lists) → T (is_rising eval_cmp task_id ts) → HaveCapacity (length ts + 1) l → HaveCapacity (length (put eval_cmp task_id new ts)) l
+new_capacity new ts l rising capacity = capacity_kept (length ts + 1) (length (put eval_cmp task_id new ts)) l l l (one_more new ts rising) capacity (no_loss l) (no_loss l)
 
 module _ (ts us : List Task) (t new : Task) (rising : T (is_rising eval_cmp task_id ts)) (put_is : us ≡ put eval_cmp task_id new ts) where
   -- the broker with the task of an id changed

@@ -78,7 +78,7 @@ impl Broker {
             }
             None => {
                 let task = Task::of(row);
-                self.tasks.make_room(&task)?;
+                self.tasks.reserve_rows(&task)?;
                 self.tasks.put(task);
             }
         }

@@ -7,7 +7,7 @@ ghost use Rattle.fsm_tables.specs.ReservedTables.{without, has_space};
 ghost use Rattle.fsm_tables.specs.Urgencies.{urgency_cmp};
 ghost use Rattle.group_model.specs.Brokers.{task_id};
 ghost use Rattle.eval_broker.specs.Answers.{urgency_of};
-ghost use Rattle.eval_broker.specs.Inner.Lists.{head_cmp, is_failed, head_of, AreHeads, AreHeadsBut, AreTaskLists, HaveRoom, KeepRoom};
+ghost use Rattle.eval_broker.specs.Inner.Lists.{head_cmp, is_failed, head_of, AreHeads, AreHeadsBut, AreTaskLists, HaveCapacity, KeepCapacity};
 
 use crate::ranks::{Head, Rank, head_of};
 use crate::reserved_tree::ReservedTree;
@@ -29,16 +29,16 @@ pub(crate) struct Lists {
 impl Lists {
     /// Makes room for so many tasks in all, by means of any task. Without memory no row changes,
     /// and no room goes.
-    pub fn make_room(&mut self, count: usize, any: &Task) -> Result<(), NoMemory>
+    pub fn reserve_rows(&mut self, count: usize, any: &Task) -> Result<(), NoMemory>
         ensures ranks { self.new.ranks.rows ≡ self.old.ranks.rows }
         ensures heads { self.new.heads.rows ≡ self.old.heads.rows }
         ensures failed { self.new.failed.rows ≡ self.old.failed.rows }
-        ensures ok { OnOk result (HaveRoom count self.new) }
-        ensures kept { KeepRoom self.old self.new }
+        ensures ok { OnOk result (HaveCapacity count self.new) }
+        ensures kept { KeepCapacity self.old self.new }
     {
-        self.ranks.make_room(count, any.rank())?;
-        self.heads.make_room(count, any.head())?;
-        self.failed.make_room(count)
+        self.ranks.reserve_rows(count, any.rank())?;
+        self.heads.reserve_rows(count, any.head())?;
+        self.failed.reserve_rows(count)
     }
 
     /// The first of a job that waits, where none of the job is out or acked.
@@ -54,7 +54,7 @@ impl Lists {
         ensures heads { AreHeadsBut job.now self.old.ranks.rows self.new.heads.rows }
         ensures ranks { self.new.ranks ≡ self.old.ranks }
         ensures failed { self.new.failed ≡ self.old.failed }
-        ensures room { self.old.heads.room ≤ self.new.heads.room }
+        ensures capacity { self.old.heads.capacity ≤ self.new.heads.capacity }
     {
         if let Some(head) = self.head_of(job) {
             self.heads.cut(&head);
@@ -64,12 +64,12 @@ impl Lists {
     /// Brings in the head of a job.
     fn add_head(&mut self, job: &JobName)
         requires heads { AreHeadsBut job.now self.old.ranks.rows self.old.heads.rows }
-        requires room { IfSome (head_of job.now self.old.ranks.rows) (λ h.
+        requires capacity { IfSome (head_of job.now self.old.ranks.rows) (λ h.
             Holds (has_space head_cmp (λ x. x) h self.old.heads)) }
         ensures heads { AreHeads self.old.ranks.rows self.new.heads.rows }
         ensures ranks { self.new.ranks ≡ self.old.ranks }
         ensures failed { self.new.failed ≡ self.old.failed }
-        ensures room { self.old.heads.room ≤ self.new.heads.room }
+        ensures capacity { self.old.heads.capacity ≤ self.new.heads.capacity }
     {
         if let Some(head) = self.head_of(job) {
             self.heads.put(head);
@@ -84,7 +84,7 @@ impl Lists {
             self.new.failed.rows ≡ (if is_failed task.now then one else old) }
         ensures ranks { self.new.ranks ≡ self.old.ranks }
         ensures heads { self.new.heads ≡ self.old.heads }
-        ensures room { self.old.failed.room ≤ self.new.failed.room }
+        ensures capacity { self.old.failed.capacity ≤ self.new.failed.capacity }
     {
         if task.is_failed() {
             self.failed.put(task.urgency());
@@ -95,9 +95,9 @@ impl Lists {
     pub fn take_out(&mut self, tasks: &ReservedTree<Task>, id: &EvalId)
         requires rising { Holds (is_rising eval_cmp task_id tasks.now.rows) }
         requires listed { AreTaskLists tasks.now.rows self.old }
-        requires room { HaveRoom (length tasks.now.rows) self.old }
+        requires capacity { HaveCapacity (length tasks.now.rows) self.old }
         ensures listed { AreTaskLists (without eval_cmp task_id id.now tasks.now.rows) self.new }
-        ensures kept { KeepRoom self.old self.new }
+        ensures kept { KeepCapacity self.old self.new }
     {
         if let Some(task) = tasks.get(id) {
             let job = task.job();
@@ -112,9 +112,9 @@ impl Lists {
     pub fn bring_in(&mut self, tasks: &ReservedTree<Task>, id: &EvalId)
         requires rising { Holds (is_rising eval_cmp task_id tasks.now.rows) }
         requires listed { AreTaskLists (without eval_cmp task_id id.now tasks.now.rows) self.old }
-        requires room { HaveRoom (length tasks.now.rows) self.old }
+        requires capacity { HaveCapacity (length tasks.now.rows) self.old }
         ensures listed { AreTaskLists tasks.now.rows self.new }
-        ensures kept { KeepRoom self.old self.new }
+        ensures kept { KeepCapacity self.old self.new }
     {
         if let Some(task) = tasks.get(id) {
             let job = task.job();

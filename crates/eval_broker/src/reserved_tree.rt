@@ -17,13 +17,13 @@ use std::mem;
 
 /// Rows in strictly rising key, with room for more that is made beforehand. Contracts see the rows
 /// and for how many there is room, as of a `ReservedTable`. Beside that, each call takes time in
-/// the logarithm of the rows. What `make_room` made room for, `put` and `cut` keep and take no
+/// the logarithm of the rows. What `reserve_rows` made room for, `put` and `cut` keep and take no
 /// memory: a row that goes leaves its fork for another.
 pub(crate) struct ReservedTree<T: Row + Copy> {
     alloc: Global,
     tree: Tree<T>,
     spares: Tree<T>,
-    room: usize,
+    capacity: usize,
 }
 
 impl<T: Row + Copy> Model for ReservedTree<T> {
@@ -34,11 +34,11 @@ impl<T: Row + Copy> Model for ReservedTree<T> {
 
     ghost Value = { Stock T };
 
-    ghost view = { λ a. record { rows = tree_rows a.tree; room = a.room } };
+    ghost view = { λ a. record { rows = tree_rows a.tree; capacity = a.capacity } };
 
     ghost invariant = { λ a. record {
       rising : Holds (is_rising T.Key.cmp T.key_of (tree_rows a.tree));
-      room : a.room ≡ length (tree_rows a.tree) + chain_length a.spares;
+      capacity : a.capacity ≡ length (tree_rows a.tree) + chain_length a.spares;
     } };
 }
 
@@ -48,7 +48,7 @@ impl<T: Row + Copy> Drop for ReservedTree<T> {
             alloc: _,
             tree: _,
             spares,
-            room: _,
+            capacity: _,
         } = self;
         drop_chain(spares);
     }
@@ -111,15 +111,15 @@ impl<T: Row + Copy> ReservedTree<T> {
             alloc,
             tree: Tree::Leaf,
             spares: Tree::Leaf,
-            room: 0,
+            capacity: 0,
         }
     }
 
     /// For how many rows there is room.
-    pub fn room(&self) -> usize
-        ensures { result ≡ self.now.room }
+    pub fn capacity(&self) -> usize
+        ensures { result ≡ self.now.capacity }
     {
-        self.room
+        self.capacity
     }
 
     /// The tree of the rows.
@@ -149,14 +149,14 @@ impl<T: Row + Copy> ReservedTree<T> {
     /// nothing changes.
     fn grow(&mut self, any: T) -> Result<(), NoMemory>
         ensures rows { self.new.rows ≡ self.old.rows }
-        ensures ok { OnOk result (self.new.room ≡ self.old.room + 1) }
-        ensures err { OnErr result (self.new.room ≡ self.old.room) }
+        ensures ok { OnOk result (self.new.capacity ≡ self.old.capacity + 1) }
+        ensures err { OnErr result (self.new.capacity ≡ self.old.capacity) }
     {
-        let Some(room) = self.room.checked_add(1) else {
+        let Some(capacity) = self.capacity.checked_add(1) else {
             return Err(NoMemory);
         };
-        add_spare(self.alloc, &mut self.spares, weight(self.room), any)?;
-        self.room = room;
+        add_spare(self.alloc, &mut self.spares, weight(self.capacity), any)?;
+        self.capacity = capacity;
         Ok(())
     }
 
@@ -164,8 +164,8 @@ impl<T: Row + Copy> ReservedTree<T> {
     /// changes, and no room goes.
     pub fn make_space(&mut self, any: T) -> Result<(), NoMemory>
         ensures rows { self.new.rows ≡ self.old.rows }
-        ensures ok { OnOk result (length self.old.rows + 1 ≤ self.new.room) }
-        ensures room { self.old.room ≤ self.new.room }
+        ensures ok { OnOk result (length self.old.rows + 1 ≤ self.new.capacity) }
+        ensures capacity { self.old.capacity ≤ self.new.capacity }
     {
         if let Tree::Leaf = self.spares {
             self.grow(any)?;
@@ -175,12 +175,12 @@ impl<T: Row + Copy> ReservedTree<T> {
 
     /// Makes room for so many rows in all, by forks with any row. Without memory no row changes,
     /// and no room goes.
-    pub fn make_room(&mut self, count: usize, any: T) -> Result<(), NoMemory>
+    pub fn reserve_rows(&mut self, count: usize, any: T) -> Result<(), NoMemory>
         ensures rows { self.new.rows ≡ self.old.rows }
-        ensures ok { OnOk result (count ≤ self.new.room) }
-        ensures room { self.old.room ≤ self.new.room }
+        ensures ok { OnOk result (count ≤ self.new.capacity) }
+        ensures capacity { self.old.capacity ≤ self.new.capacity }
     {
-        while self.room() < count {
+        while self.capacity() < count {
             self.grow(any)?;
         }
         Ok(())
@@ -191,7 +191,7 @@ impl<T: Row + Copy> ReservedTree<T> {
     pub fn put(&mut self, row: T)
         requires { Holds (has_space T.Key.cmp T.key_of row self.old) }
         ensures rows { self.new.rows ≡ put T.Key.cmp T.key_of row self.old.rows }
-        ensures room { self.old.room ≤ self.new.room }
+        ensures capacity { self.old.capacity ≤ self.new.capacity }
     {
         tree::put(&mut self.tree, &mut self.spares, row);
     }
@@ -199,7 +199,7 @@ impl<T: Row + Copy> ReservedTree<T> {
     /// Takes out the row of the key, if there is one. It takes no memory, and its room stays.
     pub fn cut(&mut self, key: &T::Key)
         ensures rows { self.new.rows ≡ without T.Key.cmp T.key_of key.now self.old.rows }
-        ensures room { self.old.room ≤ self.new.room }
+        ensures capacity { self.old.capacity ≤ self.new.capacity }
     {
         tree::cut(&mut self.tree, &mut self.spares, key);
     }

@@ -4,7 +4,7 @@ ghost use Rattle.rows.specs.Keys.{eval_cmp};
 ghost use Rattle.fsm_tables.specs.Rows.{put};
 ghost use Rattle.fsm_tables.specs.ReservedTables.{without, has_space};
 ghost use Rattle.group_model.specs.Brokers.{task_id, task_of, next};
-ghost use Rattle.eval_broker.specs.Inner.Lists.{AreKept, HaveRoom, is_failed};
+ghost use Rattle.eval_broker.specs.Inner.Lists.{AreKept, HaveCapacity, is_failed};
 ghost use Rattle.eval_broker.specs.Answers.{urgency_of};
 ghost use Rattle.group_model.specs.Order.{in_order};
 
@@ -30,23 +30,23 @@ impl Tasks {
     }
 
     /// Makes room for one task more, by means of any task. Without memory no row changes.
-    pub fn make_room(&mut self, any: &Task) -> Result<(), NoMemory>
+    pub fn reserve_rows(&mut self, any: &Task) -> Result<(), NoMemory>
         requires kept { AreKept self.old }
         ensures kept { AreKept self.new }
         ensures rows { self.new.tasks.rows ≡ self.old.tasks.rows }
-        ensures tasks { OnOk result (length self.old.tasks.rows + 1 ≤ self.new.tasks.room) }
-        ensures lists { OnOk result (HaveRoom (length self.old.tasks.rows + 1) self.new.lists) }
+        ensures tasks { OnOk result (length self.old.tasks.rows + 1 ≤ self.new.tasks.capacity) }
+        ensures lists { OnOk result (HaveCapacity (length self.old.tasks.rows + 1) self.new.lists) }
     {
         self.tasks.make_space(*any)?;
-        self.lists.make_room(self.tasks.room(), any)
+        self.lists.reserve_rows(self.tasks.capacity(), any)
     }
 
     /// Makes or replaces a task. There is room for it, so it takes no memory.
     pub fn put(&mut self, task: Task)
         requires kept { AreKept self.old }
         requires space { Holds (has_space eval_cmp task_id task self.old.tasks) }
-        requires room { let new = put eval_cmp task_id task self.old.tasks.rows in
-            HaveRoom (length new) self.old.lists }
+        requires capacity { let new = put eval_cmp task_id task self.old.tasks.rows in
+            HaveCapacity (length new) self.old.lists }
         ensures kept { AreKept self.new }
         ensures rows { self.new.tasks.rows ≡ put eval_cmp task_id task self.old.tasks.rows }
     {

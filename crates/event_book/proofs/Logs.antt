@@ -8,7 +8,7 @@ use Rattle.rows.specs.declared.actor.Actor.{Actor}
 use Rattle.event_book.specs.declared.view.EventView.{EventView}
 use Rattle.event_book.specs.declared.view.EventView.TheVariants.{Own, Delivery, Crash}
 use Rattle.event_book.specs.declared.view.Note.{Note}
-use Rattle.event_book.specs.declared.view.TokenView.{TokenView}
+use Rattle.event_book.specs.declared.view.MessageTokenView.{MessageTokenView}
 use Rattle.event_book.specs.declared.view.SeatView.{SeatView}
 use Rattle.event_book.specs.declared.view.BookView.{BookView}
 use Rattle.event_book.specs.Actors.{same_actor, lists_actor, are_apart}
@@ -70,7 +70,7 @@ module _ {I : Type 0} where
   pub due_longer : (log more : List (Note I)) (e : Note I) → IsDueNote log e → IsDueNote (log ++ more) e
   due_longer log more e h = due_of log more e.stamp e.actor e.noted.event h
 
-  pub sent_longer : (log more : List (Note I)) (t : TokenView I) → NamesOutput log t → NamesOutput (log ++ more) t
+  pub sent_longer : (log more : List (Note I)) (t : MessageTokenView I) → NamesOutput log t → NamesOutput (log ++ more) t
   sent_longer log more t h = (got_longer log more t.note.stamp t.note h.0, h.1)
 
   -- a view whose actors aren't the noting one fits the longer history

@@ -16,13 +16,13 @@ use Rattle.event_book.specs.declared.view.EventView.{EventView}
 use Rattle.event_book.specs.declared.view.EventView.TheVariants.{Own, Delivery, Crash}
 use Rattle.event_book.specs.declared.view.NotedView.{NotedView}
 use Rattle.event_book.specs.declared.view.Note.{Note}
-use Rattle.event_book.specs.declared.view.TokenView.{TokenView}
+use Rattle.event_book.specs.declared.view.MessageTokenView.{MessageTokenView}
 use Rattle.event_book.specs.declared.view.SeatView.{SeatView}
 use Rattle.event_book.specs.declared.view.BookView.{BookView}
 use Rattle.event_book.specs.Actors.{same_actor, lists_actor, are_apart}
 use Rattle.event_book.specs.Histories.{notes_of, NumberedFrom, IsDueEvent, IsDueNote}
 use Rattle.event_book.specs.Seats.{actor_in, MayNote, HasOutput, last_token, new_seat, with_note}
-use Rattle.event_book.specs.Inner.Views.{HolderView, IsSeat, IsToken, opening_view, spent_view, seat_view, token_view, only_seat, token_in, first_token, last_token_view, taken_in, joined, handed_view, rest_view}
+use Rattle.event_book.specs.Inner.Views.{HolderView, IsSeat, IsMessageToken, opening_view, spent_view, seat_view, token_view, only_seat, token_in, first_token, last_token_view, taken_in, joined, handed_view, rest_view}
 use Rattle.event_book.specs.Inner.Rule.{NamesOutput, FitsSeat, Fits, IsBookState, AddsTo, LooksAt}
 use Rattle.event_book.proofs.Actors.{same_is, is_same, apart_is, same_tells, or_left, or_right, not_true, and_true, named_at, covers}
 use Rattle.event_book.proofs.Logs.{all_at, all_map, all_append, notes_mine, notes_other, numbered_more, due_longer, sent_longer, fits_longer, bounded, notes_sit, token_sent, apart_join}
@@ -160,7 +160,7 @@ module _ {I : Type 0} where
   with_views actors s kept holder views fits = record { log = kept.log; holder = holder; words = kept.words; legal = kept.legal; few = kept.few; short = kept.short; fits = fits }
 
   -- a new view, which has no seat
-  comes : (actors : List Actor) (s : State (Unit {0}) (BookView I)) (kept : IsBookState actors s) (id : ℕ) (v : BookView I) (ts : List (TokenView I)) → get_elem? s.views id ≡ some v → AllByRecursion (NamesOutput kept.log) ts
+  comes : (actors : List Actor) (s : State (Unit {0}) (BookView I)) (kept : IsBookState actors s) (id : ℕ) (v : BookView I) (ts : List (MessageTokenView I)) → get_elem? s.views id ≡ some v → AllByRecursion (NamesOutput kept.log) ts
       → IsBookState actors record { words = s.words; homes = s.homes; views = slice_set s.views id v ++ record { seats = []; tokens = ts } ∷ [] }
   comes actors s kept id v ts at sent = with_views actors s kept kept.holder (slice_set s.views id v ++ record { seats = []; tokens = ts } ∷ [])
       (λ i w there. ⊎_elim
@@ -176,7 +176,7 @@ module _ {I : Type 0} where
       (token_sent kept.log place p.notes (subst (λ (l : List (Note I)). AllByRecursion (λ (e : Note I). slice_get kept.log e.stamp ≡ Some e) l) (sym mine.2) (notes_sit p.actor kept.log kept.legal.0)) has)
 
   -- two tokens of one
-  repeats : (actors : List Actor) (id : ℕ) (t : TokenView I) → Splits (IsBookState actors) id (token_view t) (token_view t) (token_view t)
+  repeats : (actors : List Actor) (id : ℕ) (t : MessageTokenView I) → Splits (IsBookState actors) id (token_view t) (token_view t) (token_view t)
   repeats actors id t s kept at = comes actors s kept id (token_view t) (t ∷ []) at (kept.fits id (token_view t) at).1
 
   -- what stood at another number stands there still
@@ -196,7 +196,7 @@ module _ {I : Type 0} where
       (at_set s.views id i both v x.1))
       (at_set (slice_set s.views id both) other i spent_view v there))
 
-  takes_in : (actors : List Actor) (id other : ℕ) (p : SeatView I) (t : TokenView I) → Joins (IsBookState actors) id (seat_view p) other (token_view t) (taken_in (seat_view p) (token_view t)) spent_view
+  takes_in : (actors : List Actor) (id other : ℕ) (p : SeatView I) (t : MessageTokenView I) → Joins (IsBookState actors) id (seat_view p) other (token_view t) (taken_in (seat_view p) (token_view t)) spent_view
   takes_in actors id other p t s kept at apart there =
       let mine = (kept.fits id (seat_view p) at).0.0 in
       let sent = (kept.fits other (token_view t) (stood s.views id other (taken_in (seat_view p) (token_view t)) (token_view t) apart there)).1 in
@@ -303,10 +303,10 @@ module _ {I : Type 0} where
   pub gives_token_as : (actors : List Actor) (id place : ℕ) (me : HolderView I) → IsSeat me → HasOutput place (only_seat me.0).notes → Splits (IsBookState actors) id me.0 me.0 (last_token_view place me.0)
   gives_token_as actors id place me is has = subst (λ (m : HolderView I). Splits (IsBookState actors) id m.0 m.0 (last_token_view place m.0)) (sym is) (gives_token actors id place (only_seat me.0) has)
 
-  pub repeats_as : (actors : List Actor) (id : ℕ) (me : HolderView I) → IsToken me → Splits (IsBookState actors) id me.0 me.0 me.0
+  pub repeats_as : (actors : List Actor) (id : ℕ) (me : HolderView I) → IsMessageToken me → Splits (IsBookState actors) id me.0 me.0 me.0
   repeats_as actors id me is = subst (λ (m : HolderView I). Splits (IsBookState actors) id m.0 m.0 m.0) (sym is) (repeats actors id (token_in me.0))
 
-  pub takes_in_as : (actors : List Actor) (id other : ℕ) (me them : HolderView I) → IsSeat me → IsToken them
+  pub takes_in_as : (actors : List Actor) (id other : ℕ) (me them : HolderView I) → IsSeat me → IsMessageToken them
       → Joins (IsBookState actors) id me.0 other them.0 (taken_in me.0 them.0) spent_view
   takes_in_as actors id other me them is theirs =
       subst (λ (u : BookView I × BookView I). Joins (IsBookState actors) id u.0 other u.1 (taken_in u.0 u.1) spent_view) (λ k. ((sym is k).0, (sym theirs k).0)) (takes_in actors id other (only_seat me.0) (token_in them.0))
@@ -321,11 +321,11 @@ module _ {I : Type 0} where
   new_token place me them is seat has =
       let notes = (only_seat me.0).notes in
       let same : token_in them.0 ≡ first_token (last_token place notes) = ap (λ (x : HolderView I). token_in x.0) is ∙ ap (λ (x : HolderView I). token_in (last_token_view place x.0)) seat in
-      one_token place notes has ∙ ap (λ (t : TokenView I). t ∷ []) (sym same)
+      one_token place notes has ∙ ap (λ (t : MessageTokenView I). t ∷ []) (sym same)
 
-  pub token_stands : (place : ℕ) (me them : HolderView I) → them ≡ (last_token_view place me.0, []) → IsSeat me → HasOutput place (only_seat me.0).notes → IsToken them
+  pub token_stands : (place : ℕ) (me them : HolderView I) → them ≡ (last_token_view place me.0, []) → IsSeat me → HasOutput place (only_seat me.0).notes → IsMessageToken them
   token_stands place me them is seat has =
-      is ∙ ap (λ (x : HolderView I). (last_token_view place x.0, [])) seat ∙ ap (λ (l : List (TokenView I)). (record { seats = []; tokens = l }, [])) (new_token place me them is seat has)
+      is ∙ ap (λ (x : HolderView I). (last_token_view place x.0, [])) seat ∙ ap (λ (l : List (MessageTokenView I)). (record { seats = []; tokens = l }, [])) (new_token place me them is seat has)
 
   deals_as : (actors rest : List Actor) (a : Actor) (id : ℕ) (v : BookView I) → v ≡ opening_view (a ∷ rest) → are_apart (a ∷ rest) ≡ true → Splits (IsBookState actors) id v (rest_view v) (handed_view v)
   deals_as actors rest a id v is apart =

@@ -6,7 +6,7 @@ use Rattle.event_book.specs.declared.view.EventView.{EventView}
 use Rattle.event_book.specs.declared.view.EventView.TheVariants.{Own, Delivery, Crash}
 use Rattle.event_book.specs.declared.view.NotedView.{NotedView}
 use Rattle.event_book.specs.declared.view.Note.{Note}
-use Rattle.event_book.specs.declared.view.TokenView.{TokenView}
+use Rattle.event_book.specs.declared.view.MessageTokenView.{MessageTokenView}
 use Rattle.event_book.specs.declared.view.SeatView.{SeatView}
 use Rattle.event_book.specs.Histories.{notes_of, IsLegal}
 pub use Rattle.event_book.specs.Actors.{lists_actor, are_apart}
@@ -16,7 +16,7 @@ module _ {I : Type 0} where
   actor_in seat = seat.actor
 
   -- the token names this output: its event's stamp, its place there, its receiver and its frame
-  abbrev pub Names : TokenView I → ℕ → ℕ → Actor → List ℕ → Type 0
+  abbrev pub Names : MessageTokenView I → ℕ → ℕ → Actor → List ℕ → Type 0
   Names token stamp place to frame =
       (token.note.stamp ≡ stamp) × (token.place ≡ place)
       × (slice_get token.note.noted.outputs token.place ≡ Some (record { to = to; frame = frame }))
@@ -26,7 +26,7 @@ module _ {I : Type 0} where
   abbrev pub MayNote : SeatView I → EventView I → Type 0
   MayNote seat (Own input) = Unit {0}
   MayNote seat (Delivery stamp place frame) =
-      (k : ℕ) × (token : TokenView I)
+      (k : ℕ) × (token : MessageTokenView I)
       × (slice_get seat.taken k ≡ Some token) × Names token stamp place seat.actor frame
   MayNote seat Crash = Unit {0}
 
@@ -41,7 +41,7 @@ module _ {I : Type 0} where
       record seat { notes = seat.notes ++ note ∷ [] }
 
   -- the seat after it took these tokens in
-  abbrev pub with_taken : List (TokenView I) → SeatView I → SeatView I
+  abbrev pub with_taken : List (MessageTokenView I) → SeatView I → SeatView I
   with_taken tokens seat = record seat { taken = seat.taken ++ tokens }
 
   -- the last note has an output at this place
@@ -51,7 +51,7 @@ module _ {I : Type 0} where
   HasOutput place (note ∷ next ∷ notes) = HasOutput place (next ∷ notes)
 
   -- the token of an output of the last note, if there is one
-  abbrev pub last_token : ℕ → List (Note I) → List (TokenView I)
+  abbrev pub last_token : ℕ → List (Note I) → List (MessageTokenView I)
   last_token place [] = []
   last_token place (note ∷ []) = record { note = note; place = place } ∷ []
   last_token place (note ∷ next ∷ notes) = last_token place (next ∷ notes)

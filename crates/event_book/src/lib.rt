@@ -14,4 +14,4 @@ pub use noted::{ActorEvent, Noted, OutputList, Outputs};
 pub use opened::{OpenedBook, are_apart};
 pub use seat::ActorSeat;
 pub use token::MessageToken;
-pub use view::{EventView, Note, NotedView, Output, SeatView, TokenView};
+pub use view::{EventView, MessageTokenView, Note, NotedView, Output, SeatView};

@@ -46,7 +46,7 @@ fn known(actor: Actor)
 {
     match actor {
         Actor::Server(server) => {
-            server.place();
+            server.position();
         }
         Actor::Client(client) => {
             client.number();

@@ -58,11 +58,11 @@ impl<I, J: NotedBy<I>> Play<(), BookView<I>> for Notes<J> {
 }
 
 /// A token of an output of the last note comes from the seat.
-pub struct GivesToken<J> {
+pub struct GivesMessageToken<J> {
     of: PhantomData<J>,
 }
 
-impl<I, J: OutputAt> Split<BookView<I>> for GivesToken<J> {
+impl<I, J: OutputAt> Split<BookView<I>> for GivesMessageToken<J> {
     ghost use Rattle.event_book.specs.Inner.Views.{last_token_view};
 
     ghost left = { λ v. v };

@@ -8,11 +8,11 @@ ghost use Rattle.event_book.specs.Noted.{event_view, noted_view};
 ghost use Rattle.event_book.specs.Seats.{HasOutput, last_token, MayNote, new_seat};
 ghost use Rattle.event_book.specs.Seats.{with_note, with_taken};
 ghost use Rattle.event_book.specs.Inner.Rule.{AddsTo};
-ghost use Rattle.event_book.specs.Inner.Views.{only_seat, seat_view, token_in, IsSeat, IsToken};
+ghost use Rattle.event_book.specs.Inner.Views.{only_seat, seat_view, token_in, IsSeat, IsMessageToken};
 
 use crate::book::{Book, BookId};
 use crate::noted::{Noted, Outputs};
-use crate::rule::{GivesToken, Holder, NotedBy, Notes, OutputAt, TakesIn};
+use crate::rule::{GivesMessageToken, Holder, NotedBy, Notes, OutputAt, TakesIn};
 use crate::token::MessageToken;
 use rows::{Actor, Refusal};
 use std::marker::{Brand, Model, PhantomData};
@@ -73,10 +73,10 @@ fn token_as<I, B: BookId, J: OutputAt>(
     requires seat { IsSeat holder.old.me }
     requires has { HasOutput J.place (only_seat holder.old.me.0).notes }
     ensures same { (holder.new.table_id ≡ B.table) × (holder.new.me ≡ holder.old.me) }
-    ensures token { (result.table_id ≡ B.table) × (IsToken result.me) }
+    ensures token { (result.table_id ≡ B.table) × (IsMessageToken result.me) }
     ensures names { last_token J.place (only_seat holder.old.me.0).notes ≡ token_in result.me.0 ∷ [] }
 {
-    book.table.shared.split_seat::<GivesToken<J>>(holder)
+    book.table.shared.split_seat::<GivesMessageToken<J>>(holder)
 }
 
 impl<I, B: BookId> ActorSeat<I, B> {

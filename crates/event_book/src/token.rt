@@ -1,6 +1,6 @@
 //! A token of a message.
 ghost use Rattle.std.specs.Prelude.{◌≡◌};
-ghost use Rattle.event_book.specs.Inner.Views.{token_in, IsToken};
+ghost use Rattle.event_book.specs.Inner.Views.{token_in, IsMessageToken};
 
 use crate::book::{Book, BookId};
 use crate::rule::{Holder, Repeats};
@@ -16,20 +16,20 @@ pub struct MessageToken<I, B: BookId> {
 
 impl<I, B: BookId> Model for MessageToken<I, B> {
     ghost use Rattle.std.specs.Prelude.{◌≡◌};
-    ghost use Rattle.event_book.specs.declared.view.TokenView.{TokenView};
-    ghost use Rattle.event_book.specs.Inner.Views.{token_in, IsToken};
+    ghost use Rattle.event_book.specs.declared.view.MessageTokenView.{MessageTokenView};
+    ghost use Rattle.event_book.specs.Inner.Views.{token_in, IsMessageToken};
 
-    ghost Value = { TokenView I };
+    ghost Value = { MessageTokenView I };
 
     ghost view = { λ t. token_in t.holder.me.0 };
 
-    ghost invariant = { λ t. (t.holder.table_id ≡ B.table) × IsToken t.holder.me };
+    ghost invariant = { λ t. (t.holder.table_id ≡ B.table) × IsMessageToken t.holder.me };
 }
 
 impl<I, B: BookId> MessageToken<I, B> {
     pub(crate) fn of_holder(holder: Holder<I>) -> MessageToken<I, B>
         requires table { holder.table_id ≡ B.table }
-        requires token { IsToken holder.me }
+        requires token { IsMessageToken holder.me }
         ensures { result ≡ token_in holder.me.0 }
     {
         MessageToken {
@@ -40,7 +40,7 @@ impl<I, B: BookId> MessageToken<I, B> {
 
     pub(crate) fn into_holder(self) -> Holder<I>
         ensures table { result.table_id ≡ B.table }
-        ensures same { IsToken result.me }
+        ensures same { IsMessageToken result.me }
         ensures names { token_in result.me.0 ≡ self }
     {
         let MessageToken { holder, of: _ } = self;

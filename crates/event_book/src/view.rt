@@ -41,7 +41,7 @@ pub struct Note<I> {
 }
 
 /// What a token names: an output of a noted event.
-pub struct TokenView<I> {
+pub struct MessageTokenView<I> {
     /// The event that sent it.
     pub note: Note<I>,
     /// The place of the output in that event, from 0.
@@ -55,7 +55,7 @@ pub struct SeatView<I> {
     /// What that actor noted, oldest first.
     pub notes: LinkedList<Note<I>>,
     /// The outputs whose tokens it took in.
-    pub taken: LinkedList<TokenView<I>>,
+    pub taken: LinkedList<MessageTokenView<I>>,
 }
 
 /// What the book's table knows of one holder: the seats that were joined into it, and the outputs
@@ -65,5 +65,5 @@ pub struct BookView<I> {
     /// The seats.
     pub seats: LinkedList<SeatView<I>>,
     /// The tokens.
-    pub tokens: LinkedList<TokenView<I>>,
+    pub tokens: LinkedList<MessageTokenView<I>>,
 }

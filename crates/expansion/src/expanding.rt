@@ -110,8 +110,8 @@ impl<'s> Taken<'s> {
         Ok(done)
     }
 
-    fn work_at(&mut self, before: &Standing, place: usize) -> Result<bool, Refusal> {
-        let Some(server) = ServerId::from_place(place) else {
+    fn work_at(&mut self, before: &Standing, position: usize) -> Result<bool, Refusal> {
+        let Some(server) = ServerId::from_position(position) else {
             return Ok(false);
         };
         self.attempt(before, &[format!(in self.alloc; "work {server}")?], true)

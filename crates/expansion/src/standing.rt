@@ -57,16 +57,16 @@ pub(crate) fn standing_of(alloc: Global, play: &Play) -> Result<Standing, NoMemo
 
 fn put_server(
     play: &Play,
-    place: usize,
+    position: usize,
     servers: &mut Vec<ServerStanding>,
 ) -> Result<(), NoMemory> {
-    let Some(id) = ServerId::from_place(place) else {
+    let Some(id) = ServerId::from_position(position) else {
         return Ok(());
     };
     let Some(server) = play.world.server(id) else {
         return Ok(());
     };
-    let is_idle = play.workers[id.place()].is_idle();
+    let is_idle = play.workers[id.position()].is_idle();
     servers.push(server_standing(server, is_idle))?;
     Ok(())
 }
@@ -84,9 +84,9 @@ fn put_running(client: &Agent, running: &mut Vec<AllocId>) -> Result<(), NoMemor
 /// The server that leads in the greatest term in which one leads; none where none leads.
 pub(crate) fn leader(standing: &Standing) -> Option<ServerId> {
     let mut found: Option<(ServerId, Term)> = None;
-    for (place, server) in standing.servers.iter().enumerate() {
+    for (position, server) in standing.servers.iter().enumerate() {
         if leads_later(&found, server) {
-            found = with_term(ServerId::from_place(place), server.term);
+            found = with_term(ServerId::from_position(position), server.term);
         }
     }
     match found {
@@ -112,7 +112,7 @@ fn leads_later(found: &Option<(ServerId, Term)>, server: &ServerStanding) -> boo
 
 /// Whether the log of a server that is up has entries that are not applied there.
 pub(crate) fn has_unapplied(standing: &Standing, server: ServerId) -> bool {
-    match standing.servers.get(server.place()) {
+    match standing.servers.get(server.position()) {
         Some(own) => own.applied.is_some() && own.applied != Some(own.last),
         None => false,
     }
@@ -120,7 +120,7 @@ pub(crate) fn has_unapplied(standing: &Standing, server: ServerId) -> bool {
 
 /// Whether a server that is up has applied less than this one.
 pub(crate) fn has_laggards(standing: &Standing, server: ServerId) -> bool {
-    match standing.servers.get(server.place()) {
+    match standing.servers.get(server.position()) {
         Some(own) => standing.servers.iter().any(|other| other.applied.is_some()
             && other.applied < own.applied),
         None => false,

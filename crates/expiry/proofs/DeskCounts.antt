@@ -7,12 +7,12 @@ use Rattle.group_model.specs.Expiry.{BeatCount, beat_count_of}
 use Rattle.group_model.specs.Desks.{applied_state}
 use Rattle.group_model.specs.Inputs.{AskPropose, asks}
 use Rattle.group_model.specs.ClientRequests.{beats_at}
-use Rattle.group_model.specs.Turns.{expiry_command, expire_of}
-use Rattle.group_model.specs.BeatCounts.{BeatsByCounts, ExpiresByCounts, answers_beat, beat_heard_of, expires_unless, expiry_refusal_of}
+use Rattle.group_model.specs.DeskTurns.{expiry_command, expire_of}
+use Rattle.group_model.specs.BeatCounts.{BeatsByCounts, ExpiresByCounts, answers_beat, beat_counted_of, expires_unless, expiry_refusal_of}
 
 pub beats_by_counts : BeatsByCounts
 beats_by_counts me c d = by (beat_count_of c d.beat_counts) where
-  by : (m : Option BeatCount) → beats_at me c d m ≡ answers_beat me c d (beat_heard_of c d.beat_counts m)
+  by : (m : Option BeatCount) → beats_at me c d m ≡ answers_beat me c d (beat_counted_of c d.beat_counts m)
   by None = refl
   by (Some p) = refl
 

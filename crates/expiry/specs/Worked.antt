@@ -4,7 +4,7 @@ use Rattle.rows.specs.declared.refusal.Refusal.TheVariants as refusals
 use Rattle.rows.specs.declared.node.Node.{Node}
 use Rattle.rows.specs.declared.node.NodeStatus.TheVariants as statuses
 use Rattle.group_model.specs.Expiry.{BeatCount, beat_counts_over, beat_counts_with}
-use Rattle.group_model.specs.BeatCounts.{beat_heard, expiry_refusal}
+use Rattle.group_model.specs.BeatCounts.{beat_counted, expiry_refusal}
 use Rattle.group_model.specs.Worked.Words.{node_row}
 
 abbrev pub down_node : ℕ → Node
@@ -26,12 +26,12 @@ BeginAtNone = begin ≡ count 1 0 ∷ count 2 0 ∷ []
 abbrev pub once : List BeatCount
 once = count 1 1 ∷ count 2 0 ∷ []
 
-abbrev pub HeardOnce : Type 0
-HeardOnce = beat_heard 1 begin ≡ Ok once
+abbrev pub BeatOnce : Type 0
+BeatOnce = beat_counted 1 begin ≡ Ok once
 
 -- one that is not held
 abbrev pub OtherNode : Type 0
-OtherNode = beat_heard 3 begin ≡ Err refusals.UnknownNode
+OtherNode = beat_counted 3 begin ≡ Err refusals.UnknownNode
 
 -- it was heard of since 0, and not since 1
 abbrev pub Stale : Type 0
@@ -51,8 +51,8 @@ abbrev pub StaysAsItComes : Type 0
 StaysAsItComes = beat_counts_with (node_row 2) once ≡ once
 
 -- one that is disconnected is heard of too
-abbrev pub HeardAway : Type 0
-HeardAway = beat_heard 2 once ≡ Ok (count 1 1 ∷ count 2 1 ∷ [])
+abbrev pub BeatAway : Type 0
+BeatAway = beat_counted 2 once ≡ Ok (count 1 1 ∷ count 2 1 ∷ [])
 
 abbrev pub gone : List BeatCount
 gone = beat_counts_with (down_node 1) once
@@ -66,4 +66,4 @@ BackAtNone = beat_counts_with (node_row 1) gone ≡ begin
 
 -- the greatest number stays
 abbrev pub AtTheGreatest : Type 0
-AtTheGreatest = beat_heard 1 (count 1 1099511627775 ∷ []) ≡ Ok (count 1 1099511627775 ∷ [])
+AtTheGreatest = beat_counted 1 (count 1 1099511627775 ∷ []) ≡ Ok (count 1 1099511627775 ∷ [])

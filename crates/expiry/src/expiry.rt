@@ -4,7 +4,7 @@ ghost use Rattle.rows.specs.declared.refusal.Refusal.TheVariants as refusals;
 ghost use Rattle.std.specs.Ordering.{nat_cmp};
 ghost use Rattle.fsm_tables.specs.ReservedTables.{has_space};
 ghost use Rattle.group_model.specs.Expiry.{is_held, count_node, beat_count_of, beat_counts_over, beat_counts_with};
-ghost use Rattle.group_model.specs.BeatCounts.{beat_heard, expiry_refusal};
+ghost use Rattle.group_model.specs.BeatCounts.{beat_counted, expiry_refusal};
 ghost use Rattle.expiry.specs.Errors.{refusal_of};
 
 use crate::beat_count::BeatCount;
@@ -47,7 +47,7 @@ fn counts_over(alloc: Global, nodes: &Table<Node>) -> Result<ReservedTable<BeatC
 {
     nodes.ranges();
     let mut counts = ReservedTable::empty(alloc);
-    counts.make_room(nodes.len())?;
+    counts.reserve_rows(nodes.len())?;
     let mut at = nodes.len();
     while at > 0 {
         at -= 1;
@@ -74,7 +74,7 @@ fn make_space(counts: &mut ReservedTable<BeatCount>, count: &BeatCount) -> Resul
         return Ok(());
     }
     let most = counts.rows().len() + 1;
-    counts.make_room(most)
+    counts.reserve_rows(most)
 }
 
 impl Expiry {
@@ -133,8 +133,8 @@ impl Expiry {
     /// A node was heard of: its number rises by one, and stays at 2^40 - 1. Refused where it is not
     /// held, which changes nothing. It takes no memory.
     pub fn beat(&mut self, node: NodeId) -> Result<(), UnknownNode>
-        ensures ok { OnOk result (beat_heard node self.old ≡ Ok self.new) }
-        ensures err { OnErr result (beat_heard node self.old ≡ Err refusals.UnknownNode) }
+        ensures ok { OnOk result (beat_counted node self.old ≡ Ok self.new) }
+        ensures err { OnErr result (beat_counted node self.old ≡ Err refusals.UnknownNode) }
         ensures left { OnErr result (self.new ≡ self.old) }
     {
         let _in_order = self.counts.rows();

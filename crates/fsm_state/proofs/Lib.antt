@@ -1,6 +1,6 @@
 pub mod Touching
 pub mod Losses
-pub mod Turns
+pub mod Retold
 pub mod Admitting
 pub mod StateTexts
 pub mod Alone

@@ -1,7 +1,7 @@
 //! The effect of each command.
 ghost use Rattle.std.specs.Prelude.{◌≡◌, ◌≢◌, ◌+◌, ◌<◌, ◌^◌, None, OnOk, OnErr};
 ghost use Rattle.cluster_model.specs.Words.{job_of, node_of, eval_of};
-ghost use Rattle.cluster_model.specs.Effect.{applied, touched, is_named, with_job, without_job, without_node, without_word, unheard, downed, with_drain, without_drain, migrated, with_status, planned, reported};
+ghost use Rattle.cluster_model.specs.Effect.{applied, touched, is_named, with_job, without_job, without_node, without_word, unreached, downed, with_drain, without_drain, migrated, with_status, planned, reported};
 ghost use Rattle.fsm_state.specs.Memory.{EffectMayLack};
 
 mod allocs;
@@ -44,13 +44,13 @@ impl Cluster {
 
     /// A node is not heard of: its row is of this status, and what is pending, running or unknown
     /// on it in this client state.
-    fn set_unheard(
+    fn set_unreached(
         &mut self,
         number: NodeId,
         status: NodeStatus,
         client: ClientState,
     ) -> Result<(), NoMemory>
-        ensures { OnOk result (self.new ≡ unheard status client number self.old) }
+        ensures { OnOk result (self.new ≡ unreached status client number self.old) }
     {
         self.ranges();
         self.set_status(number, status)?;
@@ -65,7 +65,7 @@ impl Cluster {
     {
         self.ranges();
         let names = self.jobs_on(number)?;
-        self.set_unheard(number, NodeStatus::Down, ClientState::Lost)?;
+        self.set_unreached(number, NodeStatus::Down, ClientState::Lost)?;
         self.touch_all(entry, &names)
     }
 
@@ -89,7 +89,7 @@ impl Cluster {
     {
         match self.node(number) {
             None => Ok(()),
-            Some(_) => self.set_unheard(number, NodeStatus::Disconnected, ClientState::Unknown),
+            Some(_) => self.set_unreached(number, NodeStatus::Disconnected, ClientState::Unknown),
         }
     }
 

@@ -4,14 +4,14 @@ ghost use Rattle.rows.specs.Rising.{is_rising};
 ghost use Rattle.fsm_tables.specs.Rows.{row_of, put};
 ghost use Rattle.fsm_tables.specs.ReservedTables.{without, has_space};
 
-use pages::{Row, place};
+use pages::{Row, position};
 use rows::NoMemory;
 use std::alloc::Global;
 use std::marker::Model;
 
 /// Rows in strictly rising key, with room for more that is made beforehand. Contracts see the rows
-/// and for how many there is room. What `make_room` made room for, `put` and `cut` keep and take no
-/// memory.
+/// and for how many there is room. What `reserve_rows` made room for, `put` and `cut` keep and take
+/// no memory.
 pub struct ReservedTable<T: Row> {
     rows: Vec<T>,
 }
@@ -23,7 +23,7 @@ impl<T: Row> Model for ReservedTable<T> {
 
     ghost Value = { Stock T };
 
-    ghost view = { λ a. record { rows = a.rows.items; room = vec_capacity a.rows } };
+    ghost view = { λ a. record { rows = a.rows.items; capacity = vec_capacity a.rows } };
 
     ghost invariant = { λ a. Holds (is_rising T.Key.cmp T.key_of a.rows.items) };
 }
@@ -65,7 +65,7 @@ impl<T: Row> ReservedTable<T> {
         ensures { option_map (λ row. row.now) result
             ≡ row_of T.Key.cmp T.key_of key.now self.now.rows }
     {
-        match place(&self.rows, key) {
+        match position(&self.rows, key) {
             Ok(at) => Some(&self.rows[at]),
             Err(_) => None,
         }
@@ -73,11 +73,11 @@ impl<T: Row> ReservedTable<T> {
 
     /// Makes room for so many rows in all. Where there is room for them already it takes no memory;
     /// without memory no row changes, and no room goes.
-    pub fn make_room(&mut self, count: usize) -> Result<(), NoMemory>
+    pub fn reserve_rows(&mut self, count: usize) -> Result<(), NoMemory>
         ensures rows { self.new.rows ≡ self.old.rows }
-        ensures ok { OnOk result (count ≤ self.new.room) }
-        ensures memory { OnErr result (self.old.room < count) }
-        ensures room { self.old.room ≤ self.new.room }
+        ensures ok { OnOk result (count ≤ self.new.capacity) }
+        ensures memory { OnErr result (self.old.capacity < count) }
+        ensures capacity { self.old.capacity ≤ self.new.capacity }
     {
         self.rows.reserve(count.saturating_sub(self.rows.len()))?;
         Ok(())
@@ -88,9 +88,9 @@ impl<T: Row> ReservedTable<T> {
     pub fn put(&mut self, row: T)
         requires { Holds (has_space T.Key.cmp T.key_of row self.old) }
         ensures rows { self.new.rows ≡ put T.Key.cmp T.key_of row self.old.rows }
-        ensures room { self.old.room ≤ self.new.room }
+        ensures capacity { self.old.capacity ≤ self.new.capacity }
     {
-        match place(&self.rows, row.key()) {
+        match position(&self.rows, row.key()) {
             Ok(at) => {
                 self.rows[at] = row;
             }
@@ -103,9 +103,9 @@ impl<T: Row> ReservedTable<T> {
     /// Takes out the row of the key, if there is one. It takes no memory, and its room stays.
     pub fn cut(&mut self, key: &T::Key)
         ensures rows { self.new.rows ≡ without T.Key.cmp T.key_of key.now self.old.rows }
-        ensures room { self.old.room ≤ self.new.room }
+        ensures capacity { self.old.capacity ≤ self.new.capacity }
     {
-        if let Ok(at) = place(&self.rows, key) {
+        if let Ok(at) = position(&self.rows, key) {
             let _ = self.rows.remove(at);
         }
     }

@@ -12,7 +12,7 @@ use Rattle.raft_model.specs.Logs.{last_term, state_after}
 use Rattle.raft_model.specs.Messages.{Message, VoteRequest, VoteReply, Append, AppendReply, Install, InstallReply}
 use Rattle.raft_model.specs.Messages.{Body as Said}
 use Rattle.raft_core.specs.Frames.{Means, Says}
-use Rattle.group_model.specs.Messages.{Raft, Service, ServiceMessage, BetweenServers, ToServer, ToClient, Asks, Answers, Register, Heartbeat, Pull, ReportStates, Listing, Told}
+use Rattle.group_model.specs.Messages.{OfLog, Service, ServiceMessage, BetweenServers, ToServer, ToClient, Asks, Answers, Register, Heartbeat, Pull, ReportStates, Listing, Told}
 use Rattle.group_frames.specs.GroupFrames.{service_between, MessagesHaveOneFrame}
 
 -- the body that says a message of the log
@@ -90,7 +90,7 @@ module _ {S : Type 0} (m : Meaning S Command) where
       same_parts r q (p.from ∙ sym h.from) (p.to ∙ sym h.to) said
 
   pub one_frame : MessagesHaveOneFrame m
-  one_frame (Raft x) a b p q =
+  one_frame (OfLog x) a b p q =
       p.text ∙ ap (message_text m) (log_read_is p.read q.read x p.means q.means) ∙ sym q.text
   one_frame (Service y) a b p q =
       let same : p.read ≡ q.read = sym (service_is p.read.from p.read.to p.read.body y p.means) ∙ service_is q.read.from q.read.to q.read.body y q.means in

@@ -12,7 +12,7 @@ use Rattle.wire.proofs.Framing.{frames_apart}
 use Rattle.raft_model.specs.Messages.{Message, Install}
 use Rattle.raft_model.specs.Messages.{Body as Said}
 use Rattle.raft_core.specs.Frames.{Means, Says, log_message}
-use Rattle.group_model.specs.Messages.{Raft, Service, ServiceMessage}
+use Rattle.group_model.specs.Messages.{OfLog, Service, ServiceMessage}
 use Rattle.group_frames.specs.GroupFrames.{service_of, service_between, SameSaid, FramesAreOfOne}
 
 same_place : {a b : ℕ} → (let x : Actor = Server a in x ≡ Server b) → a ≡ b
@@ -85,15 +85,15 @@ module _ {S : Type 0} (m : Meaning S Command) (law : LawfulMachine m) where
   one_text r q fr fq same = frames_apart m law r q [] [] fr fq (ap (λ (t : List ℕ). t ++ []) same)
 
   pub one_message : FramesAreOfOne m
-  one_message bytes (Raft x) (Raft y) p q =
+  one_message bytes (OfLog x) (OfLog y) p q =
       let same : p.read ≡ q.read = one_text p.read q.read p.fits q.fits (sym p.text ∙ q.text) in
       one_log m q.read x y (rw same at p.means) q.means
   one_message bytes (Service x) (Service y) p q =
       let same : p.read ≡ q.read = one_text p.read q.read p.fits q.fits (sym p.text ∙ q.text) in
       ap (λ z. Service z) (same_service (sym (subst (λ (r : WireMessage S Command). service_of r ≡ Some x) same p.means) ∙ q.means))
-  one_message bytes (Raft x) (Service y) p q =
+  one_message bytes (OfLog x) (Service y) p q =
       let same : p.read ≡ q.read = one_text p.read q.read p.fits q.fits (sym p.text ∙ q.text) in
       absurd (log_is_no_service m q.read x y (rw same at p.means) q.means)
-  one_message bytes (Service x) (Raft y) p q =
+  one_message bytes (Service x) (OfLog y) p q =
       let same : q.read ≡ p.read = one_text q.read p.read q.fits p.fits (sym q.text ∙ p.text) in
       absurd (log_is_no_service m p.read y x (rw same at q.means) p.means)

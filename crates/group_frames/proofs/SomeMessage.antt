@@ -13,7 +13,7 @@ use Rattle.wire.specs.declared.body.Body.{Body}
 use Rattle.wire.specs.declared.body.Body.TheVariants as bodies
 use Rattle.raft_model.specs.Messages.{Message, VoteRequest, VoteReply, Append, AppendReply, InstallReply}
 use Rattle.raft_core.specs.Frames.{Means}
-use Rattle.group_model.specs.Messages.{GroupMessage, Raft, Service, ServiceMessage, BetweenServers, ToServer, ToClient, Asks, Answers, Register, Heartbeat, Pull, ReportStates, Listing, Told}
+use Rattle.group_model.specs.Messages.{GroupMessage, OfLog, Service, ServiceMessage, BetweenServers, ToServer, ToClient, Asks, Answers, Register, Heartbeat, Pull, ReportStates, Listing, Told}
 use Rattle.group_frames.specs.GroupFrames.{service_of, IsGroupFrame, IsNoInstall, FramesAreOfSome}
 
 module _ {S : Type 0} (m : Meaning S Command) where
@@ -94,5 +94,5 @@ module _ {S : Type 0} (m : Meaning S Command) where
   pub some_message : FramesAreOfSome m
   some_message bytes read frame plain = of (says read.from read.to read.body plain frame.0.header_fits.1.1.1.1) where
     of : Says read → (message : GroupMessage) × IsGroupFrame m bytes message
-    of (inl x) = (Raft x.0, record { read = read; fits = frame.0; text = frame.1; means = x.1 })
+    of (inl x) = (OfLog x.0, record { read = read; fits = frame.0; text = frame.1; means = x.1 })
     of (inr y) = (Service y.0, record { read = read; fits = frame.0; text = frame.1; means = y.1 })

@@ -15,7 +15,7 @@ use Rattle.raft_model.specs.Logs.{last_term, state_after}
 use Rattle.raft_model.specs.Messages.{Message, Install}
 use Rattle.raft_model.specs.Messages.{Body as Said}
 use Rattle.raft_core.specs.Frames.{IsFrameOf}
-use Rattle.group_model.specs.Messages.{GroupMessage, Raft, Service, ServiceMessage, BetweenServers, ToServer, ToClient, Asks, Answers, Register, Heartbeat, Pull, ReportStates, Listing, Told}
+use Rattle.group_model.specs.Messages.{GroupMessage, OfLog, Service, ServiceMessage, BetweenServers, ToServer, ToClient, Asks, Answers, Register, Heartbeat, Pull, ReportStates, Listing, Told}
 
 -- what a body says beside the log's messages, from one actor to another
 abbrev pub service_between : {S C : Type 0} → Actor → Actor → Body S C → Option ServiceMessage
@@ -42,7 +42,7 @@ pub record IsServiceFrame {S C : Type 0} (m : Meaning S C) (bytes : List ℕ) (m
 
 -- the bytes are the message's frame
 abbrev pub IsGroupFrame : {S : Type 0} → Meaning S Command → List ℕ → GroupMessage → Type 0
-IsGroupFrame m bytes (Raft message) = IsFrameOf m bytes message
+IsGroupFrame m bytes (OfLog message) = IsFrameOf m bytes message
 IsGroupFrame m bytes (Service message) = IsServiceFrame m bytes message
 
 -- who is to receive a message
@@ -52,7 +52,7 @@ service_receiver (ToServer client server request) = Server server
 service_receiver (ToClient server client response) = Client client
 
 abbrev pub receiver_of : GroupMessage → Actor
-receiver_of (Raft message) = Server message.to
+receiver_of (OfLog message) = Server message.to
 receiver_of (Service message) = service_receiver message
 
 -- a frame on its way carries the message, to its receiver
@@ -86,7 +86,7 @@ SameSaid m x y _ _ = x ≡ y
 
 -- two messages of the group are
 abbrev pub SameButCovered : {S : Type 0} → Meaning S Command → GroupMessage → GroupMessage → Type 0
-SameButCovered m (Raft x) (Raft y) = SameSaid m x y x.body y.body
+SameButCovered m (OfLog x) (OfLog y) = SameSaid m x y x.body y.body
 SameButCovered m x y = x ≡ y
 
 -- a frame is of one message at most, but for the entries that an Install covers

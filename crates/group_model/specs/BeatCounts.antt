@@ -5,20 +5,20 @@ use Rattle.rows.specs.declared.refusal.Refusal.{Refusal}
 use Rattle.rows.specs.declared.refusal.Refusal.TheVariants as refusals
 use Rattle.rows.specs.declared.command.Command.{Command}
 use Rattle.group_model.specs.Expiry.{BeatCount, beat_count_of, with_beat}
-use Rattle.raft_model.specs.Servers.{Server}
+use Rattle.raft_model.specs.Rafts.{Raft}
 use Rattle.group_model.specs.Desks.{Desk, applied_state}
 use Rattle.group_model.specs.Inputs.{Act, AskPropose, asks}
 use Rattle.rows.specs.declared.worker.ClientRequestKind.TheVariants as kinds
 use Rattle.group_model.specs.ClientRequests.{answers, beats_at}
-use Rattle.group_model.specs.Turns.{expiry_command, expire}
+use Rattle.group_model.specs.DeskTurns.{expiry_command, expire}
 
 -- one heartbeat more of a node that is held
-abbrev pub beat_heard_of : ℕ → List BeatCount → Option BeatCount → Result (List BeatCount) Refusal
-beat_heard_of n counts None = Err refusals.UnknownNode
-beat_heard_of n counts (Some c) = Ok (with_beat n counts)
+abbrev pub beat_counted_of : ℕ → List BeatCount → Option BeatCount → Result (List BeatCount) Refusal
+beat_counted_of n counts None = Err refusals.UnknownNode
+beat_counted_of n counts (Some c) = Ok (with_beat n counts)
 
-abbrev pub beat_heard : ℕ → List BeatCount → Result (List BeatCount) Refusal
-beat_heard n counts = beat_heard_of n counts (beat_count_of n counts)
+abbrev pub beat_counted : ℕ → List BeatCount → Result (List BeatCount) Refusal
+beat_counted n counts = beat_counted_of n counts (beat_count_of n counts)
 
 -- why a node does not expire for want of heartbeats since this one, if it does not
 abbrev pub expiry_refusal_of : ℕ → Option BeatCount → Option Refusal
@@ -36,7 +36,7 @@ answers_beat me c d (Err r) = answers me c kinds.Heartbeat (Some r) (Some d)
 
 -- a heartbeat at an open desk is one of its counts
 abbrev pub BeatsByCounts : Type 0
-BeatsByCounts = (me c : ℕ) (d : Desk) → beats_at me c d (beat_count_of c d.beat_counts) ≡ answers_beat me c d (beat_heard c d.beat_counts)
+BeatsByCounts = (me c : ℕ) (d : Desk) → beats_at me c d (beat_count_of c d.beat_counts) ≡ answers_beat me c d (beat_counted c d.beat_counts)
 
 abbrev pub expires_unless : Desk → Command → Option Refusal → Result Act Refusal
 expires_unless d command None = Ok (asks (AskPropose command) (Some d))
@@ -44,5 +44,5 @@ expires_unless d command (Some r) = Err r
 
 -- an expiry at a desk is one of its counts; what is proposed goes by the applied state
 abbrev pub ExpiresByCounts : Type 0
-ExpiresByCounts = (s : Server Command) (d : Desk) (n beats : ℕ) →
+ExpiresByCounts = (s : Raft Command) (d : Desk) (n beats : ℕ) →
     expire s d n beats ≡ expires_unless d (expiry_command (applied_state s) n) (expiry_refusal n beats d.beat_counts)

@@ -13,7 +13,7 @@ use Rattle.rows.specs.declared.refusal.Refusal.TheVariants as refusals
 use Rattle.rows.specs.declared.worker.ClientRequestKind.{ClientRequestKind}
 use Rattle.rows.specs.declared.worker.ClientRequestKind.TheVariants as kinds
 use Rattle.rows.specs.Reasons.{reason_of}
-use Rattle.raft_model.specs.Servers.{Server, is_leader}
+use Rattle.raft_model.specs.Rafts.{Raft, is_leader}
 use Rattle.raft_model.specs.Steps.{admission_refusal}
 use Rattle.cluster_model.specs.Words.{State}
 use Rattle.rows.specs.NodeStatuses.{is_ready}
@@ -77,7 +77,7 @@ proposes_for me c kind command d None = record {
   work = [];
 }
 
-abbrev pub writes : ℕ → Server Command → ℕ → ClientRequestKind → Command → Option Desk → Act
+abbrev pub writes : ℕ → Raft Command → ℕ → ClientRequestKind → Command → Option Desk → Act
 writes me s c kind command d =
     if not (is_leader s.mode) then answers me c kind (Some (refusals.NotLeader s.known)) d
     else if is_taken_already (whole_state s) command then answers me c kind None d
@@ -108,11 +108,11 @@ shown a = record { id = a.id; size = a.size; state = listed_state a.client }
 abbrev pub listed : ℕ → State → List ListedAllocation
 listed n s = map shown (filter (lives_on n) s.allocs)
 
-abbrev pub pulls : ℕ → Server Command → ℕ → Option Desk → Act
+abbrev pub pulls : ℕ → Raft Command → ℕ → Option Desk → Act
 pulls me s c d = sends (ToClient me c (Listing s.commit (listed c (applied_state s))) ∷ []) d
 
 -- each request; `open_desk` is the desk, or why it is not open
-abbrev pub serves_client : ℕ → Server Command → ℕ → Result Desk Refusal → Option Desk → ClientRequest → Act
+abbrev pub serves_client : ℕ → Raft Command → ℕ → Result Desk Refusal → Option Desk → ClientRequest → Act
 serves_client me s c open_desk d (Register class size) = writes me s c kinds.Register (commands.NodePut (record { number = c; class = class; size = size })) d
 serves_client me s c open_desk d Heartbeat = takes_heartbeat me c open_desk d
 serves_client me s c open_desk d Pull = pulls me s c d

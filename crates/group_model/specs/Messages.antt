@@ -46,5 +46,5 @@ pub data ServiceMessage : Type 0 where
   ToClient : (server client : ℕ) (response : ClientResponse) → ServiceMessage
 
 pub data GroupMessage : Type 0 where
-  Raft : (message : Message Command) → GroupMessage
+  OfLog : (message : Message Command) → GroupMessage
   Service : (message : ServiceMessage) → GroupMessage

@@ -16,7 +16,7 @@ use Rattle.rows.specs.declared.worker.WorkerResponse.{WorkerResponse}
 use Rattle.rows.specs.declared.worker.WorkerResponse.TheVariants.{Delivered, Refused}
 use Rattle.rows.specs.Reasons.{reason_of}
 use Rattle.rows.specs.Changes.{change_of}
-use Rattle.raft_model.specs.Servers.{Server}
+use Rattle.raft_model.specs.Rafts.{Raft}
 use Rattle.raft_model.specs.Steps.{admission_refusal}
 use Rattle.cluster_model.specs.ClusterMachine.{cluster_meaning}
 use Rattle.group_model.specs.Messages.{BetweenServers, WorkerMessage, Asks, Answers}
@@ -39,7 +39,7 @@ takes_given me from d Nothing = responds me from (Delivered None) (Some d)
 takes_given me from d UsedUp = refuses me from asked.Take (Some d) refusals.Exhausted
 takes_given me from d (Gives what broker) = responds me from (Delivered (Some what)) (Some (record d { broker = broker }))
 
-abbrev pub takes_work : ℕ → Server Command → ℕ → Result Desk Refusal → Option Desk → Act
+abbrev pub takes_work : ℕ → Raft Command → ℕ → Result Desk Refusal → Option Desk → Act
 takes_work me s from (Err r) d = refuses me from asked.Take d r
 takes_work me s from (Ok o) d = takes_given me from o (deliver s.term (length s.log) o.broker)
 
@@ -48,7 +48,7 @@ abbrev pub submits_of : ℕ → ℕ → Plan → Option Desk → Result Desk Ref
 submits_of me from p d (Err r) = refuses me from (asked.Submit p.eval p.token) d r
 submits_of me from p d (Ok o) = rests (Some o)
 
-abbrev pub submits : ℕ → Server Command → ℕ → Plan → Result Desk Refusal → Option Desk → Act
+abbrev pub submits : ℕ → Raft Command → ℕ → Plan → Result Desk Refusal → Option Desk → Act
 submits me s from p (Err r) d = refuses me from (asked.Submit p.eval p.token) d r
 submits me s from p (Ok o) d = submits_of me from p d (submitted from (applied_state s) o p)
 
@@ -62,12 +62,12 @@ finishes_by me from id token c o None = record {
   work = [];
 }
 
-abbrev pub finishes_of : ℕ → Server Command → ℕ → EvalId → Token → EvalOutcome → Desk → Result ℕ Refusal → Act
+abbrev pub finishes_of : ℕ → Raft Command → ℕ → EvalId → Token → EvalOutcome → Desk → Result ℕ Refusal → Act
 finishes_of me s from id token outcome o (Err r) = refuses me from (asked.Finish id token) (Some o) r
 finishes_of me s from id token outcome o (Ok wait) =
     finishes_by me from id token (commands.EvalStatus id (change_of outcome)) o (admission_refusal cluster_meaning s (commands.EvalStatus id (change_of outcome)))
 
-abbrev pub finishes : ℕ → Server Command → ℕ → EvalId → Token → EvalOutcome → Result Desk Refusal → Option Desk → Act
+abbrev pub finishes : ℕ → Raft Command → ℕ → EvalId → Token → EvalOutcome → Result Desk Refusal → Option Desk → Act
 finishes me s from id token outcome (Err r) d = refuses me from (asked.Finish id token) d r
 finishes me s from id token outcome (Ok o) d = finishes_of me s from id token outcome o (outstanding id token o.broker)
 
@@ -81,7 +81,7 @@ nacks me from id token (Err r) d = refuses me from (asked.Nack id token) d r
 nacks me from id token (Ok o) d = nacks_of me from id token o (outstanding id token o.broker)
 
 -- each request; `open_desk` is the desk, or why it is not open
-abbrev pub serves_request : ℕ → Server Command → ℕ → Result Desk Refusal → Option Desk → WorkerRequest → Act
+abbrev pub serves_request : ℕ → Raft Command → ℕ → Result Desk Refusal → Option Desk → WorkerRequest → Act
 serves_request me s from open_desk d Take = takes_work me s from open_desk d
 serves_request me s from open_desk d (Submit plan) = submits me s from plan open_desk d
 serves_request me s from open_desk d (Finish eval token outcome) = finishes me s from eval token outcome open_desk d
@@ -91,6 +91,6 @@ serves_request me s from open_desk d (Nack eval token) = nacks me from eval toke
 abbrev pub hands_out : ℕ → WorkerResponse → Option Desk → Act
 hands_out from response d = record { ask = None; desk = d; sent = []; work = record { from = from; response = response } ∷ [] }
 
-abbrev pub serves_worker : ℕ → Server Command → ℕ → Result Desk Refusal → Option Desk → WorkerMessage → Act
+abbrev pub serves_worker : ℕ → Raft Command → ℕ → Result Desk Refusal → Option Desk → WorkerMessage → Act
 serves_worker me s from open_desk d (Asks request) = serves_request me s from open_desk d request
 serves_worker me s from open_desk d (Answers response) = hands_out from response d

@@ -119,8 +119,8 @@ fn look(
 // Each server crashes behind the event at a place. In how many of the lists nothing is wrong.
 fn servers_at(rt: &HostRuntime, row: &Transcript, at: usize, compacts: bool) -> io::Result<u64> {
     let mut good: u64 = 0;
-    for place in 0..row.servers {
-        if let Some(me) = ServerId::from_place(place) {
+    for position in 0..row.servers {
+        if let Some(me) = ServerId::from_position(position) {
             good = good.saturating_add(look(rt, row, at, &Actor::Server(me), compacts)?);
         }
     }

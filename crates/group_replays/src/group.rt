@@ -167,8 +167,8 @@ fn replays(alloc: Global, world: &World, played: &Scenario) -> bool {
         return false;
     };
     let mut is_same = world.sent().len() == again.sent().len() && world.chain() == again.chain();
-    for place in 0..servers {
-        let Some(id) = ServerId::from_place(place) else {
+    for position in 0..servers {
+        let Some(id) = ServerId::from_position(position) else {
             return false;
         };
         is_same = match (world.server(id), again.server(id)) {

@@ -7,7 +7,7 @@ use Rattle.rows.specs.States.{IsState}
 use Rattle.group_model.specs.Brokers.{Task}
 use Rattle.group_model.specs.Desks.{Desk, QueuedPlan, applied_state, whole_state}
 use Rattle.group_model.specs.Inputs.{Act, Ask, AskPropose}
-use Rattle.group_model.specs.Members.{Member}
+use Rattle.group_model.specs.Servers.{Server}
 use Rattle.group_safety.specs.Limits.{ServiceFits}
 
 abbrev pub AskFits : Option Ask → Type 0
@@ -34,7 +34,7 @@ RangedResult (Err r) = Unit {0}
 RangedResult (Ok act) = Ranged act
 
 -- a server whose states and desk are within their limits
-pub record MemberFits (s : Member) : Type 0 where
+pub record ServerIsInRange (s : Server) : Type 0 where
   pub applied : IsState (applied_state s.raft)
   pub whole : IsState (whole_state s.raft)
   pub desk : DeskFits s.desk

@@ -13,7 +13,7 @@ use Rattle.rows.specs.declared.command.Command.{Command}
 use Rattle.rows.specs.declared.command.Command.TheVariants as commands
 use Rattle.rows.specs.declared.refusal.Refusal.{Refusal}
 use Rattle.rows.specs.declared.refusal.Refusal.TheVariants as refusals
-use Rattle.raft_model.specs.Servers.{Server, is_leader}
+use Rattle.raft_model.specs.Rafts.{Raft, is_leader}
 use Rattle.raft_model.specs.Steps.{admission_refusal}
 use Rattle.cluster_model.specs.Words.{State}
 use Rattle.cluster_model.specs.Words.{node_of}
@@ -33,7 +33,7 @@ use Rattle.group_model.specs.Drains.{is_done, next_moves_of}
 use Rattle.group_model.specs.Desks.{Desk, QueuedPlan, applied_state, whole_state}
 use Rattle.group_model.specs.Inputs.{Act, Ask, AskPropose}
 use Rattle.group_model.specs.Plans.{plan_command, plan_turn, turn_of, judged, after_accept, proposes_plan, submitted}
-use Rattle.group_model.specs.Turns.{lapse, expiry_command, expire_of, expire, migrates, drains_by, drain_turn_of, drain_turn, free_turn_of, free_turn, reap_of, reap}
+use Rattle.group_model.specs.DeskTurns.{lapse, expiry_command, expire_of, expire, migrates, drains_by, drain_turn_of, drain_turn, free_turn_of, free_turn, reap_of, reap}
 use Rattle.group_model.specs.WorkerRequests.{takes_given, submits_of, finishes_by, finishes_of, nacks_of, serves_request, serves_worker}
 use Rattle.group_model.specs.ClientRequests.{is_registered, is_taken_already, proposes_for, writes, beats_at, serves_client, listed}
 
@@ -42,23 +42,23 @@ abbrev pub AsksPlan : Option Ask → AcceptedPlan → Type 0
 AsksPlan o p = o ≡ Some (AskPropose (commands.Plan p))
 
 -- it is sent in the server's own name, and a client is shown what the server has applied
-abbrev pub Honest : ℕ → Server Command → ServiceMessage → Type 0
+abbrev pub Honest : ℕ → Raft Command → ServiceMessage → Type 0
 Honest me s (BetweenServers from to message) = from ≡ me
 Honest me s (ToServer client server request) = Unit {0}
 Honest me s (ToClient server client (Listing index rows)) = (server ≡ me) × (index ≡ s.commit) × (rows ≡ listed client (applied_state s))
 Honest me s (ToClient server client (Told kind refused)) = server ≡ me
 
 -- an act that proposes no plan and is honest
-pub record Sober (me : ℕ) (s : Server Command) (act : Act) : Type 0 where
+pub record Sober (me : ℕ) (s : Raft Command) (act : Act) : Type 0 where
   pub no_plan : (p : AcceptedPlan) → AsksPlan act.ask p → ⊥
   pub honest : AllByRecursion (Honest me s) act.sent
 
 -- the same of a result: a refusal does nothing
-abbrev pub SoberResult : ℕ → Server Command → Result Act Refusal → Type 0
+abbrev pub SoberResult : ℕ → Raft Command → Result Act Refusal → Type 0
 SoberResult me s (Err r) = Unit {0}
 SoberResult me s (Ok act) = Sober me s act
 
-module _ (me : ℕ) (s : Server Command) where
+module _ (me : ℕ) (s : Raft Command) where
   -- ---- requests of workers
 
   sober_given : (from : ℕ) (o : Desk) (g : Given) → Sober me s (takes_given me from o g)

@@ -4,7 +4,7 @@ use Rattle.rows.specs.declared.node.NodeSpec.{NodeSpec}
 use Rattle.raft_safety.proofs.Places.{get-split}
 use Rattle.raft_safety.proofs.Limits.{Bounds, run_bounds}
 use Rattle.cluster_model.specs.ClusterMachine.{cluster_meaning}
-use Rattle.group_model.specs.Messages.{GroupMessage, Raft, Service, ServiceMessage}
+use Rattle.group_model.specs.Messages.{GroupMessage, OfLog, Service, ServiceMessage}
 use Rattle.group_model.specs.Worlds.{World, Event, Run, start, more, raft_of, raft_part}
 use Rattle.group_safety.specs.Claims.{IsFromMember}
 use Rattle.group_safety.proofs.Lists.{map_length, message_place}
@@ -27,5 +27,5 @@ module _ (n : ℕ) (nodes : List NodeSpec) where
       ]
 
   pub senders : (events : List Event) (past : List World) (w : World) → Run n nodes events past w → (k : ℕ) (x : GroupMessage) → slice_get w.sent k ≡ Some x → IsFromMember n x
-  senders events past w run k (Raft message) at = let b = bounds events past w run in (b.given message (_, message_place w.sent k message at)).from
+  senders events past w run k (OfLog message) at = let b = bounds events past w run in (b.given message (_, message_place w.sent k message at)).from
   senders events past w run k (Service p) at = services events past w run k p at

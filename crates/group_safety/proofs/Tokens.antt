@@ -13,7 +13,7 @@ use Rattle.rows.specs.Keys.{eval_cmp}
 use Rattle.fsm_tables.specs.Rows.{row_of}
 use Rattle.group_model.specs.Brokers.{Mark, Free, Out, Acked, Task, task_id, task_of, same_token, marked_out, task_out, outstanding}
 use Rattle.group_model.specs.Desks.{Desk}
-use Rattle.group_model.specs.Members.{Member}
+use Rattle.group_model.specs.Servers.{Server}
 use Rattle.group_safety.specs.Desks.{IsOfTerm, TokensAre, DeskIs}
 
 -- a row that is found is one of the rows
@@ -36,7 +36,7 @@ task_term : (term : ℕ) (token : Token) (wait : ℕ) (o : Option Task) → ((t 
 task_term term token wait None own e = absurd (cc)
 task_term term token wait (Some t) own e = mark_term term token wait t.mark (own t refl) e
 
-pub its_own : (m : Member) (d : Desk) (id : EvalId) (token : Token) (wait : ℕ) → DeskIs m → m.desk ≡ Some d → outstanding id token d.broker ≡ Ok wait → token.term ≡ m.raft.term
+pub its_own : (m : Server) (d : Desk) (id : EvalId) (token : Token) (wait : ℕ) → DeskIs m → m.desk ≡ Some d → outstanding id token d.broker ≡ Ok wait → token.term ≡ m.raft.term
 its_own m d id token wait (inl h) is out = absurd (let q = sym h.0 ∙ is in cc)
 its_own m d id token wait (inr h) is out =
     let same : h.0 ≡ d = same_Some h.0 d (sym h.1 ∙ is) in

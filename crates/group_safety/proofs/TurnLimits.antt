@@ -5,8 +5,8 @@ use Rattle.rows.specs.declared.refusal.Refusal.{Refusal}
 use Rattle.fields_model.proofs.RangeLaws.{fits_command}
 use Rattle.machine_model.specs.declared.entry.Entry.{Entry}
 use Rattle.raft_model.specs.Messages.{Message}
-use Rattle.raft_model.specs.Servers as rafts
-use Rattle.raft_model.specs.Servers.{Server, is_leader}
+use Rattle.raft_model.specs.Rafts as rafts
+use Rattle.raft_model.specs.Rafts.{Raft, is_leader}
 use Rattle.raft_model.specs.Steps as raft_steps
 use Rattle.raft_model.proofs.Cases.{same_ok}
 use Rattle.cluster_model.specs.Words.{State}
@@ -15,8 +15,8 @@ use Rattle.cluster_model.specs.ClusterMachine.{cluster_meaning}
 use Rattle.group_model.specs.Messages.{Service, ServiceMessage}
 use Rattle.group_model.specs.Desks.{Desk, follow_state, opened, after_entry, after_entries, applied_state, newly, desk_after}
 use Rattle.group_model.specs.Inputs.{Act, Ask, AskTimeout, AskBeat, AskPropose, AskCompact, AskCrash, AskRestart, input_of, rests}
-use Rattle.group_model.specs.Members as members
-use Rattle.group_model.specs.Members.{Member, logged, asks_log, done}
+use Rattle.group_model.specs.Servers as servers
+use Rattle.group_model.specs.Servers.{Server, logged, asks_log, done}
 use Rattle.group_model.specs.Worlds.{LogEventFits, log_request, event_at}
 use Rattle.group_safety.specs.Limits.{ServiceFits}
 use Rattle.group_safety.proofs.Honesty.{all_get, sent_from, service_from}
@@ -37,37 +37,37 @@ after_fits : (b : Bool) (x : Option Desk) → DeskFits x → DeskFits (cond b x 
 after_fits true x h = h
 after_fits false x h = tt
 
-pub desk_fits : (s t : Server Command) (d : Option Desk) → DeskFits d → DeskFits (desk_after s t d)
+pub desk_fits : (s t : Raft Command) (d : Option Desk) → DeskFits d → DeskFits (desk_after s t d)
 desk_fits s t d h = after_fits (is_leader t.mode) (after_entries t.term (applied_state s) (newly s t) d) (entries_fit t.term (newly s t) (applied_state s) d h)
 
 -- ---- a server's turn
 
 -- its desk and its messages are within their limits
-pub record TurnFits (turn : members.Turn) : Type 0 where
-  pub desk : DeskFits turn.member.desk
+pub record TurnFits (turn : servers.ServerTurn) : Type 0 where
+  pub desk : DeskFits turn.server.desk
   pub services : (j : ℕ) (p : ServiceMessage) → slice_get turn.sent j ≡ Some (Service p) → ServiceFits p
 
-pub turn_is : (a b : members.Turn) → let x : Result members.Turn Refusal = Ok a in x ≡ Ok b → TurnFits a → TurnFits b
+pub turn_is : (a b : servers.ServerTurn) → let x : Result servers.ServerTurn Refusal = Ok a in x ≡ Ok b → TurnFits a → TurnFits b
 turn_is a b e h = subst TurnFits (same_ok a b e) h
 
-module _ (n i : ℕ) (s : Member) where
-  logged_fits : (act : Act) (r : Result (rafts.Turn Command) Refusal) (turn : members.Turn) → Ranged act → logged s act r ≡ Ok turn → TurnFits turn
+module _ (n i : ℕ) (s : Server) where
+  logged_fits : (act : Act) (r : Result (rafts.RaftTurn Command) Refusal) (turn : servers.ServerTurn) → Ranged act → logged s act r ≡ Ok turn → TurnFits turn
   logged_fits act (Err e) turn h is = absurd (cc)
   logged_fits act (Ok t) turn h is = turn_is _ turn is (record {
     desk = desk_fits s.raft t.server act.desk h.desk;
     services = λ j p at. let q = sent_from t.sent act.sent j p at in all_get ServiceFits act.sent h.sent q.0 p q.1;
   })
 
-  asks_fits : (act : Act) (o : Option Ask) (turn : members.Turn) → Ranged act → asks_log n i s act o ≡ Ok turn → TurnFits turn
+  asks_fits : (act : Act) (o : Option Ask) (turn : servers.ServerTurn) → Ranged act → asks_log n i s act o ≡ Ok turn → TurnFits turn
   asks_fits act None turn h is = turn_is _ turn is (record { desk = h.desk; services = λ j p at. let q = service_from act.sent j p at in all_get ServiceFits act.sent h.sent q.0 p q.1 })
   asks_fits act (Some ask) turn h is = logged_fits act (raft_steps.step cluster_meaning n i s.raft (input_of ask)) turn h is
 
-  pub done_fits : (r : Result Act Refusal) (turn : members.Turn) → RangedResult r → done n i s r ≡ Ok turn → TurnFits turn
+  pub done_fits : (r : Result Act Refusal) (turn : servers.ServerTurn) → RangedResult r → done n i s r ≡ Ok turn → TurnFits turn
   done_fits (Err e) turn h is = absurd (cc)
   done_fits (Ok act) turn h is = asks_fits act act.ask turn h is
 
-  pub heard_fits : (message : Message Command) (turn : members.Turn) → DeskFits s.desk → members.hears_log n i s message ≡ Ok turn → TurnFits turn
-  heard_fits message turn h is = logged_fits (rests s.desk) (raft_steps.step cluster_meaning n i s.raft (raft_steps.Arrives message)) turn (record { ask = tt; sent = tt; desk = h }) is
+  pub log_message_fits : (message : Message Command) (turn : servers.ServerTurn) → DeskFits s.desk → servers.takes_log_message n i s message ≡ Ok turn → TurnFits turn
+  log_message_fits message turn h is = logged_fits (rests s.desk) (raft_steps.step cluster_meaning n i s.raft (raft_steps.Arrives message)) turn (record { ask = tt; sent = tt; desk = h }) is
 
 -- what is asked of the log is an event of its world
 pub asks_event : (i : ℕ) (o : Option Ask) → AskFits o → LogEventFits (event_at i o)

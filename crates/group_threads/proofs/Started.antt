@@ -46,9 +46,9 @@ named_once (x ∷ xs) apart =
     ((λ has. true≢false (sym (is_listed xs x has) ∙ not_true (lists_actor xs x) (are_apart xs) apart)), named_once xs (and_true (lists_actor xs x) (are_apart xs) apart))
 
 -- a net of actors that stand once is refused for its room alone
-pub why_not_running : (actors : List Actor) (room : ℕ) (r : Refusal) → are_apart actors ≡ true → NoNet actors room r → WhyNotRunning room r
-why_not_running actors room r apart (inl (is, none)) = inl (is, λ room. none (room, named_once actors apart))
-why_not_running actors room r apart (inr (is, has)) = inr (is, has.0)
+pub why_not_running : (actors : List Actor) (capacity : ℕ) (r : Refusal) → are_apart actors ≡ true → NoNet actors capacity r → WhyNotRunning capacity r
+why_not_running actors capacity r apart (inl (is, none)) = inl (is, λ capacity. none (capacity, named_once actors apart))
+why_not_running actors capacity r apart (inr (is, has)) = inr (is, has.0)
 
 pub took_input : (n : ℕ) (actor : Actor) (input : OwnInput) (work : List Work) (sent : List EnvelopeView) (unsent : ℕ) → TookTurn n (own_envelope actor input) work sent unsent → TookInput n actor input
 took_input n actor input work sent unsent took = (work, sent, unsent, took)

@@ -4,7 +4,7 @@ use Rattle.rows.specs.declared.actor.Actor.{Actor}
 use Rattle.rows.specs.declared.refusal.Refusal.{Refusal}
 use Rattle.rows.specs.declared.refusal.Refusal.TheVariants as refusals
 use Rattle.rows.specs.declared.worker.Work.{Work}
-use Rattle.lossy_net.specs.Queues.{IsRoom}
+use Rattle.lossy_net.specs.Queues.{IsCapacity}
 use Rattle.cells.specs.declared.own_input.OwnInput.{OwnInput}
 use Rattle.cells.specs.Cells.{EnvelopeView}
 use Rattle.cells.specs.Opening.{CellGroup}
@@ -17,10 +17,10 @@ pub record RunningView (G : Type 0) : Type 0 where
   pub repeat : ℕ
   pub gate : G
 
--- why no group was made: its queues may not have this room, or they may, and memory was wanting
+-- why no group was made: its queues may not have this capacity, or they may, and memory was wanting
 abbrev pub WhyNotRunning : ℕ → Refusal → Type 0
-WhyNotRunning room r =
-    (r ≡ refusals.OutOfRange) × (¬ IsRoom room) ⊎ (r ≡ refusals.NoMemory) × IsRoom room
+WhyNotRunning capacity r =
+    (r ≡ refusals.OutOfRange) × (¬ IsCapacity capacity) ⊎ (r ≡ refusals.NoMemory) × IsCapacity capacity
 
 -- in a group of n servers, a cell of this actor took a turn by this input
 abbrev pub TookInput : ℕ → Actor → OwnInput → Type 0

@@ -1,7 +1,7 @@
 //! A group on threads: one for each actor, and one for each worker of each server.
 ghost use Rattle.std.specs.Prelude.{◌≡◌, ◌+◌, ◌<◌, ◌≤◌, vec_len, IfErr, IfOk, IfSome, OnOk};
 ghost use Rattle.std.specs.Arc.{arc_value};
-ghost use Rattle.lossy_net.specs.Queues.{IsRoom};
+ghost use Rattle.lossy_net.specs.Queues.{IsCapacity};
 ghost use Rattle.cells.specs.Actors.{group_size};
 ghost use Rattle.group_threads.specs.Running.{TookInput, WhyNotRunning, thread_count};
 ghost use Rattle.cells.specs.Turns.{WhyNoTurn, own_envelope};
@@ -9,7 +9,7 @@ ghost use Rattle.cells.specs.Turns.{WhyNoTurn, own_envelope};
 use crate::bell::Bell;
 use crate::posting::{copies, times};
 use crate::worker::{Gate, WorkerTurn, worker_turn};
-use cells::{Cells, Envelope, OwnInput, Turn, turn};
+use cells::{CellTurn, Cells, Envelope, OwnInput, turn};
 use event_book::BookId;
 use lossy_net::{Fates, Net};
 use rows::{Actor, NoMemory, Refusal, Sequence, ServerId, Work};
@@ -32,7 +32,7 @@ const PATIENCE: u64 = 1_000;
 #[derive(Clone, Copy, Debug, PartialEq, Eq)]
 pub struct NetSettings {
     /// How many messages may wait for an actor at a time, from 1 to 65,536.
-    pub room: usize,
+    pub capacity: usize,
     /// The key of the words that decide what becomes of messages.
     pub key: u64,
     /// How many of a hundred messages are lost.
@@ -113,11 +113,11 @@ impl<B: BookId, G: Gate + Drop> RunningGroup<B, G> {
     /// A group of these cells, before its threads start. No message is on its way, and no work
     /// waits.
     ///
-    /// It is refused with `OutOfRange` where `net.room` is not from 1 to 65,536, and else with
+    /// It is refused with `OutOfRange` where `net.capacity` is not from 1 to 65,536, and else with
     /// `NoMemory` where memory is wanting.
     /// - `group`: it has these cells, this gate, and these parts of lost and of repeated messages.
     ///   Of the key, which lies behind a lock, nothing is said.
-    /// - `room`: there is one only of such a room.
+    /// - `capacity`: there is one only of such a capacity.
     /// - `refused`: with nothing else, and with each just there.
     pub fn new(
         alloc: Global,
@@ -131,10 +131,10 @@ impl<B: BookId, G: Gate + Drop> RunningGroup<B, G> {
           repeat = net.repeat;
           gate = gate;
         }) }
-        ensures room { OnOk result (IsRoom net.room) }
-        ensures refused { IfErr result (WhyNotRunning net.room) }
+        ensures capacity { OnOk result (IsCapacity net.capacity) }
+        ensures refused { IfErr result (WhyNotRunning net.capacity) }
     {
-        let queues = Net::new(alloc, cells.actors(), net.room)?;
+        let queues = Net::new(alloc, cells.actors(), net.capacity)?;
         let clients = bells(alloc, cells.actors().len())?;
         Ok(RunningGroup {
             cells,
@@ -250,8 +250,8 @@ impl<B: BookId, G: Gate + Drop> RunningGroup<B, G> {
 
     // What comes of a turn goes where it belongs. The workers of a server look again. Messages that
     // found no memory are lost.
-    fn settle<R: Wait>(&self, rt: &R, actor: Actor, turned: Turn<B>) {
-        let Turn { work, sent, unsent } = turned;
+    fn settle<R: Wait>(&self, rt: &R, actor: Actor, turned: CellTurn<B>) {
+        let CellTurn { work, sent, unsent } = turned;
         self.lost.fetch_add(unsent as u64, Ordering::SeqCst);
         for envelope in sent {
             self.post(rt, envelope);
@@ -267,7 +267,7 @@ impl<B: BookId, G: Gate + Drop> RunningGroup<B, G> {
     // The turn is counted first: a worker that took work up before it, and puts it back for a later
     // state, looks again.
     fn admit<R: Wait>(&self, rt: &R, server: ServerId, work: Sequence<Work>) {
-        let workers = &self.servers[server.place()];
+        let workers = &self.servers[server.position()];
         workers.turned.count();
         if !work.is_empty() {
             let _ = workers.work.lock(rt).admit(work);
@@ -280,7 +280,7 @@ impl<B: BookId, G: Gate + Drop> RunningGroup<B, G> {
     // Something waits for a server's workers after a turn. Where the server is down, also for want
     // of memory, they have nothing any more.
     fn look_again<R: Wait>(&self, rt: &R, server: ServerId) {
-        let workers = &self.servers[server.place()];
+        let workers = &self.servers[server.position()];
         if self.is_up(rt, server) {
             workers.turned.ring();
         } else {
@@ -335,7 +335,7 @@ impl<B: BookId, G: Gate + Drop> RunningGroup<B, G> {
     // The bell of an actor.
     fn bell_of(&self, actor: Actor) -> Option<&Bell> {
         match actor {
-            Actor::Server(server) => Some(&self.servers[server.place()].called),
+            Actor::Server(server) => Some(&self.servers[server.position()].called),
             Actor::Client(client) => self.clients.get(usize::from(client.number()) - 1),
         }
     }
@@ -376,7 +376,7 @@ impl<B: BookId, G: Gate + Drop> RunningGroup<B, G> {
 
     // A worker of a server does what it can; whether it went on with something.
     fn work<R: Wait>(&self, rt: &R, server: ServerId) -> bool {
-        let workers = &self.servers[server.place()];
+        let workers = &self.servers[server.position()];
         match worker_turn(rt, &self.cells, &workers.work, server, &self.gate) {
             Ok(WorkerTurn { went_on, turn }) => {
                 if let Some(turned) = turn {
@@ -390,11 +390,11 @@ impl<B: BookId, G: Gate + Drop> RunningGroup<B, G> {
     }
 
     // The thread of a worker of the server at this place.
-    fn run_worker<R: Wait>(&self, rt: &R, place: usize) {
-        let Some(server) = ServerId::from_place(place) else {
+    fn run_worker<R: Wait>(&self, rt: &R, position: usize) {
+        let Some(server) = ServerId::from_position(position) else {
             return;
         };
-        let bell = &self.servers[server.place()].turned;
+        let bell = &self.servers[server.position()].turned;
         for _ in rt.forever() {
             let heard = bell.rings();
             if self.stopped.load(Ordering::SeqCst) {

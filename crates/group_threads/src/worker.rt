@@ -8,7 +8,7 @@ ghost use Rattle.cells.specs.Turns.{CellHasState};
 ghost use Rattle.group_threads.specs.WorkerTurns.{TookAsking, WhyNoState, WhyNoWorkerTurn};
 ghost use Rattle.group_threads.specs.Inner.Asked.{IsHandled, least_index};
 
-use cells::{Cells, Envelope, GroupActor, OwnInput, Turn, turn};
+use cells::{CellTurn, Cells, Envelope, GroupActor, OwnInput, turn};
 use event_book::BookId;
 use fsm_state::Cluster;
 use rows::{Actor, Delivery, Index, NoMemory, Refusal, ServerId, WorkerResponse};
@@ -38,7 +38,7 @@ pub struct WorkerTurn<B: BookId> {
     /// needs a later state of its server.
     pub went_on: bool,
     /// What its server gave, where the worker asked for something.
-    pub turn: Option<Turn<B>>,
+    pub turn: Option<CellTurn<B>>,
 }
 
 // The gate stands before each evaluation that was delivered.

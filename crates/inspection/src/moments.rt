@@ -83,23 +83,23 @@ impl Moments {
         ensures { OnOk result
             (length self.new.moments.items ≡ length self.old.moments.items + 1) }
     {
-        let places = self.places_of(alloc, lines)?;
+        let places = self.positions_of(alloc, lines)?;
         self.moments.push(places)?;
         Ok(())
     }
 
     // The places of lines, which are put where the last moment has none of them.
-    fn places_of(&mut self, alloc: Global, lines: Vec<String>) -> Result<Vec<usize>, NoMemory>
+    fn positions_of(&mut self, alloc: Global, lines: Vec<String>) -> Result<Vec<usize>, NoMemory>
         ensures { length self.new.moments.items ≡ length self.old.moments.items }
     {
         let mut places = Vec::new(alloc);
         for line in lines {
-            places.push(self.place_of(line)?)?;
+            places.push(self.position_of(line)?)?;
         }
         Ok(places)
     }
 
-    fn place_of(&mut self, line: String) -> Result<usize, NoMemory>
+    fn position_of(&mut self, line: String) -> Result<usize, NoMemory>
         ensures { length self.new.moments.items ≡ length self.old.moments.items }
     {
         match self.found(line.as_str()) {

@@ -20,16 +20,16 @@ use Rattle.group_model.specs.Order.{Picked}
 use Rattle.group_model.specs.Brokers.{Given, Nothing, UsedUp, Gives, Task, task_id, deliver, outstanding, is_outstanding, with_ack, with_nack}
 use Rattle.group_model.specs.Blocked.{first_due}
 use Rattle.group_model.specs.Expiry.{BeatCount, beat_count_of}
-use Rattle.group_model.specs.BeatCounts.{beat_heard_of, expiry_refusal_of}
+use Rattle.group_model.specs.BeatCounts.{beat_counted_of, expiry_refusal_of}
 use Rattle.group_model.specs.Drains.{is_done, next_moves_of}
 use Rattle.group_model.specs.Desks.{Desk, QueuedPlan, applied_state, whole_state}
 use Rattle.group_model.specs.Inputs.{AskPropose, rests, asks}
 use Rattle.group_model.specs.Plans.{submitted, judged, turn_of, after_accept}
 use Rattle.group_model.specs.Queues.{first_plan}
-use Rattle.group_model.specs.Turns.{expiry_command, expire_of, migrates, drains_by, drain_turn_of, free_turn_of, reap_of}
+use Rattle.group_model.specs.DeskTurns.{expiry_command, expire_of, migrates, drains_by, drain_turn_of, free_turn_of, reap_of}
 use Rattle.group_model.specs.ClientRequests.{beats_at}
 use Rattle.group_model.specs.WorkerRequests.{refuses, takes_given, submits_of, finishes_of, finishes_by, nacks_of}
-use Rattle.leader.specs.OpenDesks.{OpenDesk, with_broker, once_given, once_submitted, once_outstanding, once_heard, unless_refused, migrate_if_any, drain_command_of}
+use Rattle.leader.specs.OpenDesks.{OpenDesk, with_broker, once_given, once_submitted, once_outstanding, once_counted, unless_refused, migrate_if_any, drain_command_of}
 use Rattle.leader.specs.Verdicts.{verdict_for, once_picked}
 use Rattle.leader.specs.GroupActs.{take_act, submit_act, nack_act, finish_act, proposes_at, lapse_act, expire_act, drain_act, heartbeat_act, judged_act, status_act}
 use Rattle.leader.specs.GroupActs.{TakesByDeliver, SubmitsBySubmit, NacksByNack, FinishesByAck, LapsesByLapse, PlanTurnsByVerdict, FreesByFreeTurn, ReapsByReap, HeartbeatsByBeat, ExpiresByExpire, DrainsByDrainTurn}
@@ -104,7 +104,7 @@ reaps_by_reap s o = by _ where
 
 pub heartbeats_by_beat : HeartbeatsByBeat
 heartbeats_by_beat me client d o = by (beat_count_of client o.desk.beat_counts) where
-  by : (c : Option BeatCount) → beats_at me client o.desk c ≡ heartbeat_act me client o (once_heard o (beat_heard_of client o.desk.beat_counts c))
+  by : (c : Option BeatCount) → beats_at me client o.desk c ≡ heartbeat_act me client o (once_counted o (beat_counted_of client o.desk.beat_counts c))
   by None = refl
   by (Some c) = refl
 

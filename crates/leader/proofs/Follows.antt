@@ -47,14 +47,14 @@ module _ (c : Command) (t : State) (rows : List Evaluation) (broker : Broker) (h
       let s = w.before in
       let is = w.left in
       ap (λ (t : State). tell_node c t counts) is
-      ∙ node_told s counts w.tables.nodes.rising w.of.heard c
+      ∙ node_told s counts w.tables.nodes.rising w.of.nodes_held c
       ∙ ap (λ (t : State). beat_counts_over t.nodes counts) (sym is)
 
   pub again : WereOf c t broker held counts → AreOf t (broker_after rows broker) (tell_rooms c t (blocked_after t rows (tell_job c t held))) (tell_node c t counts)
   again w = record {
     pending = subst (λ (b : Broker). HoldsPending t.evals b.tasks) (sym (broker_follows w)) (over_holds t.evals broker);
     blocked = blocked_follows w;
-    heard = subst (λ (cs : List BeatCount). HoldsHeld t.nodes cs) (sym (counts_follow w))
+    nodes_held = subst (λ (cs : List BeatCount). HoldsHeld t.nodes cs) (sym (counts_follow w))
         (of_rows nat_cmp node_number count_node (λ k. k) node_number count_node (λ n. refl) (λ x. refl) (λ (n : Node). is_held n.status) nat_cmp_total counted_node (λ n m. refl) (λ n. beat_count_of n.number counts) t.nodes);
   }
 

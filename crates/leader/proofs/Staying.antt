@@ -10,13 +10,13 @@ use Rattle.group_model.specs.Order.{Picked}
 use Rattle.group_model.specs.Brokers.{after_gift}
 use Rattle.group_model.specs.Brokers.{Broker, Given, Nothing, UsedUp, Gives, Acked, Free, no_tasks, deliver, set_mark, outstanding, is_outstanding, with_ack, with_nack, HoldsPending, task_key}
 use Rattle.group_model.specs.Expiry.{BeatCount, HoldsHeld, beat_count_of}
-use Rattle.group_model.specs.BeatCounts.{beat_heard_of}
+use Rattle.group_model.specs.BeatCounts.{beat_counted_of}
 use Rattle.group_model.specs.Desks.{Desk, QueuedPlan}
 use Rattle.group_model.specs.Plans.{QUEUE, joins}
 use Rattle.group_model.specs.Queues.{first_plan}
 use Rattle.eval_broker.proofs.Following.{over_holds, keys_kept, gift_keeps}
 use Rattle.expiry.proofs.Holding.{over_held, beat_stays as same_nodes}
-use Rattle.leader.specs.OpenDesks.{OpenDesk, Answered, with_broker, on_lapse, once_given, once_outstanding, once_submitted, once_heard}
+use Rattle.leader.specs.OpenDesks.{OpenDesk, Answered, with_broker, on_lapse, once_given, once_outstanding, once_submitted, once_counted}
 use Rattle.leader.specs.Verdicts.{once_picked}
 use Rattle.leader.specs.Staying.{IsOver, OpensOver, DeliverStays, AckStays, NackStays, LapseStays, SubmitStays, PlanTurnStays, BeatStays}
 
@@ -30,7 +30,7 @@ stays s o new a r h e = subst (IsOver s) (ap (left_by o) e) h
 
 -- another broker with the same evaluations
 same_tasks : (s : State) (o : OpenDesk) (b : Broker) → map task_key b.tasks ≡ map task_key o.desk.broker.tasks → IsOver s o → IsOver s (with_broker b o)
-same_tasks s o b same h = record { pending = same ∙ h.pending; blocked = h.blocked; heard = h.heard }
+same_tasks s o b same h = record { pending = same ∙ h.pending; blocked = h.blocked; nodes_held = h.nodes_held }
 
 freed : (s : State) (id : EvalId) (o : OpenDesk) → IsOver s o → IsOver s (with_broker (with_nack id o.desk.broker) o)
 freed s id o h = same_tasks s o (with_nack id o.desk.broker) (keys_kept (set_mark Free) (λ t. refl) id o.desk.broker.tasks) h
@@ -43,7 +43,7 @@ pub opens_over : OpensOver
 opens_over s t o h = record {
   pending = subst (λ (d : Desk). HoldsPending s.evals d.broker.tasks) (sym h.desk) (over_holds s.evals no_tasks);
   blocked = h.blocked;
-  heard = subst (λ (d : Desk). HoldsHeld s.nodes d.beat_counts) (sym h.desk) (over_held s.nodes []);
+  nodes_held = subst (λ (d : Desk). HoldsHeld s.nodes d.beat_counts) (sym h.desk) (over_held s.nodes []);
 }
 
 pub deliver_stays : DeliverStays
@@ -76,7 +76,7 @@ joined : (s : State) (o : OpenDesk) (from : ℕ) (p : Plan) (e : Option Evaluati
 joined s o from p None h = h
 joined s o from p (Some e) h = by (nat_lt (length o.desk.plans) QUEUE) where
   by : (b : Bool) → IsOver s (left_by o (once_submitted o (cond b (Ok (record o.desk { plans = o.desk.plans ++ record { plan = p; priority = e.priority; from = from } ∷ [] })) (Err refusals.QueueFull))))
-  by true = record { pending = h.pending; blocked = h.blocked; heard = h.heard }
+  by true = record { pending = h.pending; blocked = h.blocked; nodes_held = h.nodes_held }
   by false = h
 
 pub submit_stays : SubmitStays
@@ -86,10 +86,10 @@ pub plan_turn_stays : PlanTurnStays
 plan_turn_stays s whole o j new h = stays s o new j _ (by (first_plan o.desk.plans)) where
   by : (p : Option (Picked QueuedPlan)) → IsOver s (once_picked whole o p).1
   by None = h
-  by (Some p) = record { pending = h.pending; blocked = h.blocked; heard = h.heard }
+  by (Some p) = record { pending = h.pending; blocked = h.blocked; nodes_held = h.nodes_held }
 
 pub beat_stays : BeatStays
 beat_stays s node o a new h = stays s o new a _ (by (beat_count_of node o.desk.beat_counts)) where
-  by : (c : Option BeatCount) → IsOver s (left_by o (once_heard o (beat_heard_of node o.desk.beat_counts c)))
+  by : (c : Option BeatCount) → IsOver s (left_by o (once_counted o (beat_counted_of node o.desk.beat_counts c)))
   by None = h
-  by (Some c) = record { pending = h.pending; blocked = h.blocked; heard = same_nodes node o.desk.beat_counts ∙ h.heard }
+  by (Some c) = record { pending = h.pending; blocked = h.blocked; nodes_held = same_nodes node o.desk.beat_counts ∙ h.nodes_held }

@@ -9,7 +9,7 @@ use Rattle.cluster_model.specs.Words.{State, is_blocked, is_some_and, job_of}
 use Rattle.group_model.specs.Order.{first_by, in_order}
 use Rattle.group_model.specs.Brokers.{Broker, Task, task_id, failed}
 use Rattle.group_model.specs.Blocked.{BlockedEval, BlockedEvals, blocked_id, blocked_eval, blocked_over, room_over, due, is_due, is_due_by, has_new_room, is_still_blocked, first_due}
-use Rattle.group_model.specs.Turns.{is_still_pending}
+use Rattle.group_model.specs.DeskTurns.{is_still_pending}
 use Rattle.group_model.proofs.BlockedRows.{due_by_room}
 use Rattle.eval_broker.specs.Answers.{urgency_of, failed_in_order}
 use Rattle.blocked.specs.Rooms.{blocked_of}

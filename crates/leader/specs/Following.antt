@@ -17,7 +17,7 @@ pub record AreOf (s : State) (broker : Broker) (held : BlockedEvals)
     (counts : List BeatCount) : Type 0 where
   pub pending : HoldsPending s.evals broker.tasks
   pub blocked : held ≡ blocked_over s
-  pub heard : HoldsHeld s.nodes counts
+  pub nodes_held : HoldsHeld s.nodes counts
 
 -- a command left this state, and these were of the state before it, whose tables were in order
 pub record WereOf (c : Command) (after : State) (broker : Broker) (held : BlockedEvals)

@@ -15,7 +15,7 @@ use Rattle.rows.specs.declared.worker.ClientRequestKind.TheVariants as kinds
 use Rattle.rows.specs.declared.worker.AskedRequest.TheVariants as asked
 use Rattle.rows.specs.declared.worker.WorkerResponse.TheVariants.{Delivered}
 use Rattle.rows.specs.Changes.{change_of}
-use Rattle.raft_model.specs.Servers.{Server}
+use Rattle.raft_model.specs.Rafts.{Raft}
 use Rattle.raft_model.specs.Steps.{admission_refusal}
 use Rattle.cluster_model.specs.ClusterMachine.{cluster_meaning}
 use Rattle.cluster_model.specs.Words.{State}
@@ -25,7 +25,7 @@ use Rattle.group_model.specs.Desks.{Desk, applied_state, whole_state}
 use Rattle.group_model.specs.Inputs.{Act, AskPropose, rests, asks}
 use Rattle.group_model.specs.Plans.{submitted, after_accept, plan_turn}
 use Rattle.group_model.specs.Queues.{first_plan}
-use Rattle.group_model.specs.Turns.{lapse, expire, drain_turn, free_turn, reap}
+use Rattle.group_model.specs.DeskTurns.{lapse, expire, drain_turn, free_turn, reap}
 use Rattle.group_model.specs.ClientRequests.{answers, takes_heartbeat}
 use Rattle.group_model.specs.WorkerRequests.{responds, refuses, takes_given, submits_of}
 use Rattle.group_model.specs.WorkerRequests.{finishes_of, nacks_of}
@@ -70,12 +70,12 @@ proposes_at new c refused (Some r) = refused r
 proposes_at new c refused None = asks (AskPropose c) (Some new.desk)
 
 -- a refusal goes back at the desk as it was
-abbrev pub finish_act : (Refusal → Act) → Server Command → Command → Answered (Unit {0}) → Act
+abbrev pub finish_act : (Refusal → Act) → Raft Command → Command → Answered (Unit {0}) → Act
 finish_act refused s c (Err r) = refused r
 finish_act refused s c (Ok q) = proposes_at q.1 c refused (admission_refusal cluster_meaning s c)
 
 abbrev pub FinishesByAck : Type 0
-FinishesByAck = (me from : ℕ) (s : Server Command) (id : EvalId) (token : Token)
+FinishesByAck = (me from : ℕ) (s : Raft Command) (id : EvalId) (token : Token)
     (outcome : EvalOutcome) (o : OpenDesk) →
     let c = commands.EvalStatus id (change_of outcome) in
     let refused = refuses me from (asked.Finish id token) (Some o.desk) in
@@ -108,7 +108,7 @@ expire_act d (Err r) = Err r
 expire_act d (Ok c) = Ok (asks (AskPropose c) (Some d))
 
 abbrev pub ExpiresByExpire : Type 0
-ExpiresByExpire = (s : Server Command) (node beats : ℕ) (o : OpenDesk)
+ExpiresByExpire = (s : Raft Command) (node beats : ℕ) (o : OpenDesk)
     → expire s o.desk node beats ≡ expire_act o.desk (on_expire node beats (applied_state s) o)
 
 -- the command, if there is one, is proposed
@@ -118,16 +118,16 @@ drain_act d (Ok None) = Ok (rests (Some d))
 drain_act d (Ok (Some c)) = Ok (asks (AskPropose c) (Some d))
 
 abbrev pub DrainsByDrainTurn : Type 0
-DrainsByDrainTurn = (s : Server Command) (node : ℕ) (o : OpenDesk)
+DrainsByDrainTurn = (s : Raft Command) (node : ℕ) (o : OpenDesk)
     → drain_turn s o.desk node ≡ drain_act o.desk (on_drain_turn node (whole_state s) o)
 
 -- what is kept is proposed, unless the log refuses it; and the sender is told
-abbrev pub judged_act : ℕ → Server Command → Desk → Option Judged → Act
+abbrev pub judged_act : ℕ → Raft Command → Desk → Option Judged → Act
 judged_act me s d None = rests (Some d)
 judged_act me s d (Some j) = after_accept me s d j.queued j.kept
 
 abbrev pub PlanTurnsByVerdict : Type 0
-PlanTurnsByVerdict = (me : ℕ) (s : Server Command) (o : OpenDesk) →
+PlanTurnsByVerdict = (me : ℕ) (s : Raft Command) (o : OpenDesk) →
     let turn = once_picked (whole_state s) o (first_plan o.desk.plans) in
     plan_turn me s o.desk ≡ judged_act me s turn.1.desk turn.0
 
@@ -138,10 +138,10 @@ status_act change d (Ok None) = Ok (rests (Some d))
 status_act change d (Ok (Some id)) = Ok (asks (AskPropose (commands.EvalStatus id change)) (Some d))
 
 abbrev pub FreesByFreeTurn : Type 0
-FreesByFreeTurn = (s : Server Command) (o : OpenDesk)
+FreesByFreeTurn = (s : Raft Command) (o : OpenDesk)
     → blocked_of o.blocked ≡ blocked_over (applied_state s)
     → status_act changes.Pending o.desk (on_free_turn (whole_state s) o) ≡ Ok (free_turn s o.desk)
 
 abbrev pub ReapsByReap : Type 0
-ReapsByReap = (s : Server Command) (o : OpenDesk)
+ReapsByReap = (s : Raft Command) (o : OpenDesk)
     → status_act changes.Failed o.desk (on_reap (whole_state s) o) ≡ Ok (reap s o.desk)

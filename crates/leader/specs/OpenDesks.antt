@@ -17,11 +17,11 @@ use Rattle.group_model.specs.Brokers.{outstanding, is_outstanding, with_ack, wit
 use Rattle.group_model.specs.Blocked.{BlockedEval, BlockedEvals, blocked_id, blocked_over, due}
 use Rattle.group_model.specs.Blocked.{is_still_blocked}
 use Rattle.group_model.specs.Expiry.{BeatCount}
-use Rattle.group_model.specs.BeatCounts.{beat_heard, expiry_refusal}
+use Rattle.group_model.specs.BeatCounts.{beat_counted, expiry_refusal}
 use Rattle.group_model.specs.Drains.{is_done, next_moves}
 use Rattle.group_model.specs.Desks.{Desk, opened}
 use Rattle.group_model.specs.Plans.{submitted}
-use Rattle.group_model.specs.Turns.{expiry_command, is_still_pending}
+use Rattle.group_model.specs.DeskTurns.{expiry_command, is_still_pending}
 use Rattle.blocked.specs.Rooms.{BlockedRows, blocked_of, some_due}
 
 -- the group's desk, what is kept of the blocked evaluations, and the leader's term
@@ -143,12 +143,12 @@ on_reap whole o =
     (first_by (λ t. t.priority) (filter (is_still_pending whole) (failed o.desk.broker))))
 
 -- Beat: a node was heard of once more, unless its heartbeats are not counted.
-abbrev pub once_heard : OpenDesk → Result (List BeatCount) Refusal → Answered (Unit {0})
-once_heard o (Err r) = Err r
-once_heard o (Ok counts) = Ok (tt, with_beat_counts counts o)
+abbrev pub once_counted : OpenDesk → Result (List BeatCount) Refusal → Answered (Unit {0})
+once_counted o (Err r) = Err r
+once_counted o (Ok counts) = Ok (tt, with_beat_counts counts o)
 
 abbrev pub on_beat : ℕ → OpenDesk → Answered (Unit {0})
-on_beat node o = once_heard o (beat_heard node o.desk.beat_counts)
+on_beat node o = once_counted o (beat_counted node o.desk.beat_counts)
 
 -- Expire: what is proposed, by the applied state, of a node that was heard of so often and not
 -- since.

@@ -1,6 +1,6 @@
 //! What is proposed of a node that expires.
 ghost use Rattle.std.specs.Prelude.{◌≡◌};
-ghost use Rattle.group_model.specs.Turns.{expiry_command};
+ghost use Rattle.group_model.specs.DeskTurns.{expiry_command};
 
 use fsm_state::Cluster;
 use rows::{Command, NodeId};

@@ -2,7 +2,7 @@
 ghost use Rattle.std.specs.Prelude.{◌≡◌, ◌↔◌, length, map, replicate};
 ghost use Rattle.std.specs.Prelude.{IfErr, IfNone, IfOk, IfSome, IsTrue, OnOk};
 ghost use Rattle.std.specs.List.{Contains};
-ghost use Rattle.lossy_net.specs.Queues.{AreNamedOnce, IsRoom, NoNet, PutRefused, TakeRefused};
+ghost use Rattle.lossy_net.specs.Queues.{AreNamedOnce, IsCapacity, NoNet, PutRefused, TakeRefused};
 
 use crossbeam_queue::ArrayQueue;
 use rows::{Actor, Refusal};
@@ -11,7 +11,7 @@ use std::marker::Model;
 use std::sync::Wait;
 
 /// The most envelopes that a queue may have room for.
-const MOST_ROOM: usize = 65_536;
+const MOST_CAPACITY: usize = 65_536;
 
 /// An envelope that a net did not keep, and why.
 #[derive(Debug, Drop)]
@@ -36,7 +36,7 @@ struct Mailbox<E: Drop> {
 /// where no other thread is at the queue they do not wait at all. Envelopes come from a queue in
 /// the order in which they were kept, the oldest first; between queues there is no order.
 ///
-/// Contracts see the actors that have a queue and the room of each queue. They do not see what
+/// Contracts see the actors that have a queue and the capacity of each. They do not see what
 /// waits in it, which other threads may change at any moment.
 #[derive(Drop)]
 pub struct Net<E: Drop> {
@@ -52,27 +52,28 @@ impl<E: Drop> Model for Net<E> {
 }
 
 impl<E: Drop> Net<E> {
-    /// A net with an empty queue for each actor of the list. `room` is the most envelopes that may
-    /// wait in a queue at a time, from 1 to 65,536; memory for all of them is taken here.
-    /// `OutOfRange` where `room` is not in that range or an actor stands in the list twice, also
-    /// where memory is wanting; else `NoMemory` where it is.
+    /// A net with an empty queue for each actor of the list. `capacity` is the most envelopes that
+    /// may wait in a queue at a time, from 1 to 65,536; memory for all of them is taken here.
+    /// `OutOfRange` where `capacity` is not in that range or an actor stands in the list twice,
+    /// also where memory is wanting; else `NoMemory` where it is.
     /// - `actors`: the net has the actors of the list, in its order.
-    /// - `rooms`: the queue of each has that room.
-    /// - `range`, `once`: there is a net only of such a room and of such a list.
+    /// - `capacities`: the queue of each has that capacity.
+    /// - `range`, `once`: there is a net only of such a capacity and of such a list.
     /// - `refused`: `OutOfRange` only where there is none, and `NoMemory` only where there is one.
-    pub fn new(alloc: Global, actors: &[Actor], room: usize) -> Result<Net<E>, Refusal>
+    pub fn new(alloc: Global, actors: &[Actor], capacity: usize) -> Result<Net<E>, Refusal>
         ensures actors { IfOk result (λ net. net.actors ≡ actors.now) }
-        ensures rooms { IfOk result (λ net. net.rooms ≡ replicate (length actors.now) room) }
-        ensures range { OnOk result (IsRoom room) }
+        ensures capacities { IfOk result (λ net.
+            net.capacities ≡ replicate (length actors.now) capacity) }
+        ensures range { OnOk result (IsCapacity capacity) }
         ensures once { OnOk result (AreNamedOnce actors.now) }
-        ensures refused { IfErr result (NoNet actors.now room) }
+        ensures refused { IfErr result (NoNet actors.now capacity) }
     {
-        if room == 0 || room > MOST_ROOM || !are_named_once(actors) {
+        if capacity == 0 || capacity > MOST_CAPACITY || !are_named_once(actors) {
             return Err(Refusal::OutOfRange);
         }
         let mut mailboxes = Vec::new(alloc);
         for actor in actors {
-            let queue = ArrayQueue::new(alloc, room)?;
+            let queue = ArrayQueue::new(alloc, capacity)?;
             let mailbox = Mailbox {
                 actor: *actor,
                 queue,

@@ -13,7 +13,7 @@ use Rattle.pages.specs.Rows.{is_rising, rows_from}
 use Rattle.pages.specs.Inner.Below.{count_below}
 use Rattle.pages.specs.Inner.Parts.{rows_of, are_below, are_from, AreApart, Leads, FirstsSplit}
 use Rattle.pages.proofs.RowLaws.{first, second}
-use Rattle.pages.proofs.Places.{below_at}
+use Rattle.pages.proofs.Positions.{below_at}
 use Rattle.pages.proofs.PartLaws.{above_head, from_down, rest_below, front_is_below, next_leads}
 
 module _ {K X : Type 0} (R : K → K → Ordering) (key : X → K) (o : IsTotalOrder R) where
@@ -46,11 +46,11 @@ module _ {K X : Type 0} (R : K → K → Ordering) (key : X → K) (o : IsTotalO
       ]
 
   -- the rows behind those of lower keys are those from the key on
-  pub from_place : (k : K) (ys : List X) → T (is_rising R key ys) → drop (count_below R key k ys) ys ≡ rows_from R key k ys
-  from_place k [] h = refl
-  from_place k (y ∷ ys) h =
+  pub from_position : (k : K) (ys : List X) → T (is_rising R key ys) → drop (count_below R key k ys) ys ≡ rows_from R key k ys
+  from_position k [] h = refl
+  from_position k (y ∷ ys) h =
       elim (is_lt (R (key y) k)) as (λ b. is_lt (R (key y) k) ≡ b → drop (cond b (suc (count_below R key k ys)) (count_below R key k ys)) (y ∷ ys) ≡ cond (not b) (y ∷ rows_from R key k ys) (rows_from R key k ys)) [
-        | true ↦ λ e. from_place k ys (second _ _ h)
+        | true ↦ λ e. from_position k ys (second _ _ h)
         | false ↦ λ e.
             let up : T (are_from R key k ys) = from_down R key o (key y) k ys (above_head R key o (key y) ys (first _ _ h)) (subst (λ b. T (not b)) (sym e) tt) in
             ap (λ (n : ℕ). drop n (y ∷ ys)) (none_lower k ys up) ∙ ap (λ zs. y ∷ zs) (sym (all_from k ys up))
@@ -98,14 +98,14 @@ module _ {K X : Type 0} (R : K → K → Ordering) (key : X → K) (o : IsTotalO
   first_behind [] ys z none h = h
   first_behind (x ∷ xs) ys z none h = absurd cc
 
-  -- what is read at a place
+  -- what is read at a position
   pub read_at : {B : Type 0} (now : B → X) (P : B → Type 0) (z : Option B) (xs : List X) (i : ℕ) → MatchOption z (length xs ≤ i) (λ x. (i < length xs) × P x) → IfSome z (λ x. now x ≡ get_or xs i (now x)) → option_map now z ≡ slice_get xs i
   read_at now P None xs i m h = sym (slice_get_past xs i m)
   read_at now P (Some b) xs i m h = sym (slice_get_read xs (length xs) i (now b) refl m.0 h)
 
   -- the first row from a key on stands where those of lower keys end
   pub first_at : (k : K) (ys : List X) → T (is_rising R key ys) → slice_get ys (count_below R key k ys) ≡ slice_get (rows_from R key k ys) 0
-  first_at k ys h = sym (first_dropped (count_below R key k ys) ys) ∙ ap (λ zs. slice_get zs 0) (from_place k ys h)
+  first_at k ys h = sym (first_dropped (count_below R key k ys) ys) ∙ ap (λ zs. slice_get zs 0) (from_position k ys h)
     where
       first_dropped : (n : ℕ) (zs : List X) → slice_get (drop n zs) 0 ≡ slice_get zs n
       first_dropped zero zs = refl

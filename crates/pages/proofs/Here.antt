@@ -12,7 +12,7 @@ use Rattle.std.proofs.Math.Seq.{drop-append-add}
 use Rattle.pages.specs.Inner.Parts.{rows_of, Parted, Leads, FirstsSplit}
 use Rattle.pages.specs.Runs.{IsRun}
 use Rattle.pages.proofs.RowLaws.{length-put, less}
-use Rattle.pages.proofs.Places.{rising_at, turned}
+use Rattle.pages.proofs.Positions.{rising_at, turned}
 use Rattle.pages.proofs.PartLaws.{row_of-parts, put-parts}
 use Rattle.pages.proofs.Keeps.{parted_put_at, parted_split, rows_split}
 use Rattle.pages.proofs.Cuts.{cut-parts, parted_cut}
@@ -55,14 +55,14 @@ module _ {X : Type 0} where
   pub run_fits : (n : ℕ) (run xs : List X) → run ≡ take n xs → length run ≤ length xs
   run_fits n run xs e = subst (λ (zs : List X). length zs ≤ length xs) (sym e) (length-take-le n xs)
 
-  pub run_within : (front page others run : List X) (left place : ℕ) → length front + left ≡ place → left < length page → IsRun page left run → IsRun (front ++ (page ++ others)) place run
-  run_within front page others run left place e lt h =
-      let from : drop place (front ++ (page ++ others)) ≡ drop left page ++ others =
+  pub run_within : (front page others run : List X) (left position : ℕ) → length front + left ≡ position → left < length page → IsRun page left run → IsRun (front ++ (page ++ others)) position run
+  run_within front page others run left position e lt h =
+      let from : drop position (front ++ (page ++ others)) ≡ drop left page ++ others =
       ap (λ (n : ℕ). drop n (front ++ (page ++ others))) (sym e) ∙ drop-append-add front (page ++ others) left ∙ drop-append-le left page others (omega arith) in
       (h.0 ∙ sym (ap (take (length run)) from ∙ take-append-le (length run) (drop left page) others (run_fits (length run) run (drop left page) h.0)), λ le. h.1 lt)
 
-  pub no_run : (ys : List X) (place : ℕ) → length ys ≤ place → IsRun ys place []
-  no_run ys place le = (refl, λ lt. absurd (omega arith))
+  pub no_run : (ys : List X) (position : ℕ) → length ys ≤ position → IsRun ys position []
+  no_run ys position le = (refl, λ lt. absurd (omega arith))
 
 module _ {S X : Type 0} (rows : S → List X) where
   pub parts_at : (ss : List S) (i : ℕ) (d : S) → i < length ss → rows_of rows ss ≡ rows_of rows (take i ss) ++ (rows (get_or ss i d) ++ rows_of rows (drop (suc i) ss))
@@ -104,22 +104,22 @@ module _ {S X : Type 0} (rows : S → List X) where
   all_parts (s ∷ ss) zero le = absurd (omega arith)
   all_parts (s ∷ ss) (suc i) le = ap (λ zs. s ∷ zs) (all_parts ss i (omega arith))
 
-  pub next_place : (ss : List S) (i : ℕ) (d : S) (left count place : ℕ) → i < length ss → d ≡ get_or ss i d → count ≡ length (rows d) → count ≤ left → length (rows_of rows (take i ss)) + left ≡ place → length (rows_of rows (take (i + 1) ss)) + (left - count) ≡ place
-  next_place ss i d left count place lt e c le h =
+  pub next_position : (ss : List S) (i : ℕ) (d : S) (left count position : ℕ) → i < length ss → d ≡ get_or ss i d → count ≡ length (rows d) → count ≤ left → length (rows_of rows (take i ss)) + left ≡ position → length (rows_of rows (take (i + 1) ss)) + (left - count) ≡ position
+  next_position ss i d left count position lt e c le h =
       let m = parts_more ss i d lt in
       let q : length (rows d) ≡ length (rows (get_or ss i d)) = ap (λ z. length (rows z)) e in
       omega (arith, m, q, c, le, h)
 
-  pub run_here : (ss : List S) (i : ℕ) (d : S) (left place : ℕ) (run ys : List X) → i < length ss → d ≡ get_or ss i d → left < length (rows d) → length (rows_of rows (take i ss)) + left ≡ place → IsRun (rows d) left run → rows_of rows ss ≡ ys → IsRun ys place run
-  run_here ss i d left place run ys lt e le h r v =
+  pub run_here : (ss : List S) (i : ℕ) (d : S) (left position : ℕ) (run ys : List X) → i < length ss → d ≡ get_or ss i d → left < length (rows d) → length (rows_of rows (take i ss)) + left ≡ position → IsRun (rows d) left run → rows_of rows ss ≡ ys → IsRun ys position run
+  run_here ss i d left position run ys lt e le h r v =
       let here : left < length (rows (get_or ss i d)) = subst (λ z. left < length (rows z)) e le in
       let part : IsRun (rows (get_or ss i d)) left run = subst (λ z. IsRun (rows z) left run) e r in
-      subst (λ zs. IsRun zs place run) (sym (parts_at ss i d lt) ∙ v) (run_within (rows_of rows (take i ss)) (rows (get_or ss i d)) (rows_of rows (drop (suc i) ss)) run left place h here part)
+      subst (λ zs. IsRun zs position run) (sym (parts_at ss i d lt) ∙ v) (run_within (rows_of rows (take i ss)) (rows (get_or ss i d)) (rows_of rows (drop (suc i) ss)) run left position h here part)
 
-  pub past_all : (ss : List S) (i left place : ℕ) (ys : List X) → length ss ≤ i → length (rows_of rows (take i ss)) + left ≡ place → rows_of rows ss ≡ ys → IsRun ys place []
-  past_all ss i left place ys le h v =
+  pub past_all : (ss : List S) (i left position : ℕ) (ys : List X) → length ss ≤ i → length (rows_of rows (take i ss)) + left ≡ position → rows_of rows ss ≡ ys → IsRun ys position []
+  past_all ss i left position ys le h v =
       let all : length (rows_of rows (take i ss)) ≡ length (rows_of rows ss) = ap (λ zs. length (rows_of rows zs)) (all_parts ss i le) in
-      subst (λ zs. IsRun zs place []) v (no_run (rows_of rows ss) place (omega (arith, all, h)))
+      subst (λ zs. IsRun zs position []) v (no_run (rows_of rows ss) position (omega (arith, all, h)))
 
   same_at : (ss : List S) (at : ℕ) (d e : S) → at < length ss → get_or ss at d ≡ get_or ss at e
   same_at [] at d e lt = absurd (omega arith)

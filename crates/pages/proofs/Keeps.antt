@@ -9,7 +9,7 @@ use Rattle.std.specs.Cmp.{IsTotalOrder}
 use Rattle.pages.specs.Rows.{is_below, is_rising, put}
 use Rattle.pages.specs.Inner.Parts.{rows_of, are_below, are_from, are_before, AreApart, Parted, Leads}
 use Rattle.pages.proofs.RowLaws.{both, first, second, less, rising_put}
-use Rattle.pages.proofs.Places.{below_at}
+use Rattle.pages.proofs.Positions.{below_at}
 use Rattle.pages.proofs.PartLaws.{not_less, not_below_itself, not_lt_trans, below_up, from_down, from_put, below_put, from_append, from_front, from_back, below_front, below_back, rising_front, rising_back, from_head, front_below, next_leads, put-parts}
 
 module _ {K X : Type 0} (R : K → K → Ordering) (key : X → K) (o : IsTotalOrder R) where

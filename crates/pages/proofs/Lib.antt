@@ -1,5 +1,5 @@
 pub mod RowLaws
-pub mod Places
+pub mod Positions
 pub mod Without
 pub mod PartLaws
 pub mod Keeps

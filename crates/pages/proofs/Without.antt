@@ -9,7 +9,7 @@ use Rattle.std.specs.Ordering.{is_eq, ordering_reverse}
 use Rattle.std.specs.Cmp.{IsTotalOrder, alike_right}
 use Rattle.rows.specs.Rising.{is_below, is_rising}
 use Rattle.pages.specs.Rows.{row_of, has_row, without}
-use Rattle.pages.specs.Places.{PlaceOf}
+use Rattle.pages.specs.Positions.{PositionOf}
 use Rattle.pages.proofs.RowLaws.{both, first, second, less, equal, some_none, none_below, below_tied}
 
 nothing : {A : Type 0} (b : Bool) → ◌≡◌ {A = Option A} None (cond b None None)
@@ -107,10 +107,10 @@ module _ {K X : Type 0} (R : K → K → Ordering) (key : X → K) (o : IsTotalO
       ap (λ r. cond (not (is_eq r)) (y ∷ without R key k ys) (without R key k ys)) up
       ∙ ap (λ zs. y ∷ zs) (without_at k ys at d (second _ _ h) (omega arith) e)
 
-  pub cut_found : (k : K) (ys : List X) (at : ℕ) (d : X) → T (is_rising R key ys) → PlaceOf R key k ys (Ok at) → without R key k ys ≡ remove ys at
+  pub cut_found : (k : K) (ys : List X) (at : ℕ) (d : X) → T (is_rising R key ys) → PositionOf R key k ys (Ok at) → without R key k ys ≡ remove ys at
   cut_found k ys at d h p = without_at k ys at d h p.0 (found_tied k ys (get_or ys at d) (p.1 d))
 
-  pub cut_missed : (k : K) (ys : List X) (at : ℕ) → PlaceOf R key k ys (Err at) → without R key k ys ≡ ys
+  pub cut_missed : (k : K) (ys : List X) (at : ℕ) → PositionOf R key k ys (Err at) → without R key k ys ≡ ys
   cut_missed k ys at p = without_none k ys p.1
 
   pub either_rising : (b : Bool) (xs ys : List X) → T (is_rising R key xs) → T (is_rising R key ys) → T (is_rising R key (cond b xs ys))

@@ -1,5 +1,5 @@
 pub mod Rows
-pub mod Places
+pub mod Positions
 pub mod Runs
 pub mod Copies
 pub mod Inner

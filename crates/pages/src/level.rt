@@ -41,7 +41,10 @@ impl<T: CopiedRow, C: Part<T>> Drop for Level<T, C> {
 }
 
 /// Where the first key stands that is the key, or where it would.
-fn place<T: CopiedRow, C: Part<T>>(slots: &[Slot<T::Key, C>], key: &T::Key) -> Result<usize, usize>
+fn position<T: CopiedRow, C: Part<T>>(
+    slots: &[Slot<T::Key, C>],
+    key: &T::Key,
+) -> Result<usize, usize>
     requires { Parted T.Key.cmp T.key_of slot_first (slot_rows C.rows) slots.now }
     ensures { FirstsSplit T.Key.cmp slot_first key.now slots.now result }
 {
@@ -54,7 +57,7 @@ fn seek<T: CopiedRow, C: Part<T>>(slots: &[Slot<T::Key, C>], key: &T::Key) -> us
     requires some { 0 < length slots.now }
     ensures { Leads T.Key.cmp T.key_of slot_first (slot_rows C.rows) key.now slots.now result }
 {
-    match place::<T, C>(slots, key) {
+    match position::<T, C>(slots, key) {
         Ok(at) => at,
         Err(0) => 0,
         Err(at) => at - 1,
@@ -68,7 +71,7 @@ fn split<T: CopiedRow, C: Part<T>>(
     at: usize,
 ) -> Result<(), AllocError>
     requires parted { Parted T.Key.cmp T.key_of slot_first (slot_rows C.rows) slots.old.items }
-    requires place { at < length slots.old.items }
+    requires position { at < length slots.old.items }
     ensures parted { Parted T.Key.cmp T.key_of slot_first (slot_rows C.rows) slots.new.items }
     ensures rows { rows_of (slot_rows C.rows) slots.new.items ≡ rows_of (slot_rows C.rows) slots.old.items }
     ensures some { 0 < length slots.new.items }
@@ -190,9 +193,9 @@ fn total<T: CopiedRow, C: Part<T>>(slots: &[Slot<T::Key, C>]) -> Result<usize, A
     Ok(count)
 }
 
-/// The number of rows of the parts in front of a place.
+/// The number of rows of the parts in front of a position.
 fn count_before<T: CopiedRow, C: Part<T>>(slots: &[Slot<T::Key, C>], at: usize) -> usize
-    requires place { at ≤ length slots.now }
+    requires position { at ≤ length slots.now }
     requires fits { length (rows_of (slot_rows C.rows) slots.now) < 2 ^ 64 }
     ensures { result ≡ length (rows_of (slot_rows C.rows) (take at slots.now)) }
 {
@@ -283,8 +286,8 @@ impl<T: CopiedRow, C: Part<T>> Part<T> for Level<T, C> {
         }
     }
 
-    fn run_from(&self, place: usize) -> &[T] {
-        let mut left = place;
+    fn run_from(&self, position: usize) -> &[T] {
+        let mut left = position;
         for slot in &self.slots {
             let count = slot.part.len();
             if left < count {

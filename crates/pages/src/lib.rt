@@ -15,6 +15,6 @@ mod walk;
 mod walk_type;
 
 pub use row::{CopiedRow, Row};
-pub use search::place;
+pub use search::position;
 pub use table::Table;
 pub use walk_type::Rows;

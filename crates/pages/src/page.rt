@@ -5,7 +5,7 @@ ghost use Rattle.pages.specs.Inner.Below.{count_below};
 
 use crate::part::Part;
 use crate::row::CopiedRow;
-use crate::search::place;
+use crate::search::position;
 use std::alloc::{AllocError, Global};
 use std::marker::Model;
 
@@ -73,7 +73,7 @@ impl<T: CopiedRow> Part<T> for Page<T> {
     }
 
     fn get(&self, key: &T::Key) -> Option<&T> {
-        match place(&self.rows, key) {
+        match position(&self.rows, key) {
             Ok(at) => Some(&self.rows[at]),
             Err(_) => None,
         }
@@ -88,9 +88,9 @@ impl<T: CopiedRow> Part<T> for Page<T> {
         self.rows.get(at)
     }
 
-    fn run_from(&self, place: usize) -> &[T] {
-        if place < self.rows.len() {
-            &self.rows[place..]
+    fn run_from(&self, position: usize) -> &[T] {
+        if position < self.rows.len() {
+            &self.rows[position..]
         } else {
             &self.rows[..0]
         }
@@ -112,7 +112,7 @@ impl<T: CopiedRow> Part<T> for Page<T> {
     }
 
     fn put(&mut self, _alloc: Global, row: T) -> Result<bool, AllocError> {
-        match place(&self.rows, row.key()) {
+        match position(&self.rows, row.key()) {
             Ok(at) => {
                 self.rows[at] = row;
                 Ok(false)
@@ -125,7 +125,7 @@ impl<T: CopiedRow> Part<T> for Page<T> {
     }
 
     fn cut(&mut self, _alloc: Global, key: &T::Key) -> Result<(), AllocError> {
-        if let Ok(at) = place(&self.rows, key) {
+        if let Ok(at) = position(&self.rows, key) {
             let _ = self.rows.remove(at);
         }
         Ok(())

@@ -37,9 +37,9 @@ pub(crate) trait Part<T: CopiedRow>: Drop {
     fn first_from(&self, key: &T::Key) -> Option<&T>
         ensures { option_map (λ row. row.now) result ≡ slice_get (rows_from T.Key.cmp T.key_of key.now (rows self.now)) 0 };
 
-    /// Some rows from a place on, at least one where there is one.
-    fn run_from(&self, place: usize) -> &[T]
-        ensures { IsRun (rows self.now) place result.now };
+    /// Some rows from a position on, at least one where there is one.
+    fn run_from(&self, position: usize) -> &[T]
+        ensures { IsRun (rows self.now) position result.now };
 
     /// The same rows once more, which shares the parts below.
     fn copied(&self, alloc: Global) -> Result<Self, AllocError>

@@ -96,11 +96,12 @@ impl<T: CopiedRow> Table<T> {
         self.root.len()
     }
 
-    /// Some rows from a place in the order of the keys on, from 0: at least one where there is one.
-    pub fn run_from(&self, place: usize) -> &[T]
-        ensures { IsRun self.now place result.now }
+    /// Some rows from a position in the order of the keys on, from 0: at least one where there is
+    /// one.
+    pub fn run_from(&self, position: usize) -> &[T]
+        ensures { IsRun self.now position result.now }
     {
-        self.root.run_from(place)
+        self.root.run_from(position)
     }
 
     /// The first row whose key is not below a key, if there is one. It takes time in the logarithm
@@ -118,11 +119,11 @@ impl<T: CopiedRow> Table<T> {
         self.root.count_below(key)
     }
 
-    /// The row at a place in the order of the keys, from 0; none past the last.
-    pub fn at(&self, place: usize) -> Option<&T>
-        ensures { option_map (λ row. row.now) result ≡ slice_get self.now place }
+    /// The row at a position in the order of the keys, from 0; none past the last.
+    pub fn at(&self, position: usize) -> Option<&T>
+        ensures { option_map (λ row. row.now) result ≡ slice_get self.now position }
     {
-        self.run_from(place).first()
+        self.run_from(position).first()
     }
 
     /// The row of the greatest key, if there are rows.

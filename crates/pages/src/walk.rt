@@ -16,7 +16,7 @@ impl<T: CopiedRow> Table<T> {
     {
         Rows {
             table: self,
-            place: 0,
+            position: 0,
             run: &[],
         }
     }
@@ -28,7 +28,7 @@ impl<T: CopiedRow> Table<T> {
         self.ranges();
         Rows {
             table: self,
-            place: self.count_below(key),
+            position: self.count_below(key),
             run: &[],
         }
     }
@@ -41,8 +41,8 @@ fn fill<'a, T: CopiedRow>(rows: &mut Rows<'a, T>)
 {
     if rows.run.is_empty() {
         let _count = rows.table.len();
-        rows.run = rows.table.run_from(rows.place);
-        rows.place += rows.run.len();
+        rows.run = rows.table.run_from(rows.position);
+        rows.position += rows.run.len();
     }
 }
 

@@ -10,7 +10,7 @@ use Rattle.picture.specs.declared.record.Record.{Record}
 use Rattle.picture.specs.declared.record.Sending.{Sending}
 use Rattle.picture.specs.declared.shape.Shape.{Shape}
 use Rattle.picture.specs.declared.ink.Stroke.TheVariants as strokes
-use Rattle.picture.specs.Inner.Places.{point_at, side_towards}
+use Rattle.picture.specs.Inner.Positions.{point_at, side_towards}
 use Rattle.picture.specs.Inner.Shapes.{line_text}
 use Rattle.picture.specs.Pictures.{IsPicture, IsRunPicture, run_title}
 use Rattle.picture.specs.Inner.Records.{is_lost}

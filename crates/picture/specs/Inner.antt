@@ -1,5 +1,5 @@
 pub mod Shapes
-pub mod Places
+pub mod Positions
 pub mod Notes
 pub mod Actors
 pub mod Records

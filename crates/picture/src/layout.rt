@@ -1,6 +1,6 @@
 //! Where everything stands, in pixels from the upper left corner.
 ghost use Rattle.std.specs.Prelude.{◌≡◌, ◌<◌, ◌≤◌, ◌+◌, ◌*◌};
-ghost use Rattle.picture.specs.Inner.Places.{down_by, up_by, aside_by, side_towards, opposite, distance, pitch, lifeline_x, column_x, row_y, point_at, slot_at, names_again, names_between};
+ghost use Rattle.picture.specs.Inner.Positions.{down_by, up_by, aside_by, side_towards, opposite, distance, pitch, lifeline_x, column_x, row_y, point_at, slot_at, names_again, names_between};
 
 use crate::record::{Record, Sending};
 use rows::NoMemory;
@@ -210,7 +210,7 @@ impl Layout {
         };
         let deepest = depths.last().copied().unwrap_or(0);
         let acted = acted_in(alloc, drawn)?;
-        let (places, shown) = places_of(alloc, &acted)?;
+        let (places, shown) = positions_of(alloc, &acted)?;
         Ok(Layout {
             tops,
             slots,
@@ -306,7 +306,7 @@ fn acted_in(alloc: Global, drawn: &Record) -> Result<Vec<bool>, NoMemory> {
 }
 
 // Which of those that are drawn each lifeline is, and how many these are.
-fn places_of(alloc: Global, acted: &[bool]) -> Result<(Vec<Option<usize>>, usize), NoMemory> {
+fn positions_of(alloc: Global, acted: &[bool]) -> Result<(Vec<Option<usize>>, usize), NoMemory> {
     let mut shown = 0usize;
     let mut places = Vec::new(alloc);
     for is_shown in acted {

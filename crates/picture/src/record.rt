@@ -5,7 +5,7 @@ ghost use Rattle.std.specs.List.{count_by};
 ghost use Rattle.std.specs.Option.{unwrap_or};
 ghost use Rattle.picture.specs.Inner.Actors.{actor_in, server_face, client_face, face_in, IsNextInTrace, RefusedAs};
 ghost use Rattle.picture.specs.Inner.Records.{lifeline_of, column_within, delivered_place, message_in, arrived, had_come, taken_message, as_sent, receiver_line, is_lost, TakesRow, KeepsActors};
-ghost use Rattle.picture.specs.Inner.Places.{capped};
+ghost use Rattle.picture.specs.Inner.Positions.{capped};
 
 use client_agent::Agent;
 use raft_core::Role;
@@ -225,7 +225,7 @@ impl Record {
     {
         match actor {
             None => None,
-            Some(Actor::Server(id)) => within(id.place(), self.servers),
+            Some(Actor::Server(id)) => within(id.position(), self.servers),
             Some(Actor::Client(id)) => {
                 let behind = usize::from(id.number()) - 1;
                 within(self.servers.saturating_add(behind), self.columns())

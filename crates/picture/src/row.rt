@@ -2,7 +2,7 @@
 ghost use Rattle.std.specs.Prelude.{◌≡◌, slice_get, OnOk, IfOk, string_bytes};
 ghost use Rattle.picture.specs.Inner.Drawn.{Draws};
 ghost use Rattle.picture.specs.Inner.Labels.{named_label, refused_label, sent_label, said_ink, said_text};
-ghost use Rattle.picture.specs.Inner.Rows.{event_number, message_number, origin_at, origin_number, numbers_text, tick_text, mark_text, label_side, note_room};
+ghost use Rattle.picture.specs.Inner.Rows.{event_number, message_number, origin_at, origin_number, numbers_text, tick_text, mark_text, label_side, note_width};
 
 use crate::ink::{Ink, Spot, Stroke};
 use crate::input_label::{event_label, named_label};
@@ -63,9 +63,9 @@ pub(crate) fn draw_row(
     label(shapes, at.aside(side, shift), side, ink, text)
 }
 
-// How much room a note takes.
+// How wide a note is.
 fn shift_of(note: &str) -> u64
-    ensures { result ≡ note_room note.now }
+    ensures { result ≡ note_width note.now }
 {
     if note.is_empty() {
         0

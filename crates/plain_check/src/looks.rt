@@ -52,8 +52,8 @@ fn server_fault(world: &World, place: usize) -> Option<Fault> {
     state_fault(server_at(world, place)?.state()?)
 }
 
-fn server_at(world: &World, place: usize) -> Option<&Server> {
-    world.server(ServerId::from_place(place)?)
+fn server_at(world: &World, position: usize) -> Option<&Server> {
+    world.server(ServerId::from_position(position)?)
 }
 
 // Whether each server has the text that was seen at as many entries, if one was.

@@ -88,13 +88,13 @@ impl PlanQueue {
         if self.plans.is_empty() {
             return None;
         }
-        let at = first_place(&self.plans);
+        let at = first_position(&self.plans);
         Some(self.plans.remove(at))
     }
 }
 
 /// The place of the plan that goes first, from 0.
-fn first_place(plans: &[QueuedPlan]) -> usize
+fn first_position(plans: &[QueuedPlan]) -> usize
     requires { 0 < length plans.now }
     ensures { IsFirstAt plans.now result }
 {

@@ -7,11 +7,11 @@ use Rattle.rows.specs.declared.refusal.NoMemory.{NoMemory}
 use Rattle.rows.specs.declared.refusal.Refusal.{Refusal}
 use Rattle.rows.specs.declared.refusal.Refusal.TheVariants as refusals
 use Rattle.rows.specs.declared.worker.Work.{Work}
-use Rattle.raft_model.specs.Servers.{is_up}
-use Rattle.group_model.specs.Members.{Member}
+use Rattle.raft_model.specs.Rafts.{is_up}
+use Rattle.group_model.specs.Servers.{Server}
 use Rattle.group_model.specs.Worlds.{Event}
 use Rattle.server.specs.declared.server_input.ServerInput.{ServerInput}
-use Rattle.server.specs.ServerViews.{IsMember, ServerView}
+use Rattle.server.specs.ServerViews.{IsServer, ServerView}
 use Rattle.world.specs.GroupView.{GroupView}
 use Rattle.workers.specs.PlanCounts.{WorkersView}
 use Rattle.playing.specs.declared.play.Play.{Play}
@@ -21,10 +21,10 @@ use Rattle.playing.specs.PlayWork.{IsAsked, WorkRefused, WorkersAsk, own_event}
 -- ---- whether a server is up
 
 module _ (world : GroupView) (server : ℕ) (view : ServerView) (at : Some view ≡ slice_get world.servers server) where
-  pub down_in : ((s : Member) → IsMember view s → is_up s.raft.mode ≡ false) → IsDownIn world server
+  pub down_in : ((s : Server) → IsServer view s → is_up s.raft.mode ≡ false) → IsDownIn world server
   down_in down other there s is = let same : other ≡ view = cc in down s (rw same at is)
 
-  pub up_or_down : (applied : Option ℕ) → ((s : Member) → IsMember view s → MatchOption applied (is_up s.raft.mode ≡ false) (λ n. (is_up s.raft.mode ≡ true) × (n ≡ s.raft.commit))) → MatchBool (is_some applied) (IsUpIn world server) (IsDownIn world server)
+  pub up_or_down : (applied : Option ℕ) → ((s : Server) → IsServer view s → MatchOption applied (is_up s.raft.mode ≡ false) (λ n. (is_up s.raft.mode ≡ true) × (n ≡ s.raft.commit))) → MatchBool (is_some applied) (IsUpIn world server) (IsDownIn world server)
   up_or_down None says = down_in says
   up_or_down (Some n) says = record { view = view; at = sym at; up = λ s is. (says s is).0 }
 

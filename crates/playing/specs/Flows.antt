@@ -6,7 +6,7 @@ use Rattle.lossy_net.specs.declared.message_fate.MessageFate.TheVariants as fate
 use Rattle.lossy_net.specs.Fates.{HasFate}
 use Rattle.lossy_net.specs.Words.{Keystream, nth_word}
 use Rattle.rows.specs.declared.refusal.Refusal.{Refusal}
-use Rattle.world.specs.Events.{place_of}
+use Rattle.world.specs.Events.{position_of}
 use Rattle.scenario_file.specs.declared.scenario.Order.{Order}
 use Rattle.scenario_file.specs.declared.scenario.Order.TheVariants as orders
 use Rattle.playing.specs.declared.play.Play.{Play}
@@ -24,22 +24,22 @@ words_left words = record words { drawn = (words.drawn + 1) % 2 ^ 68 }
 -- ---- which message is taken
 
 -- its place among those in flight: the one in front; or by lot, as the next word says
-abbrev pub place_taken : Order → Keystream → ℕ → ℕ
-place_taken orders.Sent words count = 0
-place_taken orders.Any words count = next_word words % count
+abbrev pub position_taken : Order → Keystream → ℕ → ℕ
+position_taken orders.Sent words count = 0
+position_taken orders.Any words count = next_word words % count
 
 abbrev pub words_after : Order → Keystream → Keystream
 words_after orders.Sent words = words
 words_after orders.Any words = words_left words
 
-abbrev pub place_in : Play → ℕ
-place_in play = place_taken play.order play.fates (length play.flight.waiting)
+abbrev pub position_in : Play → ℕ
+position_in play = position_taken play.order play.fates (length play.flight.waiting)
 
 -- the message is no longer in flight, and nothing else changed but that its word is drawn
 pub record MessageTaken (old : Play) (message : ℕ) (new : Play) : Type 0 where
-  pub taken : slice_get old.flight.waiting (place_in old) ≡ Some message
+  pub taken : slice_get old.flight.waiting (position_in old) ≡ Some message
   pub rest : new ≡ record old {
-    flight = record old.flight { waiting = remove old.flight.waiting (place_in old) };
+    flight = record old.flight { waiting = remove old.flight.waiting (position_in old) };
     fates = words_after old.order old.fates;
   }
 
@@ -47,7 +47,7 @@ pub record MessageTaken (old : Play) (message : ℕ) (new : Play) : Type 0 where
 
 -- it comes to its receiver
 abbrev pub arrival : ℕ → Event
-arrival message = Deliver (place_of message)
+arrival message = Deliver (position_of message)
 
 -- its receiver refuses it, and it is lost
 abbrev pub IsNotTaken : Play → ℕ → Play → Type 0

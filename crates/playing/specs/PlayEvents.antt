@@ -4,10 +4,10 @@ use Rattle.rows.specs.declared.actor.Actor.{Actor}
 use Rattle.rows.specs.declared.actor.Actor.TheVariants as actors
 use Rattle.rows.specs.declared.refusal.Refusal.{Refusal}
 use Rattle.rows.specs.declared.refusal.Refusal.TheVariants as refusals
-use Rattle.raft_model.specs.Servers.{is_up}
-use Rattle.group_model.specs.Members.{Member}
+use Rattle.raft_model.specs.Rafts.{is_up}
+use Rattle.group_model.specs.Servers.{Server}
 use Rattle.group_model.specs.Worlds.{Event, Deliver, AtServer, AtClient}
-use Rattle.server.specs.ServerViews.{ServerView, IsMember}
+use Rattle.server.specs.ServerViews.{ServerView, IsServer}
 use Rattle.world.specs.declared.done.Done.{Done}
 use Rattle.world.specs.GroupSteps.{IsGroupDone, RefusesGroupEvent, SameView}
 use Rattle.world.specs.GroupView.{GroupView}
@@ -34,13 +34,13 @@ server_of world (AtClient client input) = None
 pub record IsUpIn (world : GroupView) (server : ℕ) : Type 0 where
   pub view : ServerView
   pub at : slice_get world.servers server ≡ Some view
-  pub up : (s : Member) → IsMember view s → is_up s.raft.mode ≡ true
+  pub up : (s : Server) → IsServer view s → is_up s.raft.mode ≡ true
 
 -- if the group has it, it is down
 abbrev pub IsDownIn : GroupView → ℕ → Type 0
 IsDownIn world server =
     (view : ServerView) → slice_get world.servers server ≡ Some view
-    → (s : Member) → IsMember view s → is_up s.raft.mode ≡ false
+    → (s : Server) → IsServer view s → is_up s.raft.mode ≡ false
 
 -- ---- what came for workers
 

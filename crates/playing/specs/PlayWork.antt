@@ -2,14 +2,14 @@
 use Rattle.std.specs.Prelude.{◌≡◌, ◌⊎◌, ◌∷◌, ℕ, true, Option, Some, None, List, [], slice_get, slice_set}
 use Rattle.rows.specs.declared.refusal.Refusal.{Refusal}
 use Rattle.rows.specs.declared.worker.Work.{Work}
-use Rattle.raft_model.specs.Servers.{is_up}
+use Rattle.raft_model.specs.Rafts.{is_up}
 use Rattle.group_model.specs.Desks.{applied_state}
-use Rattle.group_model.specs.Members.{Member}
+use Rattle.group_model.specs.Servers.{Server}
 use Rattle.group_model.specs.NextStep as steps
 use Rattle.group_model.specs.Worlds.{AtServer, Event}
 use Rattle.server.specs.declared.server_input.ServerInput.{ServerInput}
 use Rattle.server.specs.Handings.{handing}
-use Rattle.server.specs.ServerViews.{IsMember, ServerView}
+use Rattle.server.specs.ServerViews.{IsServer, ServerView}
 use Rattle.workers.specs.declared.server_workers.Handled.{Handled}
 use Rattle.workers.specs.declared.server_workers.Handled.TheVariants as handled
 use Rattle.workers.specs.PlanCounts.{CountsStep, WorkersView, plans_under}
@@ -24,8 +24,8 @@ use Rattle.playing.specs.PlayEvents.{EventRefused, EventTaken, IsDownIn}
 pub record IsNext (world : GroupView) (server : ℕ) (work : Work) (plans : ℕ) (step : steps.WorkerStep) : Type 0 where
   pub view : ServerView
   pub at : slice_get world.servers server ≡ Some view
-  pub up : (s : Member) → IsMember view s → is_up s.raft.mode ≡ true
-  pub next : (s : Member) → IsMember view s →
+  pub up : (s : Server) → IsServer view s → is_up s.raft.mode ≡ true
+  pub next : (s : Server) → IsServer view s →
       steps.IsNextStep (applied_state s.raft) s.raft.commit work.response plans step
 
 -- the input by which what a worker asks is sent, if it asks for anything

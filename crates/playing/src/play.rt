@@ -160,7 +160,7 @@ impl Play {
         }) }
     {
         if !is_up(&self.world, server) {
-            self.workers[server.place()].forget();
+            self.workers[server.position()].forget();
             let _lost = self.world.take_work();
             return Ok(());
         }
@@ -168,7 +168,7 @@ impl Play {
             return Ok(());
         }
         let work = self.world.take_work();
-        let workers = &mut self.workers[server.place()];
+        let workers = &mut self.workers[server.position()];
         workers.admit(work)
     }
 
@@ -179,7 +179,7 @@ impl Play {
         ensures refused { IfErr result (λ refusal. refusal ≢ refusals.NoMemory
             → WorkRefused self.old server refusal self.new) }
     {
-        let own = &mut self.workers[server.place()];
+        let own = &mut self.workers[server.position()];
         let Some(input) = asked(self.alloc, &self.world, server, own)? else {
             return Ok(());
         };

@@ -11,7 +11,7 @@ use Rattle.raft_snapshot.proofs.Shown.{may_fill}
 use Rattle.raft_snapshot.proofs.Snapshots.{beat-filled}
 use Rattle.raft_model.specs.Messages.{Body, Message, Install, to_others}
 use Rattle.raft_model.specs.Quorums.{index_at}
-use Rattle.raft_model.specs.Servers.{Server, Leader, is_up, beat_body, beat_message}
+use Rattle.raft_model.specs.Rafts.{Raft, Leader, is_up, beat_body, beat_message}
 use Rattle.raft_core.specs.declared.role.Role.{Role}
 use Rattle.raft_core.specs.declared.role.Role.TheVariants as roles
 use Rattle.raft_core.specs.Inner.Beats.{body_from, sent_from}
@@ -34,7 +34,7 @@ others-same me f g (suc n) same =
     let e : f n ≡ g n = same n (omega arith) in
     let r : to_others me f n ≡ to_others me g n = others-same me f g n (λ j below. same j (omega arith)) in rw (e, r) refl
 
-module _ {S C : Type 0} (m : Meaning S C) (base : Base S) (shown : Server C) (is : IsShown base shown) (covered : List (Entry C)) (fits : IsBaseOf m base covered) where
+module _ {S C : Type 0} (m : Meaning S C) (base : Base S) (shown : Raft C) (is : IsShown base shown) (covered : List (Entry C)) (fits : IsBaseOf m base covered) where
   -- what the code sends is what the leader owes whose covered entries these are
   owed : (me next to : ℕ) → sent_from me shown.term shown.commit covered shown.log next to ≡ record { from = me; to = to; term = shown.term; body = beat_body (filled covered shown) next }
   owed me next to =

@@ -7,7 +7,7 @@ use Rattle.std.proofs.lemmas.Option.{slice_get-get_or}
 use Rattle.machine_model.specs.declared.entry.Entry.{Entry}
 use Rattle.raft_model.specs.Logs.{term_at}
 use Rattle.raft_model.specs.Quorums.{count, is_quorum, Quorum, index_at, or_else}
-use Rattle.raft_model.specs.Servers.{Server, Leader, advanced, advanced_in, is_chosen, greatest}
+use Rattle.raft_model.specs.Rafts.{Raft, Leader, advanced, advanced_in, is_chosen, greatest}
 use Rattle.raft_core.specs.Commits.{holds_index, IsGreatest, IsChosen, IsRisen}
 use Rattle.raft_core.specs.Inner.Commits.{is_chosen_in}
 use Rattle.raft_core.proofs.Quorums.{count-next}
@@ -74,7 +74,7 @@ module _ (test : ℕ → Bool) (low : ℕ) where
       let b = nat_lt low (suc k) && test (suc k) in
       rw (greatest-suc k b refl) (step-is k b refl (is_greatest k))
 
-module _ {C : Type 0} (n me : ℕ) (s : Server C) (match : List ℕ) where
+module _ {C : Type 0} (n me : ℕ) (s : Raft C) (match : List ℕ) where
   is-chosen : (k : ℕ) → k ≤ length s.log → is_chosen n me s match k ≡ true → IsChosen n me s match k
   unfolding is_quorum Quorum
   is-chosen k le e =
@@ -100,7 +100,7 @@ module _ {C : Type 0} (n me : ℕ) (s : Server C) (match : List ℕ) where
   }
 
 -- a leader's commit index after a rise
-pub risen_commit : {C : Type 0} (n me : ℕ) (s : Server C) (next match : List ℕ) → s.mode ≡ Leader next match → IsRisen n me s match (advanced n me s).commit
+pub risen_commit : {C : Type 0} (n me : ℕ) (s : Raft C) (next match : List ℕ) → s.mode ≡ Leader next match → IsRisen n me s match (advanced n me s).commit
 risen_commit n me s next match leads =
     let test = is_chosen n me s match in
     subst (λ mode. IsRisen n me s match (advanced_in n me s mode).commit) (sym leads) (risen-means n me s match (greatest test s.commit (length s.log)) (is_greatest test s.commit (length s.log)))

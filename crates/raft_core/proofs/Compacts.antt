@@ -6,18 +6,18 @@ use Rattle.machine_model.specs.Meaning.{Meaning}
 use Rattle.machine_model.specs.After.{after_from}
 use Rattle.machine_model.specs.declared.entry.Entry.{Entry}
 use Rattle.raft_model.specs.Logs.{term_at, commands}
-use Rattle.raft_model.specs.Servers.{Server, Mode, is_up}
+use Rattle.raft_model.specs.Rafts.{Raft, Mode, is_up}
 use Rattle.raft_snapshot.specs.Bases.{Base, blank, state_from}
 use Rattle.raft_snapshot.specs.Shown.{IsShown, compacted_base, compacted_shown}
 use Rattle.raft_snapshot.proofs.Applies.{state_from-append}
 use Rattle.raft_snapshot.proofs.Blanks.{blank-length}
 use Rattle.raft_core.specs.declared.role.Role.{Role}
 use Rattle.raft_core.specs.declared.role.Role.TheVariants as roles
-use Rattle.raft_core.specs.RaftView.{RaftView, IsUpToCommit, IsAhead, HasElectionRoom, IsRaft, while_up}
+use Rattle.raft_core.specs.RaftView.{RaftView, IsUpToCommit, IsAhead, HasElectionIndex, IsRaft, while_up}
 use Rattle.raft_core.specs.Inner.Moves.{Compacts}
 use Rattle.raft_core.proofs.Lives.{state_none}
 
-module _ {S C : Type 0} (m : Meaning S C) (base : Base S) (shown : Server C) where
+module _ {S C : Type 0} (m : Meaning S C) (base : Base S) (shown : Raft C) where
   -- where nothing is newly applied, it is as it was
   pub same_base : IsShown base shown → shown.commit ≡ base.index → compacted_base m base shown ≡ base
   same_base is same =
@@ -35,7 +35,7 @@ module _ {S C : Type 0} (m : Meaning S C) (base : Base S) (shown : Server C) whe
 pub compacted_already : {S C : Type 0} (m : Meaning S C) (old : RaftView S C) (base : Base S) (machine : Option S) (me size term : ℕ) (vote : Option ℕ) (log : List (Entry C)) (commit : ℕ) (known : Option ℕ) (mode : Mode) (held : Bool) → record { me = me; size = size; base = base; server = while_up machine (record { term = term; vote = vote; log = log; covered = base.index; commit = commit; known = known; mode = mode }); projected = held } ≡ old → is_up old.server.mode ≡ true → IsShown old.base old.server → commit ≡ base.index → log ≡ blank m base.index base.term ++ drop base.index log → Compacts m old old
 compacted_already m old base None me size term vote log commit known mode held old-is up shown same blanks = absurd (let down : false ≡ true = rw (← old-is) at up in cc)
 compacted_already m old base (Some machine) me size term vote log commit known mode held old-is up shown same blanks =
-    let s : Server _ = record { term = term; vote = vote; log = log; covered = base.index; commit = commit; known = known; mode = mode } in
+    let s : Raft _ = record { term = term; vote = vote; log = log; covered = base.index; commit = commit; known = known; mode = mode } in
     let is : IsShown base s = rw (← old-is) at shown in
     rw (← old-is) (record {
       up = rw (← old-is) at up;
@@ -75,10 +75,10 @@ module _ {S C : Type 0} (m : Meaning S C) (base now : Base S) (log new : List (E
   leads role machine None is = tt
   leads role machine (Some a) is = record { up = is.up; leads = is.leads; state = is.state ∙ sym whole }
 
-  rooms : (role : Role) → HasElectionRoom role log → HasElectionRoom role new
-  rooms roles.Follower room = tt
-  rooms roles.Candidate room = omega (arith, size, room)
-  rooms roles.Leader room = tt
+  indexes_left : (role : Role) → HasElectionIndex role log → HasElectionIndex role new
+  indexes_left roles.Follower index_left = tt
+  indexes_left roles.Candidate index_left = omega (arith, size, index_left)
+  indexes_left roles.Leader index_left = tt
 
   -- what its type keeps
   pub compacted_keeps : (me size term : ℕ) (role : Role) (votes : List Bool) (next matched : List ℕ) (s : S) (ahead : Option S) → IsRaft m me size term base log role commit votes next matched (Some s) ahead → IsRaft m me size term now new role commit votes next matched (Some s) ahead
@@ -86,7 +86,7 @@ module _ {S C : Type 0} (m : Meaning S C) (base now : Base S) (log new : List (E
     number = kept.number;
     group = kept.group;
     elected = kept.elected;
-    room = rooms role kept.room;
+    index_left = indexes_left role kept.index_left;
     votes_each = kept.votes_each;
     next_each = kept.next_each;
     next_least = kept.next_least;

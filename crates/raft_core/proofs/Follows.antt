@@ -6,8 +6,8 @@ use Rattle.machine_model.specs.Meaning.{Meaning}
 use Rattle.machine_model.specs.declared.entry.Entry.{Entry}
 use Rattle.raft_model.specs.Logs.{has, merge}
 use Rattle.raft_model.specs.Messages.{Append, AppendReply}
-use Rattle.raft_model.specs.Servers.{Server, is_leader, met, following, appended, follows_append, reply, silent}
-use Rattle.raft_model.specs.Servers.{Follower as FollowerMode}
+use Rattle.raft_model.specs.Rafts.{Raft, is_leader, met, following, appended, follows_append, reply, silent}
+use Rattle.raft_model.specs.Rafts.{Follower as FollowerMode}
 use Rattle.raft_model.specs.Steps.{receives}
 use Rattle.wire.specs.Frames.{Frame}
 use Rattle.raft_core.specs.RaftView.{RaftView}
@@ -16,10 +16,10 @@ use Rattle.raft_core.specs.Frames.{Sends}
 use Rattle.raft_core.specs.Inner.Turns.{TurnTaken}
 
 -- what follows the sender of an Append of its own term or a greater one
-abbrev pub follower : {C : Type 0} → Server C → ℕ → ℕ → List (Entry C) → ℕ → Option ℕ → Server C
+abbrev pub follower : {C : Type 0} → Raft C → ℕ → ℕ → List (Entry C) → ℕ → Option ℕ → Raft C
 follower s term from log commit vote = record { term = term; vote = vote; log = log; covered = s.covered; commit = commit; known = Some from; mode = FollowerMode }
 
-module _ {C : Type 0} (s : Server C) (term from : ℕ) (le : s.term ≤ term) where
+module _ {C : Type 0} (s : Raft C) (term from : ℕ) (le : s.term ≤ term) where
   pub followed : following (met term s) from ≡ follower s term from s.log s.commit (met term s).vote
   followed = elim (leb_tells term s.term) [
     | inl t ↦ let same : s.term ≡ term = omega (arith, t.1, le) in let b : nat_lt s.term term ≡ false = le-ltb s.term term t.1 in rw b (ap (λ (x : ℕ). follower s x from s.log s.commit s.vote) same)
@@ -57,7 +57,7 @@ module _ {S C : Type 0} (m : Meaning S C) (old new : RaftView S C) (before after
       subst (λ t. TurnTaken m old.base old new before after t) (sym (ap (λ x. follows_append old.me x from prev prev_term commit entries) s ∙ turn))
       (record { server = ap (λ x. x.server) is ∙ last ∙ taken; base = ap (λ x. x.base) is; me = ap (λ x. x.me) is; size = ap (λ x. x.size) is; sent = sent })
 
-module _ {C : Type 0} (noop : C) (n me : ℕ) (s : Server C) (from term prev prev_term commit : ℕ) (entries : List (Entry C)) where
+module _ {C : Type 0} (noop : C) (n me : ℕ) (s : Raft C) (from term prev prev_term commit : ℕ) (entries : List (Entry C)) where
   -- a leader is silent to one of its own term
   pub append_own : s.term ≡ term → is_leader s.mode ≡ true → receives noop n me (met term s) from term (Append prev prev_term commit entries) ≡ silent s
   append_own same leads =

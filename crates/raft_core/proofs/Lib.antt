@@ -11,4 +11,5 @@ pub mod Replies
 pub mod Sends
 pub mod Stepping
 pub mod Stores
+pub mod Tickets
 pub mod Follows

@@ -7,8 +7,8 @@ use Rattle.machine_model.specs.declared.entry.Entry.{Entry}
 use Rattle.machine_model.specs.After.{after_from}
 use Rattle.raft_model.specs.Logs.{commands}
 use Rattle.raft_snapshot.specs.Bases.{Base, state_from}
-use Rattle.raft_model.specs.Servers.{Server, is_up, is_leader, extended}
-use Rattle.raft_core.specs.RaftView.{IsUpToCommit, IsAhead, HasElectionRoom, HasTerm, IsRaft, while_up, mode_of}
+use Rattle.raft_model.specs.Rafts.{Raft, is_up, is_leader, extended}
+use Rattle.raft_core.specs.RaftView.{IsUpToCommit, IsAhead, HasElectionIndex, HasTerm, IsRaft, while_up, mode_of}
 use Rattle.raft_core.specs.declared.role.Role.{Role}
 use Rattle.raft_core.specs.declared.role.Role.TheVariants as roles
 
@@ -64,12 +64,12 @@ module _ {S C : Type 0} (m : Meaning S C) where
   }
 
   -- one more entry
-  pub grown : (me size term : ℕ) (base : Base S) (log : List (Entry C)) (e : Entry C) (old new : Role) (commit : ℕ) (votes : List Bool) (next matched : List ℕ) (machine was is : Option S) → IsRaft m me size term base log old commit votes next matched machine was → HasTerm new term → HasElectionRoom new (log ++ e ∷ []) → IfSome is (IsAhead m base (log ++ e ∷ []) new machine) → IsRaft m me size term base (log ++ e ∷ []) new commit votes next matched machine is
-  grown me size term base log e old new commit votes next matched machine was is kept elected room ahead = record {
+  pub grown : (me size term : ℕ) (base : Base S) (log : List (Entry C)) (e : Entry C) (old new : Role) (commit : ℕ) (votes : List Bool) (next matched : List ℕ) (machine was is : Option S) → IsRaft m me size term base log old commit votes next matched machine was → HasTerm new term → HasElectionIndex new (log ++ e ∷ []) → IfSome is (IsAhead m base (log ++ e ∷ []) new machine) → IsRaft m me size term base (log ++ e ∷ []) new commit votes next matched machine is
+  grown me size term base log e old new commit votes next matched machine was is kept elected index_left ahead = record {
     number = kept.number;
     group = kept.group;
     elected = elected;
-    room = room;
+    index_left = index_left;
     votes_each = kept.votes_each;
     next_each = kept.next_each;
     next_least = kept.next_least;
@@ -89,7 +89,7 @@ module _ {S C : Type 0} (m : Meaning S C) where
     number = is.number;
     group = is.group;
     elected = is.elected;
-    room = is.room;
+    index_left = is.index_left;
     votes_each = is.votes_each;
     next_each = next_each;
     next_least = filled_least next n first size begins least next_each;
@@ -100,12 +100,12 @@ module _ {S C : Type 0} (m : Meaning S C) where
   }
 
 -- what others are known to hold, of one that is up
-pub up_levels : {S C : Type 0} (m : Meaning S C) (base : Base S) (log : List (Entry C)) (commit : ℕ) (matched : List ℕ) (machine : Option S) (s : Server C) → is_up (while_up machine s).mode ≡ true → IfSome machine (IsUpToCommit m base log commit matched) → (j : ℕ) → slice_index matched j < 2 ^ 40
+pub up_levels : {S C : Type 0} (m : Meaning S C) (base : Base S) (log : List (Entry C)) (commit : ℕ) (matched : List ℕ) (machine : Option S) (s : Raft C) → is_up (while_up machine s).mode ≡ true → IfSome machine (IsUpToCommit m base log commit matched) → (j : ℕ) → slice_index matched j < 2 ^ 40
 up_levels m base log commit matched None s up live = absurd (cc up)
 up_levels m base log commit matched (Some machine) s up live = live.levels
 
 -- a leader needs no further room
-pub leader_room : {S C : Type 0} (machine : Option S) (term : ℕ) (vote : Option ℕ) (log more : List (Entry C)) (covered commit : ℕ) (known : Option ℕ) (role : Role) (votes : List Bool) (next matched : List ℕ) → is_leader (while_up machine (record { term = term; vote = vote; log = log; covered = covered; commit = commit; known = known; mode = mode_of role votes next matched })).mode ≡ true → HasElectionRoom role more
+pub leader_room : {S C : Type 0} (machine : Option S) (term : ℕ) (vote : Option ℕ) (log more : List (Entry C)) (covered commit : ℕ) (known : Option ℕ) (role : Role) (votes : List Bool) (next matched : List ℕ) → is_leader (while_up machine (record { term = term; vote = vote; log = log; covered = covered; commit = commit; known = known; mode = mode_of role votes next matched })).mode ≡ true → HasElectionIndex role more
 leader_room None term vote log more covered commit known role votes next matched leads = absurd (cc leads)
 leader_room (Some s) term vote log more covered commit known roles.Follower votes next matched leads = tt
 leader_room (Some s) term vote log more covered commit known roles.Candidate votes next matched leads = absurd (cc leads)
@@ -127,15 +127,15 @@ second_behind m base log e role machine (Some s) now new same is kept =
     rw (same, size, is) (kept.state ∙ ap (state_from m base) (sym (take-append_seam log (e ∷ []))))
 
 -- what is stored is seen also of a server that is down
-pub term_up : {S C : Type 0} (machine : Option S) (s : Server C) → (while_up machine s).term ≡ s.term
+pub term_up : {S C : Type 0} (machine : Option S) (s : Raft C) → (while_up machine s).term ≡ s.term
 term_up None s = refl
 term_up (Some machine) s = refl
 
-pub log_up : {S C : Type 0} (machine : Option S) (s : Server C) → (while_up machine s).log ≡ s.log
+pub log_up : {S C : Type 0} (machine : Option S) (s : Raft C) → (while_up machine s).log ≡ s.log
 log_up None s = refl
 log_up (Some machine) s = refl
 
 -- a log that grew by a command, also of a server that is down
-pub extended_by : {S C : Type 0} (machine : Option S) (s : Server C) (command : C) (log : List (Entry C)) → log ≡ s.log ++ record { term = s.term; command = command } ∷ [] → while_up machine (record s { log = log }) ≡ extended (while_up machine s) command
+pub extended_by : {S C : Type 0} (machine : Option S) (s : Raft C) (command : C) (log : List (Entry C)) → log ≡ s.log ++ record { term = s.term; command = command } ∷ [] → while_up machine (record s { log = log }) ≡ extended (while_up machine s) command
 extended_by None s command log is = rw is refl
 extended_by (Some machine) s command log is = rw is refl

@@ -6,7 +6,7 @@ use Rattle.machine_model.specs.Meaning.{Meaning}
 use Rattle.machine_model.specs.declared.entry.Entry.{Entry}
 use Rattle.wire.specs.Frames.{Frame}
 use Rattle.raft_model.specs.Logs.{MAX}
-use Rattle.raft_model.specs.Servers.{Server, Turn, is_up, is_leader, silent, extended}
+use Rattle.raft_model.specs.Rafts.{Raft, RaftTurn, is_up, is_leader, silent, extended}
 use Rattle.raft_model.specs.Steps.{step, unless, Input, Propose}
 use Rattle.raft_snapshot.specs.Bases.{state_from}
 use Rattle.raft_snapshot.specs.Filled.{filled}
@@ -20,35 +20,35 @@ use Rattle.raft_core.specs.Steps.{Represents, Steps, Takes}
 use Rattle.raft_core.specs.Inner.Proposals.{shown_refusal, IsShownRefused}
 use Rattle.raft_core.proofs.Sends.{sends-none}
 
-module _ {S C : Type 0} (m : Meaning S C) (view : RaftView S C) (shown : IsShown view.base view.server) (command : C) (s : Server C) (r : Represents m view s) where
+module _ {S C : Type 0} (m : Meaning S C) (view : RaftView S C) (shown : IsShown view.base view.server) (command : C) (s : Raft C) (r : Represents m view s) where
   length_is : length s.log ≡ length view.server.log
   length_is =
       let may = may_fill m view.base view.server shown r.covered r.fits in
-      ap (λ (x : Server C). length x.log) r.is ∙ filled-length r.covered view.server.log may.within may.term
+      ap (λ (x : Raft C). length x.log) r.is ∙ filled-length r.covered view.server.log may.within may.term
 
   mode_is : s.mode ≡ view.server.mode
-  mode_is = ap (λ (x : Server C). x.mode) r.is
+  mode_is = ap (λ (x : Raft C). x.mode) r.is
 
-  refusal_of : (up leads room : Bool) (known : Option ℕ) (own : Option Refusal) (turn : Turn C) →
-      refusal_by (if up then (if leads then unless (if room then own else Some refusals.Exhausted) turn else Err (refusals.NotLeader known)) else Err refusals.Down)
-      ≡ (if up then (if leads then (if room then own else Some refusals.Exhausted) else Some (refusals.NotLeader known)) else Some refusals.Down)
-  refusal_of false leads room known own turn = refl
-  refusal_of true false room known own turn = refl
+  refusal_of : (up leads index_left : Bool) (known : Option ℕ) (own : Option Refusal) (turn : RaftTurn C) →
+      refusal_by (if up then (if leads then unless (if index_left then own else Some refusals.Exhausted) turn else Err (refusals.NotLeader known)) else Err refusals.Down)
+      ≡ (if up then (if leads then (if index_left then own else Some refusals.Exhausted) else Some (refusals.NotLeader known)) else Some refusals.Down)
+  refusal_of false leads index_left known own turn = refl
+  refusal_of true false index_left known own turn = refl
   refusal_of true true false known own turn = refl
   refusal_of true true true known None turn = refl
   refusal_of true true true known (Some cause) turn = refl
 
-  taken_of : (up leads room : Bool) (known : Option ℕ) (own : Option Refusal) (turn : Turn C) →
-      (if up then (if leads then (if room then own else Some refusals.Exhausted) else Some (refusals.NotLeader known)) else Some refusals.Down) ≡ None →
-      (if up then (if leads then unless (if room then own else Some refusals.Exhausted) turn else Err (refusals.NotLeader known)) else Err refusals.Down) ≡ Ok turn
-  taken_of false leads room known own turn none = absurd (cc)
-  taken_of true false room known own turn none = absurd (cc)
+  taken_of : (up leads index_left : Bool) (known : Option ℕ) (own : Option Refusal) (turn : RaftTurn C) →
+      (if up then (if leads then (if index_left then own else Some refusals.Exhausted) else Some (refusals.NotLeader known)) else Some refusals.Down) ≡ None →
+      (if up then (if leads then unless (if index_left then own else Some refusals.Exhausted) turn else Err (refusals.NotLeader known)) else Err refusals.Down) ≡ Ok turn
+  taken_of false leads index_left known own turn none = absurd (cc)
+  taken_of true false index_left known own turn none = absurd (cc)
   taken_of true true false known own turn none = absurd (cc)
   taken_of true true true known None turn none = refl
   taken_of true true true known (Some cause) turn none = absurd (cc)
 
   known_is : s.known ≡ view.server.known
-  known_is = ap (λ (x : Server C). x.known) r.is
+  known_is = ap (λ (x : Raft C). x.known) r.is
 
   -- the definitions' refusal, by what is shown
   refusal_is : (n me : ℕ) → refusal_by (step m n me s (Propose command)) ≡ shown_refusal m view command
@@ -59,8 +59,8 @@ module _ {S C : Type 0} (m : Meaning S C) (view : RaftView S C) (shown : IsShown
   step_is n me none = rw (mode_is, length_is, known_is, whole_shown m view.base view.server s r)
       (taken_of (is_up view.server.mode) (is_leader view.server.mode) (nat_lt (length view.server.log) MAX) view.server.known (m.admission (state_from m view.base view.server.log) command) _ none)
 
-  early_of : (leads room : Bool) (x : Option Refusal) → leads ≡ true → room ≡ true → (if leads && room then None else x) ≡ None
-  early_of leads room x l o = rw (l, o) refl
+  early_of : (leads index_left : Bool) (x : Option Refusal) → leads ≡ true → index_left ≡ true → (if leads && index_left then None else x) ≡ None
+  early_of leads index_left x l o = rw (l, o) refl
 
   refused_as : (n me : ℕ) (cause : Refusal) → IsShownRefused m view command cause → IsRefused m n me s (Own (Propose command)) cause
   refused_as n me refusals.NoMemory is = ap is_leader mode_is ∙ is.0
@@ -77,7 +77,7 @@ module _ {S C : Type 0} (m : Meaning S C) (view : RaftView S C) (shown : IsShown
       let may = may_fill m view.base view.server shown P r.fits in
       let entry : Entry C = record { term = view.server.term; command = command } in
       let is : extended s command ≡ filled P new.server =
-      ap (λ (x : Server C). extended x command) r.is
+      ap (λ (x : Raft C). extended x command) r.is
       ∙ ap (λ (l : List (Entry C)). record view.server { log = l }) (filled-grown P view.server.log may.within may.term (entry ∷ []))
       ∙ ap (filled P) (sym server) in
       let at : Steps m view s (Propose command) new sent sent = record {
@@ -90,11 +90,11 @@ module _ {S C : Type 0} (m : Meaning S C) (view : RaftView S C) (shown : IsShown
 
 -- so of each of them
 module _ {S C : Type 0} (m : Meaning S C) (view : RaftView S C) (shown : IsShown view.base view.server) (command : C) where
-  pub refused_each : (cause : Refusal) → IsShownRefused m view command cause → (s : Server C) → Represents m view s → IsRefused m view.size view.me s (Own (Propose command)) cause
+  pub refused_each : (cause : Refusal) → IsShownRefused m view command cause → (s : Raft C) → Represents m view s → IsRefused m view.size view.me s (Own (Propose command)) cause
   refused_each cause is s r = refused_as m view shown command s r view.size view.me cause is
 
-  pub hides_each : (cause : Refusal) → IsShownRefused m view command cause → (s : Server C) → Represents m view s → HidesNothing m view.size view.me s (Own (Propose command)) cause
+  pub hides_each : (cause : Refusal) → IsShownRefused m view command cause → (s : Raft C) → Represents m view s → HidesNothing m view.size view.me s (Own (Propose command)) cause
   hides_each cause is s r = hides_as m view shown command s r view.size view.me cause is
 
-  pub proposed_each : (new : RaftView S C) → shown_refusal m view command ≡ None → new.base ≡ view.base → new.server ≡ extended view.server command → (s : Server C) (sent : List Frame) → Represents m view s → Takes m view s (Own (Propose command)) new sent sent
+  pub proposed_each : (new : RaftView S C) → shown_refusal m view command ≡ None → new.base ≡ view.base → new.server ≡ extended view.server command → (s : Raft C) (sent : List Frame) → Represents m view s → Takes m view s (Own (Propose command)) new sent sent
   proposed_each new none base server s sent r = proposed m view shown command s r new none base server sent

@@ -5,7 +5,7 @@ use Rattle.machine_model.specs.Meaning.{Meaning}
 use Rattle.machine_model.specs.declared.entry.Entry.{Entry}
 use Rattle.raft_snapshot.specs.Bases.{Base, state_from}
 use Rattle.raft_model.specs.Quorums.{index_at}
-use Rattle.raft_model.specs.Servers.{Server, Leader, greatest}
+use Rattle.raft_model.specs.Rafts.{Raft, Leader, greatest}
 use Rattle.raft_core.specs.Inner.Commits.{is_chosen_in}
 use Rattle.raft_core.specs.declared.role.Role.{Role}
 use Rattle.raft_core.specs.declared.role.Role.TheVariants as roles
@@ -69,7 +69,7 @@ module _ (last i at : ℕ) where
   match-length ok match = match-length_at ok (nat_le at last) match refl
 
 module _ {C : Type 0} (n me term : ℕ) (vote : Option ℕ) (log : List (Entry C)) (covered commit : ℕ) (known : Option ℕ) (next match : List ℕ) (i at : ℕ) where
-  abbrev pub leader : List ℕ → List ℕ → ℕ → Server C
+  abbrev pub leader : List ℕ → List ℕ → ℕ → Raft C
   leader next match commit = record { term = term; vote = vote; log = log; covered = covered; commit = commit; known = known; mode = Leader next match }
 
   hears_at : (ok t : Bool) → nat_le at (length log) ≡ t → hears_either n me (leader next match commit) i ok at (Leader next match) ≡ leader (next_after (length log) i ok at next match) (match_after (length log) i ok at match) (greatest (is_chosen_in n me term log (match_after (length log) i ok at match)) commit (length log))
@@ -101,7 +101,7 @@ module _ {S C : Type 0} (m : Meaning S C) (me size term : ℕ) (base : Base S) (
     number = kept.number;
     group = kept.group;
     elected = kept.elected;
-    room = kept.room;
+    index_left = kept.index_left;
     votes_each = kept.votes_each;
     next_each = next-length (length log) i at ok next match ∙ kept.next_each;
     next_least = next-least (length log) i at ok next match size kept.next_least;

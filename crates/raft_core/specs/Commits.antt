@@ -3,7 +3,7 @@
 use Rattle.std.specs.Prelude.{◌≡◌, ℕ, ◌≤◌, ◌<◌, ◌⊎◌, true, Bool, ◌==◌, ◌||◌, nat_le, List, length}
 use Rattle.raft_model.specs.Logs.{term_at}
 use Rattle.raft_model.specs.Quorums.{Quorum, index_at}
-use Rattle.raft_model.specs.Servers.{Server}
+use Rattle.raft_model.specs.Rafts.{Raft}
 
 -- server j holds index k: the leader `me` all of its log, another what it is known to hold
 abbrev pub holds_index : ℕ → List ℕ → ℕ → ℕ → Bool
@@ -16,14 +16,14 @@ pub record IsGreatest (test : ℕ → Bool) (low high p : ℕ) : Type 0 where
   pub one : (p ≡ low) ⊎ ((p ≤ high) × (test p ≡ true))
 
 -- the leader's entry at index k is of its own term, and a quorum holds it
-pub record IsChosen {C : Type 0} (n me : ℕ) (s : Server C) (match : List ℕ) (k : ℕ) : Type 0 where
+pub record IsChosen {C : Type 0} (n me : ℕ) (s : Raft C) (match : List ℕ) (k : ℕ) : Type 0 where
   pub there : k ≤ length s.log
   pub term : term_at s.log k ≡ s.term
   pub held : Quorum n (holds_index me match k)
 
 -- p is the leader's commit index after a rise: no such entry stands above it, and it rose to none
 -- but such a one
-pub record IsRisen {C : Type 0} (n me : ℕ) (s : Server C) (match : List ℕ) (p : ℕ) : Type 0 where
+pub record IsRisen {C : Type 0} (n me : ℕ) (s : Raft C) (match : List ℕ) (p : ℕ) : Type 0 where
   pub keeps : s.commit ≤ p
   pub above : (q : ℕ) → IsChosen n me s match q → q ≤ p
   pub one : (p ≡ s.commit) ⊎ IsChosen n me s match p

@@ -5,4 +5,5 @@ pub mod Steps
 pub mod Refusals
 pub mod Commits
 pub mod StoredParts
+pub mod Tickets
 pub mod Inner

@@ -2,8 +2,8 @@
 use Rattle.std.specs.Prelude.{◌≡◌, ℕ, ◌+◌, ◌^◌, ◌<◌, ◌≤◌, Bool, ◌&&◌, true, Option, Some, None, List, length, take, slice_index, is_some, IfSome}
 use Rattle.machine_model.specs.Meaning.{Meaning}
 use Rattle.machine_model.specs.declared.entry.Entry.{Entry}
-use Rattle.raft_model.specs.Servers.{Server, Mode, is_leader, crashed}
-use Rattle.raft_model.specs.Servers.{Follower as FollowerMode, Candidate as CandidateMode, Leader as LeaderMode}
+use Rattle.raft_model.specs.Rafts.{Raft, Mode, is_leader, crashed}
+use Rattle.raft_model.specs.Rafts.{Follower as FollowerMode, Candidate as CandidateMode, Leader as LeaderMode}
 use Rattle.raft_snapshot.specs.Bases.{Base, state_from}
 use Rattle.raft_core.specs.declared.role.Role.{Role}
 use Rattle.raft_core.specs.declared.role.Role.TheVariants.{Follower, Candidate, Leader}
@@ -15,15 +15,15 @@ pub record RaftView (S C : Type 0) : Type 0 where
   pub me : ℕ
   pub size : ℕ
   pub base : Base S
-  pub server : Server C
+  pub server : Raft C
   pub projected : Bool
 
 -- two values that are the server of this number in a group of this size
-abbrev pub SamePlace : {S C : Type 0} → RaftView S C → RaftView S C → Type 0
-SamePlace old new = (new.me ≡ old.me) × (new.size ≡ old.size)
+abbrev pub SameNumber : {S C : Type 0} → RaftView S C → RaftView S C → Type 0
+SameNumber old new = (new.me ≡ old.me) × (new.size ≡ old.size)
 
 -- two values that are one server; one may hold the machine after the whole log, and the other not
-pub record SameServer {S C : Type 0} (old new : RaftView S C) : Type 0 where
+pub record SameRaft {S C : Type 0} (old new : RaftView S C) : Type 0 where
   pub me : new.me ≡ old.me
   pub size : new.size ≡ old.size
   pub base : new.base ≡ old.base
@@ -38,7 +38,7 @@ abbrev pub KeepsAhead : {S C : Type 0} → RaftView S C → RaftView S C → Typ
 KeepsAhead old new = old.projected ≡ true → is_leader new.server.mode ≡ true → new.projected ≡ true
 
 -- a value with a second machine, or without: only a leader's counts
-abbrev pub with_ahead : {S C : Type 0} → ℕ → ℕ → Base S → Option S → Server C → RaftView S C
+abbrev pub with_ahead : {S C : Type 0} → ℕ → ℕ → Base S → Option S → Raft C → RaftView S C
 with_ahead me size base ahead s = record {
   me = me;
   size = size;
@@ -53,7 +53,7 @@ mode_of Candidate votes next matched = CandidateMode votes
 mode_of Leader votes next matched = LeaderMode next matched
 
 -- a server is up while it has a machine
-abbrev pub while_up : {S C : Type 0} → Option S → Server C → Server C
+abbrev pub while_up : {S C : Type 0} → Option S → Raft C → Raft C
 while_up None s = crashed s
 while_up (Some machine) s = s
 
@@ -70,11 +70,11 @@ pub record IsAhead {S C : Type 0} (m : Meaning S C) (base : Base S) (log : List 
   pub leads : role ≡ Leader
   pub state : ahead ≡ state_from m base log
 
--- a candidate has room for the no-op of its election
-abbrev pub HasElectionRoom : {C : Type 0} → Role → List (Entry C) → Type 0
-HasElectionRoom Follower log = Unit {0}
-HasElectionRoom Candidate log = length log + 1 < 2 ^ 40
-HasElectionRoom Leader log = Unit {0}
+-- a candidate has an index left for the no-op of its election
+abbrev pub HasElectionIndex : {C : Type 0} → Role → List (Entry C) → Type 0
+HasElectionIndex Follower log = Unit {0}
+HasElectionIndex Candidate log = length log + 1 < 2 ^ 40
+HasElectionIndex Leader log = Unit {0}
 
 -- who stands or leads does so in a term from 1 on
 abbrev pub HasTerm : Role → ℕ → Type 0
@@ -88,7 +88,7 @@ pub record IsRaft {S C : Type 0} (m : Meaning S C) (me size term : ℕ) (base : 
   pub number : me < size
   pub group : size ≤ 5
   pub elected : HasTerm role term
-  pub room : HasElectionRoom role log
+  pub index_left : HasElectionIndex role log
   pub votes_each : length votes ≡ size
   pub next_each : length next ≡ size
   pub next_least : (j : ℕ) → j < size → 1 ≤ slice_index next j

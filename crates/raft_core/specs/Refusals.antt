@@ -8,18 +8,18 @@ use Rattle.machine_model.specs.Meaning.{Meaning}
 use Rattle.wire.specs.Messages.{Message as WireMessage, kind_of, is_of_log}
 use Rattle.wire.specs.Frames.{message_at}
 use Rattle.raft_model.specs.Logs.{MAX}
-use Rattle.raft_model.specs.Servers.{Server, Turn, Mode, is_up, is_leader, crashed}
+use Rattle.raft_model.specs.Rafts.{Raft, RaftTurn, Mode, is_up, is_leader, crashed}
 use Rattle.raft_model.specs.Steps.{Input, Arrives, Timeout, Beat, Propose, Compact, Crash, Restart, step}
 use Rattle.raft_core.specs.declared.no_projection.NoProjection.{NoProjection}
 use Rattle.raft_core.specs.declared.no_projection.NoProjection.TheVariants as reasons
 use Rattle.raft_core.specs.RaftView.{RaftView, IsCrashOf}
 use Rattle.raft_core.specs.Inputs.{Handed, Bytes, Own}
-use Rattle.raft_core.specs.Steps.{Represents, IsGroupPlace}
+use Rattle.raft_core.specs.Steps.{Represents, IsGroupMember}
 
 -- ---- what is handed in
 
 -- the refusal of a step, if it is one
-abbrev pub refusal_by : {C : Type 0} → Result (Turn C) Refusal → Option Refusal
+abbrev pub refusal_by : {C : Type 0} → Result (RaftTurn C) Refusal → Option Refusal
 refusal_by (Ok turn) = None
 refusal_by (Err refusal) = Some refusal
 
@@ -56,14 +56,14 @@ frame_refusal {S = S} m n me bytes = unreadable {S = S} n me (message_at m bytes
 
 -- Why server `me` of n refuses what is handed in, if it does: it is down; bytes are no frame, or
 -- none for it; else as the definitions say.
-abbrev pub refusal : {S C : Type 0} → Meaning S C → ℕ → ℕ → Server C → Handed C → Option Refusal
+abbrev pub refusal : {S C : Type 0} → Meaning S C → ℕ → ℕ → Raft C → Handed C → Option Refusal
 refusal m n me s (Bytes bytes) =
     if is_up s.mode then frame_refusal m n me bytes else Some refusals.Down
 refusal m n me s (Own input) = refusal_by (step m n me s input)
 
 -- Why server `me` of n refuses a message that was read, if it does: it is down; the message is of
 -- another kind, is not from a server of the group, or is for another.
-abbrev pub message_refusal : {S C : Type 0} → ℕ → ℕ → Server C → WireMessage S C → Option Refusal
+abbrev pub message_refusal : {S C : Type 0} → ℕ → ℕ → Raft C → WireMessage S C → Option Refusal
 message_refusal n me s read =
     if is_up s.mode then message_fault n me read else Some refusals.Down
 
@@ -88,7 +88,7 @@ MayLack mode (Own input) = MayWant mode input
 -- Why what is handed in is refused before memory is taken, if it is. A leader with room in its log
 -- has to ask its machine about a proposal, and that may want memory; and bytes that come to a
 -- server that is up may want some before their fault is found.
-abbrev pub early_refusal : {S C : Type 0} → Meaning S C → ℕ → ℕ → Server C → Handed C → Option Refusal
+abbrev pub early_refusal : {S C : Type 0} → Meaning S C → ℕ → ℕ → Raft C → Handed C → Option Refusal
 early_refusal m n me s (Bytes bytes) = if is_up s.mode then None else Some refusals.Down
 early_refusal m n me s (Own (Propose command)) =
     if is_leader s.mode && nat_lt (length s.log) MAX
@@ -97,7 +97,7 @@ early_refusal m n me s (Own (Propose command)) =
 early_refusal m n me s (Own input) = refusal_by (step m n me s input)
 
 -- want of memory never stands in for such a refusal
-abbrev pub HidesNothing : {S C : Type 0} → Meaning S C → ℕ → ℕ → Server C → Handed C → Refusal → Type 0
+abbrev pub HidesNothing : {S C : Type 0} → Meaning S C → ℕ → ℕ → Raft C → Handed C → Refusal → Type 0
 HidesNothing m n me s h refusals.NoMemory = early_refusal m n me s h ≡ None
 HidesNothing m n me s h cause = Unit {0}
 
@@ -105,28 +105,28 @@ HidesNothing m n me s h cause = Unit {0}
 
 -- this refusal may be answered: want of memory where some may be wanted, any other where it is the
 -- one above
-abbrev pub IsRefused : {S C : Type 0} → Meaning S C → ℕ → ℕ → Server C → Handed C → Refusal → Type 0
+abbrev pub IsRefused : {S C : Type 0} → Meaning S C → ℕ → ℕ → Raft C → Handed C → Refusal → Type 0
 IsRefused m n me s h refusals.NoMemory = MayLack s.mode h
 IsRefused m n me s h cause = refusal m n me s h ≡ Some cause
 
 -- The same of a message that was read. Want of memory never stands in for another refusal.
-abbrev pub IsMessageRefused : {S C : Type 0} → ℕ → ℕ → Server C → WireMessage S C → Refusal → Type 0
+abbrev pub IsMessageRefused : {S C : Type 0} → ℕ → ℕ → Raft C → WireMessage S C → Refusal → Type 0
 IsMessageRefused n me s read refusals.NoMemory = message_refusal n me s read ≡ None
 IsMessageRefused n me s read cause = message_refusal n me s read ≡ Some cause
 
 -- want of memory in a step is a crash, but that a restart changes nothing
-abbrev pub LackLeaves : {S C : Type 0} → Meaning S C → RaftView S C → Server C → Handed C → RaftView S C → Type 0
+abbrev pub LackLeaves : {S C : Type 0} → Meaning S C → RaftView S C → Raft C → Handed C → RaftView S C → Type 0
 LackLeaves m old s (Own Restart) new = new ≡ old
 LackLeaves m old s h new = Represents m new (crashed s)
 
 -- any other refusal of a step changes nothing
-abbrev pub RefusalLeaves : {S C : Type 0} → Meaning S C → RaftView S C → Server C → Handed C → Refusal → RaftView S C
+abbrev pub RefusalLeaves : {S C : Type 0} → Meaning S C → RaftView S C → Raft C → Handed C → Refusal → RaftView S C
     → Type 0
 RefusalLeaves m old s h refusals.NoMemory new = LackLeaves m old s h new
 RefusalLeaves m old s h cause new = new ≡ old
 
 -- the same of a message that was read
-abbrev pub MessageRefusalLeaves : {S C : Type 0} → Meaning S C → RaftView S C → Server C → Refusal
+abbrev pub MessageRefusalLeaves : {S C : Type 0} → Meaning S C → RaftView S C → Raft C → Refusal
     → RaftView S C → Type 0
 MessageRefusalLeaves m old s refusals.NoMemory new = Represents m new (crashed s)
 MessageRefusalLeaves m old s cause new = new ≡ old
@@ -156,12 +156,12 @@ RefusalShows cause old new = new ≡ old
 
 -- why a stored part is not started
 abbrev pub WhyNot : ℕ → ℕ → Refusal → Type 0
-WhyNot n me refusals.NoMemory = IsGroupPlace n me
-WhyNot n me refusals.OutOfRange = IsGroupPlace n me → ⊥
+WhyNot n me refusals.NoMemory = IsGroupMember n me
+WhyNot n me refusals.OutOfRange = IsGroupMember n me → ⊥
 WhyNot n me _ = ⊥
 
 -- why a server has no machine after its whole log
-abbrev pub LacksProjection : {C : Type 0} → Server C → NoProjection → Type 0
+abbrev pub LacksProjection : {C : Type 0} → Raft C → NoProjection → Type 0
 LacksProjection s reasons.NoMemory = is_leader s.mode ≡ true
 LacksProjection s reasons.NotLeader = (is_up s.mode ≡ true) × (is_leader s.mode ≡ false)
 LacksProjection s reasons.Down = is_up s.mode ≡ false

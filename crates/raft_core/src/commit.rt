@@ -3,7 +3,7 @@
 
 ghost use Rattle.std.specs.Prelude.{◌≡◌, ◌≢◌, ◌^◌, ◌<◌, ◌≤◌, ◌⊎◌, ℕ, Bool, List, length, take, drop, IfOk};
 ghost use Rattle.raft_model.specs.Quorums.{count, is_quorum, index_at};
-ghost use Rattle.raft_model.specs.Servers.{Server, Leader, advanced, greatest};
+ghost use Rattle.raft_model.specs.Rafts.{Raft, Leader, advanced, greatest};
 ghost use Rattle.raft_core.specs.Commits.{holds_index, IsGreatest, IsRisen};
 ghost use Rattle.raft_core.specs.Inner.Commits.{is_chosen_in};
 ghost use Rattle.raft_snapshot.specs.Bases.{state_from};
@@ -20,8 +20,8 @@ fn count_holders(me: ServerId, matched: &[u64], index: u64) -> usize
     ensures bound { result ≤ length matched.now }
 {
     let mut held = 0;
-    for (place, level) in matched.iter().enumerate() {
-        let is_holder = place == me.place() || index <= *level;
+    for (position, level) in matched.iter().enumerate() {
+        let is_holder = position == me.position() || index <= *level;
         if is_holder {
             held += 1;
         }
@@ -49,8 +49,8 @@ fn next_lower(me: ServerId, matched: &[u64], index: u64) -> u64
         ⊎ ((j : ℕ) × (j < length matched.now) × (j ≢ me) × (index_at matched.now j ≡ result)) }
 {
     let mut low = 0;
-    for (place, level) in matched.iter().enumerate() {
-        if place != me.place() && low < *level && *level < index {
+    for (position, level) in matched.iter().enumerate() {
+        if position != me.position() && low < *level && *level < index {
             low = *level;
         }
     }
@@ -130,6 +130,6 @@ pub fn advance<M: Machine, W: Watch<M>>(
 pub fn commit_is_greatest<M: Machine>()
     ensures greatest { (test : ℕ → Bool) (low high : ℕ) →
         IsGreatest test low high (greatest test low high) }
-    ensures risen { (n me : ℕ) (s : Server M.Command) (next matched : List ℕ) →
+    ensures risen { (n me : ℕ) (s : Raft M.Command) (next matched : List ℕ) →
         s.mode ≡ Leader next matched → IsRisen n me s matched (advanced n me s).commit }
 {}

@@ -10,6 +10,7 @@ mod raft;
 mod release;
 mod role;
 mod sending;
+mod ticket;
 
 pub use commit::commit_is_greatest;
 pub use input::Input;
@@ -17,3 +18,4 @@ pub use no_projection::NoProjection;
 pub use raft::{NotRestarted, Raft};
 pub use raft_snapshot::{Stable, Unwatched, Watch};
 pub use role::Role;
+pub use ticket::{Standing, Ticket};

@@ -9,21 +9,23 @@ mod votes;
 
 ghost use Rattle.std.specs.Prelude.{◌≡◌, ◌≤◌, true, false, is_some, None, length, take, replicate, OnOk, OnErr, IfOk, IfErr, IfSome, MatchBool, MatchOption};
 ghost use Rattle.raft_model.specs.Logs.{state_after};
-ghost use Rattle.raft_model.specs.Servers.{Server, is_up, is_leader, met, crashed, restarted};
+ghost use Rattle.raft_model.specs.Rafts.{Raft as AnyRaft, is_up, is_leader, met, crashed, restarted};
 ghost use Rattle.raft_core.specs.Inputs.{handed};
-ghost use Rattle.raft_core.specs.Steps.{Represents, Stores, Takes, role_of, IsGroupPlace};
+ghost use Rattle.raft_core.specs.Steps.{Represents, Stores, Takes, role_of, IsGroupMember};
 ghost use Rattle.raft_core.specs.Refusals.{refusal, HidesNothing, IsRefused, RefusalLeaves, RefusalShows, Stays, WhyNot};
 ghost use Rattle.raft_core.specs.Inner.Stops.{EndsRefused};
 ghost use Rattle.raft_core.specs.Inner.Views.{with_server};
 ghost use Rattle.raft_core.specs.Inner.Moves.{MovesBy};
 ghost use Rattle.raft_core.specs.StoredParts.{stored_part};
-ghost use Rattle.raft_core.specs.RaftView.{SamePlace, IsCrashOf, KeepsAhead};
+ghost use Rattle.raft_core.specs.Tickets.{HasTermAt, HasNoTermAt, standing_of};
+ghost use Rattle.raft_core.specs.RaftView.{SameNumber, IsCrashOf, KeepsAhead};
 ghost use Rattle.raft_snapshot.specs.Shown.{IsShown, shown_state};
 ghost use Rattle.raft_snapshot.specs.Watching.{SeesStep, ShowsStep};
 
 use crate::input::Input;
 use crate::release::forget;
 use crate::role::Role;
+use crate::ticket::{Standing, Ticket};
 use machine::Machine;
 use raft_snapshot::{Log, Stable, Unwatched, Watch};
 use rows::{Index, LeaderTerm, NoMemory, Refusal, ServerId, Term, is_group_size};
@@ -95,9 +97,9 @@ fn no_levels(alloc: Global, size: usize) -> Result<Levels, NoMemory>
 }
 
 fn is_member(size: usize, me: ServerId) -> bool
-    ensures { MatchBool result (IsGroupPlace size me) (IsGroupPlace size me → ⊥) }
+    ensures { MatchBool result (IsGroupMember size me) (IsGroupMember size me → ⊥) }
 {
-    is_group_size(size) && me.place() < size
+    is_group_size(size) && me.position() < size
 }
 
 impl<M: Machine> Raft<M> {
@@ -112,10 +114,10 @@ impl<M: Machine> Raft<M> {
         size: usize,
         stable: Stable<M>,
     ) -> Result<Raft<M>, NotRestarted<M>>
-        ensures member { OnOk result (IsGroupPlace size me) }
+        ensures member { OnOk result (IsGroupMember size me) }
         ensures number { IfOk result (λ r. (r.me ≡ me) × (r.size ≡ size)) }
         ensures shown { IfOk result (λ r. stored_part r ≡ stable) }
-        ensures server { IfOk result (λ r. (s : Server M.Command) → Stores M.meaning stable s →
+        ensures server { IfOk result (λ r. (s : AnyRaft M.Command) → Stores M.meaning stable s →
             Represents M.meaning r (restarted s)) }
         ensures refused { IfErr result (λ e. (e.stable ≡ stable) × WhyNot size me e.refusal) }
     {
@@ -164,7 +166,7 @@ impl<M: Machine> Raft<M> {
 
     /// What it stores; the rest is gone.
     pub fn into_stable(self) -> Stable<M>
-        ensures stored { (s : Server M.Command) → Represents M.meaning self s →
+        ensures stored { (s : AnyRaft M.Command) → Represents M.meaning self s →
             Stores M.meaning result s }
         ensures shown { result ≡ stored_part self }
     {
@@ -194,7 +196,7 @@ impl<M: Machine> Raft<M> {
 
     /// What it is doing, while it is up.
     pub fn role(&self) -> Option<Role>
-        ensures value { (s : Server M.Command) → Represents M.meaning self.now s →
+        ensures value { (s : AnyRaft M.Command) → Represents M.meaning self.now s →
             result ≡ role_of s.mode }
         ensures shown { result ≡ role_of self.now.server.mode }
     {
@@ -208,7 +210,7 @@ impl<M: Machine> Raft<M> {
     /// down. A server that leads or stands for election knows none, and a greater term or a restart
     /// makes it forget.
     pub fn known_leader(&self) -> Option<ServerId>
-        ensures value { (s : Server M.Command) → Represents M.meaning self.now s →
+        ensures value { (s : AnyRaft M.Command) → Represents M.meaning self.now s →
             result ≡ s.known }
         ensures shown { result ≡ self.now.server.known }
     {
@@ -220,7 +222,7 @@ impl<M: Machine> Raft<M> {
 
     /// Its current term, also while it is down.
     pub fn term(&self) -> Term
-        ensures value { (s : Server M.Command) → Represents M.meaning self.now s →
+        ensures value { (s : AnyRaft M.Command) → Represents M.meaning self.now s →
             result ≡ s.term }
         ensures shown { result ≡ self.now.server.term }
     {
@@ -229,19 +231,58 @@ impl<M: Machine> Raft<M> {
 
     /// The index of the last entry of its log, also while it is down; 0 where there is none.
     pub fn last(&self) -> Index
-        ensures value { (s : Server M.Command) → Represents M.meaning self.now s →
+        ensures value { (s : AnyRaft M.Command) → Represents M.meaning self.now s →
             result ≡ length s.log }
         ensures shown { result ≡ length self.now.server.log }
     {
         self.log.last()
     }
 
+    /// The term of the entry at an index, also while it is down; none where its snapshot covers that
+    /// entry, and where there is none.
+    pub fn term_at(&self, index: Index) -> Option<Term>
+        ensures value { (s : AnyRaft M.Command) → Represents M.meaning self.now s →
+            MatchOption result (HasNoTermAt s index) (λ t. HasTermAt s index t) }
+        ensures shown { let s = self.now.server in
+            MatchOption result (HasNoTermAt s index) (λ t. HasTermAt s index t) }
+    {
+        self.shown();
+        self.shown_term_at(index)
+    }
+
+    /// The same, by what is shown.
+    fn shown_term_at(&self, index: Index) -> Option<Term>
+        ensures { let s = self.now.server in
+            MatchOption result (HasNoTermAt s index) (λ t. HasTermAt s index t) }
+    {
+        if index.get() <= self.log.covered().get() || index.get() > self.log.last().get() {
+            return None;
+        }
+        self.log.term_at(index.get())
+    }
+
+    /// What it knows of a command by its ticket, while it is up.
+    pub fn standing(&self, ticket: Ticket) -> Option<Standing>
+        ensures value { (s : AnyRaft M.Command) → Represents M.meaning self.now s →
+            result ≡ standing_of s ticket.index ticket.term }
+    {
+        let applied = self.applied()?;
+        if applied.get() < ticket.index.get() {
+            return Some(Standing::Open);
+        }
+        match self.term_at(ticket.index) {
+            None => Some(Standing::Covered),
+            Some(term) if term.get() == ticket.term.get() => Some(Standing::Settled),
+            Some(_) => Some(Standing::Lost),
+        }
+    }
+
     /// How many entries are applied, while it is up: all that are committed.
     pub fn applied(&self) -> Option<Index>
-        ensures value { (s : Server M.Command) → Represents M.meaning self.now s →
+        ensures value { (s : AnyRaft M.Command) → Represents M.meaning self.now s →
             MatchOption result (is_up s.mode ≡ false) (λ n. (is_up s.mode ≡ true)
             × (n ≡ s.commit)) }
-        ensures held { (s : Server M.Command) → Represents M.meaning self.now s →
+        ensures held { (s : AnyRaft M.Command) → Represents M.meaning self.now s →
             IfSome result (λ n. n ≤ length s.log) }
         ensures shown { let s = self.now.server in
             MatchOption result (is_up s.mode ≡ false) (λ n. (is_up s.mode ≡ true)
@@ -255,7 +296,7 @@ impl<M: Machine> Raft<M> {
 
     /// The machine after the committed entries, while it is up.
     pub fn machine(&self) -> Option<&M>
-        ensures value { (s : Server M.Command) → Represents M.meaning self.now s →
+        ensures value { (s : AnyRaft M.Command) → Represents M.meaning self.now s →
             MatchOption result (is_up s.mode ≡ false) (λ r. (is_up s.mode ≡ true)
             × (r.now ≡ state_after M.meaning (take s.commit s.log))) }
         ensures shown { is_some result ≡ is_up self.now.server.mode }
@@ -276,7 +317,7 @@ impl<M: Machine> Raft<M> {
 
     /// Whether it is up: it has not crashed since it last started.
     pub fn is_up(&self) -> bool
-        ensures value { (s : Server M.Command) → Represents M.meaning self.now s →
+        ensures value { (s : AnyRaft M.Command) → Represents M.meaning self.now s →
             result ≡ is_up s.mode }
         ensures shown { result ≡ is_up self.now.server.mode }
     {
@@ -288,7 +329,7 @@ impl<M: Machine> Raft<M> {
 
     /// Its term while it leads.
     pub fn leader_term(&self) -> Option<LeaderTerm>
-        ensures value { (s : Server M.Command) → Represents M.meaning self.now s →
+        ensures value { (s : AnyRaft M.Command) → Represents M.meaning self.now s →
             MatchOption result (is_leader s.mode ≡ false) (λ n. (is_leader s.mode ≡ true)
             × (n ≡ s.term)) }
         ensures shown { let s = self.now.server in
@@ -313,8 +354,8 @@ impl<M: Machine> Raft<M> {
 
     /// It stops: what it does not store is lost. One that is down stays so. It takes no memory.
     pub fn crash(&mut self)
-        ensures same { SamePlace self.old self.new }
-        ensures crashed { (s : Server M.Command) → Represents M.meaning self.old s →
+        ensures same { SameNumber self.old self.new }
+        ensures crashed { (s : AnyRaft M.Command) → Represents M.meaning self.old s →
             Represents M.meaning self.new (crashed s) }
         ensures shown { IsCrashOf self.old self.new }
     {
@@ -376,7 +417,7 @@ impl<M: Machine> Raft<M> {
         outbox: &mut Frames,
         watch: &mut W,
     ) -> Result<(), Refusal>
-        ensures same { SamePlace self.old self.new }
+        ensures same { SameNumber self.old self.new }
         ensures taken { OnOk result (MovesBy M.meaning self.old (handed input.entry)
             self.new outbox.old outbox.new) }
         ensures admitted { OnOk result (
@@ -450,19 +491,19 @@ impl<M: Machine> Raft<M> {
     /// another refusal, but of a frame's. A leader that leads on keeps its machine after its whole
     /// log.
     pub fn step(&mut self, input: Input, outbox: &mut Frames) -> Result<(), Refusal>
-        ensures same { SamePlace self.old self.new }
-        ensures taken { OnOk result ((s : Server M.Command) → Represents M.meaning self.old s →
+        ensures same { SameNumber self.old self.new }
+        ensures taken { OnOk result ((s : AnyRaft M.Command) → Represents M.meaning self.old s →
             Takes M.meaning self.old s (handed input.entry) self.new outbox.old outbox.new) }
-        ensures admitted { OnOk result ((s : Server M.Command) → Represents M.meaning self.old s →
+        ensures admitted { OnOk result ((s : AnyRaft M.Command) → Represents M.meaning self.old s →
             refusal M.meaning self.old.size self.old.me s (handed input.entry) ≡ None) }
         ensures kept { OnOk result (KeepsAhead self.old self.new) }
-        ensures refused { IfErr result (λ cause. (s : Server M.Command) →
+        ensures refused { IfErr result (λ cause. (s : AnyRaft M.Command) →
             Represents M.meaning self.old s →
             IsRefused M.meaning self.old.size self.old.me s (handed input.entry) cause) }
-        ensures unhidden { IfErr result (λ cause. (s : Server M.Command) →
+        ensures unhidden { IfErr result (λ cause. (s : AnyRaft M.Command) →
             Represents M.meaning self.old s →
             HidesNothing M.meaning self.old.size self.old.me s (handed input.entry) cause) }
-        ensures left { IfErr result (λ cause. (s : Server M.Command) →
+        ensures left { IfErr result (λ cause. (s : AnyRaft M.Command) →
             Represents M.meaning self.old s →
             RefusalLeaves M.meaning self.old s (handed input.entry) cause self.new) }
         ensures stays { IfErr result (λ cause.
@@ -482,25 +523,25 @@ impl<M: Machine> Raft<M> {
         outbox: &mut Frames,
         watch: &mut W,
     ) -> Result<(), Refusal>
-        ensures same { SamePlace self.old self.new }
-        ensures taken { OnOk result ((s : Server M.Command) → Represents M.meaning self.old s →
+        ensures same { SameNumber self.old self.new }
+        ensures taken { OnOk result ((s : AnyRaft M.Command) → Represents M.meaning self.old s →
             Takes M.meaning self.old s (handed input.entry) self.new outbox.old outbox.new) }
-        ensures admitted { OnOk result ((s : Server M.Command) → Represents M.meaning self.old s →
+        ensures admitted { OnOk result ((s : AnyRaft M.Command) → Represents M.meaning self.old s →
             refusal M.meaning self.old.size self.old.me s (handed input.entry) ≡ None) }
         ensures kept { OnOk result (KeepsAhead self.old self.new) }
-        ensures refused { IfErr result (λ cause. (s : Server M.Command) →
+        ensures refused { IfErr result (λ cause. (s : AnyRaft M.Command) →
             Represents M.meaning self.old s →
             IsRefused M.meaning self.old.size self.old.me s (handed input.entry) cause) }
-        ensures unhidden { IfErr result (λ cause. (s : Server M.Command) →
+        ensures unhidden { IfErr result (λ cause. (s : AnyRaft M.Command) →
             Represents M.meaning self.old s →
             HidesNothing M.meaning self.old.size self.old.me s (handed input.entry) cause) }
-        ensures left { IfErr result (λ cause. (s : Server M.Command) →
+        ensures left { IfErr result (λ cause. (s : AnyRaft M.Command) →
             Represents M.meaning self.old s →
             RefusalLeaves M.meaning self.old s (handed input.entry) cause self.new) }
         ensures stays { IfErr result (λ cause.
             Stays (handed input.entry) cause self.old self.new) }
         ensures unsent { OnErr result (outbox.new ≡ outbox.old) }
-        ensures seen { OnOk result ((s next : Server M.Command) →
+        ensures seen { OnOk result ((s next : AnyRaft M.Command) →
             Represents M.meaning self.old s → Represents M.meaning self.new next →
             SeesStep M.meaning W.sees s next watch.old watch.new) }
         ensures unseen { IfErr result (λ cause. RefusalShows cause watch.old watch.new) }

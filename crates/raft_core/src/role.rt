@@ -1,5 +1,5 @@
 ghost use Rattle.std.specs.Prelude.{◌≡◌, []};
-ghost use Rattle.raft_model.specs.Servers.{is_leader};
+ghost use Rattle.raft_model.specs.Rafts.{is_leader};
 ghost use Rattle.raft_core.specs.RaftView.{mode_of};
 
 /// What a server that is up is doing. (Raft, section 5.1.)

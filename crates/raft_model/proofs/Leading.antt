@@ -6,26 +6,26 @@ use Rattle.machine_model.specs.Meaning.{Meaning}
 use Rattle.raft_model.specs.Logs.{MAX}
 use Rattle.raft_model.specs.Quorums.{is_quorum, marked}
 use Rattle.raft_model.specs.Messages.{Body, VoteRequest, VoteReply, Append, AppendReply, Install, InstallReply}
-use Rattle.raft_model.specs.Servers.{Server, Turn, Mode, Down, Follower, Candidate, Leader, is_up, is_leader, silent, met, grants, counted, is_held, won, is_chosen, greatest, advanced_in, hears_ok, hears_refusal, extended}
+use Rattle.raft_model.specs.Rafts.{Raft, RaftTurn, Mode, Down, Follower, Candidate, Leader, is_up, is_leader, silent, met, grants, counted, is_held, won, is_chosen, greatest, advanced_in, hears_ok, hears_refusal, extended}
 use Rattle.raft_model.specs.Steps.{Input, Arrives, Timeout, Beat, Propose, Compact, Crash, Restart, receives, times_out, proposes, acts, wakes, step, admission_refusal, unless}
 use Rattle.raft_model.proofs.Cases.{bool_cases, same_ok}
 
 module _ {S C : Type 0} (m : Meaning S C) (n i : ℕ) where
   -- Server i was s before the input, and leads as t after it.
-  pub data Leading (s : Server C) (input : Input C) (t : Server C) : Type 0 where
+  pub data Leading (s : Raft C) (input : Input C) (t : Raft C) : Type 0 where
     -- it goes on as it was
     goes_on : t.mode ≡ s.mode → t.term ≡ s.term → t.log ≡ s.log → t.commit ≡ s.commit → Leading s input t
     -- a reply moved next and match, and then the commit rule was applied
-    hears : (r : Server C) (next match : List ℕ) → is_leader s.mode ≡ true → r.mode ≡ Leader next match → r.term ≡ s.term → r.log ≡ s.log → r.commit ≡ s.commit →
+    hears : (r : Raft C) (next match : List ℕ) → is_leader s.mode ≡ true → r.mode ≡ Leader next match → r.term ≡ s.term → r.log ≡ s.log → r.commit ≡ s.commit →
         t ≡ record r { commit = greatest (is_chosen n i r match) r.commit (length r.log) } → Leading s input t
     -- it appended a proposal
     appends : (command : C) → is_leader s.mode ≡ true → input ≡ Propose command → t ≡ extended s command → Leading s input t
     -- it was a candidate, and a vote won
     wins : (votes : List Bool) → s.mode ≡ Candidate votes → t ≡ won m.noop n s → Leading s input t
 
-module _ {S C : Type 0} (m : Meaning S C) (n i : ℕ) (s : Server C) (input : Input C) where
+module _ {S C : Type 0} (m : Meaning S C) (n i : ℕ) (s : Raft C) (input : Input C) where
   -- if it leads, it came to it so
-  LeadingIn : Server C → Type 0
+  LeadingIn : Raft C → Type 0
   LeadingIn t = is_leader t.mode ≡ true → Leading m n i s input t
 
   -- nothing changed
@@ -134,24 +134,24 @@ module _ {S C : Type 0} (m : Meaning S C) (n i : ℕ) (s : Server C) (input : In
   ]
 
 -- a follower that takes a message does not lead
-followers_follow : {S C : Type 0} (m : Meaning S C) (n i : ℕ) (s : Server C) (input : Input C) (t : Server C) → s.mode ≡ Follower → is_leader t.mode ≡ true → Leading m n i s input t → ⊥
+followers_follow : {S C : Type 0} (m : Meaning S C) (n i : ℕ) (s : Raft C) (input : Input C) (t : Raft C) → s.mode ≡ Follower → is_leader t.mode ≡ true → Leading m n i s input t → ⊥
 followers_follow m n i s input t e l (goes_on mode term log commit) = let q = ap is_leader (mode ∙ e) in cc
 followers_follow m n i s input t e l (hears r next match leads mode term log commit is) = let q = ap is_leader e in cc
 followers_follow m n i s input t e l (appends command leads its is) = let q = ap is_leader e in cc
 followers_follow m n i s input t e l (wins votes mode is) = let q : Follower ≡ Candidate votes = sym e ∙ mode in cc
 
-module _ {S C : Type 0} (m : Meaning S C) (n i : ℕ) (s : Server C) where
+module _ {S C : Type 0} (m : Meaning S C) (n i : ℕ) (s : Raft C) where
   -- also one of a greater term
   met_leads : (from term : ℕ) (body : Body C) (input : Input C) → LeadingIn m n i s input (receives m.noop n i (met term s) from term body).server
   unfolding LeadingIn
   met_leads from term body input = elim (bool_cases (nat_lt s.term term)) [
-    | inl e ↦ rw e (λ l. let r : Server C = record s { term = term; vote = None; known = None; mode = Follower } in
+    | inl e ↦ rw e (λ l. let r : Raft C = record s { term = term; vote = None; known = None; mode = Follower } in
         absurd (followers_follow m n i r input _ refl l (receives_leads m n i r input from term body l)))
     | inr e ↦ rw e (receives_leads m n i s input from term body)
   ]
 
   -- a timeout
-  timeout_leads : (turn : Turn C) → times_out n i s ≡ Ok turn → LeadingIn m n i s Timeout turn.server
+  timeout_leads : (turn : RaftTurn C) → times_out n i s ≡ Ok turn → LeadingIn m n i s Timeout turn.server
   unfolding LeadingIn
   timeout_leads turn h = elim (bool_cases (is_leader s.mode)) [
     | inl l ↦ subst (λ t. LeadingIn m n i s Timeout t.server) (same_ok _ _ (rw l at h)) (same m n i s Timeout)
@@ -162,20 +162,20 @@ module _ {S C : Type 0} (m : Meaning S C) (n i : ℕ) (s : Server C) where
   ]
 
   -- a proposal of a leader
-  admitted_leads : (command : C) (r : Option Refusal) (turn : Turn C) → is_leader s.mode ≡ true → unless r (silent (extended s command)) ≡ Ok turn → LeadingIn m n i s (Propose command) turn.server
+  admitted_leads : (command : C) (r : Option Refusal) (turn : RaftTurn C) → is_leader s.mode ≡ true → unless r (silent (extended s command)) ≡ Ok turn → LeadingIn m n i s (Propose command) turn.server
   unfolding LeadingIn
   admitted_leads command None turn l h = subst (λ t. LeadingIn m n i s (Propose command) t.server) (same_ok _ _ h) (λ q. appends command l refl refl)
   admitted_leads command (Some r) turn l h = absurd (cc)
 
   -- a proposal
-  propose_leads : (command : C) (turn : Turn C) → proposes m s command ≡ Ok turn → LeadingIn m n i s (Propose command) turn.server
+  propose_leads : (command : C) (turn : RaftTurn C) → proposes m s command ≡ Ok turn → LeadingIn m n i s (Propose command) turn.server
   propose_leads command turn h = elim (bool_cases (is_leader s.mode)) [
     | inl l ↦ admitted_leads command (admission_refusal m s command) turn l (rw l at h)
     | inr l ↦ absurd (let q = rw l at h in cc)
   ]
 
   -- each input of a server that is up
-  acts_leads : (input : Input C) (turn : Turn C) → acts m n i s input ≡ Ok turn → LeadingIn m n i s input turn.server
+  acts_leads : (input : Input C) (turn : RaftTurn C) → acts m n i s input ≡ Ok turn → LeadingIn m n i s input turn.server
   unfolding LeadingIn
   acts_leads (Arrives x) turn h = elim (bool_cases (nat_lt x.from n)) [
     | inl e ↦ subst (λ t. LeadingIn m n i s (Arrives x) t.server) (same_ok _ _ (rw e at h)) (met_leads x.from x.term x.body (Arrives x))
@@ -189,7 +189,7 @@ module _ {S C : Type 0} (m : Meaning S C) (n i : ℕ) (s : Server C) where
   acts_leads Restart turn h = absurd (cc)
 
   -- of one that is down
-  wakes_leads : (input : Input C) (turn : Turn C) → wakes s input ≡ Ok turn → LeadingIn m n i s input turn.server
+  wakes_leads : (input : Input C) (turn : RaftTurn C) → wakes s input ≡ Ok turn → LeadingIn m n i s input turn.server
   unfolding LeadingIn
   wakes_leads (Arrives x) turn h = absurd (cc)
   wakes_leads Timeout turn h = absurd (cc)
@@ -200,7 +200,7 @@ module _ {S C : Type 0} (m : Meaning S C) (n i : ℕ) (s : Server C) where
   wakes_leads Restart turn h = subst (λ t. LeadingIn m n i s Restart t.server) (same_ok _ _ h) (λ l. absurd (cc))
 
   -- each step
-  pub step_leads : (input : Input C) (turn : Turn C) → step m n i s input ≡ Ok turn → is_leader turn.server.mode ≡ true → Leading m n i s input turn.server
+  pub step_leads : (input : Input C) (turn : RaftTurn C) → step m n i s input ≡ Ok turn → is_leader turn.server.mode ≡ true → Leading m n i s input turn.server
   unfolding LeadingIn
   step_leads input turn h = elim (bool_cases (is_up s.mode)) [
     | inl e ↦ acts_leads input turn (rw e at h)

@@ -2,7 +2,7 @@
 -- safety.)
 use Rattle.std.specs.Prelude.{◌≡◌, ℕ, ◌≤◌, ◌⊎◌, true, Some, List, [], length, take, slice_get}
 use Rattle.machine_model.specs.declared.entry.Entry.{Entry}
-use Rattle.raft_model.specs.Servers.{Server, is_up}
+use Rattle.raft_model.specs.Rafts.{Raft, is_up}
 use Rattle.raft_model.specs.Worlds.{World, moment, Leads, OneLeader}
 
 -- both have k entries, and the same ones
@@ -12,7 +12,7 @@ pub record Agree {C : Type 0} (k : ℕ) (A B : List (Entry C)) : Type 0 where
   pub same : take k A ≡ take k B
 
 -- server i at moment k of a run
-pub record At {C : Type 0} (past : List (World C)) (w : World C) (k i : ℕ) (s : Server C) : Type 0 where
+pub record At {C : Type 0} (past : List (World C)) (w : World C) (k i : ℕ) (s : Raft C) : Type 0 where
   pub world : World C
   pub world_is : moment past w k ≡ Some world
   pub here : slice_get world.servers i ≡ Some s
@@ -21,7 +21,7 @@ pub record At {C : Type 0} (past : List (World C)) (w : World C) (k i : ℕ) (s 
 pub record WasCommitted {C : Type 0} (past : List (World C)) (w : World C) (index : ℕ) : Type 0 where
   pub moment : ℕ
   pub who : ℕ
-  pub server : Server C
+  pub server : Raft C
   pub at : At past w moment who server
   pub up : is_up server.mode ≡ true
   pub commit : server.commit ≡ index
@@ -30,8 +30,8 @@ pub record WasCommitted {C : Type 0} (past : List (World C)) (w : World C) (inde
 -- no longer than what some server had committed while it was up. No two servers ever lead one term,
 -- and whoever leads a term has what a server in a term up to it had applied by then.
 pub record Chain {C : Type 0} (past : List (World C)) (w : World C) (list : List (Entry C)) : Type 0 where
-  pub agrees : (k i : ℕ) (s : Server C) → At past w k i s → Agree s.commit s.log list
+  pub agrees : (k i : ℕ) (s : Raft C) → At past w k i s → Agree s.commit s.log list
   pub longest : (list ≡ []) ⊎ WasCommitted past w (length list)
   pub one_leader : OneLeader past w
-  pub complete : (k l i j t : ℕ) (s : Server C) (x : World C) → k ≤ l → At past w k i s → s.term ≤ t → moment past w l ≡ Some x → (leads : Leads x j t) →
+  pub complete : (k l i j t : ℕ) (s : Raft C) (x : World C) → k ≤ l → At past w k i s → s.term ≤ t → moment past w l ≡ Some x → (leads : Leads x j t) →
       Agree s.commit list leads.server.log

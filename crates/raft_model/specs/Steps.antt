@@ -5,7 +5,7 @@ use Rattle.rows.specs.declared.refusal.Refusal.TheVariants as refusals
 use Rattle.machine_model.specs.Meaning.{Meaning}
 use Rattle.raft_model.specs.Logs.{MAX, state_after}
 use Rattle.raft_model.specs.Messages.{Message, Body, VoteRequest, VoteReply, Append, AppendReply, Install, InstallReply, to_others}
-use Rattle.raft_model.specs.Servers.{Server, Turn, is_up, is_leader, silent, reply, met, stood, vote_request_to, grants, granted, counted, following, follows_append, installed, hears_ok, hears_refusal, beats, crashed, restarted, compacted, extended}
+use Rattle.raft_model.specs.Rafts.{Raft, RaftTurn, is_up, is_leader, silent, reply, met, stood, vote_request_to, grants, granted, counted, following, follows_append, installed, hears_ok, hears_refusal, beats, crashed, restarted, compacted, extended}
 
 -- what a server takes: a message that came, or an input of its own
 pub data Input (C : Type 0) : Type 0 where
@@ -20,7 +20,7 @@ pub data Input (C : Type 0) : Type 0 where
 -- A message of term `term` comes from server `from`, and has made the receiver s of that term, if
 -- it was in a lower one. A reply counts only where `asked` is the receiver's term and its role is
 -- the asking one. A leader is silent to an Append and an Install of its own term.
-abbrev pub receives : {C : Type 0} → C → ℕ → ℕ → Server C → ℕ → ℕ → Body C → Turn C
+abbrev pub receives : {C : Type 0} → C → ℕ → ℕ → Raft C → ℕ → ℕ → Body C → RaftTurn C
 receives noop n me s from term (VoteRequest index its_last) =
     reply me (granted s from (grants s from term index its_last)) from (VoteReply term (grants s from term index its_last))
 receives noop n me s from term (VoteReply asked granting) =
@@ -42,7 +42,7 @@ receives noop n me s from term (InstallReply asked at) =
 
 -- Timeout: a leader does nothing; any other stands and asks all others, in rising number, if there
 -- is a further term and a further index
-abbrev pub times_out : {C : Type 0} → ℕ → ℕ → Server C → Result (Turn C) Refusal
+abbrev pub times_out : {C : Type 0} → ℕ → ℕ → Raft C → Result (RaftTurn C) Refusal
 times_out n me s =
     if is_leader s.mode then Ok (silent s)
     else if nat_lt s.term MAX && nat_lt (length s.log) MAX
@@ -51,7 +51,7 @@ times_out n me s =
 
 -- the first refusal of a leader's proposal: no more room, then the machine's own against the whole
 -- log, committed or not
-abbrev pub admission_refusal : {S C : Type 0} → Meaning S C → Server C → C → Option Refusal
+abbrev pub admission_refusal : {S C : Type 0} → Meaning S C → Raft C → C → Option Refusal
 admission_refusal m s command = if nat_lt (length s.log) MAX then m.admission (state_after m s.log) command else Some refusals.Exhausted
 
 -- a, if there is no refusal
@@ -61,14 +61,14 @@ unless (Some r) a = Err r
 
 -- Propose: a leader appends a command that nothing refuses; others refuse it with the leader that
 -- they know
-abbrev pub proposes : {S C : Type 0} → Meaning S C → Server C → C → Result (Turn C) Refusal
+abbrev pub proposes : {S C : Type 0} → Meaning S C → Raft C → C → Result (RaftTurn C) Refusal
 proposes m s command =
     if is_leader s.mode
     then unless (admission_refusal m s command) (silent (extended s command))
     else Err (refusals.NotLeader s.known)
 
 -- a server that is up; a message from outside the group is none of its own
-abbrev pub acts : {S C : Type 0} → Meaning S C → ℕ → ℕ → Server C → Input C → Result (Turn C) Refusal
+abbrev pub acts : {S C : Type 0} → Meaning S C → ℕ → ℕ → Raft C → Input C → Result (RaftTurn C) Refusal
 acts m n me s (Arrives message) =
     if nat_lt message.from n
     then Ok (receives m.noop n me (met message.term s) message.from message.term message.body)
@@ -81,7 +81,7 @@ acts m n me s Crash = Ok (silent (crashed s))
 acts m n me s Restart = Err refusals.OutOfRange
 
 -- a server that is down takes a restart alone
-abbrev pub wakes : {C : Type 0} → Server C → Input C → Result (Turn C) Refusal
+abbrev pub wakes : {C : Type 0} → Raft C → Input C → Result (RaftTurn C) Refusal
 wakes s (Arrives message) = Err refusals.Down
 wakes s Timeout = Err refusals.Down
 wakes s Beat = Err refusals.Down
@@ -91,5 +91,5 @@ wakes s Crash = Err refusals.Down
 wakes s Restart = Ok (silent (restarted s))
 
 -- one input: the turn, or the refusal that leaves the server as it was and sends nothing
-abbrev pub step : {S C : Type 0} → Meaning S C → ℕ → ℕ → Server C → Input C → Result (Turn C) Refusal
+abbrev pub step : {S C : Type 0} → Meaning S C → ℕ → ℕ → Raft C → Input C → Result (RaftTurn C) Refusal
 step m n me s input = if is_up s.mode then acts m n me s input else wakes s input

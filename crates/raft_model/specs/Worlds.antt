@@ -5,12 +5,12 @@ use Rattle.rows.specs.declared.refusal.Refusal.{Refusal}
 use Rattle.rows.specs.declared.refusal.Refusal.TheVariants as refusals
 use Rattle.machine_model.specs.Meaning.{Meaning, IsCommandOf}
 use Rattle.raft_model.specs.Messages.{Message}
-use Rattle.raft_model.specs.Servers.{Server, Leader, Turn, newcomer}
+use Rattle.raft_model.specs.Rafts.{Raft, Leader, RaftTurn, newcomer}
 use Rattle.raft_model.specs.Steps.{Input, Arrives, Timeout, Beat, Propose, Compact, Crash, Restart, step}
 
 -- the servers, and all messages that were ever sent
 pub record World (C : Type 0) : Type 0 where
-  pub servers : List (Server C)
+  pub servers : List (Raft C)
   pub sent : List (Message C)
 
 -- n servers before the first event, and no message
@@ -37,12 +37,12 @@ pub data Outcome : Type 0 where
 
 module _ {S C : Type 0} (m : Meaning S C) where
   -- the world after a server's turn: that server alone changed, and what it sent was added
-  abbrev pub after_turn : World C → ℕ → Result (Turn C) Refusal → Result (World C) Refusal
+  abbrev pub after_turn : World C → ℕ → Result (RaftTurn C) Refusal → Result (World C) Refusal
   after_turn w i (Ok turn) = Ok (record { servers = slice_set w.servers i turn.server; sent = w.sent ++ turn.sent })
   after_turn w i (Err r) = Err r
 
   -- an input comes to server i, which is s, if there is one
-  abbrev pub input_to : World C → ℕ → Input C → Option (Server C) → Result (World C) Refusal
+  abbrev pub input_to : World C → ℕ → Input C → Option (Raft C) → Result (World C) Refusal
   input_to w i input None = Err refusals.OutOfRange
   input_to w i input (Some s) = after_turn w i (step m (length w.servers) i s input)
 
@@ -133,7 +133,7 @@ moment past w k = slice_get (past ++ w ∷ []) k
 
 -- server i leads term t in this world
 pub record Leads {C : Type 0} (w : World C) (i t : ℕ) : Type 0 where
-  pub server : Server C
+  pub server : Raft C
   pub next : List ℕ
   pub match : List ℕ
   pub here : slice_get w.servers i ≡ Some server

@@ -4,7 +4,7 @@ ghost use Rattle.raft_model.specs.Worked.Votes.{CandidateAsks, VoterGrants, Newe
 ghost use Rattle.raft_model.specs.Worked.Logs.{HeldAlready, LateAppend, DiffersAtFirst, CommittedStays, OtherPrevious, MissingPrevious, LowerTerm, InstallKeeps, InstallDiscards};
 ghost use Rattle.raft_model.specs.Worked.Leaders.{LeaderBeats, OlderTerm, OwnTerm, PastLast, OtherTerm, NextGoesBack, NextStaysPastMatch, WholeLog, NotLeader, IsDown, IsUp, RestartsFromSnapshot};
 ghost use Rattle.raft_model.specs.Worked.Runs.{ThreeServersCommit, TailStays, TailCommitted, RefusalTwice, RefusalOften, CommitWithinAppend};
-ghost use Rattle.raft_model.specs.Worked.Terms.{FreeInNextTerm, GrantsAgain, OlderTermDenied, StandsAlone, DenialIsNone, StepsDown, FollowsLeader, LeadsOn, CommitNeverFalls, CommittedIsHeld, InstalledBefore, OlderInstall, MatchNeverFalls, InstallCounts, LateAnswers, OutsideTheGroup, ThirtyTwoAtOnce, FollowerIsSilent, CoversTheApplied, CrashLosesTheRest, DownHearsNothing, DownBeatsNot, DownTakesNoProposal, DownCompactsNothing, DownCrashesNot};
+ghost use Rattle.raft_model.specs.Worked.Terms.{FreeInNextTerm, GrantsAgain, OlderTermDenied, StandsAlone, DenialIsNone, StepsDown, FollowsLeader, LeadsOn, CommitNeverFalls, CommittedIsHeld, InstalledBefore, OlderInstall, MatchNeverFalls, InstallCounts, LateAnswers, OutsideTheGroup, ThirtyTwoAtOnce, FollowerIsSilent, CoversTheApplied, CrashLosesTheRest, DownTakesNothing, DownBeatsNot, DownTakesNoProposal, DownCompactsNothing, DownCrashesNot};
 
 /// Standing for election, granting and denying votes, and winning. (Raft, extended version 2014,
 /// Figure 2 and section 5.2.)
@@ -94,7 +94,7 @@ pub fn worked_terms()
     ensures follower_is_silent { FollowerIsSilent }
     ensures covers_the_applied { CoversTheApplied }
     ensures crash_loses_the_rest { CrashLosesTheRest }
-    ensures down_hears_nothing { DownHearsNothing }
+    ensures down_hears_nothing { DownTakesNothing }
     ensures down_beats_not { DownBeatsNot }
     ensures down_takes_no_proposal { DownTakesNoProposal }
     ensures down_compacts_nothing { DownCompactsNothing }

@@ -5,7 +5,7 @@ use Rattle.std.proofs.lemmas.Bool.Decides.{leb_tells}
 use Rattle.machine_model.specs.declared.entry.Entry.{Entry}
 use Rattle.raft_model.specs.Logs.{term_at, has, install}
 use Rattle.raft_model.specs.Messages.{Message, AppendReply, InstallReply}
-use Rattle.raft_model.specs.Servers.{Server, Follower, is_held, appended, installed}
+use Rattle.raft_model.specs.Rafts.{Raft, Follower, is_held, appended, installed}
 use Rattle.raft_safety.specs.Inner.Functions.{with_both}
 use Rattle.raft_model.specs.Chains.{Agree}
 use Rattle.raft_model.proofs.Cases.{bool_cases}
@@ -96,7 +96,7 @@ module _ {C : Type 0} where
     stands = I.stands;
   }
 
-module _ {C : Type 0} (P : List (Entry C) → Type 0) (n : ℕ) (G : History C) (i : ℕ) (s : Server C) (I : Ledgers n G) (ok : ServerOk n G i s) (led : 1 ≤ length (G.ledger s.term)) where
+module _ {C : Type 0} (P : List (Entry C) → Type 0) (n : ℕ) (G : History C) (i : ℕ) (s : Raft C) (I : Ledgers n G) (ok : ServerOk n G i s) (led : 1 ≤ length (G.ledger s.term)) where
   -- the leader's ledger
   L : List (Entry C)
   L = G.ledger s.term
@@ -150,7 +150,7 @@ module _ {C : Type 0} (P : List (Entry C) → Type 0) (n : ℕ) (G : History C) 
       (a.right, fixed_grow n G s.term commit (G.ledger s.term) new a d.1)
 
   -- the log becomes `new`, which has the first m of the leader's; and m is acknowledged
-  pub adopt_keeps : (t : Server C) (m : ℕ) (out : List (Message C)) → VotesKept n G.ballots i t out → t.term ≡ s.term → t.mode ≡ Follower → Adopted (G.ledger s.term) s.log t.log m →
+  pub adopt_keeps : (t : Raft C) (m : ℕ) (out : List (Message C)) → VotesKept n G.ballots i t out → t.term ≡ s.term → t.mode ≡ Follower → Adopted (G.ledger s.term) s.log t.log m →
       Brings m t.commit → t.covered ≤ t.commit →
       ((H : History C) → m ≤ H.held s.term i → (k : ℕ) (x : Message C) → slice_get out k ≡ Some x → BodyOk n H x.from x.to x.term x.body) → KeepsHistory P n G i t out
   unfolding hold ModeOk

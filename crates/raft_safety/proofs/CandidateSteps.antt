@@ -4,7 +4,7 @@ use Rattle.std.proofs.lemmas.Option.{same_Some}
 use Rattle.machine_model.specs.declared.entry.Entry.{Entry}
 use Rattle.raft_model.specs.Logs.{MAX}
 use Rattle.raft_model.specs.Messages.{Message, VoteReply, to_others}
-use Rattle.raft_model.specs.Servers.{Server, stood, vote_request_to, is_up_to_date}
+use Rattle.raft_model.specs.Rafts.{Raft, stood, vote_request_to, is_up_to_date}
 use Rattle.raft_safety.specs.Inner.Functions.{with_both}
 use Rattle.raft_safety.specs.Inner.Agreement.{Rooted}
 use Rattle.raft_safety.specs.Inner.History.{History, CarriesHeld, Ledgers, Extends}
@@ -16,10 +16,10 @@ use Rattle.raft_safety.proofs.Growth.{carries_on}
 use Rattle.raft_safety.proofs.Frame.{log_on}
 use Rattle.raft_safety.proofs.QuietSteps.{revote, revote_extends, revote_apart, revote_ledgers, quiet, grant_ok}
 
-module _ {C : Type 0} (P : List (Entry C) → Type 0) (n : ℕ) (G : History C) (i : ℕ) (s : Server C) (I : Ledgers n G) (ok : ServerOk n G i s) where
+module _ {C : Type 0} (P : List (Entry C) → Type 0) (n : ℕ) (G : History C) (i : ℕ) (s : Raft C) (I : Ledgers n G) (ok : ServerOk n G i s) where
   -- a granted vote
   pub grant_keeps : (from index its_last : ℕ) → RequestOk n G from s.term index its_last → is_up_to_date s.log index its_last ≡ true →
-      (let r : Server C = record s { vote = Some from } in
+      (let r : Raft C = record s { vote = Some from } in
       let out : List (Message C) = record { from = i; to = from; term = s.term; body = VoteReply s.term true } ∷ [] in
       VotesKept n G.ballots i r out → KeepsHistory P n G i r out)
   unfolding BodyOk
@@ -29,7 +29,7 @@ module _ {C : Type 0} (P : List (Entry C) → Type 0) (n : ℕ) (G : History C) 
   -- a new candidate
   pub stand_keeps : length s.log < MAX → VotesKept n G.ballots i (stood n i s) (to_others i (vote_request_to i (stood n i s)) n) → KeepsHistory P n G i (stood n i s) (to_others i (vote_request_to i (stood n i s)) n)
   unfolding revote ModeOk BodyOk
-  stand_keeps room v =
+  stand_keeps index_left v =
       let t = suc s.term in
       let B = v.votes.after in
       let f = with_both G.stood t i (Some s.log) in
@@ -56,7 +56,7 @@ module _ {C : Type 0} (P : List (Entry C) → Type 0) (n : ℕ) (G : History C) 
           role = record {
             stood = both_same G.stood t i (Some s.log);
             unled = λ q. omega (arith, I.late t i q, ok.voter.now);
-            room = room;
+            index_left = index_left;
             carried = λ j less mark. subst (λ k. CarriesHeld n H t k s.log) (sym (only_marked n i j mark)) (record {
               late = omega (arith, now);
               carries = λ u k less2 one le. carries_on n G H u k s.log e one (ok.log.holds u k one le);

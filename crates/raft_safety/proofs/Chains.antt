@@ -5,7 +5,7 @@ use Rattle.machine_model.specs.Meaning.{Meaning, LawfulMachine}
 use Rattle.machine_model.specs.After.{Admitted}
 use Rattle.machine_model.specs.declared.entry.Entry.{Entry}
 use Rattle.raft_model.specs.Logs.{term_at, commands, state_after}
-use Rattle.raft_model.specs.Servers.{Server}
+use Rattle.raft_model.specs.Rafts.{Raft}
 use Rattle.raft_model.specs.Worlds.{World, Event, Run, moment}
 use Rattle.raft_model.specs.Chains.{Agree, At, Chain}
 use Rattle.raft_safety.specs.Inner.History.{Fixed}
@@ -22,7 +22,7 @@ use Rattle.raft_safety.proofs.Stories.{Story, story}
 
 module _ {C : Type 0} (past : List (World C)) (w : World C) where
   -- the list of a run ends where a server's commit index was
-  chain_end : (A B : List (Entry C)) → Chain past w A → ((k i : ℕ) (s : Server C) → At past w k i s → Agree s.commit s.log B) → Agree (length A) A B
+  chain_end : (A B : List (Entry C)) → Chain past w A → ((k i : ℕ) (s : Raft C) → At past w k i s → Agree s.commit s.log B) → Agree (length A) A B
   chain_end A B a b = elim a.longest [
     | inl e ↦ subst (λ X. Agree (length X) X B) (sym e) (agree_none [] B)
     | inr r ↦ subst (λ c. Agree c A B) r.commit (agree_trans (agree_sym (a.agrees r.moment r.who r.server r.at)) (b r.moment r.who r.server r.at))
@@ -55,7 +55,7 @@ module _ {C : Type 0} (past : List (World C)) (w : World C) where
 
 module _ {C : Type 0} where
   -- a server at an earlier moment of a part of the run is one of the run
-  at_front : (past : List (World C)) (w : World C) (l : ℕ) (x : World C) → moment past w l ≡ Some x → (k i : ℕ) (s : Server C) → At (take l past) x k i s → At past w k i s
+  at_front : (past : List (World C)) (w : World C) (l : ℕ) (x : World C) → moment past w l ≡ Some x → (k i : ℕ) (s : Raft C) → At (take l past) x k i s → At past w k i s
   at_front past w l x at k i s a = record { world = a.world; world_is = front_get past w l x at k a.world a.world_is; here = a.here }
 
   -- the list of a run begins with that of each first part of it
@@ -115,7 +115,7 @@ module _ {S C : Type 0} (m : Meaning S C) (law : LawfulMachine m) (n : ℕ) (eve
 
 -- what holds of a server at any moment
 module _ {S C : Type 0} (m : Meaning S C) (law : LawfulMachine m) (n : ℕ) (events : List (Event C)) (past : List (World C)) (w : World C) (run : Run m n events past w)
-    (k i : ℕ) (s : Server C) (a : At past w k i s) where
+    (k i : ℕ) (s : Raft C) (a : At past w k i s) where
   -- the story up to that moment
   pub at_story : Story m n (take k events) (take k past) a.world
   at_story = story m law n (take k events) (take k past) a.world (run_front m n events past w run k a.world a.world_is)

@@ -3,7 +3,7 @@ use Rattle.std.proofs.Common.{◌≡◌, ◌≢◌, ℕ, zero, suc, ◌+◌, ◌
 use Rattle.machine_model.specs.declared.entry.Entry.{Entry}
 use Rattle.raft_model.specs.Logs.{term_at}
 use Rattle.raft_model.specs.Messages.{Message, Body, VoteRequest, VoteReply, Append, AppendReply, Install, InstallReply}
-use Rattle.raft_model.specs.Servers.{Server, Mode, Down, Follower, Candidate, Leader, is_leader}
+use Rattle.raft_model.specs.Rafts.{Raft, Mode, Down, Follower, Candidate, Leader, is_leader}
 use Rattle.raft_model.specs.Chains.{Agree}
 use Rattle.raft_safety.specs.Inner.SmallSteps.{LedBefore}
 use Rattle.raft_safety.specs.Inner.Agreement.{Rooted}
@@ -106,7 +106,7 @@ module _ {C : Type 0} where
   candidate_on n G H j t log votes e back h = record {
     stood = e.stood t j log h.stood;
     unled = λ q. h.unled (back q);
-    room = h.room;
+    index_left = h.index_left;
     carried = λ i less mark. carried_on n G H t i log e (h.carried i less mark);
   }
 
@@ -132,7 +132,7 @@ module _ {C : Type 0} where
   role_on n G H j t log (Leader next match) e back same held h = leader_on n G H j t log next match e same held h
 
   -- another server
-  pub server_on : (n : ℕ) (G H : History C) (i j : ℕ) (s : Server C) → Extends G H → DiffersAt i G H → j ≢ i → ServerOk n G j s → ServerOk n H j s
+  pub server_on : (n : ℕ) (G H : History C) (i j : ℕ) (s : Raft C) → Extends G H → DiffersAt i G H → j ≢ i → ServerOk n G j s → ServerOk n H j s
   server_on n G H i j s e a other h = record {
     voter = voter_on n G.ballots H.ballots i j s.term s.vote s.mode e.ballots a.ballots other h.voter;
     unstood = λ t less. a.stood j t other ∙ h.unstood t less;
@@ -206,7 +206,7 @@ module _ {C : Type 0} where
   message_on n G H x e h = record { vote = body_on G.ballots H.ballots x.from x.to x.body e.ballots h.vote; body = bodies_on n G H x.from x.to x.term x.body e h.body }
 
   -- a leader's log is the ledger of its term
-  pub leader_wrote : (n : ℕ) (G : History C) (j : ℕ) (s : Server C) (mode : Mode) → ServerOk n G j s → s.mode ≡ mode → is_leader mode ≡ true → s.log ≡ G.ledger s.term
+  pub leader_wrote : (n : ℕ) (G : History C) (j : ℕ) (s : Raft C) (mode : Mode) → ServerOk n G j s → s.mode ≡ mode → is_leader mode ≡ true → s.log ≡ G.ledger s.term
   unfolding ModeOk
   leader_wrote n G j s Down ok e l = absurd (cc)
   leader_wrote n G j s Follower ok e l = absurd (cc)
@@ -214,7 +214,7 @@ module _ {C : Type 0} where
   leader_wrote n G j s (Leader next match) ok e l = let h : ModeOk n G j s.term s.log (Leader next match) = subst (λ x. ModeOk n G j s.term s.log x) e ok.role in h.wrote
 
   -- a leader leads its term
-  pub leader_leads : (n : ℕ) (G : History C) (j : ℕ) (s : Server C) (mode : Mode) → ServerOk n G j s → s.mode ≡ mode → is_leader mode ≡ true → G.leader s.term ≡ Some j
+  pub leader_leads : (n : ℕ) (G : History C) (j : ℕ) (s : Raft C) (mode : Mode) → ServerOk n G j s → s.mode ≡ mode → is_leader mode ≡ true → G.leader s.term ≡ Some j
   unfolding ModeOk
   leader_leads n G j s Down ok e l = absurd (cc)
   leader_leads n G j s Follower ok e l = absurd (cc)
@@ -222,13 +222,13 @@ module _ {C : Type 0} where
   leader_leads n G j s (Leader next match) ok e l = let h : ModeOk n G j s.term s.log (Leader next match) = subst (λ x. ModeOk n G j s.term s.log x) e ok.role in h.leads
 
   -- small steps that pass a leader on leave its ledger
-  passed_ledger : (n : ℕ) (G H : History C) (i : ℕ) (s r : Server C) (u : ℕ) → ServerOk n G i s → ServerOk n H i r → LedBefore s r → r.term ≡ u → is_leader r.mode ≡ true → H.ledger u ≡ G.ledger u
+  passed_ledger : (n : ℕ) (G H : History C) (i : ℕ) (s r : Raft C) (u : ℕ) → ServerOk n G i s → ServerOk n H i r → LedBefore s r → r.term ≡ u → is_leader r.mode ≡ true → H.ledger u ≡ G.ledger u
   passed_ledger n G H i s r u old new p e l =
       let q = p l in
       ap H.ledger (sym e) ∙ (sym (leader_wrote n H i r r.mode new refl l) ∙ (q.2 ∙ (leader_wrote n G i s s.mode old refl q.0 ∙ ap G.ledger (sym q.1 ∙ e))))
 
   -- one change after another
-  pub keeps_more : (P : List (Entry C) → Type 0) (n : ℕ) (G : History C) (i : ℕ) (s r t : Server C) (out : List (Message C)) → ServerOk n G i s → LedBefore s r →
+  pub keeps_more : (P : List (Entry C) → Type 0) (n : ℕ) (G : History C) (i : ℕ) (s r t : Raft C) (out : List (Message C)) → ServerOk n G i s → LedBefore s r →
       (x : KeepsHistory P n G i r []) → KeepsHistory P n x.after i t out → KeepsHistory P n G i t out
   keeps_more P n G i s r t out ok p x y = record {
     after = y.after;
@@ -248,7 +248,7 @@ module _ {C : Type 0} where
   }
 
   -- the history stays
-  pub keeps_same : (P : List (Entry C) → Type 0) (n : ℕ) (G : History C) (i : ℕ) (t : Server C) → Ledgers n G → ServerOk n G i t → KeepsHistory P n G i t []
+  pub keeps_same : (P : List (Entry C) → Type 0) (n : ℕ) (G : History C) (i : ℕ) (t : Raft C) → Ledgers n G → ServerOk n G i t → KeepsHistory P n G i t []
   keeps_same P n G i t I own = record {
     after = G;
     extends = extends_none G;

@@ -1,5 +1,5 @@
 -- What survives when the history grows.
-use Rattle.std.proofs.Common.{ℕ, ◌<◌, ◌≤◌, List, length, sym, ap, ◌∙◌, arith, inl, inr, Bool, true, false, ◌&&◌, true≢false, nat_le, nat_lt, not, IsTrue}
+use Rattle.std.proofs.Common.{ℕ, ◌<◌, ◌≤◌, List, length, sym, ap, ◌∙◌, arith, inl, inr, Bool, ◌&&◌, true≢false, nat_le, nat_lt, not, IsTrue}
 use Rattle.std.proofs.lemmas.Bool.{and_from, and_parts, leb-true, ltb-true, le-leb, lt-ltb}
 use Rattle.std.proofs.lemmas.Bool.Decides.{leb_tells}
 use Rattle.machine_model.specs.declared.entry.Entry.{Entry}

@@ -6,7 +6,7 @@ use Rattle.machine_model.specs.declared.entry.Entry.{Entry}
 use Rattle.raft_model.specs.Logs.{term_at}
 use Rattle.raft_model.specs.Quorums.{index_at, is_quorum}
 use Rattle.raft_model.specs.Messages.{Message, to_others}
-use Rattle.raft_model.specs.Servers.{Server, Leader, is_chosen, greatest, beat_message, beat_body}
+use Rattle.raft_model.specs.Rafts.{Raft, Leader, is_chosen, greatest, beat_message, beat_body}
 use Rattle.raft_model.specs.Chains.{Agree}
 use Rattle.raft_model.proofs.Cases.{bool_cases}
 use Rattle.raft_safety.specs.Inner.History.{History, Chosen, Fixed, Ledgers}
@@ -45,7 +45,7 @@ length_drop zero X h = omega arith
 length_drop (suc p) [] h = absurd (omega (arith, h))
 length_drop (suc p) (x ∷ X) h = omega (arith, length_drop p X (omega (arith, h)))
 
-module _ {C : Type 0} (P : List (Entry C) → Type 0) (n : ℕ) (G : History C) (i : ℕ) (s : Server C) (I : Ledgers n G) (ok : ServerOk n G i s) (next match : List ℕ) (mode : s.mode ≡ Leader next match) where
+module _ {C : Type 0} (P : List (Entry C) → Type 0) (n : ℕ) (G : History C) (i : ℕ) (s : Raft C) (I : Ledgers n G) (ok : ServerOk n G i s) (next match : List ℕ) (mode : s.mode ≡ Leader next match) where
   -- the server leads
   leader : LeaderOk n G i s.term s.log next match
   leader = as_leader P n G i s I ok next match mode
@@ -91,7 +91,7 @@ module _ {C : Type 0} (P : List (Entry C) → Type 0) (n : ℕ) (G : History C) 
 
   -- the commit rule
   pub advance_keeps : (out : List (Message C)) → out ≡ [] →
-      (let r : Server C = record s { commit = greatest (is_chosen n i s match) s.commit (length s.log) } in VotesKept n G.ballots i r out → KeepsHistory P n G i r out)
+      (let r : Raft C = record s { commit = greatest (is_chosen n i s match) s.commit (length s.log) } in VotesKept n G.ballots i r out → KeepsHistory P n G i r out)
   advance_keeps out o v = quiet P n G i s I ok _ out v (omega arith) (advanced_log _ (greatest_told (is_chosen n i s match) s.commit (length s.log))) ok.role (no_bodies P n G i s I ok out o)
 
   -- the log is the ledger's

@@ -2,7 +2,7 @@
 use Rattle.std.proofs.Common.{◌≡◌, ℕ, Some, List, arith, slice_get}
 use Rattle.machine_model.specs.Meaning.{Meaning, LawfulMachine}
 use Rattle.raft_model.specs.Messages.{Message}
-use Rattle.raft_model.specs.Servers.{Server}
+use Rattle.raft_model.specs.Rafts.{Raft}
 use Rattle.raft_model.specs.Worlds.{World, Event, Run}
 use Rattle.raft_model.specs.Chains.{At}
 use Rattle.raft_safety.specs.Claims.{Limits, IsAmongMembers}
@@ -13,7 +13,7 @@ use Rattle.raft_safety.proofs.Chains.{server_ok, log_admitted}
 
 module _ {S C : Type 0} (m : Meaning S C) where
   -- a server at any moment
-  pub server_limits : LawfulMachine m → (n : ℕ) (events : List (Event C)) (past : List (World C)) (w : World C) → Run m n events past w → (k i : ℕ) (s : Server C) → At past w k i s → Limits s
+  pub server_limits : LawfulMachine m → (n : ℕ) (events : List (Event C)) (past : List (World C)) (w : World C) → Run m n events past w → (k i : ℕ) (s : Raft C) → At past w k i s → Limits s
   server_limits law n events past w r k i s a =
       let ok = server_ok m law n events past w r k i s a in
       let b = run_bounds m n _ _ a.world (run_front m n events past w r k a.world a.world_is) in

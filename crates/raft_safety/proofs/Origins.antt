@@ -5,7 +5,7 @@ use Rattle.std.proofs.lemmas.Option.{same_Some}
 use Rattle.machine_model.specs.Meaning.{Meaning}
 use Rattle.machine_model.specs.declared.entry.Entry.{Entry}
 use Rattle.raft_model.specs.Logs.{term_at}
-use Rattle.raft_model.specs.Servers.{Server, Candidate, is_leader}
+use Rattle.raft_model.specs.Rafts.{Raft, Candidate, is_leader}
 use Rattle.raft_model.specs.Worlds.{World, Event}
 use Rattle.raft_model.specs.Chains.{Agree, At}
 use Rattle.raft_model.proofs.Leading.{Leading, goes_on, hears, appends, wins, step_leads}
@@ -44,7 +44,7 @@ module _ {S C : Type 0} (m : Meaning S C) (events : List (Event C)) (past : List
       }
 
   -- a moment stays one while the run goes on
-  at_on : (next : World C) (k i : ℕ) (s : Server C) → At past w k i s → At (past ++ w ∷ []) next k i s
+  at_on : (next : World C) (k i : ℕ) (s : Raft C) → At past w k i s → At (past ++ w ∷ []) next k i s
   at_on next k i s a = record { world = a.world; world_is = get-more (past ++ w ∷ []) (next ∷ []) k a.world a.world_is; here = a.here }
 
   -- an origin stays one while the run goes on
@@ -147,11 +147,11 @@ module _ {S C : Type 0} (m : Meaning S C) (n : ℕ) (events : List (Event C)) (p
       let old_leads : is_leader x.old.mode ≡ true = ap is_leader (sym mode) ∙ l in
       before u p (omega (arith, less, ap length (ledger_stays u its l old_leads (sym term ∙ its) log))) own
   comes_led u p its l less own (hears r next_index match leads mode term log commit is) =
-      let same_term : x.old.term ≡ u = sym term ∙ (sym (ap (λ (y : Server C). y.term) is) ∙ its) in
-      before u p (omega (arith, less, ap length (ledger_stays u its l leads same_term (ap (λ (y : Server C). y.log) is ∙ log)))) own
+      let same_term : x.old.term ≡ u = sym term ∙ (sym (ap (λ (y : Raft C). y.term) is) ∙ its) in
+      before u p (omega (arith, less, ap length (ledger_stays u its l leads same_term (ap (λ (y : Raft C). y.log) is ∙ log)))) own
   comes_led u p its l less own (appends command leads input is) =
-      let term : x.new.term ≡ x.old.term = ap (λ (y : Server C). y.term) is in
-      let log = ap (λ (y : Server C). y.log) is in
+      let term : x.new.term ≡ x.old.term = ap (λ (y : Raft C). y.term) is in
+      let log = ap (λ (y : Raft C). y.log) is in
       let wrote : x.new.log ≡ g.after.ledger u = leader_wrote n g.after x.who x.new x.new.mode new_ok refl l ∙ ap g.after.ledger its in
       let was : x.old.log ≡ G.ledger u = leader_wrote n G x.who x.old x.old.mode old_ok refl leads ∙ ap G.ledger (sym term ∙ its) in
       elim (leb_tells (suc p) (length x.old.log)) [
@@ -160,8 +160,8 @@ module _ {S C : Type 0} (m : Meaning S C) (n : ℕ) (events : List (Event C)) (p
             (proposed command leads (x.proposal command input) log)
       ]
   comes_led u p its l less own (wins votes mode is) =
-      let term : x.new.term ≡ x.old.term = ap (λ (y : Server C). y.term) is in
-      let log = ap (λ (y : Server C). y.log) is in
+      let term : x.new.term ≡ x.old.term = ap (λ (y : Raft C). y.term) is in
+      let log = ap (λ (y : Raft C). y.log) is in
       let e : Entry C = record { term = x.old.term; command = m.noop } in
       let wrote : x.new.log ≡ g.after.ledger u = leader_wrote n g.after x.who x.new x.new.mode new_ok refl l ∙ ap g.after.ledger its in
       elim (leb_tells (suc p) (length x.old.log)) [

@@ -6,7 +6,7 @@ use Rattle.machine_model.specs.declared.entry.Entry.{Entry}
 use Rattle.raft_model.specs.Logs.{last_term}
 use Rattle.raft_model.specs.Quorums.{index_at}
 use Rattle.raft_model.specs.Messages.{Message, Body, VoteRequest, VoteReply, Append, AppendReply, Install, InstallReply}
-use Rattle.raft_model.specs.Servers.{Server, Mode, Down, Follower, Candidate, Leader, is_up_to_date, following, match_raised, backed_off, compacted}
+use Rattle.raft_model.specs.Rafts.{Raft, Mode, Down, Follower, Candidate, Leader, is_up_to_date, following, match_raised, backed_off, compacted}
 use Rattle.raft_model.proofs.Cases.{bool_cases}
 use Rattle.raft_safety.specs.Inner.SmallSteps.{IsAck, OwesNothing, KnowsNothing}
 use Rattle.raft_safety.specs.Inner.Agreement.{Rooted}
@@ -58,9 +58,9 @@ module _ {C : Type 0} where
     stands = h;
   }
 
-module _ {C : Type 0} (P : List (Entry C) → Type 0) (n : ℕ) (G : History C) (i : ℕ) (s : Server C) (I : Ledgers n G) (ok : ServerOk n G i s) where
+module _ {C : Type 0} (P : List (Entry C) → Type 0) (n : ℕ) (G : History C) (i : ℕ) (s : Raft C) (I : Ledgers n G) (ok : ServerOk n G i s) where
   -- nothing but votes is new
-  pub quiet : (t : Server C) (out : List (Message C)) → VotesKept n G.ballots i t out → s.term ≤ t.term → LogOk n G i t.term t.log t.covered t.commit →
+  pub quiet : (t : Raft C) (out : List (Message C)) → VotesKept n G.ballots i t out → s.term ≤ t.term → LogOk n G i t.term t.log t.covered t.commit →
       ModeOk n G i t.term t.log t.mode → ((k : ℕ) (x : Message C) → slice_get out k ≡ Some x → BodyOk n G x.from x.to x.term x.body) → KeepsHistory P n G i t out
   unfolding revote
   quiet t out v le log role says =
@@ -94,7 +94,7 @@ module _ {C : Type 0} (P : List (Entry C) → Type 0) (n : ℕ) (G : History C) 
 
   -- a greater term
   pub raise_keeps : (t : ℕ) (out : List (Message C)) → s.term < t → out ≡ [] →
-      (let r : Server C = record s { term = t; vote = None; known = None; mode = Follower } in VotesKept n G.ballots i r out → KeepsHistory P n G i r out)
+      (let r : Raft C = record s { term = t; vote = None; known = None; mode = Follower } in VotesKept n G.ballots i r out → KeepsHistory P n G i r out)
   unfolding ModeOk
   raise_keeps t out less o v = quiet _ out v (omega (arith, less)) (log_later t (omega (arith, less))) tt (no_bodies out o)
 
@@ -118,7 +118,7 @@ module _ {C : Type 0} (P : List (Entry C) → Type 0) (n : ℕ) (G : History C) 
 
   -- a crash or a restart
   pub reset_keeps : (mode : Mode) (out : List (Message C)) → KnowsNothing mode → out ≡ [] →
-      (let r : Server C = record s { commit = s.covered; known = None; mode = mode } in VotesKept n G.ballots i r out → KeepsHistory P n G i r out)
+      (let r : Raft C = record s { commit = s.covered; known = None; mode = mode } in VotesKept n G.ballots i r out → KeepsHistory P n G i r out)
   reset_keeps mode out h o v = quiet _ out v (omega arith)
       (record {
         terms = ok.log.terms;
@@ -184,7 +184,7 @@ module _ {C : Type 0} (P : List (Entry C) → Type 0) (n : ℕ) (G : History C) 
       record {
         stood = c.stood;
         unled = c.unled;
-        room = c.room;
+        index_left = c.index_left;
         carried = λ j less mark. elim (marked_set votes from j mark) [
           | inl e ↦ subst (λ k. CarriesHeld n G s.term k s.log) (sym e) (subst (λ L. CarriesHeld n G s.term from L) (same_Some g.log s.log (sym g.stood ∙ c.stood)) g.carried)
           | inr e ↦ c.carried j less e
@@ -193,7 +193,7 @@ module _ {C : Type 0} (P : List (Entry C) → Type 0) (n : ℕ) (G : History C) 
 
   -- a vote counted
   pub count_keeps : (votes : List Bool) (from : ℕ) (out : List (Message C)) → s.mode ≡ Candidate votes → GrantOk n G from i s.term → out ≡ [] →
-      (let r : Server C = record s { mode = Candidate (slice_set votes from true) } in VotesKept n G.ballots i r out → KeepsHistory P n G i r out)
+      (let r : Raft C = record s { mode = Candidate (slice_set votes from true) } in VotesKept n G.ballots i r out → KeepsHistory P n G i r out)
   unfolding ModeOk
   count_keeps votes from out mode g o v = quiet _ out v (omega arith) ok.log (counts_role votes from mode g) (no_bodies out o)
 

@@ -7,7 +7,7 @@ use Rattle.machine_model.specs.Meaning.{Meaning, LawfulMachine}
 use Rattle.machine_model.specs.declared.entry.Entry.{Entry}
 use Rattle.raft_model.specs.Logs.{term_at}
 use Rattle.raft_model.specs.Quorums.{count, Quorum, is_quorum, index_at}
-use Rattle.raft_model.specs.Servers.{Server, Leader, is_leader, is_chosen, greatest}
+use Rattle.raft_model.specs.Rafts.{Raft, Leader, is_leader, is_chosen, greatest}
 use Rattle.raft_model.specs.Worlds.{World, Event, Run, start, more}
 use Rattle.raft_model.proofs.Leading.{Leading, goes_on, hears, appends, wins, step_leads}
 use Rattle.raft_model.proofs.Cases.{bool_cases}
@@ -79,35 +79,35 @@ module _ {S C : Type 0} (m : Meaning S C) (n i : ℕ) (two : 2 ≤ n) where
   same_match next match next2 match2 e = cc
 
   -- the leader t came out of a step of s
-  leading_risen : (s : Server C) (input : _) (t : Server C) → ((next match : List ℕ) → s.mode ≡ Leader next match → (j : ℕ) → j < n → j ≢ i → index_at match j ≤ length s.log) →
+  leading_risen : (s : Raft C) (input : _) (t : Raft C) → ((next match : List ℕ) → s.mode ≡ Leader next match → (j : ℕ) → j < n → j ≢ i → index_at match j ≤ length s.log) →
       HasRisen n i s → Leading m n i s input t → HasRisen n i t
   leading_risen s input t held old (goes_on mode term log commit) next match k e low high own q =
       old next match k (sym mode ∙ e) (omega (arith, low, commit)) (omega (arith, high, ap length log)) (ap (λ L. term_at L k) (sym log) ∙ (own ∙ term)) q
   leading_risen s input t held old (hears r next2 match2 leads mode term log commit is) next match k e low high own q =
-      let same : match2 ≡ match = same_match next2 match2 next match (sym mode ∙ (sym (ap (λ (y : Server C). y.mode) is) ∙ e)) in
-      let its : term_at r.log k ≡ r.term = ap (λ L. term_at L k) (sym (ap (λ (y : Server C). y.log) is)) ∙ (own ∙ ap (λ (y : Server C). y.term) is) in
+      let same : match2 ≡ match = same_match next2 match2 next match (sym mode ∙ (sym (ap (λ (y : Raft C). y.mode) is) ∙ e)) in
+      let its : term_at r.log k ≡ r.term = ap (λ L. term_at L k) (sym (ap (λ (y : Raft C). y.log) is)) ∙ (own ∙ ap (λ (y : Raft C). y.term) is) in
       let test : is_chosen n i r match2 k ≡ true = and_from (term_at r.log k == r.term) (is_quorum n (λ j. (j == i) || nat_le k (index_at match2 j))) (eq-eqb (term_at r.log k) r.term its)
       (quorum_test n (λ j. (j == i) || nat_le k (index_at match2 j)) (subst (λ l. Quorum n (λ j. (j == i) || nat_le k (index_at l j))) (sym same) q)) in
-      let above : greatest (is_chosen n i r match2) r.commit (length r.log) < k = omega (arith, low, ap (λ (y : Server C). y.commit) is) in
+      let above : greatest (is_chosen n i r match2) r.commit (length r.log) < k = omega (arith, low, ap (λ (y : Raft C). y.commit) is) in
       greatest_last (is_chosen n i r match2) r.commit (length r.log) k (omega (arith, above, greatest_from (is_chosen n i r match2) r.commit (length r.log))) above
-      (omega (arith, high, ap (λ (y : Server C). length y.log) is)) test
+      (omega (arith, high, ap (λ (y : Raft C). length y.log) is)) test
   leading_risen s input t held old (appends command leads its is) next match k e low high own q =
       let entry : Entry C = record { term = s.term; command = command } in
-      let log : t.log ≡ s.log ++ entry ∷ [] = ap (λ (y : Server C). y.log) is in
-      let mode : s.mode ≡ Leader next match = sym (ap (λ (y : Server C). y.mode) is) ∙ e in
+      let log : t.log ≡ s.log ++ entry ∷ [] = ap (λ (y : Raft C). y.log) is in
+      let mode : s.mode ≡ Leader next match = sym (ap (λ (y : Raft C). y.mode) is) ∙ e in
       elim (leb_tells k (length s.log)) [
-        | inl a ↦ old next match k mode (omega (arith, low, ap (λ (y : Server C). y.commit) is)) a.1
-            (agree_term k k s.log (s.log ++ entry ∷ []) (agree_append k s.log (entry ∷ []) a.1) (omega (arith, low)) (omega arith) ∙ (ap (λ L. term_at L k) (sym log) ∙ (own ∙ ap (λ (y : Server C). y.term) is))) q
+        | inl a ↦ old next match k mode (omega (arith, low, ap (λ (y : Raft C). y.commit) is)) a.1
+            (agree_term k k s.log (s.log ++ entry ∷ []) (agree_append k s.log (entry ∷ []) a.1) (omega (arith, low)) (omega arith) ∙ (ap (λ L. term_at L k) (sym log) ∙ (own ∙ ap (λ (y : Raft C). y.term) is))) q
         | inr a ↦ past_match match k (λ j less other. omega (arith, a.1, held next match mode j less other)) q
       ]
   leading_risen s input t held old (wins votes mode is) next match k e low high own q =
-      let same : replicate n 0 ≡ match = same_match (replicate n (suc (length s.log))) (replicate n 0) next match (sym (ap (λ (y : Server C). y.mode) is) ∙ e) in
+      let same : replicate n 0 ≡ match = same_match (replicate n (suc (length s.log))) (replicate n 0) next match (sym (ap (λ (y : Raft C). y.mode) is) ∙ e) in
       past_match match k (λ j less other. omega (arith, low, ap (λ l. index_at l j) same, index_at_replicate n 0 j less)) q
 
 module _ {S C : Type 0} (m : Meaning S C) (law : LawfulMachine m) (n : ℕ) (two : 2 ≤ n) where
   -- an event
   next_risen : (events : List (Event C)) (past : List (World C)) (w : World C) (event : Event C) (next : World C) → Run m n events past w → Moves m w event next →
-      ((i : ℕ) (s : Server C) → slice_get w.servers i ≡ Some s → HasRisen n i s) → (i : ℕ) (t : Server C) → slice_get next.servers i ≡ Some t → HasRisen n i t
+      ((i : ℕ) (s : Raft C) → slice_get w.servers i ≡ Some s → HasRisen n i s) → (i : ℕ) (t : Raft C) → slice_get next.servers i ≡ Some t → HasRisen n i t
   next_risen events past w event next run x old i t here = elim (get_set-cases w.servers x.who x.new i t (subst (λ l. slice_get l i ≡ Some t) x.servers here)) [
     | inr e ↦ old i t e.1
     | inl e ↦
@@ -120,13 +120,13 @@ module _ {S C : Type 0} (m : Meaning S C) (law : LawfulMachine m) (n : ℕ) (two
         (old x.who x.old x.here)
         (subst (λ c. Leading m c x.who x.old x.input x.new) st.ok.size (step_leads m (length w.servers) x.who x.old x.input (record { server = x.new; sent = x.out }) x.step (ap is_leader is)))
         next_index match k is in
-        subst (λ j. HasRisen n j t) (sym e.0) (subst (λ (y : Server C). HasRisen n x.who y) e.1 new)
+        subst (λ j. HasRisen n j t) (sym e.0) (subst (λ (y : Raft C). HasRisen n x.who y) e.1 new)
   ]
 
   -- a run
-  pub run_risen : (events : List (Event C)) (past : List (World C)) (w : World C) → Run m n events past w → (i : ℕ) (s : Server C) → slice_get w.servers i ≡ Some s → HasRisen n i s
+  pub run_risen : (events : List (Event C)) (past : List (World C)) (w : World C) → Run m n events past w → (i : ℕ) (s : Raft C) → slice_get w.servers i ≡ Some s → HasRisen n i s
   run_risen events past w start i s here = λ next match k e low high own q.
       let same = replicate-get n _ i s here in
-      omega (arith, low, high, ap (λ (y : Server C). length y.log) same)
+      omega (arith, low, high, ap (λ (y : Raft C). length y.log) same)
   run_risen events past w (more {events = es} {past = before} {w = last} e next r is h) i s here =
       next_risen es before last e w r (event_moves m last w e is h) (run_risen es before last r) i s here

@@ -6,7 +6,7 @@ use Rattle.machine_model.specs.After.{after, AdmittedFrom, Admitted}
 use Rattle.machine_model.proofs.Afters.{after_good, Admitted-push}
 use Rattle.machine_model.specs.declared.entry.Entry.{Entry}
 use Rattle.raft_model.specs.Logs.{MAX, commands, state_after}
-use Rattle.raft_model.specs.Servers.{Server}
+use Rattle.raft_model.specs.Rafts.{Raft}
 use Rattle.raft_model.specs.Steps.{admission_refusal}
 use Rattle.raft_model.proofs.Cases.{bool_cases}
 
@@ -54,26 +54,26 @@ module _ {S C : Type 0} (m : Meaning S C) where
   -- one more entry, if it is admitted
   push_sound : (log : List (Entry C)) (e : Entry C) → IsCommandOf m e.command → m.admission (after m (commands log)) e.command ≡ None → length log < MAX → Sound m log → Sound m (log ++ e ∷ [])
   unfolding Sound
-  push_sound log e is none room h = subst (λ cs. Admitted m cs) (sym (commands_push log e))
-      (Admitted-push m (commands log) e.command h is none (omega (arith, room, commands_length log)))
+  push_sound log e is none index_left h = subst (λ cs. Admitted m cs) (sym (commands_push log e))
+      (Admitted-push m (commands log) e.command h is none (omega (arith, index_left, commands_length log)))
 
   -- a proposal's tests
-  admitted_told : (s : Server C) (command : C) → admission_refusal m s command ≡ None → (length s.log < MAX) × (m.admission (after m (commands s.log)) command ≡ None)
+  admitted_told : (s : Raft C) (command : C) → admission_refusal m s command ≡ None → (length s.log < MAX) × (m.admission (after m (commands s.log)) command ≡ None)
   admitted_told s command h = elim (bool_cases (nat_lt (length s.log) MAX)) [
     | inl e ↦ (ltb-true (length s.log) MAX e, rw e at h)
     | inr e ↦ absurd (let q = rw e at h in cc)
   ]
 
   -- a proposal
-  pub proposal_sound : (s : Server C) (command : C) → IsCommandOf m command → admission_refusal m s command ≡ None → Sound m s.log → Sound m (s.log ++ record { term = s.term; command = command } ∷ [])
+  pub proposal_sound : (s : Raft C) (command : C) → IsCommandOf m command → admission_refusal m s command ≡ None → Sound m s.log → Sound m (s.log ++ record { term = s.term; command = command } ∷ [])
   proposal_sound s command is none h = let a = admitted_told s command none in push_sound s.log (record { term = s.term; command = command }) is a.1 a.0 h
 
   -- a new leader's no-op
   pub noop_sound : LawfulMachine m → (log : List (Entry C)) (t : ℕ) → length log < MAX → Sound m log → Sound m (log ++ record { term = t; command = m.noop } ∷ [])
   unfolding Sound
-  noop_sound law log t room h =
+  noop_sound law log t index_left h =
       let good = after_good m law (commands log) h in
-      push_sound log (record { term = t; command = m.noop }) law.noop_fits (law.noop_is_admitted (after m (commands log)) good.state) room h
+      push_sound log (record { term = t; command = m.noop }) law.noop_fits (law.noop_is_admitted (after m (commands log)) good.state) index_left h
 
   -- the state after it is safe
   pub sound_safe : LawfulMachine m → (log : List (Entry C)) → Sound m log → m.safe (state_after m log)

@@ -3,7 +3,7 @@ use Rattle.std.proofs.Common.{◌≡◌, ℕ, ◌⊎◌, true, inl, inr, Some, L
 use Rattle.machine_model.specs.Meaning.{Meaning, LawfulMachine}
 use Rattle.machine_model.specs.declared.entry.Entry.{Entry}
 use Rattle.raft_model.specs.Messages.{Message}
-use Rattle.raft_model.specs.Servers.{Server, is_leader}
+use Rattle.raft_model.specs.Rafts.{Raft, is_leader}
 use Rattle.raft_model.specs.Worlds.{World, Event}
 use Rattle.raft_safety.specs.Inner.SmallSteps.{Small, raises, stands, grants_vote, refuses, counts, wins, extends, follows, takes_append, takes_install, acks, backs, advances, covers, beats_all, Path, still, only, after_one, Turns, walks, resets}
 use Rattle.raft_safety.specs.Inner.History.{History, Ledgers, Extends}
@@ -20,7 +20,7 @@ use Rattle.raft_safety.proofs.Election.{Moves}
 use Rattle.raft_safety.proofs.Sound.{Sound, none_sound, first_sound, proposal_sound, noop_sound}
 
 -- a server and messages given by equations
-shift : {C : Type 0} (P : List (Entry C) → Type 0) (n : ℕ) (G : History C) (i : ℕ) (t r : Server C) (out said : List (Message C)) → t ≡ r → out ≡ said → VotesKept n G.ballots i t out →
+shift : {C : Type 0} (P : List (Entry C) → Type 0) (n : ℕ) (G : History C) (i : ℕ) (t r : Raft C) (out said : List (Message C)) → t ≡ r → out ≡ said → VotesKept n G.ballots i t out →
     (VotesKept n G.ballots i r said → KeepsHistory P n G i r said) → KeepsHistory P n G i t out
 shift P n G i t r out said e o v f =
     subst (λ x. KeepsHistory P n G i x out) (sym e) (subst (λ x. KeepsHistory P n G i r x) (sym o)
@@ -28,11 +28,11 @@ shift P n G i t r out said e o v f =
 
 module _ {S C : Type 0} (m : Meaning S C) (law : LawfulMachine m) (n i : ℕ) (sent : List (Message C)) where
   -- the votes of a small step
-  kept_votes : (G : History C) (s t : Server C) (out : List (Message C)) → ServerOk n G i s → SentOk n G sent → Small m n i sent s t out → VotesKept n G.ballots i t out
+  kept_votes : (G : History C) (s t : Raft C) (out : List (Message C)) → ServerOk n G i s → SentOk n G sent → Small m n i sent s t out → VotesKept n G.ballots i t out
   kept_votes G s t out ok given x = small_votes m n G.ballots i sent s ok.voter (λ y came. let g = given y came in g.vote) t out x
 
   -- each small step
-  small_keeps : (G : History C) (s t : Server C) (out : List (Message C)) → Ledgers n G → ServerOk n G i s → SentOk n G sent → VotesKept n G.ballots i t out → Small m n i sent s t out → KeepsHistory (Sound m) n G i t out
+  small_keeps : (G : History C) (s t : Raft C) (out : List (Message C)) → Ledgers n G → ServerOk n G i s → SentOk n G sent → VotesKept n G.ballots i t out → Small m n i sent s t out → KeepsHistory (Sound m) n G i t out
   unfolding BodyOk
   small_keeps G s t out I ok given v (raises x came less e o) = shift (Sound m) n G i t _ out out e refl v (raise_keeps (Sound m) n G i s I ok x.term out less o)
   small_keeps G s t out I ok given v (stands term_fits index_fits e o) = shift (Sound m) n G i t _ out _ e o v (stand_keeps (Sound m) n G i s I ok index_fits)
@@ -58,7 +58,7 @@ module _ {S C : Type 0} (m : Meaning S C) (law : LawfulMachine m) (n i : ℕ) (s
   small_keeps G s t out I ok given v (beats_all next match mode e o) = shift (Sound m) n G i t _ out _ e o v (beat_keeps (Sound m) n G i s I ok next match mode)
 
   -- each path
-  pub path_keeps : (t : Server C) (out : List (Message C)) (G : History C) (s : Server C) → Ledgers n G → ServerOk n G i s → SentOk n G sent → Path m n i sent s t out → KeepsHistory (Sound m) n G i t out
+  pub path_keeps : (t : Raft C) (out : List (Message C)) (G : History C) (s : Raft C) → Ledgers n G → ServerOk n G i s → SentOk n G sent → Path m n i sent s t out → KeepsHistory (Sound m) n G i t out
   path_keeps t out G s I ok given (still e o) = subst (λ x. KeepsHistory (Sound m) n G i x out) (sym e) (subst (λ x. KeepsHistory (Sound m) n G i s x) (sym o) (keeps_same (Sound m) n G i s I ok))
   path_keeps t out G s I ok given (only x) = small_keeps G s t out I ok given (kept_votes G s t out ok given x) x
   path_keeps t out G s I ok given (after_one r x passes p) =
@@ -67,7 +67,7 @@ module _ {S C : Type 0} (m : Meaning S C) (law : LawfulMachine m) (n i : ℕ) (s
 
 module _ {S C : Type 0} (m : Meaning S C) (law : LawfulMachine m) (n i : ℕ) (sent : List (Message C)) where
   -- each turn
-  pub turn_keeps : (t : Server C) (out : List (Message C)) (G : History C) (s : Server C) → Ledgers n G → ServerOk n G i s → SentOk n G sent → Turns m n i sent s t out → KeepsHistory (Sound m) n G i t out
+  pub turn_keeps : (t : Raft C) (out : List (Message C)) (G : History C) (s : Raft C) → Ledgers n G → ServerOk n G i s → SentOk n G sent → Turns m n i sent s t out → KeepsHistory (Sound m) n G i t out
   turn_keeps t out G s I ok given (walks up p) = path_keeps m law n i sent t out G s I ok given p
   turn_keeps t out G s I ok given (resets mode h down e o) = shift (Sound m) n G i t _ out out e refl
       (reset_votes m n G.ballots i sent s ok.voter (λ y came. let g = given y came in g.vote) t out mode h e o) (reset_keeps (Sound m) n G i s I ok mode out h o)
@@ -76,12 +76,12 @@ module _ {S C : Type 0} (m : Meaning S C) (law : LawfulMachine m) (n i : ℕ) (s
 pub record WorldOk {S C : Type 0} (m : Meaning S C) (n : ℕ) (G : History C) (w : World C) : Type 0 where
   pub size : length w.servers ≡ n
   pub ledgers : Ledgers n G
-  pub each : (j : ℕ) (s : Server C) → slice_get w.servers j ≡ Some s → ServerOk n G j s
+  pub each : (j : ℕ) (s : Raft C) → slice_get w.servers j ≡ Some s → ServerOk n G j s
   pub given : SentOk n G w.sent
   pub sound : (u : ℕ) → Sound m (G.ledger u)
 
 -- after a step of one server, which is `new` then
-pub record WorldGoes {S C : Type 0} (m : Meaning S C) (n : ℕ) (G : History C) (w : World C) (new : Server C) : Type 0 where
+pub record WorldGoes {S C : Type 0} (m : Meaning S C) (n : ℕ) (G : History C) (w : World C) (new : Raft C) : Type 0 where
   pub after : History C
   pub extends : Extends G after
   pub ok : WorldOk m n after w
@@ -94,7 +94,7 @@ module _ {S C : Type 0} (m : Meaning S C) (law : LawfulMachine m) (n : ℕ) (G :
       (subst (λ k. Turns m k x.who w.sent x.old x.new x.out) ok.size x.path)
 
   -- each server
-  goes_each : (j : ℕ) (s : Server C) → slice_get (slice_set w.servers x.who x.new) j ≡ Some s → ServerOk n kept.after j s
+  goes_each : (j : ℕ) (s : Raft C) → slice_get (slice_set w.servers x.who x.new) j ≡ Some s → ServerOk n kept.after j s
   goes_each j s h = elim (get_set-cases w.servers x.who x.new j s h) [
     | inl e ↦ subst (λ k. ServerOk n kept.after k s) (sym e.0) (subst (λ y. ServerOk n kept.after x.who y) e.1 kept.own)
     | inr e ↦ server_on n G kept.after x.who j s kept.extends kept.apart e.0 (ok.each j s e.1)

@@ -4,7 +4,7 @@ use Rattle.std.proofs.Common.{◌≡◌, ℕ, suc, ◌<◌, ◌≤◌, ◌⊎◌
 use Rattle.std.proofs.lemmas.Bool.Decides.{leb_tells}
 use Rattle.machine_model.specs.Meaning.{Meaning, LawfulMachine}
 use Rattle.machine_model.specs.declared.entry.Entry.{Entry}
-use Rattle.raft_model.specs.Servers.{Server, Leader, is_up, newcomer}
+use Rattle.raft_model.specs.Rafts.{Raft, Leader, is_up, newcomer}
 use Rattle.raft_model.specs.Worlds.{World, first, Event, Run, start, more, moment, Leads}
 use Rattle.raft_model.specs.Chains.{Agree, At, WasCommitted}
 use Rattle.raft_model.proofs.Cases.{bool_cases}
@@ -43,7 +43,7 @@ first_ledgers n = record {
 }
 
 -- each server is borne out by it
-first_server : {C : Type 0} (n j : ℕ) → let s : Server C = newcomer in let G : History C = no_history in Voter n no_ballots j s.term s.vote s.mode → ServerOk n G j s
+first_server : {C : Type 0} (n j : ℕ) → let s : Raft C = newcomer in let G : History C = no_history in Voter n no_ballots j s.term s.vote s.mode → ServerOk n G j s
 unfolding no_history Rooted ModeOk
 first_server n j v = record {
   voter = v;
@@ -96,16 +96,16 @@ pub record Story {S C : Type 0} (m : Meaning S C) (n : ℕ) (events : List (Even
   pub term : ℕ
   pub fixed : Fixed n history term (length list) list
   -- all servers at all moments, by the newest history
-  pub committed : (k i : ℕ) (s : Server C) → At past w k i s → Fixed n history s.term s.commit s.log
-  pub rooted : (k i : ℕ) (s : Server C) → At past w k i s → Rooted history.ledger s.log
-  pub agrees : (k i : ℕ) (s : Server C) → At past w k i s → Agree s.commit s.log list
+  pub committed : (k i : ℕ) (s : Raft C) → At past w k i s → Fixed n history s.term s.commit s.log
+  pub rooted : (k i : ℕ) (s : Raft C) → At past w k i s → Rooted history.ledger s.log
+  pub agrees : (k i : ℕ) (s : Raft C) → At past w k i s → Agree s.commit s.log list
   pub longest : (list ≡ []) ⊎ WasCommitted past w (length list)
-  pub complete : (k l i j t : ℕ) (s : Server C) (x : World C) → k ≤ l → At past w k i s → s.term ≤ t → moment past w l ≡ Some x → (leads : Leads x j t) →
+  pub complete : (k l i j t : ℕ) (s : Raft C) (x : World C) → k ≤ l → At past w k i s → s.term ≤ t → moment past w l ≡ Some x → (leads : Leads x j t) →
       Agree s.commit list leads.server.log
 
 module _ {C : Type 0} where
   -- a moment is an old one, or the newest
-  at_cases : (past : List (World C)) (w next : World C) (k i : ℕ) (s : Server C) → At (past ++ w ∷ []) next k i s →
+  at_cases : (past : List (World C)) (w next : World C) (k i : ℕ) (s : Raft C) → At (past ++ w ∷ []) next k i s →
       ((k < length (past ++ w ∷ [])) × At past w k i s) ⊎ ((length (past ++ w ∷ []) ≤ k) × (slice_get next.servers i ≡ Some s))
   at_cases past w next k i s a = elim (get-where (past ++ w ∷ []) (next ∷ []) k a.world a.world_is) [
     | inl e ↦ inl (e.0, record { world = a.world; world_is = e.1; here = a.here })
@@ -124,11 +124,11 @@ module _ {C : Type 0} where
   }
 
   -- what is reached now
-  reached_now : (past : List (World C)) (w : World C) (i : ℕ) (s : Server C) → slice_get w.servers i ≡ Some s → is_up s.mode ≡ true → WasCommitted past w s.commit
+  reached_now : (past : List (World C)) (w : World C) (i : ℕ) (s : Raft C) → slice_get w.servers i ≡ Some s → is_up s.mode ≡ true → WasCommitted past w s.commit
   reached_now past w i s h up = record { up = up; moment = length past; who = i; server = s; commit = refl; at = record { world = w; world_is = get-last past w; here = h } }
 
 -- a longer list, if a server has committed more
-record Longer {C : Type 0} (n : ℕ) (H : History C) (past : List (World C)) (w : World C) (new : Server C) (old : List (Entry C)) : Type 0 where
+record Longer {C : Type 0} (n : ℕ) (H : History C) (past : List (World C)) (w : World C) (new : Raft C) (old : List (Entry C)) : Type 0 where
   list : List (Entry C)
   term : ℕ
   fixed : Fixed n H term (length list) list
@@ -137,7 +137,7 @@ record Longer {C : Type 0} (n : ℕ) (H : History C) (past : List (World C)) (w 
   longest : (list ≡ []) ⊎ WasCommitted past w (length list)
 
 -- the list goes on where a server has committed more
-longer : {C : Type 0} (n : ℕ) (H : History C) (past : List (World C)) (w : World C) (i v : ℕ) (new : Server C) (old : List (Entry C)) → Ledgers n H → ServerOk n H i new →
+longer : {C : Type 0} (n : ℕ) (H : History C) (past : List (World C)) (w : World C) (i v : ℕ) (new : Raft C) (old : List (Entry C)) → Ledgers n H → ServerOk n H i new →
     slice_get w.servers i ≡ Some new → Fixed n H v (length old) old → ((old ≡ []) ⊎ WasCommitted past w (length old)) → (is_up new.mode ≡ false → new.commit ≤ length old) → Longer n H past w new old
 longer n H past w i v new old I ok here f top low = elim (leb_tells new.commit (length old)) [
   | inl a ↦ record { list = old; term = v; fixed = f; grows = agree_self old; covers = a.1; longest = top }
@@ -175,30 +175,30 @@ module _ {S C : Type 0} (m : Meaning S C) (law : LawfulMachine m) (n : ℕ) (eve
       omega (arith, turns_down m (length w.servers) x.who w.sent x.old x.new x.out o.log.based x.path down, a.right))
 
   -- what was committed is fixed by the newest history
-  next_committed : (k i : ℕ) (s : Server C) → At (past ++ w ∷ []) next k i s → Fixed n g.after s.term s.commit s.log
+  next_committed : (k i : ℕ) (s : Raft C) → At (past ++ w ∷ []) next k i s → Fixed n g.after s.term s.commit s.log
   next_committed k i s a = elim (at_cases past w next k i s a) [
     | inl e ↦ fixed_on n st.history g.after s.term s.commit s.log g.extends (st.committed k i s e.1)
     | inr e ↦ let o = g.ok.each i s e.1 in o.log.fixed
   ]
 
   -- all logs
-  next_rooted : (k i : ℕ) (s : Server C) → At (past ++ w ∷ []) next k i s → Rooted g.after.ledger s.log
+  next_rooted : (k i : ℕ) (s : Raft C) → At (past ++ w ∷ []) next k i s → Rooted g.after.ledger s.log
   next_rooted k i s a = elim (at_cases past w next k i s a) [
     | inl e ↦ rooted_on st.history g.after s.log g.extends (st.rooted k i s e.1)
     | inr e ↦ let o = g.ok.each i s e.1 in o.log.rooted
   ]
 
   -- nobody has committed more than the list
-  now_covers : (i : ℕ) (s : Server C) → slice_get next.servers i ≡ Some s → s.commit ≤ length more_list.list
+  now_covers : (i : ℕ) (s : Raft C) → slice_get next.servers i ≡ Some s → s.commit ≤ length more_list.list
   now_covers i s h = elim (get_set-cases w.servers x.who x.new i s (subst (λ l. slice_get l i ≡ Some s) x.servers h)) [
-    | inl e ↦ omega (arith, more_list.covers, ap (λ (y : Server C). y.commit) e.1)
+    | inl e ↦ omega (arith, more_list.covers, ap (λ (y : Raft C). y.commit) e.1)
     | inr e ↦
         let a = st.agrees (length past) i s (record { world = w; world_is = get-last past w; here = e.1 }) in
         let b = more_list.grows in omega (arith, a.right, b.right)
   ]
 
   -- all have committed a first part of it
-  next_agrees : (k i : ℕ) (s : Server C) → At (past ++ w ∷ []) next k i s → Agree s.commit s.log more_list.list
+  next_agrees : (k i : ℕ) (s : Raft C) → At (past ++ w ∷ []) next k i s → Agree s.commit s.log more_list.list
   next_agrees k i s a = elim (at_cases past w next k i s a) [
     | inl e ↦ let b = st.agrees k i s e.1 in agree_trans b (agree_less s.commit b.right more_list.grows)
     | inr e ↦ let o = g.ok.each i s e.1 in
@@ -215,7 +215,7 @@ module _ {S C : Type 0} (m : Meaning S C) (law : LawfulMachine m) (n : ℕ) (eve
       )
 
   -- a leader of the newest world
-  last_complete : (k i j t : ℕ) (s : Server C) (y : World C) → At (past ++ w ∷ []) next k i s → s.term ≤ t → next ≡ y → (leads : Leads y j t) →
+  last_complete : (k i j t : ℕ) (s : Raft C) (y : World C) → At (past ++ w ∷ []) next k i s → s.term ≤ t → next ≡ y → (leads : Leads y j t) →
       Agree s.commit more_list.list leads.server.log
   last_complete k i j t s y a low same leads =
       let f : (ls : Leads next j t) → Agree s.commit more_list.list ls.server.log = λ ls.
@@ -226,7 +226,7 @@ module _ {S C : Type 0} (m : Meaning S C) (law : LawfulMachine m) (n : ℕ) (eve
       h y same leads
 
   -- each leader
-  next_complete : (k l i j t : ℕ) (s : Server C) (y : World C) → k ≤ l → At (past ++ w ∷ []) next k i s → s.term ≤ t → moment (past ++ w ∷ []) next l ≡ Some y → (leads : Leads y j t) →
+  next_complete : (k l i j t : ℕ) (s : Raft C) (y : World C) → k ≤ l → At (past ++ w ∷ []) next k i s → s.term ≤ t → moment (past ++ w ∷ []) next l ≡ Some y → (leads : Leads y j t) →
       Agree s.commit more_list.list leads.server.log
   next_complete k l i j t s y le a low at leads = elim (get-where (past ++ w ∷ []) (next ∷ []) l y at) [
     | inl e ↦ elim (at_cases past w next k i s a) [
@@ -257,14 +257,14 @@ module _ {S C : Type 0} (m : Meaning S C) (law : LawfulMachine m) (n : ℕ) (eve
 
 module _ {S C : Type 0} (m : Meaning S C) (law : LawfulMachine m) (n : ℕ) where
   -- the first world has newcomers alone
-  first_server_is : (k i : ℕ) (s : Server C) → At [] (first n) k i s → s ≡ newcomer
+  first_server_is : (k i : ℕ) (s : Raft C) → At [] (first n) k i s → s ≡ newcomer
   first_server_is k i s a =
       let w : first n ≡ a.world = get-one (first n) k a.world a.world_is in
       sym (replicate-get n newcomer i s (ap (λ (x : World C). slice_get x.servers i) w ∙ a.here))
 
   -- who have committed nothing
-  first_zero : (k i : ℕ) (s : Server C) → At [] (first n) k i s → s.commit ≡ 0
-  first_zero k i s a = ap (λ (x : Server C). x.commit) (first_server_is k i s a)
+  first_zero : (k i : ℕ) (s : Raft C) → At [] (first n) k i s → s.commit ≡ 0
+  first_zero k i s a = ap (λ (x : Raft C). x.commit) (first_server_is k i s a)
 
   -- every run has a story
   pub story : (events : List (Event C)) (past : List (World C)) (w : World C) → Run m n events past w → Story m n events past w
@@ -277,7 +277,7 @@ module _ {S C : Type 0} (m : Meaning S C) (law : LawfulMachine m) (n : ℕ) wher
     term = 0;
     fixed = inl refl;
     committed = λ k i s a. inl (first_zero k i s a);
-    rooted = λ k i s a. first_rooted s.log (ap (λ (x : Server C). length x.log) (first_server_is k i s a));
+    rooted = λ k i s a. first_rooted s.log (ap (λ (x : Raft C). length x.log) (first_server_is k i s a));
     agrees = λ k i s a. subst (λ c. Agree c s.log []) (sym (first_zero k i s a)) (agree_none s.log []);
     longest = inl refl;
     complete = λ k l i j t s x le a low at leads. subst (λ c. Agree c [] leads.server.log) (sym (first_zero k i s a)) (agree_none [] leads.server.log);

@@ -5,7 +5,7 @@ use Rattle.machine_model.specs.Meaning.{Meaning}
 use Rattle.machine_model.specs.declared.entry.Entry.{Entry}
 use Rattle.raft_model.specs.Quorums.{marked, is_quorum}
 use Rattle.raft_model.specs.Messages.{Message, Body, VoteRequest, VoteReply, Append, AppendReply, Install, InstallReply}
-use Rattle.raft_model.specs.Servers.{Server, Mode, Follower, Candidate, Leader, stood, vote_request_to, is_free_for, installed, match_raised, beat_message, beat_body}
+use Rattle.raft_model.specs.Rafts.{Raft, Mode, Follower, Candidate, Leader, stood, vote_request_to, is_free_for, installed, match_raised, beat_message, beat_body}
 use Rattle.raft_model.proofs.Cases.{bool_cases}
 use Rattle.raft_safety.specs.Inner.SmallSteps.{OwesNothing, KnowsNothing, WasSent, Small, raises, stands, grants_vote, refuses, counts, wins, extends, follows, takes_append, takes_install, acks, backs, advances, covers, beats_all, Path, still, only, after_one, Turns, walks, resets}
 use Rattle.raft_safety.specs.Inner.Ballots.{Ballots, cast, is_for, Elected, VoterMode, Voter, VoteBody, BallotsGrow}
@@ -14,7 +14,7 @@ use Rattle.raft_safety.proofs.Places.{marked_set, only_marked, to_others_is, get
 use Rattle.raft_safety.proofs.Voters.{for_is, grow_more, apart_more, body_on, mode_on, Votes, votes_same, votes_raise, votes_cast, idle_mode}
 
 -- what a small step gives
-pub record VotesKept {C : Type 0} (n : ℕ) (B : Ballots) (i : ℕ) (t : Server C) (out : List (Message C)) : Type 0 where
+pub record VotesKept {C : Type 0} (n : ℕ) (B : Ballots) (i : ℕ) (t : Raft C) (out : List (Message C)) : Type 0 where
   pub votes : Votes n B i t.term t.vote t.mode
   pub says : (k : ℕ) (x : Message C) → slice_get out k ≡ Some x → VoteBody votes.after x.from x.to x.body
 
@@ -40,15 +40,15 @@ owes from to (InstallReply asked at) h D = tt
 
 module _ {C : Type 0} (n : ℕ) (B : Ballots) (i : ℕ) where
   -- nothing is said
-  quiet : (t : Server C) → Votes n B i t.term t.vote t.mode → VotesKept n B i t []
+  quiet : (t : Raft C) → Votes n B i t.term t.vote t.mode → VotesKept n B i t []
   quiet t v = record { votes = v; says = λ k x h. absurd (cc) }
 
   -- the same by an equation
-  quiet_out : (t : Server C) (out : List (Message C)) → out ≡ [] → Votes n B i t.term t.vote t.mode → VotesKept n B i t out
+  quiet_out : (t : Raft C) (out : List (Message C)) → out ≡ [] → Votes n B i t.term t.vote t.mode → VotesKept n B i t out
   quiet_out t out e v = record { votes = v; says = λ k x h. absurd (let q = rw e at h in cc) }
 
   -- one message
-  says_one : (t : Server C) (x : Message C) (v : Votes n B i t.term t.vote t.mode) → VoteBody v.after x.from x.to x.body → VotesKept n B i t (x ∷ [])
+  says_one : (t : Raft C) (x : Message C) (v : Votes n B i t.term t.vote t.mode) → VoteBody v.after x.from x.to x.body → VotesKept n B i t (x ∷ [])
   says_one t x v h = record { votes = v; says = λ k y e. subst (λ z. VoteBody v.after z.from z.to z.body) (get-one x k y e) h }
 
 -- a leader goes on
@@ -57,11 +57,11 @@ unfolding VoterMode
 leads_on n B j t mode next match next2 match2 e h = let a : VoterMode n B j t (Leader next match) = subst (λ x. VoterMode n B j t x) e h in a
 
 -- a beat says nothing of votes
-beat_says : {C : Type 0} (D : Ballots) (s : Server C) (from to next : ℕ) → VoteBody D from to (beat_body s next)
+beat_says : {C : Type 0} (D : Ballots) (s : Raft C) (from to next : ℕ) → VoteBody D from to (beat_body s next)
 unfolding VoteBody
 beat_says D s from to next = elim (bool_cases (nat_le next s.covered)) [ inl e ↦ rw e tt | inr e ↦ rw e tt ]
 
-module _ {S C : Type 0} (m : Meaning S C) (n : ℕ) (B : Ballots) (i : ℕ) (sent : List (Message C)) (s : Server C)
+module _ {S C : Type 0} (m : Meaning S C) (n : ℕ) (B : Ballots) (i : ℕ) (sent : List (Message C)) (s : Raft C)
     (v : Voter n B i s.term s.vote s.mode) (given : VotesSent B sent) where
   -- a new candidate votes for itself
   stands_votes : Votes n B i (suc s.term) (Some i) (stood n i s).mode
@@ -119,7 +119,7 @@ module _ {S C : Type 0} (m : Meaning S C) (n : ℕ) (B : Ballots) (i : ℕ) (sen
   acks_votes next match j at mode = elim (bool_cases (nat_le at (length s.log))) [ inl e ↦ rw e (leader_votes next match _ _ mode) | inr e ↦ rw e same_votes ]
 
   -- each small step
-  pub small_votes : (t : Server C) (out : List (Message C)) → Small m n i sent s t out → VotesKept n B i t out
+  pub small_votes : (t : Raft C) (out : List (Message C)) → Small m n i sent s t out → VotesKept n B i t out
   unfolding VoteBody
   small_votes t out (raises x came less e o) = rw e (quiet_out n B i _ out o (votes_raise n B i s.term x.term s.vote s.mode v less))
   small_votes t out (stands term_fits index_fits e o) = rw (e, o) (record {
@@ -145,11 +145,11 @@ module _ {S C : Type 0} (m : Meaning S C) (n : ℕ) (B : Ballots) (i : ℕ) (sen
   })
 
   -- a crash or a restart
-  pub reset_votes : (t : Server C) (out : List (Message C)) (mode : Mode) → KnowsNothing mode → t ≡ record s { commit = s.covered; known = None; mode = mode } → out ≡ [] → VotesKept n B i t out
+  pub reset_votes : (t : Raft C) (out : List (Message C)) (mode : Mode) → KnowsNothing mode → t ≡ record s { commit = s.covered; known = None; mode = mode } → out ≡ [] → VotesKept n B i t out
   reset_votes t out mode h e o = rw e (quiet_out n B i _ out o (idle_votes mode h))
 
   -- no step
-  pub still_votes : (t : Server C) (out : List (Message C)) → t ≡ s → out ≡ [] → VotesKept n B i t out
+  pub still_votes : (t : Raft C) (out : List (Message C)) → t ≡ s → out ≡ [] → VotesKept n B i t out
   still_votes t out e o = rw e (quiet_out n B i s out o same_votes)
 
 -- messages stay true
@@ -157,7 +157,7 @@ pub sent_on : {C : Type 0} (B D : Ballots) (sent : List (Message C)) → Ballots
 sent_on B D sent g h x came = body_on B D x.from x.to x.body g (h x came)
 
 -- one change after another
-chained : {C : Type 0} (n : ℕ) (B : Ballots) (i term : ℕ) (vote : Option ℕ) (mode : Mode) (t : Server C) (out : List (Message C)) (v : Votes n B i term vote mode) → VotesKept n v.after i t out → VotesKept n B i t out
+chained : {C : Type 0} (n : ℕ) (B : Ballots) (i term : ℕ) (vote : Option ℕ) (mode : Mode) (t : Raft C) (out : List (Message C)) (v : Votes n B i term vote mode) → VotesKept n v.after i t out → VotesKept n B i t out
 chained n B i term vote mode t out v k = record {
   votes = record {
     after = k.votes.after;
@@ -169,7 +169,7 @@ chained n B i term vote mode t out v k = record {
 }
 
 -- each path
-pub path_votes : {S C : Type 0} (m : Meaning S C) (n i : ℕ) (sent : List (Message C)) (t : Server C) (out : List (Message C)) (B : Ballots) (s : Server C) →
+pub path_votes : {S C : Type 0} (m : Meaning S C) (n i : ℕ) (sent : List (Message C)) (t : Raft C) (out : List (Message C)) (B : Ballots) (s : Raft C) →
     Voter n B i s.term s.vote s.mode → VotesSent B sent → Path m n i sent s t out → VotesKept n B i t out
 path_votes m n i sent t out B s v given (still e o) = still_votes m n B i sent s v given t out e o
 path_votes m n i sent t out B s v given (only x) = small_votes m n B i sent s v given t out x
@@ -179,7 +179,7 @@ path_votes m n i sent t out B s v given (after_one r x passes p) =
     (path_votes m n i sent t out one.votes.after r one.votes.own (sent_on B one.votes.after sent one.votes.grow given) p)
 
 -- each turn
-pub turn_votes : {S C : Type 0} (m : Meaning S C) (n i : ℕ) (sent : List (Message C)) (t : Server C) (out : List (Message C)) (B : Ballots) (s : Server C) →
+pub turn_votes : {S C : Type 0} (m : Meaning S C) (n i : ℕ) (sent : List (Message C)) (t : Raft C) (out : List (Message C)) (B : Ballots) (s : Raft C) →
     Voter n B i s.term s.vote s.mode → VotesSent B sent → Turns m n i sent s t out → VotesKept n B i t out
 turn_votes m n i sent t out B s v given (walks up p) = path_votes m n i sent t out B s v given p
 turn_votes m n i sent t out B s v given (resets mode h down e o) = reset_votes m n B i sent s v given t out mode h e o

@@ -6,7 +6,7 @@ use Rattle.machine_model.specs.declared.entry.Entry.{Entry}
 use Rattle.raft_model.specs.Logs.{MAX, term_at}
 use Rattle.raft_model.specs.Quorums.{marked, index_at, is_quorum}
 use Rattle.raft_model.specs.Messages.{Message}
-use Rattle.raft_model.specs.Servers.{Server, Mode, Candidate, Leader, is_leader, won}
+use Rattle.raft_model.specs.Rafts.{Raft, Mode, Candidate, Leader, is_leader, won}
 use Rattle.raft_safety.specs.Inner.Functions.{with_at, with_both}
 use Rattle.raft_model.specs.Chains.{Agree}
 use Rattle.raft_safety.specs.Inner.Agreement.{Rooted}
@@ -48,7 +48,7 @@ module _ {C : Type 0} where
   unfoldable pub write : History C → Ballots → ℕ → ℕ → List (Entry C) → History C
   write G B t i X = record { ballots = B; stood = G.stood; leader = with_at G.leader t (Some i); ledger = with_at G.ledger t X; held = with_both G.held t i (length X) }
 
-module _ {C : Type 0} (P : List (Entry C) → Type 0) (n : ℕ) (G : History C) (i : ℕ) (s : Server C) (I : Ledgers n G) (ok : ServerOk n G i s) (e : Entry C) (its : e.term ≡ s.term)
+module _ {C : Type 0} (P : List (Entry C) → Type 0) (n : ℕ) (G : History C) (i : ℕ) (s : Raft C) (I : Ledgers n G) (ok : ServerOk n G i s) (e : Entry C) (its : e.term ≡ s.term)
     (told : (G.leader s.term ≡ None) ⊎ (G.leader s.term ≡ Some i))
     (grows : Agree (length (G.ledger s.term)) (G.ledger s.term) (s.log ++ e ∷ []))
     (short : G.held s.term i ≤ length (s.log ++ e ∷ []))
@@ -62,7 +62,7 @@ module _ {C : Type 0} (P : List (Entry C) → Type 0) (n : ℕ) (G : History C) 
       (matched : (j : ℕ) → j < n → j ≢ i → index_at match j ≤ G.held s.term j)
       (next_from : (j : ℕ) → j < n → j ≢ i → 1 ≤ index_at next j)
       (next_to : (j : ℕ) → j < n → j ≢ i → index_at next j ≤ suc (length (s.log ++ e ∷ [])))
-      (v : let r : Server C = record s { log = s.log ++ e ∷ []; mode = mode } in VotesKept n G.ballots i r out) where
+      (v : let r : Raft C = record s { log = s.log ++ e ∷ []; mode = mode } in VotesKept n G.ballots i r out) where
     -- the ballots then
     B : Ballots
     B = v.votes.after
@@ -245,7 +245,7 @@ module _ {C : Type 0} (P : List (Entry C) → Type 0) (n : ℕ) (G : History C) 
     X_role = subst (λ y. ModeOk n H i s.term X y) (sym is) X_leads
 
     -- a leader that writes one entry
-    pub write_keeps : let r : Server C = record s { log = s.log ++ e ∷ []; mode = mode } in KeepsHistory P n G i r out
+    pub write_keeps : let r : Raft C = record s { log = s.log ++ e ∷ []; mode = mode } in KeepsHistory P n G i r out
     unfolding H B X write
     write_keeps = record {
       after = H;
@@ -270,10 +270,10 @@ module _ {C : Type 0} (P : List (Entry C) → Type 0) (n : ℕ) (G : History C) 
       ];
     }
 
-module _ {C : Type 0} (P : List (Entry C) → Type 0) (n : ℕ) (G : History C) (i : ℕ) (s : Server C) (I : Ledgers n G) (ok : ServerOk n G i s) where
+module _ {C : Type 0} (P : List (Entry C) → Type 0) (n : ℕ) (G : History C) (i : ℕ) (s : Raft C) (I : Ledgers n G) (ok : ServerOk n G i s) where
   -- a proposal
   pub extend_keeps : (next match : List ℕ) (command : C) (out : List (Message C)) → (P s.log → P (s.log ++ record { term = s.term; command = command } ∷ [])) → s.mode ≡ Leader next match → out ≡ [] →
-      (let r : Server C = record s { log = s.log ++ record { term = s.term; command = command } ∷ [] } in VotesKept n G.ballots i r out → KeepsHistory P n G i r out)
+      (let r : Raft C = record s { log = s.log ++ record { term = s.term; command = command } ∷ [] } in VotesKept n G.ballots i r out → KeepsHistory P n G i r out)
   extend_keeps next match command out push mode o v =
       let l = as_leader P n G i s I ok next match mode in
       let e : Entry C = record { term = s.term; command = command } in
@@ -319,7 +319,7 @@ module _ {C : Type 0} (P : List (Entry C) → Type 0) (n : ℕ) (G : History C) 
       (win_carries n G s.term (marked votes) s.log (quorum_told n (marked votes) many)
       (λ j less mark. let b = c.carried j less mark in b.late)
       (λ j u k less mark lower one le. let b = c.carried j less mark in b.carries u k lower one le))
-      (λ all. push c.room (log_sound none_sound first_sound all))
+      (λ all. push c.index_left (log_sound none_sound first_sound all))
       (replicate n (suc (length s.log))) (replicate n 0) (Leader (replicate n (suc (length s.log))) (replicate n 0)) refl out o
       (λ j less other. omega (arith, index_at_replicate n 0 j less))
       (λ j less other. omega (arith, index_at_replicate n (suc (length s.log)) j less))

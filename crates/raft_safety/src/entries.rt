@@ -4,7 +4,7 @@ ghost use Rattle.std.specs.Prelude.{◌≡◌, ◌<◌, ℕ, List, length, take,
 ghost use Rattle.machine_model.specs.After.{Admitted};
 ghost use Rattle.machine_model.specs.declared.entry.Entry.{Entry};
 ghost use Rattle.raft_model.specs.Logs.{commands, state_after};
-ghost use Rattle.raft_model.specs.Servers.{Server};
+ghost use Rattle.raft_model.specs.Rafts.{Raft};
 ghost use Rattle.raft_model.specs.Worlds.{World, moment};
 ghost use Rattle.raft_model.specs.Chains.{Agree, At, Chain};
 ghost use Rattle.raft_safety.specs.Claims.{EachRun, LogMatching, IsGreatestCommit, Origin};
@@ -40,9 +40,9 @@ pub fn one_list<M: Machine>()
 pub fn states_are_safe<M: Machine>()
     ensures list { EachRun M.meaning (λ n events past w. (list : List (Entry M.Command))
         → Chain past w list → (k : ℕ) → M.meaning.safe (state_after M.meaning (take k list))) }
-    ensures log { EachRun M.meaning (λ n events past w. (k i : ℕ) (s : Server M.Command)
+    ensures log { EachRun M.meaning (λ n events past w. (k i : ℕ) (s : Raft M.Command)
         → At past w k i s → (p : ℕ) → M.meaning.safe (state_after M.meaning (take p s.log))) }
-    ensures admitted { EachRun M.meaning (λ n events past w. (k i : ℕ) (s : Server M.Command)
+    ensures admitted { EachRun M.meaning (λ n events past w. (k i : ℕ) (s : Raft M.Command)
         → At past w k i s → Admitted M.meaning (commands s.log)) }
 {}
 

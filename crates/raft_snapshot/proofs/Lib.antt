@@ -3,7 +3,7 @@ mod Rereads
 pub mod Entries
 pub mod Blanks
 pub mod Whole
-pub mod Servers
+pub mod Rafts
 pub mod Steps
 pub mod Snapshots
 pub mod Applies

@@ -7,7 +7,7 @@ use Rattle.std.proofs.lemmas.Bool.Decides.{leb_tells}
 use Rattle.std.proofs.lemmas.List.{drop-append-le, take-append-drop, drop-take, length-drop, append-nil}
 use Rattle.machine_model.specs.declared.entry.Entry.{Entry}
 use Rattle.raft_model.specs.Logs.{term_at, last_term, has, merge, install}
-use Rattle.raft_model.specs.Servers.{greatest}
+use Rattle.raft_model.specs.Rafts.{greatest}
 use Rattle.raft_snapshot.specs.Filled.{refilled}
 
 pub term_at_zero : {C : Type 0} (log : List (Entry C)) → term_at log 0 ≡ 0

@@ -6,19 +6,19 @@ use Rattle.machine_model.specs.Meaning.{Meaning}
 use Rattle.machine_model.specs.declared.entry.Entry.{Entry}
 use Rattle.raft_model.specs.Logs.{MAX}
 use Rattle.raft_model.specs.Messages.{Message, to_others}
-use Rattle.raft_model.specs.Servers.{Server, Turn, is_up, is_leader, silent, met, stood, vote_request_to}
+use Rattle.raft_model.specs.Rafts.{Raft, RaftTurn, is_up, is_leader, silent, met, stood, vote_request_to}
 use Rattle.raft_model.specs.Steps.{step, acts, wakes, times_out, receives, Input, Arrives, Timeout, Beat, Propose, Compact, Crash, Restart}
 use Rattle.raft_snapshot.specs.Filled.{filled, filled_result, MayFill, IsPlainInput}
 use Rattle.raft_snapshot.proofs.Logs.{filled-length, filled-last_term}
-use Rattle.raft_snapshot.proofs.Servers.{receives-filled}
+use Rattle.raft_snapshot.proofs.Rafts.{receives-filled}
 
 others-same : {C : Type 0} (me : ℕ) (f g : ℕ → Message C) (n : ℕ) → ((j : ℕ) → f j ≡ g j) → to_others me f n ≡ to_others me g n
 unfolding to_others
 others-same me f g zero same = refl
 others-same me f g (suc n) same = rw (same n, others-same me f g n same) refl
 
-module _ {S C : Type 0} (m : Meaning S C) (n me : ℕ) (P : List (Entry C)) (s : Server C) (may : MayFill P s) where
-  either_result : (t : Bool) (a b x y : Result (Turn C) Refusal) → a ≡ filled_result P x → b ≡ filled_result P y → (if t then a else b) ≡ filled_result P (if t then x else y)
+module _ {S C : Type 0} (m : Meaning S C) (n me : ℕ) (P : List (Entry C)) (s : Raft C) (may : MayFill P s) where
+  either_result : (t : Bool) (a b x y : Result (RaftTurn C) Refusal) → a ≡ filled_result P x → b ≡ filled_result P y → (if t then a else b) ≡ filled_result P (if t then x else y)
   either_result true a b x y p q = p
   either_result false a b x y p q = q
 
@@ -31,7 +31,7 @@ module _ {S C : Type 0} (m : Meaning S C) (n me : ℕ) (P : List (Entry C)) (s :
       (rw (filled-length P s.log may.within may.term, asks) (either_result (nat_lt s.term MAX && nat_lt (length s.log) MAX) (Ok (record { server = filled P (stood n me s); sent = to_others me (vote_request_to me (stood n me s)) n })) (Err refusals.Exhausted) (Ok (record { server = stood n me s; sent = to_others me (vote_request_to me (stood n me s)) n })) (Err refusals.Exhausted) refl refl))
 
   acts_filled : (input : Input C) → IsPlainInput input → acts m n me (filled P s) input ≡ filled_result P (acts m n me s input)
-  acts_filled (Arrives message) plain = either_result (nat_lt message.from n) (Ok (receives m.noop n me (met message.term (filled P s)) message.from message.term message.body)) (Err refusals.OutOfRange) (Ok (receives m.noop n me (met message.term s) message.from message.term message.body)) (Err refusals.OutOfRange) (ap (λ (t : Turn C). Ok t) (receives-filled P m.noop n me s may message.from message.term message.body plain)) refl
+  acts_filled (Arrives message) plain = either_result (nat_lt message.from n) (Ok (receives m.noop n me (met message.term (filled P s)) message.from message.term message.body)) (Err refusals.OutOfRange) (Ok (receives m.noop n me (met message.term s) message.from message.term message.body)) (Err refusals.OutOfRange) (ap (λ (t : RaftTurn C). Ok t) (receives-filled P m.noop n me s may message.from message.term message.body plain)) refl
   acts_filled Timeout plain = stands_filled
   acts_filled Crash plain = refl
   acts_filled Restart plain = refl

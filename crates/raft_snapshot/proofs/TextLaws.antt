@@ -23,7 +23,7 @@ use Rattle.machine_model.proofs.EntryLaws.{entry_lawful}
 use Rattle.raft_snapshot.specs.Bases.{IsSnapshot, blank}
 use Rattle.raft_snapshot.specs.Kept.{kept}
 use Rattle.raft_snapshot.specs.Stored.{Stored}
-use Rattle.raft_snapshot.specs.Texts.{vote, covered, most_behind, entries, Front, front, stored_of, parts_of, stable, stable_text, StableFits, IsStableText, agrees, state_place, stable_at}
+use Rattle.raft_snapshot.specs.Texts.{vote, covered, most_behind, entries, Front, front, stored_of, parts_of, stable, stable_text, StableFits, IsStableText, agrees, state_offset, stable_at}
 use Rattle.raft_snapshot.specs.Inner.Faults.{moved_fault}
 use Rattle.raft_snapshot.proofs.Blanks.{blank-length}
 
@@ -125,13 +125,13 @@ ended false a x y p q e = absurd cc
 pub stable_found : {S C : Type 0} (m : Meaning S C) → LawfulMachine m → (bytes : List ℕ) (s : Stored S C) → IsBytes bytes → stable_at m bytes ≡ Ok s → IsStableText m s bytes
 unfolding stable_at
 stable_found {S} {C} m law bytes s fits e =
-    let last : ℕ → Stored S C × ℕ → Result (Stored S C) ℕ = λ (k : ℕ) (s : Stored S C × ℕ). cond (eqb s.1 (length bytes)) (cond (agrees m s.0.log.base.index s.0.log.base.state) (Ok s.0) (Err (state_place m k bytes s.0.log.base.state))) (Err s.1) in
+    let last : ℕ → Stored S C × ℕ → Result (Stored S C) ℕ = λ (k : ℕ) (s : Stored S C × ℕ). cond (eqb s.1 (length bytes)) (cond (agrees m s.0.log.base.index s.0.log.base.state) (Ok s.0) (Err (state_offset m k bytes s.0.log.base.state))) (Err s.1) in
     let v = bind_ok (number_at 1 1 (newest + 1) bytes 0) (λ v. (stable m v.0).read bytes v.1 >>= last v.0) s e in
     let version = v.0.0 in
     let t = bind_ok ((stable m version).read bytes v.0.1) (last version) s v.2 in
     let stored = t.0.0 in
     let base = stored.log.base in
-    let g = ended (eqb t.0.1 (length bytes)) (agrees m base.index base.state) stored s (state_place m version bytes base.state) t.0.1 t.2 in
+    let g = ended (eqb t.0.1 (length bytes)) (agrees m base.index base.state) stored s (state_offset m version bytes base.state) t.0.1 t.2 in
     let sv = version_lawful.found bytes 0 version v.0.1 fits v.1 in
     let st = (stable_lawful m version (law.commands_lawful version) (law.states_lawful version)).found bytes v.0.1 stored t.0.1 fits t.1 in
     let text = (stable m version).text stored in
@@ -267,13 +267,13 @@ module _ {S C : Type 0} (m : Meaning S C) (law : LawfulMachine m) (bytes : List 
   none_is_none = none_covered f.index f.index_term stands.fits.1.1.0.1.1
 
   -- what is read then is the state
-  rest : stable_at m bytes ≡ ((placed (m.states version)).read bytes at >>= λ s. cond (eqb s.1 (length bytes)) (cond (agrees m f.index s.0) (Ok (stored_of m (f, s.0))) (Err (state_place m version bytes s.0))) (Err s.1))
+  rest : stable_at m bytes ≡ ((placed (m.states version)).read bytes at >>= λ s. cond (eqb s.1 (length bytes)) (cond (agrees m f.index s.0) (Ok (stored_of m (f, s.0))) (Err (state_offset m version bytes s.0))) (Err s.1))
   unfolding stable_at
-  rest = rw (is.version_read, is.front_read) (steps_after m f ((placed (m.states version)).read bytes at) (λ (s : Stored S C × ℕ). cond (eqb s.1 (length bytes)) (cond (agrees m s.0.log.base.index s.0.log.base.state) (Ok s.0) (Err (state_place m version bytes s.0.log.base.state))) (Err s.1)))
+  rest = rw (is.version_read, is.front_read) (steps_after m f ((placed (m.states version)).read bytes at) (λ (s : Stored S C × ℕ). cond (eqb s.1 (length bytes)) (cond (agrees m s.0.log.base.index s.0.log.base.state) (Ok s.0) (Err (state_offset m version bytes s.0.log.base.state))) (Err s.1)))
 
   -- a fault in the state, or a byte left over, is the whole's
   pub state_fault : (p : ℕ) → moved_fault at (whole (m.states version) (drop at bytes)) ≡ Err p → stable_at m bytes ≡ Err p
-  state_fault p e = rest ∙ fault_whole at (length (drop at bytes)) (length bytes) ((m.states version).read (drop at bytes) 0) (λ (s : S × ℕ). cond (agrees m f.index s.0) (Ok (stored_of m (f, s.0))) (Err (state_place m version bytes s.0))) p within (length-drop at bytes) e
+  state_fault p e = rest ∙ fault_whole at (length (drop at bytes)) (length bytes) ((m.states version).read (drop at bytes) 0) (λ (s : S × ℕ). cond (agrees m f.index s.0) (Ok (stored_of m (f, s.0))) (Err (state_offset m version bytes s.0))) p within (length-drop at bytes) e
 
   pub refused_state : (e : Refusal) → Refuses (Unit {0}) e (moved_fault at (whole (m.states version) (drop at bytes))) → Refuses (Unit {0}) e (stable_at m bytes)
   refused_state refusals.NoMemory given = tt
@@ -285,7 +285,7 @@ module _ {S C : Type 0} (m : Meaning S C) (law : LawfulMachine m) (bytes : List 
     found_state : (m.states version).Fits state × (drop at bytes ≡ (m.states version).text state)
     found_state = whole_found (m.states version) (law.states_lawful version) (drop at bytes) state (λ i. rw get_or-drop (is.fits (at + i))) (unmoved at (whole (m.states version) (drop at bytes)) state e)
 
-    tested : stable_at m bytes ≡ cond (agrees m f.index state) (Ok (stored_of m (f, state))) (Err (state_place m version bytes state))
+    tested : stable_at m bytes ≡ cond (agrees m f.index state) (Ok (stored_of m (f, state))) (Err (state_offset m version bytes state))
     tested =
         let read = read_whole at (length (drop at bytes)) (length bytes) ((m.states version).read (drop at bytes) 0) state within (length-drop at bytes) e in
         let all : eqb (length bytes) (length bytes) ≡ true = eq-eqb _ _ refl in
@@ -296,7 +296,7 @@ module _ {S C : Type 0} (m : Meaning S C) (law : LawfulMachine m) (bytes : List 
 
     pub disagreeing_read : agrees m f.index state ≡ false → stable_at m bytes ≡ Err at
     disagreeing_read so =
-        let here : state_place m version bytes state ≡ at = omega (arith, within, ap length found_state.1, length-drop at bytes) in
+        let here : state_offset m version bytes state ≡ at = omega (arith, within, ap length found_state.1, length-drop at bytes) in
         tested ∙ rw (so, here) refl
 
     pub snapshot_read : agrees m f.index state ≡ true → IsSnapshot m (record { index = f.index; term = f.index_term; state = state })

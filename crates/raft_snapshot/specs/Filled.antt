@@ -4,7 +4,7 @@ use Rattle.rows.specs.declared.refusal.Refusal.{Refusal}
 use Rattle.machine_model.specs.declared.entry.Entry.{Entry}
 use Rattle.raft_model.specs.Logs.{term_at, last_term}
 use Rattle.raft_model.specs.Messages.{Body, Install}
-use Rattle.raft_model.specs.Servers.{Server, Turn, is_leader}
+use Rattle.raft_model.specs.Rafts.{Raft, RaftTurn, is_leader}
 use Rattle.raft_model.specs.Steps.{Input, Arrives, Timeout, Crash, Restart}
 
 -- a log with these in place of as many first entries
@@ -12,19 +12,19 @@ abbrev pub refilled : {C : Type 0} → List (Entry C) → List (Entry C) → Lis
 refilled covered log = covered ++ drop (length covered) log
 
 -- a server with such a log
-abbrev pub filled : {C : Type 0} → List (Entry C) → Server C → Server C
+abbrev pub filled : {C : Type 0} → List (Entry C) → Raft C → Raft C
 filled covered s = record s { log = refilled covered s.log }
 
-abbrev pub filled_turn : {C : Type 0} → List (Entry C) → Turn C → Turn C
+abbrev pub filled_turn : {C : Type 0} → List (Entry C) → RaftTurn C → RaftTurn C
 filled_turn covered t = record { server = filled covered t.server; sent = t.sent }
 
-abbrev pub filled_result : {C : Type 0} → List (Entry C) → Result (Turn C) Refusal → Result (Turn C) Refusal
+abbrev pub filled_result : {C : Type 0} → List (Entry C) → Result (RaftTurn C) Refusal → Result (RaftTurn C) Refusal
 filled_result covered (Ok t) = Ok (filled_turn covered t)
 filled_result covered (Err r) = Err r
 
 -- The server's log has room for these, the last of which has the term that the log has there, and
 -- all of them are committed.
-pub record MayFill {C : Type 0} (covered : List (Entry C)) (s : Server C) : Type 0 where
+pub record MayFill {C : Type 0} (covered : List (Entry C)) (s : Raft C) : Type 0 where
   pub within : length covered ≤ length s.log
   pub term : last_term covered ≡ term_at s.log (length covered)
   pub committed : length covered ≤ s.commit
@@ -44,7 +44,7 @@ IsPlainInput _ = ⊥
 
 -- A snapshot of this index that comes in a message of this term is taken over: the message is of no
 -- lower term, the server does not lead, and the index is above its commit index. (Raft, Figure 13.)
-abbrev pub takes_snapshot : {C : Type 0} → ℕ → ℕ → Server C → Bool
+abbrev pub takes_snapshot : {C : Type 0} → ℕ → ℕ → Raft C → Bool
 takes_snapshot term index s =
     if nat_lt term s.term then false
     else if is_leader s.mode then false

@@ -91,8 +91,8 @@ abbrev pub agrees : {S C : Type 0} → Meaning S C → ℕ → S → Bool
 agrees m n state = nat_eq (m.count state) n && (nat_lt 0 n || bytes_eq ((m.states newest).text state) ((m.states newest).text m.empty))
 
 -- where the state's text of a version begins, which ends the bytes
-abbrev pub state_place : {S C : Type 0} → Meaning S C → ℕ → List ℕ → S → ℕ
-state_place m version bytes state = length bytes - length ((m.states version).text state)
+abbrev pub state_offset : {S C : Type 0} → Meaning S C → ℕ → List ℕ → S → ℕ
+state_offset m version bytes state = length bytes - length ((m.states version).text state)
 
 -- What is stored, of which these bytes are the text in the version that the first of them names, or
 -- the place of their first fault. Bytes left over come before a state that does not agree, which is
@@ -102,5 +102,5 @@ stable_at m bytes =
     number_at 1 1 (newest + 1) bytes 0 >>= λ version.
     (stable m version.0).read bytes version.1 >>= λ s.
     if nat_eq s.1 (length bytes) then
-    (if agrees m s.0.log.base.index s.0.log.base.state then Ok s.0 else Err (state_place m version.0 bytes s.0.log.base.state))
+    (if agrees m s.0.log.base.index s.0.log.base.state then Ok s.0 else Err (state_offset m version.0 bytes s.0.log.base.state))
     else Err s.1

@@ -5,7 +5,7 @@ ghost use Rattle.fields_model.specs.Format.{IsBytes, Lawful};
 ghost use Rattle.machine_model.specs.declared.entry.Entry.{Entry};
 ghost use Rattle.raft_model.specs.Logs.{last_term, state_after};
 ghost use Rattle.raft_model.specs.Messages.{Install};
-ghost use Rattle.raft_model.specs.Servers.{Server, beat_body, met, crashed, restarted, compacted};
+ghost use Rattle.raft_model.specs.Rafts.{Raft, beat_body, met, crashed, restarted, compacted};
 ghost use Rattle.raft_model.specs.Steps.{step, receives, Input};
 ghost use Rattle.raft_snapshot.specs.Bases.{Base, IsBaseOf, state_from};
 ghost use Rattle.raft_snapshot.specs.Filled.{refilled, filled, filled_turn, filled_result, MayFill, IsPlainInput, takes_snapshot};
@@ -20,18 +20,18 @@ use machine::Machine;
 /// same step, sends the same, and has these in their place after it. A Beat says which they are, an
 /// Install puts others in their place where it is taken over, and a Compact covers more of them.
 pub fn steps_are_filled<M: Machine>()
-    ensures steps { (n me : ℕ) (P : List (Entry M.Command)) (s : Server M.Command) → MayFill P s →
+    ensures steps { (n me : ℕ) (P : List (Entry M.Command)) (s : Raft M.Command) → MayFill P s →
         (input : Input M.Command) → IsPlainInput input →
         step M.meaning n me (filled P s) input ≡ filled_result P (step M.meaning n me s input) }
-    ensures installs { (P Q B : List (Entry M.Command)) (n me : ℕ) (s : Server M.Command) →
+    ensures installs { (P Q B : List (Entry M.Command)) (n me : ℕ) (s : Raft M.Command) →
         MayFill P s → (from term : ℕ) → length B ≡ length Q → last_term B ≡ last_term Q →
         receives M.meaning.noop n me (filled P s) from term (Install Q)
         ≡ filled_turn (if takes_snapshot term (length Q) s then Q else P)
         (receives M.meaning.noop n me s from term (Install B)) }
-    ensures beats { (P : List (Entry M.Command)) (s : Server M.Command) → MayFill P s →
+    ensures beats { (P : List (Entry M.Command)) (s : Raft M.Command) → MayFill P s →
         s.covered ≡ length P → (next : ℕ) → beat_body (filled P s) next
         ≡ (if nat_le next s.covered then Install P else beat_body s next) }
-    ensures compacts { (P B : List (Entry M.Command)) (s : Server M.Command) → MayFill P s →
+    ensures compacts { (P B : List (Entry M.Command)) (s : Raft M.Command) → MayFill P s →
         s.commit ≤ length s.log → length B ≡ s.commit → compacted (filled P s)
         ≡ filled (take s.commit (refilled P s.log))
         (record (compacted s) { log = B ++ drop s.commit s.log }) }
@@ -42,19 +42,19 @@ pub fn steps_are_filled<M: Machine>()
 /// state, and a crash, a restart and a Compact lead from what stands for a server to what stands
 /// for the server after it.
 pub fn servers_are_shown<M: Machine>()
-    ensures state { (base : Base M) (shown s : Server M.Command) → IsShown base shown →
+    ensures state { (base : Base M) (shown s : Raft M.Command) → IsShown base shown →
         StandsFor M.meaning base shown s →
         state_after M.meaning (take s.commit s.log) ≡ shown_state M.meaning base shown }
-    ensures whole { (base : Base M) (shown s : Server M.Command) →
+    ensures whole { (base : Base M) (shown s : Raft M.Command) →
         StandsFor M.meaning base shown s →
         state_after M.meaning s.log ≡ state_from M.meaning base shown.log }
-    ensures crash { (base : Base M) (shown s : Server M.Command) → IsShown base shown →
+    ensures crash { (base : Base M) (shown s : Raft M.Command) → IsShown base shown →
         StandsFor M.meaning base shown s →
         StandsFor M.meaning base (crashed shown) (crashed s) × IsShown base (crashed shown) }
-    ensures restart { (base : Base M) (shown s : Server M.Command) → IsShown base shown →
+    ensures restart { (base : Base M) (shown s : Raft M.Command) → IsShown base shown →
         StandsFor M.meaning base shown s →
         StandsFor M.meaning base (restarted shown) (restarted s) × IsShown base (restarted shown) }
-    ensures compact { (base : Base M) (shown s : Server M.Command) → IsShown base shown →
+    ensures compact { (base : Base M) (shown s : Raft M.Command) → IsShown base shown →
         shown.commit ≤ length shown.log → StandsFor M.meaning base shown s →
         StandsFor M.meaning (compacted_base M.meaning base shown)
         (compacted_shown M.meaning shown) (compacted s)
@@ -68,13 +68,13 @@ pub fn servers_are_shown<M: Machine>()
 /// definitions do (`sent`); and what it sends one that lacks none is what it shows (`appends`).
 pub fn snapshots_are_received<M: Machine>()
     ensures received { (n me from term : ℕ) (snapshot base : Base M)
-        (shown s : Server M.Command) → IsShown base shown → StandsFor M.meaning base shown s →
+        (shown s : Raft M.Command) → IsShown base shown → StandsFor M.meaning base shown s →
         (Q : List (Entry M.Command)) → IsBaseOf M.meaning snapshot Q →
         Received M.meaning (base_after base shown term snapshot)
         (turn_of M.meaning n me shown from term snapshot)
         (receives M.meaning.noop n me (met term s) from term (Install Q)) }
     ensures sent { (n me from term next : ℕ) (theirs base : Base M)
-        (sender x shown y : Server M.Command) →
+        (sender x shown y : Raft M.Command) →
         IsShown theirs sender → StandsFor M.meaning theirs sender x →
         IsShown base shown → StandsFor M.meaning base shown y →
         nat_le next theirs.index ≡ true →
@@ -82,7 +82,7 @@ pub fn snapshots_are_received<M: Machine>()
         × IsBaseOf M.meaning theirs Q × Received M.meaning (base_after base shown term theirs)
         (turn_of M.meaning n me shown from term theirs)
         (receives M.meaning.noop n me (met term y) from term (Install Q)) }
-    ensures appends { (base : Base M) (shown s : Server M.Command) → IsShown base shown →
+    ensures appends { (base : Base M) (shown s : Raft M.Command) → IsShown base shown →
         StandsFor M.meaning base shown s → (next : ℕ) → nat_le next base.index ≡ false →
         beat_body s next ≡ beat_body shown next }
 {}

@@ -6,7 +6,7 @@ use Rattle.rows.specs.declared.refusal.Refusal.{Refusal}
 use Rattle.group_model.specs.Worlds.{Event}
 use Rattle.lossy_net.specs.declared.message_fate.MessageFate.{MessageFate}
 use Rattle.lossy_net.specs.declared.message_fate.MessageFate.TheVariants as fates
-use Rattle.server.specs.ServerViews.{SameMember}
+use Rattle.server.specs.ServerViews.{SameServer}
 use Rattle.server.specs.declared.server_input.ServerInput.{ServerInput}
 use Rattle.world.specs.declared.done.Done.{Done}
 use Rattle.world.specs.declared.done.Done.TheVariants.{Crashed, Taken}
@@ -49,7 +49,7 @@ event_keeps : (old : Play) (event : Event) (new : Play) → EventTaken old event
 event_keeps old event new is = ap shape_in is.group ∙ fetched_keeps (server_of old.world event) is.world ∙ done_keeps old.world event is.done is.world is.happened
 
 same_keeps : (old new : GroupView) → SameView old new → shape_in new ≡ shape_in old
-same_keeps old new same = ap₂ shape_of (sym (length_all_zip SameMember old.servers new.servers same.servers)) (ap (map node_in) same.clients)
+same_keeps old new same = ap₂ shape_of (sym (length_all_zip SameServer old.servers new.servers same.servers)) (ap (map node_in) same.clients)
 
 refused_keeps : (old : Play) (event : Event) (refusal : Refusal) (new : Play) → EventRefused old event refusal new → KeepsShape old new
 refused_keeps old event refusal new is = same_keeps old.world new.world is.group

@@ -33,7 +33,7 @@ use std::thread::Threads;
 use world::Event;
 
 // How many messages may wait for an actor at a time.
-const ROOM: usize = 1_024;
+const CAPACITY: usize = 1_024;
 
 // How often a `flow` looks at most whether every message is done with.
 const LOOKS: u64 = 10_000_000;
@@ -126,8 +126,8 @@ fn handed(event: Event) -> Option<(Actor, OwnInput)>
 // The actors of a scenario's group: its servers, and a client for each node.
 fn actors(alloc: Global, scenario: &Scenario) -> Result<Vec<Actor>, Refusal> {
     let mut actors = Vec::new(alloc);
-    for place in 0..usize::from(scenario.settings.servers) {
-        let server = ServerId::from_place(place).ok_or(Refusal::OutOfRange)?;
+    for position in 0..usize::from(scenario.settings.servers) {
+        let server = ServerId::from_position(position).ok_or(Refusal::OutOfRange)?;
         actors.push(Actor::Server(server))?;
     }
     for node in &scenario.nodes {
@@ -172,7 +172,7 @@ fn group<B: BookId>(
     let cells = cells_of(alloc, size, scenario.nodes.as_slice(), &book, seats)?;
     let cells = Cells::open(alloc, size, scenario.nodes.len(), book, cells)?;
     let net = NetSettings {
-        room: ROOM,
+        capacity: CAPACITY,
         key: scenario.settings.key,
         drop: scenario.settings.drop,
         repeat: scenario.settings.repeat,

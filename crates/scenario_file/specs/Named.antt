@@ -2,8 +2,8 @@
 use Rattle.std.specs.Prelude.{◌+◌, ◌++◌, ℕ, Bool, nat_le, nat_lt, List, Option, Some, None, codes, decimal, length}
 use Rattle.rows.specs.declared.request.OperatorRequest.{OperatorRequest}
 use Rattle.rows.specs.declared.request.OperatorRequest.TheVariants.{DrainNode}
-use Rattle.group_model.specs.Clients as clients
-use Rattle.group_model.specs.Inputs as servers
+use Rattle.group_model.specs.Agents as agents
+use Rattle.group_model.specs.Inputs as inputs
 use Rattle.group_model.specs.Worlds.{Event, AtClient, AtServer}
 use Rattle.scenario_file.specs.declared.noting.Named.{Named}
 use Rattle.scenario_file.specs.declared.noting.Named.TheVariants.{Server, Client, Node}
@@ -28,20 +28,20 @@ abbrev pub request_names : OperatorRequest → Option Named
 request_names (DrainNode node force) = Some (Node node)
 request_names _ = None
 
-abbrev pub input_names : servers.Input → Option Named
-input_names (servers.TakeFrom to) = Some (Server to)
-input_names (servers.SubmitTo to plan) = Some (Server to)
-input_names (servers.FinishAt to eval token outcome) = Some (Server to)
-input_names (servers.NackAt to eval token) = Some (Server to)
-input_names (servers.Request request) = request_names request
-input_names (servers.Expire node beats) = Some (Node node)
-input_names (servers.DrainTurn node) = Some (Node node)
+abbrev pub input_names : inputs.Input → Option Named
+input_names (inputs.TakeFrom to) = Some (Server to)
+input_names (inputs.SubmitTo to plan) = Some (Server to)
+input_names (inputs.FinishAt to eval token outcome) = Some (Server to)
+input_names (inputs.NackAt to eval token) = Some (Server to)
+input_names (inputs.Request request) = request_names request
+input_names (inputs.Expire node beats) = Some (Node node)
+input_names (inputs.DrainTurn node) = Some (Node node)
 input_names _ = None
 
-abbrev pub client_input_names : clients.Input → Option Named
-client_input_names (clients.RegisterAt server) = Some (Server server)
-client_input_names (clients.Ping server) = Some (Server server)
-client_input_names (clients.PullFrom server) = Some (Server server)
+abbrev pub client_input_names : agents.Input → Option Named
+client_input_names (agents.RegisterAt server) = Some (Server server)
+client_input_names (agents.Ping server) = Some (Server server)
+client_input_names (agents.PullFrom server) = Some (Server server)
 client_input_names _ = None
 
 abbrev pub event_names : Event → Option Named

@@ -8,7 +8,7 @@ use Rattle.rows.specs.declared.job.JobSpec.{JobSpec}
 use Rattle.rows.specs.declared.node.NodeSpec.{NodeSpec}
 use Rattle.rows.specs.declared.request.OperatorRequest.{OperatorRequest}
 use Rattle.rows.specs.declared.request.OperatorRequest.TheVariants.{PutJob}
-use Rattle.group_model.specs.Inputs as servers
+use Rattle.group_model.specs.Inputs as inputs
 use Rattle.group_model.specs.Worlds.{Event, AtServer}
 use Rattle.scenario_file.specs.declared.noting.Named.{Named}
 use Rattle.scenario_file.specs.declared.noting.Absence.{Absence}
@@ -28,8 +28,8 @@ abbrev pub request_job : OperatorRequest → Option JobSpec
 request_job (PutJob job) = Some job
 request_job _ = None
 
-abbrev pub input_job : servers.Input → Option JobSpec
-input_job (servers.Request request) = request_job request
+abbrev pub input_job : inputs.Input → Option JobSpec
+input_job (inputs.Request request) = request_job request
 input_job _ = None
 
 abbrev pub event_job : Event → Option JobSpec

@@ -4,21 +4,21 @@ use Rattle.std.specs.Prelude.{◌++◌, ◌∷◌, ℕ, List, Option, Some, code
 use Rattle.std.specs.Fmt.{debug_str}
 use Rattle.scenario_file.specs.declared.forms.Form.{Form}
 use Rattle.scenario_file.specs.declared.forms.Form.TheVariants.{Of, Meant, Unknown}
-use Rattle.scenario_file.specs.declared.wrong.Place.{Place}
+use Rattle.scenario_file.specs.declared.wrong.TextPosition.{TextPosition}
 use Rattle.scenario_file.specs.declared.wrong.Wrong.{Wrong}
 use Rattle.scenario_file.specs.declared.wrong.Wrong.TheVariants.{NoText, Empty, ByteOrderMark, NoJson, KeyTwice, NoObject, Missing, Misspelt, OtherKey, Wanted, BadNode}
 
-abbrev pub place_text : Place → List ℕ
-place_text p = codes "line " ++ (decimal p.line ++ (codes ", column " ++ decimal p.column))
+abbrev pub position_text : TextPosition → List ℕ
+position_text p = codes "line " ++ (decimal p.line ++ (codes ", column " ++ decimal p.column))
 
 -- a key is shown between quotes; nothing is said of one past ASCII
 abbrev pub wrong_text : Wrong → Option (List ℕ)
 wrong_text NoText = Some (codes "it is no UTF-8")
 wrong_text Empty = Some (codes "it is empty")
 wrong_text ByteOrderMark = Some (codes "it begins with a byte order mark")
-wrong_text (NoJson place) = Some (codes "it is no JSON, at " ++ place_text place)
+wrong_text (NoJson place) = Some (codes "it is no JSON, at " ++ position_text place)
 wrong_text (KeyTwice key first again) =
-    option_map (λ shown. codes "an object in it has the key " ++ (shown ++ (codes " twice, at " ++ (place_text first ++ (codes ", and at " ++ place_text again)))))
+    option_map (λ shown. codes "an object in it has the key " ++ (shown ++ (codes " twice, at " ++ (position_text first ++ (codes ", and at " ++ position_text again)))))
     (debug_str (string_bytes key))
 wrong_text NoObject = Some (codes "it is no JSON object")
 wrong_text (Missing key) = Some (codes "the key \"" ++ (key.now ++ codes "\" is missing"))

@@ -10,7 +10,7 @@ use crate::reading::scenario;
 use crate::scenario::Scenario;
 use crate::step::is_step;
 use crate::twice::key_twice;
-use crate::wrong::{Place, Wrong, wrong_in};
+use crate::wrong::{TextPosition, Wrong, wrong_in};
 use rows::{NoMemory, Refusal};
 use serde_json::Value;
 use std::alloc::Global;
@@ -95,7 +95,7 @@ fn wrong_text(alloc: Global, text: &str) -> Result<Wrong, NoMemory> {
         Ok(value) => value,
         Err(error) if error.is_memory() => return Err(NoMemory),
         Err(error) => {
-            return Ok(Wrong::NoJson(Place {
+            return Ok(Wrong::NoJson(TextPosition {
                 line: error.line(),
                 column: error.column(),
             }));

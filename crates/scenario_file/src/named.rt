@@ -78,7 +78,7 @@ pub(crate) fn is_absent(scenario: &Scenario, named: &Named) -> bool
     ensures { result ≡ is_absent scenario.now named.now }
 {
     match named {
-        Named::Server(server) => server.place() >= usize::from(scenario.settings.servers),
+        Named::Server(server) => server.position() >= usize::from(scenario.settings.servers),
         Named::Client(client) => usize::from(client.number()) > scenario.nodes.len(),
         Named::Node(node) => usize::from(node.number()) > scenario.nodes.len(),
     }

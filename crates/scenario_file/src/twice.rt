@@ -1,5 +1,5 @@
 //! A key that an object of a JSON text has twice.
-use crate::wrong::{Place, Wrong};
+use crate::wrong::{TextPosition, Wrong};
 use json::{Reader, Scratch, Token};
 use rows::NoMemory;
 use std::alloc::Global;
@@ -57,7 +57,7 @@ pub(crate) fn key_twice(alloc: Global, text: &str) -> Result<Option<Wrong>, NoMe
                 let start = quote_from(text, before);
                 let key = String::from_str(alloc, name)?;
                 if let Some(first) = open.find(key.as_str()) {
-                    let (first, second) = (place_of(text, first), place_of(text, start));
+                    let (first, second) = (position_of(text, first), position_of(text, start));
                     return Ok(Some(Wrong::KeyTwice(key, first, second)));
                 }
                 open.keys.push(Key { name: key, start })?;
@@ -78,9 +78,9 @@ fn quote_from(text: &str, from: usize) -> usize {
 }
 
 // The line and the column of the byte at a place.
-fn place_of(text: &str, at: usize) -> Place {
+fn position_of(text: &str, at: usize) -> TextPosition {
     let front = text.as_bytes().get(..at).unwrap_or(&[]);
-    let mut place = Place { line: 1, column: 1 };
+    let mut place = TextPosition { line: 1, column: 1 };
     for byte in front {
         if *byte == b'\n' {
             place.line = place.line.saturating_add(1);

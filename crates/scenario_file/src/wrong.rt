@@ -12,18 +12,18 @@ const KEYS: [&str; 7] = [
 
 /// A place in a text.
 #[derive(Clone, Copy, Debug, PartialEq, Eq)]
-pub struct Place {
+pub struct TextPosition {
     /// The line, from 1.
     pub line: usize,
     /// The column, in bytes, from 1.
     pub column: usize,
 }
 
-impl fmt::Display for Place {
+impl fmt::Display for TextPosition {
     ghost use Rattle.std.specs.Prelude.{Some};
-    ghost use Rattle.scenario_file.specs.WrongTexts.{place_text};
+    ghost use Rattle.scenario_file.specs.WrongTexts.{position_text};
 
-    ghost output = { λ p. Some (place_text p) };
+    ghost output = { λ p. Some (position_text p) };
 
     fn fmt<W: fmt::Write>(&self, f: &mut fmt::Formatter<W>) -> fmt::Result {
         write!(f, "line {}, column {}", self.line, self.column)
@@ -40,9 +40,9 @@ pub enum Wrong {
     /// It begins with a byte order mark.
     ByteOrderMark,
     /// It is no JSON from this place on.
-    NoJson(Place),
+    NoJson(TextPosition),
     /// An object in it has this key twice, at these two places.
-    KeyTwice(String, Place, Place),
+    KeyTwice(String, TextPosition, TextPosition),
     /// It is no object.
     NoObject,
     /// This key is missing.

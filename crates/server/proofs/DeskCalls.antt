@@ -10,21 +10,21 @@ use Rattle.rows.specs.declared.refusal.Refusal.TheVariants as refusals
 use Rattle.cluster_model.specs.Words.{State}
 use Rattle.group_model.specs.Brokers.{Given, Nothing, UsedUp, Gives, deliver, outstanding, is_outstanding, with_ack, with_nack}
 use Rattle.group_model.specs.Expiry.{BeatCount, beat_count_of}
-use Rattle.group_model.specs.BeatCounts.{beat_heard_of}
+use Rattle.group_model.specs.BeatCounts.{beat_counted_of}
 use Rattle.group_model.specs.Order.{Picked}
 use Rattle.group_model.specs.Plans.{submitted}
 use Rattle.group_model.specs.Queues.{first_plan}
 use Rattle.group_model.specs.Desks.{Desk, QueuedPlan, applied_state}
-use Rattle.group_model.specs.Members.{Member, open_desk}
-use Rattle.raft_model.specs.Servers.{Server, is_leader}
-use Rattle.raft_core.specs.RaftView.{SameServer}
-use Rattle.leader.specs.OpenDesks.{OpenDesk, IsOverBlocked, LacksMemory, Answered, leaves_open, at_open, with_broker, once_given, once_outstanding, once_heard, once_submitted, on_deliver, on_ack, on_nack, on_lapse, on_submit, on_beat}
+use Rattle.group_model.specs.Servers.{Server, open_desk}
+use Rattle.raft_model.specs.Rafts.{Raft, is_leader}
+use Rattle.raft_core.specs.RaftView.{SameRaft}
+use Rattle.leader.specs.OpenDesks.{OpenDesk, IsOverBlocked, LacksMemory, Answered, leaves_open, at_open, with_broker, once_given, once_outstanding, once_counted, once_submitted, on_deliver, on_ack, on_nack, on_lapse, on_submit, on_beat}
 use Rattle.leader.specs.Verdicts.{once_picked, on_plan_turn}
 use Rattle.leader.specs.Staying.{IsOver}
 use Rattle.leader.proofs.Staying.{deliver_stays, ack_stays, nack_stays, lapse_stays, beat_stays, submit_stays, plan_turn_stays}
-use Rattle.server.specs.ServerViews.{ServerView, IsMember, IsOfLeader, group_desk}
+use Rattle.server.specs.ServerViews.{ServerView, IsServer, IsOfLeader, group_desk}
 use Rattle.server.specs.Refusals.{HasOpenDesk}
-use Rattle.server.proofs.Members.{same_server, desk_at, open_at}
+use Rattle.server.proofs.Servers.{same_raft, desk_at, open_at}
 
 -- an open desk, by the group's
 pub open_of : (d : Option OpenDesk) → is_some (group_desk d) ≡ true → (o : OpenDesk) × (d ≡ Some o)
@@ -83,17 +83,17 @@ abbrev pub Keeps : {A : Type 0} → (OpenDesk → Answered A) → Type 0
 Keeps {A} call = (s : State) (o : OpenDesk) (a : A) (new : OpenDesk) → IsOver s o → call o ≡ Ok (a, new) → IsOver s new × (new.term ≡ o.term)
 
 -- A call that an open desk took, of a leader that a value is: the desk stays the leader's.
-pub record Moves {A : Type 0} (call : OpenDesk → Answered A) (s : Member) (a : A) (new : ServerView) : Type 0 where
+pub record Moves {A : Type 0} (call : OpenDesk → Answered A) (s : Server) (a : A) (new : ServerView) : Type 0 where
   pub before : OpenDesk
   pub after : OpenDesk
   pub was : s.desk ≡ Some before.desk
   pub is_open : open_desk s ≡ Ok before.desk
   pub of : IsOfLeader s.raft before
   pub answers : call before ≡ Ok (a, after)
-  pub member : IsMember new (record s { desk = Some after.desk })
+  pub server : IsServer new (record s { desk = Some after.desk })
 
-module _ {A : Type 0} (call : OpenDesk → Answered A) (keeps : Keeps call) (s : Member) where
-  pub moves : (old new : ServerView) (a : A) → is_leader s.raft.mode ≡ true → IsMember old s → SameServer old.raft new.raft → at_open call old.desk ≡ Ok (a, new.desk) → Moves call s a new
+module _ {A : Type 0} (call : OpenDesk → Answered A) (keeps : Keeps call) (s : Server) where
+  pub moves : (old new : ServerView) (a : A) → is_leader s.raft.mode ≡ true → IsServer old s → SameRaft old.raft new.raft → at_open call old.desk ≡ Ok (a, new.desk) → Moves call s a new
   moves old new a leads is same h =
       let k = called call old.desk a new.desk h in
       let of : IsOfLeader s.raft k.before = subst (λ (d : Option OpenDesk). IfSome d (IsOfLeader s.raft)) k.was is.led in
@@ -106,21 +106,21 @@ module _ {A : Type 0} (call : OpenDesk → Answered A) (keeps : Keeps call) (s :
         is_open = open_at old s is k.before leads k.was;
         of = of;
         answers = k.answers;
-        member = record {
-          raft = same_server old.raft new.raft s.raft same is.raft;
+        server = record {
+          raft = same_raft old.raft new.raft s.raft same is.raft;
           desk = ap group_desk k.is;
           led = subst (λ (d : Option OpenDesk). IfSome d (IsOfLeader s.raft)) (sym k.is) led;
         };
       }
 
 -- and one that it refused
-pub record Holds {A : Type 0} (call : OpenDesk → Answered A) (s : Member) (e : Refusal) : Type 0 where
+pub record Holds {A : Type 0} (call : OpenDesk → Answered A) (s : Server) (e : Refusal) : Type 0 where
   pub desk : OpenDesk
   pub was : s.desk ≡ Some desk.desk
   pub is_open : open_desk s ≡ Ok desk.desk
   pub answers : call desk ≡ Err e
 
-pub holds : {A : Type 0} (call : OpenDesk → Answered A) (s : Member) (old : ServerView) (e : Refusal) → HasOpenDesk s → IsMember old s → at_open call old.desk ≡ Err e → Holds call s e
+pub holds : {A : Type 0} (call : OpenDesk → Answered A) (s : Server) (old : ServerView) (e : Refusal) → HasOpenDesk s → IsServer old s → at_open call old.desk ≡ Err e → Holds call s e
 holds call s old e h is refuses =
     let o = open_of old.desk (subst (λ (d : Option Desk). is_some d ≡ true) (sym is.desk) h.is_open) in
     record { desk = o.0; was = desk_at old s is o.0 o.1; is_open = open_at old s is o.0 h.leads o.1; answers = refused call old.desk o.0 e o.1 refuses }
@@ -154,7 +154,7 @@ lapse_term id o false = refl
 pub lapse_keeps : (id : EvalId) → Keeps (on_lapse id)
 lapse_keeps id s o a new over h = (lapse_stays s id o a new over h, term_kept (on_lapse id) o a new (lapse_term id o (is_outstanding id o.desk.broker)) h)
 
-beat_term : (node : ℕ) (o : OpenDesk) (c : Option BeatCount) → (left_by (on_beat node) o (once_heard o (beat_heard_of node o.desk.beat_counts c))).term ≡ o.term
+beat_term : (node : ℕ) (o : OpenDesk) (c : Option BeatCount) → (left_by (on_beat node) o (once_counted o (beat_counted_of node o.desk.beat_counts c))).term ≡ o.term
 beat_term node o None = refl
 beat_term node o (Some c) = refl
 
@@ -176,6 +176,6 @@ pub submit_keeps : (from : ℕ) (applied : State) (p : Plan) → Keeps (on_submi
 submit_keeps from applied p s o a new over h = (submit_stays s applied from p o a new over h, term_kept (on_submit from applied p) o a new (submitted_term (on_submit from applied p) o (submitted from applied o.desk p)) h)
 
 -- an open desk has the blocked evaluations of the applied state
-pub over_blocked : (s : Server Command) (d : Option OpenDesk) → is_some d ≡ true → IfSome d (IsOfLeader s) → IsOverBlocked (applied_state s) d
+pub over_blocked : (s : Raft Command) (d : Option OpenDesk) → is_some d ≡ true → IfSome d (IsOfLeader s) → IsOverBlocked (applied_state s) d
 over_blocked s None h led = absurd cc
 over_blocked s (Some o) h led = led.over.blocked

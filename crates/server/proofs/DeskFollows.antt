@@ -8,7 +8,7 @@ use Rattle.rows.specs.States.{AreTables}
 use Rattle.machine_model.specs.After.{after, after_from}
 use Rattle.machine_model.specs.declared.entry.Entry.{Entry}
 use Rattle.raft_model.specs.Logs.{commands, state_after}
-use Rattle.raft_model.specs.Servers.{Server, is_leader, Candidate}
+use Rattle.raft_model.specs.Rafts.{Raft, is_leader, Candidate}
 use Rattle.raft_snapshot.specs.Watching.{SeesAll, SeesStep}
 use Rattle.cluster_model.specs.Words.{State}
 use Rattle.cluster_model.specs.Effect.{applied}
@@ -72,33 +72,33 @@ state_on log c d le =
     sym (ap (state_after cluster_meaning) whole ∙ ap (after cluster_meaning) (commands-append (take c log) rest) ∙ after_from-append cluster_meaning cluster_meaning.empty (commands (take c log)) (commands rest))
 
 -- a desk is the leader's, of its term and of the state that it has applied
-abbrev IsLed : Server Command → Option OpenDesk → Type 0
+abbrev IsLed : Raft Command → Option OpenDesk → Type 0
 IsLed s d = IfSome d (λ o. (is_leader s.mode ≡ true) × ((o.term ≡ s.term) × IsOver (applied_state s) o))
 
-led : (s : Server Command) (d : Option OpenDesk) → IfSome d (IsOfLeader s) → IsLed s d
+led : (s : Raft Command) (d : Option OpenDesk) → IfSome d (IsOfLeader s) → IsLed s d
 led s None h = tt
 led s (Some o) h = (h.leads, (h.term, h.over))
 
-is_of_leader : (s : Server Command) (d : Option OpenDesk) → IsLed s d → IfSome d (IsOfLeader s)
+is_of_leader : (s : Raft Command) (d : Option OpenDesk) → IsLed s d → IfSome d (IsOfLeader s)
 is_of_leader s None h = tt
 is_of_leader s (Some o) h = record { leads = h.0; term = h.1.0; over = h.1.1 }
 
-led_at : (s : Server Command) (term : ℕ) (d : Option OpenDesk) → term ≡ s.term → IsLed s d → IsAt term (applied_state s) d
+led_at : (s : Raft Command) (term : ℕ) (d : Option OpenDesk) → term ≡ s.term → IsLed s d → IsAt term (applied_state s) d
 led_at s term None is h = tt
 led_at s term (Some o) is h = (h.1.0 ∙ sym is, h.1.1)
 
-at_led : (s : Server Command) (d : Option OpenDesk) → is_leader s.mode ≡ true → IsAt s.term (applied_state s) d → IsLed s d
+at_led : (s : Raft Command) (d : Option OpenDesk) → is_leader s.mode ≡ true → IsAt s.term (applied_state s) d → IsLed s d
 at_led s None leads h = tt
 at_led s (Some o) leads h = (leads, (h.0, h.1))
 
-none_led : (s : Server Command) (votes : List Bool) (d : Option OpenDesk) → s.mode ≡ Candidate votes → IsLed s d → d ≡ None
+none_led : (s : Raft Command) (votes : List Bool) (d : Option OpenDesk) → s.mode ≡ Candidate votes → IsLed s d → d ≡ None
 none_led s votes None mode h = refl
 none_led s votes (Some o) mode h = absurd (let q : false ≡ true = sym (ap is_leader mode) ∙ h.0 in cc)
 
-abbrev GoesOn : Server Command → Server Command → Option OpenDesk → Option OpenDesk → Type 0
+abbrev GoesOn : Raft Command → Raft Command → Option OpenDesk → Option OpenDesk → Type 0
 GoesOn s t w new = (group_desk new ≡ desk_after s t (group_desk w)) × IsLed t new
 
-module _ (s t : Server Command) (w seen : Option OpenDesk) where
+module _ (s t : Raft Command) (w seen : Option OpenDesk) where
   leads_still : is_leader t.mode ≡ true → IsLed s w → SeesAll cluster_meaning DeskSees t.term (applied_state s) (newly s t) w seen → LeadsOn s t → GoesOn s t w seen
   leads_still leads h sees (stays was term log commit) =
       let all = all_entries t.term (applied_state s) (newly s t) w seen (log_tables (take s.commit s.log)) (led_at s t.term w term h) sees in
@@ -117,7 +117,7 @@ module _ (s t : Server Command) (w seen : Option OpenDesk) where
 
 -- The desk after a step of the log, closed where the server does not lead, is that of the
 -- definitions; and it is of the leader.
-pub goes_on : (s t : Server Command) (w seen new : Option OpenDesk) → IfSome w (IsOfLeader s) → SeesStep cluster_meaning DeskSees s t w seen → (is_leader t.mode ≡ true → LeadsOn s t) → new ≡ where_leads (is_leader t.mode) seen → (group_desk new ≡ desk_after s t (group_desk w)) × IfSome new (IsOfLeader t)
+pub goes_on : (s t : Raft Command) (w seen new : Option OpenDesk) → IfSome w (IsOfLeader s) → SeesStep cluster_meaning DeskSees s t w seen → (is_leader t.mode ≡ true → LeadsOn s t) → new ≡ where_leads (is_leader t.mode) seen → (group_desk new ≡ desk_after s t (group_desk w)) × IfSome new (IsOfLeader t)
 goes_on s t w seen new h sees on is =
     let g = leads_or s t w seen (is_leader t.mode) refl (led s w h) sees on in
     rw is (g.0, is_of_leader t (where_leads (is_leader t.mode) seen) g.1)

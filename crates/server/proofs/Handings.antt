@@ -19,7 +19,7 @@ use Rattle.wire.specs.declared.kind.Kind.{Kind}
 use Rattle.wire.specs.declared.kind.Kind.TheVariants as kinds
 use Rattle.raft_model.specs.Messages.{Message, to_others}
 use Rattle.raft_model.specs.Logs.{MAX}
-use Rattle.raft_model.specs.Servers.{Turn as RaftTurn, is_up, is_leader, crashed, silent, stood, vote_request_to}
+use Rattle.raft_model.specs.Rafts.{RaftTurn, is_up, is_leader, crashed, silent, stood, vote_request_to}
 use Rattle.raft_model.specs.Steps as raft_steps
 use Rattle.raft_core.specs.Frames.{Means}
 use Rattle.raft_core.specs.Inputs.{Own}
@@ -27,65 +27,65 @@ use Rattle.raft_core.specs.Refusals.{misdirected, message_fault, message_refusal
 use Rattle.cluster_model.specs.Words.{State}
 use Rattle.cluster_model.specs.ClusterMachine.{cluster_meaning}
 use Rattle.cluster_model.proofs.ClusterMachine.{cluster_lawful}
-use Rattle.group_model.specs.Messages.{GroupMessage, Raft, Service, ServiceMessage}
+use Rattle.group_model.specs.Messages.{GroupMessage, OfLog, Service, ServiceMessage}
 use Rattle.group_model.specs.Inputs.{Input, Timeout, AskTimeout, Act, asks}
-use Rattle.group_model.specs.Members.{Member, acts, wakes, logged, done, step}
+use Rattle.group_model.specs.Servers.{Server, acts, wakes, logged, done, step}
 use Rattle.group_frames.specs.GroupFrames.{service_between, service_of, IsGroupFrame}
 use Rattle.group_frames.proofs.OneMessage.{one_text}
 use Rattle.server.specs.declared.server.Outbox.{Outbox}
-use Rattle.server.specs.ServerViews.{ServerView, IsMember, SameMember}
+use Rattle.server.specs.ServerViews.{ServerView, IsServer, SameServer}
 use Rattle.server.specs.Handings.{Handing, FrameBytes, OwnInput}
-use Rattle.server.specs.Turns.{TakesTurn, TakesHanding}
+use Rattle.server.specs.Steps.{TakesTurn, TakesHanding}
 use Rattle.server.specs.Refusals.{refusal_in, wrong_address, read_refusal, bytes_refusal, handing_refusal, CanStand, MayTakeMemory, IsHandingRefused, HandingRefusalLeaves, HandingStays}
-use Rattle.server.specs.Inner.Acts.{EachMember, EachDoes, act_of, Falters, DoesNothing, DeclinesOwn}
-use Rattle.server.specs.Inner.LogSteps.{DeskAfterRefusal, HearsLog, TakesAsk, MeansGroup, TakesRead, DeclinesRead, IsRead, LosesIn, DeclinesHanding, IsTaken}
-use Rattle.server.proofs.Members.{up_of}
+use Rattle.server.specs.Inner.Acts.{EachServer, EachDoes, act_of, Falters, DoesNothing, DeclinesOwn}
+use Rattle.server.specs.Inner.LogSteps.{DeskAfterRefusal, TakesLogMessage, TakesAsk, MeansGroup, TakesRead, DeclinesRead, IsRead, LosesIn, DeclinesHanding, IsTaken}
+use Rattle.server.proofs.Servers.{up_of}
 
 abbrev Answer : Type 0
 Answer = Result (Unit {0}) Refusal
 
 -- ---- inputs of its own, of one that is up
 
-own_step : (n me : ℕ) (s : Member) (input : Input) → is_up s.raft.mode ≡ true → step n me s input ≡ done n me s (acts n me s input)
+own_step : (n me : ℕ) (s : Server) (input : Input) → is_up s.raft.mode ≡ true → step n me s input ≡ done n me s (acts n me s input)
 own_step n me s input up = ap (λ b. done n me s (if b then acts n me s input else wakes s input)) up
 
 module _ (old new : ServerView) (before after : Outbox) (h : Handing) (input : Input) (is : h ≡ OwnInput input) (up : is_up old.raft.server.mode ≡ true) where
-  at : (s : Member) → IsMember old s → step old.raft.size old.raft.me s input ≡ done old.raft.size old.raft.me s (act_of old input s)
+  at : (s : Server) → IsServer old s → step old.raft.size old.raft.me s input ≡ done old.raft.size old.raft.me s (act_of old input s)
   at s is_of = own_step old.raft.size old.raft.me s input (up_of old s is_of up)
 
-  pub own_taken : (r : Answer) → OnOk r (EachDoes old (act_of old input) new before after) → OnOk r (EachMember old (λ s. TakesHanding old s h new before after))
+  pub own_taken : (r : Answer) → OnOk r (EachDoes old (act_of old input) new before after) → OnOk r (EachServer old (λ s. TakesHanding old s h new before after))
   own_taken (Ok u) does = λ s is_of.
       subst (λ x. TakesHanding old s x new before after) (sym is) (subst (λ q. TakesTurn q new before after) (sym (at s is_of)) (does s is_of))
   own_taken (Err cause) does = tt
 
-  pub own_admitted : (r : Answer) → OnOk r (EachDoes old (act_of old input) new before after) → OnOk r (EachMember old (λ s. handing_refusal old.raft.size old.raft.me s h ≡ None))
+  pub own_admitted : (r : Answer) → OnOk r (EachDoes old (act_of old input) new before after) → OnOk r (EachServer old (λ s. handing_refusal old.raft.size old.raft.me s h ≡ None))
   own_admitted (Ok u) does = λ s is_of. ap (handing_refusal old.raft.size old.raft.me s) is ∙ ap refusal_in (at s is_of ∙ (does s is_of).is)
   own_admitted (Err cause) does = tt
 
-  declined : (EachMember old (λ s. MayTakeMemory old.raft.size s input) × Falters old new before after → LosesIn old (OwnInput input) new before after) → (cause : Refusal) → DeclinesOwn old input cause new before after → DeclinesHanding old (OwnInput input) cause new before after
+  declined : (EachServer old (λ s. MayTakeMemory old.raft.size s input) × Falters old new before after → LosesIn old (OwnInput input) new before after) → (cause : Refusal) → DeclinesOwn old input cause new before after → DeclinesHanding old (OwnInput input) cause new before after
   declined loses refusals.NoMemory d = loses d
   declined loses cause d = (λ s is_of. ap refusal_in (at s is_of ∙ d.0 s is_of), d.1)
 
-  pub own_declined : (EachMember old (λ s. MayTakeMemory old.raft.size s input) × Falters old new before after → LosesIn old (OwnInput input) new before after) → (r : Answer) → IfErr r (λ cause. DeclinesOwn old input cause new before after) → IfErr r (λ cause. DeclinesHanding old h cause new before after)
+  pub own_declined : (EachServer old (λ s. MayTakeMemory old.raft.size s input) × Falters old new before after → LosesIn old (OwnInput input) new before after) → (r : Answer) → IfErr r (λ cause. DeclinesOwn old input cause new before after) → IfErr r (λ cause. DeclinesHanding old h cause new before after)
   own_declined loses (Ok u) d = tt
   own_declined loses (Err cause) d = subst (λ x. DeclinesHanding old x cause new before after) (sym is) (declined loses cause d)
 
 -- turns that send nothing
 module _ (old new : ServerView) (h : Handing) (input : Input) (is : h ≡ OwnInput input) (up : is_up old.raft.server.mode ≡ true) (o : Outbox) where
-  silent_taken : (r : Answer) → OnOk r ((out : Outbox) → EachDoes old (act_of old input) new out out) → OnOk r (EachMember old (λ s. TakesHanding old s h new o o))
+  silent_taken : (r : Answer) → OnOk r ((out : Outbox) → EachDoes old (act_of old input) new out out) → OnOk r (EachServer old (λ s. TakesHanding old s h new o o))
   silent_taken (Ok u) d = own_taken old new o o h input is up (Ok u) (d o)
   silent_taken (Err cause) d = tt
 
-  silent_admitted : (r : Answer) → OnOk r ((out : Outbox) → EachDoes old (act_of old input) new out out) → OnOk r (EachMember old (λ s. handing_refusal old.raft.size old.raft.me s h ≡ None))
+  silent_admitted : (r : Answer) → OnOk r ((out : Outbox) → EachDoes old (act_of old input) new out out) → OnOk r (EachServer old (λ s. handing_refusal old.raft.size old.raft.me s h ≡ None))
   silent_admitted (Ok u) d = own_admitted old new o o h input is up (Ok u) (d o)
   silent_admitted (Err cause) d = tt
 
-  silent_declined : (EachMember old (λ s. MayTakeMemory old.raft.size s input) × Falters old new o o → LosesIn old (OwnInput input) new o o) → (r : Answer) → IfErr r (λ cause. (out : Outbox) → DeclinesOwn old input cause new out out) → IfErr r (λ cause. DeclinesHanding old h cause new o o)
+  silent_declined : (EachServer old (λ s. MayTakeMemory old.raft.size s input) × Falters old new o o → LosesIn old (OwnInput input) new o o) → (r : Answer) → IfErr r (λ cause. (out : Outbox) → DeclinesOwn old input cause new out out) → IfErr r (λ cause. DeclinesHanding old h cause new o o)
   silent_declined loses (Ok u) d = tt
   silent_declined loses (Err cause) d = own_declined old new o o h input is up loses (Err cause) (d o)
 
   pub silent_turn : (new.raft.me ≡ old.raft.me) × (new.raft.size ≡ old.raft.size)
-      → (EachMember old (λ s. MayTakeMemory old.raft.size s input) × Falters old new o o → LosesIn old (OwnInput input) new o o) → (r : Answer)
+      → (EachServer old (λ s. MayTakeMemory old.raft.size s input) × Falters old new o o → LosesIn old (OwnInput input) new o o) → (r : Answer)
       → OnOk r ((out : Outbox) → EachDoes old (act_of old input) new out out) → IfErr r (λ cause. (out : Outbox) → DeclinesOwn old input cause new out out)
       → IsTaken old h r new o o
   silent_turn same loses r does stopped = record {
@@ -160,25 +160,25 @@ no_service (actors.Client c) (actors.Server j) (bodies.InstallReply r) y log is 
 no_service (actors.Client c) (actors.Client d) (bodies.InstallReply r) y log is = no_some y is
 
 module _ (old new : ServerView) (before after : Outbox) (read : WireMessage State Command) (up : is_up old.raft.server.mode ≡ true) (log : is_of_log (kind_of read.body) ≡ true) (goes : may_go (kind_of read.body) read.from read.to ≡ true) where
-  log_refusal : (s : Member) → IsMember old s → message_refusal old.raft.size old.raft.me s.raft read ≡ wrong_address old.raft.size old.raft.me read.from read.to
+  log_refusal : (s : Server) → IsServer old s → message_refusal old.raft.size old.raft.me s.raft read ≡ wrong_address old.raft.size old.raft.me read.from read.to
   log_refusal s is =
       ap (λ b. if b then message_fault old.raft.size old.raft.me read else Some refusals.Down) (up_of old s is up)
       ∙ (ap (λ b. if b then misdirected old.raft.size old.raft.me read.from read.to else Some (refusals.Frame 1)) log
       ∙ server_sends old.raft.size old.raft.me (kind_of read.body) read.from read.to log goes)
 
-  log_read : ((said : Message Command) → Means cluster_meaning read said → HearsLog old said new before after) → EachMember old (λ s. TakesRead old s read new before after)
-  log_read heard s is (Raft said) means = heard said means s is
+  log_read : ((said : Message Command) → Means cluster_meaning read said → TakesLogMessage old said new before after) → EachServer old (λ s. TakesRead old s read new before after)
+  log_read heard s is (OfLog said) means = heard said means s is
   log_read heard s is (Service message) means = absurd (no_service read.from read.to read.body message log means)
 
-  log_taken : (r : Answer) → OnOk r ((said : Message Command) → Means cluster_meaning read said → HearsLog old said new before after) → OnOk r (EachMember old (λ s. TakesRead old s read new before after))
+  log_taken : (r : Answer) → OnOk r ((said : Message Command) → Means cluster_meaning read said → TakesLogMessage old said new before after) → OnOk r (EachServer old (λ s. TakesRead old s read new before after))
   log_taken (Ok u) heard = log_read heard
   log_taken (Err cause) heard = tt
 
-  log_admitted : (r : Answer) → OnOk r (EachMember old (λ s. message_refusal old.raft.size old.raft.me s.raft read ≡ None)) → OnOk r (EachMember old (λ s. wrong_address old.raft.size old.raft.me read.from read.to ≡ None))
+  log_admitted : (r : Answer) → OnOk r (EachServer old (λ s. message_refusal old.raft.size old.raft.me s.raft read ≡ None)) → OnOk r (EachServer old (λ s. wrong_address old.raft.size old.raft.me read.from read.to ≡ None))
   log_admitted (Ok u) none = λ s is. sym (log_refusal s is) ∙ none s is
   log_admitted (Err cause) none = tt
 
-  log_declined : (new.raft.me ≡ old.raft.me) → (new.raft.size ≡ old.raft.size) → (cause : Refusal) → EachMember old (λ s. IsMessageRefused old.raft.size old.raft.me s.raft read cause) → MessageStays cause old.raft new.raft → DeskAfterRefusal cause old.desk new.desk → after ≡ before → DeclinesRead old read cause new before after
+  log_declined : (new.raft.me ≡ old.raft.me) → (new.raft.size ≡ old.raft.size) → (cause : Refusal) → EachServer old (λ s. IsMessageRefused old.raft.size old.raft.me s.raft read cause) → MessageStays cause old.raft new.raft → DeskAfterRefusal cause old.desk new.desk → after ≡ before → DeclinesRead old read cause new before after
   log_declined me size refusals.NoMemory is left desk unsent = record {
     me = me;
     size = size;
@@ -193,7 +193,7 @@ module _ (old new : ServerView) (before after : Outbox) (read : WireMessage Stat
   )
 
   log_stops : (new.raft.me ≡ old.raft.me) → (new.raft.size ≡ old.raft.size) → (r : Answer)
-      → IfErr r (λ cause. EachMember old (λ s. IsMessageRefused old.raft.size old.raft.me s.raft read cause))
+      → IfErr r (λ cause. EachServer old (λ s. IsMessageRefused old.raft.size old.raft.me s.raft read cause))
       → IfErr r (λ cause. MessageStays cause old.raft new.raft)
       → IfErr r (λ cause. DeskAfterRefusal cause old.desk new.desk)
       → OnErr r (after ≡ before)
@@ -203,9 +203,9 @@ module _ (old new : ServerView) (before after : Outbox) (read : WireMessage Stat
 
   pub log_is_read : (r : Answer)
       → (new.raft.me ≡ old.raft.me) × (new.raft.size ≡ old.raft.size)
-      → OnOk r ((said : Message Command) → Means cluster_meaning read said → HearsLog old said new before after)
-      → OnOk r (EachMember old (λ s. message_refusal old.raft.size old.raft.me s.raft read ≡ None))
-      → IfErr r (λ cause. EachMember old (λ s. IsMessageRefused old.raft.size old.raft.me s.raft read cause))
+      → OnOk r ((said : Message Command) → Means cluster_meaning read said → TakesLogMessage old said new before after)
+      → OnOk r (EachServer old (λ s. message_refusal old.raft.size old.raft.me s.raft read ≡ None))
+      → IfErr r (λ cause. EachServer old (λ s. IsMessageRefused old.raft.size old.raft.me s.raft read cause))
       → IfErr r (λ cause. MessageStays cause old.raft new.raft)
       → IfErr r (λ cause. DeskAfterRefusal cause old.desk new.desk)
       → OnErr r (after ≡ before)
@@ -220,18 +220,18 @@ module _ (old new : ServerView) (before after : Outbox) (read : WireMessage Stat
 -- ---- a timeout
 
 -- what the log refuses, the server does
-by_log : (s : Member) (act : Act) (r : Result (RaftTurn Command) Refusal) (cause : Refusal) → refusal_by r ≡ Some cause → refusal_in (logged s act r) ≡ Some cause
+by_log : (s : Server) (act : Act) (r : Result (RaftTurn Command) Refusal) (cause : Refusal) → refusal_by r ≡ Some cause → refusal_in (logged s act r) ≡ Some cause
 by_log s act (Ok turn) cause h = absurd (cc)
 by_log s act (Err e) cause h = h
 
 -- one that is not refused had room
-room_by : (up leads room : Bool) (a b c : Result (RaftTurn Command) Refusal) (e : Refusal) → up ≡ true → leads ≡ false → refusal_by (if up then (if leads then a else if room then b else Err e) else c) ≡ None → room ≡ true
+room_by : (up leads index_left : Bool) (a b c : Result (RaftTurn Command) Refusal) (e : Refusal) → up ≡ true → leads ≡ false → refusal_by (if up then (if leads then a else if index_left then b else Err e) else c) ≡ None → index_left ≡ true
 room_by true false true a b c e is_up follows h = refl
 room_by true false false a b c e is_up follows h = absurd (cc)
-room_by true true room a b c e is_up follows h = absurd (cc)
-room_by false leads room a b c e is_up follows h = absurd (cc)
+room_by true true index_left a b c e is_up follows h = absurd (cc)
+room_by false leads index_left a b c e is_up follows h = absurd (cc)
 
-module _ (n me : ℕ) (s : Member) (up : is_up s.raft.mode ≡ true) where
+module _ (n me : ℕ) (s : Server) (up : is_up s.raft.mode ≡ true) where
   abbrev by : Result (RaftTurn Command) Refusal
   by = raft_steps.step cluster_meaning n me s.raft raft_steps.Timeout
 
@@ -239,7 +239,7 @@ module _ (n me : ℕ) (s : Member) (up : is_up s.raft.mode ≡ true) where
   can_stand follows none = record {
     up = up;
     follows = follows;
-    room = room_by (is_up s.raft.mode) (is_leader s.raft.mode) (nat_lt s.raft.term MAX && nat_lt (length s.raft.log) MAX)
+    index_left = room_by (is_up s.raft.mode) (is_leader s.raft.mode) (nat_lt s.raft.term MAX && nat_lt (length s.raft.log) MAX)
         (Ok (silent s.raft)) (Ok (record { server = stood n me s.raft; sent = to_others me (vote_request_to me (stood n me s.raft)) n }))
         (raft_steps.wakes s.raft raft_steps.Timeout) refusals.Exhausted up follows none;
   }
@@ -249,8 +249,8 @@ module _ (n me : ℕ) (s : Member) (up : is_up s.raft.mode ≡ true) where
 
 module _ (old new : ServerView) (before after : Outbox) (up : is_up old.raft.server.mode ≡ true) where
   timeout_declined : (new.raft.me ≡ old.raft.me) → (new.raft.size ≡ old.raft.size) → (cause : Refusal)
-      → EachMember old (λ s. IsRefused cluster_meaning old.raft.size old.raft.me s.raft (Own raft_steps.Timeout) cause)
-      → EachMember old (λ s. HidesNothing cluster_meaning old.raft.size old.raft.me s.raft (Own raft_steps.Timeout) cause)
+      → EachServer old (λ s. IsRefused cluster_meaning old.raft.size old.raft.me s.raft (Own raft_steps.Timeout) cause)
+      → EachServer old (λ s. HidesNothing cluster_meaning old.raft.size old.raft.me s.raft (Own raft_steps.Timeout) cause)
       → Stays (Own raft_steps.Timeout) cause old.raft new.raft
       → DeskAfterRefusal cause old.desk new.desk → after ≡ before
       → DeclinesHanding old (OwnInput Timeout) cause new before after
@@ -271,8 +271,8 @@ module _ (old new : ServerView) (before after : Outbox) (up : is_up old.raft.ser
   )
 
   timeout_stopped : (new.raft.me ≡ old.raft.me) → (new.raft.size ≡ old.raft.size) → (r : Answer)
-      → IfErr r (λ cause. EachMember old (λ s. IsRefused cluster_meaning old.raft.size old.raft.me s.raft (Own raft_steps.Timeout) cause))
-      → IfErr r (λ cause. EachMember old (λ s. HidesNothing cluster_meaning old.raft.size old.raft.me s.raft (Own raft_steps.Timeout) cause))
+      → IfErr r (λ cause. EachServer old (λ s. IsRefused cluster_meaning old.raft.size old.raft.me s.raft (Own raft_steps.Timeout) cause))
+      → IfErr r (λ cause. EachServer old (λ s. HidesNothing cluster_meaning old.raft.size old.raft.me s.raft (Own raft_steps.Timeout) cause))
       → IfErr r (λ cause. Stays (Own raft_steps.Timeout) cause old.raft new.raft)
       → IfErr r (λ cause. DeskAfterRefusal cause old.desk new.desk)
       → OnErr r (after ≡ before)
@@ -283,8 +283,8 @@ module _ (old new : ServerView) (before after : Outbox) (up : is_up old.raft.ser
   pub timeout_taken : (r : Answer)
       → (new.raft.me ≡ old.raft.me) × (new.raft.size ≡ old.raft.size)
       → OnOk r (TakesAsk old (Some AskTimeout) new before after)
-      → IfErr r (λ cause. EachMember old (λ s. IsRefused cluster_meaning old.raft.size old.raft.me s.raft (Own raft_steps.Timeout) cause))
-      → IfErr r (λ cause. EachMember old (λ s. HidesNothing cluster_meaning old.raft.size old.raft.me s.raft (Own raft_steps.Timeout) cause))
+      → IfErr r (λ cause. EachServer old (λ s. IsRefused cluster_meaning old.raft.size old.raft.me s.raft (Own raft_steps.Timeout) cause))
+      → IfErr r (λ cause. EachServer old (λ s. HidesNothing cluster_meaning old.raft.size old.raft.me s.raft (Own raft_steps.Timeout) cause))
       → IfErr r (λ cause. Stays (Own raft_steps.Timeout) cause old.raft new.raft)
       → IfErr r (λ cause. DeskAfterRefusal cause old.desk new.desk)
       → OnErr r (after ≡ before)
@@ -300,19 +300,19 @@ module _ (old new : ServerView) (before after : Outbox) (up : is_up old.raft.ser
 
 module _ (old new : ServerView) (h : Handing) (before after : Outbox) where
   -- one that is not want of memory
-  pub declined_parts : (cause : Refusal) → cause ≢ refusals.NoMemory → DeclinesHanding old h cause new before after → EachMember old (λ s. handing_refusal old.raft.size old.raft.me s h ≡ Some cause) × DoesNothing old new before after
+  pub declined_parts : (cause : Refusal) → cause ≢ refusals.NoMemory → DeclinesHanding old h cause new before after → EachServer old (λ s. handing_refusal old.raft.size old.raft.me s h ≡ Some cause) × DoesNothing old new before after
   declined_parts refusals.NoMemory other d = absurd (other refl)
   declined_parts cause other d = d
 
-pub refused_of : (n me : ℕ) (s : Member) (h : Handing) (cause : Refusal) → cause ≢ refusals.NoMemory → handing_refusal n me s h ≡ Some cause → IsHandingRefused n me s h cause
+pub refused_of : (n me : ℕ) (s : Server) (h : Handing) (cause : Refusal) → cause ≢ refusals.NoMemory → handing_refusal n me s h ≡ Some cause → IsHandingRefused n me s h cause
 refused_of n me s h refusals.NoMemory other is = absurd (other refl)
 refused_of n me s h cause other is = is
 
-pub left_of : (old new : ServerView) (s : Member) (h : Handing) (cause : Refusal) → cause ≢ refusals.NoMemory → SameMember old new → HandingRefusalLeaves old s h cause new
+pub left_of : (old new : ServerView) (s : Server) (h : Handing) (cause : Refusal) → cause ≢ refusals.NoMemory → SameServer old new → HandingRefusalLeaves old s h cause new
 left_of old new s h refusals.NoMemory other is = absurd (other refl)
 left_of old new s h cause other is = is
 
-pub stays_of : (old new : ServerView) (h : Handing) (cause : Refusal) → cause ≢ refusals.NoMemory → SameMember old new → HandingStays old h cause new
+pub stays_of : (old new : ServerView) (h : Handing) (cause : Refusal) → cause ≢ refusals.NoMemory → SameServer old new → HandingStays old h cause new
 stays_of old new h refusals.NoMemory other is = absurd (other refl)
 stays_of old new h cause other is = is
 
@@ -320,18 +320,18 @@ stays_of old new h cause other is = is
 
 module _ (old new : ServerView) (before after : Outbox) (bytes : List ℕ) (read : WireMessage State Command) (fits : MessageFits cluster_meaning read) (text : bytes ≡ message_text cluster_meaning read) where
   means : (x : GroupMessage) → IsGroupFrame cluster_meaning bytes x → MeansGroup read x
-  means (Raft said) is = subst (λ (r : WireMessage State Command). Means cluster_meaning r said) (one_text cluster_meaning cluster_lawful is.read read is.fits fits (sym is.text ∙ text)) is.means
+  means (OfLog said) is = subst (λ (r : WireMessage State Command). Means cluster_meaning r said) (one_text cluster_meaning cluster_lawful is.read read is.fits fits (sym is.text ∙ text)) is.means
   means (Service message) is = subst (λ (r : WireMessage State Command). service_of r ≡ Some message) (one_text cluster_meaning cluster_lawful is.read read is.fits fits (sym is.text ∙ text)) is.means
 
-  read_taken : (r : Answer) → OnOk r (EachMember old (λ s. TakesRead old s read new before after)) → OnOk r (EachMember old (λ s. TakesHanding old s (FrameBytes bytes) new before after))
+  read_taken : (r : Answer) → OnOk r (EachServer old (λ s. TakesRead old s read new before after)) → OnOk r (EachServer old (λ s. TakesHanding old s (FrameBytes bytes) new before after))
   read_taken (Ok u) h = λ s is_of x is. h s is_of x (means x is)
   read_taken (Err cause) h = tt
 
   module _ (up : is_up old.raft.server.mode ≡ true) (found : message_at cluster_meaning bytes ≡ Ok read) where
-    refusal_is : (s : Member) → IsMember old s → handing_refusal old.raft.size old.raft.me s (FrameBytes bytes) ≡ wrong_address old.raft.size old.raft.me read.from read.to
+    refusal_is : (s : Server) → IsServer old s → handing_refusal old.raft.size old.raft.me s (FrameBytes bytes) ≡ wrong_address old.raft.size old.raft.me read.from read.to
     refusal_is s is = ap (λ b. if b then bytes_refusal old.raft.size old.raft.me bytes else Some refusals.Down) (up_of old s is up) ∙ ap (read_refusal old.raft.size old.raft.me) found
 
-    read_admitted : (r : Answer) → OnOk r (EachMember old (λ s. wrong_address old.raft.size old.raft.me read.from read.to ≡ None)) → OnOk r (EachMember old (λ s. handing_refusal old.raft.size old.raft.me s (FrameBytes bytes) ≡ None))
+    read_admitted : (r : Answer) → OnOk r (EachServer old (λ s. wrong_address old.raft.size old.raft.me read.from read.to ≡ None)) → OnOk r (EachServer old (λ s. handing_refusal old.raft.size old.raft.me s (FrameBytes bytes) ≡ None))
     read_admitted (Ok u) none = λ s is. refusal_is s is ∙ none s is
     read_admitted (Err cause) none = tt
 

@@ -1,4 +1,4 @@
-pub mod Members
+pub mod Servers
 pub mod DeskCalls
 pub mod Serving
 pub mod Requests

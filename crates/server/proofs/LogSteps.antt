@@ -7,8 +7,8 @@ use Rattle.rows.specs.declared.refusal.Refusal.{Refusal}
 use Rattle.rows.specs.declared.refusal.Refusal.TheVariants as refusals
 use Rattle.wire.specs.Messages.{Message as WireMessage}
 use Rattle.raft_model.specs.Messages.{Message}
-use Rattle.raft_model.specs.Servers as rafts
-use Rattle.raft_model.specs.Servers.{Mode, is_leader, is_up}
+use Rattle.raft_model.specs.Rafts as rafts
+use Rattle.raft_model.specs.Rafts.{Mode, is_leader, is_up}
 use Rattle.raft_model.specs.Steps as raft_steps
 use Rattle.raft_core.specs.declared.input.Input.{Input as RaftInput}
 use Rattle.raft_core.specs.declared.input.Input.TheVariants as raft_inputs
@@ -20,27 +20,27 @@ use Rattle.raft_core.specs.Refusals.{LackStays, Stays, MessageStays, RefusalShow
 use Rattle.raft_snapshot.specs.Watching.{SeesStep}
 use Rattle.cluster_model.specs.Words.{State}
 use Rattle.cluster_model.specs.ClusterMachine.{cluster_meaning}
-use Rattle.group_model.specs.Messages.{Raft}
+use Rattle.group_model.specs.Messages.{OfLog}
 use Rattle.group_model.specs.Desks.{desk_after}
 use Rattle.group_model.specs.Inputs.{Act, Ask, AskTimeout, AskBeat, AskCompact, AskCrash, AskRestart, input_of}
-use Rattle.group_model.specs.Members.{Member, logged}
+use Rattle.group_model.specs.Servers.{Server, logged}
 use Rattle.group_frames.proofs.Sending.{sends_log}
 use Rattle.leader.specs.OpenDesks.{OpenDesk}
 use Rattle.server.specs.declared.server.Outbox.{Outbox}
-use Rattle.server.specs.ServerViews.{ServerView, IsMember, group_desk, IsOfLeader}
-use Rattle.server.specs.Turns.{TakesTurn}
+use Rattle.server.specs.ServerViews.{ServerView, IsServer, group_desk, IsOfLeader}
+use Rattle.server.specs.Steps.{TakesTurn}
 use Rattle.server.specs.Inner.DeskWatch.{DeskSees}
-use Rattle.server.specs.Inner.LogSteps.{where_leads, DeskAfterRefusal, HearsLog, TakesAsk, log_ask}
+use Rattle.server.specs.Inner.LogSteps.{where_leads, DeskAfterRefusal, TakesLogMessage, TakesAsk, log_ask}
 use Rattle.server.proofs.Leads.{LeadsOn, message_leads, timeout_step, beat_step, compact_step, crash_step, restart_step}
 use Rattle.server.proofs.DeskFollows.{goes_on}
-use Rattle.server.proofs.Members.{mode_is}
+use Rattle.server.proofs.Servers.{mode_is}
 
 -- ---- a step of the log
 
-module _ (old new : ServerView) (seen : Option OpenDesk) (before after : Outbox) (input : raft_steps.Input Command) (s : Member) (is : IsMember old s)
+module _ (old new : ServerView) (seen : Option OpenDesk) (before after : Outbox) (input : raft_steps.Input Command) (s : Server) (is : IsServer old s)
     (steps : Steps cluster_meaning old.raft s.raft input new.raft before.frames after.frames)
     (sees : SeesStep cluster_meaning DeskSees s.raft steps.turn.server old.desk seen)
-    (leads : (turn : rafts.Turn Command) → raft_steps.step cluster_meaning old.raft.size old.raft.me s.raft input ≡ Ok turn → is_leader turn.server.mode ≡ true → LeadsOn s.raft turn.server)
+    (leads : (turn : rafts.RaftTurn Command) → raft_steps.step cluster_meaning old.raft.size old.raft.me s.raft input ≡ Ok turn → is_leader turn.server.mode ≡ true → LeadsOn s.raft turn.server)
     (closed : new.desk ≡ where_leads (is_leader new.raft.server.mode) seen) where
   gone : (group_desk new.desk ≡ desk_after s.raft steps.turn.server (group_desk old.desk)) × IfSome new.desk (IsOfLeader steps.turn.server)
   gone =
@@ -53,12 +53,12 @@ module _ (old new : ServerView) (seen : Option OpenDesk) (before after : Outbox)
       let act : Act = record { ask = ask; desk = s.desk; sent = []; work = [] } in
       record {
         turn = record {
-          member = record { raft = steps.turn.server; desk = desk_after s.raft steps.turn.server s.desk };
-          sent = map Raft steps.turn.sent ++ [];
+          server = record { raft = steps.turn.server; desk = desk_after s.raft steps.turn.server s.desk };
+          sent = map OfLog steps.turn.sent ++ [];
           work = [];
         };
         is = ap (logged s act) steps.step;
-        member = record { raft = steps.represents; desk = gone.0 ∙ ap (desk_after s.raft steps.turn.server) is.desk; led = gone.1 };
+        server = record { raft = steps.represents; desk = gone.0 ∙ ap (desk_after s.raft steps.turn.server) is.desk; led = gone.1 };
         sent = sends_log cluster_meaning before.frames after.frames steps.turn.sent steps.sent;
         work = work ∙ sym (append-nil before.work);
       }
@@ -99,10 +99,10 @@ module _ (old : ServerView) (raft : RaftView State Command) (seen desk : Option 
   -- ---- a message of the log comes
 
   pub hear_takes : (read : WireMessage State Command) (before after : Outbox) (r : Answer)
-      → OnOk r ((s : rafts.Server Command) → Represents cluster_meaning old.raft s → TakesMessage cluster_meaning old.raft s read raft before.frames after.frames)
-      → OnOk r ((s next : rafts.Server Command) → Represents cluster_meaning old.raft s → Represents cluster_meaning raft next → SeesStep cluster_meaning DeskSees s next old.desk seen)
+      → OnOk r ((s : rafts.Raft Command) → Represents cluster_meaning old.raft s → TakesMessage cluster_meaning old.raft s read raft before.frames after.frames)
+      → OnOk r ((s next : rafts.Raft Command) → Represents cluster_meaning old.raft s → Represents cluster_meaning raft next → SeesStep cluster_meaning DeskSees s next old.desk seen)
       → after.work ≡ before.work
-      → OnOk r ((said : Message Command) → Means cluster_meaning read said → HearsLog old said (record { raft = raft; desk = desk }) before after)
+      → OnOk r ((said : Message Command) → Means cluster_meaning read said → TakesLogMessage old said (record { raft = raft; desk = desk }) before after)
   hear_takes read before after (Ok u) taken sees work = λ said means s is.
       let steps = taken s.raft is.raft said means in
       log_takes old (record { raft = raft; desk = desk }) seen before after (raft_steps.Arrives said) s is steps (sees s.raft steps.turn.server is.raft steps.represents)
@@ -114,7 +114,7 @@ module _ (old : ServerView) (raft : RaftView State Command) (seen desk : Option 
       → IfErr r (λ cause. RefusalShows cause old.desk seen)
       → IfErr r (λ cause. DeskAfterRefusal cause old.desk desk)
   hear_desk (Ok u) inside stays unseen = tt
-  hear_desk (Err refusals.NoMemory) inside stays unseen = none_kept (ap (λ (t : rafts.Server Command). is_leader t.mode) stays.0)
+  hear_desk (Err refusals.NoMemory) inside stays unseen = none_kept (ap (λ (t : rafts.Raft Command). is_leader t.mode) stays.0)
   hear_desk (Err cause) inside stays unseen = all_kept inside stays unseen
 
 -- ---- an input of the log's own
@@ -123,7 +123,7 @@ pub record IsAsked (n me : ℕ) (input : RaftInput) : Type 0 where
   pub ask : Ask
   pub is : log_ask input ≡ Some ask
   pub own : handed input ≡ Own (input_of ask)
-  pub leads : (s : rafts.Server Command) (turn : rafts.Turn Command) → raft_steps.step cluster_meaning n me s (input_of ask) ≡ Ok turn → is_leader turn.server.mode ≡ true → LeadsOn s turn.server
+  pub leads : (s : rafts.Raft Command) (turn : rafts.RaftTurn Command) → raft_steps.step cluster_meaning n me s (input_of ask) ≡ Ok turn → is_leader turn.server.mode ≡ true → LeadsOn s turn.server
 
 asked_by : (n me : ℕ) (input : RaftInput) → log_ask input ≢ None → IsAsked n me input
 asked_by n me (raft_inputs.Frame bytes) asked = absurd (asked refl)
@@ -141,10 +141,10 @@ down_leads_not (rafts.Leader next match) h = absurd (cc)
 
 lack_is_down : (old raft : RaftView State Command) (input : RaftInput) → log_ask input ≢ None → LackStays (handed input) old raft → is_leader raft.server.mode ≡ false
 lack_is_down old raft (raft_inputs.Frame bytes) asked left = absurd (asked refl)
-lack_is_down old raft raft_inputs.Timeout asked left = ap (λ (t : rafts.Server Command). is_leader t.mode) left.0
-lack_is_down old raft raft_inputs.Beat asked left = ap (λ (t : rafts.Server Command). is_leader t.mode) left.0
-lack_is_down old raft raft_inputs.Compact asked left = ap (λ (t : rafts.Server Command). is_leader t.mode) left.0
-lack_is_down old raft raft_inputs.Crash asked left = ap (λ (t : rafts.Server Command). is_leader t.mode) left.0
+lack_is_down old raft raft_inputs.Timeout asked left = ap (λ (t : rafts.Raft Command). is_leader t.mode) left.0
+lack_is_down old raft raft_inputs.Beat asked left = ap (λ (t : rafts.Raft Command). is_leader t.mode) left.0
+lack_is_down old raft raft_inputs.Compact asked left = ap (λ (t : rafts.Raft Command). is_leader t.mode) left.0
+lack_is_down old raft raft_inputs.Crash asked left = ap (λ (t : rafts.Raft Command). is_leader t.mode) left.0
 lack_is_down old raft raft_inputs.Restart asked left =
     ap (λ (v : RaftView State Command). is_leader v.server.mode) left.1 ∙ down_leads_not old.server.mode left.0
 
@@ -154,8 +154,8 @@ module _ (old : ServerView) (raft : RaftView State Command) (seen desk : Option 
   by = asked_by old.raft.size old.raft.me input asked
 
   pub own_takes : (before after : Outbox) (r : Answer)
-      → OnOk r ((s : rafts.Server Command) → Represents cluster_meaning old.raft s → Takes cluster_meaning old.raft s (handed input) raft before.frames after.frames)
-      → OnOk r ((s next : rafts.Server Command) → Represents cluster_meaning old.raft s → Represents cluster_meaning raft next → SeesStep cluster_meaning DeskSees s next old.desk seen)
+      → OnOk r ((s : rafts.Raft Command) → Represents cluster_meaning old.raft s → Takes cluster_meaning old.raft s (handed input) raft before.frames after.frames)
+      → OnOk r ((s next : rafts.Raft Command) → Represents cluster_meaning old.raft s → Represents cluster_meaning raft next → SeesStep cluster_meaning DeskSees s next old.desk seen)
       → after.work ≡ before.work
       → OnOk r (TakesAsk old (log_ask input) (record { raft = raft; desk = desk }) before after)
   own_takes before after (Ok u) taken sees work =

@@ -12,11 +12,11 @@ use Rattle.rows.specs.declared.refusal.Refusal.{Refusal}
 use Rattle.rows.specs.declared.refusal.Refusal.TheVariants as refusals
 use Rattle.rows.specs.declared.worker.AskedRequest.TheVariants as asked
 use Rattle.rows.specs.declared.worker.WorkerResponse.TheVariants.{Refused}
-use Rattle.raft_model.specs.Servers as rafts
+use Rattle.raft_model.specs.Rafts as rafts
 use Rattle.raft_model.specs.Steps as raft_steps
-use Rattle.raft_model.specs.Servers.{extended, is_leader}
+use Rattle.raft_model.specs.Rafts.{extended, is_leader}
 use Rattle.raft_model.specs.Steps.{admission_refusal}
-use Rattle.raft_core.specs.RaftView.{SameServer}
+use Rattle.raft_core.specs.RaftView.{SameRaft}
 use Rattle.cluster_model.specs.Words.{State}
 use Rattle.cluster_model.specs.ClusterMachine.{cluster_meaning}
 use Rattle.group_model.specs.Messages.{BetweenServers, Answers}
@@ -25,7 +25,7 @@ use Rattle.group_model.specs.Acceptance.{Accepted, keeps_some}
 use Rattle.group_model.specs.Brokers.{outstanding}
 use Rattle.group_model.specs.Desks.{Desk, QueuedPlan, whole_state}
 use Rattle.group_model.specs.Inputs.{Act, Ask, PlanTurn, input_of}
-use Rattle.group_model.specs.Members.{Member, Turn, open_desk, at_desk, asks_log, logged, done}
+use Rattle.group_model.specs.Servers.{Server, ServerTurn, open_desk, at_desk, asks_log, logged, done}
 use Rattle.group_model.specs.Plans.{after_accept, told_result, told_refusal, plan_command, plan_turn}
 use Rattle.group_model.specs.Queues.{first_plan}
 use Rattle.leader.specs.OpenDesks.{OpenDesk, at_open}
@@ -34,20 +34,20 @@ use Rattle.leader.proofs.Acts.{plan_turns_by_verdict}
 use Rattle.leader.specs.declared.judged.JudgedPlan.{JudgedPlan}
 use Rattle.leader.specs.Verdicts.{Judged, judged_by, verdict_for, once_picked, on_plan_turn}
 use Rattle.server.specs.declared.server.Outbox.{Outbox}
-use Rattle.server.specs.ServerViews.{ServerView, IsMember, SameMember}
-use Rattle.server.specs.Turns.{TakesTurn}
+use Rattle.server.specs.ServerViews.{ServerView, IsServer, SameServer}
+use Rattle.server.specs.Steps.{TakesTurn}
 use Rattle.server.specs.Refusals.{HasOpenDesk}
-use Rattle.server.specs.Inner.Acts.{EachMember, Serves, DoesAct, EachDoes, IsProposed, WhyNotProposed, act_of}
+use Rattle.server.specs.Inner.Acts.{EachServer, Serves, DoesAct, EachDoes, IsProposed, WhyNotProposed, act_of}
 use Rattle.server.specs.Inner.Plans.{settling, RefusesRising, result_with, KeptOf}
 use Rattle.server.specs.Inner.Replies.{SendsOne}
-use Rattle.server.proofs.Members.{desk_at, open_at, same_is, serves_at}
+use Rattle.server.proofs.Servers.{desk_at, open_at, same_is, serves_at}
 use Rattle.server.proofs.DeskCalls.{open_of, called, Moves, moves, plan_turn_keeps}
 use Rattle.server.proofs.Serving.{act_taken, does_alone, does_nothing, does_proposed, refused_why}
 use Rattle.server.proofs.Refusing.{verdict_rises}
 
 -- ---- what is kept of a plan
 
-module _ (old new : ServerView) (before after : Outbox) (from : ℕ) (p : AcceptedPlan) (a : Accepted) (w : QueuedPlan) (k : KeptOf from p a w) (s : Member) (is : IsMember old s) (h : HasOpenDesk s) (work : after.work ≡ before.work) where
+module _ (old new : ServerView) (before after : Outbox) (from : ℕ) (p : AcceptedPlan) (a : Accepted) (w : QueuedPlan) (k : KeptOf from p a w) (s : Server) (is : IsServer old s) (h : HasOpenDesk s) (work : after.work ≡ before.work) where
   open_one : (o : OpenDesk) × (old.desk ≡ Some o)
   open_one = open_of old.desk (subst (λ (d : Option Desk). is_some d ≡ true) (sym is.desk) h.is_open)
 
@@ -69,15 +69,15 @@ module _ (old new : ServerView) (before after : Outbox) (from : ℕ) (p : Accept
   refusal_is : (e : Refusal) → BetweenServers old.raft.me from (Answers (Refused (asked.Submit p.eval p.token) (reason_of e))) ≡ told_refusal old.raft.me w e
   refusal_is e = rw (← k.sender, k.plan) refl
 
-  open_member : IsMember new s → IsMember new (record s { desk = Some one })
-  open_member = subst (λ (d : Option Desk). IsMember new (record s { desk = d })) was
+  open_server : IsServer new s → IsServer new (record s { desk = Some one })
+  open_server = subst (λ (d : Option Desk). IsServer new (record s { desk = d })) was
 
   -- nothing is
-  pub keeps_none : keeps_some a ≡ false → IsMember new s →
+  pub keeps_none : keeps_some a ≡ false → IsServer new s →
       SendsOne before.frames after.frames (BetweenServers old.raft.me from (Answers (result_with p (length s.raft.log) a))) → DoesAct old.raft.size old.raft.me s (settling old judged s) new before after
-  keeps_none none member sent =
+  keeps_none none server sent =
       let said = rw (told_is (length s.raft.log)) at sent in
-      rw (settling_is, none) (does_alone old.raft.size old.raft.me s new before after (told_result old.raft.me w (length s.raft.log) a ∷ []) (Some one) [] (open_member member) said (work ∙ sym (append-nil before.work)))
+      rw (settling_is, none) (does_alone old.raft.size old.raft.me s new before after (told_result old.raft.me w (length s.raft.log) a ∷ []) (Some one) [] (open_server server) said (work ∙ sym (append-nil before.work)))
 
   module _ (some : keeps_some a ≡ true) where
     -- it is proposed
@@ -87,18 +87,18 @@ module _ (old new : ServerView) (before after : Outbox) (from : ℕ) (p : Accept
         let said = rw (told_is (suc (length s.raft.log))) at sent in
         let q : IsProposed s (plan_command w.plan a) new = subst (λ (x : AcceptedPlan). IsProposed s (commands.Plan x) new) k.plan proposed in
         let free : admission_refusal cluster_meaning s.raft (plan_command w.plan a) ≡ None = q.admitted in
-        let member : IsMember new (record { raft = extended s.raft (plan_command w.plan a); desk = Some one }) = subst (λ (d : Option Desk). IsMember new (record { raft = extended s.raft (plan_command w.plan a); desk = d })) was q.member in
-        rw (settling_is, some, free) (does_proposed old.raft.size old.raft.me s new before after (plan_command w.plan a) (told_result old.raft.me w (suc (length s.raft.log)) a ∷ []) (Some one) q.leads q.admitted member said work)
+        let server : IsServer new (record { raft = extended s.raft (plan_command w.plan a); desk = Some one }) = subst (λ (d : Option Desk). IsServer new (record { raft = extended s.raft (plan_command w.plan a); desk = d })) was q.server in
+        rw (settling_is, some, free) (does_proposed old.raft.size old.raft.me s new before after (plan_command w.plan a) (told_result old.raft.me w (suc (length s.raft.log)) a ∷ []) (Some one) q.leads q.admitted server said work)
 
-    refused_as : (e : Refusal) → admission_refusal cluster_meaning s.raft (commands.Plan p) ≡ Some e → IsMember new s →
+    refused_as : (e : Refusal) → admission_refusal cluster_meaning s.raft (commands.Plan p) ≡ Some e → IsServer new s →
         SendsOne before.frames after.frames (BetweenServers old.raft.me from (Answers (Refused (asked.Submit p.eval p.token) (reason_of e)))) → DoesAct old.raft.size old.raft.me s (settling old judged s) new before after
-    refused_as e why member sent =
+    refused_as e why server sent =
         let said = rw (refusal_is e) at sent in
         let because : admission_refusal cluster_meaning s.raft (plan_command w.plan a) ≡ Some e = subst (λ (x : AcceptedPlan). admission_refusal cluster_meaning s.raft (commands.Plan x) ≡ Some e) k.plan why in
-        rw (settling_is, some, because) (does_alone old.raft.size old.raft.me s new before after (told_refusal old.raft.me w e ∷ []) (Some one) [] (open_member member) said (work ∙ sym (append-nil before.work)))
+        rw (settling_is, some, because) (does_alone old.raft.size old.raft.me s new before after (told_refusal old.raft.me w e ∷ []) (Some one) [] (open_server server) said (work ∙ sym (append-nil before.work)))
 
     -- the log refuses it
-    pub kept_refused : (e : Refusal) → WhyNotProposed s.raft (commands.Plan p) e → e ≢ refusals.NoMemory → IsMember new s →
+    pub kept_refused : (e : Refusal) → WhyNotProposed s.raft (commands.Plan p) e → e ≢ refusals.NoMemory → IsServer new s →
         SendsOne before.frames after.frames (BetweenServers old.raft.me from (Answers (Refused (asked.Submit p.eval p.token) (reason_of e)))) → DoesAct old.raft.size old.raft.me s (settling old judged s) new before after
     kept_refused e why other = refused_as e (refused_why s.raft (commands.Plan p) e h.leads other why)
 
@@ -107,20 +107,20 @@ module _ (old new : ServerView) (before after : Outbox) (from : ℕ) (p : Accept
   abbrev Settles : Type 0
   Settles = (w : QueuedPlan) → KeptOf from p a w → EachDoes old (settling old (record { queued = w; kept = Ok a })) new before after
 
-  pub none_sent : (r : Result (Unit {0}) NoMemory) (last : ℕ) → keeps_some a ≡ false → SameMember old new → EachMember old (λ s. last ≡ length s.raft.log) →
+  pub none_sent : (r : Result (Unit {0}) NoMemory) (last : ℕ) → keeps_some a ≡ false → SameServer old new → EachServer old (λ s. last ≡ length s.raft.log) →
       OnOk r (SendsOne before.frames after.frames (BetweenServers old.raft.me from (Answers (result_with p last a)))) → OnOk r Settles
   none_sent (Err e) last none same known sent = tt
   none_sent (Ok u) last none same known sent = λ w k s is.
       keeps_none old new before after from p a w k s is (serves_at old s is h) work none (same_is old new s same is)
       (subst (λ (n : ℕ). SendsOne before.frames after.frames (BetweenServers old.raft.me from (Answers (result_with p n a)))) (known s is) sent)
 
-  pub kept_sent : (next : ℕ) → keeps_some a ≡ true → EachMember old (λ s. next ≡ suc (length s.raft.log)) → EachMember old (λ s. IsProposed s (commands.Plan p) new) →
+  pub kept_sent : (next : ℕ) → keeps_some a ≡ true → EachServer old (λ s. next ≡ suc (length s.raft.log)) → EachServer old (λ s. IsProposed s (commands.Plan p) new) →
       SendsOne before.frames after.frames (BetweenServers old.raft.me from (Answers (result_with p next a))) → Settles
   kept_sent next some known proposed sent w k s is =
       kept_proposed old new before after from p a w k s is (serves_at old s is h) work some (proposed s is)
       (subst (λ (n : ℕ). SendsOne before.frames after.frames (BetweenServers old.raft.me from (Answers (result_with p n a)))) (known s is) sent)
 
-  pub refusal_sent : (r : Result (Unit {0}) NoMemory) (e : Refusal) → keeps_some a ≡ true → EachMember old (λ s. WhyNotProposed s.raft (commands.Plan p) e) → e ≢ refusals.NoMemory → SameMember old new →
+  pub refusal_sent : (r : Result (Unit {0}) NoMemory) (e : Refusal) → keeps_some a ≡ true → EachServer old (λ s. WhyNotProposed s.raft (commands.Plan p) e) → e ≢ refusals.NoMemory → SameServer old new →
       OnOk r (SendsOne before.frames after.frames (BetweenServers old.raft.me from (Answers (Refused (asked.Submit p.eval p.token) (reason_of e))))) → OnOk r Settles
   refusal_sent (Ok u) e some why other same sent = λ w k s is. kept_refused old new before after from p a w k s is (serves_at old s is h) work some e (why s is) other (same_is old new s same is) sent
   refusal_sent (Err x) e some why other same sent = tt
@@ -153,17 +153,17 @@ pub answer_rises : (whole : State) (d new : Option OpenDesk) (answer : Option Ju
 answer_rises whole d new answer j call is = judged_rises whole d new (judged_by j) (rw is at call)
 
 -- a desk that another is in place of asks the log for the same
-logged_same : (s : Member) (d : Option Desk) (a : Act) (r : Result (rafts.Turn Command) Refusal) → logged (record s { desk = d }) a r ≡ logged s a r
+logged_same : (s : Server) (d : Option Desk) (a : Act) (r : Result (rafts.RaftTurn Command) Refusal) → logged (record s { desk = d }) a r ≡ logged s a r
 logged_same s d a (Err e) = refl
 logged_same s d a (Ok turn) = refl
 
-done_same : (n me : ℕ) (s : Member) (d : Option Desk) (a : Act) → done n me (record s { desk = d }) (Ok a) ≡ done n me s (Ok a)
+done_same : (n me : ℕ) (s : Server) (d : Option Desk) (a : Act) → done n me (record s { desk = d }) (Ok a) ≡ done n me s (Ok a)
 done_same n me s d a = by a.ask where
   by : (ask : Option Ask) → asks_log n me (record s { desk = d }) a ask ≡ asks_log n me s a ask
   by None = refl
   by (Some ask) = logged_same s d a (raft_steps.step cluster_meaning n me s.raft (input_of ask))
 
-module _ (old mid : ServerView) (s : Member) (is : IsMember old s) (h : HasOpenDesk s) (same : SameServer old.raft mid.raft) (j : Option Judged) (call : at_open (on_plan_turn (whole_state s.raft)) old.desk ≡ Ok (j, mid.desk)) where
+module _ (old mid : ServerView) (s : Server) (is : IsServer old s) (h : HasOpenDesk s) (same : SameRaft old.raft mid.raft) (j : Option Judged) (call : at_open (on_plan_turn (whole_state s.raft)) old.desk ≡ Ok (j, mid.desk)) where
   turned : Moves (on_plan_turn (whole_state s.raft)) s j mid
   turned = moves (on_plan_turn (whole_state s.raft)) (plan_turn_keeps (whole_state s.raft)) s old mid j h.leads is same call
 
@@ -182,13 +182,13 @@ module _ (old mid : ServerView) (s : Member) (is : IsMember old s) (h : HasOpenD
   pub plan_rests : j ≡ None → (out : Outbox) → DoesAct old.raft.size old.raft.me s (act_of old PlanTurn s) mid out out
   plan_rests none out =
       subst (λ (a : Result Act Refusal). DoesAct old.raft.size old.raft.me s a mid out out) (sym (act_is ∙ ap (λ (x : Option Judged). act_taken (judged_act old.raft.me s.raft left x)) none))
-      (does_nothing old.raft.size old.raft.me s mid out out (Some left) turned.member refl)
+      (does_nothing old.raft.size old.raft.me s mid out out (Some left) turned.server refl)
 
   -- one is judged
   pub plan_settles : (judged : Judged) → j ≡ Some judged → mid.raft.me ≡ old.raft.me → mid.raft.size ≡ old.raft.size → (new : ServerView) (before after : Outbox) → EachDoes mid (settling mid judged) new before after → DoesAct old.raft.size old.raft.me s (act_of old PlanTurn s) new before after
   plan_settles judged some me size new before after settled =
-      let t : Member = record s { desk = Some left } in
-      let got : DoesAct mid.raft.size mid.raft.me t (settling mid judged t) new before after = settled t turned.member in
+      let t : Server = record s { desk = Some left } in
+      let got : DoesAct mid.raft.size mid.raft.me t (settling mid judged t) new before after = settled t turned.server in
       let placed : DoesAct old.raft.size old.raft.me t (settling old judged t) new before after =
       subst (λ (n : ℕ). DoesAct n old.raft.me t (settling old judged t) new before after) size
       (subst (λ (me : ℕ). DoesAct mid.raft.size me t ((at_desk (open_desk t) (λ d. Ok (after_accept me t.raft d judged.queued judged.kept)))) new before after) me got) in
@@ -196,12 +196,12 @@ module _ (old mid : ServerView) (s : Member) (is : IsMember old s) (h : HasOpenD
       let leads : is_leader s.raft.mode ≡ true = h.leads in
       let open_t : open_desk t ≡ Ok left = rw leads refl in
       let at_t : settling old judged t ≡ Ok a = ap (λ (d : Result Desk Refusal). at_desk d (λ d. Ok (after_accept old.raft.me s.raft d judged.queued judged.kept))) open_t in
-      let done_t = subst (λ (q : Result Turn Refusal). TakesTurn q new before after) (ap (done old.raft.size old.raft.me t) at_t ∙ done_same old.raft.size old.raft.me s (Some left) a) placed in
+      let done_t = subst (λ (q : Result ServerTurn Refusal). TakesTurn q new before after) (ap (done old.raft.size old.raft.me t) at_t ∙ done_same old.raft.size old.raft.me s (Some left) a) placed in
       subst (λ (x : Result Act Refusal). DoesAct old.raft.size old.raft.me s x new before after) (sym (act_is ∙ ap (λ (x : Option Judged). act_taken (judged_act old.raft.me s.raft left x)) some)) done_t
 
 -- the same of each server that a value is
-module _ (old mid new : ServerView) (before after : Outbox) (answer : Option JudgedPlan) (h : EachMember old (λ s. HasOpenDesk s)) (same : SameServer old.raft mid.raft)
-    (call : EachMember old (λ s. at_open (on_plan_turn (whole_state s.raft)) old.desk ≡ Ok (option_map judged_by answer, mid.desk))) where
+module _ (old mid new : ServerView) (before after : Outbox) (answer : Option JudgedPlan) (h : EachServer old (λ s. HasOpenDesk s)) (same : SameRaft old.raft mid.raft)
+    (call : EachServer old (λ s. at_open (on_plan_turn (whole_state s.raft)) old.desk ≡ Ok (option_map judged_by answer, mid.desk))) where
   pub plan_settled : (j : JudgedPlan) → answer ≡ Some j → EachDoes mid (settling mid (judged_by j)) new before after → EachDoes old (act_of old PlanTurn) new before after
   plan_settled j some settled s is =
       plan_settles old mid s is (h s is) same (option_map judged_by answer) (call s is) (judged_by j) (ap (λ (x : Option JudgedPlan). option_map judged_by x) some) same.me same.size new before after settled

@@ -1,14 +1,14 @@
 -- A command that is proposed.
 use Rattle.std.proofs.Common.{◌≡◌, ℕ, ◌≤◌, Bool, true, false, nat_lt, Option, Some, None, Result, Ok, Err, List, [], ◌∷◌, length, refl, sym, ap, subst, ◌∙◌, if◌then◌else◌}
 use Rattle.std.proofs.lemmas.List.{take-append-le}
-use Rattle.std.specs.Prelude.{IfSome, IfErr, OnOk, OnErr, MatchOption}
+use Rattle.std.specs.Prelude.{IfSome, IfErr, OnOk, MatchOption}
 use Rattle.rows.specs.declared.command.Command.{Command}
 use Rattle.rows.specs.declared.refusal.Refusal.{Refusal}
 use Rattle.rows.specs.declared.refusal.Refusal.TheVariants as refusals
 use Rattle.raft_model.specs.Logs.{MAX, state_after}
-use Rattle.raft_model.specs.Servers.{Server, Turn, is_up, is_leader, silent, extended}
+use Rattle.raft_model.specs.Rafts.{Raft, RaftTurn, is_up, is_leader, silent, extended}
 use Rattle.raft_model.specs.Steps as raft_steps
-use Rattle.raft_core.specs.RaftView.{RaftView, SameServer}
+use Rattle.raft_core.specs.RaftView.{RaftView}
 use Rattle.raft_core.specs.Steps.{Represents, Takes}
 use Rattle.wire.specs.Frames.{Frame}
 use Rattle.raft_core.specs.Inputs.{Own}
@@ -19,38 +19,37 @@ use Rattle.group_model.specs.Desks.{applied_state}
 use Rattle.leader.specs.OpenDesks.{OpenDesk}
 use Rattle.leader.specs.Staying.{IsOver}
 use Rattle.server.specs.ServerViews.{ServerView, IsOfLeader}
-use Rattle.server.specs.Inner.Acts.{EachMember, IsProposed, WhyNotProposed}
-use Rattle.server.proofs.Members.{up_of}
-use Rattle.server.proofs.LogSteps.{IsLedBy}
+use Rattle.server.specs.Inner.Acts.{EachServer, IsProposed, WhyNotProposed}
+use Rattle.server.proofs.Servers.{up_of}
 
 -- a leader's log is longer by a command that nothing refused
-pub record IsAppended (s : Server Command) (c : Command) (new : Server Command) : Type 0 where
+pub record IsAppended (s : Raft Command) (c : Command) (new : Raft Command) : Type 0 where
   pub leads : is_leader s.mode ≡ true
   pub admitted : raft_steps.admission_refusal cluster_meaning s c ≡ None
   pub log : new ≡ extended s c
 
-module _ (n me : ℕ) (s : Server Command) (c : Command) (up : is_up s.mode ≡ true) where
+module _ (n me : ℕ) (s : Raft Command) (c : Command) (up : is_up s.mode ≡ true) where
   step_is : raft_steps.step cluster_meaning n me s (raft_steps.Propose c) ≡ raft_steps.proposes cluster_meaning s c
   step_is = ap (λ b. if b then raft_steps.proposes cluster_meaning s c else Err refusals.Down) up
 
-  taken_at : (leads : Bool) (a : Option Refusal) (turn : Turn Command) → is_leader s.mode ≡ leads → raft_steps.admission_refusal cluster_meaning s c ≡ a → (if leads then raft_steps.unless a (silent (extended s c)) else Err (refusals.NotLeader s.known)) ≡ Ok turn → IsAppended s c turn.server
-  taken_at true None turn leads admitted h = record { leads = leads; admitted = admitted; log = sym (ap (λ (t : Turn Command). t.server) (same h)) } where
-    same : {a b : Turn Command} → (let x : Result (Turn Command) Refusal = Ok a in x ≡ Ok b) → a ≡ b
+  taken_at : (leads : Bool) (a : Option Refusal) (turn : RaftTurn Command) → is_leader s.mode ≡ leads → raft_steps.admission_refusal cluster_meaning s c ≡ a → (if leads then raft_steps.unless a (silent (extended s c)) else Err (refusals.NotLeader s.known)) ≡ Ok turn → IsAppended s c turn.server
+  taken_at true None turn leads admitted h = record { leads = leads; admitted = admitted; log = sym (ap (λ (t : RaftTurn Command). t.server) (same h)) } where
+    same : {a b : RaftTurn Command} → (let x : Result (RaftTurn Command) Refusal = Ok a in x ≡ Ok b) → a ≡ b
     same h = cc
   taken_at true (Some r) turn leads admitted h = absurd (cc)
   taken_at false a turn leads admitted h = absurd (cc)
 
   -- a proposal that is taken was admitted, and the log is longer by it
-  pub proposed : (turn : Turn Command) → raft_steps.step cluster_meaning n me s (raft_steps.Propose c) ≡ Ok turn → IsAppended s c turn.server
+  pub proposed : (turn : RaftTurn Command) → raft_steps.step cluster_meaning n me s (raft_steps.Propose c) ≡ Ok turn → IsAppended s c turn.server
   proposed turn h = taken_at (is_leader s.mode) (raft_steps.admission_refusal cluster_meaning s c) turn refl refl (sym step_is ∙ h)
 
-  why : (r : Result (Turn Command) Refusal) (cause : Refusal) → refusal_by r ≡ Some cause → r ≡ Err cause
+  why : (r : Result (RaftTurn Command) Refusal) (cause : Refusal) → refusal_by r ≡ Some cause → r ≡ Err cause
   why (Ok turn) cause h = absurd (cc)
   why (Err e) cause h = ap (λ x. Err x) (same h) where
     same : {a b : Refusal} → (let x : Option Refusal = Some a in x ≡ Some b) → a ≡ b
     same h = cc
 
-  room_at : (room : Bool) (a : Option Refusal) (turn : Turn Command) → (if room then None else refusal_by (raft_steps.unless (if room then a else Some refusals.Exhausted) turn)) ≡ None → room ≡ true
+  room_at : (index_left : Bool) (a : Option Refusal) (turn : RaftTurn Command) → (if index_left then None else refusal_by (raft_steps.unless (if index_left then a else Some refusals.Exhausted) turn)) ≡ None → index_left ≡ true
   room_at true a turn h = refl
   room_at false a turn h = absurd (cc)
 
@@ -58,18 +57,18 @@ module _ (n me : ℕ) (s : Server Command) (c : Command) (up : is_up s.mode ≡ 
   pub refused : (cause : Refusal) → IsRefused cluster_meaning n me s (Own (raft_steps.Propose c)) cause → HidesNothing cluster_meaning n me s (Own (raft_steps.Propose c)) cause → WhyNotProposed s c cause
   refused refusals.NoMemory leads none = record {
     leads = leads;
-    room = room_at (nat_lt (length s.log) MAX) (cluster_meaning.admission (state_after cluster_meaning s.log) c) (silent (extended s c)) (rw (up, leads) at none);
+    index_left = room_at (nat_lt (length s.log) MAX) (cluster_meaning.admission (state_after cluster_meaning s.log) c) (silent (extended s c)) (rw (up, leads) at none);
   }
   refused cause h hidden = sym step_is ∙ why (raft_steps.step cluster_meaning n me s (raft_steps.Propose c)) _ h
 
 -- ---- the desk
 
 -- what is applied stays
-applied_stays : (s : Server Command) (c : Command) → s.commit ≤ length s.log → applied_state (extended s c) ≡ applied_state s
+applied_stays : (s : Raft Command) (c : Command) → s.commit ≤ length s.log → applied_state (extended s c) ≡ applied_state s
 applied_stays s c held = ap (state_after cluster_meaning) (take-append-le s.commit s.log (record { term = s.term; command = c } ∷ []) held)
 
 -- an open desk is still of the state that is applied
-proposal_keeps : (s : Server Command) (c : Command) (d : Option OpenDesk) → s.commit ≤ length s.log → IfSome d (IsOfLeader s) → IfSome d (IsOfLeader (extended s c))
+proposal_keeps : (s : Raft Command) (c : Command) (d : Option OpenDesk) → s.commit ≤ length s.log → IfSome d (IsOfLeader s) → IfSome d (IsOfLeader (extended s c))
 proposal_keeps s c None held h = tt
 proposal_keeps s c (Some o) held h = record { leads = h.leads; term = h.term; over = subst (λ x. IsOver x o) (sym (applied_stays s c held)) h.over }
 
@@ -78,14 +77,14 @@ proposal_keeps s c (Some o) held h = record { leads = h.leads; term = h.term; ov
 abbrev Answer : Type 0
 Answer = Result (Unit {0}) Refusal
 
-held_by : (s : Server Command) (r : Option ℕ) → is_up s.mode ≡ true → MatchOption r (is_up s.mode ≡ false) (λ n. (is_up s.mode ≡ true) × (n ≡ s.commit)) → IfSome r (λ n. n ≤ length s.log) → s.commit ≤ length s.log
+held_by : (s : Raft Command) (r : Option ℕ) → is_up s.mode ≡ true → MatchOption r (is_up s.mode ≡ false) (λ n. (is_up s.mode ≡ true) × (n ≡ s.commit)) → IfSome r (λ n. n ≤ length s.log) → s.commit ≤ length s.log
 held_by s None up value held = absurd (let q : true ≡ false = sym up ∙ value in cc)
 held_by s (Some n) up value held = subst (λ (k : ℕ). k ≤ length s.log) value.1 held
 
 module _ (old : ServerView) (new : RaftView State Command) (c : Command) (up : is_up old.raft.server.mode ≡ true) where
-  pub propose_takes : (n : Option ℕ) → ((s : Server Command) → Represents cluster_meaning old.raft s → MatchOption n (is_up s.mode ≡ false) (λ k. (is_up s.mode ≡ true) × (k ≡ s.commit))) → ((s : Server Command) → Represents cluster_meaning old.raft s → IfSome n (λ k. k ≤ length s.log))
-      → (r : Answer) → OnOk r ((s : Server Command) (sent : List Frame) → Represents cluster_meaning old.raft s → Takes cluster_meaning old.raft s (Own (raft_steps.Propose c)) new sent sent)
-      → OnOk r (EachMember old (λ s. IsProposed s c (record { raft = new; desk = old.desk })))
+  pub propose_takes : (n : Option ℕ) → ((s : Raft Command) → Represents cluster_meaning old.raft s → MatchOption n (is_up s.mode ≡ false) (λ k. (is_up s.mode ≡ true) × (k ≡ s.commit))) → ((s : Raft Command) → Represents cluster_meaning old.raft s → IfSome n (λ k. k ≤ length s.log))
+      → (r : Answer) → OnOk r ((s : Raft Command) (sent : List Frame) → Represents cluster_meaning old.raft s → Takes cluster_meaning old.raft s (Own (raft_steps.Propose c)) new sent sent)
+      → OnOk r (EachServer old (λ s. IsProposed s c (record { raft = new; desk = old.desk })))
   propose_takes n value held (Err cause) taken = tt
   propose_takes n value held (Ok u) taken = λ s is.
       let up_at = up_of old s is up in
@@ -95,16 +94,10 @@ module _ (old : ServerView) (new : RaftView State Command) (c : Command) (up : i
       record {
         leads = p.leads;
         admitted = p.admitted;
-        member = record { raft = subst (λ (t : Server Command). Represents cluster_meaning new t) p.log steps.represents; desk = is.desk; led = proposal_keeps s.raft c old.desk within is.led };
+        server = record { raft = subst (λ (t : Raft Command). Represents cluster_meaning new t) p.log steps.represents; desk = is.desk; led = proposal_keeps s.raft c old.desk within is.led };
       }
 
-  pub propose_declines : (r : Answer) → IfErr r (λ cause. (s : Server Command) → Represents cluster_meaning old.raft s → IsRefused cluster_meaning old.raft.size old.raft.me s (Own (raft_steps.Propose c)) cause) →
-      IfErr r (λ cause. (s : Server Command) → Represents cluster_meaning old.raft s → HidesNothing cluster_meaning old.raft.size old.raft.me s (Own (raft_steps.Propose c)) cause) → IfErr r (λ cause. EachMember old (λ s. WhyNotProposed s.raft c cause))
+  pub propose_declines : (r : Answer) → IfErr r (λ cause. (s : Raft Command) → Represents cluster_meaning old.raft s → IsRefused cluster_meaning old.raft.size old.raft.me s (Own (raft_steps.Propose c)) cause) →
+      IfErr r (λ cause. (s : Raft Command) → Represents cluster_meaning old.raft s → HidesNothing cluster_meaning old.raft.size old.raft.me s (Own (raft_steps.Propose c)) cause) → IfErr r (λ cause. EachServer old (λ s. WhyNotProposed s.raft c cause))
   propose_declines (Ok u) h hidden = tt
   propose_declines (Err cause) h hidden = λ s is. refused old.raft.size old.raft.me s.raft c (up_of old s is up) cause (h s.raft is.raft) (hidden s.raft is.raft)
-
--- a server that leads goes on to
-pub propose_leads : (old new : RaftView State Command) (d : Option OpenDesk) → IsLedBy old d → (r : Answer) → OnOk r (is_leader new.server.mode ≡ true) → OnErr r (SameServer old new) → IsLedBy new d
-propose_leads old new None led r leads same = tt
-propose_leads old new (Some o) led (Ok u) leads same = leads
-propose_leads old new (Some o) led (Err cause) leads same = ap (λ (s : Server Command). is_leader s.mode) same.server ∙ led

@@ -10,9 +10,9 @@ use Rattle.rows.specs.declared.command.Command.TheVariants as commands
 use Rattle.rows.specs.declared.command.StatusChange.TheVariants as changes
 use Rattle.rows.specs.declared.refusal.Refusal.{Refusal}
 use Rattle.rows.specs.declared.refusal.Refusal.TheVariants as refusals
-use Rattle.raft_model.specs.Servers.{is_leader, crashed}
+use Rattle.raft_model.specs.Rafts.{is_leader, crashed}
 use Rattle.raft_model.specs.Steps as raft_steps
-use Rattle.raft_core.specs.RaftView.{SameServer}
+use Rattle.raft_core.specs.RaftView.{SameRaft}
 use Rattle.cluster_model.specs.Words.{State}
 use Rattle.cluster_model.specs.ClusterMachine.{cluster_meaning}
 use Rattle.group_model.specs.BeatCounts.{expiry_refusal, expiry_refusal_of}
@@ -20,17 +20,17 @@ use Rattle.group_model.specs.Blocked.{first_due}
 use Rattle.group_model.specs.Expiry.{BeatCount, beat_count_of}
 use Rattle.group_model.specs.Desks.{Desk, applied_state, whole_state}
 use Rattle.group_model.specs.Inputs.{Input, Lapse, Expire, FreeTurn, Reap, Act, AskPropose, rests, asks}
-use Rattle.group_model.specs.Members.{Member, open_desk, at_desk, done, logged}
-use Rattle.group_model.specs.Turns.{lapse, expiry_command, expire, free_turn, free_turn_of, reap}
+use Rattle.group_model.specs.Servers.{Server, open_desk, at_desk, done, logged}
+use Rattle.group_model.specs.DeskTurns.{lapse, expiry_command, expire, free_turn, free_turn_of, reap}
 use Rattle.group_frames.proofs.Sending.{sends_nothing}
 use Rattle.leader.specs.OpenDesks.{OpenDesk, if_open, at_open, unless_refused, on_lapse, on_expire, on_reap}
 use Rattle.leader.specs.GroupActs.{lapse_act, expire_act, status_act}
 use Rattle.leader.proofs.Acts.{lapses_by_lapse, expires_by_expire, reaps_by_reap}
 use Rattle.server.specs.declared.server.Outbox.{Outbox}
-use Rattle.server.specs.ServerViews.{ServerView, IsMember, SameMember}
-use Rattle.server.specs.Refusals.{CanAppend, HasOpenDesk, HeardSoOften, MayTakeMemory}
-use Rattle.server.specs.Inner.Acts.{EachMember, DoesAct, EachDoes, DeclinesOwn, Falters, IsProposed, WhyNotProposed, act_of, proposes_if_any}
-use Rattle.server.proofs.Members.{same_is, same_then, desk_at, open_at}
+use Rattle.server.specs.ServerViews.{ServerView, IsServer, SameServer}
+use Rattle.server.specs.Refusals.{CanAppend, HasOpenDesk, CountedSoOften, MayTakeMemory}
+use Rattle.server.specs.Inner.Acts.{EachServer, DoesAct, EachDoes, DeclinesOwn, Falters, IsProposed, WhyNotProposed, act_of, proposes_if_any}
+use Rattle.server.proofs.Servers.{same_is, same_then, desk_at, open_at}
 use Rattle.server.proofs.DeskCalls.{open_of, Moves, moves, lapse_keeps}
 use Rattle.server.proofs.Serving.{leader_up, act_taken, does_proposed, does_nothing}
 
@@ -39,31 +39,31 @@ Answer = Result (Unit {0}) Refusal
 
 -- ---- a refusal
 
-pub same_view : (v : ServerView) → SameMember v v
+pub same_view : (v : ServerView) → SameServer v v
 same_view v = record { raft = record { me = refl; size = refl; base = refl; server = refl }; desk = refl }
 
-pub falters : (old new : ServerView) (out : Outbox) → SameMember old new → Falters old new out out
+pub falters : (old new : ServerView) (out : Outbox) → SameServer old new → Falters old new out out
 falters old new out same = record { me = same.raft.me; size = same.raft.size; base = same.raft.base; stored = ap crashed same.raft.server; front = take-length out.frames; work = refl }
 
 no_memory_or : (e : Refusal) → (e ≡ refusals.NoMemory) ⊎ (e ≢ refusals.NoMemory)
 no_memory_or refusals.NoMemory = inl refl
 no_memory_or _ = inr (λ q. absurd (cc q))
 
-module _ (old new : ServerView) (input : Input) (same : SameMember old new) (out : Outbox) where
-  pub lacks : EachMember old (λ s. MayTakeMemory old.raft.size s input) → DeclinesOwn old input refusals.NoMemory new out out
+module _ (old new : ServerView) (input : Input) (same : SameServer old new) (out : Outbox) where
+  pub lacks : EachServer old (λ s. MayTakeMemory old.raft.size s input) → DeclinesOwn old input refusals.NoMemory new out out
   lacks may = (may, falters old new out same)
 
   -- as the definitions refuse it
-  pub declines : (e : Refusal) → e ≢ refusals.NoMemory → EachMember old (λ s. act_of old input s ≡ Err e) → DeclinesOwn old input e new out out
+  pub declines : (e : Refusal) → e ≢ refusals.NoMemory → EachServer old (λ s. act_of old input s ≡ Err e) → DeclinesOwn old input e new out out
   declines refusals.NoMemory other why = absurd (other refl)
   declines e other why = (λ s is. ap (done old.raft.size old.raft.me s) (why s is), record { same = same; nothing = refl })
 
   -- the desk is shut
-  pub shut : (turn : Member → Desk → Result Act Refusal) → ((s : Member) → act_of old input s ≡ at_desk (open_desk s) (turn s)) → (e : Refusal) → e ≢ refusals.NoMemory → EachMember old (λ s. open_desk s ≡ Err e) → DeclinesOwn old input e new out out
+  pub shut : (turn : Server → Desk → Result Act Refusal) → ((s : Server) → act_of old input s ≡ at_desk (open_desk s) (turn s)) → (e : Refusal) → e ≢ refusals.NoMemory → EachServer old (λ s. open_desk s ≡ Err e) → DeclinesOwn old input e new out out
   shut turn by e other closed = declines e other (λ s is. by s ∙ ap (λ d. at_desk d (turn s)) (closed s is))
 
   -- or for want of memory
-  pub stops : (e : Refusal) → EachMember old (λ s. MayTakeMemory old.raft.size s input) → EachMember old (λ s. (e ≡ refusals.NoMemory) ⊎ (act_of old input s ≡ Err e)) → DeclinesOwn old input e new out out
+  pub stops : (e : Refusal) → EachServer old (λ s. MayTakeMemory old.raft.size s input) → EachServer old (λ s. (e ≡ refusals.NoMemory) ⊎ (act_of old input s ≡ Err e)) → DeclinesOwn old input e new out out
   stops e may why = elim (no_memory_or e) [
     | inl none ↦ subst (λ (r : Refusal). DeclinesOwn old input r new out out) (sym none) (lacks may)
     | inr other ↦ declines e other (λ s is. elim (why s is) [
@@ -74,19 +74,19 @@ module _ (old new : ServerView) (input : Input) (same : SameMember old new) (out
 
 -- ---- a turn that proposes a command, or nothing
 
-module _ (old mid new : ServerView) (input : Input) (c : Command) (turn : EachMember old (λ s. act_of old input s ≡ Ok (asks (AskPropose c) s.desk))) (same : SameMember old mid) where
-  proposed : EachMember mid (λ s. IsProposed s c new) → (out : Outbox) → EachDoes old (act_of old input) new out out
+module _ (old mid new : ServerView) (input : Input) (c : Command) (turn : EachServer old (λ s. act_of old input s ≡ Ok (asks (AskPropose c) s.desk))) (same : SameServer old mid) where
+  proposed : EachServer mid (λ s. IsProposed s c new) → (out : Outbox) → EachDoes old (act_of old input) new out out
   proposed p out s is =
       let one = p s (same_is old mid s same is) in
       subst (λ (a : Result Act Refusal). DoesAct old.raft.size old.raft.me s a new out out) (sym (turn s is))
-      (does_proposed old.raft.size old.raft.me s new out out c [] s.desk one.leads one.admitted one.member (sends_nothing cluster_meaning out.frames) refl)
+      (does_proposed old.raft.size old.raft.me s new out out c [] s.desk one.leads one.admitted one.server (sends_nothing cluster_meaning out.frames) refl)
 
-  pub turn_taken : (r : Answer) → OnOk r (EachMember mid (λ s. IsProposed s c new)) → OnOk r ((out : Outbox) → EachDoes old (act_of old input) new out out)
+  pub turn_taken : (r : Answer) → OnOk r (EachServer mid (λ s. IsProposed s c new)) → OnOk r ((out : Outbox) → EachDoes old (act_of old input) new out out)
   turn_taken (Ok u) p = proposed p
   turn_taken (Err cause) p = tt
 
-  module _ (leads : EachMember old (λ s. is_leader s.raft.mode ≡ true)) (may : EachMember old (λ s. CanAppend s.raft → MayTakeMemory old.raft.size s input)) where
-    declined : (cause : Refusal) → EachMember mid (λ s. WhyNotProposed s.raft c cause) → SameMember old new → (out : Outbox) → DeclinesOwn old input cause new out out
+  module _ (leads : EachServer old (λ s. is_leader s.raft.mode ≡ true)) (may : EachServer old (λ s. CanAppend s.raft → MayTakeMemory old.raft.size s input)) where
+    declined : (cause : Refusal) → EachServer mid (λ s. WhyNotProposed s.raft c cause) → SameServer old new → (out : Outbox) → DeclinesOwn old input cause new out out
     declined refusals.NoMemory why stays out = (λ s is. may s is (why s (same_is old mid s same is)), falters old new out stays)
     declined cause why stays out = (
       λ s is.
@@ -97,24 +97,24 @@ module _ (old mid new : ServerView) (input : Input) (c : Command) (turn : EachMe
       record { same = stays; nothing = refl },
     )
 
-    pub turn_declined : (r : Answer) → IfErr r (λ cause. EachMember mid (λ s. WhyNotProposed s.raft c cause)) → OnErr r (SameMember mid new) → IfErr r (λ cause. (out : Outbox) → DeclinesOwn old input cause new out out)
+    pub turn_declined : (r : Answer) → IfErr r (λ cause. EachServer mid (λ s. WhyNotProposed s.raft c cause)) → OnErr r (SameServer mid new) → IfErr r (λ cause. (out : Outbox) → DeclinesOwn old input cause new out out)
     turn_declined (Ok u) why stays = tt
     turn_declined (Err cause) why stays = declined cause why (same_then old mid new same stays)
 
-pub turn_rests : (old new : ServerView) (input : Input) → EachMember old (λ s. act_of old input s ≡ Ok (rests s.desk)) → SameMember old new → (out : Outbox) → EachDoes old (act_of old input) new out out
+pub turn_rests : (old new : ServerView) (input : Input) → EachServer old (λ s. act_of old input s ≡ Ok (rests s.desk)) → SameServer old new → (out : Outbox) → EachDoes old (act_of old input) new out out
 turn_rests old new input turn same out s is =
     subst (λ (a : Result Act Refusal). DoesAct old.raft.size old.raft.me s a new out out) (sym (turn s is))
     (does_nothing old.raft.size old.raft.me s new out out s.desk (same_is old new s same is) refl)
 
 -- ---- Lapse
 
-pub lapse_moved : (old new : ServerView) (s : Member) (id : EvalId) → Moves (on_lapse id) s tt new → (out : Outbox) → DoesAct old.raft.size old.raft.me s (act_of old (Lapse id) s) new out out
+pub lapse_moved : (old new : ServerView) (s : Server) (id : EvalId) → Moves (on_lapse id) s tt new → (out : Outbox) → DoesAct old.raft.size old.raft.me s (act_of old (Lapse id) s) new out out
 lapse_moved old new s id m out =
     let o = m.before in
     let act : act_of old (Lapse id) s ≡ Ok (rests (Some m.after.desk)) = ap (λ (d : Result Desk Refusal). at_desk d (λ d. lapse d id)) m.is_open ∙ lapses_by_lapse id o ∙ ap lapse_act m.answers in
-    subst (λ (a : Result Act Refusal). DoesAct old.raft.size old.raft.me s a new out out) (sym act) (does_nothing old.raft.size old.raft.me s new out out (Some m.after.desk) m.member refl)
+    subst (λ (a : Result Act Refusal). DoesAct old.raft.size old.raft.me s a new out out) (sym act) (does_nothing old.raft.size old.raft.me s new out out (Some m.after.desk) m.server refl)
 
-pub lapse_done : (old new : ServerView) (id : EvalId) → EachMember old (λ s. HasOpenDesk s) → SameServer old.raft new.raft → at_open (on_lapse id) old.desk ≡ Ok (tt, new.desk) → (out : Outbox) → EachDoes old (act_of old (Lapse id)) new out out
+pub lapse_done : (old new : ServerView) (id : EvalId) → EachServer old (λ s. HasOpenDesk s) → SameRaft old.raft new.raft → at_open (on_lapse id) old.desk ≡ Ok (tt, new.desk) → (out : Outbox) → EachDoes old (act_of old (Lapse id)) new out out
 lapse_done old new id h same call out s is = lapse_moved old new s id (moves (on_lapse id) (lapse_keeps id) s old new tt (h s is).leads is same call) out
 
 -- ---- Expire, Free, Reap
@@ -131,7 +131,7 @@ expiry_memory : (node beats : ℕ) (applied : State) (d : Option OpenDesk) (e : 
 expiry_memory node beats applied None e h = λ q. cc
 expiry_memory node beats applied (Some o) e h = expiry_memory_of (expiry_command applied node) beats (beat_count_of node o.desk.beat_counts) e h
 
-module _ (old : ServerView) (s : Member) (is : IsMember old s) (h : HasOpenDesk s) where
+module _ (old : ServerView) (s : Server) (is : IsServer old s) (h : HasOpenDesk s) where
   open_one : (o : OpenDesk) × (old.desk ≡ Some o)
   open_one = open_of old.desk (subst (λ (d : Option Desk). is_some d ≡ true) (sym is.desk) h.is_open)
 
@@ -156,7 +156,7 @@ module _ (old : ServerView) (s : Member) (is : IsMember old s) (h : HasOpenDesk 
       ∙ ap (λ (d : Option Desk). act_taken (asks (AskPropose c) d)) (sym was)
 
   -- so the node was heard of so often
-  pub expire_heard : (node beats : ℕ) (c : Command) → if_open (on_expire node beats (applied_state s.raft)) old.desk ≡ Ok c → HeardSoOften node beats s.desk
+  pub expire_heard : (node beats : ℕ) (c : Command) → if_open (on_expire node beats (applied_state s.raft)) old.desk ≡ Ok c → CountedSoOften node beats s.desk
   expire_heard node beats c call =
       let told : on_expire node beats (applied_state s.raft) one ≡ Ok c = rw open_one.1 at call in
       rw was (unrefused (expiry_command (applied_state s.raft) node) c (expiry_refusal node beats one.desk.beat_counts) told)
@@ -189,7 +189,7 @@ module _ (old : ServerView) (s : Member) (is : IsMember old s) (h : HasOpenDesk 
       ∙ ap (λ (d : Option Desk). act_taken (proposes_if_any d (option_map (λ i. commands.EvalStatus i changes.Failed) id))) (sym was)
 
 -- an expiry is refused as the desk refuses it
-pub expire_declines : (old : ServerView) (node beats : ℕ) (e : Refusal) → EachMember old (λ s. HasOpenDesk s) → EachMember old (λ s. if_open (on_expire node beats (applied_state s.raft)) old.desk ≡ Err e) → (out : Outbox) → DeclinesOwn old (Expire node beats) e old out out
+pub expire_declines : (old : ServerView) (node beats : ℕ) (e : Refusal) → EachServer old (λ s. HasOpenDesk s) → EachServer old (λ s. if_open (on_expire node beats (applied_state s.raft)) old.desk ≡ Err e) → (out : Outbox) → DeclinesOwn old (Expire node beats) e old out out
 expire_declines old node beats e h call out = elim (no_memory_or e) [
   | inl none ↦ subst (λ (r : Refusal). DeclinesOwn old (Expire node beats) r old out out) (sym none) (lacks old old (Expire node beats) (same_view old) out (λ s is. absurd (expiry_memory node beats (applied_state s.raft) old.desk e (call s is) none)))
   | inr other ↦ declines old old (Expire node beats) (same_view old) out e other (λ s is. expire_refused old s is (h s is) node beats e (call s is))

@@ -7,21 +7,21 @@ use Rattle.rows.specs.declared.refusal.NoMemory.{NoMemory}
 use Rattle.rows.specs.declared.refusal.Refusal.{Refusal}
 use Rattle.rows.specs.declared.refusal.Refusal.TheVariants as refusals
 use Rattle.rows.specs.declared.worker.ClientRequestKind.{ClientRequestKind}
-use Rattle.raft_model.specs.Servers.{is_leader}
+use Rattle.raft_model.specs.Rafts.{is_leader}
 use Rattle.raft_model.specs.Steps.{admission_refusal}
 use Rattle.cluster_model.specs.ClusterMachine.{cluster_meaning}
 use Rattle.group_model.specs.ClientRequests.{tells, answers, is_taken_already, proposes_for}
 use Rattle.group_model.specs.Desks.{whole_state}
 use Rattle.group_model.specs.Inputs.{Act}
-use Rattle.group_model.specs.Members.{Member}
+use Rattle.group_model.specs.Servers.{Server}
 use Rattle.server.specs.declared.server.Outbox.{Outbox}
-use Rattle.server.specs.ServerViews.{ServerView, IsMember, SameMember}
-use Rattle.server.specs.Inner.Acts.{EachMember, DoesAct, EachDoes, WhyNotProposed, write_act}
+use Rattle.server.specs.ServerViews.{ServerView, IsServer, SameServer}
+use Rattle.server.specs.Inner.Acts.{EachServer, DoesAct, EachDoes, WhyNotProposed, write_act}
 use Rattle.server.specs.Inner.Replies.{SendsOne}
-use Rattle.server.proofs.Members.{same_is}
+use Rattle.server.proofs.Servers.{same_is}
 use Rattle.server.proofs.Serving.{act_taken, does_alone, refused_why}
 
-module _ (old new : ServerView) (before after : Outbox) (client : ℕ) (kind : ClientRequestKind) (command : Command) (s : Member) where
+module _ (old new : ServerView) (before after : Outbox) (client : ℕ) (kind : ClientRequestKind) (command : Command) (s : Server) where
   abbrev by : Bool → Bool → Option Refusal → Act
   by leads taken r =
       if not leads then answers old.raft.me client kind (Some (refusals.NotLeader s.raft.known)) s.desk
@@ -35,20 +35,20 @@ module _ (old new : ServerView) (before after : Outbox) (client : ℕ) (kind : C
       ∙ ap (λ x. act_taken (by true taken x)) why
 
   -- the client is told, and that is all
-  write_told : (act : Result Act Refusal) (e : Option Refusal) → act ≡ Ok (answers old.raft.me client kind e s.desk) → IsMember new s → after.work ≡ before.work → SendsOne before.frames after.frames (tells old.raft.me client kind e) →
+  write_told : (act : Result Act Refusal) (e : Option Refusal) → act ≡ Ok (answers old.raft.me client kind e s.desk) → IsServer new s → after.work ≡ before.work → SendsOne before.frames after.frames (tells old.raft.me client kind e) →
       DoesAct old.raft.size old.raft.me s act new before after
-  write_told act e is member work sent =
+  write_told act e is server work sent =
       subst (λ (a : Result Act Refusal). DoesAct old.raft.size old.raft.me s a new before after) (sym is)
-      (does_alone old.raft.size old.raft.me s new before after (tells old.raft.me client kind e ∷ []) s.desk [] member sent (work ∙ sym (append-nil before.work)))
+      (does_alone old.raft.size old.raft.me s new before after (tells old.raft.me client kind e ∷ []) s.desk [] server sent (work ∙ sym (append-nil before.work)))
 
   -- the log refuses it
-  pub write_refused : (e : Refusal) → is_leader s.raft.mode ≡ true → is_taken_already (whole_state s.raft) command ≡ false → WhyNotProposed s.raft command e → e ≢ refusals.NoMemory → IsMember new s → after.work ≡ before.work →
+  pub write_refused : (e : Refusal) → is_leader s.raft.mode ≡ true → is_taken_already (whole_state s.raft) command ≡ false → WhyNotProposed s.raft command e → e ≢ refusals.NoMemory → IsServer new s → after.work ≡ before.work →
       SendsOne before.frames after.frames (tells old.raft.me client kind (Some e)) → DoesAct old.raft.size old.raft.me s (write_act old client kind command s) new before after
   write_refused e leads fresh why other = write_told (write_act old client kind command s) (Some e) (write_is false (Some e) leads fresh (refused_why s.raft command e leads other why))
 
 -- the same of what the sending answers
 module _ (old new : ServerView) (before after : Outbox) (client : ℕ) (kind : ClientRequestKind) (command : Command) (r : Result (Unit {0}) NoMemory) where
-  pub refusal_told : (e : Refusal) → EachMember old (λ s. is_leader s.raft.mode ≡ true) → EachMember old (λ s. is_taken_already (whole_state s.raft) command ≡ false) → EachMember old (λ s. WhyNotProposed s.raft command e) → e ≢ refusals.NoMemory → SameMember old new → after.work ≡ before.work →
+  pub refusal_told : (e : Refusal) → EachServer old (λ s. is_leader s.raft.mode ≡ true) → EachServer old (λ s. is_taken_already (whole_state s.raft) command ≡ false) → EachServer old (λ s. WhyNotProposed s.raft command e) → e ≢ refusals.NoMemory → SameServer old new → after.work ≡ before.work →
       OnOk r (SendsOne before.frames after.frames (tells old.raft.me client kind (Some e))) → OnOk r (EachDoes old (write_act old client kind command) new before after)
   refusal_told e leads fresh why other same work = by r where
     by : (r : Result (Unit {0}) NoMemory) → OnOk r (SendsOne before.frames after.frames (tells old.raft.me client kind (Some e))) → OnOk r (EachDoes old (write_act old client kind command) new before after)

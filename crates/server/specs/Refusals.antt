@@ -8,15 +8,15 @@ use Rattle.rows.specs.declared.refusal.Refusal.TheVariants as refusals
 use Rattle.wire.specs.Messages.{Message as WireMessage}
 use Rattle.wire.specs.Frames.{message_at}
 use Rattle.raft_model.specs.Logs.{MAX}
-use Rattle.raft_model.specs.Servers.{Server, is_up, is_leader}
+use Rattle.raft_model.specs.Rafts.{Raft, is_up, is_leader}
 use Rattle.raft_core.specs.Refusals.{is_server_at}
 use Rattle.cluster_model.specs.Words.{State}
 use Rattle.cluster_model.specs.ClusterMachine.{cluster_meaning}
 use Rattle.group_model.specs.BeatCounts.{expiry_refusal}
 use Rattle.group_model.specs.Desks.{Desk}
 use Rattle.group_model.specs.Inputs.{Input, Arrives, Timeout, Beat, Request, TakeFrom, SubmitTo, FinishAt, NackAt, PlanTurn, Lapse, Expire, DrainTurn, FreeTurn, Reap, Compact, Crash, Restart}
-use Rattle.group_model.specs.Members.{Member, Turn, step}
-use Rattle.server.specs.ServerViews.{ServerView, IsMember, SameMember, crashed_member}
+use Rattle.group_model.specs.Servers.{Server, ServerTurn, step}
+use Rattle.server.specs.ServerViews.{ServerView, IsServer, SameServer, crashed_server}
 use Rattle.server.specs.Handings.{Handing, FrameBytes, OwnInput}
 
 -- ---- bytes
@@ -44,13 +44,13 @@ bytes_refusal n me bytes = read_refusal n me (message_at cluster_meaning bytes)
 -- ---- what is handed in
 
 -- the refusal of a step, if it is one
-abbrev pub refusal_in : Result Turn Refusal → Option Refusal
+abbrev pub refusal_in : Result ServerTurn Refusal → Option Refusal
 refusal_in (Ok turn) = None
 refusal_in (Err refusal) = Some refusal
 
 -- Why server `me` of n refuses what is handed in, if it does: it is down; bytes are no frame, or
 -- one for another; else as the definitions say.
-abbrev pub handing_refusal : ℕ → ℕ → Member → Handing → Option Refusal
+abbrev pub handing_refusal : ℕ → ℕ → Server → Handing → Option Refusal
 handing_refusal n me s (FrameBytes bytes) =
     if is_up s.raft.mode then bytes_refusal n me bytes else Some refusals.Down
 handing_refusal n me s (OwnInput input) = refusal_in (step n me s input)
@@ -59,47 +59,47 @@ handing_refusal n me s (OwnInput input) = refusal_in (step n me s input)
 
 -- A server that may stand for election: it is up, does not lead, and there is a further term and a
 -- further index.
-pub record CanStand (s : Member) : Type 0 where
+pub record CanStand (s : Server) : Type 0 where
   pub up : is_up s.raft.mode ≡ true
   pub follows : is_leader s.raft.mode ≡ false
-  pub room : (nat_lt s.raft.term MAX && nat_lt (length s.raft.log) MAX) ≡ true
+  pub index_left : (nat_lt s.raft.term MAX && nat_lt (length s.raft.log) MAX) ≡ true
 
 -- a leader in whose log there is room for a further entry
-pub record CanAppend (s : Server Command) : Type 0 where
+pub record CanAppend (s : Raft Command) : Type 0 where
   pub leads : is_leader s.mode ≡ true
-  pub room : nat_lt (length s.log) MAX ≡ true
+  pub index_left : nat_lt (length s.log) MAX ≡ true
 
 -- a leader at whose desk something is to be done
-pub record HasOpenDesk (s : Member) : Type 0 where
+pub record HasOpenDesk (s : Server) : Type 0 where
   pub leads : is_leader s.raft.mode ≡ true
   pub is_open : is_some s.desk ≡ true
 
 -- an open desk heard of the node so often, and not since
-abbrev pub HeardSoOften : ℕ → ℕ → Option Desk → Type 0
-HeardSoOften node beats None = ⊥
-HeardSoOften node beats (Some d) = expiry_refusal node beats d.beat_counts ≡ None
+abbrev pub CountedSoOften : ℕ → ℕ → Option Desk → Type 0
+CountedSoOften node beats None = ⊥
+CountedSoOften node beats (Some d) = expiry_refusal node beats d.beat_counts ≡ None
 
 -- its workers ask a server of the group
-pub record AsksMember (n : ℕ) (s : Member) (to : ℕ) : Type 0 where
+pub record AsksServer (n : ℕ) (s : Server) (to : ℕ) : Type 0 where
   pub up : is_up s.raft.mode ≡ true
   pub of_group : nat_lt to n ≡ true
 
 -- Which inputs may want memory, and when. A crash takes none, nor does what is outstanding and is
 -- free again, a timeout of one that leads or cannot stand, a beat of one that does not lead, a
 -- request or an expiry at a full log, or an expiry that the desk refuses.
-abbrev pub MayTakeMemory : ℕ → Member → Input → Type 0
+abbrev pub MayTakeMemory : ℕ → Server → Input → Type 0
 MayTakeMemory n s (Arrives message) = is_up s.raft.mode ≡ true
 MayTakeMemory n s Timeout = CanStand s
 MayTakeMemory n s Beat = is_leader s.raft.mode ≡ true
 MayTakeMemory n s (Request request) = CanAppend s.raft
-MayTakeMemory n s (TakeFrom to) = AsksMember n s to
-MayTakeMemory n s (SubmitTo to plan) = AsksMember n s to
-MayTakeMemory n s (FinishAt to eval token outcome) = AsksMember n s to
-MayTakeMemory n s (NackAt to eval token) = AsksMember n s to
+MayTakeMemory n s (TakeFrom to) = AsksServer n s to
+MayTakeMemory n s (SubmitTo to plan) = AsksServer n s to
+MayTakeMemory n s (FinishAt to eval token outcome) = AsksServer n s to
+MayTakeMemory n s (NackAt to eval token) = AsksServer n s to
 MayTakeMemory n s PlanTurn = HasOpenDesk s
 MayTakeMemory n s (Lapse eval) = ⊥
 MayTakeMemory n s (Expire node beats) =
-    HasOpenDesk s × HeardSoOften node beats s.desk × CanAppend s.raft
+    HasOpenDesk s × CountedSoOften node beats s.desk × CanAppend s.raft
 MayTakeMemory n s (DrainTurn node) = HasOpenDesk s
 MayTakeMemory n s FreeTurn = HasOpenDesk s
 MayTakeMemory n s Reap = HasOpenDesk s
@@ -108,7 +108,7 @@ MayTakeMemory n s Crash = ⊥
 MayTakeMemory n s Restart = is_up s.raft.mode ≡ false
 
 -- bytes that are no message may want memory too
-abbrev pub MayLackMemory : ℕ → Member → Handing → Type 0
+abbrev pub MayLackMemory : ℕ → Server → Handing → Type 0
 MayLackMemory n s (FrameBytes bytes) = is_up s.raft.mode ≡ true
 MayLackMemory n s (OwnInput input) = MayTakeMemory n s input
 
@@ -116,19 +116,19 @@ MayLackMemory n s (OwnInput input) = MayTakeMemory n s input
 
 -- this refusal may be answered: want of memory where some may be wanted, any other where it is the
 -- one above
-abbrev pub IsHandingRefused : ℕ → ℕ → Member → Handing → Refusal → Type 0
+abbrev pub IsHandingRefused : ℕ → ℕ → Server → Handing → Refusal → Type 0
 IsHandingRefused n me s h refusals.NoMemory = MayLackMemory n s h
 IsHandingRefused n me s h cause = handing_refusal n me s h ≡ Some cause
 
 -- want of memory is a crash, but that a restart changes nothing
-abbrev pub NoMemoryLeaves : ServerView → Member → Handing → ServerView → Type 0
+abbrev pub NoMemoryLeaves : ServerView → Server → Handing → ServerView → Type 0
 NoMemoryLeaves old s (OwnInput Restart) new = new ≡ old
-NoMemoryLeaves old s h new = IsMember new (crashed_member s)
+NoMemoryLeaves old s h new = IsServer new (crashed_server s)
 
 -- any other refusal leaves the same server
-abbrev pub HandingRefusalLeaves : ServerView → Member → Handing → Refusal → ServerView → Type 0
+abbrev pub HandingRefusalLeaves : ServerView → Server → Handing → Refusal → ServerView → Type 0
 HandingRefusalLeaves old s h refusals.NoMemory new = NoMemoryLeaves old s h new
-HandingRefusalLeaves old s h cause new = SameMember old new
+HandingRefusalLeaves old s h cause new = SameServer old new
 
 -- The same of the value itself, whichever servers it is: any refusal but want of memory leaves the
 -- same server, and want of memory in a restart changes nothing.
@@ -138,12 +138,12 @@ NoMemoryStays old h new = Unit {0}
 
 abbrev pub HandingStays : ServerView → Handing → Refusal → ServerView → Type 0
 HandingStays old h refusals.NoMemory new = NoMemoryStays old h new
-HandingStays old h cause new = SameMember old new
+HandingStays old h cause new = SameServer old new
 
 -- ---- other calls
 
 -- why there is no copy of the state
-abbrev pub WhyNoSnapshot : Member → Refusal → Type 0
+abbrev pub WhyNoSnapshot : Server → Refusal → Type 0
 WhyNoSnapshot s refusals.NoMemory = is_up s.raft.mode ≡ true
 WhyNoSnapshot s refusals.Down = is_up s.raft.mode ≡ false
 WhyNoSnapshot s _ = ⊥

@@ -28,7 +28,7 @@ const PARTS: [Part; 3] = [Part::World, Part::Turn, Part::Program];
 
 // Where the play is: in which part, and how far.
 #[derive(Drop)]
-struct Place {
+struct Progress {
     part: Option<Part>,
     at: usize,
 }
@@ -46,14 +46,14 @@ fn play<R: Threads + Wait + Copy + Send + Sync + 'static>(
     rt: &HostRuntime,
     on: R,
     part: Part,
-    place: &mut Place,
+    progress: &mut Progress,
 ) -> Result<(), Stop> {
-    place.part = Some(part);
-    place.at = 0;
+    progress.part = Some(part);
+    progress.at = 0;
     match part {
-        Part::World => group::play(rt.alloc(), &row::row(rt)?, &mut place.at),
-        Part::Turn => turns::play(&on, rt.alloc(), &row::row(rt)?, &mut place.at),
-        Part::Program => said::play(rt, on, &mut place.at),
+        Part::World => group::play(rt.alloc(), &row::row(rt)?, &mut progress.at),
+        Part::Turn => turns::play(&on, rt.alloc(), &row::row(rt)?, &mut progress.at),
+        Part::Program => said::play(rt, on, &mut progress.at),
     }
 }
 
@@ -69,24 +69,24 @@ fn words(rt: &HostRuntime) -> Result<Vec<String>, Stop> {
 fn play_named<R: Threads + Wait + Copy + Send + Sync + 'static>(
     rt: &HostRuntime,
     on: R,
-    place: &mut Place,
+    progress: &mut Progress,
 ) -> Result<(), Stop> {
     let words = words(rt)?;
     if let Some(word) = words.first() {
         let part = named(word.as_str()).ok_or(Stop::Unread)?;
-        return play(rt, on, part, place);
+        return play(rt, on, part, progress);
     }
     for part in PARTS {
-        play(rt, on, part, place)?;
+        play(rt, on, part, progress)?;
     }
     Ok(())
 }
 
 fn main(rt: HostRuntime) -> ExitCode {
-    let mut place = Place { part: None, at: 0 };
-    let said = match play_named(&rt, rt, &mut place) {
+    let mut progress = Progress { part: None, at: 0 };
+    let said = match play_named(&rt, rt, &mut progress) {
         Ok(()) | Err(Stop::NoMemory) => println!(rt; "holds"),
-        Err(stop) => println!(rt; "{:?} {}: {stop:?}", place.part, place.at),
+        Err(stop) => println!(rt; "{:?} {}: {stop:?}", progress.part, progress.at),
     };
     ExitCode::from(u8::from(said.is_err()))
 }

@@ -85,8 +85,8 @@ pub(crate) fn shown_client(alloc: Global, client: &Agent) -> Result<Shown, NoMem
 /// What is seen of a group's servers, and then of its clients.
 pub(crate) fn shown_group(alloc: Global, world: &World) -> Result<Vec<Shown>, NoMemory> {
     let mut all = Vec::new(alloc);
-    for place in 0..world.size() {
-        if let Some(id) = ServerId::from_place(place)
+    for position in 0..world.size() {
+        if let Some(id) = ServerId::from_position(position)
             && let Some(server) = world.server(id)
         {
             all.push(shown_server(alloc, server)?)?;

@@ -5,7 +5,7 @@ use crate::row::{Next, TRIES, is_restart, restart};
 use crate::shown::{Shown, shown_client, shown_group, shown_server};
 use crate::stop::{Stop, unmade};
 use cluster::{
-    Cells, Envelope, GroupActor, KeptEvent, OwnInput, StampedEvent, Turn, cells_of, close, turn,
+    CellTurn, Cells, Envelope, GroupActor, KeptEvent, OwnInput, StampedEvent, cells_of, close, turn,
 };
 use event_book::{BookId, OpenedBook};
 use rows::{Actor, ClientId, NoMemory, Refusal, ServerId};
@@ -74,8 +74,8 @@ impl<B: BookId> Turns<B> {
     }
 
     // What was sent is on its way, and has its number behind all others; what was left out too.
-    fn post(&mut self, stamp: u64, turn: Turn<B>) -> Result<(), Stop> {
-        let Turn { sent, unsent, .. } = turn;
+    fn post(&mut self, stamp: u64, turn: CellTurn<B>) -> Result<(), Stop> {
+        let CellTurn { sent, unsent, .. } = turn;
         for (place, envelope) in sent.into_iter().enumerate() {
             let from = (stamp, place as u64);
             self.messages.push(Some(Message { from, envelope }))?;
@@ -220,8 +220,8 @@ impl<B: BookId> Turns<B> {
 // The actors of the row's group: its servers, and a client for each of its nodes.
 fn actors(alloc: Global, row: &Transcript) -> Result<Vec<Actor>, Stop> {
     let mut actors = Vec::new(alloc);
-    for place in 0..row.servers {
-        let server = ServerId::from_place(place).ok_or(Stop::Unmade)?;
+    for position in 0..row.servers {
+        let server = ServerId::from_position(position).ok_or(Stop::Unmade)?;
         actors.push(Actor::Server(server))?;
     }
     for node in &row.nodes {

@@ -26,13 +26,13 @@ module _ (s : Scenario) (settings : Settings) (first : ℕ) where
 
   -- ---- rows at their places
 
-  none_there : (n place : ℕ) (row : Row) → slice_get (replicate n None) place ≡ Some (Some row) → ⊥
-  none_there zero place row at = cc
+  none_there : (n position : ℕ) (row : Row) → slice_get (replicate n None) position ≡ Some (Some row) → ⊥
+  none_there zero position row at = cc
   none_there (suc n) zero row at = cc
-  none_there (suc n) (suc place) row at = none_there n place row at
+  none_there (suc n) (suc position) row at = none_there n position row at
 
   pub none_found : (n : ℕ) → AreFound s settings first (replicate n None)
-  none_found n place row at = absurd (none_there n place row at)
+  none_found n position row at = absurd (none_there n position row at)
 
   set_cases : (xs : List (Option Row)) (i k : ℕ) (y z : Option Row) → slice_get (set xs i y) k ≡ Some z → ((k ≡ i) × (y ≡ z)) ⊎ (slice_get xs k ≡ Some z)
   set_cases [] i k y z at = inr at
@@ -44,16 +44,16 @@ module _ (s : Scenario) (settings : Settings) (first : ℕ) where
     | inr before ↦ inr before
   ]
 
-  pub one_more_found : (found : List (Option Row)) (place : ℕ) (row : Row) → AreFound s settings first found → IsRow s settings (key_at first place) row
-      → AreFound s settings first (set found place (Some row))
-  one_more_found found place row was is k other at = elim (set_cases found place k (Some row) (Some other) at) [
+  pub one_more_found : (found : List (Option Row)) (position : ℕ) (row : Row) → AreFound s settings first found → IsRow s settings (key_at first position) row
+      → AreFound s settings first (set found position (Some row))
+  one_more_found found position row was is k other at = elim (set_cases found position k (Some row) (Some other) at) [
     | inl same ↦
-        let own : IsRow s settings (key_at first place) other = subst (IsRow s settings (key_at first place)) (same_Some row other same.1) is in
+        let own : IsRow s settings (key_at first position) other = subst (IsRow s settings (key_at first position)) (same_Some row other same.1) is in
         subst (λ n. IsRow s settings (key_at first n) other) (sym same.0) own
     | inr before ↦ was k other before
   ]
 
--- ---- what is read at a place
+-- ---- what is read at a position
 
 pub read_at : {X : Type 0} (xs : List X) (i : ℕ) (got : Option (Bor X)) (x : X) → MatchOption got (length xs ≤ i) (λ b. (i < length xs) × HoldsAt (λ y. b.now ≡ y) xs i)
     → option_copied got ≡ Some x

@@ -28,9 +28,9 @@ pub record IsRow (s : Scenario) (settings : Settings) (key : ℕ) (row : Row) : 
   pub counted : length refused ≡ row.refused
   pub ended : HasNumbers last.world row.end
 
--- the key at a place among those that begin with this one; behind the greatest comes 0
+-- the key at a position among those that begin with this one; behind the greatest comes 0
 abbrev pub key_at : ℕ → ℕ → ℕ
-key_at first place = (first + place) % 2 ^ 64
+key_at first position = (first + position) % 2 ^ 64
 
 -- so many keys from this one on
 abbrev pub keys_from : ℕ → ℕ → List ℕ

@@ -1,7 +1,7 @@
 //! The runs under many keys, on many threads.
 ghost use Rattle.std.specs.Prelude.{◌≡◌, IfOk, length};
 ghost use Rattle.std.specs.List.{All};
-ghost use Rattle.sweep.specs.Inner.Found.{AreFound, IsPlaced};
+ghost use Rattle.sweep.specs.Inner.Found.{AreFound, IsNumbered};
 ghost use Rattle.sweep.specs.Rows.{AreRows, IsRow, key_at};
 
 use crate::row::{Row, row_of};
@@ -26,11 +26,11 @@ impl Progress for Unseen {
     fn done(&self, _done: u64, _all: u64) {}
 }
 
-/// The row of the key at a place.
+/// The row of the key at a position.
 #[derive(Clone, Copy)]
-pub struct Placed {
-    /// The place of its key, from 0.
-    pub place: u32,
+pub struct NumberedRow {
+    /// The position of its key, from 0.
+    pub position: u32,
     /// How the run under that key ended.
     pub row: Row,
 }
@@ -61,8 +61,8 @@ fn brought_by_all<R: Threads + Sync, P: Progress + Sync>(
     task: &Task<'_>,
     jobs: usize,
     progress: &P,
-) -> Result<Vec<Vec<Placed>>, Refusal>
-    ensures { IfOk result (λ brought. All (λ rows. All (IsPlaced task.now.scenario.now
+) -> Result<Vec<Vec<NumberedRow>>, Refusal>
+    ensures { IfOk result (λ brought. All (λ rows. All (IsNumbered task.now.scenario.now
         task.now.settings task.now.first) rows.items) brought.items) }
 {
     let (next, done) = (AtomicU64::new(0), AtomicU64::new(0));
@@ -70,12 +70,12 @@ fn brought_by_all<R: Threads + Sync, P: Progress + Sync>(
         .into_par_iter()
         .with_min_len(1)
         .map(
-            |_worker: usize| -> Result<Vec<Placed>, Refusal>
-                ensures { IfOk result (λ rows. All (IsPlaced task.entry.now.scenario.now
+            |_worker: usize| -> Result<Vec<NumberedRow>, Refusal>
+                ensures { IfOk result (λ rows. All (IsNumbered task.entry.now.scenario.now
                     task.entry.now.settings task.entry.now.first) rows.items) }
             { brought_by_one(alloc, task, &next, &done, progress) },
         )
-        .collect::<Result<Vec<Vec<Placed>>, Refusal>>(rt, alloc)?
+        .collect::<Result<Vec<Vec<NumberedRow>>, Refusal>>(rt, alloc)?
 }
 
 // What one worker brings: it plays under the next key, as long as there is one.
@@ -85,38 +85,38 @@ fn brought_by_one<P: Progress>(
     next: &AtomicU64,
     done: &AtomicU64,
     progress: &P,
-) -> Result<Vec<Placed>, Refusal>
-    ensures { IfOk result (λ rows. All (IsPlaced task.now.scenario.now task.now.settings
+) -> Result<Vec<NumberedRow>, Refusal>
+    ensures { IfOk result (λ rows. All (IsNumbered task.now.scenario.now task.now.settings
         task.now.first) rows.items) }
 {
     let mut rows = Vec::new(alloc);
     for _ in 0..task.count {
-        let place = next.fetch_add(1, Ordering::SeqCst);
-        if u64::from(task.count) <= place {
+        let position = next.fetch_add(1, Ordering::SeqCst);
+        if u64::from(task.count) <= position {
             break;
         }
-        rows.push(placed_at(alloc, task, place as u32)?)?;
+        rows.push(numbered_at(alloc, task, position as u32)?)?;
         let before = done.fetch_add(1, Ordering::SeqCst);
         progress.done(before.wrapping_add(1), u64::from(task.count));
     }
     Ok(rows)
 }
 
-// Plays under the key at a place.
-fn placed_at(alloc: Global, task: &Task<'_>, place: u32) -> Result<Placed, Refusal>
-    ensures { IfOk result (IsPlaced task.now.scenario.now task.now.settings task.now.first) }
+// Plays under the key at a position.
+fn numbered_at(alloc: Global, task: &Task<'_>, position: u32) -> Result<NumberedRow, Refusal>
+    ensures { IfOk result (IsNumbered task.now.scenario.now task.now.settings task.now.first) }
 {
-    let row = row_of(alloc, task.scenario, task.settings, task.key(place))?;
-    Ok(Placed { place, row })
+    let row = row_of(alloc, task.scenario, task.settings, task.key(position))?;
+    Ok(NumberedRow { position, row })
 }
 
 // By the places of their keys, the rows that were brought.
 fn found_rows(
     alloc: Global,
     task: &Task<'_>,
-    brought: &[Vec<Placed>],
+    brought: &[Vec<NumberedRow>],
 ) -> Result<Vec<Option<Row>>, NoMemory>
-    requires { All (λ rows. All (IsPlaced task.now.scenario.now task.now.settings
+    requires { All (λ rows. All (IsNumbered task.now.scenario.now task.now.settings
         task.now.first) rows.items) brought.now }
     ensures { IfOk result (λ found. AreFound task.now.scenario.now task.now.settings
         task.now.first found.items) }
@@ -129,8 +129,8 @@ fn found_rows(
 }
 
 // Puts rows at their places.
-fn put_rows(task: &Task<'_>, rows: &[Placed], found: &mut [Option<Row>])
-    requires rows { All (IsPlaced task.now.scenario.now task.now.settings task.now.first)
+fn put_rows(task: &Task<'_>, rows: &[NumberedRow], found: &mut [Option<Row>])
+    requires rows { All (IsNumbered task.now.scenario.now task.now.settings task.now.first)
         rows.now }
     requires found { AreFound task.now.scenario.now task.now.settings task.now.first found.old }
     ensures { AreFound task.now.scenario.now task.now.settings task.now.first found.new }
@@ -140,14 +140,14 @@ fn put_rows(task: &Task<'_>, rows: &[Placed], found: &mut [Option<Row>])
     }
 }
 
-fn put_row(task: &Task<'_>, placed: &Placed, found: &mut [Option<Row>])
-    requires row { IsPlaced task.now.scenario.now task.now.settings task.now.first placed.now }
+fn put_row(task: &Task<'_>, placed: &NumberedRow, found: &mut [Option<Row>])
+    requires row { IsNumbered task.now.scenario.now task.now.settings task.now.first placed.now }
     requires found { AreFound task.now.scenario.now task.now.settings task.now.first found.old }
     ensures { AreFound task.now.scenario.now task.now.settings task.now.first found.new }
 {
-    let place = placed.place as usize;
-    if place < found.len() {
-        found[place] = Some(placed.row);
+    let position = placed.position as usize;
+    if position < found.len() {
+        found[position] = Some(placed.row);
     }
 }
 
@@ -158,21 +158,26 @@ fn in_order(alloc: Global, task: &Task<'_>, found: &[Option<Row>]) -> Result<Vec
         task.now.first task.now.count rows.items) }
 {
     let mut rows = Vec::new(alloc);
-    for place in 0..task.count {
-        rows.push(row_at(alloc, task, found, place)?)?;
+    for position in 0..task.count {
+        rows.push(row_at(alloc, task, found, position)?)?;
     }
     Ok(rows)
 }
 
-// The row of the key at a place. One that no worker brought is played here: each is brought, which
-// no contract can tell of a number that threads share.
-fn row_at(alloc: Global, task: &Task<'_>, found: &[Option<Row>], place: u32) -> Result<Row, Refusal>
+// The row of the key at a position. One that no worker brought is played here: each is brought,
+// which no contract can tell of a number that threads share.
+fn row_at(
+    alloc: Global,
+    task: &Task<'_>,
+    found: &[Option<Row>],
+    position: u32,
+) -> Result<Row, Refusal>
     requires { AreFound task.now.scenario.now task.now.settings task.now.first found.now }
     ensures { IfOk result (IsRow task.now.scenario.now task.now.settings
-        (key_at task.now.first place)) }
+        (key_at task.now.first position)) }
 {
-    match found.get(place as usize).copied() {
+    match found.get(position as usize).copied() {
         Some(Some(row)) => Ok(row),
-        _ => row_of(alloc, task.scenario, task.settings, task.key(place)),
+        _ => row_of(alloc, task.scenario, task.settings, task.key(position)),
     }
 }

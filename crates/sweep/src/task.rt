@@ -19,10 +19,10 @@ pub struct Task<'s> {
 }
 
 impl Task<'_> {
-    /// The key at a place, the first being at 0.
-    pub fn key(&self, place: u32) -> u64
-        ensures { result ≡ key_at self.now.first place }
+    /// The key at a position, the first being at 0.
+    pub fn key(&self, position: u32) -> u64
+        ensures { result ≡ key_at self.now.first position }
     {
-        self.first.wrapping_add(u64::from(place))
+        self.first.wrapping_add(u64::from(position))
     }
 }

@@ -13,8 +13,8 @@ use Rattle.std.specs.Prelude.{IsUtf8}
 use Rattle.rows.specs.Fits.{NodeSpecFits}
 use Rattle.rows.specs.declared.node.NodeSpec.{NodeSpec}
 use Rattle.group_model.specs.Worlds.{Event, Deliver, AtServer, AtClient}
-use Rattle.group_model.specs.Inputs as servers
-use Rattle.group_model.specs.Clients as clients
+use Rattle.group_model.specs.Inputs as inputs
+use Rattle.group_model.specs.Agents as agents
 use Rattle.rows.specs.GroupSizes.{IsGroup}
 use Rattle.transcript.specs.EventLines.{ClientInputHasLine, HasLine, ServerInputHasLine, event_line}
 use Rattle.transcript.specs.Inner.Printable.{IsPrintable}
@@ -89,35 +89,35 @@ one_more_node k [] node are fits is = (fits, omega arith, tt)
 one_more_node k (first ∷ nodes) node are fits is = (are.0, are.1, one_more_node (suc k) nodes node are.2 fits (omega arith))
 
 -- the line of a node is no event's: no event's line begins with `no`
-at_server : (server : ℕ) (input : servers.Input) (behind tail : List ℕ) → ServerInputHasLine input
+at_server : (server : ℕ) (input : inputs.Input) (behind tail : List ℕ) → ServerInputHasLine input
     → event_line (AtServer server input) ++ behind ≡ 110 ∷ 111 ∷ tail → ⊥
-at_server server (servers.Arrives message) behind tail fits is = absurd fits
-at_server server servers.Timeout behind tail fits is = apart 1 refl is
-at_server server servers.Beat behind tail fits is = apart 1 refl is
-at_server server (servers.Request request) behind tail fits is = apart 1 refl is
-at_server server (servers.TakeFrom to) behind tail fits is = apart 1 refl is
-at_server server (servers.SubmitTo to plan) behind tail fits is = apart 1 refl is
-at_server server (servers.FinishAt to eval token outcome) behind tail fits is = apart 1 refl is
-at_server server (servers.NackAt to eval token) behind tail fits is = apart 1 refl is
-at_server server servers.PlanTurn behind tail fits is = apart 1 refl is
-at_server server (servers.Lapse eval) behind tail fits is = apart 1 refl is
-at_server server (servers.Expire node beats) behind tail fits is = apart 1 refl is
-at_server server (servers.DrainTurn node) behind tail fits is = apart 1 refl is
-at_server server servers.FreeTurn behind tail fits is = apart 1 refl is
-at_server server servers.Reap behind tail fits is = apart 1 refl is
-at_server server servers.Compact behind tail fits is = apart 0 refl is
-at_server server servers.Crash behind tail fits is = apart 1 refl is
-at_server server servers.Restart behind tail fits is = apart 1 refl is
+at_server server (inputs.Arrives message) behind tail fits is = absurd fits
+at_server server inputs.Timeout behind tail fits is = apart 1 refl is
+at_server server inputs.Beat behind tail fits is = apart 1 refl is
+at_server server (inputs.Request request) behind tail fits is = apart 1 refl is
+at_server server (inputs.TakeFrom to) behind tail fits is = apart 1 refl is
+at_server server (inputs.SubmitTo to plan) behind tail fits is = apart 1 refl is
+at_server server (inputs.FinishAt to eval token outcome) behind tail fits is = apart 1 refl is
+at_server server (inputs.NackAt to eval token) behind tail fits is = apart 1 refl is
+at_server server inputs.PlanTurn behind tail fits is = apart 1 refl is
+at_server server (inputs.Lapse eval) behind tail fits is = apart 1 refl is
+at_server server (inputs.Expire node beats) behind tail fits is = apart 1 refl is
+at_server server (inputs.DrainTurn node) behind tail fits is = apart 1 refl is
+at_server server inputs.FreeTurn behind tail fits is = apart 1 refl is
+at_server server inputs.Reap behind tail fits is = apart 1 refl is
+at_server server inputs.Compact behind tail fits is = apart 0 refl is
+at_server server inputs.Crash behind tail fits is = apart 1 refl is
+at_server server inputs.Restart behind tail fits is = apart 1 refl is
 
-at_client : (client : ℕ) (input : clients.Input) (behind tail : List ℕ) → ClientInputHasLine input
+at_client : (client : ℕ) (input : agents.Input) (behind tail : List ℕ) → ClientInputHasLine input
     → event_line (AtClient client input) ++ behind ≡ 110 ∷ 111 ∷ tail → ⊥
-at_client client (clients.Arrives from response) behind tail fits is = absurd fits
-at_client client (clients.RegisterAt server) behind tail fits is = apart 1 refl is
-at_client client (clients.Ping server) behind tail fits is = apart 1 refl is
-at_client client (clients.PullFrom server) behind tail fits is = apart 1 refl is
-at_client client (clients.End id ok) behind tail fits is = apart 1 refl is
-at_client client clients.Crash behind tail fits is = apart 1 refl is
-at_client client clients.Restart behind tail fits is = apart 1 refl is
+at_client client (agents.Arrives from response) behind tail fits is = absurd fits
+at_client client (agents.RegisterAt server) behind tail fits is = apart 1 refl is
+at_client client (agents.Ping server) behind tail fits is = apart 1 refl is
+at_client client (agents.PullFrom server) behind tail fits is = apart 1 refl is
+at_client client (agents.End id ok) behind tail fits is = apart 1 refl is
+at_client client agents.Crash behind tail fits is = apart 1 refl is
+at_client client agents.Restart behind tail fits is = apart 1 refl is
 
 no_node : (event : Event) (behind tail : List ℕ) → HasLine event → event_line event ++ behind ≡ 110 ∷ 111 ∷ tail → ⊥
 no_node (Deliver place) behind tail fits is = apart 1 refl is

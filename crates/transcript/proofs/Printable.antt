@@ -22,8 +22,8 @@ use Rattle.rows.specs.declared.request.OperatorRequest.TheVariants.{PutJob, Stop
 use Rattle.rows.specs.declared.worker.EvalOutcome.{EvalOutcome}
 use Rattle.rows.specs.declared.worker.EvalOutcome.TheVariants.{Blocked, Complete, Failed}
 use Rattle.group_model.specs.Worlds.{Event, Deliver, AtServer, AtClient}
-use Rattle.group_model.specs.Inputs as servers
-use Rattle.group_model.specs.Clients as clients
+use Rattle.group_model.specs.Inputs as inputs
+use Rattle.group_model.specs.Agents as agents
 use Rattle.transcript.specs.EventLines.{ClientInputHasLine, HasLine, ServerFits, ServerInputHasLine, client_text, client_event_words, end_text, event_line, event_words, server_text, server_event_words}
 use Rattle.transcript.specs.Inner.Printable.{IsPrintable}
 use Rattle.transcript.specs.Requests.{RequestFits, drain_text, group_text, groups_text, job_text, mode_text, request_text}
@@ -156,35 +156,35 @@ plan p fits = (eval p.eval fits.0, (token p.token fits.1, (name_printable p.job 
 
 -- ---- events
 
-at_server : (s : ℕ) (input : servers.Input) → ServerFits s → ServerInputHasLine input → ArePrintable (server_event_words s input)
-at_server s (servers.Arrives message) at fits = absurd fits
-at_server s servers.Timeout at fits = (word (codes "timeout") refl, (server s at, tt))
-at_server s servers.Beat at fits = (word (codes "beat") refl, (server s at, tt))
-at_server s (servers.Request r) at fits = (word (codes "request") refl, (server s at, (request r fits, tt)))
-at_server s (servers.TakeFrom to) at fits = (word (codes "take") refl, (server s at, (server to fits, tt)))
-at_server s (servers.SubmitTo to p) at fits = (word (codes "submit") refl, (server s at, (server to fits.0, plan p fits.1)))
-at_server s (servers.FinishAt to e t o) at fits =
+at_server : (s : ℕ) (input : inputs.Input) → ServerFits s → ServerInputHasLine input → ArePrintable (server_event_words s input)
+at_server s (inputs.Arrives message) at fits = absurd fits
+at_server s inputs.Timeout at fits = (word (codes "timeout") refl, (server s at, tt))
+at_server s inputs.Beat at fits = (word (codes "beat") refl, (server s at, tt))
+at_server s (inputs.Request r) at fits = (word (codes "request") refl, (server s at, (request r fits, tt)))
+at_server s (inputs.TakeFrom to) at fits = (word (codes "take") refl, (server s at, (server to fits, tt)))
+at_server s (inputs.SubmitTo to p) at fits = (word (codes "submit") refl, (server s at, (server to fits.0, plan p fits.1)))
+at_server s (inputs.FinishAt to e t o) at fits =
     (word (codes "finish") refl, (server s at, (server to fits.0, (eval e fits.1, (token t fits.2, outcome o fits.3)))))
-at_server s (servers.NackAt to e t) at fits =
+at_server s (inputs.NackAt to e t) at fits =
     (word (codes "nack") refl, (server s at, (server to fits.0, (eval e fits.1, (token t fits.2, tt)))))
-at_server s servers.PlanTurn at fits = (word (codes "plan") refl, (server s at, tt))
-at_server s (servers.Lapse e) at fits = (word (codes "lapse") refl, (server s at, (eval e fits, tt)))
-at_server s (servers.Expire n beats) at fits = (word (codes "expire") refl, (server s at, (node_id n fits.0, (index beats fits.1, tt))))
-at_server s (servers.DrainTurn n) at fits = (word (codes "drain") refl, (server s at, (node_id n fits, tt)))
-at_server s servers.FreeTurn at fits = (word (codes "free") refl, (server s at, tt))
-at_server s servers.Reap at fits = (word (codes "reap") refl, (server s at, tt))
-at_server s servers.Compact at fits = (word (codes "compact") refl, (server s at, tt))
-at_server s servers.Crash at fits = (word (codes "crash") refl, (server s at, tt))
-at_server s servers.Restart at fits = (word (codes "restart") refl, (server s at, tt))
+at_server s inputs.PlanTurn at fits = (word (codes "plan") refl, (server s at, tt))
+at_server s (inputs.Lapse e) at fits = (word (codes "lapse") refl, (server s at, (eval e fits, tt)))
+at_server s (inputs.Expire n beats) at fits = (word (codes "expire") refl, (server s at, (node_id n fits.0, (index beats fits.1, tt))))
+at_server s (inputs.DrainTurn n) at fits = (word (codes "drain") refl, (server s at, (node_id n fits, tt)))
+at_server s inputs.FreeTurn at fits = (word (codes "free") refl, (server s at, tt))
+at_server s inputs.Reap at fits = (word (codes "reap") refl, (server s at, tt))
+at_server s inputs.Compact at fits = (word (codes "compact") refl, (server s at, tt))
+at_server s inputs.Crash at fits = (word (codes "crash") refl, (server s at, tt))
+at_server s inputs.Restart at fits = (word (codes "restart") refl, (server s at, tt))
 
-at_client : (c : ℕ) (input : clients.Input) → NodeIdFits c → ClientInputHasLine input → ArePrintable (client_event_words c input)
-at_client c (clients.Arrives from response) at fits = absurd fits
-at_client c (clients.RegisterAt s) at fits = (word (codes "register") refl, (node_id c at, (server s fits, tt)))
-at_client c (clients.Ping s) at fits = (word (codes "ping") refl, (node_id c at, (server s fits, tt)))
-at_client c (clients.PullFrom s) at fits = (word (codes "pull") refl, (node_id c at, (server s fits, tt)))
-at_client c (clients.End id ok) at fits = (word (codes "end") refl, (node_id c at, (alloc id fits, (ending ok, tt))))
-at_client c clients.Crash at fits = (word (codes "crash") refl, (client c at, tt))
-at_client c clients.Restart at fits = (word (codes "restart") refl, (client c at, tt))
+at_client : (c : ℕ) (input : agents.Input) → NodeIdFits c → ClientInputHasLine input → ArePrintable (client_event_words c input)
+at_client c (agents.Arrives from response) at fits = absurd fits
+at_client c (agents.RegisterAt s) at fits = (word (codes "register") refl, (node_id c at, (server s fits, tt)))
+at_client c (agents.Ping s) at fits = (word (codes "ping") refl, (node_id c at, (server s fits, tt)))
+at_client c (agents.PullFrom s) at fits = (word (codes "pull") refl, (node_id c at, (server s fits, tt)))
+at_client c (agents.End id ok) at fits = (word (codes "end") refl, (node_id c at, (alloc id fits, (ending ok, tt))))
+at_client c agents.Crash at fits = (word (codes "crash") refl, (client c at, tt))
+at_client c agents.Restart at fits = (word (codes "restart") refl, (client c at, tt))
 
 event_words_printable : (event : Event) → HasLine event → ArePrintable (event_words event)
 event_words_printable (Deliver k) fits = (word (codes "deliver") refl, (number _ fits, tt))

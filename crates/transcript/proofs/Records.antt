@@ -7,8 +7,8 @@ use Rattle.rows.specs.Fits.{SizeFits}
 use Rattle.rows.specs.Names.{NameFits}
 use Rattle.rows.specs.declared.node.NodeSpec.{NodeSpec}
 use Rattle.group_model.specs.Worlds.{Event, Deliver, AtServer, AtClient}
-use Rattle.group_model.specs.Inputs as servers
-use Rattle.group_model.specs.Clients as clients
+use Rattle.group_model.specs.Inputs as inputs
+use Rattle.group_model.specs.Agents as agents
 use Rattle.client_agent.specs.AgentView.{AgentView}
 use Rattle.world.specs.GroupClaims.{IsTraced}
 use Rattle.world.specs.GroupView.{node_in}
@@ -54,30 +54,30 @@ numbered k (a ∷ agents) from few places fits =
 
 sayable : (sent : ℕ) (event : Event) → sent < 2 ^ 64 → IsTraced sent event → IsSayable event
 sayable sent (Deliver place) few is = omega arith
-sayable sent (AtServer server (servers.Arrives message)) few is = absurd is
-sayable sent (AtServer server servers.Timeout) few is = tt
-sayable sent (AtServer server servers.Beat) few is = tt
-sayable sent (AtServer server (servers.Request request)) few is = tt
-sayable sent (AtServer server (servers.TakeFrom to)) few is = tt
-sayable sent (AtServer server (servers.SubmitTo to plan)) few is = tt
-sayable sent (AtServer server (servers.FinishAt to eval token outcome)) few is = tt
-sayable sent (AtServer server (servers.NackAt to eval token)) few is = tt
-sayable sent (AtServer server servers.PlanTurn) few is = tt
-sayable sent (AtServer server (servers.Lapse eval)) few is = tt
-sayable sent (AtServer server (servers.Expire node beats)) few is = tt
-sayable sent (AtServer server (servers.DrainTurn node)) few is = tt
-sayable sent (AtServer server servers.FreeTurn) few is = tt
-sayable sent (AtServer server servers.Reap) few is = tt
-sayable sent (AtServer server servers.Compact) few is = tt
-sayable sent (AtServer server servers.Crash) few is = tt
-sayable sent (AtServer server servers.Restart) few is = tt
-sayable sent (AtClient client (clients.Arrives from response)) few is = absurd is
-sayable sent (AtClient client (clients.RegisterAt server)) few is = tt
-sayable sent (AtClient client (clients.Ping server)) few is = tt
-sayable sent (AtClient client (clients.PullFrom server)) few is = tt
-sayable sent (AtClient client (clients.End id ok)) few is = tt
-sayable sent (AtClient client clients.Crash) few is = tt
-sayable sent (AtClient client clients.Restart) few is = tt
+sayable sent (AtServer server (inputs.Arrives message)) few is = absurd is
+sayable sent (AtServer server inputs.Timeout) few is = tt
+sayable sent (AtServer server inputs.Beat) few is = tt
+sayable sent (AtServer server (inputs.Request request)) few is = tt
+sayable sent (AtServer server (inputs.TakeFrom to)) few is = tt
+sayable sent (AtServer server (inputs.SubmitTo to plan)) few is = tt
+sayable sent (AtServer server (inputs.FinishAt to eval token outcome)) few is = tt
+sayable sent (AtServer server (inputs.NackAt to eval token)) few is = tt
+sayable sent (AtServer server inputs.PlanTurn) few is = tt
+sayable sent (AtServer server (inputs.Lapse eval)) few is = tt
+sayable sent (AtServer server (inputs.Expire node beats)) few is = tt
+sayable sent (AtServer server (inputs.DrainTurn node)) few is = tt
+sayable sent (AtServer server inputs.FreeTurn) few is = tt
+sayable sent (AtServer server inputs.Reap) few is = tt
+sayable sent (AtServer server inputs.Compact) few is = tt
+sayable sent (AtServer server inputs.Crash) few is = tt
+sayable sent (AtServer server inputs.Restart) few is = tt
+sayable sent (AtClient client (agents.Arrives from response)) few is = absurd is
+sayable sent (AtClient client (agents.RegisterAt server)) few is = tt
+sayable sent (AtClient client (agents.Ping server)) few is = tt
+sayable sent (AtClient client (agents.PullFrom server)) few is = tt
+sayable sent (AtClient client (agents.End id ok)) few is = tt
+sayable sent (AtClient client agents.Crash) few is = tt
+sayable sent (AtClient client agents.Restart) few is = tt
 
 pub all_sayable : (sent : ℕ) (events : List Event) → sent < 2 ^ 64 → AllByRecursion (IsTraced sent) events → AllByRecursion IsSayable events
 all_sayable sent [] few are = tt

@@ -3,8 +3,8 @@ use Rattle.std.specs.Prelude.{◌≡◌, ◌+◌, ◌<◌, ◌^◌, ℕ, suc, Bo
 use Rattle.std.specs.List.{join_with_byte}
 use Rattle.rows.specs.Fits.{AllocIdFits, EvalIdFits, IndexFits, NodeIdFits, PlanFits, TokenFits}
 use Rattle.group_model.specs.Worlds.{Event, Deliver, AtServer, AtClient}
-use Rattle.group_model.specs.Inputs as servers
-use Rattle.group_model.specs.Clients as clients
+use Rattle.group_model.specs.Inputs as inputs
+use Rattle.group_model.specs.Agents as agents
 use Rattle.world.specs.GroupEvents.{HasInput}
 use Rattle.transcript.specs.Requests.{RequestFits, request_text}
 use Rattle.transcript.specs.WorkerLines.{EndFits, alloc_text, eval_text, token_text, plan_words, outcome_words}
@@ -26,36 +26,36 @@ end_text true = codes "complete"
 end_text false = codes "failed"
 
 -- the words of an input of server s; no line says that a message arrives
-abbrev pub server_event_words : ℕ → servers.Input → List (List ℕ)
-server_event_words s (servers.Arrives message) = []
-server_event_words s servers.Timeout = codes "timeout" ∷ server_text s ∷ []
-server_event_words s servers.Beat = codes "beat" ∷ server_text s ∷ []
-server_event_words s (servers.Request request) = codes "request" ∷ server_text s ∷ request_text request ∷ []
-server_event_words s (servers.TakeFrom to) = codes "take" ∷ server_text s ∷ server_text to ∷ []
-server_event_words s (servers.SubmitTo to plan) = codes "submit" ∷ server_text s ∷ server_text to ∷ plan_words plan
-server_event_words s (servers.FinishAt to eval token outcome) =
+abbrev pub server_event_words : ℕ → inputs.Input → List (List ℕ)
+server_event_words s (inputs.Arrives message) = []
+server_event_words s inputs.Timeout = codes "timeout" ∷ server_text s ∷ []
+server_event_words s inputs.Beat = codes "beat" ∷ server_text s ∷ []
+server_event_words s (inputs.Request request) = codes "request" ∷ server_text s ∷ request_text request ∷ []
+server_event_words s (inputs.TakeFrom to) = codes "take" ∷ server_text s ∷ server_text to ∷ []
+server_event_words s (inputs.SubmitTo to plan) = codes "submit" ∷ server_text s ∷ server_text to ∷ plan_words plan
+server_event_words s (inputs.FinishAt to eval token outcome) =
     codes "finish" ∷ server_text s ∷ server_text to ∷ eval_text eval ∷ token_text token ∷ outcome_words outcome
-server_event_words s (servers.NackAt to eval token) =
+server_event_words s (inputs.NackAt to eval token) =
     codes "nack" ∷ server_text s ∷ server_text to ∷ eval_text eval ∷ token_text token ∷ []
-server_event_words s servers.PlanTurn = codes "plan" ∷ server_text s ∷ []
-server_event_words s (servers.Lapse eval) = codes "lapse" ∷ server_text s ∷ eval_text eval ∷ []
-server_event_words s (servers.Expire node beats) = codes "expire" ∷ server_text s ∷ decimal node ∷ decimal beats ∷ []
-server_event_words s (servers.DrainTurn node) = codes "drain" ∷ server_text s ∷ decimal node ∷ []
-server_event_words s servers.FreeTurn = codes "free" ∷ server_text s ∷ []
-server_event_words s servers.Reap = codes "reap" ∷ server_text s ∷ []
-server_event_words s servers.Compact = codes "compact" ∷ server_text s ∷ []
-server_event_words s servers.Crash = codes "crash" ∷ server_text s ∷ []
-server_event_words s servers.Restart = codes "restart" ∷ server_text s ∷ []
+server_event_words s inputs.PlanTurn = codes "plan" ∷ server_text s ∷ []
+server_event_words s (inputs.Lapse eval) = codes "lapse" ∷ server_text s ∷ eval_text eval ∷ []
+server_event_words s (inputs.Expire node beats) = codes "expire" ∷ server_text s ∷ decimal node ∷ decimal beats ∷ []
+server_event_words s (inputs.DrainTurn node) = codes "drain" ∷ server_text s ∷ decimal node ∷ []
+server_event_words s inputs.FreeTurn = codes "free" ∷ server_text s ∷ []
+server_event_words s inputs.Reap = codes "reap" ∷ server_text s ∷ []
+server_event_words s inputs.Compact = codes "compact" ∷ server_text s ∷ []
+server_event_words s inputs.Crash = codes "crash" ∷ server_text s ∷ []
+server_event_words s inputs.Restart = codes "restart" ∷ server_text s ∷ []
 
 -- the words of an input of client c
-abbrev pub client_event_words : ℕ → clients.Input → List (List ℕ)
-client_event_words c (clients.Arrives from response) = []
-client_event_words c (clients.RegisterAt server) = codes "register" ∷ decimal c ∷ server_text server ∷ []
-client_event_words c (clients.Ping server) = codes "ping" ∷ decimal c ∷ server_text server ∷ []
-client_event_words c (clients.PullFrom server) = codes "pull" ∷ decimal c ∷ server_text server ∷ []
-client_event_words c (clients.End id ok) = codes "end" ∷ decimal c ∷ alloc_text id ∷ end_text ok ∷ []
-client_event_words c clients.Crash = codes "crash" ∷ client_text c ∷ []
-client_event_words c clients.Restart = codes "restart" ∷ client_text c ∷ []
+abbrev pub client_event_words : ℕ → agents.Input → List (List ℕ)
+client_event_words c (agents.Arrives from response) = []
+client_event_words c (agents.RegisterAt server) = codes "register" ∷ decimal c ∷ server_text server ∷ []
+client_event_words c (agents.Ping server) = codes "ping" ∷ decimal c ∷ server_text server ∷ []
+client_event_words c (agents.PullFrom server) = codes "pull" ∷ decimal c ∷ server_text server ∷ []
+client_event_words c (agents.End id ok) = codes "end" ∷ decimal c ∷ alloc_text id ∷ end_text ok ∷ []
+client_event_words c agents.Crash = codes "crash" ∷ client_text c ∷ []
+client_event_words c agents.Restart = codes "restart" ∷ client_text c ∷ []
 
 -- the words of an event's line; messages are numbered from 1 in text, and from 0 here
 abbrev pub event_words : Event → List (List ℕ)
@@ -64,24 +64,24 @@ event_words (AtServer server input) = server_event_words server input
 event_words (AtClient client input) = client_event_words client input
 
 -- a line says such an input: its values are within their limits, and it is no arrival
-abbrev pub ServerInputHasLine : servers.Input → Type 0
-ServerInputHasLine (servers.Arrives message) = ⊥
-ServerInputHasLine (servers.Request request) = RequestFits request
-ServerInputHasLine (servers.TakeFrom to) = ServerFits to
-ServerInputHasLine (servers.SubmitTo to plan) = ServerFits to × PlanFits plan
-ServerInputHasLine (servers.FinishAt to eval token outcome) = ServerFits to × EvalIdFits eval × TokenFits token × EndFits outcome
-ServerInputHasLine (servers.NackAt to eval token) = ServerFits to × EvalIdFits eval × TokenFits token
-ServerInputHasLine (servers.Lapse eval) = EvalIdFits eval
-ServerInputHasLine (servers.Expire node beats) = NodeIdFits node × IndexFits beats
-ServerInputHasLine (servers.DrainTurn node) = NodeIdFits node
+abbrev pub ServerInputHasLine : inputs.Input → Type 0
+ServerInputHasLine (inputs.Arrives message) = ⊥
+ServerInputHasLine (inputs.Request request) = RequestFits request
+ServerInputHasLine (inputs.TakeFrom to) = ServerFits to
+ServerInputHasLine (inputs.SubmitTo to plan) = ServerFits to × PlanFits plan
+ServerInputHasLine (inputs.FinishAt to eval token outcome) = ServerFits to × EvalIdFits eval × TokenFits token × EndFits outcome
+ServerInputHasLine (inputs.NackAt to eval token) = ServerFits to × EvalIdFits eval × TokenFits token
+ServerInputHasLine (inputs.Lapse eval) = EvalIdFits eval
+ServerInputHasLine (inputs.Expire node beats) = NodeIdFits node × IndexFits beats
+ServerInputHasLine (inputs.DrainTurn node) = NodeIdFits node
 ServerInputHasLine _ = Unit {0}
 
-abbrev pub ClientInputHasLine : clients.Input → Type 0
-ClientInputHasLine (clients.Arrives from response) = ⊥
-ClientInputHasLine (clients.RegisterAt server) = ServerFits server
-ClientInputHasLine (clients.Ping server) = ServerFits server
-ClientInputHasLine (clients.PullFrom server) = ServerFits server
-ClientInputHasLine (clients.End id ok) = AllocIdFits id
+abbrev pub ClientInputHasLine : agents.Input → Type 0
+ClientInputHasLine (agents.Arrives from response) = ⊥
+ClientInputHasLine (agents.RegisterAt server) = ServerFits server
+ClientInputHasLine (agents.Ping server) = ServerFits server
+ClientInputHasLine (agents.PullFrom server) = ServerFits server
+ClientInputHasLine (agents.End id ok) = AllocIdFits id
 ClientInputHasLine _ = Unit {0}
 
 -- a line says such an event

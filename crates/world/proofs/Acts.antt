@@ -9,7 +9,7 @@ use Rattle.machine_model.specs.Meaning.{Meaning}
 use Rattle.wire.specs.Messages.{Message as WireMessage}
 use Rattle.wire.specs.Frames.{MessageFits, message_at, message_text}
 use Rattle.raft_model.specs.Messages.{Message}
-use Rattle.raft_model.specs.Servers.{Server, Turn, silent, is_up, crashed, restarted}
+use Rattle.raft_model.specs.Rafts.{Raft, RaftTurn, silent, is_up, crashed, restarted}
 use Rattle.raft_model.specs.Steps.{Input, Arrives, Timeout, Beat, Propose, Compact, Crash, Restart, step}
 use Rattle.raft_model.specs.Worlds.{World, Event, Deliver, TimesOut, Beats, Proposes, Compacts, Crashes, Restarts, Run, IsRestart}
 use Rattle.raft_core.specs.RaftView.{RaftView}
@@ -76,7 +76,7 @@ module _ {S C : Type 0} (m : Meaning S C) (old : WorldView S C) (e : Event C) (i
 
   -- the server of the world, and what the event is for it
   record Scene (w : World C) : Type 0 where
-    server : Server C
+    server : Raft C
     at : slice_get w.servers i ≡ Some server
     represents : Represents m h server
     brings : Brings m old.sent w e i
@@ -97,7 +97,7 @@ module _ {S C : Type 0} (m : Meaning S C) (old : WorldView S C) (e : Event C) (i
   module _ (h2 : RaftView S C) (new : WorldView S C) (servers : new.servers ≡ slice_set old.servers i h2) (same : (h2.me ≡ h.me) × (h2.size ≡ h.size)) where
     taken : PartTaken m h (history_of old) e h2 (history_of new) → Acted m old e (Ok done.Taken) new
     taken p =
-        let move : (w : World C) → RepresentsWorld m old w → (turn : Turn C) × Moved m old new e i h h2 a.reached.numbered a.here servers w turn =
+        let move : (w : World C) → RepresentsWorld m old w → (turn : RaftTurn C) × Moved m old new e i h h2 a.reached.numbered a.here servers w turn =
         λ w st. let c = scene w st in let b = c.brings in let t = p.taken c.server c.represents b.input b.reads in (t.turn, moved m old new e i h h2 a.reached.numbered a.here servers w st c.server b.input c.at b.takes t) in
         let happened = goes_by m old new e i h h2 a.reached.numbered a.here servers p.event p.trace move (λ w st. let q = move w st in let d = q.1 in p.chain q.0.server d.represents) in
         record { ok = happened; err = tt; cause = tt; world = reached_on m old new e happened (numbered_on m old new e i h h2 a.reached.numbered a.here servers same) a.reached }
@@ -107,10 +107,10 @@ module _ {S C : Type 0} (m : Meaning S C) (old : WorldView S C) (e : Event C) (i
         let none : new.sent ≡ old.sent ++ [] = p.sent ∙ sym (append-nil old.sent) in
         let crash : (w : World C) (st : RepresentsWorld m old w) → let c = scene w st in Steps m h c.server Crash h2 old.sent new.sent =
         λ w st. let c = scene w st in let l = p.fell c.server c.represents in record { turn = silent (crashed c.server); step = rw l.0 refl; represents = l.1; sent = record { frames = []; added = none; carry = tt } } in
-        let move : (w : World C) → RepresentsWorld m old w → (turn : Turn C) × Moved m old new (Crashes i) i h h2 a.reached.numbered a.here servers w turn =
+        let move : (w : World C) → RepresentsWorld m old w → (turn : RaftTurn C) × Moved m old new (Crashes i) i h h2 a.reached.numbered a.here servers w turn =
         λ w st. let c = scene w st in let t = crash w st in (t.turn, moved m old new (Crashes i) i h h2 a.reached.numbered a.here servers w st c.server Crash c.at refl t) in
         let happened = goes_by m old new (Crashes i) i h h2 a.reached.numbered a.here servers tt p.trace move (λ w st. omega (arith, p.chain)) in
-        let lacking : (w : World C) (s : Server C) → RepresentsWorld m old w → slice_get w.servers i ≡ Some s → MayWantFor w e s =
+        let lacking : (w : World C) (s : Raft C) → RepresentsWorld m old w → slice_get w.servers i ≡ Some s → MayWantFor w e s =
         λ w s st at. let c = scene w st in let b = c.brings in let is : c.server ≡ s = same_Some c.server s (sym c.at ∙ at) in (b.input, b.is, b.wants s.mode (p.lacks s (subst (λ x. Represents m h x) is c.represents))) in
         record {
           ok = inl (record { who = i; actor = λ w st. a.acts w st.sent; lacking = lacking; happened = happened });
@@ -166,7 +166,7 @@ module _ {S C : Type 0} (m : Meaning S C) (old : WorldView S C) (e : Event C) (i
       addressed past w run Restart came = tt
 
       -- a server refuses what the definitions refuse
-      refuses : (r : Refusal) → ((s : Server C) → Represents m h s → refusal m h.size h.me s (handed_by old.sent e) ≡ Some r) → RefusesEvent m old e r
+      refuses : (r : Refusal) → ((s : Raft C) → Represents m h s → refusal m h.size h.me s (handed_by old.sent e) ≡ Some r) → RefusesEvent m old e r
       refuses r says past w run =
           let c = scene w run.represents in
           let b = c.brings in

@@ -2,7 +2,7 @@
 use Rattle.std.proofs.Common.{◌≡◌, ℕ, zero, suc, ◌+◌, ◌⊎◌, inl, inr, Some, List, [], ◌∷◌, ◌++◌, length, length-append, replicate, refl, sym, ap, ◌∙◌, subst, arith, slice_get}
 use Rattle.std.specs.List.{AllZip}
 use Rattle.machine_model.specs.Meaning.{Meaning}
-use Rattle.raft_model.specs.Servers.{newcomer}
+use Rattle.raft_model.specs.Rafts.{newcomer}
 use Rattle.raft_model.specs.Worlds.{first, start, Run}
 use Rattle.raft_core.specs.RaftView.{RaftView}
 use Rattle.raft_core.specs.Steps.{Represents}

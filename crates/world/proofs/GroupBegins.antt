@@ -8,16 +8,16 @@ use Rattle.rows.specs.declared.node.NodeSpec.{NodeSpec}
 use Rattle.raft_model.specs.Worlds as raft_worlds
 use Rattle.raft_safety.specs.Claims.{IsGreatestCommit}
 use Rattle.cluster_model.specs.ClusterMachine.{cluster_meaning}
-use Rattle.group_model.specs.Clients.{agent_of}
-use Rattle.group_model.specs.Members.{newcomer}
-use Rattle.group_model.specs.Worlds.{agents, first, raft_of, raft_part}
+use Rattle.group_model.specs.Agents.{agent_of}
+use Rattle.group_model.specs.Servers.{newcomer}
+use Rattle.group_model.specs.Worlds.{agents_from, first, raft_of, raft_part}
 use Rattle.group_safety.specs.Claims.{logs}
 use Rattle.group_safety.specs.Limits.{NodesFit, LimitedRun, start}
 use Rattle.group_safety.proofs.Lists.{map_replicate}
 use Rattle.group_frames.specs.GroupFrames.{CarriesGroup}
 use Rattle.client_agent.specs.AgentView.{AgentView}
 use Rattle.server.specs.declared.server.Outbox.{Outbox}
-use Rattle.server.specs.ServerViews.{ServerView, IsMember}
+use Rattle.server.specs.ServerViews.{ServerView, IsServer}
 use Rattle.rows.specs.GroupSizes.{IsGroup}
 use Rattle.world.specs.GroupView.{GroupView, GroupRunsTo, IsGroupWorld, nodes_of, node_in, client_in, renumbered}
 use Rattle.world.specs.GroupSteps.{IsNewGroup}
@@ -32,7 +32,7 @@ use Rattle.world.proofs.Heights.{first_height}
 pub record MadeServers (n made : ℕ) (servers : List ServerView) : Type 0 where
   pub count : length servers ≡ made
   pub places : (i : ℕ) (s : ServerView) → slice_get servers i ≡ Some s → (s.raft.me ≡ i) × (s.raft.size ≡ n)
-  pub newcomers : AllZip IsMember servers (replicate made newcomer)
+  pub newcomers : AllZip IsServer servers (replicate made newcomer)
 
 get_end : {A : Type 0} (xs : List A) (x : A) (j : ℕ) (y : A) → slice_get (xs ++ x ∷ []) j ≡ Some y → (slice_get xs j ≡ Some y) ⊎ ((j ≡ length xs) × (x ≡ y))
 get_end [] x zero y h = inr (refl, cc)
@@ -44,7 +44,7 @@ one_more : {A : Type 0} (k : ℕ) (x : A) → replicate k x ++ x ∷ [] ≡ repl
 one_more zero x = refl
 one_more (suc k) x = ap (λ l. x ∷ l) (one_more k x)
 
-pub server_more : (n made : ℕ) (servers after : List ServerView) (s : ServerView) → MadeServers n made servers → after ≡ servers ++ s ∷ [] → (s.raft.me ≡ made) × (s.raft.size ≡ n) → IsMember s newcomer → MadeServers n (made + 1) after
+pub server_more : (n made : ℕ) (servers after : List ServerView) (s : ServerView) → MadeServers n made servers → after ≡ servers ++ s ∷ [] → (s.raft.me ≡ made) × (s.raft.size ≡ n) → IsServer s newcomer → MadeServers n (made + 1) after
 server_more n made servers after s b pushed is r =
     let next : made + 1 ≡ suc made = omega arith in
     subst (λ l. MadeServers n (made + 1) l) (sym pushed) (record {
@@ -53,8 +53,8 @@ server_more n made servers after s b pushed is r =
         | inl e ↦ b.places j a e
         | inr e ↦ subst (λ (x : ServerView). (x.raft.me ≡ j) × (x.raft.size ≡ n)) e.1 (is.0 ∙ sym (e.0 ∙ b.count), is.1)
       ];
-      newcomers = subst (λ k. AllZip IsMember (servers ++ s ∷ []) (replicate k newcomer)) (sym next)
-          (subst (λ l. AllZip IsMember (servers ++ s ∷ []) l) (one_more made newcomer) (zip_append IsMember servers (replicate made newcomer) (s ∷ []) (newcomer ∷ []) b.newcomers (r, tt)));
+      newcomers = subst (λ k. AllZip IsServer (servers ++ s ∷ []) (replicate k newcomer)) (sym next)
+          (subst (λ l. AllZip IsServer (servers ++ s ∷ []) l) (one_more made newcomer) (zip_append IsServer servers (replicate made newcomer) (s ∷ []) (newcomer ∷ []) b.newcomers (r, tt)));
     })
 
 -- ---- the clients
@@ -83,7 +83,7 @@ agents_nodes n k [] = refl
 agents_nodes n k (node ∷ nodes) = ap (λ l. record node { number = k } ∷ l) (agents_nodes n (suc k) nodes)
 
 -- they are the first clients of these
-agents_clients : (n k : ℕ) (nodes : List NodeSpec) → map client_in (new_agents n k nodes) ≡ agents k (renumbered k nodes)
+agents_clients : (n k : ℕ) (nodes : List NodeSpec) → map client_in (new_agents n k nodes) ≡ agents_from k (renumbered k nodes)
 agents_clients n k [] = refl
 agents_clients n k (node ∷ nodes) = ap (λ l. agent_of (record node { number = k }) ∷ l) (agents_clients n (suc k) nodes)
 
@@ -121,8 +121,8 @@ module _ (n : ℕ) (nodes : List NodeSpec) (view : GroupView) where
     pub few : length nodes ≤ 64
     pub count : length view.servers ≡ n
     pub places : (i : ℕ) (s : ServerView) → slice_get view.servers i ≡ Some s → (s.raft.me ≡ i) × (s.raft.size ≡ n)
-    pub newcomers : AllZip IsMember view.servers (replicate n newcomer)
-    pub agents : view.clients ≡ new_agents n 1 nodes
+    pub newcomers : AllZip IsServer view.servers (replicate n newcomer)
+    pub agents_from : view.clients ≡ new_agents n 1 nodes
     pub outbox : view.outbox ≡ record { frames = []; work = [] }
     pub trace : view.trace ≡ []
     pub chain : view.chain ≡ 0
@@ -142,7 +142,7 @@ module _ (n : ℕ) (nodes : List NodeSpec) (view : GroupView) where
       work = ap (λ (o : Outbox). o.work) m.outbox;
       represents = record {
         servers = m.newcomers;
-        clients = ap (map client_in) m.agents ∙ (agents_clients n 1 nodes ∙ ap (agents 1) (sym nodes_are));
+        clients = ap (map client_in) m.agents ∙ (agents_clients n 1 nodes ∙ ap (agents_from 1) (sym nodes_are));
         sent = subst (λ l. AllZip (CarriesGroup cluster_meaning) l []) (sym (ap (λ (o : Outbox). o.frames) m.outbox)) tt;
       };
     }
@@ -166,15 +166,15 @@ module _ (n : ℕ) (nodes : List NodeSpec) (view : GroupView) where
   }
 
 pub made_group : (n : ℕ) (nodes : List NodeSpec) (servers : List ServerView) (clients : List AgentView) (h : GroupHistoryView) → IsGroup n → length nodes ≤ 64 → length servers ≡ n →
-    ((i : ℕ) (s : ServerView) → slice_get servers i ≡ Some s → (s.raft.me ≡ i) × (s.raft.size ≡ n)) → AllZip IsMember servers (replicate n newcomer) → clients ≡ new_agents n 1 nodes →
+    ((i : ℕ) (s : ServerView) → slice_get servers i ≡ Some s → (s.raft.me ≡ i) × (s.raft.size ≡ n)) → AllZip IsServer servers (replicate n newcomer) → clients ≡ new_agents n 1 nodes →
     h ≡ record { outbox = record { frames = []; work = [] }; trace = []; chain = 0 } → MadeGroup n nodes (record { servers = servers; clients = clients; outbox = h.outbox; trace = h.trace; chain = h.chain })
-made_group n nodes servers clients h size few count places newcomers agents is = record {
+made_group n nodes servers clients h size few count places newcomers agents_from is = record {
   size = size;
   few = few;
   count = count;
   places = places;
   newcomers = newcomers;
-  agents = agents;
+  agents_from = agents_from;
   outbox = ap (λ (x : GroupHistoryView). x.outbox) is;
   trace = ap (λ (x : GroupHistoryView). x.trace) is;
   chain = ap (λ (x : GroupHistoryView). x.chain) is;

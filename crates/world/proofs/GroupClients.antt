@@ -10,12 +10,12 @@ use Rattle.raft_model.specs.Messages.{Message}
 use Rattle.raft_safety.specs.Claims.{IsGreatestCommit}
 use Rattle.raft_safety.proofs.Places.{get_set-cases}
 use Rattle.cluster_model.specs.ClusterMachine.{cluster_meaning}
-use Rattle.group_model.specs.Messages.{GroupMessage, Raft, Service, ServiceMessage, BetweenServers, ToServer, ToClient, ClientResponse, Listing, Told}
-use Rattle.group_model.specs.Inputs as servers
-use Rattle.group_model.specs.Members as members
-use Rattle.group_model.specs.Members.{Member}
-use Rattle.group_model.specs.Clients as clients
-use Rattle.group_model.specs.Clients.{Client, Life}
+use Rattle.group_model.specs.Messages.{GroupMessage, OfLog, Service, ServiceMessage, BetweenServers, ToServer, ToClient, ClientResponse, Listing, Told}
+use Rattle.group_model.specs.Inputs as inputs
+use Rattle.group_model.specs.Servers as servers
+use Rattle.group_model.specs.Servers.{Server}
+use Rattle.group_model.specs.Agents as agents
+use Rattle.group_model.specs.Agents.{Agent, Life}
 use Rattle.group_model.specs.Worlds.{World, Event, Deliver, AtServer, AtClient, happens, after_turn, after_client, input_to, message_to, client_input_to, delivers, delivers_service, own_input, own_client_input, client_at, with_client, raft_of}
 use Rattle.group_safety.specs.Claims.{SendersAreMembers, logs}
 use Rattle.group_safety.specs.Limits.{EventFits, NodesFit, LimitedRun, LimitsAreKept}
@@ -24,7 +24,7 @@ use Rattle.group_safety.proofs.Lists.{get_map, map_get, map_set, set_same}
 use Rattle.group_frames.specs.GroupFrames.{CarriesGroup, SendsGroup}
 use Rattle.client_agent.specs.declared.input.ClientInput.{ClientInput}
 use Rattle.client_agent.specs.AgentView.{AgentView}
-use Rattle.server.specs.ServerViews.{ServerView, IsMember}
+use Rattle.server.specs.ServerViews.{ServerView, IsServer}
 use Rattle.server.specs.declared.server.Outbox.{Outbox}
 use Rattle.actor.specs.Refusals.{RefusedSo, ClientRefuses}
 use Rattle.world.specs.declared.done.Done.{Done}
@@ -41,43 +41,43 @@ use Rattle.world.proofs.GroupServers.{history_of, GroupActed, same_group}
 
 -- ---- no event changes a client's node
 
-abbrev pub node_of : Client → NodeSpec
+abbrev pub node_of : Agent → NodeSpec
 node_of x = x.node
 
-abbrev pub KeepsNode : Client → Result clients.Turn Refusal → Type 0
+abbrev pub KeepsNode : Agent → Result agents.AgentTurn Refusal → Type 0
 KeepsNode c (Ok turn) = turn.client.node ≡ c.node
 KeepsNode c (Err r) = Unit {0}
 
-keeps_if : (c : Client) (b : Bool) (turn : clients.Turn) (r : Refusal) → turn.client.node ≡ c.node → KeepsNode c (cond b (Ok turn) (Err r))
+keeps_if : (c : Agent) (b : Bool) (turn : agents.AgentTurn) (r : Refusal) → turn.client.node ≡ c.node → KeepsNode c (cond b (Ok turn) (Err r))
 keeps_if c true turn r h = h
 keeps_if c false turn r h = tt
 
-node_if : (c : Client) (b : Bool) (x y : clients.Turn) → x.client.node ≡ c.node → y.client.node ≡ c.node → (cond b x y).client.node ≡ c.node
+node_if : (c : Agent) (b : Bool) (x y : agents.AgentTurn) → x.client.node ≡ c.node → y.client.node ≡ c.node → (cond b x y).client.node ≡ c.node
 node_if c true x y h g = h
 node_if c false x y h g = g
 
-response_keeps : (c : Client) (from : ℕ) (l : Life) (response : ClientResponse) → (clients.takes_response c from l response).client.node ≡ c.node
+response_keeps : (c : Agent) (from : ℕ) (l : Life) (response : ClientResponse) → (agents.takes_response c from l response).client.node ≡ c.node
 response_keeps c from l (Listing index rows) = node_if c (nat_lt index l.seen) _ _ refl refl
 response_keeps c from l (Told kind refused) = refl
 
-lives_keep : (n : ℕ) (c : Client) (l : Life) (input : clients.Input) → KeepsNode c (clients.lives n c l input)
-lives_keep n c l (clients.Arrives from response) = response_keeps c from l response
-lives_keep n c l (clients.RegisterAt server) = keeps_if c (nat_lt server n) _ _ refl
-lives_keep n c l (clients.Ping server) = keeps_if c (nat_lt server n) _ _ refl
-lives_keep n c l (clients.PullFrom server) = keeps_if c (nat_lt server n) _ _ refl
-lives_keep n c l (clients.End id ok) = keeps_if c (clients.runs l.running id) _ _ refl
-lives_keep n c l clients.Crash = refl
-lives_keep n c l clients.Restart = tt
+lives_keep : (n : ℕ) (c : Agent) (l : Life) (input : agents.Input) → KeepsNode c (agents.lives n c l input)
+lives_keep n c l (agents.Arrives from response) = response_keeps c from l response
+lives_keep n c l (agents.RegisterAt server) = keeps_if c (nat_lt server n) _ _ refl
+lives_keep n c l (agents.Ping server) = keeps_if c (nat_lt server n) _ _ refl
+lives_keep n c l (agents.PullFrom server) = keeps_if c (nat_lt server n) _ _ refl
+lives_keep n c l (agents.End id ok) = keeps_if c (agents.runs l.running id) _ _ refl
+lives_keep n c l agents.Crash = refl
+lives_keep n c l agents.Restart = tt
 
-wakes_keep : (c : Client) (input : clients.Input) → KeepsNode c (clients.wakes c input)
-wakes_keep c clients.Restart = refl
+wakes_keep : (c : Agent) (input : agents.Input) → KeepsNode c (agents.wakes c input)
+wakes_keep c agents.Restart = refl
 wakes_keep c input = tt
 
-step_keeps : (n : ℕ) (c : Client) (o : Option Life) (input : clients.Input) → KeepsNode c (clients.step_of n c o input)
+step_keeps : (n : ℕ) (c : Agent) (o : Option Life) (input : agents.Input) → KeepsNode c (agents.step_of n c o input)
 step_keeps n c None input = wakes_keep c input
 step_keeps n c (Some l) input = lives_keep n c l input
 
-set_nodes : (cs : List Client) (c : ℕ) (x y : Client) → client_at cs c ≡ Some x → y.node ≡ x.node → map node_of (with_client cs c y) ≡ map node_of cs
+set_nodes : (cs : List Agent) (c : ℕ) (x y : Agent) → client_at cs c ≡ Some x → y.node ≡ x.node → map node_of (with_client cs c y) ≡ map node_of cs
 set_nodes cs zero x y h e = refl
 set_nodes cs (suc k) x y h e = map_set node_of cs k y ∙ (ap (λ v. slice_set (map node_of cs) k v) e ∙ set_same (map node_of cs) k x.node (get_map node_of cs k x h))
 
@@ -86,42 +86,42 @@ module _ (w : World) where
   NodesStay (Ok next) = map node_of next.clients ≡ map node_of w.clients
   NodesStay (Err r) = Unit {0}
 
-  turn_stays : (i : ℕ) (r : Result members.Turn Refusal) → NodesStay (after_turn w i r)
+  turn_stays : (i : ℕ) (r : Result servers.ServerTurn Refusal) → NodesStay (after_turn w i r)
   turn_stays i (Ok turn) = refl
   turn_stays i (Err r) = tt
 
-  input_stays : (i : ℕ) (input : servers.Input) (o : Option Member) → NodesStay (input_to w i input o)
+  input_stays : (i : ℕ) (input : inputs.Input) (o : Option Server) → NodesStay (input_to w i input o)
   input_stays i input None = tt
-  input_stays i input (Some s) = turn_stays i (members.step (length w.servers) i s input)
+  input_stays i input (Some s) = turn_stays i (servers.step (length w.servers) i s input)
 
-  message_stays : (i : ℕ) (message : Message Command) (o : Option Member) → NodesStay (message_to w i message o)
+  message_stays : (i : ℕ) (message : Message Command) (o : Option Server) → NodesStay (message_to w i message o)
   message_stays i message None = tt
-  message_stays i message (Some s) = turn_stays i (members.hears_log (length w.servers) i s message)
+  message_stays i message (Some s) = turn_stays i (servers.takes_log_message (length w.servers) i s message)
 
-  client_turn_stays : (c : ℕ) (x : Client) → client_at w.clients c ≡ Some x → (r : Result clients.Turn Refusal) → KeepsNode x r → NodesStay (after_client w c r)
+  client_turn_stays : (c : ℕ) (x : Agent) → client_at w.clients c ≡ Some x → (r : Result agents.AgentTurn Refusal) → KeepsNode x r → NodesStay (after_client w c r)
   client_turn_stays c x here (Ok turn) h = set_nodes w.clients c x turn.client here h
   client_turn_stays c x here (Err r) h = tt
 
-  client_stays : (c : ℕ) (input : clients.Input) (o : Option Client) → client_at w.clients c ≡ o → NodesStay (client_input_to w c input o)
+  client_stays : (c : ℕ) (input : agents.Input) (o : Option Agent) → client_at w.clients c ≡ o → NodesStay (client_input_to w c input o)
   client_stays c input None here = tt
-  client_stays c input (Some x) here = client_turn_stays c x here (clients.step (length w.servers) x input) (step_keeps (length w.servers) x x.life input)
+  client_stays c input (Some x) here = client_turn_stays c x here (agents.step (length w.servers) x input) (step_keeps (length w.servers) x x.life input)
 
   service_stays : (p : ServiceMessage) → NodesStay (delivers_service w p)
-  service_stays (BetweenServers from to message) = input_stays to (servers.Arrives (BetweenServers from to message)) (slice_get w.servers to)
-  service_stays (ToServer client server request) = input_stays server (servers.Arrives (ToServer client server request)) (slice_get w.servers server)
-  service_stays (ToClient server client response) = client_stays client (clients.Arrives server response) (client_at w.clients client) refl
+  service_stays (BetweenServers from to message) = input_stays to (inputs.Arrives (BetweenServers from to message)) (slice_get w.servers to)
+  service_stays (ToServer client server request) = input_stays server (inputs.Arrives (ToServer client server request)) (slice_get w.servers server)
+  service_stays (ToClient server client response) = client_stays client (agents.Arrives server response) (client_at w.clients client) refl
 
   delivery_stays : (o : Option GroupMessage) → NodesStay (delivers w o)
   delivery_stays None = tt
-  delivery_stays (Some (Raft message)) = message_stays message.to message (slice_get w.servers message.to)
+  delivery_stays (Some (OfLog message)) = message_stays message.to message (slice_get w.servers message.to)
   delivery_stays (Some (Service p)) = service_stays p
 
-  own_stays : (i : ℕ) (input : servers.Input) → NodesStay (own_input w i input)
-  own_stays i (servers.Arrives message) = tt
+  own_stays : (i : ℕ) (input : inputs.Input) → NodesStay (own_input w i input)
+  own_stays i (inputs.Arrives message) = tt
   own_stays i input = input_stays i input (slice_get w.servers i)
 
-  own_client_stays : (c : ℕ) (input : clients.Input) → NodesStay (own_client_input w c input)
-  own_client_stays c (clients.Arrives from response) = tt
+  own_client_stays : (c : ℕ) (input : agents.Input) → NodesStay (own_client_input w c input)
+  own_client_stays c (agents.Arrives from response) = tt
   own_client_stays c input = client_stays c input (client_at w.clients c) refl
 
   event_stays : (e : Event) → NodesStay (happens w e)
@@ -146,13 +146,13 @@ module _ (old new : GroupView) (f : Event) (c p : ℕ) (view after : AgentView) 
     (same : new.servers ≡ old.servers) (changed : new.clients ≡ slice_set old.clients p after) where
   -- what the event makes of a world
   pub record Moved (w : World) : Type 0 where
-    pub turn : clients.Turn
+    pub turn : agents.AgentTurn
     pub happens : happens w f ≡ after_client w c (Ok turn)
     pub client : after.client ≡ turn.client
     pub sent : SendsGroup cluster_meaning old.outbox.frames new.outbox.frames (map Service turn.sent)
     pub work : work_of w f ≡ []
 
-  abbrev pub world_after : (w : World) → clients.Turn → World
+  abbrev pub world_after : (w : World) → agents.AgentTurn → World
   world_after w turn = record w { clients = with_client w.clients c turn.client; sent = w.sent ++ map Service turn.sent }
 
   represents_after : (w : World) → RepresentsGroup old w → (m : Moved w) → RepresentsGroup new (world_after w m.turn)
@@ -160,7 +160,7 @@ module _ (old new : GroupView) (f : Event) (c p : ℕ) (view after : AgentView) 
       let turn = m.turn in
       let s = m.sent in
       record {
-        servers = subst (λ l. AllZip IsMember l w.servers) (sym same) st.servers;
+        servers = subst (λ l. AllZip IsServer l w.servers) (sym same) st.servers;
         clients =
             ap (map client_in) changed
             ∙ (map_set client_in old.clients p after
@@ -207,8 +207,8 @@ module _ (old new : GroupView) (f : Event) (c p : ℕ) (view after : AgentView) 
           );
     }
 
-    knows_place : after.size ≡ view.size → (i : ℕ) (a : AgentView) → slice_get new.clients i ≡ Some a → (a.client.node.number ≡ suc i) × (a.size ≡ length new.servers)
-    knows_place size i a at =
+    knows_number : after.size ≡ view.size → (i : ℕ) (a : AgentView) → slice_get new.clients i ≡ Some a → (a.client.node.number ≡ suc i) × (a.size ≡ length new.servers)
+    knows_number size i a at =
         let there = subst (λ l. slice_get l i ≡ Some a.client.node) nodes_kept (get_map node_in new.clients i a at) in
         let x = map_get node_in old.clients i a.client.node there in
         let n = reached.clients i x.0 x.1 in
@@ -227,7 +227,7 @@ module _ (old new : GroupView) (f : Event) (c p : ℕ) (view after : AgentView) 
           world = q.0;
           runs = q.2;
           servers = subst (λ l. (i : ℕ) (s : ServerView) → slice_get l i ≡ Some s → (s.raft.me ≡ i) × (s.raft.size ≡ length l)) (sym same) reached.servers;
-          clients = knows_place size;
+          clients = knows_number size;
           nodes = subst NodesFit (sym nodes_kept) reached.nodes;
           size = subst IsGroup (sym count_kept) reached.size;
         }
@@ -239,9 +239,9 @@ alive None h = absurd (cc)
 alive (Some l) h = (l, refl)
 
 -- a client that is up crashes
-crashes : (w : World) (c : ℕ) (x : Client) (l : Life) → client_at w.clients c ≡ Some x → x.life ≡ Some l →
-    happens w (AtClient c clients.Crash) ≡ after_client w c (Ok (record { client = record x { life = None }; sent = [] }))
-crashes w c x l here up = ap (λ o. client_input_to w c clients.Crash o) here ∙ ap (λ o. after_client w c (clients.step_of (length w.servers) x o clients.Crash)) up
+crashes : (w : World) (c : ℕ) (x : Agent) (l : Life) → client_at w.clients c ≡ Some x → x.life ≡ Some l →
+    happens w (AtClient c agents.Crash) ≡ after_client w c (Ok (record { client = record x { life = None }; sent = [] }))
+crashes w c x l here up = ap (λ o. client_input_to w c agents.Crash o) here ∙ ap (λ o. after_client w c (agents.step_of (length w.servers) x o agents.Crash)) up
 
 -- ---- where a client stands
 
@@ -258,7 +258,7 @@ client_stands old (suc k) view reached here w st =
     record {
       at = subst (λ l. slice_get l k ≡ Some view.client) st.clients (get_map client_in old.clients k view here);
       number = n.0;
-      size = n.1 ∙ zip_length IsMember old.servers w.servers st.servers;
+      size = n.1 ∙ zip_length IsServer old.servers w.servers st.servers;
     }
 
 -- the client that was taken from its place
@@ -303,7 +303,7 @@ module _ (old : GroupView) (e : Event) (c : ℕ) (view : AgentView) (given : Cli
     senders_in past w r =
         let reached = s.reached in
         let st = r.represents in
-        subst (λ n. SendersIn n w) (zip_length IsMember old.servers w.servers st.servers) (from_members (length old.servers) (nodes_of old) old.trace past w (limited (length old.servers) (nodes_of old) old.trace past w reached.nodes r.run))
+        subst (λ n. SendersIn n w) (zip_length IsServer old.servers w.servers st.servers) (from_members (length old.servers) (nodes_of old) old.trace past w (limited (length old.servers) (nodes_of old) old.trace past w reached.nodes r.run))
 
     refuses : (r : Refusal) → ClientRefuses view given r → RefusesGroupEvent old e r
     refuses r says past w run =
@@ -331,7 +331,7 @@ module _ (old : GroupView) (e : Event) (c : ℕ) (view : AgentView) (given : Cli
 
       fallen : ClientFell view (history_of old) given e c after (history_of new) → GroupActed old e (Ok done.Crashed) new
       fallen t =
-          let crash = AtClient c clients.Crash in
+          let crash = AtClient c agents.Crash in
           let up = alive view.client.life t.crashed.0 in
           let none : new.outbox.frames ≡ old.outbox.frames ++ [] = ap (λ (o : Outbox). o.frames) t.outbox ∙ sym (append-nil old.outbox.frames) in
           let move : (w : World) → RepresentsGroup old w → Moved old new crash c p view after s.reached place here_at same changed w =

@@ -12,15 +12,15 @@ use Rattle.wire.specs.Messages.{Message as WireMessage}
 use Rattle.wire.specs.Frames.{Frame, MessageFits, message_at, message_text}
 use Rattle.wire.specs.declared.body.Body.{Body}
 use Rattle.wire.specs.declared.body.Body.TheVariants as bodies
-use Rattle.raft_model.specs.Servers.{is_up}
+use Rattle.raft_model.specs.Rafts.{is_up}
 use Rattle.raft_core.specs.Refusals.{is_server_of, is_server_at}
 use Rattle.cluster_model.specs.Words.{State}
 use Rattle.cluster_model.specs.ClusterMachine.{cluster_meaning}
-use Rattle.group_model.specs.Messages.{GroupMessage, Raft, Service, ServiceMessage, BetweenServers, ToServer, ToClient, ClientResponse}
-use Rattle.group_model.specs.Inputs as servers
-use Rattle.group_model.specs.Clients as clients
-use Rattle.group_model.specs.Clients.{Client, Life}
-use Rattle.group_model.specs.Members.{Member}
+use Rattle.group_model.specs.Messages.{GroupMessage, OfLog, Service, ServiceMessage, BetweenServers, ToServer, ToClient, ClientResponse}
+use Rattle.group_model.specs.Inputs as inputs
+use Rattle.group_model.specs.Agents as agents
+use Rattle.group_model.specs.Agents.{Agent, Life}
+use Rattle.group_model.specs.Servers.{Server}
 use Rattle.group_model.specs.Worlds.{World, Deliver, AtServer, delivers, delivers_message, message_to, input_to, after_turn, client_input_to, client_at, crash_of_message}
 use Rattle.group_safety.specs.Claims.{IsFromMember}
 use Rattle.group_frames.specs.GroupFrames.{IsGroupFrame, IsServiceFrame, CarriesGroup, service_between, service_receiver, receiver_of}
@@ -29,7 +29,7 @@ use Rattle.client_agent.specs.AgentView.{AgentView}
 use Rattle.client_agent.specs.Refusals.{is_client_at, unreadable_to_client, client_frame_refusal}
 use Rattle.server.specs.ServerViews.{ServerView}
 use Rattle.server.specs.Handings.{FrameBytes, bytes_of}
-use Rattle.server.specs.Turns.{TakesTurn, takes_in}
+use Rattle.server.specs.Steps.{TakesTurn, takes_in}
 use Rattle.server.specs.Refusals.{is_of_group, read_refusal, bytes_refusal}
 use Rattle.world.specs.GroupEvents.{message_work, log_work, input_work, turn_work}
 use Rattle.world.specs.GroupView.{IsSentTo}
@@ -71,7 +71,7 @@ service_sender (ToServer client server request) = actors.Client client
 service_sender (ToClient server client response) = actors.Server server
 
 abbrev sender_of : GroupMessage → Actor
-sender_of (Raft message) = actors.Server message.from
+sender_of (OfLog message) = actors.Server message.from
 sender_of (Service message) = service_sender message
 
 -- a message beside the log's goes from and to whom it says
@@ -104,14 +104,14 @@ record ReadAs (bytes : List ℕ) (x : GroupMessage) : Type 0 where
   to_is : read.to ≡ receiver_of x
 
 sender_in : (n : ℕ) (x : GroupMessage) → IsFromMember n x → is_of_group n (sender_of x) ≡ true
-sender_in n (Raft message) from = lt-ltb message.from n from
+sender_in n (OfLog message) from = lt-ltb message.from n from
 sender_in n (Service (BetweenServers from to message)) inside = lt-ltb from n inside
 sender_in n (Service (ToServer client server request)) inside = refl
 sender_in n (Service (ToClient server client response)) inside = lt-ltb server n inside
 
 module _ (again : (y : WireMessage State Command) → MessageFits cluster_meaning y → message_at cluster_meaning (message_text cluster_meaning y) ≡ Ok y) where
   reads : (bytes : List ℕ) (x : GroupMessage) → IsGroupFrame cluster_meaning bytes x → ReadAs bytes x
-  reads bytes (Raft message) f = record { read = f.read; is = ap (λ t. message_at cluster_meaning t) f.text ∙ again f.read f.fits; from_is = f.means.from; to_is = f.means.to }
+  reads bytes (OfLog message) f = record { read = f.read; is = ap (λ t. message_at cluster_meaning t) f.text ∙ again f.read f.fits; from_is = f.means.from; to_is = f.means.to }
   reads bytes (Service message) f =
       let g = goes f.read.from f.read.to f.read.body message f.means in
       record { read = f.read; is = ap (λ t. message_at cluster_meaning t) f.text ∙ again f.read f.fits; from_is = g.from_is; to_is = g.to_is }
@@ -140,37 +140,37 @@ down_alone false o r none h = (refl, same_Some refusals.Down r h)
 -- ---- what comes to a server
 
 -- in this world the message's coming is that server i takes it
-pub record IsFor (w : World) (i : ℕ) (s : Member) (x : GroupMessage) : Type 0 where
+pub record IsFor (w : World) (i : ℕ) (s : Server) (x : GroupMessage) : Type 0 where
   pub happens : delivers_message w x ≡ after_turn w i (takes_in (length w.servers) i s x)
   pub work : message_work w (Some x) ≡ turn_work (takes_in (length w.servers) i s x)
-  pub crash : crash_of_message (Some x) ≡ Some (AtServer i servers.Crash)
+  pub crash : crash_of_message (Some x) ≡ Some (AtServer i inputs.Crash)
 
-module _ (w : World) (i : ℕ) (s : Member) (here : slice_get w.servers i ≡ Some s) where
-  for_input : (x : ServiceMessage) (j : ℕ) → j ≡ i → delivers_message w (Service x) ≡ input_to w j (servers.Arrives x) (slice_get w.servers j) → message_work w (Some (Service x)) ≡ input_work w j (servers.Arrives x) (slice_get w.servers j) → crash_of_message (Some (Service x)) ≡ Some (AtServer j servers.Crash) → IsFor w i s (Service x)
+module _ (w : World) (i : ℕ) (s : Server) (here : slice_get w.servers i ≡ Some s) where
+  for_input : (x : ServiceMessage) (j : ℕ) → j ≡ i → delivers_message w (Service x) ≡ input_to w j (inputs.Arrives x) (slice_get w.servers j) → message_work w (Some (Service x)) ≡ input_work w j (inputs.Arrives x) (slice_get w.servers j) → crash_of_message (Some (Service x)) ≡ Some (AtServer j inputs.Crash) → IsFor w i s (Service x)
   for_input x j same happens work crash = record {
-    happens = happens ∙ ap (λ k. input_to w k (servers.Arrives x) (slice_get w.servers k)) same ∙ ap (λ o. input_to w i (servers.Arrives x) o) here;
-    work = work ∙ ap (λ k. input_work w k (servers.Arrives x) (slice_get w.servers k)) same ∙ ap (λ o. input_work w i (servers.Arrives x) o) here;
-    crash = crash ∙ ap (λ k. Some (AtServer k servers.Crash)) same;
+    happens = happens ∙ ap (λ k. input_to w k (inputs.Arrives x) (slice_get w.servers k)) same ∙ ap (λ o. input_to w i (inputs.Arrives x) o) here;
+    work = work ∙ ap (λ k. input_work w k (inputs.Arrives x) (slice_get w.servers k)) same ∙ ap (λ o. input_work w i (inputs.Arrives x) o) here;
+    crash = crash ∙ ap (λ k. Some (AtServer k inputs.Crash)) same;
   }
 
   pub is_for : (x : GroupMessage) → receiver_of x ≡ actors.Server i → IsFor w i s x
-  is_for (Raft message) to =
+  is_for (OfLog message) to =
       let same : message.to ≡ i = same_server to in
       record {
         happens = ap (λ k. message_to w k message (slice_get w.servers k)) same ∙ ap (λ o. message_to w i message o) here;
         work = ap (λ k. log_work w k message (slice_get w.servers k)) same ∙ ap (λ o. log_work w i message o) here;
-        crash = ap (λ k. Some (AtServer k servers.Crash)) same;
+        crash = ap (λ k. Some (AtServer k inputs.Crash)) same;
       }
   is_for (Service (BetweenServers from j message)) to = for_input (BetweenServers from j message) j (same_server to) refl refl refl
   is_for (Service (ToServer client j request)) to = for_input (ToServer client j request) j (same_server to) refl refl refl
   is_for (Service (ToClient j client response)) to = absurd (cc to)
 
-pub down_takes : (n i : ℕ) (s : Member) (x : GroupMessage) → is_up s.raft.mode ≡ false → takes_in n i s x ≡ Err refusals.Down
-down_takes n i s (Raft message) down = rw down refl
+pub down_takes : (n i : ℕ) (s : Server) (x : GroupMessage) → is_up s.raft.mode ≡ false → takes_in n i s x ≡ Err refusals.Down
+down_takes n i s (OfLog message) down = rw down refl
 down_takes n i s (Service message) down = rw down refl
 
 pub sent_to_server : ((y : WireMessage State Command) → MessageFits cluster_meaning y → message_at cluster_meaning (message_text cluster_meaning y) ≡ Ok y) →
-    (view : ServerView) (frames : List Frame) (place : ℕ) (w : World) (i : ℕ) (s : Member) → AllZip (CarriesGroup cluster_meaning) frames w.sent → IsSentTo frames place (actors.Server i) →
+    (view : ServerView) (frames : List Frame) (place : ℕ) (w : World) (i : ℕ) (s : Server) → AllZip (CarriesGroup cluster_meaning) frames w.sent → IsSentTo frames place (actors.Server i) →
     view.raft.me ≡ i → view.raft.size ≡ length w.servers → slice_get w.servers i ≡ Some s → ServerTakes view (FrameBytes (bytes_of (slice_get frames place))) w (Deliver place) i s
 sent_to_server again view frames place w i s z sent me size here =
     let c = comes frames place w (actors.Server i) z sent in
@@ -196,12 +196,12 @@ sent_to_server again view frames place w i s z sent me size here =
 -- ---- what comes to a client
 
 pub for_client : (x : GroupMessage) (c : ℕ) → receiver_of x ≡ actors.Client c → (from : ℕ) × (response : ClientResponse) × (x ≡ Service (ToClient from c response))
-for_client (Raft message) c to = absurd (cc to)
+for_client (OfLog message) c to = absurd (cc to)
 for_client (Service (BetweenServers from j message)) c to = absurd (cc to)
 for_client (Service (ToServer client j request)) c to = absurd (cc to)
 for_client (Service (ToClient from client response)) c to = (from, response, ap (λ k. Service (ToClient from k response)) (same_client to))
 
-pub down_hears : (n : ℕ) (c : Client) (life : Option Life) (from : ℕ) (response : ClientResponse) → is_some life ≡ false → clients.step_of n c life (clients.Arrives from response) ≡ Err refusals.Down
+pub down_hears : (n : ℕ) (c : Agent) (life : Option Life) (from : ℕ) (response : ClientResponse) → is_some life ≡ false → agents.step_of n c life (agents.Arrives from response) ≡ Err refusals.Down
 down_hears n c None from response down = refl
 down_hears n c (Some l) from response down = absurd (cc down)
 
@@ -215,9 +215,9 @@ sent_to_client again view frames place w c z sent number size here =
     let q = for_client m.message c m.is_to in
     let at : slice_get w.sent place ≡ Some (Service (ToClient q.0 c q.1)) = m.at ∙ ap (λ x. Some x) q.2 in
     let frame : IsGroupFrame cluster_meaning bytes (Service (ToClient q.0 c q.1)) = subst (λ x. IsGroupFrame cluster_meaning bytes x) q.2 m.bytes in
-    let input : clients.Input = clients.Arrives q.0 q.1 in
+    let input : agents.Input = agents.Arrives q.0 q.1 in
     record {
-      turns = clients.step n view.client input;
+      turns = agents.step n view.client input;
       happens = ap (λ o. delivers w o) at ∙ ap (λ o. client_input_to w c input o) here;
       taken = λ new before after t. turned view w c here size input new before after
           (t input (q.0, q.1, subst (λ k. IsServiceFrame cluster_meaning bytes (ToClient q.0 k q.1)) (sym number) frame, refl));

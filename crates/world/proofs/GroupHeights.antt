@@ -1,11 +1,11 @@
 -- How far a group has committed, from one world to the next.
 use Rattle.std.proofs.Common.{◌≡◌, ℕ, inl, inr, max, Some, List, [], ◌∷◌, ◌++◌, map, refl, sym, ap, ◌∙◌, subst, slice_get, slice_set}
-use Rattle.raft_model.specs.Servers.{Server}
+use Rattle.raft_model.specs.Rafts.{Raft}
 use Rattle.raft_model.specs.Worlds as raft_worlds
 use Rattle.raft_model.specs.Chains.{At}
 use Rattle.raft_safety.specs.Claims.{IsGreatestCommit}
 use Rattle.raft_safety.proofs.Places.{get-more, get-later, get-split, get-one}
-use Rattle.group_model.specs.Members.{Member}
+use Rattle.group_model.specs.Servers.{Server}
 use Rattle.group_model.specs.Worlds.{World, raft_of, raft_part}
 use Rattle.group_safety.specs.Claims.{logs}
 use Rattle.group_safety.proofs.Lists.{get_map, map_set, map_append}
@@ -14,7 +14,7 @@ use Rattle.world.proofs.Heights.{height_next}
 
 -- where the servers stay, so does the height
 module _ {C : Type 0} (past : List (raft_worlds.World C)) (w next : raft_worlds.World C) (height : ℕ) (same : next.servers ≡ w.servers) where
-  was_at : (k j : ℕ) (s : Server C) → At (past ++ w ∷ []) next k j s → (l : ℕ) × At past w l j s
+  was_at : (k j : ℕ) (s : Raft C) → At (past ++ w ∷ []) next k j s → (l : ℕ) × At past w l j s
   was_at k j s at = elim (get-split (past ++ w ∷ []) (next ∷ []) k at.world at.world_is) [
     | inl e ↦ (k, record { world = at.world; world_is = e; here = at.here })
     | inr e ↦
@@ -45,7 +45,7 @@ module _ (past : List World) (w next : World) (height : ℕ) (h : IsGreatestComm
   and_now = sym (map_append raft_of past (w ∷ []))
 
   -- an event that one server takes
-  pub group_height_next : (i : ℕ) (s t : Member) → slice_get w.servers i ≡ Some s → next.servers ≡ slice_set w.servers i t →
+  pub group_height_next : (i : ℕ) (s t : Server) → slice_get w.servers i ≡ Some s → next.servers ≡ slice_set w.servers i t →
       IsGreatestCommit (logs (past ++ w ∷ [])) (raft_of next) (max height (committed t.raft))
   group_height_next i s t here is =
       let turned = ap (λ l. map raft_part l) is ∙ map_set raft_part w.servers i t in

@@ -4,12 +4,12 @@ use Rattle.std.proofs.lemmas.Option.{same_Some}
 use Rattle.std.specs.Result.{result_err}
 use Rattle.rows.specs.declared.refusal.Refusal.{Refusal}
 use Rattle.wire.specs.Frames.{Frame}
-use Rattle.raft_model.specs.Servers.{is_up, silent, restarted}
+use Rattle.raft_model.specs.Rafts.{is_up, silent, restarted}
 use Rattle.raft_model.specs.Steps as raft_steps
 use Rattle.cluster_model.specs.ClusterMachine.{cluster_meaning}
 use Rattle.group_model.specs.Inputs.{Input, Timeout, Beat, Request, TakeFrom, SubmitTo, FinishAt, NackAt, PlanTurn, Lapse, Expire, DrainTurn, FreeTurn, Reap, Compact, Crash, Restart, Act, AskRestart, asks}
-use Rattle.group_model.specs.Members.{Member, Turn, acts, wakes, logged, done, step}
-use Rattle.group_model.specs.Clients as clients
+use Rattle.group_model.specs.Servers.{Server, ServerTurn, acts, wakes, logged, done, step}
+use Rattle.group_model.specs.Agents as agents
 use Rattle.group_model.specs.Worlds.{World, AtServer, AtClient, IsRestart, own_input, takes_input, input_to, own_client_input, client_takes, client_input_to, client_at}
 use Rattle.client_agent.specs.declared.input.ClientInput.{ClientInput}
 use Rattle.client_agent.specs.declared.input.ClientInput.TheVariants as client_inputs
@@ -21,58 +21,58 @@ use Rattle.server.specs.declared.server_input.ServerInput.{ServerInput}
 use Rattle.server.specs.declared.server_input.ServerInput.TheVariants as inputs
 use Rattle.server.specs.ServerViews.{ServerView}
 use Rattle.server.specs.Handings.{OwnInput, handing}
-use Rattle.server.specs.Turns.{TakesTurn}
+use Rattle.server.specs.Steps.{TakesTurn}
 use Rattle.server.specs.Refusals.{MayTakeMemory, refusal_in}
 use Rattle.actor.specs.Handed.{comes_as_frame, is_client_frame, restarts_server}
 use Rattle.world.specs.GroupEvents.{server_input, client_input, input_work}
 use Rattle.world.specs.GroupSteps.{RunsThere, MayWantAt}
 use Rattle.world.proofs.GroupScenes.{ServerTakes, ClientTurned, ClientTakes}
 
-refusal_is : (q : Result Turn Refusal) (r : Refusal) → refusal_in q ≡ Some r → q ≡ Err r
+refusal_is : (q : Result ServerTurn Refusal) (r : Refusal) → refusal_in q ≡ Some r → q ≡ Err r
 refusal_is (Ok turn) r h = absurd (cc)
 refusal_is (Err e) r h = let same : e ≡ r = cc in ap (λ x. Err x) same
 
-client_refusal_is : (q : Result clients.Turn Refusal) (r : Refusal) → result_err q ≡ Some r → q ≡ Err r
+client_refusal_is : (q : Result agents.AgentTurn Refusal) (r : Refusal) → result_err q ≡ Some r → q ≡ Err r
 client_refusal_is (Ok turn) r h = absurd (cc)
 client_refusal_is (Err e) r h = let same : e ≡ r = cc in ap (λ x. Err x) same
 
 -- ---- servers
 
 -- a restart of one that is down is taken
-pub woken : (n i : ℕ) (s : Member) → is_up s.raft.mode ≡ false → (turn : Turn) × (step n i s Restart ≡ Ok turn)
+pub woken : (n i : ℕ) (s : Server) → is_up s.raft.mode ≡ false → (turn : ServerTurn) × (step n i s Restart ≡ Ok turn)
 woken n i s down =
     let act : Act = asks AskRestart s.desk in
     let asked : step n i s Restart ≡ logged s act (raft_steps.step cluster_meaning n i s.raft raft_steps.Restart) = ap (λ b. done n i s (if b then acts n i s Restart else wakes s Restart)) down in
     let taken : raft_steps.step cluster_meaning n i s.raft raft_steps.Restart ≡ Ok (silent (restarted s.raft)) = rw down refl in
     (_, asked ∙ ap (λ q. logged s act q) taken)
 
-module _ (view : ServerView) (w : World) (i : ℕ) (s : Member) (me : view.raft.me ≡ i) (size : view.raft.size ≡ length w.servers) (here : slice_get w.servers i ≡ Some s) where
+module _ (view : ServerView) (w : World) (i : ℕ) (s : Server) (me : view.raft.me ≡ i) (size : view.raft.size ≡ length w.servers) (here : slice_get w.servers i ≡ Some s) where
   same_turn : (input : Input) (new : ServerView) (before after : Outbox) → TakesTurn (step view.raft.size view.raft.me s input) new before after → TakesTurn (step (length w.servers) i s input) new before after
   same_turn input new before after t =
       subst (λ m. TakesTurn (step (length w.servers) m s input) new before after) me
       (subst (λ n. TakesTurn (step n view.raft.me s input) new before after) size t)
 
-  same_member : (input : Input) → MayTakeMemory (length w.servers) s input → (t : Member) → slice_get w.servers i ≡ Some t → MayTakeMemory (length w.servers) t input
-  same_member input may t there = subst (λ x. MayTakeMemory (length w.servers) x input) (same_Some s t (sym here ∙ there)) may
+  same_server : (input : Input) → MayTakeMemory (length w.servers) s input → (t : Server) → slice_get w.servers i ≡ Some t → MayTakeMemory (length w.servers) t input
+  same_server input may t there = subst (λ x. MayTakeMemory (length w.servers) x input) (same_Some s t (sym here ∙ there)) may
 
   -- an input that is no arrival
-  own : (input : Input) → own_input w i input ≡ takes_input w i input → (((t : Member) → slice_get w.servers i ≡ Some t → MayTakeMemory (length w.servers) t input) → MayWantAt w (AtServer i input)) →
+  own : (input : Input) → own_input w i input ≡ takes_input w i input → (((t : Server) → slice_get w.servers i ≡ Some t → MayTakeMemory (length w.servers) t input) → MayWantAt w (AtServer i input)) →
       (restarts_server (OwnInput input) ≡ true → IsRestart (AtServer i input)) →
-      (restarts_server (OwnInput input) ≡ true → is_up s.raft.mode ≡ false → (turn : Turn) × (step (length w.servers) i s input ≡ Ok turn)) → ServerTakes view (OwnInput input) w (AtServer i input) i s
+      (restarts_server (OwnInput input) ≡ true → is_up s.raft.mode ≡ false → (turn : ServerTurn) × (step (length w.servers) i s input ≡ Ok turn)) → ServerTakes view (OwnInput input) w (AtServer i input) i s
   own input is wants starts rises = record {
     turns = step (length w.servers) i s input;
     happens = is ∙ ap (λ o. input_to w i input o) here;
     taken = same_turn input;
     work = ap (λ o. input_work w i input o) here;
     crash = refl;
-    wants = λ may. wants (same_member input may);
+    wants = λ may. wants (same_server input may);
     refuses = λ senders r h. refusal_is (step (length w.servers) i s input) r h;
     restart = starts;
     wakes = rises;
   }
 
   -- and no restart
-  plain : (input : Input) → own_input w i input ≡ takes_input w i input → (((t : Member) → slice_get w.servers i ≡ Some t → MayTakeMemory (length w.servers) t input) → MayWantAt w (AtServer i input)) →
+  plain : (input : Input) → own_input w i input ≡ takes_input w i input → (((t : Server) → slice_get w.servers i ≡ Some t → MayTakeMemory (length w.servers) t input) → MayWantAt w (AtServer i input)) →
       restarts_server (OwnInput input) ≡ false → ServerTakes view (OwnInput input) w (AtServer i input) i s
   plain input is wants other = own input is wants (λ so. absurd (cc)) (λ so. absurd (cc))
 
@@ -95,41 +95,41 @@ module _ (view : ServerView) (w : World) (i : ℕ) (s : Member) (me : view.raft.
   by_input inputs.Crash other = plain Crash refl (λ may. may) refl
   by_input inputs.Restart other = own Restart refl (λ may. may) (λ so. tt) (λ so down. woken (length w.servers) i s down)
 
-pub own_server : (view : ServerView) (given : ServerInput) (w : World) (i : ℕ) (s : Member) → view.raft.me ≡ i → view.raft.size ≡ length w.servers → slice_get w.servers i ≡ Some s → comes_as_frame (handing given) ≡ false →
+pub own_server : (view : ServerView) (given : ServerInput) (w : World) (i : ℕ) (s : Server) → view.raft.me ≡ i → view.raft.size ≡ length w.servers → slice_get w.servers i ≡ Some s → comes_as_frame (handing given) ≡ false →
     ServerTakes view (handing given) w (AtServer i (server_input (handing given))) i s
 own_server view given w i s me size here other = by_input view w i s me size here given other
 
 -- ---- clients
 
 module _ (view : AgentView) (w : World) (c : ℕ) (here : client_at w.clients c ≡ Some view.client) (size : view.size ≡ length w.servers) where
-  pub turned : (input : clients.Input) (new : AgentView) (before after : List Frame) → AgentSteps view input new before after → ClientTurned (clients.step (length w.servers) view.client input) new before after
+  pub turned : (input : agents.Input) (new : AgentView) (before after : List Frame) → AgentSteps view input new before after → ClientTurned (agents.step (length w.servers) view.client input) new before after
   turned input new before after t = record {
     turn = t.turn;
-    is = subst (λ n. clients.step n view.client input ≡ Ok t.turn) size t.step;
+    is = subst (λ n. agents.step n view.client input ≡ Ok t.turn) size t.step;
     client = t.client;
     sent = t.sent;
   }
 
-  own_of : (given : ClientInput) (input : clients.Input) → own_client_input w c input ≡ client_takes w c input → ((new : AgentView) (before after : List Frame) → AgentTakes view given new before after → AgentSteps view input new before after) →
-      agent_refusal view.size view.client given ≡ result_err (clients.step view.size view.client input) → (AgentMayLack view.size view.client given → MayWantAt w (AtClient c input)) → ClientTakes view given w (AtClient c input) c
+  own_of : (given : ClientInput) (input : agents.Input) → own_client_input w c input ≡ client_takes w c input → ((new : AgentView) (before after : List Frame) → AgentTakes view given new before after → AgentSteps view input new before after) →
+      agent_refusal view.size view.client given ≡ result_err (agents.step view.size view.client input) → (AgentMayLack view.size view.client given → MayWantAt w (AtClient c input)) → ClientTakes view given w (AtClient c input) c
   own_of given input is steps says wants = record {
-    turns = clients.step (length w.servers) view.client input;
+    turns = agents.step (length w.servers) view.client input;
     happens = is ∙ ap (λ o. client_input_to w c input o) here;
     taken = λ new before after t. turned input new before after (steps new before after t);
     work = refl;
     crash = refl;
     wants = wants;
-    refuses = λ senders r h. client_refusal_is (clients.step (length w.servers) view.client input) r (subst (λ n. result_err (clients.step n view.client input) ≡ Some r) size (sym says ∙ h));
+    refuses = λ senders r h. client_refusal_is (agents.step (length w.servers) view.client input) r (subst (λ n. result_err (agents.step n view.client input) ≡ Some r) size (sym says ∙ h));
   }
 
   by_client_input : (given : ClientInput) → is_client_frame given ≡ false → ClientTakes view given w (AtClient c (client_input given)) c
   by_client_input (client_inputs.Frame bytes) other = absurd (cc)
-  by_client_input (client_inputs.Register server) other = own_of (client_inputs.Register server) (clients.RegisterAt server) refl (λ new before after t. t (clients.RegisterAt server) refl) refl (λ may. rw size at may.1)
-  by_client_input (client_inputs.Ping server) other = own_of (client_inputs.Ping server) (clients.Ping server) refl (λ new before after t. t (clients.Ping server) refl) refl (λ may. rw size at may.1)
-  by_client_input (client_inputs.Pull server) other = own_of (client_inputs.Pull server) (clients.PullFrom server) refl (λ new before after t. t (clients.PullFrom server) refl) refl (λ may. rw size at may.1)
-  by_client_input (client_inputs.End id ok) other = own_of (client_inputs.End id ok) (clients.End id ok) refl (λ new before after t. t (clients.End id ok) refl) refl (λ may. subst (λ o. RunsThere o id) (sym here) may)
-  by_client_input client_inputs.Crash other = own_of client_inputs.Crash clients.Crash refl (λ new before after t. t clients.Crash refl) refl (λ may. may)
-  by_client_input client_inputs.Restart other = own_of client_inputs.Restart clients.Restart refl (λ new before after t. t clients.Restart refl) refl (λ may. may)
+  by_client_input (client_inputs.Register server) other = own_of (client_inputs.Register server) (agents.RegisterAt server) refl (λ new before after t. t (agents.RegisterAt server) refl) refl (λ may. rw size at may.1)
+  by_client_input (client_inputs.Ping server) other = own_of (client_inputs.Ping server) (agents.Ping server) refl (λ new before after t. t (agents.Ping server) refl) refl (λ may. rw size at may.1)
+  by_client_input (client_inputs.Pull server) other = own_of (client_inputs.Pull server) (agents.PullFrom server) refl (λ new before after t. t (agents.PullFrom server) refl) refl (λ may. rw size at may.1)
+  by_client_input (client_inputs.End id ok) other = own_of (client_inputs.End id ok) (agents.End id ok) refl (λ new before after t. t (agents.End id ok) refl) refl (λ may. subst (λ o. RunsThere o id) (sym here) may)
+  by_client_input client_inputs.Crash other = own_of client_inputs.Crash agents.Crash refl (λ new before after t. t agents.Crash refl) refl (λ may. may)
+  by_client_input client_inputs.Restart other = own_of client_inputs.Restart agents.Restart refl (λ new before after t. t agents.Restart refl) refl (λ may. may)
 
 pub own_client : (view : AgentView) (given : ClientInput) (w : World) (c : ℕ) → client_at w.clients c ≡ Some view.client → view.size ≡ length w.servers → is_client_frame given ≡ false →
     ClientTakes view given w (AtClient c (client_input given)) c

@@ -8,22 +8,22 @@ use Rattle.rows.specs.declared.refusal.Refusal.{Refusal}
 use Rattle.rows.specs.declared.refusal.Refusal.TheVariants as refusals
 use Rattle.wire.specs.Messages.{Message as WireMessage}
 use Rattle.wire.specs.Frames.{MessageFits, message_at, message_text}
-use Rattle.raft_model.specs.Servers.{is_up, silent, crashed}
+use Rattle.raft_model.specs.Rafts.{is_up, silent, crashed}
 use Rattle.raft_model.specs.Steps.{Crash as LogCrash, step as log_step}
 use Rattle.raft_safety.specs.Claims.{IsGreatestCommit}
 use Rattle.raft_safety.proofs.Places.{get_set-cases, set-length}
 use Rattle.cluster_model.specs.Words.{State}
 use Rattle.cluster_model.specs.ClusterMachine.{cluster_meaning}
 use Rattle.group_model.specs.Inputs.{Crash, Restart, AskCrash, asks}
-use Rattle.group_model.specs.Members.{Member, Turn, acts, wakes, done as turn_of, logged, step}
+use Rattle.group_model.specs.Servers.{Server, ServerTurn, acts, wakes, done as turn_of, logged, step}
 use Rattle.group_model.specs.Worlds.{World, Event, Deliver, AtServer, Run, happens, after_turn, input_to, raft_of}
 use Rattle.group_safety.specs.Claims.{SendersAreMembers, logs}
 use Rattle.group_safety.specs.Limits.{InputFits, EventFits, NodesFit, LimitedRun, more, LimitsAreKept}
 use Rattle.group_safety.proofs.Lists.{set_same}
 use Rattle.group_frames.specs.GroupFrames.{CarriesGroup, SendsGroup}
 use Rattle.server.specs.declared.server.Outbox.{Outbox}
-use Rattle.server.specs.ServerViews.{ServerView, IsMember, SameMember, crashed_member}
-use Rattle.server.proofs.Members.{same_is}
+use Rattle.server.specs.ServerViews.{ServerView, IsServer, SameServer, crashed_server}
+use Rattle.server.proofs.Servers.{same_is}
 use Rattle.server.specs.declared.server_input.ServerInput.{ServerInput}
 use Rattle.server.specs.Handings.{Handing, FrameBytes, OwnInput, handing, bytes_of}
 use Rattle.server.specs.Refusals.{MayLackMemory, handing_refusal}
@@ -31,7 +31,7 @@ use Rattle.world.specs.declared.done.Done.{Done}
 use Rattle.world.specs.declared.done.Done.TheVariants as done
 use Rattle.rows.specs.GroupSizes.{IsGroup}
 use Rattle.world.specs.GroupEvents.{server_input, work_of, input_work, turn_work}
-use Rattle.world.specs.GroupView.{GroupView, RepresentsGroup, GroupRunsTo, IsGroupWorld, IsSentTo, ServersKnowPlaces, ClientsKnowPlaces, nodes_of, node_in, client_in}
+use Rattle.world.specs.GroupView.{GroupView, RepresentsGroup, GroupRunsTo, IsGroupWorld, IsSentTo, ServersKnowNumbers, ClientsKnowNumbers, nodes_of, node_in, client_in}
 use Rattle.world.specs.GroupSteps.{GroupEventHappened, SameView, RefusesGroupEvent, IsGroupAwake, MayWantAt}
 use Rattle.world.specs.Inner.Inputs.{committed}
 use Rattle.actor.specs.Handed.{comes_as_frame, restarts_server}
@@ -53,43 +53,43 @@ pub record GroupActed (old : GroupView) (e : Event) (result : Result Done Refusa
   pub world : IsGroupWorld new
 
 -- a server that is down may want memory to start again
-restart_lacks : (n : ℕ) (s : Member) (h : Handing) → restarts_server h ≡ true → is_up s.raft.mode ≡ false → MayLackMemory n s h
+restart_lacks : (n : ℕ) (s : Server) (h : Handing) → restarts_server h ≡ true → is_up s.raft.mode ≡ false → MayLackMemory n s h
 restart_lacks n s (FrameBytes bytes) so down = absurd (cc)
 restart_lacks n s (OwnInput Restart) so down = down
 restart_lacks n s (OwnInput x) so down = absurd (cc)
 
 -- ---- a group in which nothing happened
 
-same_members : (xs : List ServerView) → AllZip SameMember xs xs
-same_members [] = tt
-same_members (x ∷ xs) = (record { raft = record { me = refl; size = refl; base = refl; server = refl }; desk = refl }, same_members xs)
+same_servers : (xs : List ServerView) → AllZip SameServer xs xs
+same_servers [] = tt
+same_servers (x ∷ xs) = (record { raft = record { me = refl; size = refl; base = refl; server = refl }; desk = refl }, same_servers xs)
 
-set_same_member : (xs : List ServerView) (i : ℕ) (x y : ServerView) → slice_get xs i ≡ Some x → SameMember x y → AllZip SameMember xs (slice_set xs i y)
-set_same_member xs i x y here same = subst (λ l. AllZip SameMember l (slice_set xs i y)) (set_same xs i x here) (zip_set SameMember xs xs i x y (same_members xs) same)
+set_same_server : (xs : List ServerView) (i : ℕ) (x y : ServerView) → slice_get xs i ≡ Some x → SameServer x y → AllZip SameServer xs (slice_set xs i y)
+set_same_server xs i x y here same = subst (λ l. AllZip SameServer l (slice_set xs i y)) (set_same xs i x here) (zip_set SameServer xs xs i x y (same_servers xs) same)
 
-members_on : (xs ys : List ServerView) (ss : List Member) → AllZip SameMember xs ys → AllZip IsMember xs ss → AllZip IsMember ys ss
-members_on [] [] ss same r = r
-members_on [] (y ∷ ys) ss same r = absurd same
-members_on (x ∷ xs) [] ss same r = absurd same
-members_on (x ∷ xs) (y ∷ ys) [] same r = absurd r
-members_on (x ∷ xs) (y ∷ ys) (s ∷ ss) same r =
+servers_on : (xs ys : List ServerView) (ss : List Server) → AllZip SameServer xs ys → AllZip IsServer xs ss → AllZip IsServer ys ss
+servers_on [] [] ss same r = r
+servers_on [] (y ∷ ys) ss same r = absurd same
+servers_on (x ∷ xs) [] ss same r = absurd same
+servers_on (x ∷ xs) (y ∷ ys) [] same r = absurd r
+servers_on (x ∷ xs) (y ∷ ys) (s ∷ ss) same r =
     let one = same.0 in
     let is = r.0 in
-    (same_is x y s one is, members_on xs ys ss same.1 r.1)
+    (same_is x y s one is, servers_on xs ys ss same.1 r.1)
 
 pub same_group : (view : GroupView) → SameView view view
-same_group view = record { servers = same_members view.servers; clients = refl; outbox = refl; trace = refl; chain = refl }
+same_group view = record { servers = same_servers view.servers; clients = refl; outbox = refl; trace = refl; chain = refl }
 
 module _ (old new : GroupView) (same : SameView old new) where
   pub same_group_count : length new.servers ≡ length old.servers
-  same_group_count = sym (zip_length SameMember old.servers new.servers same.servers)
+  same_group_count = sym (zip_length SameServer old.servers new.servers same.servers)
 
   pub same_group_nodes : nodes_of new ≡ nodes_of old
   same_group_nodes = ap (λ l. map node_in l) same.clients
 
   pub same_group_represents : (w : World) → RepresentsGroup old w → RepresentsGroup new w
   same_group_represents w st = record {
-    servers = members_on old.servers new.servers w.servers same.servers st.servers;
+    servers = servers_on old.servers new.servers w.servers same.servers st.servers;
     clients = ap (λ l. map client_in l) same.clients ∙ st.clients;
     sent = subst (λ (o : Outbox). AllZip (CarriesGroup cluster_meaning) o.frames w.sent) (sym same.outbox) st.sent;
   }
@@ -104,15 +104,15 @@ module _ (old new : GroupView) (same : SameView old new) where
     chain = subst (λ c. IsGreatestCommit (logs past) (raft_of w) c) (sym same.chain) r.chain;
   }
 
-  same_servers_know : ServersKnowPlaces old → ServersKnowPlaces new
+  same_servers_know : ServersKnowNumbers old → ServersKnowNumbers new
   same_servers_know know i s at =
-      let x = zip_from SameMember old.servers new.servers i s same.servers at in
+      let x = zip_from SameServer old.servers new.servers i s same.servers at in
       let one = x.2 in
       let raft = one.raft in
       let n = know i x.0 x.1 in
       (raft.me ∙ n.0, raft.size ∙ n.1 ∙ sym same_group_count)
 
-  same_clients_know : ClientsKnowPlaces old → ClientsKnowPlaces new
+  same_clients_know : ClientsKnowNumbers old → ClientsKnowNumbers new
   same_clients_know know i a at =
       let n = know i a (subst (λ l. slice_get l i ≡ Some a) same.clients at) in
       (n.0, n.1 ∙ sym same_group_count)
@@ -129,7 +129,7 @@ module _ (old new : GroupView) (same : SameView old new) where
   }
 
 -- what a value that was reached goes to is reached
-pub group_reached_on : (old new : GroupView) (e : Event) → GroupEventHappened old e new → ServersKnowPlaces new → ClientsKnowPlaces new → IsGroupWorld old → IsGroupWorld new
+pub group_reached_on : (old new : GroupView) (e : Event) → GroupEventHappened old e new → ServersKnowNumbers new → ClientsKnowNumbers new → IsGroupWorld old → IsGroupWorld new
 group_reached_on old new e g servers clients r =
     let q = g.runs r.past r.world r.runs in
     record {
@@ -144,7 +144,7 @@ group_reached_on old new e g servers clients r =
 
 -- ---- a server's turn
 
-crash_turn : (n i : ℕ) (s : Member) → is_up s.raft.mode ≡ true → step n i s Crash ≡ Ok (record { member = crashed_member s; sent = []; work = [] })
+crash_turn : (n i : ℕ) (s : Server) → is_up s.raft.mode ≡ true → step n i s Crash ≡ Ok (record { server = crashed_server s; sent = []; work = [] })
 crash_turn n i s up =
     let crash : log_step cluster_meaning n i s.raft LogCrash ≡ Ok (silent (crashed s.raft)) = rw up refl in
     ap (λ b. turn_of n i s (if b then acts n i s Crash else wakes s Crash)) up ∙ ap (λ r. logged s (asks AskCrash s.desk) r) crash
@@ -155,11 +155,11 @@ module _ (old new : GroupView) (e : Event) (i : ℕ) (view after : ServerView)
     (servers : new.servers ≡ slice_set old.servers i after) (clients : new.clients ≡ old.clients) where
   -- the turn that the event is in this world
   record ServerMoved (w : World) : Type 0 where
-    before : Member
-    turn : Turn
+    before : Server
+    turn : ServerTurn
     at : slice_get w.servers i ≡ Some before
     happens : happens w e ≡ after_turn w i (Ok turn)
-    member : IsMember after turn.member
+    server : IsServer after turn.server
     sent : SendsGroup cluster_meaning old.outbox.frames new.outbox.frames turn.sent
     work : new.outbox.work ≡ old.outbox.work ++ work_of w e
 
@@ -169,26 +169,26 @@ module _ (old new : GroupView) (e : Event) (i : ℕ) (view after : ServerView)
   nodes_kept : nodes_of new ≡ nodes_of old
   nodes_kept = ap (λ l. map node_in l) clients
 
-  abbrev next_of : World → Turn → World
-  next_of w turn = record w { servers = slice_set w.servers i turn.member; sent = w.sent ++ turn.sent }
+  abbrev next_of : World → ServerTurn → World
+  next_of w turn = record w { servers = slice_set w.servers i turn.server; sent = w.sent ++ turn.sent }
 
   moved_represents : (w : World) → RepresentsGroup old w → (m : ServerMoved w) → RepresentsGroup new (next_of w m.turn)
   moved_represents w st m =
       let turn = m.turn in
       let sent = m.sent in
       record {
-        servers = subst (λ l. AllZip IsMember l (slice_set w.servers i turn.member)) (sym servers) (zip_set IsMember old.servers w.servers i after turn.member st.servers m.member);
+        servers = subst (λ l. AllZip IsServer l (slice_set w.servers i turn.server)) (sym servers) (zip_set IsServer old.servers w.servers i after turn.server st.servers m.server);
         clients = ap (λ l. map client_in l) clients ∙ st.clients;
         sent = subst (λ l. AllZip (CarriesGroup cluster_meaning) l (w.sent ++ turn.sent)) (sym sent.added) (zip_append (CarriesGroup cluster_meaning) old.outbox.frames w.sent sent.frames turn.sent st.sent sent.carry);
       }
 
   moved_runs : EventFits e → new.trace ≡ old.trace ++ e ∷ [] → (past : List World) (w : World) → (r : GroupRunsTo old past w) → (m : ServerMoved w) →
-      let turn = m.turn in new.chain ≡ max old.chain (committed turn.member.raft) → GroupRunsTo new (past ++ w ∷ []) (next_of w m.turn)
+      let turn = m.turn in new.chain ≡ max old.chain (committed turn.server.raft) → GroupRunsTo new (past ++ w ∷ []) (next_of w m.turn)
   moved_runs fits trace past w r m chain =
       let turn = m.turn in
       let next = next_of w turn in
       let run : LimitedRun (length old.servers) (nodes_of old) (old.trace ++ e ∷ []) (past ++ w ∷ []) next = more e next r.run fits m.happens in
-      let height = group_height_next past w next old.chain r.chain i m.before turn.member m.at refl in
+      let height = group_height_next past w next old.chain r.chain i m.before turn.server m.at refl in
       record {
         run =
             subst (λ n. LimitedRun n (nodes_of new) new.trace (past ++ w ∷ []) next) (sym count_kept)
@@ -199,7 +199,7 @@ module _ (old new : GroupView) (e : Event) (i : ℕ) (view after : ServerView)
       }
 
   moved_on : EventFits e → new.trace ≡ old.trace ++ e ∷ [] → (move : (w : World) → RepresentsGroup old w → ServerMoved w) →
-      ((w : World) (st : RepresentsGroup old w) → let m = move w st in let turn = m.turn in new.chain ≡ max old.chain (committed turn.member.raft)) → GroupEventHappened old e new
+      ((w : World) (st : RepresentsGroup old w) → let m = move w st in let turn = m.turn in new.chain ≡ max old.chain (committed turn.server.raft)) → GroupEventHappened old e new
   moved_on fits trace move chain = record {
     size = count_kept;
     nodes = nodes_kept;
@@ -209,21 +209,21 @@ module _ (old new : GroupView) (e : Event) (i : ℕ) (view after : ServerView)
     runs = λ past w r. let m = move w r.represents in (next_of w m.turn, m.happens, moved_runs fits trace past w r m (chain w r.represents));
   }
 
-  know_places : (after.raft.me ≡ view.raft.me) × (after.raft.size ≡ view.raft.size) → ServersKnowPlaces new
-  know_places same j a at =
+  know_numbers : (after.raft.me ≡ view.raft.me) × (after.raft.size ≡ view.raft.size) → ServersKnowNumbers new
+  know_numbers same j a at =
       let n = reached.servers i view here in
       elim (get_set-cases old.servers i after j a (subst (λ l. slice_get l j ≡ Some a) servers at)) [
         | inl q ↦ subst (λ (b : ServerView). (b.raft.me ≡ j) × (b.raft.size ≡ length new.servers)) q.1 (same.0 ∙ n.0 ∙ sym q.0, same.1 ∙ n.1 ∙ sym count_kept)
         | inr q ↦ let k = reached.servers j a q.1 in (k.0, k.1 ∙ sym count_kept)
       ]
 
-  clients_know_places : ClientsKnowPlaces new
-  clients_know_places j a at =
+  clients_know_numbers : ClientsKnowNumbers new
+  clients_know_numbers j a at =
       let n = reached.clients j a (subst (λ l. slice_get l j ≡ Some a) clients at) in
       (n.0, n.1 ∙ sym count_kept)
 
   moved_reached : (after.raft.me ≡ view.raft.me) × (after.raft.size ≡ view.raft.size) → GroupEventHappened old e new → IsGroupWorld new
-  moved_reached same happened = group_reached_on old new e happened (know_places same) clients_know_places reached
+  moved_reached same happened = group_reached_on old new e happened (know_numbers same) clients_know_numbers reached
 
 -- ---- what the history says of a server's event
 
@@ -233,26 +233,26 @@ module _ (old : GroupView) (e : Event) (i : ℕ) (view : ServerView) (h : Handin
     pub reached : IsGroupWorld old
     pub here : slice_get old.servers i ≡ Some view
     pub fits : EventFits e
-    pub takes : (w : World) → RepresentsGroup old w → (s : Member) → slice_get w.servers i ≡ Some s → IsMember view s → ServerTakes view h w e i s
+    pub takes : (w : World) → RepresentsGroup old w → (s : Server) → slice_get w.servers i ≡ Some s → IsServer view s → ServerTakes view h w e i s
 
   -- the server of the world, and what the event is for it
   record Found (w : World) : Type 0 where
-    server : Member
+    server : Server
     at : slice_get w.servers i ≡ Some server
-    is : IsMember view server
+    is : IsServer view server
     takes : ServerTakes view h w e i server
 
   module _ (scene : ServerScene) where
     found : (w : World) → RepresentsGroup old w → Found w
     found w st =
-        let s = zip_at IsMember old.servers w.servers i view st.servers scene.here in
+        let s = zip_at IsServer old.servers w.servers i view st.servers scene.here in
         record { server = s.0; at = s.1; is = s.2; takes = scene.takes w st s.0 s.1 s.2 }
 
     me_is : view.raft.me ≡ i
     me_is = let r = scene.reached in let n = r.servers i view scene.here in n.0
 
     size_is : (w : World) → RepresentsGroup old w → view.raft.size ≡ length w.servers
-    size_is w st = let r = scene.reached in let n = r.servers i view scene.here in n.1 ∙ zip_length IsMember old.servers w.servers st.servers
+    size_is w st = let r = scene.reached in let n = r.servers i view scene.here in n.1 ∙ zip_length IsServer old.servers w.servers st.servers
 
     module _ (awake : IsGroupAwake old e) (new : GroupView) (after : ServerView) (servers : new.servers ≡ slice_set old.servers i after) (clients : new.clients ≡ old.clients)
         (same : (after.raft.me ≡ view.raft.me) × (after.raft.size ≡ view.raft.size)) where
@@ -268,11 +268,11 @@ module _ (old : GroupView) (e : Event) (i : ℕ) (view : ServerView) (h : Handin
             turn = t.turn;
             at = f.at;
             happens = takes.happens ∙ ap (λ q. after_turn w i q) t.is;
-            member = t.member;
+            server = t.server;
             sent = t.sent;
             work = t.work ∙ ap (λ l. old.outbox.work ++ l) (sym (takes.work ∙ ap turn_work t.is));
           } in
-          let happened = moved_on old new e i view after scene.reached scene.here servers clients scene.fits p.trace move (λ w st. let m = move w st in let turn = m.turn in p.chain turn.member m.member) in
+          let happened = moved_on old new e i view after scene.reached scene.here servers clients scene.fits p.trace move (λ w st. let m = move w st in let turn = m.turn in p.chain turn.server m.server) in
           record {
             stepped = record { ok = happened; err = tt; cause = tt; memory = tt };
             world = moved_reached old new e i view after scene.reached scene.here servers clients same happened;
@@ -285,14 +285,14 @@ module _ (old : GroupView) (e : Event) (i : ℕ) (view : ServerView) (h : Handin
           λ w st.
           let f = found w st in
           let l = p.crashed.fell f.server f.is in
-          let turn : Turn = record { member = crashed_member f.server; sent = []; work = [] } in
+          let turn : ServerTurn = record { server = crashed_server f.server; sent = []; work = [] } in
           let stepped : step (length w.servers) i f.server Crash ≡ Ok turn = crash_turn (length w.servers) i f.server l.0 in
           record {
             before = f.server;
             turn = turn;
             at = f.at;
             happens = ap (λ o. input_to w i Crash o) f.at ∙ ap (λ q. after_turn w i q) stepped;
-            member = l.1;
+            server = l.1;
             sent = record { frames = []; added = ap (λ (o : Outbox). o.frames) p.outbox ∙ sym (append-nil old.outbox.frames); carry = tt };
             work = ap (λ (o : Outbox). o.work) p.outbox ∙ sym (ap (λ l. old.outbox.work ++ l) (ap (λ o. input_work w i Crash o) f.at ∙ ap turn_work stepped) ∙ append-nil old.outbox.work);
           } in
@@ -325,9 +325,9 @@ module _ (old : GroupView) (e : Event) (i : ℕ) (view : ServerView) (h : Handin
           }
 
       -- one that is the same server leaves the same group
-      same_but : SameMember view after → history_of new ≡ history_of old → SameView old new
+      same_but : SameServer view after → history_of new ≡ history_of old → SameView old new
       same_but is past = record {
-        servers = subst (λ l. AllZip SameMember old.servers l) (sym servers) (set_same_member old.servers i view after scene.here is);
+        servers = subst (λ l. AllZip SameServer old.servers l) (sym servers) (set_same_server old.servers i view after scene.here is);
         clients = clients;
         outbox = ap (λ (x : GroupHistoryView). x.outbox) past;
         trace = ap (λ (x : GroupHistoryView). x.trace) past;
@@ -350,7 +350,7 @@ module _ (old : GroupView) (e : Event) (i : ℕ) (view : ServerView) (h : Handin
                     let takes = f.takes in
                     let q = takes.wakes p.restart (p.down f.server f.is) in
                     let turn = q.0 in
-                    (record w { servers = slice_set w.servers i turn.member; sent = w.sent ++ turn.sent }, takes.happens ∙ ap (λ r. after_turn w i r) q.1);
+                    (record w { servers = slice_set w.servers i turn.server; sent = w.sent ++ turn.sent }, takes.happens ∙ ap (λ r. after_turn w i r) q.1);
                 same = is;
               });
               err = tt;
@@ -366,7 +366,7 @@ module _ (old : GroupView) (e : Event) (i : ℕ) (view : ServerView) (h : Handin
         in_group past w r =
             let st = r.represents in
             let run : Run (length old.servers) (nodes_of old) old.trace past w = limits (length old.servers) (nodes_of old) old.trace past w scene.reached.nodes r.run in
-            subst (λ n. SendersIn n w) (zip_length IsMember old.servers w.servers st.servers) (senders (length old.servers) (nodes_of old) old.trace past w run)
+            subst (λ n. SendersIn n w) (zip_length IsServer old.servers w.servers st.servers) (senders (length old.servers) (nodes_of old) old.trace past w run)
 
         -- a server refuses what the definitions refuse
         refuses : (r : Refusal) → ServerRefuses view h r → RefusesGroupEvent old e r
@@ -382,7 +382,7 @@ module _ (old : GroupView) (e : Event) (i : ℕ) (view : ServerView) (h : Handin
         caused refusals.NoMemory says other = absurd (other refl)
         caused _ says other = refuses _ says
 
-        refused : (r : Refusal) → SameMember view after → history_of new ≡ history_of old → RefusedSo (Unit {0}) (ServerRefuses view h) r → GroupActed old e (Err r) new
+        refused : (r : Refusal) → SameServer view after → history_of new ≡ history_of old → RefusedSo (Unit {0}) (ServerRefuses view h) r → GroupActed old e (Err r) new
         refused r is past says =
             let left : SameView old new = same_but is past in
             record { stepped = record { ok = tt; err = left; cause = caused r says; memory = λ lacks. awake }; world = same_group_reached old new left scene.reached }
@@ -409,7 +409,7 @@ module _ (old now : GroupView) (i p : ℕ) (view : ServerView) (same : old ≡ n
   knows_me = let n = reached.servers i view stands in n.0
 
   knows_size : (w : World) → RepresentsGroup old w → view.raft.size ≡ length w.servers
-  knows_size w st = let n = reached.servers i view stands in n.1 ∙ zip_length IsMember old.servers w.servers st.servers
+  knows_size w st = let n = reached.servers i view stands in n.1 ∙ zip_length IsServer old.servers w.servers st.servers
 
   -- an input of its own
   pub own_scene : (given : ServerInput) → InputFits (server_input (handing given)) → comes_as_frame (handing given) ≡ false → ServerScene old (AtServer i (server_input (handing given))) i view (handing given)
@@ -417,7 +417,7 @@ module _ (old now : GroupView) (i p : ℕ) (view : ServerView) (same : old ≡ n
     reached = reached;
     here = stands;
     fits = fits;
-    takes = λ w st s at member. own_server view given w i s knows_me (knows_size w st) at own;
+    takes = λ w st s at server. own_server view given w i s knows_me (knows_size w st) at own;
   }
 
   -- a frame that was sent to it
@@ -427,5 +427,5 @@ module _ (old now : GroupView) (i p : ℕ) (view : ServerView) (same : old ≡ n
     reached = reached;
     here = stands;
     fits = tt;
-    takes = λ w st s at member. sent_to_server again view old.outbox.frames place w i s st.sent (subst (λ (x : GroupView). IsSentTo x.outbox.frames place (actors.Server i)) (sym same) sent) knows_me (knows_size w st) at;
+    takes = λ w st s at server. sent_to_server again view old.outbox.frames place w i s st.sent (subst (λ (x : GroupView). IsSentTo x.outbox.frames place (actors.Server i)) (sym same) sent) knows_me (knows_size w st) at;
   }

@@ -7,8 +7,8 @@ use Rattle.rows.specs.declared.command.Command.{Command}
 use Rattle.rows.specs.declared.node.Node.{Node}
 use Rattle.rows.specs.declared.refusal.Refusal.{Refusal}
 use Rattle.rows.specs.declared.refusal.Refusal.TheVariants as refusals
-use Rattle.raft_model.specs.Servers as rafts
-use Rattle.raft_model.specs.Servers.{Server, Down, is_up, is_leader}
+use Rattle.raft_model.specs.Rafts as rafts
+use Rattle.raft_model.specs.Rafts.{Raft, Down, is_up, is_leader}
 use Rattle.raft_model.specs.Steps as raft_steps
 use Rattle.raft_safety.proofs.Places.{get-within}
 use Rattle.raft_core.specs.Steps.{role_of}
@@ -16,26 +16,26 @@ use Rattle.raft_core.specs.declared.role.Role.{Role}
 use Rattle.cluster_model.specs.Words.{State, node_of, is_draining}
 use Rattle.cluster_model.specs.ClusterMachine.{cluster_meaning}
 use Rattle.cluster_model.proofs.ClusterMachine.{cluster_lawful}
-use Rattle.group_model.specs.Messages.{GroupMessage, Raft, Service, ServiceMessage, BetweenServers, ToServer, ToClient, ClientResponse}
+use Rattle.group_model.specs.Messages.{GroupMessage, OfLog, Service, ServiceMessage, BetweenServers, ToServer, ToClient, ClientResponse}
 use Rattle.group_model.specs.Drains.{is_done, next_moves_of}
 use Rattle.group_model.specs.Brokers.{is_outstanding}
 use Rattle.group_model.specs.Expiry.{BeatCount, beat_count_of}
 use Rattle.group_model.specs.Desks.{Desk, applied_state, whole_state}
 use Rattle.group_model.specs.Inputs.{Input, Arrives, Timeout, Beat, Request, TakeFrom, SubmitTo, FinishAt, NackAt, PlanTurn, Lapse, Expire, DrainTurn, FreeTurn, Reap, Compact, Crash, Restart, Act, Ask, rests, input_of}
-use Rattle.group_model.specs.Turns.{expiry_command, expire_of, drains_by, drain_turn_of}
-use Rattle.group_model.specs.Members.{Member, Turn, open_or, open_desk, at_desk, takes_message, acts, logged, asks_log, done, step}
-use Rattle.group_model.specs.Clients as clients
-use Rattle.group_model.specs.Clients.{Client, Life}
+use Rattle.group_model.specs.DeskTurns.{expiry_command, expire_of, drains_by, drain_turn_of}
+use Rattle.group_model.specs.Servers.{Server, ServerTurn, open_or, open_desk, at_desk, takes_message, acts, logged, asks_log, done, step}
+use Rattle.group_model.specs.Agents as agents
+use Rattle.group_model.specs.Agents.{Agent, Life}
 use Rattle.group_model.specs.Worlds.{World, Event, Deliver, AtServer, AtClient, happens, delivers, delivers_message, message_to, input_to, takes_input, own_input, own_client_input, client_input_to, client_takes, client_at, after_turn, after_client, refuses_message_at, refuses_response_at, crash_of_message}
 use Rattle.group_frames.specs.GroupFrames.{CarriesGroup, receiver_of}
 use Rattle.client_agent.specs.declared.input.ClientInput.{ClientInput}
 use Rattle.client_agent.specs.declared.input.ClientInput.TheVariants as client_inputs
 use Rattle.client_agent.specs.AgentView.{AgentView}
-use Rattle.server.specs.ServerViews.{ServerView, IsMember}
+use Rattle.server.specs.ServerViews.{ServerView, IsServer}
 use Rattle.server.specs.declared.server_input.ServerInput.{ServerInput}
 use Rattle.server.specs.declared.server_input.ServerInput.TheVariants as inputs
 use Rattle.server.specs.Handings.{Handing, FrameBytes, OwnInput, handing}
-use Rattle.server.specs.Turns.{takes_in}
+use Rattle.server.specs.Steps.{takes_in}
 use Rattle.world.specs.GroupEvents.{server_input, client_input}
 use Rattle.world.specs.GroupView.{GroupView, RepresentsGroup, IsSentTo, client_in, client_view}
 use Rattle.world.specs.GroupSteps.{RefusesGroupEvent, IsNoArrival, IsGroupAwake}
@@ -55,7 +55,7 @@ refused_at_once view e r other says = record { ok = tt; err = same_group view; c
 
 -- ---- a server that is up does not refuse for being down
 
-logged_awake : (s : Member) (act : Act) (q : Result (rafts.Turn Command) Refusal) → Awake q → Awake (logged s act q)
+logged_awake : (s : Server) (act : Act) (q : Result (rafts.RaftTurn Command) Refusal) → Awake q → Awake (logged s act q)
 logged_awake s act (Ok turn) h = tt
 logged_awake s act (Err r) h = h
 
@@ -82,12 +82,12 @@ drain_awake : (d : Desk) (s : State) (o : Option Node) → Awake (drain_turn_of 
 drain_awake d s None = λ e. cc
 drain_awake d s (Some n) = drains_awake d s n (next_moves_of s (Some n)) (moves_awake s n)
 
-message_awake : (n me : ℕ) (s : Member) (x : ServiceMessage) → Awake (takes_message n me s x)
+message_awake : (n me : ℕ) (s : Server) (x : ServiceMessage) → Awake (takes_message n me s x)
 message_awake n me s (BetweenServers from to message) = awake_if (nat_lt from n) _ _ tt (λ e. cc)
 message_awake n me s (ToServer client server request) = tt
 message_awake n me s (ToClient server client response) = λ e. cc
 
-module _ (n me : ℕ) (s : Member) where
+module _ (n me : ℕ) (s : Server) where
   desk : Awake (open_desk s)
   desk = awake_if (is_leader s.raft.mode) _ _ (open_awake s.desk) (λ e. cc)
 
@@ -126,14 +126,14 @@ module _ (n me : ℕ) (s : Member) where
     up_steps x = done_awake _ (rw up (acts_awake x))
 
     up_takes : (x : GroupMessage) → Awake (takes_in n me s x)
-    up_takes (Raft message) = logged_awake s (rests s.desk) _ (log_awake (raft_steps.Arrives message))
+    up_takes (OfLog message) = logged_awake s (rests s.desk) _ (log_awake (raft_steps.Arrives message))
     up_takes (Service message) = up_steps (Arrives message)
 
-after_awake : (w : World) (i : ℕ) (q : Result Turn Refusal) → Awake q → Awake (after_turn w i q)
+after_awake : (w : World) (i : ℕ) (q : Result ServerTurn Refusal) → Awake q → Awake (after_turn w i q)
 after_awake w i (Ok turn) h = tt
 after_awake w i (Err r) h = h
 
-after_client_awake : (w : World) (c : ℕ) (q : Result clients.Turn Refusal) → Awake q → Awake (after_client w c q)
+after_client_awake : (w : World) (c : ℕ) (q : Result agents.AgentTurn Refusal) → Awake q → Awake (after_client w c q)
 after_client_awake w c (Ok turn) h = tt
 after_client_awake w c (Err r) h = h
 
@@ -143,7 +143,7 @@ absent_takes : (w : World) (i : ℕ) (x : Input) → slice_get w.servers i ≡ N
 absent_takes w i (Arrives message) gone = ap (λ o. Err (refuses_message_at o)) gone
 absent_takes w i x gone = ap (λ o. input_to w i x o) gone
 
-module _ (w : World) (i : ℕ) (s : Member) (here : slice_get w.servers i ≡ Some s) where
+module _ (w : World) (i : ℕ) (s : Server) (here : slice_get w.servers i ≡ Some s) where
   sleeping : (h : Handing) → is_up s.raft.mode ≡ false → restarts_server h ≡ false → own_input w i (server_input h) ≡ Err refusals.Down
   sleeping (FrameBytes bytes) down other = ap (λ o. Err (refuses_message_at o)) here ∙ rw down refl
   sleeping (OwnInput (Arrives message)) down other = ap (λ o. Err (refuses_message_at o)) here ∙ rw down refl
@@ -177,21 +177,21 @@ no_arrival i given other = tt
 
 module _ (view : GroupView) (i : ℕ) where
   pub server_absent : (h : Handing) → slice_get view.servers i ≡ None → RefusesGroupEvent view (AtServer i (server_input h)) refusals.OutOfRange
-  server_absent h gone past w r = let st = r.represents in absent_takes w i (server_input h) (zip_none IsMember view.servers w.servers i st.servers gone)
+  server_absent h gone past w r = let st = r.represents in absent_takes w i (server_input h) (zip_none IsServer view.servers w.servers i st.servers gone)
 
-  module _ (here : ServerView) (role : Option Role) (at : slice_get view.servers i ≡ Some here) (says : (s : Member) → IsMember here s → role ≡ role_of s.raft.mode) where
+  module _ (here : ServerView) (role : Option Role) (at : slice_get view.servers i ≡ Some here) (says : (s : Server) → IsServer here s → role ≡ role_of s.raft.mode) where
     pub server_sleeps : (h : Handing) → is_some role ≡ false → restarts_server h ≡ false → RefusesGroupEvent view (AtServer i (server_input h)) refusals.Down
     server_sleeps h none other past w r =
         let st = r.represents in
-        let s = zip_at IsMember view.servers w.servers i here st.servers at in
+        let s = zip_at IsServer view.servers w.servers i here st.servers at in
         sleeping w i s.0 s.1 h (asleep s.0.raft.mode (ap is_some (sym (says s.0 s.2)) ∙ none)) other
 
     -- what the role says of a server of the definitions
-    up_or : (h : Handing) (s : Member) → IsMember here s → (is_some role ≡ true) ⊎ (restarts_server h ≡ true) → (is_up s.raft.mode ≡ true) ⊎ (restarts_server h ≡ true)
+    up_or : (h : Handing) (s : Server) → IsServer here s → (is_some role ≡ true) ⊎ (restarts_server h ≡ true) → (is_up s.raft.mode ≡ true) ⊎ (restarts_server h ≡ true)
     up_or h s is (inl some) = inl (awake_role s.raft.mode (ap is_some (sym (says s is)) ∙ some))
     up_or h s is (inr so) = inr so
 
-    is_no_frame : (w : World) (s : Member) → slice_get w.servers i ≡ Some s → (h : Handing) → comes_as_frame h ≡ true → (is_up s.raft.mode ≡ true) ⊎ (restarts_server h ≡ true) → own_input w i (server_input h) ≡ Err refusals.OutOfRange
+    is_no_frame : (w : World) (s : Server) → slice_get w.servers i ≡ Some s → (h : Handing) → comes_as_frame h ≡ true → (is_up s.raft.mode ≡ true) ⊎ (restarts_server h ≡ true) → own_input w i (server_input h) ≡ Err refusals.OutOfRange
     is_no_frame w s there h frame (inl up) = no_own w i s there h frame up
     is_no_frame w s there (FrameBytes bytes) frame (inr so) = absurd (cc)
     is_no_frame w s there (OwnInput x) frame (inr so) = absurd (cc)
@@ -199,7 +199,7 @@ module _ (view : GroupView) (i : ℕ) where
     pub frame_is_none : (h : Handing) → comes_as_frame h ≡ true → (is_some role ≡ true) ⊎ (restarts_server h ≡ true) → RefusesGroupEvent view (AtServer i (server_input h)) refusals.OutOfRange
     frame_is_none h frame up past w r =
         let st = r.represents in
-        let s = zip_at IsMember view.servers w.servers i here st.servers at in
+        let s = zip_at IsServer view.servers w.servers i here st.servers at in
         is_no_frame w s.0 s.1 h frame (up_or h s.0 s.2 up)
 
     -- a server that is up does not refuse for being down, nor does one that is to restart
@@ -207,7 +207,7 @@ module _ (view : GroupView) (i : ℕ) where
     server_awake given other up past w r =
         let h = handing given in
         let st = r.represents in
-        let s = zip_at IsMember view.servers w.servers i here st.servers at in
+        let s = zip_at IsServer view.servers w.servers i here st.servers at in
         record {
           crash = AtServer i Crash;
           actor = refl;
@@ -230,28 +230,28 @@ client_within cs (suc k) a at = let inside : k < length cs = get-within cs k a a
 client_of_view : (view : GroupView) (w : World) (c : ℕ) → RepresentsGroup view w → client_at w.clients c ≡ option_map client_in (client_view view.clients c)
 client_of_view view w c st = subst (λ cs. client_at cs c ≡ option_map client_in (client_view view.clients c)) st.clients (clients_match view.clients c)
 
-absent_client_takes : (w : World) (c : ℕ) (x : clients.Input) → client_at w.clients c ≡ None → own_client_input w c x ≡ Err refusals.OutOfRange
-absent_client_takes w c (clients.Arrives from response) gone = ap (λ o. Err (refuses_response_at o)) gone
+absent_client_takes : (w : World) (c : ℕ) (x : agents.Input) → client_at w.clients c ≡ None → own_client_input w c x ≡ Err refusals.OutOfRange
+absent_client_takes w c (agents.Arrives from response) gone = ap (λ o. Err (refuses_response_at o)) gone
 absent_client_takes w c x gone = ap (λ o. client_input_to w c x o) gone
 
-no_life : (n : ℕ) (x : Client) (life : Option Life) (given : ClientInput) → is_some life ≡ false → restarts_client given ≡ false → clients.step_of n x life (client_input given) ≡ Err refusals.Down
+no_life : (n : ℕ) (x : Agent) (life : Option Life) (given : ClientInput) → is_some life ≡ false → restarts_client given ≡ false → agents.step_of n x life (client_input given) ≡ Err refusals.Down
 no_life n x (Some l) given down other = absurd (cc down)
 no_life n x None client_inputs.Restart down other = absurd (cc other)
 no_life n x None given down other = refl
 
-lives_awake : (n : ℕ) (x : Client) (life : Option Life) (given : ClientInput) → is_client_frame given ≡ false → (is_some life ≡ true) ⊎ (restarts_client given ≡ true) → Awake (clients.step_of n x life (client_input given))
+lives_awake : (n : ℕ) (x : Agent) (life : Option Life) (given : ClientInput) → is_client_frame given ≡ false → (is_some life ≡ true) ⊎ (restarts_client given ≡ true) → Awake (agents.step_of n x life (client_input given))
 lives_awake n x life (client_inputs.Frame bytes) other up = absurd (cc other)
 lives_awake n x (Some l) (client_inputs.Register server) other up = awake_if (nat_lt server n) _ _ tt (λ e. cc)
 lives_awake n x (Some l) (client_inputs.Ping server) other up = awake_if (nat_lt server n) _ _ tt (λ e. cc)
 lives_awake n x (Some l) (client_inputs.Pull server) other up = awake_if (nat_lt server n) _ _ tt (λ e. cc)
-lives_awake n x (Some l) (client_inputs.End id ok) other up = awake_if (clients.runs l.running id) _ _ tt (λ e. cc)
+lives_awake n x (Some l) (client_inputs.End id ok) other up = awake_if (agents.runs l.running id) _ _ tt (λ e. cc)
 lives_awake n x (Some l) client_inputs.Crash other up = tt
 lives_awake n x (Some l) client_inputs.Restart other up = λ e. cc
 lives_awake n x None client_inputs.Restart other up = tt
 lives_awake n x None given other (inl up) = absurd (cc up)
 lives_awake n x None given other (inr so) = absurd (cc so)
 
-module _ (w : World) (c : ℕ) (x : Client) (here : client_at w.clients c ≡ Some x) where
+module _ (w : World) (c : ℕ) (x : Agent) (here : client_at w.clients c ≡ Some x) where
   client_sleeping : (given : ClientInput) → is_some x.life ≡ false → restarts_client given ≡ false → own_client_input w c (client_input given) ≡ Err refusals.Down
   client_sleeping (client_inputs.Frame bytes) down other = ap (λ o. Err (refuses_response_at o)) here ∙ rw down refl
   client_sleeping given down other = ap (λ o. client_input_to w c (client_input given) o) here ∙ ap (λ q. after_client w c q) (no_life (length w.servers) x x.life given down other)
@@ -271,7 +271,7 @@ no_response c (client_inputs.Frame bytes) other = absurd (cc other)
 no_response c given other = tt
 
 -- where one stands its number is within the list
-client_has : (cs : List Client) (c : ℕ) (x : Client) → client_at cs c ≡ Some x → (1 ≤ c) × (c ≤ length cs)
+client_has : (cs : List Agent) (c : ℕ) (x : Agent) → client_at cs c ≡ Some x → (1 ≤ c) × (c ≤ length cs)
 client_has cs zero x at = absurd (cc)
 client_has cs (suc k) x at = let inside : k < length cs = get-within cs k x at in (omega arith, omega arith)
 
@@ -291,7 +291,7 @@ module _ (view : GroupView) (c : ℕ) where
 
     pub client_awake : (given : ClientInput) → is_client_frame given ≡ false → (is_some here.client.life ≡ true) ⊎ (restarts_client given ≡ true) → IsGroupAwake view (AtClient c (client_input given))
     client_awake given other up past w r = record {
-      crash = AtClient c clients.Crash;
+      crash = AtClient c agents.Crash;
       actor = refl;
       there = client_has w.clients c here.client (client_there w r.represents);
       own = no_response c given other;
@@ -307,7 +307,7 @@ nothing_comes view place gone past w r =
     ap (λ o. delivers w o) (zip_none (CarriesGroup cluster_meaning) view.outbox.frames w.sent place st.sent gone)
 
 lost : (w : World) (i : ℕ) (x : GroupMessage) → receiver_of x ≡ actors.Server i → slice_get w.servers i ≡ None → delivers_message w x ≡ Err refusals.OutOfRange
-lost w i (Raft message) to gone = ap (λ k. message_to w k message (slice_get w.servers k)) (same_server to) ∙ ap (λ o. message_to w i message o) gone
+lost w i (OfLog message) to gone = ap (λ k. message_to w k message (slice_get w.servers k)) (same_server to) ∙ ap (λ o. message_to w i message o) gone
 lost w i (Service (BetweenServers from j message)) to gone =
     let x : Input = Arrives (BetweenServers from j message) in
     ap (λ k. input_to w k x (slice_get w.servers k)) (same_server to) ∙ ap (λ o. input_to w i x o) gone
@@ -324,14 +324,14 @@ module _ (view : GroupView) (place i : ℕ) (sent : IsSentTo view.outbox.frames 
   receiver_absent gone past w r =
       let st = r.represents in
       let m = message w st in
-      ap (λ o. delivers w o) m.at ∙ lost w i m.message m.is_to (zip_none IsMember view.servers w.servers i st.servers gone)
+      ap (λ o. delivers w o) m.at ∙ lost w i m.message m.is_to (zip_none IsServer view.servers w.servers i st.servers gone)
 
-  module _ (here : ServerView) (role : Option Role) (at : slice_get view.servers i ≡ Some here) (says : (s : Member) → IsMember here s → role ≡ role_of s.raft.mode) where
+  module _ (here : ServerView) (role : Option Role) (at : slice_get view.servers i ≡ Some here) (says : (s : Server) → IsServer here s → role ≡ role_of s.raft.mode) where
     pub receiver_sleeps : is_some role ≡ false → RefusesGroupEvent view (Deliver place) refusals.Down
     receiver_sleeps none past w r =
         let st = r.represents in
         let m = message w st in
-        let s = zip_at IsMember view.servers w.servers i here st.servers at in
+        let s = zip_at IsServer view.servers w.servers i here st.servers at in
         let f = is_for w i s.0 s.1 m.message m.is_to in
         ap (λ o. delivers w o) m.at ∙ f.happens ∙ ap (λ q. after_turn w i q) (down_takes (length w.servers) i s.0 m.message (asleep s.0.raft.mode (ap is_some (sym (says s.0 s.2)) ∙ none)))
 
@@ -339,7 +339,7 @@ module _ (view : GroupView) (place i : ℕ) (sent : IsSentTo view.outbox.frames 
     receiver_awake some past w r =
         let st = r.represents in
         let m = message w st in
-        let s = zip_at IsMember view.servers w.servers i here st.servers at in
+        let s = zip_at IsServer view.servers w.servers i here st.servers at in
         let f = is_for w i s.0 s.1 m.message m.is_to in
         let up : is_up s.0.raft.mode ≡ true = awake_role s.0.raft.mode (ap is_some (sym (says s.0 s.2)) ∙ some) in
         record {
@@ -356,8 +356,8 @@ module _ (view : GroupView) (place c : ℕ) (sent : IsSentTo view.outbox.frames 
   record Responds (w : World) : Type 0 where
     from : ℕ
     response : ClientResponse
-    is : happens w (Deliver place) ≡ client_takes w c (clients.Arrives from response)
-    crash : crash_of_message (slice_get w.sent place) ≡ Some (AtClient c clients.Crash)
+    is : happens w (Deliver place) ≡ client_takes w c (agents.Arrives from response)
+    crash : crash_of_message (slice_get w.sent place) ≡ Some (AtClient c agents.Crash)
 
   responds : (w : World) → RepresentsGroup view w → Responds w
   responds w st =
@@ -369,14 +369,14 @@ module _ (view : GroupView) (place c : ℕ) (sent : IsSentTo view.outbox.frames 
   pub client_receiver_absent : client_view view.clients c ≡ None → RefusesGroupEvent view (Deliver place) refusals.OutOfRange
   client_receiver_absent gone past w r =
       let m = responds w r.represents in
-      let input : clients.Input = clients.Arrives m.from m.response in
+      let input : agents.Input = agents.Arrives m.from m.response in
       m.is ∙ ap (λ o. client_input_to w c input o) (client_of_view view w c r.represents ∙ ap (λ o. option_map client_in o) gone)
 
   module _ (here : AgentView) (at : client_view view.clients c ≡ Some here) where
-    comes_there : (w : World) (st : RepresentsGroup view w) → let m = responds w st in happens w (Deliver place) ≡ after_client w c (clients.step_of (length w.servers) here.client here.client.life (clients.Arrives m.from m.response))
+    comes_there : (w : World) (st : RepresentsGroup view w) → let m = responds w st in happens w (Deliver place) ≡ after_client w c (agents.step_of (length w.servers) here.client here.client.life (agents.Arrives m.from m.response))
     comes_there w st =
         let m = responds w st in
-        let input : clients.Input = clients.Arrives m.from m.response in
+        let input : agents.Input = agents.Arrives m.from m.response in
         m.is ∙ ap (λ o. client_input_to w c input o) (client_there view c here at w st)
 
     pub client_receiver_sleeps : is_some here.client.life ≡ false → RefusesGroupEvent view (Deliver place) refusals.Down
@@ -384,7 +384,7 @@ module _ (view : GroupView) (place c : ℕ) (sent : IsSentTo view.outbox.frames 
         let m = responds w r.represents in
         comes_there w r.represents ∙ ap (λ q. after_client w c q) (down_hears (length w.servers) here.client here.client.life m.from m.response down)
 
-    hears_awake : (n : ℕ) (life : Option Life) (from : ℕ) (response : ClientResponse) → is_some life ≡ true → Awake (clients.step_of n here.client life (clients.Arrives from response))
+    hears_awake : (n : ℕ) (life : Option Life) (from : ℕ) (response : ClientResponse) → is_some life ≡ true → Awake (agents.step_of n here.client life (agents.Arrives from response))
     hears_awake n (Some l) from response up = tt
     hears_awake n None from response up = absurd (cc up)
 
@@ -392,7 +392,7 @@ module _ (view : GroupView) (place c : ℕ) (sent : IsSentTo view.outbox.frames 
     client_receiver_awake up past w r =
         let m = responds w r.represents in
         record {
-          crash = AtClient c clients.Crash;
+          crash = AtClient c agents.Crash;
           actor = m.crash;
           there = client_has w.clients c here.client (client_there view c here at w r.represents);
           own = tt;

@@ -1,37 +1,37 @@
 -- What the replicated states of a group's servers have to do with its one list.
 use Rattle.std.proofs.Common.{◌≡◌, ℕ, zero, suc, Bor, true, false, Option, Some, None, MatchOption, IfSome, List, [], ◌∷◌, map, refl, sym, subst, slice_get}
 use Rattle.std.specs.Option.{option_copied}
-use Rattle.raft_model.specs.Servers.{is_up}
+use Rattle.raft_model.specs.Rafts.{is_up}
 use Rattle.cluster_model.specs.Words.{State}
 use Rattle.cluster_model.specs.SafeFacts.{Safe}
 use Rattle.cluster_model.specs.ClusterMachine.{cluster_meaning}
 use Rattle.cluster_model.proofs.ClusterMachine.{cluster_lawful}
 use Rattle.group_model.specs.Desks.{applied_state}
-use Rattle.group_model.specs.Members.{Member}
+use Rattle.group_model.specs.Servers.{Server}
 use Rattle.group_model.specs.Worlds.{World, raft_of, raft_part}
 use Rattle.group_safety.specs.Claims.{logs}
 use Rattle.group_safety.proofs.Lists.{get_map}
-use Rattle.server.specs.ServerViews.{ServerView, IsMember}
+use Rattle.server.specs.ServerViews.{ServerView, IsServer}
 use Rattle.world.specs.Claims.{OneHistory}
 use Rattle.world.specs.GroupView.{GroupView, GroupRunsTo}
 use Rattle.world.specs.GroupClaims.{OneGroupList, SafeGroupStates, state_of}
 use Rattle.world.proofs.Histories.{IsPart, running_is, part, history_of}
 use Rattle.world.proofs.Zips.{zip_at, zip_none}
 
-get_map_none : {A B : Type 0} (f : A → B) (xs : List A) (i : ℕ) → slice_get xs i ≡ None → slice_get (map f xs) i ≡ None
+pub get_map_none : {A B : Type 0} (f : A → B) (xs : List A) (i : ℕ) → slice_get xs i ≡ None → slice_get (map f xs) i ≡ None
 get_map_none f [] i h = refl
 get_map_none f (x ∷ xs) zero h = absurd (cc)
 get_map_none f (x ∷ xs) (suc i) h = get_map_none f xs i h
 
 module _ (view : GroupView) (i : ℕ) (past : List World) (w : World) (runs : GroupRunsTo view past w) where
   pub no_state : slice_get view.servers i ≡ None → None ≡ state_of w i
-  no_state gone = let st = runs.represents in let none : slice_get w.servers i ≡ None = zip_none IsMember view.servers w.servers i st.servers gone in rw (get_map_none raft_part w.servers i none) refl
+  no_state gone = let st = runs.represents in let none : slice_get w.servers i ≡ None = zip_none IsServer view.servers w.servers i st.servers gone in rw (get_map_none raft_part w.servers i none) refl
 
   pub state_is : (h : ServerView) (o : Option (Bor State)) → slice_get view.servers i ≡ Some h →
-      ((s : Member) → IsMember h s → MatchOption o (is_up s.raft.mode ≡ false) (λ r. (is_up s.raft.mode ≡ true) × (r.now ≡ applied_state s.raft))) → option_copied o ≡ state_of w i
+      ((s : Server) → IsServer h s → MatchOption o (is_up s.raft.mode ≡ false) (λ r. (is_up s.raft.mode ≡ true) × (r.now ≡ applied_state s.raft))) → option_copied o ≡ state_of w i
   state_is h o here says =
       let st = runs.represents in
-      let s = zip_at IsMember view.servers w.servers i h st.servers here in
+      let s = zip_at IsServer view.servers w.servers i h st.servers here in
       rw (get_map raft_part w.servers i s.0 s.1) (running_is cluster_meaning s.0.raft o (says s.0 s.2))
 
 module _ (view : GroupView) (l : OneGroupList view) where

@@ -5,8 +5,8 @@ use Rattle.std.specs.List.{AllByRecursion}
 use Rattle.rows.specs.declared.node.NodeSpec.{NodeSpec}
 use Rattle.cluster_model.specs.ClusterMachine.{cluster_meaning}
 use Rattle.group_model.specs.Messages.{GroupMessage}
-use Rattle.group_model.specs.Inputs as servers
-use Rattle.group_model.specs.Clients as clients
+use Rattle.group_model.specs.Inputs as inputs
+use Rattle.group_model.specs.Agents as agents
 use Rattle.group_model.specs.Worlds.{World, Event, Deliver, AtServer, AtClient, happens, delivers}
 use Rattle.group_safety.specs.Limits.{LimitedRun, start, more}
 use Rattle.group_safety.proofs.Showings.{event_goes}
@@ -18,9 +18,9 @@ use Rattle.world.proofs.Zips.{zip_length}
 -- what was sent so far is still so when more was sent
 still : (sent later : ℕ) (e : Event) → sent ≤ later → IsTraced sent e → IsTraced later e
 still sent later (Deliver k) h t = omega (arith, h, t)
-still sent later (AtServer i (servers.Arrives message)) h t = absurd t
+still sent later (AtServer i (inputs.Arrives message)) h t = absurd t
 still sent later (AtServer i input) h t = tt
-still sent later (AtClient c (clients.Arrives from response)) h t = absurd t
+still sent later (AtClient c (agents.Arrives from response)) h t = absurd t
 still sent later (AtClient c input) h t = tt
 
 one_more : (sent later : ℕ) (events : List Event) (e : Event) → sent ≤ later → AllByRecursion (IsTraced sent) events → IsTraced sent e → AllByRecursion (IsTraced later) (events ++ e ∷ [])
@@ -33,9 +33,9 @@ delivered w next k (Some message) is h = slice_get_within w.sent k message is
 
 happened : (w next : World) (e : Event) → happens w e ≡ Ok next → IsTraced (length w.sent) e
 happened w next (Deliver k) h = delivered w next k (slice_get w.sent k) refl h
-happened w next (AtServer i (servers.Arrives message)) h = absurd (cc)
+happened w next (AtServer i (inputs.Arrives message)) h = absurd (cc)
 happened w next (AtServer i input) h = tt
-happened w next (AtClient c (clients.Arrives from response)) h = absurd (cc)
+happened w next (AtClient c (agents.Arrives from response)) h = absurd (cc)
 happened w next (AtClient c input) h = tt
 
 append_length : {A : Type 0} (xs ys : List A) → length xs ≤ length (xs ++ ys)

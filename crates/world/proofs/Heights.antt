@@ -1,6 +1,6 @@
 -- How far a run has committed, from one world to the next.
 use Rattle.std.proofs.Common.{◌≡◌, ℕ, ◌<◌, ◌≤◌, ◌⊎◌, inl, inr, max, true, Some, List, [], ◌∷◌, ◌++◌, replicate, refl, sym, ap, ◌∙◌, subst, arith, slice_get, slice_set}
-use Rattle.raft_model.specs.Servers.{Server, is_up, newcomer}
+use Rattle.raft_model.specs.Rafts.{Raft, is_up, newcomer}
 use Rattle.raft_model.specs.Worlds.{World, first, moment}
 use Rattle.raft_model.specs.Chains.{At, WasCommitted}
 use Rattle.raft_model.proofs.Cases.{bool_cases}
@@ -8,7 +8,7 @@ use Rattle.raft_safety.proofs.Places.{get_set-cases, get_set-same, get-more, get
 use Rattle.raft_safety.specs.Claims.{IsGreatestCommit}
 use Rattle.world.specs.Inner.Inputs.{committed}
 
-up_committed : {C : Type 0} (s : Server C) → is_up s.mode ≡ true → committed s ≡ s.commit
+up_committed : {C : Type 0} (s : Raft C) → is_up s.mode ≡ true → committed s ≡ s.commit
 up_committed s up = rw up refl
 
 pub first_height : {C : Type 0} (n : ℕ) → IsGreatestCommit {C = C} [] (first n) 0
@@ -17,11 +17,11 @@ first_height {C} n = record {
       let w : first n ≡ at.world = get-one (first n) k at.world at.world_is in
       let here : slice_get (replicate n newcomer) i ≡ Some s = subst (λ (x : World C). slice_get x.servers i ≡ Some s) (sym w) at.here in
       let is : newcomer ≡ s = replicate-get n newcomer i s here in
-      subst (λ (x : Server C). x.commit ≤ 0) is (omega arith);
+      subst (λ (x : Raft C). x.commit ≤ 0) is (omega arith);
   reached = inl refl;
 }
 
-module _ {C : Type 0} (past : List (World C)) (w next : World C) (i : ℕ) (t : Server C) (height : ℕ) where
+module _ {C : Type 0} (past : List (World C)) (w next : World C) (i : ℕ) (t : Raft C) (height : ℕ) where
   last_moment : (j : ℕ) × (moment (past ++ w ∷ []) next j ≡ Some next)
   last_moment = get-later (past ++ w ∷ []) (next ∷ []) 0 next refl
 
@@ -36,10 +36,10 @@ module _ {C : Type 0} (past : List (World C)) (w next : World C) (i : ℕ) (t : 
   }
 
   -- a server of the next world is the one that took the event, or was there before
-  now_or_then : (j : ℕ) (s : Server C) → slice_get (slice_set w.servers i t) j ≡ Some s → (t ≡ s) ⊎ (slice_get w.servers j ≡ Some s)
+  now_or_then : (j : ℕ) (s : Raft C) → slice_get (slice_set w.servers i t) j ≡ Some s → (t ≡ s) ⊎ (slice_get w.servers j ≡ Some s)
   now_or_then j s h = elim (get_set-cases w.servers i t j s h) [ inl e ↦ inl e.1 | inr e ↦ inr e.1 ]
 
-  at_next : (k j : ℕ) (s : Server C) → At (past ++ w ∷ []) next k j s → next.servers ≡ slice_set w.servers i t → (t ≡ s) ⊎ ((l : ℕ) × At past w l j s)
+  at_next : (k j : ℕ) (s : Raft C) → At (past ++ w ∷ []) next k j s → next.servers ≡ slice_set w.servers i t → (t ≡ s) ⊎ ((l : ℕ) × At past w l j s)
   at_next k j s at is = elim (get-split (past ++ w ∷ []) (next ∷ []) k at.world at.world_is) [
     | inl e ↦ inr (k, record { world = at.world; world_is = e; here = at.here })
     | inr e ↦
@@ -74,10 +74,10 @@ module _ {C : Type 0} (past : List (World C)) (w next : World C) (i : ℕ) (t : 
     ]
   ]
 
-  pub height_next : (s : Server C) → IsGreatestCommit past w height → slice_get w.servers i ≡ Some s → next.servers ≡ slice_set w.servers i t → IsGreatestCommit (past ++ w ∷ []) next (max height (committed t))
+  pub height_next : (s : Raft C) → IsGreatestCommit past w height → slice_get w.servers i ≡ Some s → next.servers ≡ slice_set w.servers i t → IsGreatestCommit (past ++ w ∷ []) next (max height (committed t))
   height_next s h old is = record {
     bound = λ k j x at up. elim (at_next k j x at is) [
-      | inl e ↦ let here : committed x ≡ x.commit = up_committed x up in let c : committed t ≡ committed x = ap (λ (y : Server C). committed y) e in omega arith
+      | inl e ↦ let here : committed x ≡ x.commit = up_committed x up in let c : committed t ≡ committed x = ap (λ (y : Raft C). committed y) e in omega arith
       | inr e ↦ let b : x.commit ≤ height = h.bound e.0 j x e.1 up in omega arith
     ];
     reached = reached_next h.reached (ap (λ l. slice_get l i) is ∙ get_set-same w.servers i t (get-within w.servers i s old));

@@ -7,7 +7,7 @@ use Rattle.machine_model.specs.Meaning.{Meaning, LawfulMachine}
 use Rattle.machine_model.specs.declared.entry.Entry.{Entry}
 use Rattle.machine_model.proofs.Afters.{after-count}
 use Rattle.raft_model.specs.Logs.{commands, state_after}
-use Rattle.raft_model.specs.Servers.{Server, is_up}
+use Rattle.raft_model.specs.Rafts.{Raft, is_up}
 use Rattle.raft_model.specs.Worlds.{World}
 use Rattle.raft_model.specs.Chains.{Agree, Chain}
 use Rattle.raft_core.specs.RaftView.{RaftView}
@@ -20,7 +20,7 @@ use Rattle.world.proofs.Zips.{zip_at, zip_none}
 
 module _ {S C : Type 0} (m : Meaning S C) where
   -- a server as it is up, or down
-  pub running_is : (s : Server C) (o : Option (Bor S)) → MatchOption o (is_up s.mode ≡ false) (λ r. (is_up s.mode ≡ true) × (r.now ≡ state_after m (take s.commit s.log))) → option_copied o ≡ running_state m (Some s)
+  pub running_is : (s : Raft C) (o : Option (Bor S)) → MatchOption o (is_up s.mode ≡ false) (λ r. (is_up s.mode ≡ true) × (r.now ≡ state_after m (take s.commit s.log))) → option_copied o ≡ running_state m (Some s)
   running_is s None down = rw down refl
   running_is s (Some r) up = let u = up.0 in rw u (ap (λ x. Some x) up.1)
 
@@ -29,7 +29,7 @@ module _ {S C : Type 0} (m : Meaning S C) where
     no_machine gone = let st = runs.represents in let none : slice_get w.servers i ≡ None = zip_none (Represents m) seen.servers w.servers i st.servers gone in rw none refl
 
     pub machine_is : (h : RaftView S C) (o : Option (Bor S)) → slice_get seen.servers i ≡ Some h →
-        ((s : Server C) → Represents m h s → MatchOption o (is_up s.mode ≡ false) (λ r. (is_up s.mode ≡ true) × (r.now ≡ state_after m (take s.commit s.log)))) → option_copied o ≡ machine_of m w i
+        ((s : Raft C) → Represents m h s → MatchOption o (is_up s.mode ≡ false) (λ r. (is_up s.mode ≡ true) × (r.now ≡ state_after m (take s.commit s.log)))) → option_copied o ≡ machine_of m w i
     machine_is h o here says =
         let st = runs.represents in
         let s = zip_at (Represents m) seen.servers w.servers i h st.servers here in
@@ -42,7 +42,7 @@ module _ {S C : Type 0} (m : Meaning S C) where
     pub short : count ≤ length list
     pub is : a ≡ state_after m (take count list)
 
-  part_of : (past : List (World C)) (w : World C) (list : List (Entry C)) → Chain past w list → (i : ℕ) (s : Server C) (up : Bool) (a : S) → is_up s.mode ≡ up → slice_get w.servers i ≡ Some s →
+  part_of : (past : List (World C)) (w : World C) (list : List (Entry C)) → Chain past w list → (i : ℕ) (s : Raft C) (up : Bool) (a : S) → is_up s.mode ≡ up → slice_get w.servers i ≡ Some s →
       (if up then Some (state_after m (take s.commit s.log)) else None) ≡ Some a → IsPart list a
   part_of past w list chain i s false a is here h = absurd (cc)
   part_of past w list chain i s true a is here h =
@@ -54,7 +54,7 @@ module _ {S C : Type 0} (m : Meaning S C) where
       }
 
   -- each running machine's state is that after a first part of the list
-  pub part : (past : List (World C)) (w : World C) (list : List (Entry C)) → Chain past w list → (i : ℕ) (a : S) (o : Option (Server C)) → slice_get w.servers i ≡ o → running_state m o ≡ Some a → IsPart list a
+  pub part : (past : List (World C)) (w : World C) (list : List (Entry C)) → Chain past w list → (i : ℕ) (a : S) (o : Option (Raft C)) → slice_get w.servers i ≡ o → running_state m o ≡ Some a → IsPart list a
   part past w list chain i a None here h = absurd (cc)
   part past w list chain i a (Some s) here h = part_of past w list chain i s (is_up s.mode) a refl here h
 

@@ -7,7 +7,7 @@ use Rattle.rows.specs.declared.refusal.Refusal.TheVariants as refusals
 use Rattle.machine_model.specs.Meaning.{Meaning}
 use Rattle.wire.specs.Frames.{Frame}
 use Rattle.raft_model.specs.Messages.{Message}
-use Rattle.raft_model.specs.Servers.{Server, Mode, is_up}
+use Rattle.raft_model.specs.Rafts.{Raft, Mode, is_up}
 use Rattle.raft_model.specs.Steps.{Input, Arrives, Timeout, Beat, Propose, Compact, Crash, Restart, step}
 use Rattle.raft_model.specs.Worlds.{World, Event, Deliver, TimesOut, Beats, Proposes, Compacts, Crashes, Restarts, happens, takes, receiver, delivers, acting_server}
 use Rattle.raft_core.specs.Frames.{IsFrameOf, FrameCarries}
@@ -58,7 +58,7 @@ module _ {S C : Type 0} (m : Meaning S C) (sent : List Frame) (w : World C) wher
     pub takes : happens m w e ≡ takes m w i input
     pub wants : (mode : Mode) → MayLack mode (handed_by sent e) → MayWant mode input
     pub wakes : is_restart e ≡ true → input ≡ Restart
-    pub sleeps : is_restart e ≡ false → (n me : ℕ) (s : Server C) → is_up s.mode ≡ false → step m n me s input ≡ Err refusals.Down
+    pub sleeps : is_restart e ≡ false → (n me : ℕ) (s : Raft C) → is_up s.mode ≡ false → step m n me s input ≡ Err refusals.Down
 
   arrived : (o : Option (Message C)) (i : ℕ) → receiver m o ≡ Some i → (x : Message C) × (o ≡ Some x) × (x.to ≡ i)
   arrived None i h = absurd (cc)

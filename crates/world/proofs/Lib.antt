@@ -13,6 +13,7 @@ pub mod Runs
 pub mod Histories
 pub mod Replays
 pub mod Same
+pub mod Standings
 pub mod GroupScenes
 pub mod GroupHeights
 pub mod GroupServers
@@ -23,5 +24,6 @@ pub mod GroupSleeping
 pub mod GroupStates
 pub mod GroupBegins
 pub mod GroupRuns
+pub mod GroupStandings
 pub mod GroupTraces
 pub mod GroupReplays

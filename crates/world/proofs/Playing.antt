@@ -3,7 +3,7 @@ use Rattle.std.proofs.Common.{◌≡◌, ◌≢◌, ℕ, inl, inr, Some, Result,
 use Rattle.rows.specs.declared.refusal.Refusal.{Refusal}
 use Rattle.rows.specs.declared.refusal.Refusal.TheVariants as refusals
 use Rattle.machine_model.specs.Meaning.{Meaning}
-use Rattle.raft_model.specs.Servers.{Server}
+use Rattle.raft_model.specs.Rafts.{Raft}
 use Rattle.raft_model.specs.Worlds.{World, Event, Crashes, Outcome, first, Kept, LeftOut, IsEvent, Run, start, more, acting_server, Trace, nothing, kept, crashed, left_out}
 use Rattle.raft_model.specs.Worlds as model
 use Rattle.world.specs.declared.done.Done.{Done}
@@ -51,7 +51,7 @@ module _ {S C : Type 0} (m : Meaning S C) where
   became_on trace past w next c handed outcomes all =
       became_map (MayBecome m trace past w) (MayBecome m (trace ++ c ∷ []) (past ++ w ∷ []) next) (λ place e o became. stands_on trace past w next c place e o became) 0 handed outcomes all
 
-  starved_now : (trace : List (Event C)) (past : List (World C)) (w next : World C) (e : Event C) (i place : ℕ) → place ≡ length past → length past ≡ length trace → acting_server m w e ≡ Some i → ((s : Server C) → slice_get w.servers i ≡ Some s → MayWantFor w e s) →
+  starved_now : (trace : List (Event C)) (past : List (World C)) (w next : World C) (e : Event C) (i place : ℕ) → place ≡ length past → length past ≡ length trace → acting_server m w e ≡ Some i → ((s : Raft C) → slice_get w.servers i ≡ Some s → MayWantFor w e s) →
       Starved m (trace ++ Crashes i ∷ []) (past ++ w ∷ []) next place e
   starved_now trace past w next e i place due same is lacking = record {
     before = w;

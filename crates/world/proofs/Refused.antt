@@ -9,7 +9,7 @@ use Rattle.wire.specs.declared.body.Body.{Body}
 use Rattle.wire.specs.declared.body.Body.TheVariants as bodies
 use Rattle.wire.specs.Frames.{Frame, MessageFits, message_at, message_text}
 use Rattle.raft_model.specs.Messages.{Message}
-use Rattle.raft_model.specs.Servers.{Server, Mode, Down, Follower, Candidate, Leader, Turn, is_up, is_leader, crashed}
+use Rattle.raft_model.specs.Rafts.{Raft, Mode, Down, Follower, Candidate, Leader, RaftTurn, is_up, is_leader, crashed}
 use Rattle.raft_model.specs.Steps.{Input, Arrives, Timeout, Beat, Propose, Compact, Crash, Restart, step}
 use Rattle.raft_model.specs.Worlds.{Event, Deliver, TimesOut, Beats, Proposes, Compacts, Crashes, Restarts}
 use Rattle.raft_core.specs.RaftView.{RaftView}
@@ -22,7 +22,7 @@ use Rattle.world.specs.Inner.HistoryView.{HistoryView}
 use Rattle.world.specs.Inner.Inputs.{is_restart, Leaves, StaysOrLeft, handed_by}
 use Rattle.world.specs.Inner.Parts.{IsPartRefused}
 
-refusal_is : {C : Type 0} (q : Result (Turn C) Refusal) (r : Refusal) → refusal_by q ≡ Some r → q ≡ Err r
+refusal_is : {C : Type 0} (q : Result (RaftTurn C) Refusal) (r : Refusal) → refusal_by q ≡ Some r → q ≡ Err r
 refusal_is (Ok turn) r h = absurd (cc)
 refusal_is (Err e) r h = let same : e ≡ r = cc in ap (λ x. Err x) same
 
@@ -66,13 +66,13 @@ module _ {S C : Type 0} (m : Meaning S C) (n me : ℕ)
       let kind : is_of_log (kind_of f.read.body) ≡ true = said_kind m x.from x.to f.read.body x f.means.said in
       rw (read, kind, f_from, f_to, inside, mine) refl
 
-  frame_refused : (s : Server C) (bytes : List ℕ) (x : Message C) (r : Refusal) (up : Bool) → is_up s.mode ≡ up → IsFrameOf m bytes x → x.from < n → x.to ≡ me →
+  frame_refused : (s : Raft C) (bytes : List ℕ) (x : Message C) (r : Refusal) (up : Bool) → is_up s.mode ≡ up → IsFrameOf m bytes x → x.from < n → x.to ≡ me →
       (if up then frame_refusal m n me bytes else Some refusals.Down) ≡ Some r → step m n me s (Arrives x) ≡ Err r
   frame_refused s bytes x r true is f from to h = absurd (let none : frame_refusal m n me bytes ≡ None = readable bytes x f from to in cc)
   frame_refused s bytes x r false is f from to h = let same : refusals.Down ≡ r = cc in rw is (ap (λ e. Err e) same)
 
   -- the refusal of what is handed in is that of the step
-  pub refused_is : (s : Server C) (h : Handed C) (x : Input C) (r : Refusal) → Reads m h x → IsAddressed n me x → refusal m n me s h ≡ Some r → step m n me s x ≡ Err r
+  pub refused_is : (s : Raft C) (h : Handed C) (x : Input C) (r : Refusal) → Reads m h x → IsAddressed n me x → refusal m n me s h ≡ Some r → step m n me s x ≡ Err r
   refused_is s (Bytes bytes) x r reads for h =
       let to : IsAddressed n me (Arrives reads.0) = subst (λ y. IsAddressed n me y) reads.2 for in
       subst (λ y. step m n me s y ≡ Err r) (sym reads.2) (frame_refused s bytes reads.0 r (is_up s.mode) refl reads.1 to.0 to.1 h)
@@ -84,7 +84,7 @@ leads_up Follower h = refl
 leads_up (Candidate votes) h = refl
 leads_up (Leader next match) h = refl
 
-module _ {S C : Type 0} (m : Meaning S C) (h h2 : RaftView S C) (sent : List Frame) (s : Server C) where
+module _ {S C : Type 0} (m : Meaning S C) (h h2 : RaftView S C) (sent : List Frame) (s : Raft C) where
   -- want of memory is a crash
   pub fallen : (e : Event C) → is_restart e ≡ false → MayLack s.mode (handed_by sent e) → LackLeaves m h s (handed_by sent e) h2 → (is_up s.mode ≡ true) × Represents m h2 (crashed s)
   fallen (Deliver k) other may left = (may, left)
@@ -119,12 +119,12 @@ pub as_is : {S C : Type 0} (old new : RaftView S C) → new ≡ old → LeftServ
 as_is old new e = (record { me = ap (λ (x : RaftView _ _). x.me) e; size = ap (λ (x : RaftView _ _). x.size) e; base = ap (λ (x : RaftView _ _). x.base) e; server = ap (λ (x : RaftView _ _). x.server) e }, λ h. ap (λ (x : RaftView _ _). x.projected) e ∙ h)
 
 module _ {S C : Type 0} (m : Meaning S C) (old : RaftView S C) (h : Handed C) (new : RaftView S C) where
-  leaves : (s : Server C) (cause : Refusal) → RefusalLeaves m old s h cause new → Leaves m old s h cause new
+  leaves : (s : Raft C) (cause : Refusal) → RefusalLeaves m old s h cause new → Leaves m old s h cause new
   leaves s refusals.NoMemory left = left
   leaves s _ left = as_is old new left
 
   -- a refusal of a step leaves the same server
-  pub step_leaves : {T : Type 0} (r : Result T Refusal) → IfErr r (λ cause. (s : Server C) → Represents m old s → RefusalLeaves m old s h cause new) → IfErr r (λ cause. (s : Server C) → Represents m old s → Leaves m old s h cause new)
+  pub step_leaves : {T : Type 0} (r : Result T Refusal) → IfErr r (λ cause. (s : Raft C) → Represents m old s → RefusalLeaves m old s h cause new) → IfErr r (λ cause. (s : Raft C) → Represents m old s → Leaves m old s h cause new)
   step_leaves (Ok x) f = tt
   step_leaves (Err cause) f = λ s r. leaves s cause (f s r)
 
@@ -139,7 +139,7 @@ module _ {S C : Type 0} (old : RaftView S C) (h : Handed C) (new : RaftView S C)
 
 -- any other refusal leaves the same server, and is that of what is handed in
 pub part_refused : {S C : Type 0} (m : Meaning S C) (h h2 : RaftView S C) (past : HistoryView C) (e : Event C) (cause : Refusal) → cause ≢ refusals.NoMemory →
-    ((s : Server C) → Represents m h s → IsRefused m h.size h.me s (handed_by past.sent e) cause) →
+    ((s : Raft C) → Represents m h s → IsRefused m h.size h.me s (handed_by past.sent e) cause) →
     StaysOrLeft (handed_by past.sent e) cause h h2 → LeftServer h h2 × IsPartRefused m h past e cause
 part_refused m h h2 past e refusals.NoMemory other refused left = absurd (other refl)
 part_refused m h h2 past e _ other refused left = (left, refused)

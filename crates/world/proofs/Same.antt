@@ -2,7 +2,7 @@
 use Rattle.std.proofs.Common.{◌≡◌, ℕ, List, [], ◌∷◌, length, refl, sym, ◌∙◌, subst, slice_set}
 use Rattle.std.specs.List.{AllZip}
 use Rattle.machine_model.specs.Meaning.{Meaning}
-use Rattle.raft_model.specs.Servers.{Server}
+use Rattle.raft_model.specs.Rafts.{Raft}
 use Rattle.raft_model.specs.Worlds.{World, Run}
 use Rattle.raft_core.specs.RaftView.{RaftView}
 use Rattle.raft_core.specs.Frames.{FrameCarries}
@@ -26,7 +26,7 @@ pub same_world : {S C : Type 0} (w : WorldView S C) → SameWorld w w
 same_world w = record { servers = same_all w.servers; sent = refl; trace = refl; chain = refl }
 
 module _ {S C : Type 0} (m : Meaning S C) where
-  represents_on : (xs ys : List (RaftView S C)) (ss : List (Server C)) → AllZip LeftServer xs ys → AllZip (Represents m) xs ss → AllZip (Represents m) ys ss
+  represents_on : (xs ys : List (RaftView S C)) (ss : List (Raft C)) → AllZip LeftServer xs ys → AllZip (Represents m) xs ss → AllZip (Represents m) ys ss
   represents_on [] [] ss same r = r
   represents_on [] (y ∷ ys) ss same r = absurd same
   represents_on (x ∷ xs) [] ss same r = absurd same

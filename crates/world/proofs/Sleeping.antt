@@ -6,7 +6,7 @@ use Rattle.rows.specs.declared.refusal.Refusal.TheVariants as refusals
 use Rattle.machine_model.specs.Meaning.{Meaning, LawfulMachine, IsMachineRefusal}
 use Rattle.wire.specs.Frames.{Frame}
 use Rattle.raft_model.specs.Logs.{MAX, state_after}
-use Rattle.raft_model.specs.Servers.{Server, Mode, Down, Follower, Candidate, Leader, Turn, is_up, is_leader}
+use Rattle.raft_model.specs.Rafts.{Raft, Mode, Down, Follower, Candidate, Leader, RaftTurn, is_up, is_leader}
 use Rattle.raft_model.specs.Steps.{Input, Arrives, Timeout, Beat, Propose, Compact, Crash, Restart, acts, unless, step}
 use Rattle.raft_model.specs.Worlds.{World, Event, happens, after_turn, acting_server}
 use Rattle.raft_safety.proofs.Places.{get-within}
@@ -25,7 +25,7 @@ module _ {S C : Type 0} (m : Meaning S C) (sent : List Frame) (w : World C) (z :
   absent : (e : Event C) (i : ℕ) → acting_server m w e ≡ Some i → slice_get w.servers i ≡ None → happens m w e ≡ Err refusals.OutOfRange
   absent e i who gone = let b = brings m sent w e i z who in b.takes ∙ rw gone refl
 
-  sleeping : (e : Event C) (i : ℕ) (s : Server C) → acting_server m w e ≡ Some i → slice_get w.servers i ≡ Some s → is_up s.mode ≡ false → is_restart e ≡ false → happens m w e ≡ Err refusals.Down
+  sleeping : (e : Event C) (i : ℕ) (s : Raft C) → acting_server m w e ≡ Some i → slice_get w.servers i ≡ Some s → is_up s.mode ≡ false → is_restart e ≡ false → happens m w e ≡ Err refusals.Down
   sleeping e i s who here down other = let b = brings m sent w e i z who in b.takes ∙ took m w i b.input s (Err refusals.Down) here (b.sleeps other _ i s down)
 
 -- no refusal for being down
@@ -45,8 +45,8 @@ pub own_is_no_down : (r : Refusal) → IsMachineRefusal r → r ≢ refusals.Dow
 own_is_no_down refusals.Down h e = h
 own_is_no_down _ h e = absurd (cc)
 
-module _ {S C : Type 0} (m : Meaning S C) (law : LawfulMachine m) (n me : ℕ) (s : Server C) where
-  awake_unless : (refusal : Option Refusal) (turn : Turn C) → ((r : Refusal) → refusal ≡ Some r → r ≢ refusals.Down) → Awake (unless refusal turn)
+module _ {S C : Type 0} (m : Meaning S C) (law : LawfulMachine m) (n me : ℕ) (s : Raft C) where
+  awake_unless : (refusal : Option Refusal) (turn : RaftTurn C) → ((r : Refusal) → refusal ≡ Some r → r ≢ refusals.Down) → Awake (unless refusal turn)
   awake_unless None turn h = tt
   awake_unless (Some r) turn h = h r refl
 
@@ -69,7 +69,7 @@ module _ {S C : Type 0} (m : Meaning S C) (law : LawfulMachine m) (n me : ℕ) (
   restart_awake : Awake (step m n me s Restart)
   restart_awake = awake_if (is_up s.mode) _ _ (λ e. cc) tt
 
-  after_awake : (w : World C) (i : ℕ) (q : Result (Turn C) Refusal) → Awake q → Awake (after_turn m w i q)
+  after_awake : (w : World C) (i : ℕ) (q : Result (RaftTurn C) Refusal) → Awake q → Awake (after_turn m w i q)
   after_awake w i (Ok turn) h = tt
   after_awake w i (Err r) h = h
 
@@ -92,7 +92,7 @@ module _ {S C : Type 0} (m : Meaning S C) (now : WorldView S C) (e : Event C) (i
       let st = r.represents in
       absent m now.sent w st.sent e i (acts w st.sent) (zip_none (Represents m) now.servers w.servers i st.servers gone)
 
-  module _ (h : RaftView S C) (role : Option Role) (here : slice_get now.servers i ≡ Some h) (says : (s : Server C) → Represents m h s → role ≡ role_of s.mode) where
+  module _ (h : RaftView S C) (role : Option Role) (here : slice_get now.servers i ≡ Some h) (says : (s : Raft C) → Represents m h s → role ≡ role_of s.mode) where
     pub refuses_sleeping : is_some role ≡ false → is_restart e ≡ false → RefusesEvent m now e refusals.Down
     refuses_sleeping none other past w r =
         let st = r.represents in

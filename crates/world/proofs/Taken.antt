@@ -3,7 +3,7 @@ use Rattle.std.proofs.Common.{◌≡◌, ℕ, inl, inr, max, Some, Result, Ok, [
 use Rattle.std.specs.List.{AllZip}
 use Rattle.rows.specs.declared.refusal.Refusal.{Refusal}
 use Rattle.machine_model.specs.Meaning.{Meaning}
-use Rattle.raft_model.specs.Servers.{Server, Turn}
+use Rattle.raft_model.specs.Rafts.{Raft, RaftTurn}
 use Rattle.raft_model.specs.Steps.{Input, step}
 use Rattle.raft_model.specs.Worlds.{World, Event, Run, more, IsEvent, happens, takes, after_turn}
 use Rattle.raft_core.specs.RaftView.{RaftView}
@@ -20,7 +20,7 @@ use Rattle.world.proofs.Heights.{height_next}
 
 module _ {S C : Type 0} (m : Meaning S C) where
   -- what a server's step makes of the world
-  pub took : (w : World C) (i : ℕ) (x : Input C) (s : Server C) (r : Result (Turn C) Refusal) → slice_get w.servers i ≡ Some s → step m (length w.servers) i s x ≡ r → takes m w i x ≡ after_turn m w i r
+  pub took : (w : World C) (i : ℕ) (x : Input C) (s : Raft C) (r : Result (RaftTurn C) Refusal) → slice_get w.servers i ≡ Some s → step m (length w.servers) i s x ≡ r → takes m w i x ≡ after_turn m w i r
   took w i x s r here is = rw here (ap (λ q. after_turn m w i q) is)
 
 -- server i, which is h, takes the event, and is h2 then
@@ -28,8 +28,8 @@ module _ {S C : Type 0} (m : Meaning S C) (old new : WorldView S C) (e : Event C
     (numbered : Numbered old) (here : slice_get old.servers i ≡ Some h)
     (servers : new.servers ≡ slice_set old.servers i h2) where
   -- the world after the step, and that the event leads there
-  pub record Moved (w : World C) (turn : Turn C) : Type 0 where
-    pub server : Server C
+  pub record Moved (w : World C) (turn : RaftTurn C) : Type 0 where
+    pub server : Raft C
     pub next : World C
     pub at : slice_get w.servers i ≡ Some server
     pub list : next.servers ≡ slice_set w.servers i turn.server
@@ -40,7 +40,7 @@ module _ {S C : Type 0} (m : Meaning S C) (old new : WorldView S C) (e : Event C
   pub count_kept : length new.servers ≡ length old.servers
   count_kept = ap length servers ∙ set-length old.servers i h2
 
-  pub moved : (w : World C) (st : RepresentsWorld m old w) (s : Server C) (x : Input C) → slice_get w.servers i ≡ Some s → happens m w e ≡ takes m w i x → (t : Steps m h s x h2 old.sent new.sent) → Moved w t.turn
+  pub moved : (w : World C) (st : RepresentsWorld m old w) (s : Raft C) (x : Input C) → slice_get w.servers i ≡ Some s → happens m w e ≡ takes m w i x → (t : Steps m h s x h2 old.sent new.sent) → Moved w t.turn
   moved w st s x at feed t =
       let n = numbered i h here in
       let size : h.size ≡ length w.servers = n.1 ∙ zip_length (Represents m) old.servers w.servers st.servers in
@@ -67,7 +67,7 @@ module _ {S C : Type 0} (m : Meaning S C) (old new : WorldView S C) (e : Event C
         | inr q ↦ let k = numbered j a q.1 in (k.0, k.1 ∙ sym count_kept)
       ]
 
-  pub goes_by : IsEvent m e → new.trace ≡ old.trace ++ e ∷ [] → (move : (w : World C) → RepresentsWorld m old w → (turn : Turn C) × Moved w turn) →
+  pub goes_by : IsEvent m e → new.trace ≡ old.trace ++ e ∷ [] → (move : (w : World C) → RepresentsWorld m old w → (turn : RaftTurn C) × Moved w turn) →
       ((w : World C) (st : RepresentsWorld m old w) → let q = move w st in new.chain ≡ max old.chain (committed q.0.server)) → EventHappened m old e new
   goes_by is trace move chain = record {
     size = count_kept;

@@ -4,7 +4,7 @@ use Rattle.std.specs.Prelude.{◌≡◌, ℕ, if◌then◌else◌, Option, Some,
 use Rattle.machine_model.specs.Meaning.{Meaning}
 use Rattle.machine_model.specs.declared.entry.Entry.{Entry}
 use Rattle.raft_model.specs.Logs.{state_after}
-use Rattle.raft_model.specs.Servers.{Server, is_up}
+use Rattle.raft_model.specs.Rafts.{Raft, is_up}
 use Rattle.raft_model.specs.Worlds.{World, OneLeader}
 use Rattle.raft_model.specs.Chains.{Chain}
 use Rattle.raft_safety.specs.Claims.{LogMatching}
@@ -49,7 +49,7 @@ pub record StatesSafeEver {S C : Type 0} (m : Meaning S C) (view : WorldView S C
 -- ---- machines
 
 -- the machine of a server, while it is up: in the state after what it has committed
-abbrev pub running_state : {S C : Type 0} → Meaning S C → Option (Server C) → Option S
+abbrev pub running_state : {S C : Type 0} → Meaning S C → Option (Raft C) → Option S
 running_state m None = None
 running_state m (Some s) = if is_up s.mode then Some (state_after m (take s.commit s.log)) else None
 

@@ -9,12 +9,12 @@ use Rattle.world.specs.declared.event.RaftEvent.TheVariants as events
 
 -- Messages are numbered from 1, places from 0. No list in memory reaches the place that is that of
 -- the number 0.
-abbrev pub place_of : ℕ → ℕ
-place_of zero = 2 ^ 64
-place_of (suc k) = k
+abbrev pub position_of : ℕ → ℕ
+position_of zero = 2 ^ 64
+position_of (suc k) = k
 
 abbrev pub world_event : {S C : Type 0} → RaftEvent S C → Event C
-world_event (events.Deliver k) = Deliver (place_of k)
+world_event (events.Deliver k) = Deliver (position_of k)
 world_event (events.Timeout i) = TimesOut i
 world_event (events.Beat i) = Beats i
 world_event (events.Propose i command) = Proposes i command.value

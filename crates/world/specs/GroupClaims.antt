@@ -6,8 +6,8 @@ use Rattle.machine_model.specs.declared.entry.Entry.{Entry}
 use Rattle.raft_safety.specs.Claims.{IsGreatestCommit}
 use Rattle.cluster_model.specs.Words.{State}
 use Rattle.cluster_model.specs.ClusterMachine.{cluster_meaning}
-use Rattle.group_model.specs.Inputs as servers
-use Rattle.group_model.specs.Clients as clients
+use Rattle.group_model.specs.Inputs as inputs
+use Rattle.group_model.specs.Agents as agents
 use Rattle.group_model.specs.Worlds.{World, Event, Deliver, AtServer, AtClient, raft_of}
 use Rattle.group_safety.specs.Claims.{OneList, SafeStates, PlansAreBacked, StartsArePlaced, logs}
 use Rattle.world.specs.Claims.{machine_of}
@@ -78,7 +78,7 @@ IsGreatestEver view n = (past : List World) (w : World) → GroupRunsTo view pas
 -- its receiver, or an actor takes an input of its own, which is never an arrival.
 abbrev pub IsTraced : ℕ → Event → Type 0
 IsTraced sent (Deliver place) = place < sent
-IsTraced sent (AtServer server (servers.Arrives message)) = ⊥
+IsTraced sent (AtServer server (inputs.Arrives message)) = ⊥
 IsTraced sent (AtServer server input) = Unit {0}
-IsTraced sent (AtClient client (clients.Arrives from response)) = ⊥
+IsTraced sent (AtClient client (agents.Arrives from response)) = ⊥
 IsTraced sent (AtClient client input) = Unit {0}

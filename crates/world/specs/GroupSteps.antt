@@ -7,13 +7,13 @@ use Rattle.rows.specs.declared.refusal.Refusal.{Refusal}
 use Rattle.rows.specs.declared.refusal.Refusal.TheVariants as refusals
 use Rattle.raft_model.specs.Worlds.{Outcome, Kept, LeftOut}
 use Rattle.raft_model.specs.Worlds.{Crashed as OutcomeCrashed}
-use Rattle.group_model.specs.Inputs as servers
-use Rattle.group_model.specs.Clients as clients
-use Rattle.group_model.specs.Clients.{Client}
-use Rattle.group_model.specs.Members.{Member}
+use Rattle.group_model.specs.Inputs as inputs
+use Rattle.group_model.specs.Agents as agents
+use Rattle.group_model.specs.Agents.{Agent}
+use Rattle.group_model.specs.Servers.{Server}
 use Rattle.group_model.specs.Worlds.{World, Event, Deliver, AtServer, AtClient, first, happens, crash_of, client_at, IsRestart, Trace, moment}
 use Rattle.client_agent.specs.Refusals.{RunsIn}
-use Rattle.server.specs.ServerViews.{SameMember}
+use Rattle.server.specs.ServerViews.{SameServer}
 use Rattle.server.specs.Refusals.{MayTakeMemory}
 use Rattle.world.specs.declared.done.Done.{Done}
 use Rattle.world.specs.declared.done.Done.TheVariants.{Taken, Crashed}
@@ -36,7 +36,7 @@ pub record GroupEventHappened (old : GroupView) (e : Event) (new : GroupView) : 
       (next : World) × (happens w e ≡ Ok next) × GroupRunsTo new (past ++ w ∷ []) next
 
 -- the allocation runs at the client
-abbrev pub RunsThere : Option Client → AllocId → Type 0
+abbrev pub RunsThere : Option Agent → AllocId → Type 0
 RunsThere None id = ⊥
 RunsThere (Some x) id = RunsIn x.life id
 
@@ -45,13 +45,13 @@ RunsThere (Some x) id = RunsIn x.life id
 -- the end of an allocation that runs there.
 abbrev pub MayWantAt : World → Event → Type 0
 MayWantAt w (Deliver k) = Unit {0}
-MayWantAt w (AtServer i (servers.Arrives message)) = ⊥
+MayWantAt w (AtServer i (inputs.Arrives message)) = ⊥
 MayWantAt w (AtServer i input) =
-    (s : Member) → slice_get w.servers i ≡ Some s → MayTakeMemory (length w.servers) s input
-MayWantAt w (AtClient c (clients.RegisterAt server)) = server < length w.servers
-MayWantAt w (AtClient c (clients.Ping server)) = server < length w.servers
-MayWantAt w (AtClient c (clients.PullFrom server)) = server < length w.servers
-MayWantAt w (AtClient c (clients.End id ok)) = RunsThere (client_at w.clients c) id
+    (s : Server) → slice_get w.servers i ≡ Some s → MayTakeMemory (length w.servers) s input
+MayWantAt w (AtClient c (agents.RegisterAt server)) = server < length w.servers
+MayWantAt w (AtClient c (agents.Ping server)) = server < length w.servers
+MayWantAt w (AtClient c (agents.PullFrom server)) = server < length w.servers
+MayWantAt w (AtClient c (agents.End id ok)) = RunsThere (client_at w.clients c) id
 MayWantAt w (AtClient c _) = ⊥
 
 -- the event's actor found no memory, and crashes in its place
@@ -76,7 +76,7 @@ IsGroupDone old e Crashed new = GroupActorCrashed old e new ⊎ GroupStaysDown o
 -- Nothing happened: the same servers, clients, messages, events and chain. A leader that refused a
 -- command may have made its machine after its whole log.
 pub record SameView (old new : GroupView) : Type 0 where
-  pub servers : AllZip SameMember old.servers new.servers
+  pub servers : AllZip SameServer old.servers new.servers
   pub clients : new.clients ≡ old.clients
   pub outbox : new.outbox ≡ old.outbox
   pub trace : new.trace ≡ old.trace
@@ -94,8 +94,8 @@ HasActor w (AtClient c input) = (1 ≤ c) × (c ≤ length w.clients)
 
 -- no message that comes as an input of an actor's own
 abbrev pub IsNoArrival : Event → Type 0
-IsNoArrival (AtServer i (servers.Arrives message)) = ⊥
-IsNoArrival (AtClient c (clients.Arrives from response)) = ⊥
+IsNoArrival (AtServer i (inputs.Arrives message)) = ⊥
+IsNoArrival (AtClient c (agents.Arrives from response)) = ⊥
 IsNoArrival e = Unit {0}
 
 -- In this world the event comes to its actor: that is there, and is up or is to restart, so that

@@ -7,14 +7,14 @@ use Rattle.rows.specs.declared.node.NodeSpec.{NodeSpec}
 use Rattle.wire.specs.Frames.{Frame}
 use Rattle.raft_safety.specs.Claims.{IsGreatestCommit}
 use Rattle.cluster_model.specs.ClusterMachine.{cluster_meaning}
-use Rattle.group_model.specs.Clients.{Client}
+use Rattle.group_model.specs.Agents.{Agent}
 use Rattle.group_model.specs.Worlds.{World, Event, raft_of}
 use Rattle.group_safety.specs.Claims.{logs}
 use Rattle.group_safety.specs.Limits.{NodesFit, LimitedRun}
 use Rattle.group_frames.specs.GroupFrames.{CarriesGroup}
 use Rattle.client_agent.specs.AgentView.{AgentView}
 use Rattle.server.specs.declared.server.Outbox.{Outbox}
-use Rattle.server.specs.ServerViews.{ServerView, IsMember}
+use Rattle.server.specs.ServerViews.{ServerView, IsServer}
 use Rattle.rows.specs.GroupSizes.{IsGroup}
 
 -- the servers, the clients, all frames that were ever sent with what came for workers and was not
@@ -26,7 +26,7 @@ pub record GroupView : Type 0 where
   pub trace : List Event
   pub chain : ℕ
 
-abbrev pub client_in : AgentView → Client
+abbrev pub client_in : AgentView → Agent
 client_in a = a.client
 
 abbrev pub node_in : AgentView → NodeSpec
@@ -44,7 +44,7 @@ renumbered k (node ∷ nodes) = record node { number = k } ∷ renumbered (suc k
 -- its servers and clients are those of the world, and its frames carry the messages there, one for
 -- one
 pub record RepresentsGroup (view : GroupView) (w : World) : Type 0 where
-  pub servers : AllZip IsMember view.servers w.servers
+  pub servers : AllZip IsServer view.servers w.servers
   pub clients : map client_in view.clients ≡ w.clients
   pub sent : AllZip (CarriesGroup cluster_meaning) view.outbox.frames w.sent
 
@@ -56,21 +56,21 @@ pub record GroupRunsTo (view : GroupView) (past : List World) (w : World) : Type
   pub represents : RepresentsGroup view w
   pub chain : IsGreatestCommit (logs past) (raft_of w) view.chain
 
--- each server knows its place and the size of the group
-abbrev pub ServersKnowPlaces : GroupView → Type 0
-ServersKnowPlaces view = (i : ℕ) (s : ServerView) → slice_get view.servers i ≡ Some s → (s.raft.me ≡ i) × (s.raft.size ≡ length view.servers)
+-- each server knows its number and the size of the group
+abbrev pub ServersKnowNumbers : GroupView → Type 0
+ServersKnowNumbers view = (i : ℕ) (s : ServerView) → slice_get view.servers i ≡ Some s → (s.raft.me ≡ i) × (s.raft.size ≡ length view.servers)
 
 -- so does each client, which is numbered as its node, from 1
-abbrev pub ClientsKnowPlaces : GroupView → Type 0
-ClientsKnowPlaces view = (i : ℕ) (a : AgentView) → slice_get view.clients i ≡ Some a → (a.client.node.number ≡ suc i) × (a.size ≡ length view.servers)
+abbrev pub ClientsKnowNumbers : GroupView → Type 0
+ClientsKnowNumbers view = (i : ℕ) (a : AgentView) → slice_get view.clients i ≡ Some a → (a.client.node.number ≡ suc i) × (a.size ≡ length view.servers)
 
 -- what every group keeps
 pub record IsGroupWorld (view : GroupView) : Type 0 where
   pub past : List World
   pub world : World
   pub runs : GroupRunsTo view past world
-  pub servers : ServersKnowPlaces view
-  pub clients : ClientsKnowPlaces view
+  pub servers : ServersKnowNumbers view
+  pub clients : ClientsKnowNumbers view
   pub nodes : NodesFit (nodes_of view)
   pub size : IsGroup (length view.servers)
 

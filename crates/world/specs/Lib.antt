@@ -2,8 +2,10 @@ pub mod Events
 pub mod WorldView
 pub mod Steps
 pub mod Claims
+pub mod Tickets
 pub mod GroupEvents
 pub mod GroupView
 pub mod GroupSteps
 pub mod GroupClaims
+pub mod GroupTickets
 pub mod Inner

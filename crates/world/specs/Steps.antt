@@ -4,11 +4,11 @@ use Rattle.rows.specs.declared.refusal.Refusal.{Refusal}
 use Rattle.rows.specs.declared.refusal.Refusal.TheVariants as refusals
 use Rattle.std.specs.List.{AllZip}
 use Rattle.machine_model.specs.Meaning.{Meaning}
-use Rattle.raft_model.specs.Servers.{Server}
+use Rattle.raft_model.specs.Rafts.{Raft}
 use Rattle.raft_model.specs.Steps.{Input}
 use Rattle.raft_model.specs.Worlds.{World, Event, first, Crashes, Outcome, Kept, LeftOut, Trace, moment, happens, acting_server, IsRestart}
 use Rattle.raft_model.specs.Worlds.{Crashed as OutcomeCrashed}
-use Rattle.raft_core.specs.RaftView.{RaftView, SameServer}
+use Rattle.raft_core.specs.RaftView.{RaftView, SameRaft}
 use Rattle.raft_core.specs.Refusals.{MayWant}
 use Rattle.world.specs.declared.done.Done.{Done}
 use Rattle.world.specs.declared.done.Done.TheVariants.{Taken, Crashed}
@@ -27,14 +27,14 @@ pub record EventHappened {S C : Type 0} (m : Meaning S C) (old : WorldView S C) 
       (next : World C) × (happens m w e ≡ Ok next) × RunsTo m new (past ++ w ∷ []) next
 
 -- in this world the event is an input for which its actor, which is s, may want memory
-abbrev pub MayWantFor : {C : Type 0} → World C → Event C → Server C → Type 0
+abbrev pub MayWantFor : {C : Type 0} → World C → Event C → Raft C → Type 0
 MayWantFor {C} w e s = (input : Input C) × (event_input w e ≡ Some input) × MayWant s.mode input
 
 -- the event's actor found no memory, and crashes in its place
 pub record ActorCrashed {S C : Type 0} (m : Meaning S C) (old : WorldView S C) (e : Event C) (new : WorldView S C) : Type 0 where
   pub who : ℕ
   pub actor : (w : World C) → RepresentsWorld m old w → acting_server m w e ≡ Some who
-  pub lacking : (w : World C) (s : Server C) → RepresentsWorld m old w → slice_get w.servers who ≡ Some s →
+  pub lacking : (w : World C) (s : Raft C) → RepresentsWorld m old w → slice_get w.servers who ≡ Some s →
       MayWantFor w e s
   pub happened : EventHappened m old (Crashes who) new
 
@@ -52,7 +52,7 @@ WasDone m old e Crashed new = ActorCrashed m old e new ⊎ StaysDown m old e new
 -- A server as a refusal leaves it: the same one. A leader that refused a command may have made its
 -- machine after its whole log; one that held it holds it still.
 abbrev pub LeftServer : {S C : Type 0} → RaftView S C → RaftView S C → Type 0
-LeftServer old new = SameServer old new × (old.projected ≡ true → new.projected ≡ true)
+LeftServer old new = SameRaft old new × (old.projected ≡ true → new.projected ≡ true)
 
 -- Nothing happened: the same servers, as a refusal leaves them, messages, events and chain.
 pub record SameWorld {S C : Type 0} (old new : WorldView S C) : Type 0 where
@@ -98,7 +98,7 @@ pub record Starved {S C : Type 0} (m : Meaning S C) (trace : List (Event C)) (pa
   pub before_is : moment past w place ≡ Some before
   pub crash_is : slice_get trace place ≡ Some (Crashes who)
   pub of : acting_server m before e ≡ Some who
-  pub lacking : (s : Server C) → slice_get before.servers who ≡ Some s → MayWantFor before e s
+  pub lacking : (s : Raft C) → slice_get before.servers who ≡ Some s → MayWantFor before e s
 
 -- what may have become of an event: its server crashed only where it might want memory
 abbrev pub MayBecome : {S C : Type 0} → Meaning S C → List (Event C) → List (World C) → World C → ℕ → Event C → Outcome → Type 0
@@ -107,10 +107,10 @@ MayBecome m trace past w place e OutcomeCrashed = Starved m trace past w place e
 MayBecome m trace past w place e (LeftOut r) = Unit {0}
 
 -- where the next event stands in the trace, behind one that stands here, or was left out
-abbrev pub next_place : ℕ → Outcome → ℕ
-next_place place Kept = suc place
-next_place place OutcomeCrashed = suc place
-next_place place (LeftOut r) = place
+abbrev pub next_position : ℕ → Outcome → ℕ
+next_position place Kept = suc place
+next_position place OutcomeCrashed = suc place
+next_position place (LeftOut r) = place
 
 -- Each event became what its outcome says, at its own place in the trace; the first is due at this
 -- place.
@@ -118,7 +118,7 @@ abbrev pub EachBecame : {E : Type 0} → (ℕ → E → Outcome → Type 0) → 
 EachBecame R place [] [] = Unit {0}
 EachBecame R place [] (o ∷ os) = ⊥
 EachBecame R place (e ∷ es) [] = ⊥
-EachBecame R place (e ∷ es) (o ∷ os) = R place e o × EachBecame R (next_place place o) es os
+EachBecame R place (e ∷ es) (o ∷ os) = R place e o × EachBecame R (next_position place o) es os
 
 -- The value's trace is that of the events handed in: each was kept, was replaced by its actor's
 -- crash, for want of memory, or was left out.

@@ -1,6 +1,6 @@
 //! What is kept beside the servers of a group, and what one event changes.
 ghost use Rattle.std.specs.Prelude.{◌≡◌, max, []};
-ghost use Rattle.raft_model.specs.Servers.{Server};
+ghost use Rattle.raft_model.specs.Rafts.{Raft as AnyRaft};
 ghost use Rattle.raft_core.specs.Steps.{Represents};
 ghost use Rattle.world.specs.Events.{world_event, world_events};
 ghost use Rattle.world.specs.Inner.Inputs.{committed};
@@ -39,7 +39,7 @@ impl<M: Machine> Model for History<M> {
 
 /// The greater of the chain so far and what a server has applied.
 fn longer<M: Machine>(chain: Index, raft: &Raft<M>) -> Index
-    ensures { (s : Server M.Command) → Represents M.meaning raft.now s →
+    ensures { (s : AnyRaft M.Command) → Represents M.meaning raft.now s →
         result ≡ max chain (committed s) }
 {
     match raft.applied() {

@@ -1,13 +1,13 @@
 ghost use Rattle.std.specs.Prelude.{◌≡◌, IfSome, IfNone, OnOk, OnErr, IfErr, OnSome, List, slice_get};
 ghost use Rattle.rows.specs.declared.refusal.Refusal.TheVariants as refusals;
 ghost use Rattle.wire.specs.Frames.{Frame};
-ghost use Rattle.raft_model.specs.Servers.{Server};
+ghost use Rattle.raft_model.specs.Rafts.{Raft as AnyRaft};
 ghost use Rattle.raft_model.specs.Steps.{Propose};
 ghost use Rattle.raft_model.specs.Worlds.{Deliver};
 ghost use Rattle.raft_core.specs.Inputs.{Own};
 ghost use Rattle.raft_core.specs.Steps.{Represents, Takes};
 ghost use Rattle.raft_core.specs.Refusals.{IsRefused};
-ghost use Rattle.world.specs.Events.{place_of, world_event};
+ghost use Rattle.world.specs.Events.{position_of, world_event};
 ghost use Rattle.world.specs.Inner.Inputs.{ActsIn, NobodyActsIn, IsSent, HasFrame, Leaves, StaysOrLeft, handed_by};
 
 use crate::event::RaftEvent;
@@ -18,7 +18,7 @@ use wire::{Frame, Frames};
 
 /// The k-th frame, from 1.
 fn frame_at(sent: &Frames, k: u64) -> Option<Frame<'_>>
-    ensures { result ≡ slice_get sent.now (place_of k) }
+    ensures { result ≡ slice_get sent.now (position_of k) }
 {
     let count = sent.len() as u64;
     if k == 0 || k > count {
@@ -29,10 +29,10 @@ fn frame_at(sent: &Frames, k: u64) -> Option<Frame<'_>>
 
 /// The server that is to receive the k-th message; none where there is no such message.
 fn receiver<M: Machine>(sent: &Frames, k: u64) -> Option<ServerId>
-    ensures some { IfSome result (λ i. ActsIn M.meaning sent.now (Deliver (place_of k)) i) }
-    ensures sent { OnSome result (IsSent {C = M.Command} sent.now (Deliver (place_of k))) }
+    ensures some { IfSome result (λ i. ActsIn M.meaning sent.now (Deliver (position_of k)) i) }
+    ensures sent { OnSome result (IsSent {C = M.Command} sent.now (Deliver (position_of k))) }
     ensures none { IfNone result
-        (NobodyActsIn M.meaning sent.now (Deliver (place_of k)) refusals.OutOfRange) }
+        (NobodyActsIn M.meaning sent.now (Deliver (position_of k)) refusals.OutOfRange) }
 {
     match frame_at(sent, k)?.to() {
         Actor::Server(server) => Some(server),
@@ -58,22 +58,24 @@ pub(crate) fn actor<M: Machine>(sent: &Frames, event: &RaftEvent<M>) -> Option<S
     }
 }
 
-/// A command is proposed to a server, which crashes where it finds no memory.
+/// A command is proposed to a server, which crashes where it finds no memory. Where it stands is
+/// read off the server later.
 fn propose<M: Machine>(raft: &mut Raft<M>, command: M::Command) -> Result<(), Refusal>
     ensures same { (raft.new.me ≡ raft.old.me) × (raft.new.size ≡ raft.old.size) }
-    ensures taken { OnOk result ((s : Server M.Command) (sent : List Frame) →
+    ensures taken { OnOk result ((s : AnyRaft M.Command) (sent : List Frame) →
         Represents M.meaning raft.old s →
         Takes M.meaning raft.old s (Own (Propose command)) raft.new sent sent) }
-    ensures refused { IfErr result (λ cause. (s : Server M.Command) →
+    ensures refused { IfErr result (λ cause. (s : AnyRaft M.Command) →
         Represents M.meaning raft.old s →
         IsRefused M.meaning raft.old.size raft.old.me s (Own (Propose command)) cause) }
-    ensures left { IfErr result (λ cause. (s : Server M.Command) → Represents M.meaning raft.old s →
+    ensures left { IfErr result (λ cause. (s : AnyRaft M.Command) →
+        Represents M.meaning raft.old s →
         Leaves M.meaning raft.old s (Own (Propose command)) cause raft.new) }
     ensures stays { IfErr result (λ cause.
         StaysOrLeft (Own (Propose command)) cause raft.old raft.new) }
 {
     match raft.propose(command) {
-        Ok(()) => Ok(()),
+        Ok(_) => Ok(()),
         Err(refusal) => match refusal {
             Refusal::NoMemory => {
                 raft.crash();
@@ -119,15 +121,16 @@ pub(crate) fn hand<M: Machine>(
 ) -> Result<(), Refusal>
     requires { HasFrame sent.old (world_event event) frame.now }
     ensures same { (raft.new.me ≡ raft.old.me) × (raft.new.size ≡ raft.old.size) }
-    ensures taken { OnOk result ((s : Server M.Command) → Represents M.meaning raft.old s →
+    ensures taken { OnOk result ((s : AnyRaft M.Command) → Represents M.meaning raft.old s →
         Takes M.meaning raft.old s (handed_by sent.old (world_event event)) raft.new sent.old
         sent.new) }
     ensures unsent { OnErr result (sent.new ≡ sent.old) }
-    ensures refused { IfErr result (λ cause. (s : Server M.Command) →
+    ensures refused { IfErr result (λ cause. (s : AnyRaft M.Command) →
         Represents M.meaning raft.old s →
         IsRefused M.meaning raft.old.size raft.old.me s (handed_by sent.old (world_event event))
         cause) }
-    ensures left { IfErr result (λ cause. (s : Server M.Command) → Represents M.meaning raft.old s →
+    ensures left { IfErr result (λ cause. (s : AnyRaft M.Command) →
+        Represents M.meaning raft.old s →
         Leaves M.meaning raft.old s (handed_by sent.old (world_event event)) cause raft.new) }
     ensures stays { IfErr result (λ cause.
         StaysOrLeft (handed_by sent.old (world_event event)) cause raft.old raft.new) }

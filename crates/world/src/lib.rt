@@ -8,6 +8,7 @@ mod group;
 mod history;
 mod input;
 mod machines;
+mod tickets;
 mod world;
 
 pub use done::Done;

@@ -1,15 +1,16 @@
-ghost use Rattle.std.specs.Prelude.{◌≡◌, ◌≢◌, ◌<◌, length, slice_get, true, Err, List, MatchBool, IfOk, OnErr, IfErr};
+ghost use Rattle.std.specs.Prelude.{◌≡◌, ◌≢◌, ◌<◌, ℕ, length, slice_get, true, Err, List, MatchBool, IfOk, OnErr, IfErr};
 ghost use Rattle.std.specs.Option.{option_copied};
 ghost use Rattle.rows.specs.declared.refusal.Refusal.TheVariants as refusals;
-ghost use Rattle.raft_model.specs.Servers.{newcomer};
+ghost use Rattle.raft_model.specs.Rafts.{newcomer};
 ghost use Rattle.raft_model.specs.Worlds.{World};
-ghost use Rattle.raft_core.specs.Steps.{Represents, IsGroupPlace};
+ghost use Rattle.raft_core.specs.Steps.{Represents, IsGroupMember};
 ghost use Rattle.raft_safety.specs.Claims.{IsGreatestCommit};
 ghost use Rattle.world.specs.Events.{world_event, world_events};
 ghost use Rattle.rows.specs.GroupSizes.{IsGroup};
 ghost use Rattle.world.specs.WorldView.{RunsTo};
 ghost use Rattle.world.specs.Steps.{WasDone, SameWorld, RefusesEvent, IsAwake, IsNew, IsNoGroup, Played, Replays};
 ghost use Rattle.world.specs.Claims.{OneLeaderEver, LogsMatchEver, OneListEver, StatesSafeEver};
+ghost use Rattle.world.specs.Tickets.{StoodEver};
 ghost use Rattle.world.specs.Inner.Inputs.{ActsIn, IsSent};
 
 use crate::done::Done;
@@ -43,12 +44,12 @@ impl<M: Machine> Model for RaftWorld<M> {
 }
 
 /// The server at this place, before its first input.
-fn newcomer<M: Machine>(alloc: Global, place: usize, n: usize) -> Result<Raft<M>, NoMemory>
-    requires { IsGroupPlace n place }
-    ensures number { IfOk result (λ r. (r.me ≡ place) × (r.size ≡ n)) }
+fn newcomer<M: Machine>(alloc: Global, position: usize, n: usize) -> Result<Raft<M>, NoMemory>
+    requires { IsGroupMember n position }
+    ensures number { IfOk result (λ r. (r.me ≡ position) × (r.size ≡ n)) }
     ensures server { IfOk result (λ r. Represents M.meaning r newcomer) }
 {
-    let Some(me) = ServerId::from_place(place) else {
+    let Some(me) = ServerId::from_position(position) else {
         unreachable!()
     };
     match Raft::restart(alloc, me, n, Stable::new(alloc)) {
@@ -89,7 +90,7 @@ impl<M: Machine> RaftWorld<M> {
         // A frame that a server of the group sent is not refused for its bytes.
         frames_are_whole::<M>();
         within_limits::<M>();
-        let raft = &mut self.servers[server.place()];
+        let raft = &mut self.servers[server.position()];
         self.history.take(raft, server, event)
     }
 
@@ -143,6 +144,10 @@ impl<M: Machine> RaftWorld<M> {
         ensures one_list { OneListEver M.meaning self.new }
         ensures safe_states { StatesSafeEver M.meaning self.new }
         ensures size { IsGroup (length self.new.servers) }
+        // What stood under a ticket stood there.
+        ensures stood { (index term : ℕ) (command : M.Command) →
+            StoodEver M.meaning self.old index term command →
+            StoodEver M.meaning self.new index term command }
     {
         let done = self.take(event);
         self.group_size();
@@ -278,6 +283,6 @@ impl<M: Machine> RaftWorld<M> {
     pub fn raft(&self, server: ServerId) -> Option<&Raft<M>>
         ensures { option_copied result ≡ slice_get self.now.servers server }
     {
-        self.servers.get(server.place())
+        self.servers.get(server.position())
     }
 }

@@ -6,7 +6,7 @@ use Rattle.event_book.specs.declared.view.EventView.TheVariants.{Own, Delivery, 
 use Rattle.event_book.specs.declared.view.Output.{Output}
 use Rattle.event_book.specs.declared.view.NotedView.{NotedView}
 use Rattle.event_book.specs.declared.view.Note.{Note}
-use Rattle.event_book.specs.declared.view.TokenView.{TokenView}
+use Rattle.event_book.specs.declared.view.MessageTokenView.{MessageTokenView}
 use Rattle.event_book.specs.declared.view.SeatView.{SeatView}
 use Rattle.event_book.specs.Seats.{Names, with_note, with_taken}
 use Rattle.server.specs.declared.server.Outbox.{Outbox}
@@ -36,15 +36,15 @@ pub record EndsWith (notes : List (Note OwnInput)) (stamp : ℕ) (outputs : List
   pub outputs_are : note.noted.outputs ≡ outputs
 
 -- a note of this, after a taking in
-pub record IsNoted (old : SeatView OwnInput) (event : EventView OwnInput) (tokens : List (TokenView OwnInput)) (outputs : List Output) (new : SeatView OwnInput) : Type 0 where
+pub record IsNoted (old : SeatView OwnInput) (event : EventView OwnInput) (tokens : List (MessageTokenView OwnInput)) (outputs : List Output) (new : SeatView OwnInput) : Type 0 where
   pub stamp : ℕ
   pub seat : new ≡ with_note (record { event = event; outputs = outputs }) stamp (with_taken tokens old)
 
 -- the seat may note this once these tokens are taken in
-abbrev pub CanBeNoted : SeatView OwnInput → EventView OwnInput → List (TokenView OwnInput) → Type 0
+abbrev pub CanBeNoted : SeatView OwnInput → EventView OwnInput → List (MessageTokenView OwnInput) → Type 0
 CanBeNoted seat (Own input) tokens = Unit {0}
 CanBeNoted seat (Delivery stamp place frame) tokens =
-    (token : TokenView OwnInput) × (tokens ≡ token ∷ []) × Names token stamp place seat.actor frame
+    (token : MessageTokenView OwnInput) × (tokens ≡ token ∷ []) × Names token stamp place seat.actor frame
 CanBeNoted seat Crash tokens = Unit {0}
 
 -- ---- what is noted of a step, or of a crash in its place
@@ -56,11 +56,11 @@ event_by event Crashed = Crash
 abbrev pub noted_by : EventView OwnInput → Stepped → Outbox → NotedView OwnInput
 noted_by event stepped outbox = record { event = event_by event stepped; outputs = map output_of outbox.frames }
 
-abbrev pub tokens_by : List (TokenView OwnInput) → Stepped → List (TokenView OwnInput)
+abbrev pub tokens_by : List (MessageTokenView OwnInput) → Stepped → List (MessageTokenView OwnInput)
 tokens_by tokens Taken = tokens
 tokens_by tokens Crashed = []
 
-pub record IsRecorded (old : SeatView OwnInput) (event : EventView OwnInput) (tokens : List (TokenView OwnInput)) (stepped : Stepped) (outbox : Outbox) (new : SeatView OwnInput) (work : List Work) (sent : List EnvelopeView) (unsent : ℕ) : Type 0 where
+pub record IsRecorded (old : SeatView OwnInput) (event : EventView OwnInput) (tokens : List (MessageTokenView OwnInput)) (stepped : Stepped) (outbox : Outbox) (new : SeatView OwnInput) (work : List Work) (sent : List EnvelopeView) (unsent : ℕ) : Type 0 where
   pub stamp : ℕ
   pub seat : new ≡ with_note (noted_by event stepped outbox) stamp (with_taken (tokens_by tokens stepped) old)
   pub work_is : work ≡ outbox.work
@@ -69,7 +69,7 @@ pub record IsRecorded (old : SeatView OwnInput) (event : EventView OwnInput) (to
   pub all : count + unsent ≡ length (noted_by event stepped outbox).outputs
 
 -- the actor did something with what came, and the seat recorded that
-pub record IsTurn (actor : GroupActor) (seat : SeatView OwnInput) (event : EventView OwnInput) (tokens : List (TokenView OwnInput)) (work : List Work) (sent : List EnvelopeView) (unsent : ℕ) (after : GroupActor) (now : SeatView OwnInput) : Type 0 where
+pub record IsTurn (actor : GroupActor) (seat : SeatView OwnInput) (event : EventView OwnInput) (tokens : List (MessageTokenView OwnInput)) (work : List Work) (sent : List EnvelopeView) (unsent : ℕ) (after : GroupActor) (now : SeatView OwnInput) : Type 0 where
   pub stepped : Stepped
   pub outbox : Outbox
   pub did : Did actor event stepped outbox after

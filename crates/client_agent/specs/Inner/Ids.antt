@@ -5,7 +5,7 @@ use Rattle.rows.specs.declared.allocation.AllocId.{AllocId}
 use Rattle.rows.specs.Ids.{alloc_cmp}
 use Rattle.fsm_tables.specs.Rows.{row_of, has_row}
 use Rattle.cluster_model.specs.Words.{same_alloc}
-use Rattle.group_model.specs.Clients.{Running, Ended, runs, ended_how}
+use Rattle.group_model.specs.Agents.{Running, Ended, runs, ended_how}
 use Rattle.client_agent.specs.declared.ids.IdRow.{IdRow}
 
 abbrev pub row_id : IdRow → AllocId

@@ -2,7 +2,7 @@
 use Rattle.std.specs.Prelude.{◌≡◌, ℕ, ◌+◌, List, sum_by}
 use Rattle.rows.specs.declared.size.Size.{Size}
 use Rattle.rows.specs.Sizes.{Part, amount}
-use Rattle.group_model.specs.Clients.{Running}
+use Rattle.group_model.specs.Agents.{Running}
 
 -- what runs takes so much of a part
 abbrev pub runs_with : List Running → Part → ℕ

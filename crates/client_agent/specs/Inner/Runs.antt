@@ -3,7 +3,7 @@ use Rattle.std.specs.Prelude.{◌≡◌, List, ◌++◌, filter}
 use Rattle.rows.specs.declared.size.Size.{Size}
 use Rattle.rows.specs.declared.allocation.AllocId.{AllocId}
 use Rattle.rows.specs.declared.listing.ListedAllocation.{ListedAllocation}
-use Rattle.group_model.specs.Clients.{Running, Life, Started, starts, is_shown}
+use Rattle.group_model.specs.Agents.{Running, Life, Started, starts, is_shown}
 
 abbrev pub runs_of : List AllocId → List Running → Started
 runs_of ids running = record { ids = ids; running = running }

@@ -8,7 +8,7 @@ use Rattle.event_book.specs.declared.view.Note.{Note}
 use Rattle.cells.specs.declared.own_input.OwnInput.{OwnInput}
 use Rattle.cells.specs.declared.cell.KeptEvent.{KeptEvent}
 use Rattle.cells.specs.declared.cell.KeptEvent.TheVariants.{Own, Delivery, Crash}
-use Rattle.closing.specs.declared.merging.Placed.{Placed}
+use Rattle.closing.specs.declared.merging.TracedEvent.{TracedEvent}
 use Rattle.closing.specs.Closing.{crash_event, noted_events}
 use Rattle.cells.specs.Actors.{own_event}
 use Rattle.closing.specs.Inner.Merged.{TakenEvent, taken_event_in, taken_event_of}
@@ -39,7 +39,7 @@ abbrev pub entry_events : List TakenEvent → List TakenEvent → List Event
 entry_events log xs = map (λ x. entry_event x.actor x.event log) xs
 
 -- the events are those of any history of which these are the events
-abbrev pub AreEventsOf : List Placed → List GroupEvent → Type 0
+abbrev pub AreEventsOf : List TracedEvent → List GroupEvent → Type 0
 AreEventsOf merged events =
     (log : List (Note OwnInput)) → map taken_event_in merged ≡ map taken_event_of log
     → group_events events ≡ noted_events log log

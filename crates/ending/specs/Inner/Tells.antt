@@ -5,19 +5,19 @@ use Rattle.std.specs.List.{AllZip, flat_map}
 use Rattle.rows.specs.declared.allocation.Allocation.{Allocation}
 use Rattle.raft_core.specs.declared.role.Role.{Role}
 use Rattle.raft_core.specs.declared.role.Role.TheVariants.{Follower, Candidate, Leader}
-use Rattle.group_model.specs.Members.{Member}
-use Rattle.server.specs.ServerViews.{ServerView, IsMember}
+use Rattle.group_model.specs.Servers.{Server}
+use Rattle.server.specs.ServerViews.{ServerView, IsServer}
 use Rattle.client_agent.specs.AgentView.{AgentView}
 use Rattle.ending.specs.Endings.{AreTold, client_line, numbered_lines, row_line, server_line}
 
 -- this holds of all servers of the definitions that these are
-abbrev pub OfMembers : List ServerView → (List Member → Type 0) → Type 0
-OfMembers views P = (servers : List Member) → AllZip IsMember views servers → P servers
+abbrev pub OfServers : List ServerView → (List Server → Type 0) → Type 0
+OfServers views P = (servers : List Server) → AllZip IsServer views servers → P servers
 
-abbrev pub TellsServers : Option (List ℕ) → Option (List ℕ) → List Member → Type 0
+abbrev pub TellsServers : Option (List ℕ) → Option (List ℕ) → List Server → Type 0
 TellsServers old new servers = Appends old new (numbered_lines server_line 1 servers)
 
-abbrev pub TellsRows : Option (List ℕ) → Option (List ℕ) → List Member → Type 0
+abbrev pub TellsRows : Option (List ℕ) → Option (List ℕ) → List Server → Type 0
 TellsRows old new servers = (rows : List Allocation) × AreTold servers rows × Appends old new (flat_map row_line rows)
 
 -- what a server that is up is doing

@@ -102,23 +102,23 @@ pub record AreTaskLists (tasks : List Task) (l : Lists) : Type 0 where
   pub failed : IsListing urgency_cmp urgency_id urgency_of is_failed tasks l.failed.rows
 
 -- each has room for so many
-pub record HaveRoom (most : ℕ) (l : Lists) : Type 0 where
-  pub ranks : most ≤ l.ranks.room
-  pub heads : most ≤ l.heads.room
-  pub failed : most ≤ l.failed.room
+pub record HaveCapacity (most : ℕ) (l : Lists) : Type 0 where
+  pub ranks : most ≤ l.ranks.capacity
+  pub heads : most ≤ l.heads.capacity
+  pub failed : most ≤ l.failed.capacity
 
 -- none of them loses room
-pub record KeepRoom (old new : Lists) : Type 0 where
-  pub ranks : old.ranks.room ≤ new.ranks.room
-  pub heads : old.heads.room ≤ new.heads.room
-  pub failed : old.failed.room ≤ new.failed.room
+pub record KeepCapacity (old new : Lists) : Type 0 where
+  pub ranks : old.ranks.capacity ≤ new.ranks.capacity
+  pub heads : old.heads.capacity ≤ new.heads.capacity
+  pub failed : old.failed.capacity ≤ new.failed.capacity
 
 -- what tasks and lists keep: room for what each task may come to, so that no call but one that
 -- brings in a task takes memory
 pub record AreKept (k : Tasks) : Type 0 where
   pub rising : T (is_rising eval_cmp task_id k.tasks.rows)
   pub listed : AreTaskLists k.tasks.rows k.lists
-  pub room : HaveRoom (length k.tasks.rows) k.lists
+  pub capacity : HaveCapacity (length k.tasks.rows) k.lists
 
 -- neither out nor acked, nor given out yet
 abbrev pub is_fresh : Task → Type 0

@@ -7,7 +7,7 @@ use Rattle.atomic_table.specs.Table.{State, Step}
 use Rattle.rows.specs.declared.actor.Actor.{Actor}
 use Rattle.event_book.specs.declared.view.NotedView.{NotedView}
 use Rattle.event_book.specs.declared.view.Note.{Note}
-use Rattle.event_book.specs.declared.view.TokenView.{TokenView}
+use Rattle.event_book.specs.declared.view.MessageTokenView.{MessageTokenView}
 use Rattle.event_book.specs.declared.view.SeatView.{SeatView}
 use Rattle.event_book.specs.declared.view.BookView.{BookView}
 use Rattle.event_book.specs.Histories.{notes_of, IsLegal}
@@ -16,7 +16,7 @@ use Rattle.event_book.specs.Inner.Views.{HolderView}
 
 module _ {I : Type 0} where
   -- the token names an output of an event of the history
-  abbrev pub NamesOutput : List (Note I) → TokenView I → Type 0
+  abbrev pub NamesOutput : List (Note I) → MessageTokenView I → Type 0
   NamesOutput log token =
       (slice_get log token.note.stamp ≡ Some token.note)
       × (token.place < length token.note.noted.outputs)

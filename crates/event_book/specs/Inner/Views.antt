@@ -7,7 +7,7 @@ use Rattle.rows.specs.declared.actor.Actor.{Actor}
 use Rattle.rows.specs.declared.actor.Actor.TheVariants.{Server}
 use Rattle.event_book.specs.declared.view.EventView.TheVariants.{Crash}
 use Rattle.event_book.specs.declared.view.NotedView.{NotedView}
-use Rattle.event_book.specs.declared.view.TokenView.{TokenView}
+use Rattle.event_book.specs.declared.view.MessageTokenView.{MessageTokenView}
 use Rattle.event_book.specs.declared.view.SeatView.{SeatView}
 use Rattle.event_book.specs.declared.view.BookView.{BookView}
 use Rattle.event_book.specs.Seats.{new_seat, with_taken, last_token}
@@ -34,7 +34,7 @@ module _ {I : Type 0} where
   abbrev pub seat_view : SeatView I → BookView I
   seat_view seat = record { seats = seat ∷ []; tokens = [] }
 
-  abbrev pub token_view : TokenView I → BookView I
+  abbrev pub token_view : MessageTokenView I → BookView I
   token_view token = record { seats = []; tokens = token ∷ [] }
 
   -- the seat that a view is of, and the token: any at a view of none
@@ -45,23 +45,23 @@ module _ {I : Type 0} where
   abbrev pub only_seat : BookView I → SeatView I
   only_seat view = first_seat view.seats
 
-  abbrev pub first_token : List (TokenView I) → TokenView I
+  abbrev pub first_token : List (MessageTokenView I) → MessageTokenView I
   first_token [] =
       record { note = record { stamp = 0; actor = Server 0; noted = nothing_noted }; place = 0 }
   first_token (token ∷ tokens) = token
 
-  abbrev pub token_in : BookView I → TokenView I
+  abbrev pub token_in : BookView I → MessageTokenView I
   token_in view = first_token view.tokens
 
   -- what the holder of a seat knows, and that of a token
   abbrev pub IsSeat : HolderView I → Type 0
   IsSeat me = me ≡ (seat_view (only_seat me.0), [])
 
-  abbrev pub IsToken : HolderView I → Type 0
-  IsToken me = me ≡ (token_view (token_in me.0), [])
+  abbrev pub IsMessageToken : HolderView I → Type 0
+  IsMessageToken me = me ≡ (token_view (token_in me.0), [])
 
   -- a token of an output of the last note
-  abbrev pub seat_tokens : ℕ → List (SeatView I) → List (TokenView I)
+  abbrev pub seat_tokens : ℕ → List (SeatView I) → List (MessageTokenView I)
   seat_tokens place [] = []
   seat_tokens place (seat ∷ seats) = last_token place seat.notes
 

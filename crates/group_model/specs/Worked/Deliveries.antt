@@ -8,7 +8,7 @@ use Rattle.rows.specs.declared.command.Command.TheVariants as commands
 use Rattle.cluster_model.specs.Worked.Words.{eval_id}
 use Rattle.group_model.specs.Desks.{Desk}
 use Rattle.group_model.specs.Inputs as inputs
-use Rattle.group_model.specs.Members as members
+use Rattle.group_model.specs.Servers as servers
 use Rattle.rows.specs.declared.worker.WorkerRequest.TheVariants.{Take}
 use Rattle.rows.specs.declared.worker.WorkerResponse.TheVariants.{Delivered}
 use Rattle.group_model.specs.Messages.{GroupMessage, Service, BetweenServers, Asks, Answers}
@@ -21,7 +21,7 @@ asks = inputs.Arrives (BetweenServers 1 0 (Asks Take))
 
 -- what it gets, after these inputs
 abbrev pub gets : List inputs.Input → List GroupMessage
-gets before = sent_by (members.step 3 0 (after_inputs leader before) asks)
+gets before = sent_by (servers.step 3 0 (after_inputs leader before) asks)
 
 abbrev pub gives : Option Delivery → List GroupMessage
 gives what = Service (BetweenServers 0 1 (Answers (Delivered what))) ∷ []

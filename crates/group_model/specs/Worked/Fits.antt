@@ -17,7 +17,7 @@ use Rattle.group_model.specs.Acceptance.{Accepted, accept, keeps_some}
 use Rattle.group_model.specs.Drains.{moves_of}
 use Rattle.group_model.specs.Scheduling.{WantedName, missing_names}
 use Rattle.group_model.specs.NextStep.{MOST_PLANS}
-use Rattle.group_model.specs.Clients as agents
+use Rattle.group_model.specs.Agents as agents
 use Rattle.group_model.specs.Messages.{ToServer, Register, Heartbeat, Pull, Listing}
 use Rattle.group_model.specs.Worked.Words.{alloc_row, one_runs}
 use Rattle.group_model.specs.Worked.PlanChecks.{moves_it}

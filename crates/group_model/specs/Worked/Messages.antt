@@ -4,7 +4,7 @@ use Rattle.rows.specs.declared.refusal.Refusal.{Refusal}
 use Rattle.rows.specs.declared.refusal.Refusal.TheVariants as refusals
 use Rattle.cluster_model.specs.Worked.Words.{linux, size}
 use Rattle.group_model.specs.Inputs as inputs
-use Rattle.group_model.specs.Clients as agents
+use Rattle.group_model.specs.Agents as agents
 use Rattle.group_model.specs.Messages.{ToServer, Heartbeat, Listing}
 use Rattle.group_model.specs.Worlds as worlds
 use Rattle.group_model.specs.Worlds.{World, Event, AtServer, AtClient}

@@ -1,7 +1,7 @@
 -- The desk opens with the first entry of the leader's own term, and not at the election.
 use Rattle.std.specs.Prelude.{◌≡◌, Bool, true, false, is_some, Option, Some, None, List, [], ◌∷◌, ◌++◌, slice_get}
 use Rattle.group_model.specs.Inputs as inputs
-use Rattle.group_model.specs.Members.{Member}
+use Rattle.group_model.specs.Servers.{Server}
 use Rattle.rows.specs.declared.reason.Reason.TheVariants as reasons
 use Rattle.rows.specs.declared.worker.AskedRequest.TheVariants as asked
 use Rattle.rows.specs.declared.worker.WorkerResponse.TheVariants.{Delivered, Refused}
@@ -9,7 +9,7 @@ use Rattle.group_model.specs.Messages.{Service, BetweenServers, Answers}
 use Rattle.group_model.specs.Worlds as worlds
 use Rattle.group_model.specs.Worlds.{Event, Deliver, AtServer}
 use Rattle.group_model.specs.Worked.Words.{after_events}
-use Rattle.raft_model.specs.Servers.{is_leader}
+use Rattle.raft_model.specs.Rafts.{is_leader}
 
 -- server 0 stands, server 1 grants, and server 0 leads
 abbrev pub elected : List Event
@@ -19,7 +19,7 @@ elected = AtServer 0 inputs.Timeout ∷ Deliver 0 ∷ Deliver 2 ∷ []
 abbrev pub committed : List Event
 committed = elected ++ AtServer 0 inputs.Beat ∷ Deliver 3 ∷ Deliver 5 ∷ []
 
-abbrev pub leads_open : Option Member → Option (Bool × Bool)
+abbrev pub leads_open : Option Server → Option (Bool × Bool)
 leads_open None = None
 leads_open (Some s) = Some (is_leader s.raft.mode, is_some s.desk)
 

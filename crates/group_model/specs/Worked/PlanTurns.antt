@@ -9,13 +9,13 @@ use Rattle.rows.specs.declared.worker.WorkerRequest.TheVariants.{Take, Submit}
 use Rattle.rows.specs.declared.worker.AskedRequest.TheVariants as asked
 use Rattle.rows.specs.declared.worker.WorkerResponse.TheVariants.{Delivered, PlanResult, Refused}
 use Rattle.machine_model.specs.declared.entry.Entry.{Entry}
-use Rattle.raft_model.specs.Servers as rafts
+use Rattle.raft_model.specs.Rafts as rafts
 use Rattle.cluster_model.specs.Words.{no_rows}
 use Rattle.cluster_model.specs.Worked.Words.{main, size, eval_id}
 use Rattle.group_model.specs.Desks.{after_entries}
 use Rattle.group_model.specs.Inputs as inputs
-use Rattle.group_model.specs.Members as members
-use Rattle.group_model.specs.Members.{Member}
+use Rattle.group_model.specs.Servers as servers
+use Rattle.group_model.specs.Servers.{Server}
 use Rattle.group_model.specs.Messages.{Service, BetweenServers, Asks, Answers}
 use Rattle.group_model.specs.Order.{in_order}
 use Rattle.group_model.specs.Worked.Words.{token, entry, after_inputs, sent_by, a, b, narrow, at_narrow}
@@ -43,12 +43,12 @@ both_submitted = takes_from 1 ∷ takes_from 2 ∷ submits 1 (plan_of 3 1 a) ∷
 
 -- the first plan is appended
 abbrev pub FirstPlan : Type 0
-FirstPlan = sent_by (members.step 3 0 (after_inputs at_narrow both_submitted) inputs.PlanTurn) ≡ Service (BetweenServers 0 1 (Answers (PlanResult (record { eval = eval_id 3 0; token = token 1 1; last = 5; placed = 1; refused = [] })))) ∷ []
+FirstPlan = sent_by (servers.step 3 0 (after_inputs at_narrow both_submitted) inputs.PlanTurn) ≡ Service (BetweenServers 0 1 (Answers (PlanResult (record { eval = eval_id 3 0; token = token 1 1; last = 5; placed = 1; refused = [] })))) ∷ []
 
 -- The second is held against the state after the whole log, where the first has its room, though
 -- nothing more is committed.
 abbrev pub SecondPlan : Type 0
-SecondPlan = sent_by (members.step 3 0 (after_inputs at_narrow (both_submitted ++ inputs.PlanTurn ∷ [])) inputs.PlanTurn) ≡ Service (BetweenServers 0 2 (Answers (PlanResult (record { eval = eval_id 4 0; token = token 1 2; last = 5; placed = 0; refused = 1 ∷ [] })))) ∷ []
+SecondPlan = sent_by (servers.step 3 0 (after_inputs at_narrow (both_submitted ++ inputs.PlanTurn ∷ [])) inputs.PlanTurn) ≡ Service (BetweenServers 0 2 (Answers (PlanResult (record { eval = eval_id 4 0; token = token 1 2; last = 5; placed = 0; refused = 1 ∷ [] })))) ∷ []
 
 -- what is appended of it
 abbrev pub a_is_placed : Command
@@ -67,7 +67,7 @@ OneEntry = (after_inputs at_narrow (both_submitted ++ inputs.PlanTurn ∷ inputs
 -- A plan under an earlier token of the evaluation is refused.
 abbrev pub OldTokenPlan : Type 0
 OldTokenPlan =
-    sent_by (members.step 3 0 (after_inputs at_narrow (takes_from 1 ∷ inputs.Lapse (eval_id 3 0) ∷ takes_from 2 ∷ submits 1 (plan_of 3 1 a) ∷ [])) inputs.PlanTurn)
+    sent_by (servers.step 3 0 (after_inputs at_narrow (takes_from 1 ∷ inputs.Lapse (eval_id 3 0) ∷ takes_from 2 ∷ submits 1 (plan_of 3 1 a) ∷ [])) inputs.PlanTurn)
     ≡ Service (BetweenServers 0 1 (Answers (Refused (asked.Submit (eval_id 3 0) (token 1 1)) reasons.TokenDiffers))) ∷ []
 
 -- A leader of term 2 over the same rows, whose no-op is applied: a plan under a token of term 1 is
@@ -75,27 +75,27 @@ OldTokenPlan =
 abbrev pub led_again : List (Entry Command)
 led_again = narrow ++ entry 2 commands.Noop ∷ []
 
-abbrev pub next_leader : Member
+abbrev pub next_leader : Server
 next_leader = record {
   raft = record { term = 2; vote = Some 0; log = led_again; covered = 0; commit = 5; known = None; mode = rafts.Leader (6 ∷ 6 ∷ 6 ∷ []) (0 ∷ 5 ∷ 0 ∷ []) };
   desk = after_entries 2 no_rows led_again None;
 }
 
 abbrev pub FirstOfTheTerm : Type 0
-FirstOfTheTerm = sent_by (members.step 3 0 next_leader (takes_from 1)) ≡ Service (BetweenServers 0 1 (Answers (Delivered (Some (record { eval = eval_id 3 0; token = token 2 1; wait = 5 }))))) ∷ []
+FirstOfTheTerm = sent_by (servers.step 3 0 next_leader (takes_from 1)) ≡ Service (BetweenServers 0 1 (Answers (Delivered (Some (record { eval = eval_id 3 0; token = token 2 1; wait = 5 }))))) ∷ []
 
 abbrev pub OldTermPlan : Type 0
 OldTermPlan =
-    sent_by (members.step 3 0 (after_inputs next_leader (takes_from 1 ∷ submits 1 (plan_of 3 1 a) ∷ [])) inputs.PlanTurn)
+    sent_by (servers.step 3 0 (after_inputs next_leader (takes_from 1 ∷ submits 1 (plan_of 3 1 a) ∷ [])) inputs.PlanTurn)
     ≡ Service (BetweenServers 0 1 (Answers (Refused (asked.Submit (eval_id 3 0) (token 1 1)) reasons.TokenDiffers))) ∷ []
 
-abbrev pub open_after : Result members.Turn Refusal → Bool
-open_after (Ok turn) = is_some turn.member.desk
+abbrev pub open_after : Result servers.ServerTurn Refusal → Bool
+open_after (Ok turn) = is_some turn.server.desk
 open_after (Err r) = true
 
 -- A desk does not outlive a crash.
 abbrev pub ClosedByCrash : Type 0
-ClosedByCrash = open_after (members.step 3 0 (after_inputs at_narrow both_submitted) inputs.Crash) ≡ false
+ClosedByCrash = open_after (servers.step 3 0 (after_inputs at_narrow both_submitted) inputs.Crash) ≡ false
 
 -- ---- the queue: of priorities 50, 70 and 70 the second goes, then the third, then the first
 

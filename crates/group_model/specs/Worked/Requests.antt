@@ -10,8 +10,8 @@ use Rattle.rows.specs.declared.command.Command.TheVariants as commands
 use Rattle.machine_model.specs.declared.entry.Entry.{Entry}
 use Rattle.cluster_model.specs.Worked.Words.{linux, api, main, size, eval_id, alloc_id, comes}
 use Rattle.group_model.specs.Inputs as inputs
-use Rattle.group_model.specs.Members as members
-use Rattle.group_model.specs.Members.{Member}
+use Rattle.group_model.specs.Servers as servers
+use Rattle.group_model.specs.Servers.{Server}
 use Rattle.rows.specs.declared.reason.Reason.{Reason}
 use Rattle.rows.specs.declared.reason.Reason.TheVariants as reasons
 use Rattle.rows.specs.declared.worker.ClientRequestKind.{ClientRequestKind}
@@ -32,7 +32,7 @@ placed_log = narrow ++ entry 1 (commands.Plan (record {
 })) ∷ []
 
 abbrev pub pulls : List (Entry Command) → ℕ → List GroupMessage
-pulls log commit = sent_by (members.step 3 0 (leads log commit None) (inputs.Arrives (ToServer 1 0 Pull)))
+pulls log commit = sent_by (servers.step 3 0 (leads log commit None) (inputs.Arrives (ToServer 1 0 Pull)))
 
 abbrev pub list_sent : ℕ → List ListedAllocation → List GroupMessage
 list_sent index rows = Service (ToClient 0 1 (Listing index rows)) ∷ []
@@ -70,7 +70,7 @@ registers z = inputs.Arrives (ToServer 1 0 (Register linux z))
 abbrev pub told : ClientRequestKind → Option Reason → List GroupMessage
 told kind refused = Service (ToClient 0 1 (Told kind refused)) ∷ []
 
-abbrev pub at_placed : Member
+abbrev pub at_placed : Server
 at_placed = leads placed_log 5 None
 
 -- A report is appended; the same one once more changes no row, and is not.
@@ -84,7 +84,7 @@ abbrev pub ReportedTwice : Type 0
 ReportedTwice = (after_inputs at_placed (runs_five ∷ runs_five ∷ [])).raft.log ≡ (after_inputs at_placed (runs_five ∷ [])).raft.log
 
 abbrev pub ToldBothTimes : Type 0
-ToldBothTimes = sent_by (members.step 3 0 (after_inputs at_placed (runs_five ∷ [])) runs_five) ≡ told kinds.Report None
+ToldBothTimes = sent_by (servers.step 3 0 (after_inputs at_placed (runs_five ∷ [])) runs_five) ≡ told kinds.Report None
 
 -- A report of what is unknown is appended, and one of what is lost is not.
 abbrev pub UnknownReported : Type 0
@@ -102,7 +102,7 @@ abbrev pub NodeBack : Type 0
 NodeBack = (after_inputs (leads placed_away 6 None) (registers (size 1000 1000) ∷ [])).raft.log ≡ placed_away ++ entry 1 (comes 1 (size 1000 1000)) ∷ []
 
 abbrev pub OtherSize : Type 0
-OtherSize = sent_by (members.step 3 0 at_placed (registers (size 1000 999))) ≡ told kinds.Register (Some reasons.NodeDiffers)
+OtherSize = sent_by (servers.step 3 0 at_placed (registers (size 1000 999))) ≡ told kinds.Register (Some reasons.NodeDiffers)
 
 abbrev pub AtNoLeader : Type 0
-AtNoLeader = sent_by (members.step 3 0 members.newcomer (registers (size 1000 1000))) ≡ told kinds.Register (Some (reasons.NotLeader None))
+AtNoLeader = sent_by (servers.step 3 0 servers.newcomer (registers (size 1000 1000))) ≡ told kinds.Register (Some (reasons.NotLeader None))

@@ -14,15 +14,15 @@ use Rattle.rows.specs.declared.worker.WorkerRequest.TheVariants.{Finish}
 use Rattle.rows.specs.declared.worker.AskedRequest.TheVariants as asked
 use Rattle.rows.specs.declared.worker.WorkerResponse.TheVariants.{Delivered, Refused}
 use Rattle.machine_model.specs.declared.entry.Entry.{Entry}
-use Rattle.raft_model.specs.Servers as rafts
+use Rattle.raft_model.specs.Rafts as rafts
 use Rattle.cluster_model.specs.Words.{no_rows}
 use Rattle.cluster_model.specs.Worked.Words.{size, eval_id, alloc_id, comes}
 use Rattle.group_model.specs.Brokers.{outstanding}
-use Rattle.group_model.specs.Clients as agents
+use Rattle.group_model.specs.Agents as agents
 use Rattle.group_model.specs.Desks.{Desk, after_entries}
 use Rattle.group_model.specs.Inputs as inputs
-use Rattle.group_model.specs.Members as members
-use Rattle.group_model.specs.Members.{Member}
+use Rattle.group_model.specs.Servers as servers
+use Rattle.group_model.specs.Servers.{Server}
 use Rattle.group_model.specs.Messages.{Service, BetweenServers, ToServer, Heartbeat, Asks, Answers}
 use Rattle.group_model.specs.Worked.Words.{token, entry, leads, log, leader, after_inputs, sent_by, narrow, at_narrow}
 use Rattle.group_model.specs.Worked.PlanTurns.{takes_from, a_is_placed}
@@ -31,14 +31,14 @@ use Rattle.group_model.specs.Worked.Requests.{registers, told}
 use Rattle.group_model.specs.Worked.Agents.{agent}
 
 -- the leader of term 1 with this log, of which so many entries are applied
-abbrev pub leads_with : List (Entry Command) → ℕ → Member
+abbrev pub leads_with : List (Entry Command) → ℕ → Server
 leads_with entries commit = leads entries commit (after_entries 1 no_rows (take commit entries) None)
 
-abbrev pub log_after : Member → inputs.Input → List (Entry Command)
+abbrev pub log_after : Server → inputs.Input → List (Entry Command)
 log_after s input = (after_inputs s (input ∷ [])).raft.log
 
 -- why an input is refused, if it is
-abbrev pub refusal_of : Result members.Turn Refusal → Option Refusal
+abbrev pub refusal_of : Result servers.ServerTurn Refusal → Option Refusal
 refusal_of (Ok turn) = None
 refusal_of (Err r) = Some r
 
@@ -90,10 +90,10 @@ FreesOnce = log_after (leads_with freed 6) inputs.FreeTurn ≡ freed
 
 -- with nothing to do a turn is no refusal, of evaluations that are due and of those that failed
 abbrev pub FreesQuietly : Type 0
-FreesQuietly = refusal_of (members.step 3 0 (leads_with freed 6) inputs.FreeTurn) ≡ None
+FreesQuietly = refusal_of (servers.step 3 0 (leads_with freed 6) inputs.FreeTurn) ≡ None
 
 abbrev pub ReapsQuietly : Type 0
-ReapsQuietly = refusal_of (members.step 3 0 (after_inputs leader (thrice ++ inputs.Reap ∷ [])) inputs.Reap) ≡ None
+ReapsQuietly = refusal_of (servers.step 3 0 (after_inputs leader (thrice ++ inputs.Reap ∷ [])) inputs.Reap) ≡ None
 
 abbrev pub RoomIsApplied : Type 0
 RoomIsApplied = log_after (leads_with roomy 5) inputs.FreeTurn ≡ roomy
@@ -112,7 +112,7 @@ abbrev pub ended_unapplied : List (Entry Command)
 ended_unapplied = narrow ++ entry 1 (commands.EvalStatus (eval_id 3 0) changes.Failed) ∷ []
 
 abbrev pub WaitsForTheLog : Type 0
-WaitsForTheLog = sent_by (members.step 3 0 (leads_with ended_unapplied 4) (takes_from 1))
+WaitsForTheLog = sent_by (servers.step 3 0 (leads_with ended_unapplied 4) (takes_from 1))
     ≡ Service (BetweenServers 0 1 (Answers (Delivered (Some (record { eval = eval_id 3 0; token = token 1 1; wait = 5 }))))) ∷ []
 
 -- An end that the log refuses, since the evaluation failed already, goes back as refused, and the
@@ -120,11 +120,11 @@ WaitsForTheLog = sent_by (members.step 3 0 (leads_with ended_unapplied 4) (takes
 abbrev pub finishes_it : inputs.Input
 finishes_it = inputs.Arrives (BetweenServers 1 0 (Asks (Finish (eval_id 3 0) (token 1 1) outcomes.Complete)))
 
-abbrev pub given_out : Member
+abbrev pub given_out : Server
 given_out = after_inputs (leads_with ended_unapplied 4) (takes_from 1 ∷ [])
 
 abbrev pub EndRefused : Type 0
-EndRefused = sent_by (members.step 3 0 given_out finishes_it)
+EndRefused = sent_by (servers.step 3 0 given_out finishes_it)
     ≡ Service (BetweenServers 0 1 (Answers (Refused (asked.Finish (eval_id 3 0) (token 1 1)) reasons.NotOutstanding))) ∷ []
 
 abbrev pub held_by : Option Desk → Result ℕ Refusal
@@ -141,23 +141,23 @@ OutForTheLast = failed_at (after_inputs leader (asks ∷ lapse ∷ asks ∷ laps
 -- ---- who is asked
 
 -- A server that does not lead names the leader that it knows, whatever stands where its desk did.
-abbrev pub follows : Member
+abbrev pub follows : Server
 follows = record { raft = record at_narrow.raft { mode = rafts.Follower; known = Some 2 }; desk = at_narrow.desk }
 
 abbrev pub NamesTheLeader : Type 0
-NamesTheLeader = sent_by (members.step 3 0 follows (takes_from 1)) ≡ Service (BetweenServers 0 1 (Answers (Refused asked.Take (reasons.NotLeader (Some 2))))) ∷ []
+NamesTheLeader = sent_by (servers.step 3 0 follows (takes_from 1)) ≡ Service (BetweenServers 0 1 (Answers (Refused asked.Take (reasons.NotLeader (Some 2))))) ∷ []
 
 abbrev pub ToldTheLeader : Type 0
-ToldTheLeader = sent_by (members.step 3 0 follows (registers (size 1000 1000))) ≡ told kinds.Register (Some (reasons.NotLeader (Some 2)))
+ToldTheLeader = sent_by (servers.step 3 0 follows (registers (size 1000 1000))) ≡ told kinds.Register (Some (reasons.NotLeader (Some 2)))
 
 -- Nobody is asked, or heard, outside the group.
 abbrev pub AsksNoStranger : Type 0
-AsksNoStranger = refusal_of (members.step 3 0 at_narrow (inputs.TakeFrom 3)) ≡ Some refusals.OutOfRange
+AsksNoStranger = refusal_of (servers.step 3 0 at_narrow (inputs.TakeFrom 3)) ≡ Some refusals.OutOfRange
 
-abbrev pub HearsNoStranger : Type 0
-HearsNoStranger = refusal_of (members.step 3 0 at_narrow (takes_from 3)) ≡ Some refusals.OutOfRange
+abbrev pub TakesNoStranger : Type 0
+TakesNoStranger = refusal_of (servers.step 3 0 at_narrow (takes_from 3)) ≡ Some refusals.OutOfRange
 
-abbrev pub client_refusal : Result agents.Turn Refusal → Option Refusal
+abbrev pub client_refusal : Result agents.AgentTurn Refusal → Option Refusal
 client_refusal (Ok turn) = None
 client_refusal (Err r) = Some r
 

@@ -15,14 +15,14 @@ use Rattle.rows.specs.declared.allocation.ClientState.TheVariants as clients
 use Rattle.rows.specs.declared.command.Command.{Command}
 use Rattle.rows.specs.declared.command.Command.TheVariants as commands
 use Rattle.machine_model.specs.declared.entry.Entry.{Entry}
-use Rattle.raft_model.specs.Servers as rafts
+use Rattle.raft_model.specs.Rafts as rafts
 use Rattle.cluster_model.specs.Words.{State}
 use Rattle.cluster_model.specs.Words.{no_rows}
 use Rattle.cluster_model.specs.Worked.Words.{linux, web, api, main, size, size_with_disk, eval_id, alloc_id, comes, mains, runs, after_all}
 use Rattle.group_model.specs.Desks.{Desk, after_entries}
 use Rattle.group_model.specs.Inputs as inputs
-use Rattle.group_model.specs.Members as members
-use Rattle.group_model.specs.Members.{Member}
+use Rattle.group_model.specs.Servers as servers
+use Rattle.group_model.specs.Servers.{Server}
 use Rattle.group_model.specs.Messages.{GroupMessage}
 use Rattle.group_model.specs.Worlds as worlds
 use Rattle.group_model.specs.Worlds.{World, Event}
@@ -46,24 +46,24 @@ entry term c = record { term = term; command = c }
 abbrev pub log : List (Entry Command)
 log = entry 1 commands.Noop ∷ entry 1 (comes 1 (size 1000 1000)) ∷ entry 1 (comes 2 (size 1000 1000)) ∷ entry 1 (runs web 2 (size 600 300)) ∷ []
 
-abbrev pub leads : List (Entry Command) → ℕ → Option Desk → Member
+abbrev pub leads : List (Entry Command) → ℕ → Option Desk → Server
 leads log commit desk = record {
   raft = record { term = 1; vote = Some 0; log = log; covered = 0; commit = commit; known = None; mode = rafts.Leader (5 ∷ 5 ∷ 5 ∷ []) (0 ∷ 4 ∷ 0 ∷ []) };
   desk = desk;
 }
 
-abbrev pub leader : Member
+abbrev pub leader : Server
 leader = leads log 4 (after_entries 1 no_rows log None)
 
-abbrev pub or_stays : Member → Result members.Turn Refusal → Member
-or_stays s (Ok turn) = turn.member
+abbrev pub or_stays : Server → Result servers.ServerTurn Refusal → Server
+or_stays s (Ok turn) = turn.server
 or_stays s (Err r) = s
 
-abbrev pub after_inputs : Member → List inputs.Input → Member
+abbrev pub after_inputs : Server → List inputs.Input → Server
 after_inputs s [] = s
-after_inputs s (input ∷ rest) = after_inputs (or_stays s (members.step 3 0 s input)) rest
+after_inputs s (input ∷ rest) = after_inputs (or_stays s (servers.step 3 0 s input)) rest
 
-abbrev pub sent_by : Result members.Turn Refusal → List GroupMessage
+abbrev pub sent_by : Result servers.ServerTurn Refusal → List GroupMessage
 sent_by (Ok turn) = turn.sent
 sent_by (Err r) = []
 
@@ -112,5 +112,5 @@ one_main name cpu = runs name 1 (size cpu 100)
 abbrev pub narrow : List (Entry Command)
 narrow = entry 1 commands.Noop ∷ entry 1 (comes 1 (size 1000 1000)) ∷ entry 1 (one_main a 600) ∷ entry 1 (one_main b 600) ∷ []
 
-abbrev pub at_narrow : Member
+abbrev pub at_narrow : Server
 at_narrow = leads narrow 4 (after_entries 1 no_rows narrow None)

@@ -107,8 +107,8 @@ fn first_unmet<R: Wait>(rt: &R, net: &Net<u32>) -> Option<usize> {
 }
 
 // What a net of these actors and this room is refused for.
-fn refused(alloc: Global, actors: &[Actor], room: usize) -> Option<u8> {
-    let net: Result<Net<u32>, Refusal> = Net::new(alloc, actors, room);
+fn refused(alloc: Global, actors: &[Actor], capacity: usize) -> Option<u8> {
+    let net: Result<Net<u32>, Refusal> = Net::new(alloc, actors, capacity);
     match net {
         Ok(_net) => None,
         Err(refusal) => Some(refusal.number()),
@@ -116,25 +116,25 @@ fn refused(alloc: Global, actors: &[Actor], room: usize) -> Option<u8> {
 }
 
 fn is_row(alloc: Global, row: &Row) -> Option<bool> {
-    let (first, second, room, wanted) = *row;
+    let (first, second, capacity, wanted) = *row;
     let actors = [actor(first)?, actor(second)?];
-    Some(refused(alloc, &actors, room) == wanted)
+    Some(refused(alloc, &actors, capacity) == wanted)
 }
 
 // With queues for server 1 and client 1.
-fn net_of(alloc: Global, room: usize) -> Option<Net<u32>> {
+fn net_of(alloc: Global, capacity: usize) -> Option<Net<u32>> {
     let actors = [actor(Who::Server(1))?, actor(Who::Client(1))?];
-    Net::new(alloc, &actors, room).ok()
+    Net::new(alloc, &actors, capacity).ok()
 }
 
 // Whether an empty queue of this room keeps so many envelopes, and no more.
-fn holds<R: Wait>(rt: &R, net: &Net<u32>, who: Who, room: u32) -> bool {
-    for envelope in 0..room {
+fn holds<R: Wait>(rt: &R, net: &Net<u32>, who: Who, capacity: u32) -> bool {
+    for envelope in 0..capacity {
         if !is_put(rt, net, who, envelope, None) {
             return false;
         }
     }
-    is_put(rt, net, who, room, Some(QUEUE_FULL)) && takes(rt, net, who) == Some(Ok(Some(0)))
+    is_put(rt, net, who, capacity, Some(QUEUE_FULL)) && takes(rt, net, who) == Some(Ok(Some(0)))
 }
 
 #[test]

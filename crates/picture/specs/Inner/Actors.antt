@@ -12,7 +12,7 @@ use Rattle.client_agent.specs.AgentView.{AgentView}
 use Rattle.server.specs.ServerViews.{ServerView}
 use Rattle.world.specs.declared.group.event.Event.{Event}
 use Rattle.world.specs.declared.group.event.Event.TheVariants as events
-use Rattle.world.specs.Events.{place_of}
+use Rattle.world.specs.Events.{position_of}
 use Rattle.world.specs.GroupEvents.{group_event}
 use Rattle.world.specs.GroupView.{GroupView, client_view}
 use Rattle.world.specs.GroupSteps.{SameView, RefusesGroupEvent}
@@ -25,7 +25,7 @@ receiver_in (Some frame) = Some frame.to
 
 -- who an event comes to: a message to its receiver, an input to its own actor
 abbrev pub actor_in : List Frame → Event → Option Actor
-actor_in frames (events.Deliver number) = receiver_in (slice_get frames (place_of number))
+actor_in frames (events.Deliver number) = receiver_in (slice_get frames (position_of number))
 actor_in frames (events.Server server input) = Some (actors.Server server)
 actor_in frames (events.Client client input) = Some (actors.Client client)
 

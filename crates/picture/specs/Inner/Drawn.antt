@@ -18,7 +18,7 @@ use Rattle.picture.specs.declared.ink.Stroke.TheVariants as strokes
 use Rattle.picture.specs.declared.ink.Anchor.{Anchor}
 use Rattle.picture.specs.declared.ink.Anchor.TheVariants as anchors
 use Rattle.picture.specs.declared.ink.Cover.TheVariants as covers
-use Rattle.picture.specs.Inner.Places.{capped, distance, down_by, up_by, aside_by, opposite, side_towards, point_at, slot_at, row_y, names_again}
+use Rattle.picture.specs.Inner.Positions.{capped, distance, down_by, up_by, aside_by, opposite, side_towards, point_at, slot_at, row_y, names_again}
 use Rattle.picture.specs.Inner.Shapes.{text_of, line_text, bow_text, white_text, words_text, tip_text}
 
 -- what is written for these elements

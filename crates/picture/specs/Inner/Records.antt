@@ -10,7 +10,7 @@ use Rattle.world.specs.GroupView.{GroupView}
 use Rattle.picture.specs.declared.record.Record.{Record}
 use Rattle.picture.specs.declared.record.Step.{Step}
 use Rattle.picture.specs.declared.record.Sending.{Sending}
-use Rattle.picture.specs.Inner.Places.{capped}
+use Rattle.picture.specs.Inner.Positions.{capped}
 use Rattle.picture.specs.Inner.Actors.{actor_in, face_in, IsNextInTrace, RefusedAs}
 
 -- The place of the message that an event delivers, from 0; none of an input, and none of the number

@@ -8,7 +8,7 @@ use Rattle.picture.specs.declared.record.Sending.{Sending}
 use Rattle.picture.specs.declared.ink.Ink.TheVariants as inks
 use Rattle.picture.specs.declared.ink.Stroke.TheVariants as strokes
 use Rattle.picture.specs.declared.ink.Spot.TheVariants as spots
-use Rattle.picture.specs.Inner.Places.{capped, down_by, aside_by, side_towards, opposite, names_between}
+use Rattle.picture.specs.Inner.Positions.{capped, down_by, aside_by, side_towards, opposite, names_between}
 use Rattle.picture.specs.Inner.Shapes.{line_text, circle_text}
 use Rattle.picture.specs.Inner.Notes.{applies_more}
 use Rattle.picture.specs.Inner.Drawn.{width_in, label_text, cross_text}
@@ -53,9 +53,9 @@ label_side sendings None column = Right
 label_side sendings (Some place) None = Right
 label_side sendings (Some place) (Some column) = side_of_sending column (slice_get sendings place)
 
--- how much room a note takes
-abbrev pub note_room : List ℕ → ℕ
-note_room note = if nat_eq (length note) 0 then 0 else capped (width_in inks.Note note + 8)
+-- how wide a note is
+abbrev pub note_width : List ℕ → ℕ
+note_width note = if nat_eq (length note) 0 then 0 else capped (width_in inks.Note note + 8)
 
 -- a tick across the lifeline where an actor applied entries
 abbrev pub tick_text : Point → Step → List ℕ

@@ -8,7 +8,7 @@ use Rattle.wire.specs.Frames.{Frame, MessageFits, message_text}
 use Rattle.wire.specs.declared.body.Body.{Body}
 use Rattle.wire.specs.declared.body.Body.TheVariants as bodies
 use Rattle.raft_model.specs.Messages.{Message}
-use Rattle.raft_model.specs.Servers.{Turn, is_up, beats}
+use Rattle.raft_model.specs.Rafts.{RaftTurn, is_up, beats}
 use Rattle.raft_model.specs.Steps.{Input, Arrives, Beat, Compact, step}
 use Rattle.raft_snapshot.specs.Bases.{Base, IsBaseOf}
 use Rattle.raft_snapshot.specs.Filled.{filled}
@@ -21,7 +21,7 @@ use Rattle.raft_core.specs.Inner.Turns.{TurnTaken}
 -- the shown server takes the input, and this is the base that it leaves
 pub record Moves {S C : Type 0} (m : Meaning S C) (left : Base S) (old : RaftView S C) (input : Input C)
     (new : RaftView S C) (before after : List Frame) : Type 0 where
-  pub turn : Turn C
+  pub turn : RaftTurn C
   pub step : step m old.size old.me old.server input ≡ Ok turn
   pub taken : TurnTaken m left old new before after turn
 

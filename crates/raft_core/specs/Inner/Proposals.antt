@@ -5,7 +5,7 @@ use Rattle.rows.specs.declared.refusal.Refusal.{Refusal}
 use Rattle.rows.specs.declared.refusal.Refusal.TheVariants as refusals
 use Rattle.machine_model.specs.Meaning.{Meaning}
 use Rattle.raft_model.specs.Logs.{MAX}
-use Rattle.raft_model.specs.Servers.{is_up, is_leader}
+use Rattle.raft_model.specs.Rafts.{is_up, is_leader}
 use Rattle.raft_snapshot.specs.Bases.{state_from}
 use Rattle.raft_core.specs.RaftView.{RaftView}
 

@@ -1,10 +1,10 @@
 -- What a leader learns from an answer to what it sent.
 use Rattle.std.specs.Prelude.{ℕ, suc, ◌-◌, max, min, Bool, ◌&&◌, nat_le, if◌then◌else◌, List, slice_set}
 use Rattle.raft_model.specs.Quorums.{index_at}
-use Rattle.raft_model.specs.Servers.{Server, Mode, hears_ok, hears_refusal}
+use Rattle.raft_model.specs.Rafts.{Raft, Mode, hears_ok, hears_refusal}
 
 -- server j holds its log up to `at`, or refuses and says where to try again
-abbrev pub hears_either : {C : Type 0} → ℕ → ℕ → Server C → ℕ → Bool → ℕ → Mode → Server C
+abbrev pub hears_either : {C : Type 0} → ℕ → ℕ → Raft C → ℕ → Bool → ℕ → Mode → Raft C
 hears_either n me s j ok at mode = if ok then hears_ok n me s j at mode else hears_refusal n me s j at mode
 
 -- the match indexes after it, where the leader's log ends at `last`

@@ -3,7 +3,7 @@
 ghost use Rattle.std.specs.Prelude.{◌≡◌, ◌≢◌, ◌+◌, ◌^◌, ◌<◌, ◌≤◌, ◌||◌, nat_le, true, false, List, length, OnOk, OnErr};
 ghost use Rattle.machine_model.specs.declared.entry.Entry.{Entry};
 ghost use Rattle.raft_model.specs.Logs.{has};
-ghost use Rattle.raft_model.specs.Servers.{is_up, is_leader, met, following, follows_append};
+ghost use Rattle.raft_model.specs.Rafts.{is_up, is_leader, met, following, follows_append};
 ghost use Rattle.raft_model.specs.Steps.{receives};
 ghost use Rattle.raft_model.specs.Messages.{Append as AppendBody};
 ghost use Rattle.raft_core.specs.Inner.Views.{with_server};

@@ -6,7 +6,7 @@ ghost use Rattle.machine_model.specs.declared.entry.Entry.{Entry as LogEntry};
 ghost use Rattle.raft_model.specs.Logs.{term_at};
 ghost use Rattle.raft_model.specs.Messages.{to_others, Append as AppendBody, Install as InstallBody};
 ghost use Rattle.raft_model.specs.Quorums.{index_at};
-ghost use Rattle.raft_model.specs.Servers.{is_up, is_leader};
+ghost use Rattle.raft_model.specs.Rafts.{is_up, is_leader};
 ghost use Rattle.raft_snapshot.specs.Bases.{IsBaseOf};
 ghost use Rattle.raft_core.specs.Inner.Beats.{sent_from};
 ghost use Rattle.raft_core.specs.Inner.Moves.{Beats};
@@ -139,9 +139,9 @@ fn send_to_others<M: Machine>(
         (length next.now))) }
     ensures err { OnErr result (KeepsFront outbox.old outbox.new) }
 {
-    for (place, first) in next.iter().enumerate() {
-        if place != me.place() {
-            send_from(outbox, me, server_at(place), term, commit, log, *first)?;
+    for (position, first) in next.iter().enumerate() {
+        if position != me.position() {
+            send_from(outbox, me, server_at(position), term, commit, log, *first)?;
         }
     }
     Ok(())

@@ -2,7 +2,7 @@
 
 ghost use Rattle.std.specs.Prelude.{◌≡◌, ◌≢◌, ◌<◌, true, None, OnOk, OnErr, IfOk, IfErr, IfSome, Some};
 ghost use Rattle.rows.specs.declared.actor.Actor.TheVariants as actors;
-ghost use Rattle.raft_model.specs.Servers.{Server, is_up, is_leader, met};
+ghost use Rattle.raft_model.specs.Rafts.{Raft as AnyRaft, is_up, is_leader, met};
 ghost use Rattle.raft_model.specs.Steps.{receives};
 ghost use Rattle.wire.specs.Messages.{log_body};
 ghost use Rattle.raft_core.specs.Frames.{log_message};
@@ -11,7 +11,7 @@ ghost use Rattle.raft_core.specs.Inner.Turns.{TurnTaken, LackedMemory};
 ghost use Rattle.raft_core.specs.Inner.Moves.{MovesMessage, MovesFrame, base_left};
 ghost use Rattle.raft_core.specs.Inner.Stops.{FrameStops, MessageStops};
 ghost use Rattle.raft_core.specs.Refusals.{frame_refusal, misdirected, message_fault, message_refusal, IsMessageRefused, MessageRefusalLeaves, MessageStays, RefusalShows};
-ghost use Rattle.raft_core.specs.RaftView.{SamePlace, KeepsAhead};
+ghost use Rattle.raft_core.specs.RaftView.{SameNumber, KeepsAhead};
 ghost use Rattle.raft_snapshot.specs.Watching.{SeesStep, ShowsStep};
 
 use super::Raft;
@@ -76,10 +76,10 @@ impl<M: Machine> Raft<M> {
             misdirected self.now.size self.now.me message.now.from message.now.to ≡ Some cause) }
     {
         let from = message.from();
-        if from.place() >= self.size {
+        if from.position() >= self.size {
             return Err(Refusal::Frame(2));
         }
-        if message.to().place() != self.me.place() {
+        if message.to().position() != self.me.position() {
             return Err(Refusal::Frame(3));
         }
         Ok(from)
@@ -94,7 +94,7 @@ impl<M: Machine> Raft<M> {
         watch: &mut W,
     ) -> Result<(), Refusal>
         requires { is_up self.old.server.mode ≡ true }
-        ensures same { SamePlace self.old self.new }
+        ensures same { SameNumber self.old self.new }
         ensures taken { OnOk result
             (MovesMessage M.meaning self.old message self.new outbox.old outbox.new) }
         ensures admitted { OnOk result
@@ -127,21 +127,21 @@ impl<M: Machine> Raft<M> {
         outbox: &mut Frames,
         watch: &mut W,
     ) -> Result<(), Refusal>
-        ensures same { SamePlace self.old self.new }
-        ensures taken { OnOk result ((s : Server M.Command) → Represents M.meaning self.old s →
+        ensures same { SameNumber self.old self.new }
+        ensures taken { OnOk result ((s : AnyRaft M.Command) → Represents M.meaning self.old s →
             TakesMessage M.meaning self.old s message self.new outbox.old outbox.new) }
-        ensures admitted { OnOk result ((s : Server M.Command) → Represents M.meaning self.old s →
+        ensures admitted { OnOk result ((s : AnyRaft M.Command) → Represents M.meaning self.old s →
             message_refusal self.old.size self.old.me s message ≡ None) }
         ensures kept { OnOk result (KeepsAhead self.old self.new) }
-        ensures refused { IfErr result (λ cause. (s : Server M.Command) →
+        ensures refused { IfErr result (λ cause. (s : AnyRaft M.Command) →
             Represents M.meaning self.old s →
             IsMessageRefused self.old.size self.old.me s message cause) }
-        ensures left { IfErr result (λ cause. (s : Server M.Command) →
+        ensures left { IfErr result (λ cause. (s : AnyRaft M.Command) →
             Represents M.meaning self.old s →
             MessageRefusalLeaves M.meaning self.old s cause self.new) }
         ensures stays { IfErr result (λ cause. MessageStays cause self.old self.new) }
         ensures unsent { OnErr result (outbox.new ≡ outbox.old) }
-        ensures seen { OnOk result ((s next : Server M.Command) →
+        ensures seen { OnOk result ((s next : AnyRaft M.Command) →
             Represents M.meaning self.old s → Represents M.meaning self.new next →
             SeesStep M.meaning W.sees s next watch.old watch.new) }
         ensures unseen { IfErr result (λ cause. RefusalShows cause watch.old watch.new) }
@@ -175,7 +175,7 @@ impl<M: Machine> Raft<M> {
         watch: &mut W,
     ) -> Result<(), Refusal>
         requires { is_up self.old.server.mode ≡ true }
-        ensures same { SamePlace self.old self.new }
+        ensures same { SameNumber self.old self.new }
         ensures taken { OnOk result
             (MovesFrame M.meaning self.old bytes.now self.new outbox.old outbox.new) }
         ensures admitted { OnOk result (frame_refusal M.meaning self.old.size self.old.me bytes.now

@@ -3,17 +3,19 @@
 ghost use Rattle.std.specs.Prelude.{◌≡◌, ◌+◌, ◌^◌, ◌<◌, true, false, List, length, None, OnOk, OnErr, IfOk, IfErr};
 ghost use Rattle.raft_model.specs.Logs.{state_after};
 ghost use Rattle.wire.specs.Frames.{Frame};
-ghost use Rattle.raft_model.specs.Servers.{Server, is_leader};
+ghost use Rattle.raft_model.specs.Rafts.{Raft as AnyRaft, is_leader};
 ghost use Rattle.raft_model.specs.Steps.{Propose};
 ghost use Rattle.raft_snapshot.specs.Bases.{state_from};
-ghost use Rattle.raft_core.specs.RaftView.{SamePlace, SameServer};
+ghost use Rattle.raft_core.specs.RaftView.{SameNumber, SameRaft};
 ghost use Rattle.raft_core.specs.Inner.Proposals.{shown_refusal, IsShownRefused};
 ghost use Rattle.raft_core.specs.Inputs.{Own};
 ghost use Rattle.raft_core.specs.Steps.{Represents, Takes};
 ghost use Rattle.raft_core.specs.Refusals.{HidesNothing, IsRefused, LacksProjection};
+ghost use Rattle.raft_core.specs.Tickets.{IsTicket};
 
 use super::Raft;
 use crate::no_projection::NoProjection;
+use crate::ticket::Ticket;
 use machine::{Coded, Entry, Machine};
 use raft_snapshot::{brought_on, projection};
 use rows::{Index, Leader, NoMemory, Refusal};
@@ -27,7 +29,7 @@ impl<M: Machine> Raft<M> {
     /// memory. No unless it leads.
     pub fn has_projected(&self) -> bool
         ensures value { result ≡ self.now.projected }
-        ensures leads { (s : Server M.Command) → Represents M.meaning self.now s → result ≡ true →
+        ensures leads { (s : AnyRaft M.Command) → Represents M.meaning self.now s → result ≡ true →
             is_leader s.mode ≡ true }
     {
         self.ahead.is_some()
@@ -36,7 +38,7 @@ impl<M: Machine> Raft<M> {
     /// A leader's machine after its whole log is made where it holds none.
     fn make_ahead(&mut self) -> Result<(), NoMemory>
         requires { is_leader self.old.server.mode ≡ true }
-        ensures same { SameServer self.old self.new }
+        ensures same { SameRaft self.old self.new }
         ensures has { OnOk result (self.new.projected ≡ true) }
         ensures lacked { OnErr result (self.old.projected ≡ false) }
     {
@@ -64,10 +66,10 @@ impl<M: Machine> Raft<M> {
 
     /// Whether a proposal is taken, or why not.
     fn weigh(&mut self, command: &M::Command) -> Result<(), Refusal>
-        ensures same { SameServer self.old self.new }
+        ensures same { SameRaft self.old self.new }
         ensures kept { self.old.projected ≡ true → self.new.projected ≡ true }
         ensures leads { OnOk result (is_leader self.old.server.mode ≡ true) }
-        ensures room { OnOk result (length self.old.server.log + 1 < 2 ^ 40) }
+        ensures index_left { OnOk result (length self.old.server.log + 1 < 2 ^ 40) }
         ensures taken { OnOk result (shown_refusal M.meaning self.old command.now ≡ None) }
         ensures refused { IfErr result (λ cause.
             IsShownRefused M.meaning self.old command.now cause) }
@@ -88,7 +90,9 @@ impl<M: Machine> Raft<M> {
         }
     }
 
-    /// A leader appends a command that its machine admits after its whole log, committed or not.
+    /// A leader appends a command that its machine admits after its whole log, committed or not, and
+    /// answers where it stands. Whether it stays there is for later: `standing` tells, of this
+    /// server or another.
     ///
     /// One that is down refuses with `Down`, one that does not lead with `NotLeader` and the leader
     /// that it knows, one whose last index is 2^40 - 1 with `Exhausted`; else the machine may
@@ -99,31 +103,38 @@ impl<M: Machine> Raft<M> {
     ///
     /// Nothing is committed by it: a leader alone is no quorum of 3 or 5. So a watcher has nothing
     /// to see.
-    pub fn propose(&mut self, command: M::Command) -> Result<(), Refusal>
-        ensures same { SamePlace self.old self.new }
+    pub fn propose(&mut self, command: M::Command) -> Result<Ticket, Refusal>
+        ensures same { SameNumber self.old self.new }
         // Whatever was sent before, nothing is sent.
-        ensures taken { OnOk result ((s : Server M.Command) (sent : List Frame) →
+        ensures taken { OnOk result ((s : AnyRaft M.Command) (sent : List Frame) →
             Represents M.meaning self.old s →
             Takes M.meaning self.old s (Own (Propose command)) self.new sent sent) }
         ensures leads { OnOk result (is_leader self.new.server.mode ≡ true) }
-        ensures refused { IfErr result (λ cause. (s : Server M.Command) →
+        // It is the last entry of the log, in the leader's own term.
+        ensures ticket { IfOk result (λ t. (s : AnyRaft M.Command) →
+            Represents M.meaning self.new s → IsTicket s command t.index t.term) }
+        ensures refused { IfErr result (λ cause. (s : AnyRaft M.Command) →
             Represents M.meaning self.old s →
             IsRefused M.meaning self.old.size self.old.me s (Own (Propose command)) cause) }
-        ensures unhidden { IfErr result (λ cause. (s : Server M.Command) →
+        ensures unhidden { IfErr result (λ cause. (s : AnyRaft M.Command) →
             Represents M.meaning self.old s →
             HidesNothing M.meaning self.old.size self.old.me s (Own (Propose command)) cause) }
-        ensures unchanged { OnErr result (SameServer self.old self.new) }
+        ensures unchanged { OnErr result (SameRaft self.old self.new) }
         ensures kept { OnErr result (self.old.projected ≡ true → self.new.projected ≡ true) }
     {
         self.shown();
         self.weigh(&command)?;
+        let term = self.term;
         self.log.append(Entry {
             term: self.term,
             command: Coded::new(command),
         })?;
         let ahead = self.ahead.take();
         self.ahead = brought_on(ahead, &self.log);
-        Ok(())
+        Ok(Ticket {
+            index: self.log.last(),
+            term,
+        })
     }
 
     /// A leader's machine after its whole log, committed or not. It is made where it holds none,
@@ -133,13 +144,14 @@ impl<M: Machine> Raft<M> {
     /// (`known_leader` says who may be asked), and with `NoMemory`, which comes only where it held
     /// none. The server stays as it was on every answer, want of memory among them.
     pub fn projected(&mut self) -> Result<&M, NoProjection>
-        ensures value { IfOk result (λ r. (s : Server M.Command) → Represents M.meaning self.old s →
+        ensures value { IfOk result (λ r. (s : AnyRaft M.Command) →
+            Represents M.meaning self.old s →
             (is_leader s.mode ≡ true) × (r.now ≡ state_after M.meaning s.log)) }
-        ensures refused { IfErr result (λ why. (s : Server M.Command) →
+        ensures refused { IfErr result (λ why. (s : AnyRaft M.Command) →
             Represents M.meaning self.old s → LacksProjection s why) }
         ensures held { OnErr result (self.old.projected ≡ false) }
         ensures* same { sem 𝓛 (Rests (the_row M.row M.Command.row M.Machine) self.entry (λ n.
-            SameServer self.old n × OnOk result (n.projected ≡ true))) }
+            SameRaft self.old n × OnOk result (n.projected ≡ true))) }
     {
         if self.machine.is_none() {
             return Err(NoProjection::Down);

@@ -1,7 +1,7 @@
 //! Answers to what a leader sent. (Raft, extended version 2014, section 5.3, and section 5.4.2.)
 
 ghost use Rattle.std.specs.Prelude.{◌≡◌, ◌^◌, ◌<◌, true, length, max, min, suc, ◌-◌, nat_le, if◌then◌else◌, slice_set, OnOk, OnErr};
-ghost use Rattle.raft_model.specs.Servers.{is_up, met, crashed};
+ghost use Rattle.raft_model.specs.Rafts.{is_up, met, crashed};
 ghost use Rattle.raft_model.specs.Steps.{receives};
 ghost use Rattle.raft_model.specs.Messages.{AppendReply as AppendReplyBody};
 ghost use Rattle.raft_model.specs.Quorums.{index_at};
@@ -31,11 +31,11 @@ fn acknowledge(next: &mut [u64], matched: &mut [u64], last: u64, from: ServerId,
         ≡ if nat_le at last then slice_set matched.old from (max (index_at matched.old from) at) else
         matched.old }
 {
-    let place = from.place();
+    let position = from.position();
     if at.get() <= last {
-        let level = matched[place].max(at.get());
-        matched[place] = level;
-        next[place] = level + 1;
+        let level = matched[position].max(at.get());
+        matched[position] = level;
+        next[position] = level + 1;
     }
 }
 
@@ -48,9 +48,9 @@ fn back_off(next: &mut [u64], matched: &[u64], from: ServerId, at: Index)
     ensures { next.new ≡ slice_set next.old from
         (max (suc (index_at matched.now from)) (min (index_at next.old from - 1) (suc at))) }
 {
-    let place = from.place();
-    let earlier = next[place].saturating_sub(1).min(at.get() + 1);
-    next[place] = earlier.max(matched[place] + 1);
+    let position = from.position();
+    let earlier = next[position].saturating_sub(1).min(at.get() + 1);
+    next[position] = earlier.max(matched[position] + 1);
 }
 
 /// What an answer tells of another server's log.

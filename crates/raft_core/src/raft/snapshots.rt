@@ -2,7 +2,7 @@
 //! log that lacks it. (Raft, extended version 2014, section 7, and Figure 13.)
 
 ghost use Rattle.std.specs.Prelude.{◌≡◌, ◌≢◌, ◌<◌, ◌≤◌, true, false, OnOk, OnErr};
-ghost use Rattle.raft_model.specs.Servers.{is_up, is_leader, met, following, installed};
+ghost use Rattle.raft_model.specs.Rafts.{is_up, is_leader, met, following, installed};
 ghost use Rattle.raft_model.specs.Steps.{receives};
 ghost use Rattle.raft_model.specs.Messages.{Install as InstallBody};
 ghost use Rattle.raft_snapshot.specs.Bases.{blank};
@@ -10,7 +10,7 @@ ghost use Rattle.raft_snapshot.specs.Shown.{base_after};
 ghost use Rattle.raft_core.specs.Frames.{base_of};
 ghost use Rattle.raft_core.specs.Inner.Moves.{Compacts};
 ghost use Rattle.raft_core.specs.Inner.Turns.{TurnTaken, LackedMemory};
-ghost use Rattle.raft_core.specs.RaftView.{SamePlace, KeepsAhead};
+ghost use Rattle.raft_core.specs.RaftView.{SameNumber, KeepsAhead};
 
 use super::Raft;
 use crate::release::forget;
@@ -29,7 +29,7 @@ impl<M: Machine> Raft<M> {
         requires later { self.old.server.term ≤ head.now.term }
         requires counted { M.meaning.count state ≡ head.now.index }
         requires above { self.old.server.commit < head.now.index }
-        ensures same { SamePlace self.old self.new }
+        ensures same { SameNumber self.old self.new }
         ensures base { OnOk result (self.new.base
             ≡ record { index = head.now.index; term = head.now.index_term; state = state }) }
         ensures server { OnOk result (self.new.server
@@ -127,7 +127,7 @@ impl<M: Machine> Raft<M> {
     /// newly applied it changes nothing.
     pub(super) fn compact(&mut self) -> Result<(), NoMemory>
         requires { is_up self.old.server.mode ≡ true }
-        ensures same { SamePlace self.old self.new }
+        ensures same { SameNumber self.old self.new }
         ensures taken { OnOk result (Compacts M.meaning self.old self.new) }
         ensures kept { OnOk result (KeepsAhead self.old self.new) }
         ensures lost { OnErr result (self.new ≡ self.old) }

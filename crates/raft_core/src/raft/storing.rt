@@ -1,7 +1,7 @@
 //! What a server stores, while it runs on.
 
 ghost use Rattle.std.specs.Prelude.{◌≡◌, IfOk};
-ghost use Rattle.raft_model.specs.Servers.{Server};
+ghost use Rattle.raft_model.specs.Rafts.{Raft as AnyRaft};
 ghost use Rattle.raft_core.specs.Steps.{Represents, Stores};
 ghost use Rattle.raft_core.specs.StoredParts.{stored_part};
 
@@ -15,7 +15,7 @@ impl<M: Machine> Raft<M> {
     /// and of the texts of the entries behind that. `NoMemory` where there is no memory for it.
     pub fn stable(&self) -> Result<Stable<M>, NoMemory>
         ensures shown { IfOk result (λ copy. copy ≡ stored_part self.now) }
-        ensures stored { IfOk result (λ copy. (s : Server M.Command) →
+        ensures stored { IfOk result (λ copy. (s : AnyRaft M.Command) →
             Represents M.meaning self.now s → Stores M.meaning copy s) }
     {
         self.shown();

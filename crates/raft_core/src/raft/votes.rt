@@ -1,7 +1,7 @@
 //! Elections. (Raft, section 5.2, and section 5.4.1.)
 
 ghost use Rattle.std.specs.Prelude.{◌≡◌, ◌≢◌, ◌+◌, ◌^◌, ◌<◌, ◌≤◌, true, length, None, OnOk, OnErr, IfErr};
-ghost use Rattle.raft_model.specs.Servers.{is_up, met, grants, stood, vote_request_to, counted, won, crashed};
+ghost use Rattle.raft_model.specs.Rafts.{is_up, met, grants, stood, vote_request_to, counted, won, crashed};
 ghost use Rattle.raft_model.specs.Steps.{receives, Timeout};
 ghost use Rattle.raft_model.specs.Messages.{to_others, VoteRequest as VoteRequestBody, VoteReply as VoteReplyBody};
 ghost use Rattle.raft_model.specs.Quorums.{count, is_quorum, marked};
@@ -11,7 +11,7 @@ ghost use Rattle.raft_core.specs.Refusals.{refusal, HidesNothing};
 ghost use Rattle.raft_core.specs.Inner.Moves.{Moves};
 ghost use Rattle.raft_core.specs.Inner.Stops.{EndsRefused};
 ghost use Rattle.raft_core.specs.Inner.Turns.{SameBase, TurnTaken, LackedMemory, KeepsFront};
-ghost use Rattle.raft_core.specs.RaftView.{SamePlace, KeepsAhead};
+ghost use Rattle.raft_core.specs.RaftView.{SameNumber, KeepsAhead};
 
 use super::Raft;
 use crate::role::Role;
@@ -21,11 +21,11 @@ use rows::{Index, NoMemory, Refusal, ServerId, Term};
 use wire::{Body, Frames, VoteReply, VoteRequest};
 
 /// The server at a place, from 0.
-pub(super) fn server_at(place: usize) -> ServerId
-    requires { place < 5 }
-    ensures { result ≡ place }
+pub(super) fn server_at(position: usize) -> ServerId
+    requires { position < 5 }
+    ensures { result ≡ position }
 {
-    match ServerId::from_place(place) {
+    match ServerId::from_position(position) {
         Some(server) => server,
         None => unreachable!(),
     }
@@ -72,9 +72,9 @@ fn ask<M: Machine>(
         }) size)) }
     ensures err { OnErr result (KeepsFront outbox.old outbox.new) }
 {
-    for place in 0..size {
-        if place != me.place() {
-            send::<M>(outbox, me, server_at(place), Body::VoteRequest(*request))?;
+    for position in 0..size {
+        if position != me.position() {
+            send::<M>(outbox, me, server_at(position), Body::VoteRequest(*request))?;
         }
     }
     Ok(())
@@ -93,7 +93,7 @@ impl<M: Machine> Raft<M> {
             || last_term == its_last_term && self.log.last().get() <= request.last_index.get();
         let is_free = match self.vote {
             None => true,
-            Some(other) => other.place() == from.place(),
+            Some(other) => other.position() == from.position(),
         };
         let (term, its_term) = (self.term.get(), request.term.get());
         is_up_to_date && (term < its_term || term == its_term && is_free)
@@ -149,7 +149,7 @@ impl<M: Machine> Raft<M> {
     fn lead(&mut self) -> Result<(), NoMemory>
         requires up { is_up self.old.server.mode ≡ true }
         requires elected { 1 ≤ self.old.server.term }
-        requires room { length self.old.server.log + 1 < 2 ^ 40 }
+        requires index_left { length self.old.server.log + 1 < 2 ^ 40 }
         ensures same { SameBase self.old self.new }
         ensures won { OnOk result (self.new.server
             ≡ won M.meaning.noop self.old.size self.old.server) }
@@ -181,7 +181,7 @@ impl<M: Machine> Raft<M> {
             Role::Follower => Ok(()),
             Role::Leader => Ok(()),
             Role::Candidate => {
-                self.votes[from.place()] = true;
+                self.votes[from.position()] = true;
                 if !is_quorum(&self.votes) {
                     return Ok(());
                 }
@@ -218,7 +218,7 @@ impl<M: Machine> Raft<M> {
     pub(super) fn stand(&mut self, outbox: &mut Frames) -> Result<(), NoMemory>
         requires up { is_up self.old.server.mode ≡ true }
         requires term { self.old.server.term + 1 < 2 ^ 40 }
-        requires room { length self.old.server.log + 1 < 2 ^ 40 }
+        requires index_left { length self.old.server.log + 1 < 2 ^ 40 }
         ensures taken { OnOk result
             (TurnTaken M.meaning self.old.base self.old self.new outbox.old outbox.new
             (record {
@@ -242,7 +242,7 @@ impl<M: Machine> Raft<M> {
         self.vote = Some(self.me);
         self.known = None;
         self.votes.fill(false);
-        self.votes[self.me.place()] = true;
+        self.votes[self.me.position()] = true;
         self.role = Role::Candidate;
         Ok(())
     }
@@ -250,7 +250,7 @@ impl<M: Machine> Raft<M> {
     /// It has heard of no leader: unless it leads, it stands for election.
     pub(super) fn timeout(&mut self, outbox: &mut Frames) -> Result<(), Refusal>
         requires { is_up self.old.server.mode ≡ true }
-        ensures same { SamePlace self.old self.new }
+        ensures same { SameNumber self.old self.new }
         ensures taken { OnOk result (
             Moves M.meaning self.old.base self.old Timeout self.new outbox.old outbox.new) }
         ensures admitted { OnOk result (

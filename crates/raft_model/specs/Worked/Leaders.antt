@@ -5,12 +5,12 @@ use Rattle.machine_model.specs.Tally.{tally_meaning}
 use Rattle.machine_model.specs.declared.tally.TallyCommand.{TallyCommand}
 use Rattle.machine_model.specs.declared.tally.TallyCommand.TheVariants.{Add}
 use Rattle.raft_model.specs.Messages.{Append, AppendReply, Install}
-use Rattle.raft_model.specs.Servers.{Server, Down, Follower, Leader}
+use Rattle.raft_model.specs.Rafts.{Raft, Down, Follower, Leader}
 use Rattle.raft_model.specs.Steps.{Arrives, Timeout, Beat, Propose, Crash, Restart, step}
 use Rattle.raft_model.specs.Worked.Words.{adds, message, after_inputs}
 
 -- the leader of term 2, server 0 of three, with two entries of term 1
-abbrev pub leader : Server TallyCommand
+abbrev pub leader : Raft TallyCommand
 leader = record {
   term = 2;
   vote = Some 0;

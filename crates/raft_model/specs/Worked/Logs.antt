@@ -3,7 +3,7 @@ use Rattle.std.specs.Prelude.{◌≡◌, false, Some, None, Ok, [], ◌∷◌}
 use Rattle.machine_model.specs.Tally.{tally_meaning}
 use Rattle.raft_model.specs.Logs.{merge, install}
 use Rattle.raft_model.specs.Messages.{Append, AppendReply}
-use Rattle.raft_model.specs.Servers.{Follower}
+use Rattle.raft_model.specs.Rafts.{Follower}
 use Rattle.raft_model.specs.Steps.{Arrives, step}
 use Rattle.raft_model.specs.Worked.Words.{adds, message, follower}
 

@@ -5,18 +5,18 @@ use Rattle.machine_model.specs.declared.entry.Entry.{Entry}
 use Rattle.machine_model.specs.declared.tally.TallyCommand.{TallyCommand}
 use Rattle.machine_model.specs.declared.tally.TallyCommand.TheVariants.{Add}
 use Rattle.raft_model.specs.Messages.{Append, AppendReply}
-use Rattle.raft_model.specs.Servers.{Server, Follower, Leader}
+use Rattle.raft_model.specs.Rafts.{Raft, Follower, Leader}
 use Rattle.raft_model.specs.Steps.{Input, Arrives, step}
 use Rattle.raft_model.specs.Worlds.{World, first, Deliver, TimesOut, Beats, Proposes, Compacts}
 use Rattle.raft_model.specs.Worked.Words.{adds, begins, message, follower, after_inputs, after_events}
 
 -- each server's commit index
 abbrev pub commits : World TallyCommand → List ℕ
-commits w = map (λ (s : Server TallyCommand). s.commit) w.servers
+commits w = map (λ (s : Raft TallyCommand). s.commit) w.servers
 
 -- each server's log
 abbrev pub logs : World TallyCommand → List (List (Entry TallyCommand))
-logs w = map (λ (s : Server TallyCommand). s.log) w.servers
+logs w = map (λ (s : Raft TallyCommand). s.log) w.servers
 
 -- Three servers elect server 0, which commits its no-op and a proposal; server 2 hears of it at the
 -- next beat.
@@ -49,7 +49,7 @@ TailCommitted = commits late_append_then_install ≡ 5 ∷ 0 ∷ 3 ∷ []
 abbrev pub shared : List (Entry TallyCommand)
 shared = replicate 33 (adds 1 1)
 
-abbrev pub long_leader : Server TallyCommand
+abbrev pub long_leader : Raft TallyCommand
 long_leader = record {
   term = 3;
   vote = Some 0;

@@ -6,7 +6,7 @@ use Rattle.machine_model.specs.Tally.{tally_meaning}
 use Rattle.machine_model.specs.declared.tally.TallyCommand.{TallyCommand}
 use Rattle.machine_model.specs.declared.tally.TallyCommand.TheVariants.{Add}
 use Rattle.raft_model.specs.Messages.{VoteRequest, VoteReply, Append, AppendReply, Install, InstallReply}
-use Rattle.raft_model.specs.Servers.{Server, Down, Follower, Candidate, Leader, newcomer, silent}
+use Rattle.raft_model.specs.Rafts.{Raft, Down, Follower, Candidate, Leader, newcomer, silent}
 use Rattle.raft_model.specs.Steps.{Arrives, Timeout, Beat, Propose, Compact, Crash, step}
 use Rattle.raft_model.specs.Worked.Words.{adds, message, follower, after_inputs}
 use Rattle.raft_model.specs.Worked.Leaders.{leader}
@@ -15,7 +15,7 @@ use Rattle.raft_model.specs.Worked.Runs.{shared, long_leader}
 -- ---- terms
 
 -- a follower of term 1 that has voted for server 0 and follows it
-abbrev pub voted : Server TallyCommand
+abbrev pub voted : Raft TallyCommand
 voted = record (follower 1 []) { vote = Some 0; known = Some 0 }
 
 -- In a greater term its vote is free again, and it knows no leader.
@@ -63,7 +63,7 @@ LeadsOn = after_inputs 3 0 leader (Arrives (message 1 0 2 (Append 0 0 2 [])) ∷
 -- ---- a follower's commit index
 
 -- two entries, both committed
-abbrev pub both_committed : Server TallyCommand
+abbrev pub both_committed : Raft TallyCommand
 both_committed = record (follower 2 (adds 1 7 ∷ adds 1 8 ∷ [])) { commit = 2; known = Some 0 }
 
 -- It never falls.
@@ -134,11 +134,11 @@ abbrev pub CrashLosesTheRest : Type 0
 CrashLosesTheRest = after_inputs 3 2 both_committed (Crash ∷ []) ≡ record both_committed { commit = 0; known = None; mode = Down }
 
 -- One that is down refuses whatever comes.
-abbrev pub down : Server TallyCommand
+abbrev pub down : Raft TallyCommand
 down = record (follower 1 []) { mode = Down }
 
-abbrev pub DownHearsNothing : Type 0
-DownHearsNothing = step tally_meaning 3 1 down (Arrives (message 0 1 2 (VoteRequest 0 0))) ≡ Err refusals.Down
+abbrev pub DownTakesNothing : Type 0
+DownTakesNothing = step tally_meaning 3 1 down (Arrives (message 0 1 2 (VoteRequest 0 0))) ≡ Err refusals.Down
 
 abbrev pub DownBeatsNot : Type 0
 DownBeatsNot = step tally_meaning 3 1 down Beat ≡ Err refusals.Down

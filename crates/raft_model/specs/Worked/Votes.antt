@@ -4,7 +4,7 @@ use Rattle.rows.specs.declared.refusal.Refusal.TheVariants as refusals
 use Rattle.machine_model.specs.Tally.{tally_meaning}
 use Rattle.raft_model.specs.Logs.{MAX}
 use Rattle.raft_model.specs.Messages.{VoteRequest, VoteReply}
-use Rattle.raft_model.specs.Servers.{Follower, Candidate, Leader, newcomer}
+use Rattle.raft_model.specs.Rafts.{Follower, Candidate, Leader, newcomer}
 use Rattle.raft_model.specs.Steps.{Arrives, Timeout, Crash, Restart, step}
 use Rattle.raft_model.specs.Worked.Words.{adds, begins, message, follower, after_inputs}
 

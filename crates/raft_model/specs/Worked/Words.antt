@@ -6,7 +6,7 @@ use Rattle.machine_model.specs.declared.entry.Entry.{Entry}
 use Rattle.machine_model.specs.declared.tally.TallyCommand.{TallyCommand}
 use Rattle.machine_model.specs.declared.tally.TallyCommand.TheVariants.{Noop, Add}
 use Rattle.raft_model.specs.Messages.{Message, Body}
-use Rattle.raft_model.specs.Servers.{Server, Follower, Turn}
+use Rattle.raft_model.specs.Rafts.{Raft, Follower, RaftTurn}
 use Rattle.raft_model.specs.Steps.{Input, step}
 use Rattle.raft_model.specs.Worlds.{World, Event, happens}
 
@@ -23,16 +23,16 @@ abbrev pub message : ℕ → ℕ → ℕ → Body TallyCommand → Message Tally
 message from to term body = record { from = from; to = to; term = term; body = body }
 
 -- a follower that has voted for nobody and has committed nothing
-abbrev pub follower : ℕ → List (Entry TallyCommand) → Server TallyCommand
+abbrev pub follower : ℕ → List (Entry TallyCommand) → Raft TallyCommand
 follower term log = record { term = term; vote = None; log = log; covered = 0; commit = 0; known = None; mode = Follower }
 
 -- the server after an input; the same one where the input is refused
-abbrev pub or_stays : Server TallyCommand → Result (Turn TallyCommand) Refusal → Server TallyCommand
+abbrev pub or_stays : Raft TallyCommand → Result (RaftTurn TallyCommand) Refusal → Raft TallyCommand
 or_stays s (Ok turn) = turn.server
 or_stays s (Err refusal) = s
 
 -- server `me` of n after the inputs, one after the other
-abbrev pub after_inputs : ℕ → ℕ → Server TallyCommand → List (Input TallyCommand) → Server TallyCommand
+abbrev pub after_inputs : ℕ → ℕ → Raft TallyCommand → List (Input TallyCommand) → Raft TallyCommand
 after_inputs n me s [] = s
 after_inputs n me s (input ∷ inputs) = after_inputs n me (or_stays s (step tally_meaning n me s input)) inputs
 

@@ -4,7 +4,7 @@ use Rattle.machine_model.specs.declared.entry.Entry.{Entry}
 use Rattle.raft_model.specs.Logs.{MAX, term_at, last_term}
 use Rattle.raft_model.specs.Quorums.{marked, index_at}
 use Rattle.raft_model.specs.Messages.{Message, Body, VoteRequest, VoteReply, Append, AppendReply, Install, InstallReply}
-use Rattle.raft_model.specs.Servers.{Server, Mode, Down, Follower, Candidate, Leader, is_leader}
+use Rattle.raft_model.specs.Rafts.{Raft, Mode, Down, Follower, Candidate, Leader, is_leader}
 use Rattle.raft_safety.specs.Inner.SmallSteps.{WasSent}
 use Rattle.raft_model.specs.Chains.{Agree}
 use Rattle.raft_safety.specs.Inner.Agreement.{Rooted}
@@ -26,7 +26,7 @@ module _ {C : Type 0} (n : ℕ) (G : History C) where
   pub record CandidateOk (j term : ℕ) (log : List (Entry C)) (votes : List Bool) : Type 0 where
     pub stood : G.stood term j ≡ Some log
     pub unled : G.leader term ≢ Some j
-    pub room : length log < MAX
+    pub index_left : length log < MAX
     pub carried : (i : ℕ) → i < n → marked votes i ≡ true → CarriesHeld n G term i log
 
   -- the leader of this term, with what it knows of the others
@@ -46,7 +46,7 @@ module _ {C : Type 0} (n : ℕ) (G : History C) where
   ModeOk j term log (Leader next match) = LeaderOk j term log next match
 
   -- server j
-  pub record ServerOk (j : ℕ) (s : Server C) : Type 0 where
+  pub record ServerOk (j : ℕ) (s : Raft C) : Type 0 where
     pub voter : Voter n G.ballots j s.term s.vote s.mode
     -- nothing was promised for later terms
     pub unstood : (t : ℕ) → s.term < t → G.stood t j ≡ None
@@ -103,7 +103,7 @@ module _ {C : Type 0} (n : ℕ) (G : History C) where
 
 -- the history after a step of server i, which is t then and has said `out`; P is what each ledger
 -- keeps besides
-pub record KeepsHistory {C : Type 0} (P : List (Entry C) → Type 0) (n : ℕ) (G : History C) (i : ℕ) (t : Server C) (out : List (Message C)) : Type 0 where
+pub record KeepsHistory {C : Type 0} (P : List (Entry C) → Type 0) (n : ℕ) (G : History C) (i : ℕ) (t : Raft C) (out : List (Message C)) : Type 0 where
   pub after : History C
   pub extends : Extends G after
   pub apart : DiffersAt i G after

@@ -6,7 +6,7 @@ use Rattle.machine_model.specs.declared.entry.Entry.{Entry}
 use Rattle.raft_model.specs.Logs.{MAX}
 use Rattle.raft_model.specs.Quorums.{is_quorum, marked}
 use Rattle.raft_model.specs.Messages.{Message, Body, VoteRequest, VoteReply, Append, AppendReply, Install, InstallReply, to_others}
-use Rattle.raft_model.specs.Servers.{Server, Mode, Down, Follower, Candidate, Leader, is_up, is_leader, stood, vote_request_to, is_free_for, is_up_to_date, won, following, is_held, appended, installed, match_raised, backed_off, is_chosen, greatest, beat_message, compacted, extended}
+use Rattle.raft_model.specs.Rafts.{Raft, Mode, Down, Follower, Candidate, Leader, is_up, is_leader, stood, vote_request_to, is_free_for, is_up_to_date, won, following, is_held, appended, installed, match_raised, backed_off, is_chosen, greatest, beat_message, compacted, extended}
 use Rattle.raft_model.specs.Steps.{admission_refusal}
 
 -- replies that refuse: they promise nothing
@@ -38,7 +38,7 @@ KnowsNothing (Candidate votes) = ⊥
 KnowsNothing (Leader next match) = ⊥
 
 -- who leads after these small steps led before them, in the same term and with the same log
-abbrev pub LedBefore : {C : Type 0} → Server C → Server C → Type 0
+abbrev pub LedBefore : {C : Type 0} → Raft C → Raft C → Type 0
 LedBefore s r = is_leader r.mode ≡ true → (is_leader s.mode ≡ true) × (r.term ≡ s.term) × (r.log ≡ s.log)
 
 -- a message that was sent
@@ -47,7 +47,7 @@ WasSent sent message = (k : ℕ) × (slice_get sent k ≡ Some message)
 
 module _ {S C : Type 0} (m : Meaning S C) (n i : ℕ) (sent : List (Message C)) where
   -- server i goes from s to t, and says `out`
-  pub data Small (s t : Server C) (out : List (Message C)) : Type 0 where
+  pub data Small (s t : Raft C) (out : List (Message C)) : Type 0 where
     -- a message of a greater term
     raises : (message : Message C) → WasSent sent message → s.term < message.term → t ≡ record s { term = message.term; vote = None; known = None; mode = Follower } → out ≡ [] → Small s t out
     -- a timeout
@@ -90,15 +90,15 @@ module _ {S C : Type 0} (m : Meaning S C) (n i : ℕ) (sent : List (Message C)) 
     beats_all : (next match : List ℕ) → s.mode ≡ Leader next match → t ≡ s → out ≡ to_others i (beat_message i s next) n → Small s t out
 
   -- small steps in a row, of which the last one speaks and writes
-  pub data Path : Server C → Server C → List (Message C) → Type 0 where
+  pub data Path : Raft C → Raft C → List (Message C) → Type 0 where
     -- nothing
-    still : {s t : Server C} {out : List (Message C)} → t ≡ s → out ≡ [] → Path s t out
+    still : {s t : Raft C} {out : List (Message C)} → t ≡ s → out ≡ [] → Path s t out
     -- the last small step
-    only : {s t : Server C} {out : List (Message C)} → Small s t out → Path s t out
+    only : {s t : Raft C} {out : List (Message C)} → Small s t out → Path s t out
     -- one before others
-    after_one : {s t : Server C} {out : List (Message C)} (r : Server C) → Small s r [] → LedBefore s r → Path r t out → Path s t out
+    after_one : {s t : Raft C} {out : List (Message C)} (r : Raft C) → Small s r [] → LedBefore s r → Path r t out → Path s t out
 
   -- a server that is up goes a path; or it crashes, or restarts
-  pub data Turns (s t : Server C) (out : List (Message C)) : Type 0 where
+  pub data Turns (s t : Raft C) (out : List (Message C)) : Type 0 where
     walks : is_up s.mode ≡ true → Path s t out → Turns s t out
     resets : (mode : Mode) → KnowsNothing mode → (is_up mode ≡ true → is_up s.mode ≡ false) → t ≡ record s { commit = s.covered; known = None; mode = mode } → out ≡ [] → Turns s t out

@@ -38,7 +38,7 @@ type Known = (Option<(u64, &'static [Run])>, &'static [Id]);
 
 /// An act; the number of the refusal, 0 where there is none, with the place that goes with it; the
 /// one frame that is sent, empty where none is; and what is known of the client then.
-type Turn = (Act, (u8, usize), &'static [u8], Known);
+type AgentTurn = (Act, (u8, usize), &'static [u8], Known);
 
 /// Nothing is sent.
 const NONE: &[u8] = &[];
@@ -222,7 +222,7 @@ const THREE: &[Id] = &[(8, 0), (8, 3), (8, 1)];
 const FOUR: &[Id] = &[(8, 0), (8, 3), (8, 1), (8, 2)];
 
 // What is asked of servers, and what comes from them and is no list.
-const ASKS_AND_HEARS: &[Turn] = &[
+const ASKS_AND_HEARS: &[AgentTurn] = &[
     (Restart, (12, 0), NONE, UP),
     (Register(2), TAKEN, REGISTERS, UP),
     (Register(4), (12, 0), NONE, UP),
@@ -258,7 +258,7 @@ const ASKS_AND_HEARS: &[Turn] = &[
 
 // An allocation starts once, and is reported to whoever lists it otherwise; it ends; and how it
 // ended is not known any more after a crash.
-const STARTS_ONCE: &[Turn] = &[
+const STARTS_ONCE: &[AgentTurn] = &[
     (Hear(LIST_OF_4), (15, 2), NONE, UP),
     (Hear(LIST_FOR_2), (15, 3), NONE, UP),
     (Hear(CUT_LIST), (15, 4), NONE, UP),
@@ -295,7 +295,7 @@ const STARTS_ONCE: &[Turn] = &[
 
 // What is listed as unknown is as any other: it starts once, runs on, and is reported as what it
 // is.
-const UNKNOWN_ONES: &[Turn] = &[
+const UNKNOWN_ONES: &[AgentTurn] = &[
     (Hear(LIST_9_UNKNOWN), TAKEN, RUNS, HAS_8),
     (Hear(LIST_9_OF_3), TAKEN, NONE, HAS_8),
     (Hear(LIST_9_UNKNOWN), TAKEN, RUNS, HAS_8),
@@ -308,7 +308,7 @@ const UNKNOWN_ONES: &[Turn] = &[
 ];
 
 // What is not listed any more stops, and does not start again.
-const STOPS: &[Turn] = &[
+const STOPS: &[AgentTurn] = &[
     (Hear(LIST_OF_FOUR), TAKEN, TWO_RUN, BOTH_RUN),
     (Hear(LIST_OF_FOUR), TAKEN, TWO_RUN, BOTH_RUN),
     (
@@ -322,7 +322,7 @@ const STOPS: &[Turn] = &[
 ];
 
 // What ended leaves its room to others.
-const ENDS: &[Turn] = &[
+const ENDS: &[AgentTurn] = &[
     (Hear(LIST_OF_FOUR), TAKEN, TWO_RUN, BOTH_RUN),
     (
         End((8, 3), false),
@@ -390,7 +390,7 @@ const THREE_ON_DISK: &[Id] = &[(8, 0), (8, 2), (8, 3)];
 
 // What does not fit on what is left of the node's disk is not started, and starts when that is
 // free.
-const FILLS_ITS_DISK: &[Turn] = &[
+const FILLS_ITS_DISK: &[AgentTurn] = &[
     (
         Hear(LIST_ON_DISK),
         TAKEN,
@@ -418,7 +418,7 @@ const FILLS_ITS_DISK: &[Turn] = &[
 ];
 
 /// The memory and the disk of the client's node, and what is done with the client.
-const PLAYS: &[((u32, u32), &[Turn])] = &[
+const PLAYS: &[((u32, u32), &[AgentTurn])] = &[
     ((2000, 7), ASKS_AND_HEARS),
     ((1000, 0), STARTS_ONCE),
     ((1000, 0), UNKNOWN_ONES),
@@ -550,7 +550,7 @@ fn is_known(agent: &Agent, known: &Known) -> bool {
     same && are_ids(agent.started(), started)
 }
 
-fn holds(agent: &mut Agent, alloc: Global, turn: &Turn, is_received: bool) -> bool {
+fn holds(agent: &mut Agent, alloc: Global, turn: &AgentTurn, is_received: bool) -> bool {
     let (act, answer, frame, known) = turn;
     let mut sent = Frames::new(alloc);
     answer_to(agent, alloc, act, is_received, &mut sent) == Some(*answer)
@@ -566,7 +566,12 @@ fn node_of(cpu: u32, mem: u32, disk: u32) -> Option<NodeSpec> {
     })
 }
 
-fn is_played(alloc: Global, room: (u32, u32), turns: &[Turn], is_received: bool) -> Option<bool> {
+fn is_played(
+    alloc: Global,
+    room: (u32, u32),
+    turns: &[AgentTurn],
+    is_received: bool,
+) -> Option<bool> {
     let (mem, disk) = room;
     let node = node_of(1000, mem, disk)?;
     let mut agent = Agent::new(alloc, node, 3).ok()?;

@@ -1,10 +1,12 @@
 //! Three servers with a bank. They elect a leader, take commands and refuse some; server 3 loses
-//! messages and restarts, and server 2 leads after server 1 has crashed. Then server 3 is away
-//! while the log is compacted, gets a snapshot, and leads. The messages and the balances are
-//! counted by hand, from Raft, extended version 2014, sections 5 and 7, Figures 2 and 13, and from
-//! the bank's rules.
+//! messages and restarts, and server 2 leads after server 1 has crashed, with whom one command is
+//! lost. Then server 3 is away while the log is compacted, gets a snapshot, and leads. Each ticket
+//! is kept, and servers are asked of it. The messages, the balances and where each command stands
+//! are counted by hand, from Raft, extended version 2014, sections 5 and 7, Figures 2 and 13, and
+//! from the bank's rules.
 use bank::{AccountId, Bank, BankCommand, Money, bank_of};
 use machine::Machine;
+use raft_core::{Standing, Ticket};
 use rows::{Refusal, ServerId, Version};
 use std::alloc::Global;
 use world::{Done, RaftEvent, RaftWorld};
@@ -23,9 +25,15 @@ enum Step {
     Deposit(u8, u16, u64),
     Withdraw(u8, u16, u64),
     Transfer(u8, u16, u16, u64),
+    // What a server is asked of the k-th ticket, from 0, and what it knows.
+    Ask(u8, usize, Option<Standing>),
+    // The index and the term of the ticket that was given last.
+    Stands(u64, u64),
 }
 
-use Step::{Beat, Compact, Crash, Deliver, Deposit, Open, Restart, Timeout, Transfer, Withdraw};
+use Step::{
+    Ask, Beat, Compact, Crash, Deliver, Deposit, Open, Restart, Stands, Timeout, Transfer, Withdraw,
+};
 
 /// A bank: how many commands were applied, and the balances. None of a server that is down.
 type Known = Option<(u64, &'static [u64])>;
@@ -33,6 +41,14 @@ type Known = Option<(u64, &'static [u64])>;
 /// A step; the number of the refusal, 0 where there is none; and the banks of the three servers
 /// then.
 type Row = (Step, u8, &'static [Known]);
+
+const OPEN: Option<Standing> = Some(Standing::Open);
+
+const SETTLED: Option<Standing> = Some(Standing::Settled);
+
+const LOST: Option<Standing> = Some(Standing::Lost);
+
+const COVERED: Option<Standing> = Some(Standing::Covered);
 
 const DOWN: Known = None;
 
@@ -62,6 +78,8 @@ const ROWS: &[Row] = &[
     (Open(1), 0, &[NEW, NEW, NEW]),
     (Open(1), 0, &[NEW, NEW, NEW]),
     (Deposit(1, 0, 100), 0, &[NEW, NEW, NEW]),
+    // Behind the no-op and two accounts.
+    (Stands(4, 1), 0, &[NEW, NEW, NEW]),
     (Deposit(1, 0, 1_000_000_000_000), 12, &[NEW, NEW, NEW]),
     (Deposit(1, 2, 1), 12, &[NEW, NEW, NEW]),
     (Transfer(1, 0, 1, 101), 12, &[NEW, NEW, NEW]),
@@ -74,8 +92,13 @@ const ROWS: &[Row] = &[
     // them, so two of three have.
     (Beat(1), 0, &[NEW, NEW, NEW]),
     (Deliver(4), 0, &[NEW, NEW, NEW]),
+    (Ask(1, 2, OPEN), 0, &[NEW, NEW, NEW]),
     (Deliver(6), 0, &[SIX, NEW, NEW]),
+    (Ask(1, 2, SETTLED), 0, &[SIX, NEW, NEW]),
+    (Ask(2, 2, OPEN), 0, &[SIX, NEW, NEW]),
     (Crash(3), 0, &[SIX, NEW, DOWN]),
+    (Ask(3, 2, None), 0, &[SIX, NEW, DOWN]),
+    (Ask(4, 2, None), 0, &[SIX, NEW, DOWN]),
     // Messages 7 and 8 say what is committed, and 8 has the six entries once more.
     (Beat(1), 0, &[SIX, NEW, DOWN]),
     (Deliver(8), 16, &[SIX, NEW, DOWN]),
@@ -84,6 +107,11 @@ const ROWS: &[Row] = &[
     (Deliver(8), 0, &[SIX, SIX, SIX]),
     (Deliver(8), 0, &[SIX, SIX, SIX]),
     (Deliver(4), 0, &[SIX, SIX, SIX]),
+    (Ask(2, 4, SETTLED), 0, &[SIX, SIX, SIX]),
+    // A command that server 1 sends to nobody before it crashes.
+    (Deposit(1, 0, 7), 0, &[SIX, SIX, SIX]),
+    (Stands(7, 1), 0, &[SIX, SIX, SIX]),
+    (Ask(1, 5, OPEN), 0, &[SIX, SIX, SIX]),
     // Those are answered by messages 9 to 12. Server 2 asks for votes by messages 13 and 14, and
     // has server 3's by message 15.
     (Crash(1), 0, &[DOWN, SIX, SIX]),
@@ -91,10 +119,15 @@ const ROWS: &[Row] = &[
     (Deliver(14), 0, &[DOWN, SIX, SIX]),
     (Deliver(15), 0, &[DOWN, SIX, SIX]),
     (Deposit(2, 1, 5), 0, &[DOWN, SIX, SIX]),
+    // Behind the second leader's no-op, which stands where the lost command stood.
+    (Stands(8, 2), 0, &[DOWN, SIX, SIX]),
     // Messages 16 and 17 bring its two entries; server 3 says by message 18 that it has them.
     (Beat(2), 0, &[DOWN, SIX, SIX]),
     (Deliver(17), 0, &[DOWN, SIX, SIX]),
     (Deliver(18), 0, &[DOWN, EIGHT, SIX]),
+    (Ask(2, 5, LOST), 0, &[DOWN, EIGHT, SIX]),
+    (Ask(2, 6, SETTLED), 0, &[DOWN, EIGHT, SIX]),
+    (Ask(3, 5, OPEN), 0, &[DOWN, EIGHT, SIX]),
     // Server 1 begins from nothing, and is told by message 16 what was committed when it was sent.
     (Restart(1), 0, &[NEW, EIGHT, SIX]),
     (Deliver(16), 0, &[SIX, EIGHT, SIX]),
@@ -102,6 +135,7 @@ const ROWS: &[Row] = &[
     (Beat(2), 0, &[SIX, EIGHT, SIX]),
     (Deliver(21), 0, &[SIX, EIGHT, EIGHT]),
     (Deliver(20), 0, &[EIGHT, EIGHT, EIGHT]),
+    (Ask(1, 5, LOST), 0, &[EIGHT, EIGHT, EIGHT]),
     // Those are answered by messages 22 and 23, which are lost. Messages 24 and 25 bring one more
     // entry; server 1 says by message 26 that it has it, and server 3 is away.
     (Crash(3), 0, &[EIGHT, EIGHT, DOWN]),
@@ -111,7 +145,10 @@ const ROWS: &[Row] = &[
     (Deliver(26), 0, &[EIGHT, NINE, DOWN]),
     // The leader's snapshot covers all nine, so server 3 gets it by message 28, in place of the
     // ninth. That comes twice, and then the old message 25, and neither changes anything.
+    (Ask(2, 7, SETTLED), 0, &[EIGHT, NINE, DOWN]),
     (Compact(2), 0, &[EIGHT, NINE, DOWN]),
+    (Ask(2, 7, COVERED), 0, &[EIGHT, NINE, DOWN]),
+    (Ask(2, 5, COVERED), 0, &[EIGHT, NINE, DOWN]),
     (Compact(3), 16, &[EIGHT, NINE, DOWN]),
     (Compact(4), 12, &[EIGHT, NINE, DOWN]),
     (Restart(3), 0, &[EIGHT, NINE, NEW]),
@@ -120,6 +157,8 @@ const ROWS: &[Row] = &[
     (Deliver(28), 0, &[EIGHT, NINE, NINE]),
     (Deliver(25), 0, &[EIGHT, NINE, NINE]),
     (Deliver(27), 0, &[NINE, NINE, NINE]),
+    (Ask(3, 7, COVERED), 0, &[NINE, NINE, NINE]),
+    (Ask(1, 7, SETTLED), 0, &[NINE, NINE, NINE]),
     // Message 29 is the answer to the snapshot; 30 to 32 are lost.
     (Deliver(29), 0, &[NINE, NINE, NINE]),
     // A server begins again with what its snapshot covers.
@@ -138,6 +177,8 @@ const ROWS: &[Row] = &[
     (Beat(3), 0, &[NINE, DOWN, NINE]),
     (Deliver(36), 0, &[NINE, DOWN, NINE]),
     (Deliver(38), 0, &[NINE, DOWN, ELEVEN]),
+    (Ask(3, 8, SETTLED), 0, &[NINE, DOWN, ELEVEN]),
+    (Ask(1, 8, OPEN), 0, &[NINE, DOWN, ELEVEN]),
 ];
 
 // The text of server 1's last bank: 9 commands, and two accounts with 100 and 25.
@@ -164,7 +205,8 @@ fn command_of(step: Step) -> Option<BankCommand> {
     })
 }
 
-fn event_of(alloc: Global, step: Step) -> Option<RaftEvent<Bank>> {
+/// The event of a step that proposes nothing, and asks nothing.
+fn event_of(step: Step) -> Option<RaftEvent<Bank>> {
     Some(match step {
         Deliver(message) => RaftEvent::Deliver(message),
         Timeout(server) => RaftEvent::Timeout(ServerId::from_number(server)?),
@@ -172,11 +214,7 @@ fn event_of(alloc: Global, step: Step) -> Option<RaftEvent<Bank>> {
         Compact(server) => RaftEvent::Compact(ServerId::from_number(server)?),
         Crash(server) => RaftEvent::Crash(ServerId::from_number(server)?),
         Restart(server) => RaftEvent::Restart(ServerId::from_number(server)?),
-        Open(server) | Deposit(server, _, _) | Withdraw(server, _, _) | Transfer(server, _, _, _) =>
-            {
-                let command = Box::new(alloc, command_of(step)?).ok()?;
-                RaftEvent::Propose(ServerId::from_number(server)?, command)
-            }
+        _ => return None,
     })
 }
 
@@ -218,8 +256,8 @@ fn is_known(bank: Option<&Bank>, known: Known) -> bool {
 }
 
 fn are_known(world: &RaftWorld<Bank>, banks: &[Known]) -> bool {
-    for (place, known) in banks.iter().enumerate() {
-        let Some(server) = ServerId::from_place(place) else {
+    for (position, known) in banks.iter().enumerate() {
+        let Some(server) = ServerId::from_position(position) else {
             return false;
         };
         if !is_known(bank_of(world, server), *known) {
@@ -229,12 +267,69 @@ fn are_known(world: &RaftWorld<Bank>, banks: &[Known]) -> bool {
     true
 }
 
+/// A command is proposed, and its ticket kept.
+fn propose(
+    world: &mut RaftWorld<Bank>,
+    server: ServerId,
+    command: Box<BankCommand>,
+    tickets: &mut Vec<Ticket>,
+) -> u8 {
+    match world.propose(server, command) {
+        Ok(Some(ticket)) if tickets.push(ticket).is_ok() => 0,
+        Ok(_) => 99,
+        Err(refusal) => refusal.number(),
+    }
+}
+
+/// 0 where the server knows this of the k-th ticket.
+fn asked(
+    world: &RaftWorld<Bank>,
+    server: ServerId,
+    ticket: Option<&Ticket>,
+    known: Option<Standing>,
+) -> u8 {
+    match ticket {
+        Some(ticket) if world.standing(server, *ticket) == known => 0,
+        _ => 98,
+    }
+}
+
+/// 0 where the ticket is of this index and this term.
+fn stands(ticket: Option<&Ticket>, index: u64, term: u64) -> u8 {
+    match ticket {
+        Some(ticket) if ticket.index.get() == index && ticket.term.get() == term => 0,
+        _ => 97,
+    }
+}
+
+/// What becomes of a step.
+fn act(
+    alloc: Global,
+    world: &mut RaftWorld<Bank>,
+    step: Step,
+    tickets: &mut Vec<Ticket>,
+) -> Option<u8> {
+    Some(match step {
+        Open(server) | Deposit(server, _, _) | Withdraw(server, _, _) | Transfer(server, _, _, _) =>
+            {
+                let command = Box::new(alloc, command_of(step)?).ok()?;
+                propose(world, ServerId::from_number(server)?, command, tickets)
+            }
+        Ask(server, k, known) => {
+            asked(world, ServerId::from_number(server)?, tickets.get(k), known)
+        }
+        Stands(index, term) => stands(tickets.last(), index, term),
+        _ => number_of(world.step(event_of(step)?)),
+    })
+}
+
 /// How many rows go as they say.
 fn played(alloc: Global, world: &mut RaftWorld<Bank>) -> Option<usize> {
+    let mut tickets = Vec::new(alloc);
     for (number, row) in ROWS.iter().enumerate() {
         let (step, refused, banks) = *row;
-        let done = world.step(event_of(alloc, step)?);
-        if number_of(done) != refused || !are_known(world, banks) {
+        let done = act(alloc, world, step, &mut tickets)?;
+        if done != refused || !are_known(world, banks) {
             return Some(number);
         }
     }

@@ -6,8 +6,8 @@ ghost use Rattle.std.specs.Prelude.{◌≡◌};
 
 use client_agent::{Agent, ClientInput};
 use cluster::{
-    Cell, Cells, Envelope, GroupActor, KeptEvent, OwnInput, StampedEvent, Turn, cells_of, close,
-    turn,
+    Cell, CellTurn, Cells, Envelope, GroupActor, KeptEvent, OwnInput, StampedEvent, cells_of,
+    close, turn,
 };
 use event_book::{ActorEvent, ActorSeat, Book, BookId, Noted, OpenedBook, OutputList};
 use raft_core::Role;
@@ -343,11 +343,11 @@ fn are_for<B: BookId>(sent: &[Envelope<B>], wanted: &[Number]) -> bool {
 // The number of the refusal; what is sent waits behind the other messages. None of it may lack
 // memory.
 fn answer<B: BookId>(
-    taken: Result<Turn<B>, Refusal>,
+    taken: Result<CellTurn<B>, Refusal>,
     to: &[Number],
     waiting: &mut Vec<Envelope<B>>,
 ) -> Result<Option<u8>, Refusal> {
-    let Turn { sent, unsent, .. } = match taken {
+    let CellTurn { sent, unsent, .. } = match taken {
         Ok(turn) => turn,
         Err(cause) => return Ok(to.is_empty().then_some(cause.number())),
     };
@@ -376,7 +376,7 @@ fn taken<B: BookId, R: Wait>(
     me: Actor,
     envelope: Envelope<B>,
     way: Way,
-) -> Result<Turn<B>, Refusal> {
+) -> Result<CellTurn<B>, Refusal> {
     match way {
         ByTurn => turn(rt, cells, me, envelope),
         ByHand => {

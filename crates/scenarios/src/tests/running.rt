@@ -230,7 +230,7 @@ fn hold_one<B: BookId, R: Wait>(
 }
 
 const NET: NetSettings = NetSettings {
-    room: 1_024,
+    capacity: 1_024,
     key: 0,
     drop: 0,
     repeat: 0,
@@ -399,7 +399,7 @@ where
 {
     let (key, drop, repeat, role, events, messages) = *row;
     let net = NetSettings {
-        room: 1_024,
+        capacity: 1_024,
         key,
         drop,
         repeat,
@@ -435,7 +435,7 @@ where
     requires book { opened ≡ (B.table, B.actors) }
     requires nodes { nodes.items ≡ B.nodes }
 {
-    let net = NetSettings { room: 1, ..NET };
+    let net = NetSettings { capacity: 1, ..NET };
     let group = group::<B, _>(alloc, opened, nodes, net, OpenGate)?;
     let empty = group.flow(rt, LOOKS);
     let once = stand_alone(rt, alloc, &group)?;
@@ -530,7 +530,7 @@ where
     requires book { opened ≡ (B.table, B.actors) }
     requires nodes { nodes.items ≡ B.nodes }
 {
-    let net = NetSettings { room: 1, ..NET };
+    let net = NetSettings { capacity: 1, ..NET };
     let group = Arc::new(alloc, group::<B, _>(alloc, opened, nodes, net, OpenGate)?)?;
     give(&rt, alloc, &group, "timeout 1")?;
     give(&rt, alloc, &group, "timeout 1")?;

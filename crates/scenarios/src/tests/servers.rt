@@ -44,7 +44,7 @@ use Act::{Ahead, Beat, Compact, Crash, Hear, Propose, Reload, Restart, Timeout};
 /// with it; and what the server is then: its role (0 down, 1 follower, 2 candidate, 3 leader), its
 /// term, its last index, how many entries are applied (99 while it is down), and the leader that it
 /// knows. And how many frames it sends, the first of them in full.
-pub(super) type Turn = (Act, (u8, usize), [u64; 5], usize, &'static [Frame]);
+pub(super) type RaftTurn = (Act, (u8, usize), [u64; 5], usize, &'static [Frame]);
 
 /// Nothing is refused.
 pub(super) const TAKEN: (u8, usize) = (0, 0);
@@ -98,7 +98,7 @@ const VOTE_OF_3: Frame = Frame(2, 3, 1, 17, &[1, 1], YES);
 
 // Another vote is needed, and the same vote counts once. It leads in term 1, crashes, and leads
 // again in term 3.
-pub(super) const LEADS: &[Turn] = &[
+pub(super) const LEADS: &[RaftTurn] = &[
     (Timeout, TAKEN, [2, 1, 0, 0, 0], 4, &[ASKS_2, ASKS_3]),
     (Hear(VOTE_OF_2), TAKEN, [2, 1, 0, 0, 0], 0, &[]),
     (Hear(VOTE_OF_2), TAKEN, [2, 1, 0, 0, 0], 0, &[]),
@@ -138,7 +138,7 @@ pub(super) const LEADS: &[Turn] = &[
 ];
 
 /// A server of this number in a group of so many, first one list of turns and then another.
-pub(super) type Case = (u8, usize, &'static [Turn], &'static [Turn]);
+pub(super) type Case = (u8, usize, &'static [RaftTurn], &'static [RaftTurn]);
 
 const ELECTIONS: &[Case] = &[
     (
@@ -543,7 +543,11 @@ fn ahead(raft: &mut Raft<Tally>, count: u64, sum: u16) -> (u8, usize) {
 
 pub(super) fn propose(raft: &mut Raft<Tally>, number: u16) -> (u8, usize) {
     match Amount::new(number) {
-        Some(amount) => number_of(raft.propose(TallyCommand::Add(amount))),
+        Some(amount) => match raft.propose(TallyCommand::Add(amount)) {
+            Ok(ticket) if ticket.index == raft.last() && ticket.term == raft.term() => TAKEN,
+            Ok(_) => (98, 0),
+            Err(refusal) => number_of(Err(refusal)),
+        },
         None => (99, 0),
     }
 }
@@ -609,7 +613,7 @@ fn is_sent(sent: &Frames, frames: &[Frame], bytes: &mut Vec<u8>) -> bool {
     true
 }
 
-fn holds(raft: &mut Raft<Tally>, alloc: Global, turn: &Turn) -> bool {
+fn holds(raft: &mut Raft<Tally>, alloc: Global, turn: &RaftTurn) -> bool {
     let (act, answer, state, count, frames) = *turn;
     let mut sent = Frames::new(alloc);
     let mut bytes = Vec::new(alloc);
@@ -633,7 +637,7 @@ fn play(
     alloc: Global,
     me: ServerId,
     size: usize,
-    turns: &[Turn],
+    turns: &[RaftTurn],
     start: Raft<Tally>,
 ) -> Option<Raft<Tally>> {
     let mut raft = start;

@@ -2,8 +2,8 @@
 //! and what a leader sends to one that lacks what is covered. (Raft, extended version 2014, section
 //! 7 and Figure 13.)
 use crate::tests::servers::{
-    Act, Case, Frame, LEADS, NOT_OK, OF_1_1, OF_2, OF_2_2_2, OF_NONE, OK_2, OK_3, TAKEN, Turn, YES,
-    is_played,
+    Act, Case, Frame, LEADS, NOT_OK, OF_1_1, OF_2, OF_2_2_2, OF_NONE, OK_2, OK_3, RaftTurn, TAKEN,
+    YES, is_played,
 };
 use Act::{Ahead, Beat, Compact, Crash, Hear, Propose, Reload, Restart, Timeout};
 
@@ -43,7 +43,7 @@ const SIX: &[u8] = &[0, 0, 0, 0, 0, 0, 0, 6, 0, 0];
 const FIVE_7: &[u8] = &[0, 0, 0, 0, 0, 0, 0, 5, 0, 7];
 
 // Server 2 has eight entries of term 1, of which five are committed.
-const HAS_EIGHT: &[Turn] = &[(
+const HAS_EIGHT: &[RaftTurn] = &[(
     Hear(Frame(3, 1, 2, 105, &[1, 0, 0, 5], OF_EIGHT)),
     TAKEN,
     [1, 1, 8, 5, 1],
@@ -52,7 +52,7 @@ const HAS_EIGHT: &[Turn] = &[(
 )];
 
 // Server 1 has three entries of term 2, of which none is committed.
-const HAS_THREE: &[Turn] = &[(
+const HAS_THREE: &[RaftTurn] = &[(
     Hear(Frame(3, 2, 1, 60, &[2, 0, 0, 0], OF_2_2_2)),
     TAKEN,
     [1, 2, 3, 0, 2],

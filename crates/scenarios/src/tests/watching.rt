@@ -50,16 +50,16 @@ impl Watch<Tally> for Diary {
 
 /// An act; the number of the refusal, 0 where there is none, with the place that goes with it; and
 /// what the watcher writes down.
-type Turn = (Act, (u8, usize), &'static [u64]);
+type WatchedTurn = (Act, (u8, usize), &'static [u64]);
 
-const VOTE: Turn = (Hear(Frame(2, 2, 1, 17, &[1, 1], YES)), TAKEN, &[]);
+const VOTE: WatchedTurn = (Hear(Frame(2, 2, 1, 17, &[1, 1], YES)), TAKEN, &[]);
 
 const OK_4: &[u8] = &[1, 0, 0, 0, 0, 0, 0, 0, 4];
 
 // Server 1 leads in term 1, is told twice what others hold, and sees each entry once. It crashes,
 // and leads in term 2: an older entry is not committed until one of its own term is, and then it
 // sees all of them, since it starts from nothing. It sees nothing of what it hears as a follower.
-const LEADS: &[Turn] = &[
+const LEADS: &[WatchedTurn] = &[
     (Timeout, TAKEN, &[]),
     VOTE,
     (Propose(5), TAKEN, &[]),
@@ -99,7 +99,7 @@ const LEADS: &[Turn] = &[
 
 // It follows server 2, which committed an entry, and sees nothing; then it leads in term 2, and
 // sees its own entry alone.
-const FOLLOWS: &[Turn] = &[
+const FOLLOWS: &[WatchedTurn] = &[
     (Hear(Frame(3, 2, 1, 42, &[1, 0, 0, 1], OF_1)), TAKEN, &[]),
     (Timeout, TAKEN, &[]),
     (Hear(Frame(2, 3, 1, 17, &[2, 2], YES)), TAKEN, &[]),
@@ -118,7 +118,7 @@ const NINE_33: &[u8] = &[0, 0, 0, 0, 0, 0, 0, 9, 0, 33];
 // It covers what it saw, and sees nothing by that; after a crash it leads in term 2, and sees what
 // follows the snapshot alone. Then it gets a snapshot, of which it sees nothing, leads in term 4,
 // and sees its own entry.
-const COVERS: &[Turn] = &[
+const COVERS: &[WatchedTurn] = &[
     (Timeout, TAKEN, &[]),
     VOTE,
     (Propose(5), TAKEN, &[]),
@@ -193,7 +193,7 @@ fn perform(
     number_of(raft.step_watched(input, &mut sent, diary))
 }
 
-fn holds(raft: &mut Raft<Tally>, alloc: Global, is_read: bool, turn: &Turn) -> bool {
+fn holds(raft: &mut Raft<Tally>, alloc: Global, is_read: bool, turn: &WatchedTurn) -> bool {
     let (act, answer, seen) = *turn;
     let mut diary = Diary {
         written: Vec::new(alloc),
@@ -208,7 +208,7 @@ fn holds(raft: &mut Raft<Tally>, alloc: Global, is_read: bool, turn: &Turn) -> b
         && diary.written.as_slice() == seen
 }
 
-fn is_played(alloc: Global, turns: &[Turn], is_read: bool) -> Option<bool> {
+fn is_played(alloc: Global, turns: &[WatchedTurn], is_read: bool) -> Option<bool> {
     let me = ServerId::from_number(1)?;
     let mut raft = Raft::restart(alloc, me, 3, Stable::new(alloc)).ok()?;
     for turn in turns {

@@ -7,25 +7,25 @@ use Rattle.rows.specs.declared.worker.WorkerRequest.{WorkerRequest}
 use Rattle.rows.specs.declared.worker.WorkerRequest.TheVariants.{Take, Submit, Finish, Nack}
 use Rattle.rows.specs.declared.worker.WorkerResponse.{WorkerResponse}
 use Rattle.rows.specs.declared.worker.ClientRequestKind.{ClientRequestKind}
-use Rattle.raft_model.specs.Servers.{Server, is_leader, crashed, extended}
+use Rattle.raft_model.specs.Rafts.{Raft, is_leader, crashed, extended}
 use Rattle.raft_model.specs.Steps as raft_steps
 use Rattle.raft_core.specs.Inner.Turns.{KeepsFront}
 use Rattle.cluster_model.specs.ClusterMachine.{cluster_meaning}
 use Rattle.group_model.specs.Messages.{ClientRequest}
 use Rattle.group_model.specs.Desks.{Desk}
 use Rattle.group_model.specs.Inputs.{Input, TakeFrom, SubmitTo, FinishAt, NackAt, Act, AskPropose, rests, asks}
-use Rattle.group_model.specs.Turns.{drain_turn}
+use Rattle.group_model.specs.DeskTurns.{drain_turn}
 use Rattle.group_model.specs.WorkerRequests.{serves_request, hands_out}
 use Rattle.group_model.specs.ClientRequests.{serves_client, writes}
-use Rattle.group_model.specs.Members.{Member, open_or, open_desk, at_desk, acts, done}
+use Rattle.group_model.specs.Servers.{Server, open_or, open_desk, at_desk, acts, done}
 use Rattle.server.specs.declared.server.Outbox.{Outbox}
-use Rattle.server.specs.ServerViews.{ServerView, IsMember, SameMember}
-use Rattle.server.specs.Turns.{TakesTurn}
+use Rattle.server.specs.ServerViews.{ServerView, IsServer, SameServer}
+use Rattle.server.specs.Steps.{TakesTurn}
 use Rattle.server.specs.Refusals.{CanAppend, MayTakeMemory}
 
 -- so of each server of the definitions that a value is
-abbrev pub EachMember : ServerView → (Member → Type 0) → Type 0
-EachMember view P = (s : Member) → IsMember view s → P s
+abbrev pub EachServer : ServerView → (Server → Type 0) → Type 0
+EachServer view P = (s : Server) → IsServer view s → P s
 
 -- it leads, and its desk is open
 pub record Serves (view : ServerView) : Type 0 where
@@ -33,34 +33,34 @@ pub record Serves (view : ServerView) : Type 0 where
   pub is_open : is_some view.desk ≡ true
 
 -- server `me` of n does the act of the definitions
-abbrev pub DoesAct : ℕ → ℕ → Member → Result Act Refusal → ServerView → Outbox → Outbox → Type 0
+abbrev pub DoesAct : ℕ → ℕ → Server → Result Act Refusal → ServerView → Outbox → Outbox → Type 0
 DoesAct n me s act new before after = TakesTurn (done n me s act) new before after
 
 -- each server that a value is does that act of its own
-abbrev pub EachDoes : ServerView → (Member → Result Act Refusal) → ServerView → Outbox → Outbox → Type 0
+abbrev pub EachDoes : ServerView → (Server → Result Act Refusal) → ServerView → Outbox → Outbox → Type 0
 EachDoes old act new before after =
-    EachMember old (λ s. DoesAct old.raft.size old.raft.me s (act s) new before after)
+    EachServer old (λ s. DoesAct old.raft.size old.raft.me s (act s) new before after)
 
 -- that of an input of its own
-abbrev pub act_of : ServerView → Input → Member → Result Act Refusal
+abbrev pub act_of : ServerView → Input → Server → Result Act Refusal
 act_of view input s = acts view.raft.size view.raft.me s input
 
 -- that of a request of another server's workers, or of its own
-abbrev pub request_act : ServerView → ℕ → WorkerRequest → Member → Result Act Refusal
+abbrev pub request_act : ServerView → ℕ → WorkerRequest → Server → Result Act Refusal
 request_act view from request s =
     Ok (serves_request view.raft.me s.raft from (open_desk s) s.desk request)
 
 -- that of an answer to its own workers
-abbrev pub response_act : ℕ → WorkerResponse → Member → Result Act Refusal
+abbrev pub response_act : ℕ → WorkerResponse → Server → Result Act Refusal
 response_act from response s = Ok (hands_out from response s.desk)
 
 -- that of a client's request
-abbrev pub client_act : ServerView → ℕ → ClientRequest → Member → Result Act Refusal
+abbrev pub client_act : ServerView → ℕ → ClientRequest → Server → Result Act Refusal
 client_act view client request s =
     Ok (serves_client view.raft.me s.raft client (open_desk s) s.desk request)
 
 -- that of a command that a client's request asks for
-abbrev pub write_act : ServerView → ℕ → ClientRequestKind → Command → Member → Result Act Refusal
+abbrev pub write_act : ServerView → ℕ → ClientRequestKind → Command → Server → Result Act Refusal
 write_act view client kind command s =
     Ok (writes view.raft.me s.raft client kind command s.desk)
 
@@ -83,35 +83,35 @@ pub record Falters (old new : ServerView) (before after : Outbox) : Type 0 where
 
 -- nothing was done
 pub record DoesNothing (old new : ServerView) (before after : Outbox) : Type 0 where
-  pub same : SameMember old new
+  pub same : SameServer old new
   pub nothing : after ≡ before
 
 -- An input of its own is refused: for want of memory where some may be wanted, else as the
 -- definitions refuse it.
 abbrev pub DeclinesOwn : ServerView → Input → Refusal → ServerView → Outbox → Outbox → Type 0
 DeclinesOwn old input refusals.NoMemory new before after =
-    EachMember old (λ s. MayTakeMemory old.raft.size s input) × Falters old new before after
+    EachServer old (λ s. MayTakeMemory old.raft.size s input) × Falters old new before after
 DeclinesOwn old input cause new before after =
-    EachMember old (λ s. done old.raft.size old.raft.me s (act_of old input s) ≡ Err cause)
+    EachServer old (λ s. done old.raft.size old.raft.me s (act_of old input s) ≡ Err cause)
     × DoesNothing old new before after
 
 -- ---- proposals
 
 -- a leader appended a command that nothing refused; its desk stays
-pub record IsProposed (s : Member) (c : Command) (new : ServerView) : Type 0 where
+pub record IsProposed (s : Server) (c : Command) (new : ServerView) : Type 0 where
   pub leads : is_leader s.raft.mode ≡ true
   pub admitted : raft_steps.admission_refusal cluster_meaning s.raft c ≡ None
-  pub member : IsMember new (record s { raft = extended s.raft c })
+  pub server : IsServer new (record s { raft = extended s.raft c })
 
 -- why the log refuses a command
-abbrev pub WhyNotProposed : Server Command → Command → Refusal → Type 0
+abbrev pub WhyNotProposed : Raft Command → Command → Refusal → Type 0
 WhyNotProposed s c refusals.NoMemory = CanAppend s
 WhyNotProposed s c cause = raft_steps.proposes cluster_meaning s c ≡ Err cause
 
 -- ---- a turn of a node's drain
 
 -- that of a leader with this desk
-abbrev pub drain_at : Server Command → Option Desk → ℕ → Result Act Refusal
+abbrev pub drain_at : Raft Command → Option Desk → ℕ → Result Act Refusal
 drain_at s d node = at_desk (open_or d) (λ o. drain_turn s o node)
 
 -- the command, if there is one, is proposed

@@ -7,21 +7,21 @@ use Rattle.wire.specs.Messages.{Message as WireMessage}
 use Rattle.raft_model.specs.Messages.{Message}
 use Rattle.raft_core.specs.declared.input.Input.{Input as RaftInput}
 use Rattle.raft_core.specs.declared.input.Input.TheVariants as raft_inputs
-use Rattle.raft_core.specs.RaftView.{SamePlace}
+use Rattle.raft_core.specs.RaftView.{SameNumber}
 use Rattle.raft_core.specs.Frames.{Means}
 use Rattle.cluster_model.specs.Words.{State}
 use Rattle.cluster_model.specs.ClusterMachine.{cluster_meaning}
-use Rattle.group_model.specs.Messages.{GroupMessage, Raft, Service}
+use Rattle.group_model.specs.Messages.{GroupMessage, OfLog, Service}
 use Rattle.group_model.specs.Inputs.{Restart, Ask, AskTimeout, AskBeat, AskCompact, AskCrash, AskRestart, asks}
-use Rattle.group_model.specs.Members.{Member, hears_log}
+use Rattle.group_model.specs.Servers.{Server, takes_log_message}
 use Rattle.group_frames.specs.GroupFrames.{service_of}
 use Rattle.leader.specs.OpenDesks.{OpenDesk}
 use Rattle.server.specs.declared.server.Outbox.{Outbox}
 use Rattle.server.specs.ServerViews.{ServerView}
 use Rattle.server.specs.Handings.{Handing, OwnInput}
-use Rattle.server.specs.Turns.{TakesTurn, TakesHanding, takes_in}
+use Rattle.server.specs.Steps.{TakesTurn, TakesHanding, takes_in}
 use Rattle.server.specs.Refusals.{MayLackMemory, handing_refusal, wrong_address}
-use Rattle.server.specs.Inner.Acts.{EachMember, EachDoes, Falters, DoesNothing}
+use Rattle.server.specs.Inner.Acts.{EachServer, EachDoes, Falters, DoesNothing}
 
 -- a desk, closed where the server does not lead
 abbrev pub where_leads : Bool → Option OpenDesk → Option OpenDesk
@@ -34,9 +34,9 @@ DeskAfterRefusal refusals.NoMemory old new = new ≡ None
 DeskAfterRefusal cause old new = new ≡ old
 
 -- the log took a message, and the desk followed
-abbrev pub HearsLog : ServerView → Message Command → ServerView → Outbox → Outbox → Type 0
-HearsLog old said new before after =
-    EachMember old (λ s. TakesTurn (hears_log old.raft.size old.raft.me s said) new before after)
+abbrev pub TakesLogMessage : ServerView → Message Command → ServerView → Outbox → Outbox → Type 0
+TakesLogMessage old said new before after =
+    EachServer old (λ s. TakesTurn (takes_log_message old.raft.size old.raft.me s said) new before after)
 
 -- an input of the log's own is asked of it, and no frame
 abbrev pub log_ask : RaftInput → Option Ask
@@ -56,10 +56,10 @@ TakesAsk old (Some ask) new before after =
 
 -- a message that was read is this one
 abbrev pub MeansGroup : WireMessage State Command → GroupMessage → Type 0
-MeansGroup read (Raft said) = Means cluster_meaning read said
+MeansGroup read (OfLog said) = Means cluster_meaning read said
 MeansGroup read (Service message) = service_of read ≡ Some message
 
-abbrev pub TakesRead : ServerView → Member → WireMessage State Command → ServerView → Outbox → Outbox → Type 0
+abbrev pub TakesRead : ServerView → Server → WireMessage State Command → ServerView → Outbox → Outbox → Type 0
 TakesRead old s read new before after =
     (message : GroupMessage) → MeansGroup read message
     → TakesTurn (takes_in old.raft.size old.raft.me s message) new before after
@@ -68,14 +68,14 @@ TakesRead old s read new before after =
 abbrev pub DeclinesRead : ServerView → WireMessage State Command → Refusal → ServerView → Outbox → Outbox → Type 0
 DeclinesRead old read refusals.NoMemory new before after = Falters old new before after
 DeclinesRead old read cause new before after =
-    EachMember old (λ s. wrong_address old.raft.size old.raft.me read.from read.to ≡ Some cause)
+    EachServer old (λ s. wrong_address old.raft.size old.raft.me read.from read.to ≡ Some cause)
     × DoesNothing old new before after
 
 -- one that is up takes it, or declines it
 pub record IsRead (old : ServerView) (read : WireMessage State Command) (result : Result (Unit {0}) Refusal) (new : ServerView) (before after : Outbox) : Type 0 where
-  pub same : SamePlace old.raft new.raft
-  pub taken : OnOk result (EachMember old (λ s. TakesRead old s read new before after))
-  pub admitted : OnOk result (EachMember old (λ s. wrong_address old.raft.size old.raft.me read.from read.to ≡ None))
+  pub same : SameNumber old.raft new.raft
+  pub taken : OnOk result (EachServer old (λ s. TakesRead old s read new before after))
+  pub admitted : OnOk result (EachServer old (λ s. wrong_address old.raft.size old.raft.me read.from read.to ≡ None))
   pub stopped : IfErr result (λ cause. DeclinesRead old read cause new before after)
 
 -- ---- what is handed in, to a server that is up
@@ -84,17 +84,17 @@ pub record IsRead (old : ServerView) (read : WireMessage State Command) (result 
 abbrev pub LosesIn : ServerView → Handing → ServerView → Outbox → Outbox → Type 0
 LosesIn old (OwnInput Restart) new before after = ⊥
 LosesIn old h new before after =
-    EachMember old (λ s. MayLackMemory old.raft.size s h) × Falters old new before after
+    EachServer old (λ s. MayLackMemory old.raft.size s h) × Falters old new before after
 
 abbrev pub DeclinesHanding : ServerView → Handing → Refusal → ServerView → Outbox → Outbox → Type 0
 DeclinesHanding old h refusals.NoMemory new before after = LosesIn old h new before after
 DeclinesHanding old h cause new before after =
-    EachMember old (λ s. handing_refusal old.raft.size old.raft.me s h ≡ Some cause)
+    EachServer old (λ s. handing_refusal old.raft.size old.raft.me s h ≡ Some cause)
     × DoesNothing old new before after
 
 -- it takes it, or declines it
 pub record IsTaken (old : ServerView) (h : Handing) (result : Result (Unit {0}) Refusal) (new : ServerView) (before after : Outbox) : Type 0 where
-  pub same : SamePlace old.raft new.raft
-  pub taken : OnOk result (EachMember old (λ s. TakesHanding old s h new before after))
-  pub admitted : OnOk result (EachMember old (λ s. handing_refusal old.raft.size old.raft.me s h ≡ None))
+  pub same : SameNumber old.raft new.raft
+  pub taken : OnOk result (EachServer old (λ s. TakesHanding old s h new before after))
+  pub admitted : OnOk result (EachServer old (λ s. handing_refusal old.raft.size old.raft.me s h ≡ None))
   pub stopped : IfErr result (λ cause. DeclinesHanding old h cause new before after)

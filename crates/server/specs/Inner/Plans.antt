@@ -11,12 +11,12 @@ use Rattle.group_model.specs.Acceptance.{Accepted, plan_of_accepted}
 use Rattle.group_model.specs.Desks.{QueuedPlan}
 use Rattle.group_model.specs.Inputs.{Act}
 use Rattle.group_model.specs.Plans.{after_accept}
-use Rattle.group_model.specs.Members.{Member, open_desk, at_desk}
+use Rattle.group_model.specs.Servers.{Server, open_desk, at_desk}
 use Rattle.leader.specs.Verdicts.{Judged}
 use Rattle.server.specs.ServerViews.{ServerView}
 
 -- what is kept of it is proposed, and its sender is told
-abbrev pub settling : ServerView → Judged → Member → Result Act Refusal
+abbrev pub settling : ServerView → Judged → Server → Result Act Refusal
 settling view j s =
     at_desk (open_desk s) (λ d. Ok (after_accept view.raft.me s.raft d j.queued j.kept))
 

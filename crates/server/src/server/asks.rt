@@ -1,6 +1,6 @@
 //! What a server's own workers ask another server, or their own.
 ghost use Rattle.std.specs.Prelude.{◌≡◌, true, OnOk, IfErr};
-ghost use Rattle.raft_model.specs.Servers.{is_up};
+ghost use Rattle.raft_model.specs.Rafts.{is_up};
 ghost use Rattle.server.specs.Inner.Acts.{EachDoes, DeclinesOwn, act_of, asks_of};
 
 use super::replies::send_request;
@@ -21,7 +21,7 @@ impl Server {
         ensures stopped { IfErr result (λ cause.
             DeclinesOwn self.now (asks_of to request) cause self.now outbox.old outbox.new) }
     {
-        if to.place() >= self.raft.size() {
+        if to.position() >= self.raft.size() {
             return Err(Refusal::OutOfRange);
         }
         send_request(&mut outbox.frames, self.raft.me(), to, request)?;

@@ -1,10 +1,10 @@
 //! Clients that ask.
 ghost use Rattle.std.specs.Prelude.{◌≡◌, true, OnOk, OnErr, IfOk};
-ghost use Rattle.raft_model.specs.Servers.{Server as LogServer, is_up, is_leader};
+ghost use Rattle.raft_model.specs.Rafts.{Raft as LogServer, is_up, is_leader};
 ghost use Rattle.raft_core.specs.Steps.{Represents};
 ghost use Rattle.rows.specs.declared.command.Command.{Command};
 ghost use Rattle.cluster_model.specs.ClusterMachine.{cluster_meaning};
-ghost use Rattle.raft_core.specs.RaftView.{SamePlace, SameServer};
+ghost use Rattle.raft_core.specs.RaftView.{SameNumber, SameRaft};
 ghost use Rattle.group_model.specs.Desks.{whole_state};
 ghost use Rattle.group_model.specs.Messages.{Register, Heartbeat, Pull, ReportStates};
 ghost use Rattle.group_model.specs.ClientRequests.{is_taken_already};
@@ -38,7 +38,7 @@ fn is_taken_already(raft: &mut Raft<Cluster>, command: &Command) -> Result<bool,
     ensures value { IfOk result (λ b. (s : LogServer Command) →
         Represents cluster_meaning raft.old s →
         b ≡ is_taken_already (whole_state s) command.now) }
-    ensures same { SameServer raft.old raft.new }
+    ensures same { SameRaft raft.old raft.new }
 {
     match raft.projected() {
         Ok(whole) => {
@@ -63,7 +63,7 @@ impl Server {
         outbox: &mut Outbox,
     ) -> Result<(), NoMemory>
         requires { is_up self.old.raft.server.mode ≡ true }
-        ensures same { SamePlace self.old.raft self.new.raft }
+        ensures same { SameNumber self.old.raft self.new.raft }
         ensures taken { OnOk result (EachDoes self.old (write_act self.old client kind command)
             self.new outbox.old outbox.new) }
         ensures lost { OnErr result (Falters self.old self.new outbox.old outbox.new) }
@@ -100,7 +100,7 @@ impl Server {
         outbox: &mut Outbox,
     ) -> Result<(), NoMemory>
         requires { is_up self.old.raft.server.mode ≡ true }
-        ensures same { SamePlace self.old.raft self.new.raft }
+        ensures same { SameNumber self.old.raft self.new.raft }
         ensures taken { OnOk result (
             EachDoes self.old (client_act self.old client (Register class size))
             self.new outbox.old outbox.new) }
@@ -124,7 +124,7 @@ impl Server {
         outbox: &mut Outbox,
     ) -> Result<(), NoMemory>
         requires { is_up self.old.raft.server.mode ≡ true }
-        ensures same { SamePlace self.old.raft self.new.raft }
+        ensures same { SameNumber self.old.raft self.new.raft }
         ensures taken { OnOk result (
             EachDoes self.old (client_act self.old client (ReportStates items))
             self.new outbox.old outbox.new) }
@@ -146,7 +146,7 @@ impl Server {
         outbox: &mut Outbox,
     ) -> Result<(), NoMemory>
         requires { is_up self.old.raft.server.mode ≡ true }
-        ensures same { SamePlace self.old.raft self.new.raft }
+        ensures same { SameNumber self.old.raft self.new.raft }
         ensures taken { OnOk result (EachDoes self.old (client_act self.old client Heartbeat)
             self.new outbox.old outbox.new) }
         ensures lost { OnErr result (Falters self.old self.new outbox.old outbox.new) }

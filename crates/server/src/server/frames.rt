@@ -4,18 +4,18 @@ ghost use Rattle.rows.specs.declared.actor.Actor.TheVariants as actors;
 ghost use Rattle.rows.specs.declared.refusal.Refusal.TheVariants as refusals;
 ghost use Rattle.wire.specs.Messages.{kind_of, may_go, is_of_log};
 ghost use Rattle.wire.specs.Frames.{is_log_frame};
-ghost use Rattle.raft_model.specs.Servers.{is_up};
+ghost use Rattle.raft_model.specs.Rafts.{is_up};
 ghost use Rattle.raft_core.specs.Refusals.{is_server_at};
 ghost use Rattle.group_model.specs.Messages.{ServiceMessage};
 ghost use Rattle.group_model.specs.Inputs.{Arrives};
-ghost use Rattle.raft_core.specs.RaftView.{SamePlace};
-ghost use Rattle.group_model.specs.Members.{step};
+ghost use Rattle.raft_core.specs.RaftView.{SameNumber};
+ghost use Rattle.group_model.specs.Servers.{step};
 ghost use Rattle.group_frames.specs.GroupFrames.{service_between};
 ghost use Rattle.server.specs.Handings.{FrameBytes, bytes_at};
-ghost use Rattle.server.specs.Turns.{TakesTurn};
+ghost use Rattle.server.specs.Steps.{TakesTurn};
 ghost use Rattle.server.specs.Refusals.{is_of_group};
 ghost use Rattle.server.specs.Answers.{HandedIn};
-ghost use Rattle.server.specs.Inner.Acts.{EachMember, EachDoes, Falters, request_act};
+ghost use Rattle.server.specs.Inner.Acts.{EachServer, EachDoes, Falters, request_act};
 ghost use Rattle.server.specs.Inner.Sources.{source_bytes};
 ghost use Rattle.server.specs.Inner.LogSteps.{IsTaken, IsRead};
 
@@ -163,7 +163,7 @@ impl Server {
     {
         match from {
             Actor::Server(from) => {
-                if from.place() < self.raft.size() {
+                if from.position() < self.raft.size() {
                     Ok(())
                 } else {
                     Err(Refusal::Frame(2))
@@ -181,7 +181,7 @@ impl Server {
     {
         match to {
             Actor::Server(to) => {
-                if to.place() == self.raft.me().place() {
+                if to.position() == self.raft.me().position() {
                     Ok(())
                 } else {
                     Err(Refusal::Frame(3))
@@ -202,8 +202,8 @@ impl Server {
         requires member { is_of_group self.old.raft.size from ≡ true }
         requires service { is_of_log (kind_of body) ≡ false }
         requires goes { may_go (kind_of body) from (actors.Server self.old.raft.me) ≡ true }
-        ensures same { SamePlace self.old.raft self.new.raft }
-        ensures taken { OnOk result (EachMember self.old (λ s. (message : ServiceMessage) →
+        ensures same { SameNumber self.old.raft self.new.raft }
+        ensures taken { OnOk result (EachServer self.old (λ s. (message : ServiceMessage) →
             service_between from (actors.Server self.old.raft.me) body ≡ Some message →
             TakesTurn (step self.old.raft.size self.old.raft.me s (Arrives message))
             self.new outbox.old outbox.new)) }
@@ -261,7 +261,7 @@ impl Server {
         outbox: &mut Outbox,
     ) -> Result<(), NoMemory>
         requires { is_up self.old.raft.server.mode ≡ true }
-        ensures same { SamePlace self.old.raft self.new.raft }
+        ensures same { SameNumber self.old.raft self.new.raft }
         ensures taken { OnOk result (EachDoes self.old (request_act self.old from request) self.new
             outbox.old outbox.new) }
         ensures lost { OnErr result (Falters self.old self.new outbox.old outbox.new) }

@@ -1,11 +1,11 @@
 //! Whether the desk may be asked.
 ghost use Rattle.std.specs.Prelude.{◌≡◌, ◌≢◌, Err, OnOk, IfErr};
 ghost use Rattle.rows.specs.declared.refusal.Refusal.TheVariants as refusals;
-ghost use Rattle.group_model.specs.Members.{open_desk};
-ghost use Rattle.raft_model.specs.Servers.{is_leader};
+ghost use Rattle.group_model.specs.Servers.{open_desk};
+ghost use Rattle.raft_model.specs.Rafts.{is_leader};
 ghost use Rattle.server.specs.Refusals.{HasOpenDesk};
 ghost use Rattle.leader.specs.OpenDesks.{if_open, on_outstanding};
-ghost use Rattle.server.specs.Inner.Acts.{EachMember, Serves};
+ghost use Rattle.server.specs.Inner.Acts.{EachServer, Serves};
 ghost use Rattle.server.specs.Inner.Replies.{HasPair};
 
 use super::Server;
@@ -23,8 +23,8 @@ impl Server {
     /// then `NotOpen`.
     pub(super) fn open_desk(&self) -> Result<(), Refusal>
         ensures serves { OnOk result (Serves self.now) }
-        ensures open { OnOk result (EachMember self.now (λ s. HasOpenDesk s)) }
-        ensures shut { IfErr result (λ e. EachMember self.now (λ s. open_desk s ≡ Err e)) }
+        ensures open { OnOk result (EachServer self.now (λ s. HasOpenDesk s)) }
+        ensures shut { IfErr result (λ e. EachServer self.now (λ s. open_desk s ≡ Err e)) }
         ensures memory { IfErr result (λ e. e ≢ refusals.NoMemory) }
     {
         if !self.leads() {

@@ -1,15 +1,15 @@
 //! What comes to the server's part of the log, and the desk that follows it.
 ghost use Rattle.std.specs.Prelude.{◌≡◌, ◌≢◌, None, OnOk, OnErr, IfErr};
-ghost use Rattle.raft_core.specs.RaftView.{SamePlace};
+ghost use Rattle.raft_core.specs.RaftView.{SameNumber};
 ghost use Rattle.rows.specs.declared.command.Command.{Command};
 ghost use Rattle.raft_model.specs.Messages.{Message as MessageOf};
-ghost use Rattle.raft_model.specs.Servers.{is_leader};
+ghost use Rattle.raft_model.specs.Rafts.{is_leader};
 ghost use Rattle.raft_core.specs.Frames.{Means};
 ghost use Rattle.raft_core.specs.Inputs.{handed};
 ghost use Rattle.raft_core.specs.Refusals.{message_refusal, HidesNothing, IsRefused, IsMessageRefused, Stays, MessageStays};
 ghost use Rattle.cluster_model.specs.ClusterMachine.{cluster_meaning};
-ghost use Rattle.server.specs.Inner.Acts.{EachMember};
-ghost use Rattle.server.specs.Inner.LogSteps.{where_leads, DeskAfterRefusal, HearsLog, TakesAsk, log_ask};
+ghost use Rattle.server.specs.Inner.Acts.{EachServer};
+ghost use Rattle.server.specs.Inner.LogSteps.{where_leads, DeskAfterRefusal, TakesLogMessage, TakesAsk, log_ask};
 
 use super::{Outbox, Server};
 use crate::server_desk::ServerDesk;
@@ -35,13 +35,13 @@ impl Server {
         message: LogMessage<Cluster>,
         outbox: &mut Outbox,
     ) -> Result<(), Refusal>
-        ensures same { SamePlace self.old.raft self.new.raft }
+        ensures same { SameNumber self.old.raft self.new.raft }
         ensures taken { OnOk result ((said : MessageOf Command) →
             Means cluster_meaning message said →
-            HearsLog self.old said self.new outbox.old outbox.new) }
-        ensures admitted { OnOk result (EachMember self.old (λ s.
+            TakesLogMessage self.old said self.new outbox.old outbox.new) }
+        ensures admitted { OnOk result (EachServer self.old (λ s.
             message_refusal self.old.raft.size self.old.raft.me s.raft message ≡ None)) }
-        ensures refused { IfErr result (λ cause. EachMember self.old (λ s.
+        ensures refused { IfErr result (λ cause. EachServer self.old (λ s.
             IsMessageRefused self.old.raft.size self.old.raft.me s.raft message cause)) }
         ensures stays { IfErr result (λ cause. MessageStays cause self.old.raft self.new.raft) }
         ensures desk { IfErr result (λ cause. DeskAfterRefusal cause self.old.desk self.new.desk) }
@@ -57,13 +57,13 @@ impl Server {
     /// An input of the log's own: a timeout, a beat, a Compact, a crash or a restart.
     pub(super) fn step_log(&mut self, input: Input<'_>, outbox: &mut Outbox) -> Result<(), Refusal>
         requires { log_ask input ≢ None }
-        ensures same { SamePlace self.old.raft self.new.raft }
+        ensures same { SameNumber self.old.raft self.new.raft }
         ensures taken { OnOk result (TakesAsk self.old (log_ask input.entry) self.new outbox.old
             outbox.new) }
-        ensures refused { IfErr result (λ cause. EachMember self.old (λ s.
+        ensures refused { IfErr result (λ cause. EachServer self.old (λ s.
             IsRefused cluster_meaning self.old.raft.size self.old.raft.me s.raft
             (handed input.entry) cause)) }
-        ensures unhidden { IfErr result (λ cause. EachMember self.old (λ s.
+        ensures unhidden { IfErr result (λ cause. EachServer self.old (λ s.
             HidesNothing cluster_meaning self.old.raft.size self.old.raft.me s.raft
             (handed input.entry) cause)) }
         ensures stays { IfErr result (λ cause.

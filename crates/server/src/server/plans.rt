@@ -1,6 +1,6 @@
 //! What becomes of a plan that was judged.
 ghost use Rattle.std.specs.Prelude.{◌≡◌, ◌≤◌, List, Ok, OnOk, OnErr};
-ghost use Rattle.raft_core.specs.RaftView.{SamePlace};
+ghost use Rattle.raft_core.specs.RaftView.{SameNumber};
 ghost use Rattle.rows.specs.Ids.{AreRisingNodes};
 ghost use Rattle.rows.specs.declared.allocation.AllocId.{AllocId};
 ghost use Rattle.group_model.specs.Acceptance.{keeps_some};
@@ -74,7 +74,7 @@ impl Server {
     ) -> Result<(), NoMemory>
         requires serves { Serves self.old }
         requires rises { AreRisingNodes accepted.refused }
-        ensures same { SamePlace self.old.raft self.new.raft }
+        ensures same { SameNumber self.old.raft self.new.raft }
         ensures taken { let a = kept_by accepted in
             OnOk result ((w : AnyQueuedPlan) → KeptOf from accepted.plan a w →
             EachDoes self.old (settling self.old (record { queued = w; kept = Ok a }))
@@ -113,7 +113,7 @@ impl Server {
         requires serves { Serves self.old }
         requires proposal { IsProposal judged }
         requires rises { RefusesRising (judged_by judged) }
-        ensures same { SamePlace self.old.raft self.new.raft }
+        ensures same { SameNumber self.old.raft self.new.raft }
         ensures taken { OnOk result (EachDoes self.old (settling self.old (judged_by judged))
             self.new outbox.old outbox.new) }
         ensures lost { OnErr result (Falters self.old self.new outbox.old outbox.new) }

@@ -1,9 +1,9 @@
 //! What workers ask of the leader's desk, and what it answers them.
 ghost use Rattle.std.specs.Prelude.{◌≡◌, ◌≢◌, true, Ok, Err, OnOk, OnErr, IfOk, IfErr};
-ghost use Rattle.raft_core.specs.RaftView.{SamePlace};
+ghost use Rattle.raft_core.specs.RaftView.{SameNumber};
 ghost use Rattle.rows.specs.declared.refusal.Refusal.TheVariants as refusals;
 ghost use Rattle.rows.specs.declared.worker.WorkerRequest.TheVariants as requests;
-ghost use Rattle.raft_model.specs.Servers.{Server as LogServer, is_up};
+ghost use Rattle.raft_model.specs.Rafts.{Raft as LogServer, is_up};
 ghost use Rattle.raft_core.specs.Steps.{Represents};
 ghost use Rattle.rows.specs.declared.command.Command.{Command};
 ghost use Rattle.cluster_model.specs.ClusterMachine.{cluster_meaning};
@@ -43,7 +43,7 @@ impl Server {
     /// Take: the evaluation that goes next, or none, is sent; or why not.
     pub(super) fn serve_take(&mut self, from: ServerId, outbox: &mut Outbox) -> Result<(), NoMemory>
         requires { is_up self.old.raft.server.mode ≡ true }
-        ensures same { SamePlace self.old.raft self.new.raft }
+        ensures same { SameNumber self.old.raft self.new.raft }
         ensures taken { OnOk result (EachDoes self.old (request_act self.old from requests.Take)
             self.new outbox.old outbox.new) }
         ensures lost { OnErr result (Falters self.old self.new outbox.old outbox.new) }
@@ -72,7 +72,7 @@ impl Server {
         outbox: &mut Outbox,
     ) -> Result<(), NoMemory>
         requires { is_up self.old.raft.server.mode ≡ true }
-        ensures same { SamePlace self.old.raft self.new.raft }
+        ensures same { SameNumber self.old.raft self.new.raft }
         ensures taken { OnOk result (
             EachDoes self.old (request_act self.old from (requests.Submit plan))
             self.new outbox.old outbox.new) }
@@ -102,7 +102,7 @@ impl Server {
         outbox: &mut Outbox,
     ) -> Result<(), NoMemory>
         requires { is_up self.old.raft.server.mode ≡ true }
-        ensures same { SamePlace self.old.raft self.new.raft }
+        ensures same { SameNumber self.old.raft self.new.raft }
         ensures taken { OnOk result (
             EachDoes self.old (request_act self.old from (requests.Finish eval token outcome))
             self.new outbox.old outbox.new) }
@@ -138,7 +138,7 @@ impl Server {
         outbox: &mut Outbox,
     ) -> Result<(), NoMemory>
         requires { is_up self.old.raft.server.mode ≡ true }
-        ensures same { SamePlace self.old.raft self.new.raft }
+        ensures same { SameNumber self.old.raft self.new.raft }
         ensures taken { OnOk result (
             EachDoes self.old (request_act self.old from (requests.Nack eval token))
             self.new outbox.old outbox.new) }

@@ -1,12 +1,12 @@
 //! One step of a server.
 ghost use Rattle.std.specs.Prelude.{◌≡◌, true, false, None, take, OnOk, OnErr, IfErr};
-ghost use Rattle.raft_model.specs.Servers.{is_up};
-ghost use Rattle.raft_core.specs.RaftView.{SamePlace, IsCrashOf};
+ghost use Rattle.raft_model.specs.Rafts.{is_up};
+ghost use Rattle.raft_core.specs.RaftView.{SameNumber, IsCrashOf};
 ghost use Rattle.server.specs.Handings.{handing};
-ghost use Rattle.server.specs.Turns.{TakesHanding};
+ghost use Rattle.server.specs.Steps.{TakesHanding};
 ghost use Rattle.server.specs.Refusals.{handing_refusal, IsHandingRefused};
 ghost use Rattle.server.specs.Answers.{HandedIn};
-ghost use Rattle.server.specs.Inner.Acts.{EachMember};
+ghost use Rattle.server.specs.Inner.Acts.{EachServer};
 ghost use Rattle.server.specs.Inner.LogSteps.{IsTaken};
 
 use super::frames::Source;
@@ -52,12 +52,12 @@ impl Server {
     /// One that is down takes a restart alone.
     fn wake(&mut self, input: ServerInput, outbox: &mut Outbox) -> Result<(), Refusal>
         requires { is_up self.old.raft.server.mode ≡ false }
-        ensures same { SamePlace self.old.raft self.new.raft }
-        ensures taken { OnOk result (EachMember self.old (λ s.
+        ensures same { SameNumber self.old.raft self.new.raft }
+        ensures taken { OnOk result (EachServer self.old (λ s.
             TakesHanding self.old s (handing input) self.new outbox.old outbox.new)) }
-        ensures admitted { OnOk result (EachMember self.old (λ s.
+        ensures admitted { OnOk result (EachServer self.old (λ s.
             handing_refusal self.old.raft.size self.old.raft.me s (handing input) ≡ None)) }
-        ensures refused { IfErr result (λ cause. EachMember self.old (λ s.
+        ensures refused { IfErr result (λ cause. EachServer self.old (λ s.
             IsHandingRefused self.old.raft.size self.old.raft.me s (handing input) cause)) }
         ensures left { OnErr result (self.new ≡ self.old) }
         ensures unsent { OnErr result (outbox.new ≡ outbox.old) }
@@ -102,7 +102,7 @@ impl Server {
     /// Memory was wanting in the middle of a step: the server is down, and nothing of the step was
     /// sent. It takes no memory.
     pub(super) fn collapse(&mut self, sent: usize, outbox: &mut Outbox)
-        ensures same { SamePlace self.old.raft self.new.raft }
+        ensures same { SameNumber self.old.raft self.new.raft }
         ensures raft { IsCrashOf self.old.raft self.new.raft }
         ensures desk { self.new.desk ≡ None }
         ensures frames { outbox.new.frames ≡ take sent outbox.old.frames }

@@ -1,11 +1,11 @@
 //! Turns of the desk.
 ghost use Rattle.std.specs.Prelude.{◌≡◌, ◌⊎◌, true, is_some, option_map, None, Ok, Err, OnOk, OnErr, IfOk, IfErr, IfSome};
-ghost use Rattle.raft_model.specs.Servers.{Server as LogServer, is_up, is_leader};
+ghost use Rattle.raft_model.specs.Rafts.{Raft as LogServer, is_up, is_leader};
 ghost use Rattle.raft_core.specs.Steps.{Represents};
 ghost use Rattle.rows.specs.declared.command.Command.{Command};
 ghost use Rattle.cluster_model.specs.ClusterMachine.{cluster_meaning};
 ghost use Rattle.cluster_model.specs.Words.{State};
-ghost use Rattle.raft_core.specs.RaftView.{SamePlace, SameServer};
+ghost use Rattle.raft_core.specs.RaftView.{SameNumber, SameRaft};
 ghost use Rattle.rows.specs.Keys.{eval_id};
 ghost use Rattle.rows.specs.declared.refusal.Refusal.TheVariants as refusals;
 ghost use Rattle.group_model.specs.Blocked.{first_due};
@@ -28,7 +28,7 @@ use rows::{Command, EvalId, Index, NoMemory, NodeId, Refusal, StatusChange};
 fn judge_first(raft: &mut Raft<Cluster>, desk: &mut Desk) -> Result<Option<JudgedPlan>, NoMemory>
     requires leads { is_leader raft.old.server.mode ≡ true }
     requires is_open { is_some desk.old ≡ true }
-    ensures same { SameServer raft.old raft.new }
+    ensures same { SameRaft raft.old raft.new }
     ensures turn { IfOk result (λ j. (s : LogServer Command) →
         Represents cluster_meaning raft.old s →
         at_open (on_plan_turn (whole_state s)) desk.old ≡ Ok (option_map judged_by j, desk.new)) }
@@ -82,7 +82,7 @@ fn drain_step(
 ) -> Result<Option<Command>, Refusal>
     requires leads { is_leader raft.old.server.mode ≡ true }
     requires is_open { is_some desk.now ≡ true }
-    ensures same { SameServer raft.old raft.new }
+    ensures same { SameRaft raft.old raft.new }
     ensures value { let d = group_desk desk.now in IfOk result (λ c. (s : LogServer Command) →
         Represents cluster_meaning raft.old s → drain_at s d node ≡ Ok (proposes_if_any d c)) }
     ensures err { let d = group_desk desk.now in IfErr result (λ e. (s : LogServer Command) →
@@ -99,7 +99,7 @@ fn drain_step(
 /// applied state.
 fn first_freed(raft: &mut Raft<Cluster>, desk: &Desk) -> Result<Option<EvalId>, NoMemory>
     requires { is_leader raft.old.server.mode ≡ true }
-    ensures same { SameServer raft.old raft.new }
+    ensures same { SameRaft raft.old raft.new }
     ensures value { IfOk result (λ id. (s : LogServer Command) →
         Represents cluster_meaning raft.old s → IsOverBlocked (applied_state s) desk.now →
         id ≡ option_map eval_id (first_due (applied_state s) (whole_state s))) }
@@ -117,7 +117,7 @@ fn first_freed(raft: &mut Raft<Cluster>, desk: &Desk) -> Result<Option<EvalId>, 
 fn first_reaped(raft: &mut Raft<Cluster>, desk: &Desk) -> Result<Option<EvalId>, NoMemory>
     requires leads { is_leader raft.old.server.mode ≡ true }
     requires is_open { is_some desk.now ≡ true }
-    ensures same { SameServer raft.old raft.new }
+    ensures same { SameRaft raft.old raft.new }
     ensures value { IfOk result (λ id. (s : LogServer Command) →
         Represents cluster_meaning raft.old s → if_open (on_reap (whole_state s)) desk.now ≡ Ok id) }
 {
@@ -134,7 +134,7 @@ impl Server {
     /// The plan that goes first is judged, what is kept of it is proposed, and its sender is told.
     pub(super) fn plan_turn(&mut self, outbox: &mut Outbox) -> Result<(), Refusal>
         requires { is_up self.old.raft.server.mode ≡ true }
-        ensures same { SamePlace self.old.raft self.new.raft }
+        ensures same { SameNumber self.old.raft self.new.raft }
         ensures taken { OnOk result (EachDoes self.old (act_of self.old PlanTurn) self.new
             outbox.old outbox.new) }
         ensures stopped { IfErr result (λ cause.
@@ -150,7 +150,7 @@ impl Server {
     /// An outstanding evaluation is free again.
     pub(super) fn lapse(&mut self, eval: EvalId) -> Result<(), Refusal>
         requires { is_up self.old.raft.server.mode ≡ true }
-        ensures same { SamePlace self.old.raft self.new.raft }
+        ensures same { SameNumber self.old.raft self.new.raft }
         // Whatever was sent and handed out before, nothing is.
         ensures taken { OnOk result ((out : AnyOutbox) →
             EachDoes self.old (act_of self.old (Lapse eval)) self.new out out) }
@@ -166,7 +166,7 @@ impl Server {
     /// ready in the applied state, else as down.
     pub(super) fn expire(&mut self, node: NodeId, beats: Index) -> Result<(), Refusal>
         requires { is_up self.old.raft.server.mode ≡ true }
-        ensures same { SamePlace self.old.raft self.new.raft }
+        ensures same { SameNumber self.old.raft self.new.raft }
         ensures taken { OnOk result ((out : AnyOutbox) →
             EachDoes self.old (act_of self.old (Expire node beats)) self.new out out) }
         ensures stopped { IfErr result (λ cause. (out : AnyOutbox) →
@@ -180,7 +180,7 @@ impl Server {
     /// A node's drain is proposed as done, or its next moves are, if there are any.
     pub(super) fn drain_turn(&mut self, node: NodeId) -> Result<(), Refusal>
         requires { is_up self.old.raft.server.mode ≡ true }
-        ensures same { SamePlace self.old.raft self.new.raft }
+        ensures same { SameNumber self.old.raft self.new.raft }
         ensures taken { OnOk result ((out : AnyOutbox) →
             EachDoes self.old (act_of self.old (DrainTurn node)) self.new out out) }
         ensures stopped { IfErr result (λ cause. (out : AnyOutbox) →
@@ -196,7 +196,7 @@ impl Server {
     /// The first evaluation that is due, if there is one, is proposed as pending.
     pub(super) fn free_turn(&mut self) -> Result<(), Refusal>
         requires { is_up self.old.raft.server.mode ≡ true }
-        ensures same { SamePlace self.old.raft self.new.raft }
+        ensures same { SameNumber self.old.raft self.new.raft }
         ensures taken { OnOk result ((out : AnyOutbox) →
             EachDoes self.old (act_of self.old FreeTurn) self.new out out) }
         ensures stopped { IfErr result (λ cause. (out : AnyOutbox) →
@@ -212,7 +212,7 @@ impl Server {
     /// The first evaluation that was given out too often, if there is one, is proposed as failed.
     pub(super) fn reap(&mut self) -> Result<(), Refusal>
         requires { is_up self.old.raft.server.mode ≡ true }
-        ensures same { SamePlace self.old.raft self.new.raft }
+        ensures same { SameNumber self.old.raft self.new.raft }
         ensures taken { OnOk result ((out : AnyOutbox) →
             EachDoes self.old (act_of self.old Reap) self.new out out) }
         ensures stopped { IfErr result (λ cause. (out : AnyOutbox) →

@@ -3,14 +3,14 @@ use Rattle.std.specs.Prelude.{◌≡◌, ℕ, List, Option, Some, slice_get}
 use Rattle.scenario_file.specs.declared.scenario.Scenario.{Scenario}
 use Rattle.scenario_file.specs.declared.scenario.Settings.{Settings}
 use Rattle.sweep.specs.declared.row.Row.{Row}
-use Rattle.sweep.specs.declared.sweeping.Placed.{Placed}
+use Rattle.sweep.specs.declared.sweeping.NumberedRow.{NumberedRow}
 use Rattle.sweep.specs.Rows.{IsRow, key_at}
 
--- it is the row of the key at its place
-abbrev pub IsPlaced : Scenario → Settings → ℕ → Placed → Type 0
-IsPlaced s settings first placed = IsRow s settings (key_at first placed.place) placed.row
+-- it is the row of the key at its position
+abbrev pub IsNumbered : Scenario → Settings → ℕ → NumberedRow → Type 0
+IsNumbered s settings first placed = IsRow s settings (key_at first placed.position) placed.row
 
--- where there is a row, it is that of the key at its place
+-- where there is a row, it is that of the key at its position
 abbrev pub AreFound : Scenario → Settings → ℕ → List (Option Row) → Type 0
 AreFound s settings first found =
-    (place : ℕ) (row : Row) → slice_get found place ≡ Some (Some row) → IsRow s settings (key_at first place) row
+    (position : ℕ) (row : Row) → slice_get found position ≡ Some (Some row) → IsRow s settings (key_at first position) row

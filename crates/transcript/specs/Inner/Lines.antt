@@ -2,11 +2,11 @@
 use Rattle.std.specs.Prelude.{◌≡◌, ◌<◌, ◌^◌, ℕ, suc, List, [], ◌∷◌, codes, drop, get_or}
 use Rattle.std.specs.List.{join_with_byte}
 use Rattle.server.specs.Handings.{handing}
-use Rattle.group_model.specs.Inputs as servers
-use Rattle.group_model.specs.Clients as clients
+use Rattle.group_model.specs.Inputs as inputs
+use Rattle.group_model.specs.Agents as agents
 use Rattle.group_model.specs.Worlds.{Event, Deliver, AtServer, AtClient}
 pub use Rattle.group_model.specs.Worlds.{IsRestart}
-use Rattle.world.specs.Events.{place_of}
+use Rattle.world.specs.Events.{position_of}
 use Rattle.world.specs.GroupEvents.{client_input, server_input}
 use Rattle.transcript.specs.declared.line.Line.{Line}
 use Rattle.transcript.specs.declared.line.Line.TheVariants as lines
@@ -14,7 +14,7 @@ use Rattle.transcript.specs.EventLines.{HasLine, ServerFits, event_words, server
 
 -- the event that a line says
 abbrev pub line_event : Line → Event
-line_event (lines.Deliver message) = Deliver (place_of message)
+line_event (lines.Deliver message) = Deliver (position_of message)
 line_event (lines.Server server input) = AtServer server (server_input (handing input))
 line_event (lines.Client client input) = AtClient client (client_input input)
 
@@ -34,13 +34,13 @@ pub record HasParts (event : Event) (verb operands : List ℕ) : Type 0 where
 -- ---- kinds of events
 
 -- one that names a server and nothing else, other than those that a client has too
-abbrev pub IsTurnInput : servers.Input → Type 0
-IsTurnInput servers.Timeout = Unit {0}
-IsTurnInput servers.Beat = Unit {0}
-IsTurnInput servers.PlanTurn = Unit {0}
-IsTurnInput servers.FreeTurn = Unit {0}
-IsTurnInput servers.Reap = Unit {0}
-IsTurnInput servers.Compact = Unit {0}
+abbrev pub IsTurnInput : inputs.Input → Type 0
+IsTurnInput inputs.Timeout = Unit {0}
+IsTurnInput inputs.Beat = Unit {0}
+IsTurnInput inputs.PlanTurn = Unit {0}
+IsTurnInput inputs.FreeTurn = Unit {0}
+IsTurnInput inputs.Reap = Unit {0}
+IsTurnInput inputs.Compact = Unit {0}
 IsTurnInput _ = ⊥
 
 abbrev pub IsTurnEvent : Event → Type 0
@@ -48,17 +48,17 @@ IsTurnEvent (AtServer server input) = IsTurnInput input
 IsTurnEvent _ = ⊥
 
 abbrev pub IsRequest : Event → Type 0
-IsRequest (AtServer server (servers.Request request)) = Unit {0}
+IsRequest (AtServer server (inputs.Request request)) = Unit {0}
 IsRequest _ = ⊥
 
 abbrev pub IsSubmit : Event → Type 0
-IsSubmit (AtServer server (servers.SubmitTo to plan)) = Unit {0}
+IsSubmit (AtServer server (inputs.SubmitTo to plan)) = Unit {0}
 IsSubmit _ = ⊥
 
 -- one whose line takes no memory to read
-abbrev pub IsSmallInput : servers.Input → Type 0
-IsSmallInput (servers.Request request) = ⊥
-IsSmallInput (servers.SubmitTo to plan) = ⊥
+abbrev pub IsSmallInput : inputs.Input → Type 0
+IsSmallInput (inputs.Request request) = ⊥
+IsSmallInput (inputs.SubmitTo to plan) = ⊥
 IsSmallInput _ = Unit {0}
 
 abbrev pub IsSmall : Event → Type 0
@@ -66,27 +66,27 @@ IsSmall (AtServer server input) = IsSmallInput input
 IsSmall _ = Unit {0}
 
 abbrev pub IsFinish : Event → Type 0
-IsFinish (AtServer server (servers.FinishAt to eval token outcome)) = Unit {0}
+IsFinish (AtServer server (inputs.FinishAt to eval token outcome)) = Unit {0}
 IsFinish _ = ⊥
 
 abbrev pub IsExpire : Event → Type 0
-IsExpire (AtServer server (servers.Expire node beats)) = Unit {0}
+IsExpire (AtServer server (inputs.Expire node beats)) = Unit {0}
 IsExpire _ = ⊥
 
 abbrev pub IsEnd : Event → Type 0
-IsEnd (AtClient client (clients.End id ok)) = Unit {0}
+IsEnd (AtClient client (agents.End id ok)) = Unit {0}
 IsEnd _ = ⊥
 
 abbrev pub IsCrash : Event → Type 0
-IsCrash (AtServer server servers.Crash) = Unit {0}
-IsCrash (AtClient client clients.Crash) = Unit {0}
+IsCrash (AtServer server inputs.Crash) = Unit {0}
+IsCrash (AtClient client agents.Crash) = Unit {0}
 IsCrash _ = ⊥
 
 -- it is no arrival, and no message past the last number; the types see to all other limits
 abbrev pub IsSayable : Event → Type 0
 IsSayable (Deliver place) = suc place < 2 ^ 64
-IsSayable (AtServer server (servers.Arrives message)) = ⊥
-IsSayable (AtClient client (clients.Arrives from response)) = ⊥
+IsSayable (AtServer server (inputs.Arrives message)) = ⊥
+IsSayable (AtClient client (agents.Arrives from response)) = ⊥
 IsSayable _ = Unit {0}
 
 -- ---- what stands before a list that is read

@@ -1,7 +1,7 @@
 -- The clients of a new group, and which frame is for an actor.
 use Rattle.std.specs.Prelude.{ℕ, suc, List, [], ◌∷◌}
 use Rattle.rows.specs.declared.node.NodeSpec.{NodeSpec}
-use Rattle.group_model.specs.Clients.{agent_of}
+use Rattle.group_model.specs.Agents.{agent_of}
 use Rattle.client_agent.specs.AgentView.{AgentView}
 pub use Rattle.world.specs.GroupView.{IsSentTo}
 

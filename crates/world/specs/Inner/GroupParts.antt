@@ -2,14 +2,14 @@
 use Rattle.std.specs.Prelude.{◌≡◌, ◌≢◌, ℕ, ◌⊎◌, max, Result, Ok, Err, IfOk, OnErr, IfErr, List, [], ◌∷◌, ◌++◌}
 use Rattle.rows.specs.declared.refusal.Refusal.{Refusal}
 use Rattle.rows.specs.declared.refusal.Refusal.TheVariants as refusals
-use Rattle.group_model.specs.Inputs as servers
-use Rattle.group_model.specs.Clients as clients
-use Rattle.group_model.specs.Members.{Member}
+use Rattle.group_model.specs.Inputs as inputs
+use Rattle.group_model.specs.Agents as agents
+use Rattle.group_model.specs.Servers.{Server}
 use Rattle.group_model.specs.Worlds.{Event, AtServer, AtClient}
 use Rattle.client_agent.specs.declared.input.ClientInput.{ClientInput}
 use Rattle.client_agent.specs.AgentView.{AgentView}
 use Rattle.server.specs.declared.server.Outbox.{Outbox}
-use Rattle.server.specs.ServerViews.{ServerView, IsMember, SameMember}
+use Rattle.server.specs.ServerViews.{ServerView, IsServer, SameServer}
 use Rattle.server.specs.Handings.{Handing}
 use Rattle.actor.specs.Refusals.{RefusedSo, ServerRefuses, ServerMayLack, ClientRefuses, ClientMayLack}
 use Rattle.actor.specs.Answers.{ServerSteps, ServerCrashed, ServerStays, ClientSteps, ClientCrashed}
@@ -32,14 +32,14 @@ module _ (server : ServerView) (past : GroupHistoryView) (h : Handing) (e : Even
   pub record ServerTook (after : ServerView) (now : GroupHistoryView) : Type 0 where
     pub steps : ServerSteps server h after past.outbox now.outbox
     pub trace : now.trace ≡ past.trace ++ e ∷ []
-    pub chain : (s : Member) → IsMember after s → now.chain ≡ max past.chain (committed s.raft)
+    pub chain : (s : Server) → IsServer after s → now.chain ≡ max past.chain (committed s.raft)
 
   -- it found no memory, and crashed
   pub record ServerFell (i : ℕ) (after : ServerView) (now : GroupHistoryView) : Type 0 where
     pub crashed : ServerCrashed server after
     pub lacks : ServerMayLack server h
     pub outbox : now.outbox ≡ past.outbox
-    pub trace : now.trace ≡ past.trace ++ AtServer i servers.Crash ∷ []
+    pub trace : now.trace ≡ past.trace ++ AtServer i inputs.Crash ∷ []
     pub chain : now.chain ≡ past.chain
 
   -- It crashed, or found no memory to start again, and nothing happened. It is refused as the
@@ -47,7 +47,7 @@ module _ (server : ServerView) (past : GroupHistoryView) (h : Handing) (e : Even
   abbrev pub ServerDone : ℕ → Result Done Refusal → ServerView → GroupHistoryView → Type 0
   ServerDone i (Ok Taken) after now = ServerTook after now
   ServerDone i (Ok Crashed) after now = ServerFell i after now ⊎ ServerStays server h after × (now ≡ past)
-  ServerDone i (Err cause) after now = SameMember server after × (now ≡ past) × RefusedSo (Unit {0}) (ServerRefuses server h) cause
+  ServerDone i (Err cause) after now = SameServer server after × (now ≡ past) × RefusedSo (Unit {0}) (ServerRefuses server h) cause
 
 -- ---- a client takes an event, which hands this to it
 
@@ -63,7 +63,7 @@ module _ (client : AgentView) (past : GroupHistoryView) (given : ClientInput) (e
     pub crashed : ClientCrashed client after
     pub lacks : ClientMayLack client given
     pub outbox : now.outbox ≡ past.outbox
-    pub trace : now.trace ≡ past.trace ++ AtClient c clients.Crash ∷ []
+    pub trace : now.trace ≡ past.trace ++ AtClient c agents.Crash ∷ []
     pub chain : now.chain ≡ past.chain
 
   -- it is refused as the client refuses it, or the world lacks memory

@@ -5,7 +5,7 @@ use Rattle.rows.specs.declared.refusal.Refusal.{Refusal}
 use Rattle.rows.specs.declared.refusal.Refusal.TheVariants as refusals
 use Rattle.machine_model.specs.Meaning.{Meaning}
 use Rattle.wire.specs.Frames.{Frame}
-use Rattle.raft_model.specs.Servers.{Server, is_up}
+use Rattle.raft_model.specs.Rafts.{Raft, is_up}
 use Rattle.raft_model.specs.Steps.{Timeout, Beat, Propose, Compact, Crash, Restart}
 use Rattle.raft_model.specs.Worlds.{World, Event, Deliver, TimesOut, Beats, Proposes, Compacts, Crashes, Restarts, happens, acting_server}
 use Rattle.raft_core.specs.Frames.{FrameCarries}
@@ -54,7 +54,7 @@ handed_by sent (Restarts i) = Own Restart
 
 -- what a refusal leaves of a server: what a crash does where memory was wanting, else the same
 -- server
-abbrev pub Leaves : {S C : Type 0} → Meaning S C → RaftView S C → Server C → Handed C → Refusal → RaftView S C
+abbrev pub Leaves : {S C : Type 0} → Meaning S C → RaftView S C → Raft C → Handed C → Refusal → RaftView S C
     → Type 0
 Leaves m old s h refusals.NoMemory new = LackLeaves m old s h new
 Leaves m old s h cause new = LeftServer old new
@@ -65,5 +65,5 @@ StaysOrLeft h refusals.NoMemory old new = LackStays h old new
 StaysOrLeft h cause old new = LeftServer old new
 
 -- what a server has committed, while it is up
-abbrev pub committed : {C : Type 0} → Server C → ℕ
+abbrev pub committed : {C : Type 0} → Raft C → ℕ
 committed s = if is_up s.mode then s.commit else 0

@@ -1,12 +1,12 @@
 //! What is kept beside the servers and clients of a group, and what one event changes.
 ghost use Rattle.std.specs.Prelude.{◌≡◌, ◌≢◌, ◌<◌, true, max, [], is_some, length, slice_get, MatchBool, OnOk};
-ghost use Rattle.raft_core.specs.RaftView.{SamePlace};
-ghost use Rattle.group_model.specs.Members.{Member};
+ghost use Rattle.raft_core.specs.RaftView.{SameNumber};
+ghost use Rattle.group_model.specs.Servers.{Server as AnyServer};
 ghost use Rattle.group_model.specs.Worlds.{Deliver, AtServer, AtClient};
 ghost use Rattle.server.specs.Handings.{FrameBytes, bytes_of, handing};
-ghost use Rattle.server.specs.ServerViews.{IsMember};
+ghost use Rattle.server.specs.ServerViews.{IsServer};
 ghost use Rattle.client_agent.specs.declared.input.ClientInput.TheVariants as client_inputs;
-ghost use Rattle.world.specs.Events.{place_of};
+ghost use Rattle.world.specs.Events.{position_of};
 ghost use Rattle.world.specs.GroupEvents.{server_input, client_input, group_events};
 ghost use Rattle.world.specs.Inner.Inputs.{committed};
 ghost use Rattle.world.specs.Inner.GroupParts.{ServerDone, ClientDone};
@@ -31,9 +31,9 @@ pub(crate) struct GroupHistory {
     delivered: Vec<u8>,
     trace: Vec<Event>,
     chain: Index,
-    // Room for the crash of a server, or a client, that finds no memory for a frame.
-    server_room: Option<Box<ServerInput>>,
-    client_room: Option<Box<ClientInput>>,
+    // A spare box for the crash of a server, or a client, that finds no memory for a frame.
+    server_spare: Option<Box<ServerInput>>,
+    client_spare: Option<Box<ClientInput>>,
 }
 
 impl Model for GroupHistory {
@@ -47,7 +47,7 @@ impl Model for GroupHistory {
 
 /// The greater of the chain so far and what a server has applied.
 fn longer(chain: Index, server: &Server) -> Index
-    ensures { (s : Member) → IsMember server.now s → result ≡ max chain (committed s.raft) }
+    ensures { (s : AnyServer) → IsServer server.now s → result ≡ max chain (committed s.raft) }
 {
     match server.applied() {
         Some(applied) if applied.get() > chain.get() => applied,
@@ -57,7 +57,7 @@ fn longer(chain: Index, server: &Server) -> Index
 
 /// The k-th frame, from 1.
 fn frame_at(sent: &Frames, k: u64) -> Option<Frame<'_>>
-    ensures { result ≡ slice_get sent.now (place_of k) }
+    ensures { result ≡ slice_get sent.now (position_of k) }
 {
     let count = sent.len() as u64;
     if k == 0 || k > count {
@@ -68,8 +68,8 @@ fn frame_at(sent: &Frames, k: u64) -> Option<Frame<'_>>
 
 /// The place of the k-th frame, from 1, which is there.
 fn place(sent: &Frames, k: u64) -> usize
-    requires { place_of k < length sent.now }
-    ensures { result ≡ place_of k }
+    requires { position_of k < length sent.now }
+    ensures { result ≡ position_of k }
 {
     // No list in memory is so long that the number 0 has a place in it.
     let _ = sent.len();
@@ -86,42 +86,42 @@ fn copy_frame(sent: &Frames, at: usize, frame: &mut Vec<u8>) -> Result<(), NoMem
     Ok(())
 }
 
-/// Room is made for a server's crash. It stands apart from what each delivery goes through.
+/// A box is made for a server's crash. It stands apart from what each delivery goes through.
 #[cold]
 #[inline(never)]
-fn new_server_room(alloc: Global, room: &mut Option<Box<ServerInput>>) -> Result<(), NoMemory>
-    ensures { OnOk result (is_some room.new ≡ true) }
+fn new_server_spare(alloc: Global, spare: &mut Option<Box<ServerInput>>) -> Result<(), NoMemory>
+    ensures { OnOk result (is_some spare.new ≡ true) }
 {
-    *room = Some(Box::new(alloc, ServerInput::Crash)?);
+    *spare = Some(Box::new(alloc, ServerInput::Crash)?);
     Ok(())
 }
 
-/// Room is made for a server's crash, where there is none.
-fn make_server_room(alloc: Global, room: &mut Option<Box<ServerInput>>) -> Result<(), NoMemory>
-    ensures { OnOk result (is_some room.new ≡ true) }
+/// A box is made for a server's crash, where there is none.
+fn make_server_spare(alloc: Global, spare: &mut Option<Box<ServerInput>>) -> Result<(), NoMemory>
+    ensures { OnOk result (is_some spare.new ≡ true) }
 {
-    if room.is_none() {
-        return new_server_room(alloc, room);
+    if spare.is_none() {
+        return new_server_spare(alloc, spare);
     }
     Ok(())
 }
 
-/// Room is made for a client's crash, where there is none.
-fn make_client_room(alloc: Global, room: &mut Option<Box<ClientInput>>) -> Result<(), NoMemory>
-    ensures { OnOk result (is_some room.new ≡ true) }
+/// A box is made for a client's crash, where there is none.
+fn make_client_spare(alloc: Global, spare: &mut Option<Box<ClientInput>>) -> Result<(), NoMemory>
+    ensures { OnOk result (is_some spare.new ≡ true) }
 {
-    if room.is_none() {
-        *room = Some(Box::new(alloc, ClientInput::Crash)?);
+    if spare.is_none() {
+        *spare = Some(Box::new(alloc, ClientInput::Crash)?);
     }
     Ok(())
 }
 
-/// The room, with this in it.
-fn take_room<T: Drop>(room: &mut Option<Box<T>>, value: T) -> Box<T>
-    requires { is_some room.old ≡ true }
+/// The spare box, with this in it.
+fn take_spare<T: Drop>(spare: &mut Option<Box<T>>, value: T) -> Box<T>
+    requires { is_some spare.old ≡ true }
     ensures { result.value ≡ value }
 {
-    let mut taken = std::mem::replace(room, None).unwrap();
+    let mut taken = std::mem::replace(spare, None).unwrap();
     Box::replace(&mut taken, value);
     taken
 }
@@ -137,8 +137,8 @@ impl GroupHistory {
             delivered: Vec::new(alloc),
             trace: Vec::new(alloc),
             chain: Index::ZERO,
-            server_room: None,
-            client_room: None,
+            server_spare: None,
+            client_spare: None,
         }
     }
 
@@ -180,7 +180,7 @@ impl GroupHistory {
 
     /// The k-th frame, from 1.
     pub(crate) fn frame(&self, k: u64) -> Option<Frame<'_>>
-        ensures { result ≡ slice_get self.now.outbox.frames (place_of k) }
+        ensures { result ≡ slice_get self.now.outbox.frames (position_of k) }
     {
         frame_at(&self.outbox.frames, k)
     }
@@ -194,7 +194,7 @@ impl GroupHistory {
         me: ServerId,
         input: Box<ServerInput>,
     ) -> Result<Done, Refusal>
-        ensures same { SamePlace server.old.raft server.new.raft }
+        ensures same { SameNumber server.old.raft server.new.raft }
         ensures done { ServerDone server.old self.old (handing input.value)
             (AtServer me (server_input (handing input.value))) me result server.new self.new }
     {
@@ -229,14 +229,14 @@ impl GroupHistory {
         me: ServerId,
         k: u64,
     ) -> Result<Done, Refusal>
-        requires { place_of k < length self.old.outbox.frames }
-        ensures same { SamePlace server.old.raft server.new.raft }
+        requires { position_of k < length self.old.outbox.frames }
+        ensures same { SameNumber server.old.raft server.new.raft }
         ensures done { ServerDone server.old self.old
-            (FrameBytes (bytes_of (slice_get self.old.outbox.frames (place_of k))))
-            (Deliver (place_of k)) me result server.new self.new }
+            (FrameBytes (bytes_of (slice_get self.old.outbox.frames (position_of k))))
+            (Deliver (position_of k)) me result server.new self.new }
     {
         self.trace.reserve(1)?;
-        make_server_room(self.alloc, &mut self.server_room)?;
+        make_server_spare(self.alloc, &mut self.server_spare)?;
         let at = place(&self.outbox.frames, k);
         match bring_sent_to_server(server, at, &mut self.outbox) {
             Ok(Stepped::Taken) => {
@@ -245,7 +245,7 @@ impl GroupHistory {
                 Ok(Done::Taken)
             }
             Ok(Stepped::Crashed) => {
-                let crash = take_room(&mut self.server_room, ServerInput::Crash);
+                let crash = take_spare(&mut self.server_spare, ServerInput::Crash);
                 self.trace.push_reserved(Event::Server(me, crash));
                 Ok(Done::Crashed)
             }
@@ -291,23 +291,23 @@ impl GroupHistory {
         me: ClientId,
         k: u64,
     ) -> Result<Done, Refusal>
-        requires { place_of k < length self.old.outbox.frames }
+        requires { position_of k < length self.old.outbox.frames }
         ensures same { client.new.size ≡ client.old.size }
         ensures done { ClientDone client.old self.old
-            (client_inputs.Frame (bytes_of (slice_get self.old.outbox.frames (place_of k))))
-            (Deliver (place_of k)) me result client.new self.new }
+            (client_inputs.Frame (bytes_of (slice_get self.old.outbox.frames (position_of k))))
+            (Deliver (position_of k)) me result client.new self.new }
     {
         self.trace.reserve(1)?;
         let at = place(&self.outbox.frames, k);
         copy_frame(&self.outbox.frames, at, &mut self.delivered)?;
-        make_client_room(self.alloc, &mut self.client_room)?;
+        make_client_spare(self.alloc, &mut self.client_spare)?;
         match bring_to_client(client, &self.delivered, &mut self.outbox.frames) {
             Ok(Stepped::Taken) => {
                 self.trace.push_reserved(Event::Deliver(k));
                 Ok(Done::Taken)
             }
             Ok(Stepped::Crashed) => {
-                let crash = take_room(&mut self.client_room, ClientInput::Crash);
+                let crash = take_spare(&mut self.client_spare, ClientInput::Crash);
                 self.trace.push_reserved(Event::Client(me, crash));
                 Ok(Done::Crashed)
             }

@@ -4,17 +4,17 @@ ghost use Rattle.std.specs.Option.{option_copied};
 ghost use Rattle.std.specs.List.{AllZip, AllByRecursion};
 ghost use Rattle.rows.specs.declared.refusal.Refusal.TheVariants as refusals;
 ghost use Rattle.rows.specs.declared.actor.Actor.TheVariants as actors;
-ghost use Rattle.group_model.specs.Members.{newcomer};
-ghost use Rattle.group_model.specs.Clients.{agent_of};
+ghost use Rattle.group_model.specs.Servers.{newcomer};
+ghost use Rattle.group_model.specs.Agents.{agent_of};
 ghost use Rattle.group_model.specs.Worlds.{Deliver, AtServer, AtClient};
 ghost use Rattle.group_safety.specs.Limits.{NodesFit};
 ghost use Rattle.server.specs.Handings.{handing};
 ghost use Rattle.actor.specs.Handed.{comes_as_frame, is_client_frame};
-ghost use Rattle.server.specs.ServerViews.{ServerView, IsMember};
+ghost use Rattle.server.specs.ServerViews.{ServerView, IsServer};
 ghost use Rattle.rows.specs.GroupSizes.{IsGroup};
-ghost use Rattle.world.specs.Events.{place_of};
+ghost use Rattle.world.specs.Events.{position_of};
 ghost use Rattle.world.specs.GroupEvents.{server_input, client_input, group_event, group_events};
-ghost use Rattle.world.specs.GroupView.{client_view, nodes_of, ServersKnowPlaces, ClientsKnowPlaces, IsSentTo};
+ghost use Rattle.world.specs.GroupView.{client_view, nodes_of, ServersKnowNumbers, ClientsKnowNumbers, IsSentTo};
 ghost use Rattle.world.specs.GroupSteps.{IsGroupDone, SameView, RefusesGroupEvent, IsGroupAwake, IsNewGroup, WhyNoGroup, GroupPlayed, GroupReplays};
 ghost use Rattle.world.specs.GroupClaims.{OneGroupList, SafeGroupStates, BackedPlans, PlacedStarts, GroupHeadline, IsGreatestEver, IsTraced};
 ghost use Rattle.world.specs.Inner.GroupInputs.{new_agents};
@@ -59,12 +59,12 @@ impl Model for World {
 }
 
 /// The server at this place, before its first input.
-fn new_server(alloc: Global, place: usize, n: usize) -> Result<Server, NoMemory>
-    requires { (IsGroup n) × (place < n) }
-    ensures number { IfOk result (λ s. (s.raft.me ≡ place) × (s.raft.size ≡ n)) }
-    ensures server { IfOk result (λ s. IsMember s newcomer) }
+fn new_server(alloc: Global, position: usize, n: usize) -> Result<Server, NoMemory>
+    requires { (IsGroup n) × (position < n) }
+    ensures number { IfOk result (λ s. (s.raft.me ≡ position) × (s.raft.size ≡ n)) }
+    ensures server { IfOk result (λ s. IsServer s newcomer) }
 {
-    let Some(me) = ServerId::from_place(place) else {
+    let Some(me) = ServerId::from_position(position) else {
         unreachable!()
     };
     match Server::new(alloc, me, n) {
@@ -102,7 +102,7 @@ fn new_servers(alloc: Global, n: usize) -> Result<Vec<Server>, NoMemory>
     ensures places { IfOk result (λ servers. (i : ℕ) (s : ServerView) →
         slice_get servers.items i ≡ Some s → (s.raft.me ≡ i) × (s.raft.size ≡ n)) }
     ensures newcomers { IfOk result (λ servers.
-        AllZip IsMember servers.items (replicate n newcomer)) }
+        AllZip IsServer servers.items (replicate n newcomer)) }
 {
     let mut servers = Vec::new(alloc);
     for place in 0..n {
@@ -125,7 +125,7 @@ fn new_clients(alloc: Global, nodes: &[NodeSpec], n: usize) -> Result<Vec<Agent>
 }
 
 /// Where a client stands, from 0.
-fn place_of_client(client: ClientId) -> usize
+fn position_of_client(client: ClientId) -> usize
     ensures { suc result ≡ client }
 {
     usize::from(client.number() - 1)
@@ -153,7 +153,7 @@ impl World {
         limits_are_kept();
         senders_are_members();
         ranges(input.as_ref());
-        let server = &mut self.servers[me.place()];
+        let server = &mut self.servers[me.position()];
         self.history.hand_server(server, me, input)
     }
 
@@ -161,15 +161,15 @@ impl World {
     #[inline(always)]
     fn bring_to_server(&mut self, me: ServerId, k: u64) -> Result<Done, Refusal>
         requires member { me < length self.old.servers }
-        requires sent { IsSentTo self.old.outbox.frames (place_of k) (actors.Server me) }
-        requires awake { IsGroupAwake self.old (Deliver (place_of k)) }
-        ensures { GroupStepped self.old (Deliver (place_of k)) result self.new }
+        requires sent { IsSentTo self.old.outbox.frames (position_of k) (actors.Server me) }
+        requires awake { IsGroupAwake self.old (Deliver (position_of k)) }
+        ensures { GroupStepped self.old (Deliver (position_of k)) result self.new }
     {
         // A frame that a server of the group sent is not refused for its bytes.
         frames_are_whole::<Cluster>();
         limits_are_kept();
         senders_are_members();
-        let server = &mut self.servers[me.place()];
+        let server = &mut self.servers[me.position()];
         self.history.bring_to_server(server, me, k)
     }
 
@@ -182,22 +182,22 @@ impl World {
     {
         limits_are_kept();
         senders_are_members();
-        let client = &mut self.clients[place_of_client(me)];
+        let client = &mut self.clients[position_of_client(me)];
         self.history.hand_client(client, me, input)
     }
 
     /// A frame that was sent comes to a client.
     fn bring_to_client(&mut self, me: ClientId, k: u64) -> Result<Done, Refusal>
         requires member { me ≤ length self.old.clients }
-        requires sent { IsSentTo self.old.outbox.frames (place_of k) (actors.Client me) }
-        requires awake { IsGroupAwake self.old (Deliver (place_of k)) }
-        ensures { GroupStepped self.old (Deliver (place_of k)) result self.new }
+        requires sent { IsSentTo self.old.outbox.frames (position_of k) (actors.Client me) }
+        requires awake { IsGroupAwake self.old (Deliver (position_of k)) }
+        ensures { GroupStepped self.old (Deliver (position_of k)) result self.new }
     {
         // A frame that a server of the group sent is not refused for its bytes.
         frames_are_whole::<Cluster>();
         limits_are_kept();
         senders_are_members();
-        let client = &mut self.clients[place_of_client(me)];
+        let client = &mut self.clients[position_of_client(me)];
         self.history.bring_to_client(client, me, k)
     }
 
@@ -238,8 +238,8 @@ impl World {
     /// A frame that was sent to a server comes.
     #[inline(always)]
     fn to_server(&mut self, me: ServerId, k: u64) -> Result<Done, Refusal>
-        requires { IsSentTo self.old.outbox.frames (place_of k) (actors.Server me) }
-        ensures { GroupStepped self.old (Deliver (place_of k)) result self.new }
+        requires { IsSentTo self.old.outbox.frames (position_of k) (actors.Server me) }
+        ensures { GroupStepped self.old (Deliver (position_of k)) result self.new }
     {
         let Some(server) = self.server(me) else {
             return Err(Refusal::OutOfRange);
@@ -252,8 +252,8 @@ impl World {
 
     /// A frame that was sent to a client comes.
     fn to_client(&mut self, me: ClientId, k: u64) -> Result<Done, Refusal>
-        requires { IsSentTo self.old.outbox.frames (place_of k) (actors.Client me) }
-        ensures { GroupStepped self.old (Deliver (place_of k)) result self.new }
+        requires { IsSentTo self.old.outbox.frames (position_of k) (actors.Client me) }
+        ensures { GroupStepped self.old (Deliver (position_of k)) result self.new }
     {
         let Some(client) = self.client(me) else {
             return Err(Refusal::OutOfRange);
@@ -267,7 +267,7 @@ impl World {
     /// A message that was sent comes to its receiver.
     #[inline(always)]
     fn deliver(&mut self, k: u64) -> Result<Done, Refusal>
-        ensures { GroupStepped self.old (Deliver (place_of k)) result self.new }
+        ensures { GroupStepped self.old (Deliver (position_of k)) result self.new }
     {
         let Some(to) = self.receiver(k) else {
             return Err(Refusal::OutOfRange);
@@ -493,8 +493,8 @@ impl World {
     /// Who is to receive the k-th message of all that were sent, from 1; none where there is no
     /// such message.
     pub fn receiver(&self, k: u64) -> Option<Actor>
-        ensures some { IfSome result (λ to. IsSentTo self.now.outbox.frames (place_of k) to) }
-        ensures none { IfNone result (slice_get self.now.outbox.frames (place_of k) ≡ None) }
+        ensures some { IfSome result (λ to. IsSentTo self.now.outbox.frames (position_of k) to) }
+        ensures none { IfNone result (slice_get self.now.outbox.frames (position_of k) ≡ None) }
     {
         Some(self.history.frame(k)?.to())
     }
@@ -518,7 +518,7 @@ impl World {
     pub fn size(&self) -> usize
         ensures value { result ≡ length self.now.servers }
         ensures group { IsGroup result }
-        ensures places { ServersKnowPlaces self.now }
+        ensures places { ServersKnowNumbers self.now }
     {
         self.group_size();
         self.servers.len()
@@ -528,20 +528,20 @@ impl World {
     pub fn server(&self, server: ServerId) -> Option<&Server>
         ensures { option_copied result ≡ slice_get self.now.servers server }
     {
-        self.servers.get(server.place())
+        self.servers.get(server.position())
     }
 
     /// A client; none where the group has fewer.
     pub fn client(&self, client: ClientId) -> Option<&Agent>
         ensures { option_copied result ≡ client_view self.now.clients client }
     {
-        self.clients.get(place_of_client(client))
+        self.clients.get(position_of_client(client))
     }
 
     /// The clients in the order of their nodes: the k-th, from 1, is that of node k. At most 64.
     pub fn clients(&self) -> &[Agent]
         ensures clients { result.now ≡ self.now.clients }
-        ensures places { ClientsKnowPlaces self.now }
+        ensures places { ClientsKnowNumbers self.now }
         ensures nodes { NodesFit (nodes_of self.now) }
     {
         &self.clients

@@ -1,5 +1,5 @@
 use Rattle.std.proofs.Common.{length}
-use Rattle.cells.proofs.cells.+place_among.Given as goal
+use Rattle.cells.proofs.cells.+position_among.Given as goal
 
-abbrev pub decreases-place_among : goal.decreases-place_among
-decreases-place_among l = length l.actors.now
+abbrev pub decreases-position_among : goal.decreases-position_among
+decreases-position_among l = length l.actors.now

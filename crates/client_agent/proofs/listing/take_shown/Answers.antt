@@ -2,7 +2,7 @@ use Rattle.std.proofs.Common.{◌≡◌, List, map, subst, ◌∙◌}
 use Rattle.rows.specs.declared.command.Report.{Report}
 use Rattle.cluster_model.specs.ClusterMachine.{cluster_meaning}
 use Rattle.group_model.specs.Messages.{Service}
-use Rattle.group_model.specs.Clients.{report_messages, news}
+use Rattle.group_model.specs.Agents.{report_messages, news}
 use Rattle.group_frames.specs.GroupFrames.{SendsGroup}
 use Rattle.client_agent.specs.Inner.Runs.{runs_of, followed}
 use Rattle.client_agent.proofs.Told.{few_news}

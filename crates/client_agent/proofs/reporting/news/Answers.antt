@@ -1,7 +1,7 @@
 use Rattle.std.proofs.Common.{◌≡◌, ◌+◌, ◌-◌, ◌<◌, ◌++◌, List, length, take, drop, ap, sym, ◌∙◌, arith}
 use Rattle.std.proofs.lemmas.List.{length_push}
 use Rattle.rows.specs.declared.command.Report.{Report}
-use Rattle.group_model.specs.Clients.{news_of}
+use Rattle.group_model.specs.Agents.{news_of}
 use Rattle.client_agent.specs.Inner.Runs.{runs_of}
 use Rattle.client_agent.proofs.Told.{told_of, said_row, one_taken}
 use Rattle.client_agent.proofs.reporting.news.Goals as goal

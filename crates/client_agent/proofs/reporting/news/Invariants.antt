@@ -1,5 +1,5 @@
 use Rattle.std.proofs.Common.{◌≡◌, ◌-◌, ◌≤◌, ◌++◌, length, take, drop}
-use Rattle.group_model.specs.Clients.{news}
+use Rattle.group_model.specs.Agents.{news}
 use Rattle.client_agent.specs.Inner.Runs.{runs_of}
 use Rattle.client_agent.proofs.Told.{told_of}
 use Rattle.client_agent.proofs.reporting.news.Given as goal

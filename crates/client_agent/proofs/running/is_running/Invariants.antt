@@ -1,5 +1,5 @@
 use Rattle.std.proofs.Common.{◌≡◌, drop}
-use Rattle.group_model.specs.Clients.{runs}
+use Rattle.group_model.specs.Agents.{runs}
 use Rattle.client_agent.proofs.running.is_running.Given as goal
 
 abbrev pub invariant-loop-one : goal.invariant-loop-one

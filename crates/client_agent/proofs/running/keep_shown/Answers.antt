@@ -1,6 +1,6 @@
 use Rattle.std.proofs.Common.{rules}
 use Rattle.std.proofs.lemmas.Fn.{filter_same}
-use Rattle.group_model.specs.Clients.{Running, is_shown}
+use Rattle.group_model.specs.Agents.{Running, is_shown}
 use Rattle.client_agent.proofs.running.keep_shown.Goals as goal
 
 pub returns : goal.returns

@@ -1,5 +1,5 @@
 use Rattle.std.proofs.Common.{◌≡◌, drop}
-use Rattle.group_model.specs.Clients.{starts}
+use Rattle.group_model.specs.Agents.{starts}
 use Rattle.client_agent.specs.Inner.Rooms.{IsLeftBeside}
 use Rattle.client_agent.specs.Inner.Runs.{runs_of, MoreIds}
 use Rattle.client_agent.proofs.starting.start_listed.Given as goal

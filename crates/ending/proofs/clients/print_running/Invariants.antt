@@ -1,7 +1,7 @@
 use Rattle.std.proofs.Common.{take, ◌++◌, codes}
 use Rattle.std.specs.Io.KnownBytes.{Appends}
 use Rattle.std.specs.List.{flat_map}
-use Rattle.group_model.specs.Clients.{Running}
+use Rattle.group_model.specs.Agents.{Running}
 use Rattle.ending.specs.Endings.{id_text}
 use Rattle.ending.proofs.clients.print_running.Given as goal
 

@@ -20,7 +20,7 @@ loop-at-preserved-then-is_held c =
       within = omega arith;
       counts = one ∙ ap (λ b. cond b (counted_node n None ∷ rest) rest) c.if-is_held.ensures ∙ sym all;
       few = omega arith;
-      room = omega arith;
+      capacity = omega arith;
     }
 
 pub loop-at-preserved : goal.loop-at-preserved
@@ -34,5 +34,5 @@ loop-at-preserved c =
       within = omega arith;
       counts = c.loop-at.invariant.counts ∙ ap (λ b. cond b (counted_node n None ∷ rest) rest) c.if-is_held.ensures ∙ sym (over_before nodes at n some c.in-Some.ensures);
       few = omega arith;
-      room = c.loop-at.invariant.room;
+      capacity = c.loop-at.invariant.capacity;
     }

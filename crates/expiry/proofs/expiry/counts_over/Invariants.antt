@@ -7,7 +7,7 @@ invariant-loop-at l = record {
   within : l.at ≤ length l.nodes;
   counts : l.counts.rows ≡ beat_counts_over (drop l.at l.nodes) [];
   few : length l.counts.rows + l.at ≤ length l.nodes;
-  room : length l.nodes ≤ l.counts.room;
+  capacity : length l.nodes ≤ l.counts.capacity;
 }
 
 abbrev pub decreases-loop-at : goal.decreases-loop-at

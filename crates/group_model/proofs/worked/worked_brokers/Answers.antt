@@ -2,7 +2,7 @@ use Rattle.std.proofs.Common.{refl}
 use Rattle.raft_model.specs.Logs.{term_at, commands, merge}
 use Rattle.raft_model.specs.Quorums.{is_quorum, count}
 use Rattle.raft_model.specs.Messages.{to_others}
-use Rattle.raft_model.specs.Servers.{greatest}
+use Rattle.raft_model.specs.Rafts.{greatest}
 use Rattle.group_model.proofs.worked.worked_brokers.Goals as goal
 
 pub returns : goal.returns

@@ -1,6 +1,6 @@
 use Rattle.std.proofs.Common.{rules, sym, Ok, Err}
 use Rattle.std.proofs.lemmas.Fn.{always_returns_same}
-use Rattle.pages.proofs.Places.{firsts_found}
+use Rattle.pages.proofs.Positions.{firsts_found}
 use Rattle.pages.proofs.Below.{count_found, count_missed}
 use Rattle.pages.proofs.page.count_below.Goals as goal
 

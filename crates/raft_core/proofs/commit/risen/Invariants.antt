@@ -1,5 +1,5 @@
 use Rattle.std.proofs.Common.{◌≡◌, ◌≤◌, length}
-use Rattle.raft_model.specs.Servers.{greatest}
+use Rattle.raft_model.specs.Rafts.{greatest}
 use Rattle.raft_core.specs.Inner.Commits.{is_chosen_in}
 use Rattle.raft_core.proofs.commit.risen.Given as goal
 

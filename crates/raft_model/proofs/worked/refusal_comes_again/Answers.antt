@@ -1,7 +1,7 @@
 use Rattle.std.proofs.Common.{refl}
 use Rattle.raft_model.specs.Logs.{term_at, merge}
 use Rattle.raft_model.specs.Quorums.{is_quorum, count}
-use Rattle.raft_model.specs.Servers.{greatest}
+use Rattle.raft_model.specs.Rafts.{greatest}
 use Rattle.raft_model.proofs.worked.refusal_comes_again.Goals as goal
 
 pub returns : goal.returns

@@ -1,5 +1,5 @@
 use Rattle.std.proofs.Common.{refl}
-use Rattle.raft_model.specs.Servers.{newcomer}
+use Rattle.raft_model.specs.Rafts.{newcomer}
 use Rattle.raft_snapshot.proofs.Whole.{empty_whole}
 use Rattle.world.proofs.world.newcomer.Goals as goal
 

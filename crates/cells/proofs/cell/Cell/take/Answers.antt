@@ -29,6 +29,6 @@ returns-clause-refused g c =
     let i = c.self.inside in
     let old : CellView = record { actor = i.actor; seat = i.seat } in
     let given : EnvelopeView = record { receiver = c.envelope.inside.receiver; event = event_view c.envelope.inside.event; tokens = tokens_of c.envelope.inside.token } in
-    let t = cell_refused i.me old given c.step.result c.step.new.actor c.step.new.seat c.self.invariant.0 c.if-not-hears.ensures c.if-not-is_for.ensures c.if-not-can_note.ensures c.step.ensures.err in
+    let t = cell_refused i.me old given c.step.result c.step.new.actor c.step.new.seat c.self.invariant.0 c.if-not-takes_up.ensures c.if-not-is_for.ensures c.if-not-can_note.ensures c.step.ensures.err in
     subst (λ (x : CellView). IfErr c.step.result (λ cause. IsEnvelopeRefused x c.args.envelope cause)) c.self.view_is
     (subst (λ (x : EnvelopeView). IfErr c.step.result (λ cause. IsEnvelopeRefused old x cause)) c.envelope.view_is t)

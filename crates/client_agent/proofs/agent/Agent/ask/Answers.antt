@@ -9,6 +9,6 @@ use Rattle.client_agent.proofs.agent.Agent.ask.Goals as goal
 
 pub returns-in-Ok-clause-taken : goal.returns-in-Ok-clause-taken
 returns-in-Ok-clause-taken c =
-    let member : c.args.server < c.args.self.now.size = omega (arith, ap (λ (a : AgentView). a.size) c.self.view_is, c.place.ensures.value, c.if-place-self.false) in
+    let member : c.args.server < c.args.self.now.size = omega (arith, ap (λ (a : AgentView). a.size) c.self.view_is, c.position.ensures.value, c.if-position-self.false) in
     let sent = subst (λ (a : AgentView). SendsGroup cluster_meaning c.args.outbox.now c.send_asked.new.outbox (Service (ToServer a.client.node.number c.args.server (request_of a.client.node c.args.what)) ∷ [])) c.self.view_is c.in-Ok.ensures.ok in
     asked_by c.args.what c.args.self.now c.args.server c.args.outbox.now c.send_asked.new.outbox (sym c.is_up.ensures ∙ c.if-not-is_up.false) member sent

@@ -1,6 +1,6 @@
 use Rattle.std.proofs.Common.{not, Some, sym, ap, subst, ◌∙◌}
 use Rattle.cluster_model.specs.Words.{same_alloc}
-use Rattle.group_model.specs.Clients.{Life, Running}
+use Rattle.group_model.specs.Agents.{Life, Running}
 use Rattle.client_agent.specs.declared.input.ClientInput.TheVariants as inputs
 use Rattle.client_agent.specs.AgentView.{AgentView}
 use Rattle.client_agent.specs.Steps.{AgentTakes}

@@ -2,4 +2,4 @@ use Rattle.client_agent.proofs.agent.Agent.receive.Goals as goal
 
 pub returns-in-Ok-take-clause-taken : goal.returns-in-Ok-take-clause-taken
 returns-in-Ok-take-clause-taken c input (from, response, frame, is) =
-    rw is (c.in-Ok-take.ensures.taken from response (c.in-Ok.ensures.heard from response frame))
+    rw is (c.in-Ok-take.ensures.taken from response (c.in-Ok.ensures.received from response frame))

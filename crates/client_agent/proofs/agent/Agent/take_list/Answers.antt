@@ -1,6 +1,6 @@
 use Rattle.std.proofs.Common.{◌<◌, ◌≤◌, Option, Some, sym, subst, arith}
 use Rattle.group_model.specs.Messages.{Listing}
-use Rattle.group_model.specs.Clients.{Life, Arrives, Input}
+use Rattle.group_model.specs.Agents.{Life, Arrives, Input}
 use Rattle.client_agent.specs.AgentView.{AgentView}
 use Rattle.client_agent.specs.Steps.{AgentSteps}
 use Rattle.client_agent.proofs.Taking.{list_is_old, list_is_taken}

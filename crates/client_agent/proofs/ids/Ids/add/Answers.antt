@@ -8,5 +8,5 @@ use Rattle.client_agent.proofs.ids.Ids.add.Goals as goal
 pub returns-clause-ok : goal.returns-clause-ok
 returns-clause-ok c other =
     ap (λ (rows : List IdRow). lists_id rows other) c.put.ensures.rows
-    ∙ one_more c.args.id c.make_room.new.self.rows other
-    ∙ ap (λ (rows : List IdRow). same_alloc other c.args.id || lists_id rows other) (c.in_ok-make_room.ensures.rows ∙ c.self.view_is)
+    ∙ one_more c.args.id c.reserve_rows.new.self.rows other
+    ∙ ap (λ (rows : List IdRow). same_alloc other c.args.id || lists_id rows other) (c.in_ok-reserve_rows.ensures.rows ∙ c.self.view_is)

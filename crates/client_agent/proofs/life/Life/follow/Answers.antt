@@ -1,5 +1,5 @@
 use Rattle.std.proofs.Common.{sym, subst}
-use Rattle.group_model.specs.Clients.{Life, Running, is_shown}
+use Rattle.group_model.specs.Agents.{Life, Running, is_shown}
 use Rattle.client_agent.specs.Capacity.{FitTogether}
 use Rattle.client_agent.proofs.Fits.{fit_part}
 use Rattle.client_agent.proofs.life.Life.follow.Goals as goal

@@ -1,19 +1,19 @@
 use Rattle.std.proofs.Common.{◌≡◌, ◌+◌, List, Some, length, sym, ap, subst, ◌∙◌}
 use Rattle.std.specs.Prelude.{ℕ}
 use Rattle.group_model.specs.Brokers.{Task, task_of}
-use Rattle.eval_broker.specs.Inner.Lists.{HaveRoom}
-use Rattle.eval_broker.proofs.Stored.{as_many, new_room}
+use Rattle.eval_broker.specs.Inner.Lists.{HaveCapacity}
+use Rattle.eval_broker.proofs.Stored.{as_many, new_capacity}
 use Rattle.eval_broker.proofs.broker.Broker.changed.Goals as goal
 
-pub put-requires-clause-room : goal.put-requires-clause-room
-put-requires-clause-room c =
+pub put-requires-clause-capacity : goal.put-requires-clause-capacity
+put-requires-clause-capacity c =
     let ts = c.self.inside.tasks.tasks.rows in
     let old = c.in-Some.old.now in
     let held : task_of c.carried-task.result.id ts ≡ Some old = ap (λ (t : Task). task_of t.id ts) c.carried-task.ensures ∙ sym c.in-Some.ensures in
-    subst (λ (n : ℕ). HaveRoom n c.self.inside.tasks.lists) (sym (as_many c.carried-task.result ts old c.self.invariant.rising held)) c.self.invariant.room
+    subst (λ (n : ℕ). HaveCapacity n c.self.inside.tasks.lists) (sym (as_many c.carried-task.result ts old c.self.invariant.rising held)) c.self.invariant.capacity
 
-pub put-requires-in-None-clause-room : goal.put-requires-in-None-clause-room
-put-requires-in-None-clause-room c =
-    let made = c.in_ok-make_room-in-None.ensures in
-    new_room c.of-task.result c.make_room.new.self.tasks.rows c.make_room.new.self.lists made.kept.rising
-    (subst (λ (ts : List Task). HaveRoom (length ts + 1) c.make_room.new.self.lists) (sym made.rows) made.lists)
+pub put-requires-in-None-clause-capacity : goal.put-requires-in-None-clause-capacity
+put-requires-in-None-clause-capacity c =
+    let made = c.in_ok-reserve_rows-in-None.ensures in
+    new_capacity c.of-task.result c.reserve_rows.new.self.tasks.rows c.reserve_rows.new.self.lists made.kept.rising
+    (subst (λ (ts : List Task). HaveCapacity (length ts + 1) c.reserve_rows.new.self.lists) (sym made.rows) made.lists)

@@ -11,13 +11,13 @@ pub put-requires-clause-space : goal.put-requires-clause-space
 put-requires-clause-space c =
     let ts = c.self.inside.tasks.tasks.rows in
     let t = c.in-Some.task.now in
-    has_space ts t c.given-task.result c.self.invariant.rising (next_there ts t c.self.invariant.rising (sym c.in-Some.ensures)) (ap task_id c.given-task.ensures) c.self.inside.tasks.tasks.room
+    has_space ts t c.given-task.result c.self.invariant.rising (next_there ts t c.self.invariant.rising (sym c.in-Some.ensures)) (ap task_id c.given-task.ensures) c.self.inside.tasks.tasks.capacity
 
-pub put-requires-clause-room : goal.put-requires-clause-room
-put-requires-clause-room c =
+pub put-requires-clause-capacity : goal.put-requires-clause-capacity
+put-requires-clause-capacity c =
     let ts = c.self.inside.tasks.tasks.rows in
     let t = c.in-Some.task.now in
-    has_room ts t c.given-task.result c.self.invariant.rising (next_there ts t c.self.invariant.rising (sym c.in-Some.ensures)) (ap task_id c.given-task.ensures) c.self.inside.tasks.lists c.self.invariant.room
+    has_room ts t c.given-task.result c.self.invariant.rising (next_there ts t c.self.invariant.rising (sym c.in-Some.ensures)) (ap task_id c.given-task.ensures) c.self.inside.tasks.lists c.self.invariant.capacity
 
 pub returns-clause-gives : goal.returns-clause-gives
 returns-clause-gives c =

@@ -8,13 +8,13 @@ pub put-requires-clause-space : goal.put-requires-clause-space
 put-requires-clause-space c =
     let ts = c.self.inside.tasks.tasks.rows in
     let t = c.in-Some.task.now in
-    has_space ts t c.acked-task.result c.self.invariant.rising (found_own c.args.eval.now ts t (sym c.in-Some.ensures)) (ap task_id c.acked-task.ensures) c.self.inside.tasks.tasks.room
+    has_space ts t c.acked-task.result c.self.invariant.rising (found_own c.args.eval.now ts t (sym c.in-Some.ensures)) (ap task_id c.acked-task.ensures) c.self.inside.tasks.tasks.capacity
 
-pub put-requires-clause-room : goal.put-requires-clause-room
-put-requires-clause-room c =
+pub put-requires-clause-capacity : goal.put-requires-clause-capacity
+put-requires-clause-capacity c =
     let ts = c.self.inside.tasks.tasks.rows in
     let t = c.in-Some.task.now in
-    has_room ts t c.acked-task.result c.self.invariant.rising (found_own c.args.eval.now ts t (sym c.in-Some.ensures)) (ap task_id c.acked-task.ensures) c.self.inside.tasks.lists c.self.invariant.room
+    has_room ts t c.acked-task.result c.self.invariant.rising (found_own c.args.eval.now ts t (sym c.in-Some.ensures)) (ap task_id c.acked-task.ensures) c.self.inside.tasks.lists c.self.invariant.capacity
 
 pub returns-in-Some : goal.returns-in-Some
 returns-in-Some c =

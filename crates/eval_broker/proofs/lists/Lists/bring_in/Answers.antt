@@ -8,19 +8,19 @@ use Rattle.eval_broker.specs.declared.ranks.Rank.{Rank}
 use Rattle.eval_broker.specs.declared.ranks.Head.{Head}
 use Rattle.eval_broker.specs.Answers.{urgency_of}
 use Rattle.eval_broker.specs.Inner.Lists.{rank_cmp, head_cmp, is_failed, head_of, AreHeadsBut}
-use Rattle.eval_broker.proofs.Heads.{head_room}
+use Rattle.eval_broker.proofs.Heads.{head_capacity}
 use Rattle.eval_broker.proofs.Relisting.{heads_in, ranks_in, failed_in, rank_spare, failed_spare, all_listed, none_comes}
 use Rattle.eval_broker.proofs.lists.Lists.bring_in.Goals as goal
 
 pub put-requires : goal.put-requires
 put-requires c =
-    subst (λ (s : Stock Rank). T (has_row rank_cmp (λ x. x) c.rank.result s.rows || nat_lt (length s.rows) s.room)) (sym c.drop_head.ensures.ranks)
-    (rank_spare c.args.id.now c.args.tasks.now.rows c.in-Some.task.now c.requires.rising (sym c.in-Some.ensures) c.rank.result c.args.self.now.ranks.rows c.args.self.now.ranks.room c.requires.listed.ranks c.requires.room.ranks)
+    subst (λ (s : Stock Rank). T (has_row rank_cmp (λ x. x) c.rank.result s.rows || nat_lt (length s.rows) s.capacity)) (sym c.drop_head.ensures.ranks)
+    (rank_spare c.args.id.now c.args.tasks.now.rows c.in-Some.task.now c.requires.rising (sym c.in-Some.ensures) c.rank.result c.args.self.now.ranks.rows c.args.self.now.ranks.capacity c.requires.listed.ranks c.requires.capacity.ranks)
 
 pub add_failed-requires : goal.add_failed-requires
 add_failed-requires c =
-    subst (λ (s : Stock Urgency). T (has_row urgency_cmp (λ x. x) (urgency_of c.in-Some.task.now) s.rows || nat_lt (length s.rows) s.room)) (sym c.drop_head.ensures.failed)
-    (failed_spare c.args.id.now c.args.tasks.now.rows c.in-Some.task.now c.requires.rising (sym c.in-Some.ensures) (urgency_of c.in-Some.task.now) c.args.self.now.failed.rows c.args.self.now.failed.room c.requires.listed.failed c.requires.room.failed)
+    subst (λ (s : Stock Urgency). T (has_row urgency_cmp (λ x. x) (urgency_of c.in-Some.task.now) s.rows || nat_lt (length s.rows) s.capacity)) (sym c.drop_head.ensures.failed)
+    (failed_spare c.args.id.now c.args.tasks.now.rows c.in-Some.task.now c.requires.rising (sym c.in-Some.ensures) (urgency_of c.in-Some.task.now) c.args.self.now.failed.rows c.args.self.now.failed.capacity c.requires.listed.failed c.requires.capacity.failed)
 
 pub add_head-requires-clause-heads : goal.add_head-requires-clause-heads
 add_head-requires-clause-heads c =
@@ -28,14 +28,14 @@ add_head-requires-clause-heads c =
     subst (λ (s : Stock Head). AreHeadsBut c.job-job.result c.add_failed.new.self.ranks.rows s.rows) (sym c.add_failed.ensures.heads)
     (heads_in c.job-job.result c.in-Some.task.now c.rank.result c.args.self.now.ranks.rows c.add_failed.new.self.ranks.rows c.drop_head.new.self.heads.rows c.job-job.ensures c.rank.ensures to c.drop_head.ensures.heads)
 
-pub add_head-requires-clause-room : goal.add_head-requires-clause-room
-add_head-requires-clause-room c =
+pub add_head-requires-clause-capacity : goal.add_head-requires-clause-capacity
+add_head-requires-clause-capacity c =
     let ts = c.args.tasks.now.rows in
     let task = c.in-Some.task.now in
     let to = ap (λ (s : Stock Rank). s.rows) c.add_failed.ensures.ranks ∙ c.put.ensures.rows ∙ (λ i. put rank_cmp (λ x. x) c.rank.result (c.drop_head.ensures.ranks i).rows) in
-    let most : length ts ≤ c.drop_head.new.self.heads.room = omega (arith, c.requires.room.heads, c.drop_head.ensures.room) in
-    subst (λ (s : Stock Head). IfSome (head_of c.job-job.result c.add_failed.new.self.ranks.rows) (λ h. T (has_row head_cmp (λ t. t) h s.rows || nat_lt (length s.rows) s.room))) (sym c.add_failed.ensures.heads)
-    (head_room c.job-job.result ts c.add_failed.new.self.ranks.rows c.drop_head.new.self.heads.rows c.drop_head.new.self.heads.room most
+    let most : length ts ≤ c.drop_head.new.self.heads.capacity = omega (arith, c.requires.capacity.heads, c.drop_head.ensures.capacity) in
+    subst (λ (s : Stock Head). IfSome (head_of c.job-job.result c.add_failed.new.self.ranks.rows) (λ h. T (has_row head_cmp (λ t. t) h s.rows || nat_lt (length s.rows) s.capacity))) (sym c.add_failed.ensures.heads)
+    (head_capacity c.job-job.result ts c.add_failed.new.self.ranks.rows c.drop_head.new.self.heads.rows c.drop_head.new.self.heads.capacity most
     (ranks_in c.args.id.now ts task c.requires.rising (sym c.in-Some.ensures) c.rank.result c.args.self.now.ranks.rows c.add_failed.new.self.ranks.rows c.rank.ensures to c.requires.listed.ranks)
     (heads_in c.job-job.result task c.rank.result c.args.self.now.ranks.rows c.add_failed.new.self.ranks.rows c.drop_head.new.self.heads.rows c.job-job.ensures c.rank.ensures to c.drop_head.ensures.heads))
 

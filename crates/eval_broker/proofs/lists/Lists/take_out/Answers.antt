@@ -4,7 +4,7 @@ use Rattle.fsm_tables.specs.ReservedTables.{without}
 use Rattle.fsm_tables.specs.Urgencies.{urgency_cmp}
 use Rattle.group_model.specs.Brokers.{task_id}
 use Rattle.eval_broker.specs.Inner.Lists.{rank_cmp}
-use Rattle.eval_broker.proofs.Heads.{head_room}
+use Rattle.eval_broker.proofs.Heads.{head_capacity}
 use Rattle.eval_broker.proofs.Relisting.{heads_out, ranks_out, failed_out, all_listed, none_goes, no_more}
 use Rattle.eval_broker.proofs.lists.Lists.take_out.Goals as goal
 
@@ -13,15 +13,15 @@ add_head-requires-clause-heads c =
     heads_out c.job-job.result c.in-Some.task.now c.rank.result c.args.self.now.ranks.rows c.cut.new.self.rows c.drop_head.new.self.heads.rows c.job-job.ensures c.rank.ensures
     (c.cut.ensures.rows ∙ (λ i. without rank_cmp (λ x. x) c.rank.result (c.drop_head.ensures.ranks i).rows)) c.drop_head.ensures.heads
 
-pub add_head-requires-clause-room : goal.add_head-requires-clause-room
-add_head-requires-clause-room c =
+pub add_head-requires-clause-capacity : goal.add_head-requires-clause-capacity
+add_head-requires-clause-capacity c =
     let ts = c.args.tasks.now.rows in
     let id = c.args.id.now in
     let task = c.in-Some.task.now in
     let to = c.cut.ensures.rows ∙ (λ i. without rank_cmp (λ x. x) c.rank.result (c.drop_head.ensures.ranks i).rows) in
     let few : length (without eval_cmp task_id id ts) ≤ length ts = no_more id ts in
-    let most : length (without eval_cmp task_id id ts) ≤ c.drop_head.new.self.heads.room = omega (arith, few, c.requires.room.heads, c.drop_head.ensures.room) in
-    head_room c.job-job.result (without eval_cmp task_id id ts) c.cut.new.self.rows c.drop_head.new.self.heads.rows c.drop_head.new.self.heads.room most
+    let most : length (without eval_cmp task_id id ts) ≤ c.drop_head.new.self.heads.capacity = omega (arith, few, c.requires.capacity.heads, c.drop_head.ensures.capacity) in
+    head_capacity c.job-job.result (without eval_cmp task_id id ts) c.cut.new.self.rows c.drop_head.new.self.heads.rows c.drop_head.new.self.heads.capacity most
     (ranks_out id ts task c.rank.result c.args.self.now.ranks.rows c.cut.new.self.rows (sym c.in-Some.ensures) c.rank.ensures to c.requires.listed.ranks)
     (heads_out c.job-job.result task c.rank.result c.args.self.now.ranks.rows c.cut.new.self.rows c.drop_head.new.self.heads.rows c.job-job.ensures c.rank.ensures to c.drop_head.ensures.heads)
 

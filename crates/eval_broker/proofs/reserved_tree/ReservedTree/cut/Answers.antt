@@ -10,5 +10,5 @@ invariant_of-self g c =
     let key = g.T.Row.key_of in
     record {
       rising = subst (λ zs. T (is_rising R key zs)) (sym c.cut.ensures.rows) (rising_without R key g.met.T.Key.Ord.total c.args.key.now (tree_rows c.self.inside.tree) c.self.invariant.rising);
-      room = c.self.invariant.room ∙ sym c.cut.ensures.kept;
+      capacity = c.self.invariant.capacity ∙ sym c.cut.ensures.kept;
     }

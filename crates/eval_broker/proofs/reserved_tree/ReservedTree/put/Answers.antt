@@ -10,5 +10,5 @@ invariant_of-self g c =
     let key = g.T.Row.key_of in
     record {
       rising = subst (λ zs. T (is_rising R key zs)) (sym c.put.ensures.rows) (rising_put R key g.met.T.Key.Ord.total c.args.row (tree_rows c.self.inside.tree) c.self.invariant.rising);
-      room = c.self.invariant.room ∙ sym c.put.ensures.kept;
+      capacity = c.self.invariant.capacity ∙ sym c.put.ensures.kept;
     }

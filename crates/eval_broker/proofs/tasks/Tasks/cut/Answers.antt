@@ -4,9 +4,9 @@ use Rattle.rows.proofs.KeyLaws.{eval_cmp_total}
 use Rattle.rows.specs.Rising.{is_rising}
 use Rattle.fsm_tables.proofs.ReservedTables.{rising_without}
 use Rattle.group_model.specs.Brokers.{Task, task_id}
-use Rattle.eval_broker.specs.Inner.Lists.{AreTaskLists, HaveRoom}
+use Rattle.eval_broker.specs.Inner.Lists.{AreTaskLists, HaveCapacity}
 use Rattle.eval_broker.proofs.Relisting.{no_more}
-use Rattle.eval_broker.proofs.Stored.{room_kept, no_loss}
+use Rattle.eval_broker.proofs.Stored.{capacity_kept, no_loss}
 use Rattle.fsm_tables.specs.ReservedTables.{without}
 use Rattle.eval_broker.proofs.tasks.Tasks.cut.Goals as goal
 
@@ -17,6 +17,6 @@ returns-clause-kept c =
     record {
       rising = subst (λ (us : List Task). T (is_rising eval_cmp task_id us)) (sym c.cut.ensures.rows) (rising_without eval_cmp task_id eval_cmp_total id ts c.requires.kept.rising);
       listed = subst (λ (us : List Task). AreTaskLists us c.take_out.new.self) (sym c.cut.ensures.rows) c.take_out.ensures.listed;
-      room = subst (λ (us : List Task). HaveRoom (length us) c.take_out.new.self) (sym c.cut.ensures.rows)
-          (room_kept (length ts) (length (without eval_cmp task_id id ts)) c.args.self.now.lists c.args.self.now.lists c.take_out.new.self (no_more id ts) c.requires.kept.room (no_loss c.args.self.now.lists) c.take_out.ensures.kept);
+      capacity = subst (λ (us : List Task). HaveCapacity (length us) c.take_out.new.self) (sym c.cut.ensures.rows)
+          (capacity_kept (length ts) (length (without eval_cmp task_id id ts)) c.args.self.now.lists c.args.self.now.lists c.take_out.new.self (no_more id ts) c.requires.kept.capacity (no_loss c.args.self.now.lists) c.take_out.ensures.kept);
     }

@@ -6,8 +6,8 @@ use Rattle.fsm_tables.specs.Rows.{put}
 use Rattle.fsm_tables.proofs.RowLaws.{rising_put}
 use Rattle.fsm_tables.specs.ReservedTables.{without}
 use Rattle.group_model.specs.Brokers.{Task, task_id}
-use Rattle.eval_broker.specs.Inner.Lists.{AreTaskLists, HaveRoom}
-use Rattle.eval_broker.proofs.Stored.{put_without, room_kept, no_loss}
+use Rattle.eval_broker.specs.Inner.Lists.{AreTaskLists, HaveCapacity}
+use Rattle.eval_broker.proofs.Stored.{put_without, capacity_kept, no_loss}
 use Rattle.eval_broker.proofs.tasks.Tasks.put.Goals as goal
 
 pub bring_in-requires-clause-rising : goal.bring_in-requires-clause-rising
@@ -22,10 +22,10 @@ bring_in-requires-clause-listed c =
     ∙ (λ i. without eval_cmp task_id (sym c.id-id.ensures i) (sym c.put.ensures.rows i)) in
     subst (λ us. AreTaskLists us c.take_out.new.self) same c.take_out.ensures.listed
 
-pub bring_in-requires-clause-room : goal.bring_in-requires-clause-room
-bring_in-requires-clause-room c =
-    subst (λ (ts : List Task). HaveRoom (length ts) c.take_out.new.self) (sym c.put.ensures.rows)
-    (room_kept (length (put eval_cmp task_id c.args.task c.args.self.now.tasks.rows)) (length (put eval_cmp task_id c.args.task c.args.self.now.tasks.rows)) c.args.self.now.lists c.args.self.now.lists c.take_out.new.self (omega arith) c.requires.room (no_loss c.args.self.now.lists) c.take_out.ensures.kept)
+pub bring_in-requires-clause-capacity : goal.bring_in-requires-clause-capacity
+bring_in-requires-clause-capacity c =
+    subst (λ (ts : List Task). HaveCapacity (length ts) c.take_out.new.self) (sym c.put.ensures.rows)
+    (capacity_kept (length (put eval_cmp task_id c.args.task c.args.self.now.tasks.rows)) (length (put eval_cmp task_id c.args.task c.args.self.now.tasks.rows)) c.args.self.now.lists c.args.self.now.lists c.take_out.new.self (omega arith) c.requires.capacity (no_loss c.args.self.now.lists) c.take_out.ensures.kept)
 
 pub returns-clause-kept : goal.returns-clause-kept
 returns-clause-kept c =
@@ -33,6 +33,6 @@ returns-clause-kept c =
     record {
       rising = subst (λ (ts : List Task). T (is_rising eval_cmp task_id ts)) (sym c.put.ensures.rows) (rising_put eval_cmp task_id eval_cmp_total c.args.task c.args.self.now.tasks.rows c.requires.kept.rising);
       listed = c.bring_in.ensures.listed;
-      room = subst (λ (ts : List Task). HaveRoom (length ts) c.bring_in.new.self) (sym c.put.ensures.rows)
-          (room_kept (length new) (length new) c.args.self.now.lists c.take_out.new.self c.bring_in.new.self (omega arith) c.requires.room c.take_out.ensures.kept c.bring_in.ensures.kept);
+      capacity = subst (λ (ts : List Task). HaveCapacity (length ts) c.bring_in.new.self) (sym c.put.ensures.rows)
+          (capacity_kept (length new) (length new) c.args.self.now.lists c.take_out.new.self c.bring_in.new.self (omega arith) c.requires.capacity c.take_out.ensures.kept c.bring_in.ensures.kept);
     }

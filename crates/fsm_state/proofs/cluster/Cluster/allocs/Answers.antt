@@ -2,7 +2,7 @@ use Rattle.std.proofs.Common.{T, List}
 use Rattle.rows.specs.declared.allocation.Allocation.{Allocation}
 use Rattle.rows.specs.Keys.{alloc_cmp, alloc_id}
 use Rattle.rows.specs.Rising.{is_rising}
-use Rattle.fsm_state.proofs.Turns.{given_rows}
+use Rattle.fsm_state.proofs.Retold.{given_rows}
 use Rattle.fsm_state.proofs.cluster.Cluster.allocs.Goals as goal
 
 pub returns-clause-rising : goal.returns-clause-rising

@@ -3,14 +3,14 @@ use Rattle.cluster_model.specs.Effect.{touched, is_named}
 use Rattle.fsm_state.proofs.StepLaws.{stopped_job}
 use Rattle.cluster_model.specs.Words.{job_of}
 use Rattle.fsm_state.proofs.InPlace.{on_err, none_changed}
-use Rattle.fsm_state.proofs.Turns.{turned}
+use Rattle.fsm_state.proofs.Retold.{retold}
 use Rattle.fsm_state.proofs.cluster.Cluster.job_stop.Goals as goal
 
 pub returns-clause-ok : goal.returns-clause-ok
 returns-clause-ok c =
     let s = c.args.self.now in
     let name = c.args.name.now in
-    turned c.touch.result c.touch.new.self _ _
+    retold c.touch.result c.touch.new.self _ _
     (ap (touched (is_named name)) c.in_ok-end_job.ensures.ok
     ∙ (λ i. touched (is_named name) (record s { jobs = stopped_job s.count name s.jobs c.ranges-2.ensures.tables.jobs.rising i })))
     c.touch.ensures.ok

@@ -3,7 +3,7 @@ use Rattle.std.specs.Ordering.{nat_cmp}
 use Rattle.rows.specs.declared.node.Node.{Node}
 use Rattle.rows.specs.Keys.{node_number}
 use Rattle.rows.specs.Rising.{is_rising}
-use Rattle.fsm_state.proofs.Turns.{given_rows}
+use Rattle.fsm_state.proofs.Retold.{given_rows}
 use Rattle.fsm_state.proofs.cluster.Cluster.nodes.Goals as goal
 
 pub returns-clause-rising : goal.returns-clause-rising

@@ -2,7 +2,7 @@ use Rattle.std.proofs.Common.{◌≡◌, sym, ap, ◌∙◌}
 use Rattle.cluster_model.specs.Words.{State}
 use Rattle.cluster_model.specs.Effect.{altered, told_all, owns, is_ended_by}
 use Rattle.fsm_state.proofs.StopLaws.{told_is, told_jobs}
-use Rattle.fsm_state.proofs.Turns.{turned, touched_both}
+use Rattle.fsm_state.proofs.Retold.{retold, touched_both}
 use Rattle.fsm_state.proofs.cluster.Cluster.report.Goals as goal
 
 pub touch_all-requires : goal.touch_all-requires
@@ -17,6 +17,6 @@ returns c =
     let n = c.args.node in
     let rs = c.args.reports.now in
     let e : c.take_reports.new.self ≡ altered (told_all n rs) s = c.in_ok-names.ensures.state ∙ told_is n rs s (record { nodes = c.ranges-2.ensures.tables.nodes.rising; allocs = c.ranges-2.ensures.tables.allocs.rising }) in
-    turned c.touch_all.result c.touch_all.new.self _ _
+    retold c.touch_all.result c.touch_all.new.self _ _
     (touched_both (owns (is_ended_by (told_all n rs)) s.allocs) _ _ _ (λ j. told_jobs n rs s (record { nodes = c.ranges-2.ensures.tables.nodes.rising; allocs = c.ranges-2.ensures.tables.allocs.rising }) j ∙ sym (c.in_ok-names.ensures.names j.name)) e)
     c.touch_all.ensures

@@ -1,7 +1,7 @@
 use Rattle.cluster_model.specs.Effect.{with_evals}
 use Rattle.fsm_state.specs.Inner.Steps.{is_named_in}
 use Rattle.fsm_state.proofs.Touching.{jobs_are, few_at}
-use Rattle.fsm_state.proofs.Turns.{turned}
+use Rattle.fsm_state.proofs.Retold.{retold}
 use Rattle.fsm_state.proofs.cluster.Cluster.touch_all.Goals as goal
 
 pub touch_each-requires-clause-few : goal.touch_each-requires-clause-few
@@ -14,4 +14,4 @@ pub returns : goal.returns
 returns c =
     let s = c.args.self.now in
     let are = jobs_are c.args.names.now s.jobs c.ranges-2.ensures.tables.jobs.rising c.len-count.ensures.ordered in
-    turned c.touch_each.result c.touch_each.new.self _ _ (λ i. record s { evals = with_evals s.count 0 (are i) s.evals }) c.touch_each.ensures
+    retold c.touch_each.result c.touch_each.new.self _ _ (λ i. record s { evals = with_evals s.count 0 (are i) s.evals }) c.touch_each.ensures

@@ -5,5 +5,5 @@ use Rattle.lossy_net.proofs.net.Net.new.Given as goal
 abbrev pub invariant-loop-actor : goal.invariant-loop-actor
 invariant-loop-actor g l = record {
   actors : map (λ m. m.actor) l.mailboxes.items ≡ take l.actor-index l.actors;
-  rooms : map (λ m. queue_capacity m.queue) l.mailboxes.items ≡ replicate l.actor-index l.room;
+  capacities : map (λ m. queue_capacity m.queue) l.mailboxes.items ≡ replicate l.actor-index l.capacity;
 }

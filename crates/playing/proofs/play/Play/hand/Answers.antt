@@ -7,5 +7,5 @@ returns-then-not-has_work-clause-handed c = none_came c.args.self.now.world c.ar
 
 pub returns-clause-handed : goal.returns-clause-handed
 returns-clause-handed c =
-    came c.args.self.now.world c.args.server c.place-2.result c.args.self.now.workers c.index-self-place-2.result c.admit.new.self
-    (search rules) c.place-2.ensures.value c.place-2.ensures.limit c.index-self-place-2.is c.if-not-is_up.ensures c.take_work-work.result c.take_work-work.ensures.work c.admit.result (search rules) (search rules)
+    came c.args.self.now.world c.args.server c.position-2.result c.args.self.now.workers c.index-self-position-2.result c.admit.new.self
+    (search rules) c.position-2.ensures.value c.position-2.ensures.limit c.index-self-position-2.is c.if-not-is_up.ensures c.take_work-work.result c.take_work-work.ensures.work c.admit.result (search rules) (search rules)

@@ -5,6 +5,6 @@ use Rattle.playing.proofs.play.Play.work.Goals as goal
 
 pub returns-clause-refused : goal.returns-clause-refused
 returns-clause-refused c =
-    let asks = rw (← c.index-self-place.is) at c.in_ok-input.ensures in
-    ask_refused c.args.self.now c.place.result c.args.server c.index-self-place.result c.asked.new.workers c.in_ok-input.field-0
-    (search rules) c.place.ensures.value c.place.ensures.limit c.index-self-place.is asks c.in-Some.input c.in-Some.is (group_event c.in_ok-event.event) c.in_ok-event.ensures c.event.new.self c.event.result c.event.ensures.refused
+    let asks = rw (← c.index-self-position.is) at c.in_ok-input.ensures in
+    ask_refused c.args.self.now c.position.result c.args.server c.index-self-position.result c.asked.new.workers c.in_ok-input.field-0
+    (search rules) c.position.ensures.value c.position.ensures.limit c.index-self-position.is asks c.in-Some.input c.in-Some.is (group_event c.in_ok-event.event) c.in_ok-event.ensures c.event.new.self c.event.result c.event.ensures.refused

@@ -1,5 +1,5 @@
 use Rattle.std.proofs.Common.{◌≡◌, ◌≤◌, true, false, arith, refl, sym, ap, ◌∙◌}
-use Rattle.raft_model.specs.Servers.{is_leader}
+use Rattle.raft_model.specs.Rafts.{is_leader}
 use Rattle.raft_snapshot.proofs.Applies.{on_ok}
 use Rattle.raft_core.proofs.Lives.{term_up}
 use Rattle.raft_core.proofs.Sends.{sends-none}

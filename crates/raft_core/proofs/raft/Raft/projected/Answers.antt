@@ -1,5 +1,5 @@
 use Rattle.std.proofs.Common.{rules, ◌≡◌, true, refl}
-use Rattle.raft_model.specs.Servers.{is_leader}
+use Rattle.raft_model.specs.Rafts.{is_leader}
 use Rattle.raft_core.proofs.Fills.{whole_each}
 use Rattle.raft_core.proofs.raft.Raft.projected.Goals as goal
 

@@ -16,6 +16,6 @@ returns-clause-taken g c =
     let m = g.M.Machine.meaning in
     let old = c.args.self.now in
     let term : old.server.term + 1 < 2 ^ 40 = search rules in
-    let room : length old.server.log + 1 < 2 ^ 40 = search rules in
-    let stands = other_stands m old.size old.me old.server c.requires (sym c.is_leader.ensures ∙ c.if-is_leader.false) term room in
+    let index_left : length old.server.log + 1 < 2 ^ 40 = search rules in
+    let stands = other_stands m old.size old.me old.server c.requires (sym c.is_leader.ensures ∙ c.if-is_leader.false) term index_left in
     steps_by m old c.stand.new.self c.args.outbox.now c.stand.new.outbox Timeout _ stands c.in_ok-stand.ensures.taken

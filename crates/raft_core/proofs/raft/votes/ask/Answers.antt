@@ -1,23 +1,23 @@
 use Rattle.std.proofs.Common.{◌≢◌, sym, ◌∙◌}
 use Rattle.raft_core.proofs.Sends.{asks_none, asks_skip, asks_next, sent_front, sent_all}
 use Rattle.raft_core.proofs.raft.votes.ask.Goals as goal
-use Rattle.raft_core.proofs.raft.votes.ask.Goals.{then-place+in_ok-send, else-place}
+use Rattle.raft_core.proofs.raft.votes.ask.Goals.{then-position+in_ok-send, else-position}
 
-pub loop-place-init : goal.loop-place-init
-loop-place-init g c = record { sent = asks_none g.M.Machine.meaning c.args.me _ c.args.outbox.now; front = sent_all c.args.outbox.now }
+pub loop-position-init : goal.loop-position-init
+loop-position-init g c = record { sent = asks_none g.M.Machine.meaning c.args.me _ c.args.outbox.now; front = sent_all c.args.outbox.now }
 
-pub loop-place-preserved : goal.loop-place-preserved
-loop-place-preserved g c =
+pub loop-position-preserved : goal.loop-position-preserved
+loop-position-preserved g c =
     let m = g.M.Machine.meaning in
     let me = c.args.me in
-    let place = c.loop-place.place in
-    elim c.if-place.branch [
-      | then-place+in_ok-send w ↦
-          let other : place ≢ me = λ e. w.if-place.true (e ∙ sym c.place.ensures.value) in
+    let position = c.loop-position.position in
+    elim c.if-position.branch [
+      | then-position+in_ok-send w ↦
+          let other : position ≢ me = λ e. w.if-position.true (e ∙ sym c.position.ensures.value) in
           let one = rw w.server_at.ensures at w.in_ok-send.ensures.ok in
-          let all = asks_next m me _ c.args.outbox.now c.loop-place.outbox w.send.new.outbox place other c.loop-place.invariant.sent one in
+          let all = asks_next m me _ c.args.outbox.now c.loop-position.outbox w.send.new.outbox position other c.loop-position.invariant.sent one in
           rw w.outbox-is (record { sent = all; front = sent_front m c.args.outbox.now w.send.new.outbox _ all })
-      | else-place w ↦
-          let all = asks_skip m me _ c.args.outbox.now c.loop-place.outbox place (w.if-place.false ∙ c.place.ensures.value) c.loop-place.invariant.sent in
-          rw w.outbox-is (record { sent = all; front = c.loop-place.invariant.front })
+      | else-position w ↦
+          let all = asks_skip m me _ c.args.outbox.now c.loop-position.outbox position (w.if-position.false ∙ c.position.ensures.value) c.loop-position.invariant.sent in
+          rw w.outbox-is (record { sent = all; front = c.loop-position.invariant.front })
     ]

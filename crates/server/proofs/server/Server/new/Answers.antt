@@ -1,5 +1,5 @@
 use Rattle.std.proofs.Common.{refl}
-use Rattle.raft_model.specs.Servers.{newcomer}
+use Rattle.raft_model.specs.Rafts.{newcomer}
 use Rattle.raft_snapshot.proofs.Whole.{empty_whole}
 use Rattle.cluster_model.specs.ClusterMachine.{cluster_meaning}
 use Rattle.server.proofs.server.Server.new.Goals as goal

@@ -1,8 +1,8 @@
 use Rattle.std.proofs.Common.{◌≡◌, true, sym, ap, subst, ◌∙◌}
 use Rattle.server.specs.ServerViews.{ServerView}
 use Rattle.server.specs.Refusals.{HasOpenDesk}
-use Rattle.server.specs.Inner.Acts.{EachMember, EachDoes, act_of}
-use Rattle.raft_model.specs.Servers.{Server, is_leader}
+use Rattle.server.specs.Inner.Acts.{EachServer, EachDoes, act_of}
+use Rattle.raft_model.specs.Rafts.{Raft, is_leader}
 use Rattle.group_model.specs.Inputs.{PlanTurn}
 use Rattle.server.proofs.Plans.{answer_rises, plan_settled, plan_none, still_open}
 use Rattle.server.proofs.server.Server.plan_turn.Goals as goal
@@ -13,7 +13,7 @@ settle-requires-clause-serves c =
     let e : held ≡ c.args.self.now = rw (← c.self-inside.view_is) at c.self.view_is in
     let serves = subst (λ (v : ServerView). is_leader v.raft.server.mode ≡ true) (sym e) c.in_ok-open_desk.ensures.serves.leads in
     let whole = c.in_ok-judged.ensures.whole in
-    record { leads = ap (λ (s : Server _). is_leader s.mode) c.judge_first.ensures.same.server ∙ serves; is_open = still_open whole.0 _ _ _ whole.1 }
+    record { leads = ap (λ (s : Raft _). is_leader s.mode) c.judge_first.ensures.same.server ∙ serves; is_open = still_open whole.0 _ _ _ whole.1 }
 
 pub settle-requires-clause-rises : goal.settle-requires-clause-rises
 settle-requires-clause-rises c =
@@ -25,7 +25,7 @@ returns-in_ok-settle-in-Some-clause-taken c =
     let held : ServerView = record { raft = c.self-inside.inside.0.1.0; desk = c.self-inside.inside.0.1.1.0.desk } in
     let e : held ≡ c.args.self.now = rw (← c.self-inside.view_is) at c.self.view_is in
     let mid : ServerView = record { raft = c.judge_first.new.raft; desk = c.judge_first.new.desk } in
-    let h = subst (λ (v : ServerView). EachMember v (λ s. HasOpenDesk s)) (sym e) c.in_ok-open_desk.ensures.open in
+    let h = subst (λ (v : ServerView). EachServer v (λ s. HasOpenDesk s)) (sym e) c.in_ok-open_desk.ensures.open in
     subst (λ (v : ServerView). EachDoes v (act_of v PlanTurn) c.settle.new.self c.args.outbox.now c.settle.new.outbox) e
     (plan_settled held mid c.settle.new.self c.args.outbox.now c.settle.new.outbox c.in_ok-judged.field-0 h c.judge_first.ensures.same (λ s is. c.in_ok-judged.ensures.turn s.raft is.raft) c.in-Some.judged c.in-Some.is c.in_ok-settle-in-Some.ensures.taken)
 
@@ -34,6 +34,6 @@ returns-in-None-clause-taken c =
     let held : ServerView = record { raft = c.self-inside.inside.0.1.0; desk = c.self-inside.inside.0.1.1.0.desk } in
     let e : held ≡ c.args.self.now = rw (← c.self-inside.view_is) at c.self.view_is in
     let mid : ServerView = record { raft = c.judge_first.new.raft; desk = c.judge_first.new.desk } in
-    let h = subst (λ (v : ServerView). EachMember v (λ s. HasOpenDesk s)) (sym e) c.in_ok-open_desk.ensures.open in
+    let h = subst (λ (v : ServerView). EachServer v (λ s. HasOpenDesk s)) (sym e) c.in_ok-open_desk.ensures.open in
     subst (λ (v : ServerView). EachDoes v (act_of v PlanTurn) mid c.args.outbox.now c.args.outbox.now) e
     (plan_none held mid mid c.args.outbox.now c.args.outbox.now c.in_ok-judged.field-0 h c.judge_first.ensures.same (λ s is. c.in_ok-judged.ensures.turn s.raft is.raft) c.in-None.is c.args.outbox.now)

@@ -4,10 +4,10 @@ use Rattle.rows.specs.declared.evaluation.EvalId.{EvalId}
 use Rattle.rows.specs.declared.command.Command.TheVariants as commands
 use Rattle.rows.specs.declared.command.StatusChange.TheVariants as changes
 use Rattle.group_model.specs.Inputs.{Reap}
-use Rattle.group_model.specs.Turns.{reap}
+use Rattle.group_model.specs.DeskTurns.{reap}
 use Rattle.server.specs.ServerViews.{ServerView}
 use Rattle.server.specs.Refusals.{HasOpenDesk}
-use Rattle.server.specs.Inner.Acts.{EachMember, proposes_if_any}
+use Rattle.server.specs.Inner.Acts.{EachServer, proposes_if_any}
 use Rattle.server.proofs.Serving.{act_taken}
 use Rattle.server.proofs.Turns.{turn_taken, turn_declined, turn_rests, reap_is, same_view, shut}
 use Rattle.server.proofs.server.Server.reap.Goals as goal
@@ -17,7 +17,7 @@ returns-in-Some-clause-taken c =
     let held : ServerView = record { raft = c.self-inside.inside.0.1.0; desk = c.self-inside.inside.0.1.1.0.desk } in
     let e : held ≡ c.args.self.now = rw (← c.self-inside.view_is) at c.self.view_is in
     let mid : ServerView = record { raft = c.first_reaped.new.raft; desk = held.desk } in
-    let h = subst (λ (v : ServerView). EachMember v (λ s. HasOpenDesk s)) (sym e) c.in_ok-open_desk.ensures.open in
+    let h = subst (λ (v : ServerView). EachServer v (λ s. HasOpenDesk s)) (sym e) c.in_ok-open_desk.ensures.open in
     rw (← e) (turn_taken held mid c.propose.new.self Reap (commands.EvalStatus c.in-Some.eval changes.Failed) (λ s is. reap_is held s is (h s is) c.in_ok-eval.field-0 (c.in_ok-eval.ensures.value s.raft is.raft) ∙ ap (λ (id : Option EvalId). act_taken (proposes_if_any s.desk (option_map (λ i. commands.EvalStatus i changes.Failed) id))) c.in-Some.is) (record { raft = c.first_reaped.ensures.same; desk = refl }) c.propose.result c.propose.ensures.taken)
 
 pub returns-in-Some-clause-stopped : goal.returns-in-Some-clause-stopped
@@ -25,7 +25,7 @@ returns-in-Some-clause-stopped c =
     let held : ServerView = record { raft = c.self-inside.inside.0.1.0; desk = c.self-inside.inside.0.1.1.0.desk } in
     let e : held ≡ c.args.self.now = rw (← c.self-inside.view_is) at c.self.view_is in
     let mid : ServerView = record { raft = c.first_reaped.new.raft; desk = held.desk } in
-    let h = subst (λ (v : ServerView). EachMember v (λ s. HasOpenDesk s)) (sym e) c.in_ok-open_desk.ensures.open in
+    let h = subst (λ (v : ServerView). EachServer v (λ s. HasOpenDesk s)) (sym e) c.in_ok-open_desk.ensures.open in
     rw (← e) (turn_declined held mid c.propose.new.self Reap (commands.EvalStatus c.in-Some.eval changes.Failed) (λ s is. reap_is held s is (h s is) c.in_ok-eval.field-0 (c.in_ok-eval.ensures.value s.raft is.raft) ∙ ap (λ (id : Option EvalId). act_taken (proposes_if_any s.desk (option_map (λ i. commands.EvalStatus i changes.Failed) id))) c.in-Some.is) (record { raft = c.first_reaped.ensures.same; desk = refl })
     (λ s is. (h s is).leads) (λ s is may. h s is) c.propose.result c.propose.ensures.refused c.propose.ensures.unchanged)
 
@@ -34,7 +34,7 @@ returns-in-None-clause-taken c =
     let held : ServerView = record { raft = c.self-inside.inside.0.1.0; desk = c.self-inside.inside.0.1.1.0.desk } in
     let e : held ≡ c.args.self.now = rw (← c.self-inside.view_is) at c.self.view_is in
     let mid : ServerView = record { raft = c.first_reaped.new.raft; desk = held.desk } in
-    let h = subst (λ (v : ServerView). EachMember v (λ s. HasOpenDesk s)) (sym e) c.in_ok-open_desk.ensures.open in
+    let h = subst (λ (v : ServerView). EachServer v (λ s. HasOpenDesk s)) (sym e) c.in_ok-open_desk.ensures.open in
     rw (← e) (turn_rests held mid Reap (λ s is. reap_is held s is (h s is) c.in_ok-eval.field-0 (c.in_ok-eval.ensures.value s.raft is.raft) ∙ ap (λ (id : Option EvalId). act_taken (proposes_if_any s.desk (option_map (λ i. commands.EvalStatus i changes.Failed) id))) c.in-None.is) (record { raft = c.first_reaped.ensures.same; desk = refl }))
 
 pub returns-in_err-open_desk-clause-stopped : goal.returns-in_err-open_desk-clause-stopped

@@ -1,12 +1,12 @@
 use Rattle.std.proofs.Common.{◌≡◌, ℕ, zero, suc, ◌<◌, ◌^◌, length, arith, refl, subst}
-use Rattle.world.specs.Events.{place_of}
+use Rattle.world.specs.Events.{position_of}
 use Rattle.world.proofs.group.history.place.Goals as goal
 
 not_both : (m n : ℕ) → m < n → n < m → ⊥
 not_both m n less more = omega (arith, less, more)
 
 -- no list in memory reaches the place of the number 0
-numbered : (k n : ℕ) → place_of k < n → n < 2 ^ 64 → k ≡ suc (place_of k)
+numbered : (k n : ℕ) → position_of k < n → n < 2 ^ 64 → k ≡ suc (position_of k)
 numbered zero n there few = absurd (not_both (2 ^ 64) n there few)
 numbered (suc k) n there few = refl
 

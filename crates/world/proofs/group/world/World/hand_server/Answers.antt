@@ -16,10 +16,10 @@ invariant_of-self c =
     let old : GroupView = record { servers = i.servers.items; clients = i.clients.items; outbox = i.history.outbox; trace = i.history.trace; chain = i.history.chain } in
     let past = c.hand_server.new.self in
     let after = c.hand_server.new.server in
-    let new : GroupView = record { servers = slice_set i.servers.items c.place.result after; clients = i.clients.items; outbox = past.outbox; trace = past.trace; chain = past.chain } in
-    let scene = own_scene old c.args.self.now c.args.me c.place.result view c.self.view_is c.self.invariant c.place.ensures.value c.requires.member c.index_mut-server.ensures.value c.args.input.value (rw c.as_ref.ensures at c.ranges-2.ensures) c.requires.own in
+    let new : GroupView = record { servers = slice_set i.servers.items c.position.result after; clients = i.clients.items; outbox = past.outbox; trace = past.trace; chain = past.chain } in
+    let scene = own_scene old c.args.self.now c.args.me c.position.result view c.self.view_is c.self.invariant c.position.ensures.value c.requires.member c.index_mut-server.ensures.value c.args.input.value (rw c.as_ref.ensures at c.ranges-2.ensures) c.requires.own in
     let r = server_acted old e c.args.me view h scene c.limits_are_kept.ensures c.senders_are_members.ensures (subst (λ (x : GroupView). IsGroupAwake x e) (sym c.self.view_is) c.requires.awake) new after
-    (ap (λ k. slice_set i.servers.items k after) c.place.ensures.value) refl c.hand_server.ensures.same c.hand_server.result c.hand_server.ensures.done in
+    (ap (λ k. slice_set i.servers.items k after) c.position.ensures.value) refl c.hand_server.ensures.same c.hand_server.result c.hand_server.ensures.done in
     r.world
 
 pub returns : goal.returns
@@ -31,9 +31,9 @@ returns c =
     let old : GroupView = record { servers = i.servers.items; clients = i.clients.items; outbox = i.history.outbox; trace = i.history.trace; chain = i.history.chain } in
     let past = c.hand_server.new.self in
     let after = c.hand_server.new.server in
-    let new : GroupView = record { servers = slice_set i.servers.items c.place.result after; clients = i.clients.items; outbox = past.outbox; trace = past.trace; chain = past.chain } in
-    let scene = own_scene old c.args.self.now c.args.me c.place.result view c.self.view_is c.self.invariant c.place.ensures.value c.requires.member c.index_mut-server.ensures.value c.args.input.value (rw c.as_ref.ensures at c.ranges-2.ensures) c.requires.own in
+    let new : GroupView = record { servers = slice_set i.servers.items c.position.result after; clients = i.clients.items; outbox = past.outbox; trace = past.trace; chain = past.chain } in
+    let scene = own_scene old c.args.self.now c.args.me c.position.result view c.self.view_is c.self.invariant c.position.ensures.value c.requires.member c.index_mut-server.ensures.value c.args.input.value (rw c.as_ref.ensures at c.ranges-2.ensures) c.requires.own in
     let r = server_acted old e c.args.me view h scene c.limits_are_kept.ensures c.senders_are_members.ensures (subst (λ (x : GroupView). IsGroupAwake x e) (sym c.self.view_is) c.requires.awake) new after
-    (ap (λ k. slice_set i.servers.items k after) c.place.ensures.value) refl c.hand_server.ensures.same c.hand_server.result c.hand_server.ensures.done in
+    (ap (λ k. slice_set i.servers.items k after) c.position.ensures.value) refl c.hand_server.ensures.same c.hand_server.result c.hand_server.ensures.done in
     let q = subst (λ (x : GroupView). GroupActed x e c.hand_server.result new) c.self.view_is r in
     q.stepped

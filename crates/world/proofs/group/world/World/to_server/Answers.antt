@@ -2,23 +2,23 @@ use Rattle.std.proofs.Common.{not, sym, ap, ◌∙◌}
 use Rattle.rows.specs.declared.refusal.Refusal.TheVariants as refusals
 use Rattle.raft_safety.proofs.Places.{get-within}
 use Rattle.group_model.specs.Worlds.{Deliver}
-use Rattle.world.specs.Events.{place_of}
+use Rattle.world.specs.Events.{position_of}
 use Rattle.world.proofs.GroupSleeping.{refused_at_once, receiver_absent, receiver_sleeps, receiver_awake}
 use Rattle.world.proofs.group.world.World.to_server.Goals as goal
 
 pub returns-in_default : goal.returns-in_default
 returns-in_default c =
-    refused_at_once c.args.self.now (Deliver (place_of c.args.k)) refusals.OutOfRange (λ e. cc)
-    (receiver_absent c.args.self.now (place_of c.args.k) c.args.me c.requires (sym c.in_default.ensures))
+    refused_at_once c.args.self.now (Deliver (position_of c.args.k)) refusals.OutOfRange (λ e. cc)
+    (receiver_absent c.args.self.now (position_of c.args.k) c.args.me c.requires (sym c.in_default.ensures))
 
 pub returns-then-is_none : goal.returns-then-is_none
 returns-then-is_none c =
-    refused_at_once c.args.self.now (Deliver (place_of c.args.k)) refusals.Down (λ e. cc)
-    (receiver_sleeps c.args.self.now (place_of c.args.k) c.args.me c.requires c.in-Some.server.now c.role.result (sym c.in-Some.ensures) c.role.ensures.value c.if-is_none.ensures)
+    refused_at_once c.args.self.now (Deliver (position_of c.args.k)) refusals.Down (λ e. cc)
+    (receiver_sleeps c.args.self.now (position_of c.args.k) c.args.me c.requires c.in-Some.server.now c.role.result (sym c.in-Some.ensures) c.role.ensures.value c.if-is_none.ensures)
 
 pub bring_to_server-requires-clause-member : goal.bring_to_server-requires-clause-member
 bring_to_server-requires-clause-member c = get-within c.args.self.now.servers c.args.me c.in-Some.server.now (sym c.in-Some.ensures)
 
 pub bring_to_server-requires-clause-awake : goal.bring_to_server-requires-clause-awake
 bring_to_server-requires-clause-awake c =
-    receiver_awake c.args.self.now (place_of c.args.k) c.args.me c.requires c.in-Some.server.now c.role.result (sym c.in-Some.ensures) c.role.ensures.value (c.is_none.ensures ∙ ap not c.if-is_none.false)
+    receiver_awake c.args.self.now (position_of c.args.k) c.args.me c.requires c.in-Some.server.now c.role.result (sym c.in-Some.ensures) c.role.ensures.value (c.is_none.ensures ∙ ap not c.if-is_none.false)
