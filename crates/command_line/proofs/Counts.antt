@@ -1,8 +1,8 @@
 -- Numbers of workers in the words of a command line, and the faults of words with one that is none.
-use Rattle.std.proofs.Common.{◌≡◌, ◌+◌, ◌≤◌, ◌&&◌, ◌⊎◌, inl, inr, ℕ, Bool, true, false, not, List, [], ◌∷◌, Option, Some, None, IsSomeAnd, ap, arith, codes, cond, is_some, refl, sym, true≢false}
+use Rattle.std.proofs.Common.{◌≡◌, ◌+◌, ◌≤◌, ◌&&◌, ◌⊎◌, inl, inr, ℕ, Bool, Result, Ok, Err, IfOk, IfErr, true, false, not, List, [], ◌∷◌, Option, Some, None, IsSomeAnd, ap, arith, codes, cond, is_some, refl, subst, sym, true≢false}
 use Rattle.std.proofs.lemmas.Bool.{le-leb}
 use Rattle.std.specs.Option.{option_map_or}
-use Rattle.clap.specs.Words.{HasKind, IsAmong, Kinds, Row, Text, first_of}
+use Rattle.clap.specs.Words.{FailsBy, HasKind, IsAmong, Kinds, Row, Text, first_of, kind_of}
 use Rattle.clap.specs.Kinds.{or_else}
 use Rattle.clap.specs.declared.error.Error.{Error}
 use Rattle.clap.specs.declared.error.kind.ErrorKind.{ErrorKind}
@@ -87,3 +87,17 @@ pub found_first : (found after : Kinds) (e : Error) → HasKind found e → HasK
 found_first [] after e (inl memory) = inl memory
 found_first [] after e (inr none) = absurd none
 found_first (k ∷ ks) after e has = has
+
+-- ---- what is answered where the matches have the subcommand that the words name
+
+pub named_by : (found named : Option (Text × List Row)) (r : Result CommandLine Error) → found ≡ named → IfOk r (IsNamedLine found) → IfOk r (IsNamedLine named)
+named_by found named (Ok line) same is = subst (λ n. IsNamedLine n line) same is
+named_by found named (Err e) same is = tt
+
+pub answers_by : (faults : Kinds) (found named : Option (Text × List Row)) (r : Result CommandLine Error) → faults ≡ [] → found ≡ named → is_line named ≡ true
+    → IfOk r (IsNamedLine found) → IfErr r (λ e. is_taken found ≡ false) → IfErr r (λ e. (kind_of e ≡ OutOfMemory) ⊎ (kind_of e ≡ ValueValidation))
+    → FailsBy (or_else faults (cond (miscounts named) (ValueValidation ∷ []) [])) r
+answers_by faults found named (Ok line) none same has is untaken kind = none_found faults (miscounts named) none (line_counts named line (subst (λ n. IsNamedLine n line) same is))
+answers_by faults found named (Err e) none same has is untaken (inl memory) = inl memory
+answers_by faults found named (Err e) none same has is untaken (inr kind) =
+    bad_count faults (miscounts named) (kind_of e) none (untaken_miscounts named has (subst (λ n. is_taken n ≡ false) same untaken)) kind

@@ -1,2 +1,3 @@
 -- Words of private contracts.
+pub mod Commands
 pub mod Lines

@@ -1,10 +1,11 @@
 //! The command line.
-ghost use Rattle.std.specs.Prelude.{◌≡◌, true, false, IfOk, IfErr, IfSome, IfNone, Some, map, codes, option_map};
-ghost use Rattle.clap.specs.Words.{FailsBy, app_of, first_of, found_of, kind_of, rows_of, rule_of, subcommand_rows_of};
+ghost use Rattle.std.specs.Prelude.{◌≡◌, ◌⊎◌, true, false, IfOk, IfErr, IfSome, IfNone, Some, map, codes, option_map};
+ghost use Rattle.clap.specs.Words.{App, FailsBy, Rule, app_of, first_of, found_of, kind_of, rows_of, rule_of, subcommand_rows_of, with_rule, with_subcommand};
 ghost use Rattle.clap.specs.declared.builder.command.Command.TheViews.{out-Command};
-ghost use Rattle.clap.specs.declared.error.kind.ErrorKind.TheVariants.{OutOfMemory};
+ghost use Rattle.clap.specs.declared.error.kind.ErrorKind.TheVariants.{OutOfMemory, ValueValidation};
+ghost use Rattle.command_line.specs.Inner.Commands.{IsMade};
 ghost use Rattle.command_line.specs.Inner.Lines.{is_line, is_taken};
-ghost use Rattle.command_line.specs.Words.{AreSweepWords, AreWorkers, AskFor, IsNamedLine, IsLineFor, are_sweep_words, are_workers, at_option, bare_app, check_app, csv_flag, draw_app, expand_app, html_flag, inspect_app, jobs_option, json_flag, keys_app, keys_option, nomadsim_app, out_option, percent_option, percents_app, replay_app, required_word, run_app, says_yes, sweep_app, tell_app, threads_app, words_fault, workers_option};
+ghost use Rattle.command_line.specs.Words.{AreSweepWords, AreWorkers, AskFor, IsNamedLine, IsLineFor, app_with, are_sweep_words, are_workers, at_option, bare_app, check_app, csv_flag, draw_app, expand_app, html_flag, inspect_app, jobs_option, json_flag, keys_app, keys_option, nomadsim_app, out_option, percent_option, percents_app, replay_app, required_word, run_app, says_yes, sweep_app, tell_app, threads_app, words_fault, workers_option};
 
 use crate::help::{
     ABOUT, CHECKS, DRAWS, ENDS, EXPANDS, INSPECTS, NO_COUNT, NO_KEYS, NO_NUMBER, REPLAYS, SCENARIO,
@@ -166,115 +167,141 @@ fn json_arg<'a>(alloc: Global) -> Arg<'a>
         .help("Prints one JSON object")
 }
 
-fn run_command<'a>(alloc: Global) -> Result<Command<'a>, Error>
-    ensures ok { IfOk result (λ c. (app_of c ≡ run_app) × ((out-Command c).has_globals ≡ false)) }
-    ensures err { IfErr result (λ e. kind_of e ≡ OutOfMemory) }
+// A subcommand of this name, with the word that it needs.
+fn begun<'a>(
+    alloc: Global,
+    name: &'a str,
+    about: &'a str,
+    after_help: &'a str,
+    id: &'a str,
+    help: &'a str,
+) -> Result<Command<'a>, Error>
+    ensures { IsMade (app_with name.now id.now) result }
 {
-    let file = needed(alloc, "FILE", SCENARIO);
-    let out = out_arg(alloc);
-    let command = Command::new(alloc, "run")
-        .about("Plays a scenario, and says how it ends")
-        .after_help(STEPS)
-        .arg(file)?
-        .arg(out)?;
+    let command = Command::new(alloc, name)
+        .about(about)
+        .after_help(after_help);
+    with_arg(Ok(command), needed(alloc, id, help))
+}
+
+// The command with one more argument, the last, where it could be made. Its callers have no `?`: a
+// check of one is dear where a `Command` is at hand.
+fn with_arg<'a>(command: Result<Command<'a>, Error>, arg: Arg<'a>) -> Result<Command<'a>, Error>
+    ensures { (app : App) (rule : Rule) → IsMade app command.entry → rule_of arg.entry ≡ rule
+        → arg.entry.global ≡ false → IsMade (with_rule app rule) result }
+{
+    let command = command?.arg(arg)?;
     Ok(command)
+}
+
+fn run_command<'a>(alloc: Global) -> Result<Command<'a>, Error>
+    ensures { IsMade run_app result }
+{
+    let command = begun(
+        alloc,
+        "run",
+        "Plays a scenario, and says how it ends",
+        STEPS,
+        "FILE",
+        SCENARIO,
+    );
+    with_arg(command, out_arg(alloc))
 }
 
 fn threads_command<'a>(alloc: Global) -> Result<Command<'a>, Error>
-    ensures ok { IfOk result (λ c. (app_of c ≡ threads_app)
-        × ((out-Command c).has_globals ≡ false)) }
-    ensures err { IfErr result (λ e. kind_of e ≡ OutOfMemory) }
+    ensures { IsMade threads_app result }
 {
-    let file = needed(alloc, "FILE", SCENARIO);
-    let workers = workers_arg(alloc);
-    let out = out_arg(alloc);
-    let command = Command::new(alloc, "threads")
-        .about("Plays a scenario on threads, and says how it ends")
-        .after_help(THREADS)
-        .arg(file)?
-        .arg(workers)?
-        .arg(out)?;
-    Ok(command)
+    let command = begun(
+        alloc,
+        "threads",
+        "Plays a scenario on threads, and says how it ends",
+        THREADS,
+        "FILE",
+        SCENARIO,
+    );
+    let command = with_arg(command, workers_arg(alloc));
+    with_arg(command, out_arg(alloc))
 }
 
 fn replay_command<'a>(alloc: Global) -> Result<Command<'a>, Error>
-    ensures ok { IfOk result (λ c. (app_of c ≡ replay_app)
-        × ((out-Command c).has_globals ≡ false)) }
-    ensures err { IfErr result (λ e. kind_of e ≡ OutOfMemory) }
+    ensures { IsMade replay_app result }
 {
-    let file = needed(alloc, "T", TRANSCRIPT);
-    let command = Command::new(alloc, "replay")
-        .about("Plays a transcript once more, and says how it ends")
-        .after_help(REPLAYS)
-        .arg(file)?;
-    Ok(command)
+    begun(
+        alloc,
+        "replay",
+        "Plays a transcript once more, and says how it ends",
+        REPLAYS,
+        "T",
+        TRANSCRIPT,
+    )
 }
 
 fn draw_command<'a>(alloc: Global) -> Result<Command<'a>, Error>
-    ensures ok { IfOk result (λ c. (app_of c ≡ draw_app) × ((out-Command c).has_globals ≡ false)) }
-    ensures err { IfErr result (λ e. kind_of e ≡ OutOfMemory) }
+    ensures { IsMade draw_app result }
 {
-    let file = needed(alloc, "T", TRANSCRIPT);
-    let html = html_arg(alloc);
-    let command = Command::new(alloc, "draw")
-        .about("Draws a transcript, as an SVG or as a page")
-        .after_help(DRAWS)
-        .arg(file)?
-        .arg(html)?;
-    Ok(command)
+    let command = begun(
+        alloc,
+        "draw",
+        "Draws a transcript, as an SVG or as a page",
+        DRAWS,
+        "T",
+        TRANSCRIPT,
+    );
+    with_arg(command, html_arg(alloc))
 }
 
 fn check_command<'a>(alloc: Global) -> Result<Command<'a>, Error>
-    ensures ok { IfOk result (λ c. (app_of c ≡ check_app) × ((out-Command c).has_globals ≡ false)) }
-    ensures err { IfErr result (λ e. kind_of e ≡ OutOfMemory) }
+    ensures { IsMade check_app result }
 {
-    let file = needed(alloc, "FILE", SCENARIO);
-    let command = Command::new(alloc, "check")
-        .about("Says what is wrong with a scenario, without playing it")
-        .after_help(CHECKS)
-        .arg(file)?;
-    Ok(command)
+    begun(
+        alloc,
+        "check",
+        "Says what is wrong with a scenario, without playing it",
+        CHECKS,
+        "FILE",
+        SCENARIO,
+    )
 }
 
 fn tell_command<'a>(alloc: Global) -> Result<Command<'a>, Error>
-    ensures ok { IfOk result (λ c. (app_of c ≡ tell_app) × ((out-Command c).has_globals ≡ false)) }
-    ensures err { IfErr result (λ e. kind_of e ≡ OutOfMemory) }
+    ensures { IsMade tell_app result }
 {
-    let file = needed(alloc, "T", TRANSCRIPT);
-    let command = Command::new(alloc, "tell")
-        .about("Tells what each event of a transcript did, a line an event")
-        .after_help(TELLS)
-        .arg(file)?;
-    Ok(command)
+    begun(
+        alloc,
+        "tell",
+        "Tells what each event of a transcript did, a line an event",
+        TELLS,
+        "T",
+        TRANSCRIPT,
+    )
 }
 
 fn inspect_command<'a>(alloc: Global) -> Result<Command<'a>, Error>
-    ensures ok { IfOk result (λ c. (app_of c ≡ inspect_app)
-        × ((out-Command c).has_globals ≡ false)) }
-    ensures err { IfErr result (λ e. kind_of e ≡ OutOfMemory) }
+    ensures { IsMade inspect_app result }
 {
-    let file = needed(alloc, "T", TRANSCRIPT);
-    let at = at_arg(alloc);
-    let json = json_arg(alloc);
-    let command = Command::new(alloc, "inspect")
-        .about("Says how the group of a transcript stands after some events")
-        .after_help(INSPECTS)
-        .arg(file)?
-        .arg(at)?
-        .arg(json)?;
-    Ok(command)
+    let command = begun(
+        alloc,
+        "inspect",
+        "Says how the group of a transcript stands after some events",
+        INSPECTS,
+        "T",
+        TRANSCRIPT,
+    );
+    let command = with_arg(command, at_arg(alloc));
+    with_arg(command, json_arg(alloc))
 }
 
 fn expand_command<'a>(alloc: Global) -> Result<Command<'a>, Error>
-    ensures ok { IfOk result (λ c. (app_of c ≡ expand_app) × ((out-Command c).has_globals ≡ false)) }
-    ensures err { IfErr result (λ e. kind_of e ≡ OutOfMemory) }
+    ensures { IsMade expand_app result }
 {
-    let file = needed(alloc, "FILE", SHORT);
-    let command = Command::new(alloc, "expand")
-        .about("Prints the plain form of a scenario in short form")
-        .after_help(EXPANDS)
-        .arg(file)?;
-    Ok(command)
+    begun(
+        alloc,
+        "expand",
+        "Prints the plain form of a scenario in short form",
+        EXPANDS,
+        "FILE",
+        SHORT,
+    )
 }
 
 fn keys_arg<'a>(alloc: Global) -> Arg<'a>
@@ -323,46 +350,40 @@ fn csv_arg<'a>(alloc: Global) -> Arg<'a>
 
 // A sweep with its file and its keys.
 fn keys_command<'a>(alloc: Global) -> Result<Command<'a>, Error>
-    ensures ok { IfOk result (λ c. (app_of c ≡ keys_app) × ((out-Command c).has_globals ≡ false)) }
-    ensures err { IfErr result (λ e. kind_of e ≡ OutOfMemory) }
+    ensures { IsMade keys_app result }
 {
-    let file = needed(alloc, "FILE", SCENARIO);
-    let keys = keys_arg(alloc);
-    let command = Command::new(alloc, "sweep")
-        .about("Plays a scenario under many keys, and says how the runs end")
-        .after_help(SWEEPS)
-        .arg(file)?
-        .arg(keys)?;
-    Ok(command)
+    let command = begun(
+        alloc,
+        "sweep",
+        "Plays a scenario under many keys, and says how the runs end",
+        SWEEPS,
+        "FILE",
+        SCENARIO,
+    );
+    with_arg(command, keys_arg(alloc))
 }
 
 // And with its percentages.
 fn percents_command<'a>(alloc: Global) -> Result<Command<'a>, Error>
-    ensures ok { IfOk result (λ c. (app_of c ≡ percents_app)
-        × ((out-Command c).has_globals ≡ false)) }
-    ensures err { IfErr result (λ e. kind_of e ≡ OutOfMemory) }
+    ensures { IsMade percents_app result }
 {
     let drop = percent_arg(alloc, "drop", "How many of a hundred messages are lost");
     let repeat = percent_arg(alloc, "repeat", "How many of a hundred messages come again");
-    let command = keys_command(alloc)?;
-    let command = command.arg(drop)?.arg(repeat)?;
-    Ok(command)
+    let command = with_arg(keys_command(alloc), drop);
+    with_arg(command, repeat)
 }
 
 fn sweep_command<'a>(alloc: Global) -> Result<Command<'a>, Error>
-    ensures ok { IfOk result (λ c. (app_of c ≡ sweep_app) × ((out-Command c).has_globals ≡ false)) }
-    ensures err { IfErr result (λ e. kind_of e ≡ OutOfMemory) }
+    ensures { IsMade sweep_app result }
 {
-    let jobs = jobs_arg(alloc);
-    let csv = csv_arg(alloc);
-    let command = percents_command(alloc)?;
-    let command = command.arg(jobs)?.arg(csv)?;
-    Ok(command)
+    let command = with_arg(percents_command(alloc), jobs_arg(alloc));
+    with_arg(command, csv_arg(alloc))
 }
 
 // The program without its subcommands.
 fn bare<'a>(alloc: Global) -> Command<'a>
-    ensures { app_of result ≡ bare_app }
+    ensures app { app_of result ≡ bare_app }
+    ensures local { (out-Command result).has_globals ≡ false }
 {
     Command::new(alloc, "nomadsim")
         .version(VERSION)
@@ -371,30 +392,33 @@ fn bare<'a>(alloc: Global) -> Command<'a>
         .subcommand_required(true)
 }
 
-fn program<'a>(alloc: Global) -> Result<Command<'a>, Error>
-    ensures ok { IfOk result (λ c. app_of c ≡ nomadsim_app) }
-    ensures err { IfErr result (λ e. kind_of e ≡ OutOfMemory) }
+// The same, with one more subcommand, where both could be made.
+fn with_part<'a>(
+    program: Result<Command<'a>, Error>,
+    part: Result<Command<'a>, Error>,
+) -> Result<Command<'a>, Error>
+    ensures { (app part_app : App) → IsMade app program.entry → IsMade part_app part.entry
+        → IsMade (with_subcommand app part_app.top) result }
 {
-    let run = run_command(alloc)?;
-    let threads = threads_command(alloc)?;
-    let replay = replay_command(alloc)?;
-    let draw = draw_command(alloc)?;
-    let check = check_command(alloc)?;
-    let tell = tell_command(alloc)?;
-    let inspect = inspect_command(alloc)?;
-    let expand = expand_command(alloc)?;
-    let sweep = sweep_command(alloc)?;
-    let whole = bare(alloc)
-        .subcommand(run)?
-        .subcommand(threads)?
-        .subcommand(replay)?
-        .subcommand(draw)?
-        .subcommand(check)?
-        .subcommand(tell)?
-        .subcommand(inspect)?
-        .subcommand(expand)?
-        .subcommand(sweep)?;
-    Ok(whole)
+    let part = part?;
+    let program = program?.subcommand(part)?;
+    Ok(program)
+}
+
+fn program<'a>(alloc: Global) -> Result<Command<'a>, Error>
+    ensures { IsMade nomadsim_app result }
+{
+    let whole = Ok(bare(alloc));
+    let whole = with_part(whole, run_command(alloc));
+    let whole = with_part(whole, threads_command(alloc));
+    let whole = with_part(whole, replay_command(alloc));
+    let whole = with_part(whole, draw_command(alloc));
+    let whole = with_part(whole, check_command(alloc));
+    let whole = with_part(whole, tell_command(alloc));
+    let whole = with_part(whole, inspect_command(alloc));
+    let whole = with_part(whole, expand_command(alloc));
+    let whole = with_part(whole, sweep_command(alloc));
+    whole
 }
 
 // The first value of the argument of this name.
@@ -562,6 +586,32 @@ fn complaint(matches: &ArgMatches<'_>) -> &'static str {
     }
 }
 
+// The line that these matches name, or the error that it is none.
+fn line_or_error<'a>(
+    program: &mut Command<'a>,
+    matches: &ArgMatches<'a>,
+) -> Result<CommandLine<'a>, Error>
+    ensures ok { IfOk result (IsNamedLine (subcommand_rows_of matches.now)) }
+    ensures untaken { IfErr result (λ e. is_taken (subcommand_rows_of matches.now) ≡ false) }
+    ensures kind { IfErr result (λ e. (kind_of e ≡ OutOfMemory) ⊎ (kind_of e ≡ ValueValidation)) }
+{
+    match line_of(matches) {
+        Some(line) => Ok(line),
+        None => Err(program.error(ErrorKind::ValueValidation, complaint(matches))?),
+    }
+}
+
+// What the words ask for, by the program's own command.
+fn line_by<'a>(program: &mut Command<'a>, words: &'a [&'a str]) -> Result<CommandLine<'a>, Error>
+    ensures named { app_of program.old ≡ nomadsim_app
+        → IfOk result (AskFor (map (λ w. w.now) words.entry.now)) }
+    ensures faults { app_of program.old ≡ nomadsim_app
+        → FailsBy (words_fault (map (λ w. w.now) words.entry.now)) result }
+{
+    let matches = program.try_get_matches_from_mut(words)?;
+    line_or_error(program, &matches)
+}
+
 /// Reads the words of a command line, of which the first names the program. Words that ask for help
 /// or for the version are an error too, of a kind of its own, whose text is the answer. A number
 /// with a sign or a zero in front is an error, as one is that is out of its range, and so are keys
@@ -571,9 +621,5 @@ pub fn command<'a>(alloc: Global, words: &'a [&'a str]) -> Result<CommandLine<'a
     ensures faults { FailsBy (words_fault (map (λ w. w.now) words.entry.now)) result }
 {
     let mut program = program(alloc)?;
-    let matches = program.try_get_matches_from_mut(words)?;
-    match line_of(&matches) {
-        Some(line) => Ok(line),
-        None => Err(program.error(ErrorKind::ValueValidation, complaint(&matches))?),
-    }
+    line_by(&mut program, words)
 }

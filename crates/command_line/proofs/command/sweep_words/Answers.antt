@@ -1,10 +1,9 @@
-use Rattle.std.proofs.Common.{◌≡◌, ap, codes, subst, sym, ◌∙◌}
+use Rattle.std.proofs.Common.{◌≡◌, codes, subst, sym, ◌∙◌}
 use Rattle.std.specs.Prelude.{IsSomeAnd, Some}
 use Rattle.clap.specs.Walk.{one_of}
 use Rattle.clap.specs.Words.{found_of, rows_of}
 use Rattle.clap.proofs.WalkLemmas.{one_text-rows}
 use Rattle.command_line.specs.Numbers.{IsGiven, keys_in}
-use Rattle.command_line.specs.Words.{IsFlag}
 use Rattle.command_line.proofs.Counts.{flag_said}
 use Rattle.command_line.proofs.command.sweep_words.Goals as goal
 
