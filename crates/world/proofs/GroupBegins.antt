@@ -122,7 +122,7 @@ module _ (n : ℕ) (nodes : List NodeSpec) (view : GroupView) where
     pub count : length view.servers ≡ n
     pub places : (i : ℕ) (s : ServerView) → slice_get view.servers i ≡ Some s → (s.raft.me ≡ i) × (s.raft.size ≡ n)
     pub newcomers : AllZip IsServer view.servers (replicate n newcomer)
-    pub agents_from : view.clients ≡ new_agents n 1 nodes
+    pub agents : view.clients ≡ new_agents n 1 nodes
     pub outbox : view.outbox ≡ record { frames = []; work = [] }
     pub trace : view.trace ≡ []
     pub chain : view.chain ≡ 0
@@ -168,13 +168,13 @@ module _ (n : ℕ) (nodes : List NodeSpec) (view : GroupView) where
 pub made_group : (n : ℕ) (nodes : List NodeSpec) (servers : List ServerView) (clients : List AgentView) (h : GroupHistoryView) → IsGroup n → length nodes ≤ 64 → length servers ≡ n →
     ((i : ℕ) (s : ServerView) → slice_get servers i ≡ Some s → (s.raft.me ≡ i) × (s.raft.size ≡ n)) → AllZip IsServer servers (replicate n newcomer) → clients ≡ new_agents n 1 nodes →
     h ≡ record { outbox = record { frames = []; work = [] }; trace = []; chain = 0 } → MadeGroup n nodes (record { servers = servers; clients = clients; outbox = h.outbox; trace = h.trace; chain = h.chain })
-made_group n nodes servers clients h size few count places newcomers agents_from is = record {
+made_group n nodes servers clients h size few count places newcomers agents is = record {
   size = size;
   few = few;
   count = count;
   places = places;
   newcomers = newcomers;
-  agents_from = agents_from;
+  agents = agents;
   outbox = ap (λ (x : GroupHistoryView). x.outbox) is;
   trace = ap (λ (x : GroupHistoryView). x.trace) is;
   chain = ap (λ (x : GroupHistoryView). x.chain) is;
