@@ -1,5 +1,5 @@
 -- What is done of a run leaves the store of the server after some first items.
-use Rattle.std.proofs.Common.{◌≡◌, ◌∙◌, ◌⊎◌, inl, inr, ℕ, zero, suc, ◌++◌, ◌∷◌, [], List, ap, sym, refl, subst, append_assoc, append-nil, Bool, true, false, take, bytes_eq}
+use Rattle.std.proofs.Common.{◌≡◌, ◌∙◌, ◌⊎◌, inl, inr, ℕ, zero, suc, ◌++◌, ◌∷◌, [], List, ap, sym, refl, subst, append_assoc, append-nil, Bool, true, false, bytes_eq}
 use Rattle.std.specs.Prelude.{if◌then◌else◌}
 use Rattle.std.proofs.lemmas.Slice.Eq.{bytes_eq-Decides}
 use Rattle.machine_model.specs.Meaning.{Meaning}
@@ -9,14 +9,14 @@ use Rattle.raft_model.specs.Rafts.{Raft}
 use Rattle.raft_snapshot.specs.Bases.{Base}
 use Rattle.raft_snapshot.specs.Texts.{stable_text}
 use Rattle.raft_core.specs.RaftView.{RaftView, SameRaft}
-use Rattle.bank_node.specs.Deeds.{Deed, Stores, Sends, Tells}
+use Rattle.bank_node.specs.Deeds.{Deed, Saves, Sends, Tells}
 use Rattle.bank_node.specs.Turns.{Turn, taken, refused, shown, Runs, changes, sends, text_of}
 use Rattle.bank_node.specs.Lines.{refused_line}
 use Rattle.bank_node.specs.Crashes.{stored_after, Leaves}
 
 stored_both : (text : List ℕ) (xs ys : List Deed) → stored_after text (xs ++ ys) ≡ stored_after (stored_after text xs) ys
 stored_both text [] ys = refl
-stored_both text (Stores t ∷ xs) ys = stored_both t xs ys
+stored_both text (Saves t ∷ xs) ys = stored_both t xs ys
 stored_both text (Sends t ∷ xs) ys = stored_both text xs ys
 stored_both text (Tells t ∷ xs) ys = stored_both text xs ys
 
@@ -24,9 +24,9 @@ stored_both text (Tells t ∷ xs) ys = stored_both text xs ys
 sends_keep : (frames : List Frame) (front back : List Deed) (text : List ℕ) → sends frames ≡ front ++ back → stored_after text front ≡ text
 sends_keep frames [] back text is = refl
 sends_keep [] (d ∷ front) back text is = let some : [] ≡ d ∷ (front ++ back) = is in absurd (cc some)
-sends_keep (f ∷ frames) (Stores t ∷ front) back text is =
-    let both : Sends (sized f.bytes) ∷ sends frames ≡ Stores t ∷ (front ++ back) = is in
-    let one : Sends (sized f.bytes) ≡ Stores t = cc both in
+sends_keep (f ∷ frames) (Saves t ∷ front) back text is =
+    let both : Sends (sized f.bytes) ∷ sends frames ≡ Saves t ∷ (front ++ back) = is in
+    let one : Sends (sized f.bytes) ≡ Saves t = cc both in
     absurd (cc one)
 sends_keep (f ∷ frames) (Tells t ∷ front) back text is =
     let both : Sends (sized f.bytes) ∷ sends frames ≡ Tells t ∷ (front ++ back) = is in
@@ -64,11 +64,11 @@ module _ {S C : Type 0} (m : Meaning S C) (words : S → List ℕ) where
   -- after a change the store has the new text
   changed : (b : Bool) (before text : List ℕ) → bytes_eq before text ≡ b → stored_after before (changes before text) ≡ text
   changed true before text is =
-      subst (λ t. stored_after before (if t then [] else Stores text ∷ []) ≡ text) (sym is) ((bytes_eq-Decides before text).0 is)
-  changed false before text is = subst (λ t. stored_after before (if t then [] else Stores text ∷ []) ≡ text) (sym is) refl
+      subst (λ t. stored_after before (if t then [] else Saves text ∷ []) ≡ text) (sym is) ((bytes_eq-Decides before text).0 is)
+  changed false before text is = subst (λ t. stored_after before (if t then [] else Saves text ∷ []) ≡ text) (sym is) refl
 
   turn_stores : (item : List ℕ) (old new : RaftView S C) (deeds : List Deed) → Turn m words item old new deeds → stored_after (text_of m old) deeds ≡ text_of m new
-  turn_stores item old new deeds (taken frames is does) =
+  turn_stores item old new deeds (taken frames other is does) =
       let before = text_of m old in
       let after = text_of m new in
       let first : stored_after before deeds ≡ stored_after (stored_after before (changes before after)) (sends frames) =
@@ -76,7 +76,7 @@ module _ {S C : Type 0} (m : Meaning S C) (words : S → List ℕ) where
       let second : stored_after (stored_after before (changes before after)) (sends frames) ≡ stored_after after (sends frames) =
       ap (λ t. stored_after t (sends frames)) (changed (bytes_eq before after) before after refl) in
       first ∙ second ∙ sends_keep frames (sends frames) [] after (sym (append-nil (sends frames)))
-  turn_stores item old new deeds (refused cause same not may does) =
+  turn_stores item old new deeds (refused cause other same not may does) =
       let first : stored_after (text_of m old) deeds ≡ text_of m old = ap (stored_after (text_of m old)) does in
       first ∙ sym (same_text old new same)
   turn_stores item old new deeds (shown line is same shows does) =
@@ -101,20 +101,20 @@ module _ {S C : Type 0} (m : Meaning S C) (words : S → List ℕ) where
   taken_within b frames old new [] back which is = inl refl
   taken_within true frames old new (d ∷ front) back which is =
       let sent : sends frames ≡ (d ∷ front) ++ back =
-      subst (λ t. (if t then [] else Stores (text_of m new) ∷ []) ++ sends frames ≡ (d ∷ front) ++ back) which is in
+      subst (λ t. (if t then [] else Saves (text_of m new) ∷ []) ++ sends frames ≡ (d ∷ front) ++ back) which is in
       inr (sends_keep frames (d ∷ front) back (text_of m old) sent ∙ (bytes_eq-Decides (text_of m old) (text_of m new)).0 which)
   taken_within false frames old new (d ∷ front) back which is =
-      let both : Stores (text_of m new) ∷ sends frames ≡ d ∷ (front ++ back) =
-      subst (λ t. (if t then [] else Stores (text_of m new) ∷ []) ++ sends frames ≡ (d ∷ front) ++ back) which is in
-      let first : d ≡ Stores (text_of m new) = cc both in
+      let both : Saves (text_of m new) ∷ sends frames ≡ d ∷ (front ++ back) =
+      subst (λ t. (if t then [] else Saves (text_of m new) ∷ []) ++ sends frames ≡ (d ∷ front) ++ back) which is in
+      let first : d ≡ Saves (text_of m new) = cc both in
       let rest : sends frames ≡ front ++ back = cc both in
       inr (ap (λ x. stored_after (text_of m old) (x ∷ front)) first ∙ sends_keep frames front back (text_of m new) rest)
 
   within_turn : (item : List ℕ) (old new : RaftView S C) (deeds front : List Deed) (d : Deed) (more : List Deed) → Turn m words item old new deeds → deeds ≡ front ++ d ∷ more
       → (front ≡ []) ⊎ (stored_after (text_of m old) front ≡ text_of m new)
-  within_turn item old new deeds front d more (taken frames is does) at =
+  within_turn item old new deeds front d more (taken frames other is does) at =
       taken_within (bytes_eq (text_of m old) (text_of m new)) frames old new front (d ∷ more) refl (sym does ∙ at)
-  within_turn item old new deeds front d more (refused cause same not may does) at = told_within (refused_line cause) old new front d more (sym does ∙ at)
+  within_turn item old new deeds front d more (refused cause other same not may does) at = told_within (refused_line cause) old new front d more (sym does ∙ at)
   within_turn item old new deeds front d more (shown line is same shows does) at = told_within line old new front d more (sym does ∙ at)
 
   none_done : (items : List (List ℕ)) (old : RaftView S C) (front : List Deed) → front ≡ [] → Leaves m words items old front

@@ -1,9 +1,9 @@
 -- What was done, and more that is done.
-use Rattle.std.proofs.Common.{◌≡◌, ◌∙◌, ◌⊎◌, inl, inr, ℕ, zero, suc, ◌+◌, ◌≤◌, ◌++◌, ◌∷◌, [], List, Option, Some, None, length, take, drop, ap, sym, refl, subst, append_assoc, append-nil, arith, bytes_eq, Bool, true, false}
+use Rattle.std.proofs.Common.{◌≡◌, ◌∙◌, inl, inr, ℕ, zero, suc, ◌+◌, ◌≤◌, ◌++◌, ◌∷◌, [], List, Option, Some, None, length, take, drop, ap, sym, refl, subst, append_assoc, append-nil, arith, bytes_eq, true, false}
 use Rattle.std.specs.Prelude.{slice_get, if◌then◌else◌}
 use Rattle.std.proofs.lemmas.List.{take_all}
 use Rattle.wire.specs.Frames.{Frame, sized}
-use Rattle.bank_node.specs.Deeds.{Deed, Stores, Sends, Tells, Does, MayDo, Begins}
+use Rattle.bank_node.specs.Deeds.{Deed, Saves, Sends, Does, MayDo, Begins}
 use Rattle.bank_node.specs.Turns.{changes, sends}
 
 pub does_nil : (a : Option (List Deed)) → Does a a []
@@ -21,9 +21,6 @@ may_nil a deed = inl (does_nil a)
 
 pub begins_none : (a b : Option (List Deed)) (deeds : List Deed) → Does a b [] → Begins a b deeds
 begins_none a b deeds none = record { first = []; others = deeds; all = refl; does = none }
-
-pub begins_at : (a : Option (List Deed)) (deeds : List Deed) → Begins a a deeds
-begins_at a deeds = begins_none a a deeds (does_nil a)
 
 pub begins_all : (a b : Option (List Deed)) (deeds : List Deed) → Does a b deeds → Begins a b deeds
 begins_all a b deeds all = record { first = deeds; others = []; all = sym (append-nil deeds); does = all }
@@ -43,14 +40,14 @@ may_begin a b deed deeds (inr one) = record { first = deed ∷ []; others = deed
 -- ---- the store
 
 pub unchanged : (a : Option (List Deed)) (kept text : List ℕ) → bytes_eq kept text ≡ true → Does a a (changes kept text)
-unchanged a kept text same = subst (λ b. Does a a (if b then [] else Stores text ∷ [])) (sym same) (does_nil a)
+unchanged a kept text same = subst (λ b. Does a a (if b then [] else Saves text ∷ [])) (sym same) (does_nil a)
 
 module _ (a b : Option (List Deed)) (kept text : List ℕ) (other : bytes_eq kept text ≡ false) where
-  pub stored_new : Does a b (Stores text ∷ []) → Does a b (changes kept text)
-  stored_new done = subst (λ t. Does a b (if t then [] else Stores text ∷ [])) (sym other) done
+  pub stored_new : Does a b (Saves text ∷ []) → Does a b (changes kept text)
+  stored_new done = subst (λ t. Does a b (if t then [] else Saves text ∷ [])) (sym other) done
 
-  pub may_store : MayDo a b (Stores text) → Begins a b (changes kept text)
-  may_store may = subst (λ t. Begins a b (if t then [] else Stores text ∷ [])) (sym other) (may_begin a b (Stores text) [] may)
+  pub may_store : MayDo a b (Saves text) → Begins a b (changes kept text)
+  may_store may = subst (λ t. Begins a b (if t then [] else Saves text ∷ [])) (sym other) (may_begin a b (Saves text) [] may)
 
 -- ---- frames, one after the other
 

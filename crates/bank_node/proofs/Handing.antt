@@ -1,5 +1,5 @@
 -- What the server makes of an item.
-use Rattle.std.proofs.Common.{◌≡◌, ◌≢◌, ◌∙◌, [], ℕ, Bool, true, false, List, Result, Ok, Err, IfErr, OnErr, ap, drop, refl, subst, sym}
+use Rattle.std.proofs.Common.{◌≡◌, ◌∙◌, [], ℕ, true, false, List, Result, Ok, Err, IfErr, OnErr, ap, drop, refl, subst, sym}
 use Rattle.std.specs.Prelude.{if◌then◌else◌}
 use Rattle.rows.specs.Versions.{newest}
 use Rattle.rows.specs.declared.refusal.Refusal.{Refusal}
@@ -14,7 +14,7 @@ use Rattle.raft_core.specs.RaftView.{RaftView, SameRaft}
 use Rattle.raft_core.specs.Refusals.{IsRefused, Stays}
 use Rattle.raft_core.specs.Steps.{Represents, Takes}
 use Rattle.bank_node.specs.Items.{asked, input_of, is_proposal}
-use Rattle.bank_node.specs.Turns.{IsDeclined, IsTaken, MayRefuse, at_fault, by_server}
+use Rattle.bank_node.specs.Turns.{IsDeclined, IsTaken, at_fault, by_server}
 
 same_view : {S C : Type 0} (old new : RaftView S C) → new ≡ old → SameRaft old new
 same_view old new same = record { me = ap (λ v. v.me) same; size = ap (λ v. v.size) same; base = ap (λ v. v.base) same; server = ap (λ v. v.server) same }

@@ -1,5 +1,5 @@
 -- What is read of an item.
-use Rattle.std.proofs.Common.{◌≡◌, ◌≢◌, ◌∙◌, ℕ, suc, ◌+◌, ◌-◌, ◌<◌, ◌≤◌, ◌++◌, ◌∷◌, [], List, Option, Result, Ok, length, take, drop, slice_range, ap, sym, subst, refl, append-nil, arith, rules, le_refl, drop_at, length-take-le, take_all}
+use Rattle.std.proofs.Common.{◌≡◌, ◌≢◌, ◌∙◌, ℕ, ◌+◌, ◌-◌, ◌<◌, ◌≤◌, ◌++◌, [], List, Option, Ok, length, take, drop, slice_range, ap, sym, subst, refl, append-nil, arith, le_refl, drop_at, length-take-le, take_all}
 use Rattle.std.specs.Io.KnownBytes.{Consumes, IsAtEnd, Keeps}
 use Rattle.std.proofs.KnownBytes.{Consumes-kept, Consumes-trans}
 use Rattle.std.proofs.lemmas.List.{drop_all}
@@ -11,7 +11,7 @@ use Rattle.fields_model.specs.Fields.{u32}
 use Rattle.fields_model.proofs.FormatLaws.{length-spelled}
 use Rattle.fields_model.proofs.FieldLaws.{u32_lawful}
 use Rattle.wire.specs.Frames.{sized}
-use Rattle.bank_node.specs.Items.{Consumed, Ends, EndsWithin, IsCut, of_length, of_bytes}
+use Rattle.bank_node.specs.Items.{Consumed, Ends, EndsWithin, of_length, of_bytes}
 
 -- a buffer of which the part from a place on was filled
 take_split : (a b : ℕ) (old new : List ℕ) → a ≤ b → take a new ≡ take a old → take a old ++ slice_range new a b ≡ take b new

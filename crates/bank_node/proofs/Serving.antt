@@ -7,8 +7,8 @@ use Rattle.std.proofs.lemmas.Grind.{flat_map-append}
 use Rattle.machine_model.specs.Meaning.{Meaning}
 use Rattle.wire.specs.Frames.{sized}
 use Rattle.raft_core.specs.RaftView.{RaftView}
-use Rattle.bank_node.specs.Deeds.{Deed, Does, Begins}
-use Rattle.bank_node.specs.Turns.{Turn, Runs, Halts, before, within, Serves, Stops}
+use Rattle.bank_node.specs.Deeds.{Deed, Does}
+use Rattle.bank_node.specs.Turns.{Turn, Runs, Halts, before, within, Reaches, Serves, ServesUpTo, Stops}
 use Rattle.bank_node.proofs.Doing.{does_nil, does_more, begins_all, begins_more}
 
 module _ {S C : Type 0} (m : Meaning S C) (words : S → List ℕ) where
@@ -19,22 +19,14 @@ module _ {S C : Type 0} (m : Meaning S C) (words : S → List ℕ) where
   one_more (first ∷ items) item old mid new deeds own runs turn =
       (runs.0, runs.1, runs.2 ++ own, ap (λ l. l ++ own) runs.3 ∙ append_assoc runs.1 runs.2 own, runs.4, one_more items item runs.0 mid new runs.2 own runs.5 turn)
 
-  -- the server is this one after the items so far, and what they lead to was done
-  pub record Reaches (old now : RaftView S C) (input rest : Option (List ℕ)) (did does : Option (List Deed)) : Type 0 where
-    pub items : List (List ℕ)
-    pub read : Consumes input rest (flat_map sized items)
-    pub deeds : List Deed
-    pub runs : Runs m words items old now deeds
-    pub done : Does did does deeds
-
-  pub reaches_first : (old : RaftView S C) (input : Option (List ℕ)) (did : Option (List Deed)) → Reaches old old input input did did
+  pub reaches_first : (old : RaftView S C) (input : Option (List ℕ)) (did : Option (List Deed)) → Reaches m words old old input input did did
   reaches_first old input did = record { items = []; read = Consumes-nil input; deeds = []; runs = (refl, refl); done = does_nil did }
 
   pub stops_at_once : (old : RaftView S C) (input : Option (List ℕ)) (did : Option (List Deed)) → Stops m words old input input did did
   stops_at_once old input did =
       record { items = []; behind = []; read = Consumes-nil input; last = old; deeds = []; runs = (refl, refl); done = begins_all did did [] (does_nil did) }
 
-  module _ (old now : RaftView S C) (input rest : Option (List ℕ)) (did does : Option (List Deed)) (so : Reaches old now input rest did does) where
+  module _ (old now : RaftView S C) (input rest : Option (List ℕ)) (did does : Option (List Deed)) (so : Reaches m words old now input rest did does) where
     next_read : (item : List ℕ) (after : Option (List ℕ)) → Consumes rest after (sized item) → Consumes input after (flat_map sized (so.items ++ item ∷ []))
     next_read item after own =
         let joined : flat_map sized so.items ++ sized item ≡ flat_map sized (so.items ++ item ∷ []) =
@@ -42,7 +34,7 @@ module _ {S C : Type 0} (m : Meaning S C) (words : S → List ℕ) where
         subst (Consumes input after) joined (Consumes-trans input rest after (flat_map sized so.items) (sized item) so.read own)
 
     pub reaches_more : (item : List ℕ) (after : Option (List ℕ)) (new : RaftView S C) (later : Option (List Deed)) → Consumes rest after (sized item)
-        → ((own : List Deed) × Turn m words item now new own × Does does later own) → Reaches old new input after did later
+        → ((own : List Deed) × Turn m words item now new own × Does does later own) → Reaches m words old new input after did later
     reaches_more item after new later read (own, turn, done) =
         record {
           items = so.items ++ item ∷ [];
@@ -53,7 +45,10 @@ module _ {S C : Type 0} (m : Meaning S C) (words : S → List ℕ) where
         }
 
     pub all_served : IsAtEnd rest → Serves m words old now input rest did does
-    all_served ends = record { items = so.items; read = so.read; ends = ends; deeds = so.deeds; runs = so.runs; done = so.done }
+    all_served ends = (so, ends)
+
+    pub served_up_to : (IsSuch : Option (List ℕ) → Type 0) → IsSuch rest → ServesUpTo m words old now input did does IsSuch
+    served_up_to IsSuch such = record { point = rest; reaches = so; such = such }
 
     pub stopped : (after : Option (List ℕ)) → ((bytes : List ℕ) × Consumes rest after bytes) → Stops m words old input after did does
     stopped after (bytes, own) =

@@ -1,5 +1,5 @@
 -- The parts of a line, one behind the other.
-use Rattle.std.proofs.Common.{◌≡◌, ◌∙◌, ◌+◌, ◌++◌, ◌∷◌, [], ℕ, List, Some, Result, Ok, Err, IfErr, OnErr, OnOk, ap, append_assoc, append-nil, length, sym, take, true, refl}
+use Rattle.std.proofs.Common.{◌≡◌, ◌∙◌, ◌+◌, ◌++◌, ◌∷◌, [], ℕ, List, Some, Result, Ok, Err, OnErr, ap, append_assoc, append-nil, length, sym, take, true}
 use Rattle.std.specs.Prelude.{codes, slice_get}
 use Rattle.std.specs.List.{flat_map}
 use Rattle.std.proofs.lemmas.Grind.{flat_map-append}

@@ -1,5 +1,5 @@
 -- One item, done with or not.
-use Rattle.std.proofs.Common.{◌≡◌, ◌≢◌, ◌∙◌, ◌⊎◌, inl, inr, ◌++◌, ◌∷◌, [], ℕ, true, false, List, Option, ap, refl, subst, sym}
+use Rattle.std.proofs.Common.{◌≡◌, ◌≢◌, ◌∙◌, ◌⊎◌, inl, inr, ◌++◌, ◌∷◌, [], ℕ, true, false, List, Option, ap, refl, sym}
 use Rattle.std.specs.Prelude.{codes}
 use Rattle.rows.specs.declared.refusal.Refusal.{Refusal}
 use Rattle.rows.specs.declared.refusal.Refusal.TheVariants as refusals
@@ -29,15 +29,15 @@ module _ {S C : Type 0} (m : Meaning S C) (words : S → List ℕ) (item : List 
     shown_halts (inl none) = before none
     shown_halts (inr (line, shows, may)) = within old (Tells line ∷ []) (shown line is refl shows refl) (may_begin a b (Tells line) [] may)
 
-  module _ (old new : RaftView S C) (a b : Option (List Deed)) (frames : List Frame) (kept text : List ℕ) (is : IsTaken m item old new frames) (was : kept ≡ text_of m old) (now : text ≡ text_of m new) where
+  module _ (old new : RaftView S C) (a b : Option (List Deed)) (frames : List Frame) (kept text : List ℕ) (other : item ≢ codes "S") (is : IsTaken m item old new frames) (was : kept ≡ text_of m old) (now : text ≡ text_of m new) where
     same_deeds : changes kept text ++ sends frames ≡ changes (text_of m old) (text_of m new) ++ sends frames
     same_deeds = ap (λ k. changes k text ++ sends frames) was ∙ ap (λ t. changes (text_of m old) t ++ sends frames) now
 
     pub taken_made : Does a b (changes kept text ++ sends frames) → Made old new a b
-    taken_made does = (changes kept text ++ sends frames, taken frames is same_deeds, does)
+    taken_made does = (changes kept text ++ sends frames, taken frames other is same_deeds, does)
 
     pub taken_halts : Begins a b (changes kept text ++ sends frames) → Halts m words item old a b
-    taken_halts begun = within new (changes kept text ++ sends frames) (taken frames is same_deeds) begun
+    taken_halts begun = within new (changes kept text ++ sends frames) (taken frames other is same_deeds) begun
 
   module _ (old new : RaftView S C) where
     parts : (cause : Refusal) → cause ≢ refusals.NoMemory → IsDeclined m item old new cause → SameRaft old new × MayRefuse m item old cause
@@ -48,19 +48,19 @@ module _ {S C : Type 0} (m : Meaning S C) (words : S → List ℕ) (item : List 
     not_memory cause is same = let both : false ≡ true = sym is ∙ ap is_memory same in cc both
 
     module _ (cause : Refusal) (is : is_memory cause ≡ false) (why : IsDeclined m item old new cause) (a b : Option (List Deed)) where
-      pub refused_made : Does a b (Tells (refused_line cause) ∷ []) → Made old new a b
-      refused_made does =
-          let other = not_memory cause is in
-          let p = parts cause other why in
-          (Tells (refused_line cause) ∷ [], refused cause p.0 other p.1 refl, does)
+      pub refused_made : item ≢ codes "S" → Does a b (Tells (refused_line cause) ∷ []) → Made old new a b
+      refused_made other does =
+          let lacks = not_memory cause is in
+          let p = parts cause lacks why in
+          (Tells (refused_line cause) ∷ [], refused cause other p.0 lacks p.1 refl, does)
 
       pub refused_keeps : (kept : List ℕ) → kept ≡ text_of m old → kept ≡ text_of m new
       refused_keeps kept was = was ∙ sym (same_text m words old new (parts cause (not_memory cause is) why).0)
 
-    pub refused_halts : (cause : Refusal) (a b : Option (List Deed)) → IsDeclined m item old new cause
+    pub refused_halts : (cause : Refusal) (a b : Option (List Deed)) → item ≢ codes "S" → IsDeclined m item old new cause
         → Does a b [] ⊎ ((is_memory cause ≡ false) × MayDo a b (Tells (refused_line cause))) → Halts m words item old a b
-    refused_halts cause a b why (inl none) = before none
-    refused_halts cause a b why (inr (is, may)) =
-        let other = not_memory cause is in
-        let p = parts cause other why in
-        within new (Tells (refused_line cause) ∷ []) (refused cause p.0 other p.1 refl) (may_begin a b (Tells (refused_line cause)) [] may)
+    refused_halts cause a b other why (inl none) = before none
+    refused_halts cause a b other why (inr (is, may)) =
+        let lacks = not_memory cause is in
+        let p = parts cause lacks why in
+        within new (Tells (refused_line cause) ∷ []) (refused cause other p.0 lacks p.1 refl) (may_begin a b (Tells (refused_line cause)) [] may)

@@ -2,13 +2,13 @@
 use Rattle.std.specs.Prelude.{◌≡◌, ℕ, List, [], ◌∷◌, ◌++◌, take}
 use Rattle.machine_model.specs.Meaning.{Meaning}
 use Rattle.raft_core.specs.RaftView.{RaftView}
-use Rattle.bank_node.specs.Deeds.{Deed, Stores, Sends, Tells}
+use Rattle.bank_node.specs.Deeds.{Deed, Saves, Sends, Tells}
 use Rattle.bank_node.specs.Turns.{Runs, text_of}
 
 -- what the store has after some deeds, if it had this before
 abbrev pub stored_after : List ℕ → List Deed → List ℕ
 stored_after before [] = before
-stored_after before (Stores text ∷ deeds) = stored_after text deeds
+stored_after before (Saves text ∷ deeds) = stored_after text deeds
 stored_after before (Sends item ∷ deeds) = stored_after before deeds
 stored_after before (Tells line ∷ deeds) = stored_after before deeds
 

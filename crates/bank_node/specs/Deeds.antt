@@ -3,7 +3,7 @@ use Rattle.std.specs.Prelude.{◌≡◌, ◌⊎◌, ⊤, ℕ, Option, Some, None
 
 pub data Deed : Type 0 where
   -- this text takes the place of what the store had
-  Stores : (text : List ℕ) → Deed
+  Saves : (text : List ℕ) → Deed
   -- these bytes go to the output
   Sends : (item : List ℕ) → Deed
   -- and these to the standard error

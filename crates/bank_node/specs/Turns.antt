@@ -16,13 +16,13 @@ use Rattle.raft_core.specs.RaftView.{RaftView, SameRaft}
 use Rattle.raft_core.specs.Refusals.{IsRefused}
 use Rattle.raft_core.specs.Steps.{Represents, Takes}
 use Rattle.raft_core.specs.StoredParts.{stored_part}
-use Rattle.bank_node.specs.Deeds.{Deed, Stores, Sends, Tells, Does, Begins}
+use Rattle.bank_node.specs.Deeds.{Deed, Saves, Sends, Tells, Does, Begins}
 use Rattle.bank_node.specs.Items.{asked}
 use Rattle.bank_node.specs.Lines.{Shows, refused_line}
 
 -- the text is stored, where it is another than before
 abbrev pub changes : List ℕ → List ℕ → List Deed
-changes before text = if bytes_eq before text then [] else Stores text ∷ []
+changes before text = if bytes_eq before text then [] else Saves text ∷ []
 
 -- each frame goes to the output, as an item
 abbrev pub sends : List Frame → List Deed
@@ -67,12 +67,12 @@ module _ {S C : Type 0} (m : Meaning S C) where
   IsDeclined item old new cause = SameRaft old new × MayRefuse item old cause
 
   -- One item. What the server takes is stored before its frames leave; what is refused is told, and
-  -- the server stays as it was, as it does where it is shown.
+  -- the server stays as it was. It is shown for the item of the one byte S, and for no other.
   pub data Turn (words : S → List ℕ) (item : List ℕ) (old new : RaftView S C) (deeds : List Deed) : Type 0 where
-    taken : (frames : List Frame) → IsTaken item old new frames
+    taken : (frames : List Frame) → item ≢ codes "S" → IsTaken item old new frames
         → deeds ≡ changes (text_of old) (text_of new) ++ sends frames → Turn words item old new deeds
-    refused : (cause : Refusal) → SameRaft old new → cause ≢ refusals.NoMemory → MayRefuse item old cause
-        → deeds ≡ Tells (refused_line cause) ∷ [] → Turn words item old new deeds
+    refused : (cause : Refusal) → item ≢ codes "S" → SameRaft old new → cause ≢ refusals.NoMemory
+        → MayRefuse item old cause → deeds ≡ Tells (refused_line cause) ∷ [] → Turn words item old new deeds
     shown : (line : List ℕ) → item ≡ codes "S" → new ≡ old → Shows m words old line
         → deeds ≡ Tells line ∷ [] → Turn words item old new deeds
 
@@ -89,14 +89,23 @@ module _ {S C : Type 0} (m : Meaning S C) where
     before : Does did does [] → Halts words item old did does
     within : (last : RaftView S C) (deeds : List Deed) → Turn words item old last deeds → Begins did does deeds → Halts words item old did does
 
-  -- All items of the input came to the server, and what they lead to was done.
-  pub record Serves (words : S → List ℕ) (old new : RaftView S C) (input rest : Option (List ℕ)) (did does : Option (List Deed)) : Type 0 where
+  -- These items of the input came to the server, and what they lead to was done: so it stands.
+  pub record Reaches (words : S → List ℕ) (old new : RaftView S C) (input rest : Option (List ℕ)) (did does : Option (List Deed)) : Type 0 where
     pub items : List (List ℕ)
     pub read : Consumes input rest (flat_map sized items)
-    pub ends : IsAtEnd rest
     pub deeds : List Deed
     pub runs : Runs words items old new deeds
     pub done : Does did does deeds
+
+  -- All items of the input came to it.
+  abbrev pub Serves : (S → List ℕ) → RaftView S C → RaftView S C → Option (List ℕ) → Option (List ℕ) → Option (List Deed) → Option (List Deed) → Type 0
+  Serves words old new input rest did does = Reaches words old new input rest did does × IsAtEnd rest
+
+  -- All came to it up to a place of the input of which something else is so.
+  pub record ServesUpTo (words : S → List ℕ) (old new : RaftView S C) (input : Option (List ℕ)) (did does : Option (List Deed)) (IsSuch : Option (List ℕ) → Type 0) : Type 0 where
+    pub point : Option (List ℕ)
+    pub reaches : Reaches words old new input point did does
+    pub such : IsSuch point
 
   -- Items came to the server from the front of the input, and of what they lead to the first was
   -- done, or all.

@@ -1,10 +1,11 @@
 //! How items stand on a stream: the length of each in four bytes, the highest first, and then its
 //! bytes.
-ghost use Rattle.std.specs.Prelude.{◌≡◌, ◌≤◌, ◌<◌, ℕ, IfErr, IfNone, IfOk, IfSome, length, take};
+ghost use Rattle.std.specs.Prelude.{◌≡◌, ◌≤◌, ◌<◌, ℕ, true, IfErr, IfNone, IfOk, IfSome, length, take};
 ghost use Rattle.std.specs.Io.KnownBytes.{Consumes, IsAtEnd};
 ghost use Rattle.wire.specs.Frames.{sized};
 ghost use Rattle.fields_model.specs.Format.{spelled};
 ghost use Rattle.bank_node.specs.Items.{Consumed, Ends, EndsWithin, IsLong};
+ghost use Rattle.bank_node.specs.Statuses.{is_of_input};
 ghost use Rattle.bank_node.specs.declared.fault.Fault.TheVariants as faults;
 
 use crate::fault::Fault;
@@ -73,6 +74,7 @@ fn next_length<R: Read>(input: &mut R) -> Result<Option<u32>, Fault>
     ensures cut { IfErr result (λ fault. fault ≡ faults.Cut →
         EndsWithin (R.remaining input.old) (R.remaining input.new)) }
     ensures front { Consumed (R.remaining input.old) (R.remaining input.new) }
+    ensures of_input { IfErr result (λ fault. is_of_input fault ≡ true) }
 {
     let mut head = [0; 4];
     let Ok(count) = fill(input, head.as_mut_slice()) else {
@@ -106,6 +108,7 @@ pub fn next_item<R: Read>(alloc: Global, input: &mut R) -> Result<Option<Vec<u8>
     ensures cut { IfErr result (λ fault. fault ≡ faults.Cut →
         EndsWithin (R.remaining input.old) (R.remaining input.new)) }
     ensures front { Consumed (R.remaining input.old) (R.remaining input.new) }
+    ensures of_input { IfErr result (λ fault. is_of_input fault ≡ true) }
 {
     let Some(size) = next_length(input)? else {
         return Ok(None);

@@ -1,18 +1,20 @@
 //! A server that takes items, one after the other.
-ghost use Rattle.std.specs.Prelude.{◌≡◌, ◌≢◌, ◌∷◌, ◌++◌, ◌⊎◌, [], ℕ, List, Option, None, true, false, IfErr, IfOk, MatchOption, OnErr, OnOk, drop, option_map};
+ghost use Rattle.std.specs.Prelude.{◌≡◌, ◌≢◌, ◌∷◌, ◌++◌, ◌⊎◌, ◌||◌, [], ℕ, List, Option, None, true, false, IfErr, IfOk, MatchOption, OnErr, OnOk, codes, drop, option_map};
 ghost use Rattle.rows.specs.Versions.{newest};
 ghost use Rattle.fields_model.specs.Format.{Gives, whole};
 ghost use Rattle.raft_core.specs.StoredParts.{stored_part};
 ghost use Rattle.raft_core.specs.Inputs.{handed};
-ghost use Rattle.raft_core.specs.Steps.{IsGroupMember};
-ghost use Rattle.bank_node.specs.Deeds.{Deed, Stores, Sends, Tells, Does, MayDo, Begins};
-ghost use Rattle.bank_node.specs.Items.{input_of, is_proposal};
+ghost use Rattle.raft_core.specs.Steps.{IsGroupMember, Represents, Stores};
+ghost use Rattle.raft_model.specs.Rafts.{Raft as AnyRaft, restarted};
+ghost use Rattle.bank_node.specs.Deeds.{Deed, Saves, Sends, Tells, Does, MayDo, Begins};
+ghost use Rattle.bank_node.specs.Items.{EndsWithin, IsLong, input_of, is_proposal};
+ghost use Rattle.bank_node.specs.Statuses.{is_of_beginning, is_of_input, is_of_turn};
 ghost use Rattle.wire.specs.Frames.{sized};
 ghost use Rattle.bank_node.specs.Inner.Refusals.{is_memory};
 ghost use Rattle.bank_node.specs.Lines.{Shows, refused_line};
 ghost use Rattle.raft_core.specs.RaftView.{RaftView};
 ghost use Rattle.bank_node.specs.Crashes.{Leaves};
-ghost use Rattle.bank_node.specs.Turns.{IsStored, IsBadStore, IsTaken, IsDeclined, Turn, Runs, Halts, Serves, Stops, text_of, changes, sends};
+ghost use Rattle.bank_node.specs.Turns.{IsStored, IsBadStore, IsTaken, IsDeclined, Turn, Runs, Halts, Serves, ServesUpTo, Stops, text_of, changes, sends};
 ghost use Rattle.bank_node.specs.declared.fault.Fault.TheVariants as faults;
 
 use crate::fault::Fault;
@@ -35,8 +37,8 @@ pub trait Outside {
     /// Puts a text into the store, in place of what was there: once this has returned, it outlives
     /// a crash. After an error, and after a crash on the way, the store has the one or the other.
     fn store(&mut self, text: &[u8]) -> io::Result<()>
-        ensures ok { OnOk result (Does (done self.old) (done self.new) (Stores text.now ∷ [])) }
-        ensures err { OnErr result (MayDo (done self.old) (done self.new) (Stores text.now)) };
+        ensures ok { OnOk result (Does (done self.old) (done self.new) (Saves text.now ∷ [])) }
+        ensures err { OnErr result (MayDo (done self.old) (done self.new) (Saves text.now)) };
 
     /// Writes the bytes of an item to the output.
     fn send(&mut self, item: &[u8]) -> io::Result<()>
@@ -59,9 +61,12 @@ pub fn begin<M: Machine>(
     ensures place { IfOk result (λ server. (server.me ≡ me) × (server.size ≡ size)) }
     ensures stored { IfOk result (λ server. IsStored M.meaning
         (option_map (λ text. text.now) stored.entry) (stored_part server)) }
+    ensures server { IfOk result (λ server. (s : AnyRaft M.Command) →
+        Stores M.meaning (stored_part server) s → Represents M.meaning server (restarted s)) }
     ensures usage { IfErr result (λ fault. fault ≡ faults.Usage → IsGroupMember size me → ⊥) }
     ensures fault { IfErr result (λ fault. (place : ℕ) → fault ≡ faults.BadStore place →
         IsBadStore M.meaning (option_map (λ text. text.now) stored.entry) place) }
+    ensures early { IfErr result (λ fault. is_of_beginning fault ≡ true) }
 {
     let stable = stable_of(alloc, stored)?;
     match Raft::restart(alloc, me, size, stable) {
@@ -79,6 +84,7 @@ fn stable_of<M: Machine>(alloc: Global, stored: Option<&[u8]>) -> Result<Stable<
     ensures usage { IfErr result (λ fault. fault ≢ faults.Usage) }
     ensures fault { IfErr result (λ fault. (place : ℕ) → fault ≡ faults.BadStore place →
         IsBadStore M.meaning (option_map (λ text. text.now) stored.entry) place) }
+    ensures early { IfErr result (λ fault. is_of_beginning fault ≡ true) }
 {
     let Some(text) = stored else {
         return Ok(Stable::new(alloc));
@@ -103,6 +109,15 @@ pub fn serve<M: Words, R: Read, O: Outside>(
         (R.remaining input.old) (R.remaining input.new) (O.done outside.old) (O.done outside.new)) }
     ensures err { OnErr result (Stops M.meaning M.words server.old
         (R.remaining input.old) (R.remaining input.new) (O.done outside.old) (O.done outside.new)) }
+    ensures long { IfErr result (λ fault. (size : ℕ) → fault ≡ faults.TooLong size →
+        ServesUpTo M.meaning M.words server.old server.new (R.remaining input.old)
+        (O.done outside.old) (O.done outside.new)
+        (λ point. IsLong point (R.remaining input.new) size)) }
+    ensures cut { IfErr result (λ fault. fault ≡ faults.Cut →
+        ServesUpTo M.meaning M.words server.old server.new (R.remaining input.old)
+        (O.done outside.old) (O.done outside.new)
+        (λ point. EndsWithin point (R.remaining input.new))) }
+    ensures late { IfErr result (λ fault. (is_of_input fault || is_of_turn fault) ≡ true) }
 {
     crashes_lose_no_promise::<M>();
     let mut kept = stored_text(alloc, server)?;
@@ -150,6 +165,7 @@ fn turn<M: Words, O: Outside>(
         × Does (O.done outside.old) (O.done outside.new) deeds) }
     ensures err { OnErr result (Halts M.meaning M.words item.now server.old
         (O.done outside.old) (O.done outside.new)) }
+    ensures of_turn { IfErr result (λ fault. is_of_turn fault ≡ true) }
 {
     if item == b"S".as_slice() {
         show(alloc, server, outside)?;
@@ -169,6 +185,7 @@ fn take_item<M: Words, O: Outside>(
     frames: &mut Frames,
     outside: &mut O,
 ) -> Result<Vec<u8>, Fault>
+    requires other { item.now ≢ codes "S" }
     requires text { kept.items ≡ text_of M.meaning server.old }
     requires none { frames.old ≡ [] }
     ensures kept { IfOk result (λ text. text.items ≡ text_of M.meaning server.new) }
@@ -177,6 +194,7 @@ fn take_item<M: Words, O: Outside>(
         × Does (O.done outside.old) (O.done outside.new) deeds) }
     ensures err { OnErr result (Halts M.meaning M.words item.now server.old
         (O.done outside.old) (O.done outside.new)) }
+    ensures of_turn { IfErr result (λ fault. is_of_turn fault ≡ true) }
 {
     match hand(alloc, server, item, frames) {
         Ok(()) => {
@@ -199,6 +217,7 @@ fn show<M: Words, O: Outside>(alloc: Global, server: &Raft<M>, outside: &mut O) 
     ensures err { OnErr result (Does (O.done outside.old) (O.done outside.new) [] ⊎
         ((line : List ℕ) × Shows M.meaning M.words server.now line
         × MayDo (O.done outside.old) (O.done outside.new) (Tells line))) }
+    ensures of_turn { IfErr result (λ fault. is_of_turn fault ≡ true) }
 {
     let line = status_line(alloc, server)?;
     match outside.tell(line.as_slice()) {
@@ -216,6 +235,7 @@ fn decline<O: Outside>(alloc: Global, refusal: Refusal, outside: &mut O) -> Resu
     ensures err { OnErr result (Does (O.done outside.old) (O.done outside.new) [] ⊎
         ((is_memory refusal ≡ false)
         × MayDo (O.done outside.old) (O.done outside.new) (Tells (refused_line refusal)))) }
+    ensures of_turn { IfErr result (λ fault. is_of_turn fault ≡ true) }
 {
     if is_memory(&refusal) {
         return Err(Fault::NoMemory);
@@ -251,6 +271,7 @@ fn store_and_send<O: Outside>(
         (changes kept.now text.now ++ sends frames.now)) }
     ensures err { OnErr result (Begins (O.done outside.old) (O.done outside.new)
         (changes kept.now text.now ++ sends frames.now)) }
+    ensures of_turn { IfErr result (λ fault. is_of_turn fault ≡ true) }
 {
     store_change(kept, text, outside)?;
     send_all(alloc, frames, outside)
@@ -263,6 +284,7 @@ fn store_change<O: Outside>(kept: &[u8], text: &[u8], outside: &mut O) -> Result
         (changes kept.now text.now)) }
     ensures err { OnErr result (Begins (O.done outside.old) (O.done outside.new)
         (changes kept.now text.now)) }
+    ensures of_turn { IfErr result (λ fault. is_of_turn fault ≡ true) }
 {
     if kept == text {
         return Ok(());
@@ -279,6 +301,7 @@ fn send_all<O: Outside>(alloc: Global, frames: &Frames, outside: &mut O) -> Resu
     ensures ok { OnOk result (Does (O.done outside.old) (O.done outside.new) (sends frames.now)) }
     ensures err { OnErr result (Begins (O.done outside.old) (O.done outside.new)
         (sends frames.now)) }
+    ensures of_turn { IfErr result (λ fault. is_of_turn fault ≡ true) }
 {
     for place in 0..frames.len() {
         let Some(frame) = frames.get(place) else {
@@ -296,6 +319,7 @@ fn send_frame<O: Outside>(alloc: Global, frame: &[u8], outside: &mut O) -> Resul
         (Sends (sized frame.now) ∷ [])) }
     ensures err { OnErr result (MayDo (O.done outside.old) (O.done outside.new)
         (Sends (sized frame.now))) }
+    ensures of_turn { IfErr result (λ fault. is_of_turn fault ≡ true) }
 {
     let item = item_of(alloc, frame)?;
     match outside.send(item.as_slice()) {

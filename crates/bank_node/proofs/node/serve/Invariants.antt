@@ -1,6 +1,5 @@
 use Rattle.std.proofs.Common.{◌≡◌}
-use Rattle.bank_node.specs.Turns.{text_of}
-use Rattle.bank_node.proofs.Serving.{Reaches}
+use Rattle.bank_node.specs.Turns.{Reaches, text_of}
 use Rattle.bank_node.proofs.node.serve.Given as goal
 
 -- what was read and done so far
