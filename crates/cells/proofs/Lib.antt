@@ -3,4 +3,3 @@ pub mod Sending
 pub mod Turns
 pub mod Members
 pub mod Sent
-pub mod Places

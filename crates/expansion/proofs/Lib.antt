@@ -1,4 +1,1 @@
 pub mod Texts
-pub mod EachInTurn
-pub mod Shorts
-pub mod Taking

@@ -1,15 +1,7 @@
 //! The steps that a scenario in short form takes.
-ghost use Rattle.std.specs.Prelude.{◌≡◌, ◌≤◌, ◌∷◌, [], ℕ, IfOk, List, OnOk, length, map, string_bytes};
-ghost use Rattle.playing.specs.declared.play.Play.{Play};
-ghost use Rattle.expansion.specs.EachInTurn.{OfEach};
-ghost use Rattle.expansion.specs.Expanded.{AreTaken, LinesOf};
-ghost use Rattle.expansion.specs.Inner.Taking.{StandsAsTaken, TakesBack, TakesMore, TakesSome};
-ghost use Rattle.expansion.specs.ShortSteps.{short_step};
-
 use crate::short::{MOST, ShortStep};
 use crate::standing::{
-    ServerStanding, Standing, differs, has_laggards, has_pending, has_unapplied, leader,
-    standing_of,
+    Standing, differs, has_laggards, has_pending, has_unapplied, leader, standing_of,
 };
 use playing::lines::{play_line, play_lines};
 use playing::play::Play;
@@ -38,13 +30,7 @@ pub fn expanded(
     settings: Settings,
     nodes: &[NodeSpec],
     steps: &[ShortStep],
-) -> Result<Vec<String>, Refusal>
-    ensures order { IfOk result (λ lines.
-        OfEach LinesOf (map short_step steps.now) (map string_bytes lines.items)) }
-    ensures taken { IfOk result (λ lines. (play : Play)
-        × AreTaken settings nodes.now (map string_bytes lines.items) play) }
-    ensures most { IfOk result (λ lines. length lines.items ≤ MOST) }
-{
+) -> Result<Vec<String>, Refusal> {
     let mut taken = Taken::new(alloc, settings, nodes)?;
     for step in steps {
         taken.take(step)?;
@@ -54,12 +40,7 @@ pub fn expanded(
 
 impl<'s> Taken<'s> {
     // A new group.
-    fn new(alloc: Global, settings: Settings, nodes: &'s [NodeSpec]) -> Result<Taken<'s>, Refusal>
-        ensures settings { IfOk result (λ t. t.settings ≡ settings) }
-        ensures nodes { IfOk result (λ t. t.nodes.now ≡ nodes.now) }
-        ensures none { IfOk result (λ t. t.lines.items ≡ []) }
-        ensures stands { IfOk result StandsAsTaken }
-    {
+    fn new(alloc: Global, settings: Settings, nodes: &'s [NodeSpec]) -> Result<Taken<'s>, Refusal> {
         Ok(Taken {
             alloc,
             settings,
@@ -69,9 +50,7 @@ impl<'s> Taken<'s> {
         })
     }
 
-    fn into_lines(self) -> Vec<String>
-        ensures { result ≡ self.entry.lines }
-    {
+    fn into_lines(self) -> Vec<String> {
         let Taken {
             alloc: _,
             settings: _,
@@ -82,11 +61,7 @@ impl<'s> Taken<'s> {
         lines
     }
 
-    fn take(&mut self, step: &ShortStep) -> Result<(), Refusal>
-        requires { StandsAsTaken self.old }
-        ensures { OnOk result ((own : List (List ℕ)) × LinesOf (short_step step.now) own
-            × TakesMore self.old own self.new) }
-    {
+    fn take(&mut self, step: &ShortStep) -> Result<(), Refusal> {
         match step {
             ShortStep::Plain(line) => self.line(line.as_str()),
             ShortStep::Settle(count) => self.settle(count.unwrap_or(ROUNDS)),
@@ -94,10 +69,7 @@ impl<'s> Taken<'s> {
     }
 
     // Takes the step of a line.
-    fn line(&mut self, line: &str) -> Result<(), Refusal>
-        requires { StandsAsTaken self.old }
-        ensures { OnOk result (TakesMore self.old (line.now ∷ []) self.new) }
-    {
+    fn line(&mut self, line: &str) -> Result<(), Refusal> {
         if MOST <= self.lines.len() {
             return Err(Refusal::OutOfRange);
         }
@@ -108,13 +80,9 @@ impl<'s> Taken<'s> {
     }
 
     // Does what is left to do, up to so many times.
-    fn settle(&mut self, most: u64) -> Result<(), Refusal>
-        requires { StandsAsTaken self.old }
-        ensures { OnOk result (TakesSome self.old self.new) }
-    {
+    fn settle(&mut self, most: u64) -> Result<(), Refusal> {
         for _ in 0..most {
-            let done = self.round()?;
-            if !done {
+            if !self.round()? {
                 return Ok(());
             }
         }
@@ -122,50 +90,27 @@ impl<'s> Taken<'s> {
     }
 
     // Does the first of what is left to do, and answers whether there was anything.
-    fn round(&mut self) -> Result<bool, Refusal>
-        requires { StandsAsTaken self.old }
-        ensures { OnOk result (TakesSome self.old self.new) }
-    {
+    fn round(&mut self) -> Result<bool, Refusal> {
         if self.play.flight.len() > 0 {
             self.line("flow")?;
             return Ok(true);
         }
         let before = standing_of(self.alloc, &self.play)?;
-        let worked = self.work(&before)?;
-        if worked {
-            return Ok(true);
-        }
-        self.lead(&before)
+        Ok(self.work(&before)? || self.lead(&before)?)
     }
 
-    // The workers of a server go on: of the first for whom that is of use.
-    fn work(&mut self, before: &Standing) -> Result<bool, Refusal>
-        requires { StandsAsTaken self.old }
-        ensures { OnOk result (TakesSome self.old self.new) }
-    {
+    // The workers of a server go on.
+    fn work(&mut self, before: &Standing) -> Result<bool, Refusal> {
+        let mut done = false;
         for (place, server) in before.servers.iter().enumerate() {
-            let done = self.work_at(before, place, server)?;
-            if done {
-                return Ok(true);
+            if !done && !server.is_idle {
+                done = self.work_at(before, place)?;
             }
         }
-        Ok(false)
+        Ok(done)
     }
 
-    // The workers of the server at a place go on, which stands so.
-    fn work_at(
-        &mut self,
-        before: &Standing,
-        position: usize,
-        own: &ServerStanding,
-    ) -> Result<bool, Refusal>
-        requires { StandsAsTaken self.old }
-        ensures { OnOk result (TakesSome self.old self.new) }
-    {
-        let idle = own.is_idle;
-        if idle {
-            return Ok(false);
-        }
+    fn work_at(&mut self, before: &Standing, position: usize) -> Result<bool, Refusal> {
         let Some(server) = ServerId::from_position(position) else {
             return Ok(false);
         };
@@ -173,37 +118,21 @@ impl<'s> Taken<'s> {
     }
 
     // What is left to do at the leader, and with what it knows.
-    fn lead(&mut self, before: &Standing) -> Result<bool, Refusal>
-        requires { StandsAsTaken self.old }
-        ensures { OnOk result (TakesSome self.old self.new) }
-    {
+    fn lead(&mut self, before: &Standing) -> Result<bool, Refusal> {
         let Some(own) = leader(before) else {
             return Ok(false);
         };
-        let planned = self.plan(before, own)?;
-        if planned {
-            return Ok(true);
-        }
-        let committed = self.commit(before, own)?;
-        if committed {
-            return Ok(true);
-        }
-        let handed_out = self.hand_out(before, own)?;
-        if handed_out {
-            return Ok(true);
-        }
-        let pulled = self.pull(before, own)?;
-        if pulled {
-            return Ok(true);
-        }
-        self.tell(before, own)
+        Ok(
+            self.plan(before, own)?
+                || self.commit(before, own)?
+                || self.hand_out(before, own)?
+                || self.pull(before, own)?
+                || self.tell(before, own)?,
+        )
     }
 
     // A plan that waits is weighed.
-    fn plan(&mut self, before: &Standing, own: ServerId) -> Result<bool, Refusal>
-        requires { StandsAsTaken self.old }
-        ensures { OnOk result (TakesSome self.old self.new) }
-    {
+    fn plan(&mut self, before: &Standing, own: ServerId) -> Result<bool, Refusal> {
         if !has_pending(&self.play.world, own) {
             return Ok(false);
         }
@@ -211,10 +140,7 @@ impl<'s> Taken<'s> {
     }
 
     // What is not applied at the leader is sent to the others.
-    fn commit(&mut self, before: &Standing, own: ServerId) -> Result<bool, Refusal>
-        requires { StandsAsTaken self.old }
-        ensures { OnOk result (TakesSome self.old self.new) }
-    {
+    fn commit(&mut self, before: &Standing, own: ServerId) -> Result<bool, Refusal> {
         if !has_unapplied(before, own) {
             return Ok(false);
         }
@@ -222,10 +148,7 @@ impl<'s> Taken<'s> {
     }
 
     // The workers of the leader ask for an evaluation.
-    fn hand_out(&mut self, before: &Standing, own: ServerId) -> Result<bool, Refusal>
-        requires { StandsAsTaken self.old }
-        ensures { OnOk result (TakesSome self.old self.new) }
-    {
+    fn hand_out(&mut self, before: &Standing, own: ServerId) -> Result<bool, Refusal> {
         if !has_pending(&self.play.world, own) {
             return Ok(false);
         }
@@ -237,10 +160,7 @@ impl<'s> Taken<'s> {
     }
 
     // Clients that run something else than what is listed ask for their lists.
-    fn pull(&mut self, before: &Standing, own: ServerId) -> Result<bool, Refusal>
-        requires { StandsAsTaken self.old }
-        ensures { OnOk result (TakesSome self.old self.new) }
-    {
+    fn pull(&mut self, before: &Standing, own: ServerId) -> Result<bool, Refusal> {
         let mut lines = Vec::new(self.alloc);
         for (place, client) in self.play.world.clients().iter().enumerate() {
             if differs(&self.play.world, own, client)? {
@@ -251,36 +171,11 @@ impl<'s> Taken<'s> {
     }
 
     // The others are told what is committed.
-    fn tell(&mut self, before: &Standing, own: ServerId) -> Result<bool, Refusal>
-        requires { StandsAsTaken self.old }
-        ensures { OnOk result (TakesSome self.old self.new) }
-    {
+    fn tell(&mut self, before: &Standing, own: ServerId) -> Result<bool, Refusal> {
         if !has_laggards(before, own) {
             return Ok(false);
         }
         self.attempt(before, &[format!(in self.alloc; "beat {own}")?], false)
-    }
-
-    // Takes the steps of these lines.
-    fn take_lines(&mut self, lines: &[String]) -> Result<(), Refusal>
-        requires { StandsAsTaken self.old }
-        ensures { OnOk result (TakesSome self.old self.new) }
-    {
-        for line in lines {
-            self.line(line.as_str())?;
-        }
-        Ok(())
-    }
-
-    // Takes a flow, where messages are in flight.
-    fn flow(&mut self) -> Result<(), Refusal>
-        requires { StandsAsTaken self.old }
-        ensures { OnOk result (TakesSome self.old self.new) }
-    {
-        if self.play.flight.len() == 0 {
-            return Ok(());
-        }
-        self.line("flow")
     }
 
     // Takes these steps, and a flow behind them where messages are in flight then. Where nothing
@@ -290,13 +185,14 @@ impl<'s> Taken<'s> {
         before: &Standing,
         lines: &[String],
         counts: bool,
-    ) -> Result<bool, Refusal>
-        requires { StandsAsTaken self.old }
-        ensures { OnOk result (TakesSome self.old self.new) }
-    {
+    ) -> Result<bool, Refusal> {
         let (kept, sent) = (self.lines.len(), self.play.world.sent().len());
-        self.take_lines(lines)?;
-        self.flow()?;
+        for line in lines {
+            self.line(line.as_str())?;
+        }
+        if self.play.flight.len() > 0 {
+            self.line("flow")?;
+        }
         let after = standing_of(self.alloc, &self.play)?;
         if *before != after || (counts && sent < self.play.world.sent().len()) {
             return Ok(true);
@@ -306,10 +202,7 @@ impl<'s> Taken<'s> {
     }
 
     // Takes all lines back but the first ones: those are played anew.
-    fn take_back(&mut self, kept: usize) -> Result<(), Refusal>
-        requires { StandsAsTaken self.old }
-        ensures { OnOk result (TakesBack self.old kept self.new) }
-    {
+    fn take_back(&mut self, kept: usize) -> Result<(), Refusal> {
         if kept < self.lines.len() {
             self.lines.truncate(kept);
             self.play = Play::new(self.alloc, self.settings, self.nodes)?;

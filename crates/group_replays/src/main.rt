@@ -7,7 +7,6 @@ mod crashes;
 mod frames;
 mod group;
 mod lines;
-mod looks;
 mod old;
 mod requests;
 mod samples;
@@ -27,6 +26,5 @@ fn main(rt: HostRuntime) -> io::Result<()> {
     stored::texts(&rt)?;
     apart::servers(&rt)?;
     old::starts(&rt)?;
-    crashes::crashes(&rt)?;
-    looks::looks(&rt)
+    crashes::crashes(&rt)
 }

@@ -8,5 +8,4 @@ mod state;
 mod texts;
 
 pub use fault::Fault;
-pub use looks::{Looks, starts_once};
-pub use state::state_fault;
+pub use looks::Looks;

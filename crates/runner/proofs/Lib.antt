@@ -5,4 +5,3 @@ pub mod Replays
 pub mod KeptShapes
 pub mod Tellings
 pub mod Seats
-pub mod Apart

@@ -1,4 +1,3 @@
 pub mod Keys
-pub mod Places
 pub mod Spreads
 pub mod Worst

@@ -1,3 +1,0 @@
--- Words of private contracts.
-pub mod Parts
-pub mod Taking

@@ -1,5 +1,0 @@
--- Words of private contracts.
-pub mod Taking
-pub mod Findings
-pub mod Entries
-pub mod Deliveries
