@@ -3,3 +3,4 @@ pub mod Sending
 pub mod Turns
 pub mod Members
 pub mod Sent
+pub mod Places

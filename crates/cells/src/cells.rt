@@ -1,5 +1,5 @@
 //! All actors of a group, each in a cell under a lock of its own.
-ghost use Rattle.std.specs.Prelude.{◌≡◌, ◌<◌, ◌≤◌, true, false, length, map, vec_len};
+ghost use Rattle.std.specs.Prelude.{◌≡◌, ◌≤◌, true, false, Some, length, map, slice_get, vec_len};
 ghost use Rattle.std.specs.Prelude.{IfErr, IfNone, IfOk, IfSome, OnOk, OnSome};
 ghost use Rattle.event_book.specs.Seats.{are_apart, lists_actor};
 ghost use Rattle.rows.specs.GroupSizes.{IsGroup};
@@ -125,8 +125,7 @@ fn positions_of(actors: &[Actor]) -> [u8; ACTORS] {
 
 /// The place of an actor among these; none where it is none of them.
 fn position_among(actors: &[Actor], actor: &Actor) -> Option<usize>
-    ensures some { IfSome result (λ place.
-        (place < length actors.now) × (lists_actor actors.now actor.now ≡ true)) }
+    ensures some { IfSome result (λ place. slice_get actors.now place ≡ Some actor.now) }
     ensures none { IfNone result (lists_actor actors.now actor.now ≡ false) }
 {
     let (first, rest) = actors.split_first()?;
@@ -202,8 +201,8 @@ impl<B: BookId> Cells<B> {
 
     /// The place of an actor among those of the group; none where it is none of them.
     pub(crate) fn position_of(&self, actor: Actor) -> Option<usize>
-        ensures some { IfSome result (λ place. (place < length self.now.actors)
-            × (lists_actor self.now.actors actor ≡ true)) }
+        ensures some { IfSome result (λ place.
+            slice_get self.now.actors place ≡ Some actor) }
         ensures none { IfNone result (lists_actor self.now.actors actor ≡ false) }
     {
         let actors = self.actors.as_slice();
@@ -229,6 +228,7 @@ impl<B: BookId> Cells<B> {
     /// While the guard is held that actor takes nothing.
     /// - `some`: there is one only where the group has the actor.
     /// - `none`: there is none only where the group lacks the actor.
+    #[tactic(auto, using(crate::proofs::Places::found_within, crate::proofs::Places::found_listed))]
     pub fn lock<R: Wait>(&self, rt: &R, actor: Actor) -> Option<MutexGuard<'_, Cell<B>>>
         ensures some { OnSome result (lists_actor self.now.actors actor ≡ true) }
         ensures none { IfNone result (lists_actor self.now.actors actor ≡ false) }

@@ -4,7 +4,7 @@ ghost use Rattle.clap.specs.Words.{App, FailsBy, Rule, app_of, first_of, found_o
 ghost use Rattle.clap.specs.declared.builder.command.Command.TheViews.{out-Command};
 ghost use Rattle.clap.specs.declared.error.kind.ErrorKind.TheVariants.{OutOfMemory, ValueValidation};
 ghost use Rattle.command_line.specs.Inner.Commands.{IsMade};
-ghost use Rattle.command_line.specs.Inner.Lines.{is_line, is_taken};
+ghost use Rattle.command_line.specs.Inner.Lines.{complaint_text, is_line, is_taken};
 ghost use Rattle.command_line.specs.Words.{AreSweepWords, AreWorkers, AskFor, IsNamedLine, IsLineFor, app_with, are_sweep_words, are_workers, at_option, bare_app, check_app, csv_flag, draw_app, expand_app, html_flag, inspect_app, jobs_option, json_flag, keys_app, keys_option, nomadsim_app, out_option, percent_option, percents_app, replay_app, required_word, run_app, says_yes, sweep_app, tell_app, threads_app, words_fault, workers_option};
 
 use crate::help::{
@@ -576,7 +576,9 @@ fn line_of<'a>(matches: &ArgMatches<'a>) -> Option<CommandLine<'a>>
 }
 
 // What is told where the words have no fault for `clap`, and ask for no line.
-fn complaint(matches: &ArgMatches<'_>) -> &'static str {
+fn complaint(matches: &ArgMatches<'_>) -> &'static str
+    ensures { result.now ≡ complaint_text (subcommand_rows_of matches.now) }
+{
     let Some(("sweep", given)) = matches.subcommand() else {
         return NO_COUNT;
     };

@@ -1,5 +1,5 @@
 -- The last lines, put together of their parts.
-use Rattle.std.proofs.Common.{◌≢◌, ℕ, ◌∙◌, Option, Some, None, Result, Ok, Err, OnOk, List, [], length, filter, refl, subst}
+use Rattle.std.proofs.Common.{◌≢◌, ℕ, ◌∙◌, Option, Some, None, Result, Ok, Err, OnOk, List, [], length, filter, refl, subst, sym, true≢false}
 use Rattle.std.specs.Io.KnownBytes.{Appends, Keeps}
 use Rattle.std.specs.List.{flat_map}
 use Rattle.std.proofs.KnownBytes.{Appends-nil, Appends-trans}
@@ -13,7 +13,7 @@ use Rattle.server.specs.ServerViews.{ServerView}
 use Rattle.world.proofs.Zips.{zip_length}
 use Rattle.world.specs.GroupClaims.{OneGroupList}
 use Rattle.world.specs.GroupView.{GroupView, client_in}
-use Rattle.ending.specs.Endings.{AreLiveRows, HasRows, NoneIsUp, StopsAtRows, TellsEnding, client_line, numbered_lines, of_newest, of_none, row_line, total_line}
+use Rattle.ending.specs.Endings.{AreLiveRows, HasRows, InEachRun, NoneIsUp, StopsAtRows, TellsEnding, client_line, numbered_lines, of_newest, of_none, row_line, total_line}
 use Rattle.ending.specs.Inner.Newest.{IsNewestState}
 use Rattle.ending.specs.Inner.Tells.{OfServers, TellsRows, TellsServers, agent_line}
 use Rattle.ending.proofs.Told.{numbered-map}
@@ -34,6 +34,10 @@ module _ (views : List ServerView) (state : State) (newest : OfServers views (λ
       let s = newest servers are in
       record { server = s.0; newest = s.1; some = subst (λ (x : State). filter is_live x.allocs ≢ []) s.2 some }
 
+  -- then some server is up
+  pub not_none : {P : Type 0} → OfServers views (λ servers. NoneIsUp servers → P)
+  not_none servers are none = let s = newest servers are in absurd (true≢false (sym s.1.up ∙ none s.1.place s.0 s.1.at))
+
 -- ---- the whole
 
 module _ (view : GroupView) (group : OneGroupList view) where
@@ -52,6 +56,14 @@ module _ (view : GroupView) (group : OneGroupList view) where
         let counted : Appends d e (total_line (length view.trace) (length w.sent)) =
         subst (λ (n : ℕ). Appends d e (total_line (length view.trace) n)) (zip_length (CarriesGroup cluster_meaning) view.outbox.frames w.sent r.sent) total in
         (_, record { rows = told.0; told = told.1; are = refl }, Appends-trans a b e _ _ front (Appends-trans b c e _ _ told.2 (Appends-trans c d e _ _ known counted)));
+  }
+
+  pub rows_wanted : OfServers view.servers HasRows → InEachRun view (λ w. HasRows w.servers)
+  rows_wanted rows = record {
+    past = group.past;
+    world = group.world;
+    runs = group.runs;
+    ever = λ past w runs. rows w.servers runs.represents.servers;
   }
 
   pub stopped_at_rows : (a b : Option (List ℕ)) → OfServers view.servers (TellsServers a b) → OfServers view.servers HasRows → StopsAtRows view a b

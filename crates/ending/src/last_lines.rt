@@ -1,8 +1,8 @@
 //! The last lines of a run.
-ghost use Rattle.std.specs.Prelude.{◌≡◌, length, IfErr, OnOk};
+ghost use Rattle.std.specs.Prelude.{◌≡◌, length, IfErr, IsOk, OnOk};
 ghost use Rattle.std.specs.Io.KnownBytes.{Appends};
 ghost use Rattle.ending.specs.declared.fault.EndError.TheVariants as errors;
-ghost use Rattle.ending.specs.Endings.{HasRows, StopsAtRows, TellsEnding, total_line};
+ghost use Rattle.ending.specs.Endings.{HasRows, NoneIsUp, StopsAtRows, TellsEnding, total_line};
 ghost use Rattle.ending.specs.Inner.Tells.{OfServers, TellsRows};
 
 use crate::allocations::{live_rows, print_rows};
@@ -40,6 +40,8 @@ fn print_allocations<W: Write>(alloc: Global, out: &mut W, world: &World) -> Res
         (TellsRows (W.contents out.old) (W.contents out.new))) }
     ensures memory { IfErr result (λ fault. fault ≡ errors.NoMemory
         → (out.new ≡ out.old) × OfServers world.now.servers HasRows) }
+    ensures none { OfServers world.now.servers (λ servers. NoneIsUp servers
+        → IsOk result × (out.new ≡ out.old)) }
 {
     let Some(state) = newest_state(world) else {
         return Ok(());

@@ -1,8 +1,9 @@
 //! The numbers of the last lines of a run.
-ghost use Rattle.std.specs.Prelude.{◌≡◌, IfOk};
+ghost use Rattle.std.specs.Prelude.{◌≡◌, IfOk, MatchResult, OnErr};
 ghost use Rattle.group_model.specs.Servers.{Server as AnyServer};
 ghost use Rattle.server.specs.ServerViews.{IsServer};
 ghost use Rattle.ending.specs.EndNumbers.{HasNumbers, IsFirstLeader, RowNumbers, greatest_term, is_running, later, leads_in};
+ghost use Rattle.ending.specs.Endings.{HasRows, InEachRun};
 ghost use Rattle.ending.specs.Inner.Tells.{OfServers};
 
 use crate::allocations::live_rows;
@@ -31,10 +32,11 @@ pub struct EndNumbers {
     pub messages: usize,
 }
 
-/// The numbers of the last lines that `print_end` tells of a group. It may want memory where there
-/// are allocations to tell.
+/// The numbers of the last lines that `print_end` tells of a group. It may want memory, but only
+/// where there are allocations to tell.
 pub fn end_numbers(alloc: Global, world: &World) -> Result<EndNumbers, NoMemory>
-    ensures { IfOk result (HasNumbers world.now) }
+    ensures { MatchResult result (HasNumbers world.now)
+        (λ e. InEachRun world.now (λ w. HasRows w.servers)) }
 {
     // Each group has a run.
     world.one_list();
@@ -93,8 +95,9 @@ fn leads_in(server: &Server, term: Term) -> bool
 
 // How many allocations are told, and how many of them run.
 fn row_numbers(alloc: Global, world: &World) -> Result<(usize, usize), NoMemory>
-    ensures { IfOk result (λ counts. OfServers world.now.servers
+    ensures counts { IfOk result (λ counts. OfServers world.now.servers
         (RowNumbers counts.0 counts.1)) }
+    ensures memory { OnErr result (OfServers world.now.servers HasRows) }
 {
     let Some(state) = newest_state(world) else {
         return Ok((0, 0));

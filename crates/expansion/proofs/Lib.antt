@@ -1,1 +1,4 @@
 pub mod Texts
+pub mod EachInTurn
+pub mod Shorts
+pub mod Taking

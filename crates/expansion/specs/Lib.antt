@@ -1,1 +1,6 @@
+pub mod EachInTurn
+pub mod ShortSteps
+pub mod Shorts
+pub mod Expanded
 pub mod Plains
+pub mod Inner

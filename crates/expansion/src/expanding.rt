@@ -1,7 +1,15 @@
 //! The steps that a scenario in short form takes.
+ghost use Rattle.std.specs.Prelude.{◌≡◌, ◌≤◌, ◌∷◌, [], ℕ, IfOk, List, OnOk, length, map, string_bytes};
+ghost use Rattle.playing.specs.declared.play.Play.{Play};
+ghost use Rattle.expansion.specs.EachInTurn.{OfEach};
+ghost use Rattle.expansion.specs.Expanded.{AreTaken, LinesOf};
+ghost use Rattle.expansion.specs.Inner.Taking.{StandsAsTaken, TakesBack, TakesMore, TakesSome};
+ghost use Rattle.expansion.specs.ShortSteps.{short_step};
+
 use crate::short::{MOST, ShortStep};
 use crate::standing::{
-    Standing, differs, has_laggards, has_pending, has_unapplied, leader, standing_of,
+    ServerStanding, Standing, differs, has_laggards, has_pending, has_unapplied, leader,
+    standing_of,
 };
 use playing::lines::{play_line, play_lines};
 use playing::play::Play;
@@ -30,7 +38,13 @@ pub fn expanded(
     settings: Settings,
     nodes: &[NodeSpec],
     steps: &[ShortStep],
-) -> Result<Vec<String>, Refusal> {
+) -> Result<Vec<String>, Refusal>
+    ensures order { IfOk result (λ lines.
+        OfEach LinesOf (map short_step steps.now) (map string_bytes lines.items)) }
+    ensures taken { IfOk result (λ lines. (play : Play)
+        × AreTaken settings nodes.now (map string_bytes lines.items) play) }
+    ensures most { IfOk result (λ lines. length lines.items ≤ MOST) }
+{
     let mut taken = Taken::new(alloc, settings, nodes)?;
     for step in steps {
         taken.take(step)?;
@@ -40,7 +54,12 @@ pub fn expanded(
 
 impl<'s> Taken<'s> {
     // A new group.
-    fn new(alloc: Global, settings: Settings, nodes: &'s [NodeSpec]) -> Result<Taken<'s>, Refusal> {
+    fn new(alloc: Global, settings: Settings, nodes: &'s [NodeSpec]) -> Result<Taken<'s>, Refusal>
+        ensures settings { IfOk result (λ t. t.settings ≡ settings) }
+        ensures nodes { IfOk result (λ t. t.nodes.now ≡ nodes.now) }
+        ensures none { IfOk result (λ t. t.lines.items ≡ []) }
+        ensures stands { IfOk result StandsAsTaken }
+    {
         Ok(Taken {
             alloc,
             settings,
@@ -50,7 +69,9 @@ impl<'s> Taken<'s> {
         })
     }
 
-    fn into_lines(self) -> Vec<String> {
+    fn into_lines(self) -> Vec<String>
+        ensures { result ≡ self.entry.lines }
+    {
         let Taken {
             alloc: _,
             settings: _,
@@ -61,7 +82,11 @@ impl<'s> Taken<'s> {
         lines
     }
 
-    fn take(&mut self, step: &ShortStep) -> Result<(), Refusal> {
+    fn take(&mut self, step: &ShortStep) -> Result<(), Refusal>
+        requires { StandsAsTaken self.old }
+        ensures { OnOk result ((own : List (List ℕ)) × LinesOf (short_step step.now) own
+            × TakesMore self.old own self.new) }
+    {
         match step {
             ShortStep::Plain(line) => self.line(line.as_str()),
             ShortStep::Settle(count) => self.settle(count.unwrap_or(ROUNDS)),
@@ -69,7 +94,10 @@ impl<'s> Taken<'s> {
     }
 
     // Takes the step of a line.
-    fn line(&mut self, line: &str) -> Result<(), Refusal> {
+    fn line(&mut self, line: &str) -> Result<(), Refusal>
+        requires { StandsAsTaken self.old }
+        ensures { OnOk result (TakesMore self.old (line.now ∷ []) self.new) }
+    {
         if MOST <= self.lines.len() {
             return Err(Refusal::OutOfRange);
         }
@@ -80,9 +108,13 @@ impl<'s> Taken<'s> {
     }
 
     // Does what is left to do, up to so many times.
-    fn settle(&mut self, most: u64) -> Result<(), Refusal> {
+    fn settle(&mut self, most: u64) -> Result<(), Refusal>
+        requires { StandsAsTaken self.old }
+        ensures { OnOk result (TakesSome self.old self.new) }
+    {
         for _ in 0..most {
-            if !self.round()? {
+            let done = self.round()?;
+            if !done {
                 return Ok(());
             }
         }
@@ -90,27 +122,50 @@ impl<'s> Taken<'s> {
     }
 
     // Does the first of what is left to do, and answers whether there was anything.
-    fn round(&mut self) -> Result<bool, Refusal> {
+    fn round(&mut self) -> Result<bool, Refusal>
+        requires { StandsAsTaken self.old }
+        ensures { OnOk result (TakesSome self.old self.new) }
+    {
         if self.play.flight.len() > 0 {
             self.line("flow")?;
             return Ok(true);
         }
         let before = standing_of(self.alloc, &self.play)?;
-        Ok(self.work(&before)? || self.lead(&before)?)
+        let worked = self.work(&before)?;
+        if worked {
+            return Ok(true);
+        }
+        self.lead(&before)
     }
 
-    // The workers of a server go on.
-    fn work(&mut self, before: &Standing) -> Result<bool, Refusal> {
-        let mut done = false;
+    // The workers of a server go on: of the first for whom that is of use.
+    fn work(&mut self, before: &Standing) -> Result<bool, Refusal>
+        requires { StandsAsTaken self.old }
+        ensures { OnOk result (TakesSome self.old self.new) }
+    {
         for (place, server) in before.servers.iter().enumerate() {
-            if !done && !server.is_idle {
-                done = self.work_at(before, place)?;
+            let done = self.work_at(before, place, server)?;
+            if done {
+                return Ok(true);
             }
         }
-        Ok(done)
+        Ok(false)
     }
 
-    fn work_at(&mut self, before: &Standing, position: usize) -> Result<bool, Refusal> {
+    // The workers of the server at a place go on, which stands so.
+    fn work_at(
+        &mut self,
+        before: &Standing,
+        position: usize,
+        own: &ServerStanding,
+    ) -> Result<bool, Refusal>
+        requires { StandsAsTaken self.old }
+        ensures { OnOk result (TakesSome self.old self.new) }
+    {
+        let idle = own.is_idle;
+        if idle {
+            return Ok(false);
+        }
         let Some(server) = ServerId::from_position(position) else {
             return Ok(false);
         };
@@ -118,21 +173,37 @@ impl<'s> Taken<'s> {
     }
 
     // What is left to do at the leader, and with what it knows.
-    fn lead(&mut self, before: &Standing) -> Result<bool, Refusal> {
+    fn lead(&mut self, before: &Standing) -> Result<bool, Refusal>
+        requires { StandsAsTaken self.old }
+        ensures { OnOk result (TakesSome self.old self.new) }
+    {
         let Some(own) = leader(before) else {
             return Ok(false);
         };
-        Ok(
-            self.plan(before, own)?
-                || self.commit(before, own)?
-                || self.hand_out(before, own)?
-                || self.pull(before, own)?
-                || self.tell(before, own)?,
-        )
+        let planned = self.plan(before, own)?;
+        if planned {
+            return Ok(true);
+        }
+        let committed = self.commit(before, own)?;
+        if committed {
+            return Ok(true);
+        }
+        let handed_out = self.hand_out(before, own)?;
+        if handed_out {
+            return Ok(true);
+        }
+        let pulled = self.pull(before, own)?;
+        if pulled {
+            return Ok(true);
+        }
+        self.tell(before, own)
     }
 
     // A plan that waits is weighed.
-    fn plan(&mut self, before: &Standing, own: ServerId) -> Result<bool, Refusal> {
+    fn plan(&mut self, before: &Standing, own: ServerId) -> Result<bool, Refusal>
+        requires { StandsAsTaken self.old }
+        ensures { OnOk result (TakesSome self.old self.new) }
+    {
         if !has_pending(&self.play.world, own) {
             return Ok(false);
         }
@@ -140,7 +211,10 @@ impl<'s> Taken<'s> {
     }
 
     // What is not applied at the leader is sent to the others.
-    fn commit(&mut self, before: &Standing, own: ServerId) -> Result<bool, Refusal> {
+    fn commit(&mut self, before: &Standing, own: ServerId) -> Result<bool, Refusal>
+        requires { StandsAsTaken self.old }
+        ensures { OnOk result (TakesSome self.old self.new) }
+    {
         if !has_unapplied(before, own) {
             return Ok(false);
         }
@@ -148,7 +222,10 @@ impl<'s> Taken<'s> {
     }
 
     // The workers of the leader ask for an evaluation.
-    fn hand_out(&mut self, before: &Standing, own: ServerId) -> Result<bool, Refusal> {
+    fn hand_out(&mut self, before: &Standing, own: ServerId) -> Result<bool, Refusal>
+        requires { StandsAsTaken self.old }
+        ensures { OnOk result (TakesSome self.old self.new) }
+    {
         if !has_pending(&self.play.world, own) {
             return Ok(false);
         }
@@ -160,7 +237,10 @@ impl<'s> Taken<'s> {
     }
 
     // Clients that run something else than what is listed ask for their lists.
-    fn pull(&mut self, before: &Standing, own: ServerId) -> Result<bool, Refusal> {
+    fn pull(&mut self, before: &Standing, own: ServerId) -> Result<bool, Refusal>
+        requires { StandsAsTaken self.old }
+        ensures { OnOk result (TakesSome self.old self.new) }
+    {
         let mut lines = Vec::new(self.alloc);
         for (place, client) in self.play.world.clients().iter().enumerate() {
             if differs(&self.play.world, own, client)? {
@@ -171,11 +251,36 @@ impl<'s> Taken<'s> {
     }
 
     // The others are told what is committed.
-    fn tell(&mut self, before: &Standing, own: ServerId) -> Result<bool, Refusal> {
+    fn tell(&mut self, before: &Standing, own: ServerId) -> Result<bool, Refusal>
+        requires { StandsAsTaken self.old }
+        ensures { OnOk result (TakesSome self.old self.new) }
+    {
         if !has_laggards(before, own) {
             return Ok(false);
         }
         self.attempt(before, &[format!(in self.alloc; "beat {own}")?], false)
+    }
+
+    // Takes the steps of these lines.
+    fn take_lines(&mut self, lines: &[String]) -> Result<(), Refusal>
+        requires { StandsAsTaken self.old }
+        ensures { OnOk result (TakesSome self.old self.new) }
+    {
+        for line in lines {
+            self.line(line.as_str())?;
+        }
+        Ok(())
+    }
+
+    // Takes a flow, where messages are in flight.
+    fn flow(&mut self) -> Result<(), Refusal>
+        requires { StandsAsTaken self.old }
+        ensures { OnOk result (TakesSome self.old self.new) }
+    {
+        if self.play.flight.len() == 0 {
+            return Ok(());
+        }
+        self.line("flow")
     }
 
     // Takes these steps, and a flow behind them where messages are in flight then. Where nothing
@@ -185,14 +290,13 @@ impl<'s> Taken<'s> {
         before: &Standing,
         lines: &[String],
         counts: bool,
-    ) -> Result<bool, Refusal> {
+    ) -> Result<bool, Refusal>
+        requires { StandsAsTaken self.old }
+        ensures { OnOk result (TakesSome self.old self.new) }
+    {
         let (kept, sent) = (self.lines.len(), self.play.world.sent().len());
-        for line in lines {
-            self.line(line.as_str())?;
-        }
-        if self.play.flight.len() > 0 {
-            self.line("flow")?;
-        }
+        self.take_lines(lines)?;
+        self.flow()?;
         let after = standing_of(self.alloc, &self.play)?;
         if *before != after || (counts && sent < self.play.world.sent().len()) {
             return Ok(true);
@@ -202,7 +306,10 @@ impl<'s> Taken<'s> {
     }
 
     // Takes all lines back but the first ones: those are played anew.
-    fn take_back(&mut self, kept: usize) -> Result<(), Refusal> {
+    fn take_back(&mut self, kept: usize) -> Result<(), Refusal>
+        requires { StandsAsTaken self.old }
+        ensures { OnOk result (TakesBack self.old kept self.new) }
+    {
         if kept < self.lines.len() {
             self.lines.truncate(kept);
             self.play = Play::new(self.alloc, self.settings, self.nodes)?;

@@ -9,8 +9,8 @@ use scenario_file::scenario::{Order, Scenario, Settings};
 use std::alloc::{AllocError, Global};
 
 /// The text of a scenario of these settings, nodes and steps, as `scenario` reads it: it is read
-/// again before it is answered. Fails with 12 where it is none, which the lines of steps never make
-/// it, and with 1 where there is no memory.
+/// again before it is answered. Fails with 12 where it is none, which no clause excludes, and with 1
+/// where there is no memory.
 pub fn plain_text(
     alloc: Global,
     settings: Settings,

@@ -1,4 +1,14 @@
 //! Scenarios in short form.
+ghost use Rattle.std.specs.Prelude.{◌≡◌, ◌≤◌, ◌<◌, ◌+◌, ◌⊎◌, ◌++◌, ◌∷◌, [], ℕ, List, IfErr, IfOk, MatchOption, OnOk, length, map};
+ghost use Rattle.std.specs.List.{repeat};
+ghost use Rattle.rows.specs.declared.refusal.Refusal.TheVariants.{NoMemory, OutOfRange};
+ghost use Rattle.serde_json.specs.Data.{Items};
+ghost use Rattle.serde_json.specs.View.{view};
+ghost use Rattle.expansion.specs.declared.short.ShortScenario.{ShortScenario};
+ghost use Rattle.expansion.specs.Inner.Parts.{IsPartOf};
+ghost use Rattle.expansion.specs.ShortSteps.{Short, short_step};
+ghost use Rattle.expansion.specs.Shorts.{AreSteps, ComesTo, IsRepeat, IsShortLine, IsShortScenario, IsShortText};
+
 use rows::{NodeSpec, Refusal};
 use scenario_file::reading::refuse_doubled_keys;
 use scenario_file::scenario::{Settings, keys_of, list_of, nodes_of, number_of, settings_of};
@@ -35,7 +45,11 @@ pub struct ShortScenario {
 
 /// Reads the text of a scenario in short form. Refused with 12 is what is none, with 1 want of
 /// memory. Whether a plain step is one is not looked at.
-pub fn short_scenario(alloc: Global, text: &str) -> Result<ShortScenario, Refusal> {
+pub fn short_scenario(alloc: Global, text: &str) -> Result<ShortScenario, Refusal>
+    ensures ok { IfOk result (IsShortText text.now) }
+    ensures refused { IfErr result (λ refusal. (refusal ≡ NoMemory)
+        ⊎ ((refusal ≡ OutOfRange) × ((s : ShortScenario) → ¬ IsShortText text.now s))) }
+{
     refuse_doubled_keys(alloc, text)?;
     match Value::from_str(alloc, text) {
         Ok(value) => short_scenario_of(alloc, &value),
@@ -45,11 +59,22 @@ pub fn short_scenario(alloc: Global, text: &str) -> Result<ShortScenario, Refusa
 }
 
 // The scenario in short form that a JSON value is.
-fn short_scenario_of(alloc: Global, value: &Value) -> Result<ShortScenario, Refusal> {
-    let settings = settings_of(value).ok_or(Refusal::OutOfRange)?;
-    let nodes = list_of(value, "nodes").ok_or(Refusal::OutOfRange)?;
+fn short_scenario_of(alloc: Global, value: &Value) -> Result<ShortScenario, Refusal>
+    ensures ok { IfOk result (IsShortScenario (view value.now)) }
+    ensures refused { IfErr result (λ refusal. (refusal ≡ NoMemory)
+        ⊎ ((refusal ≡ OutOfRange)
+        × ((s : ShortScenario) → ¬ IsShortScenario (view value.now) s))) }
+{
+    let Some(settings) = settings_of(value) else {
+        return Err(Refusal::OutOfRange);
+    };
+    let Some(nodes) = list_of(value, "nodes") else {
+        return Err(Refusal::OutOfRange);
+    };
     let nodes = nodes_of(alloc, nodes)?;
-    let steps = list_of(value, "steps").ok_or(Refusal::OutOfRange)?;
+    let Some(steps) = list_of(value, "steps") else {
+        return Err(Refusal::OutOfRange);
+    };
     let steps = short_steps(alloc, steps, DEPTH)?;
     Ok(ShortScenario {
         settings,
@@ -59,7 +84,12 @@ fn short_scenario_of(alloc: Global, value: &Value) -> Result<ShortScenario, Refu
 }
 
 // The steps that the values of a list are.
-fn short_steps(alloc: Global, list: &[Value], depth: u8) -> Result<Vec<ShortStep>, Refusal> {
+fn short_steps(alloc: Global, list: &[Value], depth: u8) -> Result<Vec<ShortStep>, Refusal>
+    ensures ok { IfOk result (λ steps.
+        AreSteps depth (map view list.now) (map short_step steps.items)) }
+    ensures refused { IfErr result (λ refusal. (refusal ≡ NoMemory) ⊎ ((refusal ≡ OutOfRange)
+        × ((steps : List Short) → ¬ AreSteps depth (map view list.now) steps))) }
+{
     let mut steps = Vec::new(alloc);
     for value in list {
         match part_of(alloc, value)? {
@@ -85,14 +115,25 @@ enum Part<'v> {
     Repeat(u64, &'v Vec<Value>),
 }
 
-fn part_of<'v>(alloc: Global, value: &'v Value) -> Result<Part<'v>, Refusal> {
+fn part_of<'v>(alloc: Global, value: &'v Value) -> Result<Part<'v>, Refusal>
+    ensures ok { IfOk result (IsPartOf (view value.now)) }
+    ensures refused { IfErr result (λ refusal. (refusal ≡ NoMemory) ⊎ ((refusal ≡ OutOfRange)
+        × ((depth : ℕ) (steps : List Short) → ¬ ComesTo depth (view value.now) steps))) }
+{
     match value.as_str() {
         Some(line) => Ok(Part::Step(step_of(alloc, line)?)),
-        None => repeat_of(value).ok_or(Refusal::OutOfRange),
+        None => match repeat_of(value) {
+            Some(part) => Ok(part),
+            None => Err(Refusal::OutOfRange),
+        },
     }
 }
 
-fn repeat_of<'v>(value: &'v Value) -> Option<Part<'v>> {
+fn repeat_of<'v>(value: &'v Value) -> Option<Part<'v>>
+    ensures { MatchOption result
+        ((times : ℕ) (items : Items) → ¬ IsRepeat (view value.now) times items)
+        (IsPartOf (view value.now)) }
+{
     if keys_of(value)? != 2 {
         return None;
     }
@@ -107,7 +148,13 @@ fn put_repeated(
     own: &[ShortStep],
     times: u64,
     steps: &mut Vec<ShortStep>,
-) -> Result<(), Refusal> {
+) -> Result<(), Refusal>
+    ensures put { OnOk result (map short_step steps.new.items
+        ≡ map short_step steps.old.items ++ repeat times (map short_step own.now)) }
+    ensures most { length steps.old.items ≤ MOST → OnOk result (length steps.new.items ≤ MOST) }
+    ensures refused { IfErr result (λ refusal. (refusal ≡ NoMemory) ⊎ ((refusal ≡ OutOfRange)
+        × (MOST < length steps.old.items + length (repeat times (map short_step own.now))))) }
+{
     if own.is_empty() {
         return Ok(());
     }
@@ -118,7 +165,13 @@ fn put_repeated(
 }
 
 // Puts copies of steps behind others.
-fn put_all(alloc: Global, own: &[ShortStep], steps: &mut Vec<ShortStep>) -> Result<(), Refusal> {
+fn put_all(alloc: Global, own: &[ShortStep], steps: &mut Vec<ShortStep>) -> Result<(), Refusal>
+    ensures put { OnOk result (map short_step steps.new.items
+        ≡ map short_step steps.old.items ++ map short_step own.now) }
+    ensures most { length steps.old.items ≤ MOST → OnOk result (length steps.new.items ≤ MOST) }
+    ensures refused { IfErr result (λ refusal. (refusal ≡ NoMemory)
+        ⊎ ((refusal ≡ OutOfRange) × (MOST < length steps.old.items + length own.now))) }
+{
     for step in own {
         put(alloc, step, steps)?;
     }
@@ -126,7 +179,13 @@ fn put_all(alloc: Global, own: &[ShortStep], steps: &mut Vec<ShortStep>) -> Resu
 }
 
 // Puts a copy of a step behind others.
-fn put(alloc: Global, step: &ShortStep, steps: &mut Vec<ShortStep>) -> Result<(), Refusal> {
+fn put(alloc: Global, step: &ShortStep, steps: &mut Vec<ShortStep>) -> Result<(), Refusal>
+    ensures put { OnOk result (map short_step steps.new.items
+        ≡ map short_step steps.old.items ++ short_step step.now ∷ []) }
+    ensures most { OnOk result (length steps.new.items ≤ MOST) }
+    ensures refused { IfErr result (λ refusal. (refusal ≡ NoMemory)
+        ⊎ ((refusal ≡ OutOfRange) × (MOST ≤ length steps.old.items))) }
+{
     let own = match step {
         ShortStep::Plain(line) => ShortStep::Plain(String::from_str(alloc, line.as_str())?),
         ShortStep::Settle(count) => ShortStep::Settle(*count),
@@ -135,7 +194,13 @@ fn put(alloc: Global, step: &ShortStep, steps: &mut Vec<ShortStep>) -> Result<()
 }
 
 // Puts a step behind others, of which there are fewer than the most.
-fn put_one(step: ShortStep, steps: &mut Vec<ShortStep>) -> Result<(), Refusal> {
+fn put_one(step: ShortStep, steps: &mut Vec<ShortStep>) -> Result<(), Refusal>
+    ensures put { OnOk result (map short_step steps.new.items
+        ≡ map short_step steps.old.items ++ short_step step ∷ []) }
+    ensures most { OnOk result (length steps.new.items ≤ MOST) }
+    ensures refused { IfErr result (λ refusal. (refusal ≡ NoMemory)
+        ⊎ ((refusal ≡ OutOfRange) × (MOST ≤ length steps.old.items))) }
+{
     if MOST <= steps.len() {
         return Err(Refusal::OutOfRange);
     }
@@ -143,7 +208,11 @@ fn put_one(step: ShortStep, steps: &mut Vec<ShortStep>) -> Result<(), Refusal> {
 }
 
 // The step of a line.
-fn step_of(alloc: Global, line: &str) -> Result<ShortStep, Refusal> {
+fn step_of(alloc: Global, line: &str) -> Result<ShortStep, Refusal>
+    ensures ok { IfOk result (λ step. IsShortLine (short_step step) line.now) }
+    ensures refused { IfErr result (λ refusal. (refusal ≡ NoMemory) ⊎ ((refusal ≡ OutOfRange)
+        × ((step : Short) → ¬ IsShortLine step line.now))) }
+{
     if line == "settle" {
         return Ok(ShortStep::Settle(None));
     }

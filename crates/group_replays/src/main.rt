@@ -7,6 +7,7 @@ mod crashes;
 mod frames;
 mod group;
 mod lines;
+mod looks;
 mod old;
 mod requests;
 mod samples;
@@ -26,5 +27,6 @@ fn main(rt: HostRuntime) -> io::Result<()> {
     stored::texts(&rt)?;
     apart::servers(&rt)?;
     old::starts(&rt)?;
-    crashes::crashes(&rt)
+    crashes::crashes(&rt)?;
+    looks::looks(&rt)
 }

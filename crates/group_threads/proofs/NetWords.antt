@@ -1,9 +1,11 @@
 -- How often a message is put, where a word decides and where none does.
 use Rattle.std.proofs.Common.{◌≡◌, ◌%◌, ℕ, refl, sym, arith}
+use Rattle.std.specs.Prelude.{Option}
 use Rattle.lossy_net.specs.declared.message_fate.MessageFate.{MessageFate}
 use Rattle.lossy_net.specs.declared.message_fate.MessageFate.TheVariants as fates
 use Rattle.lossy_net.specs.Fates.{HasFate, IsPutSoOften, times_of}
-use Rattle.group_threads.specs.Inner.Posting.{MayBePutSoOften}
+use Rattle.cells.specs.Cells.{EnvelopeView}
+use Rattle.group_threads.specs.Inner.Posting.{ArePut, ArePutByParts, MayBePutSoOften}
 
 pub by_word : (word drop repeat times : ℕ) → IsPutSoOften word drop repeat times → MayBePutSoOften drop repeat times
 by_word word drop repeat times so = (word, so)
@@ -15,3 +17,6 @@ once drop repeat times none nor is fates.Once has = is
 
 pub no_word : (drop repeat times : ℕ) → drop ≡ 0 → repeat ≡ 0 → times ≡ 1 → MayBePutSoOften drop repeat times
 no_word drop repeat times none nor is = (0, once drop repeat times none nor is)
+
+pub by_parts : (drop repeat times : ℕ) (e : EnvelopeView) (first second : Option EnvelopeView) → MayBePutSoOften drop repeat times → ArePut times e first second → ArePutByParts drop repeat e first second
+by_parts drop repeat times e first second may are = (times, may, are)

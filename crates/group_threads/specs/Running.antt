@@ -1,21 +1,30 @@
 -- What contracts see of a group that runs.
-use Rattle.std.specs.Prelude.{◌≡◌, ◌⊎◌, ℕ, ◌+◌, ◌-◌, ◌*◌, ◌^◌, min, List, length}
+use Rattle.std.specs.Prelude.{◌≡◌, ◌⊎◌, ℕ, ◌+◌, ◌-◌, ◌*◌, ◌^◌, min, List, length, replicate}
 use Rattle.rows.specs.declared.actor.Actor.{Actor}
 use Rattle.rows.specs.declared.refusal.Refusal.{Refusal}
 use Rattle.rows.specs.declared.refusal.Refusal.TheVariants as refusals
 use Rattle.rows.specs.declared.worker.Work.{Work}
-use Rattle.lossy_net.specs.Queues.{IsCapacity}
+use Rattle.lossy_net.specs.Queues.{IsCapacity, Queues}
 use Rattle.cells.specs.declared.own_input.OwnInput.{OwnInput}
 use Rattle.cells.specs.Cells.{EnvelopeView}
 use Rattle.cells.specs.Opening.{CellGroup}
 use Rattle.cells.specs.Turns.{TookTurn, own_envelope}
 
--- its cells; how many of a hundred messages are lost, and how many come twice; and its gate
+-- its cells; the queues of its messages; how many of a hundred are lost, and how many come twice;
+-- and its gate
 pub record RunningView (G : Type 0) : Type 0 where
   pub cells : CellGroup
+  pub net : Queues
   pub drop : ℕ
   pub repeat : ℕ
   pub gate : G
+
+-- a queue for each of these actors, each with room for so many messages
+abbrev pub equal_queues : List Actor → ℕ → Queues
+equal_queues all capacity = record {
+  actors = all;
+  capacities = replicate (length all) capacity;
+}
 
 -- why no group was made: its queues may not have this capacity, or they may, and memory was wanting
 abbrev pub WhyNotRunning : ℕ → Refusal → Type 0

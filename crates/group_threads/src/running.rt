@@ -3,7 +3,9 @@ ghost use Rattle.std.specs.Prelude.{◌≡◌, ◌+◌, ◌<◌, ◌≤◌, vec_
 ghost use Rattle.std.specs.Arc.{arc_value};
 ghost use Rattle.lossy_net.specs.Queues.{IsCapacity};
 ghost use Rattle.cells.specs.Actors.{group_size};
-ghost use Rattle.group_threads.specs.Running.{TookInput, WhyNotRunning, thread_count};
+ghost use Rattle.group_threads.specs.Inner.Duties.{IsDuty};
+ghost use Rattle.group_threads.specs.Inner.Posting.{ArePutByParts};
+ghost use Rattle.group_threads.specs.Running.{TookInput, WhyNotRunning, equal_queues, thread_count};
 ghost use Rattle.cells.specs.Turns.{WhyNoTurn, own_envelope};
 
 use crate::bell::Bell;
@@ -46,8 +48,8 @@ pub struct NetSettings {
 /// is lost, put once, or put twice. Where none of a hundred is to be lost or to come twice, each is
 /// put once and no word is drawn. One for which there is no room is lost, and counted.
 ///
-/// Contracts see the cells as they see `Cells`, the settings of the net, and the gate. What is on
-/// its way, what was lost, what waits for workers, and what lies in the cells, threads may change at
+/// Contracts see the cells as they see `Cells`, the queues as they see `Net`, the parts of lost and
+/// of repeated messages, and the gate. What is on its way, what was lost, what waits for workers, and what lies in the cells, threads may change at
 /// any moment.
 #[derive(Drop)]
 pub struct RunningGroup<B: BookId, G: Gate + Drop> {
@@ -77,6 +79,7 @@ impl<B: BookId, G: Gate + Drop> Model for RunningGroup<B, G> {
 
     ghost view = { λ g. record {
       cells = g.cells;
+      net = g.net;
       drop = g.drop;
       repeat = g.repeat;
       gate = g.gate;
@@ -109,14 +112,36 @@ fn bells(alloc: Global, count: usize) -> Result<Vec<Bell>, NoMemory> {
     Ok(bells)
 }
 
+// What a thread is for: the actor at a place, or a worker of the server at a place.
+#[derive(Clone, Copy)]
+enum Duty {
+    Actor(usize),
+    Worker(usize),
+}
+
+// What the thread of this number is for: the actors' come first, then so many of each server's
+// workers, server by server.
+fn duty_of(number: usize, actors: usize, workers: usize) -> Option<Duty>
+    ensures { IsDuty number actors workers result }
+{
+    if number < actors {
+        return Some(Duty::Actor(number));
+    }
+    if workers == 0 {
+        return None;
+    }
+    Some(Duty::Worker((number - actors) / workers))
+}
+
 impl<B: BookId, G: Gate + Drop> RunningGroup<B, G> {
     /// A group of these cells, before its threads start. No message is on its way, and no work
     /// waits.
     ///
     /// It is refused with `OutOfRange` where `net.capacity` is not from 1 to 65,536, and else with
     /// `NoMemory` where memory is wanting.
-    /// - `group`: it has these cells, this gate, and these parts of lost and of repeated messages.
-    ///   Of the key, which lies behind a lock, nothing is said.
+    /// - `group`: it has these cells, for each of their actors a queue with room for just so many
+    ///   messages, this gate, and these parts of lost and of repeated messages. Of the key, which
+    ///   lies behind a lock, nothing is said.
     /// - `capacity`: there is one only of such a capacity.
     /// - `refused`: with nothing else, and with each just there.
     pub fn new(
@@ -127,6 +152,7 @@ impl<B: BookId, G: Gate + Drop> RunningGroup<B, G> {
     ) -> Result<RunningGroup<B, G>, Refusal>
         ensures group { IfOk result (λ g. g ≡ record {
           cells = cells;
+          net = equal_queues cells.actors net.capacity;
           drop = net.drop;
           repeat = net.repeat;
           gate = gate;
@@ -297,17 +323,26 @@ impl<B: BookId, G: Gate + Drop> RunningGroup<B, G> {
 
     // What becomes of a message that is sent.
     fn post<R: Wait>(&self, rt: &R, envelope: Envelope<B>) {
-        let (first, second) = copies(
-            &self.cells,
-            envelope,
-            times(rt, &self.fates, self.drop, self.repeat),
-        );
+        let (first, second) = self.fated(rt, envelope);
         if let Some(envelope) = first {
             self.put(rt, envelope);
         }
         if let Some(envelope) = second {
             self.put(rt, envelope);
         }
+    }
+
+    // What is put of a message, for the group's parts of lost and of repeated messages.
+    #[tactic(auto, using(crate::proofs::NetWords::by_parts))]
+    fn fated<R: Wait>(
+        &self,
+        rt: &R,
+        envelope: Envelope<B>,
+    ) -> (Option<Envelope<B>>, Option<Envelope<B>>)
+        ensures { ArePutByParts self.now.drop self.now.repeat envelope result.0 result.1 }
+    {
+        let times = times(rt, &self.fates, self.drop, self.repeat);
+        copies(&self.cells, envelope, times)
     }
 
     // A message is put on its way, and the thread of its receiver is woken. Where there is no room
@@ -406,13 +441,12 @@ impl<B: BookId, G: Gate + Drop> RunningGroup<B, G> {
         }
     }
 
-    // The thread of this number: the actors' come first, then the workers', server by server.
+    // The thread of this number.
     fn run<R: Wait>(&self, rt: &R, number: usize, workers: u8) {
-        let actors = self.cells.actors().len();
-        if number < actors {
-            self.run_actor(rt, number);
-        } else if workers > 0 {
-            self.run_worker(rt, (number - actors) / usize::from(workers));
+        match duty_of(number, self.cells.actors().len(), usize::from(workers)) {
+            Some(Duty::Actor(place)) => self.run_actor(rt, place),
+            Some(Duty::Worker(place)) => self.run_worker(rt, place),
+            None => (),
         }
     }
 

@@ -1,17 +1,21 @@
 //! A worker of one server.
 ghost use Rattle.std.specs.Arc.{arc_value};
-ghost use Rattle.std.specs.Prelude.{◌≡◌, false, None, IfErr, IfOk, IfSome};
+ghost use Rattle.std.specs.Bool.{OnTrue};
+ghost use Rattle.std.specs.Prelude.{◌≡◌, false, None, IfErr, IfOk, IfSome, MatchBool};
 ghost use Rattle.rows.specs.declared.actor.Actor.TheVariants as actors;
 ghost use Rattle.cells.specs.Actors.{group_size};
 ghost use Rattle.cells.specs.Cells.{AreSent};
 ghost use Rattle.cells.specs.Turns.{CellHasState};
-ghost use Rattle.group_threads.specs.WorkerTurns.{TookAsking, WhyNoState, WhyNoWorkerTurn};
-ghost use Rattle.group_threads.specs.Inner.Asked.{IsHandled, least_index};
+ghost use Rattle.group_threads.specs.WorkerTurns.{CellIsBehind, IsBehind, least_index};
+ghost use Rattle.group_threads.specs.WorkerTurns.{RestsWith, TookAsked, TookAsking, WentSo};
+ghost use Rattle.group_threads.specs.WorkerTurns.{WhyNoState, WhyNotAsked, WhyNoWorkerTurn};
+ghost use Rattle.group_threads.specs.Inner.Asked.{IsHandled, StepsAs, TookOwn, WhyNoStep, WhyNotOwn};
 
 use cells::{CellTurn, Cells, Envelope, GroupActor, OwnInput, turn};
 use event_book::BookId;
 use fsm_state::Cluster;
 use rows::{Actor, Delivery, Index, NoMemory, Refusal, ServerId, WorkerResponse};
+use server::ServerInput;
 use std::alloc::Global;
 use std::sync::{Arc, Mutex, Wait};
 use workers::{Handled, ServerWorkers, TakenWork};
@@ -59,19 +63,29 @@ fn least_index(response: &WorkerResponse) -> Index
     }
 }
 
-// Whether a server that is up has applied fewer entries. Its cell is locked meanwhile.
-fn is_behind<B: BookId, R: Wait>(rt: &R, cells: &Cells<B>, server: ServerId, least: Index) -> bool {
+// Whether this server is up and has applied fewer entries. Its cell is locked meanwhile.
+#[tactic(auto, using(crate::proofs::Started::cell_is_behind))]
+fn is_behind<B: BookId, R: Wait>(rt: &R, cells: &Cells<B>, server: ServerId, least: Index) -> bool
+    ensures { OnTrue result (CellIsBehind (group_size B.actors) server least) }
+{
     match cells.lock(rt, Actor::Server(server)) {
-        Some(cell) => has_applied_less(cell.actor(), least),
+        Some(cell) => has_applied_less(cell.actor(), server, least),
         None => false,
     }
 }
 
-fn has_applied_less(actor: &GroupActor, least: Index) -> bool {
-    let GroupActor::Server(server) = actor else {
+// Whether the actor is this server, and is up and has applied fewer entries.
+fn has_applied_less(actor: &GroupActor, server: ServerId, least: Index) -> bool
+    ensures { MatchBool result (IsBehind server least actor.now)
+        (¬ IsBehind server least actor.now) }
+{
+    let GroupActor::Server(found) = actor else {
         return false;
     };
-    match server.applied() {
+    if found.me() != server {
+        return false;
+    }
+    match found.applied() {
         Some(applied) => applied < least,
         None => false,
     }
@@ -128,6 +142,80 @@ fn handled<R: Wait>(
     }
 }
 
+// The worker's next step with what it took up, at the state of its server, and what becomes of that
+// by it. The gate is passed once the state is copied.
+#[tactic(auto, using(crate::proofs::Started::steps_as))]
+fn stepped<B: BookId, G: Gate, R: Wait>(
+    rt: &R,
+    cells: &Cells<B>,
+    workers: &Mutex<ServerWorkers>,
+    server: ServerId,
+    gate: &G,
+    taken: TakenWork,
+) -> Result<Handled, Refusal>
+    ensures handled { IfOk result (StepsAs (group_size B.actors) server taken) }
+    ensures refused { IfErr result (WhyNoStep (group_size B.actors) cells.now.actors server) }
+{
+    let (state, index) = snapshot(rt, cells, server)?;
+    pass(gate, &taken.work.response);
+    Ok(handled(rt, cells.alloc(), workers, taken, &state, index)?)
+}
+
+// A server takes in what its workers ask.
+#[tactic(auto, using(crate::proofs::Started::own_lacks_memory))]
+fn asked<B: BookId, R: Wait>(
+    rt: &R,
+    cells: &Cells<B>,
+    server: ServerId,
+    input: ServerInput,
+) -> Result<CellTurn<B>, Refusal>
+    ensures took { IfOk result (λ turn.
+        TookOwn (group_size B.actors) server input turn.work turn.sent.items turn.unsent) }
+    ensures sent { IfOk result (λ turn. AreSent (actors.Server server) turn.sent.items) }
+    ensures refused { IfErr result
+        (WhyNotOwn (group_size B.actors) cells.now.actors server input) }
+{
+    let own = OwnInput::server(cells.alloc(), input)?;
+    let envelope = Envelope::own(Actor::Server(server), own);
+    turn(rt, cells, Actor::Server(server), envelope)
+}
+
+// A worker goes on with what it took up, or that waits in front again for a later state.
+fn went<B: BookId, G: Gate, R: Wait>(
+    rt: &R,
+    cells: &Cells<B>,
+    workers: &Mutex<ServerWorkers>,
+    server: ServerId,
+    gate: &G,
+    taken: TakenWork,
+) -> Result<WorkerTurn<B>, Refusal>
+    ensures turn { IfOk result (λ w. IfSome w.turn (λ turn.
+        TookAsked (group_size B.actors) server taken turn.work turn.sent.items turn.unsent)) }
+    ensures sent { IfOk result (λ w. IfSome w.turn (λ turn.
+        AreSent (actors.Server server) turn.sent.items)) }
+    ensures resting { IfOk result (λ w. w.went_on ≡ false → w.turn ≡ None) }
+    ensures idle { IfOk result (λ w. w.turn ≡ None →
+        RestsWith (group_size B.actors) server taken w.went_on) }
+    ensures refused { IfErr result
+        (WhyNotAsked (group_size B.actors) cells.now.actors server taken) }
+{
+    if is_behind(rt, cells, server, least_index(&taken.work.response)) {
+        workers.lock(rt).put_back(taken)?;
+        return Ok(resting(false));
+    }
+    match stepped(rt, cells, workers, server, gate, taken)? {
+        Handled::Waits => Ok(resting(false)),
+        Handled::Dropped => Ok(resting(true)),
+        Handled::Asks(input) => {
+            let turned = asked(rt, cells, server, input)?;
+            Ok(WorkerTurn {
+                went_on: true,
+                turn: Some(turned),
+            })
+        }
+    }
+}
+
 /// A worker of a server takes up the oldest work that waits: it copies its server's state under the
 /// lock of the server's cell, passes the gate where an evaluation was delivered, plans, and lets its
 /// server take in what it asks. It holds no lock while it passes the gate and plans. Where the work
@@ -141,8 +229,9 @@ fn handled<R: Wait>(
 ///   has applied, after as many plans as were counted under the delivery.
 /// - `sent`: what was sent are first outputs of one event that the server noted, with their tokens.
 /// - `resting`: where it did not go on with anything, its server took no turn.
+/// - `idle`: where its server took no turn, the next step with the oldest of what waited is to drop
+///   it, and the worker went on; or it waits for a later state, or nothing waited.
 /// - `refused`: with nothing else.
-#[tactic(auto, using(crate::proofs::Started::no_state_taken, crate::proofs::Started::no_memory_taken))]
 pub fn worker_turn<B: BookId, G: Gate, R: Wait>(
     rt: &R,
     cells: &Cells<B>,
@@ -155,27 +244,12 @@ pub fn worker_turn<B: BookId, G: Gate, R: Wait>(
     ensures sent { IfOk result (λ w. IfSome w.turn (λ turn.
         AreSent (actors.Server server) turn.sent.items)) }
     ensures resting { IfOk result (λ w. w.went_on ≡ false → w.turn ≡ None) }
+    ensures idle { IfOk result (λ w. w.turn ≡ None →
+        WentSo (group_size B.actors) server w.went_on) }
     ensures refused { IfErr result (WhyNoWorkerTurn (group_size B.actors) cells.now.actors server) }
 {
     let Some(taken) = workers.lock(rt).take() else {
         return Ok(resting(false));
     };
-    if is_behind(rt, cells, server, least_index(&taken.work.response)) {
-        workers.lock(rt).put_back(taken)?;
-        return Ok(resting(false));
-    }
-    let (state, index) = snapshot(rt, cells, server)?;
-    pass(gate, &taken.work.response);
-    match handled(rt, cells.alloc(), workers, taken, &state, index)? {
-        Handled::Waits => Ok(resting(false)),
-        Handled::Dropped => Ok(resting(true)),
-        Handled::Asks(input) => {
-            let own = OwnInput::server(cells.alloc(), input)?;
-            let envelope = Envelope::own(Actor::Server(server), own);
-            Ok(WorkerTurn {
-                went_on: true,
-                turn: Some(turn(rt, cells, Actor::Server(server), envelope)?),
-            })
-        }
-    }
+    went(rt, cells, workers, server, gate, taken)
 }

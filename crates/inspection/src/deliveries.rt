@@ -1,4 +1,7 @@
 //! The deliveries that a server sent, as its messages tell.
+ghost use Rattle.std.specs.Prelude.{◌≡◌, None, fold};
+ghost use Rattle.inspection.specs.Inner.Deliveries.{later};
+
 use fsm_state::Cluster;
 use rows::{Actor, Delivery, EvalId, NoMemory, Refusal, WorkerResponse};
 use server::Server;
@@ -58,7 +61,9 @@ fn delivery_at(
 }
 
 /// The last delivery of an evaluation among these.
-pub(crate) fn last_of(eval: EvalId, sent: &[Sent]) -> Option<Sent> {
+pub(crate) fn last_of(eval: EvalId, sent: &[Sent]) -> Option<Sent>
+    ensures { result ≡ fold (later eval) None sent.now }
+{
     let mut last = None;
     for one in sent {
         if one.delivery.eval == eval {

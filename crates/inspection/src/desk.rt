@@ -1,4 +1,10 @@
 //! The desk of a server that leads.
+ghost use Rattle.std.specs.Prelude.{◌≡◌};
+ghost use Rattle.std.specs.List.{list_any};
+ghost use Rattle.cluster_model.specs.Words.{same_eval};
+ghost use Rattle.group_model.specs.Brokers.{task_of};
+ghost use Rattle.inspection.specs.Inner.Deliveries.{delivery_word};
+
 use crate::deliveries::{Sent, last_of, sent_deliveries};
 use crate::report::{BeatReport, BlockedReport, DeliveryReport, DeskReport, PlanReport};
 use crate::shown::{eval_text, token_text};
@@ -78,7 +84,9 @@ fn delivery(
 }
 
 // What became of an evaluation that was given out so often.
-fn now(broker: &Broker, eval: &EvalId, times: u8) -> &'static str {
+fn now(broker: &Broker, eval: &EvalId, times: u8) -> &'static str
+    ensures { result.now ≡ delivery_word (task_of eval.now broker.now.tasks) times }
+{
     if broker.is_acked(*eval) {
         return "done";
     }
@@ -134,13 +142,10 @@ fn blocked_one(alloc: Global, row: &Evaluation, due: &[EvalId]) -> Result<Blocke
     })
 }
 
-fn is_among(eval: EvalId, ids: &[EvalId]) -> bool {
-    for id in ids {
-        if *id == eval {
-            return true;
-        }
-    }
-    false
+fn is_among(eval: EvalId, ids: &[EvalId]) -> bool
+    ensures { result ≡ list_any (λ id. same_eval id eval) ids.now }
+{
+    ids.iter().any(|id| *id == eval)
 }
 
 // How often the desk heard of each node of a state that is not down.

@@ -1,8 +1,10 @@
 //! A group that is played again, and what is written of it.
 ghost use Rattle.std.specs.Prelude.{◌≡◌, ◌≢◌, ◌∷◌, ◌++◌, [], IfErr, IfOk, OnOk, map, string_bytes};
 ghost use Rattle.std.specs.Io.KnownBytes.{Appends};
+ghost use Rattle.world.specs.GroupEvents.{group_event};
 ghost use Rattle.picture.specs.Pictures.{MayBe, MayNotBe};
 ghost use Rattle.inspection.specs.Told.{lines_text};
+ghost use Rattle.inspection.specs.Inner.Taking.{Took};
 ghost use Rattle.inspection.specs.declared.fault.InspectError.TheVariants as errors;
 
 use crate::fault::InspectError;
@@ -35,7 +37,9 @@ pub(crate) fn begin(
 
 /// Takes an event: the number of the refusal where it is refused. A crash for want of memory is
 /// none of the run that is played again.
-pub(crate) fn take(world: &mut World, event: Event) -> Result<Option<u8>, NoMemory> {
+pub(crate) fn take(world: &mut World, event: Event) -> Result<Option<u8>, NoMemory>
+    ensures { IfOk result (λ number. Took world.old (group_event event) number world.new) }
+{
     let done = world.step(event);
     let _work = world.take_work();
     match done {

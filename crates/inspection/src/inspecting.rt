@@ -1,5 +1,5 @@
 //! How a group stands after some of a run's events.
-ghost use Rattle.std.specs.Prelude.{◌≡◌, ◌≢◌, ◌<◌, ◌≤◌, length, IfErr, OnOk};
+ghost use Rattle.std.specs.Prelude.{◌≡◌, ◌≢◌, ◌<◌, ◌≤◌, length, IfErr, IfOk, OnOk};
 ghost use Rattle.picture.specs.Pictures.{MayBe, MayNotBe};
 ghost use Rattle.inspection.specs.Told.{GrowsByLines};
 ghost use Rattle.inspection.specs.declared.fault.InspectError.TheVariants as errors;
@@ -43,6 +43,8 @@ pub fn inspect<W: Write>(
     ensures past { IfErr result (λ error. error ≡ errors.NoSuchEvent → length events.now < after) }
     ensures no_event { length events.now < after → result ≡ Err errors.NoSuchEvent }
     ensures group { OnOk result (MayBe servers nodes.now) }
+    ensures fault { IfErr result (λ error. error ≢ errors.Group → error ≢ errors.NoSuchEvent
+        → MayBe servers nodes.now) }
     ensures no_group { IfErr result (λ error. error ≡ errors.Group → MayNotBe servers nodes.now) }
     ensures lines { OnOk result (GrowsByLines (W.contents out.old) (W.contents out.new)) }
     ensures left { IfErr result (λ error. error ≢ errors.Output → out.new ≡ out.old) }
@@ -62,7 +64,9 @@ fn inspected(
     events: &[Event],
     all: usize,
     form: Form,
-) -> Result<Vec<String>, NoMemory> {
+) -> Result<Vec<String>, NoMemory>
+    ensures { IfOk result (λ lines. 0 < length lines.items) }
+{
     let mut world = world;
     for event in events {
         let _refusal = take(&mut world, event.try_clone(alloc)?)?;
@@ -74,7 +78,9 @@ fn inspected(
     }
 }
 
-fn json_lines(alloc: Global, report: &Report) -> Result<Vec<String>, NoMemory> {
+fn json_lines(alloc: Global, report: &Report) -> Result<Vec<String>, NoMemory>
+    ensures { IfOk result (λ lines. length lines.items ≡ 1) }
+{
     let mut lines = Vec::new(alloc);
     match serde_json::to_string(alloc, report) {
         Ok(text) => lines.push(text)?,

@@ -1,4 +1,6 @@
 //! A report as lines of text.
+ghost use Rattle.std.specs.Prelude.{◌<◌, ◌≤◌, IfOk, OnOk, length};
+
 use crate::grid::Grid;
 use crate::report::{
     DeskReport, EvaluationReport, NodesReport, PlacementReport, Report, StateReport,
@@ -12,24 +14,33 @@ use rows::NoMemory;
 use std::alloc::Global;
 
 /// The lines of a report.
-pub(crate) fn report_lines(alloc: Global, report: &Report) -> Result<Vec<String>, NoMemory> {
+pub(crate) fn report_lines(alloc: Global, report: &Report) -> Result<Vec<String>, NoMemory>
+    ensures { IfOk result (λ lines. 0 < length lines.items) }
+{
     let mut lines = Vec::new(alloc);
     let (after, events, messages) = (report.after, report.events, report.messages);
     lines.push(format!(in alloc; "after {after} of {events} events, {messages} messages sent")?)?;
-    put_table(alloc, &mut lines, &servers_table(alloc, &report.servers)?)?;
-    put_table(alloc, &mut lines, &entries_table(alloc, &report.servers)?)?;
+    put_table(alloc, &mut lines, servers_table(alloc, &report.servers))?;
+    put_table(alloc, &mut lines, entries_table(alloc, &report.servers))?;
     for desk in &report.desks {
         put_desk(alloc, &mut lines, desk)?;
     }
-    put_table(alloc, &mut lines, &clients_table(alloc, &report.clients)?)?;
+    put_table(alloc, &mut lines, clients_table(alloc, &report.clients))?;
     for state in &report.states {
         put_state(alloc, &mut lines, state)?;
     }
     Ok(lines)
 }
 
-// An empty line, and then the lines of a table, if it has more than its heads.
-fn put_table(alloc: Global, lines: &mut Vec<String>, table: &Grid) -> Result<(), NoMemory> {
+// An empty line, and then the lines of a table, if there was memory and it has more than its heads.
+fn put_table(
+    alloc: Global,
+    lines: &mut Vec<String>,
+    made: Result<Grid, NoMemory>,
+) -> Result<(), NoMemory>
+    ensures { OnOk result (length lines.old.items ≤ length lines.new.items) }
+{
+    let table = made?;
     if table.rows.len() < 2 {
         return Ok(());
     }
@@ -40,25 +51,29 @@ fn put_table(alloc: Global, lines: &mut Vec<String>, table: &Grid) -> Result<(),
     Ok(())
 }
 
-fn put_desk(alloc: Global, lines: &mut Vec<String>, desk: &DeskReport) -> Result<(), NoMemory> {
+fn put_desk(alloc: Global, lines: &mut Vec<String>, desk: &DeskReport) -> Result<(), NoMemory>
+    ensures { OnOk result (length lines.old.items ≤ length lines.new.items) }
+{
     let (server, term) = (desk.server, desk.term);
     let state = if desk.open { "open" } else { "not open yet" };
     lines.push(String::new(alloc))?;
     lines.push(format!(in alloc; "desk of S{server} in term {term}: {state}")?)?;
-    put_table(alloc, lines, &given_table(alloc, &desk.given_out)?)?;
-    put_table(alloc, lines, &plans_table(alloc, &desk.plans)?)?;
-    put_table(alloc, lines, &blocked_table(alloc, &desk.blocked)?)?;
-    put_table(alloc, lines, &beats_table(alloc, &desk.beats)?)
+    put_table(alloc, lines, given_table(alloc, &desk.given_out))?;
+    put_table(alloc, lines, plans_table(alloc, &desk.plans))?;
+    put_table(alloc, lines, blocked_table(alloc, &desk.blocked))?;
+    put_table(alloc, lines, beats_table(alloc, &desk.beats))
 }
 
-fn put_state(alloc: Global, lines: &mut Vec<String>, state: &StateReport) -> Result<(), NoMemory> {
+fn put_state(alloc: Global, lines: &mut Vec<String>, state: &StateReport) -> Result<(), NoMemory>
+    ensures { OnOk result (length lines.old.items ≤ length lines.new.items) }
+{
     lines.push(String::new(alloc))?;
     lines.push(state_head(alloc, state)?)?;
-    put_table(alloc, lines, &jobs_table(alloc, &state.jobs)?)?;
-    put_table(alloc, lines, &nodes_table(alloc, &state.nodes)?)?;
-    put_table(alloc, lines, &evaluations_table(alloc, &state.evaluations)?)?;
+    put_table(alloc, lines, jobs_table(alloc, &state.jobs))?;
+    put_table(alloc, lines, nodes_table(alloc, &state.nodes))?;
+    put_table(alloc, lines, evaluations_table(alloc, &state.evaluations))?;
     put_placements(alloc, lines, &state.evaluations)?;
-    put_table(alloc, lines, &allocations_table(alloc, &state.allocations)?)
+    put_table(alloc, lines, allocations_table(alloc, &state.allocations))
 }
 
 fn state_head(alloc: Global, state: &StateReport) -> Result<String, NoMemory> {
@@ -75,7 +90,9 @@ fn put_placements(
     alloc: Global,
     lines: &mut Vec<String>,
     evaluations: &[EvaluationReport],
-) -> Result<(), NoMemory> {
+) -> Result<(), NoMemory>
+    ensures { OnOk result (length lines.old.items ≤ length lines.new.items) }
+{
     let mut first = true;
     for evaluation in evaluations {
         for group in &evaluation.groups {

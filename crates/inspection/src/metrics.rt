@@ -1,4 +1,9 @@
 //! What a worker would find for the groups of an evaluation's job.
+ghost use Rattle.std.specs.Prelude.{◌≡◌, true, false, [], IfOk};
+ghost use Rattle.cluster_model.specs.Words.{is_open};
+ghost use Rattle.placement_metrics.specs.Verdicts.{AreCounts};
+ghost use Rattle.inspection.specs.Inner.Findings.{ArePlacements, IsPlacement, counts_in};
+
 use crate::report::{NodesReport, PlacementReport};
 use crate::shown::owned;
 use fsm_state::Cluster;
@@ -12,7 +17,11 @@ pub(crate) fn placements(
     alloc: Global,
     state: &Cluster,
     eval: &Evaluation,
-) -> Result<Vec<PlacementReport>, NoMemory> {
+) -> Result<Vec<PlacementReport>, NoMemory>
+    ensures open { is_open eval.now.status ≡ true →
+        IfOk result (λ all. ArePlacements state.now eval.now all.items) }
+    ensures closed { is_open eval.now.status ≡ false → IfOk result (λ all. all.items ≡ []) }
+{
     match eval.status {
         EvalStatus::Pending | EvalStatus::Blocked => open_placements(alloc, state, eval),
         EvalStatus::Complete | EvalStatus::Failed => Ok(Vec::new(alloc)),
@@ -23,15 +32,20 @@ fn open_placements(
     alloc: Global,
     state: &Cluster,
     eval: &Evaluation,
-) -> Result<Vec<PlacementReport>, NoMemory> {
+) -> Result<Vec<PlacementReport>, NoMemory>
+    ensures { IfOk result (λ all. ArePlacements state.now eval.now all.items) }
+{
+    let found = eval_metrics(alloc, state, eval)?;
     let mut reports = Vec::new(alloc);
-    for metrics in &eval_metrics(alloc, state, eval)? {
+    for metrics in &found {
         reports.push(placement(alloc, metrics)?)?;
     }
     Ok(reports)
 }
 
-fn placement(alloc: Global, metrics: &GroupMetrics) -> Result<PlacementReport, NoMemory> {
+fn placement(alloc: Global, metrics: &GroupMetrics) -> Result<PlacementReport, NoMemory>
+    ensures { IfOk result (IsPlacement metrics.now) }
+{
     Ok(PlacementReport {
         group: owned(alloc, metrics.group.name.as_str())?,
         missing: metrics.missing,
@@ -41,7 +55,9 @@ fn placement(alloc: Global, metrics: &GroupMetrics) -> Result<PlacementReport, N
     })
 }
 
-fn nodes_of(metrics: &GroupMetrics) -> NodesReport {
+fn nodes_of(metrics: &GroupMetrics) -> NodesReport
+    ensures { AreCounts metrics.now.verdicts.items (counts_in result) }
+{
     let counts = counts(&metrics.verdicts);
     NodesReport {
         other_class: counts.other_class,

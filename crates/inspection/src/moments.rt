@@ -35,6 +35,8 @@ pub fn each_moment(
     ensures group { OnOk result (MayBe servers nodes.now) }
     ensures fault { IfErr result (λ error. error ≢ errors.Group → MayBe servers nodes.now) }
     ensures no_group { IfErr result (λ error. error ≡ errors.Group → MayNotBe servers nodes.now) }
+    ensures past { IfErr result (λ error. error ≢ errors.NoSuchEvent) }
+    ensures written { IfErr result (λ error. error ≢ errors.Output) }
 {
     let world = begin(alloc, servers, nodes)?;
     let found = moments_of(alloc, world, events)?;

@@ -1,4 +1,6 @@
 //! The words of ids, names and states.
+ghost use Rattle.std.specs.Prelude.{◌≡◌, IfOk, string_bytes};
+
 use raft_core::Role;
 use rows::{
     Actor, AllocId, Allocation, ClientState, Desired, DrainMode, EvalId, EvalStatus, NoMemory,
@@ -7,7 +9,9 @@ use rows::{
 use std::alloc::Global;
 
 /// A text of one's own.
-pub(crate) fn owned(alloc: Global, text: &str) -> Result<String, NoMemory> {
+pub(crate) fn owned(alloc: Global, text: &str) -> Result<String, NoMemory>
+    ensures { IfOk result (λ own. string_bytes own ≡ text.now) }
+{
     Ok(String::from_str(alloc, text)?)
 }
 

@@ -1,8 +1,12 @@
 //! The tables of a report.
+ghost use Rattle.std.specs.Prelude.{◌≡◌, IfOk, length, option_copied};
+ghost use Rattle.std.specs.List.{list_any};
+ghost use Rattle.inspection.specs.Inner.Entries.{entry_of, has_entry};
+
 use crate::grid::Grid;
 use crate::report::{
     AllocationReport, BeatReport, BlockedReport, ClientReport, DeliveryReport, EntryReport,
-    EvaluationReport, JobReport, NodeReport, PlanReport, ServerReport,
+    EvaluationReport, GroupReport, JobReport, NodeReport, PlanReport, ServerReport,
 };
 use crate::shown::owned;
 use rows::NoMemory;
@@ -19,33 +23,38 @@ fn headed(alloc: Global, heads: &[&str]) -> Result<Grid, NoMemory> {
     Ok(grid)
 }
 
-fn number(alloc: Global, number: u64) -> Result<String, NoMemory> {
-    Ok(format!(in alloc; "{number}")?)
+// What stands in a cell.
+#[derive(Clone, Copy)]
+enum Cell<'a> {
+    Text(&'a str),
+    Number(u64),
+    // A dash where there is none.
+    NumberOrDash(Option<u64>),
+    Server(u8),
+    // A dash where there is none.
+    ServerOrDash(Option<u8>),
+    Client(u8),
+    YesOrNo(bool),
+    // These texts with a space between, or a dash where there is none.
+    Spaced(&'a [String]),
 }
 
-fn number_or_dash(alloc: Global, number: Option<u64>) -> Result<String, NoMemory> {
-    match number {
-        Some(number) => Ok(format!(in alloc; "{number}")?),
-        None => owned(alloc, "-"),
+fn cell_text(alloc: Global, cell: Cell) -> Result<String, NoMemory> {
+    match cell {
+        Cell::Text(text) => owned(alloc, text),
+        Cell::Number(number) | Cell::NumberOrDash(Some(number)) => {
+            Ok(format!(in alloc; "{number}")?)
+        }
+        Cell::Server(number) | Cell::ServerOrDash(Some(number)) => {
+            Ok(format!(in alloc; "S{number}")?)
+        }
+        Cell::NumberOrDash(None) | Cell::ServerOrDash(None) => owned(alloc, "-"),
+        Cell::Client(number) => Ok(format!(in alloc; "c{number}")?),
+        Cell::YesOrNo(yes) => owned(alloc, if yes { "yes" } else { "no" }),
+        Cell::Spaced(texts) => spaced(alloc, texts),
     }
 }
 
-fn server_or_dash(alloc: Global, server: Option<u8>) -> Result<String, NoMemory> {
-    match server {
-        Some(number) => Ok(format!(in alloc; "S{number}")?),
-        None => owned(alloc, "-"),
-    }
-}
-
-fn yes_or_no(alloc: Global, yes: bool) -> Result<String, NoMemory> {
-    if yes {
-        owned(alloc, "yes")
-    } else {
-        owned(alloc, "no")
-    }
-}
-
-// These texts with a space between, or a dash where there is none.
 fn spaced(alloc: Global, texts: &[String]) -> Result<String, NoMemory> {
     let mut all = String::new(alloc);
     for text in texts {
@@ -58,6 +67,17 @@ fn spaced(alloc: Global, texts: &[String]) -> Result<String, NoMemory> {
         all.push('-')?;
     }
     Ok(all)
+}
+
+// A row of these cells.
+fn row_of_cells(alloc: Global, cells: &[Cell]) -> Result<Vec<String>, NoMemory>
+    ensures { IfOk result (λ row. length row.items ≡ length cells.now) }
+{
+    let mut row = Vec::new(alloc);
+    for cell in cells {
+        row.push(cell_text(alloc, *cell)?)?;
+    }
+    Ok(row)
 }
 
 /// The servers.
@@ -73,25 +93,31 @@ pub(crate) fn servers_table(alloc: Global, servers: &[ServerReport]) -> Result<G
 }
 
 fn server_row(alloc: Global, server: &ServerReport) -> Result<Vec<String>, NoMemory> {
-    let name = server_or_dash(alloc, Some(server.server))?;
-    let role = owned(alloc, server.role)?;
-    let term = number(alloc, server.term)?;
-    let vote = server_or_dash(alloc, server.vote)?;
-    let last = number(alloc, server.last)?;
-    let covered = number(alloc, server.covered)?;
-    let applied = number_or_dash(alloc, server.applied)?;
-    Ok(vec![in alloc; name, role, term, vote, last, covered, applied]?)
+    let cells = [
+        Cell::Server(server.server),
+        Cell::Text(server.role),
+        Cell::Number(server.term),
+        Cell::ServerOrDash(server.vote),
+        Cell::Number(server.last),
+        Cell::Number(server.covered),
+        Cell::NumberOrDash(server.applied),
+    ];
+    row_of_cells(alloc, &cells)
 }
 
 // The entry at an index of a server's log, if the server has it and its snapshot does not cover it.
-fn entry_of(server: &ServerReport, index: u64) -> Option<&EntryReport> {
+fn entry_of(server: &ServerReport, index: u64) -> Option<&EntryReport>
+    ensures { option_copied result ≡ entry_of server.now index }
+{
     if index <= server.covered {
         return None;
     }
     server.log.get((index - server.covered - 1) as usize)
 }
 
-fn has_entry(server: &ServerReport, index: u64, term: u64) -> bool {
+fn has_entry(server: &ServerReport, index: u64, term: u64) -> bool
+    ensures { result ≡ has_entry server.now index term }
+{
     match entry_of(server, index) {
         Some(entry) => entry.term == term,
         None => false,
@@ -135,13 +161,10 @@ fn add_entries(
     Ok(())
 }
 
-fn is_among(servers: &[ServerReport], index: u64, term: u64) -> bool {
-    for server in servers {
-        if has_entry(server, index, term) {
-            return true;
-        }
-    }
-    false
+fn is_among(servers: &[ServerReport], index: u64, term: u64) -> bool
+    ensures { result ≡ list_any (λ s. has_entry s index term) servers.now }
+{
+    servers.iter().any(|server| has_entry(server, index, term))
 }
 
 fn entry_row(
@@ -149,30 +172,43 @@ fn entry_row(
     servers: &[ServerReport],
     entry: &EntryReport,
 ) -> Result<Vec<String>, NoMemory> {
-    let index = number(alloc, entry.index)?;
-    let term = number(alloc, entry.term)?;
+    let holders = holders_of(alloc, servers, entry)?;
+    let cells = [
+        Cell::Number(entry.index),
+        Cell::Number(entry.term),
+        Cell::Spaced(holders.as_slice()),
+        Cell::Text(entry.command.as_str()),
+    ];
+    row_of_cells(alloc, &cells)
+}
+
+// The servers that have an entry.
+fn holders_of(
+    alloc: Global,
+    servers: &[ServerReport],
+    entry: &EntryReport,
+) -> Result<Vec<String>, NoMemory> {
     let mut holders = Vec::new(alloc);
     for server in servers {
         if has_entry(server, entry.index, entry.term) {
-            holders.push(server_or_dash(alloc, Some(server.server))?)?;
+            holders.push(cell_text(alloc, Cell::Server(server.server))?)?;
         }
     }
-    let holders = spaced(alloc, &holders)?;
-    let command = owned(alloc, &entry.command)?;
-    Ok(vec![in alloc; index, term, holders, command]?)
+    Ok(holders)
 }
 
 /// What a desk gave out.
 pub(crate) fn given_table(alloc: Global, given: &[DeliveryReport]) -> Result<Grid, NoMemory> {
     let mut grid = headed(alloc, &["given out", "to", "token", "times", "now"])?;
     for delivery in given {
-        let eval = owned(alloc, &delivery.evaluation)?;
-        let to = owned(alloc, &delivery.to)?;
-        let token = owned(alloc, &delivery.token)?;
-        let times = number(alloc, delivery.times as u64)?;
-        let now = owned(alloc, delivery.now)?;
-        grid.rows
-            .push(vec![in alloc; eval, to, token, times, now]?)?;
+        let cells = [
+            Cell::Text(delivery.evaluation.as_str()),
+            Cell::Text(delivery.to.as_str()),
+            Cell::Text(delivery.token.as_str()),
+            Cell::Number(delivery.times as u64),
+            Cell::Text(delivery.now),
+        ];
+        grid.rows.push(row_of_cells(alloc, &cells)?)?;
     }
     Ok(grid)
 }
@@ -188,23 +224,27 @@ pub(crate) fn plans_table(alloc: Global, plans: &[PlanReport]) -> Result<Grid, N
 }
 
 fn plan_row(alloc: Global, plan: &PlanReport) -> Result<Vec<String>, NoMemory> {
-    let eval = owned(alloc, &plan.evaluation)?;
-    let token = owned(alloc, &plan.token)?;
-    let priority = number(alloc, plan.priority as u64)?;
-    let from = owned(alloc, &plan.from)?;
-    let stops = number(alloc, plan.stops as u64)?;
-    let places = number(alloc, plan.places as u64)?;
-    Ok(vec![in alloc; eval, token, priority, from, stops, places]?)
+    let cells = [
+        Cell::Text(plan.evaluation.as_str()),
+        Cell::Text(plan.token.as_str()),
+        Cell::Number(plan.priority as u64),
+        Cell::Text(plan.from.as_str()),
+        Cell::Number(plan.stops as u64),
+        Cell::Number(plan.places as u64),
+    ];
+    row_of_cells(alloc, &cells)
 }
 
 /// The blocked evaluations that a desk keeps.
 pub(crate) fn blocked_table(alloc: Global, blocked: &[BlockedReport]) -> Result<Grid, NoMemory> {
     let mut grid = headed(alloc, &["blocked", "since", "due"])?;
     for one in blocked {
-        let eval = owned(alloc, &one.evaluation)?;
-        let since = number(alloc, one.snapshot)?;
-        let due = yes_or_no(alloc, one.due)?;
-        grid.rows.push(vec![in alloc; eval, since, due]?)?;
+        let cells = [
+            Cell::Text(one.evaluation.as_str()),
+            Cell::Number(one.snapshot),
+            Cell::YesOrNo(one.due),
+        ];
+        grid.rows.push(row_of_cells(alloc, &cells)?)?;
     }
     Ok(grid)
 }
@@ -213,9 +253,8 @@ pub(crate) fn blocked_table(alloc: Global, blocked: &[BlockedReport]) -> Result<
 pub(crate) fn beats_table(alloc: Global, beats: &[BeatReport]) -> Result<Grid, NoMemory> {
     let mut grid = headed(alloc, &["node", "beats"])?;
     for one in beats {
-        let node = number(alloc, one.node as u64)?;
-        let beats = number(alloc, one.beats)?;
-        grid.rows.push(vec![in alloc; node, beats]?)?;
+        let cells = [Cell::Number(one.node as u64), Cell::Number(one.beats)];
+        grid.rows.push(row_of_cells(alloc, &cells)?)?;
     }
     Ok(grid)
 }
@@ -230,13 +269,14 @@ pub(crate) fn clients_table(alloc: Global, clients: &[ClientReport]) -> Result<G
 }
 
 fn client_row(alloc: Global, client: &ClientReport) -> Result<Vec<String>, NoMemory> {
-    let number = client.client;
-    let name = format!(in alloc; "c{number}")?;
-    let state = owned(alloc, if client.up { "up" } else { "down" })?;
-    let seen = number_or_dash(alloc, client.seen)?;
-    let running = spaced(alloc, &client.running)?;
-    let started = spaced(alloc, &client.started)?;
-    Ok(vec![in alloc; name, state, seen, running, started]?)
+    let cells = [
+        Cell::Client(client.client),
+        Cell::Text(if client.up { "up" } else { "down" }),
+        Cell::NumberOrDash(client.seen),
+        Cell::Spaced(client.running.as_slice()),
+        Cell::Spaced(client.started.as_slice()),
+    ];
+    row_of_cells(alloc, &cells)
 }
 
 /// The jobs, a row for each group.
@@ -253,22 +293,29 @@ pub(crate) fn jobs_table(alloc: Global, jobs: &[JobReport]) -> Result<Grid, NoMe
 
 fn add_groups(alloc: Global, grid: &mut Grid, job: &JobReport) -> Result<(), NoMemory> {
     for group in &job.groups {
-        let name = owned(alloc, &job.job)?;
-        let priority = number(alloc, job.priority as u64)?;
-        let version = number(alloc, job.version)?;
-        let state = owned(alloc, if job.stopped { "stopped" } else { "wanted" })?;
-        let own = owned(alloc, &group.group)?;
-        let count = number(alloc, group.count as u64)?;
-        let class = owned(alloc, &group.class)?;
-        let cpu = number(alloc, group.cpu as u64)?;
-        let mem = number(alloc, group.mem as u64)?;
-        let disk = number(alloc, group.disk as u64)?;
-        let row = vec![in alloc;
-            name, priority, version, state, own, count, class, cpu, mem, disk,
-        ]?;
-        grid.rows.push(row)?;
+        grid.rows.push(group_row(alloc, job, group)?)?;
     }
     Ok(())
+}
+
+fn group_row<'a>(
+    alloc: Global,
+    job: &'a JobReport,
+    group: &'a GroupReport,
+) -> Result<Vec<String>, NoMemory> {
+    let cells = [
+        Cell::Text(job.job.as_str()),
+        Cell::Number(job.priority as u64),
+        Cell::Number(job.version),
+        Cell::Text(if job.stopped { "stopped" } else { "wanted" }),
+        Cell::Text(group.group.as_str()),
+        Cell::Number(group.count as u64),
+        Cell::Text(group.class.as_str()),
+        Cell::Number(group.cpu as u64),
+        Cell::Number(group.mem as u64),
+        Cell::Number(group.disk as u64),
+    ];
+    row_of_cells(alloc, &cells)
 }
 
 /// The nodes, with what is in use of each.
@@ -294,20 +341,20 @@ pub(crate) fn nodes_table(alloc: Global, nodes: &[NodeReport]) -> Result<Grid, N
 }
 
 fn node_row(alloc: Global, node: &NodeReport) -> Result<Vec<String>, NoMemory> {
-    let name = number(alloc, node.node as u64)?;
-    let class = owned(alloc, &node.class)?;
-    let status = owned(alloc, node.status)?;
-    let eligible = yes_or_no(alloc, node.eligible)?;
-    let drain = owned(alloc, node.drain)?;
-    let cpu_used = number(alloc, node.cpu_used)?;
-    let cpu = number(alloc, node.cpu as u64)?;
-    let mem_used = number(alloc, node.mem_used)?;
-    let mem = number(alloc, node.mem as u64)?;
-    let disk_used = number(alloc, node.disk_used)?;
-    let disk = number(alloc, node.disk as u64)?;
-    Ok(vec![in alloc;
-        name, class, status, eligible, drain, cpu_used, cpu, mem_used, mem, disk_used, disk,
-    ]?)
+    let cells = [
+        Cell::Number(node.node as u64),
+        Cell::Text(node.class.as_str()),
+        Cell::Text(node.status),
+        Cell::YesOrNo(node.eligible),
+        Cell::Text(node.drain),
+        Cell::Number(node.cpu_used),
+        Cell::Number(node.cpu as u64),
+        Cell::Number(node.mem_used),
+        Cell::Number(node.mem as u64),
+        Cell::Number(node.disk_used),
+        Cell::Number(node.disk as u64),
+    ];
+    row_of_cells(alloc, &cells)
 }
 
 /// The evaluations.
@@ -324,12 +371,14 @@ pub(crate) fn evaluations_table(
 }
 
 fn evaluation_row(alloc: Global, row: &EvaluationReport) -> Result<Vec<String>, NoMemory> {
-    let id = owned(alloc, &row.evaluation)?;
-    let job = owned(alloc, &row.job)?;
-    let priority = number(alloc, row.priority as u64)?;
-    let status = owned(alloc, row.status)?;
-    let snapshot = number(alloc, row.snapshot)?;
-    Ok(vec![in alloc; id, job, priority, status, snapshot]?)
+    let cells = [
+        Cell::Text(row.evaluation.as_str()),
+        Cell::Text(row.job.as_str()),
+        Cell::Number(row.priority as u64),
+        Cell::Text(row.status),
+        Cell::Number(row.snapshot),
+    ];
+    row_of_cells(alloc, &cells)
 }
 
 /// The allocations.
@@ -357,17 +406,17 @@ pub(crate) fn allocations_table(
 }
 
 fn allocation_row(alloc: Global, row: &AllocationReport) -> Result<Vec<String>, NoMemory> {
-    let id = owned(alloc, &row.allocation)?;
-    let name = owned(alloc, &row.name)?;
-    let node = number(alloc, row.node as u64)?;
-    let cpu = number(alloc, row.cpu as u64)?;
-    let mem = number(alloc, row.mem as u64)?;
-    let disk = number(alloc, row.disk as u64)?;
-    let desired = owned(alloc, row.desired)?;
-    let state = owned(alloc, row.state)?;
-    let migrate = yes_or_no(alloc, row.migrate)?;
-    let eval = owned(alloc, &row.evaluation)?;
-    Ok(vec![in alloc;
-        id, name, node, cpu, mem, disk, desired, state, migrate, eval,
-    ]?)
+    let cells = [
+        Cell::Text(row.allocation.as_str()),
+        Cell::Text(row.name.as_str()),
+        Cell::Number(row.node as u64),
+        Cell::Number(row.cpu as u64),
+        Cell::Number(row.mem as u64),
+        Cell::Number(row.disk as u64),
+        Cell::Text(row.desired),
+        Cell::Text(row.state),
+        Cell::YesOrNo(row.migrate),
+        Cell::Text(row.evaluation.as_str()),
+    ];
+    row_of_cells(alloc, &cells)
 }

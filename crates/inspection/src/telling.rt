@@ -2,6 +2,7 @@
 ghost use Rattle.std.specs.Prelude.{◌≡◌, ◌≢◌, ◌+◌, length, IfErr, IfOk, OnOk};
 ghost use Rattle.picture.specs.Pictures.{MayBe, MayNotBe};
 ghost use Rattle.inspection.specs.Told.{GrowsByEventLines};
+ghost use Rattle.inspection.specs.Inner.Taking.{frame_of};
 ghost use Rattle.inspection.specs.declared.fault.InspectError.TheVariants as errors;
 
 use crate::changes::push_rows;
@@ -17,7 +18,7 @@ use server::Server;
 use std::alloc::Global;
 use std::io::Write;
 use std::sync::Arc;
-use wire::{Frames, read_message};
+use wire::{Frame, Frames, read_message};
 use world::{Event, World};
 
 /// Tells what each event of a run did, which a group takes from its beginning: a line of heads, and
@@ -39,6 +40,7 @@ pub fn tell<W: Write>(
     ensures group { OnOk result (MayBe servers nodes.now) }
     ensures fault { IfErr result (λ error. error ≢ errors.Group → MayBe servers nodes.now) }
     ensures no_group { IfErr result (λ error. error ≡ errors.Group → MayNotBe servers nodes.now) }
+    ensures past { IfErr result (λ error. error ≢ errors.NoSuchEvent) }
     ensures left { IfErr result (λ error. error ≢ errors.Output → out.new ≡ out.old) }
 {
     let world = begin(alloc, servers, nodes)?;
@@ -60,6 +62,8 @@ pub fn event_lines(
     ensures group { OnOk result (MayBe servers nodes.now) }
     ensures fault { IfErr result (λ error. error ≢ errors.Group → MayBe servers nodes.now) }
     ensures no_group { IfErr result (λ error. error ≡ errors.Group → MayNotBe servers nodes.now) }
+    ensures past { IfErr result (λ error. error ≢ errors.NoSuchEvent) }
+    ensures written { IfErr result (λ error. error ≢ errors.Output) }
 {
     let world = begin(alloc, servers, nodes)?;
     let told = told_behind(alloc, world, events, Grid::new(alloc))?;
@@ -115,15 +119,10 @@ impl Newest {
         })
     }
 
-    // Tells the rows that an actor's newly applied entries changed, where nobody has applied them
+    // Tells the rows that a server's newly applied entries changed, where nobody has applied them
     // before.
-    fn push_rows(
-        &mut self,
-        words: &mut String,
-        world: &World,
-        actor: Option<Actor>,
-    ) -> Result<(), NoMemory> {
-        let Some(server) = server_of(world, actor) else {
+    fn push_rows(&mut self, words: &mut String, server: Option<&Server>) -> Result<(), NoMemory> {
+        let Some(server) = server else {
             return Ok(());
         };
         let (Some(state), Some(applied)) = (server.state(), server.applied()) else {
@@ -169,17 +168,37 @@ fn row_of(
     event: &Event,
 ) -> Result<Vec<String>, NoMemory> {
     let actor = actor_of(world, event);
-    let who = who_of(alloc, actor)?;
-    let took = took_of(alloc, world.sent(), event)?;
+    let took = took_of(alloc, world.sent(), event);
     let before = Standing::of(world, actor);
     let sent = world.sent().len();
     let refusal = take(world, event.try_clone(alloc)?)?;
-    let mut words = changed(alloc, before, Standing::of(world, actor))?;
-    newest.push_rows(&mut words, world, actor)?;
-    let number = format!(in alloc; "{number}")?;
-    let took = refused_of(alloc, refusal, took)?;
-    let sent = sent_since(alloc, world.sent(), sent)?;
-    Ok(vec![in alloc; number, who, took, words, sent]?)
+    let mut row = Vec::new(alloc);
+    row.push(format!(in alloc; "{number}")?)?;
+    push_cell(&mut row, who_of(alloc, actor))?;
+    push_cell(&mut row, refused_of(alloc, refusal, took))?;
+    let (server, after) = (server_of(world, actor), Standing::of(world, actor));
+    push_cell(&mut row, change_of(alloc, newest, server, before, after))?;
+    push_cell(&mut row, sent_since(alloc, world.sent(), sent))?;
+    Ok(row)
+}
+
+// A cell more, if there was memory for it.
+fn push_cell(row: &mut Vec<String>, cell: Result<String, NoMemory>) -> Result<(), NoMemory> {
+    row.push(cell?)?;
+    Ok(())
+}
+
+// What an event changed of its actor, a server or none, and of the state's rows.
+fn change_of(
+    alloc: Global,
+    newest: &mut Newest,
+    server: Option<&Server>,
+    before: Standing,
+    after: Standing,
+) -> Result<String, NoMemory> {
+    let mut words = changed(alloc, before, after)?;
+    newest.push_rows(&mut words, server)?;
+    Ok(words)
 }
 
 // Who takes an event.
@@ -203,13 +222,22 @@ fn took_of(alloc: Global, sent: &Frames, event: &Event) -> Result<String, NoMemo
     let Event::Deliver(number) = event else {
         return event_label(alloc, event);
     };
-    let place = number.saturating_sub(1) as usize;
-    let Some(frame) = sent.get(place) else {
+    let Some(frame) = frame_of(sent, *number) else {
         return Ok(format!(in alloc; "#{number}")?);
     };
     let label = message_label(alloc, frame.bytes())?;
     let from = sender_of(alloc, frame.bytes())?;
     Ok(format!(in alloc; "#{number} {label} from {from}")?)
+}
+
+// The message of a number, from 1, if it was sent.
+fn frame_of(sent: &Frames, number: u64) -> Option<Frame<'_>>
+    ensures { result ≡ frame_of sent.now number }
+{
+    if number == 0 {
+        return None;
+    }
+    sent.get((number - 1) as usize)
 }
 
 // Who sent a frame.
@@ -221,7 +249,13 @@ fn sender_of(alloc: Global, frame: &[u8]) -> Result<String, NoMemory> {
     }
 }
 
-fn refused_of(alloc: Global, refusal: Option<u8>, took: String) -> Result<String, NoMemory> {
+// What an actor took, or that it was refused.
+fn refused_of(
+    alloc: Global,
+    refusal: Option<u8>,
+    took: Result<String, NoMemory>,
+) -> Result<String, NoMemory> {
+    let took = took?;
     match refusal {
         Some(number) => Ok(format!(in alloc; "refused {number} {took}")?),
         None => Ok(took),

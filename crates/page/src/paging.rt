@@ -1,9 +1,9 @@
 //! The page of a run.
-ghost use Rattle.std.specs.Prelude.{◌≡◌, ◌≢◌, length, IfErr, IfOk, OnOk, string_bytes};
+ghost use Rattle.std.specs.Prelude.{◌≡◌, ◌≢◌, ◌+◌, length, IfErr, IfOk, OnOk, string_bytes};
 ghost use Rattle.std.specs.Io.KnownBytes.{Appends};
 ghost use Rattle.picture.specs.Pictures.{MayBe, MayNotBe};
 ghost use Rattle.picture.specs.declared.fault.DrawError.TheVariants as errors;
-ghost use Rattle.page.specs.Pages.{GrowsByPage, IsPage, framed};
+ghost use Rattle.page.specs.Pages.{IsLinesJson, IsPlacesJson, GrowsByPage, IsMoments, IsPage, framed};
 
 use crate::script::in_script;
 use inspection::{InspectError, Moments, each_moment, event_lines};
@@ -43,11 +43,16 @@ const MIDDLE: &str = "\
 second one lets it go; the left and the right arrow key go one event back and on.</p>
 <pre id=\"standing\">Without scripts nothing is told here.</pre>
 </aside>
-<script id=\"moments\" type=\"application/json\">";
+";
+
+// The element that holds what is told begins, which a browser neither shows nor runs.
+const OPENED: &str = "<script id=\"moments\" type=\"application/json\">";
+
+// It ends.
+const CLOSED: &str = "</script>\n";
 
 // What stands behind what is told, and shows it.
 const BACK: &str = "\
-</script>
 <script>
 \"use strict\";
 const told = JSON.parse(document.getElementById(\"moments\").textContent);
@@ -98,6 +103,7 @@ pub fn page<W: Write>(
     ensures page { OnOk result (GrowsByPage servers (length nodes.now) (length events.now)
         (W.contents out.old) (W.contents out.new)) }
     ensures group { OnOk result (MayBe servers nodes.now) }
+    ensures fault { IfErr result (λ error. error ≢ errors.Group → MayBe servers nodes.now) }
     ensures no_group { IfErr result (λ error. error ≡ errors.Group → MayNotBe servers nodes.now) }
     ensures left { IfErr result (λ error. error ≢ errors.Output → out.new ≡ out.old) }
 {
@@ -115,6 +121,7 @@ fn page_text(
     ensures page { IfOk result (λ text.
         IsPage servers (length nodes.now) (length events.now) (string_bytes text)) }
     ensures group { OnOk result (MayBe servers nodes.now) }
+    ensures fault { IfErr result (λ error. error ≢ errors.Group → MayBe servers nodes.now) }
     ensures no_group { IfErr result (λ error. error ≡ errors.Group → MayNotBe servers nodes.now) }
     ensures written { IfErr result (λ error. error ≢ errors.Output) }
 {
@@ -134,18 +141,23 @@ fn framed(alloc: Global, picture: &str, json: &str) -> Result<String, NoMemory>
     let mut text = String::from_str(alloc, FRONT)?;
     text.push_str(picture)?;
     text.push_str(MIDDLE)?;
+    text.push_str(OPENED)?;
     text.push_str(json.as_str())?;
+    text.push_str(CLOSED)?;
     text.push_str(BACK)?;
     Ok(text)
 }
 
+// The line that is told of each event.
 fn told_of(
     alloc: Global,
     servers: usize,
     nodes: &[NodeSpec],
     events: &[Event],
 ) -> Result<Vec<String>, DrawError>
+    ensures lines { IfOk result (λ lines. length lines.items ≡ length events.now) }
     ensures group { OnOk result (MayBe servers nodes.now) }
+    ensures fault { IfErr result (λ error. error ≢ errors.Group → MayBe servers nodes.now) }
     ensures no_group { IfErr result (λ error. error ≡ errors.Group → MayNotBe servers nodes.now) }
     ensures written { IfErr result (λ error. error ≢ errors.Output) }
 {
@@ -156,12 +168,15 @@ fn told_of(
     }
 }
 
+// How the group stands at each moment.
 fn moments_of(
     alloc: Global,
     servers: usize,
     nodes: &[NodeSpec],
     events: &[Event],
 ) -> Result<Moments, DrawError>
+    ensures moments { IfOk result (λ m. length m.moments.items ≡ length events.now + 1) }
+    ensures fault { IfErr result (λ error. error ≢ errors.Group → MayBe servers nodes.now) }
     ensures no_group { IfErr result (λ error. error ≡ errors.Group → MayNotBe servers nodes.now) }
     ensures written { IfErr result (λ error. error ≢ errors.Output) }
 {
@@ -172,9 +187,30 @@ fn moments_of(
     }
 }
 
+// The JSON of what is told: an object of the lines, and of the places of each moment's lines.
+fn json_of(alloc: Global, found: &Moments) -> Result<String, NoMemory>
+    ensures { IfOk result (λ json. IsMoments found.now (string_bytes json)) }
+{
+    let lines = lines_json(alloc, &found.lines)?;
+    let moments = places_json(alloc, &found.moments)?;
+    let json = format!(in alloc; "{{\"lines\":{lines},\"moments\":{moments}}}")?;
+    Ok(json)
+}
+
 // What is told has no text that JSON lacks.
-fn json_of(alloc: Global, found: &Moments) -> Result<String, NoMemory> {
-    match serde_json::to_string(alloc, found) {
+fn lines_json(alloc: Global, lines: &[String]) -> Result<String, NoMemory>
+    ensures { IfOk result (λ json. IsLinesJson lines.now (string_bytes json)) }
+{
+    match serde_json::to_string(alloc, &lines) {
+        Ok(text) => Ok(text),
+        Err(_) => Err(NoMemory),
+    }
+}
+
+fn places_json(alloc: Global, moments: &[Vec<usize>]) -> Result<String, NoMemory>
+    ensures { IfOk result (λ json. IsPlacesJson moments.now (string_bytes json)) }
+{
+    match serde_json::to_string(alloc, &moments) {
         Ok(text) => Ok(text),
         Err(_) => Err(NoMemory),
     }

@@ -8,4 +8,5 @@ mod state;
 mod texts;
 
 pub use fault::Fault;
-pub use looks::Looks;
+pub use looks::{Looks, starts_once};
+pub use state::state_fault;

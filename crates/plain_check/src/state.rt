@@ -79,8 +79,8 @@ fn are_named_once(rows: &Table<Allocation>) -> bool {
     true
 }
 
-/// What is wrong with a replicated state.
-pub(crate) fn state_fault(state: &Cluster) -> Option<Fault> {
+/// What is wrong with a replicated state by itself: `Room`, and else `Names`.
+pub fn state_fault(state: &Cluster) -> Option<Fault> {
     let rows = state.alloc_table();
     if !have_room(state.node_table(), rows) {
         return Some(Fault::Room);

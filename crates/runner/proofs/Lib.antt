@@ -5,3 +5,4 @@ pub mod Replays
 pub mod KeptShapes
 pub mod Tellings
 pub mod Seats
+pub mod Apart

@@ -17,7 +17,7 @@ use Rattle.page.specs.Pages.{GrowsByPage}
 use Rattle.picture.specs.Pictures.{GrowsByPicture}
 use Rattle.inspection.specs.Told.{GrowsByEventLines, GrowsByLines}
 use Rattle.ending.specs.Endings.{TellsEnding}
-use Rattle.command_line.specs.Words.{AskFor, words_fault}
+pub use Rattle.command_line.specs.Words.{AskFor, AskForThreads, words_fault}
 use Rattle.command_line.specs.declared.command.CommandLine.{CommandLine}
 use Rattle.command_line.specs.declared.command.CommandLine.TheVariants.{Run, Threads, Replay, Draw, Check, Tell, Inspect, Expand, Sweep}
 use Rattle.command_line.specs.declared.command.SweepWords.{SweepWords}
@@ -186,8 +186,12 @@ TellsPlain status old new = (text : List ℕ) × IsGoodPlain text × Appends old
 -- ---- many keys
 
 -- a scenario's settings, but for what the words of a sweep say in their place
+abbrev pub settings_under : Settings → SweepWords → Settings
+settings_under own words = record own { drop = unwrap_or words.drop own.drop; repeat = unwrap_or words.repeat own.repeat }
+
+-- these are they, and no more than a hundred of a hundred messages are lost or repeated
 pub record IsUnder (own : Settings) (words : SweepWords) (settings : Settings) : Type 0 where
-  pub said : settings ≡ record own { drop = unwrap_or words.drop own.drop; repeat = unwrap_or words.repeat own.repeat }
+  pub said : settings ≡ settings_under own words
   pub within : settings.drop + settings.repeat ≤ 100
 
 -- the output grows by a line for each of these runs; or by what they come to, of no run by nothing

@@ -1,7 +1,8 @@
 //! A short scenario's file, expanded.
-ghost use Rattle.std.specs.Prelude.{◌≡◌, ◌⊎◌, IfErr, IfOk, string_bytes};
+ghost use Rattle.std.specs.Prelude.{◌≡◌, ◌⊎◌, IfErr, IfOk, IsUtf8, OnOk, string_bytes};
+ghost use Rattle.rows.specs.declared.refusal.Refusal.TheVariants as refusals;
 ghost use Rattle.runner.specs.Told.{IsGoodPlain, TellsPlain};
-ghost use Rattle.runner.specs.Inner.Faults.{IsOfRun, IsPastReading};
+ghost use Rattle.runner.specs.Inner.Faults.{IsOfRun, IsPastReading, MayStopExpanding};
 
 use crate::fault::Fault;
 use crate::running::{check_steps, load_bytes, scenario_of_text};
@@ -37,6 +38,8 @@ pub(crate) fn expand_file<'a, F: Shelf, W: Write>(
 // printed is one.
 fn plain_of<'a>(alloc: Global, bytes: &[u8]) -> Result<String, Fault<'a>>
     ensures plain { IfOk result (λ text. IsGoodPlain (string_bytes text)) }
+    ensures utf8 { OnOk result (IsUtf8 bytes.now) }
+    ensures fault { IfErr result (MayStopExpanding (IsUtf8 bytes.now)) }
     ensures of_run { IfErr result IsOfRun }
 {
     let text = match expanded_bytes(alloc, bytes) {
@@ -50,7 +53,10 @@ fn plain_of<'a>(alloc: Global, bytes: &[u8]) -> Result<String, Fault<'a>>
 }
 
 // The text of the plain scenario that the bytes of a short one stand for.
-fn expanded_bytes(alloc: Global, bytes: &[u8]) -> Result<String, Refusal> {
+fn expanded_bytes(alloc: Global, bytes: &[u8]) -> Result<String, Refusal>
+    ensures utf8 { OnOk result (IsUtf8 bytes.now) }
+    ensures memory { IfErr result (λ refusal. refusal ≡ refusals.NoMemory → IsUtf8 bytes.now) }
+{
     match std::str::from_utf8(bytes) {
         Ok(text) => expanded_text(alloc, text),
         Err(_) => Err(Refusal::OutOfRange),

@@ -1,10 +1,10 @@
 //! A scenario's file, played under many keys.
-ghost use Rattle.std.specs.Prelude.{◌≡◌, ◌⊎◌, IfErr, IfOk, OnOk, string_bytes};
+ghost use Rattle.std.specs.Prelude.{◌≡◌, ◌≤◌, ◌⊎◌, IfErr, IfNone, IfOk, IfSome, OnOk, string_bytes};
 ghost use Rattle.std.specs.Io.KnownBytes.{Appends};
 ghost use Rattle.scenario_file.specs.Complaints.{IsGood};
 ghost use Rattle.sweep.specs.Rows.{AreRows};
-ghost use Rattle.runner.specs.Told.{IsUnder, ShowsRows, TellsSweep};
-ghost use Rattle.runner.specs.Inner.Faults.{IsOfRun, IsPastReading, MayStopPrinting};
+ghost use Rattle.runner.specs.Told.{IsUnder, ShowsRows, TellsSweep, settings_under};
+ghost use Rattle.runner.specs.Inner.Faults.{AreTooMany, IsOfRun, IsPastReading, MayStopPrinting};
 
 use crate::fault::{Fault, said};
 use crate::running::{check_steps, load};
@@ -80,7 +80,10 @@ fn rows_of<'a, R: Threads + Sync, P: Progress + Sync>(
 }
 
 // On how many threads the runs are played.
-fn jobs_of<R: Threads>(rt: &R, words: SweepWords) -> usize {
+fn jobs_of<R: Threads>(rt: &R, words: SweepWords) -> usize
+    ensures said { IfSome words.jobs (λ jobs. result ≡ jobs) }
+    ensures unsaid { IfNone words.jobs (1 ≤ result × result ≤ MOST) }
+{
     match words.jobs {
         Some(jobs) => usize::from(jobs),
         None => match available_parallelism(rt) {
@@ -93,6 +96,7 @@ fn jobs_of<R: Threads>(rt: &R, words: SweepWords) -> usize {
 // A scenario's settings, but for what the words say in their place.
 fn settings_under<'a>(scenario: &Scenario, words: SweepWords) -> Result<Settings, Fault<'a>>
     ensures ok { IfOk result (IsUnder scenario.now.settings words) }
+    ensures refused { IfErr result (AreTooMany (settings_under scenario.now.settings words)) }
     ensures of_run { IfErr result IsOfRun }
 {
     let own = scenario.settings;

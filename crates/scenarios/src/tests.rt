@@ -7,6 +7,7 @@ mod frames;
 mod held_cells;
 mod messages;
 mod old_texts;
+mod plain_faults;
 mod running;
 mod servers;
 mod snapshots;

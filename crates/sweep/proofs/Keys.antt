@@ -1,9 +1,9 @@
 -- Rows by their keys.
 use Rattle.std.proofs.Common.{◌≡◌, ◌∙◌, ◌+◌, ◌<◌, ◌≤◌, ◌⊎◌, ◌++◌, ◌∷◌, ℕ, zero, suc, List, [], Option, Some, None, Result, Ok, Err, HoldsAt, MatchOption, ap, arith, inl, inr, length, map, option_copied, refl, replicate, set, slice_get, subst, sym}
 use denote.Ref.{Bor}
-use Rattle.std.specs.Prelude.{IfOk, MatchResult}
+use Rattle.std.specs.Prelude.{IfErr, IfOk, MatchResult}
 use Rattle.std.specs.List.{All, AllZip, Contains}
-use Rattle.std.proofs.lemmas.List.Elements.{All-cons, All-nil}
+use Rattle.std.proofs.lemmas.List.Elements.{All-cons, All-contains, All-nil}
 use Rattle.std.proofs.lemmas.List.FromFn.{map-range_with_len_more}
 use Rattle.std.proofs.lemmas.Option.{same_Some, slice_get-get_or}
 use Rattle.std.proofs.lemmas.Slice.Zip.{all_zipped_more}
@@ -63,10 +63,10 @@ read_at xs i (Some b) x at is = slice_get-get_or xs i x at.0 ∙ ap Some (sym (a
 
 -- ---- what each worker brings
 
--- where each of these is Ok, and what each Ok holds has P, all of them have P
-pub all_in_oks : {T E : Type 0} (P : T → Type 0) (ys : List T) → All (λ (r : Result T E). IfOk r P) (map Ok ys) → All P ys
-all_in_oks P [] all = All-nil P
-all_in_oks {T} {E} P (y ∷ ys) all = All-cons P y ys (all 0 (Ok y) (omega arith)) (all_in_oks {E = E} P ys (λ k d lt. all (suc k) d (omega arith)))
+-- of each that is Ok, P is known
+all_in_oks : {T E : Type 0} (P : T → Type 0) (Q : E → Type 0) (ys : List T) → All (λ (r : Result T E). MatchResult r P Q) (map Ok ys) → All P ys
+all_in_oks P Q [] all = All-nil P
+all_in_oks P Q (y ∷ ys) all = All-cons P y ys (all 0 (Ok y) (omega arith)) (all_in_oks P Q ys (λ k d lt. all (suc k) d (omega arith)))
 
 pub all_zipped : {N T : Type 0} (P : T → Type 0) (R : N → T → Type 0) → ((n : N) (x : T) → R n x → P x) → (ns : List N) (xs : List T) → AllZip R ns xs → All P xs
 all_zipped P R each [] [] zip = All-nil P
@@ -74,11 +74,19 @@ all_zipped P R each [] (x ∷ xs) zip = absurd zip
 all_zipped P R each (n ∷ ns) [] zip = absurd zip
 all_zipped P R each (n ∷ ns) (x ∷ xs) zip = All-cons P x xs (each n x zip.0) (all_zipped P R each ns xs zip.1)
 
--- what is gathered of these, where each of them is Ok
-pub all_gathered : {T E C : Type 0} (P : T → Type 0) (items : C → List T) (xs : List (Result T E)) (r : Result C E)
-    → All (λ x. IfOk x P) xs
+-- what is gathered of these, of each of which P is known where it is Ok, and Q where it is not
+pub all_gathered : {T E C : Type 0} (P : T → Type 0) (Q : E → Type 0) (items : C → List T) (xs : List (Result T E)) (r : Result C E)
+    → All (λ x. MatchResult x P Q) xs
     → MatchResult r (λ c. (ys : List T) × (xs ≡ map Ok ys) × (items c ≡ ys)) (λ e. Contains xs (Err e))
-    → IfOk r (λ c. All P (items c))
-all_gathered {T} {E} P items xs (Ok c) all is =
-    rw is.2 (all_in_oks {E = E} P is.0 (subst (All (λ (x : Result T E). IfOk x P)) is.1 all))
-all_gathered P items xs (Err e) all is = tt
+    → MatchResult r (λ c. All P (items c)) Q
+all_gathered {T} {E} P Q items xs (Ok c) all is =
+    rw is.2 (all_in_oks P Q is.0 (subst (All (λ (x : Result T E). MatchResult x P Q)) is.1 all))
+all_gathered {T} {E} P Q items xs (Err e) all is = All-contains (λ (x : Result T E). MatchResult x P Q) xs (Err e) all is
+
+pub ok_of_match : {T E : Type 0} (P : T → Type 0) (Q : E → Type 0) (r : Result T E) → MatchResult r P Q → IfOk r P
+ok_of_match P Q (Ok x) is = is
+ok_of_match P Q (Err e) is = tt
+
+pub err_of_match : {T E : Type 0} (P : T → Type 0) (Q : E → Type 0) (r : Result T E) → MatchResult r P Q → IfErr r Q
+err_of_match P Q (Ok x) is = tt
+err_of_match P Q (Err e) is = is

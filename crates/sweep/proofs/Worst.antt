@@ -1,8 +1,8 @@
 -- Which of some runs is the worst.
-use Rattle.std.proofs.Common.{◌≡◌, ◌==◌, ◌&&◌, ◌||◌, ◌⊎◌, ◌∙◌, ◌+◌, ◌<◌, ℕ, Bool, true, false, List, [], ◌∷◌, ◌++◌, ap, arith, get_or, inl, inr, length, nat_lt, subst, sym, take}
+use Rattle.std.proofs.Common.{◌≡◌, ◌==◌, ◌&&◌, ◌||◌, ◌⊎◌, ◌∙◌, ◌+◌, ◌<◌, ℕ, Bool, true, false, List, [], ◌∷◌, ◌++◌, ap, append_assoc, arith, get_or, inl, inr, length, nat_lt, refl, subst, sym, take}
 use Rattle.std.proofs.lemmas.List.{take_more}
 use Rattle.std.proofs.lemmas.Bool.Decides.{nat_tests}
-use Rattle.std.proofs.lemmas.List.Elements.{Contains-append_left, Contains-push, Contains-push_cases}
+use Rattle.std.proofs.lemmas.List.Elements.{Contains-push_cases}
 use Rattle.sweep.specs.declared.row.Row.{Row}
 use Rattle.sweep.specs.Summaries.{IsWorst, class_of, is_worse}
 
@@ -19,10 +19,31 @@ still_not_worse : (c e own own_events was was_events : ℕ) → worse_by own own
     → worse_by c e own own_events ≡ false
 still_not_worse c e own own_events was was_events worse not_worse = grind (arith, nat_tests)
 
+-- what is worse than a run is worse than each that is not
+then_worse : (c e own own_events was was_events : ℕ) → worse_by own own_events was was_events ≡ true → worse_by c e was was_events ≡ false
+    → worse_by own own_events c e ≡ true
+then_worse c e own own_events was was_events worse not_worse = grind (arith, nat_tests)
+
+-- one run alone
+pub worst_alone : (row : Row) → IsWorst (row ∷ []) row
+worst_alone row = record {
+  before = [];
+  behind = [];
+  among = refl;
+  first = λ other in'. absurd (omega (arith, in'.1));
+  most = λ other in'. elim (Contains-push_cases [] row other in') [
+    | inl before ↦ absurd (omega (arith, before.1))
+    | inr same ↦ subst (λ r. is_worse r row ≡ false) same (not_worse_itself (class_of row) row.end.events)
+  ];
+}
+
 -- a run that is worse than the worst of these is the worst then
 pub worst_goes : (rows : List Row) (worst row : Row) → IsWorst rows worst → is_worse row worst ≡ true → IsWorst (rows ++ row ∷ []) row
 worst_goes rows worst row was worse = record {
-  among = Contains-push rows row;
+  before = rows;
+  behind = [];
+  among = refl;
+  first = λ other in'. then_worse (class_of other) other.end.events (class_of row) row.end.events (class_of worst) worst.end.events worse (was.most other in');
   most = λ other in'. elim (Contains-push_cases rows row other in') [
     | inl before ↦
         still_not_worse (class_of other) other.end.events (class_of row) row.end.events (class_of worst) worst.end.events worse (was.most other before)
@@ -33,7 +54,10 @@ worst_goes rows worst row was worse = record {
 -- the worst of these stays it where one more run is not worse
 pub worst_stays : (rows : List Row) (worst row : Row) → IsWorst rows worst → is_worse row worst ≡ false → IsWorst (rows ++ row ∷ []) worst
 worst_stays rows worst row was not_worse = record {
-  among = Contains-append_left rows (row ∷ []) worst was.among;
+  before = was.before;
+  behind = was.behind ++ row ∷ [];
+  among = ap (λ rs. rs ++ row ∷ []) was.among ∙ append_assoc was.before (worst ∷ was.behind) (row ∷ []);
+  first = was.first;
   most = λ other in'. elim (Contains-push_cases rows row other in') [
     | inl before ↦ was.most other before
     | inr same ↦ subst (λ r. is_worse r worst ≡ false) same not_worse

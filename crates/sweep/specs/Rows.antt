@@ -1,13 +1,16 @@
 -- What the row of a key says: how the run under it ended.
-use Rattle.std.specs.Prelude.{◌≡◌, ◌+◌, ◌%◌, ◌^◌, ℕ, List, length, map}
+use Rattle.std.specs.Prelude.{◌≡◌, ◌⊎◌, ◌+◌, ◌%◌, ◌^◌, ℕ, List, length, map}
 use Rattle.std.specs.List.{AllZip, range_with_len}
+use Rattle.rows.specs.declared.refusal.Refusal.{Refusal}
+use Rattle.rows.specs.declared.refusal.Refusal.TheVariants.{NoMemory, OutOfRange}
 use Rattle.scenario_file.specs.declared.scenario.Scenario.{Scenario}
 use Rattle.scenario_file.specs.declared.scenario.Settings.{Settings}
+use Rattle.scenario_file.specs.Complaints.{IsGood}
 use Rattle.scenario_file.specs.Objects.{step_lines}
 use Rattle.playing.specs.declared.play.Play.{Play}
 use Rattle.playing.specs.Played.{LinesPlayed, Refused}
 use Rattle.playing.specs.PlaySteps.{StepRefused, StepTaken}
-use Rattle.playing.specs.Plays.{IsNewPlay}
+use Rattle.playing.specs.Plays.{IsNewPlay, MakesGroup}
 use Rattle.ending.specs.EndNumbers.{HasNumbers}
 use Rattle.sweep.specs.declared.row.Row.{Row}
 
@@ -27,6 +30,11 @@ pub record IsRow (s : Scenario) (settings : Settings) (key : ℕ) (row : Row) : 
   pub played : LinesPlayed StepTaken StepRefused (step_lines s) first refused last
   pub counted : length refused ≡ row.refused
   pub ended : HasNumbers last.world row.end
+
+-- why there is no row: want of memory; or there is no group of such a size, or a line is no step's
+abbrev pub WhyNoRow : Scenario → Settings → Refusal → Type 0
+WhyNoRow s settings refusal =
+    (refusal ≡ NoMemory) ⊎ ((refusal ≡ OutOfRange) × (¬ MakesGroup settings s.nodes.items ⊎ ¬ IsGood s))
 
 -- the key at a position among those that begin with this one; behind the greatest comes 0
 abbrev pub key_at : ℕ → ℕ → ℕ

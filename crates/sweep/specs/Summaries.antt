@@ -1,5 +1,5 @@
 -- What many runs come to.
-use Rattle.std.specs.Prelude.{◌≡◌, ◌==◌, ◌&&◌, ◌||◌, ◌-◌, ◌/◌, ℕ, Bool, true, false, is_some, nat_lt, List, Some, count_by, length, map, slice_get}
+use Rattle.std.specs.Prelude.{◌≡◌, ◌==◌, ◌&&◌, ◌||◌, ◌-◌, ◌/◌, ◌++◌, ◌∷◌, ℕ, Bool, true, false, is_some, nat_lt, List, Some, count_by, length, map, slice_get}
 use Rattle.std.specs.List.{Contains}
 use Rattle.std.specs.List.Sorted.{IsPermutation, IsSorted}
 use Rattle.std.specs.Ordering.{nat_cmp}
@@ -44,9 +44,12 @@ is_worse one other =
     nat_lt (class_of one) (class_of other)
     || (class_of one == class_of other && nat_lt other.end.events one.end.events)
 
--- it is among these, and none of them is worse
+-- it is among these, none of them is worse, and it is worse than each before it
 pub record IsWorst (rows : List Row) (row : Row) : Type 0 where
-  pub among : Contains rows row
+  pub before : List Row
+  pub behind : List Row
+  pub among : rows ≡ before ++ row ∷ behind
+  pub first : (other : Row) → Contains before other → is_worse row other ≡ true
   pub most : (other : Row) → Contains rows other → is_worse other row ≡ false
 
 pub record IsSummary (rows : List Row) (s : Summary) : Type 0 where

@@ -1,6 +1,6 @@
 //! One run.
-ghost use Rattle.std.specs.Prelude.{◌≡◌, IfOk};
-ghost use Rattle.sweep.specs.Rows.{IsRow, keyed};
+ghost use Rattle.std.specs.Prelude.{◌≡◌, IfErr, IfOk};
+ghost use Rattle.sweep.specs.Rows.{IsRow, WhyNoRow, keyed};
 
 use ending::{EndNumbers, end_numbers};
 use playing::lines::play_lines;
@@ -36,7 +36,8 @@ pub fn row_of(
     settings: Settings,
     key: u64,
 ) -> Result<Row, Refusal>
-    ensures { IfOk result (IsRow scenario.now settings key) }
+    ensures row { IfOk result (IsRow scenario.now settings key) }
+    ensures refused { IfErr result (WhyNoRow scenario.now settings) }
 {
     let mut play = Play::new(alloc, keyed(settings, key), &scenario.nodes)?;
     let refused = play_lines(alloc, &scenario.steps, &mut play)?;

@@ -24,7 +24,7 @@ pub struct Summary {
     pub messages: Spread,
     /// Of the numbers of events.
     pub events: Spread,
-    /// The key of the worst run.
+    /// The key of the worst run; of equally bad ones, of the first.
     pub worst: u64,
 }
 

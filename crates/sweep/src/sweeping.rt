@@ -1,8 +1,8 @@
 //! The runs under many keys, on many threads.
-ghost use Rattle.std.specs.Prelude.{◌≡◌, IfOk, length};
+ghost use Rattle.std.specs.Prelude.{◌≡◌, IfErr, IfOk, MatchResult, Ok, Some, length, slice_get, slice_set};
 ghost use Rattle.std.specs.List.{All};
-ghost use Rattle.sweep.specs.Inner.Found.{AreFound, IsNumbered};
-ghost use Rattle.sweep.specs.Rows.{AreRows, IsRow, key_at};
+ghost use Rattle.sweep.specs.Inner.Found.{AreFound, ArePlaced, IsNumbered, StayFound};
+ghost use Rattle.sweep.specs.Rows.{AreRows, IsRow, WhyNoRow, key_at};
 
 use crate::row::{Row, row_of};
 use crate::task::Task;
@@ -38,7 +38,7 @@ pub struct NumberedRow {
 /// Plays a scenario under each key of a task, on so many threads, and answers a row for each key,
 /// in their order: the same rows whatever the number of threads is. A thread takes the next key
 /// once it is done with one, so that a long run does not hold up the others. Fails with 12 where a
-/// line is no step's, and with 1 where there is no memory.
+/// line is no step's or there is no such group, and with 1 where there is no memory.
 pub fn sweep<R: Threads + Sync, P: Progress + Sync>(
     rt: &R,
     alloc: Global,
@@ -46,8 +46,9 @@ pub fn sweep<R: Threads + Sync, P: Progress + Sync>(
     jobs: usize,
     progress: &P,
 ) -> Result<Vec<Row>, Refusal>
-    ensures { IfOk result (λ rows. AreRows task.now.scenario.now task.now.settings
+    ensures rows { IfOk result (λ rows. AreRows task.now.scenario.now task.now.settings
         task.now.first task.now.count rows.items) }
+    ensures refused { IfErr result (WhyNoRow task.now.scenario.now task.now.settings) }
 {
     let brought = brought_by_all(rt, alloc, task, jobs, progress)?;
     let found = found_rows(alloc, task, &brought)?;
@@ -62,8 +63,9 @@ fn brought_by_all<R: Threads + Sync, P: Progress + Sync>(
     jobs: usize,
     progress: &P,
 ) -> Result<Vec<Vec<NumberedRow>>, Refusal>
-    ensures { IfOk result (λ brought. All (λ rows. All (IsNumbered task.now.scenario.now
+    ensures brought { IfOk result (λ brought. All (λ rows. All (IsNumbered task.now.scenario.now
         task.now.settings task.now.first) rows.items) brought.items) }
+    ensures refused { IfErr result (WhyNoRow task.now.scenario.now task.now.settings) }
 {
     let (next, done) = (AtomicU64::new(0), AtomicU64::new(0));
     (0..jobs)
@@ -71,8 +73,9 @@ fn brought_by_all<R: Threads + Sync, P: Progress + Sync>(
         .with_min_len(1)
         .map(
             |_worker: usize| -> Result<Vec<NumberedRow>, Refusal>
-                ensures { IfOk result (λ rows. All (IsNumbered task.entry.now.scenario.now
-                    task.entry.now.settings task.entry.now.first) rows.items) }
+                ensures { MatchResult result (λ rows. All (IsNumbered task.entry.now.scenario.now
+                    task.entry.now.settings task.entry.now.first) rows.items)
+                    (WhyNoRow task.entry.now.scenario.now task.entry.now.settings) }
             { brought_by_one(alloc, task, &next, &done, progress) },
         )
         .collect::<Result<Vec<Vec<NumberedRow>>, Refusal>>(rt, alloc)?
@@ -86,8 +89,9 @@ fn brought_by_one<P: Progress>(
     done: &AtomicU64,
     progress: &P,
 ) -> Result<Vec<NumberedRow>, Refusal>
-    ensures { IfOk result (λ rows. All (IsNumbered task.now.scenario.now task.now.settings
-        task.now.first) rows.items) }
+    ensures brought { IfOk result (λ rows. All (IsNumbered task.now.scenario.now
+        task.now.settings task.now.first) rows.items) }
+    ensures refused { IfErr result (WhyNoRow task.now.scenario.now task.now.settings) }
 {
     let mut rows = Vec::new(alloc);
     for _ in 0..task.count {
@@ -104,7 +108,9 @@ fn brought_by_one<P: Progress>(
 
 // Plays under the key at a position.
 fn numbered_at(alloc: Global, task: &Task<'_>, position: u32) -> Result<NumberedRow, Refusal>
-    ensures { IfOk result (IsNumbered task.now.scenario.now task.now.settings task.now.first) }
+    ensures row { IfOk result (IsNumbered task.now.scenario.now task.now.settings
+        task.now.first) }
+    ensures refused { IfErr result (WhyNoRow task.now.scenario.now task.now.settings) }
 {
     let row = row_of(alloc, task.scenario, task.settings, task.key(position))?;
     Ok(NumberedRow { position, row })
@@ -118,8 +124,11 @@ fn found_rows(
 ) -> Result<Vec<Option<Row>>, NoMemory>
     requires { All (λ rows. All (IsNumbered task.now.scenario.now task.now.settings
         task.now.first) rows.items) brought.now }
-    ensures { IfOk result (λ found. AreFound task.now.scenario.now task.now.settings
+    ensures found { IfOk result (λ found. AreFound task.now.scenario.now task.now.settings
         task.now.first found.items) }
+    ensures size { IfOk result (λ found. length found.items ≡ task.now.count) }
+    ensures put { IfOk result (λ found. All (λ rows. ArePlaced rows.items found.items)
+        brought.now) }
 {
     let mut found = vec![in alloc; None; task.count as usize]?;
     for rows in brought {
@@ -133,17 +142,21 @@ fn put_rows(task: &Task<'_>, rows: &[NumberedRow], found: &mut [Option<Row>])
     requires rows { All (IsNumbered task.now.scenario.now task.now.settings task.now.first)
         rows.now }
     requires found { AreFound task.now.scenario.now task.now.settings task.now.first found.old }
-    ensures { AreFound task.now.scenario.now task.now.settings task.now.first found.new }
+    ensures found { AreFound task.now.scenario.now task.now.settings task.now.first found.new }
+    ensures put { ArePlaced rows.now found.new }
+    ensures kept { StayFound found.old found.new }
 {
     for placed in rows {
         put_row(task, placed, found);
     }
 }
 
+// Puts a row at its place, where there is such a place.
 fn put_row(task: &Task<'_>, placed: &NumberedRow, found: &mut [Option<Row>])
     requires row { IsNumbered task.now.scenario.now task.now.settings task.now.first placed.now }
     requires found { AreFound task.now.scenario.now task.now.settings task.now.first found.old }
-    ensures { AreFound task.now.scenario.now task.now.settings task.now.first found.new }
+    ensures found { AreFound task.now.scenario.now task.now.settings task.now.first found.new }
+    ensures put { found.new ≡ slice_set found.old placed.now.position (Some placed.now.row) }
 {
     let position = placed.position as usize;
     if position < found.len() {
@@ -154,8 +167,9 @@ fn put_row(task: &Task<'_>, placed: &NumberedRow, found: &mut [Option<Row>])
 // A row for each key, in order.
 fn in_order(alloc: Global, task: &Task<'_>, found: &[Option<Row>]) -> Result<Vec<Row>, Refusal>
     requires { AreFound task.now.scenario.now task.now.settings task.now.first found.now }
-    ensures { IfOk result (λ rows. AreRows task.now.scenario.now task.now.settings
+    ensures rows { IfOk result (λ rows. AreRows task.now.scenario.now task.now.settings
         task.now.first task.now.count rows.items) }
+    ensures refused { IfErr result (WhyNoRow task.now.scenario.now task.now.settings) }
 {
     let mut rows = Vec::new(alloc);
     for position in 0..task.count {
@@ -173,8 +187,11 @@ fn row_at(
     position: u32,
 ) -> Result<Row, Refusal>
     requires { AreFound task.now.scenario.now task.now.settings task.now.first found.now }
-    ensures { IfOk result (IsRow task.now.scenario.now task.now.settings
+    ensures row { IfOk result (IsRow task.now.scenario.now task.now.settings
         (key_at task.now.first position)) }
+    ensures found { (row : Row) → slice_get found.now position ≡ Some (Some row)
+        → result ≡ Ok row }
+    ensures refused { IfErr result (WhyNoRow task.now.scenario.now task.now.settings) }
 {
     match found.get(position as usize).copied() {
         Some(Some(row)) => Ok(row),

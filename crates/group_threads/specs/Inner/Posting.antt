@@ -13,3 +13,9 @@ ArePut times envelope first second =
     (times ≡ 0) × (first ≡ None) × (second ≡ None)
     ⊎ (times ≡ 1) × (first ≡ Some envelope) × (second ≡ None)
     ⊎ (2 ≤ times) × (first ≡ Some envelope) × ((second ≡ Some envelope) ⊎ (second ≡ None))
+
+-- so often as the fate allows that some word gives it, where so many of a hundred are to be lost
+-- and so many to come twice
+abbrev pub ArePutByParts : ℕ → ℕ → EnvelopeView → Option EnvelopeView → Option EnvelopeView → Type 0
+ArePutByParts drop repeat envelope first second =
+    (times : ℕ) × MayBePutSoOften drop repeat times × ArePut times envelope first second

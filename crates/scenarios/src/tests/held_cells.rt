@@ -220,6 +220,59 @@ const SNAPSHOT: &[Row] = &[
     ),
 ];
 
+// What server 1 keeps of five: it asks all four others for their votes; with two of five it does not
+// lead, and its beat sends nothing; with three it leads, and beats; and it hears a vote too late.
+const ASKED_FOUR: Kept = (0, None, 4);
+
+const SECOND_VOTE: Kept = (5, Some((1, 0)), 0);
+
+const NO_BEAT: Kept = (6, None, 0);
+
+const THIRD_VOTE: Kept = (7, Some((2, 0)), 0);
+
+const FOUR_BEATS: Kept = (8, None, 4);
+
+const LATE_VOTE: Kept = (9, Some((3, 0)), 0);
+
+// Five servers: turns that send four messages, each of which comes.
+const FIVE: &[Row] = &[
+    (1, (Timeout, 1), 0, &[2, 3, 4, 5], &[ASKED_FOUR]),
+    (2, (Message, 0), 0, &[1], &[(1, Some((0, 0)), 1)]),
+    (3, (Message, 0), 0, &[1], &[(2, Some((0, 1)), 1)]),
+    (4, (Message, 0), 0, &[1], &[(3, Some((0, 2)), 1)]),
+    (5, (Message, 0), 0, &[1], &[(4, Some((0, 3)), 1)]),
+    (1, (Message, 0), 0, &[], &[ASKED_FOUR, SECOND_VOTE]),
+    (1, (Beat, 1), 0, &[], &[ASKED_FOUR, SECOND_VOTE, NO_BEAT]),
+    (
+        1,
+        (Message, 0),
+        0,
+        &[],
+        &[ASKED_FOUR, SECOND_VOTE, NO_BEAT, THIRD_VOTE],
+    ),
+    (
+        1,
+        (Beat, 1),
+        0,
+        &[2, 3, 4, 5],
+        &[ASKED_FOUR, SECOND_VOTE, NO_BEAT, THIRD_VOTE, FOUR_BEATS],
+    ),
+    (
+        1,
+        (Message, 0),
+        0,
+        &[],
+        &[
+            ASKED_FOUR,
+            SECOND_VOTE,
+            NO_BEAT,
+            THIRD_VOTE,
+            FOUR_BEATS,
+            LATE_VOTE,
+        ],
+    ),
+];
+
 /// What is done with the seats of a book, or with their cells, before these open.
 #[derive(Clone, Copy)]
 enum Seats {
@@ -414,6 +467,9 @@ const END: End = (8, 6, true, 0);
 // After the last of those with a snapshot, of which server 3 has its one entry.
 const SNAPSHOT_END: End = (15, 10, false, 1);
 
+// After the last of those of five: server 3 follows the leader for which it voted.
+const FIVE_END: End = (10, 12, false, 0);
+
 fn end_of(world: &World) -> Result<End, Refusal> {
     let Actor::Server(third) = actor(3)? else {
         return Err(Refusal::OutOfRange);
@@ -429,11 +485,12 @@ fn end_of(world: &World) -> Result<End, Refusal> {
     Ok((world.trace().len(), world.sent().len(), stands, applied))
 }
 
-// How many of the turns go as is wanted, up to the first that does not; and how the world stands to
-// which the group closes then.
+// How many of the turns of a group of this size go as is wanted, up to the first that does not; and
+// how the world stands to which the group closes then.
 fn play<B: BookId, R: Wait>(
     rt: &R,
     alloc: Global,
+    size: usize,
     opened: OpenedBook<OwnInput>,
     nodes: Vec<NodeSpec>,
     rows: &'static [Row],
@@ -443,8 +500,8 @@ fn play<B: BookId, R: Wait>(
     requires nodes { nodes.items ≡ B.nodes }
 {
     let (book, seats) = opened.seats::<B>(alloc)?;
-    let cells = cells_of(alloc, 3, nodes.as_slice(), &book, seats)?;
-    let cells = Cells::open(alloc, 3, nodes.len(), book, cells)?;
+    let cells = cells_of(alloc, size, nodes.as_slice(), &book, seats)?;
+    let cells = Cells::open(alloc, size, nodes.len(), book, cells)?;
     let mut waiting = Vec::new(alloc);
     let mut played = rows.len();
     for (place, row) in rows.iter().enumerate() {
@@ -617,7 +674,7 @@ fn new_ones<B: BookId>(
 fn cells_take_turns(rt: HostRuntime) -> Result<(), Fail> {
     let book = opened(rt.alloc(), &[1, 2, 3], 1)?;
     let nodes = nodes(rt.alloc(), 1)?;
-    let (played, end) = play::<Brand, _>(&rt, rt.alloc(), book, nodes, TURNS, ByTurn)?;
+    let (played, end) = play::<Brand, _>(&rt, rt.alloc(), 3, book, nodes, TURNS, ByTurn)?;
     assert!(rt; played == TURNS.len(), "turn {played}");
     assert!(rt; end == END, "events {}, messages {}", end.0, end.1);
     Ok(())
@@ -627,7 +684,7 @@ fn cells_take_turns(rt: HostRuntime) -> Result<(), Fail> {
 fn cells_in_hand_take_the_same_turns(rt: HostRuntime) -> Result<(), Fail> {
     let book = opened(rt.alloc(), &[1, 2, 3], 1)?;
     let nodes = nodes(rt.alloc(), 1)?;
-    let (played, end) = play::<Brand, _>(&rt, rt.alloc(), book, nodes, TURNS, ByHand)?;
+    let (played, end) = play::<Brand, _>(&rt, rt.alloc(), 3, book, nodes, TURNS, ByHand)?;
     assert!(rt; played == TURNS.len(), "turn {played}");
     assert!(rt; end == END, "events {}, messages {}", end.0, end.1);
     Ok(())
@@ -637,9 +694,19 @@ fn cells_in_hand_take_the_same_turns(rt: HostRuntime) -> Result<(), Fail> {
 fn cells_take_a_snapshot(rt: HostRuntime) -> Result<(), Fail> {
     let book = opened(rt.alloc(), &[1, 2, 3], 0)?;
     let nodes = nodes(rt.alloc(), 0)?;
-    let (played, end) = play::<Brand, _>(&rt, rt.alloc(), book, nodes, SNAPSHOT, ByTurn)?;
+    let (played, end) = play::<Brand, _>(&rt, rt.alloc(), 3, book, nodes, SNAPSHOT, ByTurn)?;
     assert!(rt; played == SNAPSHOT.len(), "turn {played}");
     assert!(rt; end == SNAPSHOT_END, "events {}, messages {}", end.0, end.1);
+    Ok(())
+}
+
+#[test]
+fn a_turn_sends_four_messages(rt: HostRuntime) -> Result<(), Fail> {
+    let book = opened(rt.alloc(), &[1, 2, 3, 4, 5], 0)?;
+    let nodes = nodes(rt.alloc(), 0)?;
+    let (played, end) = play::<Brand, _>(&rt, rt.alloc(), 5, book, nodes, FIVE, ByTurn)?;
+    assert!(rt; played == FIVE.len(), "turn {played}");
+    assert!(rt; end == FIVE_END, "events {}, messages {}", end.0, end.1);
     Ok(())
 }
 

@@ -1,5 +1,6 @@
 -- Rows by the places of their keys, as threads brought them.
-use Rattle.std.specs.Prelude.{◌≡◌, ℕ, List, Option, Some, slice_get}
+use Rattle.std.specs.Prelude.{◌≡◌, ◌<◌, ℕ, List, Option, Some, length, slice_get}
+use Rattle.std.specs.List.{All}
 use Rattle.scenario_file.specs.declared.scenario.Scenario.{Scenario}
 use Rattle.scenario_file.specs.declared.scenario.Settings.{Settings}
 use Rattle.sweep.specs.declared.row.Row.{Row}
@@ -14,3 +15,15 @@ IsNumbered s settings first placed = IsRow s settings (key_at first placed.posit
 abbrev pub AreFound : Scenario → Settings → ℕ → List (Option Row) → Type 0
 AreFound s settings first found =
     (position : ℕ) (row : Row) → slice_get found position ≡ Some (Some row) → IsRow s settings (key_at first position) row
+
+-- there is a row at this position
+abbrev pub IsFoundAt : List (Option Row) → ℕ → Type 0
+IsFoundAt found position = (row : Row) × (slice_get found position ≡ Some (Some row))
+
+-- at the position of each of these rows there is one, where there is such a place
+abbrev pub ArePlaced : List NumberedRow → List (Option Row) → Type 0
+ArePlaced rows found = All (λ placed. placed.position < length found → IsFoundAt found placed.position) rows
+
+-- where there was a row, there is one
+abbrev pub StayFound : (old new : List (Option Row)) → Type 0
+StayFound old new = (position : ℕ) → IsFoundAt old position → IsFoundAt new position

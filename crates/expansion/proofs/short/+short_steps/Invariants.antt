@@ -1,4 +1,12 @@
+use Rattle.std.proofs.Common.{length, map, take}
+use Rattle.serde_json.specs.View.{view}
+use Rattle.expansion.specs.ShortSteps.{short_step}
+use Rattle.expansion.specs.Shorts.{AreSteps}
 use Rattle.expansion.proofs.short.+short_steps.Given as goal
 
 abbrev pub decreases-short_steps : goal.decreases-short_steps
 decreases-short_steps l = l.depth
+
+-- the values so far come to the steps so far
+abbrev pub invariant-loop-value : goal.invariant-loop-value
+invariant-loop-value l = AreSteps l.depth (map view (take l.value-index l.list)) (map short_step l.steps.items)

@@ -1,5 +1,6 @@
 use Rattle.std.proofs.Common.{length, subst, sym}
 use Rattle.picture.specs.Pictures.{IsRunPicture}
+use Rattle.page.specs.Pages.{IsMoments}
 use Rattle.page.proofs.paging.page_text.Goals as goal
 
 pub returns-clause-page : goal.returns-clause-page
@@ -8,6 +9,9 @@ returns-clause-page c =
     record {
       picture = c.as_str.result.now;
       json = c.as_str-2.result.now;
+      moments = c.in_ok-found.found;
       drawn = subst drawn_as (sym c.as_str.ensures.value) c.in_ok-drawn.ensures.picture;
+      told = subst (IsMoments c.in_ok-found.found) (sym c.as_str-2.ensures.value) c.in_ok-json.ensures;
+      many = c.in_ok-found.ensures.moments;
       whole = c.in_ok-text.ensures;
     }

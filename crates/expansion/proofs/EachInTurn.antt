@@ -1,0 +1,41 @@
+-- What comes of each of a list, one by one.
+use Rattle.std.proofs.Common.{◌≡◌, ◌∙◌, ◌+◌, ◌<◌, ◌≤◌, ◌++◌, ◌∷◌, ℕ, zero, suc, List, [], ap, ap₂, append_assoc, arith, get_or, length, length-append, refl, sym, take}
+use Rattle.std.proofs.lemmas.List.{append-nil}
+use Rattle.expansion.specs.EachInTurn.{OfEach}
+
+module _ {A B : Type 0} (One : A → List B → Type 0) where
+  pub of_one_more : (xs : List A) (x : A) (all own : List B) → OfEach One xs all → One x own → OfEach One (xs ++ x ∷ []) (all ++ own)
+  of_one_more [] x all own are is = (own, [], ap (λ s. s ++ own) are ∙ sym (append-nil own), is, refl)
+  of_one_more (y ∷ xs) x all own are is =
+      (are.0, are.1 ++ own, ap (λ s. s ++ own) are.2 ∙ append_assoc are.0 are.1 own, are.3, of_one_more xs x are.1 own are.4 is)
+
+  -- something comes of each
+  pub of_one : (xs : List A) (i : ℕ) (x : A) (all : List B) → OfEach One xs all → i < length xs → get_or xs i x ≡ x → (own : List B) × One x own
+  of_one [] i x all are lt at = absurd (omega arith)
+  of_one (y ∷ xs) zero x all are lt at = (are.0, rw (← at) are.3)
+  of_one (y ∷ xs) (suc i) x all are lt at = of_one xs i x are.1 are.4 (omega arith) at
+
+  module _ (once : (x : A) (a b : List B) → One x a → One x b → a ≡ b) where
+    -- where but one thing comes of each, but one comes of all
+    pub same_of_each : (xs : List A) (a b : List B) → OfEach One xs a → OfEach One xs b → a ≡ b
+    same_of_each [] a b is too = is ∙ sym too
+    same_of_each (x ∷ xs) a b is too =
+        is.2 ∙ ap₂ (λ s t. s ++ t) (once x is.0 too.0 is.3 too.3) (same_of_each xs is.1 too.1 is.4 too.4) ∙ sym too.2
+
+    -- and of all comes no less than of the first ones and the next
+    pub no_less_of_each : (xs : List A) (i : ℕ) (x : A) (front own all : List B) → OfEach One (take i xs) front → One x own → OfEach One xs all → i < length xs → get_or xs i x ≡ x
+        → length front + length own ≤ length all
+    no_less_of_each [] i x front own all first is are lt at = absurd (omega arith)
+    no_less_of_each (y ∷ xs) zero x front own all first is are lt at =
+        let same : are.0 ≡ own = once x are.0 own (rw (← at) are.3) is in
+        let lengths : length all ≡ length are.0 + length are.1 = ap length are.2 ∙ length-append are.0 are.1 in
+        let none : length front ≡ 0 = ap length first in
+        let equal : length are.0 ≡ length own = ap length same in
+        omega arith
+    no_less_of_each (y ∷ xs) (suc i) x front own all first is are lt at =
+        let same : first.0 ≡ are.0 = once y first.0 are.0 first.3 are.3 in
+        let rest : length first.1 + length own ≤ length are.1 = no_less_of_each xs i x first.1 own are.1 first.4 is are.4 (omega arith) at in
+        let before : length front ≡ length first.0 + length first.1 = ap length first.2 ∙ length-append first.0 first.1 in
+        let lengths : length all ≡ length are.0 + length are.1 = ap length are.2 ∙ length-append are.0 are.1 in
+        let equal : length first.0 ≡ length are.0 = ap length same in
+        omega arith

@@ -1,0 +1,21 @@
+-- Which steps a scenario in short form takes.
+use Rattle.std.specs.Prelude.{◌≡◌, ℕ, List, [], ◌∷◌}
+use Rattle.rows.specs.declared.node.NodeSpec.{NodeSpec}
+use Rattle.scenario_file.specs.declared.scenario.Settings.{Settings}
+use Rattle.playing.specs.declared.play.Play.{Play}
+use Rattle.playing.specs.Played.{LinesPlayed, Refused}
+use Rattle.playing.specs.PlaySteps.{StepRefused, StepTaken}
+use Rattle.playing.specs.Plays.{IsNewPlay}
+use Rattle.expansion.specs.ShortSteps.{Short, AsItStands, Settles}
+
+-- a new group of these settings and nodes took these lines, in order, and stands so then
+pub record AreTaken (settings : Settings) (nodes : List NodeSpec) (lines : List (List ℕ)) (play : Play) : Type 0 where
+  pub first : Play
+  pub new : IsNewPlay settings nodes first
+  pub refused : List Refused
+  pub played : LinesPlayed StepTaken StepRefused lines first refused play
+
+-- the line of a step that is taken as it stands, and no other; of a `settle` any lines
+abbrev pub LinesOf : Short → List (List ℕ) → Type 0
+LinesOf (AsItStands line) own = own ≡ line ∷ []
+LinesOf (Settles count) own = Unit {0}

@@ -1,0 +1,3 @@
+-- Words of private contracts.
+pub mod Parts
+pub mod Taking

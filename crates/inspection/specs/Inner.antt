@@ -1,0 +1,5 @@
+-- Words of private contracts.
+pub mod Taking
+pub mod Findings
+pub mod Entries
+pub mod Deliveries
