@@ -2,7 +2,7 @@
 ghost use Rattle.std.specs.Prelude.{◌≡◌, ◌≢◌, ◌∷◌, ◌++◌, [], IfErr, IfOk, OnOk, map, string_bytes};
 ghost use Rattle.std.specs.Io.KnownBytes.{Appends};
 ghost use Rattle.world.specs.GroupEvents.{group_event};
-ghost use Rattle.picture.specs.Pictures.{MayBe, MayNotBe};
+ghost use Rattle.labels.specs.Groups.{MayBe, MayNotBe};
 ghost use Rattle.inspection.specs.Told.{lines_text};
 ghost use Rattle.inspection.specs.Inner.Taking.{Took};
 ghost use Rattle.inspection.specs.declared.fault.InspectError.TheVariants as errors;

@@ -1,6 +1,6 @@
 //! How a group stands after some of a run's events.
 ghost use Rattle.std.specs.Prelude.{◌≡◌, ◌≢◌, ◌<◌, ◌≤◌, length, IfErr, IfOk, OnOk};
-ghost use Rattle.picture.specs.Pictures.{MayBe, MayNotBe};
+ghost use Rattle.labels.specs.Groups.{MayBe, MayNotBe};
 ghost use Rattle.inspection.specs.Told.{GrowsByLines};
 ghost use Rattle.inspection.specs.declared.fault.InspectError.TheVariants as errors;
 
@@ -8,7 +8,7 @@ use crate::fault::InspectError;
 use crate::gathering::gather;
 use crate::group::{begin, print_lines, take};
 use crate::lines::report_lines;
-use crate::report::Report;
+use inspection_reports::Report;
 use rows::{NoMemory, NodeSpec};
 use std::alloc::Global;
 use std::io::Write;

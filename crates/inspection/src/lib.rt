@@ -15,7 +15,6 @@ mod inspecting;
 mod lines;
 mod metrics;
 mod moments;
-mod report;
 mod shown;
 mod standing;
 mod states;

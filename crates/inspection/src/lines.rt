@@ -2,13 +2,13 @@
 ghost use Rattle.std.specs.Prelude.{◌<◌, ◌≤◌, IfOk, OnOk, length};
 
 use crate::grid::Grid;
-use crate::report::{
-    DeskReport, EvaluationReport, NodesReport, PlacementReport, Report, StateReport,
-};
 use crate::shown::owned;
 use crate::tables::{
     allocations_table, beats_table, blocked_table, clients_table, entries_table, evaluations_table,
     given_table, jobs_table, nodes_table, plans_table, servers_table,
+};
+use inspection_reports::{
+    DeskReport, EvaluationReport, NodesReport, PlacementReport, Report, StateReport,
 };
 use rows::NoMemory;
 use std::alloc::Global;

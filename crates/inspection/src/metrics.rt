@@ -4,9 +4,9 @@ ghost use Rattle.cluster_model.specs.Words.{is_open};
 ghost use Rattle.placement_metrics.specs.Verdicts.{AreCounts};
 ghost use Rattle.inspection.specs.Inner.Findings.{ArePlacements, IsPlacement, counts_in};
 
-use crate::report::{NodesReport, PlacementReport};
 use crate::shown::owned;
 use fsm_state::Cluster;
+use inspection_reports::{NodesReport, PlacementReport};
 use placement_metrics::{GroupMetrics, counts, eval_metrics};
 use rows::{EvalStatus, Evaluation, NoMemory};
 use std::alloc::Global;

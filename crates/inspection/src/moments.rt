@@ -1,6 +1,6 @@
 //! How a group stands at each moment of a run.
 ghost use Rattle.std.specs.Prelude.{◌≡◌, ◌≢◌, ◌+◌, length, IfErr, IfOk, OnOk};
-ghost use Rattle.picture.specs.Pictures.{MayBe, MayNotBe};
+ghost use Rattle.labels.specs.Groups.{MayBe, MayNotBe};
 ghost use Rattle.inspection.specs.declared.fault.InspectError.TheVariants as errors;
 
 use crate::fault::InspectError;
@@ -8,13 +8,12 @@ use crate::gathering::gather;
 use crate::group::{begin, take};
 use crate::lines::report_lines;
 use rows::{NoMemory, NodeSpec};
-use serde::Serialize;
 use std::alloc::Global;
 use world::{Event, World};
 
 /// How a group stands at each moment of a run: what `inspect` tells before the first event, and
 /// behind each of them. A line that stays from one moment to the next stands once.
-#[derive(Drop, Serialize)]
+#[derive(Drop)]
 pub struct Moments {
     /// The lines.
     pub lines: Vec<String>,

@@ -4,11 +4,11 @@ ghost use Rattle.std.specs.List.{list_any};
 ghost use Rattle.inspection.specs.Inner.Entries.{entry_of, has_entry};
 
 use crate::grid::Grid;
-use crate::report::{
+use crate::shown::owned;
+use inspection_reports::{
     AllocationReport, BeatReport, BlockedReport, ClientReport, DeliveryReport, EntryReport,
     EvaluationReport, GroupReport, JobReport, NodeReport, PlanReport, ServerReport,
 };
-use crate::shown::owned;
 use rows::NoMemory;
 use std::alloc::Global;
 

@@ -1,6 +1,6 @@
 //! What each event of a run did, a line an event.
 ghost use Rattle.std.specs.Prelude.{◌≡◌, ◌≢◌, ◌+◌, length, IfErr, IfOk, OnOk};
-ghost use Rattle.picture.specs.Pictures.{MayBe, MayNotBe};
+ghost use Rattle.labels.specs.Groups.{MayBe, MayNotBe};
 ghost use Rattle.inspection.specs.Told.{GrowsByEventLines};
 ghost use Rattle.inspection.specs.Inner.Taking.{frame_of};
 ghost use Rattle.inspection.specs.declared.fault.InspectError.TheVariants as errors;
@@ -12,7 +12,7 @@ use crate::group::{begin, print_lines, take};
 use crate::shown::{actor_text, owned};
 use crate::standing::{Standing, changed};
 use fsm_state::Cluster;
-use picture::{event_label, message_label};
+use labels::{event_label, message_label};
 use rows::{Actor, Index, NoMemory, NodeSpec, Refusal};
 use server::Server;
 use std::alloc::Global;

@@ -1,7 +1,7 @@
 //! The page of a run.
 ghost use Rattle.std.specs.Prelude.{◌≡◌, ◌≢◌, ◌+◌, length, IfErr, IfOk, OnOk, string_bytes};
 ghost use Rattle.std.specs.Io.KnownBytes.{Appends};
-ghost use Rattle.picture.specs.Pictures.{MayBe, MayNotBe};
+ghost use Rattle.labels.specs.Groups.{MayBe, MayNotBe};
 ghost use Rattle.picture.specs.declared.fault.DrawError.TheVariants as errors;
 ghost use Rattle.page.specs.Pages.{IsLinesJson, IsPlacesJson, GrowsByPage, IsMoments, IsPage, framed};
 

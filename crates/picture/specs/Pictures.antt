@@ -2,16 +2,6 @@
 use Rattle.std.specs.Prelude.{◌≡◌, ℕ, ◌≤◌, ◌<◌, Bool, true, not, ◌==◌, ◌&&◌, nat_le, if◌then◌else◌, Option, List, [], ◌∷◌, ◌++◌, length, codes, decimal}
 use Rattle.std.specs.List.{flat_map, list_all}
 use Rattle.std.specs.Io.KnownBytes.{Appends}
-use Rattle.rows.specs.declared.node.NodeSpec.{NodeSpec}
-use Rattle.rows.specs.GroupSizes.{IsGroup}
-
--- a group of so many servers and of these nodes' clients may be
-abbrev pub MayBe : ℕ → List NodeSpec → Type 0
-MayBe servers nodes = IsGroup servers × (length nodes ≤ 64)
-
--- there is no such group
-abbrev pub MayNotBe : ℕ → List NodeSpec → Type 0
-MayNotBe servers nodes = IsGroup servers → length nodes ≤ 64 → ⊥
 
 -- a byte that begins and ends no tag and no entity
 abbrev pub is_plain_byte : ℕ → Bool

@@ -4,7 +4,8 @@ ghost use Rattle.std.specs.Prelude.{◌≡◌, ◌≢◌, ◌++◌, length, OnOk
 ghost use Rattle.std.specs.List.{count_by};
 ghost use Rattle.std.specs.Io.KnownBytes.{Appends};
 ghost use Rattle.picture.specs.declared.fault.DrawError.TheVariants as errors;
-ghost use Rattle.picture.specs.Pictures.{MayBe, MayNotBe, IsPicture, IsRunPicture, GrowsByPicture, declaration, run_title};
+ghost use Rattle.labels.specs.Groups.{MayBe, MayNotBe};
+ghost use Rattle.picture.specs.Pictures.{IsPicture, IsRunPicture, GrowsByPicture, declaration, run_title};
 ghost use Rattle.picture.specs.Inner.Records.{is_lost};
 ghost use Rattle.picture.specs.Inner.Drawn.{Draws, first_texts, lifeline_name, band_in, arrow_text, arrow_in, stub_end, lost_end_text, stub_text, row_corner, tip_in};
 ghost use Rattle.picture.specs.Inner.Shapes.{tip_text};

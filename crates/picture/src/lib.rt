@@ -6,8 +6,6 @@ mod drawing;
 mod escape;
 mod fault;
 mod ink;
-mod input_label;
-mod label;
 mod layout;
 mod lifeline;
 mod note;
@@ -18,5 +16,3 @@ mod svg;
 
 pub use drawing::{draw, picture};
 pub use fault::DrawError;
-pub use input_label::event_label;
-pub use label::message_label;

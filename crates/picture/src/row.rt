@@ -1,16 +1,16 @@
 //! What stands in the row of one event: its number, its mark on the lifeline, and its label.
 ghost use Rattle.std.specs.Prelude.{◌≡◌, slice_get, OnOk, IfOk, string_bytes};
 ghost use Rattle.picture.specs.Inner.Drawn.{Draws};
-ghost use Rattle.picture.specs.Inner.Labels.{named_label, refused_label, sent_label, said_ink, said_text};
+ghost use Rattle.labels.specs.Labels.{named_label};
+ghost use Rattle.picture.specs.Inner.Labels.{refused_label, sent_label, said_ink, said_text};
 ghost use Rattle.picture.specs.Inner.Rows.{event_number, message_number, origin_at, origin_number, numbers_text, tick_text, mark_text, label_side, note_width};
 
 use crate::ink::{Ink, Spot, Stroke};
-use crate::input_label::{event_label, named_label};
-use crate::label::message_label;
 use crate::layout::{Layout, Point, Side, is_parted};
 use crate::note::{commits, note_of};
 use crate::record::{Record, Step};
 use crate::shape::{Shape, cross, label, put, width_of};
+use labels::{event_label, message_label, named_label};
 use rows::NoMemory;
 use std::alloc::Global;
 use wire::Frames;

@@ -12,20 +12,17 @@ use Rattle.ending.specs.Endings.{TellsEnding}
 use Rattle.scenario_file.specs.declared.scenario.Scenario.{Scenario}
 use Rattle.scenario_file.specs.Complaints.{IsGood}
 use Rattle.scenario_file.specs.Objects.{IsScenarioText, step_lines}
-use Rattle.runner.specs.Faults.{AskForHelp, IsStatus}
+use Rattle.file_runs.specs.Faults.{IsStatus}
+use Rattle.runner.specs.Faults.{AskForHelp}
 use Rattle.runner.specs.Told.{TellsScenario, TellsThreads}
 use Rattle.runner.specs.Inner.Closed.{TellsClosed, TellsOnThreads}
 use Rattle.runner.specs.Inner.Faults.{IsFound}
-use Rattle.runner.specs.Inner.Played.{TellsPlay}
+use Rattle.file_runs.specs.Plays.{TellsPlay}
 use Rattle.playing.specs.PlaySteps.{StepRefused, StepTaken}
-use Rattle.runner.specs.declared.fault.Fault.{Fault}
-use Rattle.runner.specs.declared.fault.Fault.TheVariants.{CommandLine, CannotRead, CannotWrite, BadScenario, BadTranscript, NoSuchEvent, Percentages, NoMemory, Output}
+use Rattle.file_runs.specs.declared.fault.Fault.{Fault}
+use Rattle.file_runs.specs.declared.fault.Fault.TheVariants.{CommandLine, CannotRead, CannotWrite, BadScenario, BadTranscript, NoSuchEvent, Percentages, NoMemory, Output}
 use Rattle.runner.proofs.KeptShapes.{nodes_stay, size_stays}
-use Rattle.runner.proofs.Stages.{each_may_refuse}
-
--- what holds of the bytes that were read holds of those of the file, where they are known
-pub of_file : (P : List ℕ → Type 0) (file : Option (List ℕ)) (bytes : List ℕ) → IfSome file (λ known. bytes ≡ known) → P bytes → IfSome file P
-of_file P file bytes read is = IfSome_then file read (λ known same. subst P same is)
+use Rattle.file_runs.proofs.Stages.{each_may_refuse}
 
 pub play_is_told : (file written : Option (List ℕ)) (status : ℕ) (old new : Option (List ℕ)) → TellsPlay file written status old new → TellsScenario file written status old new
 play_is_told file written status old new is =

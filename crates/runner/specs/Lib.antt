@@ -1,4 +1,3 @@
 pub mod Faults
 pub mod Told
-pub mod Shelves
 pub mod Inner

@@ -1,32 +1,22 @@
 -- What the program tells at exit status 0 and 1.
-use Rattle.std.specs.Prelude.{◌≡◌, ◌⊎◌, ◌++◌, ◌∷◌, ◌+◌, ◌≤◌, ℕ, Bool, true, false, List, [], Option, None, Some, IfSome, codes, decimal, length, option_and_then, option_map, unwrap_or}
+use Rattle.std.specs.Prelude.{◌≡◌, ◌⊎◌, ◌+◌, ◌≤◌, ℕ, Bool, true, false, List, [], Option, None, Some, IfSome, decimal, length, option_and_then, option_map, unwrap_or}
 use Rattle.std.specs.Io.KnownBytes.{Appends}
-use Rattle.std.specs.List.{flat_map}
 use Rattle.rows.specs.declared.actor.Actor.{Actor}
-use Rattle.rows.specs.Refusals.{number_of}
-use Rattle.rows.specs.declared.refusal.Refusal.{Refusal}
-use Rattle.group_model.specs.Worlds.{Event}
-use Rattle.world.specs.declared.done.Done.{Done}
-use Rattle.world.specs.GroupSteps.{IsGroupDone, IsNewGroup, RefusesGroupEvent, SameView}
 use Rattle.world.specs.GroupView.{GroupView, nodes_of, renumbered}
 use Rattle.cells.specs.Cells.{CellView}
 use Rattle.closing.specs.Closing.{ClosesTo}
-use Rattle.transcript.specs.EventLines.{event_line}
 use Rattle.transcript.specs.Transcripts.{IsTranscript, Recorded, record_of}
 use Rattle.page.specs.Pages.{GrowsByPage}
 use Rattle.picture.specs.Pictures.{GrowsByPicture}
 use Rattle.inspection.specs.Told.{GrowsByEventLines, GrowsByLines}
-use Rattle.ending.specs.Endings.{TellsEnding}
 pub use Rattle.command_line.specs.Words.{AskFor, AskForThreads, words_fault}
 use Rattle.command_line.specs.declared.command.CommandLine.{CommandLine}
 use Rattle.command_line.specs.declared.command.CommandLine.TheVariants.{Run, Threads, Replay, Draw, Check, Tell, Inspect, Expand, Sweep}
 use Rattle.command_line.specs.declared.command.SweepWords.{SweepWords}
-use Rattle.scenario_file.specs.declared.noting.Note.{Note}
 use Rattle.scenario_file.specs.declared.scenario.Scenario.{Scenario}
 use Rattle.scenario_file.specs.declared.scenario.Settings.{Settings}
-use Rattle.scenario_file.specs.Complaints.{IsGood, IsGoodText}
+use Rattle.scenario_file.specs.Complaints.{IsGood}
 use Rattle.scenario_file.specs.EachLine.{OfEachLine}
-use Rattle.scenario_file.specs.Notes.{AreNotes, note_text}
 use Rattle.scenario_file.specs.Objects.{IsScenarioText, step_lines}
 use Rattle.playing.specs.Played.{Refused}
 use Rattle.sweep.specs.declared.row.Row.{Row}
@@ -34,36 +24,10 @@ use Rattle.sweep.specs.declared.summary.Summary.{Summary}
 use Rattle.sweep.specs.Rows.{AreRows}
 use Rattle.sweep.specs.Summaries.{IsSummary}
 use Rattle.sweep.specs.Tables.{csv_text, summary_text}
+use Rattle.file_runs.specs.Notes.{TellsNotes}
+use Rattle.file_runs.specs.Refusals.{MayRefuse, TellsRun}
+use Rattle.file_runs.specs.Replays.{TellsReplay}
 use Rattle.runner.specs.Faults.{AskForHelp}
-
--- ---- refusals
-
--- the line of a refusal, of the line of a step or an event
-abbrev pub refusal_line : Refusal → List ℕ → List ℕ
-refusal_line refusal line = codes "refused " ++ decimal (number_of refusal) ++ 32 ∷ line ++ 10 ∷ []
-
-abbrev pub refused_line : Refused → List ℕ
-refused_line refused = refusal_line refused.0 refused.1
-
--- the exit status of a run in which this was refused
-abbrev pub status_of : List Refused → ℕ
-status_of [] = 0
-status_of (first ∷ others) = 1
-
--- the output grows by the lines of these refusals, and the status is that of their run
-abbrev pub TellsRefusals : List Refused → ℕ → Option (List ℕ) → Option (List ℕ) → Type 0
-TellsRefusals refused status old new =
-    (status ≡ status_of refused) × Appends old new (flat_map refused_line refused)
-
--- the output grows by these lines, and then by the last lines of this group
-abbrev pub TellsRun : List Refused → GroupView → ℕ → Option (List ℕ) → Option (List ℕ) → Type 0
-TellsRun refused group status old new =
-    (between : Option (List ℕ)) × TellsRefusals refused status old between × TellsEnding group between new
-
--- what is refused of a line: nothing, or the line, once
-abbrev pub MayRefuse : ℕ → List ℕ → List Refused → Type 0
-MayRefuse number line refused =
-    (refused ≡ []) ⊎ ((refusal : Refusal) × (refused ≡ (refusal, line) ∷ []))
 
 -- ---- scenarios
 
@@ -93,32 +57,6 @@ TellsThreads file written status old new =
     (told : TellsScenario file written status old new) × IsOfCells told.group
 
 -- ---- transcripts
-
--- the event happens to the group, and nothing is refused; or the group refuses it, by its line
-abbrev pub EventPlayed : Event → GroupView → List Refused → GroupView → Type 0
-EventPlayed event old refused new =
-    ((done : Done) × IsGroupDone old event done new × (refused ≡ []))
-    ⊎ ((refusal : Refusal) × RefusesGroupEvent old event refusal × SameView old new
-    × (refused ≡ (refusal, event_line event) ∷ []))
-
--- each of these events once, and in order
-abbrev pub EventsPlayed : List Event → GroupView → List Refused → GroupView → Type 0
-EventsPlayed [] old refused new = (refused ≡ []) × (new ≡ old)
-EventsPlayed (event ∷ events) old refused new =
-    (own : List Refused) × (others : List Refused) × (between : GroupView) × (refused ≡ own ++ others)
-    × EventPlayed event old own between × EventsPlayed events between others new
-
--- What a transcript says was played: that of the file, where its bytes are known. Each of its events
--- came to a new group of its size and nodes. Told are those that were refused, and the last lines.
-pub record TellsReplay (file : Option (List ℕ)) (status : ℕ) (old new : Option (List ℕ)) : Type 0 where
-  pub recorded : Recorded
-  pub read : IfSome file (IsTranscript recorded)
-  pub first : GroupView
-  pub last : GroupView
-  pub begun : IsNewGroup recorded.servers recorded.nodes first
-  pub refused : List Refused
-  pub played : EventsPlayed recorded.events first refused last
-  pub told : TellsRun refused last status old new
 
 -- the output grows by a page of a run of so many servers, clients and events, or by a picture
 abbrev pub ShowsRun : Bool → ℕ → ℕ → ℕ → Option (List ℕ) → Option (List ℕ) → Type 0
@@ -152,25 +90,6 @@ pub record TellsStanding (file at : Option (List ℕ)) (status : ℕ) (old new :
   pub after : ℕ
   pub asked : IsAfter at (length recorded.events) after
   pub lines : GrowsByLines old new
-  pub taken : status ≡ 0
-
--- ---- notes
-
-abbrev pub note_line : Note → List ℕ
-note_line note = note_text note ++ 10 ∷ []
-
--- the output grows by a line for each note of the scenario that a text is
-abbrev pub ShowsNotes : List ℕ → Option (List ℕ) → Option (List ℕ) → Type 0
-ShowsNotes text old new =
-    (s : Scenario) × IsScenarioText text s
-    × ((notes : List Note) × AreNotes s notes × Appends old new (flat_map note_line notes))
-
--- nothing is wrong with a scenario, which is that of the file, where its bytes are known
-pub record TellsNotes (file : Option (List ℕ)) (status : ℕ) (old new : Option (List ℕ)) : Type 0 where
-  pub text : List ℕ
-  pub read : IfSome file (λ known. text ≡ known)
-  pub good : IsGoodText text
-  pub notes : ShowsNotes text old new
   pub taken : status ≡ 0
 
 -- ---- short scenarios

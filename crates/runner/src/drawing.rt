@@ -3,14 +3,14 @@ ghost use Rattle.std.specs.Prelude.{◌≡◌, ◌≢◌, ◌⊎◌, IfErr, IfOk
 ghost use Rattle.page.specs.Pages.{GrowsByPage};
 ghost use Rattle.picture.specs.Pictures.{GrowsByPicture};
 ghost use Rattle.picture.specs.declared.fault.DrawError.TheVariants as errors;
-ghost use Rattle.runner.specs.declared.fault.Fault.TheVariants as faults;
-ghost use Rattle.runner.specs.Inner.Faults.{IsOfRun, IsPastReading, MayStopPrinting};
+ghost use Rattle.file_runs.specs.declared.fault.Fault.TheVariants as faults;
+ghost use Rattle.file_runs.specs.Faults.{IsOfRun, IsPastReading, MayStopPrinting};
 ghost use Rattle.runner.specs.Told.{ShowsRun, TellsPicture};
 
-use crate::fault::Fault;
-use crate::replaying::transcript_of;
-use crate::running::load_bytes;
-use crate::shelf::Shelf;
+use file_runs::fault::Fault;
+use file_runs::replaying::transcript_of;
+use file_runs::running::load_bytes;
+use file_runs::shelf::Shelf;
 use inspection::event_lines;
 use page::page;
 use picture::{DrawError, draw};

@@ -2,15 +2,16 @@
 ghost use Rattle.std.specs.Prelude.{◌≡◌, ◌⊎◌, IfErr, IfOk, IsUtf8, OnOk, string_bytes};
 ghost use Rattle.rows.specs.declared.refusal.Refusal.TheVariants as refusals;
 ghost use Rattle.runner.specs.Told.{IsGoodPlain, TellsPlain};
-ghost use Rattle.runner.specs.Inner.Faults.{IsOfRun, IsPastReading, MayStopExpanding};
+ghost use Rattle.file_runs.specs.Faults.{IsOfRun, IsPastReading};
+ghost use Rattle.runner.specs.Inner.Faults.{MayStopExpanding};
 
-use crate::fault::Fault;
-use crate::running::{check_steps, load_bytes, scenario_of_text};
-use crate::shelf::Shelf;
 use crate::sweeping::show;
 use expansion::expanding::expanded;
 use expansion::plain::plain_text;
 use expansion::short::{ShortScenario, short_scenario};
+use file_runs::fault::Fault;
+use file_runs::running::{check_steps, load_bytes, scenario_of_text};
+use file_runs::shelf::Shelf;
 use rows::Refusal;
 use std::alloc::Global;
 use std::io::Write;

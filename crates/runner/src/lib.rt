@@ -3,19 +3,15 @@
 //! whose modules it hands on.
 #![tactic(auto)]
 
-pub mod checking;
 mod drawing;
 mod expanding;
-pub mod fault;
 pub mod program;
-mod replaying;
-mod running;
 mod seeing;
-pub mod shelf;
 mod sweeping;
 mod threads;
 
 pub use command_line::command;
+pub use file_runs::{checking, fault, shelf};
 pub use program::nomadsim;
 pub use scenario_file::{forms, named, noting, reading, scenario, step, wrong};
 pub use sweep::sweeping::{Progress, Unseen};

@@ -2,14 +2,14 @@
 ghost use Rattle.std.specs.Prelude.{◌≡◌, ◌≢◌, ◌≤◌, ◌⊎◌, IfErr, IfNone, IfOk, IfSome, OnOk, length, option_map};
 ghost use Rattle.inspection.specs.Told.{GrowsByEventLines, GrowsByLines};
 ghost use Rattle.inspection.specs.declared.fault.InspectError.TheVariants as errors;
-ghost use Rattle.runner.specs.declared.fault.Fault.TheVariants as faults;
-ghost use Rattle.runner.specs.Inner.Faults.{IsOfRun, IsPastReading};
+ghost use Rattle.file_runs.specs.declared.fault.Fault.TheVariants as faults;
+ghost use Rattle.file_runs.specs.Faults.{IsOfRun, IsPastReading};
 ghost use Rattle.runner.specs.Told.{IsAfter, TellsEach, TellsStanding};
 
-use crate::fault::Fault;
-use crate::replaying::transcript_of;
-use crate::running::load_bytes;
-use crate::shelf::Shelf;
+use file_runs::fault::Fault;
+use file_runs::replaying::transcript_of;
+use file_runs::running::load_bytes;
+use file_runs::shelf::Shelf;
 use inspection::{Form, InspectError, inspect, tell};
 use std::alloc::Global;
 use std::io::Write;

@@ -4,12 +4,13 @@ ghost use Rattle.std.specs.Io.KnownBytes.{Appends};
 ghost use Rattle.scenario_file.specs.Complaints.{IsGood};
 ghost use Rattle.sweep.specs.Rows.{AreRows};
 ghost use Rattle.runner.specs.Told.{IsUnder, ShowsRows, TellsSweep, settings_under};
-ghost use Rattle.runner.specs.Inner.Faults.{AreTooMany, IsOfRun, IsPastReading, MayStopPrinting};
+ghost use Rattle.file_runs.specs.Faults.{IsOfRun, IsPastReading, MayStopPrinting};
+ghost use Rattle.runner.specs.Inner.Faults.{AreTooMany};
 
-use crate::fault::{Fault, said};
-use crate::running::{check_steps, load};
-use crate::shelf::Shelf;
 use command_line::command::SweepWords;
+use file_runs::fault::{Fault, said};
+use file_runs::running::{check_steps, load};
+use file_runs::shelf::Shelf;
 use scenario_file::scenario::{Scenario, Settings};
 use std::alloc::Global;
 use std::io::Write;

@@ -1,7 +1,7 @@
 -- The entries of the logs that are reported.
 use Rattle.std.specs.Prelude.{ℕ, ◌-◌, Bool, false, nat_eq, nat_le, if◌then◌else◌, Option, None, Some, slice_get}
-use Rattle.inspection.specs.declared.report.EntryReport.{EntryReport}
-use Rattle.inspection.specs.declared.report.ServerReport.{ServerReport}
+use Rattle.inspection_reports.specs.declared.report.EntryReport.{EntryReport}
+use Rattle.inspection_reports.specs.declared.report.ServerReport.{ServerReport}
 
 -- the entry at an index of a server's log, if the server has it and its snapshot does not cover it
 abbrev pub entry_of : ServerReport → ℕ → Option EntryReport

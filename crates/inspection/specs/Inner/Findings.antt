@@ -7,8 +7,8 @@ use Rattle.placement_metrics.specs.Metrics.{AreMetrics, fits_on_none}
 use Rattle.placement_metrics.specs.Verdicts.{AreCounts}
 use Rattle.placement_metrics.specs.declared.counting.NodeCounts.{NodeCounts}
 use Rattle.placement_metrics.specs.declared.metrics.GroupMetrics.{GroupMetrics}
-use Rattle.inspection.specs.declared.report.NodesReport.{NodesReport}
-use Rattle.inspection.specs.declared.report.PlacementReport.{PlacementReport}
+use Rattle.inspection_reports.specs.declared.report.NodesReport.{NodesReport}
+use Rattle.inspection_reports.specs.declared.report.PlacementReport.{PlacementReport}
 
 -- the counts that are reported
 abbrev pub counts_in : NodesReport → NodeCounts

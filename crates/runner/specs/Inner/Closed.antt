@@ -11,7 +11,7 @@ use Rattle.transcript.specs.Transcripts.{IsTranscript, record_of}
 use Rattle.ending.specs.Endings.{TellsEnding}
 use Rattle.scenario_file.specs.declared.scenario.Scenario.{Scenario}
 use Rattle.scenario_file.specs.Objects.{step_lines}
-use Rattle.runner.specs.Inner.Played.{TellsSteps}
+use Rattle.file_runs.specs.Plays.{TellsSteps}
 
 -- as many cells as a group of n servers and m clients has actors, which are these
 pub record AreWhole (n m : ℕ) (all : List Actor) (cells : List CellView) : Type 0 where

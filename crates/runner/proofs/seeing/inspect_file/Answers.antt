@@ -2,7 +2,7 @@ use Rattle.std.proofs.Common.{◌≡◌, length, refl, rules}
 use Rattle.std.proofs.lemmas.List.{length-map}
 use Rattle.world.specs.GroupEvents.{group_event}
 use Rattle.transcript.specs.Transcripts.{IsTranscript, recorded}
-use Rattle.runner.proofs.Tellings.{of_file}
+use Rattle.file_runs.proofs.Files.{of_file}
 use Rattle.runner.proofs.seeing.inspect_file.Goals as goal
 
 pub returns-clause-told : goal.returns-clause-told

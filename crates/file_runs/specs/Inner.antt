@@ -1,0 +1,5 @@
+-- Words of private contracts.
+pub mod Faults
+pub mod Files
+pub mod Printed
+pub mod Replayed
