@@ -49,8 +49,8 @@ pub struct NetSettings {
 /// put once and no word is drawn. One for which there is no room is lost, and counted.
 ///
 /// Contracts see the cells as they see `Cells`, the queues as they see `Net`, the parts of lost and
-/// of repeated messages, and the gate. What is on its way, what was lost, what waits for workers, and what lies in the cells, threads may change at
-/// any moment.
+/// of repeated messages, and the gate. What is on its way, what was lost, what waits for workers, and
+/// what lies in the cells, threads may change at any moment.
 #[derive(Drop)]
 pub struct RunningGroup<B: BookId, G: Gate + Drop> {
     cells: Cells<B>,

@@ -1,5 +1,6 @@
 pub mod Shapes
 pub mod Positions
+pub mod Fans
 pub mod Notes
 pub mod Actors
 pub mod Records

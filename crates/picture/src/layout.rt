@@ -1,6 +1,7 @@
 //! Where everything stands, in pixels from the upper left corner.
-ghost use Rattle.std.specs.Prelude.{◌≡◌, ◌<◌, ◌≤◌, ◌+◌, ◌*◌};
-ghost use Rattle.picture.specs.Inner.Positions.{down_by, up_by, aside_by, side_towards, opposite, distance, pitch, lifeline_x, column_x, row_y, point_at, slot_at, names_again, names_between};
+ghost use Rattle.std.specs.Prelude.{◌≡◌, ◌<◌, ◌≤◌, ◌+◌, ◌*◌, IfOk};
+ghost use Rattle.picture.specs.Inner.Positions.{down_by, up_by, aside_by, side_towards, opposite, distance, pitch, lifeline_x, column_x, row_y, point_at, slot_at, lifeline_top, lifeline_end, picture_width, picture_height, row_height, names_again, names_between};
+ghost use Rattle.picture.specs.Inner.Fans.{fan_at, fan_behind, place_in};
 
 use crate::record::{Record, Sending};
 use rows::NoMemory;
@@ -155,7 +156,10 @@ struct Fan {
 }
 
 impl Fan {
-    fn at(row: usize) -> Fan {
+    // None of them, so far.
+    fn at(row: usize) -> Fan
+        ensures { result ≡ fan_at row }
+    {
         Fan {
             row,
             left: 0,
@@ -164,7 +168,10 @@ impl Fan {
     }
 
     // Which of those on its side a message is, from 0.
-    fn place(&mut self, sending: &Sending) -> u64 {
+    fn place(&mut self, sending: &Sending) -> u64
+        ensures place { result ≡ place_in self.old sending.now }
+        ensures fan { self.new ≡ fan_behind self.old sending.now }
+    {
         if self.row != sending.row {
             *self = Fan::at(sending.row);
         }
@@ -199,8 +206,11 @@ pub(crate) struct Layout {
 }
 
 impl Layout {
-    /// The layout of what is noted.
-    pub(crate) fn new(alloc: Global, drawn: &Record) -> Result<Layout, NoMemory> {
+    /// The layout of what is noted. Lifelines are as far apart as it is chosen for those that are
+    /// drawn.
+    pub(crate) fn new(alloc: Global, drawn: &Record) -> Result<Layout, NoMemory>
+        ensures { IfOk result (λ layout. layout.pitch ≡ pitch layout.shown) }
+    {
         let slots = slots_of(alloc, &drawn.sendings)?;
         let depths = depths_of(alloc, drawn, &slots)?;
         let tops = tops_of(alloc, &depths)?;
@@ -259,7 +269,9 @@ impl Layout {
     }
 
     /// Where the lifelines begin and where they end.
-    pub(crate) fn ends(&self, column: usize) -> (Point, Point) {
+    pub(crate) fn ends(&self, column: usize) -> (Point, Point)
+        ensures { result ≡ (lifeline_top self.now column, lifeline_end self.now column) }
+    {
         let x = self.x_at(column);
         let top = Point { x, y: HEAD };
         (top.down(6), Point { x, y: self.bottom })
@@ -283,7 +295,9 @@ impl Layout {
     }
 
     /// The width and the height of the picture.
-    pub(crate) fn size(&self) -> (u64, u64) {
+    pub(crate) fn size(&self) -> (u64, u64)
+        ensures { result ≡ (picture_width self.now, picture_height self.now) }
+    {
         let last = x_of(self.pitch, self.shown.saturating_sub(1));
         (last.saturating_add(RIGHT), self.bottom.saturating_add(ROW))
     }
@@ -364,6 +378,8 @@ fn tops_of(alloc: Global, depths: &[u64]) -> Result<Vec<u64>, NoMemory> {
 }
 
 // How far the next event is from one with so many lost messages below each other, less one.
-fn height_of(depth: u64) -> u64 {
+fn height_of(depth: u64) -> u64
+    ensures { result ≡ row_height depth }
+{
     depth.saturating_mul(SLOT).saturating_add(ROW)
 }

@@ -57,6 +57,25 @@ row_y layout row = unwrap_or (slice_get layout.tops.items row) layout.bottom
 abbrev pub point_at : Layout → ℕ → ℕ → Point
 point_at layout column row = record { x = column_x layout column; y = row_y layout row }
 
+-- where a lifeline begins, below its name, and where it ends
+abbrev pub lifeline_top : Layout → ℕ → Point
+lifeline_top layout column = record { x = column_x layout column; y = 94 }
+
+abbrev pub lifeline_end : Layout → ℕ → Point
+lifeline_end layout column = record { x = column_x layout column; y = layout.bottom }
+
+-- how large the picture is: so much more than the last of the lifelines that are drawn, and than
+-- where they end
+abbrev pub picture_width : Layout → ℕ
+picture_width layout = capped (lifeline_x layout.pitch (layout.shown - 1) + 200)
+
+abbrev pub picture_height : Layout → ℕ
+picture_height layout = capped (layout.bottom + 22)
+
+-- how far the next event is from one with so many lost messages below each other, less one
+abbrev pub row_height : ℕ → ℕ
+row_height depth = capped (capped (depth * 10) + 22)
+
 -- which of its event's lost messages on its side a message is
 abbrev pub slot_at : Layout → ℕ → ℕ
 slot_at layout message = unwrap_or (slice_get layout.slots.items message) 0

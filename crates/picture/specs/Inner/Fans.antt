@@ -1,0 +1,33 @@
+-- The lost messages of one event, on each side of its actor.
+use Rattle.std.specs.Prelude.{ℕ, ◌+◌, Bool, true, false, nat_eq, if◌then◌else◌}
+use Rattle.picture.specs.declared.layout.Fan.{Fan}
+use Rattle.picture.specs.declared.layout.Side.{Side}
+use Rattle.picture.specs.declared.layout.Side.TheVariants.{Left, Right}
+use Rattle.picture.specs.declared.record.Sending.{Sending}
+use Rattle.picture.specs.Inner.Positions.{capped, side_towards}
+
+-- none of them, so far
+abbrev pub fan_at : ℕ → Fan
+fan_at row = record { row = row; left = 0; right = 0 }
+
+-- those of the event of a message: where it is another event than before, none so far
+abbrev pub fan_for : Fan → Sending → Fan
+fan_for fan sending = if nat_eq fan.row sending.row then fan else fan_at sending.row
+
+abbrev pub count_on : Side → Fan → ℕ
+count_on Left fan = fan.left
+count_on Right fan = fan.right
+
+abbrev pub one_more_on : Side → Fan → Fan
+one_more_on Left fan = record fan { left = capped (fan.left + 1) }
+one_more_on Right fan = record fan { right = capped (fan.right + 1) }
+
+-- which of those on its side a message is, from 0; one that came is none of them
+abbrev pub place_in : Fan → Sending → ℕ
+place_in fan sending =
+    if sending.came then 0 else count_on (side_towards sending.from sending.to) (fan_for fan sending)
+
+abbrev pub fan_behind : Fan → Sending → Fan
+fan_behind fan sending =
+    if sending.came then fan_for fan sending
+    else one_more_on (side_towards sending.from sending.to) (fan_for fan sending)
