@@ -2,7 +2,7 @@
 ghost use Rattle.std.specs.Prelude.{◌≡◌, IfOk, string_bytes};
 ghost use Rattle.labels.specs.Labels.{to_label, end_label, operator_label, server_input_label, client_input_label, event_label, named_label};
 
-use crate::message_label::{eval_label, finish_label, plain, plan_label};
+use crate::messages::{eval_label, finish_label, plain, plan_label};
 use client_agent::ClientInput;
 use rows::{AllocId, NoMemory, OperatorRequest, ServerId};
 use server::ServerInput;
