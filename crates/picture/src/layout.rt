@@ -1,7 +1,7 @@
 //! Where everything stands, in pixels from the upper left corner.
 ghost use Rattle.std.specs.Prelude.{◌≡◌, ◌<◌, ◌≤◌, ◌+◌, ◌*◌, IfOk};
 ghost use Rattle.picture.specs.Inner.Positions.{down_by, up_by, aside_by, side_towards, opposite, distance, pitch, lifeline_x, column_x, row_y, point_at, slot_at, lifeline_top, lifeline_end, picture_width, picture_height, row_height, names_again, names_between};
-ghost use Rattle.picture.specs.Inner.Fans.{fan_at, fan_behind, place_in};
+ghost use Rattle.picture.specs.Inner.Fans.{count_on, fan_at, fan_behind, fan_of, one_more_on, place_in};
 
 use crate::record::{Record, Sending};
 use rows::NoMemory;
@@ -167,24 +167,54 @@ impl Fan {
         }
     }
 
-    // Which of those on its side a message is, from 0.
+    // Those of the event of this row: none so far, where it is another one.
+    fn of_row(self, row: usize) -> Fan
+        ensures { result ≡ fan_of self row }
+    {
+        if self.row == row { self } else { Fan::at(row) }
+    }
+
+    // How many there are on a side.
+    fn count(self, side: Side) -> u64
+        ensures { result ≡ count_on side self }
+    {
+        match side {
+            Side::Left => self.left,
+            Side::Right => self.right,
+        }
+    }
+
+    // One more on a side.
+    fn more(self, side: Side) -> Fan
+        ensures { result ≡ one_more_on side self }
+    {
+        match side {
+            Side::Left => Fan {
+                row: self.row,
+                left: self.left.saturating_add(1),
+                right: self.right,
+            },
+            Side::Right => Fan {
+                row: self.row,
+                left: self.left,
+                right: self.right.saturating_add(1),
+            },
+        }
+    }
+
+    // Which of those on its side a message is, from 0; one that came is none of them.
     fn place(&mut self, sending: &Sending) -> u64
         ensures place { result ≡ place_in self.old sending.now }
         ensures fan { self.new ≡ fan_behind self.old sending.now }
     {
-        if self.row != sending.row {
-            *self = Fan::at(sending.row);
-        }
+        let fan = self.of_row(sending.row);
         if sending.came {
+            *self = fan;
             return 0;
         }
-        let count = match Side::towards(sending.from, sending.to) {
-            Side::Left => &mut self.left,
-            Side::Right => &mut self.right,
-        };
-        let place = *count;
-        *count = place.saturating_add(1);
-        place
+        let side = Side::towards(sending.from, sending.to);
+        *self = fan.more(side);
+        fan.count(side)
     }
 }
 

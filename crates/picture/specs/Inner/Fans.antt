@@ -10,9 +10,9 @@ use Rattle.picture.specs.Inner.Positions.{capped, side_towards}
 abbrev pub fan_at : ℕ → Fan
 fan_at row = record { row = row; left = 0; right = 0 }
 
--- those of the event of a message: where it is another event than before, none so far
-abbrev pub fan_for : Fan → Sending → Fan
-fan_for fan sending = if nat_eq fan.row sending.row then fan else fan_at sending.row
+-- those of the event of this row: none so far, where it is another one
+abbrev pub fan_of : Fan → ℕ → Fan
+fan_of fan row = if nat_eq fan.row row then fan else fan_at row
 
 abbrev pub count_on : Side → Fan → ℕ
 count_on Left fan = fan.left
@@ -25,9 +25,9 @@ one_more_on Right fan = record fan { right = capped (fan.right + 1) }
 -- which of those on its side a message is, from 0; one that came is none of them
 abbrev pub place_in : Fan → Sending → ℕ
 place_in fan sending =
-    if sending.came then 0 else count_on (side_towards sending.from sending.to) (fan_for fan sending)
+    if sending.came then 0 else count_on (side_towards sending.from sending.to) (fan_of fan sending.row)
 
 abbrev pub fan_behind : Fan → Sending → Fan
 fan_behind fan sending =
-    if sending.came then fan_for fan sending
-    else one_more_on (side_towards sending.from sending.to) (fan_for fan sending)
+    if sending.came then fan_of fan sending.row
+    else one_more_on (side_towards sending.from sending.to) (fan_of fan sending.row)
