@@ -200,8 +200,14 @@ fn text_of(alloc: Global, state: &Cluster) -> Option<Vec<u8>> {
 
 // The text of server 1's state when it has applied so many entries.
 fn state_at(alloc: Global, row: &Transcript, count: u64) -> Option<Vec<u8>> {
+    match World::new(alloc, row.servers, &row.nodes) {
+        Ok(mut world) => state_in(&mut world, alloc, row, count),
+        Err(_) => None,
+    }
+}
+
+fn state_in(world: &mut World, alloc: Global, row: &Transcript, count: u64) -> Option<Vec<u8>> {
     let first = ServerId::from_number(1)?;
-    let mut world = World::new(alloc, row.servers, &row.nodes).ok()?;
     for event in &row.events {
         if world.state(first)?.count() == count {
             break;
@@ -294,12 +300,23 @@ fn say_snapshot(rt: &HostRuntime, row: &Transcript, index: u64, state: &[u8]) ->
     let Some(frame) = frame_of(alloc, index, state) else {
         return Ok(());
     };
-    let Some(mut apart) = new_apart(alloc, row, 2) else {
-        return Ok(());
-    };
-    let is_same = play(&mut apart, alloc, row) == Some(true);
+    match new_apart(alloc, row, 2) {
+        Some(mut apart) => say_taken(rt, &mut apart, row, index, &frame),
+        None => Ok(()),
+    }
+}
+
+// What it makes of the row, and then of the frame of such a snapshot.
+fn say_taken(
+    rt: &HostRuntime,
+    apart: &mut Apart,
+    row: &Transcript,
+    index: u64,
+    frame: &[u8],
+) -> io::Result<()> {
+    let is_same = play(apart, rt.alloc(), row) == Some(true);
     print!(rt; "snapshot of {index} entries: {is_same}")?;
-    say_answer(rt, &mut apart, &frame)?;
+    say_answer(rt, apart, frame)?;
     println!(rt;)
 }
 

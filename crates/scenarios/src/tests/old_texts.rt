@@ -70,22 +70,42 @@ fn is_command_read(alloc: Global, version: Version) -> Option<bool> {
     }
 }
 
+// The text, today, of the state that these bytes are as of this version.
+fn text_today(alloc: Global, version: Version, bytes: &[u8]) -> Option<Vec<u8>> {
+    let state = Cluster::load(version, alloc, bytes).ok()?;
+    let mut text = Vec::new(alloc);
+    state.save(&mut text).ok()?;
+    Some(text)
+}
+
+// These bytes with another one at an offset.
+fn with_byte(alloc: Global, bytes: &[u8], offset: usize, byte: u8) -> Option<Vec<u8>> {
+    let mut text = Vec::new(alloc);
+    text.extend_from_slice(bytes).ok()?;
+    *text.get_mut(offset)? = byte;
+    Some(text)
+}
+
+// Today these bytes are a state in which the same lives on both nodes.
+fn lives_on_both(alloc: Global, bytes: &[u8]) -> bool {
+    match Cluster::load(Version::newest(), alloc, bytes) {
+        Ok(state) => is_used(&state, 1) && is_used(&state, 2),
+        Err(_) => false,
+    }
+}
+
+fn fault_of(alloc: Global, version: Version, bytes: &[u8]) -> Option<Refusal> {
+    Cluster::load(version, alloc, bytes).err()
+}
+
 // A state of the second version is the same today, where node 1 may be disconnected, as it says at
 // byte 74: there it may not.
 fn is_second_read(alloc: Global, first: Version, second: Version) -> Option<bool> {
-    let state = Cluster::load(first, alloc, STATE).ok()?;
-    let (mut text, mut again) = (Vec::new(alloc), Vec::new(alloc));
-    state.save(&mut text).ok()?;
-    let same = Cluster::load(second, alloc, &text).ok()?;
-    same.save(&mut again).ok()?;
-    *text.get_mut(74)? = 2;
-    let is_away = match Cluster::load(Version::newest(), alloc, &text) {
-        Ok(state) => is_used(&state, 1) && is_used(&state, 2),
-        Err(_) => false,
-    };
-    let is_refused = Cluster::load(second, alloc, &text).err() == Some(Refusal::Frame(74));
-    *text.get_mut(74)? = 0;
-    Some(again == text && is_away && is_refused)
+    let text = text_today(alloc, first, STATE)?;
+    let again = text_today(alloc, second, &text)?;
+    let away = with_byte(alloc, &text, 74, 2)?;
+    let is_refused = fault_of(alloc, second, &away) == Some(Refusal::Frame(74));
+    Some(again == text && lives_on_both(alloc, &away) && is_refused)
 }
 
 fn are_second_commands_read(alloc: Global, second: Version) -> Option<bool> {
