@@ -2,19 +2,15 @@
 //! and what it left. It says `holds`, whatever was refused; and else what does not hold.
 #![tactic(auto)]
 
+mod files;
 mod folder;
-mod group;
-mod row;
 mod said;
-mod shown;
-mod stop;
-mod turns;
 
+use starved_group::{Stop, play_group, play_turns, unread};
 use std::env;
 use std::process::ExitCode;
 use std::sync::Wait;
 use std::thread::Threads;
-use stop::{Stop, unread};
 
 /// What is played: the row's events come to a group, or to its cells, or the program plays it.
 #[derive(Clone, Copy, Debug, PartialEq, Eq)]
@@ -51,8 +47,8 @@ fn play<R: Threads + Wait + Copy + Send + Sync + 'static>(
     progress.part = Some(part);
     progress.at = 0;
     match part {
-        Part::World => group::play(rt.alloc(), &row::row(rt)?, &mut progress.at),
-        Part::Turn => turns::play(&on, rt.alloc(), &row::row(rt)?, &mut progress.at),
+        Part::World => play_group(rt.alloc(), &files::row(rt)?, &mut progress.at),
+        Part::Turn => play_turns(&on, rt.alloc(), &files::row(rt)?, &mut progress.at),
         Part::Program => said::play(rt, on, &mut progress.at),
     }
 }

@@ -1,29 +1,18 @@
 //! The row that is played: a leader crashes while a plan is in flight, and another goes on.
-use crate::stop::{Stop, unread};
+use crate::stop::Stop;
 use client_agent::ClientInput;
 use rows::{Actor, NoMemory, Refusal};
 use server::ServerInput;
 use std::alloc::Global;
-use std::fs;
-use std::rt::Files;
 use transcript::{Transcript, read};
 use world::Event;
 
-/// The row's events, as a transcript.
-pub(crate) fn row(rt: &HostRuntime) -> Result<Transcript, Stop> {
-    let bytes = file(rt, "failover-with-a-plan-in-flight.transcript")?;
-    match read(rt.alloc(), &bytes) {
+/// The row's events, of the text of a transcript.
+pub fn read_row(alloc: Global, text: &[u8]) -> Result<Transcript, Stop> {
+    match read(alloc, text) {
         Ok(row) => Ok(row),
         Err(Refusal::NoMemory) => Err(Stop::NoMemory),
         Err(_) => Err(Stop::Unread),
-    }
-}
-
-/// All bytes of a file.
-pub(crate) fn file(rt: &HostRuntime, name: &str) -> Result<Vec<u8>, Stop> {
-    match fs::read(rt, name) {
-        Ok(bytes) => Ok(bytes),
-        Err(error) => Err(unread(&error)),
     }
 }
 
@@ -39,7 +28,7 @@ pub(crate) enum Next {
 }
 
 /// How often something that finds no memory is tried anew.
-pub(crate) const TRIES: usize = 4;
+pub const TRIES: usize = 4;
 
 /// An actor starts again.
 pub(crate) fn restart(alloc: Global, actor: &Actor) -> Result<Event, NoMemory> {

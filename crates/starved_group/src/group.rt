@@ -210,7 +210,7 @@ impl Group<'_> {
 }
 
 /// The row's events come to a group; `at` counts those that came.
-pub(crate) fn play(alloc: Global, row: &Transcript, at: &mut usize) -> Result<(), Stop> {
+pub fn play_group(alloc: Global, row: &Transcript, at: &mut usize) -> Result<(), Stop> {
     let world = match World::new(alloc, row.servers, &row.nodes) {
         Ok(world) => world,
         Err(refusal) => return Err(unmade(refusal)),
