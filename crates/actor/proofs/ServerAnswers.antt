@@ -7,7 +7,7 @@ use Rattle.group_model.specs.Inputs.{Arrives, Timeout, Beat, Request, TakeFrom, 
 use Rattle.group_model.specs.Servers.{Server}
 use Rattle.server.specs.declared.server.Outbox.{Outbox}
 use Rattle.server.specs.ServerViews.{ServerView, IsServer, SameServer, crashed_server}
-use Rattle.server.specs.Handings.{Handing, FrameBytes, OwnInput}
+use Rattle.group_inputs.specs.Handings.{Handing, FrameBytes, OwnInput}
 use Rattle.server.specs.Refusals.{MayLackMemory, NoMemoryLeaves}
 use Rattle.server.specs.Answers.{HandedIn}
 use Rattle.server.proofs.Serving.{leader_up}

@@ -6,11 +6,11 @@ use Rattle.raft_model.specs.Rafts.{is_up}
 use Rattle.raft_core.specs.RaftView.{SameNumber}
 use Rattle.group_model.specs.Servers.{Server}
 use Rattle.client_agent.specs.AgentView.{AgentView, crashed_agent}
-use Rattle.client_agent.specs.declared.input.ClientInput.{ClientInput}
+use Rattle.group_inputs.specs.declared.client_input.ClientInput.{ClientInput}
 use Rattle.client_agent.specs.Steps.{AgentTakes}
 use Rattle.server.specs.declared.server.Outbox.{Outbox}
 use Rattle.server.specs.ServerViews.{ServerView, IsServer, SameServer, crashed_server}
-use Rattle.server.specs.Handings.{Handing}
+use Rattle.group_inputs.specs.Handings.{Handing}
 use Rattle.server.specs.Steps.{TakesHanding}
 use Rattle.actor.specs.declared.stepped.Stepped.{Stepped}
 use Rattle.actor.specs.declared.stepped.Stepped.TheVariants.{Taken, Crashed}

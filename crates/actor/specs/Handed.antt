@@ -1,9 +1,9 @@
 -- What comes to an actor: which of it starts it again, and which is a frame.
 use Rattle.std.specs.Prelude.{Bool, true, false}
 use Rattle.group_model.specs.Inputs.{Restart}
-use Rattle.client_agent.specs.declared.input.ClientInput.{ClientInput}
-use Rattle.client_agent.specs.declared.input.ClientInput.TheVariants as client_inputs
-use Rattle.server.specs.Handings.{Handing, FrameBytes, OwnInput}
+use Rattle.group_inputs.specs.declared.client_input.ClientInput.{ClientInput}
+use Rattle.group_inputs.specs.declared.client_input.ClientInput.TheVariants as client_inputs
+use Rattle.group_inputs.specs.Handings.{Handing, FrameBytes, OwnInput}
 
 abbrev pub restarts_server : Handing → Bool
 restarts_server (OwnInput Restart) = true

@@ -4,10 +4,10 @@ use Rattle.rows.specs.declared.refusal.Refusal.{Refusal}
 use Rattle.rows.specs.declared.refusal.Refusal.TheVariants as refusals
 use Rattle.group_model.specs.Servers.{Server}
 use Rattle.client_agent.specs.AgentView.{AgentView}
-use Rattle.client_agent.specs.declared.input.ClientInput.{ClientInput}
+use Rattle.group_inputs.specs.declared.client_input.ClientInput.{ClientInput}
 use Rattle.client_agent.specs.Refusals.{agent_refusal, AgentMayLack}
 use Rattle.server.specs.ServerViews.{ServerView, IsServer}
-use Rattle.server.specs.Handings.{Handing}
+use Rattle.group_inputs.specs.Handings.{Handing}
 use Rattle.server.specs.Refusals.{handing_refusal, MayLackMemory}
 
 -- ---- what the definitions refuse

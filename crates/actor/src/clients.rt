@@ -1,11 +1,12 @@
 //! What comes to a client.
 ghost use Rattle.std.specs.Prelude.{◌≡◌};
-ghost use Rattle.client_agent.specs.declared.input.ClientInput.TheVariants as client_inputs;
+ghost use Rattle.group_inputs.specs.declared.client_input.ClientInput.TheVariants as client_inputs;
 ghost use Rattle.actor.specs.Answers.{ClientAnswers};
 ghost use Rattle.actor.specs.Handed.{is_client_frame, restarts_client};
 
 use crate::stepped::{Stepped, outcome};
-use client_agent::{Agent, ClientInput};
+use client_agent::Agent;
+use group_inputs::ClientInput;
 use rows::Refusal;
 use wire::Frames;
 

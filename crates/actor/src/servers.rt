@@ -1,12 +1,14 @@
 //! What comes to a server.
 ghost use Rattle.std.specs.Prelude.{◌≡◌};
-ghost use Rattle.server.specs.Handings.{FrameBytes, bytes_at, handing};
+ghost use Rattle.group_inputs.specs.Handings.{FrameBytes, handing};
+ghost use Rattle.server.specs.SentBytes.{bytes_at};
 ghost use Rattle.actor.specs.Answers.{ServerAnswers};
 ghost use Rattle.actor.specs.Handed.{comes_as_frame, restarts_server};
 
 use crate::stepped::{Stepped, outcome};
+use group_inputs::ServerInput;
 use rows::Refusal;
-use server::{Outbox, Server, ServerInput};
+use server::{Outbox, Server};
 
 /// Whether it is a frame.
 pub fn is_frame(input: &ServerInput) -> bool

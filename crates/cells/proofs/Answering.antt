@@ -7,12 +7,12 @@ use Rattle.rows.specs.declared.refusal.Refusal.{Refusal}
 use Rattle.rows.specs.declared.refusal.Refusal.TheVariants as refusals
 use Rattle.wire.specs.Frames.{Frame}
 use Rattle.client_agent.specs.AgentView.{AgentView}
-use Rattle.client_agent.specs.declared.input.ClientInput.{ClientInput}
-use Rattle.client_agent.specs.declared.input.ClientInput.TheVariants as client_inputs
+use Rattle.group_inputs.specs.declared.client_input.ClientInput.{ClientInput}
+use Rattle.group_inputs.specs.declared.client_input.ClientInput.TheVariants as client_inputs
 use Rattle.server.specs.declared.server.Outbox.{Outbox}
-use Rattle.server.specs.declared.server_input.ServerInput.{ServerInput}
+use Rattle.group_inputs.specs.declared.server_input.ServerInput.{ServerInput}
 use Rattle.server.specs.ServerViews.{ServerView}
-use Rattle.server.specs.Handings.{Handing, FrameBytes, OwnInput, handing}
+use Rattle.group_inputs.specs.Handings.{Handing, FrameBytes, OwnInput, handing}
 use Rattle.actor.specs.declared.group_actor.GroupActor.TheVariants as actors
 use Rattle.actor.specs.declared.stepped.Stepped.{Stepped}
 use Rattle.actor.specs.declared.stepped.Stepped.TheVariants.{Taken, Crashed}

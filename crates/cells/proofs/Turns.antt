@@ -12,7 +12,7 @@ use Rattle.group_model.specs.Servers.{Server, ServerTurn, newcomer, step}
 use Rattle.client_agent.specs.AgentView.{AgentView}
 use Rattle.server.specs.declared.server.Outbox.{Outbox}
 use Rattle.server.specs.ServerViews.{ServerView, SameServer, crashed_server}
-use Rattle.server.specs.Handings.{Handing, FrameBytes, OwnInput as TakesOwn, handing}
+use Rattle.group_inputs.specs.Handings.{Handing, FrameBytes, OwnInput as TakesOwn, handing}
 use Rattle.server.specs.Steps.{TakesHanding, TakesTurn, takes_in}
 use Rattle.event_book.specs.declared.view.EventView.{EventView}
 use Rattle.event_book.specs.declared.view.EventView.TheVariants.{Own, Delivery, Crash}

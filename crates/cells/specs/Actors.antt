@@ -11,14 +11,14 @@ use Rattle.group_model.specs.Inputs as inputs
 use Rattle.group_model.specs.Servers.{newcomer}
 use Rattle.group_model.specs.Worlds.{Event, AtServer, AtClient}
 use Rattle.client_agent.specs.AgentView.{AgentView}
-use Rattle.client_agent.specs.declared.input.ClientInput.{ClientInput}
-use Rattle.client_agent.specs.declared.input.ClientInput.TheVariants as client_inputs
+use Rattle.group_inputs.specs.declared.client_input.ClientInput.{ClientInput}
+use Rattle.group_inputs.specs.declared.client_input.ClientInput.TheVariants as client_inputs
 use Rattle.server.specs.ServerViews.{ServerView, IsServer, SameServer}
-use Rattle.server.specs.Handings.{Handing, FrameBytes, OwnInput as TakesOwn, handing}
+use Rattle.group_inputs.specs.Handings.{Handing, FrameBytes, OwnInput as TakesOwn, handing}
 use Rattle.actor.specs.declared.group_actor.GroupActor.{GroupActor}
 use Rattle.actor.specs.declared.group_actor.GroupActor.TheVariants.{Server, Client}
 use Rattle.actor.specs.Answers.{nothing_sent, ServerSteps, ServerCrashed, ClientSteps, ClientCrashed}
-use Rattle.world.specs.GroupEvents.{server_input, client_input}
+use Rattle.group_inputs.specs.Events.{server_input, client_input}
 use Rattle.event_book.specs.declared.view.EventView.{EventView}
 use Rattle.event_book.specs.declared.view.EventView.TheVariants.{Own, Delivery, Crash}
 use Rattle.event_book.specs.declared.view.Output.{Output}

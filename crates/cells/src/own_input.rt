@@ -2,14 +2,13 @@
 ghost use Rattle.std.specs.Prelude.{◌≡◌, ℕ, IfOk};
 ghost use Rattle.rows.specs.declared.actor.Actor.TheVariants.{Server, Client};
 ghost use Rattle.group_model.specs.Worlds.{AtServer, AtClient};
-ghost use Rattle.server.specs.Handings.{handing};
-ghost use Rattle.world.specs.GroupEvents.{server_input, client_input};
+ghost use Rattle.group_inputs.specs.Handings.{handing};
+ghost use Rattle.group_inputs.specs.Events.{server_input, client_input};
 ghost use Rattle.cells.specs.Actors.{IsServerInput, IsClientInput};
 ghost use Rattle.cells.specs.Actors.{own_event};
 
-use client_agent::ClientInput;
+use group_inputs::{ClientInput, ServerInput};
 use rows::NoMemory;
-use server::ServerInput;
 use std::alloc::Global;
 
 /// An input of a server's or a client's own, which is no frame. It stands apart, so that what is

@@ -10,7 +10,7 @@ use Rattle.group_model.specs.Messages.{ToServer, Listing, Told, Service}
 use Rattle.group_model.specs.Agents.{Agent, Life, Started, Input, Arrives, RegisterAt, Ping, PullFrom, End, Crash, Restart, AgentTurn, step, lives, new_life, runs, news, report_messages, with_end, with_started}
 use Rattle.group_frames.specs.GroupFrames.{SendsGroup}
 use Rattle.group_frames.proofs.Sending.{sends_nothing}
-use Rattle.client_agent.specs.declared.input.ClientInput.TheVariants as inputs
+use Rattle.group_inputs.specs.declared.client_input.ClientInput.TheVariants as inputs
 use Rattle.client_agent.specs.declared.asking.Asked.{Asked}
 use Rattle.client_agent.specs.declared.asking.Asked.TheVariants as asked
 use Rattle.client_agent.specs.AgentView.{AgentView, crashed_agent}

@@ -4,8 +4,8 @@ use Rattle.cluster_model.specs.ClusterMachine.{cluster_meaning}
 use Rattle.group_model.specs.Messages.{ClientResponse, ToClient}
 use Rattle.group_model.specs.Agents.{Input, Arrives, RegisterAt, Ping, PullFrom, End, Crash, Restart}
 use Rattle.group_frames.specs.GroupFrames.{IsServiceFrame}
-use Rattle.client_agent.specs.declared.input.ClientInput.{ClientInput}
-use Rattle.client_agent.specs.declared.input.ClientInput.TheVariants as inputs
+use Rattle.group_inputs.specs.declared.client_input.ClientInput.{ClientInput}
+use Rattle.group_inputs.specs.declared.client_input.ClientInput.TheVariants as inputs
 
 -- an input of the definitions that it is to the client of this number: bytes are the arrival of
 -- each response to it whose frame they are
@@ -20,7 +20,3 @@ AgentReads me (inputs.Pull server) input = input ≡ PullFrom server
 AgentReads me (inputs.End id ok) input = input ≡ End id ok
 AgentReads me inputs.Crash input = input ≡ Crash
 AgentReads me inputs.Restart input = input ≡ Restart
-
-abbrev pub IsFrameInput : ClientInput → Type 0
-IsFrameInput (inputs.Frame bytes) = Unit {0}
-IsFrameInput _ = ⊥

@@ -12,8 +12,8 @@ use Rattle.cluster_model.specs.ClusterMachine.{cluster_meaning}
 use Rattle.cluster_model.specs.Words.{State}
 use Rattle.group_model.specs.Agents.{Agent, Life, RegisterAt, Ping, PullFrom, End, Crash, Restart, runs, step}
 use Rattle.raft_core.specs.Refusals.{is_server_of}
-use Rattle.client_agent.specs.declared.input.ClientInput.{ClientInput}
-use Rattle.client_agent.specs.declared.input.ClientInput.TheVariants as inputs
+use Rattle.group_inputs.specs.declared.client_input.ClientInput.{ClientInput}
+use Rattle.group_inputs.specs.declared.client_input.ClientInput.TheVariants as inputs
 use Rattle.client_agent.specs.AgentView.{AgentView, crashed_agent}
 
 -- ---- what is handed in

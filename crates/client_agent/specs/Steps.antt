@@ -5,7 +5,7 @@ use Rattle.cluster_model.specs.ClusterMachine.{cluster_meaning}
 use Rattle.group_model.specs.Messages.{Service}
 use Rattle.group_model.specs.Agents.{Input, AgentTurn, step}
 use Rattle.group_frames.specs.GroupFrames.{SendsGroup}
-use Rattle.client_agent.specs.declared.input.ClientInput.{ClientInput}
+use Rattle.group_inputs.specs.declared.client_input.ClientInput.{ClientInput}
 use Rattle.client_agent.specs.AgentView.{AgentView}
 use Rattle.client_agent.specs.Inputs.{AgentReads}
 

@@ -5,7 +5,6 @@ mod agent;
 mod asking;
 mod ended;
 mod ids;
-mod input;
 mod life;
 mod listing;
 mod reporting;
@@ -14,5 +13,4 @@ mod started;
 mod starting;
 
 pub use agent::Agent;
-pub use input::ClientInput;
 pub use running::RunningAllocation;

@@ -13,7 +13,7 @@ use Rattle.event_book.specs.Histories.{IsDueEvent, IsDueNote, IsLegal}
 use Rattle.event_book.proofs.Logs.{all_at}
 use Rattle.cells.specs.declared.own_input.OwnInput.{OwnInput}
 use Rattle.closing.specs.declared.merging.TracedEvent.{TracedEvent}
-use Rattle.world.specs.declared.group.event.Event.{Event as GroupEvent}
+use Rattle.group_inputs.specs.declared.event.Event.{Event as GroupEvent}
 use Rattle.cells.specs.declared.cell.KeptEvent.{KeptEvent}
 use Rattle.cells.specs.declared.cell.KeptEvent.TheVariants as kept
 use Rattle.cells.specs.Cells.{kept_input}

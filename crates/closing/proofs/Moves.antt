@@ -22,10 +22,11 @@ use Rattle.group_model.specs.Worlds.{World, Event, Deliver, AtServer, AtClient, 
 use Rattle.group_safety.proofs.Lists.{get_map}
 use Rattle.group_frames.specs.GroupFrames.{CarriesGroup, SendsGroup}
 use Rattle.client_agent.specs.AgentView.{AgentView}
-use Rattle.client_agent.specs.declared.input.ClientInput.{ClientInput}
-use Rattle.client_agent.specs.declared.input.ClientInput.TheVariants as client_inputs
+use Rattle.group_inputs.specs.declared.client_input.ClientInput.{ClientInput}
+use Rattle.group_inputs.specs.declared.client_input.ClientInput.TheVariants as client_inputs
 use Rattle.server.specs.ServerViews.{ServerView, IsServer, crashed_server}
-use Rattle.server.specs.Handings.{Handing, FrameBytes, OwnInput as TakesOwn, handing, bytes_of}
+use Rattle.group_inputs.specs.Handings.{Handing, FrameBytes, OwnInput as TakesOwn, handing}
+use Rattle.server.specs.SentBytes.{bytes_of}
 use Rattle.actor.specs.Handed.{comes_as_frame, is_client_frame}
 use Rattle.actor.specs.Answers.{nothing_sent, ServerCrashed, ClientCrashed}
 use Rattle.world.specs.Inner.GroupInputs.{IsSentTo}

@@ -4,8 +4,8 @@ use Rattle.std.proofs.lemmas.List.{map-append}
 use Rattle.std.proofs.lemmas.Option.{none-some, same_Some}
 use Rattle.rows.specs.declared.actor.Actor.{Actor}
 use Rattle.group_model.specs.Worlds.{Deliver}
-use Rattle.world.specs.declared.group.event.Event.{Event as GroupEvent}
-use Rattle.world.specs.GroupEvents.{group_event, group_events}
+use Rattle.group_inputs.specs.declared.event.Event.{Event as GroupEvent}
+use Rattle.group_inputs.specs.Events.{group_event, group_events}
 use Rattle.event_book.specs.declared.view.EventView.{EventView}
 use Rattle.event_book.specs.declared.view.EventView.TheVariants.{Own, Delivery, Crash}
 use Rattle.event_book.specs.declared.view.Note.{Note}

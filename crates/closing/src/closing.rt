@@ -1,7 +1,7 @@
 //! How the cells of a book are put together at its close.
 ghost use Rattle.std.specs.Prelude.{◌≡◌, length, map, IfOk, OnOk};
 ghost use Rattle.std.specs.List.{AllByRecursion};
-ghost use Rattle.world.specs.GroupEvents.{group_events};
+ghost use Rattle.group_inputs.specs.Events.{group_events};
 ghost use Rattle.cells.specs.Actors.{group_size};
 ghost use Rattle.cells.specs.Cells.{IsOpenedCell};
 ghost use Rattle.cells.specs.Groups.{seat_in};
@@ -12,9 +12,9 @@ use crate::merging::merged;
 use crate::numbering::number;
 use cells::{Cell, GroupActor, OwnInput, Rest, take_apart};
 use event_book::{ActorSeat, Book, BookId};
+use group_inputs::Event;
 use rows::{Actor, NoMemory};
 use std::alloc::Global;
-use world::Event;
 
 /// An actor of a group, and who it is.
 #[derive(Drop)]

@@ -1,6 +1,6 @@
 //! Noted events as the group's events.
 ghost use Rattle.std.specs.Prelude.{◌≡◌, ◌+◌, ◌^◌, ◌<◌, ◌≤◌, length, map, slice_index, IfOk, OnErr};
-ghost use Rattle.world.specs.GroupEvents.{group_event};
+ghost use Rattle.group_inputs.specs.Events.{group_event};
 ghost use Rattle.closing.specs.Closing.{crash_event};
 ghost use Rattle.cells.specs.Actors.{own_event};
 ghost use Rattle.closing.specs.Inner.Merged.{taken_event_in};
@@ -8,11 +8,9 @@ ghost use Rattle.closing.specs.Inner.Numbers.{AreDue, AreEventsOf, FallsWithin, 
 
 use crate::merging::TracedEvent;
 use cells::{KeptEvent, OwnInput};
-use client_agent::ClientInput;
+use group_inputs::{ClientInput, Event, ServerInput};
 use rows::{Actor, NoMemory};
-use server::ServerInput;
 use std::alloc::Global;
-use world::Event;
 
 /// The crash of an actor.
 fn crash(alloc: Global, actor: Actor) -> Result<Event, NoMemory>

@@ -1,14 +1,15 @@
 //! How the events of a history are played again on a world of their own.
 ghost use Rattle.std.specs.Prelude.{◌≡◌, ◌≤◌, length, IfOk, OnOk};
 ghost use Rattle.rows.specs.GroupSizes.{IsGroup};
-ghost use Rattle.world.specs.GroupEvents.{group_event, group_events};
+ghost use Rattle.group_inputs.specs.Events.{group_event, group_events};
 ghost use Rattle.world.specs.GroupView.{nodes_of, renumbered, ClientsKnowNumbers};
 ghost use Rattle.world.specs.GroupSteps.{IsNewGroup, GroupEventHappened};
 ghost use Rattle.closing.specs.Inner.Runs.{AllHappen, CanHappen, RepresentsLast};
 
+use group_inputs::Event;
 use rows::{NoMemory, NodeSpec, Refusal};
 use std::alloc::Global;
-use world::{Done, Event, World};
+use world::{Done, World};
 
 /// The group before its first event.
 fn begin(alloc: Global, n: usize, nodes: &[NodeSpec]) -> Result<World, NoMemory>

@@ -9,12 +9,12 @@ ghost use Rattle.expansion.specs.Inner.Parts.{IsPartOf};
 ghost use Rattle.expansion.specs.ShortSteps.{Short, short_step};
 ghost use Rattle.expansion.specs.Shorts.{AreSteps, ComesTo, IsRepeat, IsShortLine, IsShortScenario, IsShortText};
 
+use event_texts::read_number;
 use rows::{NodeSpec, Refusal};
 use scenario_file::reading::refuse_doubled_keys;
 use scenario_file::scenario::{Settings, keys_of, list_of, nodes_of, number_of, settings_of};
 use serde_json::Value;
 use std::alloc::Global;
-use transcript::read_number;
 
 /// How many steps a scenario has at most, once it is expanded.
 pub const MOST: usize = 1_000_000;

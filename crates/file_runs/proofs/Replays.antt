@@ -9,11 +9,11 @@ use Rattle.group_model.specs.Worlds.{Event}
 use Rattle.world.specs.declared.done.Done.{Done}
 use Rattle.world.specs.GroupSteps.{IsGroupDone, RefusesGroupEvent, SameView}
 use Rattle.world.specs.GroupView.{GroupView}
-use Rattle.transcript.specs.EventLines.{event_line}
-use Rattle.transcript.specs.Inner.Printable.{IsPrintable}
-use Rattle.transcript.specs.Transcripts.{AreNumberedFrom, IsTranscript, Recorded, lines_text, node_line, servers_line}
-use Rattle.transcript.proofs.Lines.{group_printable}
-use Rattle.transcript.proofs.Printable.{node_printable}
+use Rattle.event_texts.specs.EventLines.{event_line}
+use Rattle.event_texts.specs.Inner.Printable.{IsPrintable}
+use Rattle.event_texts.specs.Transcripts.{AreNumberedFrom, IsTranscript, Recorded, lines_text, node_line, servers_line}
+use Rattle.event_texts.proofs.Lines.{group_printable}
+use Rattle.event_texts.proofs.Printable.{node_printable}
 use Rattle.playing.specs.Played.{Refused}
 use Rattle.file_runs.specs.Refusals.{refusal_line}
 use Rattle.file_runs.specs.Replays.{EventPlayed, EventsPlayed}

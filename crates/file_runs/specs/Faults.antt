@@ -7,7 +7,7 @@ use Rattle.ending.specs.declared.fault.EndError.{EndError}
 use Rattle.ending.specs.declared.fault.EndError.TheVariants as ends
 use Rattle.file_runs.specs.declared.fault.Fault.{Fault}
 use Rattle.file_runs.specs.declared.fault.Fault.TheVariants.{CommandLine, CannotRead, CannotWrite, BadScenario, BadTranscript, NoSuchEvent, Percentages, NoMemory, Output}
-use Rattle.transcript.specs.Transcripts.{IsFault, IsTranscript, Recorded}
+use Rattle.event_texts.specs.Transcripts.{IsFault, IsTranscript, Recorded}
 
 -- the words ask for help, or for the version
 abbrev pub IsHelp : Error → Type 0

@@ -1,7 +1,8 @@
 -- What becomes of the steps of a scenario, in order.
 use Rattle.std.specs.Prelude.{ℕ, List, Option, IfSome}
 use Rattle.rows.specs.declared.refusal.Refusal.{Refusal}
-use Rattle.transcript.specs.Transcripts.{IsTranscript, record_of}
+use Rattle.event_texts.specs.Transcripts.{IsTranscript}
+use Rattle.transcript.specs.Records.{record_of}
 use Rattle.scenario_file.specs.declared.scenario.Scenario.{Scenario}
 use Rattle.scenario_file.specs.Complaints.{IsGood}
 use Rattle.scenario_file.specs.EachLine.{OfEachLine}

@@ -5,8 +5,8 @@ use Rattle.group_model.specs.Worlds.{Event}
 use Rattle.world.specs.declared.done.Done.{Done}
 use Rattle.world.specs.GroupSteps.{IsGroupDone, IsNewGroup, RefusesGroupEvent, SameView}
 use Rattle.world.specs.GroupView.{GroupView}
-use Rattle.transcript.specs.EventLines.{event_line}
-use Rattle.transcript.specs.Transcripts.{IsTranscript, Recorded}
+use Rattle.event_texts.specs.EventLines.{event_line}
+use Rattle.event_texts.specs.Transcripts.{IsTranscript, Recorded}
 use Rattle.playing.specs.Played.{Refused}
 use Rattle.file_runs.specs.Refusals.{TellsRun}
 

@@ -1,10 +1,10 @@
 //! A transcript's file, played again.
 ghost use Rattle.std.specs.Prelude.{◌≡◌, ◌≢◌, ◌≤◌, ◌⊎◌, ◌∷◌, ◌++◌, ◌==◌, ℕ, IfErr, IfOk, IsUtf8, List, OnOk, length, map};
 ghost use Rattle.std.specs.List.{AllByRecursion, position};
-ghost use Rattle.transcript.specs.EventLines.{HasLine, event_line};
-ghost use Rattle.transcript.specs.Inner.Printable.{IsPrintable};
-ghost use Rattle.transcript.specs.Transcripts.{IsTranscript, Recorded, lines_text, recorded};
-ghost use Rattle.world.specs.GroupEvents.{group_events};
+ghost use Rattle.event_texts.specs.EventLines.{HasLine, event_line};
+ghost use Rattle.event_texts.specs.Inner.Printable.{IsPrintable};
+ghost use Rattle.event_texts.specs.Transcripts.{IsTranscript, Recorded, lines_text, recorded};
+ghost use Rattle.group_inputs.specs.Events.{group_events};
 ghost use Rattle.world.specs.GroupSteps.{IsNewGroup};
 ghost use Rattle.file_runs.specs.declared.fault.Fault.TheVariants as faults;
 ghost use Rattle.file_runs.specs.Faults.{IsOfRun, IsPastReading, MayStopPrinting, MayStopTranscript};
@@ -15,11 +15,12 @@ use crate::fault::{Fault, said};
 use crate::running::{load_bytes, print_refusal};
 use crate::shelf::Shelf;
 use ending::print_end;
+use group_inputs::Event;
 use rows::Refusal;
 use std::alloc::Global;
 use std::io::Write;
 use transcript::{Transcript, read};
-use world::{Event, World};
+use world::World;
 
 /// Takes the events of a transcript: says each that is refused at once, and then how the group
 /// stands.

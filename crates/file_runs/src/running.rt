@@ -2,7 +2,8 @@
 ghost use Rattle.std.specs.Prelude.{◌≡◌, ◌≢◌, ◌≤◌, ◌⊎◌, IfErr, IfOk, IfSome, OnOk, option_and_then, option_map};
 ghost use Rattle.std.specs.Io.KnownBytes.{Appends};
 ghost use Rattle.rows.specs.declared.refusal.Refusal.TheVariants as refusals;
-ghost use Rattle.transcript.specs.Transcripts.{IsTranscript, record_of};
+ghost use Rattle.event_texts.specs.Transcripts.{IsTranscript};
+ghost use Rattle.transcript.specs.Records.{record_of};
 ghost use Rattle.rows.specs.GroupSizes.{IsGroup};
 ghost use Rattle.ending.specs.Endings.{TellsEnding};
 ghost use Rattle.scenario_file.specs.declared.scenario.Scenario.{Scenario};

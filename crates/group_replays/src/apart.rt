@@ -3,16 +3,17 @@
 //! its stored part. And one gets a snapshot that no leader sent it.
 use crate::group::{are_alike, are_same};
 use fsm_state::Cluster;
+use group_inputs::{Event, ServerInput};
 use machine::Machine;
 use raft_snapshot::{read_stable, write_stable};
 use rows::{Actor, Sequence, ServerId, Version};
-use server::{Outbox, Server, ServerInput};
+use server::{Outbox, Server};
 use std::alloc::Global;
 use std::rt::Files;
 use std::{fs, io};
 use transcript::{Transcript, read};
 use wire::Frames;
-use world::{Done, Event, World};
+use world::{Done, World};
 
 /// The version that frames have, and their first byte.
 pub(crate) const V: u8 = 3;

@@ -1,14 +1,13 @@
 //! The long worked row, and behind one of its events a crash and a restart of one actor: of every
 //! actor behind every event; and of every server that compacts its log before.
-use client_agent::ClientInput;
+use group_inputs::{ClientInput, Event, ServerInput};
 use plain_check::{Fault, Looks};
 use rows::{Actor, ClientId, NoMemory, Refusal, ServerId};
-use server::ServerInput;
 use std::alloc::Global;
 use std::rt::Files;
 use std::{fs, io};
 use transcript::{Transcript, read};
-use world::{Event, World};
+use world::World;
 
 // So many of the row's events lead to fewer applied entries than all of them.
 const FIRST: usize = 30;

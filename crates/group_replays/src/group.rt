@@ -2,6 +2,7 @@
 //! leads to it again.
 use crate::snapshots::copies;
 use fsm_state::Cluster;
+use group_inputs::Event;
 use machine::Machine;
 use rows::{
     Actor, AskedRequest, Delivery, EvalId, PlanResult, ServerId, Token, Work, WorkerResponse,
@@ -13,7 +14,7 @@ use server::Server;
 use std::alloc::Global;
 use std::rt::Files;
 use std::{fs, io};
-use world::{Done, Event, World};
+use world::{Done, World};
 
 // The one of which copies of a state are taken.
 const COPIED: &str = "lists-and-reports";

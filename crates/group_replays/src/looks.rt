@@ -1,10 +1,10 @@
 //! Two groups of three servers, that applied as many entries, of jobs whose names differ in one
 //! letter, as one plain look sees them one after the other.
+use event_texts::read_event;
 use plain_check::{Fault, Looks};
 use rows::Refusal;
 use std::alloc::Global;
 use std::io;
-use transcript::read_event;
 use world::World;
 
 // Server 1 is elected, and its first entry is committed.

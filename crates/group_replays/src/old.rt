@@ -2,9 +2,10 @@
 use crate::apart::{V, answer_of, no_output};
 use crate::samples::Sample;
 use fsm_state::Cluster;
+use group_inputs::ServerInput;
 use raft_snapshot::read_stable;
 use rows::{AllocId, EntryIndex, Ordinal, ServerId};
-use server::{Server, ServerInput};
+use server::Server;
 use std::alloc::Global;
 use std::rt::Files;
 use std::{fs, io};

@@ -1,15 +1,15 @@
 //! Requests: their commands, byte by byte, and what a group makes of them. And the settings of a
 //! scenario, as they are read.
+use event_texts::read_event;
 use fsm_state::Cluster;
+use group_inputs::{Event, ServerInput};
 use machine::Machine;
 use rows::ServerId;
 use scenario_file::reading::scenario;
-use server::ServerInput;
 use std::alloc::Global;
 use std::rt::Files;
 use std::{fs, io};
-use transcript::read_event;
-use world::{Done, Event, RaftEvent, RaftWorld};
+use world::{Done, RaftEvent, RaftWorld};
 
 /// Says the bytes of the command of each line of `requests`.
 pub(crate) fn commands(rt: &HostRuntime) -> io::Result<()> {

@@ -1,7 +1,7 @@
 //! Samples of bytes: each cut of one, and one with a byte at each value, by what a file says of
 //! them.
+use event_texts::read_number;
 use std::alloc::{AllocError, Global};
-use transcript::read_number;
 
 /// What reads such bytes.
 pub(crate) trait Reads {

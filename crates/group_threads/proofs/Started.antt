@@ -13,8 +13,8 @@ use Rattle.cluster_model.specs.Words.{State}
 use Rattle.group_model.specs.NextStep.{IsNextStep, WorkerStep}
 use Rattle.group_model.specs.NextStep as steps
 use Rattle.group_model.specs.Worlds.{AtServer}
-use Rattle.server.specs.declared.server_input.ServerInput.{ServerInput}
-use Rattle.world.specs.GroupEvents.{server_input}
+use Rattle.group_inputs.specs.declared.server_input.ServerInput.{ServerInput}
+use Rattle.group_inputs.specs.Events.{server_input}
 use Rattle.event_book.specs.Seats.{are_apart, lists_actor}
 use Rattle.event_book.specs.Actors.{same_actor}
 use Rattle.event_book.proofs.Actors.{and_true, is_same, not_true, or_later}

@@ -14,8 +14,8 @@ ghost use Rattle.group_threads.specs.Inner.Asked.{IsHandled, StepsAs, TookOwn, W
 use cells::{CellTurn, Cells, Envelope, GroupActor, OwnInput, turn};
 use event_book::BookId;
 use fsm_state::Cluster;
+use group_inputs::ServerInput;
 use rows::{Actor, Delivery, Index, NoMemory, Refusal, ServerId, WorkerResponse};
-use server::ServerInput;
 use std::alloc::Global;
 use std::sync::{Arc, Mutex, Wait};
 use workers::{Handled, ServerWorkers, TakenWork};

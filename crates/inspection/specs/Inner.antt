@@ -1,5 +1,4 @@
 -- Words of private contracts.
 pub mod Taking
 pub mod Findings
-pub mod Entries
 pub mod Deliveries

@@ -1,17 +1,18 @@
 //! A group that is played again, and what is written of it.
 ghost use Rattle.std.specs.Prelude.{◌≡◌, ◌≢◌, ◌∷◌, ◌++◌, [], IfErr, IfOk, OnOk, map, string_bytes};
 ghost use Rattle.std.specs.Io.KnownBytes.{Appends};
-ghost use Rattle.world.specs.GroupEvents.{group_event};
+ghost use Rattle.group_inputs.specs.Events.{group_event};
 ghost use Rattle.labels.specs.Groups.{MayBe, MayNotBe};
 ghost use Rattle.inspection.specs.Told.{lines_text};
 ghost use Rattle.inspection.specs.Inner.Taking.{Took};
 ghost use Rattle.inspection.specs.declared.fault.InspectError.TheVariants as errors;
 
 use crate::fault::InspectError;
+use group_inputs::Event;
 use rows::{NoMemory, NodeSpec, Refusal};
 use std::alloc::Global;
 use std::io::Write;
-use world::{Done, Event, World};
+use world::{Done, World};
 
 /// A group before its first event.
 pub(crate) fn begin(

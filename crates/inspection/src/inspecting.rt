@@ -7,12 +7,13 @@ ghost use Rattle.inspection.specs.declared.fault.InspectError.TheVariants as err
 use crate::fault::InspectError;
 use crate::gathering::gather;
 use crate::group::{begin, print_lines, take};
-use crate::lines::report_lines;
+use group_inputs::Event;
 use inspection_reports::Report;
+use report_lines::report_lines;
 use rows::{NoMemory, NodeSpec};
 use std::alloc::Global;
 use std::io::Write;
-use world::{Event, World};
+use world::World;
 
 /// In which form a group is told.
 #[derive(Clone, Copy, Debug, PartialEq, Eq)]

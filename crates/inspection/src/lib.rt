@@ -9,16 +9,13 @@ mod desk;
 mod entries;
 mod fault;
 mod gathering;
-mod grid;
 mod group;
 mod inspecting;
-mod lines;
 mod metrics;
 mod moments;
 mod shown;
 mod standing;
 mod states;
-mod tables;
 mod telling;
 
 pub use fault::InspectError;

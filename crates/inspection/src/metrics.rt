@@ -4,10 +4,10 @@ ghost use Rattle.cluster_model.specs.Words.{is_open};
 ghost use Rattle.placement_metrics.specs.Verdicts.{AreCounts};
 ghost use Rattle.inspection.specs.Inner.Findings.{ArePlacements, IsPlacement, counts_in};
 
-use crate::shown::owned;
 use fsm_state::Cluster;
 use inspection_reports::{NodesReport, PlacementReport};
 use placement_metrics::{GroupMetrics, counts, eval_metrics};
+use report_lines::owned;
 use rows::{EvalStatus, Evaluation, NoMemory};
 use std::alloc::Global;
 

@@ -6,10 +6,11 @@ ghost use Rattle.inspection.specs.declared.fault.InspectError.TheVariants as err
 use crate::fault::InspectError;
 use crate::gathering::gather;
 use crate::group::{begin, take};
-use crate::lines::report_lines;
+use group_inputs::Event;
+use report_lines::report_lines;
 use rows::{NoMemory, NodeSpec};
 use std::alloc::Global;
-use world::{Event, World};
+use world::World;
 
 /// How a group stands at each moment of a run: what `inspect` tells before the first event, and
 /// behind each of them. A line that stays from one moment to the next stands once.

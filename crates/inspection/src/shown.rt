@@ -1,19 +1,10 @@
 //! The words of ids, names and states.
-ghost use Rattle.std.specs.Prelude.{◌≡◌, IfOk, string_bytes};
-
 use raft_core::Role;
 use rows::{
     Actor, AllocId, Allocation, ClientState, Desired, DrainMode, EvalId, EvalStatus, NoMemory,
     NodeStatus, Token,
 };
 use std::alloc::Global;
-
-/// A text of one's own.
-pub(crate) fn owned(alloc: Global, text: &str) -> Result<String, NoMemory>
-    ensures { IfOk result (λ own. string_bytes own ≡ text.now) }
-{
-    Ok(String::from_str(alloc, text)?)
-}
 
 /// A server or a client, as pictures name it: `S1`, `c1`.
 pub(crate) fn actor_text(alloc: Global, actor: Actor) -> Result<String, NoMemory> {

@@ -7,19 +7,20 @@ ghost use Rattle.inspection.specs.declared.fault.InspectError.TheVariants as err
 
 use crate::changes::push_rows;
 use crate::fault::InspectError;
-use crate::grid::Grid;
 use crate::group::{begin, print_lines, take};
-use crate::shown::{actor_text, owned};
+use crate::shown::actor_text;
 use crate::standing::{Standing, changed};
 use fsm_state::Cluster;
+use group_inputs::Event;
 use labels::{event_label, message_label};
+use report_lines::{Grid, owned};
 use rows::{Actor, Index, NoMemory, NodeSpec, Refusal};
 use server::Server;
 use std::alloc::Global;
 use std::io::Write;
 use std::sync::Arc;
 use wire::{Frame, Frames, read_message};
-use world::{Event, World};
+use world::World;
 
 /// Tells what each event of a run did, which a group takes from its beginning: a line of heads, and
 /// a line for each event, in order. A line has the event's number, its actor, what it took, what

@@ -23,12 +23,12 @@ use Rattle.wire.specs.Appends.{Append}
 use Rattle.wire.specs.Messages.{Message}
 use Rattle.wire.specs.Frames.{message_at}
 use Rattle.cluster_model.specs.ClusterMachine.{cluster_meaning}
-use Rattle.client_agent.specs.declared.input.ClientInput.{ClientInput}
-use Rattle.client_agent.specs.declared.input.ClientInput.TheVariants as client_inputs
-use Rattle.server.specs.declared.server_input.ServerInput.{ServerInput}
-use Rattle.server.specs.declared.server_input.ServerInput.TheVariants as inputs
-use Rattle.world.specs.declared.group.event.Event.{Event}
-use Rattle.world.specs.declared.group.event.Event.TheVariants as events
+use Rattle.group_inputs.specs.declared.client_input.ClientInput.{ClientInput}
+use Rattle.group_inputs.specs.declared.client_input.ClientInput.TheVariants as client_inputs
+use Rattle.group_inputs.specs.declared.server_input.ServerInput.{ServerInput}
+use Rattle.group_inputs.specs.declared.server_input.ServerInput.TheVariants as inputs
+use Rattle.group_inputs.specs.declared.event.Event.{Event}
+use Rattle.group_inputs.specs.declared.event.Event.TheVariants as events
 
 -- an evaluation, and an allocation: the entry that made it, and its place among those of the entry
 abbrev pub eval_label : List ℕ → EvalId → List ℕ

@@ -3,11 +3,9 @@ ghost use Rattle.std.specs.Prelude.{◌≡◌, IfOk, string_bytes};
 ghost use Rattle.labels.specs.Labels.{to_label, end_label, operator_label, server_input_label, client_input_label, event_label, named_label};
 
 use crate::messages::{eval_label, finish_label, plain, plan_label};
-use client_agent::ClientInput;
+use group_inputs::{ClientInput, Event, ServerInput};
 use rows::{AllocId, NoMemory, OperatorRequest, ServerId};
-use server::ServerInput;
 use std::alloc::Global;
-use world::Event;
 
 /// The label of an event that is no delivery; a delivery has none here.
 pub fn event_label(alloc: Global, event: &Event) -> Result<String, NoMemory>

@@ -6,12 +6,12 @@ ghost use Rattle.picture.specs.declared.fault.DrawError.TheVariants as errors;
 ghost use Rattle.page.specs.Pages.{IsLinesJson, IsPlacesJson, GrowsByPage, IsMoments, IsPage, framed};
 
 use crate::script::in_script;
+use group_inputs::Event;
 use inspection::{InspectError, Moments, each_moment, event_lines};
 use picture::{DrawError, picture};
 use rows::{NoMemory, NodeSpec};
 use std::alloc::Global;
 use std::io::Write;
-use world::Event;
 
 // What stands before the picture.
 const FRONT: &str = "\

@@ -3,9 +3,9 @@ use Rattle.std.proofs.Common.{◌≡◌, ◌∙◌, ℕ, zero, suc, ◌+◌, ◌
 use Rattle.std.proofs.lemmas.List.{length-drop, map-append, take_more}
 use Rattle.std.specs.Option.{unwrap_or}
 use Rattle.wire.specs.Frames.{Frame}
-use Rattle.world.specs.GroupEvents.{IsSameEvent}
-use Rattle.world.specs.declared.group.event.Event.{Event}
-use Rattle.world.specs.declared.group.event.Event.TheVariants as events
+use Rattle.group_inputs.specs.Events.{IsSameEvent}
+use Rattle.group_inputs.specs.declared.event.Event.{Event}
+use Rattle.group_inputs.specs.declared.event.Event.TheVariants as events
 use Rattle.picture.specs.declared.record.Record.{Record}
 use Rattle.picture.specs.declared.record.Sending.{Sending}
 use Rattle.picture.specs.declared.record.Step.{Step}

@@ -18,11 +18,12 @@ use crate::record::{Record, Sending};
 use crate::row::{draw_row, sent_label};
 use crate::shape::{Shape, cross, heading, label, name, put};
 use crate::svg::svg_of;
+use group_inputs::Event;
 use rows::{NoMemory, NodeSpec, Refusal};
 use std::alloc::Global;
 use std::io::Write;
 use wire::Frames;
-use world::{Event, World};
+use world::World;
 
 // The line that begins a file of XML.
 const DECLARATION: &str = "<?xml version=\"1.0\" encoding=\"UTF-8\"?>\n";

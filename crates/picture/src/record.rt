@@ -8,12 +8,13 @@ ghost use Rattle.picture.specs.Inner.Records.{lifeline_of, column_within, delive
 ghost use Rattle.picture.specs.Inner.Positions.{capped};
 
 use client_agent::Agent;
+use group_inputs::Event;
 use raft_core::Role;
 use rows::{Actor, NoMemory, Refusal};
 use server::Server;
 use std::alloc::Global;
 use wire::Frames;
-use world::{Done, Event, World};
+use world::{Done, World};
 
 /// An actor, as far as it is drawn. A client is in term 0 and has nothing applied.
 #[derive(Clone, Copy, Debug, PartialEq, Eq)]

@@ -10,11 +10,11 @@ use crate::layout::{Layout, Point, Side, is_parted};
 use crate::note::{commits, note_of};
 use crate::record::{Record, Step};
 use crate::shape::{Shape, cross, label, put, width_of};
+use group_inputs::Event;
 use labels::{event_label, message_label, named_label};
 use rows::NoMemory;
 use std::alloc::Global;
 use wire::Frames;
-use world::Event;
 
 // Where the numbers of events and of messages end, and where that of the event of an arrow begins.
 const EVENT: u64 = 34;

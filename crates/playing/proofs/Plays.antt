@@ -10,7 +10,7 @@ use Rattle.rows.specs.declared.worker.Work.{Work}
 use Rattle.raft_model.specs.Rafts.{is_up}
 use Rattle.group_model.specs.Servers.{Server}
 use Rattle.group_model.specs.Worlds.{Event}
-use Rattle.server.specs.declared.server_input.ServerInput.{ServerInput}
+use Rattle.group_inputs.specs.declared.server_input.ServerInput.{ServerInput}
 use Rattle.server.specs.ServerViews.{IsServer, ServerView}
 use Rattle.world.specs.GroupView.{GroupView}
 use Rattle.workers.specs.PlanCounts.{WorkersView}

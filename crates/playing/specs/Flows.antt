@@ -6,7 +6,7 @@ use Rattle.lossy_net.specs.declared.message_fate.MessageFate.TheVariants as fate
 use Rattle.lossy_net.specs.Fates.{HasFate}
 use Rattle.lossy_net.specs.Words.{Keystream, nth_word}
 use Rattle.rows.specs.declared.refusal.Refusal.{Refusal}
-use Rattle.world.specs.Events.{position_of}
+use Rattle.group_inputs.specs.Events.{position_of}
 use Rattle.scenario_file.specs.declared.scenario.Order.{Order}
 use Rattle.scenario_file.specs.declared.scenario.Order.TheVariants as orders
 use Rattle.playing.specs.declared.play.Play.{Play}

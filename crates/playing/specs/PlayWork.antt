@@ -7,14 +7,14 @@ use Rattle.group_model.specs.Desks.{applied_state}
 use Rattle.group_model.specs.Servers.{Server}
 use Rattle.group_model.specs.NextStep as steps
 use Rattle.group_model.specs.Worlds.{AtServer, Event}
-use Rattle.server.specs.declared.server_input.ServerInput.{ServerInput}
-use Rattle.server.specs.Handings.{handing}
+use Rattle.group_inputs.specs.declared.server_input.ServerInput.{ServerInput}
+use Rattle.group_inputs.specs.Handings.{handing}
 use Rattle.server.specs.ServerViews.{IsServer, ServerView}
 use Rattle.workers.specs.declared.server_workers.Handled.{Handled}
 use Rattle.workers.specs.declared.server_workers.Handled.TheVariants as handled
 use Rattle.workers.specs.PlanCounts.{CountsStep, WorkersView, plans_under}
 use Rattle.workers.specs.Working.{HandledAs, waiting_after}
-use Rattle.world.specs.GroupEvents.{server_input}
+use Rattle.group_inputs.specs.Events.{server_input}
 use Rattle.world.specs.GroupView.{GroupView}
 use Rattle.playing.specs.declared.play.Play.{Play}
 use Rattle.playing.specs.PlayEvents.{EventRefused, EventTaken, IsDownIn}

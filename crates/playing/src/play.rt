@@ -1,7 +1,7 @@
 //! A scenario's group, with its messages in flight and its workers; and its steps, one at a time.
 ghost use Rattle.std.specs.Prelude.{◌≡◌, ◌≢◌, IfErr, IfNone, IfOk, IfSome, MatchBool, OnOk, []};
 ghost use Rattle.rows.specs.declared.refusal.Refusal.TheVariants as refusals;
-ghost use Rattle.world.specs.GroupEvents.{group_event};
+ghost use Rattle.group_inputs.specs.Events.{group_event};
 ghost use Rattle.world.specs.GroupSteps.{WhyNoGroup};
 ghost use Rattle.playing.specs.Flows.{Flowed, MessagePassed, MessageTaken};
 ghost use Rattle.playing.specs.PlayEvents.{EventRefused, EventTaken, Handed};
@@ -12,14 +12,14 @@ ghost use Rattle.playing.specs.Plays.{IsNewPlay};
 
 use crate::flight::Flight;
 use crate::stage::Stage;
+use group_inputs::{Event, ServerInput};
 use lossy_net::{Fates, MessageFate, fate};
 use rows::{Actor, NoMemory, NodeSpec, Refusal, ServerId};
 use scenario_file::scenario::{Order, Settings};
 use scenario_file::step::Step;
-use server::ServerInput;
 use std::alloc::Global;
 use workers::{Handled, ServerWorkers};
-use world::{Event, World};
+use world::World;
 
 // How many messages a `flow` without a number takes at most.
 const FLOW: u64 = 10_000;

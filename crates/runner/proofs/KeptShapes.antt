@@ -7,7 +7,7 @@ use Rattle.group_model.specs.Worlds.{Event}
 use Rattle.lossy_net.specs.declared.message_fate.MessageFate.{MessageFate}
 use Rattle.lossy_net.specs.declared.message_fate.MessageFate.TheVariants as fates
 use Rattle.server.specs.ServerViews.{SameServer}
-use Rattle.server.specs.declared.server_input.ServerInput.{ServerInput}
+use Rattle.group_inputs.specs.declared.server_input.ServerInput.{ServerInput}
 use Rattle.world.specs.declared.done.Done.{Done}
 use Rattle.world.specs.declared.done.Done.TheVariants.{Crashed, Taken}
 use Rattle.world.specs.GroupSteps.{IsGroupDone, SameView}

@@ -5,7 +5,8 @@ use Rattle.rows.specs.declared.actor.Actor.{Actor}
 use Rattle.world.specs.GroupView.{GroupView, nodes_of, renumbered}
 use Rattle.cells.specs.Cells.{CellView}
 use Rattle.closing.specs.Closing.{ClosesTo}
-use Rattle.transcript.specs.Transcripts.{IsTranscript, Recorded, record_of}
+use Rattle.event_texts.specs.Transcripts.{IsTranscript, Recorded}
+use Rattle.transcript.specs.Records.{record_of}
 use Rattle.page.specs.Pages.{GrowsByPage}
 use Rattle.picture.specs.Pictures.{GrowsByPicture}
 use Rattle.inspection.specs.Told.{GrowsByEventLines, GrowsByLines}

@@ -6,6 +6,7 @@ ghost use Rattle.file_runs.specs.declared.fault.Fault.TheVariants as faults;
 ghost use Rattle.file_runs.specs.Faults.{IsOfRun, IsPastReading};
 ghost use Rattle.runner.specs.Told.{IsAfter, TellsEach, TellsStanding};
 
+use event_texts::read_number;
 use file_runs::fault::Fault;
 use file_runs::replaying::transcript_of;
 use file_runs::running::load_bytes;
@@ -13,7 +14,7 @@ use file_runs::shelf::Shelf;
 use inspection::{Form, InspectError, inspect, tell};
 use std::alloc::Global;
 use std::io::Write;
-use transcript::{Transcript, read_number};
+use transcript::Transcript;
 
 /// Tells what each event of a transcript did.
 pub(crate) fn tell_file<'a, F: Shelf, W: Write>(

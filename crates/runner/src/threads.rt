@@ -2,7 +2,7 @@
 ghost use Rattle.std.specs.Prelude.{◌≡◌, ◌≢◌, ◌≤◌, ◌⊎◌, IfErr, IfNone, IfOk, IfSome, OnOk, length, option_and_then, option_map, take};
 ghost use Rattle.std.specs.Io.KnownBytes.{Appends};
 ghost use Rattle.cells.specs.Actors.{group_size, own_event};
-ghost use Rattle.world.specs.GroupEvents.{group_event};
+ghost use Rattle.group_inputs.specs.Events.{group_event};
 ghost use Rattle.runner.specs.Inner.Printed.{lost_line};
 ghost use Rattle.runner.specs.Inner.Closed.{AreWhole, TellsClosed, TellsOnThreads};
 ghost use Rattle.file_runs.specs.Faults.{IsOfRun, IsPastReading};
@@ -19,6 +19,7 @@ use event_book::{BookId, OpenedBook};
 use file_runs::fault::Fault;
 use file_runs::running::{check_steps, end_run, load, play_steps};
 use file_runs::shelf::Shelf;
+use group_inputs::Event;
 use group_threads::{NetSettings, OpenGate, RunningGroup, start, stop};
 use playing::stage::Stage;
 use rows::{Actor, ClientId, NoMemory, Refusal, ServerId};
@@ -30,7 +31,6 @@ use std::io::Write;
 use std::marker::Brand;
 use std::sync::{Arc, Wait};
 use std::thread::Threads;
-use world::Event;
 
 // How many messages may wait for an actor at a time.
 const CAPACITY: usize = 1_024;

@@ -2,8 +2,8 @@
 use Rattle.std.specs.Prelude.{◌≡◌, ◌<◌, ◌^◌, ℕ, List, [], ◌∷◌, Option, Some, None, codes, decimal}
 use Rattle.std.specs.List.{join_with_byte}
 use Rattle.group_model.specs.Worlds.{Event}
-use Rattle.world.specs.GroupEvents.{group_event}
-use Rattle.transcript.specs.EventLines.{IsEventLine, ServerFits, server_text}
+use Rattle.group_inputs.specs.Events.{group_event}
+use Rattle.event_texts.specs.EventLines.{IsEventLine, ServerFits, server_text}
 use Rattle.scenario_file.specs.declared.step.Step.{Step as ReadStep}
 use Rattle.scenario_file.specs.declared.step.Step.TheVariants as steps
 

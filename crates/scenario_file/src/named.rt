@@ -1,17 +1,15 @@
 //! Whom a step names, and which of them a group lacks.
 ghost use Rattle.std.specs.Prelude.{◌≡◌};
-ghost use Rattle.server.specs.Handings.{handing};
-ghost use Rattle.world.specs.GroupEvents.{client_input, server_input};
+ghost use Rattle.group_inputs.specs.Handings.{handing};
+ghost use Rattle.group_inputs.specs.Events.{client_input, server_input};
 ghost use Rattle.scenario_file.specs.Named.{client_input_names, input_names, is_absent, request_names, step_names, step_taker};
 ghost use Rattle.scenario_file.specs.Steps.{played_step};
 
 use crate::noting::Named;
 use crate::scenario::Scenario;
 use crate::step::Step;
-use client_agent::ClientInput;
+use group_inputs::{ClientInput, Event, ServerInput};
 use rows::OperatorRequest;
-use server::ServerInput;
-use world::Event;
 
 /// Whose step it is: none where it is the net's.
 pub(crate) fn taker_of(step: &Step) -> Option<Named>

@@ -2,8 +2,8 @@
 //! room for.
 ghost use Rattle.std.specs.Prelude.{◌≡◌, ◌++◌, ◌∷◌, [], IfOk, OnOk, if◌then◌else◌, option_map};
 ghost use Rattle.std.specs.List.{list_any};
-ghost use Rattle.server.specs.Handings.{handing};
-ghost use Rattle.world.specs.GroupEvents.{server_input};
+ghost use Rattle.group_inputs.specs.Handings.{handing};
+ghost use Rattle.group_inputs.specs.Events.{server_input};
 ghost use Rattle.scenario_file.specs.Inner.Grown.{GrowsByOwed};
 ghost use Rattle.scenario_file.specs.Notes.{AreLineNotes, AreNotes, absence_notes, input_job, needs_note, job_notes, note_of, step_job, step_notes};
 ghost use Rattle.scenario_file.specs.Rooms.{can_hold, is_too_large};
@@ -12,14 +12,13 @@ ghost use Rattle.scenario_file.specs.Steps.{played_step};
 use crate::named::{is_absent, names_of, taker_of};
 use crate::scenario::Scenario;
 use crate::step::{Step, read_step};
+use group_inputs::{Event, ServerInput};
 use rows::{
     ClassName, ClientId, Group, GroupName, JobName, JobSpec, NoMemory, NodeId, NodeSpec,
     OperatorRequest, ServerId, Size,
 };
-use server::ServerInput;
 use std::alloc::Global;
 use std::fmt;
-use world::Event;
 
 /// What is noted of a scenario with which nothing is wrong.
 #[derive(Clone, Copy, Debug)]

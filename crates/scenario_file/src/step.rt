@@ -1,16 +1,15 @@
 //! The steps of a scenario.
 ghost use Rattle.std.specs.Prelude.{◌≡◌, ◌<◌, ◌^◌, ◌↔◌, ℕ, IsTrue, Some, IfOk, IfSome, decimal, option_map};
-ghost use Rattle.transcript.specs.EventLines.{IsEventLine, ServerFits, server_text};
+ghost use Rattle.event_texts.specs.EventLines.{IsEventLine, ServerFits, server_text};
 ghost use Rattle.group_model.specs.Worlds.{Event as AnyEvent};
 ghost use Rattle.scenario_file.specs.declared.step.Step.TheVariants as steps;
 ghost use Rattle.scenario_file.specs.Complaints.{IsStepLine};
 ghost use Rattle.scenario_file.specs.Steps.{AnEvent, IsLine, Step as AnyStep, played_step};
 
+use event_texts::{read_beat, read_event, read_number, read_server};
+use group_inputs::{Event, ServerInput};
 use rows::{NoMemory, Refusal, ServerId};
-use server::ServerInput;
 use std::alloc::Global;
-use transcript::{read_beat, read_event, read_number, read_server};
-use world::Event;
 
 /// One step of a scenario: an event of the group, a turn of a server's worker, or a flow of
 /// messages.

@@ -34,7 +34,7 @@ use Rattle.group_frames.specs.GroupFrames.{service_between, service_of, IsGroupF
 use Rattle.group_frames.proofs.OneMessage.{one_text}
 use Rattle.server.specs.declared.server.Outbox.{Outbox}
 use Rattle.server.specs.ServerViews.{ServerView, IsServer, SameServer}
-use Rattle.server.specs.Handings.{Handing, FrameBytes, OwnInput}
+use Rattle.group_inputs.specs.Handings.{Handing, FrameBytes, OwnInput}
 use Rattle.server.specs.Steps.{TakesTurn, TakesHanding}
 use Rattle.server.specs.Refusals.{refusal_in, wrong_address, read_refusal, bytes_refusal, handing_refusal, CanStand, MayTakeMemory, IsHandingRefused, HandingRefusalLeaves, HandingStays}
 use Rattle.server.specs.Inner.Acts.{EachServer, EachDoes, act_of, Falters, DoesNothing, DeclinesOwn}

@@ -5,7 +5,7 @@ use Rattle.raft_core.specs.RaftView.{SameNumber}
 use Rattle.group_model.specs.Servers.{Server}
 use Rattle.server.specs.declared.server.Outbox.{Outbox}
 use Rattle.server.specs.ServerViews.{ServerView, IsServer}
-use Rattle.server.specs.Handings.{Handing}
+use Rattle.group_inputs.specs.Handings.{Handing}
 use Rattle.server.specs.Steps.{TakesHanding}
 use Rattle.server.specs.Refusals.{handing_refusal, IsHandingRefused, HandingRefusalLeaves, HandingStays}
 

@@ -17,7 +17,7 @@ use Rattle.group_model.specs.Desks.{Desk}
 use Rattle.group_model.specs.Inputs.{Input, Arrives, Timeout, Beat, Request, TakeFrom, SubmitTo, FinishAt, NackAt, PlanTurn, Lapse, Expire, DrainTurn, FreeTurn, Reap, Compact, Crash, Restart}
 use Rattle.group_model.specs.Servers.{Server, ServerTurn, step}
 use Rattle.server.specs.ServerViews.{ServerView, IsServer, SameServer, crashed_server}
-use Rattle.server.specs.Handings.{Handing, FrameBytes, OwnInput}
+use Rattle.group_inputs.specs.Handings.{Handing, FrameBytes, OwnInput}
 
 -- ---- bytes
 

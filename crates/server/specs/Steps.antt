@@ -8,7 +8,7 @@ use Rattle.group_model.specs.Servers.{Server, ServerTurn, step, takes_log_messag
 use Rattle.group_frames.specs.GroupFrames.{IsGroupFrame, SendsGroup}
 use Rattle.server.specs.declared.server.Outbox.{Outbox}
 use Rattle.server.specs.ServerViews.{ServerView, IsServer}
-use Rattle.server.specs.Handings.{Handing, FrameBytes, OwnInput}
+use Rattle.group_inputs.specs.Handings.{Handing, FrameBytes, OwnInput}
 
 -- a message comes to server `me` of n
 abbrev pub takes_in : ℕ → ℕ → Server → GroupMessage → Result ServerTurn Refusal

@@ -3,7 +3,5 @@
 
 mod server;
 mod server_desk;
-mod server_input;
 
 pub use server::{Outbox, Server};
-pub use server_input::ServerInput;

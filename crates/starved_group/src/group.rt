@@ -2,13 +2,12 @@
 use crate::row::{Next, TRIES, is_restart, restart};
 use crate::shown::{are_same_frames, shown_group};
 use crate::stop::{Stop, unmade};
-use client_agent::ClientInput;
+use group_inputs::{ClientInput, Event, ServerInput};
 use plain_check::Looks;
 use rows::{Actor, Refusal};
-use server::ServerInput;
 use std::alloc::Global;
 use transcript::Transcript;
-use world::{Done, Event, World};
+use world::{Done, World};
 
 // A group of the row's servers and nodes, and what was seen of it so far.
 #[derive(Drop)]

@@ -1,11 +1,9 @@
 //! The row that is played: a leader crashes while a plan is in flight, and another goes on.
 use crate::stop::Stop;
-use client_agent::ClientInput;
+use group_inputs::{ClientInput, Event, ServerInput};
 use rows::{Actor, NoMemory, Refusal};
-use server::ServerInput;
 use std::alloc::Global;
 use transcript::{Transcript, read};
-use world::Event;
 
 /// The row's events, of the text of a transcript.
 pub fn read_row(alloc: Global, text: &[u8]) -> Result<Transcript, Stop> {

@@ -8,12 +8,12 @@ use cluster::{
     CellTurn, Cells, Envelope, GroupActor, KeptEvent, OwnInput, StampedEvent, cells_of, close, turn,
 };
 use event_book::{BookId, OpenedBook};
+use group_inputs::Event;
 use rows::{Actor, ClientId, NoMemory, Refusal, ServerId};
 use std::alloc::Global;
 use std::marker::Brand;
 use std::sync::Wait;
 use transcript::Transcript;
-use world::Event;
 
 // A message on its way: the stamp of the event that sent it, and its place in that.
 #[derive(Drop)]

@@ -1,19 +1,7 @@
-//! Events as lines of text, and transcripts: what happened to a group, as a text that can be played
-//! again.
+//! Transcripts: what happened to a group, as a text that can be played again.
 #![tactic(auto)]
 
-mod event;
-mod line;
-mod list;
-mod reading;
-mod request;
-mod spelled;
-mod transcript;
-mod word;
-mod worker;
 mod writing;
 
-pub use event::{read_beat, read_event};
-pub use reading::read;
-pub use transcript::{Transcript, write};
-pub use word::{read_number, read_server};
+pub use event_texts::{Transcript, read, read_event};
+pub use writing::write;

@@ -5,7 +5,7 @@ use Rattle.rows.specs.declared.worker.WorkerRequest.{WorkerRequest}
 use Rattle.rows.specs.declared.worker.WorkerRequest.TheVariants as requests
 use Rattle.group_model.specs.Inputs.{Input, TakeFrom, SubmitTo, FinishAt, NackAt}
 use Rattle.group_model.specs.NextStep as steps
-use Rattle.server.specs.Handings.{OwnInput, handing}
+use Rattle.group_inputs.specs.Handings.{OwnInput, handing}
 use Rattle.workers.specs.declared.server_workers.Handled.{Handled}
 use Rattle.workers.specs.declared.server_workers.Handled.TheVariants as handled
 

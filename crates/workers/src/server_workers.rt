@@ -1,7 +1,7 @@
 //! What waits for the workers of one server.
 ghost use Rattle.std.specs.Prelude.{◌≡◌, ◌≢◌, ◌++◌, ◌∷◌, [], true};
 ghost use Rattle.std.specs.Prelude.{IfOk, IfSome, MatchBool, MatchOption, OnErr, OnOk};
-ghost use Rattle.server.specs.Handings.{OwnInput, handing};
+ghost use Rattle.group_inputs.specs.Handings.{OwnInput, handing};
 ghost use Rattle.group_model.specs.NextStep.{IsNextStep};
 ghost use Rattle.scheduler.specs.Steps.{makes_plan, step_as};
 ghost use Rattle.workers.specs.PlanCounts.{plans_under, CountsRequest, CountsStep};
@@ -11,9 +11,9 @@ ghost use Rattle.workers.specs.Working.{asking, HandledAs, KeptFirst, waiting_af
 use crate::plan_counts::{PlanCounts, lease_of};
 use crate::work_queue::WorkQueue;
 use fsm_state::Cluster;
+use group_inputs::ServerInput;
 use rows::{Index, NoMemory, Sequence, ServerId, Work, WorkerRequest, WorkerResponse};
 use scheduler::{WorkerStep, next_step};
-use server::ServerInput;
 use std::alloc::Global;
 use std::marker::Model;
 

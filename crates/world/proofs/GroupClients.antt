@@ -22,7 +22,7 @@ use Rattle.group_safety.specs.Limits.{EventFits, NodesFit, LimitedRun, LimitsAre
 use Rattle.group_safety.specs.Limits as limits
 use Rattle.group_safety.proofs.Lists.{get_map, map_get, map_set, set_same}
 use Rattle.group_frames.specs.GroupFrames.{CarriesGroup, SendsGroup}
-use Rattle.client_agent.specs.declared.input.ClientInput.{ClientInput}
+use Rattle.group_inputs.specs.declared.client_input.ClientInput.{ClientInput}
 use Rattle.client_agent.specs.AgentView.{AgentView}
 use Rattle.server.specs.ServerViews.{ServerView, IsServer}
 use Rattle.server.specs.declared.server.Outbox.{Outbox}
@@ -30,7 +30,7 @@ use Rattle.actor.specs.Refusals.{RefusedSo, ClientRefuses}
 use Rattle.world.specs.declared.done.Done.{Done}
 use Rattle.world.specs.declared.done.Done.TheVariants as done
 use Rattle.rows.specs.GroupSizes.{IsGroup}
-use Rattle.world.specs.GroupEvents.{work_of}
+use Rattle.world.specs.GroupWork.{work_of}
 use Rattle.world.specs.GroupView.{GroupView, RepresentsGroup, GroupRunsTo, IsGroupWorld, client_in, node_in, nodes_of, client_view}
 use Rattle.world.specs.GroupSteps.{GroupEventHappened, SameView, RefusesGroupEvent, IsGroupAwake}
 use Rattle.world.specs.Inner.GroupParts.{GroupHistoryView, ClientTook, ClientFell, ClientDone}

@@ -24,14 +24,15 @@ use Rattle.group_model.specs.Servers.{Server}
 use Rattle.group_model.specs.Worlds.{World, Deliver, AtServer, delivers, delivers_message, message_to, input_to, after_turn, client_input_to, client_at, crash_of_message}
 use Rattle.group_safety.specs.Claims.{IsFromMember}
 use Rattle.group_frames.specs.GroupFrames.{IsGroupFrame, IsServiceFrame, CarriesGroup, service_between, service_receiver, receiver_of}
-use Rattle.client_agent.specs.declared.input.ClientInput.TheVariants as client_inputs
+use Rattle.group_inputs.specs.declared.client_input.ClientInput.TheVariants as client_inputs
 use Rattle.client_agent.specs.AgentView.{AgentView}
 use Rattle.client_agent.specs.Refusals.{is_client_at, unreadable_to_client, client_frame_refusal}
 use Rattle.server.specs.ServerViews.{ServerView}
-use Rattle.server.specs.Handings.{FrameBytes, bytes_of}
+use Rattle.group_inputs.specs.Handings.{FrameBytes}
+use Rattle.server.specs.SentBytes.{bytes_of}
 use Rattle.server.specs.Steps.{TakesTurn, takes_in}
 use Rattle.server.specs.Refusals.{is_of_group, read_refusal, bytes_refusal}
-use Rattle.world.specs.GroupEvents.{message_work, log_work, input_work, turn_work}
+use Rattle.world.specs.GroupWork.{message_work, log_work, input_work, turn_work}
 use Rattle.world.specs.GroupView.{IsSentTo}
 use Rattle.world.proofs.Zips.{zip_at}
 use Rattle.world.proofs.GroupScenes.{ServerTakes, ClientTakes}

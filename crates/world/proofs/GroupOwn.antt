@@ -11,20 +11,21 @@ use Rattle.group_model.specs.Inputs.{Input, Timeout, Beat, Request, TakeFrom, Su
 use Rattle.group_model.specs.Servers.{Server, ServerTurn, acts, wakes, logged, done, step}
 use Rattle.group_model.specs.Agents as agents
 use Rattle.group_model.specs.Worlds.{World, AtServer, AtClient, IsRestart, own_input, takes_input, input_to, own_client_input, client_takes, client_input_to, client_at}
-use Rattle.client_agent.specs.declared.input.ClientInput.{ClientInput}
-use Rattle.client_agent.specs.declared.input.ClientInput.TheVariants as client_inputs
+use Rattle.group_inputs.specs.declared.client_input.ClientInput.{ClientInput}
+use Rattle.group_inputs.specs.declared.client_input.ClientInput.TheVariants as client_inputs
 use Rattle.client_agent.specs.AgentView.{AgentView}
 use Rattle.client_agent.specs.Steps.{AgentSteps, AgentTakes}
 use Rattle.client_agent.specs.Refusals.{AgentMayLack, agent_refusal}
 use Rattle.server.specs.declared.server.Outbox.{Outbox}
-use Rattle.server.specs.declared.server_input.ServerInput.{ServerInput}
-use Rattle.server.specs.declared.server_input.ServerInput.TheVariants as inputs
+use Rattle.group_inputs.specs.declared.server_input.ServerInput.{ServerInput}
+use Rattle.group_inputs.specs.declared.server_input.ServerInput.TheVariants as inputs
 use Rattle.server.specs.ServerViews.{ServerView}
-use Rattle.server.specs.Handings.{OwnInput, handing}
+use Rattle.group_inputs.specs.Handings.{OwnInput, handing}
 use Rattle.server.specs.Steps.{TakesTurn}
 use Rattle.server.specs.Refusals.{MayTakeMemory, refusal_in}
 use Rattle.actor.specs.Handed.{comes_as_frame, is_client_frame, restarts_server}
-use Rattle.world.specs.GroupEvents.{server_input, client_input, input_work}
+use Rattle.group_inputs.specs.Events.{server_input, client_input}
+use Rattle.world.specs.GroupWork.{input_work}
 use Rattle.world.specs.GroupSteps.{RunsThere, MayWantAt}
 use Rattle.world.proofs.GroupScenes.{ServerTakes, ClientTurned, ClientTakes}
 

@@ -14,9 +14,10 @@ use Rattle.group_safety.specs.Limits.{NodesFit, LimitedRun, LimitsAreKept, start
 use Rattle.server.specs.declared.server.Outbox.{Outbox}
 use Rattle.world.specs.declared.done.Done.{Done}
 use Rattle.world.specs.declared.done.Done.TheVariants.{Taken, Crashed}
-use Rattle.world.specs.declared.group.event.Event.{Event as GroupEvent}
+use Rattle.group_inputs.specs.declared.event.Event.{Event as GroupEvent}
 use Rattle.world.specs.Steps.{EachBecame, Lacked}
-use Rattle.world.specs.GroupEvents.{group_event, group_events, work_of, works}
+use Rattle.group_inputs.specs.Events.{group_event, group_events}
+use Rattle.world.specs.GroupWork.{work_of, works}
 use Rattle.world.specs.GroupView.{GroupView, GroupRunsTo, nodes_of, renumbered}
 use Rattle.world.specs.GroupSteps.{MayWantAt, MightWant, GroupStarved, GroupMayBecome, GroupEventHappened, IsGroupDone, GroupStaysDown, SameView, RefusesGroupEvent, IsNewGroup, GroupPlayed, GroupReplays}
 use Rattle.world.proofs.Outcomes.{place_after, place_more, became_more, became_map}

@@ -11,17 +11,17 @@ use Rattle.group_model.specs.Servers.{Server, ServerTurn}
 use Rattle.group_model.specs.Worlds.{World, Event, AtServer, AtClient, IsRestart, happens, after_turn, after_client, crash_of}
 use Rattle.group_safety.specs.Claims.{IsFromMember}
 use Rattle.group_frames.specs.GroupFrames.{SendsGroup}
-use Rattle.client_agent.specs.declared.input.ClientInput.{ClientInput}
+use Rattle.group_inputs.specs.declared.client_input.ClientInput.{ClientInput}
 use Rattle.client_agent.specs.AgentView.{AgentView}
 use Rattle.client_agent.specs.Steps.{AgentTakes}
 use Rattle.client_agent.specs.Refusals.{AgentMayLack, agent_refusal}
 use Rattle.server.specs.declared.server.Outbox.{Outbox}
 use Rattle.server.specs.ServerViews.{ServerView}
-use Rattle.server.specs.Handings.{Handing}
+use Rattle.group_inputs.specs.Handings.{Handing}
 use Rattle.server.specs.Steps.{TakesHanding, TakesTurn}
 use Rattle.server.specs.Refusals.{MayLackMemory, handing_refusal}
 use Rattle.actor.specs.Handed.{restarts_server}
-use Rattle.world.specs.GroupEvents.{work_of, turn_work}
+use Rattle.world.specs.GroupWork.{work_of, turn_work}
 use Rattle.world.specs.GroupSteps.{MayWantAt}
 
 -- all that was sent came from the group of n

@@ -24,13 +24,15 @@ use Rattle.group_frames.specs.GroupFrames.{CarriesGroup, SendsGroup}
 use Rattle.server.specs.declared.server.Outbox.{Outbox}
 use Rattle.server.specs.ServerViews.{ServerView, IsServer, SameServer, crashed_server}
 use Rattle.server.proofs.Servers.{same_is}
-use Rattle.server.specs.declared.server_input.ServerInput.{ServerInput}
-use Rattle.server.specs.Handings.{Handing, FrameBytes, OwnInput, handing, bytes_of}
+use Rattle.group_inputs.specs.declared.server_input.ServerInput.{ServerInput}
+use Rattle.group_inputs.specs.Handings.{Handing, FrameBytes, OwnInput, handing}
+use Rattle.server.specs.SentBytes.{bytes_of}
 use Rattle.server.specs.Refusals.{MayLackMemory, handing_refusal}
 use Rattle.world.specs.declared.done.Done.{Done}
 use Rattle.world.specs.declared.done.Done.TheVariants as done
 use Rattle.rows.specs.GroupSizes.{IsGroup}
-use Rattle.world.specs.GroupEvents.{server_input, work_of, input_work, turn_work}
+use Rattle.group_inputs.specs.Events.{server_input}
+use Rattle.world.specs.GroupWork.{work_of, input_work, turn_work}
 use Rattle.world.specs.GroupView.{GroupView, RepresentsGroup, GroupRunsTo, IsGroupWorld, IsSentTo, ServersKnowNumbers, ClientsKnowNumbers, nodes_of, node_in, client_in}
 use Rattle.world.specs.GroupSteps.{GroupEventHappened, SameView, RefusesGroupEvent, IsGroupAwake, MayWantAt}
 use Rattle.world.specs.Inner.Inputs.{committed}

@@ -28,15 +28,15 @@ use Rattle.group_model.specs.Agents as agents
 use Rattle.group_model.specs.Agents.{Agent, Life}
 use Rattle.group_model.specs.Worlds.{World, Event, Deliver, AtServer, AtClient, happens, delivers, delivers_message, message_to, input_to, takes_input, own_input, own_client_input, client_input_to, client_takes, client_at, after_turn, after_client, refuses_message_at, refuses_response_at, crash_of_message}
 use Rattle.group_frames.specs.GroupFrames.{CarriesGroup, receiver_of}
-use Rattle.client_agent.specs.declared.input.ClientInput.{ClientInput}
-use Rattle.client_agent.specs.declared.input.ClientInput.TheVariants as client_inputs
+use Rattle.group_inputs.specs.declared.client_input.ClientInput.{ClientInput}
+use Rattle.group_inputs.specs.declared.client_input.ClientInput.TheVariants as client_inputs
 use Rattle.client_agent.specs.AgentView.{AgentView}
 use Rattle.server.specs.ServerViews.{ServerView, IsServer}
-use Rattle.server.specs.declared.server_input.ServerInput.{ServerInput}
-use Rattle.server.specs.declared.server_input.ServerInput.TheVariants as inputs
-use Rattle.server.specs.Handings.{Handing, FrameBytes, OwnInput, handing}
+use Rattle.group_inputs.specs.declared.server_input.ServerInput.{ServerInput}
+use Rattle.group_inputs.specs.declared.server_input.ServerInput.TheVariants as inputs
+use Rattle.group_inputs.specs.Handings.{Handing, FrameBytes, OwnInput, handing}
 use Rattle.server.specs.Steps.{takes_in}
-use Rattle.world.specs.GroupEvents.{server_input, client_input}
+use Rattle.group_inputs.specs.Events.{server_input, client_input}
 use Rattle.world.specs.GroupView.{GroupView, RepresentsGroup, IsSentTo, client_in, client_view}
 use Rattle.world.specs.GroupSteps.{RefusesGroupEvent, IsNoArrival, IsGroupAwake}
 use Rattle.actor.specs.Handed.{comes_as_frame, restarts_server, is_client_frame, restarts_client}

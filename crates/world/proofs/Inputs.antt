@@ -14,7 +14,7 @@ use Rattle.raft_core.specs.Frames.{IsFrameOf, FrameCarries}
 use Rattle.raft_core.specs.Inputs.{Reads}
 use Rattle.raft_core.specs.Refusals.{MayLack, MayWant}
 use Rattle.raft_safety.proofs.Places.{get-within}
-use Rattle.server.specs.Handings.{bytes_of}
+use Rattle.server.specs.SentBytes.{bytes_of}
 use Rattle.world.specs.Events.{arrival, event_input}
 use Rattle.world.specs.Inner.Inputs.{ActsIn, NobodyActsIn, is_restart, handed_by}
 use Rattle.world.proofs.Zips.{zip_at, zip_from, zip_none}

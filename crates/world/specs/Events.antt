@@ -1,17 +1,12 @@
 -- The events of the program's world as those of the definitions, and the input that each of them
 -- is.
-use Rattle.std.specs.Prelude.{ℕ, zero, suc, ◌^◌, Option, Some, None, List, map, slice_get}
+use Rattle.std.specs.Prelude.{Option, Some, None, List, map, slice_get}
 use Rattle.raft_model.specs.Messages.{Message}
 use Rattle.raft_model.specs.Steps.{Input, Arrives, Timeout, Beat, Propose, Compact, Crash, Restart}
 use Rattle.raft_model.specs.Worlds.{World, Event, Deliver, TimesOut, Beats, Proposes, Compacts, Crashes, Restarts}
+use Rattle.group_inputs.specs.Events.{position_of}
 use Rattle.world.specs.declared.event.RaftEvent.{RaftEvent}
 use Rattle.world.specs.declared.event.RaftEvent.TheVariants as events
-
--- Messages are numbered from 1, places from 0. No list in memory reaches the place that is that of
--- the number 0.
-abbrev pub position_of : ℕ → ℕ
-position_of zero = 2 ^ 64
-position_of (suc k) = k
 
 abbrev pub world_event : {S C : Type 0} → RaftEvent S C → Event C
 world_event (events.Deliver k) = Deliver (position_of k)

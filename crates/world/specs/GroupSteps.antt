@@ -18,7 +18,7 @@ use Rattle.server.specs.Refusals.{MayTakeMemory}
 use Rattle.world.specs.declared.done.Done.{Done}
 use Rattle.world.specs.declared.done.Done.TheVariants.{Taken, Crashed}
 use Rattle.rows.specs.GroupSizes.{IsGroup}
-use Rattle.world.specs.GroupEvents.{work_of, works}
+use Rattle.world.specs.GroupWork.{work_of, works}
 use Rattle.world.specs.GroupView.{GroupView, RepresentsGroup, GroupRunsTo, IsGroupWorld, nodes_of, renumbered}
 use Rattle.world.specs.Steps.{EachBecame, Lacked}
 

@@ -3,7 +3,7 @@ pub mod WorldView
 pub mod Steps
 pub mod Claims
 pub mod Tickets
-pub mod GroupEvents
+pub mod GroupWork
 pub mod GroupView
 pub mod GroupSteps
 pub mod GroupClaims

@@ -1,9 +1,7 @@
-//! A group of servers and clients: its events, what is kept beside its actors, and the group
-//! itself.
-mod event;
+//! A group of servers and clients: what is kept beside its actors, and the group itself.
 mod history;
+mod ranges;
 mod states;
 mod world;
 
-pub use event::Event;
 pub use world::World;

@@ -7,7 +7,8 @@ ghost use Rattle.raft_model.specs.Worlds.{Deliver};
 ghost use Rattle.raft_core.specs.Inputs.{Own};
 ghost use Rattle.raft_core.specs.Steps.{Represents, Takes};
 ghost use Rattle.raft_core.specs.Refusals.{IsRefused};
-ghost use Rattle.world.specs.Events.{position_of, world_event};
+ghost use Rattle.group_inputs.specs.Events.{position_of};
+ghost use Rattle.world.specs.Events.{world_event};
 ghost use Rattle.world.specs.Inner.Inputs.{ActsIn, NobodyActsIn, IsSent, HasFrame, Leaves, StaysOrLeft, handed_by};
 
 use crate::event::RaftEvent;

@@ -13,5 +13,5 @@ mod world;
 
 pub use done::Done;
 pub use event::RaftEvent;
-pub use group::{Event, World};
+pub use group::World;
 pub use world::RaftWorld;

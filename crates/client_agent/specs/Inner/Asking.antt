@@ -4,8 +4,8 @@ use Rattle.rows.specs.declared.node.NodeSpec.{NodeSpec}
 use Rattle.group_model.specs.Messages.{ClientRequest, Register, Heartbeat, Pull}
 use Rattle.client_agent.specs.declared.asking.Asked.{Asked}
 use Rattle.client_agent.specs.declared.asking.Asked.TheVariants as asked
-use Rattle.client_agent.specs.declared.input.ClientInput.{ClientInput}
-use Rattle.client_agent.specs.declared.input.ClientInput.TheVariants as inputs
+use Rattle.group_inputs.specs.declared.client_input.ClientInput.{ClientInput}
+use Rattle.group_inputs.specs.declared.client_input.ClientInput.TheVariants as inputs
 
 abbrev pub request_of : NodeSpec → Asked → ClientRequest
 request_of node asked.Registration = Register node.class node.size

@@ -2,8 +2,8 @@
 use Rattle.std.specs.Prelude.{◌≡◌, ℕ, zero, suc, ◌+◌, ◌<◌, Some, List, [], ◌∷◌, length, map, slice_get, slice_index}
 use Rattle.rows.specs.declared.actor.Actor.{Actor}
 use Rattle.group_model.specs.Worlds.{Event, Deliver}
-use Rattle.world.specs.declared.group.event.Event.{Event as GroupEvent}
-use Rattle.world.specs.GroupEvents.{group_event, group_events}
+use Rattle.group_inputs.specs.declared.event.Event.{Event as GroupEvent}
+use Rattle.group_inputs.specs.Events.{group_event, group_events}
 use Rattle.event_book.specs.declared.view.Note.{Note}
 use Rattle.cells.specs.declared.own_input.OwnInput.{OwnInput}
 use Rattle.cells.specs.declared.cell.KeptEvent.{KeptEvent}

@@ -8,9 +8,9 @@ use Rattle.rows.specs.declared.worker.Work.{Work}
 use Rattle.cluster_model.specs.Words.{State}
 use Rattle.group_model.specs.NextStep.{IsNextStep, WorkerStep}
 use Rattle.group_model.specs.Worlds.{AtServer}
-use Rattle.server.specs.declared.server_input.ServerInput.{ServerInput}
-use Rattle.server.specs.Handings.{handing}
-use Rattle.world.specs.GroupEvents.{server_input}
+use Rattle.group_inputs.specs.declared.server_input.ServerInput.{ServerInput}
+use Rattle.group_inputs.specs.Handings.{handing}
+use Rattle.group_inputs.specs.Events.{server_input}
 use Rattle.workers.specs.declared.server_workers.Handled.{Handled}
 use Rattle.workers.specs.declared.server_workers.TakenWork.{TakenWork}
 use Rattle.workers.specs.Working.{HandledAs}

@@ -10,10 +10,9 @@ use Rattle.raft_core.specs.declared.role.Role.TheVariants.{Follower, Candidate, 
 use Rattle.raft_core.specs.Steps.{role_of}
 use Rattle.client_agent.specs.AgentView.{AgentView}
 use Rattle.server.specs.ServerViews.{ServerView}
-use Rattle.world.specs.declared.group.event.Event.{Event}
-use Rattle.world.specs.declared.group.event.Event.TheVariants as events
-use Rattle.world.specs.Events.{position_of}
-use Rattle.world.specs.GroupEvents.{group_event}
+use Rattle.group_inputs.specs.declared.event.Event.{Event}
+use Rattle.group_inputs.specs.declared.event.Event.TheVariants as events
+use Rattle.group_inputs.specs.Events.{position_of, group_event}
 use Rattle.world.specs.GroupView.{GroupView, client_view}
 use Rattle.world.specs.GroupSteps.{SameView, RefusesGroupEvent}
 use Rattle.picture.specs.declared.record.Face.{Face}

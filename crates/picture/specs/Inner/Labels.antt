@@ -1,7 +1,7 @@
 -- What stands in the row of an event.
 use Rattle.std.specs.Prelude.{ℕ, nat_eq, if◌then◌else◌, Option, Some, None, List, [], ◌++◌, length, slice_get, decimal, codes}
 use Rattle.wire.specs.Frames.{Frame}
-use Rattle.world.specs.declared.group.event.Event.{Event}
+use Rattle.group_inputs.specs.declared.event.Event.{Event}
 use Rattle.labels.specs.Labels.{event_label, frame_label, named_label}
 use Rattle.picture.specs.declared.ink.Ink.{Ink}
 use Rattle.picture.specs.declared.ink.Ink.TheVariants as inks

@@ -4,8 +4,8 @@ use Rattle.std.specs.Option.{unwrap_or}
 use Rattle.rows.specs.declared.actor.Actor.{Actor}
 use Rattle.rows.specs.declared.actor.Actor.TheVariants as actors
 use Rattle.wire.specs.Frames.{Frame}
-use Rattle.world.specs.declared.group.event.Event.{Event}
-use Rattle.world.specs.declared.group.event.Event.TheVariants as events
+use Rattle.group_inputs.specs.declared.event.Event.{Event}
+use Rattle.group_inputs.specs.declared.event.Event.TheVariants as events
 use Rattle.world.specs.GroupView.{GroupView}
 use Rattle.picture.specs.declared.record.Record.{Record}
 use Rattle.picture.specs.declared.record.Step.{Step}

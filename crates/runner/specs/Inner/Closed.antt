@@ -7,7 +7,8 @@ use Rattle.world.specs.GroupView.{GroupView, nodes_of, renumbered}
 use Rattle.cells.specs.Cells.{CellView}
 use Rattle.cells.specs.Groups.{AreOfGroup}
 use Rattle.closing.specs.Closing.{ClosesTo}
-use Rattle.transcript.specs.Transcripts.{IsTranscript, record_of}
+use Rattle.event_texts.specs.Transcripts.{IsTranscript}
+use Rattle.transcript.specs.Records.{record_of}
 use Rattle.ending.specs.Endings.{TellsEnding}
 use Rattle.scenario_file.specs.declared.scenario.Scenario.{Scenario}
 use Rattle.scenario_file.specs.Objects.{step_lines}

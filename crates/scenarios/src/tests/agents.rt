@@ -3,7 +3,8 @@
 //! format.
 use crate::tests::frames::V;
 use crate::tests::servers::{TAKEN, number_of};
-use client_agent::{Agent, ClientInput, RunningAllocation};
+use client_agent::{Agent, RunningAllocation};
+use group_inputs::ClientInput;
 use rows::{Actor, AllocId, EntryIndex, Name, NodeId, NodeSpec, Ordinal, Sequence, ServerId, Size};
 use std::alloc::Global;
 use wire::Frames;

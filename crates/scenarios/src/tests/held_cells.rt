@@ -4,15 +4,15 @@
 //! hand.
 ghost use Rattle.std.specs.Prelude.{◌≡◌};
 
-use client_agent::{Agent, ClientInput};
+use client_agent::Agent;
 use cluster::{
     Cell, CellTurn, Cells, Envelope, GroupActor, KeptEvent, OwnInput, StampedEvent, cells_of,
     close, turn,
 };
 use event_book::{ActorEvent, ActorSeat, Book, BookId, Noted, OpenedBook, OutputList};
+use group_inputs::{ClientInput, ServerInput};
 use raft_core::Role;
 use rows::{Actor, ClientId, Name, NodeId, NodeSpec, Refusal, Sequence, ServerId, Size};
-use server::ServerInput;
 use std::alloc::Global;
 use std::marker::Brand;
 use std::sync::Wait;

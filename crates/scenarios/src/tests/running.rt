@@ -11,6 +11,8 @@ use cluster::{
     close, start, stop,
 };
 use event_book::{BookId, OpenedBook};
+use event_texts::read_event;
+use group_inputs::Event;
 use plain_check::{Fault, Looks};
 use raft_core::Role;
 use rows::{Actor, Delivery, Name, NodeSpec, Refusal, ServerId};
@@ -22,8 +24,7 @@ use std::sync::{Arc, Wait};
 use std::test::*;
 use std::thread;
 use std::thread::Threads;
-use transcript::read_event;
-use world::{Event, World};
+use world::World;
 
 /// How many turns are waited for anything.
 const LIMIT: u32 = 100_000;

@@ -18,7 +18,7 @@ use Rattle.group_frames.specs.GroupFrames.{service_of}
 use Rattle.leader.specs.OpenDesks.{OpenDesk}
 use Rattle.server.specs.declared.server.Outbox.{Outbox}
 use Rattle.server.specs.ServerViews.{ServerView}
-use Rattle.server.specs.Handings.{Handing, OwnInput}
+use Rattle.group_inputs.specs.Handings.{Handing, OwnInput}
 use Rattle.server.specs.Steps.{TakesTurn, TakesHanding, takes_in}
 use Rattle.server.specs.Refusals.{MayLackMemory, handing_refusal, wrong_address}
 use Rattle.server.specs.Inner.Acts.{EachServer, EachDoes, Falters, DoesNothing}

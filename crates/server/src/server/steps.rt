@@ -2,7 +2,7 @@
 ghost use Rattle.std.specs.Prelude.{◌≡◌, true, false, None, take, OnOk, OnErr, IfErr};
 ghost use Rattle.raft_model.specs.Rafts.{is_up};
 ghost use Rattle.raft_core.specs.RaftView.{SameNumber, IsCrashOf};
-ghost use Rattle.server.specs.Handings.{handing};
+ghost use Rattle.group_inputs.specs.Handings.{handing};
 ghost use Rattle.server.specs.Steps.{TakesHanding};
 ghost use Rattle.server.specs.Refusals.{handing_refusal, IsHandingRefused};
 ghost use Rattle.server.specs.Answers.{HandedIn};
@@ -11,7 +11,7 @@ ghost use Rattle.server.specs.Inner.LogSteps.{IsTaken};
 
 use super::frames::Source;
 use super::{Outbox, Server};
-use crate::server_input::ServerInput;
+use group_inputs::ServerInput;
 use raft_core::Input;
 use rows::{Refusal, WorkerRequest};
 

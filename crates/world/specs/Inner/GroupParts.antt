@@ -6,11 +6,11 @@ use Rattle.group_model.specs.Inputs as inputs
 use Rattle.group_model.specs.Agents as agents
 use Rattle.group_model.specs.Servers.{Server}
 use Rattle.group_model.specs.Worlds.{Event, AtServer, AtClient}
-use Rattle.client_agent.specs.declared.input.ClientInput.{ClientInput}
+use Rattle.group_inputs.specs.declared.client_input.ClientInput.{ClientInput}
 use Rattle.client_agent.specs.AgentView.{AgentView}
 use Rattle.server.specs.declared.server.Outbox.{Outbox}
 use Rattle.server.specs.ServerViews.{ServerView, IsServer, SameServer}
-use Rattle.server.specs.Handings.{Handing}
+use Rattle.group_inputs.specs.Handings.{Handing}
 use Rattle.actor.specs.Refusals.{RefusedSo, ServerRefuses, ServerMayLack, ClientRefuses, ClientMayLack}
 use Rattle.actor.specs.Answers.{ServerSteps, ServerCrashed, ServerStays, ClientSteps, ClientCrashed}
 use Rattle.world.specs.declared.done.Done.{Done}

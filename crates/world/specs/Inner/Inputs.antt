@@ -12,7 +12,7 @@ use Rattle.raft_core.specs.Frames.{FrameCarries}
 use Rattle.raft_core.specs.RaftView.{RaftView}
 use Rattle.raft_core.specs.Inputs.{Handed, Bytes, Own}
 use Rattle.raft_core.specs.Refusals.{LackLeaves, LackStays}
-use Rattle.server.specs.Handings.{bytes_of}
+use Rattle.server.specs.SentBytes.{bytes_of}
 use Rattle.world.specs.Steps.{LeftServer}
 
 abbrev pub is_restart : {C : Type 0} → Event C → Bool

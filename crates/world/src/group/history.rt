@@ -3,20 +3,20 @@ ghost use Rattle.std.specs.Prelude.{◌≡◌, ◌≢◌, ◌<◌, true, max, []
 ghost use Rattle.raft_core.specs.RaftView.{SameNumber};
 ghost use Rattle.group_model.specs.Servers.{Server as AnyServer};
 ghost use Rattle.group_model.specs.Worlds.{Deliver, AtServer, AtClient};
-ghost use Rattle.server.specs.Handings.{FrameBytes, bytes_of, handing};
+ghost use Rattle.group_inputs.specs.Handings.{FrameBytes, handing};
+ghost use Rattle.server.specs.SentBytes.{bytes_of};
 ghost use Rattle.server.specs.ServerViews.{IsServer};
-ghost use Rattle.client_agent.specs.declared.input.ClientInput.TheVariants as client_inputs;
-ghost use Rattle.world.specs.Events.{position_of};
-ghost use Rattle.world.specs.GroupEvents.{server_input, client_input, group_events};
+ghost use Rattle.group_inputs.specs.declared.client_input.ClientInput.TheVariants as client_inputs;
+ghost use Rattle.group_inputs.specs.Events.{position_of, server_input, client_input, group_events};
 ghost use Rattle.world.specs.Inner.Inputs.{committed};
 ghost use Rattle.world.specs.Inner.GroupParts.{ServerDone, ClientDone};
 
 use crate::done::Done;
-use crate::group::event::Event;
 use actor::{Stepped, bring_sent_to_server, bring_to_client, hand_client, hand_server, no_output};
-use client_agent::{Agent, ClientInput};
+use client_agent::Agent;
+use group_inputs::{ClientInput, Event, ServerInput};
 use rows::{ClientId, Index, NoMemory, Refusal, Sequence, ServerId, Work};
-use server::{Outbox, Server, ServerInput};
+use server::{Outbox, Server};
 use std::alloc::Global;
 use std::marker::Model;
 use wire::{Frame, Frames};
@@ -38,7 +38,7 @@ pub(crate) struct GroupHistory {
 
 impl Model for GroupHistory {
     ghost use Rattle.world.specs.Inner.GroupParts.{GroupHistoryView};
-    ghost use Rattle.world.specs.GroupEvents.{group_events};
+    ghost use Rattle.group_inputs.specs.Events.{group_events};
 
     ghost Value = { GroupHistoryView };
 

@@ -8,12 +8,11 @@ ghost use Rattle.group_model.specs.Servers.{newcomer};
 ghost use Rattle.group_model.specs.Agents.{agent_of};
 ghost use Rattle.group_model.specs.Worlds.{Deliver, AtServer, AtClient};
 ghost use Rattle.group_safety.specs.Limits.{NodesFit};
-ghost use Rattle.server.specs.Handings.{handing};
+ghost use Rattle.group_inputs.specs.Handings.{handing};
 ghost use Rattle.actor.specs.Handed.{comes_as_frame, is_client_frame};
 ghost use Rattle.server.specs.ServerViews.{ServerView, IsServer};
 ghost use Rattle.rows.specs.GroupSizes.{IsGroup};
-ghost use Rattle.world.specs.Events.{position_of};
-ghost use Rattle.world.specs.GroupEvents.{server_input, client_input, group_event, group_events};
+ghost use Rattle.group_inputs.specs.Events.{position_of, server_input, client_input, group_event, group_events};
 ghost use Rattle.world.specs.GroupView.{client_view, nodes_of, ServersKnowNumbers, ClientsKnowNumbers, IsSentTo};
 ghost use Rattle.world.specs.GroupSteps.{IsGroupDone, SameView, RefusesGroupEvent, IsGroupAwake, IsNewGroup, WhyNoGroup, GroupPlayed, GroupReplays};
 ghost use Rattle.world.specs.GroupClaims.{OneGroupList, SafeGroupStates, BackedPlans, PlacedStarts, GroupHeadline, IsGreatestEver, IsTraced};
@@ -21,11 +20,12 @@ ghost use Rattle.world.specs.Inner.GroupInputs.{new_agents};
 ghost use Rattle.world.specs.Inner.GroupParts.{GroupStepped};
 
 use crate::done::Done;
-use crate::group::event::{Event, ranges};
 use crate::group::history::GroupHistory;
+use crate::group::ranges::ranges;
 use actor::{is_client_frame, is_client_restart, is_frame, is_restart};
-use client_agent::{Agent, ClientInput};
+use client_agent::Agent;
 use fsm_state::Cluster;
+use group_inputs::{ClientInput, Event, ServerInput};
 use group_safety::{
     limits_are_kept, one_list, plans_are_backed, senders_are_members, starts_are_placed,
     states_are_safe,
@@ -34,7 +34,7 @@ use rows::{
     Actor, ClientId, Index, NoMemory, NodeId, NodeSpec, Refusal, Sequence, ServerId, Work,
     all_ranges, is_group_size,
 };
-use server::{Server, ServerInput};
+use server::Server;
 use std::alloc::Global;
 use std::marker::Model;
 use wire::{Frames, frames_are_whole};

@@ -1,4 +1,4 @@
-use Rattle.server.specs.Handings.{handing}
+use Rattle.group_inputs.specs.Handings.{handing}
 use Rattle.actor.proofs.ServerAnswers.{answers}
 use Rattle.actor.proofs.servers.hand_server.Goals as goal
 

@@ -1,5 +1,5 @@
 use Rattle.std.proofs.Common.{refl, sym, ◌∙◌}
-use Rattle.server.specs.Handings.{handing}
+use Rattle.group_inputs.specs.Handings.{handing}
 use Rattle.cells.proofs.Answering.{server_handed}
 use Rattle.cells.proofs.stepping.own_server.Goals as goal
 

@@ -1,4 +1,4 @@
-use Rattle.world.specs.GroupEvents.{group_event}
+use Rattle.group_inputs.specs.Events.{group_event}
 use Rattle.closing.proofs.Replays.{not_refused}
 use Rattle.closing.proofs.replaying.play.Goals as goal
 

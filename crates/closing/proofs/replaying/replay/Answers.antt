@@ -1,7 +1,7 @@
 use Rattle.std.proofs.Common.{[], ◌∷◌, ap, arith, length, rules, subst, sym, ◌∙◌}
 use Rattle.std.proofs.lemmas.List.{map-append, nil_from_length}
 use Rattle.std.specs.Vec.Iter.{into_iter_items}
-use Rattle.world.specs.GroupEvents.{group_event, group_events}
+use Rattle.group_inputs.specs.Events.{group_event, group_events}
 use Rattle.closing.specs.Inner.Runs.{IsReplayed}
 use Rattle.closing.proofs.Loops.{one_more}
 use Rattle.closing.proofs.Replays.{replay_begins, replay_next, replay_ends}

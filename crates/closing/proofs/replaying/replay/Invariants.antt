@@ -1,6 +1,6 @@
 use Rattle.std.proofs.Common.{◌≡◌, ◌++◌, length}
 use Rattle.std.specs.Vec.Iter.{into_iter_items, into_iter_len}
-use Rattle.world.specs.GroupEvents.{group_events}
+use Rattle.group_inputs.specs.Events.{group_events}
 use Rattle.closing.specs.Inner.Runs.{IsReplayed}
 use Rattle.closing.proofs.replaying.replay.Given as goal
 

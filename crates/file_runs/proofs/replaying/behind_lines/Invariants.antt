@@ -1,7 +1,7 @@
 use Rattle.std.proofs.Common.{◌≡◌, ◌++◌, ℕ, List, length}
 use Rattle.std.specs.List.{AllByRecursion}
-use Rattle.transcript.specs.Inner.Printable.{IsPrintable}
-use Rattle.transcript.specs.Transcripts.{lines_text}
+use Rattle.event_texts.specs.Inner.Printable.{IsPrintable}
+use Rattle.event_texts.specs.Transcripts.{lines_text}
 use Rattle.file_runs.proofs.Replays.{IsLeft}
 use Rattle.file_runs.proofs.replaying.behind_lines.Given as goal
 

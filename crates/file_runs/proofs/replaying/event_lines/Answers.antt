@@ -1,5 +1,5 @@
 use Rattle.std.proofs.Common.{◌≡◌, ◌+◌, ◌∙◌, length, rules}
-use Rattle.transcript.specs.Transcripts.{recorded}
+use Rattle.event_texts.specs.Transcripts.{recorded}
 use Rattle.file_runs.proofs.Replays.{head_and_events, head_count, head_lines, head_printable}
 use Rattle.file_runs.proofs.replaying.event_lines.Goals as goal
 

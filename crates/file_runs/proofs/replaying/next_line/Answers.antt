@@ -1,6 +1,6 @@
 use Rattle.std.proofs.Common.{◌≡◌, ◌∙◌, ◌+◌, Some, length, rules, subst, sym, take}
 use Rattle.std.specs.Prelude.{IsUtf8}
-use Rattle.transcript.proofs.Lines.{line_at, newline_at, printable_is_text, to_end}
+use Rattle.event_texts.proofs.Lines.{line_at, newline_at, printable_is_text, to_end}
 use Rattle.file_runs.proofs.replaying.next_line.Goals as goal
 
 pub returns-in_default : goal.returns-in_default

@@ -2,10 +2,10 @@ use Rattle.std.proofs.Common.{◌≡◌, ◌∙◌, ◌++◌, ◌∷◌, [], ap,
 use Rattle.std.specs.List.{AllByRecursion}
 use Rattle.std.specs.Vec.Iter.{into_iter_items}
 use Rattle.std.proofs.lemmas.List.{map-append}
-use Rattle.transcript.specs.EventLines.{HasLine, event_line}
-use Rattle.transcript.specs.Transcripts.{lines_text}
-use Rattle.transcript.proofs.Printable.{event_printable}
-use Rattle.world.specs.GroupEvents.{group_event, group_events}
+use Rattle.event_texts.specs.EventLines.{HasLine, event_line}
+use Rattle.event_texts.specs.Transcripts.{lines_text}
+use Rattle.event_texts.proofs.Printable.{event_printable}
+use Rattle.group_inputs.specs.Events.{group_event, group_events}
 use Rattle.file_runs.proofs.Replays.{event_done, event_refused}
 use Rattle.file_runs.proofs.replaying.play_events.Goals as goal
 

@@ -1,9 +1,9 @@
 use Rattle.std.proofs.Common.{◌≡◌, ◌≤◌, ◌++◌, map}
 use Rattle.std.specs.List.{AllByRecursion}
 use Rattle.std.specs.Vec.Iter.{into_iter_items}
-use Rattle.transcript.specs.EventLines.{HasLine, event_line}
-use Rattle.transcript.specs.Transcripts.{lines_text}
-use Rattle.world.specs.GroupEvents.{group_events}
+use Rattle.event_texts.specs.EventLines.{HasLine, event_line}
+use Rattle.event_texts.specs.Transcripts.{lines_text}
+use Rattle.group_inputs.specs.Events.{group_events}
 use Rattle.file_runs.specs.Inner.Replayed.{TellsEvents}
 use Rattle.file_runs.proofs.replaying.play_events.Given as goal
 

@@ -1,4 +1,4 @@
-use Rattle.transcript.specs.Transcripts.{IsTranscript, recorded}
+use Rattle.event_texts.specs.Transcripts.{IsTranscript, recorded}
 use Rattle.file_runs.proofs.Files.{of_file}
 use Rattle.file_runs.proofs.replaying.replay_file.Goals as goal
 

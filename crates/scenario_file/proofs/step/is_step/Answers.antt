@@ -1,7 +1,7 @@
 use Rattle.std.proofs.Common.{◌≡◌, None, codes, rules}
 use Rattle.group_model.specs.Inputs.{Beat}
 use Rattle.group_model.specs.Worlds.{AtServer}
-use Rattle.transcript.specs.EventLines.{IsEventLine}
+use Rattle.event_texts.specs.EventLines.{IsEventLine}
 use Rattle.scenario_file.specs.Steps.{AnEvent, Flow}
 use Rattle.scenario_file.proofs.step.is_step.Goals as goal
 

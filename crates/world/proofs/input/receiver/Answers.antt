@@ -1,5 +1,5 @@
 use Rattle.std.proofs.Common.{sym}
-use Rattle.world.specs.Events.{position_of}
+use Rattle.group_inputs.specs.Events.{position_of}
 use Rattle.world.proofs.Inputs.{gone, received, astray, sent_there}
 use Rattle.world.proofs.input.receiver.Goals as goal
 

@@ -1,7 +1,7 @@
 use Rattle.std.proofs.Common.{not, Some, sym, ap, subst, ◌∙◌}
 use Rattle.cluster_model.specs.Words.{same_alloc}
 use Rattle.group_model.specs.Agents.{Life, Running}
-use Rattle.client_agent.specs.declared.input.ClientInput.TheVariants as inputs
+use Rattle.group_inputs.specs.declared.client_input.ClientInput.TheVariants as inputs
 use Rattle.client_agent.specs.AgentView.{AgentView}
 use Rattle.client_agent.specs.Steps.{AgentTakes}
 use Rattle.client_agent.proofs.Fits.{fit_part, fit_of}

@@ -1,5 +1,5 @@
 use Rattle.std.proofs.Common.{rules}
-use Rattle.world.specs.GroupEvents.{group_event}
+use Rattle.group_inputs.specs.Events.{group_event}
 use Rattle.playing.proofs.Plays.{ask_refused}
 use Rattle.playing.proofs.play.Play.work.Goals as goal
 

@@ -1,5 +1,5 @@
 use Rattle.std.proofs.Common.{ap, sym, subst}
-use Rattle.server.specs.Handings.{handing}
+use Rattle.group_inputs.specs.Handings.{handing}
 use Rattle.server.specs.Inner.LogSteps.{IsTaken}
 use Rattle.group_model.specs.Inputs.{Lapse, Expire, DrainTurn, FreeTurn, Reap}
 use Rattle.server.proofs.Handings.{silent_turn, timeout_taken}

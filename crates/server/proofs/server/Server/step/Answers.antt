@@ -1,4 +1,4 @@
-use Rattle.server.specs.Handings.{handing}
+use Rattle.group_inputs.specs.Handings.{handing}
 use Rattle.server.proofs.Handings.{declined_parts, refused_of, left_of, stays_of}
 use Rattle.server.proofs.server.Server.step.Goals as goal
 

@@ -1,5 +1,5 @@
 use Rattle.std.proofs.Common.{◌≡◌, ℕ, zero, suc, ◌<◌, ◌^◌, length, arith, refl, subst}
-use Rattle.world.specs.Events.{position_of}
+use Rattle.group_inputs.specs.Events.{position_of}
 use Rattle.world.proofs.group.history.place.Goals as goal
 
 not_both : (m n : ℕ) → m < n → n < m → ⊥

@@ -2,7 +2,7 @@ use Rattle.std.proofs.Common.{◌≡◌, ◌⊎◌, inl, inr, true, is_some, sym
 use Rattle.rows.specs.declared.refusal.Refusal.TheVariants as refusals
 use Rattle.group_model.specs.Worlds.{AtClient}
 use Rattle.actor.specs.Handed.{restarts_client}
-use Rattle.world.specs.GroupEvents.{client_input}
+use Rattle.group_inputs.specs.Events.{client_input}
 use Rattle.world.proofs.GroupSleeping.{refused_at_once, client_within, client_absent, client_sleeps, response_is_none, client_awake}
 use Rattle.world.proofs.group.world.World.at_client.Goals as goal
 use Rattle.world.proofs.group.world.World.at_client.Goals.{else-not-is_up-via-then-not-is_up+else-not-is_client_restart, else-not-is_up-via-else-not-is_up}

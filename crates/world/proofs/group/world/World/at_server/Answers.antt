@@ -2,9 +2,9 @@ use Rattle.std.proofs.Common.{◌≡◌, ◌⊎◌, inl, inr, true, not, is_some
 use Rattle.rows.specs.declared.refusal.Refusal.TheVariants as refusals
 use Rattle.raft_safety.proofs.Places.{get-within}
 use Rattle.group_model.specs.Worlds.{AtServer}
-use Rattle.server.specs.Handings.{handing}
+use Rattle.group_inputs.specs.Handings.{handing}
 use Rattle.actor.specs.Handed.{restarts_server}
-use Rattle.world.specs.GroupEvents.{server_input}
+use Rattle.group_inputs.specs.Events.{server_input}
 use Rattle.world.proofs.GroupSleeping.{refused_at_once, server_absent, server_sleeps, frame_is_none, server_awake}
 use Rattle.world.proofs.group.world.World.at_server.Goals as goal
 use Rattle.world.proofs.group.world.World.at_server.Goals.{else-is_none-via-then-is_none+else-not-is_restart, else-is_none-via-else-is_none}

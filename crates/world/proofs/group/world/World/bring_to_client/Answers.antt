@@ -1,9 +1,9 @@
 use Rattle.std.proofs.Common.{refl, sym, subst, slice_get, slice_set}
 use Rattle.rows.specs.declared.actor.Actor.TheVariants as actors
 use Rattle.group_model.specs.Worlds.{Deliver}
-use Rattle.client_agent.specs.declared.input.ClientInput.TheVariants as client_inputs
-use Rattle.server.specs.Handings.{bytes_of}
-use Rattle.world.specs.Events.{position_of}
+use Rattle.group_inputs.specs.declared.client_input.ClientInput.TheVariants as client_inputs
+use Rattle.server.specs.SentBytes.{bytes_of}
+use Rattle.group_inputs.specs.Events.{position_of}
 use Rattle.world.specs.GroupView.{GroupView, IsSentTo}
 use Rattle.world.specs.Inner.GroupParts.{GroupStepped}
 use Rattle.world.proofs.GroupDeliveries.{sent_to_client}

@@ -1,7 +1,8 @@
 use Rattle.std.proofs.Common.{refl, sym, ap, subst, slice_get, slice_set}
 use Rattle.group_model.specs.Worlds.{Deliver}
-use Rattle.server.specs.Handings.{FrameBytes, bytes_of}
-use Rattle.world.specs.Events.{position_of}
+use Rattle.group_inputs.specs.Handings.{FrameBytes}
+use Rattle.server.specs.SentBytes.{bytes_of}
+use Rattle.group_inputs.specs.Events.{position_of}
 use Rattle.world.specs.GroupView.{GroupView}
 use Rattle.world.specs.GroupSteps.{IsGroupAwake}
 use Rattle.world.proofs.GroupServers.{GroupActed, sent_scene, server_acted}

@@ -1,6 +1,6 @@
 use Rattle.rows.specs.declared.refusal.Refusal.TheVariants as refusals
 use Rattle.group_model.specs.Worlds.{Deliver}
-use Rattle.world.specs.Events.{position_of}
+use Rattle.group_inputs.specs.Events.{position_of}
 use Rattle.world.proofs.GroupSleeping.{refused_at_once, nothing_comes}
 use Rattle.world.proofs.group.world.World.deliver.Goals as goal
 

@@ -1,6 +1,6 @@
 use Rattle.std.proofs.Common.{refl, subst, slice_set}
 use Rattle.group_model.specs.Worlds.{AtClient}
-use Rattle.world.specs.GroupEvents.{client_input}
+use Rattle.group_inputs.specs.Events.{client_input}
 use Rattle.world.specs.GroupView.{GroupView}
 use Rattle.world.specs.Inner.GroupParts.{GroupStepped}
 use Rattle.world.proofs.GroupOwn.{own_client}

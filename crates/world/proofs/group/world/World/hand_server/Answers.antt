@@ -1,7 +1,7 @@
 use Rattle.std.proofs.Common.{refl, sym, ap, subst, slice_set}
 use Rattle.group_model.specs.Worlds.{AtServer}
-use Rattle.server.specs.Handings.{handing}
-use Rattle.world.specs.GroupEvents.{server_input}
+use Rattle.group_inputs.specs.Handings.{handing}
+use Rattle.group_inputs.specs.Events.{server_input}
 use Rattle.world.specs.GroupView.{GroupView}
 use Rattle.world.specs.GroupSteps.{IsGroupAwake}
 use Rattle.world.proofs.GroupServers.{GroupActed, own_scene, server_acted}

@@ -1,5 +1,5 @@
 use Rattle.std.proofs.Common.{◌≡◌, Some, sym, subst, slice_get}
-use Rattle.world.specs.Events.{position_of}
+use Rattle.group_inputs.specs.Events.{position_of}
 use Rattle.world.specs.GroupView.{GroupView}
 use Rattle.world.proofs.group.world.World.receiver.Goals as goal
 

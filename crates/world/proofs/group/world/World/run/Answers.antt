@@ -1,6 +1,6 @@
 use Rattle.std.proofs.Common.{◌≡◌, ◌<◌, ◌+◌, take_all, [], ◌∷◌, ◌++◌, length, take, ap, ◌∙◌, sym, subst, arith}
 use Rattle.std.proofs.lemmas.List.{take_more}
-use Rattle.world.specs.GroupEvents.{group_event, group_events}
+use Rattle.group_inputs.specs.Events.{group_event, group_events}
 use Rattle.world.specs.GroupSteps.{GroupPlayed}
 use Rattle.world.proofs.GroupBegins.{nodes_fit}
 use Rattle.world.proofs.GroupReplays.{group_event_more, group_play_begins, group_play_next, group_replays}

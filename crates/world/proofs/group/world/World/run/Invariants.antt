@@ -1,5 +1,5 @@
 use Rattle.std.proofs.Common.{take}
-use Rattle.world.specs.GroupEvents.{group_events}
+use Rattle.group_inputs.specs.Events.{group_events}
 use Rattle.world.specs.GroupSteps.{GroupPlayed}
 use Rattle.world.proofs.group.world.World.run.Given as goal
 

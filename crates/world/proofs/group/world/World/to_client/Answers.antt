@@ -1,7 +1,7 @@
 use Rattle.std.proofs.Common.{sym, ◌∙◌}
 use Rattle.rows.specs.declared.refusal.Refusal.TheVariants as refusals
 use Rattle.group_model.specs.Worlds.{Deliver}
-use Rattle.world.specs.Events.{position_of}
+use Rattle.group_inputs.specs.Events.{position_of}
 use Rattle.world.proofs.GroupSleeping.{refused_at_once, client_within, client_receiver_absent, client_receiver_sleeps, client_receiver_awake}
 use Rattle.world.proofs.group.world.World.to_client.Goals as goal
 

@@ -2,7 +2,7 @@ use Rattle.std.proofs.Common.{not, sym, ap, ◌∙◌}
 use Rattle.rows.specs.declared.refusal.Refusal.TheVariants as refusals
 use Rattle.raft_safety.proofs.Places.{get-within}
 use Rattle.group_model.specs.Worlds.{Deliver}
-use Rattle.world.specs.Events.{position_of}
+use Rattle.group_inputs.specs.Events.{position_of}
 use Rattle.world.proofs.GroupSleeping.{refused_at_once, receiver_absent, receiver_sleeps, receiver_awake}
 use Rattle.world.proofs.group.world.World.to_server.Goals as goal
 

@@ -1,0 +1,18 @@
+//! Events as lines of text, and transcripts, which are texts of such lines.
+#![tactic(auto)]
+
+mod event;
+mod line;
+mod list;
+mod reading;
+mod request;
+mod spelled;
+mod transcript;
+mod word;
+mod worker;
+mod writing;
+
+pub use event::{read_beat, read_event};
+pub use reading::read;
+pub use transcript::{Transcript, append_events, append_node, append_servers};
+pub use word::{read_number, read_server};

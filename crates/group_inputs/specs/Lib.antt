@@ -1,0 +1,2 @@
+pub mod Handings
+pub mod Events
