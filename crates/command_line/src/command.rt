@@ -18,7 +18,7 @@ use clap::{Arg, ArgAction, ArgMatches, Command, Error};
 use std::alloc::Global;
 
 /// Keys that follow each other.
-#[derive(Clone, Copy, Debug, PartialEq, Eq)]
+#[derive(Clone, Copy)]
 pub struct KeyRange {
     /// The first one.
     pub first: u64,
@@ -27,7 +27,7 @@ pub struct KeyRange {
 }
 
 /// How the same scenario is played under many keys.
-#[derive(Clone, Copy, Debug, PartialEq, Eq)]
+#[derive(Clone, Copy)]
 pub struct SweepWords {
     /// The keys.
     pub keys: KeyRange,
@@ -42,7 +42,7 @@ pub struct SweepWords {
 }
 
 /// What the words of a command line ask for. Names of files are as they were given.
-#[derive(Clone, Copy, Debug, PartialEq, Eq)]
+#[derive(Clone, Copy)]
 pub enum CommandLine<'a> {
     /// `run FILE [--out T]`: the scenario in that file is played.
     Run {

@@ -9,7 +9,7 @@ use std::alloc::Global;
 use world::World;
 
 /// How a server stands.
-#[derive(Clone, Copy, Debug, PartialEq, Eq)]
+#[derive(Clone, Copy, PartialEq, Eq)]
 pub(crate) struct ServerStanding {
     /// What it is doing, while it is up.
     pub role: Option<Role>,
@@ -24,7 +24,7 @@ pub(crate) struct ServerStanding {
 }
 
 /// How a group stands.
-#[derive(Debug, Drop, PartialEq, Eq)]
+#[derive(Drop, PartialEq, Eq)]
 pub(crate) struct Standing {
     /// Its servers, in order.
     pub servers: Vec<ServerStanding>,

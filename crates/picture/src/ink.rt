@@ -8,7 +8,7 @@ ghost use Rattle.picture.specs.Inner.Drawn.{ink_width, ink_height, life, way};
 pub(crate) const MOST: usize = 24;
 
 /// What a text is.
-#[derive(Clone, Copy, Debug, PartialEq, Eq)]
+#[derive(Clone, Copy)]
 pub(crate) enum Ink {
     /// The counts, above the picture.
     Title,
@@ -86,7 +86,7 @@ impl Ink {
 }
 
 /// What a line is.
-#[derive(Clone, Copy, Debug, PartialEq, Eq)]
+#[derive(Clone, Copy)]
 pub(crate) enum Stroke {
     /// The life of an actor that is up.
     Life,
@@ -139,7 +139,7 @@ impl Stroke {
 }
 
 /// What a circle on a lifeline is.
-#[derive(Clone, Copy, Debug, PartialEq, Eq)]
+#[derive(Clone, Copy)]
 pub(crate) enum Spot {
     /// An event.
     Event,
@@ -163,7 +163,7 @@ impl Spot {
 }
 
 /// Which part of a text stands at its point.
-#[derive(Clone, Copy, Debug, PartialEq, Eq)]
+#[derive(Clone, Copy)]
 pub(crate) enum Anchor {
     /// Its left end.
     Start,
@@ -187,7 +187,7 @@ impl Anchor {
 }
 
 /// What a white rectangle below a text is.
-#[derive(Clone, Copy, Debug, PartialEq, Eq)]
+#[derive(Clone, Copy)]
 pub(crate) enum Cover {
     /// Nothing is seen through it.
     Whole,

@@ -38,7 +38,7 @@ const BAND_EVERY: usize = 40;
 const BAND: u64 = 26;
 
 /// A point of the picture.
-#[derive(Clone, Copy, Debug, PartialEq, Eq)]
+#[derive(Clone, Copy)]
 pub(crate) struct Point {
     /// From the left edge.
     pub x: u64,
@@ -80,7 +80,7 @@ impl Point {
 }
 
 /// A side of a lifeline.
-#[derive(Clone, Copy, Debug, PartialEq, Eq)]
+#[derive(Clone, Copy)]
 pub(crate) enum Side {
     /// Towards the first lifeline.
     Left,
@@ -148,7 +148,7 @@ pub(crate) fn is_parted(from: usize, to: usize) -> bool
 }
 
 // The lost messages of one event, on each side of its actor.
-#[derive(Clone, Copy, Debug)]
+#[derive(Clone, Copy)]
 struct Fan {
     row: usize,
     left: u64,

@@ -17,7 +17,7 @@ use wire::Frames;
 use world::{Done, World};
 
 /// An actor, as far as it is drawn. A client is in term 0 and has nothing applied.
-#[derive(Clone, Copy, Debug, PartialEq, Eq)]
+#[derive(Clone, Copy)]
 pub(crate) struct Face {
     /// Whether it is up.
     pub up: bool,
@@ -97,7 +97,7 @@ impl Face {
 }
 
 /// One event.
-#[derive(Clone, Copy, Debug)]
+#[derive(Clone, Copy)]
 pub(crate) struct Step {
     /// The lifeline of its actor, from 0; none where the group has no such actor.
     pub column: Option<usize>,
@@ -114,7 +114,7 @@ pub(crate) struct Step {
 }
 
 /// One message.
-#[derive(Clone, Copy, Debug)]
+#[derive(Clone, Copy)]
 pub(crate) struct Sending {
     /// The event in which it was sent, from 0.
     pub row: usize,

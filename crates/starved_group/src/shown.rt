@@ -11,7 +11,7 @@ use wire::Frames;
 use world::World;
 
 /// What is seen of a server.
-#[derive(Debug, Drop, PartialEq, Eq)]
+#[derive(Drop, PartialEq, Eq)]
 pub(crate) struct ShownServer {
     role: Option<Role>,
     term: Term,
@@ -24,7 +24,7 @@ pub(crate) struct ShownServer {
 }
 
 /// What is seen of a client.
-#[derive(Debug, Drop, PartialEq, Eq)]
+#[derive(Drop, PartialEq, Eq)]
 pub(crate) struct ShownClient {
     seen: Option<Index>,
     running: Vec<RunningAllocation>,
@@ -33,7 +33,7 @@ pub(crate) struct ShownClient {
 }
 
 /// What is seen of an actor.
-#[derive(Debug, Drop, PartialEq, Eq)]
+#[derive(Drop, PartialEq, Eq)]
 pub(crate) enum Shown {
     /// Of a server.
     Server(ShownServer),

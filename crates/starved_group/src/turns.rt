@@ -31,7 +31,7 @@ struct Turns<B: BookId> {
 }
 
 // What is seen of a cell: how many events it keeps, and its actor.
-#[derive(Debug, Drop, PartialEq, Eq)]
+#[derive(Drop, PartialEq, Eq)]
 struct ShownCell {
     inputs: usize,
     actor: Shown,
