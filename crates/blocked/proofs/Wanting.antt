@@ -1,9 +1,7 @@
 -- Where memory is wanting, there is one that wants it.
-use Rattle.std.proofs.Common.{◌≡◌, ℕ, ◌≤◌, Bool, true, false, ◌||◌, cond, length, List, [], ◌∷◌, map, filter, Some, Ok, Err, refl, sym, ap, ◌∙◌, arith}
+use Rattle.std.proofs.Common.{◌≡◌, ◌≤◌, Bool, true, false, ◌||◌, cond, length, List, [], ◌∷◌, map, filter, Ok, Err, refl, ap, ◌∙◌, arith}
 use Rattle.std.specs.Prelude.{Result, OnErr}
-use Rattle.std.specs.List.{list_any, slice_get}
-use Rattle.std.proofs.lemmas.List.Folds.{list_any_at}
-use Rattle.std.proofs.lemmas.Option.{slice_get_within, get_or_from_slice_get}
+use Rattle.std.specs.List.{list_any}
 
 -- what is so in any case is so where there is an error
 pub on_err : {T E P : Type 0} (r : Result T E) → P → OnErr r P

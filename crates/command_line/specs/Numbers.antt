@@ -1,5 +1,5 @@
 -- Numbers in the words of a command line, with no sign and no zero in front.
-use Rattle.std.specs.Prelude.{◌≡◌, ◌==◌, ◌^◌, ◌+◌, ◌-◌, ◌&&◌, ℕ, Bool, true, false, nat_le, nat_lt, if◌then◌else◌, List, [], ◌∷◌, Option, Some, None, is_some, decimal, option_and_then}
+use Rattle.std.specs.Prelude.{◌≡◌, ◌==◌, ◌^◌, ◌+◌, ◌-◌, ◌&&◌, ℕ, Bool, true, nat_le, nat_lt, if◌then◌else◌, [], ◌∷◌, Option, Some, None, is_some, decimal, option_and_then}
 use Rattle.std.specs.Str.{bytes_eq}
 use Rattle.std.specs.Str.Parse.{digits_value}
 use Rattle.std.specs.List.{after_first, before_first}

@@ -1,5 +1,5 @@
 -- The moves without force, one after the other.
-use Rattle.std.proofs.Common.{◌≡◌, ℕ, ◌-◌, Bool, true, false, not, cond, ◌&&◌, ◌||◌, List, [], ◌∷◌, map, filter, take, bytes_eq, Some, Ok, Err, T, refl, sym, ap, subst, ◌∙◌, arith}
+use Rattle.std.proofs.Common.{◌≡◌, ℕ, Bool, true, false, not, cond, ◌&&◌, ◌||◌, List, [], ◌∷◌, map, filter, take, bytes_eq, Some, Ok, Err, T, refl, sym, ap, subst, ◌∙◌, arith}
 use Rattle.std.proofs.lemmas.Map.Text.{is_eq-slice_cmp}
 use Rattle.std.specs.Cmp.Lexicographic.{nat_list_cmp_total}
 use Rattle.std.specs.declared.cmp.Ordering.TheVariants.{Equal}

@@ -1,5 +1,5 @@
 -- The greatest term, who leads in it, and the numbers of the last lines.
-use Rattle.std.proofs.Common.{◌≡◌, ◌∙◌, ℕ, suc, ◌+◌, ◌<◌, ◌≤◌, ◌++◌, ◌∷◌, Bool, true, false, List, [], Option, Some, None, add-one, ap, ap₂, arith, count_by, fold, get_or, inl, inr, length, refl, slice_get, subst, sym, take, true≢false}
+use Rattle.std.proofs.Common.{◌≡◌, ◌∙◌, ℕ, ◌+◌, ◌<◌, ◌≤◌, ◌++◌, ◌∷◌, true, false, List, [], Option, Some, None, ap, ap₂, arith, count_by, fold, get_or, inl, inr, length, refl, slice_get, subst, sym, take}
 use Rattle.std.proofs.lemmas.List.{take_all, take_more}
 use Rattle.std.proofs.lemmas.List.Sums.{fold-append}
 use Rattle.std.proofs.lemmas.Option.{get_or_from_slice_get, slice_get_within}

@@ -1,5 +1,5 @@
 -- The live ones of a list.
-use Rattle.std.proofs.Common.{◌≡◌, ◌≢◌, ◌<◌, Bool, true, List, [], ◌∷◌, ◌++◌, length, filter, arith, ap, sym, ◌∙◌, cond, length-append}
+use Rattle.std.proofs.Common.{◌≡◌, ◌≢◌, Bool, true, List, [], ◌∷◌, ◌++◌, length, filter, arith, ap, sym, ◌∙◌, cond, length-append}
 
 some_in : {X : Type 0} (done rest : List X) (x : X) → done ++ x ∷ rest ≡ [] → ⊥
 some_in done rest x e = let n = ap length e in let m = length-append done (x ∷ rest) in absurd (omega (arith, n, m))

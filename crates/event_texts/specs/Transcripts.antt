@@ -27,6 +27,9 @@ pub record Recorded : Type 0 where
   pub nodes : List NodeSpec
   pub events : List Event
 
+abbrev pub recorded_of : ℕ → List NodeSpec → List Event → Recorded
+recorded_of servers nodes events = record { servers = servers; nodes = nodes; events = events }
+
 -- what a transcript's value records
 abbrev pub recorded : Transcript → Recorded
 recorded t = record { servers = t.servers; nodes = t.nodes.items; events = group_events t.events.items }

@@ -14,5 +14,5 @@ mod writing;
 
 pub use event::{read_beat, read_event};
 pub use reading::read;
-pub use transcript::{Transcript, append_events, append_node, append_servers};
+pub use transcript::{Transcript, write};
 pub use word::{read_number, read_server};

@@ -1,9 +1,10 @@
-//! Transcripts, and how their lines are written.
-ghost use Rattle.std.specs.Prelude.{◌≡◌, ◌++◌, ◌∷◌, [], OnOk, map};
+//! Transcripts, and how they are written.
+ghost use Rattle.std.specs.Prelude.{◌≡◌, ◌++◌, ◌∷◌, [], IfOk, OnOk, map};
 ghost use Rattle.std.specs.List.{AllByRecursion};
+ghost use Rattle.rows.specs.GroupSizes.{IsGroup};
 ghost use Rattle.group_inputs.specs.Events.{group_events};
 ghost use Rattle.event_texts.specs.EventLines.{HasLine, IsSayable, event_line};
-ghost use Rattle.event_texts.specs.Transcripts.{lines_text, node_line, servers_line};
+ghost use Rattle.event_texts.specs.Transcripts.{AreNumberedFrom, IsTranscript, lines_text, node_line, recorded_of};
 
 use crate::word::{append_next, append_size, append_text};
 use crate::writing::push_event;
@@ -22,18 +23,8 @@ pub struct Transcript {
     pub events: Vec<Event>,
 }
 
-/// Puts the line of a group's servers to the end, and a newline.
-pub fn append_servers(servers: usize, out: &mut Vec<u8>) -> Result<(), NoMemory>
-    ensures { OnOk result (out.new.items ≡ out.old.items ++ (servers_line servers ++ 10 ∷ [])) }
-{
-    append_text("servers", out)?;
-    append_next(b' ', servers as u64, out)?;
-    out.push(b'\n')?;
-    Ok(())
-}
-
-/// Puts the line of a node to the end, and a newline.
-pub fn append_node(node: &NodeSpec, out: &mut Vec<u8>) -> Result<(), NoMemory>
+// Puts the line of a node to the end, and a newline.
+fn append_node(node: &NodeSpec, out: &mut Vec<u8>) -> Result<(), NoMemory>
     ensures { OnOk result (out.new.items ≡ out.old.items ++ (node_line node.now ++ 10 ∷ [])) }
 {
     append_text("node", out)?;
@@ -45,9 +36,19 @@ pub fn append_node(node: &NodeSpec, out: &mut Vec<u8>) -> Result<(), NoMemory>
     Ok(())
 }
 
-/// Puts the lines of events to the end, each with a newline. Without memory a part of them may
-/// stand there.
-pub fn append_events(events: &[Event], out: &mut Vec<u8>) -> Result<(), NoMemory>
+// Puts the lines of nodes to the end.
+fn append_nodes(nodes: &[NodeSpec], out: &mut Vec<u8>) -> Result<(), NoMemory>
+    ensures { OnOk result (out.new.items
+        ≡ out.old.items ++ lines_text (map node_line nodes.now)) }
+{
+    for node in nodes {
+        append_node(node, out)?;
+    }
+    Ok(())
+}
+
+// Puts the lines of events to the end.
+fn append_events(events: &[Event], out: &mut Vec<u8>) -> Result<(), NoMemory>
     requires { AllByRecursion IsSayable (group_events events.now) }
     ensures have { OnOk result (AllByRecursion HasLine (group_events events.now)) }
     ensures text { OnOk result (out.new.items
@@ -58,4 +59,28 @@ pub fn append_events(events: &[Event], out: &mut Vec<u8>) -> Result<(), NoMemory
         out.push(b'\n')?;
     }
     Ok(())
+}
+
+/// The one text of a group's servers, of which there are 3 or 5, its clients' nodes, numbered from 1
+/// in their order, and its events, of which none is an arrival and none delivers a message with a
+/// number past 2^64 - 1.
+pub fn write(
+    alloc: Global,
+    servers: usize,
+    nodes: &[NodeSpec],
+    events: &[Event],
+) -> Result<Vec<u8>, NoMemory>
+    requires group { IsGroup servers }
+    requires numbered { AreNumberedFrom 1 nodes.now }
+    requires sayable { AllByRecursion IsSayable (group_events events.now) }
+    ensures { IfOk result (λ text. IsTranscript
+        (recorded_of servers nodes.now (group_events events.now)) text.items) }
+{
+    let mut text = Vec::new(alloc);
+    append_text("servers", &mut text)?;
+    append_next(b' ', servers as u64, &mut text)?;
+    text.push(b'\n')?;
+    append_nodes(nodes, &mut text)?;
+    append_events(events, &mut text)?;
+    Ok(text)
 }

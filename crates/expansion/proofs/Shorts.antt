@@ -1,18 +1,17 @@
 -- What the values among the steps of a scenario in short form come to.
-use Rattle.std.proofs.Common.{◌≡◌, ◌≢◌, ◌∙◌, ◌+◌, ◌-◌, ◌<◌, ◌≤◌, ◌^◌, ◌⊎◌, ◌++◌, ◌∷◌, ℕ, zero, suc, List, [], Option, None, Some, ap, ap₂, append_assoc, arith, codes, decimal, get_or, inl, inr, length, length-append, map, refl, sym, take}
-use Rattle.std.proofs.lemmas.List.{append-nil, append_cancel_left, get_or-map, length-map, length-take-le, map-append, take-map, take_all, take_more}
+use Rattle.std.proofs.Common.{◌≡◌, ◌≢◌, ◌∙◌, ◌+◌, ◌-◌, ◌<◌, ◌≤◌, ◌++◌, ◌∷◌, ℕ, zero, suc, List, [], None, Some, ap, ap₂, append_assoc, arith, codes, decimal, get_or, inl, inr, length, length-append, map, refl, sym, take}
+use Rattle.std.proofs.lemmas.List.{append-nil, append_cancel_left, get_or-map, length-map, length-take-le, map-append, take-map, take_more}
 use Rattle.std.proofs.lemmas.Fmt.{decimal_injective}
 use Rattle.std.specs.List.{repeat}
 use Rattle.serde_json.specs.Data.{Data, Items, null, boolean, number, string, array, object}
 use Rattle.serde_json.specs.Find.{as_str}
 use Rattle.serde_json.specs.View.{items_of, view}
 use Rattle.serde_json.specs.declared.value.Value.{Value}
-use Rattle.scenario_file.specs.Objects.{list_at}
 use Rattle.scenario_file.proofs.Objects.{same_items}
 use Rattle.expansion.specs.declared.short.ShortStep.{ShortStep}
 use Rattle.expansion.specs.EachInTurn.{OfEach}
 use Rattle.expansion.specs.ShortSteps.{Short, AsItStands, Settles, short_step}
-use Rattle.expansion.specs.Shorts.{AreFew, AreSteps, ComesTo, IsOneStep, IsRepeat, IsRepeated, IsShortLine}
+use Rattle.expansion.specs.Shorts.{AreFew, AreSteps, ComesTo, IsOneStep, IsRepeat, IsShortLine}
 use Rattle.expansion.proofs.EachInTurn.{no_less_of_each, of_one, of_one_more, same_of_each}
 
 -- ---- one value

@@ -1,5 +1,5 @@
 -- Lines that a group takes, one behind the other.
-use Rattle.std.proofs.Common.{◌≡◌, ◌∙◌, ◌≤◌, ◌++◌, ◌∷◌, ℕ, List, [], OnOk, Result, Ok, Err, String, ap, append_assoc, arith, length, map, refl, rules, string_bytes, subst, sym, take}
+use Rattle.std.proofs.Common.{◌≡◌, ◌∙◌, ◌++◌, ◌∷◌, ℕ, List, [], OnOk, Result, Ok, Err, String, ap, append_assoc, arith, length, map, refl, string_bytes, sym, take}
 use Rattle.std.proofs.lemmas.List.{append-nil, length-map, map-append, take-append-le, take-map, take_all}
 use Rattle.std.specs.declared.alloc.Global.{Global}
 use Rattle.rows.specs.declared.node.NodeSpec.{NodeSpec}

@@ -1,5 +1,5 @@
 -- Which text is a scenario in short form.
-use Rattle.std.specs.Prelude.{◌≡◌, ◌⊎◌, ◌<◌, ◌≤◌, ◌^◌, ◌++◌, ℕ, zero, suc, List, [], ◌∷◌, Option, None, Some, codes, decimal, length, map}
+use Rattle.std.specs.Prelude.{◌≡◌, ◌⊎◌, ◌<◌, ◌≤◌, ◌^◌, ◌++◌, ℕ, zero, suc, List, [], ◌∷◌, None, Some, codes, decimal, length, map}
 use Rattle.std.specs.List.{repeat}
 use Rattle.serde_json.specs.Data.{Data, Items, string}
 use Rattle.serde_json.specs.Read.{read}

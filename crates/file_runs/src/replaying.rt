@@ -1,5 +1,5 @@
 //! A transcript's file, played again.
-ghost use Rattle.std.specs.Prelude.{◌≡◌, ◌≢◌, ◌≤◌, ◌⊎◌, ◌∷◌, ◌++◌, ◌==◌, ℕ, IfErr, IfOk, IsUtf8, List, OnOk, length, map};
+ghost use Rattle.std.specs.Prelude.{◌≡◌, ◌≤◌, ◌⊎◌, ◌∷◌, ◌++◌, ◌==◌, ℕ, IfErr, IfOk, IsUtf8, List, length, map};
 ghost use Rattle.std.specs.List.{AllByRecursion, position};
 ghost use Rattle.event_texts.specs.EventLines.{HasLine, event_line};
 ghost use Rattle.event_texts.specs.Inner.Printable.{IsPrintable};
@@ -7,7 +7,7 @@ ghost use Rattle.event_texts.specs.Transcripts.{IsTranscript, Recorded, lines_te
 ghost use Rattle.group_inputs.specs.Events.{group_events};
 ghost use Rattle.world.specs.GroupSteps.{IsNewGroup};
 ghost use Rattle.file_runs.specs.declared.fault.Fault.TheVariants as faults;
-ghost use Rattle.file_runs.specs.Faults.{IsOfRun, IsPastReading, MayStopPrinting, MayStopTranscript};
+ghost use Rattle.file_runs.specs.Faults.{IsOfRun, IsPastReading, MayStopTranscript};
 ghost use Rattle.file_runs.specs.Inner.Replayed.{TellsEvents};
 ghost use Rattle.file_runs.specs.Replays.{TellsReplay};
 

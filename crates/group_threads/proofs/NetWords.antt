@@ -1,5 +1,5 @@
 -- How often a message is put, where a word decides and where none does.
-use Rattle.std.proofs.Common.{◌≡◌, ◌%◌, ℕ, refl, sym, arith}
+use Rattle.std.proofs.Common.{◌≡◌, ℕ, arith}
 use Rattle.std.specs.Prelude.{Option}
 use Rattle.lossy_net.specs.declared.message_fate.MessageFate.{MessageFate}
 use Rattle.lossy_net.specs.declared.message_fate.MessageFate.TheVariants as fates

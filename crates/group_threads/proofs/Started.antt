@@ -26,9 +26,9 @@ use Rattle.workers.specs.declared.server_workers.TakenWork.{TakenWork}
 use Rattle.workers.specs.PlanCounts.{WorkersView, plans_under}
 use Rattle.workers.specs.Working.{HandledAs}
 use Rattle.cells.specs.Cells.{CellView, EnvelopeView, IsLedCell}
-use Rattle.cells.specs.Turns.{CellHasState, CellRefuses, TookTurn, WhyNoTurn, own_envelope}
+use Rattle.cells.specs.Turns.{CellHasState, TookTurn, WhyNoTurn, own_envelope}
 use Rattle.group_threads.specs.Running.{TookInput, WhyNotRunning}
-use Rattle.group_threads.specs.WorkerTurns.{AsksWith, CellIsBehind, IsBehind, IsTakenUp, RefusesAsked, RestsWith, StepsTo, TookAsked, TookAsking, WentSo, WhyNoState, WhyNoWorkerTurn, WhyNotAsked, least_index}
+use Rattle.group_threads.specs.WorkerTurns.{AsksWith, CellIsBehind, IsBehind, IsTakenUp, RestsWith, StepsTo, TookAsked, TookAsking, WentSo, WhyNoWorkerTurn, WhyNotAsked, least_index}
 use Rattle.group_threads.specs.Inner.Asked.{IsHandled, IsOwn, StepsAs, TookOwn, WhyNoStep, WhyNotOwn}
 
 or_here : (b c : Bool) → b ≡ true → (b || c) ≡ true

@@ -1,5 +1,5 @@
 -- Where the definition finds room, and for what of a group it finds none.
-use Rattle.std.proofs.Common.{◌≡◌, ◌∙◌, ◌<◌, ◌+◌, ◌↔◌, ◌&&◌, ℕ, suc, Bool, true, false, not, cond, List, [], ◌∷◌, ◌++◌, map, refl, sym, ap, arith, true≢false}
+use Rattle.std.proofs.Common.{◌≡◌, ◌∙◌, ◌<◌, ◌+◌, ◌↔◌, ◌&&◌, ℕ, Bool, true, false, not, cond, List, [], ◌∷◌, ◌++◌, map, refl, sym, ap, arith, true≢false}
 use Rattle.std.specs.Prelude.{nat_eq, nat_le, nat_lt, bytes_eq}
 use Rattle.std.specs.List.{AllZip, count_by, list_all}
 use Rattle.std.proofs.lemmas.List.Sums.{sum_by-cons}

@@ -1,5 +1,5 @@
 //! How many of a group's allocations are missing.
-ghost use Rattle.std.specs.Prelude.{◌≡◌, ◌≤◌, ℕ, filter, length};
+ghost use Rattle.std.specs.Prelude.{◌≡◌, ℕ, filter, length};
 ghost use Rattle.group_model.specs.Scheduling.{is_current, is_missing, names_from};
 
 use fsm_state::Cluster;

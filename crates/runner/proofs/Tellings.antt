@@ -1,6 +1,5 @@
 -- What is told of a run as a whole.
 use Rattle.std.proofs.Common.{◌≡◌, ◌⊎◌, ◌∙◌, ◌≤◌, ℕ, List, Option, IfSome, OnOk, Result, Ok, Err, arith, inl, inr, length, subst}
-use Rattle.std.proofs.lemmas.Option.{IfSome_then}
 use Rattle.clap.specs.Words.{IsAmong, Kinds}
 use Rattle.rows.specs.declared.actor.Actor.{Actor}
 use Rattle.rows.specs.declared.node.NodeSpec.{NodeSpec}

@@ -1,5 +1,5 @@
 //! A transcript's file, told event by event, or how its group stands after some of them.
-ghost use Rattle.std.specs.Prelude.{◌≡◌, ◌≢◌, ◌≤◌, ◌⊎◌, IfErr, IfNone, IfOk, IfSome, OnOk, length, option_map};
+ghost use Rattle.std.specs.Prelude.{◌≡◌, ◌≢◌, ◌⊎◌, IfErr, IfOk, IfSome, OnOk, length, option_map};
 ghost use Rattle.inspection.specs.Told.{GrowsByEventLines, GrowsByLines};
 ghost use Rattle.inspection.specs.declared.fault.InspectError.TheVariants as errors;
 ghost use Rattle.file_runs.specs.declared.fault.Fault.TheVariants as faults;

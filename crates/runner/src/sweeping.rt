@@ -1,7 +1,6 @@
 //! A scenario's file, played under many keys.
-ghost use Rattle.std.specs.Prelude.{◌≡◌, ◌≤◌, ◌⊎◌, IfErr, IfNone, IfOk, IfSome, OnOk, string_bytes};
+ghost use Rattle.std.specs.Prelude.{◌≡◌, ◌≤◌, ◌⊎◌, IfErr, IfNone, IfOk, IfSome, OnOk};
 ghost use Rattle.std.specs.Io.KnownBytes.{Appends};
-ghost use Rattle.scenario_file.specs.Complaints.{IsGood};
 ghost use Rattle.sweep.specs.Rows.{AreRows};
 ghost use Rattle.runner.specs.Told.{IsUnder, ShowsRows, TellsSweep, settings_under};
 ghost use Rattle.file_runs.specs.Faults.{IsOfRun, IsPastReading, MayStopPrinting};

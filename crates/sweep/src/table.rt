@@ -1,7 +1,6 @@
 //! What runs come to, as text.
 ghost use Rattle.std.specs.Prelude.{◌≡◌, ◌++◌, IfOk, OnOk, string_bytes};
-ghost use Rattle.std.specs.List.{flat_map};
-ghost use Rattle.sweep.specs.Tables.{back_text, counts_text, csv_head, csv_line, csv_text, front_text, spread_line, spreads_text, summary_text};
+ghost use Rattle.sweep.specs.Tables.{back_text, counts_text, csv_line, csv_text, front_text, spread_line, spreads_text, summary_text};
 
 use crate::row::Row;
 use crate::spread::Spread;

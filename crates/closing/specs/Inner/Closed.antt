@@ -7,12 +7,10 @@ use Rattle.group_model.specs.Worlds.{Event}
 use Rattle.event_book.specs.declared.view.Note.{Note}
 use Rattle.event_book.specs.Seats.{IsWhole, are_apart, lists_actor}
 use Rattle.cells.specs.declared.own_input.OwnInput.{OwnInput}
-use Rattle.actor.specs.declared.group_actor.GroupActor.{GroupActor}
 use Rattle.closing.specs.declared.closing.NamedActor.{NamedActor}
 use Rattle.cells.specs.declared.rest.Rest.{Rest}
 use Rattle.cells.specs.Actors.{group_size}
-use Rattle.cells.specs.declared.cell.StampedEvent.{StampedEvent}
-use Rattle.cells.specs.Cells.{CellView, kept_in, IsOpenedCell}
+use Rattle.cells.specs.Cells.{CellView, IsOpenedCell}
 use Rattle.cells.specs.Groups.{cell_actors, seat_in}
 use Rattle.closing.specs.Closing.{noted_events}
 

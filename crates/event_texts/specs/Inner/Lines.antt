@@ -1,5 +1,5 @@
 -- Lines of events in the words of private contracts.
-use Rattle.std.specs.Prelude.{◌≡◌, ◌<◌, ◌^◌, ℕ, suc, List, [], ◌∷◌, codes, drop, get_or}
+use Rattle.std.specs.Prelude.{◌≡◌, ℕ, List, [], ◌∷◌, codes, drop, get_or}
 use Rattle.std.specs.List.{join_with_byte}
 use Rattle.group_inputs.specs.Handings.{handing}
 use Rattle.group_model.specs.Inputs as inputs

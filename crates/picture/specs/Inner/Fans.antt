@@ -1,5 +1,5 @@
 -- The lost messages of one event, on each side of its actor.
-use Rattle.std.specs.Prelude.{ℕ, ◌+◌, Bool, true, false, nat_eq, if◌then◌else◌}
+use Rattle.std.specs.Prelude.{ℕ, ◌+◌, nat_eq, if◌then◌else◌}
 use Rattle.picture.specs.declared.layout.Fan.{Fan}
 use Rattle.picture.specs.declared.layout.Side.{Side}
 use Rattle.picture.specs.declared.layout.Side.TheVariants.{Left, Right}

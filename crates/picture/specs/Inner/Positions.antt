@@ -1,6 +1,6 @@
 -- Where things stand, in pixels from the upper left corner. A number that passes the greatest of 64
 -- bits is that one.
-use Rattle.std.specs.Prelude.{ℕ, ◌+◌, ◌-◌, ◌*◌, ◌/◌, ◌^◌, ◌%◌, max, min, Bool, ◌&&◌, nat_eq, nat_lt, if◌then◌else◌, Option, Some, None, slice_get}
+use Rattle.std.specs.Prelude.{ℕ, ◌+◌, ◌-◌, ◌*◌, ◌/◌, ◌^◌, ◌%◌, max, min, Bool, ◌&&◌, nat_eq, nat_lt, if◌then◌else◌, Option, Some, slice_get}
 use Rattle.std.specs.Option.{unwrap_or}
 use Rattle.picture.specs.declared.layout.Point.{Point}
 use Rattle.picture.specs.declared.layout.Side.{Side}

@@ -1,5 +1,5 @@
-use Rattle.std.proofs.Common.{◌∙◌, rules, sym}
-use Rattle.ending.proofs.Leading.{leader_leads, other_leads_not}
+use Rattle.std.proofs.Common.{rules}
+use Rattle.ending.proofs.Leading.{other_leads_not}
 use Rattle.ending.proofs.numbers.leads_in.Goals as goal
 
 pub returns-in_default : goal.returns-in_default

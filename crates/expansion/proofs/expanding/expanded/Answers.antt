@@ -1,6 +1,5 @@
-use Rattle.std.proofs.Common.{◌≡◌, ◌∙◌, ◌+◌, ◌<◌, ◌≤◌, ◌++◌, ◌∷◌, [], ap, length, map, refl, rules, string_bytes, sym, take}
-use Rattle.std.proofs.lemmas.List.{map-append, take_all, take_more}
-use Rattle.expansion.specs.EachInTurn.{OfEach}
+use Rattle.std.proofs.Common.{◌≡◌, ◌∙◌, ◌+◌, ◌<◌, ◌++◌, ◌∷◌, [], ap, length, map, rules, string_bytes, sym, take}
+use Rattle.std.proofs.lemmas.List.{map-append, take_more}
 use Rattle.expansion.specs.Expanded.{LinesOf}
 use Rattle.expansion.specs.ShortSteps.{short_step}
 use Rattle.expansion.proofs.EachInTurn.{of_one_more}

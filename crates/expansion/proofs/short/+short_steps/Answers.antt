@@ -1,11 +1,11 @@
-use Rattle.std.proofs.Common.{◌≡◌, ◌≢◌, ◌+◌, ◌-◌, ◌<◌, ◌≤◌, ◌∷◌, [], Err, arith, inl, inr, length, map, refl, rules}
+use Rattle.std.proofs.Common.{◌≡◌, ◌≢◌, ◌-◌, ◌<◌, ◌≤◌, ◌∷◌, [], Err, arith, inl, inr, length, map, refl, rules}
 use Rattle.std.specs.List.{repeat}
 use Rattle.std.proofs.lemmas.List.{length-map}
 use Rattle.serde_json.specs.View.{items_view, view}
 use Rattle.expansion.specs.declared.short.Part.TheVariants.{Step, Repeat}
 use Rattle.expansion.specs.Inner.Parts.{IsPartOf}
 use Rattle.expansion.specs.ShortSteps.{short_step}
-use Rattle.expansion.specs.Shorts.{AreSteps, ComesTo, IsRepeat}
+use Rattle.expansion.specs.Shorts.{AreSteps}
 use Rattle.expansion.proofs.Shorts.{few_of, line_comes, list_comes, next_comes, none_at, none_deeper, repeat_comes, too_many}
 use Rattle.expansion.proofs.short.+short_steps.Goals as goal
 use Rattle.expansion.proofs.short.+short_steps.Goals.{in-Step+in_ok-put_one-in-Step, in-Repeat+else-depth-eq0+in_ok-own-in-Repeat+in_ok-put_repeated-in-Repeat}

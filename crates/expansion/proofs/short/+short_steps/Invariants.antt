@@ -1,4 +1,4 @@
-use Rattle.std.proofs.Common.{length, map, take}
+use Rattle.std.proofs.Common.{map, take}
 use Rattle.serde_json.specs.View.{view}
 use Rattle.expansion.specs.ShortSteps.{short_step}
 use Rattle.expansion.specs.Shorts.{AreSteps}

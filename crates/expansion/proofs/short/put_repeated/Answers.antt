@@ -1,4 +1,4 @@
-use Rattle.std.proofs.Common.{◌≡◌, ◌∙◌, ◌+◌, ◌<◌, ◌≤◌, ◌++◌, [], Err, ap, arith, inl, inr, length, map, rules, sym}
+use Rattle.std.proofs.Common.{◌≡◌, ◌∙◌, ◌<◌, ◌++◌, [], Err, ap, arith, inl, inr, length, map, rules, sym}
 use Rattle.std.specs.List.{repeat}
 use Rattle.std.proofs.lemmas.List.{append-nil, length-map}
 use Rattle.expansion.specs.ShortSteps.{short_step}

@@ -1,4 +1,4 @@
-use Rattle.std.proofs.Common.{◌≡◌, ◌++◌, ◌∷◌, [], List, map, ap, sym, ◌∙◌, append_assoc}
+use Rattle.std.proofs.Common.{◌++◌, ◌∷◌, [], List, map, ap, sym, ◌∙◌, append_assoc}
 use Rattle.rows.specs.declared.node.Node.{Node}
 use Rattle.fsm_tables.specs.Claims.{claims}
 use Rattle.fsm_tables.specs.Runs.{rows_left}

@@ -1,5 +1,4 @@
 use Rattle.std.proofs.Common.{◌≡◌, length, rules}
-use Rattle.expansion.specs.Inner.Taking.{TakesBack}
 use Rattle.expansion.proofs.Taking.{none_left, some_and_some}
 use Rattle.expansion.proofs.expanding.Taken.attempt.Goals as goal
 

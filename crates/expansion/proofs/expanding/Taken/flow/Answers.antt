@@ -1,4 +1,3 @@
-use Rattle.std.proofs.Common.{refl}
 use Rattle.expansion.proofs.Taking.{and_so, none_more}
 use Rattle.expansion.proofs.expanding.Taken.flow.Goals as goal
 

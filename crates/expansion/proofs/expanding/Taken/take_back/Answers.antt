@@ -1,4 +1,4 @@
-use Rattle.std.proofs.Common.{◌≡◌, ◌<◌, ◌≤◌, ap, arith, length, map, refl, rules, string_bytes, sym, take, ◌∙◌}
+use Rattle.std.proofs.Common.{◌≡◌, ◌≤◌, ap, arith, length, map, refl, rules, string_bytes, sym, take, ◌∙◌}
 use Rattle.std.proofs.lemmas.List.{length-take-le, take_all}
 use Rattle.expansion.proofs.Taking.{all_taken}
 use Rattle.expansion.proofs.expanding.Taken.take_back.Goals as goal

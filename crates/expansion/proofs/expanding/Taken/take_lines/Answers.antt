@@ -1,4 +1,3 @@
-use Rattle.std.proofs.Common.{◌∷◌, [], string_bytes}
 use Rattle.expansion.proofs.Taking.{none_more, some_and_more}
 use Rattle.expansion.proofs.expanding.Taken.take_lines.Goals as goal
 

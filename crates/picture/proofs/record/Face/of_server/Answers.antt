@@ -1,4 +1,4 @@
-use Rattle.std.proofs.Common.{refl, arith}
+use Rattle.std.proofs.Common.{arith}
 use Rattle.world.proofs.Sleeping.{awake_role}
 use Rattle.picture.proofs.record.Face.of_server.Goals as goal
 
