@@ -1,4 +1,4 @@
-use Rattle.std.proofs.Common.{◌≡◌, ◌<◌, ◌≤◌, ◌++◌, Err, ap₂, arith, inl, inr, length, length-append, map, rules, string_bytes, subst, take, ◌∙◌}
+use Rattle.std.proofs.Common.{◌≡◌, ◌+◌, ◌<◌, ◌≤◌, ◌++◌, Err, ap₂, arith, inl, inr, length, length-append, map, rules, string_bytes, subst, take, ◌∙◌}
 use Rattle.std.proofs.lemmas.List.{take_all}
 use Rattle.playing.specs.Played.{LinesPlayed, refused_as}
 use Rattle.playing.specs.PlaySteps.{StepRefused, StepTaken}
