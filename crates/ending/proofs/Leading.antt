@@ -27,12 +27,6 @@ use Rattle.ending.proofs.Finding.{one_more}
 
 -- ---- who leads
 
-pub leader_leads : (mode : Mode) → Some roles.Leader ≡ role_of mode → is_leader mode ≡ true
-leader_leads Down is = absurd (cc)
-leader_leads Follower is = absurd (cc)
-leader_leads (Candidate votes) is = absurd (cc)
-leader_leads (Leader next match) is = refl
-
 pub other_leads_not : (mode : Mode) (role : Option Role) → role ≡ role_of mode → (role ≡ Some roles.Leader → ⊥) → is_leader mode ≡ false
 other_leads_not Down role is other = refl
 other_leads_not Follower role is other = refl
