@@ -1,6 +1,8 @@
-//! What callers of a group know by its contracts; and tests of messages and of single servers.
+//! Tests of messages, single actors, a bank, cells and threads; and what callers of a group know by
+//! its contracts. No other crate stands on these, so they are proved with the tests alone.
 #![tactic(auto)]
 
-pub mod claims;
+#[cfg(test)]
+mod claims;
 #[cfg(test)]
 mod tests;

@@ -1,5 +1,6 @@
 //! The files that lie where the program runs.
-use starved_group::{Stop, read_row, unread};
+use crate::row::read_row;
+use crate::stop::{Stop, unread};
 use std::fs;
 use std::rt::Files;
 use transcript::Transcript;

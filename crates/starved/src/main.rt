@@ -4,13 +4,20 @@
 
 mod files;
 mod folder;
+mod group;
+mod row;
 mod said;
+mod shown;
+mod stop;
+mod turns;
 
-use starved_group::{Stop, play_group, play_turns, unread};
+use group::play_group;
 use std::env;
 use std::process::ExitCode;
 use std::sync::Wait;
 use std::thread::Threads;
+use stop::{Stop, unread};
+use turns::play_turns;
 
 /// What is played: the row's events come to a group, or to its cells, or the program plays it.
 #[derive(Clone, Copy, Debug, PartialEq, Eq)]

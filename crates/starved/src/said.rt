@@ -1,8 +1,9 @@
 //! The program plays the row, in each of its ways, and what it answers and says is judged.
 use crate::files::file;
 use crate::folder::{Folder, Output};
+use crate::row::TRIES;
+use crate::stop::Stop;
 use runner::{Unseen, nomadsim};
-use starved_group::{Stop, TRIES};
 use std::alloc::Global;
 use std::sync::Wait;
 use std::thread::Threads;

@@ -5,7 +5,7 @@ use std::io::{self, ErrorKind};
 
 /// Why a part ends before its end: there is nothing more to judge, or something is wrong.
 #[derive(Clone, Copy, Debug, PartialEq, Eq)]
-pub enum Stop {
+pub(crate) enum Stop {
     /// Memory was refused to what judges, or to the run that it compares with.
     NoMemory,
     /// A word is no part's name, or a file is missing, or is not what it is to be.
@@ -57,7 +57,7 @@ pub(crate) fn unmade(refusal: Refusal) -> Stop {
 }
 
 /// Why words or a file are not read.
-pub fn unread(error: &io::Error) -> Stop {
+pub(crate) fn unread(error: &io::Error) -> Stop {
     match error.kind() {
         ErrorKind::OutOfMemory => Stop::NoMemory,
         _ => Stop::Unread,

@@ -209,7 +209,7 @@ impl Group<'_> {
 }
 
 /// The row's events come to a group; `at` counts those that came.
-pub fn play_group(alloc: Global, row: &Transcript, at: &mut usize) -> Result<(), Stop> {
+pub(crate) fn play_group(alloc: Global, row: &Transcript, at: &mut usize) -> Result<(), Stop> {
     let world = match World::new(alloc, row.servers, &row.nodes) {
         Ok(world) => world,
         Err(refusal) => return Err(unmade(refusal)),

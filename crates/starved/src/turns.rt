@@ -286,7 +286,7 @@ fn play_cells<B: BookId, R: Wait>(
 }
 
 /// The row's events come to a group's cells; `at` counts those that came.
-pub fn play_turns<R: Wait>(
+pub(crate) fn play_turns<R: Wait>(
     rt: &R,
     alloc: Global,
     row: &Transcript,

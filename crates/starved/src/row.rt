@@ -6,7 +6,7 @@ use std::alloc::Global;
 use transcript::{Transcript, read};
 
 /// The row's events, of the text of a transcript.
-pub fn read_row(alloc: Global, text: &[u8]) -> Result<Transcript, Stop> {
+pub(crate) fn read_row(alloc: Global, text: &[u8]) -> Result<Transcript, Stop> {
     match read(alloc, text) {
         Ok(row) => Ok(row),
         Err(Refusal::NoMemory) => Err(Stop::NoMemory),
@@ -26,7 +26,7 @@ pub(crate) enum Next {
 }
 
 /// How often something that finds no memory is tried anew.
-pub const TRIES: usize = 4;
+pub(crate) const TRIES: usize = 4;
 
 /// An actor starts again.
 pub(crate) fn restart(alloc: Global, actor: &Actor) -> Result<Event, NoMemory> {
