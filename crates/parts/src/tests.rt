@@ -14,6 +14,7 @@ mod lines;
 mod logs;
 mod nets;
 mod plan_checks;
+mod service_frames;
 mod services;
 mod state_texts;
 mod states;

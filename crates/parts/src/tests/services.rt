@@ -1,6 +1,11 @@
 //! Messages of workers, the leader's desk and agents: the bytes of a value of each kind, put
 //! together by hand from the format, and where other bytes are at fault.
 use crate::tests::lines::put_many;
+use crate::tests::service_frames::{
+    BLOCKED, COMPLETE, DELIVERED, EACH, HEARTBEAT, LIST, LONGEST, MOST_LISTED, NACK, NONE_LISTED,
+    NOTHING, PULL, REGISTER, REPORT, REPORT_REFUSED, RESULT, SUBMIT, SUBMIT_REFUSED, TAKE,
+    TAKE_REFUSED, TAKEN, UNKNOWN_LISTED,
+};
 use crate::tests::texts::NONE;
 use machine::Tally;
 use rows::{
@@ -11,9 +16,6 @@ use rows::{
 };
 use std::alloc::Global;
 use wire::{Body, Kind, Message, read_message, write_message};
-
-/// The version that frames have, and their first byte.
-const V: u8 = 3;
 
 /// What is no fault of the bytes: memory was wanting, or the message that is read is written
 /// otherwise.
@@ -42,115 +44,6 @@ enum Of {
     Taken,
     ReportRefused,
 }
-
-const TAKE: &[u8] = &[V, 7, 1, 1, 0, 0, 0, 0];
-
-const DELIVERED: &[u8] = &[
-    V, 8, 1, 2, 0, 0, 0, 35, 1, //
-    0, 0, 0, 0, 0, 0, 0, 4, 0, 0, //
-    0, 0, 0, 0, 0, 0, 0, 1, 0, 0, 0, 0, 0, 0, 0, 1, //
-    0, 0, 0, 0, 0, 0, 0, 4,
-];
-
-const NOTHING: &[u8] = &[V, 8, 2, 2, 0, 0, 0, 1, 0];
-
-const SUBMIT: &[u8] = &[
-    V, 9, 2, 1, 0, 0, 0, 61, //
-    0, 0, 0, 0, 0, 0, 0, 4, 0, 1, //
-    0, 0, 0, 0, 0, 0, 0, 1, 0, 0, 0, 0, 0, 0, 0, 3, //
-    3, 119, 101, 98, //
-    0, 0, 0, 0, 0, 0, 0, 2, 0, 0, 0, 0, 0, 0, 0, 5, //
-    1, 0, 0, 0, 0, 0, 0, 0, 3, 2, //
-    1, 1, 97, 0, 7,
-];
-
-const RESULT: &[u8] = &[
-    V, 10, 1, 2, 0, 0, 0, 38, //
-    0, 0, 0, 0, 0, 0, 0, 4, 0, 1, //
-    0, 0, 0, 0, 0, 0, 0, 1, 0, 0, 0, 0, 0, 0, 0, 3, //
-    0, 0, 0, 0, 0, 0, 0, 9, 64, 2, 3, 64,
-];
-
-const BLOCKED: &[u8] = &[
-    V, 11, 2, 1, 0, 0, 0, 35, //
-    0, 0, 0, 0, 0, 0, 0, 4, 0, 1, //
-    0, 0, 0, 0, 0, 0, 0, 1, 0, 0, 0, 0, 0, 0, 0, 3, //
-    1, 0, 0, 0, 0, 0, 0, 0, 5,
-];
-
-const COMPLETE: &[u8] = &[
-    V, 11, 2, 1, 0, 0, 0, 35, //
-    0, 0, 0, 0, 0, 0, 0, 4, 0, 1, //
-    0, 0, 0, 0, 0, 0, 0, 1, 0, 0, 0, 0, 0, 0, 0, 3, //
-    2, 0, 0, 0, 0, 0, 0, 0, 0,
-];
-
-const NACK: &[u8] = &[
-    V, 12, 2, 1, 0, 0, 0, 26, //
-    0, 0, 0, 0, 0, 0, 0, 4, 0, 1, //
-    0, 0, 0, 0, 0, 0, 0, 1, 0, 0, 0, 0, 0, 0, 0, 3,
-];
-
-const TAKE_REFUSED: &[u8] = &[V, 13, 1, 2, 0, 0, 0, 4, 7, 0, 2, 3];
-
-const SUBMIT_REFUSED: &[u8] = &[
-    V, 13, 1, 2, 0, 0, 0, 30, 9, 1, //
-    0, 0, 0, 0, 0, 0, 0, 4, 0, 1, //
-    0, 0, 0, 0, 0, 0, 0, 1, 0, 0, 0, 0, 0, 0, 0, 3, //
-    5, 0,
-];
-
-const REGISTER: &[u8] = &[
-    V, 14, 129, 1, 0, 0, 0, 18, //
-    5, 108, 105, 110, 117, 120, 0, 0, 3, 232, 0, 0, 3, 232, 0, 0, 0, 5,
-];
-
-const HEARTBEAT: &[u8] = &[V, 15, 129, 1, 0, 0, 0, 0];
-
-const PULL: &[u8] = &[V, 16, 192, 5, 0, 0, 0, 0];
-
-// 8.0 of 600, 300 and disk 0 is pending, 8.63 of 1 and twice 1,000,000 runs.
-const LIST: &[u8] = &[
-    V, 17, 1, 129, 0, 0, 0, 56, //
-    0, 0, 0, 0, 0, 0, 0, 9, 0, 0, 0, 2, //
-    0, 0, 0, 0, 0, 0, 0, 8, 0, 0, 0, 2, 88, 0, 0, 1, 44, 0, 0, 0, 0, 0, //
-    0, 0, 0, 0, 0, 0, 0, 8, 63, 0, 0, 0, 1, 0, 15, 66, 64, 0, 15, 66, 64, 1,
-];
-
-const NONE_LISTED: &[u8] = &[
-    V, 17, 5, 192, 0, 0, 0, 12, 0, 0, 0, 0, 0, 0, 0, 0, 0, 0, 0, 0,
-];
-
-// 8.1 of 600, 300 and disk 0 is unknown.
-const UNKNOWN_LISTED: &[u8] = &[
-    V, 17, 1, 129, 0, 0, 0, 34, 0, 0, 0, 0, 0, 0, 0, 9, 0, 0, 0, 1, //
-    0, 0, 0, 0, 0, 0, 0, 8, 1, 0, 0, 2, 88, 0, 0, 1, 44, 0, 0, 0, 0, 2,
-];
-
-// So many are said to be listed as are allowed, and none is there.
-const MOST_LISTED: &[u8] = &[
-    V, 17, 1, 129, 0, 0, 0, 12, 0, 0, 0, 0, 0, 0, 0, 0, 0, 1, 0, 0,
-];
-
-// The front of the frame of a list of 65,536 allocations, in the state of index 1,024; and what
-// stands behind the id of each: 600, 300, disk 7, and that it runs.
-const LONGEST: &[u8] = &[
-    V, 17, 1, 129, 0, 22, 0, 12, 0, 0, 0, 0, 0, 0, 4, 0, 0, 1, 0, 0,
-];
-
-const EACH: &[u8] = &[0, 0, 2, 88, 0, 0, 1, 44, 0, 0, 0, 7, 1];
-
-// 8.1 completed, 8.63 failed, 8.1 runs: in any order, and also twice.
-const REPORT: &[u8] = &[
-    V, 18, 129, 1, 0, 0, 0, 31, 3, //
-    0, 0, 0, 0, 0, 0, 0, 8, 1, 2, //
-    0, 0, 0, 0, 0, 0, 0, 8, 63, 3, //
-    0, 0, 0, 0, 0, 0, 0, 8, 1, 1,
-];
-
-const TAKEN: &[u8] = &[V, 19, 1, 129, 0, 0, 0, 3, 14, 0, 0];
-
-const REPORT_REFUSED: &[u8] = &[V, 19, 5, 192, 0, 0, 0, 3, 18, 2, 0];
 
 /// A message, its kind, its frame, and where the fields of its body begin.
 type Row = (Of, Kind, &'static [u8], &'static [usize]);
