@@ -1,32 +1,66 @@
-//! Plays scenario files and command lines by the program's own call, and says what comes of each.
-//! What has to come of it stands in `stdout`, and of each scenario beside its file.
+//! Plays scenario files and command lines by the program's own call, and groups, lists of events,
+//! lines, frames and stored texts by the calls of the libraries, and says what comes of each. What
+//! has to come of it stands in `stdout`, and of each scenario beside its file.
 #![tactic(auto)]
 
+mod apart;
+mod crashes;
 mod folder;
+mod frames;
+mod group;
+mod lines;
+mod looks;
+mod old;
+mod requests;
 mod said;
+mod samples;
+mod snapshots;
+mod stored;
 mod threads;
 
 use std::{env, io};
 
-fn main(rt: HostRuntime) -> io::Result<()> {
-    let names: Vec<String> = env::args(&rt)?.skip(1).collect(rt.alloc())?;
+// The program, and the scenarios that its command line names.
+fn play_program(rt: &HostRuntime, on: HostRuntime) -> io::Result<()> {
+    let names: Vec<String> = env::args(rt)?.skip(1).collect(rt.alloc())?;
     for name in &names {
-        said::replay(&rt, rt, name)?;
+        said::replay(rt, on, name)?;
     }
-    said::shorts(&rt, rt)?;
-    said::sweeps(&rt, rt)?;
-    said::transcripts(&rt, rt)?;
-    said::pictures(&rt, rt)?;
-    said::looks(&rt, rt)?;
-    threads::elections(&rt, rt)?;
-    threads::placements(&rt, rt)?;
-    threads::nodes(&rt, rt)?;
-    threads::losses(&rt, rt)?;
-    threads::refusals(&rt, rt)?;
-    threads::compactions(&rt, rt)?;
-    threads::replayed(&rt, rt)?;
-    said::no_transcripts(&rt, rt)?;
-    said::command_lines(&rt, rt)?;
-    said::texts(&rt, rt)?;
-    said::outputs(&rt, rt)
+    said::shorts(rt, on)?;
+    said::sweeps(rt, on)?;
+    said::transcripts(rt, on)?;
+    said::pictures(rt, on)?;
+    said::looks(rt, on)?;
+    threads::elections(rt, on)?;
+    threads::placements(rt, on)?;
+    threads::nodes(rt, on)?;
+    threads::losses(rt, on)?;
+    threads::refusals(rt, on)?;
+    threads::compactions(rt, on)?;
+    threads::replayed(rt, on)?;
+    said::no_transcripts(rt, on)?;
+    said::command_lines(rt, on)?;
+    said::texts(rt, on)?;
+    said::outputs(rt, on)
+}
+
+// What needs no program.
+fn play_groups(rt: &HostRuntime) -> io::Result<()> {
+    requests::commands(rt)?;
+    lines::lines(rt)?;
+    lines::nodes(rt)?;
+    requests::settings(rt)?;
+    requests::states(rt)?;
+    group::groups(rt)?;
+    frames::frames(rt)?;
+    stored::texts(rt)?;
+    apart::servers(rt)?;
+    old::starts(rt)?;
+    crashes::crashes(rt)?;
+    looks::looks(rt)
+}
+
+fn main(rt: HostRuntime) -> io::Result<()> {
+    play_program(&rt, rt)?;
+    play_groups(&rt)
 }

@@ -5,7 +5,7 @@ use Rattle.rows.specs.declared.actor.Actor.{Actor}
 use Rattle.rows.specs.declared.node.NodeSpec.{NodeSpec}
 use Rattle.world.specs.GroupView.{GroupView, nodes_of, renumbered}
 use Rattle.cells.specs.Cells.{CellView}
-use Rattle.closing.specs.Closing.{ClosesTo}
+use Rattle.cluster.specs.Closing.{ClosesTo}
 use Rattle.event_texts.specs.Transcripts.{IsTranscript}
 use Rattle.transcript.specs.Records.{record_of}
 use Rattle.ending.specs.Endings.{TellsEnding}

@@ -1,3 +1,4 @@
+pub mod Pages
 pub mod Faults
 pub mod Told
 pub mod Inner

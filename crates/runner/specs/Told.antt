@@ -4,10 +4,10 @@ use Rattle.std.specs.Io.KnownBytes.{Appends}
 use Rattle.rows.specs.declared.actor.Actor.{Actor}
 use Rattle.world.specs.GroupView.{GroupView, nodes_of, renumbered}
 use Rattle.cells.specs.Cells.{CellView}
-use Rattle.closing.specs.Closing.{ClosesTo}
+use Rattle.cluster.specs.Closing.{ClosesTo}
 use Rattle.event_texts.specs.Transcripts.{IsTranscript, Recorded}
 use Rattle.transcript.specs.Records.{record_of}
-use Rattle.page.specs.Pages.{GrowsByPage}
+use Rattle.runner.specs.Pages.{GrowsByPage}
 use Rattle.picture.specs.Pictures.{GrowsByPicture}
 use Rattle.inspection.specs.Told.{GrowsByEventLines, GrowsByLines}
 pub use Rattle.command_line.specs.Words.{AskFor, AskForThreads, words_fault}

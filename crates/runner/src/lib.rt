@@ -5,7 +5,9 @@
 
 mod drawing;
 mod expanding;
+mod paging;
 pub mod program;
+mod script;
 mod seeing;
 mod sweeping;
 mod threads;

@@ -14,7 +14,7 @@ ghost use Rattle.scenario_file.specs.Objects.{step_lines};
 ghost use Rattle.scenario_file.specs.Steps.{AnEvent};
 
 use cells::{Cells, OwnInput, OwnedCells, cells_of};
-use closing::close;
+use cluster::close;
 use event_book::{BookId, OpenedBook};
 use file_runs::fault::Fault;
 use file_runs::running::{check_steps, end_run, load, play_steps};

@@ -1,5 +1,0 @@
-use Rattle.closing.specs.Inner.Joined.{NoneBefore}
-use Rattle.closing.proofs.joining.node_among.Given as goal
-
-abbrev pub invariant-loop-named : goal.invariant-loop-named
-invariant-loop-named l = NoneBefore l.actors l.client l.named-index
