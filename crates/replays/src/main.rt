@@ -18,10 +18,15 @@ mod snapshots;
 mod stored;
 mod threads;
 
+use std::sync::Wait;
+use std::thread::Threads;
 use std::{env, io};
 
 // The program, and the scenarios that its command line names.
-fn play_program(rt: &HostRuntime, on: HostRuntime) -> io::Result<()> {
+fn play_program<R: Threads + Wait + Copy + Send + Sync + 'static>(
+    rt: &HostRuntime,
+    on: R,
+) -> io::Result<()> {
     let names: Vec<String> = env::args(rt)?.skip(1).collect(rt.alloc())?;
     for name in &names {
         said::replay(rt, on, name)?;
