@@ -4,3 +4,4 @@ pub mod Shorts
 pub mod Expanded
 pub mod Plains
 pub mod Inner
+pub mod Stops

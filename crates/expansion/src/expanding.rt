@@ -1,10 +1,12 @@
 //! The steps that a scenario in short form takes.
-ghost use Rattle.std.specs.Prelude.{◌≡◌, ◌≤◌, ◌∷◌, [], ℕ, IfOk, List, OnOk, length, map, string_bytes};
+ghost use Rattle.std.specs.Prelude.{◌≡◌, ◌≤◌, ◌∷◌, [], ℕ, IfErr, IfOk, List, OnOk, length, map};
+ghost use Rattle.std.specs.Prelude.{string_bytes};
 ghost use Rattle.playing.specs.declared.play.Play.{Play};
 ghost use Rattle.expansion.specs.EachInTurn.{OfEach};
 ghost use Rattle.expansion.specs.Expanded.{AreTaken, LinesOf};
 ghost use Rattle.expansion.specs.Inner.Taking.{StandsAsTaken, TakesBack, TakesMore, TakesSome};
 ghost use Rattle.expansion.specs.ShortSteps.{short_step};
+ghost use Rattle.expansion.specs.Stops.{IsStop};
 
 use crate::short::{MOST, ShortStep};
 use crate::standing::{
@@ -44,6 +46,7 @@ pub fn expanded(
     ensures taken { IfOk result (λ lines. (play : Play)
         × AreTaken settings nodes.now (map string_bytes lines.items) play) }
     ensures most { IfOk result (λ lines. length lines.items ≤ MOST) }
+    ensures refused { IfErr result IsStop }
 {
     let mut taken = Taken::new(alloc, settings, nodes)?;
     for step in steps {
@@ -59,6 +62,7 @@ impl<'s> Taken<'s> {
         ensures nodes { IfOk result (λ t. t.nodes.now ≡ nodes.now) }
         ensures none { IfOk result (λ t. t.lines.items ≡ []) }
         ensures stands { IfOk result StandsAsTaken }
+        ensures refused { IfErr result IsStop }
     {
         Ok(Taken {
             alloc,
@@ -84,8 +88,9 @@ impl<'s> Taken<'s> {
 
     fn take(&mut self, step: &ShortStep) -> Result<(), Refusal>
         requires { StandsAsTaken self.old }
-        ensures { OnOk result ((own : List (List ℕ)) × LinesOf (short_step step.now) own
+        ensures ok { OnOk result ((own : List (List ℕ)) × LinesOf (short_step step.now) own
             × TakesMore self.old own self.new) }
+        ensures refused { IfErr result IsStop }
     {
         match step {
             ShortStep::Plain(line) => self.line(line.as_str()),
@@ -96,7 +101,8 @@ impl<'s> Taken<'s> {
     // Takes the step of a line.
     fn line(&mut self, line: &str) -> Result<(), Refusal>
         requires { StandsAsTaken self.old }
-        ensures { OnOk result (TakesMore self.old (line.now ∷ []) self.new) }
+        ensures ok { OnOk result (TakesMore self.old (line.now ∷ []) self.new) }
+        ensures refused { IfErr result IsStop }
     {
         if MOST <= self.lines.len() {
             return Err(Refusal::OutOfRange);
@@ -110,7 +116,8 @@ impl<'s> Taken<'s> {
     // Does what is left to do, up to so many times.
     fn settle(&mut self, most: u64) -> Result<(), Refusal>
         requires { StandsAsTaken self.old }
-        ensures { OnOk result (TakesSome self.old self.new) }
+        ensures ok { OnOk result (TakesSome self.old self.new) }
+        ensures refused { IfErr result IsStop }
     {
         for _ in 0..most {
             let done = self.round()?;
@@ -124,7 +131,8 @@ impl<'s> Taken<'s> {
     // Does the first of what is left to do, and answers whether there was anything.
     fn round(&mut self) -> Result<bool, Refusal>
         requires { StandsAsTaken self.old }
-        ensures { OnOk result (TakesSome self.old self.new) }
+        ensures ok { OnOk result (TakesSome self.old self.new) }
+        ensures refused { IfErr result IsStop }
     {
         if self.play.flight.len() > 0 {
             self.line("flow")?;
@@ -141,7 +149,8 @@ impl<'s> Taken<'s> {
     // The workers of a server go on: of the first for whom that is of use.
     fn work(&mut self, before: &Standing) -> Result<bool, Refusal>
         requires { StandsAsTaken self.old }
-        ensures { OnOk result (TakesSome self.old self.new) }
+        ensures ok { OnOk result (TakesSome self.old self.new) }
+        ensures refused { IfErr result IsStop }
     {
         for (place, server) in before.servers.iter().enumerate() {
             let done = self.work_at(before, place, server)?;
@@ -160,7 +169,8 @@ impl<'s> Taken<'s> {
         own: &ServerStanding,
     ) -> Result<bool, Refusal>
         requires { StandsAsTaken self.old }
-        ensures { OnOk result (TakesSome self.old self.new) }
+        ensures ok { OnOk result (TakesSome self.old self.new) }
+        ensures refused { IfErr result IsStop }
     {
         let idle = own.is_idle;
         if idle {
@@ -175,7 +185,8 @@ impl<'s> Taken<'s> {
     // What is left to do at the leader, and with what it knows.
     fn lead(&mut self, before: &Standing) -> Result<bool, Refusal>
         requires { StandsAsTaken self.old }
-        ensures { OnOk result (TakesSome self.old self.new) }
+        ensures ok { OnOk result (TakesSome self.old self.new) }
+        ensures refused { IfErr result IsStop }
     {
         let Some(own) = leader(before) else {
             return Ok(false);
@@ -202,7 +213,8 @@ impl<'s> Taken<'s> {
     // A plan that waits is weighed.
     fn plan(&mut self, before: &Standing, own: ServerId) -> Result<bool, Refusal>
         requires { StandsAsTaken self.old }
-        ensures { OnOk result (TakesSome self.old self.new) }
+        ensures ok { OnOk result (TakesSome self.old self.new) }
+        ensures refused { IfErr result IsStop }
     {
         if !has_pending(&self.play.world, own) {
             return Ok(false);
@@ -213,7 +225,8 @@ impl<'s> Taken<'s> {
     // What is not applied at the leader is sent to the others.
     fn commit(&mut self, before: &Standing, own: ServerId) -> Result<bool, Refusal>
         requires { StandsAsTaken self.old }
-        ensures { OnOk result (TakesSome self.old self.new) }
+        ensures ok { OnOk result (TakesSome self.old self.new) }
+        ensures refused { IfErr result IsStop }
     {
         if !has_unapplied(before, own) {
             return Ok(false);
@@ -224,7 +237,8 @@ impl<'s> Taken<'s> {
     // The workers of the leader ask for an evaluation.
     fn hand_out(&mut self, before: &Standing, own: ServerId) -> Result<bool, Refusal>
         requires { StandsAsTaken self.old }
-        ensures { OnOk result (TakesSome self.old self.new) }
+        ensures ok { OnOk result (TakesSome self.old self.new) }
+        ensures refused { IfErr result IsStop }
     {
         if !has_pending(&self.play.world, own) {
             return Ok(false);
@@ -239,7 +253,8 @@ impl<'s> Taken<'s> {
     // Clients that run something else than what is listed ask for their lists.
     fn pull(&mut self, before: &Standing, own: ServerId) -> Result<bool, Refusal>
         requires { StandsAsTaken self.old }
-        ensures { OnOk result (TakesSome self.old self.new) }
+        ensures ok { OnOk result (TakesSome self.old self.new) }
+        ensures refused { IfErr result IsStop }
     {
         let mut lines = Vec::new(self.alloc);
         for (place, client) in self.play.world.clients().iter().enumerate() {
@@ -253,7 +268,8 @@ impl<'s> Taken<'s> {
     // The others are told what is committed.
     fn tell(&mut self, before: &Standing, own: ServerId) -> Result<bool, Refusal>
         requires { StandsAsTaken self.old }
-        ensures { OnOk result (TakesSome self.old self.new) }
+        ensures ok { OnOk result (TakesSome self.old self.new) }
+        ensures refused { IfErr result IsStop }
     {
         if !has_laggards(before, own) {
             return Ok(false);
@@ -264,7 +280,8 @@ impl<'s> Taken<'s> {
     // Takes the steps of these lines.
     fn take_lines(&mut self, lines: &[String]) -> Result<(), Refusal>
         requires { StandsAsTaken self.old }
-        ensures { OnOk result (TakesSome self.old self.new) }
+        ensures ok { OnOk result (TakesSome self.old self.new) }
+        ensures refused { IfErr result IsStop }
     {
         for line in lines {
             self.line(line.as_str())?;
@@ -275,7 +292,8 @@ impl<'s> Taken<'s> {
     // Takes a flow, where messages are in flight.
     fn flow(&mut self) -> Result<(), Refusal>
         requires { StandsAsTaken self.old }
-        ensures { OnOk result (TakesSome self.old self.new) }
+        ensures ok { OnOk result (TakesSome self.old self.new) }
+        ensures refused { IfErr result IsStop }
     {
         if self.play.flight.len() == 0 {
             return Ok(());
@@ -292,7 +310,8 @@ impl<'s> Taken<'s> {
         counts: bool,
     ) -> Result<bool, Refusal>
         requires { StandsAsTaken self.old }
-        ensures { OnOk result (TakesSome self.old self.new) }
+        ensures ok { OnOk result (TakesSome self.old self.new) }
+        ensures refused { IfErr result IsStop }
     {
         let (kept, sent) = (self.lines.len(), self.play.world.sent().len());
         self.take_lines(lines)?;
@@ -308,7 +327,8 @@ impl<'s> Taken<'s> {
     // Takes all lines back but the first ones: those are played anew.
     fn take_back(&mut self, kept: usize) -> Result<(), Refusal>
         requires { StandsAsTaken self.old }
-        ensures { OnOk result (TakesBack self.old kept self.new) }
+        ensures ok { OnOk result (TakesBack self.old kept self.new) }
+        ensures refused { IfErr result IsStop }
     {
         if kept < self.lines.len() {
             self.lines.truncate(kept);

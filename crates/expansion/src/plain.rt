@@ -1,7 +1,8 @@
 //! Plain scenarios as texts.
-ghost use Rattle.std.specs.Prelude.{◌≡◌, IfOk, IsTrue, map, string_bytes};
+ghost use Rattle.std.specs.Prelude.{◌≡◌, IfErr, IfOk, IsTrue, map, string_bytes};
 ghost use Rattle.scenario_file.specs.Objects.{step_lines};
 ghost use Rattle.expansion.specs.Plains.{IsPlainOf};
+ghost use Rattle.expansion.specs.Stops.{IsStop};
 
 use rows::{NodeSpec, Refusal};
 use scenario_file::reading::scenario;
@@ -17,8 +18,9 @@ pub fn plain_text(
     nodes: &[NodeSpec],
     lines: &[String],
 ) -> Result<String, Refusal>
-    ensures { IfOk result (λ text. IsPlainOf (string_bytes text) settings nodes.now
+    ensures ok { IfOk result (λ text. IsPlainOf (string_bytes text) settings nodes.now
         (map string_bytes lines.now)) }
+    ensures refused { IfErr result IsStop }
 {
     let text = text_of(alloc, settings, nodes, lines)?;
     let read = scenario(alloc, text.as_str())?;

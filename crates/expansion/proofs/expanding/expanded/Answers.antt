@@ -12,7 +12,7 @@ loop-step-preserved c =
     let step = c.step-item.result in
     let inside : i < length steps = search rules in
     let was = c.loop-step.invariant in
-    let own = c.in_ok-take.ensures in
+    let own = c.in_ok-take.ensures.ok in
     let taken : take (i + 1) steps ≡ take i steps ++ step ∷ [] = take_more steps i step inside ∙ ap (λ x. take i steps ++ x ∷ []) (sym c.step-item.is) in
     record {
       settings = own.2.settings ∙ was.settings;

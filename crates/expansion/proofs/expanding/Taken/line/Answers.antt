@@ -3,8 +3,8 @@ use Rattle.playing.specs.Played.{refused_as}
 use Rattle.expansion.proofs.Taking.{line_taken, pushed_line}
 use Rattle.expansion.proofs.expanding.Taken.line.Goals as goal
 
-pub returns : goal.returns
-returns c =
+pub returns-clause-ok : goal.returns-clause-ok
+returns-clause-ok c =
     let old = c.args.self.now in
     let line = c.args.line.now in
     let own = c.in_ok-own.own in

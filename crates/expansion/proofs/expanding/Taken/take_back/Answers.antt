@@ -4,8 +4,8 @@ use Rattle.expansion.proofs.Taking.{all_taken}
 use Rattle.expansion.proofs.expanding.Taken.take_back.Goals as goal
 use Rattle.expansion.proofs.expanding.Taken.take_back.Goals.{then-kept-len+in_ok-self+in_ok-play_lines, else-kept-len}
 
-pub returns : goal.returns
-returns c =
+pub returns-clause-ok : goal.returns-clause-ok
+returns-clause-ok c =
     let old = c.args.self.now in
     elim c.if-kept-len.branch [
       | then-kept-len+in_ok-self+in_ok-play_lines w ↦

@@ -8,4 +8,4 @@ pub line-requires : goal.line-requires
 line-requires c = c.loop-line.invariant.1.stands
 
 pub loop-line-preserved : goal.loop-line-preserved
-loop-line-preserved c = some_and_more c.args.self.now c.loop-line.self c.line.new.self _ c.loop-line.invariant c.in_ok-line.ensures
+loop-line-preserved c = some_and_more c.args.self.now c.loop-line.self c.line.new.self _ c.loop-line.invariant c.in_ok-line.ensures.ok
