@@ -1,8 +1,8 @@
--- What a group that is played stops with.
+-- With what the making of a plain scenario may stop.
 use Rattle.std.specs.Prelude.{◌≡◌, ◌⊎◌}
 use Rattle.rows.specs.declared.refusal.Refusal.{Refusal}
 use Rattle.rows.specs.declared.refusal.Refusal.TheVariants.{NoMemory, OutOfRange}
 
--- there is no memory, or something is none of what it is to be
-abbrev pub IsStop : Refusal → Type 0
-IsStop refusal = (refusal ≡ NoMemory) ⊎ (refusal ≡ OutOfRange)
+-- there is no memory, or something is no step, no group or too much
+abbrev pub MayStopExpanding : Refusal → Type 0
+MayStopExpanding refusal = (refusal ≡ NoMemory) ⊎ (refusal ≡ OutOfRange)

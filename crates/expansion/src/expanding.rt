@@ -6,7 +6,7 @@ ghost use Rattle.expansion.specs.EachInTurn.{OfEach};
 ghost use Rattle.expansion.specs.Expanded.{AreTaken, LinesOf};
 ghost use Rattle.expansion.specs.Inner.Taking.{StandsAsTaken, TakesBack, TakesMore, TakesSome};
 ghost use Rattle.expansion.specs.ShortSteps.{short_step};
-ghost use Rattle.expansion.specs.Stops.{IsStop};
+ghost use Rattle.expansion.specs.Stops.{MayStopExpanding};
 
 use crate::short::{MOST, ShortStep};
 use crate::standing::{
@@ -33,8 +33,9 @@ struct Taken<'s> {
 }
 
 /// The steps that these take on a new group of these settings and nodes: each plain one as it
-/// stands, and for a `settle` those that it takes there. Fails with 12 where a plain step is none,
-/// or where they come to more than 1,000,000; with 1 where there is no memory.
+/// stands, and for a `settle` those that it takes there. Fails with 12 where there is no such group,
+/// where a plain step is none, or where they come to more than 1,000,000; with 1 where there is no
+/// memory. No clause says which of these it was.
 pub fn expanded(
     alloc: Global,
     settings: Settings,
@@ -46,7 +47,7 @@ pub fn expanded(
     ensures taken { IfOk result (λ lines. (play : Play)
         × AreTaken settings nodes.now (map string_bytes lines.items) play) }
     ensures most { IfOk result (λ lines. length lines.items ≤ MOST) }
-    ensures refused { IfErr result IsStop }
+    ensures refused { IfErr result MayStopExpanding }
 {
     let mut taken = Taken::new(alloc, settings, nodes)?;
     for step in steps {
@@ -62,7 +63,7 @@ impl<'s> Taken<'s> {
         ensures nodes { IfOk result (λ t. t.nodes.now ≡ nodes.now) }
         ensures none { IfOk result (λ t. t.lines.items ≡ []) }
         ensures stands { IfOk result StandsAsTaken }
-        ensures refused { IfErr result IsStop }
+        ensures refused { IfErr result MayStopExpanding }
     {
         Ok(Taken {
             alloc,
@@ -90,7 +91,7 @@ impl<'s> Taken<'s> {
         requires { StandsAsTaken self.old }
         ensures ok { OnOk result ((own : List (List ℕ)) × LinesOf (short_step step.now) own
             × TakesMore self.old own self.new) }
-        ensures refused { IfErr result IsStop }
+        ensures refused { IfErr result MayStopExpanding }
     {
         match step {
             ShortStep::Plain(line) => self.line(line.as_str()),
@@ -102,7 +103,7 @@ impl<'s> Taken<'s> {
     fn line(&mut self, line: &str) -> Result<(), Refusal>
         requires { StandsAsTaken self.old }
         ensures ok { OnOk result (TakesMore self.old (line.now ∷ []) self.new) }
-        ensures refused { IfErr result IsStop }
+        ensures refused { IfErr result MayStopExpanding }
     {
         if MOST <= self.lines.len() {
             return Err(Refusal::OutOfRange);
@@ -117,7 +118,7 @@ impl<'s> Taken<'s> {
     fn settle(&mut self, most: u64) -> Result<(), Refusal>
         requires { StandsAsTaken self.old }
         ensures ok { OnOk result (TakesSome self.old self.new) }
-        ensures refused { IfErr result IsStop }
+        ensures refused { IfErr result MayStopExpanding }
     {
         for _ in 0..most {
             let done = self.round()?;
@@ -132,7 +133,7 @@ impl<'s> Taken<'s> {
     fn round(&mut self) -> Result<bool, Refusal>
         requires { StandsAsTaken self.old }
         ensures ok { OnOk result (TakesSome self.old self.new) }
-        ensures refused { IfErr result IsStop }
+        ensures refused { IfErr result MayStopExpanding }
     {
         if self.play.flight.len() > 0 {
             self.line("flow")?;
@@ -150,7 +151,7 @@ impl<'s> Taken<'s> {
     fn work(&mut self, before: &Standing) -> Result<bool, Refusal>
         requires { StandsAsTaken self.old }
         ensures ok { OnOk result (TakesSome self.old self.new) }
-        ensures refused { IfErr result IsStop }
+        ensures refused { IfErr result MayStopExpanding }
     {
         for (place, server) in before.servers.iter().enumerate() {
             let done = self.work_at(before, place, server)?;
@@ -170,7 +171,7 @@ impl<'s> Taken<'s> {
     ) -> Result<bool, Refusal>
         requires { StandsAsTaken self.old }
         ensures ok { OnOk result (TakesSome self.old self.new) }
-        ensures refused { IfErr result IsStop }
+        ensures refused { IfErr result MayStopExpanding }
     {
         let idle = own.is_idle;
         if idle {
@@ -186,7 +187,7 @@ impl<'s> Taken<'s> {
     fn lead(&mut self, before: &Standing) -> Result<bool, Refusal>
         requires { StandsAsTaken self.old }
         ensures ok { OnOk result (TakesSome self.old self.new) }
-        ensures refused { IfErr result IsStop }
+        ensures refused { IfErr result MayStopExpanding }
     {
         let Some(own) = leader(before) else {
             return Ok(false);
@@ -214,7 +215,7 @@ impl<'s> Taken<'s> {
     fn plan(&mut self, before: &Standing, own: ServerId) -> Result<bool, Refusal>
         requires { StandsAsTaken self.old }
         ensures ok { OnOk result (TakesSome self.old self.new) }
-        ensures refused { IfErr result IsStop }
+        ensures refused { IfErr result MayStopExpanding }
     {
         if !has_pending(&self.play.world, own) {
             return Ok(false);
@@ -226,7 +227,7 @@ impl<'s> Taken<'s> {
     fn commit(&mut self, before: &Standing, own: ServerId) -> Result<bool, Refusal>
         requires { StandsAsTaken self.old }
         ensures ok { OnOk result (TakesSome self.old self.new) }
-        ensures refused { IfErr result IsStop }
+        ensures refused { IfErr result MayStopExpanding }
     {
         if !has_unapplied(before, own) {
             return Ok(false);
@@ -238,7 +239,7 @@ impl<'s> Taken<'s> {
     fn hand_out(&mut self, before: &Standing, own: ServerId) -> Result<bool, Refusal>
         requires { StandsAsTaken self.old }
         ensures ok { OnOk result (TakesSome self.old self.new) }
-        ensures refused { IfErr result IsStop }
+        ensures refused { IfErr result MayStopExpanding }
     {
         if !has_pending(&self.play.world, own) {
             return Ok(false);
@@ -254,7 +255,7 @@ impl<'s> Taken<'s> {
     fn pull(&mut self, before: &Standing, own: ServerId) -> Result<bool, Refusal>
         requires { StandsAsTaken self.old }
         ensures ok { OnOk result (TakesSome self.old self.new) }
-        ensures refused { IfErr result IsStop }
+        ensures refused { IfErr result MayStopExpanding }
     {
         let mut lines = Vec::new(self.alloc);
         for (place, client) in self.play.world.clients().iter().enumerate() {
@@ -269,7 +270,7 @@ impl<'s> Taken<'s> {
     fn tell(&mut self, before: &Standing, own: ServerId) -> Result<bool, Refusal>
         requires { StandsAsTaken self.old }
         ensures ok { OnOk result (TakesSome self.old self.new) }
-        ensures refused { IfErr result IsStop }
+        ensures refused { IfErr result MayStopExpanding }
     {
         if !has_laggards(before, own) {
             return Ok(false);
@@ -281,7 +282,7 @@ impl<'s> Taken<'s> {
     fn take_lines(&mut self, lines: &[String]) -> Result<(), Refusal>
         requires { StandsAsTaken self.old }
         ensures ok { OnOk result (TakesSome self.old self.new) }
-        ensures refused { IfErr result IsStop }
+        ensures refused { IfErr result MayStopExpanding }
     {
         for line in lines {
             self.line(line.as_str())?;
@@ -293,7 +294,7 @@ impl<'s> Taken<'s> {
     fn flow(&mut self) -> Result<(), Refusal>
         requires { StandsAsTaken self.old }
         ensures ok { OnOk result (TakesSome self.old self.new) }
-        ensures refused { IfErr result IsStop }
+        ensures refused { IfErr result MayStopExpanding }
     {
         if self.play.flight.len() == 0 {
             return Ok(());
@@ -311,7 +312,7 @@ impl<'s> Taken<'s> {
     ) -> Result<bool, Refusal>
         requires { StandsAsTaken self.old }
         ensures ok { OnOk result (TakesSome self.old self.new) }
-        ensures refused { IfErr result IsStop }
+        ensures refused { IfErr result MayStopExpanding }
     {
         let (kept, sent) = (self.lines.len(), self.play.world.sent().len());
         self.take_lines(lines)?;
@@ -328,7 +329,7 @@ impl<'s> Taken<'s> {
     fn take_back(&mut self, kept: usize) -> Result<(), Refusal>
         requires { StandsAsTaken self.old }
         ensures ok { OnOk result (TakesBack self.old kept self.new) }
-        ensures refused { IfErr result IsStop }
+        ensures refused { IfErr result MayStopExpanding }
     {
         if kept < self.lines.len() {
             self.lines.truncate(kept);

@@ -2,7 +2,7 @@
 ghost use Rattle.std.specs.Prelude.{◌≡◌, IfErr, IfOk, IsTrue, map, string_bytes};
 ghost use Rattle.scenario_file.specs.Objects.{step_lines};
 ghost use Rattle.expansion.specs.Plains.{IsPlainOf};
-ghost use Rattle.expansion.specs.Stops.{IsStop};
+ghost use Rattle.expansion.specs.Stops.{MayStopExpanding};
 
 use rows::{NodeSpec, Refusal};
 use scenario_file::reading::scenario;
@@ -20,7 +20,7 @@ pub fn plain_text(
 ) -> Result<String, Refusal>
     ensures ok { IfOk result (λ text. IsPlainOf (string_bytes text) settings nodes.now
         (map string_bytes lines.now)) }
-    ensures refused { IfErr result IsStop }
+    ensures refused { IfErr result MayStopExpanding }
 {
     let text = text_of(alloc, settings, nodes, lines)?;
     let read = scenario(alloc, text.as_str())?;

@@ -1,4 +1,4 @@
-use Rattle.std.proofs.Common.{◌≡◌, ◌<◌, ◌≤◌, Err, ap, arith, inl, inr, length, map, rules, take}
+use Rattle.std.proofs.Common.{◌≡◌, ◌<◌, ◌≤◌, Err, arith, inl, inr, length, map, rules, take}
 use Rattle.std.proofs.lemmas.List.{take_all}
 use Rattle.expansion.specs.ShortSteps.{short_step}
 use Rattle.expansion.proofs.Shorts.{put_count, put_more, taken_count}
