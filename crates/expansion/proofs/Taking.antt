@@ -1,8 +1,12 @@
 -- Lines that a group takes, one behind the other.
-use Rattle.std.proofs.Common.{◌≡◌, ◌∙◌, ◌++◌, ◌∷◌, ℕ, List, [], OnOk, Result, Ok, Err, String, ap, append_assoc, arith, length, map, refl, string_bytes, sym, take}
+use Rattle.std.proofs.Common.{◌≡◌, ◌≤◌, ◌∙◌, ◌+◌, ◌++◌, ◌∷◌, ℕ, Bool, true, false, Option, List, [], IfErr, IfOk, OnOk, Result, Ok, Err, String, ap, append_assoc, arith, inl, inr, length, length-append, map, refl, string_bytes, sym, take}
+use Rattle.std.specs.List.{All}
 use Rattle.std.proofs.lemmas.List.{append-nil, length-map, map-append, take-append-le, take-map, take_all}
+use Rattle.std.proofs.lemmas.List.Elements.{All-cons, All-nil}
 use Rattle.std.specs.declared.alloc.Global.{Global}
 use Rattle.rows.specs.declared.node.NodeSpec.{NodeSpec}
+use Rattle.rows.specs.declared.refusal.Refusal.{Refusal}
+use Rattle.scenario_file.specs.Complaints.{IsStepLine}
 use Rattle.scenario_file.specs.declared.scenario.Settings.{Settings}
 use Rattle.playing.specs.declared.play.Play.{Play}
 use Rattle.playing.specs.Played.{LinePlayed, LinesPlayed, Refused}
@@ -11,7 +15,8 @@ use Rattle.playing.specs.Plays.{IsNewPlay}
 use Rattle.playing.proofs.Steps.{one_more_played}
 use Rattle.expansion.specs.declared.expanding.Taken.{Taken}
 use Rattle.expansion.specs.Expanded.{AreTaken}
-use Rattle.expansion.specs.Inner.Taking.{StandsAsTaken, TakesBack, TakesMore, TakesSome}
+use Rattle.expansion.specs.ShortSteps.{Settles, most_lines}
+use Rattle.expansion.specs.Inner.Taking.{StandsAsTaken, TakesBack, TakesIf, TakesMore, TakesUpTo, WhyNoLine, WhyNoMore, WhyNoShort}
 
 -- a new group took no line
 pub none_taken : (settings : Settings) (nodes : List NodeSpec) (play : Play) → IsNewPlay settings nodes play → AreTaken settings nodes [] play
@@ -32,8 +37,8 @@ all_taken settings nodes lines first refused new is played = record { first = fi
 
 -- ---- what is taken behind what was
 
-pub none_more : (t : Taken) → StandsAsTaken t → TakesSome t t
-none_more t stands = ([], record { settings = refl; nodes = refl; lines = sym (append-nil (map string_bytes t.lines.items)); stands = stands })
+pub none_more : (t : Taken) → StandsAsTaken t → TakesUpTo 0 t t
+none_more t stands = ([], omega arith, record { settings = refl; nodes = refl; lines = sym (append-nil (map string_bytes t.lines.items)); stands = stands })
 
 pub more_and_more : (a b c : Taken) (own others : List (List ℕ)) → TakesMore a own b → TakesMore b others c → TakesMore a (own ++ others) c
 more_and_more a b c own others first next = record {
@@ -43,11 +48,74 @@ more_and_more a b c own others first next = record {
   stands = next.stands;
 }
 
-pub some_and_more : (a b c : Taken) (own : List (List ℕ)) → TakesSome a b → TakesMore b own c → TakesSome a c
-some_and_more a b c own first next = (first.0 ++ own, more_and_more a b c first.0 own first.1 next)
+pub one_line : (a b : Taken) (line : List ℕ) → TakesMore a (line ∷ []) b → TakesUpTo 1 a b
+one_line a b line more = (line ∷ [], omega arith, more)
 
-pub some_and_some : (a b c : Taken) → TakesSome a b → TakesSome b c → TakesSome a c
-some_and_some a b c first next = (first.0 ++ next.0, more_and_more a b c first.0 next.0 first.1 next.1)
+pub some_and_some : (m n : ℕ) (a b c : Taken) → TakesUpTo m a b → TakesUpTo n b c → TakesUpTo (m + n) a c
+some_and_some m n a b c first next =
+    (first.0 ++ next.0, omega (arith, length-append first.0 next.0, first.1, next.1), more_and_more a b c first.0 next.0 first.2 next.2)
+
+pub up_to_more : (m n : ℕ) (a b : Taken) → m ≤ n → TakesUpTo m a b → TakesUpTo n a b
+up_to_more m n a b within some = (some.0, omega (arith, within, some.1), some.2)
+
+pub none_and_some : (n : ℕ) (a b c : Taken) → TakesUpTo 0 a b → TakesUpTo n b c → TakesUpTo n a c
+none_and_some n a b c first next = up_to_more (0 + n) n a c (omega arith) (some_and_some 0 n a b c first next)
+
+-- so many lines there are then at most
+pub reached : (m : ℕ) (a b : Taken) → TakesUpTo m a b → length b.lines.items ≤ length a.lines.items + m
+reached m a b some =
+    let all : length (map string_bytes b.lines.items) ≡ length (map string_bytes a.lines.items ++ some.0) = ap length some.2.lines in
+    omega (arith, some.1, all, length-map b.lines.items string_bytes, length-map a.lines.items string_bytes, length-append (map string_bytes a.lines.items) some.0)
+
+-- ---- whether it was of use
+
+pub was_of_use : (done : Bool) (n : ℕ) (a b : Taken) → done ≡ true → TakesIf done n a b → TakesUpTo n a b
+was_of_use done n a b is some = rw is at some
+
+pub was_of_none : (done : Bool) (n : ℕ) (a b : Taken) → done ≡ false → TakesIf done n a b → TakesUpTo 0 a b
+was_of_none done n a b is some = rw is at some
+
+-- behind what was of no use
+pub behind_none : (done : Bool) (n : ℕ) (a b c : Taken) → TakesUpTo 0 a b → TakesIf done n b c → TakesIf done n a c
+behind_none true n a b c first next = none_and_some n a b c first next
+behind_none false n a b c first next = none_and_some 0 a b c first next
+
+pub if_behind_none : (r : Result Bool Refusal) (n : ℕ) (a b c : Taken) → TakesUpTo 0 a b → IfOk r (λ done. TakesIf done n b c) → IfOk r (λ done. TakesIf done n a c)
+if_behind_none (Ok done) n a b c first next = behind_none done n a b c first next
+if_behind_none (Err e) n a b c first next = tt
+
+-- ---- why nothing more is taken
+
+pub stops_behind : (m n : ℕ) (a b : Taken) (r : Refusal) → TakesUpTo m a b → WhyNoMore n b r → WhyNoMore (m + n) a r
+stops_behind m n a b r some (inl memory) = inl memory
+stops_behind m n a b r some (inr past) = inr (past.0, omega (arith, reached m a b some, past.1))
+
+pub stops_with_more : (m n : ℕ) (t : Taken) (r : Refusal) → m ≤ n → WhyNoMore m t r → WhyNoMore n t r
+stops_with_more m n t r within (inl memory) = inl memory
+stops_with_more m n t r within (inr past) = inr (past.0, omega (arith, within, past.1))
+
+-- behind what was of no use
+pub stops_behind_none : (n : ℕ) (a b : Taken) (r : Refusal) → TakesUpTo 0 a b → WhyNoMore n b r → WhyNoMore n a r
+stops_behind_none n a b r none why = stops_with_more (0 + n) n a r (omega arith) (stops_behind 0 n a b r none why)
+
+pub if_stops_behind_none : {X : Type 0} (r : Result X Refusal) (n : ℕ) (a b : Taken) → TakesUpTo 0 a b → IfErr r (WhyNoMore n b) → IfErr r (WhyNoMore n a)
+if_stops_behind_none (Ok x) n a b none why = tt
+if_stops_behind_none (Err e) n a b none why = stops_behind_none n a b e none why
+
+-- of the line of a step
+pub step_stops : (line : List ℕ) (t : Taken) (r : Refusal) → IsStepLine line → WhyNoLine line t r → WhyNoMore 1 t r
+step_stops line t r is (inl memory) = inl memory
+step_stops line t r is (inr (out, inl none)) = absurd (none is)
+step_stops line t r is (inr (out, inr past)) = inr (out, past)
+
+pub if_settles_stops : {X : Type 0} (r : Result X Refusal) (count : Option ℕ) (t : Taken) → IfErr r (WhyNoMore (most_lines (Settles count)) t) → IfErr r (WhyNoShort (Settles count) t)
+if_settles_stops (Ok x) count t why = tt
+if_settles_stops (Err e) count t (inl memory) = inl memory
+if_settles_stops (Err e) count t (inr past) = inr (past.0, inr past.1)
+
+pub if_step_stops : {X : Type 0} (r : Result X Refusal) (line : List ℕ) (t : Taken) → IsStepLine line → IfErr r (WhyNoLine line t) → IfErr r (WhyNoMore 1 t)
+if_step_stops (Ok x) line t is why = tt
+if_step_stops (Err e) line t is why = step_stops line t e is why
 
 -- a text that is put behind the others
 pub pushed_line : (old new : List (String Global)) (own : String Global) (line : List ℕ) → new ≡ old ++ own ∷ [] → string_bytes own ≡ line
@@ -69,18 +137,27 @@ take_front : (front back : List (List ℕ)) → take (length front) (front ++ ba
 take_front front back = take-append-le (length front) front back (omega arith) ∙ take_all (length front) front (omega arith)
 
 -- what is taken back to where it was
-pub none_left : (a b c : Taken) → TakesSome a b → TakesBack b (length a.lines.items) c → TakesSome a c
-none_left a b c some back =
+pub none_left : (m : ℕ) (a b c : Taken) → TakesUpTo m a b → TakesBack b (length a.lines.items) c → TakesUpTo 0 a c
+none_left m a b c some back =
     let front : map string_bytes (take (length a.lines.items) b.lines.items) ≡ map string_bytes a.lines.items =
     sym (take-map string_bytes (length a.lines.items) b.lines.items)
-    ∙ ap (take (length a.lines.items)) some.1.lines
+    ∙ ap (take (length a.lines.items)) some.2.lines
     ∙ ap (λ n. take n (map string_bytes a.lines.items ++ some.0)) (sym (length-map a.lines.items string_bytes))
     ∙ take_front (map string_bytes a.lines.items) some.0 in (
       [],
+      omega arith,
       record {
-        settings = back.settings ∙ some.1.settings;
-        nodes = back.nodes ∙ some.1.nodes;
+        settings = back.settings ∙ some.2.settings;
+        nodes = back.nodes ∙ some.2.nodes;
         lines = ap (map string_bytes) back.lines ∙ front ∙ sym (append-nil (map string_bytes a.lines.items));
         stands = back.stands;
       },
     )
+
+-- ---- lines that were taken are lines of steps
+
+pub are_steps : (lines : List (List ℕ)) (old : Play) (refused : List Refused) (new : Play) → LinesPlayed StepTaken StepRefused lines old refused new → All IsStepLine lines
+are_steps [] old refused new played = All-nil IsStepLine
+are_steps (line ∷ lines) old refused new played =
+    let is = played.4 in
+    All-cons IsStepLine line lines (is.step, is.named) (are_steps lines played.2 played.1 new played.5)

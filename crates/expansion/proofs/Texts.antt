@@ -1,5 +1,5 @@
 -- Texts and nodes that are the same, one by one.
-use Rattle.std.proofs.Common.{◌≡◌, ◌∙◌, ◌&&◌, Bool, true, false, ℕ, List, [], ◌∷◌, String, ap, ap₂, bytes_eq, eqb, map, refl, string_bytes, subst, sym, true≢false}
+use Rattle.std.proofs.Common.{◌≡◌, ◌∙◌, ◌&&◌, Bool, ℕ, List, [], ◌∷◌, String, ap, ap₂, bytes_eq, eqb, map, refl, string_bytes, subst}
 use Rattle.std.specs.Bool.{Decides}
 use Rattle.std.specs.declared.alloc.Global.{Global}
 use Rattle.std.specs.Cmp.Lexicographic.{pointwise}
@@ -10,17 +10,18 @@ use Rattle.rows.specs.declared.size.Size.{Size}
 use Rattle.scenario_file.specs.declared.scenario.Scenario.{Scenario}
 use Rattle.scenario_file.specs.Objects.{IsScenarioText}
 
-pub same_texts : (own lines : List (String Global)) → pointwise (λ a b. bytes_eq (string_bytes a) (string_bytes b)) own lines ≡ true → map string_bytes own ≡ map string_bytes lines
-same_texts [] [] same = refl
-same_texts [] (y ∷ ys) same = absurd (true≢false (sym same))
-same_texts (x ∷ xs) [] same = absurd (true≢false (sym same))
-same_texts (x ∷ xs) (y ∷ ys) same = go (bytes_eq (string_bytes x) (string_bytes y)) refl same (λ rest. same_texts xs ys rest)
-  where
-    go : (b : Bool) → bytes_eq (string_bytes x) (string_bytes y) ≡ b → (b && pointwise (λ a c. bytes_eq (string_bytes a) (string_bytes c)) xs ys) ≡ true
-        → (pointwise (λ a c. bytes_eq (string_bytes a) (string_bytes c)) xs ys ≡ true → map string_bytes xs ≡ map string_bytes ys)
-        → string_bytes x ∷ map string_bytes xs ≡ string_bytes y ∷ map string_bytes ys
-    go true is rest others = ap₂ ◌∷◌ ((bytes_eq-Decides (string_bytes x) (string_bytes y)).0 is) (others rest)
-    go false is rest others = absurd (true≢false (sym rest))
+abbrev same_bytes : String Global → String Global → Bool
+same_bytes a b = bytes_eq (string_bytes a) (string_bytes b)
+
+-- two lists of texts are compared text by text
+pub texts_decide : (own lines : List (String Global)) → Decides (pointwise same_bytes own lines) (map string_bytes own ≡ map string_bytes lines)
+texts_decide [] [] = ((λ is. refl), (λ is. refl))
+texts_decide [] (y ∷ ys) = ((λ is. cc), (λ is. cc))
+texts_decide (x ∷ xs) [] = ((λ is. cc), (λ is. cc))
+texts_decide (x ∷ xs) (y ∷ ys) = Decides-like _
+    (λ both. ap₂ ◌∷◌ both.0 both.1)
+    (λ same. let head : string_bytes x ≡ string_bytes y = cc in let rest : map string_bytes xs ≡ map string_bytes ys = cc in (head, rest))
+    (Decides-and _ _ (bytes_eq-Decides (string_bytes x) (string_bytes y)) (texts_decide xs ys))
 
 abbrev size_of : ℕ → ℕ → ℕ → Size
 size_of cpu mem disk = record { cpu = cpu; mem = mem; disk = disk }
@@ -28,7 +29,7 @@ size_of cpu mem disk = record { cpu = cpu; mem = mem; disk = disk }
 abbrev node_of : ℕ → List ℕ → Size → NodeSpec
 node_of number class size = record { number = number; class = class; size = size }
 
-same_node : (a b : NodeSpec) → a.number ≡ b.number → a.class ≡ b.class → a.size.cpu ≡ b.size.cpu → a.size.mem ≡ b.size.mem → a.size.disk ≡ b.size.disk → a ≡ b
+pub same_node : (a b : NodeSpec) → a.number ≡ b.number → a.class ≡ b.class → a.size.cpu ≡ b.size.cpu → a.size.mem ≡ b.size.mem → a.size.disk ≡ b.size.disk → a ≡ b
 same_node a b number class cpu mem disk =
     ap (λ n. node_of n a.class a.size) number
     ∙ ap (λ c. node_of b.number c a.size) class

@@ -1,12 +1,12 @@
 -- Which steps a scenario in short form takes.
-use Rattle.std.specs.Prelude.{◌≡◌, ℕ, List, [], ◌∷◌}
+use Rattle.std.specs.Prelude.{◌≡◌, ◌≤◌, ℕ, List, [], ◌∷◌, length}
 use Rattle.rows.specs.declared.node.NodeSpec.{NodeSpec}
 use Rattle.scenario_file.specs.declared.scenario.Settings.{Settings}
 use Rattle.playing.specs.declared.play.Play.{Play}
 use Rattle.playing.specs.Played.{LinesPlayed, Refused}
 use Rattle.playing.specs.PlaySteps.{StepRefused, StepTaken}
 use Rattle.playing.specs.Plays.{IsNewPlay}
-use Rattle.expansion.specs.ShortSteps.{Short, AsItStands, Settles}
+use Rattle.expansion.specs.ShortSteps.{Short, AsItStands, Settles, most_lines}
 
 -- a new group of these settings and nodes took these lines, in order, and stands so then
 pub record AreTaken (settings : Settings) (nodes : List NodeSpec) (lines : List (List ℕ)) (play : Play) : Type 0 where
@@ -15,7 +15,8 @@ pub record AreTaken (settings : Settings) (nodes : List NodeSpec) (lines : List 
   pub refused : List Refused
   pub played : LinesPlayed StepTaken StepRefused lines first refused play
 
--- the line of a step that is taken as it stands, and no other; of a `settle` any lines
+-- the line of a step that is taken as it stands, and no other; of a `settle` any lines, but not more
+-- than it comes to at most
 abbrev pub LinesOf : Short → List (List ℕ) → Type 0
 LinesOf (AsItStands line) own = own ≡ line ∷ []
-LinesOf (Settles count) own = Unit {0}
+LinesOf (Settles count) own = length own ≤ most_lines (Settles count)

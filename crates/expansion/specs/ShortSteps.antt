@@ -1,5 +1,5 @@
 -- The steps of a scenario in short form.
-use Rattle.std.specs.Prelude.{ℕ, List, Option, string_bytes}
+use Rattle.std.specs.Prelude.{◌*◌, ℕ, List, Option, string_bytes, unwrap_or}
 use Rattle.expansion.specs.declared.short.ShortStep.{ShortStep}
 use Rattle.expansion.specs.declared.short.ShortStep.TheVariants.{Plain, Settle}
 
@@ -11,3 +11,13 @@ pub data Short : Type 0 where
 abbrev pub short_step : ShortStep → Short
 short_step (Plain line) = AsItStands (string_bytes line)
 short_step (Settle count) = Settles count
+
+-- so many lines a `settle` takes at most each time that it does something: that by which a client
+-- asks for its list, of 64 clients, and a `flow`
+abbrev pub most_at_once : ℕ
+most_at_once = 65
+
+-- how many lines a step comes to at most: a `settle` without a number does something 1,000 times
+abbrev pub most_lines : Short → ℕ
+most_lines (AsItStands line) = 1
+most_lines (Settles count) = unwrap_or count 1000 * most_at_once

@@ -1,8 +1,8 @@
-use Rattle.std.proofs.Common.{◌≡◌, map, string_bytes, take}
+use Rattle.std.proofs.Common.{◌≡◌, ◌≤◌, length, map, string_bytes, sum_by, take}
 use Rattle.expansion.specs.EachInTurn.{OfEach}
 use Rattle.expansion.specs.Expanded.{LinesOf}
 use Rattle.expansion.specs.Inner.Taking.{StandsAsTaken}
-use Rattle.expansion.specs.ShortSteps.{short_step}
+use Rattle.expansion.specs.ShortSteps.{most_lines, short_step}
 use Rattle.expansion.proofs.expanding.expanded.Given as goal
 
 -- the steps so far were taken
@@ -11,5 +11,6 @@ invariant-loop-step l = record {
   settings : l.taken.settings ≡ l.fn.settings;
   nodes : l.taken.nodes.now ≡ l.nodes;
   stands : StandsAsTaken l.taken;
+  few : length l.taken.lines.items ≤ sum_by most_lines (map short_step (take l.step-index l.steps));
   order : OfEach LinesOf (map short_step (take l.step-index l.steps)) (map string_bytes l.taken.lines.items);
 }

@@ -1,7 +1,6 @@
-use Rattle.std.proofs.Common.{rules}
 use Rattle.std.proofs.lemmas.Slice.Eq.{slice_eq-Decides}
 use Rattle.expansion.proofs.Texts.{nodes_decide}
 use Rattle.expansion.proofs.plain.are_nodes.Goals as goal
 
 pub returns : goal.returns
-returns c is = (slice_eq-Decides nodes_decide c.args.own.now c.args.nodes.now c.eq.result c.eq.ensures).0 (search rules)
+returns c = slice_eq-Decides nodes_decide c.args.own.now c.args.nodes.now c.eq.result c.eq.ensures

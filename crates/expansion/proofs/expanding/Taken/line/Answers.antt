@@ -1,4 +1,4 @@
-use Rattle.std.proofs.Common.{◌≡◌, ◌∙◌, ◌+◌, ◌<◌, ◌++◌, ◌∷◌, [], ap, arith, length, length-append, refl, rules, string_bytes}
+use Rattle.std.proofs.Common.{◌≡◌, ◌∙◌, ◌+◌, ◌<◌, ◌++◌, ◌∷◌, [], Err, ap, arith, inl, inr, length, length-append, refl, rules, string_bytes}
 use Rattle.playing.specs.Played.{refused_as}
 use Rattle.expansion.proofs.Taking.{line_taken, pushed_line}
 use Rattle.expansion.proofs.expanding.Taken.line.Goals as goal
@@ -22,3 +22,11 @@ returns-clause-ok c =
         few = omega (arith, short, count);
       };
     }
+
+pub returns-in_err-play_line-clause-refused : goal.returns-in_err-play_line-clause-refused
+returns-in_err-play_line-clause-refused c =
+    let same : c.from_residual-in_err-play_line.result ≡ Err c.in_err-play_line.field-0.0 = search rules in
+    rw same (elim c.in_err-play_line.ensures.fault [
+      | inl memory ↦ inl memory
+      | inr bad ↦ inr (bad.0, inl bad.1)
+    ])

@@ -1,3 +1,6 @@
+use Rattle.std.proofs.Common.{[]}
+use Rattle.std.proofs.lemmas.List.Elements.{All-cons, All-nil}
+use Rattle.scenario_file.specs.Complaints.{IsStepLine}
 use Rattle.expansion.proofs.Taking.{none_more}
 use Rattle.expansion.proofs.expanding.Taken.work_at.Goals as goal
 
@@ -6,3 +9,6 @@ returns-then-idle-clause-ok c = none_more c.args.self.now c.requires
 
 pub returns-in_default-clause-ok : goal.returns-in_default-clause-ok
 returns-in_default-clause-ok c = none_more c.args.self.now c.requires
+
+pub attempt-requires-clause-steps : goal.attempt-requires-clause-steps
+attempt-requires-clause-steps c = All-cons IsStepLine _ [] c.in_ok-work_line.ensures (All-nil IsStepLine)
