@@ -20,7 +20,7 @@ lines_within (AsItStands line) own is = let one : length own ≡ 1 = ap length i
 lines_within (Settles count) own few = few
 
 -- one step more
-pub one_more_step : (steps : List Short) (step : Short) → sum_by most_lines (steps ++ step ∷ []) ≡ sum_by most_lines steps + most_lines step
+one_more_step : (steps : List Short) (step : Short) → sum_by most_lines (steps ++ step ∷ []) ≡ sum_by most_lines steps + most_lines step
 one_more_step steps step = sum_by-append most_lines steps (step ∷ []) ∙ ap (λ n. sum_by most_lines steps + n) (sum_by-cons most_lines step [] ∙ omega arith)
 
 -- there is no such group

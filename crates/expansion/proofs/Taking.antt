@@ -20,20 +20,21 @@ use Rattle.expansion.specs.Inner.Taking.{StandsAsTaken, TakesBack, TakesIf, Take
 
 -- a new group took no line
 pub none_taken : (settings : Settings) (nodes : List NodeSpec) (play : Play) → IsNewPlay settings nodes play → AreTaken settings nodes [] play
-none_taken settings nodes play new = record { first = play; new = new; refused = []; played = (refl, refl) }
+none_taken settings nodes play new = record { first = play; new = new; refused = []; played = (refl, refl); found = new.lacked }
 
 pub one_more_taken : (settings : Settings) (nodes : List NodeSpec) (lines : List (List ℕ)) (mid : Play) (line : List ℕ) (own : List Refused) (new : Play)
-    → AreTaken settings nodes lines mid → LinePlayed StepTaken StepRefused line mid own new → AreTaken settings nodes (lines ++ line ∷ []) new
-one_more_taken settings nodes lines mid line own new are is = record {
+    → AreTaken settings nodes lines mid → LinePlayed StepTaken StepRefused line mid own new → new.lacked ≡ false → AreTaken settings nodes (lines ++ line ∷ []) new
+one_more_taken settings nodes lines mid line own new are is found = record {
   first = are.first;
   new = are.new;
   refused = are.refused ++ own;
   played = one_more_played StepTaken StepRefused lines line are.first mid new are.refused own are.played is;
+  found = found;
 }
 
 pub all_taken : (settings : Settings) (nodes : List NodeSpec) (lines : List (List ℕ)) (first : Play) (refused : List Refused) (new : Play)
-    → IsNewPlay settings nodes first → LinesPlayed StepTaken StepRefused lines first refused new → AreTaken settings nodes lines new
-all_taken settings nodes lines first refused new is played = record { first = first; new = is; refused = refused; played = played }
+    → IsNewPlay settings nodes first → LinesPlayed StepTaken StepRefused lines first refused new → new.lacked ≡ false → AreTaken settings nodes lines new
+all_taken settings nodes lines first refused new is played found = record { first = first; new = is; refused = refused; played = played; found = found }
 
 -- ---- what is taken behind what was
 
@@ -76,7 +77,7 @@ pub was_of_none : (done : Bool) (n : ℕ) (a b : Taken) → done ≡ false → T
 was_of_none done n a b is some = rw is at some
 
 -- behind what was of no use
-pub behind_none : (done : Bool) (n : ℕ) (a b c : Taken) → TakesUpTo 0 a b → TakesIf done n b c → TakesIf done n a c
+behind_none : (done : Bool) (n : ℕ) (a b c : Taken) → TakesUpTo 0 a b → TakesIf done n b c → TakesIf done n a c
 behind_none true n a b c first next = none_and_some n a b c first next
 behind_none false n a b c first next = none_and_some 0 a b c first next
 
@@ -130,8 +131,8 @@ and_so (Err e) h f = tt
 
 -- a line that is played behind the others
 pub line_taken : (t : Taken) (new : Play) (line : List ℕ) (refused : List Refused) (lines : List (String Global)) → StandsAsTaken t → LinePlayed StepTaken StepRefused line t.play refused new
-    → map string_bytes lines ≡ map string_bytes t.lines.items ++ line ∷ [] → AreTaken t.settings t.nodes.now (map string_bytes lines) new
-line_taken t new line refused lines stands played put = rw put (one_more_taken t.settings t.nodes.now (map string_bytes t.lines.items) t.play line refused new stands.led played)
+    → new.lacked ≡ false → map string_bytes lines ≡ map string_bytes t.lines.items ++ line ∷ [] → AreTaken t.settings t.nodes.now (map string_bytes lines) new
+line_taken t new line refused lines stands played found put = rw put (one_more_taken t.settings t.nodes.now (map string_bytes t.lines.items) t.play line refused new stands.led played found)
 
 take_front : (front back : List (List ℕ)) → take (length front) (front ++ back) ≡ front
 take_front front back = take-append-le (length front) front back (omega arith) ∙ take_all (length front) front (omega arith)

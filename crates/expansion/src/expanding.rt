@@ -42,7 +42,7 @@ struct Taken<'s> {
 /// The steps that these take on a new group of these settings and nodes: each plain one as it
 /// stands, and for a `settle` those that it takes there, up to 65 for each time that it does
 /// something. Fails with 12 where there is no such group, where a plain step is none, or where they
-/// come to more than 1,000,000; with 1 where there is no memory.
+/// come to more than 1,000,000; with 1 where there is no memory, for an actor of the group too.
 pub fn expanded(
     alloc: Global,
     settings: Settings,
@@ -167,6 +167,9 @@ impl<'s> Taken<'s> {
         }
         let own = String::from_str(self.alloc, line)?;
         play_line(self.alloc, line, &mut self.play)?;
+        if self.play.lacked {
+            return Err(Refusal::NoMemory);
+        }
         self.lines.push(own)?;
         Ok(())
     }
@@ -386,6 +389,9 @@ impl<'s> Taken<'s> {
             self.lines.truncate(kept);
             self.play = Play::new(self.alloc, self.settings, self.nodes)?;
             play_lines(self.alloc, &self.lines, &mut self.play)?;
+            if self.play.lacked {
+                return Err(Refusal::NoMemory);
+            }
         }
         Ok(())
     }

@@ -1,5 +1,5 @@
 -- What an event does to a scenario's group, its messages in flight and its workers.
-use Rattle.std.specs.Prelude.{◌≡◌, ◌≢◌, ◌⊎◌, ◌++◌, ℕ, max, true, false, Option, Some, None, List, [], length, option_and_then, slice_get, slice_set}
+use Rattle.std.specs.Prelude.{◌≡◌, ◌≢◌, ◌⊎◌, ◌++◌, ℕ, Bool, max, true, false, Option, Some, None, List, [], length, option_and_then, slice_get, slice_set}
 use Rattle.rows.specs.declared.actor.Actor.{Actor}
 use Rattle.rows.specs.declared.actor.Actor.TheVariants as actors
 use Rattle.rows.specs.declared.refusal.Refusal.{Refusal}
@@ -9,6 +9,7 @@ use Rattle.group_model.specs.Servers.{Server}
 use Rattle.group_model.specs.Worlds.{Event, Deliver, AtServer, AtClient}
 use Rattle.server.specs.ServerViews.{ServerView, IsServer}
 use Rattle.world.specs.declared.done.Done.{Done}
+use Rattle.world.specs.declared.done.Done.TheVariants.{Crashed, Taken}
 use Rattle.world.specs.GroupSteps.{IsGroupDone, RefusesGroupEvent, SameView}
 use Rattle.world.specs.GroupView.{GroupView}
 use Rattle.workers.specs.PlanCounts.{WorkersView}
@@ -71,6 +72,13 @@ abbrev pub fetched_at : Option ℕ → GroupView → GroupView
 fetched_at None world = world
 fetched_at (Some server) world = fetched world
 
+-- ---- whether an actor lacked memory
+
+-- with what came of one event more
+abbrev pub lacked_after : Bool → Done → Bool
+lacked_after lacked Taken = lacked
+lacked_after lacked Crashed = true
+
 -- ---- an event
 
 -- all that was sent is in flight: what is new behind what was
@@ -87,7 +95,13 @@ pub record EventTaken (old : Play) (event : Event) (new : Play) : Type 0 where
   pub group : new.world ≡ fetched_at (server_of old.world event) world
   pub workers : HandedAt world (server_of old.world event) old.workers new.workers
   pub flight : Admitted old.flight (length world.outbox.frames) new.flight
-  pub rest : new ≡ record old { world = new.world; workers = new.workers; flight = new.flight }
+  pub lacked : new.lacked ≡ lacked_after old.lacked done
+  pub rest : new ≡ record old {
+    world = new.world;
+    workers = new.workers;
+    flight = new.flight;
+    lacked = new.lacked;
+  }
 
 -- It was refused, as the group refuses it, and nothing changed.
 pub record EventRefused (old : Play) (event : Event) (refusal : Refusal) (new : Play) : Type 0 where

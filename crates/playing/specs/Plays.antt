@@ -1,5 +1,5 @@
 -- A scenario's group, before its first step.
-use Rattle.std.specs.Prelude.{◌≡◌, ◌≤◌, List, [], length, replicate}
+use Rattle.std.specs.Prelude.{◌≡◌, ◌≤◌, false, List, [], length, replicate}
 use Rattle.world.specs.GroupSteps.{IsNewGroup}
 use Rattle.rows.specs.GroupSizes.{IsGroup}
 use Rattle.rows.specs.declared.node.NodeSpec.{NodeSpec}
@@ -10,8 +10,8 @@ use Rattle.playing.specs.declared.play.Play.{Play}
 abbrev pub MakesGroup : Settings → List NodeSpec → Type 0
 MakesGroup s nodes = IsGroup s.servers × (length nodes ≤ 64)
 
--- a group of its size that never did anything, nothing in flight, nothing for workers, and what
--- becomes of messages as it says
+-- a group of its size that never did anything, nothing in flight, nothing for workers, no memory
+-- lacked, and what becomes of messages as it says
 pub record IsNewPlay (s : Settings) (nodes : List NodeSpec) (p : Play) : Type 0 where
   pub world : IsNewGroup s.servers nodes p.world
   pub waiting : p.flight.waiting ≡ []
@@ -22,3 +22,4 @@ pub record IsNewPlay (s : Settings) (nodes : List NodeSpec) (p : Play) : Type 0 
   pub order : p.order ≡ s.order
   pub lost : p.drop ≡ s.drop
   pub repeated : p.repeat ≡ s.repeat
+  pub lacked : p.lacked ≡ false

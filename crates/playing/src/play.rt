@@ -5,7 +5,7 @@ ghost use Rattle.group_inputs.specs.Events.{group_event};
 ghost use Rattle.world.specs.GroupSteps.{WhyNoGroup};
 ghost use Rattle.playing.specs.Flows.{Flowed, MessagePassed, MessageTaken};
 ghost use Rattle.playing.specs.PlayEvents.{EventRefused, EventTaken, Handed};
-ghost use Rattle.playing.specs.PlayEvents.{IsDownIn, IsUpIn, fetched, server_of};
+ghost use Rattle.playing.specs.PlayEvents.{IsDownIn, IsUpIn, fetched, lacked_after, server_of};
 ghost use Rattle.playing.specs.PlaySteps.{StepRefused, StepTaken};
 ghost use Rattle.playing.specs.PlayWork.{IsAsked, WorkRefused, WorkTaken, input_of};
 ghost use Rattle.playing.specs.Plays.{IsNewPlay};
@@ -19,7 +19,7 @@ use scenario_file::scenario::{Order, Settings};
 use scenario_file::step::Step;
 use std::alloc::Global;
 use workers::{Handled, ServerWorkers};
-use world::World;
+use world::{Done, World};
 
 // How many messages a `flow` without a number takes at most.
 const FLOW: u64 = 10_000;
@@ -43,6 +43,8 @@ pub struct Play {
     pub drop: u8,
     /// How many of a hundred messages come again, 0 to 100.
     pub repeat: u8,
+    /// Whether an actor found no memory for an event: it crashed, or did not start again.
+    pub lacked: bool,
 }
 
 // The server that takes an event.
@@ -65,6 +67,16 @@ fn is_up(world: &World, server: ServerId) -> bool
     match world.server(server) {
         Some(server) => server.applied().is_some(),
         None => false,
+    }
+}
+
+// Whether an actor lacked memory, with what came of one event more.
+fn lacked_after(lacked: bool, done: Done) -> bool
+    ensures { result ≡ lacked_after lacked done }
+{
+    match done {
+        Done::Taken => lacked,
+        Done::Crashed => true,
     }
 }
 
@@ -128,6 +140,7 @@ impl Play {
             order: settings.order,
             drop: settings.drop,
             repeat: settings.repeat,
+            lacked: false,
         })
     }
 
@@ -140,7 +153,7 @@ impl Play {
             → EventRefused self.old (group_event event) refusal self.new) }
     {
         let server = server_of(&self.world, &event);
-        self.world.step(event)?;
+        self.lacked = lacked_after(self.lacked, self.world.step(event)?);
         if let Some(server) = server {
             self.hand(server)?;
         }

@@ -1,5 +1,5 @@
 -- What the row of a key says: how the run under it ended.
-use Rattle.std.specs.Prelude.{◌≡◌, ◌⊎◌, ◌+◌, ◌%◌, ◌^◌, ℕ, List, length, map}
+use Rattle.std.specs.Prelude.{◌≡◌, ◌⊎◌, ◌+◌, ◌%◌, ◌^◌, ℕ, false, List, length, map}
 use Rattle.std.specs.List.{AllZip, range_with_len}
 use Rattle.rows.specs.declared.refusal.Refusal.{Refusal}
 use Rattle.rows.specs.declared.refusal.Refusal.TheVariants.{NoMemory, OutOfRange}
@@ -18,9 +18,9 @@ use Rattle.sweep.specs.declared.row.Row.{Row}
 abbrev pub keyed : Settings → ℕ → Settings
 keyed settings key = record settings { key = key }
 
--- The steps of the scenario came to a new group of its nodes, with these settings under this key; so
--- many of them were refused, and the row has the numbers of the last lines of the group to which
--- they led.
+-- The steps of the scenario came to a new group of its nodes, with these settings under this key; no
+-- actor lacked memory; so many of the steps were refused, and the row has the numbers of the last
+-- lines of the group to which they led.
 pub record IsRow (s : Scenario) (settings : Settings) (key : ℕ) (row : Row) : Type 0 where
   pub is_key : row.key ≡ key
   pub first : Play
@@ -28,6 +28,7 @@ pub record IsRow (s : Scenario) (settings : Settings) (key : ℕ) (row : Row) : 
   pub begun : IsNewPlay (keyed settings key) s.nodes.items first
   pub refused : List Refused
   pub played : LinesPlayed StepTaken StepRefused (step_lines s) first refused last
+  pub found : last.lacked ≡ false
   pub counted : length refused ≡ row.refused
   pub ended : HasNumbers last.world row.end
 

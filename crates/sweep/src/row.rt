@@ -29,7 +29,7 @@ fn keyed(settings: Settings, key: u64) -> Settings
 
 /// Plays a scenario under a key, with these settings beside it, as `run` plays a scenario that says
 /// them. Fails with 12 where a line is no step's or there is no such group, and with 1 where there
-/// is no memory.
+/// is no memory, for an actor of the group too.
 pub fn row_of(
     alloc: Global,
     scenario: &Scenario,
@@ -41,6 +41,9 @@ pub fn row_of(
 {
     let mut play = Play::new(alloc, keyed(settings, key), &scenario.nodes)?;
     let refused = play_lines(alloc, &scenario.steps, &mut play)?;
+    if play.lacked {
+        return Err(Refusal::NoMemory);
+    }
     let end = end_numbers(alloc, &play.world)?;
     Ok(Row { key, refused, end })
 }

@@ -1,4 +1,4 @@
-use Rattle.std.proofs.Common.{inl, inr, refl}
+use Rattle.std.proofs.Common.{inl, inr, refl, rules}
 use Rattle.std.proofs.lemmas.Result.{err_from_is_err_and}
 use Rattle.sweep.specs.Rows.{WhyNoRow}
 use Rattle.sweep.proofs.row.row_of.Goals as goal
@@ -13,6 +13,7 @@ returns-clause-row c =
       begun = rw (c.keyed.ensures, c.deref.ensures.value) at c.in_ok-play.ensures.ok;
       refused = played.0;
       played = played.2;
+      found = search rules;
       counted = played.1;
       ended = c.in_ok-end.ensures;
     }

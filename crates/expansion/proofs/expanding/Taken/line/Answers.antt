@@ -18,7 +18,7 @@ returns-clause-ok c =
       nodes = refl;
       lines = put;
       stands = record {
-        led = line_taken old c.play_line.new.play line (refused_as line c.in_ok-play_line.field-0) c.push.new.self.items c.requires c.in_ok-play_line.ensures.played put;
+        led = line_taken old c.play_line.new.play line (refused_as line c.in_ok-play_line.field-0) c.push.new.self.items c.requires c.in_ok-play_line.ensures.played (search rules) put;
         few = omega (arith, short, count);
       };
     }

@@ -5,13 +5,13 @@ use Rattle.std.specs.List.{All}
 use Rattle.scenario_file.specs.Complaints.{IsStepLine}
 use Rattle.expansion.proofs.Taking.{all_taken, are_steps}
 use Rattle.expansion.proofs.expanding.Taken.take_back.Goals as goal
-use Rattle.expansion.proofs.expanding.Taken.take_back.Goals.{then-kept-len+in_ok-self+in_ok-play_lines, else-kept-len}
+use Rattle.expansion.proofs.expanding.Taken.take_back.Goals.{then-kept-len+in_ok-self+in_ok-play_lines+else-self, else-kept-len}
 
 pub returns-clause-ok : goal.returns-clause-ok
 returns-clause-ok c =
     let old = c.args.self.now in
     elim c.if-kept-len.branch [
-      | then-kept-len+in_ok-self+in_ok-play_lines w ↦
+      | then-kept-len+in_ok-self+in_ok-play_lines+else-self w ↦
           let lines : w.truncate.new.self.items ≡ take c.args.kept old.lines.items = w.truncate.ensures.items in
           let played = rw w.deref.ensures.value at w.in_ok-play_lines.ensures.played in
           let within : c.args.kept ≤ length old.lines.items = search rules in
@@ -22,7 +22,7 @@ returns-clause-ok c =
             nodes = refl;
             lines = lines;
             stands = record {
-              led = all_taken old.settings old.nodes.now (map string_bytes w.truncate.new.self.items) w.in_ok-self.field-0 played.0 w.play_lines.new.play w.in_ok-self.ensures.ok played.2;
+              led = all_taken old.settings old.nodes.now (map string_bytes w.truncate.new.self.items) w.in_ok-self.field-0 played.0 w.play_lines.new.play w.in_ok-self.ensures.ok played.2 (search rules);
               few = omega (arith, count, within, few);
             };
           })
