@@ -2,11 +2,38 @@
 //! where its standard output fails.
 use crate::folder::{Folder, Output};
 use runner::{Unseen, nomadsim};
+use std::alloc::{AllocError, Global};
 use std::io::Write;
 use std::rt::Files;
 use std::sync::Wait;
 use std::thread::Threads;
 use std::{fs, io};
+
+// The text of a folder is played as a scenario.
+const RUN_TEXT: &[&str] = &["nomadsim", "run", "text.json"];
+
+// Ten keys, on one thread and on four.
+const ON_ONE: &[&str] = &[
+    "nomadsim",
+    "sweep",
+    "bad-net.json",
+    "--keys",
+    "14..23",
+    "--csv",
+    "--jobs",
+    "1",
+];
+
+const ON_FOUR: &[&str] = &[
+    "nomadsim",
+    "sweep",
+    "bad-net.json",
+    "--keys",
+    "14..23",
+    "--csv",
+    "--jobs",
+    "4",
+];
 
 /// What a command line said on both outputs, and its exit status.
 #[derive(Drop)]
@@ -23,6 +50,31 @@ pub(crate) fn run_words<R: Threads + Wait + Copy + Send + Sync + 'static>(
     words: &[&str],
 ) -> Printed {
     run_to(rt, on, folder, words, usize::MAX)
+}
+
+// The words of a line.
+fn words_of<'a>(alloc: Global, line: &'a str) -> Result<Vec<&'a str>, AllocError> {
+    line.split_whitespace().collect(alloc)
+}
+
+// Puts bytes to the standard output.
+fn put(rt: &HostRuntime, bytes: &[u8]) -> io::Result<()> {
+    io::writer(rt).write_all(bytes)
+}
+
+/// What a command line says in a folder of its own, in which `text.json` has this text.
+pub(crate) fn run_alone<R: Threads + Wait + Copy + Send + Sync + 'static>(
+    rt: &HostRuntime,
+    on: R,
+    text: &[u8],
+    words: &[&str],
+) -> Printed {
+    run_words(rt, on, &mut Folder::new(rt, text), words)
+}
+
+/// All bytes of the file of a name with this ending.
+pub(crate) fn file_of(rt: &HostRuntime, name: &str, ending: &str) -> io::Result<Vec<u8>> {
+    fs::read(rt, &format!(in rt.alloc(); "{name}.{ending}")?)
 }
 
 // What a command line says where the standard output takes so many bytes.
@@ -77,9 +129,8 @@ pub(crate) fn replay<R: Threads + Wait + Copy + Send + Sync + 'static>(
     on: R,
     name: &str,
 ) -> io::Result<()> {
-    let alloc = rt.alloc();
-    let file = format!(in alloc; "{name}.json")?;
-    let wanted = fs::read(rt, &format!(in alloc; "{name}.stdout")?)?;
+    let wanted = file_of(rt, name, "stdout")?;
+    let file = format!(in rt.alloc(); "{name}.json")?;
     let mut folder = Folder::new(rt, b"");
     let words = ["nomadsim", "run", file.as_str(), "--out", "transcript"];
     let played = run_words(rt, on, &mut folder, &words);
@@ -97,49 +148,61 @@ pub(crate) fn replay<R: Threads + Wait + Copy + Send + Sync + 'static>(
     )
 }
 
-/// Plays the scenario `NAME.json` of each line of `lessons`; its transcript has to be
-/// `NAME.transcript`.
+/// Plays the scenarios in `lessons`, a name a line, for their transcripts.
 pub(crate) fn transcripts<R: Threads + Wait + Copy + Send + Sync + 'static>(
     rt: &HostRuntime,
     on: R,
 ) -> io::Result<()> {
-    let alloc = rt.alloc();
     let names = fs::read_to_string(rt, "lessons")?;
     for name in names.lines() {
-        let file = format!(in alloc; "{name}.json")?;
-        let wanted = fs::read(rt, &format!(in alloc; "{name}.transcript")?)?;
-        let mut folder = Folder::new(rt, b"");
-        let words = ["nomadsim", "run", file.as_str(), "--out", "transcript"];
-        let _played = run_words(rt, on, &mut folder, &words);
-        let is_wanted = folder.transcript() == Some(wanted.as_slice());
-        println!(rt; "transcript of {name}: {is_wanted}")?;
+        transcript(rt, on, name)?;
     }
     Ok(())
 }
 
-/// Expands the short scenario `NAME.short` of each line of `shorts`; what comes, played, has to print
-/// `NAME.stdout`.
+// Plays the scenario `NAME.json`; its transcript has to be `NAME.transcript`.
+fn transcript<R: Threads + Wait + Copy + Send + Sync + 'static>(
+    rt: &HostRuntime,
+    on: R,
+    name: &str,
+) -> io::Result<()> {
+    let wanted = file_of(rt, name, "transcript")?;
+    let file = format!(in rt.alloc(); "{name}.json")?;
+    let mut folder = Folder::new(rt, b"");
+    let words = ["nomadsim", "run", file.as_str(), "--out", "transcript"];
+    let _played = run_words(rt, on, &mut folder, &words);
+    let is_wanted = folder.transcript() == Some(wanted.as_slice());
+    println!(rt; "transcript of {name}: {is_wanted}")
+}
+
+/// Expands the scenarios in `shorts`, a name a line.
 pub(crate) fn shorts<R: Threads + Wait + Copy + Send + Sync + 'static>(
     rt: &HostRuntime,
     on: R,
 ) -> io::Result<()> {
-    let alloc = rt.alloc();
     let names = fs::read_to_string(rt, "shorts")?;
     for name in names.lines() {
-        let file = format!(in alloc; "{name}.short")?;
-        let wanted = fs::read(rt, &format!(in alloc; "{name}.stdout")?)?;
-        let mut folder = Folder::new(rt, b"");
-        let plain = run_words(rt, on, &mut folder, &["nomadsim", "expand", file.as_str()]);
-        let mut folder = Folder::new(rt, &plain.out);
-        let played = run_words(rt, on, &mut folder, &["nomadsim", "run", "text.json"]);
-        println!(rt;
-            "short form of {name}: {}, status {} and {}",
-            foreseen(&played, &wanted),
-            plain.status,
-            played.status
-        )?;
+        short(rt, on, name)?;
     }
     Ok(())
+}
+
+// Expands the short scenario `NAME.short`; what comes, played, has to print `NAME.stdout`.
+fn short<R: Threads + Wait + Copy + Send + Sync + 'static>(
+    rt: &HostRuntime,
+    on: R,
+    name: &str,
+) -> io::Result<()> {
+    let wanted = file_of(rt, name, "stdout")?;
+    let file = format!(in rt.alloc(); "{name}.short")?;
+    let plain = run_alone(rt, on, b"", &["nomadsim", "expand", file.as_str()]);
+    let played = run_alone(rt, on, &plain.out, RUN_TEXT);
+    println!(rt;
+        "short form of {name}: {}, status {} and {}",
+        foreseen(&played, &wanted),
+        plain.status,
+        played.status
+    )
 }
 
 /// Sweeps `bad-net` under ten keys, on one thread and on four; each row has to have the numbers of
@@ -148,8 +211,8 @@ pub(crate) fn sweeps<R: Threads + Wait + Copy + Send + Sync + 'static>(
     rt: &HostRuntime,
     on: R,
 ) -> io::Result<()> {
-    let one = swept(rt, on, "1");
-    let four = swept(rt, on, "4");
+    let one = run_alone(rt, on, b"", ON_ONE);
+    let four = run_alone(rt, on, b"", ON_FOUR);
     let text = fs::read_to_string(rt, "bad-net.json")?;
     let mut as_run = 0usize;
     for line in std::str::from_utf8(&one.out).unwrap_or("").lines().skip(1) {
@@ -164,23 +227,24 @@ pub(crate) fn sweeps<R: Threads + Wait + Copy + Send + Sync + 'static>(
     )
 }
 
-// The rows of ten keys, on so many threads.
-fn swept<R: Threads + Wait + Copy + Send + Sync + 'static>(
-    rt: &HostRuntime,
-    on: R,
-    jobs: &str,
-) -> Printed {
-    let words = [
-        "nomadsim",
-        "sweep",
-        "bad-net.json",
-        "--keys",
-        "14..23",
-        "--csv",
-        "--jobs",
-        jobs,
-    ];
-    run_words(rt, on, &mut Folder::new(rt, b""), &words)
+// The key, the events and the messages of a row, which has eight columns.
+fn numbers_of(row: &str) -> Option<(&str, &str, &str)> {
+    let mut columns = row.split(',');
+    let key = columns.next()?;
+    for _ in 0..5 {
+        columns.next()?;
+    }
+    let (events, messages) = (columns.next()?, columns.next()?);
+    match columns.next() {
+        None => Some((key, events, messages)),
+        Some(_) => None,
+    }
+}
+
+// The text of `bad-net` under another key than its own.
+fn under_key(rt: &HostRuntime, text: &str, key: &str) -> io::Result<String> {
+    let (front, back) = text.split_once("\"key\": 18").unwrap_or((text, ""));
+    Ok(format!(in rt.alloc(); "{front}\"key\": {key}{back}")?)
 }
 
 // Whether `run` says of a scenario under the key of a row what the row says.
@@ -188,42 +252,43 @@ fn is_as_run<R: Threads + Wait + Copy + Send + Sync + 'static>(
     rt: &HostRuntime,
     on: R,
     text: &str,
-    line: &str,
+    row: &str,
 ) -> io::Result<bool> {
-    let alloc = rt.alloc();
-    let words: Vec<&str> = line.split(',').collect(alloc)?;
-    let [key, _, _, _, _, _, events, messages] = words.as_slice() else {
+    let Some((key, events, messages)) = numbers_of(row) else {
         return Ok(false);
     };
-    let Some((front, back)) = text.split_once("\"key\": 18") else {
-        return Ok(false);
-    };
-    let own = format!(in alloc; "{front}\"key\": {key}{back}")?;
-    let mut folder = Folder::new(rt, own.as_bytes());
-    let played = run_words(rt, on, &mut folder, &["nomadsim", "run", "text.json"]);
-    let wanted = format!(in alloc; "\nevents {events} messages {messages}\n")?;
+    let own = under_key(rt, text, key)?;
+    let played = run_alone(rt, on, own.as_bytes(), RUN_TEXT);
+    let wanted = format!(in rt.alloc(); "\nevents {events} messages {messages}\n")?;
     Ok(played.out.ends_with(wanted.as_bytes()))
 }
 
-/// Draws the transcript of each line of `pictures`; what comes has to be `NAME.svg`.
+/// Draws the transcripts in `pictures`, a name a line.
 pub(crate) fn pictures<R: Threads + Wait + Copy + Send + Sync + 'static>(
     rt: &HostRuntime,
     on: R,
 ) -> io::Result<()> {
-    let alloc = rt.alloc();
     let names = fs::read_to_string(rt, "pictures")?;
     for name in names.lines() {
-        let file = format!(in alloc; "{name}.transcript")?;
-        let wanted = fs::read(rt, &format!(in alloc; "{name}.svg")?)?;
-        let mut folder = Folder::new(rt, b"");
-        let drawn = run_words(rt, on, &mut folder, &["nomadsim", "draw", file.as_str()]);
-        println!(rt;
-            "picture of {name}: {}, status {}",
-            foreseen(&drawn, &wanted),
-            drawn.status
-        )?;
+        picture(rt, on, name)?;
     }
     Ok(())
+}
+
+// Draws `NAME.transcript`; what comes has to be `NAME.svg`.
+fn picture<R: Threads + Wait + Copy + Send + Sync + 'static>(
+    rt: &HostRuntime,
+    on: R,
+    name: &str,
+) -> io::Result<()> {
+    let wanted = file_of(rt, name, "svg")?;
+    let file = format!(in rt.alloc(); "{name}.transcript")?;
+    let drawn = run_alone(rt, on, b"", &["nomadsim", "draw", file.as_str()]);
+    println!(rt;
+        "picture of {name}: {}, status {}",
+        foreseen(&drawn, &wanted),
+        drawn.status
+    )
 }
 
 /// Plays each line of `looks`, the name of a file and a command line: what the program prints has to
@@ -249,8 +314,8 @@ fn look<R: Threads + Wait + Copy + Send + Sync + 'static>(
     command: &str,
 ) -> io::Result<()> {
     let wanted = fs::read(rt, name)?;
-    let words: Vec<&str> = command.split_whitespace().collect(rt.alloc())?;
-    let printed = run_words(rt, on, &mut Folder::new(rt, b""), &words);
+    let words = words_of(rt.alloc(), command)?;
+    let printed = run_alone(rt, on, b"", &words);
     println!(rt;
         "{command}: {}, status {}",
         foreseen(&printed, &wanted),
@@ -282,11 +347,10 @@ fn say<R: Threads + Wait + Copy + Send + Sync + 'static>(
     line: &str,
     text: &[u8],
 ) -> io::Result<()> {
-    let alloc = rt.alloc();
-    let words: Vec<&str> = line.split_whitespace().collect(alloc)?;
-    let printed = run_words(rt, on, &mut Folder::new(rt, text), &words);
-    io::writer(rt).write_all(&printed.out)?;
-    io::writer(rt).write_all(&printed.err)?;
+    let words = words_of(rt.alloc(), line)?;
+    let printed = run_alone(rt, on, text, &words);
+    put(rt, &printed.out)?;
+    put(rt, &printed.err)?;
     println!(rt; "status {}", printed.status)
 }
 
@@ -326,8 +390,9 @@ fn fail<R: Threads + Wait + Copy + Send + Sync + 'static>(
     words: &[&str],
     left: usize,
 ) -> io::Result<()> {
-    let printed = run_to(rt, on, &mut Folder::new(rt, b""), words, left);
-    io::writer(rt).write_all(&printed.err)?;
+    let mut folder = Folder::new(rt, b"");
+    let printed = run_to(rt, on, &mut folder, words, left);
+    put(rt, &printed.err)?;
     print!(rt; "{}", printed.status)
 }
 

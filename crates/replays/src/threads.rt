@@ -1,11 +1,21 @@
 //! What the program says of scenarios that it plays on threads.
 use crate::folder::Folder;
-use crate::said::{Printed, behind_refusals, run_words};
+use crate::said::{Printed, behind_refusals, file_of, run_alone, run_words};
 use std::alloc::AllocError;
 use std::rt::Files;
 use std::sync::Wait;
 use std::thread::Threads;
 use std::{fs, io};
+
+// The text of a folder is played on threads, with two workers a server, or eight; or so that its
+// transcript is written, which is then played again.
+const THREADS: &[&str] = &["nomadsim", "threads", "text.json"];
+
+const OF_EIGHT: &[&str] = &["nomadsim", "threads", "text.json", "--workers", "8"];
+
+const WRITTEN: &[&str] = &["nomadsim", "threads", "text.json", "--out", "transcript"];
+
+const REPLAY: &[&str] = &["nomadsim", "replay", "transcript"];
 
 // Raft's first election: each of three servers answers, and nothing else is sent.
 const ELECTION: &[u8] = b"{ \"servers\": 3, \"nodes\": [], \"key\": 0, \"drop\": 0, \"repeat\": 0,
@@ -88,8 +98,7 @@ fn is_elected<R: Threads + Wait + Copy + Send + Sync + 'static>(
     on: R,
     words: &[&str],
 ) -> bool {
-    let printed = run_words(rt, on, &mut Folder::new(rt, ELECTION), words);
-    is_said(&printed, ELECTED)
+    is_said(&run_alone(rt, on, ELECTION, words), ELECTED)
 }
 
 /// Plays the first election, and says how often it came to the lines that it has to come to.
@@ -97,17 +106,11 @@ pub(crate) fn elections<R: Threads + Wait + Copy + Send + Sync + 'static>(
     rt: &HostRuntime,
     on: R,
 ) -> io::Result<()> {
-    let two = &["nomadsim", "threads", "text.json"];
-    let eight = &["nomadsim", "threads", "text.json", "--workers", "8"];
     let mut of_two: u32 = 0;
     let mut of_eight: u32 = 0;
     for _ in 0..TIMES {
-        if is_elected(rt, on, two) {
-            of_two = of_two.saturating_add(1);
-        }
-        if is_elected(rt, on, eight) {
-            of_eight = of_eight.saturating_add(1);
-        }
+        of_two = of_two.saturating_add(u32::from(is_elected(rt, on, THREADS)));
+        of_eight = of_eight.saturating_add(u32::from(is_elected(rt, on, OF_EIGHT)));
     }
     println!(rt; "threads of an election: as foreseen {of_two} and {of_eight} times")
 }
@@ -120,14 +123,17 @@ pub(crate) fn refusals<R: Threads + Wait + Copy + Send + Sync + 'static>(
 ) -> io::Result<()> {
     let mut count: u32 = 0;
     for _ in 0..TIMES {
-        let mut folder = Folder::new(rt, REFUSED);
-        let printed = run_words(rt, on, &mut folder, &["nomadsim", "threads", "text.json"]);
-        let ended = printed.out.strip_prefix(REFUSALS) == Some(ELECTED);
-        if printed.status == 1 && printed.err.is_empty() && ended {
+        if is_refused(&run_alone(rt, on, REFUSED, THREADS)) {
             count = count.saturating_add(1);
         }
     }
     println!(rt; "threads of refused steps: as foreseen {count} times")
+}
+
+// Whether the two refused steps were named, and the election ended as it has to.
+fn is_refused(printed: &Printed) -> bool {
+    let ended = printed.out.strip_prefix(REFUSALS) == Some(ELECTED);
+    printed.status == 1 && printed.err.is_empty() && ended
 }
 
 // Whether this was said, with status 0 and nothing on the standard error.
@@ -141,20 +147,25 @@ pub(crate) fn compactions<R: Threads + Wait + Copy + Send + Sync + 'static>(
     rt: &HostRuntime,
     on: R,
 ) -> io::Result<()> {
-    let words = ["nomadsim", "threads", "text.json", "--out", "transcript"];
     let mut played: u32 = 0;
     let mut again: u32 = 0;
     for _ in 0..TIMES {
-        let mut folder = Folder::new(rt, COVERED);
-        if is_said(&run_words(rt, on, &mut folder, &words), ALL_APPLIED) {
-            played = played.saturating_add(1);
-        }
-        let replay = ["nomadsim", "replay", "transcript"];
-        if is_said(&run_words(rt, on, &mut folder, &replay), ALL_APPLIED) {
-            again = again.saturating_add(1);
-        }
+        let (is_played, is_again) = compacted(rt, on);
+        played = played.saturating_add(u32::from(is_played));
+        again = again.saturating_add(u32::from(is_again));
     }
     println!(rt; "threads of compactions: as foreseen {played} times, again {again} times")
+}
+
+// Whether they came to these lines, and whether the transcript, played again, did.
+fn compacted<R: Threads + Wait + Copy + Send + Sync + 'static>(
+    rt: &HostRuntime,
+    on: R,
+) -> (bool, bool) {
+    let mut folder = Folder::new(rt, COVERED);
+    let is_played = is_said(&run_words(rt, on, &mut folder, WRITTEN), ALL_APPLIED);
+    let is_again = is_said(&run_words(rt, on, &mut folder, REPLAY), ALL_APPLIED);
+    (is_played, is_again)
 }
 
 fn placing(rt: &HostRuntime) -> Result<Vec<u8>, AllocError> {
@@ -170,6 +181,12 @@ fn says(out: &[u8], line: &[u8]) -> bool {
     out.split(|byte| *byte == b'\n').any(|l| l == line)
 }
 
+// Whether the leader and the allocations stand as they have to.
+fn is_placed(printed: &Printed) -> bool {
+    let out = printed.out.as_slice();
+    printed.status == 0 && out.starts_with(LEADER) && says(out, FIRST) && says(out, SECOND)
+}
+
 /// Plays a job's way to its nodes, of which the workers go theirs by themselves, and says how often
 /// the leader and the allocations stood as they have to.
 pub(crate) fn placements<R: Threads + Wait + Copy + Send + Sync + 'static>(
@@ -179,10 +196,7 @@ pub(crate) fn placements<R: Threads + Wait + Copy + Send + Sync + 'static>(
     let text = placing(rt)?;
     let mut count: u32 = 0;
     for _ in 0..TIMES {
-        let mut folder = Folder::new(rt, &text);
-        let printed = run_words(rt, on, &mut folder, &["nomadsim", "threads", "text.json"]);
-        let out = printed.out.as_slice();
-        if printed.status == 0 && out.starts_with(LEADER) && says(out, FIRST) && says(out, SECOND) {
+        if is_placed(&run_alone(rt, on, &text, THREADS)) {
             count = count.saturating_add(1);
         }
     }
@@ -208,11 +222,9 @@ pub(crate) fn losses<R: Threads + Wait + Copy + Send + Sync + 'static>(
     let text = crowding(rt)?;
     let mut is_told = false;
     for _ in 0..TIMES {
-        let mut folder = Folder::new(rt, &text);
-        let printed = run_words(rt, on, &mut folder, &["nomadsim", "threads", "text.json"]);
-        let err = printed.err.as_slice();
-        if !err.is_empty() {
-            is_told = printed.status == 0 && is_loss(err);
+        let printed = run_alone(rt, on, &text, THREADS);
+        if !printed.err.is_empty() {
+            is_told = printed.status == 0 && is_loss(&printed.err);
             break;
         }
     }
@@ -235,21 +247,24 @@ fn is_loss(text: &[u8]) -> bool {
 
 // The scenario of a file, on a net that loses 20 of a hundred messages and repeats 20.
 fn on_a_bad_net(rt: &HostRuntime, name: &str) -> io::Result<Vec<u8>> {
-    let alloc = rt.alloc();
-    let text = fs::read(rt, &format!(in alloc; "{name}.json")?)?;
-    let mut bad = Vec::new(alloc);
+    let text = file_of(rt, name, "json")?;
+    let mut bad = Vec::new(rt.alloc());
     for line in text.split(|byte| *byte == b'\n') {
-        let line = if line.starts_with(b"  \"drop\"") {
-            b"  \"drop\": 20,"
-        } else if line.starts_with(b"  \"repeat\"") {
-            b"  \"repeat\": 20,"
-        } else {
-            line
-        };
-        bad.extend_from_slice(line)?;
+        bad.extend_from_slice(of_a_bad_net(line))?;
         bad.push(b'\n')?;
     }
     Ok(bad)
+}
+
+// The line of a scenario with those numbers, where it says how many are lost or come again.
+fn of_a_bad_net(line: &[u8]) -> &[u8] {
+    if line.starts_with(b"  \"drop\"") {
+        b"  \"drop\": 20,"
+    } else if line.starts_with(b"  \"repeat\"") {
+        b"  \"repeat\": 20,"
+    } else {
+        line
+    }
 }
 
 /// Plays the scenario of each line of `lessons` on a bad net; its transcript, played again, has to
@@ -260,17 +275,24 @@ pub(crate) fn replayed<R: Threads + Wait + Copy + Send + Sync + 'static>(
 ) -> io::Result<()> {
     let names = fs::read_to_string(rt, "lessons")?;
     for name in names.lines() {
-        let text = on_a_bad_net(rt, name)?;
-        let mut folder = Folder::new(rt, &text);
-        let words = ["nomadsim", "threads", "text.json", "--out", "transcript"];
-        let played = run_words(rt, on, &mut folder, &words);
-        let again = run_words(rt, on, &mut folder, &["nomadsim", "replay", "transcript"]);
-        let is_same = again.status == 0
-            && !again.out.is_empty()
-            && again.out.as_slice() == behind_refusals(&played.out);
+        let is_same = is_played_again(rt, on, &on_a_bad_net(rt, name)?);
         println!(rt; "threads of {name}, again: {is_same}")?;
     }
     Ok(())
+}
+
+// Whether the transcript of a scenario, played again, prints the same but for the refused steps.
+fn is_played_again<R: Threads + Wait + Copy + Send + Sync + 'static>(
+    rt: &HostRuntime,
+    on: R,
+    text: &[u8],
+) -> bool {
+    let mut folder = Folder::new(rt, text);
+    let played = run_words(rt, on, &mut folder, WRITTEN);
+    let again = run_words(rt, on, &mut folder, REPLAY);
+    again.status == 0
+        && !again.out.is_empty()
+        && again.out.as_slice() == behind_refusals(&played.out)
 }
 
 /// Plays a group whose nodes differ, and says whether its transcript has them, each under its own
@@ -280,8 +302,7 @@ pub(crate) fn nodes<R: Threads + Wait + Copy + Send + Sync + 'static>(
     on: R,
 ) -> io::Result<()> {
     let mut folder = Folder::new(rt, DIFFERENT);
-    let words = ["nomadsim", "threads", "text.json", "--out", "transcript"];
-    let played = run_words(rt, on, &mut folder, &words);
+    let played = run_words(rt, on, &mut folder, WRITTEN);
     let has_them = folder
         .transcript()
         .is_some_and(|text| text.starts_with(NODE_LINES));

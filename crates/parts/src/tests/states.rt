@@ -105,7 +105,7 @@ work W";
 
 fn verb_of(head: &str) -> char {
     match look_up(VERBS, head) {
-        Some(letter) => letter.chars().next().unwrap_or('?'),
+        Some(letter) => letter.bytes().next().map_or('?', char::from),
         None => '?',
     }
 }
