@@ -6,8 +6,7 @@ use Rattle.std.proofs.lemmas.List.{append-nil, length-map}
 use Rattle.rows.specs.declared.node.NodeSpec.{NodeSpec}
 use Rattle.rows.specs.declared.refusal.Refusal.{Refusal}
 use Rattle.group_model.specs.Worlds.{Event}
-use Rattle.world.specs.declared.done.Done.{Done}
-use Rattle.world.specs.GroupSteps.{IsGroupDone, RefusesGroupEvent, SameView}
+use Rattle.world.specs.GroupSteps.{GroupEventHappened, RefusesGroupEvent, SameView}
 use Rattle.world.specs.GroupView.{GroupView}
 use Rattle.event_texts.specs.EventLines.{event_line}
 use Rattle.event_texts.specs.Inner.Printable.{IsPrintable}
@@ -72,12 +71,12 @@ one_more_event (first ∷ events) event old mid new refused own played is =
     (played.0, played.1 ++ own, played.2, ap (λ xs. xs ++ own) played.3 ∙ append_assoc played.0 played.1 own, played.4, one_more_event events event played.2 mid new played.1 own played.5 is)
 
 module _ (events : List Event) (event : Event) (old mid new : GroupView) (status : ℕ) where
-  pub event_done : (done : Done) (before after : Option (List ℕ)) → IsGroupDone mid event done new
+  pub event_done : (before after : Option (List ℕ)) → GroupEventHappened mid event new
       → TellsEvents events old mid status before after → TellsEvents (events ++ event ∷ []) old new status before after
-  event_done done before after is (refused, played, told) = (
+  event_done before after is (refused, played, told) = (
     refused,
     subst (λ all. EventsPlayed (events ++ event ∷ []) old all new) (append-nil refused)
-        (one_more_event events event old mid new refused [] played (inl (done, is, refl))),
+        (one_more_event events event old mid new refused [] played (inl (is, refl))),
     told,
   )
 

@@ -2,8 +2,7 @@
 use Rattle.std.specs.Prelude.{◌≡◌, ◌⊎◌, ◌++◌, ◌∷◌, ℕ, List, [], Option, IfSome}
 use Rattle.rows.specs.declared.refusal.Refusal.{Refusal}
 use Rattle.group_model.specs.Worlds.{Event}
-use Rattle.world.specs.declared.done.Done.{Done}
-use Rattle.world.specs.GroupSteps.{IsGroupDone, IsNewGroup, RefusesGroupEvent, SameView}
+use Rattle.world.specs.GroupSteps.{GroupEventHappened, IsNewGroup, RefusesGroupEvent, SameView}
 use Rattle.world.specs.GroupView.{GroupView}
 use Rattle.event_texts.specs.EventLines.{event_line}
 use Rattle.event_texts.specs.Transcripts.{IsTranscript, Recorded}
@@ -13,7 +12,7 @@ use Rattle.file_runs.specs.Refusals.{TellsRun}
 -- the event happens to the group, and nothing is refused; or the group refuses it, by its line
 abbrev pub EventPlayed : Event → GroupView → List Refused → GroupView → Type 0
 EventPlayed event old refused new =
-    ((done : Done) × IsGroupDone old event done new × (refused ≡ []))
+    (GroupEventHappened old event new × (refused ≡ []))
     ⊎ ((refusal : Refusal) × RefusesGroupEvent old event refusal × SameView old new
     × (refused ≡ (refusal, event_line event) ∷ []))
 

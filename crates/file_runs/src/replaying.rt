@@ -20,7 +20,7 @@ use rows::Refusal;
 use std::alloc::Global;
 use std::io::Write;
 use transcript::{Transcript, read};
-use world::World;
+use world::{Done, World};
 
 /// Takes the events of a transcript: says each that is refused at once, and then how the group
 /// stands.
@@ -123,7 +123,8 @@ fn event_lines<'t>(transcript: &Transcript, text: &'t [u8]) -> &'t [u8]
     behind_lines(text, transcript.nodes.len() + 1)
 }
 
-// Takes each event, and says which are refused, by their lines: 1 where one is.
+// Takes each event, and says which are refused, by their lines: 1 where one is. An actor that finds
+// no memory crashes, which is none of the transcript: what follows would come to another group.
 fn play_events<'a, W: Write>(
     out: &mut W,
     world: &mut World,
@@ -144,9 +145,13 @@ fn play_events<'a, W: Write>(
     for event in events {
         let (line, behind) = next_line(rest);
         rest = behind;
-        if let Err(refusal) = world.step(event) {
-            print_refusal(out, refusal, line)?;
-            status = 1;
+        match world.step(event) {
+            Ok(Done::Taken) => (),
+            Ok(Done::Crashed) => return Err(Fault::NoMemory),
+            Err(refusal) => {
+                print_refusal(out, refusal, line)?;
+                status = 1;
+            }
         }
     }
     Ok(status)

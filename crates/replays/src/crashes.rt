@@ -35,6 +35,11 @@ fn push_crash(
     Ok(())
 }
 
+fn push(alloc: Global, event: &Event, out: &mut Vec<Event>) -> Result<(), NoMemory> {
+    out.push(event.try_clone(alloc)?)?;
+    Ok(())
+}
+
 // The row's events, and an actor's crash and restart behind the one at a place.
 fn list(
     alloc: Global,
@@ -45,12 +50,33 @@ fn list(
 ) -> Result<Vec<Event>, NoMemory> {
     let mut list = Vec::new(alloc);
     for (place, event) in row.events.iter().enumerate() {
-        list.push(event.try_clone(alloc)?)?;
+        push(alloc, event, &mut list)?;
         if place == at {
             push_crash(alloc, actor, compacts, &mut list)?;
         }
     }
     Ok(list)
+}
+
+// An event is taken, or refused for another reason than memory.
+fn step(alloc: Global, world: &mut World, event: &Event) -> Result<(), Refusal> {
+    match world.step(event.try_clone(alloc)?) {
+        Err(Refusal::NoMemory) => Err(Refusal::NoMemory),
+        _ => Ok(()),
+    }
+}
+
+// What was found before, or else what a look finds.
+fn first_of(
+    found: Option<Fault>,
+    alloc: Global,
+    looks: &mut Looks,
+    world: &World,
+) -> Result<Option<Fault>, Refusal> {
+    match found {
+        Some(fault) => Ok(Some(fault)),
+        None => Ok(looks.look(alloc, world)?),
+    }
 }
 
 // What is wrong with a group of the row's servers and nodes to which events led, those that are
@@ -65,17 +91,13 @@ fn fault_of(
     let mut again = World::new(alloc, row.servers, &row.nodes)?;
     let mut found = looks.look(alloc, &again)?;
     for event in events {
-        if matches!(again.step(event.try_clone(alloc)?), Err(Refusal::NoMemory)) {
-            return Err(Refusal::NoMemory);
-        }
-        if found.is_none() {
-            found = looks.look(alloc, &again)?;
-        }
+        step(alloc, &mut again, event)?;
+        found = first_of(found, alloc, &mut looks, &again)?;
     }
-    if found.is_none() {
-        found = looks.look_back(alloc, world)?;
+    match found {
+        Some(fault) => Ok(Some(fault)),
+        None => Ok(looks.look_back(alloc, world)?),
     }
-    Ok(found)
 }
 
 // What is wrong with the group to which such a list leads.
@@ -147,28 +169,46 @@ fn found_of_first(alloc: Global, row: &Transcript) -> Result<Option<Fault>, Refu
     }
 }
 
+// In how many lists nothing is wrong, with a crash behind each event of the row.
+fn each_crash(rt: &HostRuntime, row: &Transcript) -> io::Result<u64> {
+    let mut good: u64 = 0;
+    for at in 0..row.events.len() {
+        good = good.saturating_add(servers_at(rt, row, at, false)?);
+        good = good.saturating_add(clients_at(rt, row, at)?);
+    }
+    Ok(good)
+}
+
+// In how many it is with one of a server that compacts before.
+fn each_compacted(rt: &HostRuntime, row: &Transcript) -> io::Result<u64> {
+    let mut good: u64 = 0;
+    for at in 0..row.events.len() {
+        good = good.saturating_add(servers_at(rt, row, at, true)?);
+    }
+    Ok(good)
+}
+
+fn crashes_of(rt: &HostRuntime, row: &Transcript) -> io::Result<()> {
+    let (good, compacted) = (each_crash(rt, row)?, each_compacted(rt, row)?);
+    println!(rt;
+        "a crash behind each of {} events: {good} lists in which nothing is wrong",
+        row.events.len()
+    )?;
+    println!(rt; "of servers that compact before: {compacted} lists in which nothing is wrong")?;
+    match found_of_first(rt.alloc(), row) {
+        Ok(found) => println!(rt; "by the first {FIRST} events alone: {found:?}"),
+        Err(refusal) => println!(rt; "refused {}", refusal.number()),
+    }
+}
+
 /// Plays the events of `long-run.transcript`, with a crash and a restart of each actor behind each
 /// of them, and of each server once more that compacts its log before, and says what is wrong; and
 /// in how many of these lists nothing is. Then it says what is found of the row's group by its
 /// first events alone.
 pub(crate) fn crashes(rt: &HostRuntime) -> io::Result<()> {
     let text = fs::read(rt, "long-run.transcript")?;
-    let Ok(row) = read(rt.alloc(), &text) else {
-        return println!(rt; "no transcript");
-    };
-    let (mut good, mut compacted): (u64, u64) = (0, 0);
-    for at in 0..row.events.len() {
-        good = good.saturating_add(servers_at(rt, &row, at, false)?);
-        good = good.saturating_add(clients_at(rt, &row, at)?);
-        compacted = compacted.saturating_add(servers_at(rt, &row, at, true)?);
-    }
-    println!(rt;
-        "a crash behind each of {} events: {good} lists in which nothing is wrong",
-        row.events.len()
-    )?;
-    println!(rt; "of servers that compact before: {compacted} lists in which nothing is wrong")?;
-    match found_of_first(rt.alloc(), &row) {
-        Ok(found) => println!(rt; "by the first {FIRST} events alone: {found:?}"),
-        Err(refusal) => println!(rt; "refused {}", refusal.number()),
+    match read(rt.alloc(), &text) {
+        Ok(row) => crashes_of(rt, &row),
+        Err(_) => println!(rt; "no transcript"),
     }
 }

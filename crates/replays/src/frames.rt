@@ -36,19 +36,30 @@ fn say(rt: &HostRuntime, sample: &Sample) -> io::Result<()> {
     println!(rt; "frame of kind {kind}: {length} bytes, {cuts} cuts, {values} values")
 }
 
+// Plays a line: a frame, before which is said how much of the one before was played, or what is to
+// be so of it. Whether it is so.
+fn play_line(rt: &HostRuntime, sample: &mut Sample, line: &str) -> io::Result<bool> {
+    if let Some(digits) = line.strip_prefix("frame ") {
+        say(rt, sample)?;
+        *sample = Sample::of(rt.alloc(), digits)?;
+        return Ok(true);
+    }
+    Ok(play::<FrameReader>(rt.alloc(), sample, line) == Some(true))
+}
+
+fn say_not_so(rt: &HostRuntime, place: usize, line: &str) -> io::Result<()> {
+    println!(rt; "line {} is not so: {line}", place.saturating_add(1))
+}
+
 /// Plays each line of `wire`: a sample frame, the place at which a cut of it is at fault, or those
 /// at which it is, or is not, where one byte is at some values. Says what is not so; and of each
 /// frame how much of it was played.
 pub(crate) fn frames(rt: &HostRuntime) -> io::Result<()> {
-    let alloc = rt.alloc();
     let text = fs::read_to_string(rt, "wire")?;
-    let mut sample = Sample::of(alloc, "")?;
+    let mut sample = Sample::of(rt.alloc(), "")?;
     for (place, line) in text.lines().enumerate() {
-        if let Some(digits) = line.strip_prefix("frame ") {
-            say(rt, &sample)?;
-            sample = Sample::of(alloc, digits)?;
-        } else if !matches!(play::<FrameReader>(alloc, &mut sample, line), Some(true)) {
-            println!(rt; "line {} is not so: {line}", place + 1)?;
+        if !play_line(rt, &mut sample, line)? {
+            say_not_so(rt, place, line)?;
         }
     }
     say(rt, &sample)

@@ -130,15 +130,20 @@ fn take(rt: &HostRuntime, world: &mut World, seen: &mut u64, step: Step) -> io::
     }
 }
 
+// Takes the step of a line.
+fn take_line(rt: &HostRuntime, world: &mut World, seen: &mut u64, line: &str) -> io::Result<bool> {
+    match read_step(rt.alloc(), line) {
+        Ok(Some(step)) => take(rt, world, seen, step),
+        _ => Ok(false),
+    }
+}
+
 // Plays a scenario's steps, and says whether each was taken.
 fn play(rt: &HostRuntime, world: &mut World, played: &Scenario) -> io::Result<bool> {
     let mut seen = 0;
     let mut is_taken = true;
     for line in &played.steps {
-        is_taken = match read_step(rt.alloc(), line.as_str()) {
-            Ok(Some(step)) => take(rt, world, &mut seen, step)? && is_taken,
-            _ => false,
-        };
+        is_taken = take_line(rt, world, &mut seen, line.as_str())? && is_taken;
     }
     Ok(is_taken)
 }
@@ -161,45 +166,67 @@ pub(crate) fn are_same(alloc: Global, one: Option<&Cluster>, other: Option<&Clus
     one.save(&mut left).is_ok() && other.save(&mut right).is_ok() && left == right
 }
 
+// Whether a server is the same in two groups.
+fn is_same_server(alloc: Global, world: &World, again: &World, id: ServerId) -> bool {
+    match (world.server(id), again.server(id)) {
+        (Some(one), Some(other)) => {
+            are_alike(one, other) && are_same(alloc, one.state(), other.state())
+        }
+        _ => false,
+    }
+}
+
+// Whether the servers of two groups are the same.
+fn are_same_servers(alloc: Global, world: &World, again: &World, servers: usize) -> bool {
+    for position in 0..servers {
+        match ServerId::from_position(position) {
+            Some(id) if is_same_server(alloc, world, again, id) => (),
+            _ => return false,
+        }
+    }
+    true
+}
+
 // Whether a group's own trace leads to it again.
 fn replays(alloc: Global, world: &World, played: &Scenario) -> bool {
     let servers = usize::from(played.settings.servers);
     let Ok(again) = World::run(alloc, servers, &played.nodes, world.trace()) else {
         return false;
     };
-    let mut is_same = world.sent().len() == again.sent().len() && world.chain() == again.chain();
-    for position in 0..servers {
-        let Some(id) = ServerId::from_position(position) else {
-            return false;
-        };
-        is_same = match (world.server(id), again.server(id)) {
-            (Some(one), Some(other)) => are_alike(one, other) && is_same,
-            _ => false,
-        };
-        is_same = are_same(alloc, world.state(id), again.state(id)) && is_same;
+    world.sent().len() == again.sent().len()
+        && world.chain() == again.chain()
+        && are_same_servers(alloc, world, &again, servers)
+}
+
+// The scenario `NAME.json`.
+fn scenario_of(rt: &HostRuntime, name: &str) -> io::Result<Option<Scenario>> {
+    let file = format!(in rt.alloc(); "{name}.json")?;
+    let text = fs::read_to_string(rt, &file)?;
+    Ok(scenario(rt.alloc(), &text).ok())
+}
+
+// Plays a scenario in its group.
+fn play_in(rt: &HostRuntime, world: &mut World, name: &str, played: &Scenario) -> io::Result<()> {
+    let is_taken = play(rt, world, played)?;
+    let is_same = replays(rt.alloc(), world, played);
+    println!(rt; "  {is_taken} {is_same} {}", world.chain())?;
+    if name == COPIED {
+        copies(rt, world, played)?;
     }
-    is_same
+    Ok(())
 }
 
 // Plays the scenario `NAME.json`, which has no worker's turn.
 fn group(rt: &HostRuntime, name: &str) -> io::Result<()> {
-    let alloc = rt.alloc();
-    let text = fs::read_to_string(rt, &format!(in alloc; "{name}.json")?)?;
+    let Some(played) = scenario_of(rt, name)? else {
+        return Ok(());
+    };
     println!(rt; "{name}")?;
-    let Ok(played) = scenario(alloc, &text) else {
-        return Ok(());
-    };
     let servers = usize::from(played.settings.servers);
-    let Ok(mut world) = World::new(alloc, servers, &played.nodes) else {
-        return Ok(());
-    };
-    let is_taken = play(rt, &mut world, &played)?;
-    let is_same = replays(alloc, &world, &played);
-    println!(rt; "  {is_taken} {is_same} {}", world.chain())?;
-    if name == COPIED {
-        copies(rt, &world, &played)?;
+    match World::new(rt.alloc(), servers, &played.nodes) {
+        Ok(mut world) => play_in(rt, &mut world, name, &played),
+        Err(_) => Ok(()),
     }
-    Ok(())
 }
 
 /// Plays scenarios step by step, and says what comes for workers, whether each step was taken,

@@ -10,10 +10,13 @@ use std::{fs, io};
 pub(crate) fn lines(rt: &HostRuntime) -> io::Result<()> {
     let lines = fs::read_to_string(rt, "lines")?;
     for line in lines.lines() {
-        let is_step = matches!(read_step(rt.alloc(), line), Ok(Some(_)));
-        println!(rt; "{line}: {is_step}")?;
+        println!(rt; "{line}: {}", is_step(rt, line))?;
     }
     Ok(())
+}
+
+fn is_step(rt: &HostRuntime, line: &str) -> bool {
+    matches!(read_step(rt.alloc(), line), Ok(Some(_)))
 }
 
 fn say_nodes(rt: &HostRuntime, nodes: &[NodeSpec]) -> io::Result<()> {
@@ -25,16 +28,20 @@ fn say_nodes(rt: &HostRuntime, nodes: &[NodeSpec]) -> io::Result<()> {
     println!(rt;)
 }
 
+fn say_scenario(rt: &HostRuntime, text: &str) -> io::Result<()> {
+    match scenario(rt.alloc(), text) {
+        Ok(read) => say_nodes(rt, &read.nodes),
+        Err(refusal) => println!(rt; " refused {}", refusal.number()),
+    }
+}
+
 /// Says the nodes of each line of `nodes`, which is a scenario's text, or by which number it is
 /// refused. The first is line 1.
 pub(crate) fn nodes(rt: &HostRuntime) -> io::Result<()> {
     let texts = fs::read_to_string(rt, "nodes")?;
     for (place, text) in texts.lines().enumerate() {
         print!(rt; "nodes {}:", place + 1)?;
-        match scenario(rt.alloc(), text) {
-            Ok(read) => say_nodes(rt, &read.nodes)?,
-            Err(refusal) => println!(rt; " refused {}", refusal.number())?,
-        }
+        say_scenario(rt, text)?;
     }
     Ok(())
 }

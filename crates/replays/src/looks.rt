@@ -1,6 +1,7 @@
 //! Two groups of three servers, that applied as many entries, of jobs whose names differ in one
 //! letter, as one plain look sees them one after the other.
 use event_texts::read_event;
+use group_inputs::Event;
 use plain_check::{Fault, Looks};
 use rows::Refusal;
 use std::alloc::Global;
@@ -41,12 +42,23 @@ const WEN: &[&str] = &[
     "crash 1\ncrash 2",
 ];
 
+fn push(alloc: Global, line: &str, out: &mut Vec<Event>) -> Result<(), Refusal> {
+    out.push(read_event(alloc, line)?)?;
+    Ok(())
+}
+
+// The events of the lines of a text.
+fn push_all(alloc: Global, text: &str, out: &mut Vec<Event>) -> Result<(), Refusal> {
+    for line in text.lines() {
+        push(alloc, line, out)?;
+    }
+    Ok(())
+}
+
 fn group(alloc: Global, parts: &[&str]) -> Result<World, Refusal> {
     let mut events = Vec::new(alloc);
     for part in parts {
-        for line in part.lines() {
-            events.push(read_event(alloc, line)?)?;
-        }
+        push_all(alloc, part, &mut events)?;
     }
     World::run(alloc, 3, &[], &events)
 }

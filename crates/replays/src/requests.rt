@@ -4,20 +4,25 @@ use event_texts::read_event;
 use fsm_state::Cluster;
 use group_inputs::{Event, ServerInput};
 use machine::Machine;
-use rows::ServerId;
+use rows::{Refusal, ServerId};
 use scenario_file::reading::scenario;
 use std::alloc::Global;
 use std::rt::Files;
 use std::{fs, io};
 use world::{Done, RaftEvent, RaftWorld};
 
+// Says the bytes of a line's command.
+fn say_command(rt: &HostRuntime, line: &str) -> io::Result<()> {
+    let mut bytes = Vec::new(rt.alloc());
+    let is_written = put_request(rt.alloc(), line, &mut bytes);
+    println!(rt; "{line}: {is_written} {bytes:?}")
+}
+
 /// Says the bytes of the command of each line of `requests`.
 pub(crate) fn commands(rt: &HostRuntime) -> io::Result<()> {
     let lines = fs::read_to_string(rt, "requests")?;
     for line in lines.lines() {
-        let mut bytes = Vec::new(rt.alloc());
-        let is_written = put_request(rt.alloc(), line, &mut bytes);
-        println!(rt; "{line}: {is_written} {bytes:?}")?;
+        say_command(rt, line)?;
     }
     Ok(())
 }
@@ -150,37 +155,70 @@ compact 2
 crash 1
 restart 1";
 
-// Plays steps on a group of three; says how many entries all of it agree on, and the bytes of the
-// state of server 1; and what it then refuses: a request to server 1, and message 0.
-fn state(rt: &HostRuntime, name: &str, steps: &str) -> io::Result<()> {
-    let alloc = rt.alloc();
-    let (Ok(mut world), Some(server)) = (
-        RaftWorld::<Cluster>::new(alloc, 3),
-        ServerId::from_number(1),
-    ) else {
-        return Ok(());
-    };
+// The lines of steps are taken, one by one; whether all were.
+fn take_all(world: &mut RaftWorld<Cluster>, alloc: Global, steps: &str) -> bool {
     let mut is_taken = true;
     for line in steps.lines() {
-        is_taken = take(&mut world, alloc, line) && is_taken;
+        is_taken = take(world, alloc, line) && is_taken;
     }
-    let mut bytes = Vec::new(alloc);
-    let is_there = put_state(&world, alloc, server, &mut bytes);
+    is_taken
+}
+
+// Says how many entries all of a group agree on, and the bytes of the state of a server.
+fn say_state(
+    rt: &HostRuntime,
+    world: &RaftWorld<Cluster>,
+    server: ServerId,
+    name: &str,
+    is_taken: bool,
+) -> io::Result<()> {
+    let mut bytes = Vec::new(rt.alloc());
+    let is_there = put_state(world, rt.alloc(), server, &mut bytes);
     println!(rt;
         "{name}: {} {} {bytes:?}",
         is_taken && is_there,
         world.chain().get()
-    )?;
-    let Ok(noop) = Box::new(alloc, Cluster::noop()) else {
+    )
+}
+
+// What a group answers to a request to a server, which it refuses.
+fn refused_noop(
+    world: &mut RaftWorld<Cluster>,
+    alloc: Global,
+    server: ServerId,
+) -> Option<Refusal> {
+    let noop = Box::new(alloc, Cluster::noop()).ok()?;
+    world.step(RaftEvent::Propose(server, noop)).err()
+}
+
+// Says what a group refuses: a request to a server, and message 0.
+fn say_refused(
+    rt: &HostRuntime,
+    world: &mut RaftWorld<Cluster>,
+    server: ServerId,
+) -> io::Result<()> {
+    let Some(refusal) = refused_noop(world, rt.alloc(), server) else {
         return Ok(());
     };
-    if let Err(refusal) = world.step(RaftEvent::Propose(server, noop)) {
-        println!(rt; "{refusal}")?;
-        if let Err(refusal) = world.step(RaftEvent::Deliver(0)) {
-            println!(rt; "{}", refusal.number())?;
-        }
+    println!(rt; "{refusal}")?;
+    match world.step(RaftEvent::Deliver(0)) {
+        Err(refusal) => println!(rt; "{}", refusal.number()),
+        Ok(_) => Ok(()),
     }
-    Ok(())
+}
+
+// Plays steps on a group of three; says how many entries all of it agree on, and the bytes of the
+// state of server 1; and what it then refuses: a request to server 1, and message 0.
+fn state(rt: &HostRuntime, name: &str, steps: &str) -> io::Result<()> {
+    let (Ok(mut world), Some(server)) = (
+        RaftWorld::<Cluster>::new(rt.alloc(), 3),
+        ServerId::from_number(1),
+    ) else {
+        return Ok(());
+    };
+    let is_taken = take_all(&mut world, rt.alloc(), steps);
+    say_state(rt, &world, server, name, is_taken)?;
+    say_refused(rt, &mut world, server)
 }
 
 /// Says the bytes of a server's replicated state in groups of three.

@@ -1,7 +1,9 @@
 //! Copies of a server's replicated state, taken while the group goes on.
 use fsm_state::Cluster;
+use group_inputs::Event;
 use rows::{AllocId, ClientState, EntryIndex, EvalId, EvalStatus, Index, Ordinal, ServerId};
 use scenario_file::scenario::Scenario;
+use std::alloc::Global;
 use std::io;
 use std::sync::Arc;
 use world::World;
@@ -67,6 +69,32 @@ fn say_copy(rt: &HostRuntime, copy: Option<(Arc<Cluster>, Index)>) -> io::Result
     println!(rt; "  a copy at {index}: 4.0 {evaluation}, 5.0 {allocation}")
 }
 
+// An event of a trace is taken.
+fn follow(alloc: Global, again: &mut World, event: &Event) -> Option<()> {
+    again.step(event.try_clone(alloc).ok()?).ok()?;
+    Some(())
+}
+
+type Copied = Option<(Arc<Cluster>, Index)>;
+
+// A group's trace comes to another one, and a copy is taken there when the server has applied five
+// entries. None where an event is refused.
+fn copy_at(alloc: Global, again: &mut World, world: &World, server: ServerId) -> Option<Copied> {
+    let mut old = None;
+    for event in world.trace() {
+        follow(alloc, again, event)?;
+        old = older(old, again, server);
+    }
+    Some(old)
+}
+
+fn older(old: Copied, world: &World, server: ServerId) -> Copied {
+    match old {
+        Some(copy) => Some(copy),
+        None => copy_from(world, server, 5),
+    }
+}
+
 /// Plays a group's trace once more. A copy of the first server's state is taken when it has applied
 /// five entries, and one at the end; then both say what they have of evaluation 4.0 and allocation
 /// 5.0.
@@ -79,18 +107,9 @@ pub(crate) fn copies(rt: &HostRuntime, world: &World, played: &Scenario) -> io::
     ) else {
         return Ok(());
     };
-    let mut old = None;
-    for event in world.trace() {
-        let Ok(event) = event.try_clone(alloc) else {
-            return Ok(());
-        };
-        if again.step(event).is_err() {
-            return println!(rt; "  an event of the trace is refused");
-        }
-        if old.is_none() {
-            old = copy_from(&again, first, 5);
-        }
-    }
+    let Some(old) = copy_at(alloc, &mut again, world, first) else {
+        return println!(rt; "  an event of the trace is refused");
+    };
     say_copy(rt, old)?;
     say_copy(rt, copy_from(&again, first, 5))
 }

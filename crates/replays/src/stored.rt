@@ -85,27 +85,58 @@ fn say(rt: &HostRuntime, file: &str, number: u8, sample: &Sample) -> io::Result<
     println!(rt; "{file}, text {number}: {length} bytes, {cuts} cuts, {values} values")
 }
 
+// The text of a line, behind its name.
+fn text_of(alloc: Global, words: &str) -> Result<Sample, AllocError> {
+    let (_name, digits) = words.split_once(' ').unwrap_or(("", words));
+    Sample::of(alloc, digits)
+}
+
+// A text, which is read as it is; how much was played of the one before is said.
+fn begin<R: Reads>(
+    rt: &HostRuntime,
+    file: &str,
+    number: u8,
+    sample: &mut Sample,
+    words: &str,
+) -> io::Result<bool> {
+    say(rt, file, number, sample)?;
+    *sample = text_of(rt.alloc(), words)?;
+    Ok(R::is_said(rt.alloc(), &sample.bytes, None))
+}
+
+// Plays a line of a file, and counts its texts. Whether it is so.
+fn play_line<R: Reads>(
+    rt: &HostRuntime,
+    file: &str,
+    number: &mut u8,
+    sample: &mut Sample,
+    line: &str,
+) -> io::Result<bool> {
+    if let Some(words) = line.strip_prefix("text ") {
+        let before = *number;
+        *number = before.saturating_add(1);
+        return begin::<R>(rt, file, before, sample, words);
+    }
+    Ok(picks_version(file, line) || play::<R>(rt.alloc(), sample, line) == Some(true))
+}
+
+fn say_not_so(rt: &HostRuntime, file: &str, place: usize, line: &str) -> io::Result<()> {
+    println!(rt;
+        "{file}, line {} is not so: {line}",
+        place.saturating_add(1)
+    )
+}
+
 // Plays each line of a file: a text, which is read as it is; the place at which a cut of it is at
 // fault, or those at which it is, or is not, where one byte is at some values. Says what is not so;
 // and of each text how much of it was played.
 fn play_file<R: Reads>(rt: &HostRuntime, file: &str) -> io::Result<()> {
-    let alloc = rt.alloc();
     let text = fs::read_to_string(rt, file)?;
     let mut number: u8 = 0;
-    let mut sample = Sample::of(alloc, "")?;
+    let mut sample = Sample::of(rt.alloc(), "")?;
     for (place, line) in text.lines().enumerate() {
-        let mut is_so = true;
-        if let Some(words) = line.strip_prefix("text ") {
-            say(rt, file, number, &sample)?;
-            number = number.saturating_add(1);
-            let (_name, digits) = words.split_once(' ').unwrap_or(("", words));
-            sample = Sample::of(alloc, digits)?;
-            is_so = R::is_said(alloc, &sample.bytes, None);
-        } else if !picks_version(file, line) {
-            is_so = matches!(play::<R>(alloc, &mut sample, line), Some(true));
-        }
-        if !is_so {
-            println!(rt; "{file}, line {} is not so: {line}", place + 1)?;
+        if !play_line::<R>(rt, file, &mut number, &mut sample, line)? {
+            say_not_so(rt, file, place, line)?;
         }
     }
     say(rt, file, number, &sample)

@@ -11,4 +11,5 @@ mod plain_faults;
 mod running;
 mod servers;
 mod snapshots;
+mod starved;
 mod watching;

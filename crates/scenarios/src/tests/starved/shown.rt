@@ -12,7 +12,7 @@ use world::World;
 
 /// What is seen of a server.
 #[derive(Drop, PartialEq, Eq)]
-pub(crate) struct ShownServer {
+pub(super) struct ShownServer {
     role: Option<Role>,
     term: Term,
     last: Index,
@@ -20,21 +20,21 @@ pub(crate) struct ShownServer {
     // The text of its replicated state; empty while it is down.
     state: Vec<u8>,
     /// The text of what it stores.
-    pub(crate) stored: Vec<u8>,
+    pub(super) stored: Vec<u8>,
 }
 
 /// What is seen of a client.
 #[derive(Drop, PartialEq, Eq)]
-pub(crate) struct ShownClient {
+pub(super) struct ShownClient {
     seen: Option<Index>,
     running: Vec<RunningAllocation>,
     /// What it ever started.
-    pub(crate) started: Vec<AllocId>,
+    pub(super) started: Vec<AllocId>,
 }
 
 /// What is seen of an actor.
 #[derive(Drop, PartialEq, Eq)]
-pub(crate) enum Shown {
+pub(super) enum Shown {
     /// Of a server.
     Server(ShownServer),
     /// Of a client.
@@ -58,7 +58,7 @@ fn stored_text(alloc: Global, server: &Server) -> Result<Vec<u8>, NoMemory> {
 }
 
 /// What is seen of a server.
-pub(crate) fn shown_server(alloc: Global, server: &Server) -> Result<Shown, NoMemory> {
+pub(super) fn shown_server(alloc: Global, server: &Server) -> Result<Shown, NoMemory> {
     Ok(Shown::Server(ShownServer {
         role: server.role(),
         term: server.term(),
@@ -70,7 +70,7 @@ pub(crate) fn shown_server(alloc: Global, server: &Server) -> Result<Shown, NoMe
 }
 
 /// What is seen of a client.
-pub(crate) fn shown_client(alloc: Global, client: &Agent) -> Result<Shown, NoMemory> {
+pub(super) fn shown_client(alloc: Global, client: &Agent) -> Result<Shown, NoMemory> {
     let running = match client.running() {
         Some(running) => running.to_vec(alloc)?,
         None => Vec::new(alloc),
@@ -82,24 +82,45 @@ pub(crate) fn shown_client(alloc: Global, client: &Agent) -> Result<Shown, NoMem
     }))
 }
 
-/// What is seen of a group's servers, and then of its clients.
-pub(crate) fn shown_group(alloc: Global, world: &World) -> Result<Vec<Shown>, NoMemory> {
-    let mut all = Vec::new(alloc);
+// What is seen of the server at a position, if there is one.
+fn push_server(
+    alloc: Global,
+    world: &World,
+    position: usize,
+    out: &mut Vec<Shown>,
+) -> Result<(), NoMemory> {
+    if let Some(id) = ServerId::from_position(position)
+        && let Some(server) = world.server(id)
+    {
+        out.push(shown_server(alloc, server)?)?;
+    }
+    Ok(())
+}
+
+fn push_client(alloc: Global, client: &Agent, out: &mut Vec<Shown>) -> Result<(), NoMemory> {
+    out.push(shown_client(alloc, client)?)?;
+    Ok(())
+}
+
+fn push_all(alloc: Global, world: &World, out: &mut Vec<Shown>) -> Result<(), NoMemory> {
     for position in 0..world.size() {
-        if let Some(id) = ServerId::from_position(position)
-            && let Some(server) = world.server(id)
-        {
-            all.push(shown_server(alloc, server)?)?;
-        }
+        push_server(alloc, world, position, out)?;
     }
     for client in world.clients() {
-        all.push(shown_client(alloc, client)?)?;
+        push_client(alloc, client, out)?;
     }
+    Ok(())
+}
+
+/// What is seen of a group's servers, and then of its clients.
+pub(super) fn shown_group(alloc: Global, world: &World) -> Result<Vec<Shown>, NoMemory> {
+    let mut all = Vec::new(alloc);
+    push_all(alloc, world, &mut all)?;
     Ok(all)
 }
 
 /// Whether these are the same messages, in the same order and for the same receivers.
-pub(crate) fn are_same_frames(one: &Frames, other: &Frames) -> bool {
+pub(super) fn are_same_frames(one: &Frames, other: &Frames) -> bool {
     if one.len() != other.len() {
         return false;
     }

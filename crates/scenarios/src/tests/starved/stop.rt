@@ -1,14 +1,13 @@
 //! Why a part ends before its end.
 use rows::{NoMemory, Refusal};
 use std::alloc::{AllocError, AllocFailed};
-use std::io::{self, ErrorKind};
 
 /// Why a part ends before its end: there is nothing more to judge, or something is wrong.
-#[derive(Clone, Copy, Debug, PartialEq, Eq)]
-pub(crate) enum Stop {
+#[derive(Clone, Copy)]
+pub(super) enum Stop {
     /// Memory was refused to what judges, or to the run that it compares with.
     NoMemory,
-    /// A word is no part's name, or a file is missing, or is not what it is to be.
+    /// The row is none.
     Unread,
     /// A group, or its cells, cannot be made for another reason than memory.
     Unmade,
@@ -24,10 +23,23 @@ pub(crate) enum Stop {
     Elsewhere,
     /// A plain look at the group finds a fault.
     Plain,
-    /// The exit status is none that may be.
-    Status,
-    /// What is said on the standard error is not what has to be said at that status.
-    Unsaid,
+}
+
+impl Stop {
+    /// What is said of it.
+    pub(super) fn word(self) -> &'static str {
+        match self {
+            Stop::NoMemory => "no memory",
+            Stop::Unread => "unread",
+            Stop::Unmade => "unmade",
+            Stop::Unkept => "unkept",
+            Stop::Up => "up",
+            Stop::Changed => "changed",
+            Stop::Refusal => "another refusal",
+            Stop::Elsewhere => "elsewhere",
+            Stop::Plain => "plain fault",
+        }
+    }
 }
 
 impl From<NoMemory> for Stop {
@@ -49,17 +61,9 @@ impl<T: Drop> From<AllocFailed<T>> for Stop {
 }
 
 /// Why a group, or its cells, are not made.
-pub(crate) fn unmade(refusal: Refusal) -> Stop {
+pub(super) fn unmade(refusal: Refusal) -> Stop {
     match refusal {
         Refusal::NoMemory => Stop::NoMemory,
         _ => Stop::Unmade,
-    }
-}
-
-/// Why words or a file are not read.
-pub(crate) fn unread(error: &io::Error) -> Stop {
-    match error.kind() {
-        ErrorKind::OutOfMemory => Stop::NoMemory,
-        _ => Stop::Unread,
     }
 }

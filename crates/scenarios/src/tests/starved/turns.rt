@@ -1,9 +1,9 @@
 //! The row's events come to a group's cells, a turn for each, and each turn is judged.
 ghost use Rattle.std.specs.Prelude.{◌≡◌};
 
-use crate::row::{Next, TRIES, is_restart, restart};
-use crate::shown::{Shown, shown_client, shown_group, shown_server};
-use crate::stop::{Stop, unmade};
+use super::row::{Next, TRIES, is_restart, restart};
+use super::shown::{Shown, shown_client, shown_group, shown_server};
+use super::stop::{Stop, unmade};
 use cluster::{
     CellTurn, Cells, Envelope, GroupActor, KeptEvent, OwnInput, StampedEvent, cells_of, close, turn,
 };
@@ -204,6 +204,15 @@ impl<B: BookId> Turns<B> {
         Ok(())
     }
 
+    // The row's events come, one by one.
+    fn play<R: Wait>(&mut self, rt: &R, row: &Transcript, at: &mut usize) -> Result<(), Stop> {
+        for event in &row.events {
+            *at = at.saturating_add(1);
+            self.settle(rt, event)?;
+        }
+        Ok(())
+    }
+
     // What is seen of all cells, in their order.
     fn all_shown<R: Wait>(&self, rt: &R) -> Result<(Vec<Shown>, usize), Stop> {
         let mut all = Vec::new(self.alloc);
@@ -217,17 +226,29 @@ impl<B: BookId> Turns<B> {
     }
 }
 
+// The servers of the row's group.
+fn push_servers(row: &Transcript, out: &mut Vec<Actor>) -> Result<(), Stop> {
+    for position in 0..row.servers {
+        let server = ServerId::from_position(position).ok_or(Stop::Unmade)?;
+        out.push(Actor::Server(server))?;
+    }
+    Ok(())
+}
+
+// A client for each of the row's nodes.
+fn push_clients(row: &Transcript, out: &mut Vec<Actor>) -> Result<(), Stop> {
+    for node in &row.nodes {
+        let client = ClientId::from_number(node.number.number()).ok_or(Stop::Unmade)?;
+        out.push(Actor::Client(client))?;
+    }
+    Ok(())
+}
+
 // The actors of the row's group: its servers, and a client for each of its nodes.
 fn actors(alloc: Global, row: &Transcript) -> Result<Vec<Actor>, Stop> {
     let mut actors = Vec::new(alloc);
-    for position in 0..row.servers {
-        let server = ServerId::from_position(position).ok_or(Stop::Unmade)?;
-        actors.push(Actor::Server(server))?;
-    }
-    for node in &row.nodes {
-        let client = ClientId::from_number(node.number.number()).ok_or(Stop::Unmade)?;
-        actors.push(Actor::Client(client))?;
-    }
+    push_servers(row, &mut actors)?;
+    push_clients(row, &mut actors)?;
     Ok(actors)
 }
 
@@ -245,6 +266,42 @@ fn open_cells<B: BookId>(
     Cells::open(alloc, row.servers, row.nodes.len(), book, cells)
 }
 
+// The cells close to a world that is as they were: with so many events and messages, and with these
+// actors.
+fn close_to<B: BookId>(
+    alloc: Global,
+    cells: Cells<B>,
+    shown: &[Shown],
+    count: usize,
+    sent: usize,
+) -> Result<(), Stop> {
+    let world = close(alloc, cells.into_cells()?)?;
+    let is_same = world.trace().len() == count && world.sent().len() == sent;
+    if !is_same || shown_group(alloc, &world)?.as_slice() != shown {
+        return Err(Stop::Elsewhere);
+    }
+    Ok(())
+}
+
+// The cells of the row's group, before their first turn, and no message yet.
+fn opened_turns<B: BookId>(
+    alloc: Global,
+    row: &Transcript,
+    opened: OpenedBook<OwnInput>,
+) -> Result<Turns<B>, Stop>
+    requires book { opened ≡ (B.table, B.actors) }
+    requires nodes { row.now.nodes.items ≡ B.nodes }
+{
+    match open_cells::<B>(alloc, row, opened) {
+        Ok(cells) => Ok(Turns {
+            alloc,
+            cells,
+            messages: Vec::new(alloc),
+        }),
+        Err(refusal) => Err(unmade(refusal)),
+    }
+}
+
 // The row's events come to cells under this name.
 fn play_cells<B: BookId, R: Wait>(
     rt: &R,
@@ -256,19 +313,8 @@ fn play_cells<B: BookId, R: Wait>(
     requires book { opened ≡ (B.table, B.actors) }
     requires nodes { row.now.nodes.items ≡ B.nodes }
 {
-    let cells = match open_cells::<B>(alloc, row, opened) {
-        Ok(cells) => cells,
-        Err(refusal) => return Err(unmade(refusal)),
-    };
-    let mut turns = Turns {
-        alloc,
-        cells,
-        messages: Vec::new(alloc),
-    };
-    for event in &row.events {
-        *at = at.saturating_add(1);
-        turns.settle(rt, event)?;
-    }
+    let mut turns = opened_turns::<B>(alloc, row, opened)?;
+    turns.play(rt, row, at)?;
     let (shown, count) = turns.all_shown(rt)?;
     let Turns {
         cells,
@@ -277,24 +323,20 @@ fn play_cells<B: BookId, R: Wait>(
     } = turns;
     let sent = messages.len();
     drop(messages);
-    let world = close(alloc, cells.into_cells()?)?;
-    let is_same = world.trace().len() == count && world.sent().len() == sent;
-    if !is_same || shown_group(alloc, &world)? != shown {
-        return Err(Stop::Elsewhere);
-    }
-    Ok(())
+    close_to(alloc, cells, shown.as_slice(), count, sent)
 }
 
 /// The row's events come to a group's cells; `at` counts those that came.
-pub(crate) fn play_turns<R: Wait>(
+pub(super) fn play_turns<R: Wait>(
     rt: &R,
     alloc: Global,
-    row: &Transcript,
+    row: Result<Transcript, Stop>,
     at: &mut usize,
 ) -> Result<(), Stop> {
-    let book = match OpenedBook::new(alloc, actors(alloc, row)?) {
+    let row = row?;
+    let book = match OpenedBook::new(alloc, actors(alloc, &row)?) {
         Ok(book) => book,
         Err(refusal) => return Err(unmade(refusal)),
     };
-    play_cells::<Brand, _>(rt, alloc, row, book, at)
+    play_cells::<Brand, _>(rt, alloc, &row, book, at)
 }

@@ -1,7 +1,7 @@
 //! The row's events come to a group, one by one, and each answer is judged.
-use crate::row::{Next, TRIES, is_restart, restart};
-use crate::shown::{are_same_frames, shown_group};
-use crate::stop::{Stop, unmade};
+use super::row::{Next, TRIES, is_restart, restart};
+use super::shown::{are_same_frames, shown_group};
+use super::stop::{Stop, unmade};
 use group_inputs::{ClientInput, Event, ServerInput};
 use plain_check::Looks;
 use rows::{Actor, Refusal};
@@ -73,6 +73,15 @@ fn is_up(world: &World, actor: &Actor) -> bool {
             Some(client) => client.is_up(),
             None => false,
         },
+    }
+}
+
+// A group refuses an event for this reason.
+fn refuses(world: &mut World, event: Event, refusal: Refusal) -> Result<Next, Stop> {
+    match world.step(event) {
+        Err(other) if other == refusal => Ok(Next::On),
+        Err(Refusal::NoMemory) | Ok(Done::Crashed) => Err(Stop::NoMemory),
+        _ => Err(Stop::Refusal),
     }
 }
 
@@ -160,16 +169,17 @@ impl Group<'_> {
             return Err(Stop::Changed);
         }
         let mut again = self.anew()?;
-        if refusal == Refusal::NoMemory {
-            return Ok(match actor_of(&self.world, event) {
-                Some(actor) if is_restart(event) => Next::Restart(actor),
-                _ => Next::Again,
-            });
+        match refusal {
+            Refusal::NoMemory => Ok(self.once_more(event)),
+            _ => refuses(&mut again, event.try_clone(self.alloc)?, refusal),
         }
-        match again.step(event.try_clone(self.alloc)?) {
-            Err(other) if other == refusal => Ok(Next::On),
-            Err(Refusal::NoMemory) | Ok(Done::Crashed) => Err(Stop::NoMemory),
-            _ => Err(Stop::Refusal),
+    }
+
+    // What is done when an event found no memory.
+    fn once_more(&self, event: &Event) -> Next {
+        match actor_of(&self.world, event) {
+            Some(actor) if is_restart(event) => Next::Restart(actor),
+            _ => Next::Again,
         }
     }
 
@@ -190,13 +200,16 @@ impl Group<'_> {
             next = match next {
                 Next::On => return Ok(()),
                 Next::Again => self.come(event)?,
-                Next::Restart(actor) => {
-                    let back = restart(self.alloc, &actor)?;
-                    self.come(&back)?
-                }
+                Next::Restart(actor) => self.revive(&actor)?,
             };
         }
         Ok(())
+    }
+
+    // An actor starts again.
+    fn revive(&mut self, actor: &Actor) -> Result<Next, Stop> {
+        let back = restart(self.alloc, actor)?;
+        self.come(&back)
     }
 
     // A plain look at the group finds nothing.
@@ -206,10 +219,29 @@ impl Group<'_> {
             Some(_) => Err(Stop::Plain),
         }
     }
+
+    // The row's events come, one by one.
+    fn play(&mut self, at: &mut usize) -> Result<(), Stop> {
+        for event in &self.row.events {
+            *at = at.saturating_add(1);
+            self.settle(event)?;
+            self.look()?;
+        }
+        let _again = self.anew()?;
+        Ok(())
+    }
 }
 
 /// The row's events come to a group; `at` counts those that came.
-pub(crate) fn play_group(alloc: Global, row: &Transcript, at: &mut usize) -> Result<(), Stop> {
+pub(super) fn play_group(
+    alloc: Global,
+    row: Result<Transcript, Stop>,
+    at: &mut usize,
+) -> Result<(), Stop> {
+    play_row(alloc, &row?, at)
+}
+
+fn play_row(alloc: Global, row: &Transcript, at: &mut usize) -> Result<(), Stop> {
     let world = match World::new(alloc, row.servers, &row.nodes) {
         Ok(world) => world,
         Err(refusal) => return Err(unmade(refusal)),
@@ -221,11 +253,5 @@ pub(crate) fn play_group(alloc: Global, row: &Transcript, at: &mut usize) -> Res
         world,
         looks,
     };
-    for event in &row.events {
-        *at = at.saturating_add(1);
-        group.settle(event)?;
-        group.look()?;
-    }
-    let _again = group.anew()?;
-    Ok(())
+    group.play(at)
 }
