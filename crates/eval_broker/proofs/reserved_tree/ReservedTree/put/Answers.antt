@@ -1,6 +1,7 @@
-use Rattle.std.proofs.Common.{T, sym, subst, ◌∙◌}
+use Rattle.std.proofs.Common.{T, sym, subst, ◌∙◌, arith}
 use Rattle.rows.specs.Rising.{is_rising}
 use Rattle.fsm_tables.proofs.RowLaws.{rising_put}
+use Rattle.eval_broker.proofs.Heights.{at_most_91}
 use Rattle.eval_broker.specs.Inner.Trees.{tree_rows}
 use Rattle.eval_broker.proofs.reserved_tree.ReservedTree.put.Goals as goal
 
@@ -11,4 +12,9 @@ invariant_of-self g c =
     record {
       rising = subst (λ zs. T (is_rising R key zs)) (sym c.put.ensures.rows) (rising_put R key g.met.T.Key.Ord.total c.args.row (tree_rows c.self.inside.tree) c.self.invariant.rising);
       capacity = c.self.invariant.capacity ∙ sym c.put.ensures.kept;
+      balanced = c.put.ensures.balanced;
+      levels = at_most_91 c.put.new.tree c.put.ensures.balanced (omega (arith, c.self.invariant.capacity, c.put.ensures.kept));
     }
+
+pub put-requires-clause-low : goal.put-requires-clause-low
+put-requires-clause-low g c = omega (arith, c.self.invariant.levels)
